@@ -1,0 +1,74 @@
+-- A use of `signs`: the crossings along two directions, by the signs of a few determinants.
+use Rattle.std.proofs.Common.{◌≡◌, Bool, not, T, ℤ, pos, negsuc, ◌+ℤ◌, ◌-ℤ◌}
+use Rattle.ember_algebra.specs.Sign.{Sign, flip, times, number, is_pos, is_neg, is_nil}
+use Rattle.ember_algebra.proofs.Signs.{◌and◌, ◌or◌, same_z, same_z_out, pick, may_sum, zero_sum, sum3, level_if_null, signs, every, given, use_given, ◌⇒◌, use_if}
+
+-- ---- the plane lemma
+abbrev pub in_quadrant : Sign → Sign → ℤ
+in_quadrant x y = pick (is_pos x and is_pos y) (pos 1)
+
+abbrev pub over_x : Sign → Sign → Sign → ℤ
+over_x y1 y2 d = pick (is_neg (times y1 y2) and is_pos (times y1 d)) (number y1)
+
+abbrev pub over_y : Sign → Sign → Sign → ℤ
+over_y x1 x2 d = pick (is_neg (times x1 x2) and is_neg (times x1 d)) (number (flip x1))
+
+abbrev plane_may : Sign → Sign → Sign → Sign → Sign → Bool
+plane_may x1 y1 x2 y2 d =
+    not (is_nil x1) and not (is_nil y1) and not (is_nil x2) and not (is_nil y2) and (is_neg (times x1 x2) ⇒ not (is_nil d)) and may_sum (times y1 x2) (flip (times x1 y2)) d
+
+pub plane_lemma : (x1 y1 x2 y2 d : Sign) → T (plane_may x1 y1 x2 y2 d) → in_quadrant x1 y1 -ℤ in_quadrant x2 y2 ≡ over_x y1 y2 d -ℤ over_y x1 x2 d
+plane_lemma x1 y1 x2 y2 d p =
+    same_z_out (in_quadrant x1 y1 -ℤ in_quadrant x2 y2) (over_x y1 y2 d -ℤ over_y x1 x2 d)
+    (use_if (plane_may x1 y1 x2 y2 d) (same_z (in_quadrant x1 y1 -ℤ in_quadrant x2 y2) (over_x y1 y2 d -ℤ over_y x1 x2 d)) (signs 5 (λ x1 y1 x2 y2 d. plane_may x1 y1 x2 y2 d ⇒ same_z (in_quadrant x1 y1 -ℤ in_quadrant x2 y2) (over_x y1 y2 d -ℤ over_y x1 x2 d)) tt x1 y1 x2 y2 d) p)
+
+-- ---- the quadrant law
+abbrev pub up : Sign → Sign → Bool
+up a b = not (is_pos a) and is_pos b
+
+abbrev pub edge : Sign → Sign → Sign → Sign → ℤ
+edge a b uf ug =
+    pick (up a b and is_pos uf and is_neg ug) (pos 1) +ℤ pick (up b a and is_neg uf and is_pos ug) (negsuc 0)
+
+abbrev pub crossing : Sign → Sign → Sign → Sign → Sign → ℤ
+crossing d n a b c =
+    pick (is_pos (times d n) and (is_pos a and is_pos b and is_pos c or is_neg a and is_neg b and is_neg c)) (number n)
+
+abbrev pub may_h : Sign → Sign → Sign → Sign → Bool
+may_h hu hv hw d = not (is_nil d) and not (is_nil hu and is_nil hv and is_nil hw)
+
+abbrev pub may_f : Sign → Sign → Sign → Sign → Sign → Sign → Sign → Bool
+may_f hu hv hw u v t n =
+    zero_sum (times hu v) (times hv t) (times hw u) and level_if_null hu hv u and level_if_null hv hw v and level_if_null hw hu t and (is_nil u ⇒ is_nil n) and (is_nil v ⇒ is_nil n) and (is_nil t ⇒ is_nil n) and sum3 u v t n
+
+abbrev pub may_both : Sign → Sign → Sign → Sign → Sign → Sign → Sign → Sign → Sign → Sign → Bool
+may_both hu hv hw d uf vf tf ug vg tg =
+    may_sum (times uf vg) (flip (times ug vf)) (times d hv) and may_sum (times vf tg) (flip (times vg tf)) (times d hw) and may_sum (times tf ug) (flip (times tg uf)) (times d hu)
+
+abbrev pub left : Sign → Sign → Sign → Sign → Sign → Sign → Sign → Sign → Sign → ℤ
+left d uf vf tf nf ug vg tg ng = crossing d nf uf vf tf -ℤ crossing d ng ug vg tg
+
+abbrev pub right : Sign → Sign → Sign → Sign → Sign → Sign → Sign → Sign → Sign → ℤ
+right hu hv hw uf vf tf ug vg tg = edge hu hv uf ug +ℤ edge hv hw vf vg +ℤ edge hw hu tf tg
+
+abbrev third : Sign → Sign → Sign → Sign → Sign → Sign → Sign → Sign → Sign → Sign → Sign → Sign → Bool
+third hu hv hw d uf vf tf nf ug vg tg ng =
+    given (may_f hu hv hw ug vg tg ng and may_both hu hv hw d uf vf tf ug vg tg) (λ e. same_z (left d uf vf tf nf ug vg tg ng) (right hu hv hw uf vf tf ug vg tg))
+
+abbrev second : Sign → Sign → Sign → Sign → Sign → Sign → Sign → Sign → Bool
+second hu hv hw d uf vf tf nf =
+    given (may_f hu hv hw uf vf tf nf) (λ e. every 4 (λ ug vg tg ng. third hu hv hw d uf vf tf nf ug vg tg ng))
+
+abbrev first : Sign → Sign → Sign → Sign → Bool
+first hu hv hw d =
+    given (may_h hu hv hw d) (λ e. every 4 (λ uf vf tf nf. second hu hv hw d uf vf tf nf))
+
+all_first : (hu hv hw d : Sign) → T (first hu hv hw d)
+all_first = signs 4 (λ hu hv hw d. first hu hv hw d) tt
+
+pub quadrant_law : (hu hv hw d uf vf tf nf ug vg tg ng : Sign) → T (may_h hu hv hw d) → T (may_f hu hv hw uf vf tf nf) → T (may_f hu hv hw ug vg tg ng and may_both hu hv hw d uf vf tf ug vg tg) → left d uf vf tf nf ug vg tg ng ≡ right hu hv hw uf vf tf ug vg tg
+quadrant_law hu hv hw d uf vf tf nf ug vg tg ng p q r =
+    let a = use_given (may_h hu hv hw d) (λ e. every 4 (λ uf vf tf nf. second hu hv hw d uf vf tf nf)) (all_first hu hv hw d) p in
+    let b = use_given (may_f hu hv hw uf vf tf nf) (λ e. every 4 (λ ug vg tg ng. third hu hv hw d uf vf tf nf ug vg tg ng)) (signs 4 (λ uf vf tf nf. second hu hv hw d uf vf tf nf) a uf vf tf nf) q in
+    let c = use_given (may_f hu hv hw ug vg tg ng and may_both hu hv hw d uf vf tf ug vg tg) (λ e. same_z (left d uf vf tf nf ug vg tg ng) (right hu hv hw uf vf tf ug vg tg)) (signs 4 (λ ug vg tg ng. third hu hv hw d uf vf tf nf ug vg tg ng) b ug vg tg ng) r in
+    same_z_out (left d uf vf tf nf ug vg tg ng) (right hu hv hw uf vf tf ug vg tg) c
