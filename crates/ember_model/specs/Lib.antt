@@ -1,0 +1,6 @@
+pub mod Valid
+pub mod Points
+pub mod Planes
+pub mod Faces
+pub mod Clear
+pub mod Meshes
