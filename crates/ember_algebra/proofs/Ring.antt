@@ -41,12 +41,20 @@ abbrev value : List ℤ → Sum → ℤ
 value env none = pos 0
 value env (term c m s) = c *ℤ mono env m +ℤ value env s
 
+-- the order of the lengths; of lists of one length, the order o
+abbrev pub by_length : List ℕ → List ℕ → Ordering → Ordering
+by_length [] [] o = o
+by_length [] (j ∷ n) o = Ordering.lt
+by_length (i ∷ m) [] o = Ordering.gt
+by_length (i ∷ m) (j ∷ n) o = by_length m n o
+
+-- monomials by their degree, those of one degree in the order of words: a common factor keeps this order
 abbrev pub cmpM : List ℕ → List ℕ → Ordering
 cmpM [] [] = Ordering.eq
 cmpM [] (j ∷ n) = Ordering.lt
 cmpM (i ∷ m) [] = Ordering.gt
 cmpM (i ∷ m) (j ∷ n) =
-    elim (compare i j) [ Ordering.lt ↦ Ordering.lt | Ordering.eq ↦ cmpM m n | Ordering.gt ↦ Ordering.gt ]
+    elim (compare i j) [ Ordering.lt ↦ by_length m n Ordering.lt | Ordering.eq ↦ cmpM m n | Ordering.gt ↦ by_length m n Ordering.gt ]
 
 abbrev pub slide : ℕ → (List ℕ → List ℕ) → List ℕ → List ℕ
 slide i k [] = i ∷ k []
@@ -96,17 +104,23 @@ pub data Cancels : Sum → Type 0 where
   cancels : Cancels none
 
 -- ---- soundness
+same_length : (m n : List ℕ) (o : Ordering) → by_length m n o ≡ Ordering.eq → o ≡ Ordering.eq
+same_length [] [] o e = e
+same_length [] (j ∷ n) o e = cc
+same_length (i ∷ m) [] o e = cc
+same_length (i ∷ m) (j ∷ n) o e = same_length m n o e
+
 same_mono : (m n : List ℕ) → cmpM m n ≡ Ordering.eq → m ≡ n
 same_mono [] [] e = refl
 same_mono [] (j ∷ n) e = cc
 same_mono (i ∷ m) [] e = cc
 same_mono (i ∷ m) (j ∷ n) e = by (compare i j) refl (same_mono m n) e
   where
-    by : (o : Ordering) → compare i j ≡ o → (cmpM m n ≡ Ordering.eq → m ≡ n) → elim o [ Ordering.lt ↦ Ordering.lt | Ordering.eq ↦ cmpM m n | Ordering.gt ↦ Ordering.gt ] ≡ Ordering.eq → i ∷ m ≡ j ∷ n
-    by Ordering.lt p r q = cc
+    by : (o : Ordering) → compare i j ≡ o → (cmpM m n ≡ Ordering.eq → m ≡ n) → elim o [ Ordering.lt ↦ by_length m n Ordering.lt | Ordering.eq ↦ cmpM m n | Ordering.gt ↦ by_length m n Ordering.gt ] ≡ Ordering.eq → i ∷ m ≡ j ∷ n
+    by Ordering.lt p r q = let e : Ordering.lt ≡ Ordering.eq = same_length m n Ordering.lt q in cc
     by Ordering.eq p r q =
         let a : i ≡ j = eqb→eq i j (subst (λ (o : Ordering). T (compare_is_eq o)) (sym p) tt) in let b : m ≡ n = r q in cc
-    by Ordering.gt p r q = cc
+    by Ordering.gt p r q = let e : Ordering.gt ≡ Ordering.eq = same_length m n Ordering.gt q in cc
 
 left_comm : (a b c : ℤ) → a *ℤ (b *ℤ c) ≡ b *ℤ (a *ℤ c)
 left_comm a b c = sym (*ℤ_assoc a b c) ∙ ap (λ (z : ℤ). z *ℤ c) (*ℤ_comm a b) ∙ *ℤ_assoc b a c

@@ -1,5 +1,5 @@
-use Rattle.std.proofs.Common.{◌≡◌, [], ◌∷◌, ℤ, ◌+ℤ◌, ◌-ℤ◌, ◌*ℤ◌}
-use Rattle.ember_algebra.proofs.Ring.{Expr, var, ◌⊕◌, ◌⊖◌, ◌⊗◌, ring, solve, ◌≈◌, cancels}
+use Rattle.std.proofs.Common.{◌≡◌, [], ◌∷◌, ℤ, pos, ◌+ℤ◌, ◌-ℤ◌, ◌*ℤ◌}
+use Rattle.ember_algebra.proofs.Ring.{Expr, var, num, ◌⊕◌, ◌⊖◌, ◌⊗◌, ring, solve, ◌≈◌, cancels}
 
 pub square : (a b : ℤ) → (a +ℤ b) *ℤ (a -ℤ b) ≡ a *ℤ a -ℤ b *ℤ b
 square a b =
@@ -25,3 +25,7 @@ square' = solve 2 (λ a b. (a ⊕ b) ⊗ (a ⊖ b) ≈ a ⊗ a ⊖ b ⊗ b) canc
 pub cramer' : (a1 b1 c1 d1 a2 b2 c2 d2 a3 b3 c3 d3 : ℤ) → a1 *ℤ det3 d1 b1 c1 d2 b2 c2 d3 b3 c3 +ℤ b1 *ℤ det3 a1 d1 c1 a2 d2 c2 a3 d3 c3 +ℤ c1 *ℤ det3 a1 b1 d1 a2 b2 d2 a3 b3 d3 ≡ d1 *ℤ det3 a1 b1 c1 a2 b2 c2 a3 b3 c3
 cramer' =
     solve 12 (λ a1 b1 c1 d1 a2 b2 c2 d2 a3 b3 c3 d3. a1 ⊗ DET3 d1 b1 c1 d2 b2 c2 d3 b3 c3 ⊕ b1 ⊗ DET3 a1 d1 c1 a2 d2 c2 a3 d3 c3 ⊕ c1 ⊗ DET3 a1 b1 d1 a2 b2 d2 a3 b3 d3 ≈ d1 ⊗ DET3 a1 b1 c1 a2 b2 c2 a3 b3 c3) cancels
+
+-- a power beside a number: the one monomial is the beginning of the other
+pub power_and_one : (m z : ℤ) → (m *ℤ m *ℤ m *ℤ z +ℤ pos 1) *ℤ m ≡ m *ℤ m *ℤ (m *ℤ z *ℤ m) +ℤ m
+power_and_one = solve 2 (λ m z. (m ⊗ m ⊗ m ⊗ z ⊕ num (pos 1)) ⊗ m ≈ m ⊗ m ⊗ (m ⊗ z ⊗ m) ⊕ m) cancels
