@@ -1,12 +1,13 @@
--- A use of `signs`: the crossings along two directions, by the signs of a few determinants.
+-- The plane lemma and the quadrant law by the signs alone: each pattern of signs that the identities allow is tried.
 use Rattle.std.proofs.Common.{◌≡◌, Bool, not, T, ℤ, pos, negsuc, ◌+ℤ◌, ◌-ℤ◌}
 use Rattle.ember_algebra.specs.Sign.{Sign, flip, times, number, is_pos, is_neg, is_nil}
 use Rattle.ember_algebra.proofs.Signs.{◌and◌, ◌or◌, same_z, same_z_out, pick, may_sum, zero_sum, sum3, level_if_null, signs, every, given, use_given, ◌⇒◌, use_if}
 
--- ---- the plane lemma
+-- ---- the plane lemma, of two points (x1, y1), (x2, y2) off the axes and d = y1 x2 - x1 y2
 abbrev pub in_quadrant : Sign → Sign → ℤ
 in_quadrant x y = pick (is_pos x and is_pos y) (pos 1)
 
+-- the signed crossing of the segment with the positive x-axis, and with the positive y-axis
 abbrev pub over_x : Sign → Sign → Sign → ℤ
 over_x y1 y2 d = pick (is_neg (times y1 y2) and is_pos (times y1 d)) (number y1)
 
@@ -23,6 +24,8 @@ plane_lemma x1 y1 x2 y2 d p =
     (use_if (plane_may x1 y1 x2 y2 d) (same_z (in_quadrant x1 y1 -ℤ in_quadrant x2 y2) (over_x y1 y2 d -ℤ over_y x1 x2 d)) (signs 5 (λ x1 y1 x2 y2 d. plane_may x1 y1 x2 y2 d ⇒ same_z (in_quadrant x1 y1 -ℤ in_quadrant x2 y2) (over_x y1 y2 d -ℤ over_y x1 x2 d)) tt x1 y1 x2 y2 d) p)
 
 -- ---- the quadrant law
+-- for corners u, v, w, directions f, g and h = f × g: d is the sign of det u v w, n that of a normal's product with a direction,
+-- hu, hv, hw those of the levels h·u, h·v, h·w, and uf, vf, tf those of f·(u×v), f·(v×w), f·(w×u)
 abbrev pub up : Sign → Sign → Bool
 up a b = not (is_pos a) and is_pos b
 
@@ -34,6 +37,7 @@ abbrev pub crossing : Sign → Sign → Sign → Sign → Sign → ℤ
 crossing d n a b c =
     pick (is_pos (times d n) and (is_pos a and is_pos b and is_pos c or is_neg a and is_neg b and is_neg c)) (number n)
 
+-- what the identities and generic directions allow
 abbrev pub may_h : Sign → Sign → Sign → Sign → Bool
 may_h hu hv hw d = not (is_nil d) and not (is_nil hu and is_nil hv and is_nil hw)
 
@@ -45,12 +49,14 @@ abbrev pub may_both : Sign → Sign → Sign → Sign → Sign → Sign → Sign
 may_both hu hv hw d uf vf tf ug vg tg =
     may_sum (times uf vg) (flip (times ug vf)) (times d hv) and may_sum (times vf tg) (flip (times vg tf)) (times d hw) and may_sum (times tf ug) (flip (times tg uf)) (times d hu)
 
+-- the two sides of the law
 abbrev pub left : Sign → Sign → Sign → Sign → Sign → Sign → Sign → Sign → Sign → ℤ
 left d uf vf tf nf ug vg tg ng = crossing d nf uf vf tf -ℤ crossing d ng ug vg tg
 
 abbrev pub right : Sign → Sign → Sign → Sign → Sign → Sign → Sign → Sign → Sign → ℤ
 right hu hv hw uf vf tf ug vg tg = edge hu hv uf ug +ℤ edge hv hw vf vg +ℤ edge hw hu tf tg
 
+-- one direction's signs after the other's, so that what the first rules out is not tried
 abbrev third : Sign → Sign → Sign → Sign → Sign → Sign → Sign → Sign → Sign → Sign → Sign → Sign → Bool
 third hu hv hw d uf vf tf nf ug vg tg ng =
     given (may_f hu hv hw ug vg tg ng and may_both hu hv hw d uf vf tf ug vg tg) (λ e. same_z (left d uf vf tf nf ug vg tg ng) (right hu hv hw uf vf tf ug vg tg))

@@ -1,7 +1,7 @@
 -- Identities of vectors and tuples: `identity (vector ∷ vector ∷ []) (λ u v. dotE u v ≈ dotE v u) cancels`.
-use Rattle.std.proofs.Common.{◌≡◌, ℕ, ◌+◌, List, [], ◌∷◌, reverse, ℤ, ◌-ℤ◌, ◌*ℤ◌}
-use Rattle.ember_algebra.specs.Vector.{Vector, Tuple, scale_v, dot, cross, det}
-use Rattle.ember_algebra.proofs.Ring.{Expr, var, ◌⊕◌, ◌⊖◌, ◌⊗◌, Equation, ◌≈◌, Meaning, meant, difference, Cancels, cancels}
+use Rattle.std.proofs.Common.{◌≡◌, ℕ, ◌+◌, List, [], ◌∷◌, reverse, ℤ}
+use Rattle.ember_algebra.specs.Vector.{Vector, Tuple}
+use Rattle.ember_algebra.proofs.Ring.{Expr, var, ◌⊕◌, ◌⊖◌, ◌⊗◌, Equation, Meaning, meant, difference, Cancels, cancels, Sum, none, norm, eval, ring}
 
 pub data Shape : Type 0 where
   scalar : Shape
@@ -86,23 +86,61 @@ detE u v w = dotE u (crossE v w)
 abbrev pub valueE : TupleE → TupleE → Expr
 valueE p v = p.x ⊗ v.x ⊕ p.y ⊗ v.y ⊕ p.z ⊗ v.z ⊖ p.w ⊗ v.w
 
+abbrev pub normalE : VectorE → VectorE → VectorE → VectorE
+normalE u v w = plusE (plusE (crossE u v) (crossE v w)) (crossE w u)
+
+abbrev pub vector_partE : TupleE → VectorE
+vector_partE v = record { x = v.x; y = v.y; z = v.z }
+
+abbrev pub meet_ofE : TupleE → TupleE → TupleE → TupleE
+meet_ofE p q r =
+    let m = plusE (plusE (scaleE p.w (crossE (vector_partE q) (vector_partE r))) (scaleE q.w (crossE (vector_partE r) (vector_partE p)))) (scaleE r.w (crossE (vector_partE p) (vector_partE q))) in
+    record { x = m.x; y = m.y; z = m.z; w = detE (vector_partE p) (vector_partE q) (vector_partE r) }
+
 -- ---- vectors are equal entry by entry
 pub same_v : {u v : Vector} → u.x ≡ v.x → u.y ≡ v.y → u.z ≡ v.z → u ≡ v
 same_v {u} {v} p q r = λ i. record { x = p i; y = q i; z = r i }
 
--- ---- examples
+-- ---- identities between vectors: `vector_identity (vector ∷ vector ∷ []) (λ u v. crossE u v ≈v crossE (minusE u v) v) cancels_v`
+infix 4 ◌≈v◌
+pub data EquationV : Type 0 where
+  ◌≈v◌ : VectorE → VectorE → EquationV
 
-pub dot_cross_cross : (a b c d : Vector) → dot (cross a b) (cross c d) ≡ dot a c *ℤ dot b d -ℤ dot a d *ℤ dot b c
-dot_cross_cross =
-    identity (vector ∷ vector ∷ vector ∷ vector ∷ []) (λ a b c d. dotE (crossE a b) (crossE c d) ≈ dotE a c ⊗ dotE b d ⊖ dotE a d ⊗ dotE b c) cancels
+abbrev pub eval_v : List ℤ → VectorE → Vector
+eval_v env u = record { x = eval env u.x; y = eval env u.y; z = eval env u.z }
 
--- an identity of vectors, by its entries
-pub cross_cross : (u v w : Vector) → cross (cross u v) (cross v w) ≡ scale_v (det u v w) v
-cross_cross u v w =
-    let s = vector ∷ vector ∷ vector ∷ [] in
-    same_v (identity s (λ u v w. (crossE (crossE u v) (crossE v w)).x ≈ detE u v w ⊗ v.x) cancels u v w) (identity s (λ u v w. (crossE (crossE u v) (crossE v w)).y ≈ detE u v w ⊗ v.y) cancels u v w) (identity s (λ u v w. (crossE (crossE u v) (crossE v w)).z ≈ detE u v w ⊗ v.z) cancels u v w)
+abbrev pub MeaningV : List ℤ → EquationV → Type 0
+MeaningV env (u ≈v v) = eval_v env u ≡ eval_v env v
 
--- the crossings' identities: U_f V_g - U_g V_f = D (h v)
-pub products : (u v w f g : Vector) → dot f (cross u v) *ℤ dot g (cross v w) -ℤ dot g (cross u v) *ℤ dot f (cross v w) ≡ det u v w *ℤ dot (cross f g) v
-products =
-    identity (vector ∷ vector ∷ vector ∷ vector ∷ vector ∷ []) (λ u v w f g. dotE f (crossE u v) ⊗ dotE g (crossE v w) ⊖ dotE g (crossE u v) ⊗ dotE f (crossE v w) ≈ detE u v w ⊗ dotE (crossE f g) v) cancels
+-- what is left of the differences of the entries
+pub data CancelsV : Sum → Sum → Sum → Type 0 where
+  cancels_v : CancelsV none none none
+
+abbrev pub VectorCancels : EquationV → Type 0
+VectorCancels (u ≈v v) = CancelsV (norm (u.x ⊖ v.x)) (norm (u.y ⊖ v.y)) (norm (u.z ⊖ v.z))
+
+abbrev pub OfV : List Shape → Type 0
+OfV [] = EquationV
+OfV (s ∷ ss) = Arg s → OfV ss
+
+abbrev pub at_args_v : (ss : List Shape) → ℕ → OfV ss → EquationV
+at_args_v [] i q = q
+at_args_v (s ∷ ss) i f = at_args_v ss (i + size s) (f (arg_at s i))
+
+abbrev pub ForAllV : List Shape → List ℤ → EquationV → Type 0
+ForAllV [] env q = MeaningV (reverse env) q
+ForAllV (s ∷ ss) env q = (x : Value s) → ForAllV ss (push s x env) q
+
+entries_cancel : {a b c : Sum} → CancelsV a b c → Cancels a × Cancels b × Cancels c
+entries_cancel cancels_v = (cancels, cancels, cancels)
+
+meant_v : (env : List ℤ) (q : EquationV) → VectorCancels q → MeaningV env q
+meant_v env (u ≈v v) t =
+    let c = entries_cancel t in same_v (ring env u.x v.x c.0) (ring env u.y v.y c.1) (ring env u.z v.z c.2)
+
+for_all_v : (ss : List Shape) (env : List ℤ) (q : EquationV) → VectorCancels q → ForAllV ss env q
+for_all_v [] env q t = meant_v (reverse env) q t
+for_all_v (s ∷ ss) env q t = λ x. for_all_v ss (push s x env) q t
+
+pub vector_identity : (ss : List Shape) (f : OfV ss) → VectorCancels (at_args_v ss 0 f) → ForAllV ss [] (at_args_v ss 0 f)
+vector_identity ss f t = for_all_v ss [] (at_args_v ss 0 f) t

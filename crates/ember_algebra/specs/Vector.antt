@@ -1,5 +1,5 @@
 -- Vectors of three integers, and tuples of four: a point x/w, y/w, z/w, or a plane
-use Rattle.std.specs.Prelude.{ℤ, ◌+ℤ◌, ◌-ℤ◌, ◌*ℤ◌}
+use Rattle.std.specs.Prelude.{ℤ, pos, ◌+ℤ◌, ◌-ℤ◌, ◌*ℤ◌}
 
 pub record Vector : Type 0 where
   pub x : ℤ
@@ -11,6 +11,9 @@ pub record Tuple : Type 0 where
   pub y : ℤ
   pub z : ℤ
   pub w : ℤ
+
+abbrev pub zero_v : Vector
+zero_v = record { x = pos 0; y = pos 0; z = pos 0 }
 
 abbrev pub minus_v : Vector → Vector → Vector
 minus_v u v = record { x = u.x -ℤ v.x; y = u.y -ℤ v.y; z = u.z -ℤ v.z }
@@ -30,6 +33,20 @@ cross u v =
 
 abbrev pub det : Vector → Vector → Vector → ℤ
 det u v w = dot u (cross v w)
+
+-- the normal of the triangle with these corners: their cross products in turn
+abbrev pub normal : Vector → Vector → Vector → Vector
+normal u v w = plus_v (plus_v (cross u v) (cross v w)) (cross w u)
+
+-- a plane's normal, or a point's numerators
+abbrev pub vector_part : Tuple → Vector
+vector_part v = record { x = v.x; y = v.y; z = v.z }
+
+-- the point on three planes, whose weight is the determinant of their normals
+abbrev pub meet_of : Tuple → Tuple → Tuple → Tuple
+meet_of p q r =
+    let m = plus_v (plus_v (scale_v p.w (cross (vector_part q) (vector_part r))) (scale_v q.w (cross (vector_part r) (vector_part p)))) (scale_v r.w (cross (vector_part p) (vector_part q))) in
+    record { x = m.x; y = m.y; z = m.z; w = det (vector_part p) (vector_part q) (vector_part r) }
 
 -- the value of the plane p at the point v
 abbrev pub value : Tuple → Tuple → ℤ

@@ -1,26 +1,45 @@
--- The same for the integers that have those signs.
-use Rattle.std.proofs.Common.{◌≡◌, ◌≢◌, ⊎_elim, Bool, true, false, refl, ap, ◌∙◌, arith, not, T, [], ◌∷◌, ℤ, pos, ◌+ℤ◌, ◌*ℤ◌}
-use Rattle.ember_algebra.specs.Sign.{sgn, is_nil}
-use Rattle.ember_algebra.specs.Vector.{Vector, dot, cross, det, minus_v, plus_v}
+-- The quadrant law of a triangle seen from a point, whose corners are integer vectors, and the plane lemma on integers:
+-- the crossing along one direction less that along another is the sum of the three edges' terms.
+use Rattle.std.proofs.Common.{◌≡◌, ◌≢◌, ⊎_elim, Bool, true, false, refl, ap, ◌∙◌, arith, not, T, [], ◌∷◌, ℤ, pos, ◌+ℤ◌, ◌-ℤ◌, ◌*ℤ◌, neg_ℤ, ◌<ℤ◌}
+use Rattle.ember_algebra.specs.Sign.{sgn, times, is_neg, is_nil}
+use Rattle.ember_algebra.specs.Vector.{Vector, dot, cross, det, minus_v}
 use lib.IntN.{*ℤ-zero, zero-*ℤ}
 use lib.Dec.{not_T}
+pub use Rattle.ember_algebra.specs.Vector.{normal}
+pub use Rattle.ember_algebra.proofs.Identities.{dot_zero}
 use Rattle.ember_algebra.proofs.Order.{zero_product}
 use Rattle.ember_algebra.proofs.Laws.{linear}
 use Rattle.ember_algebra.proofs.Ring.{◌⊕◌, ◌⊖◌, ◌⊗◌, ◌≈◌, num, cancels}
-use Rattle.ember_algebra.proofs.Vectors.{vector, identity, dotE, crossE, detE, minusE, plusE}
-use Rattle.ember_algebra.proofs.Signs.{◌and◌, both, products_may, zero_sum_from, sum3_from, level_from, null_from, not_null, zero_from_sgn}
-use Rattle.ember_algebra.proofs.Quadrant.{may_f, may_both, left, right, quadrant_law}
+use Rattle.ember_algebra.proofs.Vectors.{vector, identity, dotE, crossE, detE, minusE, normalE}
+use Rattle.ember_algebra.proofs.Signs.{◌and◌, ◌⇒◌, sum_may, sgn-mul, sgn-neg, neg_from_sgn, both, products_may, zero_sum_from, sum3_from, level_from, null_from, not_null, zero_from_sgn}
+use Rattle.ember_algebra.proofs.Quadrant.{in_quadrant, over_x, over_y, plane_lemma, crossing, edge, may_f, may_both, quadrant_law}
 
--- ---- the law
+-- ---- the plane lemma
+-- the segment from (x1, y1) to (x2, y2) leaves the open quadrant over one half-axis or the other
+pub plane_law : (x1 y1 x2 y2 : ℤ) → x1 ≢ pos 0 → y1 ≢ pos 0 → x2 ≢ pos 0 → y2 ≢ pos 0 → ((x1 *ℤ x2) <ℤ pos 0 → y1 *ℤ x2 -ℤ x1 *ℤ y2 ≢ pos 0) → in_quadrant (sgn x1) (sgn y1) -ℤ in_quadrant (sgn x2) (sgn y2) ≡ over_x (sgn y1) (sgn y2) (sgn (y1 *ℤ x2 -ℤ x1 *ℤ y2)) -ℤ over_y (sgn x1) (sgn x2) (sgn (y1 *ℤ x2 -ℤ x1 *ℤ y2))
+plane_law x1 y1 x2 y2 a b c d apart =
+    let turn = rw (sgn-mul y1 x2, sgn-neg (x1 *ℤ y2), sgn-mul x1 y2) at (sum_may (y1 *ℤ x2) (neg_ℤ (x1 *ℤ y2))) in
+    plane_lemma _ _ _ _ _ (both _ _ (not_null x1 a) (both _ _ (not_null y1 b) (both _ _ (not_null x2 c) (both _ _ (not_null y2 d) (both _ _ (implied (is_neg (times (sgn x1) (sgn x2))) _ (λ t. not_null _ (apart (neg_from_sgn (x1 *ℤ x2) (rw (sgn-mul x1 x2) t))))) turn)))))
+  where
+    implied : (p q : Bool) → (T p → T q) → T (p ⇒ q)
+    implied true q f = f tt
+    implied false q f = tt
+
+-- ---- the quadrant law
+-- the crossing along f of the triangle with corners u, v, w, seen from the origin
+abbrev pub crossing_along : Vector → Vector → Vector → Vector → ℤ
+crossing_along f u v w =
+    crossing (sgn (det u v w)) (sgn (dot f (normal u v w))) (sgn (dot f (cross u v))) (sgn (dot f (cross v w))) (sgn (dot f (cross w u)))
+
+-- the term of the edge from u to v: 1 or -1 where it passes level 0 of h upwards or downwards, between the directions f and g
+abbrev pub edge_term : Vector → Vector → Vector → Vector → Vector → ℤ
+edge_term h f g u v = edge (sgn (dot h u)) (sgn (dot h v)) (sgn (dot f (cross u v))) (sgn (dot g (cross u v)))
+
 -- an edge from u to v that the line along f through the origin meets is parallel to f
 pub record Generic (u v f : Vector) : Type 0 where
   pub x : dot f (cross u v) ≡ pos 0 → (cross (minus_v v u) f).x ≡ pos 0
   pub y : dot f (cross u v) ≡ pos 0 → (cross (minus_v v u) f).y ≡ pos 0
   pub z : dot f (cross u v) ≡ pos 0 → (cross (minus_v v u) f).z ≡ pos 0
-
-pub dot_zero : (g p : Vector) → p.x ≡ pos 0 → p.y ≡ pos 0 → p.z ≡ pos 0 → dot g p ≡ pos 0
-dot_zero g p x y z =
-    omega (arith, linear, ap (λ (n : ℤ). g.x *ℤ n) x, ap (λ (n : ℤ). g.y *ℤ n) y, ap (λ (n : ℤ). g.z *ℤ n) z)
 
 -- the two ends are at one level
 generic_level : (u v f g h : Vector) → h ≡ cross f g → Generic u v f → dot f (cross u v) ≡ pos 0 → dot h u ≡ dot h v
@@ -28,19 +47,16 @@ generic_level u v f g h eh p z =
     let q = identity (vector ∷ vector ∷ vector ∷ vector ∷ []) (λ u v f g. dotE (crossE f g) v ⊖ dotE (crossE f g) u ≈ dotE g (crossE (minusE v u) f)) cancels u v f g in
     rw eh (omega (arith, linear, q, dot_zero g (cross (minus_v v u) f) (p.x z) (p.y z) (p.z z)))
 
-abbrev pub normal : Vector → Vector → Vector → Vector
-normal u v w = plus_v (plus_v (cross u v) (cross v w)) (cross w u)
-
 -- the normal is orthogonal to a direction to which an edge is parallel
 generic_normal : (u v w f n : Vector) → ((a : Vector) → dot a n ≡ dot a (normal u v w)) → Generic u v f → dot f (cross u v) ≡ pos 0 → dot f n ≡ pos 0
 generic_normal u v w f n en p z =
-    let q = identity (vector ∷ vector ∷ vector ∷ vector ∷ []) (λ u v w f. dotE f (plusE (plusE (crossE u v) (crossE v w)) (crossE w u)) ⊕ dotE (minusE w u) (crossE (minusE v u) f) ≈ num (pos 0)) cancels u v w f in
+    let q = identity (vector ∷ vector ∷ vector ∷ vector ∷ []) (λ u v w f. dotE f (normalE u v w) ⊕ dotE (minusE w u) (crossE (minusE v u) f) ≈ num (pos 0)) cancels u v w f in
     let r = dot_zero (minus_v w u) (cross (minus_v v u) f) (p.x z) (p.y z) (p.z z) in en f ∙ omega (arith, linear, q, r)
 
 may_dir : (u v w f h : Vector) → dot h f ≡ pos 0 → (dot f (cross u v) ≡ pos 0 → dot h u ≡ dot h v) → (dot f (cross v w) ≡ pos 0 → dot h v ≡ dot h w) → (dot f (cross w u) ≡ pos 0 → dot h w ≡ dot h u) → (dot f (cross u v) ≡ pos 0 → dot f (normal u v w) ≡ pos 0) → (dot f (cross v w) ≡ pos 0 → dot f (normal u v w) ≡ pos 0) → (dot f (cross w u) ≡ pos 0 → dot f (normal u v w) ≡ pos 0) → T (may_f (sgn (dot h u)) (sgn (dot h v)) (sgn (dot h w)) (sgn (dot f (cross u v))) (sgn (dot f (cross v w))) (sgn (dot f (cross w u))) (sgn (dot f (normal u v w))))
 may_dir u v w f h o l1 l2 l3 n1 n2 n3 =
     let q = identity (vector ∷ vector ∷ vector ∷ vector ∷ vector ∷ []) (λ u v w f h. dotE h u ⊗ dotE f (crossE v w) ⊕ dotE h v ⊗ dotE f (crossE w u) ⊕ dotE h w ⊗ dotE f (crossE u v) ≈ detE u v w ⊗ dotE h f) cancels u v w f h in
-    let s = identity (vector ∷ vector ∷ vector ∷ vector ∷ []) (λ u v w f. dotE f (crossE u v) ⊕ dotE f (crossE v w) ⊕ dotE f (crossE w u) ≈ dotE f (plusE (plusE (crossE u v) (crossE v w)) (crossE w u))) cancels u v w f in
+    let s = identity (vector ∷ vector ∷ vector ∷ vector ∷ []) (λ u v w f. dotE f (crossE u v) ⊕ dotE f (crossE v w) ⊕ dotE f (crossE w u) ≈ dotE f (normalE u v w)) cancels u v w f in
     both _ _ (zero_sum_from (dot h u) (dot f (cross v w)) (dot h v) (dot f (cross w u)) (dot h w) (dot f (cross u v)) (q ∙ ap (λ (n : ℤ). det u v w *ℤ n) o ∙ *ℤ-zero (det u v w)))
     (both _ _ (level_from (dot h u) (dot h v) (dot f (cross u v)) l1)
     (both _ _ (level_from (dot h v) (dot h w) (dot f (cross v w)) l2)
@@ -67,7 +83,7 @@ level_g u v f g p z =
 
 pub turn : (u v w a : Vector) → dot a (normal u v w) ≡ dot a (normal v w u)
 turn =
-    identity (vector ∷ vector ∷ vector ∷ vector ∷ []) (λ u v w a. dotE a (plusE (plusE (crossE u v) (crossE v w)) (crossE w u)) ≈ dotE a (plusE (plusE (crossE v w) (crossE w u)) (crossE u v))) cancels
+    identity (vector ∷ vector ∷ vector ∷ vector ∷ []) (λ u v w a. dotE a (normalE u v w) ≈ dotE a (normalE v w u)) cancels
 
 both_out : (a b : Bool) → T (a and b) → T a × T b
 both_out true b t = (tt, t)
@@ -95,9 +111,8 @@ pub record GenericAll (u v w f : Vector) : Type 0 where
   pub second : Generic v w f
   pub third : Generic w u f
 
-pub quadrant : (u v w f g : Vector) → det u v w ≢ pos 0 → ((cross f g).x ≡ pos 0 → (cross f g).y ≡ pos 0 → (cross f g).z ≡ pos 0 → ⊥) → GenericAll u v w f → GenericAll u v w g → left (sgn (det u v w)) (sgn (dot f (cross u v))) (sgn (dot f (cross v w))) (sgn (dot f (cross w u))) (sgn (dot f (normal u v w))) (sgn (dot g (cross u v))) (sgn (dot g (cross v w))) (sgn (dot g (cross w u))) (sgn (dot g (normal u v w))) ≡ right (sgn (dot (cross f g) u)) (sgn (dot (cross f g) v)) (sgn (dot (cross f g) w)) (sgn (dot f (cross u v))) (sgn (dot f (cross v w))) (sgn (dot f (cross w u))) (sgn (dot g (cross u v))) (sgn (dot g (cross v w))) (sgn (dot g (cross w u)))
+pub quadrant : (u v w f g : Vector) → det u v w ≢ pos 0 → ((cross f g).x ≡ pos 0 → (cross f g).y ≡ pos 0 → (cross f g).z ≡ pos 0 → ⊥) → GenericAll u v w f → GenericAll u v w g → crossing_along f u v w -ℤ crossing_along g u v w ≡ edge_term (cross f g) f g u v +ℤ edge_term (cross f g) f g v w +ℤ edge_term (cross f g) f g w u
 quadrant u v w f g nd nh a b =
-    let h = cross f g in
     let of_ = identity (vector ∷ vector ∷ []) (λ f g. dotE (crossE f g) f ≈ num (pos 0)) cancels f g in
     let og = identity (vector ∷ vector ∷ []) (λ f g. dotE (crossE f g) g ≈ num (pos 0)) cancels f g in
     let t2 = λ (x : Vector). turn u v w x in
