@@ -1,7 +1,7 @@
 -- Bounds on the absolute value, which say that a signed operation does not overflow.
-use Rattle.std.proofs.Common.{◌≡◌, ℕ, ◌+◌, ◌*◌, ◌^◌, ◌≤◌, arith, T, ltb, ltb→lt, ℤ, ◌+ℤ◌, ◌-ℤ◌, ◌*ℤ◌, neg_ℤ, SFits, mul-le-mul}
+use Rattle.std.proofs.Common.{◌≡◌, sym, subst, to_z, of_z, to_z-of_z, ℕ, ◌+◌, ◌*◌, ◌^◌, ◌≤◌, arith, T, ltb, ltb→lt, ℤ, ◌+ℤ◌, ◌-ℤ◌, ◌*ℤ◌, neg_ℤ, SFits, mul-le-mul}
 use Rattle.std.proofs.lemmas.Int.{unsigned_abs-mul, fits_signed_from_abs}
-use borrow.Author.Differences.{ints}
+use borrow.Author.Differences.{ints, fits_out}
 use mir.Syntax.{Width}
 use mir.Val.{hbits}
 use Rattle.ember_algebra.specs.Size.{Small}
@@ -24,6 +24,13 @@ small_neg {m} {a} p = record { small = omega (arith, ints) }
 
 pub fits_small : (w : Width) {m : ℕ} {a : ℤ} → Small m a → T (ltb m (2 ^ hbits w)) → SFits w a
 fits_small w {m} {a} p t = fits_signed_from_abs w a (omega (arith, ltb→lt m (2 ^ hbits w) t, p.small))
+
+-- what a signed type holds, and the same as a goal shows a parameter that is read: an input of code of its own
+pub small_of_fits : (w : Width) {a : ℤ} → SFits w a → Small (2 ^ hbits w) a
+small_of_fits w {a} f = record { small = omega (arith, ints, fits_out w a f) }
+
+pub small_of_stored : (w : Width) {a : ℤ} → SFits w a → Small (2 ^ hbits w) (to_z w (of_z w a))
+small_of_stored w {a} f = subst (λ (z : ℤ). Small (2 ^ hbits w) z) (sym (to_z-of_z f)) (small_of_fits w f)
 
 pub same_add : {a b x y : ℤ} → a ≡ x → b ≡ y → a +ℤ b ≡ x +ℤ y
 same_add p q = cc

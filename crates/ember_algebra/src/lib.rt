@@ -1,18 +1,21 @@
-// Signs, and the algebra that the proofs above stand on.
+// The signs of integers. The crate's proofs are the algebra that the crates above stand on: README.md has a list.
 #![tactic(auto)]
 
 ghost use Rattle.std.specs.Prelude.{◌≡◌};
 ghost use Rattle.ember_algebra.specs.Sign.{sgn, flip, times};
 
-/// The sign of a number.
-#[derive(Copy, Clone)]
+/// The sign of an integer.
+#[derive(Copy, Clone, Debug, PartialEq, Eq)]
 pub enum Sign {
+    /// Less than 0.
     Neg,
+    /// Equal to 0.
     Zero,
+    /// Greater than 0.
     Pos,
 }
 
-/// The sign of `x`.
+/// The sign of `x`. Every `i128` has one.
 pub fn sign_of(x: i128) -> Sign
     ensures { result ≡ sgn x }
 {
@@ -25,7 +28,7 @@ pub fn sign_of(x: i128) -> Sign
     }
 }
 
-/// The sign of a product, from those of its factors.
+/// The sign of the product of a number of sign `s` and one of sign `t`: for factors too large to be multiplied.
 pub fn product_sign(s: Sign, t: Sign) -> Sign
     ensures { result ≡ times s t }
 {
