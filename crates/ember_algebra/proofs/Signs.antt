@@ -212,3 +212,6 @@ step_may x y = let e : x +ℤ (y -ℤ x) ≡ y = omega (arith, linear) in rw e a
 
 pub same_products : (a b c d : ℤ) → a *ℤ b ≡ c *ℤ d → T (same_sgn (times (sgn a) (sgn b)) (times (sgn c) (sgn d)))
 same_products a b c d e = rw (← sgn-mul a b, ← sgn-mul c d, e) (same_self (sgn (c *ℤ d)))
+
+pub times_is_product : {s t : Sign} (x y : ℤ) → sgn x ≡ s → sgn y ≡ t → sgn (x *ℤ y) ≡ times s t
+times_is_product x y p q = sgn-mul x y ∙ rw (p, q) refl

@@ -1,7 +1,7 @@
 // The signs of integers. The crate's proofs are the algebra that the crates above stand on: README.md has a list.
 #![tactic(auto)]
 
-ghost use Rattle.std.specs.Prelude.{◌≡◌};
+ghost use Rattle.std.specs.Prelude.{◌≡◌, ℤ, ◌*ℤ◌};
 ghost use Rattle.ember_algebra.specs.Sign.{sgn, flip, times};
 
 /// The sign of an integer.
@@ -29,8 +29,10 @@ pub fn sign_of(x: i128) -> Sign
 }
 
 /// The sign of the product of a number of sign `s` and one of sign `t`: for factors too large to be multiplied.
+#[tactic(auto, using(crate::proofs::Signs::times_is_product))]
 pub fn product_sign(s: Sign, t: Sign) -> Sign
-    ensures { result ≡ times s t }
+    ensures value { result ≡ times s t }
+    ensures product { (x y : ℤ) → sgn x ≡ s → sgn y ≡ t → sgn (x *ℤ y) ≡ result }
 {
     match s {
         Sign::Neg => match t {
