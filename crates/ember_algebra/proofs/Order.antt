@@ -1,5 +1,5 @@
 -- Order and signs of products of integers.
-use Rattle.std.proofs.Common.{◌≡◌, ◌≢◌, ◌⊎◌, ⊎_elim, inl, inr, ℕ, zero, suc, ◌<◌, refl, ◌∙◌, arith, ℤ, pos, negsuc, ◌+ℤ◌, ◌-ℤ◌, ◌*ℤ◌, neg_ℤ, ◌<ℤ◌, ◌≤ℤ◌, mul-pos}
+use Rattle.std.proofs.Common.{◌≡◌, ◌≢◌, ◌⊎◌, ⊎_elim, inl, inr, ℕ, zero, suc, ◌<◌, refl, sym, ap, ◌∙◌, arith, ℤ, pos, negsuc, ◌+ℤ◌, ◌-ℤ◌, ◌*ℤ◌, neg_ℤ, ◌<ℤ◌, ◌≤ℤ◌, mul-pos}
 use borrow.Author.Differences.{ints}
 use Rattle.std.proofs.lemmas.Int.{by_lt_z}
 use Rattle.ember_algebra.specs.Size.{Small}
@@ -130,10 +130,10 @@ sign-mul a b =
     (λ p. by_sign b (λ q. rw (sign_neg p, sign_pos q, sign_neg (mul_neg_pos p q))) (λ z. zero_right z) (λ q. rw (sign_neg p, sign_neg q, sign_pos (mul_neg_neg p q))))
   where
     zero_right : b ≡ pos 0 → sign (a *ℤ b) ≡ sign a *ℤ sign b
-    zero_right z = rw z (rw *ℤ-zero (rw *ℤ-zero refl))
+    zero_right z = rw z (ap sign (*ℤ-zero a) ∙ sym (*ℤ-zero (sign a)))
 
     zero_left : a ≡ pos 0 → sign (a *ℤ b) ≡ sign a *ℤ sign b
-    zero_left z = rw z (rw zero-*ℤ (rw zero-*ℤ refl))
+    zero_left z = rw z (ap sign (zero-*ℤ b) ∙ sym (zero-*ℤ (sign b)))
 
 pub sign-neg : (a : ℤ) → sign (neg_ℤ a) ≡ neg_ℤ (sign a)
 sign-neg (pos zero) = refl
