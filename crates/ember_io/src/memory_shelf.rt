@@ -1,9 +1,9 @@
 // Files in memory, of which some calls fail.
-ghost use Rattle.std.specs.Prelude.{◌≡◌, ◌<◌, ◌≤◌, ◌↔◌, [], min, length, Some, None, IsErr, IfOk, OnOk, OnErr, Contains, IsTrue};
+ghost use Rattle.std.specs.Prelude.{◌≡◌, ◌<◌, ◌↔◌, [], min, length, Some, IsErr, IfOk, OnOk, OnErr, Contains};
 ghost use Rattle.std.specs.Io.{ReadsAtMost};
 ghost use Rattle.std.specs.Io.KnownBytes.{ReadConsumes};
 ghost use Rattle.ember_io.specs.Causes.{counted, HasCause, CountsFault};
-ghost use Rattle.ember_io.specs.Files.{first_of, bytes_at};
+ghost use Rattle.ember_io.specs.Files.{first_of};
 ghost use Rattle.ember_io.specs.Memory.{IsSameShelf, FailsToBegin};
 ghost use Rattle.ember_io.specs.Shelves.{MarksFault};
 

@@ -3,7 +3,7 @@ ghost use Rattle.std.specs.Prelude.{◌≡◌, [], min, length, Some, IsOk, IfOk
 ghost use Rattle.std.specs.Io.{ReadsAtMost};
 ghost use Rattle.std.specs.Io.KnownBytes.{ReadConsumes};
 ghost use Rattle.ember_io.specs.Causes.{HasCause};
-ghost use Rattle.ember_io.specs.Files.{first_or_empty, bytes_at};
+ghost use Rattle.ember_io.specs.Files.{first_or_empty};
 ghost use Rattle.ember_io.specs.Shelves.{MarksFault};
 
 use crate::places::{bytes_of, give, no_place, place_or_end};

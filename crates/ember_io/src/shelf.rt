@@ -6,7 +6,7 @@ ghost use Rattle.std.specs.Io.KnownBytes.{ReadConsumes, IsAtEnd};
 ghost use Rattle.ember_io.specs.Causes.{Rose, HasCause};
 ghost use Rattle.ember_io.specs.Shelves.{Tells, TellsMore, MarksFault};
 
-use crate::{Failed, OutOfMemory};
+use crate::Failed;
 use std::alloc::Global;
 
 /// Files by name, of which the one begun last is read. At the start no bytes are unread, and the
@@ -54,6 +54,7 @@ pub enum ReadEnd {
     ReadFault,
     /// The file has at least this many bytes, which is one more than are allowed.
     TooLong(u64),
+    /// There was no memory for the bytes.
     OutOfMemory,
 }
 
