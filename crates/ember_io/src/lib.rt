@@ -1,0 +1,32 @@
+//! Files by name that are read, and places that take bytes, each handed in by the caller and each
+//! with a count of its faults.
+#![tactic(auto)]
+
+mod failing;
+mod lists;
+mod memory_shelf;
+mod memory_sink;
+mod places;
+mod real;
+mod safe_shelf;
+mod shelf;
+mod sink;
+
+pub use lists::{Calls, FileSet};
+pub use memory_shelf::MemoryShelf;
+pub use memory_sink::MemorySink;
+pub use real::{FileShelf, StdSink};
+pub use safe_shelf::SafeShelf;
+pub use shelf::{ReadEnd, Shelf, read_all};
+pub use sink::{Sink, WriteFault, write_all};
+use std::alloc::AllocError;
+
+/// Want of memory.
+pub type OutOfMemory = AllocError;
+
+/// A call to the outside failed.
+#[derive(Clone, Copy, Debug, PartialEq, Eq)]
+pub struct Failed;
+
+#[cfg(test)]
+mod tests;

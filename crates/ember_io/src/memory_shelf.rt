@@ -1,0 +1,137 @@
+// Files in memory, of which some calls fail.
+ghost use Rattle.std.specs.Prelude.{◌≡◌, ◌<◌, ◌↔◌, [], min, length, Some, IsErr, IfOk, OnOk, OnErr, Contains};
+ghost use Rattle.std.specs.Io.{ReadsAtMost};
+ghost use Rattle.std.specs.Io.KnownBytes.{ReadConsumes};
+ghost use Rattle.ember_io.specs.Causes.{counted, HasCause, CountsFault};
+ghost use Rattle.ember_io.specs.Files.{first_of};
+ghost use Rattle.ember_io.specs.Memory.{IsSameShelf, FailsToBegin};
+ghost use Rattle.ember_io.specs.Shelves.{MarksFault};
+
+use crate::failing::is_failing;
+use crate::places::{bytes_of, give, no_place, place_of};
+use crate::shelf::Shelf;
+use crate::{Calls, Failed, FileSet, OutOfMemory};
+use std::alloc::Global;
+use std::marker::Model;
+
+/// Files in memory, read in pieces. Calls of `begin` and `read` are numbered together from 1, and
+/// those of chosen numbers fail.
+#[derive(Drop)]
+pub struct MemoryShelf {
+    files: FileSet,
+    piece: usize,
+    failing: Calls,
+    calls: u64,
+    place: usize,
+    at: usize,
+    begun: u32,
+    fault_at: u32,
+    faults: u64,
+}
+
+impl Model for MemoryShelf {
+    ghost use Rattle.std.specs.Prelude.{◌<◌, drop};
+    ghost use Rattle.ember_io.specs.Files.{bytes_at};
+    ghost use Rattle.ember_io.specs.Memory.{ShelfState};
+
+    ghost Value = { ShelfState };
+
+    ghost view = { λ s. record { files = s.files; piece = s.piece; failing = s.failing; calls = s.calls; unread = drop s.at (bytes_at s.files s.place); begun = s.begun; fault_at = s.fault_at; faults = s.faults } };
+
+    ghost invariant = { λ s. 0 < s.piece };
+}
+
+impl MemoryShelf {
+    /// A shelf of these files. A read gives at most `piece` bytes, and the calls whose numbers are
+    /// in `failing` fail.
+    pub fn new(
+        _alloc: Global,
+        files: FileSet,
+        piece: usize,
+        failing: Calls,
+    ) -> Result<MemoryShelf, OutOfMemory>
+        requires { 0 < piece }
+        ensures { IfOk result (λ s. s ≡ record { files = files; piece = piece; failing = failing; calls = 0; unread = []; begun = 0; fault_at = 0; faults = 0 }) }
+    {
+        let place = no_place(files.items());
+        Ok(MemoryShelf {
+            files,
+            piece,
+            failing,
+            calls: 0,
+            place,
+            at: 0,
+            begun: 0,
+            fault_at: 0,
+            faults: 0,
+        })
+    }
+}
+
+impl Shelf for MemoryShelf {
+    ghost contents = { λ s. first_of s.files };
+
+    ghost unread = { λ s. Some s.unread };
+
+    ghost begun = { λ s. s.begun };
+
+    ghost fault_at = { λ s. s.fault_at };
+
+    ghost faults = { λ s. s.faults };
+
+    fn begin(&mut self, name: &str, number: u32) -> Result<(), Failed>
+        ensures contents { first_of self.new.files ≡ first_of self.old.files }
+        ensures begun { self.new.begun ≡ number }
+        ensures bytes { OnOk result (Some self.new.unread ≡ first_of self.old.files name.now) }
+        ensures none_left { OnErr result (Some self.new.unread ≡ Some []) }
+        ensures cause { HasCause self.old.faults self.new.faults result }
+        ensures mark { MarksFault self.old.fault_at self.new.fault_at number result }
+
+        // It fails exactly at the chosen calls and at unknown names.
+        ensures fails { IsErr result ↔ FailsToBegin self.old name.now }
+        ensures counts { CountsFault self.old.faults self.new.faults result }
+        ensures calls { self.new.calls ≡ counted self.old.calls }
+        ensures same { IsSameShelf self.old self.new }
+    {
+        self.calls = self.calls.saturating_add(1);
+        self.begun = number;
+        self.at = 0;
+        self.place = no_place(self.files.items());
+        if !is_failing(&self.failing, self.calls) {
+            if let Some(place) = place_of(self.files.items(), name) {
+                self.place = place;
+                return Ok(());
+            }
+        }
+        self.fault_at = number;
+        self.faults = self.faults.saturating_add(1);
+        Err(Failed)
+    }
+
+    fn read(&mut self, buf: &mut [u8]) -> Result<usize, Failed>
+        ensures contents { first_of self.new.files ≡ first_of self.old.files }
+        ensures begun { self.new.begun ≡ self.old.begun }
+        ensures bound { ReadsAtMost result buf.new }
+        ensures bytes { ReadConsumes (Some self.old.unread) (Some self.new.unread) result buf.new }
+        ensures cause { HasCause self.old.faults self.new.faults result }
+        ensures mark { MarksFault self.old.fault_at self.new.fault_at self.old.begun result }
+
+        // It fails exactly at the chosen calls, and else gives as much as fits, up to a piece.
+        ensures fails { IsErr result ↔ Contains self.old.failing (counted self.old.calls) }
+        ensures count { IfOk result (λ n. n ≡ min self.old.piece (min (length buf.old) (length self.old.unread))) }
+        ensures counts { CountsFault self.old.faults self.new.faults result }
+        ensures calls { self.new.calls ≡ counted self.old.calls }
+        ensures same { IsSameShelf self.old self.new }
+    {
+        self.calls = self.calls.saturating_add(1);
+        if is_failing(&self.failing, self.calls) {
+            self.fault_at = self.begun;
+            self.faults = self.faults.saturating_add(1);
+            return Err(Failed);
+        }
+        let rest = bytes_of(self.files.items(), self.place);
+        let count = give(rest, self.at, self.piece, buf);
+        self.at += count;
+        Ok(count)
+    }
+}

@@ -1,0 +1,126 @@
+// The system's files and standard streams. They tell no bytes.
+ghost use Rattle.std.specs.Prelude.{◌≡◌, [], Some, None};
+ghost use Rattle.std.specs.Option.{option_map_or};
+
+use crate::Failed;
+use crate::shelf::Shelf;
+use crate::sink::Sink;
+use std::fs;
+use std::io::{Read, Write};
+use std::rt::Files;
+
+/// The files of the system. Every error of the system is a fault.
+#[derive(Drop)]
+pub struct FileShelf<'a, R: Files> {
+    rt: &'a R,
+    file: Option<R::File>,
+    begun: u32,
+    fault_at: u32,
+    faults: u64,
+}
+
+impl<'a, R: Files> FileShelf<'a, R> {
+    /// A shelf of the system's files.
+    pub fn new(rt: &'a R) -> FileShelf<'a, R>
+        ensures unread { ⟦<FileShelf<'a, R> as Shelf>⟧.unread result ≡ Some [] }
+        ensures begun { ⟦<FileShelf<'a, R> as Shelf>⟧.begun result ≡ 0 }
+        ensures fault_at { ⟦<FileShelf<'a, R> as Shelf>⟧.fault_at result ≡ 0 }
+        ensures faults { ⟦<FileShelf<'a, R> as Shelf>⟧.faults result ≡ 0 }
+    {
+        FileShelf {
+            rt,
+            file: None,
+            begun: 0,
+            fault_at: 0,
+            faults: 0,
+        }
+    }
+}
+
+impl<'a, R: Files> Shelf for FileShelf<'a, R> {
+    ghost contents = { λ _ _. None };
+
+    // None are unread where no file is open, and else they aren't told.
+    ghost unread = { λ s. option_map_or (λ _. None) s.file (Some []) };
+
+    ghost begun = { λ s. s.begun };
+
+    ghost fault_at = { λ s. s.fault_at };
+
+    ghost faults = { λ s. s.faults };
+
+    fn begin(&mut self, name: &str, number: u32) -> Result<(), Failed> {
+        self.begun = number;
+        self.file = None;
+        match fs::open(self.rt, name) {
+            Ok(file) => {
+                self.file = Some(file);
+                Ok(())
+            }
+            Err(_) => {
+                self.fault_at = number;
+                self.faults = self.faults.saturating_add(1);
+                Err(Failed)
+            }
+        }
+    }
+
+    fn read(&mut self, buf: &mut [u8]) -> Result<usize, Failed> {
+        let Some(file) = &mut self.file else {
+            return Ok(0);
+        };
+        match file.read(buf) {
+            Ok(count) => Ok(count),
+            Err(_) => {
+                self.fault_at = self.begun;
+                self.faults = self.faults.saturating_add(1);
+                Err(Failed)
+            }
+        }
+    }
+}
+
+/// Standard output or standard error. Every error of the system is a fault, and so is a write that
+/// takes nothing of a piece.
+#[derive(Drop)]
+pub struct StdSink<W: Write + Drop> {
+    to: W,
+    faults: u64,
+}
+
+impl<W: Write + Drop> StdSink<W> {
+    /// A sink over a writer.
+    pub fn new(to: W) -> StdSink<W>
+        ensures { ⟦<StdSink<W> as Sink>⟧.faults result ≡ 0 }
+    {
+        StdSink { to, faults: 0 }
+    }
+}
+
+impl<W: Write + Drop> Sink for StdSink<W> {
+    ghost taken = { λ _. None };
+
+    ghost flushed = { λ _. 0 };
+
+    ghost faults = { λ s. s.faults };
+
+    fn write(&mut self, piece: &[u8]) -> Result<usize, Failed> {
+        match self.to.write(piece) {
+            Ok(count) if count > 0 || piece.is_empty() => Ok(count),
+            _ => {
+                self.faults = self.faults.saturating_add(1);
+                Err(Failed)
+            }
+        }
+    }
+
+    fn flush(&mut self) -> Result<(), Failed> {
+        match self.to.flush() {
+            Ok(()) => Ok(()),
+            Err(_) => {
+                self.faults = self.faults.saturating_add(1);
+                Err(Failed)
+            }
+        }
+    }
+}
