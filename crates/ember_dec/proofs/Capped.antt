@@ -1,0 +1,39 @@
+-- Decimal digits read with a limit.
+use Rattle.std.specs.List.{list_all}
+use Rattle.std.proofs.Common.{Bool, true, false, ◌&&◌, take, ◌≡◌, ◌<◌, ℕ, zero, suc, length, drop, get_or, ◌+◌, ◌-◌, ◌*◌, min, List, [], ◌∷◌, ◌++◌, replicate, refl, ◌∙◌, sym, ap, arith}
+use Rattle.ember_dec.specs.Decimal.{number_from}
+
+-- two numbers that are equal up to the limit stay so as digits are appended
+pub same_capped : (limit v w : ℕ) (ds : List ℕ) → min limit v ≡ min limit w → min limit (number_from v ds) ≡ min limit (number_from w ds)
+same_capped limit v w [] e = e
+same_capped limit v w (d ∷ ds) e = same_capped limit (v * 10 + (d - 48)) (w * 10 + (d - 48)) ds (omega arith)
+
+pub capped : (limit v : ℕ) (ds : List ℕ) → min limit (number_from (min v limit) ds) ≡ min limit (number_from v ds)
+capped limit v ds = same_capped limit (min v limit) v ds (omega arith)
+
+-- one digit more
+pub digit_more : (limit v i : ℕ) (text : List ℕ) → i < length text → min limit (number_from v (drop i text)) ≡ min limit (number_from (min (v * 10 + (get_or text i 0 - 48)) limit) (drop (suc i) text))
+digit_more limit v i [] h = absurd (omega arith)
+digit_more limit v zero (d ∷ ds) h = sym (capped limit (v * 10 + (d - 48)) ds)
+digit_more limit v (suc i) (d ∷ ds) h = digit_more limit v i ds (omega arith)
+
+-- one zero more
+pub zero_more : (limit v n : ℕ) → min limit (number_from v (replicate (suc n) 48)) ≡ min limit (number_from (min (v * 10) limit) (replicate n 48))
+zero_more limit v n = same_capped limit (v * 10 + (48 - 48)) (min (v * 10) limit) (replicate n 48) (omega arith)
+
+pub number_from-append : (v : ℕ) (xs ys : List ℕ) → number_from v (xs ++ ys) ≡ number_from (number_from v xs) ys
+number_from-append v [] ys = refl
+number_from-append v (x ∷ xs) ys = number_from-append (v * 10 + (x - 48)) xs ys
+
+-- three parts read one after another, each with the limit
+pub capped_parts : (limit : ℕ) (w f z : List ℕ) → min limit (number_from (min limit (number_from (min limit (number_from 0 w)) f)) z) ≡ min limit (number_from 0 (w ++ (f ++ z)))
+capped_parts limit w f z =
+    let front : min limit (number_from (min limit (number_from 0 w)) f) ≡ min limit (number_from (number_from 0 w) f) = same_capped limit (min limit (number_from 0 w)) (number_from 0 w) f (omega arith) in
+    same_capped limit (min limit (number_from (min limit (number_from 0 w)) f)) (number_from (number_from 0 w) f) z (omega arith)
+    ∙ ap (λ x. min limit x) (sym (number_from-append (number_from 0 w) f z) ∙ sym (number_from-append 0 w (f ++ z)))
+
+pub list_all-take : (p : ℕ → Bool) (n : ℕ) (xs : List ℕ) → list_all p xs ≡ true → list_all p (take n xs) ≡ true
+list_all-take p zero xs h = refl
+list_all-take p (suc n) [] h = refl
+list_all-take p (suc n) (x ∷ xs) h =
+    elim (p x) as (λ b. b && list_all p xs ≡ true → b && list_all p (take n xs) ≡ true) [ true ↦ list_all-take p n xs | false ↦ λ k. k ] h

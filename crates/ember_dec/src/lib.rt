@@ -1,0 +1,170 @@
+//! Reads decimal coordinates.
+#![tactic(auto)]
+
+ghost use Rattle.std.specs.Prelude.{◌≡◌, ◌≤◌, length, min, true, drop, take, replicate, ◌==◌};
+ghost use Rattle.std.specs.List.{list_all};
+ghost use Rattle.std.specs.Char.{is_ascii_digit};
+ghost use Rattle.ember_dec.specs.Decimal.{before_point, behind_point, number_from, units, value_in_units, coordinate_of};
+
+use thiserror::Error;
+
+/// Why a text is no coordinate.
+#[derive(Clone, Copy, Debug, PartialEq, Eq, Error)]
+pub enum DecFault {
+    /// It isn't a sign, where there is one, and digits with at most one point among them.
+    #[error("malformed")]
+    Malformed = 1,
+    /// A digit past the places isn't 0.
+    #[error("fraction")]
+    Fraction,
+    /// It is more than 2047 units in size.
+    #[error("range")]
+    Range,
+}
+
+// The least size that is out of range.
+const LIMIT: u32 = 2048;
+
+fn are_digits(text: &[u8]) -> bool
+    ensures { result ≡ list_all is_ascii_digit text.now }
+{
+    text.iter().all(|b| b.is_ascii_digit())
+}
+
+fn are_zeros(text: &[u8]) -> bool
+    ensures { result ≡ list_all (λ b. b == 48) text.now }
+{
+    text.iter().all(|b| *b == b'0')
+}
+
+// The number with these digits behind those of `start`, or the limit where it is larger.
+#[tactic(auto, using(crate::proofs::Capped::capped))]
+fn append_digits(start: u32, digits: &[u8]) -> u32
+    requires digits { list_all is_ascii_digit digits.now ≡ true }
+    requires small { start ≤ LIMIT }
+    ensures value { result ≡ min LIMIT (number_from start digits.now) }
+    ensures small { result ≤ LIMIT }
+{
+    let mut value = start;
+    for digit in digits {
+        value = (value * 10 + u32::from(*digit - b'0')).min(LIMIT);
+    }
+    value
+}
+
+// The number with this many zeros behind the digits of `start`, or the limit where it is larger.
+fn append_zeros(start: u32, count: usize) -> u32
+    requires { start ≤ LIMIT }
+    ensures value { result ≡ min LIMIT (number_from start (replicate count 48)) }
+    ensures small { result ≤ LIMIT }
+{
+    let mut value = start;
+    for _turn in 0..count {
+        value = (value * 10).min(LIMIT);
+    }
+    value
+}
+
+// The digits within the places, and those past them.
+fn split_places(fraction: &[u8], places: usize) -> (&[u8], &[u8])
+    ensures within { result.0.now ≡ take places fraction.now }
+    ensures past { result.1.now ≡ drop places fraction.now }
+{
+    if places < fraction.len() {
+        fraction.split_at(places)
+    } else {
+        (fraction, &[])
+    }
+}
+
+// The size in units, or the limit where it is larger.
+#[tactic(auto, using(crate::proofs::Capped::capped_parts))]
+fn capped_units(places: usize, whole: &[u8], fraction: &[u8]) -> u32
+    requires whole { list_all is_ascii_digit whole.now ≡ true }
+    requires fraction { list_all is_ascii_digit fraction.now ≡ true }
+    ensures { result ≡ min LIMIT (units places whole.now fraction.now) }
+{
+    let value = append_digits(0, whole);
+    let value = append_digits(value, split_places(fraction, places).0);
+    append_zeros(value, places.saturating_sub(fraction.len()))
+}
+
+// The coordinate with this sign and these parts before and behind the point.
+fn signed_value(minus: bool, places: usize, whole: &[u8], fraction: &[u8]) -> Result<i32, DecFault>
+    ensures { result ≡ value_in_units minus places whole.now fraction.now }
+{
+    if !are_digits(whole) || !are_digits(fraction) || (whole.is_empty() && fraction.is_empty()) {
+        return Err(DecFault::Malformed);
+    }
+    if !are_zeros(split_places(fraction, places).1) {
+        return Err(DecFault::Fraction);
+    }
+    let size = capped_units(places, whole, fraction);
+    if size >= LIMIT {
+        return Err(DecFault::Range);
+    }
+    let size = size as i32;
+    Ok(if minus { -size } else { size })
+}
+
+// The parts of a text before and behind its first point.
+fn split_point(text: &[u8]) -> (&[u8], &[u8])
+    ensures before { result.0.now ≡ before_point text.now }
+    ensures behind { result.1.now ≡ behind_point text.now }
+{
+    let mut end = 0;
+    while end < text.len() && text[end] != b'.' {
+        end += 1;
+    }
+    let (whole, rest) = text.split_at(end);
+    match rest.split_first() {
+        Some((_, fraction)) => (whole, fraction),
+        None => (whole, rest),
+    }
+}
+
+/// The coordinate that `text` spells, in units of a tenth to the power of `places`.
+///
+/// A coordinate is an optional `+` or `-`, then digits, then optionally a point and digits, with at
+/// least one digit in all; every other text is [`Malformed`](DecFault::Malformed). A digit past the
+/// places that isn't 0 gives [`Fraction`](DecFault::Fraction), and else a size above 2047 units gives
+/// [`Range`](DecFault::Range). Takes no memory.
+pub fn coordinate(text: &[u8], places: u8) -> Result<i32, DecFault>
+    requires { places ≤ 3 }
+    ensures { result ≡ coordinate_of places text.now }
+{
+    let (minus, digits) = match text.split_first() {
+        Some((b'-', rest)) => (true, rest),
+        Some((b'+', rest)) => (false, rest),
+        _ => (false, text),
+    };
+    let (whole, fraction) = split_point(digits);
+    signed_value(minus, usize::from(places), whole, fraction)
+}
+
+#[cfg(test)]
+mod tests {
+    use super::*;
+
+    #[test]
+    fn decimals(rt: HostRuntime) {
+        let table: [(&[u8], u8, Result<i32, DecFault>); 12] = [
+            (b"1.25", 2, Ok(125)),
+            (b"1.25", 1, Err(DecFault::Fraction)),
+            (b"20.47", 2, Ok(2047)),
+            (b"20.48", 2, Err(DecFault::Range)),
+            (b"5000.5", 0, Err(DecFault::Fraction)),
+            (b"-0.000", 0, Ok(0)),
+            (b"+3", 0, Ok(3)),
+            (b"1.", 0, Ok(1)),
+            (b".5", 1, Ok(5)),
+            (b"1e2", 0, Err(DecFault::Malformed)),
+            (b".", 0, Err(DecFault::Malformed)),
+            (b"", 0, Err(DecFault::Malformed)),
+        ];
+        for (text, places, want) in table {
+            assert!(rt; places <= 3);
+            assert_eq!(rt; coordinate(text, places), want);
+        }
+    }
+}
