@@ -1,0 +1,5 @@
+pub mod Scan
+pub mod Lines
+pub mod References
+pub mod Table
+pub mod ReadObj

@@ -1,0 +1,64 @@
+-- The lines of a file.
+use Rattle.std.specs.Prelude.{◌≡◌, ◌<◌, ℕ, ◌+◌, ◌-◌, Bool, not, ◌&&◌, List, [], ◌∷◌, ◌++◌, if◌then◌else◌, ◌==◌, nat_eq, length, take, drop, map}
+use Rattle.std.specs.List.{list_any, starts_with, ends_with}
+use Rattle.ember_obj.specs.Scan.{before}
+
+-- the bytes of a file behind a byte order mark at its beginning
+abbrev pub unmarked : List ℕ → List ℕ
+unmarked bytes = if starts_with nat_eq bytes (239 ∷ 187 ∷ 191 ∷ []) then drop 3 bytes else bytes
+
+-- a byte in front of the first of the lines
+abbrev pub before_lines : ℕ → List (List ℕ) → List (List ℕ)
+before_lines b [] = (b ∷ []) ∷ []
+before_lines b (line ∷ lines) = (b ∷ line) ∷ lines
+
+-- the lines that line feeds end; the last line feed begins no further line
+abbrev pub ended_lines : List ℕ → List (List ℕ)
+ended_lines [] = []
+ended_lines (b ∷ bs) = if b == 10 then [] ∷ ended_lines bs else before_lines b (ended_lines bs)
+
+-- a line without one carriage return at its end
+abbrev pub without_return : List ℕ → List ℕ
+without_return line = if ends_with nat_eq line (13 ∷ []) then take (length line - 1) line else line
+
+-- the physical lines
+abbrev pub physical_lines : List ℕ → List (List ℕ)
+physical_lines bytes = map without_return (ended_lines bytes)
+
+abbrev pub is_hash : ℕ → Bool
+is_hash b = b == 35
+
+-- whether the next line is joined to a physical line: it has no comment and ends with a backslash
+abbrev pub is_continued : List ℕ → Bool
+is_continued line = ends_with nat_eq line (92 ∷ []) && not (list_any is_hash line)
+
+-- a line with a space in place of its last byte
+abbrev pub with_space : List ℕ → List ℕ
+with_space line = take (length line - 1) line ++ 32 ∷ []
+
+-- a joined line with the number of its first physical line
+pub record Line : Type 0 where
+  pub number : ℕ
+  pub text : List ℕ
+
+-- a text in front of the first of the joined lines, which gets the number of the text's line
+abbrev pub joined_to : ℕ → List ℕ → List Line → List Line
+joined_to number text [] = (record { number = number; text = text }) ∷ []
+joined_to number text (line ∷ lines) = (record { number = number; text = text ++ line.text }) ∷ lines
+
+-- the joined lines of physical lines, of which the first has this number; comments are dropped
+abbrev pub joined_lines : ℕ → List (List ℕ) → List Line
+joined_lines number [] = []
+joined_lines number (line ∷ lines) =
+    if is_continued line
+    then joined_to number (with_space line) (joined_lines (number + 1) lines)
+    else (record { number = number; text = before is_hash line }) ∷ joined_lines (number + 1) lines
+
+-- the joined lines of the bytes from the beginning of a physical line on, which has this number
+abbrev pub lines_from : ℕ → List ℕ → List Line
+lines_from number bytes = joined_lines number (physical_lines bytes)
+
+-- the first line has this number and more bytes than a line may have
+abbrev pub BeginsLong : ℕ → List Line → Type 0
+BeginsLong number [] = ⊥
+BeginsLong number (line ∷ lines) = (line.number ≡ number) × (65536 < length line.text)

@@ -1,0 +1,37 @@
+-- Parts of a text.
+use Rattle.std.specs.Prelude.{ℕ, Bool, ◌||◌, List, [], ◌∷◌, ◌++◌, if◌then◌else◌, ◌==◌, Option, None, Some}
+
+-- what stands before the first byte of a kind
+abbrev pub before : (ℕ → Bool) → List ℕ → List ℕ
+before stops [] = []
+before stops (b ∷ bs) = if stops b then [] else b ∷ before stops bs
+
+-- the text from that byte on
+abbrev pub onward : (ℕ → Bool) → List ℕ → List ℕ
+onward stops [] = []
+onward stops (b ∷ bs) = if stops b then b ∷ bs else onward stops bs
+
+-- a space, a tab or a carriage return
+abbrev pub is_separator : ℕ → Bool
+is_separator b = b == 32 || b == 9 || b == 13
+
+-- a field in front of the fields, if it has a byte
+abbrev pub closed : List ℕ → List (List ℕ) → List (List ℕ)
+closed [] fields = fields
+closed (b ∷ bs) fields = (b ∷ bs) ∷ fields
+
+-- the fields of a text, where `begun` is the field that is open
+abbrev pub fields_from : List ℕ → List ℕ → List (List ℕ)
+fields_from [] begun = closed begun []
+fields_from (b ∷ bs) begun = if is_separator b then closed begun (fields_from bs []) else fields_from bs (begun ++ b ∷ [])
+
+-- the fields of a line
+abbrev pub fields_of : List ℕ → List (List ℕ)
+fields_of line = fields_from line []
+
+-- the first three, where there are three or more
+abbrev pub first_three : List (List ℕ) → Option (List ℕ × List ℕ × List ℕ)
+first_three [] = None
+first_three (a ∷ []) = None
+first_three (a ∷ b ∷ []) = None
+first_three (a ∷ b ∷ c ∷ more) = Some (a, b, c)

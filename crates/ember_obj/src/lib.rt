@@ -1,0 +1,12 @@
+//! Reads the triangles of an OBJ file.
+#![tactic(auto)]
+
+mod fault;
+mod lines;
+mod reading;
+mod references;
+mod scan;
+mod vertex;
+
+pub use fault::ObjFault;
+
