@@ -1,3 +1,5 @@
 pub mod Cuts
 pub mod Joins
 pub mod Numbered
+pub mod Soundness
+pub mod Faults

@@ -10,3 +10,4 @@ mod vertex;
 
 pub use fault::ObjFault;
 
+pub use reading::read_obj;

@@ -1,8 +1,8 @@
 // Physical lines, and lines that are joined from several.
-ghost use Rattle.std.specs.Prelude.{◌≡◌, ◌⊎◌, ◌+◌, ◌^◌, ◌<◌, ◌≤◌, [], ◌∷◌, ◌++◌, length, MatchOption, IfSome, OnOk, IfOk, IfErr};
+ghost use Rattle.std.specs.Prelude.{◌≡◌, ◌⊎◌, ◌+◌, ◌^◌, ◌<◌, ◌≤◌, [], ◌∷◌, ◌++◌, true, length, MatchOption, IfSome, OnOk, IfOk, IfErr};
 ghost use Rattle.std.specs.List.{list_any};
 ghost use Rattle.ember_obj.specs.Scan.{before};
-ghost use Rattle.ember_obj.specs.Lines.{unmarked, without_return, physical_lines, is_hash, is_continued, with_space, joined_to, lines_from, Line, BeginsLong};
+ghost use Rattle.ember_obj.specs.Lines.{unmarked, without_return, physical_lines, is_hash, is_continued, with_space, joined_to, joined_lines, lines_from, Line, BeginsLong};
 
 use crate::fault::ObjFault;
 use crate::scan::cut_before;
@@ -120,4 +120,25 @@ fn append_rest<'a>(
         append_continued(text, number, line)?;
     }
     Ok((next, rest))
+}
+
+// Puts the joined line that begins with the physical line `line` into `text`, where this line has the
+// number and `after` follows it. Gives the number of the physical line behind, and the bytes from it on.
+#[tactic(auto, using(crate::proofs::Joins::begins_long, crate::proofs::Joins::continued_has_byte))]
+pub(crate) fn join<'a>(
+    text: &mut Vec<u8>,
+    number: u32,
+    line: &[u8],
+    after: &'a [u8],
+) -> Result<(u32, &'a [u8]), ObjFault>
+    requires continued { is_continued line.now ≡ true }
+    requires numbers { number + 1 + length after.now < 2 ^ 32 }
+    ensures ok { IfOk result (λ p. joined_lines number (line.now ∷ physical_lines after.now) ≡ (record { number = number; text = text.new.items }) ∷ lines_from p.0 p.1.now) }
+    ensures shorter { IfOk result (λ p. length p.1.now ≤ length after.now) }
+    ensures numbers { IfOk result (λ p. p.0 + length p.1.now ≤ number + 1 + length after.now) }
+    ensures err { IfErr result (λ e. (e ≡ ObjFault.OutOfMemory) ⊎ ((e ≡ ObjFault.LongLine number) × BeginsLong number (joined_lines number (line.now ∷ physical_lines after.now)))) }
+{
+    text.clear();
+    append_continued(text, number, line)?;
+    append_rest(text, number, number + 1, after)
 }

@@ -1,6 +1,25 @@
 // The table of vertices and triangles, and the pass over a file.
-ghost use Rattle.std.specs.Prelude.{◌≡◌};
-ghost use Rattle.ember_obj.specs.ReadObj.{keyword_of};
+ghost use Rattle.std.specs.Prelude.{◌≡◌, ◌⊎◌, ◌+◌, ◌^◌, ◌<◌, ◌≤◌, [], ◌∷◌, length, All, Ok, Err, OnOk, IfOk, IfErr};
+ghost use Rattle.ember_obj.specs.Scan.{fields_of, first_three};
+ghost use Rattle.ember_obj.specs.Lines.{physical_lines, joined_lines, lines_from};
+ghost use Rattle.ember_obj.specs.References.{corners_of};
+ghost use Rattle.ember_obj.specs.Sound.{IsSound};
+ghost use Rattle.ember_obj.specs.ReadObj.{keyword_of, corner_in, with_vertex, with_face, after_line, after_lines, read_obj_of};
+
+use crate::fault::ObjFault;
+use crate::lines::{MOST_BYTES, continues, join, next_line, skip_comment, skip_mark};
+use crate::references::{push_fan, read_corners};
+use crate::scan::next_field;
+use crate::vertex::read_vertex;
+use ember_model::{Corner, Lines, Soup, Tri, Tris};
+use std::alloc::Global;
+use std::marker::Model;
+
+// The most vertices of a file.
+const MOST_VERTICES: usize = 262_144;
+
+// The most triangles of a file.
+const MOST_TRIANGLES: usize = 262_144;
 
 #[derive(Clone, Copy)]
 enum Keyword {
@@ -17,4 +36,150 @@ fn keyword_in(field: &[u8]) -> Keyword
         [b'f'] => Keyword::Face,
         _ => Keyword::Other,
     }
+}
+
+// What is read so far, and the corners of the face in hand.
+#[derive(Drop)]
+struct Reader {
+    vertices: Vec<Corner>,
+    tris: Vec<Tri>,
+    lines: Vec<u32>,
+    corners: Vec<Corner>,
+}
+
+impl Model for Reader {
+    ghost use Rattle.ember_obj.specs.Table.{Table};
+
+    ghost Value = { Table };
+
+    ghost view = { λ s. record { vertices = s.vertices.items; tris = s.tris.items; lines = s.lines.items } };
+}
+
+impl Reader {
+    fn new(alloc: Global) -> Reader
+        ensures { result ≡ record { vertices = []; tris = []; lines = [] } }
+    {
+        Reader {
+            vertices: Vec::new(alloc),
+            tris: Vec::new(alloc),
+            lines: Vec::new(alloc),
+            corners: Vec::new(alloc),
+        }
+    }
+
+    fn add_vertex(&mut self, places: u8, line: u32, fields: &[u8]) -> Result<(), ObjFault>
+        requires { places ≤ 3 }
+        ensures ok { OnOk result (with_vertex line self.old (corner_in places line (first_three (fields_of fields.now))) ≡ Ok self.new) }
+        ensures err { IfErr result (λ e. (e ≡ ObjFault.OutOfMemory) ⊎ (with_vertex line self.old (corner_in places line (first_three (fields_of fields.now))) ≡ Err e)) }
+    {
+        let corner = read_vertex(places, line, fields)?;
+        if self.vertices.len() >= MOST_VERTICES {
+            return Err(ObjFault::TooMany(line));
+        }
+        if self.vertices.push(corner).is_err() {
+            return Err(ObjFault::OutOfMemory);
+        }
+        Ok(())
+    }
+
+    #[tactic(auto, using(crate::proofs::Joins::length_fan))]
+    fn add_face(&mut self, mesh: u32, line: u32, fields: &[u8]) -> Result<(), ObjFault>
+        requires { length self.old.vertices ≤ MOST_VERTICES }
+        ensures ok { OnOk result (with_face mesh line self.old (corners_of line self.old.vertices (fields_of fields.now)) ≡ Ok self.new) }
+        ensures err { IfErr result (λ e. (e ≡ ObjFault.OutOfMemory) ⊎ (with_face mesh line self.old (corners_of line self.old.vertices (fields_of fields.now)) ≡ Err e)) }
+    {
+        read_corners(&mut self.corners, line, &self.vertices, fields)?;
+        if self.corners.len() < 3 {
+            return Err(ObjFault::FewCorners(line));
+        }
+        if self.corners.len() - 2 > MOST_TRIANGLES.saturating_sub(self.tris.len()) {
+            return Err(ObjFault::TooMany(line));
+        }
+        if push_fan(&mut self.tris, &mut self.lines, mesh, line, &self.corners).is_err() {
+            return Err(ObjFault::OutOfMemory);
+        }
+        Ok(())
+    }
+
+    // Reads one line, joined and without comments.
+    fn add_line(
+        &mut self,
+        places: u8,
+        mesh: u32,
+        number: u32,
+        text: &[u8],
+    ) -> Result<(), ObjFault>
+        requires places { places ≤ 3 }
+        requires few { length self.old.vertices ≤ MOST_VERTICES }
+        ensures ok { OnOk result (after_line places mesh self.old (record { number = number; text = text.now }) ≡ Ok self.new) }
+        ensures err { IfErr result (λ e. (e ≡ ObjFault.OutOfMemory) ⊎ (after_line places mesh self.old (record { number = number; text = text.now }) ≡ Err e)) }
+    {
+        if text.len() > MOST_BYTES {
+            return Err(ObjFault::LongLine(number));
+        }
+        let Some((key, fields)) = next_field(text) else {
+            return Ok(());
+        };
+        match keyword_in(key) {
+            Keyword::Vertex => self.add_vertex(places, number, fields),
+            Keyword::Face => self.add_face(mesh, number, fields),
+            Keyword::Other => Ok(()),
+        }
+    }
+
+    // Reads the line that begins with this physical line, which `after` follows. Gives the number of the
+    // physical line behind, and the bytes from it on.
+    #[tactic(auto, using(crate::proofs::Faults::after_fault, crate::proofs::Faults::long_line))]
+    fn read_line<'a>(
+        &mut self,
+        joined: &mut Vec<u8>,
+        places: u8,
+        mesh: u32,
+        number: u32,
+        line: &[u8],
+        after: &'a [u8],
+    ) -> Result<(u32, &'a [u8]), ObjFault>
+        requires places { places ≤ 3 }
+        requires numbers { number + 1 + length after.now < 2 ^ 32 }
+        requires sound { IsSound mesh self.old }
+        ensures ok { IfOk result (λ p. after_lines places mesh (Ok self.old) (joined_lines number (line.now ∷ physical_lines after.now)) ≡ after_lines places mesh (Ok self.new) (lines_from p.0 p.1.now)) }
+        ensures shorter { IfOk result (λ p. length p.1.now ≤ length after.now) }
+        ensures numbers { IfOk result (λ p. p.0 + length p.1.now ≤ number + 1 + length after.now) }
+        ensures sound { OnOk result (IsSound mesh self.new) }
+        ensures err { IfErr result (λ e. (e ≡ ObjFault.OutOfMemory) ⊎ (after_lines places mesh (Ok self.old) (joined_lines number (line.now ∷ physical_lines after.now)) ≡ Err e)) }
+    {
+        if !continues(line) {
+            self.add_line(places, mesh, number, skip_comment(line))?;
+            return Ok((number + 1, after));
+        }
+        let (next, rest) = join(joined, number, line, after)?;
+        self.add_line(places, mesh, number, joined)?;
+        Ok((next, rest))
+    }
+}
+
+/// The triangles of an OBJ file with their lines, each with this mesh number, or its first fault. The
+/// coordinates are in units of a tenth to the power of `places`.
+///
+/// A joined line has the number of its first physical line, from 1. The fault is that of the first
+/// line with one; within a line faults come in the order of the file's rules, and those of references
+/// from left to right. A line that isn't joined from several is read where it stands.
+#[tactic(auto, using(crate::proofs::Faults::after_fault))]
+pub fn read_obj(alloc: Global, bytes: &[u8], places: u8, mesh: u32) -> Result<Soup, ObjFault>
+    requires places { places ≤ 3 }
+    requires bytes { length bytes.now ≤ 268435456 }
+    ensures ok { IfOk result (λ soup. read_obj_of places mesh bytes.now ≡ Ok (record { tris = soup.tris; lines = soup.lines })) }
+    ensures fault { IfErr result (λ e. (e ≡ ObjFault.OutOfMemory) ⊎ (read_obj_of places mesh bytes.now ≡ Err e)) }
+    ensures few { IfOk result (λ soup. length soup.tris ≤ 262144) }
+    ensures mesh { IfOk result (λ soup. All (λ t. t.mesh ≡ mesh) soup.tris) }
+{
+    let mut reader = Reader::new(alloc);
+    let mut joined = Vec::new(alloc);
+    let mut rest = skip_mark(bytes);
+    let mut number = 1;
+    while let Some((line, after)) = next_line(rest) {
+        (number, rest) = reader.read_line(&mut joined, places, mesh, number, line, after)?;
+    }
+    let Reader { tris, lines, .. } = reader;
+    Ok(Soup::of(Tris::of(tris), Lines::of(lines)))
 }
