@@ -2,6 +2,7 @@
 use Rattle.std.specs.List.{list_all}
 use Rattle.std.proofs.Common.{Bool, true, false, ◌&&◌, take, ◌≡◌, ◌<◌, ℕ, zero, suc, length, drop, get_or, ◌+◌, ◌-◌, ◌*◌, min, List, [], ◌∷◌, ◌++◌, replicate, refl, ◌∙◌, sym, ap, arith}
 use Rattle.ember_dec.specs.Decimal.{number_from}
+use Rattle.ember_dec.proofs.Numbers.{number_from-append, number_from-drop}
 
 -- two numbers that are equal up to the limit stay so as digits are appended
 pub same_capped : (limit v w : ℕ) (ds : List ℕ) → min limit v ≡ min limit w → min limit (number_from v ds) ≡ min limit (number_from w ds)
@@ -13,17 +14,11 @@ capped limit v ds = same_capped limit (min v limit) v ds (omega arith)
 
 -- one digit more
 pub digit_more : (limit v i : ℕ) (text : List ℕ) → i < length text → min limit (number_from v (drop i text)) ≡ min limit (number_from (min (v * 10 + (get_or text i 0 - 48)) limit) (drop (suc i) text))
-digit_more limit v i [] h = absurd (omega arith)
-digit_more limit v zero (d ∷ ds) h = sym (capped limit (v * 10 + (d - 48)) ds)
-digit_more limit v (suc i) (d ∷ ds) h = digit_more limit v i ds (omega arith)
+digit_more limit v i text h = ap (λ n. min limit n) (number_from-drop v i text h) ∙ sym (capped limit (v * 10 + (get_or text i 0 - 48)) (drop (suc i) text))
 
 -- one zero more
 pub zero_more : (limit v n : ℕ) → min limit (number_from v (replicate (suc n) 48)) ≡ min limit (number_from (min (v * 10) limit) (replicate n 48))
 zero_more limit v n = same_capped limit (v * 10 + (48 - 48)) (min (v * 10) limit) (replicate n 48) (omega arith)
-
-pub number_from-append : (v : ℕ) (xs ys : List ℕ) → number_from v (xs ++ ys) ≡ number_from (number_from v xs) ys
-number_from-append v [] ys = refl
-number_from-append v (x ∷ xs) ys = number_from-append (v * 10 + (x - 48)) xs ys
 
 -- three parts read one after another, each with the limit
 pub capped_parts : (limit : ℕ) (w f z : List ℕ) → min limit (number_from (min limit (number_from (min limit (number_from 0 w)) f)) z) ≡ min limit (number_from 0 (w ++ (f ++ z)))

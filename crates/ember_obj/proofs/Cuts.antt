@@ -11,13 +11,13 @@ last_line : (text : List ℕ) → 0 < length text → onward (λ b. b == 10) tex
 last_line [] some none = absurd (omega arith)
 last_line (b ∷ []) some none =
     elim (b == 10) as (λ t. (if t then b ∷ [] else []) ≡ [] → (if t then [] ∷ [] else (b ∷ []) ∷ []) ≡ (if t then [] else b ∷ []) ∷ []) [
-      true ↦ λ e. (cc)
-    | false ↦ λ e. refl
+      | true ↦ λ e. (cc)
+      | false ↦ λ e. refl
     ] none
 last_line (b ∷ c ∷ bs) some none =
     elim (b == 10) as (λ t. (if t then b ∷ c ∷ bs else onward (λ x. x == 10) (c ∷ bs)) ≡ [] → (if t then [] ∷ ended_lines (c ∷ bs) else before_lines b (ended_lines (c ∷ bs))) ≡ (if t then [] else b ∷ before (λ x. x == 10) (c ∷ bs)) ∷ []) [
-      true ↦ λ e. (cc)
-    | false ↦ λ e. ap (λ l. before_lines b l) (last_line (c ∷ bs) (omega arith) e)
+      | true ↦ λ e. (cc)
+      | false ↦ λ e. ap (λ l. before_lines b l) (last_line (c ∷ bs) (omega arith) e)
     ] none
 
 -- a line that a line feed ends
@@ -25,8 +25,8 @@ first_line : (text after : List ℕ) (b : ℕ) → onward (λ x. x == 10) text �
 first_line [] after b is = cc
 first_line (x ∷ xs) after b is =
     elim (x == 10) as (λ t. (if t then x ∷ xs else onward (λ y. y == 10) xs) ≡ b ∷ after → (if t then [] ∷ ended_lines xs else before_lines x (ended_lines xs)) ≡ (if t then [] else x ∷ before (λ y. y == 10) xs) ∷ ended_lines after) [
-      true ↦ λ e. let same : xs ≡ after = cc in ap (λ l. [] ∷ ended_lines l) same
-    | false ↦ λ e. ap (λ l. before_lines x l) (first_line xs after b e)
+      | true ↦ λ e. let same : xs ≡ after = cc in ap (λ l. [] ∷ ended_lines l) same
+      | false ↦ λ e. ap (λ l. before_lines x l) (first_line xs after b e)
     ] is
 
 -- the fields of a text of which a field is open
@@ -34,8 +34,8 @@ field_then_rest : (text begun : List ℕ) → fields_from text begun ≡ closed 
 field_then_rest [] begun = ap (λ x. closed x []) (sym (append-nil begun))
 field_then_rest (b ∷ bs) begun =
     elim (cases_Bool (is_separator b)) [
-      inl h ↦ simp (h, append-nil begun)
-    | inr h ↦ simp (h, field_then_rest bs (begun ++ b ∷ []), append_assoc)
+      | inl h ↦ simp (h, append-nil begun)
+      | inr h ↦ simp (h, field_then_rest bs (begun ++ b ∷ []), append_assoc)
     ]
 
 -- a text that begins with a field

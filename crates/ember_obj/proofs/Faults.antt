@@ -1,12 +1,11 @@
 -- A fault stays the file's fault.
-use Rattle.std.proofs.Common.{◌≡◌, ℕ, true, ◌<◌, List, [], ◌∷◌, length, Ok, Err, refl, ◌∙◌, ap}
-use Rattle.std.specs.Prelude.{if◌then◌else◌, nat_lt}
+use Rattle.std.proofs.Common.{◌≡◌, ℕ, List, [], ◌∷◌, length, Ok, Err, refl, ◌∙◌, ap}
 use Rattle.std.proofs.lemmas.Bool.{lt-ltb}
 use Rattle.ember_obj.specs.declared.fault.ObjFault.{ObjFault}
 use Rattle.ember_obj.specs.declared.fault.ObjFault.TheVariants.{LongLine}
 use Rattle.ember_obj.specs.Lines.{Line, BeginsLong}
 use Rattle.ember_obj.specs.Table.{Table}
-use Rattle.ember_obj.specs.ReadObj.{after_line, after_lines}
+use Rattle.ember_obj.specs.ReadObj.{after_lines}
 
 pub after_fault : (places mesh : ℕ) (fault : ObjFault) (lines : List Line) → after_lines places mesh (Err fault) lines ≡ Err fault
 after_fault places mesh fault [] = refl

@@ -1,5 +1,5 @@
 -- Corners and lines that are put in front of others.
-use Rattle.std.proofs.Common.{◌≡◌, ℕ, true, ◌<◌, ◌-◌, List, [], ◌∷◌, ◌++◌, length, refl, sym, ap, ◌∙◌, append_assoc, length-append, arith, Result, Ok, Err}
+use Rattle.std.proofs.Common.{◌≡◌, ℕ, true, ◌<◌, ◌-◌, List, [], ◌∷◌, ◌++◌, length, refl, sym, ap, append_assoc, length-append, arith, Result, Ok, Err}
 use Rattle.std.proofs.lemmas.List.{append-nil}
 use Rattle.ember_model.specs.declared.point.Corner.{Corner}
 use Rattle.ember_obj.specs.declared.fault.ObjFault.{ObjFault}

@@ -1,23 +1,25 @@
 -- Corners by their numbers.
-use Rattle.std.proofs.Common.{◌≡◌, ℕ, Bool, true, false, ◌<◌, ◌≤◌, ◌-◌, List, length, min, refl, sym, ◌∙◌, arith, inl, inr, None}
+use Rattle.std.proofs.Common.{◌≡◌, ℕ, Bool, true, false, ◌<◌, ◌≤◌, ◌+◌, ◌*◌, ◌-◌, ◌^◌, List, length, drop, get_or, suc, arith, None}
 use Rattle.std.specs.Prelude.{if◌then◌else◌, reverse}
-use Rattle.std.proofs.lemmas.Bool.{cases_lt, ne_eqb}
+use Rattle.std.proofs.lemmas.Bool.{ne_eqb}
 use Rattle.std.proofs.lemmas.Option.{slice_get_past}
 use Rattle.std.proofs.lemmas.List.{length-reverse}
+use Rattle.ember_dec.specs.Decimal.{number_from}
+use Rattle.ember_dec.proofs.Numbers.{number_from-grows, number_from-drop}
 use Rattle.ember_model.specs.declared.point.Corner.{Corner}
 use Rattle.ember_obj.specs.References.{counted}
 
-counted_past : (corners : List Corner) (k : ℕ) → length corners < k → counted corners k ≡ None
-counted_past corners k past = rw (ne_eqb k 0 (λ e. omega arith)) (slice_get_past corners (k - 1) (omega arith))
+-- a number that is too large stays so as digits follow
+pub too_large : (v i : ℕ) (ds : List ℕ) → i < length ds → 2 ^ 64 ≤ v * 10 → 2 ^ 64 ≤ number_from v (drop i ds)
+too_large v i ds h large = rw (number_from-drop v i ds h) (omega (arith, number_from-grows (v * 10 + (get_or ds i 0 - 48)) (drop (suc i) ds)))
 
-counted_capped_in : (corners : List Corner) (k : ℕ) → length corners < 262145 → counted corners (min 262145 k) ≡ counted corners k
-counted_capped_in corners k few =
-    elim (cases_lt k 262145) [
-      inl h ↦ let same : min 262145 k ≡ k = omega arith in rw same refl
-    | inr h ↦ let same : min 262145 k ≡ 262145 = omega arith in rw same (counted_past corners 262145 few ∙ sym (counted_past corners k (omega arith)))
-    ]
+pub too_large_so_far : (v i : ℕ) (ds : List ℕ) → i < length ds → 2 ^ 64 ≤ v * 10 + (get_or ds i 0 - 48) → 2 ^ 64 ≤ number_from v (drop i ds)
+too_large_so_far v i ds h large = rw (number_from-drop v i ds h) (omega (arith, number_from-grows (v * 10 + (get_or ds i 0 - 48)) (drop (suc i) ds)))
 
--- a number that is cut down to one that no vertex has names none, as before
-pub counted_capped : (corners : List Corner) (back : Bool) (k : ℕ) → length corners < 262145 → counted (if back then reverse corners else corners) (min 262145 k) ≡ counted (if back then reverse corners else corners) k
-counted_capped corners true k few = counted_capped_in (reverse corners) k (omega (arith, length-reverse corners))
-counted_capped corners false k few = counted_capped_in corners k few
+counted_past_in : (corners : List Corner) (k : ℕ) → length corners < k → counted corners k ≡ None
+counted_past_in corners k past = rw (ne_eqb k 0 (λ e. omega arith)) (slice_get_past corners (k - 1) (omega arith))
+
+-- no corner has a number above their count
+pub counted_past : (corners : List Corner) (back : Bool) (k : ℕ) → length corners < k → counted (if back then reverse corners else corners) k ≡ None
+counted_past corners true k past = counted_past_in (reverse corners) k (omega (arith, length-reverse corners))
+counted_past corners false k past = counted_past_in corners k past

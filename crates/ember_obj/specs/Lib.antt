@@ -3,4 +3,3 @@ pub mod Lines
 pub mod References
 pub mod Table
 pub mod ReadObj
-pub mod Sound

@@ -6,8 +6,9 @@ mod lines;
 mod reading;
 mod references;
 mod scan;
+#[cfg(test)]
+mod tests;
 mod vertex;
 
 pub use fault::ObjFault;
-
 pub use reading::read_obj;

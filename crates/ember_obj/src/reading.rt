@@ -3,7 +3,6 @@ ghost use Rattle.std.specs.Prelude.{◌≡◌, ◌⊎◌, ◌+◌, ◌^◌, ◌<
 ghost use Rattle.ember_obj.specs.Scan.{fields_of, first_three};
 ghost use Rattle.ember_obj.specs.Lines.{physical_lines, joined_lines, lines_from};
 ghost use Rattle.ember_obj.specs.References.{corners_of};
-ghost use Rattle.ember_obj.specs.Sound.{IsSound};
 ghost use Rattle.ember_obj.specs.ReadObj.{keyword_of, corner_in, with_vertex, with_face, after_line, after_lines, read_obj_of};
 
 use crate::fault::ObjFault;
@@ -84,7 +83,6 @@ impl Reader {
 
     #[tactic(auto, using(crate::proofs::Joins::length_fan))]
     fn add_face(&mut self, mesh: u32, line: u32, fields: &[u8]) -> Result<(), ObjFault>
-        requires { length self.old.vertices ≤ MOST_VERTICES }
         ensures ok { OnOk result (with_face mesh line self.old (corners_of line self.old.vertices (fields_of fields.now)) ≡ Ok self.new) }
         ensures err { IfErr result (λ e. (e ≡ ObjFault.OutOfMemory) ⊎ (with_face mesh line self.old (corners_of line self.old.vertices (fields_of fields.now)) ≡ Err e)) }
     {
@@ -102,15 +100,8 @@ impl Reader {
     }
 
     // Reads one line, joined and without comments.
-    fn add_line(
-        &mut self,
-        places: u8,
-        mesh: u32,
-        number: u32,
-        text: &[u8],
-    ) -> Result<(), ObjFault>
-        requires places { places ≤ 3 }
-        requires few { length self.old.vertices ≤ MOST_VERTICES }
+    fn add_line(&mut self, places: u8, mesh: u32, number: u32, text: &[u8]) -> Result<(), ObjFault>
+        requires { places ≤ 3 }
         ensures ok { OnOk result (after_line places mesh self.old (record { number = number; text = text.now }) ≡ Ok self.new) }
         ensures err { IfErr result (λ e. (e ≡ ObjFault.OutOfMemory) ⊎ (after_line places mesh self.old (record { number = number; text = text.now }) ≡ Err e)) }
     {
@@ -141,11 +132,9 @@ impl Reader {
     ) -> Result<(u32, &'a [u8]), ObjFault>
         requires places { places ≤ 3 }
         requires numbers { number + 1 + length after.now < 2 ^ 32 }
-        requires sound { IsSound mesh self.old }
         ensures ok { IfOk result (λ p. after_lines places mesh (Ok self.old) (joined_lines number (line.now ∷ physical_lines after.now)) ≡ after_lines places mesh (Ok self.new) (lines_from p.0 p.1.now)) }
         ensures shorter { IfOk result (λ p. length p.1.now ≤ length after.now) }
         ensures numbers { IfOk result (λ p. p.0 + length p.1.now ≤ number + 1 + length after.now) }
-        ensures sound { OnOk result (IsSound mesh self.new) }
         ensures err { IfErr result (λ e. (e ≡ ObjFault.OutOfMemory) ⊎ (after_lines places mesh (Ok self.old) (joined_lines number (line.now ∷ physical_lines after.now)) ≡ Err e)) }
     {
         if !continues(line) {

@@ -1,5 +1,5 @@
 // The references of a face, and its triangles.
-ghost use Rattle.std.specs.Prelude.{◌≡◌, ◌⊎◌, ◌<◌, ◌≤◌, ◌++◌, min, true, length, replicate, reverse, if◌then◌else◌, Ok, Err, OnOk, IfErr};
+ghost use Rattle.std.specs.Prelude.{◌≡◌, ◌⊎◌, ◌≤◌, ◌^◌, ◌++◌, true, length, replicate, reverse, if◌then◌else◌, Ok, Err, OnOk, IfErr, MatchOption};
 ghost use Rattle.std.specs.List.{list_all};
 ghost use Rattle.std.specs.Char.{is_ascii_digit};
 ghost use Rattle.ember_dec.specs.Decimal.{number_from};
@@ -11,48 +11,44 @@ use crate::scan::{cut_before, next_field};
 use ember_model::{Corner, Tri};
 use std::alloc::AllocError;
 
-// The least number that no vertex has.
-const LIMIT: u32 = 262_145;
-
 fn are_digits(text: &[u8]) -> bool
     ensures { result ≡ list_all is_ascii_digit text.now }
 {
     text.iter().all(|b| b.is_ascii_digit())
 }
 
-// The number that these digits spell, or the limit where it is larger.
-fn capped_number(digits: &[u8]) -> u32
+// The number that these digits spell, where it fits.
+#[tactic(auto, using(crate::proofs::Numbered::too_large, crate::proofs::Numbered::too_large_so_far))]
+fn number_in(digits: &[u8]) -> Option<usize>
     requires { list_all is_ascii_digit digits.now ≡ true }
-    ensures { result ≡ min LIMIT (number_from 0 digits.now) }
+    ensures { MatchOption result (2 ^ 64 ≤ number_from 0 digits.now) (λ number. number ≡ number_from 0 digits.now) }
 {
-    let mut value = 0;
+    let mut number: usize = 0;
     for digit in digits {
-        value = (value * 10 + u32::from(*digit - b'0')).min(LIMIT);
+        number = number
+            .checked_mul(10)?
+            .checked_add(usize::from(*digit - b'0'))?;
     }
-    value
+    Some(number)
 }
 
-// The vertex with this number, counted from 1, or back from the last one.
-fn vertex_numbered(vertices: &[Corner], back: bool, number: u32) -> Option<Corner>
-    ensures { result ≡ counted (if back then reverse vertices.now else vertices.now) number }
+// The vertex with the number that these digits spell, counted from 1, or back from the last one.
+#[tactic(auto, using(crate::proofs::Numbered::counted_past))]
+fn vertex_numbered(vertices: &[Corner], back: bool, digits: &[u8]) -> Option<Corner>
+    requires { list_all is_ascii_digit digits.now ≡ true }
+    ensures { result ≡ counted (if back then reverse vertices.now else vertices.now) (number_from 0 digits.now) }
 {
-    let number = number as usize;
-    if number == 0 {
+    let length = vertices.len();
+    let number = number_in(digits)?;
+    if number == 0 || number > length {
         return None;
     }
-    if !back {
-        return vertices.get(number - 1).copied();
-    }
-    if number > vertices.len() {
-        return None;
-    }
-    vertices.get(vertices.len() - number).copied()
+    let place = if back { length - number } else { number - 1 };
+    vertices.get(place).copied()
 }
 
 // The vertex that an index names.
-#[tactic(auto, using(crate::proofs::Numbered::counted_capped))]
 fn indexed_vertex(line: u32, vertices: &[Corner], index: &[u8]) -> Result<Corner, ObjFault>
-    requires { length vertices.now < LIMIT }
     ensures { result ≡ vertex_at line vertices.now index.now }
 {
     let (back, digits) = match index.split_first() {
@@ -62,7 +58,7 @@ fn indexed_vertex(line: u32, vertices: &[Corner], index: &[u8]) -> Result<Corner
     if digits.is_empty() || !are_digits(digits) {
         return Err(ObjFault::Word(line));
     }
-    match vertex_numbered(vertices, back, capped_number(digits)) {
+    match vertex_numbered(vertices, back, digits) {
         Some(corner) => Ok(corner),
         None => Err(ObjFault::Index(line)),
     }
@@ -70,7 +66,6 @@ fn indexed_vertex(line: u32, vertices: &[Corner], index: &[u8]) -> Result<Corner
 
 // The vertex that a reference names.
 fn read_reference(line: u32, vertices: &[Corner], reference: &[u8]) -> Result<Corner, ObjFault>
-    requires { length vertices.now < LIMIT }
     ensures { result ≡ vertex_named line vertices.now reference.now }
 {
     indexed_vertex(line, vertices, cut_before(reference, b'/').0)
@@ -84,7 +79,6 @@ pub(crate) fn read_corners(
     vertices: &[Corner],
     fields: &[u8],
 ) -> Result<(), ObjFault>
-    requires { length vertices.now < LIMIT }
     ensures ok { OnOk result (corners_of line vertices.now (fields_of fields.now) ≡ Ok corners.new.items) }
     ensures err { IfErr result (λ e. (e ≡ ObjFault.OutOfMemory) ⊎ (corners_of line vertices.now (fields_of fields.now) ≡ Err e)) }
 {

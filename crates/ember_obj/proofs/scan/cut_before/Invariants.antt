@@ -1,6 +1,6 @@
 use Rattle.std.proofs.Common.{◌≡◌, ◌≤◌, ◌++◌, ◌-◌, length, take, drop}
 use Rattle.std.specs.Prelude.{◌==◌}
-use Rattle.ember_obj.specs.Scan.{before, onward, is_separator}
+use Rattle.ember_obj.specs.Scan.{before, onward}
 use Rattle.ember_obj.proofs.scan.cut_before.Given as goal
 
 abbrev pub invariant-loop-end : goal.invariant-loop-end

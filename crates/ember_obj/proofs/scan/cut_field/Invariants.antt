@@ -1,5 +1,4 @@
 use Rattle.std.proofs.Common.{◌≡◌, ◌≤◌, ◌++◌, ◌-◌, length, take, drop}
-use Rattle.std.specs.Prelude.{◌==◌}
 use Rattle.ember_obj.specs.Scan.{before, onward, is_separator}
 use Rattle.ember_obj.proofs.scan.cut_field.Given as goal
 

@@ -1,4 +1,4 @@
-use Rattle.std.proofs.Common.{◌≡◌, ◌<◌, ◌∙◌, sym, ap, length, arith}
+use Rattle.std.proofs.Common.{◌<◌, ◌∙◌, sym, ap, length, arith}
 use Rattle.ember_obj.specs.Scan.{before, is_separator}
 use Rattle.ember_obj.proofs.Cuts.{first_field, field_has_byte}
 use Rattle.ember_obj.proofs.scan.next_field.Goals as goal

@@ -1,9 +1,0 @@
-use Rattle.std.proofs.Common.{◌∙◌, add-one, arith}
-use Rattle.ember_dec.proofs.Capped.{digit_more}
-use Rattle.ember_obj.proofs.references.capped_number.Goals as goal
-
-pub loop-digit-preserved : goal.loop-digit-preserved
-loop-digit-preserved c = record {
-  same = rw (add-one, c.min-value.ensures, c.from.ensures) (c.loop-digit.invariant.same ∙ digit_more 262145 c.loop-digit.value c.loop-digit.digit-index c.args.digits.now c.loop-digit-test.true);
-  small = omega arith;
-}
