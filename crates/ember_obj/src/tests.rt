@@ -84,7 +84,8 @@ fn references_of_faces(rt: HostRuntime) -> Result<(), Fail> {
     let mut bytes = Vec::new(rt.alloc());
     bytes.extend_from_slice(VERTICES)?;
     bytes.extend_from_slice(b"f -4 -2 -3")?;
-    let Ok(soup) = read(&rt, &bytes) else {
+    assert!(rt; bytes.len() <= 268_435_456);
+    let Ok(soup) = read_obj(rt.alloc(), &bytes, 0, 1) else {
         return Err(Fail::from("refused"));
     };
     let want = Tri {
