@@ -1,0 +1,7 @@
+pub mod Numbers
+pub mod Parts
+pub mod Getters
+pub mod Refusals
+pub mod Walks
+pub mod Taken
+pub mod Limited

@@ -1,0 +1,5 @@
+pub mod Limits
+pub mod Commands
+pub mod Meaning
+pub mod Canonical
+pub mod Within

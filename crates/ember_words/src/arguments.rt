@@ -1,0 +1,146 @@
+// The commands that clap reads the words with: one for each command of the program, without subcommands.
+ghost use Rattle.std.specs.Prelude.{◌≡◌, IfOk, false};
+ghost use Rattle.clap.specs.Walk.{rule_of};
+ghost use Rattle.clap.specs.Simple.{app_of, with_rule};
+ghost use Rattle.ember_words.specs.Commands.{optional, wanted, defaulted, flag, one_word, several_words, workers, places};
+ghost use Rattle.ember_words.specs.Meaning.{app_for};
+ghost use Rattle.ember_words.specs.Commands.{faces_app, at_app, bool_app, demo_app, voxels_app, pairs_app, slice_app};
+
+use crate::verb::Verb;
+use clap::{Arg, ArgAction, Command};
+use std::alloc::{AllocError, Global};
+
+// `--name`, with one value of text.
+fn option<'a>(alloc: Global, name: &'a str) -> Arg<'a>
+    ensures rule { rule_of result ≡ optional name.entry.now }
+    ensures local { result.global ≡ false }
+{
+    Arg::new(alloc, name).long(name)
+}
+
+fn required<'a>(alloc: Global, name: &'a str) -> Arg<'a>
+    ensures rule { rule_of result ≡ wanted name.entry.now }
+    ensures local { result.global ≡ false }
+{
+    Arg::new(alloc, name).long(name).required(true)
+}
+
+fn with_default<'a>(alloc: Global, name: &'a str, value: &'a str) -> Arg<'a>
+    ensures rule { rule_of result ≡ defaulted name.entry.now value.entry.now }
+    ensures local { result.global ≡ false }
+{
+    Arg::new(alloc, name).long(name).default_value(value)
+}
+
+fn switch<'a>(alloc: Global, name: &'a str) -> Arg<'a>
+    ensures rule { rule_of result ≡ flag name.entry.now }
+    ensures local { result.global ≡ false }
+{
+    Arg::new(alloc, name).long(name).action(ArgAction::SetTrue)
+}
+
+fn word<'a>(alloc: Global, name: &'a str) -> Arg<'a>
+    ensures rule { rule_of result ≡ one_word name.entry.now }
+    ensures local { result.global ≡ false }
+{
+    Arg::new(alloc, name).required(true)
+}
+
+fn words<'a>(alloc: Global, name: &'a str) -> Arg<'a>
+    ensures rule { rule_of result ≡ several_words name.entry.now }
+    ensures local { result.global ≡ false }
+{
+    Arg::new(alloc, name).required(true).num_args(1..)
+}
+
+fn with<'a>(command: Command<'a>, arg: Arg<'a>) -> Result<Command<'a>, AllocError>
+    requires { arg.global ≡ false }
+    ensures { IfOk result (λ c. app_of c ≡ with_rule (app_of command.entry) (rule_of arg.entry)) }
+{
+    command.arg(arg)
+}
+
+// The options `--workers` and `--places`.
+fn with_counts<'a>(alloc: Global, command: Command<'a>) -> Result<Command<'a>, AllocError>
+    ensures { IfOk result (λ c. app_of c ≡ with_rule (with_rule (app_of command.entry) workers) places) }
+{
+    let command = with(command, with_default(alloc, "workers", "1"))?;
+    with(command, with_default(alloc, "places", "0"))
+}
+
+fn faces_command<'a>(alloc: Global) -> Result<Command<'a>, AllocError>
+    ensures { IfOk result (λ c. app_of c ≡ faces_app) }
+{
+    let command = Command::new(alloc, "faces");
+    let command = with(command, with_default(alloc, "places", "0"))?;
+    with(command, word(alloc, "file"))
+}
+
+fn at_command<'a>(alloc: Global) -> Result<Command<'a>, AllocError>
+    ensures { IfOk result (λ c. app_of c ≡ at_app) }
+{
+    let command = Command::new(alloc, "at");
+    let command = with(command, required(alloc, "point"))?;
+    let command = with(command, option(alloc, "expr"))?;
+    let command = with(command, with_default(alloc, "places", "0"))?;
+    with(command, words(alloc, "files"))
+}
+
+fn bool_command<'a>(alloc: Global) -> Result<Command<'a>, AllocError>
+    ensures { IfOk result (λ c. app_of c ≡ bool_app) }
+{
+    let command = Command::new(alloc, "bool");
+    let command = with(command, required(alloc, "expr"))?;
+    let command = with_counts(alloc, command)?;
+    let command = with(command, switch(alloc, "report"))?;
+    with(command, words(alloc, "files"))
+}
+
+fn demo_command<'a>(alloc: Global) -> Result<Command<'a>, AllocError>
+    ensures { IfOk result (λ c. app_of c ≡ demo_app) }
+{
+    let command = Command::new(alloc, "demo");
+    let command = with(command, with_default(alloc, "workers", "1"))?;
+    with(command, word(alloc, "boxes"))
+}
+
+fn voxels_command<'a>(alloc: Global) -> Result<Command<'a>, AllocError>
+    ensures { IfOk result (λ c. app_of c ≡ voxels_app) }
+{
+    let command = Command::new(alloc, "voxels");
+    let command = with(command, required(alloc, "expr"))?;
+    let command = with(command, required(alloc, "size"))?;
+    let command = with_counts(alloc, command)?;
+    with(command, words(alloc, "files"))
+}
+
+fn pairs_command<'a>(alloc: Global) -> Result<Command<'a>, AllocError>
+    ensures { IfOk result (λ c. app_of c ≡ pairs_app) }
+{
+    let command = Command::new(alloc, "pairs");
+    let command = with_counts(alloc, command)?;
+    with(command, words(alloc, "files"))
+}
+
+fn slice_command<'a>(alloc: Global) -> Result<Command<'a>, AllocError>
+    ensures { IfOk result (λ c. app_of c ≡ slice_app) }
+{
+    let command = Command::new(alloc, "slice");
+    let command = with(command, required(alloc, "at"))?;
+    with(command, word(alloc, "file"))
+}
+
+/// What clap reads the words of this command with.
+pub fn command_for<'a>(alloc: Global, verb: Verb) -> Result<Command<'a>, AllocError>
+    ensures { IfOk result (λ c. app_of c ≡ app_for verb) }
+{
+    match verb {
+        Verb::Faces => faces_command(alloc),
+        Verb::At => at_command(alloc),
+        Verb::Boole => bool_command(alloc),
+        Verb::Demo => demo_command(alloc),
+        Verb::Voxels => voxels_command(alloc),
+        Verb::Pairs => pairs_command(alloc),
+        Verb::Slice => slice_command(alloc),
+    }
+}

@@ -1,0 +1,139 @@
+// The limits of the values.
+ghost use Rattle.std.specs.Prelude.{◌≡◌, ◌≤◌, ◌<◌, ◌^◌, ◌∷◌, [], length, option_map, IfSome, MatchOption, Some, None};
+ghost use Rattle.std.specs.Bool.{Decides};
+ghost use Rattle.std.specs.List.{list_all};
+ghost use Rattle.ember_model.specs.Valid.{IsValidSpot};
+ghost use Rattle.std.specs.Char.{is_ascii_digit};
+ghost use Rattle.ember_words.specs.Limits.{decimal_of, number_of, is_minus, without_minus, whole_of, height_of, is_small_number, is_valid_spot, parts_of, four_of, point_of, is_set};
+
+use ember_model::Spot;
+
+fn are_digits(text: &[u8]) -> bool
+    ensures { result ≡ list_all is_ascii_digit text.now }
+{
+    text.iter().all(|byte| byte.is_ascii_digit())
+}
+
+// The number that one to `most` decimal digits write.
+#[tactic(auto, using(crate::proofs::Numbers::parsed, crate::proofs::Numbers::no_decimal))]
+fn decimal(text: &str, most: usize) -> Option<u64>
+    requires { most ≤ 18 }
+    ensures value { result ≡ decimal_of most text.now }
+    ensures small { IfSome result (λ n. n < 10 ^ 18) }
+{
+    if text.len() > most || !are_digits(text.as_bytes()) {
+        return None;
+    }
+    text.parse::<u64>().ok()
+}
+
+// One to nine decimal digits of a number from `least` to `most`.
+pub fn number(text: &str, least: u32, most: u32) -> Option<u32>
+    ensures { result ≡ number_of least most text.now }
+{
+    let value = decimal(text, 9)?;
+    if value < u64::from(least) || value > u64::from(most) {
+        return None;
+    }
+    Some(value as u32)
+}
+
+// Whether a hyphen stands first, and what stands after it.
+fn sign(text: &str) -> (bool, &str)
+    ensures minus { result.0 ≡ is_minus text.now }
+    ensures rest { result.1.now ≡ without_minus text.now }
+{
+    match text.strip_prefix('-') {
+        Some(digits) => (true, digits),
+        None => (false, text),
+    }
+}
+
+// An optional hyphen and one to `most` decimal digits.
+fn whole(text: &str, most: usize) -> Option<i64>
+    requires { most ≤ 18 }
+    ensures { result ≡ whole_of most text.now }
+{
+    let (minus, digits) = sign(text);
+    let size = decimal(digits, most)? as i64;
+    Some(if minus { -size } else { size })
+}
+
+// A plane of `slice`, from -2048 to 2047.
+pub fn height(text: &str) -> Option<i32>
+    ensures { result ≡ height_of text.now }
+{
+    let value = whole(text, 9)?;
+    if value < -2048 || value > 2047 {
+        return None;
+    }
+    Some(value as i32)
+}
+
+// The part before the first comma, and what stands after it.
+fn part(text: &str) -> (&str, Option<&str>)
+    ensures { MatchOption result.1 (parts_of text.now ≡ result.0.now ∷ []) (λ rest. parts_of text.now ≡ result.0.now ∷ parts_of rest.now) }
+{
+    match text.split_once(',') {
+        Some((part, rest)) => (part, Some(rest)),
+        None => (text, None),
+    }
+}
+
+fn is_small(value: i64) -> bool
+    ensures { result ≡ is_small_number value }
+{
+    value.unsigned_abs() <= 1_099_511_627_775
+}
+
+#[tactic(auto, using(crate::proofs::Limited::spot_decides))]
+fn is_valid(point: &Spot) -> bool
+    ensures value { result ≡ is_valid_spot point.now }
+    ensures valid { Decides result (IsValidSpot point.now) }
+{
+    is_small(point.x) && is_small(point.y) && is_small(point.z) && is_small(point.w) && point.w > 0
+}
+
+// The four parts between three commas.
+#[tactic(auto, using(crate::proofs::Parts::too_many))]
+fn four_parts(text: &str) -> Option<(&str, &str, &str, &str)>
+    ensures { MatchOption result (four_of (parts_of text.now) ≡ None) (λ t. four_of (parts_of text.now) ≡ Some (t.0.now, t.1.now, t.2.now, t.3.now)) }
+{
+    let (x, Some(rest)) = part(text) else {
+        return None;
+    };
+    let (y, Some(rest)) = part(rest) else {
+        return None;
+    };
+    let (z, Some(rest)) = part(rest) else {
+        return None;
+    };
+    let (w, None) = part(rest) else {
+        return None;
+    };
+    Some((x, y, z, w))
+}
+
+// Four whole numbers with commas between them that are a valid spot.
+pub fn point(text: &str) -> Option<Spot>
+    ensures { result ≡ point_of text.now }
+{
+    let (x, y, z, w) = four_parts(text)?;
+    let point = Spot {
+        x: whole(x, 13)?,
+        y: whole(y, 13)?,
+        z: whole(z, 13)?,
+        w: whole(w, 13)?,
+    };
+    if is_valid(&point) { Some(point) } else { None }
+}
+
+// Whether a flag was given.
+pub fn is_given(value: Option<&str>) -> bool
+    ensures { result ≡ is_set (option_map (λ text. text.now) value.entry) }
+{
+    match value {
+        Some(text) => text == "true",
+        None => false,
+    }
+}

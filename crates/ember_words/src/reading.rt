@@ -1,0 +1,224 @@
+// Reading the words.
+ghost use Rattle.std.specs.Prelude.{◌≡◌, ◌≢◌, IfOk, true, codes, map, option_and_then, string_bytes};
+ghost use Rattle.clap.specs.Walk.{first_of, rows_of};
+ghost use Rattle.clap.specs.Matches.{found_of};
+ghost use Rattle.clap.specs.Simple.{app_of};
+ghost use Rattle.clap.specs.Values.{kind_of};
+ghost use Rattle.clap.specs.Faults.{is_simple_and_free};
+ghost use Rattle.ember_words.specs.Limits.{height_of, point_of};
+ghost use Rattle.ember_words.specs.Within.{IsWithinLimits};
+ghost use Rattle.ember_words.specs.Canonical.{IsCanonical, Line, command_with, words_of};
+ghost use Rattle.ember_words.specs.Meaning.{app_for, values_for};
+ghost use Rattle.ember_words.specs.Meaning.{workers_in, places_in, Reads, Parses, taken_by, faces_of, at_of, bool_of, demo_of, voxels_of, pairs_of, slice_of, command_of};
+
+use crate::arguments::command_for;
+use crate::command::{Command, WordsFault};
+use crate::limits::{height, is_given, point};
+use crate::values::{file_names, first, number_value, optional_value, text_value};
+use crate::verb::Verb;
+use clap::error::ErrorKind;
+use clap::{ArgMatches, Error};
+use ember_model::Spot;
+use std::alloc::Global;
+
+// Want of memory, or the words.
+fn refusal(error: &Error) -> WordsFault
+    ensures memory { kind_of error.now ≡ ErrorKind.OutOfMemory → result ≡ WordsFault.OutOfMemory }
+    ensures words { result ≡ WordsFault.Words → kind_of error.now ≢ ErrorKind.OutOfMemory }
+{
+    match error.kind() {
+        ErrorKind::OutOfMemory => WordsFault::OutOfMemory,
+        _ => WordsFault::Words,
+    }
+}
+
+// What clap finds in the words.
+fn parse<'a>(command: clap::Command<'a>, words: &'a [String]) -> Result<ArgMatches<'a>, WordsFault>
+    requires simple { is_simple_and_free (app_of command) ≡ true }
+    ensures { Parses (app_of command.entry) (map string_bytes words.entry.now) result }
+{
+    match command.try_get_matches_from(words) {
+        Ok(matches) => Ok(matches),
+        Err(error) => Err(refusal(&error)),
+    }
+}
+
+fn faces(alloc: Global, matches: &ArgMatches<'_>) -> Result<Command, WordsFault>
+    ensures { Reads (faces_of (rows_of (found_of matches.now))) result }
+{
+    let places = places_value(matches)?;
+    let file = text_value(alloc, matches, "file")?;
+    Ok(Command::Faces { places, file })
+}
+
+// The plane of `slice`.
+fn height_value(matches: &ArgMatches<'_>) -> Result<i32, WordsFault>
+    ensures { Reads (option_and_then height_of (first_of (codes "at") (rows_of (found_of matches.now)))) result }
+{
+    let Some(text) = first(matches, "at") else {
+        return Err(WordsFault::Words);
+    };
+    height(text).ok_or(WordsFault::Words)
+}
+
+fn point_value(matches: &ArgMatches<'_>) -> Result<Spot, WordsFault>
+    ensures { Reads (option_and_then point_of (first_of (codes "point") (rows_of (found_of matches.now)))) result }
+{
+    let Some(text) = first(matches, "point") else {
+        return Err(WordsFault::Words);
+    };
+    point(text).ok_or(WordsFault::Words)
+}
+
+fn workers_value(matches: &ArgMatches<'_>) -> Result<u32, WordsFault>
+    ensures { Reads (workers_in (rows_of (found_of matches.now))) result }
+{
+    number_value(matches, "workers", 1, 64)
+}
+
+fn places_value(matches: &ArgMatches<'_>) -> Result<u32, WordsFault>
+    ensures { Reads (places_in (rows_of (found_of matches.now))) result }
+{
+    number_value(matches, "places", 0, 3)
+}
+
+fn at(alloc: Global, matches: &ArgMatches<'_>) -> Result<Command, WordsFault>
+    ensures { Reads (at_of (rows_of (found_of matches.now))) result }
+{
+    let point = point_value(matches)?;
+    let expr = optional_value(alloc, matches, "expr")?;
+    let places = places_value(matches)?;
+    let files = file_names(alloc, matches)?;
+    Ok(Command::At {
+        point,
+        expr,
+        places,
+        files,
+    })
+}
+
+fn boole(alloc: Global, matches: &ArgMatches<'_>) -> Result<Command, WordsFault>
+    ensures { Reads (bool_of (rows_of (found_of matches.now))) result }
+{
+    let expr = text_value(alloc, matches, "expr")?;
+    let workers = workers_value(matches)?;
+    let places = places_value(matches)?;
+    let report = is_given(first(matches, "report"));
+    let files = file_names(alloc, matches)?;
+    Ok(Command::Boole {
+        expr,
+        workers,
+        places,
+        report,
+        files,
+    })
+}
+
+fn demo(matches: &ArgMatches<'_>) -> Result<Command, WordsFault>
+    ensures { Reads (demo_of (rows_of (found_of matches.now))) result }
+{
+    let boxes = number_value(matches, "boxes", 1, 20000)?;
+    let workers = workers_value(matches)?;
+    Ok(Command::Demo { boxes, workers })
+}
+
+fn voxels(alloc: Global, matches: &ArgMatches<'_>) -> Result<Command, WordsFault>
+    ensures { Reads (voxels_of (rows_of (found_of matches.now))) result }
+{
+    let expr = text_value(alloc, matches, "expr")?;
+    let size = number_value(matches, "size", 4, 12)?;
+    let workers = workers_value(matches)?;
+    let places = places_value(matches)?;
+    let files = file_names(alloc, matches)?;
+    Ok(Command::Voxels {
+        expr,
+        size,
+        workers,
+        places,
+        files,
+    })
+}
+
+fn pairs(alloc: Global, matches: &ArgMatches<'_>) -> Result<Command, WordsFault>
+    ensures { Reads (pairs_of (rows_of (found_of matches.now))) result }
+{
+    let workers = workers_value(matches)?;
+    let places = places_value(matches)?;
+    let files = file_names(alloc, matches)?;
+    Ok(Command::Pairs {
+        workers,
+        places,
+        files,
+    })
+}
+
+fn slice(alloc: Global, matches: &ArgMatches<'_>) -> Result<Command, WordsFault>
+    ensures { Reads (slice_of (rows_of (found_of matches.now))) result }
+{
+    let at = height_value(matches)?;
+    let file = text_value(alloc, matches, "file")?;
+    Ok(Command::Slice { at, file })
+}
+
+// The command of this name, by the values that clap found.
+fn command_by(alloc: Global, verb: Verb, matches: &ArgMatches<'_>) -> Result<Command, WordsFault>
+    ensures { Reads (values_for verb (rows_of (found_of matches.now))) result }
+{
+    match verb {
+        Verb::Faces => faces(alloc, matches),
+        Verb::At => at(alloc, matches),
+        Verb::Boole => boole(alloc, matches),
+        Verb::Demo => demo(matches),
+        Verb::Voxels => voxels(alloc, matches),
+        Verb::Pairs => pairs(alloc, matches),
+        Verb::Slice => slice(alloc, matches),
+    }
+}
+
+// What clap finds in the words for the command of this name.
+fn matches_by<'a>(
+    alloc: Global,
+    verb: Verb,
+    words: &'a [String],
+) -> Result<ArgMatches<'a>, WordsFault>
+    ensures { Parses (app_for verb) (map string_bytes words.entry.now) result }
+{
+    parse(command_for(alloc, verb)?, words)
+}
+
+#[tactic(auto, using(crate::proofs::Refusals::refused))]
+fn read_by<'a>(alloc: Global, verb: Verb, words: &'a [String]) -> Result<Command, WordsFault>
+    ensures { Reads (taken_by verb (map string_bytes words.entry.now)) result }
+{
+    let matches = matches_by(alloc, verb, words)?;
+    command_by(alloc, verb, &matches)
+}
+
+// The command that the first word names.
+fn read(alloc: Global, words: &[String]) -> Result<Command, WordsFault>
+    ensures { Reads (command_of (map string_bytes words.now)) result }
+{
+    let Some(name) = words.first() else {
+        return Err(WordsFault::Words);
+    };
+    let Some(verb) = Verb::named(name) else {
+        return Err(WordsFault::Words);
+    };
+    read_by(alloc, verb, words)
+}
+
+/// The command that the words after the program's name give.
+///
+/// The first word names the command, by its bytes; clap reads the words after it, and the values
+/// that it finds are within the limits. `WordsFault::Words` comes exactly where the first word is
+/// missing or names no command, where clap refuses the words for another cause than memory,
+/// or where a value is past its limits. Words in the canonical spelling are read as the command of
+/// their values, and refused only where one of these is past its limits.
+#[tactic(auto, using(crate::proofs::Taken::canonical_reads, crate::proofs::Limited::read_limits))]
+pub fn read_words(alloc: Global, words: &[String]) -> Result<Command, WordsFault>
+    ensures command { Reads (command_of (map string_bytes words.now)) result }
+    ensures limits { IfOk result IsWithinLimits }
+    ensures canonical { (line : Line) → IsCanonical line → map string_bytes words.now ≡ words_of line → Reads (command_with line) result }
+{
+    read(alloc, words)
+}
