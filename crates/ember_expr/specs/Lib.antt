@@ -1,0 +1,4 @@
+pub mod Formula
+pub mod Truth
+pub mod Tokens
+pub mod Grammar
