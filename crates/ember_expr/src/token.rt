@@ -56,14 +56,15 @@ pub fn tokens(alloc: Global, text: &[u8]) -> Result<Vec<Token>, AllocError>
     let mut rest = text;
     let mut place = 0;
     'tokens: while let Some((first, after)) = rest.split_first() {
-        let mut more = 0;
-        if *first != b' ' {
-            let lexeme = longest(*first, after);
-            add(&mut tokens, lexeme.word, place)?;
-            more = lexeme.more;
+        if *first == b' ' {
+            rest = after;
+            place += 1;
+            continue;
         }
-        rest = after.split_at(more).1;
-        place += 1 + more as u32;
+        let lexeme = longest(*first, after);
+        add(&mut tokens, lexeme.word, place)?;
+        rest = after.split_at(lexeme.more).1;
+        place += 1 + lexeme.more as u32;
     }
     Ok(tokens)
 }
