@@ -225,7 +225,11 @@ abbrev pub ended : Formula → List Token → Result Formula ExprFault
 ended tree [] = Ok tree
 ended tree (t ∷ ts) = Err (Syntax t.place)
 
+-- an `or`, and no token after it
+unfoldable pub whole : Scope → ℕ → List Token → Result Formula ExprFault
+whole scope left tokens = or (not scope left) tokens >>= λ e. ended e.part e.rest
+
 -- the tree of a text, or its first fault
 abbrev pub expr_of : List ℕ → ℕ → Result Formula ExprFault
 expr_of text meshes =
-    if nat_le (length text) 4096 then (or (not (record { meshes = meshes; end = length text }) 64) (tokens_of text) >>= λ e. ended e.part e.rest) else Err Long
+    if nat_le (length text) 4096 then whole (record { meshes = meshes; end = length text }) 64 (tokens_of text) else Err Long

@@ -1,7 +1,6 @@
 -- The truth of an expression at the winding numbers of all meshes
 use Rattle.std.specs.Prelude.{◌≡◌, ℕ, zero, suc, ◌+◌, ◌-◌, ◌*◌, ◌%◌, ◌==◌, ℤ, pos, neg_ℤ, ◌+ℤ◌, ◌*ℤ◌, Bool, true, not, ◌&&◌, ◌||◌, if◌then◌else◌, List, [], ◌∷◌, All, slice_index_or, unsigned_abs, int_lt, int_le}
 use Rattle.ember_algebra.specs.Size.{Small}
-use Rattle.ember_algebra.specs.Sign.{is_zero}
 use Rattle.ember_expr.specs.declared.formula.Rel.{Rel}
 use Rattle.ember_expr.specs.declared.formula.Rel.TheVariants.{Less, LessEqual, Equal, NotEqual, GreaterEqual, Greater}
 use Rattle.ember_expr.specs.declared.formula.Term.{Term}
@@ -15,12 +14,18 @@ count_of counts n = slice_index_or counts (n - 1) (pos 0)
 abbrev pub AreCounts : List ℤ → Type 0
 AreCounts counts = All (Small 262144) counts
 
--- without its sign; mesh 0 stands for a plain number
+-- the number that a factor stands before; mesh 0 stands for a plain number
+abbrev pub counted : List ℤ → ℕ → ℤ
+counted counts n = if n == 0 then pos 1 else count_of counts n
+
 abbrev pub size_of : List ℤ → Term → ℤ
-size_of counts t = if t.mesh == 0 then pos t.factor else pos t.factor *ℤ count_of counts t.mesh
+size_of counts t = pos t.factor *ℤ counted counts t.mesh
+
+abbrev pub signed : Bool → ℤ → ℤ
+signed minus z = if minus then neg_ℤ z else z
 
 abbrev pub value_of : List ℤ → Term → ℤ
-value_of counts t = if t.minus then neg_ℤ (size_of counts t) else size_of counts t
+value_of counts t = signed t.minus (size_of counts t)
 
 -- a number and the terms that follow it
 abbrev pub sum_from : ℤ → List ℤ → List Term → ℤ

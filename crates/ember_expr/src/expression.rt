@@ -7,7 +7,7 @@ ghost use Rattle.ember_expr.specs.declared.fault.ExprFault.TheVariants.{OutOfMem
 
 use crate::fault::ExprFault;
 use crate::formula::Tree;
-use crate::grammar::{Joint, Scope, chain};
+use crate::grammar::{Scope, formula};
 use crate::token::tokens;
 use crate::truth::holds;
 use ember_model::Vector;
@@ -26,21 +26,26 @@ pub struct Expr {
 }
 
 impl Model for Expr {
-    ghost use Rattle.ember_expr.specs.Formula.{Formula, formula_of, IsFit};
+    ghost use Rattle.ember_expr.specs.declared.formula.Tree.{Tree};
+    ghost use Rattle.ember_expr.specs.contracts.formula.Tree as tree;
+    ghost use Rattle.ember_expr.specs.Formula.{formula_of, IsFit};
+    ghost use Rattle.std.specs.Coded.{codes};
 
-    ghost Value = { Formula };
+    ghost Value = { Tree };
 
-    ghost view = { λ e. formula_of e.formula };
+    ghost view = { λ e. e.formula };
 
     ghost invariant = { λ e. IsFit 64 (formula_of e.formula) };
+
+    ghost coded = { Prim.hlevel (codes, tree.the_row.coded) };
 }
 
 /// The expression of a text for this number of meshes, or the first fault in it.
 pub fn parse(alloc: Global, text: &[u8], meshes: u32) -> Result<Expr, ExprFault>
     requires { meshes ≤ 64 }
-    ensures tree { IfOk result (λ e. expr_of text.now meshes ≡ Ok e) }
+    ensures tree { IfOk result (λ e. expr_of text.now meshes ≡ Ok (formula_of e)) }
     ensures fault { IfErr result (λ e. (e ≡ OutOfMemory) ⊎ (expr_of text.now meshes ≡ Err e)) }
-    ensures meshes { IfOk result (λ e. IsFit meshes e) }
+    ensures meshes { IfOk result (λ e. IsFit meshes (formula_of e)) }
 {
     if text.len() > MOST_BYTES {
         return Err(ExprFault::Long);
@@ -50,32 +55,29 @@ pub fn parse(alloc: Global, text: &[u8], meshes: u32) -> Result<Expr, ExprFault>
         end: text.len() as u32,
     };
     let tokens = tokens(alloc, text)?;
-    let (formula, rest) = chain(alloc, scope, Joint::Or, MOST_DEPTH, &tokens)?;
-    match rest.first() {
-        None => Ok(Expr { formula }),
-        Some(token) => Err(ExprFault::Syntax(token.place)),
-    }
+    let formula = formula(alloc, scope, MOST_DEPTH, &tokens)?;
+    Ok(Expr { formula })
 }
 
 /// Whether the expression holds at these winding numbers.
 pub fn value(e: &Expr, v: &Vector) -> bool
     requires { AreCounts v.now.counts }
-    ensures { result ≡ truth v.now.counts e.now }
+    ensures { result ≡ truth v.now.counts (formula_of e.now) }
 {
     holds(&e.formula, v)
 }
 
 /// The tree of the expression.
 pub fn tree(e: &Expr) -> &Tree
-    ensures tree { formula_of result.now ≡ e.now }
-    ensures fit { IsFit 64 e.now }
+    ensures tree { result.now ≡ e.now }
+    ensures fit { IsFit 64 (formula_of e.now) }
 {
     &e.formula
 }
 
 /// Whether the expression doesn't hold where all winding numbers are 0.
 pub fn bounded(e: &Expr) -> bool
-    ensures { result ≡ not (truth (replicate 64 (pos 0)) e.now) }
+    ensures { result ≡ not (truth (replicate 64 (pos 0)) (formula_of e.now)) }
 {
     !value(e, &Vector { counts: [0; 64] })
 }

@@ -1,7 +1,7 @@
 // The grammar of expressions, by recursive descent over the tokens.
 ghost use Rattle.std.specs.Prelude.{◌≡◌, ◌≤◌, ◌<◌, ◌+◌, ◌⊎◌, ◌++◌, ◌∷◌, [], IfOk, IfErr, OnOk, IfSome, MatchResult, MatchOption, length, Ok, Err, Some, None};
 ghost use Rattle.ember_expr.specs.Formula.{formula_of, IsFit, IsFitSum, IsFitTerm, IsMeshNumber};
-ghost use Rattle.ember_expr.specs.Grammar.{read, misplaced, limited, mesh_number, wind, scaled, term, sign_before, after_first, first_term, sum, begins_with, join, chain_of, part_of, closed, relation, comparison, odd, not, deeper};
+ghost use Rattle.ember_expr.specs.Grammar.{read, misplaced, limited, mesh_number, wind, scaled, term, sign_before, after_first, first_term, sum, begins_with, join, chain_of, part_of, closed, relation, comparison, odd, not, deeper, whole};
 ghost use Rattle.ember_expr.specs.declared.fault.ExprFault.TheVariants.{Deep, OutOfMemory};
 
 use crate::fault::ExprFault;
@@ -314,9 +314,25 @@ fn join(alloc: Global, kind: Joint, a: Tree, b: Tree) -> Result<Tree, ExprFault>
     }
 }
 
-/// A chain, where at most `left` parentheses and signs `!` may stand inside one another.
+/// The tree of a text of these tokens, where at most `left` parentheses and signs `!` may stand
+/// inside one another.
+#[tactic(auto, unfolding(crate::specs::Grammar::whole))]
+pub fn formula(alloc: Global, scope: Scope, left: u32, tokens: &[Token]) -> Result<Tree, ExprFault>
+    requires { length tokens.now ≤ 4096 }
+    ensures tree { IfOk result (λ t. whole scope left tokens.now ≡ Ok (formula_of t)) }
+    ensures fault { IfErr result (λ e. (e ≡ OutOfMemory) ⊎ (whole scope left tokens.now ≡ Err e)) }
+    ensures fit { IfOk result (λ t. IsFit scope.meshes (formula_of t)) }
+{
+    let (tree, rest) = chain(alloc, scope, Joint::Or, left, tokens)?;
+    match rest.first() {
+        None => Ok(tree),
+        Some(token) => Err(ExprFault::Syntax(token.place)),
+    }
+}
+
+// or = xor { "|" xor }, xor = and { "^" and }, and = not { "&" not }
 #[cycle(grammar)]
-pub fn chain(alloc: Global, scope: Scope, kind: Joint, left: u32, tokens: &[Token]) -> Result<(Tree, &[Token]), ExprFault>
+fn chain(alloc: Global, scope: Scope, kind: Joint, left: u32, tokens: &[Token]) -> Result<(Tree, &[Token]), ExprFault>
     requires { length tokens.now ≤ 4096 }
     ensures read { IfOk result (λ r. chain_of kind (part_of kind (not scope left)) tokens.now ≡ read (formula_of r.0) r.1.now) }
     ensures fault { IfErr result (λ e. (e ≡ OutOfMemory) ⊎ (chain_of kind (part_of kind (not scope left)) tokens.now ≡ Err e)) }
