@@ -16,6 +16,7 @@ use std::marker::Model;
 
 // The most bytes of a text, and the most parentheses and signs `!` inside one another.
 const MOST_BYTES: usize = 4096;
+
 const MOST_DEPTH: u32 = 64;
 
 /// An expression, seen as its tree. The mesh numbers in it, but for the 0 of a plain number, are

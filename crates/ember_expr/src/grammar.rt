@@ -74,31 +74,41 @@ fn wind(scope: Scope, tokens: &[Token]) -> Result<(u32, &[Token]), ExprFault>
     ensures shorter { IfOk result (λ r. length r.1.now < length tokens.now) }
 {
     match tokens.split_first() {
-        Some((
-            Token {
-                word: Word::Wind(mesh),
-                place,
-            },
-            after,
-        )) => Ok((mesh_number(scope, *place, *mesh)?, after)),
+        Some(
+            (
+                Token {
+                    word: Word::Wind(mesh),
+                    place,
+                },
+                after,
+            ),
+        ) => Ok((mesh_number(scope, *place, *mesh)?, after)),
         _ => Err(misplaced(scope, tokens)),
     }
 }
 
 // What follows a number: `*` and wN, or nothing.
-fn scaled(scope: Scope, minus: bool, factor: u32, tokens: &[Token]) -> Result<(Term, &[Token]), ExprFault>
+fn scaled(
+    scope: Scope,
+    minus: bool,
+    factor: u32,
+    tokens: &[Token],
+) -> Result<(Term, &[Token]), ExprFault>
     requires { factor ≤ 1000000 }
     ensures read { MatchResult result (λ r. scaled scope minus factor tokens.now ≡ read r.0 r.1.now) (λ e. scaled scope minus factor tokens.now ≡ Err e) }
     ensures fit { IfOk result (λ r. IsFitTerm scope.meshes r.0) }
     ensures shorter { IfOk result (λ r. length r.1.now ≤ length tokens.now) }
 {
     match tokens.split_first() {
-        Some((
-            Token {
-                word: Word::Star, ..
-            },
-            after,
-        )) => {
+        Some(
+            (
+                Token {
+                    word: Word::Star,
+                    ..
+                },
+                after,
+            ),
+        ) => {
             let (mesh, rest) = wind(scope, after)?;
             Ok((
                 Term {
@@ -208,12 +218,15 @@ fn closed(scope: Scope, tokens: &[Token]) -> Result<&[Token], ExprFault>
     ensures shorter { IfOk result (λ r. length r.now < length tokens.now) }
 {
     match tokens.split_first() {
-        Some((
-            Token {
-                word: Word::Close, ..
-            },
-            after,
-        )) => Ok(after),
+        Some(
+            (
+                Token {
+                    word: Word::Close,
+                    ..
+                },
+                after,
+            ),
+        ) => Ok(after),
         _ => Err(misplaced(scope, tokens)),
     }
 }
@@ -223,13 +236,15 @@ fn relation(scope: Scope, tokens: &[Token]) -> Result<(Rel, &[Token]), ExprFault
     ensures shorter { IfOk result (λ r. length r.1.now < length tokens.now) }
 {
     match tokens.split_first() {
-        Some((
-            Token {
-                word: Word::Compare(rel),
-                ..
-            },
-            after,
-        )) => Ok((*rel, after)),
+        Some(
+            (
+                Token {
+                    word: Word::Compare(rel),
+                    ..
+                },
+                after,
+            ),
+        ) => Ok((*rel, after)),
         _ => Err(misplaced(scope, tokens)),
     }
 }
@@ -261,7 +276,12 @@ fn one_deeper(left: u32, place: u32) -> Result<u32, ExprFault>
 }
 
 // "(" sum ")", after an `odd`.
-fn odd(alloc: Global, scope: Scope, left: u32, tokens: &[Token]) -> Result<(Tree, &[Token]), ExprFault>
+fn odd(
+    alloc: Global,
+    scope: Scope,
+    left: u32,
+    tokens: &[Token],
+) -> Result<(Tree, &[Token]), ExprFault>
     requires { length tokens.now ≤ 4096 }
     ensures read { IfOk result (λ r. odd scope (deeper scope left) tokens.now ≡ read (formula_of r.0) r.1.now) }
     ensures fault { IfErr result (λ e. (e ≡ OutOfMemory) ⊎ (odd scope (deeper scope left) tokens.now ≡ Err e)) }
@@ -269,13 +289,15 @@ fn odd(alloc: Global, scope: Scope, left: u32, tokens: &[Token]) -> Result<(Tree
     ensures shorter { IfOk result (λ r. length r.1.now < length tokens.now) }
 {
     match tokens.split_first() {
-        Some((
-            Token {
-                word: Word::Open,
-                place,
-            },
-            after,
-        )) => {
+        Some(
+            (
+                Token {
+                    word: Word::Open,
+                    place,
+                },
+                after,
+            ),
+        ) => {
             let _inner = one_deeper(left, *place)?;
             let (terms, rest) = sum(alloc, scope, after)?;
             let rest = closed(scope, rest)?;
@@ -332,7 +354,13 @@ pub fn formula(alloc: Global, scope: Scope, left: u32, tokens: &[Token]) -> Resu
 
 // or = xor { "|" xor }, xor = and { "^" and }, and = not { "&" not }
 #[cycle(grammar)]
-fn chain(alloc: Global, scope: Scope, kind: Joint, left: u32, tokens: &[Token]) -> Result<(Tree, &[Token]), ExprFault>
+fn chain(
+    alloc: Global,
+    scope: Scope,
+    kind: Joint,
+    left: u32,
+    tokens: &[Token],
+) -> Result<(Tree, &[Token]), ExprFault>
     requires { length tokens.now ≤ 4096 }
     ensures read { IfOk result (λ r. chain_of kind (part_of kind (not scope left)) tokens.now ≡ read (formula_of r.0) r.1.now) }
     ensures fault { IfErr result (λ e. (e ≡ OutOfMemory) ⊎ (chain_of kind (part_of kind (not scope left)) tokens.now ≡ Err e)) }
@@ -350,7 +378,13 @@ fn chain(alloc: Global, scope: Scope, kind: Joint, left: u32, tokens: &[Token]) 
 
 // A part of a chain.
 #[cycle(grammar)]
-fn part(alloc: Global, scope: Scope, kind: Joint, left: u32, tokens: &[Token]) -> Result<(Tree, &[Token]), ExprFault>
+fn part(
+    alloc: Global,
+    scope: Scope,
+    kind: Joint,
+    left: u32,
+    tokens: &[Token],
+) -> Result<(Tree, &[Token]), ExprFault>
     requires { length tokens.now ≤ 4096 }
     ensures read { IfOk result (λ r. part_of kind (not scope left) tokens.now ≡ read (formula_of r.0) r.1.now) }
     ensures fault { IfErr result (λ e. (e ≡ OutOfMemory) ⊎ (part_of kind (not scope left) tokens.now ≡ Err e)) }
@@ -366,7 +400,12 @@ fn part(alloc: Global, scope: Scope, kind: Joint, left: u32, tokens: &[Token]) -
 
 // not = "!" not | atom
 #[cycle(grammar)]
-fn not(alloc: Global, scope: Scope, left: u32, tokens: &[Token]) -> Result<(Tree, &[Token]), ExprFault>
+fn not(
+    alloc: Global,
+    scope: Scope,
+    left: u32,
+    tokens: &[Token],
+) -> Result<(Tree, &[Token]), ExprFault>
     requires { length tokens.now ≤ 4096 }
     ensures read { IfOk result (λ r. not scope left tokens.now ≡ read (formula_of r.0) r.1.now) }
     ensures fault { IfErr result (λ e. (e ≡ OutOfMemory) ⊎ (not scope left tokens.now ≡ Err e)) }

@@ -14,3 +14,4 @@ mod truth;
 pub use expression::{Expr, bounded, parse, tree, value};
 pub use fault::ExprFault;
 pub use formula::{Rel, Sum, Term, Tree};
+pub use truth::holds;

@@ -3,8 +3,8 @@ ghost use Rattle.ember_expr.specs.Truth.{AreCounts};
 
 use crate::expression::{bounded, parse, tree, value};
 use crate::fault::ExprFault;
-use crate::formula::Tree;
-use anyhow::Error;
+use crate::formula::{Rel, Term, Tree};
+use anyhow::{Error, anyhow};
 use ember_model::Vector;
 
 // The winding numbers of two meshes.
@@ -35,13 +35,46 @@ fn values(rt: HostRuntime) -> Result<(), Error> {
     Ok(())
 }
 
+// Workers share expressions.
+fn shared<T: Send + Sync>(value: &T) -> &T {
+    value
+}
+
 #[test]
 fn bounded_or_not(rt: HostRuntime) -> Result<(), Error> {
     let e = parse(rt.alloc(), b"m1", 2)?;
-    assert!(rt; bounded(&e));
+    assert!(rt; bounded(shared(&e)));
     assert!(rt; matches!(tree(&e), Tree::Mesh(1)));
     let e = parse(rt.alloc(), b"!m1", 2)?;
     assert!(rt; !bounded(&e));
+    Ok(())
+}
+
+#[test]
+fn tree_of_a_comparison(rt: HostRuntime) -> Result<(), Error> {
+    let e = parse(rt.alloc(), b" - 2 * w1 + 3 != w2 ", 2)?;
+    let Tree::Compare(left, Rel::NotEqual, right) = tree(&e) else {
+        return Err(anyhow!(rt.alloc(), "no comparison"));
+    };
+    let left_terms = [
+        Term {
+            minus: true,
+            factor: 2,
+            mesh: 1,
+        },
+        Term {
+            minus: false,
+            factor: 3,
+            mesh: 0,
+        },
+    ];
+    let right_terms = [Term {
+        minus: false,
+        factor: 1,
+        mesh: 2,
+    }];
+    assert!(rt; left.items() == &left_terms[..]);
+    assert!(rt; right.items() == &right_terms[..]);
     Ok(())
 }
 
@@ -63,6 +96,9 @@ fn refused(rt: HostRuntime) -> Result<(), Error> {
         assert_eq!(rt; parse(rt.alloc(), text, 2).err(), Some(want));
     }
     let long = " ".repeat(rt.alloc(), 4097)?;
-    assert_eq!(rt; parse(rt.alloc(), long.as_bytes(), 2).err(), Some(ExprFault::Long));
+    assert_eq!(rt;
+        parse(rt.alloc(), long.as_bytes(), 2).err(),
+        Some(ExprFault::Long)
+    );
     Ok(())
 }
