@@ -1,9 +1,9 @@
 -- Trees within the limits.
-use Rattle.std.proofs.Common.{◌≡◌, ℕ, ◌≤◌, ◌<◌, List, [], ◌∷◌, ◌++◌, length, All, slice_index_or, arith}
+use Rattle.std.proofs.Common.{ℕ, ◌≤◌, List, arith}
 use Rattle.ember_expr.specs.declared.formula.Term.{Term}
 use Rattle.ember_expr.specs.declared.grammar.Joint.{Joint}
 use Rattle.ember_expr.specs.declared.grammar.Joint.TheVariants as joint
-use Rattle.ember_expr.specs.Formula.{Formula, Or, Xor, And, Not, Mesh, Odd, Compare, IsFit, IsFitSum, IsFitTerm, IsMeshNumber}
+use Rattle.ember_expr.specs.Formula.{Formula, Or, Xor, And, Not, Mesh, Odd, Compare, IsFit, IsFitSum}
 use Rattle.ember_expr.specs.Grammar.{join}
 
 pub fit_join : (meshes : ℕ) (kind : Joint) (a b : Formula) → IsFit meshes a → IsFit meshes b → IsFit meshes (join kind a b)

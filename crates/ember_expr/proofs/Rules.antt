@@ -1,5 +1,5 @@
 -- Sums and chains that are read part by part.
-use Rattle.std.proofs.Common.{◌≡◌, ℕ, zero, suc, ◌+◌, ◌<◌, ◌≤◌, Bool, true, false, List, [], ◌∷◌, ◌++◌, length, refl, ◌∙◌, arith, Option, Some, None, Result, Ok, Err, ◌⊎◌, inl, inr}
+use Rattle.std.proofs.Common.{◌≡◌, ℕ, zero, suc, ◌+◌, ◌<◌, ◌≤◌, Bool, true, false, List, [], ◌∷◌, ◌++◌, length, refl, ◌∙◌, arith, Some, None, Result, Err, ◌⊎◌, inl, inr}
 use Rattle.ember_expr.specs.declared.fault.ExprFault.{ExprFault}
 use Rattle.ember_expr.specs.declared.fault.ExprFault.TheVariants.{OutOfMemory}
 use Rattle.ember_expr.specs.declared.formula.Term.{Term}
@@ -7,7 +7,7 @@ use Rattle.ember_expr.specs.declared.token.Token.{Token}
 use Rattle.ember_expr.specs.declared.grammar.Joint.{Joint}
 use Rattle.ember_expr.specs.declared.grammar.Scope.{Scope}
 use Rattle.ember_expr.specs.Formula.{Formula}
-use Rattle.ember_expr.specs.Grammar.{Read, read, Rule, ◌>>=◌, where_some, term, sign_before, after_first, more_terms, begins_with, join, more_parts, not, not_with, deeper}
+use Rattle.ember_expr.specs.Grammar.{Read, read, Rule, term, sign_before, after_first, more_terms, begins_with, join, more_parts, not, deeper}
 
 -- what is read from the start is these terms and what follows them
 pub record IsSumSoFar (scope : Scope) (whole : Result (Read (List Term)) ExprFault) (terms : List Term) (rest : List Token) : Type 0 where

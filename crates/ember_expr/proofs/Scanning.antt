@@ -1,5 +1,5 @@
 -- The tokens of a text, one after another, and numbers that are read with a limit.
-use Rattle.std.proofs.Common.{◌≡◌, ℕ, zero, suc, ◌+◌, ◌-◌, ◌*◌, ◌≤◌, min, Bool, true, false, ◌==◌, List, [], ◌∷◌, ◌++◌, drop, length, refl, sym, ap, ◌∙◌, arith, append_assoc}
+use Rattle.std.proofs.Common.{◌≡◌, ℕ, zero, suc, ◌+◌, ◌-◌, ◌*◌, min, true, false, ◌==◌, List, [], ◌∷◌, ◌++◌, drop, length, refl, ap, ◌∙◌, arith, append_assoc}
 use Rattle.ember_expr.specs.declared.token.Token.{Token}
 use Rattle.std.specs.Char.{is_ascii_digit}
 use Rattle.ember_expr.specs.Tokens.{tokens_from, lexeme_of, value_from, digit_run}

@@ -1,5 +1,5 @@
 -- The three-valued truth: some meshes are undecided, and an expression may be undecided with them
-use Rattle.std.specs.Prelude.{ℕ, zero, suc, ◌==◌, ℤ, Bool, true, false, not, ◌&&◌, ◌||◌, if◌then◌else◌, List, [], ◌∷◌, Option, Some, None}
+use Rattle.std.specs.Prelude.{ℕ, ◌==◌, ℤ, Bool, true, false, not, ◌&&◌, ◌||◌, if◌then◌else◌, List, [], ◌∷◌, Option, Some, None}
 use Rattle.ember_expr.specs.declared.formula.Term.{Term}
 use Rattle.ember_expr.specs.Formula.{Formula, Or, Xor, And, Not, Mesh, Odd, Compare}
 use Rattle.ember_expr.specs.Truth.{differ, truth}
@@ -10,7 +10,7 @@ mentions undecided [] = false
 mentions undecided (t ∷ ts) = not (t.mesh == 0) && undecided t.mesh || mentions undecided ts
 
 abbrev pub plain_unless : Bool → Bool → Option Bool
-plain_unless open value = if open then None else Some value
+plain_unless undecided value = if undecided then None else Some value
 
 -- false where one part is false, true where both are true
 abbrev pub known_and : Option Bool → Option Bool → Option Bool

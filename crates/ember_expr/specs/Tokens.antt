@@ -1,5 +1,5 @@
 -- The tokens of a text: at each place the longest one, and spaces between tokens
-use Rattle.std.specs.Prelude.{ℕ, zero, suc, ◌+◌, ◌-◌, ◌*◌, ◌==◌, min, Bool, ◌&&◌, if◌then◌else◌, List, [], ◌∷◌, length}
+use Rattle.std.specs.Prelude.{ℕ, zero, suc, ◌+◌, ◌-◌, ◌*◌, ◌==◌, min, ◌&&◌, if◌then◌else◌, List, [], ◌∷◌, length}
 use Rattle.std.specs.Char.{is_ascii_digit}
 use Rattle.ember_expr.specs.declared.formula.Rel.{Rel}
 use Rattle.ember_expr.specs.declared.formula.Rel.TheVariants.{Less, LessEqual, Equal, NotEqual, GreaterEqual, Greater}

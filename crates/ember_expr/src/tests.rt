@@ -4,7 +4,7 @@ ghost use Rattle.ember_expr.specs.Truth.{AreCounts};
 use crate::expression::{bounded, parse, tree, value};
 use crate::fault::ExprFault;
 use crate::formula::{Rel, Term, Tree};
-use anyhow::{Error, anyhow};
+use anyhow::Error;
 use ember_model::Vector;
 
 // The winding numbers of two meshes.
@@ -53,29 +53,24 @@ fn bounded_or_not(rt: HostRuntime) -> Result<(), Error> {
 #[test]
 fn tree_of_a_comparison(rt: HostRuntime) -> Result<(), Error> {
     let e = parse(rt.alloc(), b" - 2 * w1 + 3 != w2 ", 2)?;
-    let Tree::Compare(left, Rel::NotEqual, right) = tree(&e) else {
-        return Err(anyhow!(rt.alloc(), "no comparison"));
-    };
-    let left_terms = [
-        Term {
-            minus: true,
-            factor: 2,
-            mesh: 1,
-        },
-        Term {
-            minus: false,
-            factor: 3,
-            mesh: 0,
-        },
-    ];
-    let right_terms = [Term {
-        minus: false,
-        factor: 1,
-        mesh: 2,
-    }];
-    assert!(rt; left.items() == &left_terms[..]);
-    assert!(rt; right.items() == &right_terms[..]);
+    match tree(&e) {
+        Tree::Compare(left, Rel::NotEqual, right) => {
+            assert!(rt;
+                matches!(left.items(), [two_w1, three] if *two_w1 == term(true, 2, 1) && *three == term(false, 3, 0))
+            );
+            assert!(rt; matches!(right.items(), [w2] if *w2 == term(false, 1, 2)));
+        }
+        _ => assert!(rt; false),
+    }
     Ok(())
+}
+
+fn term(minus: bool, factor: u32, mesh: u32) -> Term {
+    Term {
+        minus,
+        factor,
+        mesh,
+    }
 }
 
 #[test]

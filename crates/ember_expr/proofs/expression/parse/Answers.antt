@@ -1,4 +1,3 @@
-use Rattle.std.proofs.Common.{arith}
 use Rattle.ember_expr.specs.Formula.{formula_of}
 use Rattle.ember_expr.proofs.Fit.{fit_more}
 use Rattle.ember_expr.proofs.expression.parse.Goals as goal

@@ -1,4 +1,4 @@
-use Rattle.std.proofs.Common.{◌≡◌, ℕ, ◌+◌, ◌*◌, ◌≤◌, ◌<◌, length}
+use Rattle.std.proofs.Common.{ℕ, ◌+◌, ◌*◌, ◌<◌, length}
 use Rattle.ember_expr.specs.declared.grammar.Joint.{Joint}
 use Rattle.ember_expr.specs.declared.grammar.Joint.TheVariants as joint
 use Rattle.ember_expr.specs.Formula.{formula_of, IsFit}

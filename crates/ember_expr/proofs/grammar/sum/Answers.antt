@@ -1,4 +1,4 @@
-use Rattle.std.proofs.Common.{rules, arith, ◌≡◌, ◌+◌, Some, None, Bool, length, length-append}
+use Rattle.std.proofs.Common.{rules, arith, ◌≡◌, ◌+◌, Some, None, length, length-append}
 use Rattle.std.proofs.lemmas.List.Elements.{All-push}
 use Rattle.ember_expr.specs.declared.formula.Term.{Term}
 use Rattle.ember_expr.specs.Formula.{IsFitTerm}

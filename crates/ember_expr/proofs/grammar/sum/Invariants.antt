@@ -1,4 +1,4 @@
-use Rattle.std.proofs.Common.{◌≡◌, ◌+◌, ◌≤◌, ◌<◌, length, All}
+use Rattle.std.proofs.Common.{◌+◌, ◌≤◌, ◌<◌, length, All}
 use Rattle.ember_expr.specs.Formula.{IsFitTerm}
 use Rattle.ember_expr.specs.Grammar.{sum}
 use Rattle.ember_expr.proofs.Rules.{IsSumSoFar}

@@ -1,6 +1,6 @@
-use Rattle.std.proofs.Common.{rules, arith, ◌≡◌, ◌∷◌, ◌==◌, ◌+◌, false, length, length-append, ℕ}
+use Rattle.std.proofs.Common.{rules, arith, ◌≡◌, ◌∷◌, ◌+◌, length, length-append}
 use Rattle.ember_expr.specs.declared.token.Token.{Token}
-use Rattle.ember_expr.specs.Tokens.{tokens_of, lexeme_of}
+use Rattle.ember_expr.specs.Tokens.{tokens_of}
 use Rattle.ember_expr.proofs.Scanning.{one_token}
 use Rattle.ember_expr.proofs.token.tokens.Goals as goal
 

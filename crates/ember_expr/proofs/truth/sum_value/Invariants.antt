@@ -1,4 +1,4 @@
-use Rattle.std.proofs.Common.{◌≡◌, ◌*◌, drop, pos}
+use Rattle.std.proofs.Common.{◌≡◌, ◌*◌, drop}
 use Rattle.ember_algebra.specs.Size.{Small}
 use Rattle.ember_expr.specs.Truth.{sum_of, sum_from}
 use Rattle.ember_expr.proofs.truth.sum_value.Given as goal
