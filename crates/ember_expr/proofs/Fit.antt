@@ -1,15 +1,7 @@
 -- Trees within the limits.
 use Rattle.std.proofs.Common.{ℕ, ◌≤◌, List, arith}
 use Rattle.ember_expr.specs.declared.formula.Term.{Term}
-use Rattle.ember_expr.specs.declared.grammar.Joint.{Joint}
-use Rattle.ember_expr.specs.declared.grammar.Joint.TheVariants as joint
 use Rattle.ember_expr.specs.Formula.{Formula, Or, Xor, And, Not, Mesh, Odd, Compare, IsFit, IsFitSum}
-use Rattle.ember_expr.specs.Grammar.{join}
-
-pub fit_join : (meshes : ℕ) (kind : Joint) (a b : Formula) → IsFit meshes a → IsFit meshes b → IsFit meshes (join kind a b)
-fit_join meshes joint.Or a b f g = (f, g)
-fit_join meshes joint.Xor a b f g = (f, g)
-fit_join meshes joint.And a b f g = (f, g)
 
 more_terms_fit : (m n : ℕ) → m ≤ n → (sum : List Term) → IsFitSum m sum → IsFitSum n sum
 more_terms_fit m n le sum fit = record {

@@ -1,5 +1,5 @@
 -- Sums and chains that are read part by part.
-use Rattle.std.proofs.Common.{◌≡◌, ℕ, zero, suc, ◌+◌, ◌<◌, ◌≤◌, Bool, true, false, List, [], ◌∷◌, ◌++◌, length, refl, ◌∙◌, arith, Some, None, Result, Err, ◌⊎◌, inl, inr}
+use Rattle.std.proofs.Common.{◌≡◌, ℕ, zero, suc, ◌<◌, ◌≤◌, Bool, true, List, [], ◌∷◌, ◌++◌, length, refl, ◌∙◌, arith, Some, None, Result, Err, ◌⊎◌, inl, inr}
 use Rattle.ember_expr.specs.declared.fault.ExprFault.{ExprFault}
 use Rattle.ember_expr.specs.declared.fault.ExprFault.TheVariants.{OutOfMemory}
 use Rattle.ember_expr.specs.declared.formula.Term.{Term}
@@ -7,7 +7,7 @@ use Rattle.ember_expr.specs.declared.token.Token.{Token}
 use Rattle.ember_expr.specs.declared.grammar.Joint.{Joint}
 use Rattle.ember_expr.specs.declared.grammar.Scope.{Scope}
 use Rattle.ember_expr.specs.Formula.{Formula}
-use Rattle.ember_expr.specs.Grammar.{Read, read, Rule, term, sign_before, after_first, more_terms, begins_with, join, more_parts, not, deeper}
+use Rattle.ember_expr.specs.Grammar.{Read, read, Rule, term, sign_before, after_first, more_terms, begins_with, more_parts}
 
 -- what is read from the start is these terms and what follows them
 pub record IsSumSoFar (scope : Scope) (whole : Result (Read (List Term)) ExprFault) (terms : List Term) (rest : List Token) : Type 0 where
@@ -30,13 +30,6 @@ next_term scope whole terms rest minus next after (suc count) enough same sign r
 pub one_term : (scope : Scope) (whole : Result (Read (List Term)) ExprFault) (terms : List Term) (rest : List Token) (minus : Bool) (next : Term) (after : List Token) → IsSumSoFar scope whole terms rest → sign_before rest ≡ Some minus → term scope minus (after_first rest) ≡ read next after → length after < length rest → IsSumSoFar scope whole (terms ++ next ∷ []) after
 one_term scope whole terms rest minus next after so_far = next_term scope whole terms rest minus next after so_far.count so_far.enough so_far.same
 
-wrong_term : (scope : Scope) (whole : Result (Read (List Term)) ExprFault) (terms : List Term) (rest : List Token) (minus : Bool) (fault : ExprFault) (count : ℕ) → length rest ≤ count → whole ≡ more_terms scope count terms rest → sign_before rest ≡ Some minus → term scope minus (after_first rest) ≡ Err fault → whole ≡ Err fault
-wrong_term scope whole terms rest minus fault zero enough same sign read = absurd (omega (arith, no_sign minus rest sign))
-wrong_term scope whole terms rest minus fault (suc count) enough same sign read = same ∙ rw sign (rw read refl)
-
-pub bad_term : (scope : Scope) (whole : Result (Read (List Term)) ExprFault) (terms : List Term) (rest : List Token) (minus : Bool) (fault : ExprFault) → IsSumSoFar scope whole terms rest → sign_before rest ≡ Some minus → term scope minus (after_first rest) ≡ Err fault → whole ≡ Err fault
-bad_term scope whole terms rest minus fault so_far = wrong_term scope whole terms rest minus fault so_far.count so_far.enough so_far.same
-
 last_term : (scope : Scope) (whole : Result (Read (List Term)) ExprFault) (terms : List Term) (rest : List Token) (count : ℕ) → whole ≡ more_terms scope count terms rest → sign_before rest ≡ None → whole ≡ read terms rest
 last_term scope whole terms rest zero same sign = same
 last_term scope whole terms rest (suc count) same sign = same ∙ rw sign refl
@@ -54,44 +47,12 @@ no_joint : (kind : Joint) (rest : List Token) → begins_with kind rest ≡ true
 no_joint kind [] e = cc
 no_joint kind (t ∷ ts) e = omega arith
 
-next_part : (kind : Joint) (part : Rule Formula) (whole : Result (Read Formula) ExprFault) (tree : Formula) (rest : List Token) (next : Formula) (after : List Token) (count : ℕ) → length rest ≤ count → whole ≡ more_parts kind part count tree rest → begins_with kind rest ≡ true → part (after_first rest) ≡ read next after → length after < length rest → IsChainSoFar kind part whole (join kind tree next) after
-next_part kind part whole tree rest next after zero enough same joint read shorter = absurd (omega (arith, no_joint kind rest joint))
-next_part kind part whole tree rest next after (suc count) enough same joint read shorter = record {
-  count = count;
-  enough = omega arith;
-  same = same ∙ rw joint (rw read refl);
-}
-
-pub one_part : (kind : Joint) (part : Rule Formula) (whole : Result (Read Formula) ExprFault) (tree : Formula) (rest : List Token) (next : Formula) (after : List Token) → IsChainSoFar kind part whole tree rest → begins_with kind rest ≡ true → part (after_first rest) ≡ read next after → length after < length rest → IsChainSoFar kind part whole (join kind tree next) after
-one_part kind part whole tree rest next after so_far = next_part kind part whole tree rest next after so_far.count so_far.enough so_far.same
-
 wrong_part : (kind : Joint) (part : Rule Formula) (whole : Result (Read Formula) ExprFault) (tree : Formula) (rest : List Token) (fault : ExprFault) (count : ℕ) → length rest ≤ count → whole ≡ more_parts kind part count tree rest → begins_with kind rest ≡ true → part (after_first rest) ≡ Err fault → whole ≡ Err fault
 wrong_part kind part whole tree rest fault zero enough same joint read = absurd (omega (arith, no_joint kind rest joint))
 wrong_part kind part whole tree rest fault (suc count) enough same joint read = same ∙ rw joint (rw read refl)
 
 pub bad_part : (kind : Joint) (part : Rule Formula) (whole : Result (Read Formula) ExprFault) (tree : Formula) (rest : List Token) (fault : ExprFault) → IsChainSoFar kind part whole tree rest → begins_with kind rest ≡ true → part (after_first rest) ≡ Err fault → whole ≡ Err fault
 bad_part kind part whole tree rest fault so_far = wrong_part kind part whole tree rest fault so_far.count so_far.enough so_far.same
-
-last_part : (kind : Joint) (part : Rule Formula) (whole : Result (Read Formula) ExprFault) (tree : Formula) (rest : List Token) (count : ℕ) → whole ≡ more_parts kind part count tree rest → begins_with kind rest ≡ false → whole ≡ read tree rest
-last_part kind part whole tree rest zero same joint = same
-last_part kind part whole tree rest (suc count) same joint = same ∙ rw joint refl
-
-pub no_part : (kind : Joint) (part : Rule Formula) (whole : Result (Read Formula) ExprFault) (tree : Formula) (rest : List Token) → IsChainSoFar kind part whole tree rest → begins_with kind rest ≡ false → whole ≡ read tree rest
-no_part kind part whole tree rest so_far = last_part kind part whole tree rest so_far.count so_far.same
-
--- ---- depth
-pub no_deeper : (scope : Scope) (left : ℕ) → left ≡ 0 → deeper scope left ≡ None
-no_deeper scope left e = rw e refl
-
-deeper_by : (scope : Scope) (left less : ℕ) → left ≡ suc less → deeper scope left ≡ Some (not scope less)
-deeper_by scope left less e = rw e refl
-
-pub one_deeper : (scope : Scope) (left less : ℕ) → less + 1 ≡ left → deeper scope left ≡ Some (not scope less)
-one_deeper scope left less e = deeper_by scope left less (omega arith)
-
--- ---- want of memory, or the fault of a further part
-pub fault_of_term : (scope : Scope) (whole : Result (Read (List Term)) ExprFault) (terms : List Term) (rest : List Token) (minus : Bool) (fault : ExprFault) → IsSumSoFar scope whole terms rest → sign_before rest ≡ Some minus → term scope minus (after_first rest) ≡ Err fault → (fault ≡ OutOfMemory) ⊎ (whole ≡ Err fault)
-fault_of_term scope whole terms rest minus fault so_far sign e = inr (bad_term scope whole terms rest minus fault so_far sign e)
 
 pub fault_of_part : (kind : Joint) (part : Rule Formula) (whole : Result (Read Formula) ExprFault) (tree : Formula) (rest : List Token) (fault : ExprFault) → IsChainSoFar kind part whole tree rest → begins_with kind rest ≡ true → (fault ≡ OutOfMemory) ⊎ (part (after_first rest) ≡ Err fault) → (fault ≡ OutOfMemory) ⊎ (whole ≡ Err fault)
 fault_of_part kind part whole tree rest fault so_far joint (inl memory) = inl memory

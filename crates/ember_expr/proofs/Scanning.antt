@@ -15,9 +15,6 @@ pub one_token : (place b : ℕ) (bs : List ℕ) (before whole : List Token) → 
 one_token place b bs before whole same h =
     same ∙ rw h (rw (passed (lexeme_of b bs).more (place + 1) bs) (rw append_assoc (ap (λ p. before ++ record { word = (lexeme_of b bs).word; place = place } ∷ tokens_from 0 p (drop (lexeme_of b bs).more bs)) (omega arith))))
 
-pub one_space : (place b : ℕ) (bs : List ℕ) (before whole : List Token) → whole ≡ before ++ tokens_from 0 place (b ∷ bs) → (b == 32) ≡ true → whole ≡ before ++ tokens_from 0 (place + 1) bs
-one_space place b bs before whole same h = same ∙ rw h refl
-
 -- two values that are equal up to the limit stay so
 pub same_capped : (v w : ℕ) (ds : List ℕ) → min 1000001 v ≡ min 1000001 w → min 1000001 (value_from v ds) ≡ min 1000001 (value_from w ds)
 same_capped v w [] e = e
