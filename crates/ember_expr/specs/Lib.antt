@@ -1,0 +1,5 @@
+pub mod Formula
+pub mod Truth
+pub mod Known
+pub mod Tokens
+pub mod Grammar

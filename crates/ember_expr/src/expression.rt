@@ -1,0 +1,84 @@
+// Expressions: a tree within the limits.
+ghost use Rattle.std.specs.Prelude.{◌≡◌, ◌≤◌, ◌⊎◌, pos, not, replicate, Ok, Err, IfOk, IfErr};
+ghost use Rattle.ember_expr.specs.Formula.{formula_of, IsFit};
+ghost use Rattle.ember_expr.specs.Truth.{AreCounts, truth};
+ghost use Rattle.ember_expr.specs.Grammar.{expr_of};
+ghost use Rattle.ember_expr.specs.declared.fault.ExprFault.TheVariants.{OutOfMemory};
+
+use crate::fault::ExprFault;
+use crate::formula::Tree;
+use crate::grammar::{Scope, formula};
+use crate::token::tokens;
+use crate::truth::holds;
+use ember_model::Vector;
+use std::alloc::Global;
+use std::marker::Model;
+
+// The most bytes of a text, and the most parentheses and signs `!` inside one another.
+const MOST_BYTES: usize = 4096;
+
+const MOST_DEPTH: u32 = 64;
+
+/// An expression, seen as its tree. The mesh numbers in it, but for the 0 of a plain number, are
+/// from 1 to 64, every other number is at most 1,000,000, and each sum has at most 4096 terms.
+#[derive(Drop)]
+pub struct Expr {
+    formula: Tree,
+}
+
+impl Model for Expr {
+    ghost use Rattle.ember_expr.specs.declared.formula.Tree.{Tree};
+    ghost use Rattle.ember_expr.specs.contracts.formula.Tree as tree;
+    ghost use Rattle.ember_expr.specs.Formula.{formula_of, IsFit};
+    ghost use Rattle.std.specs.Coded.{codes};
+
+    ghost Value = { Tree };
+
+    ghost view = { λ e. e.formula };
+
+    ghost invariant = { λ e. IsFit 64 (formula_of e.formula) };
+
+    ghost coded = { Prim.hlevel (codes, tree.the_row.coded) };
+}
+
+/// The expression of a text for this number of meshes, or the first fault in it.
+pub fn parse(alloc: Global, text: &[u8], meshes: u32) -> Result<Expr, ExprFault>
+    requires { meshes ≤ 64 }
+    ensures tree { IfOk result (λ e. expr_of text.now meshes ≡ Ok (formula_of e)) }
+    ensures fault { IfErr result (λ e. (e ≡ OutOfMemory) ⊎ (expr_of text.now meshes ≡ Err e)) }
+    ensures meshes { IfOk result (λ e. IsFit meshes (formula_of e)) }
+{
+    if text.len() > MOST_BYTES {
+        return Err(ExprFault::Long);
+    }
+    let scope = Scope {
+        meshes,
+        end: text.len() as u32,
+    };
+    let tokens = tokens(alloc, text)?;
+    let formula = formula(alloc, scope, MOST_DEPTH, &tokens)?;
+    Ok(Expr { formula })
+}
+
+/// Whether the expression holds at these winding numbers.
+pub fn value(e: &Expr, v: &Vector) -> bool
+    requires { AreCounts v.now.counts }
+    ensures { result ≡ truth v.now.counts (formula_of e.now) }
+{
+    holds(&e.formula, v)
+}
+
+/// The tree of the expression.
+pub fn tree(e: &Expr) -> &Tree
+    ensures tree { result.now ≡ e.now }
+    ensures fit { IsFit 64 (formula_of e.now) }
+{
+    &e.formula
+}
+
+/// Whether the expression doesn't hold where all winding numbers are 0.
+pub fn bounded(e: &Expr) -> bool
+    ensures { result ≡ not (truth (replicate 64 (pos 0)) (formula_of e.now)) }
+{
+    !value(e, &Vector { counts: [0; 64] })
+}

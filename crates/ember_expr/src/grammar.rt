@@ -1,0 +1,437 @@
+// The grammar of expressions, by recursive descent over the tokens.
+ghost use Rattle.std.specs.Prelude.{◌≡◌, ◌≤◌, ◌<◌, ◌+◌, ◌⊎◌, ◌++◌, ◌∷◌, [], IfOk, IfErr, OnOk, IfSome, MatchResult, MatchOption, length, Ok, Err, Some, None};
+ghost use Rattle.ember_expr.specs.Formula.{formula_of, IsFit, IsFitSum, IsFitTerm, IsMeshNumber};
+ghost use Rattle.ember_expr.specs.Grammar.{read, misplaced, limited, mesh_number, wind, scaled, term, sign_before, after_first, first_term, sum, begins_with, join, chain_of, part_of, closed, relation, comparison, odd, not, deeper, whole};
+ghost use Rattle.ember_expr.specs.declared.fault.ExprFault.TheVariants.{Deep, OutOfMemory};
+
+use crate::fault::ExprFault;
+use crate::formula::{Rel, Sum, Term, Tree};
+use crate::token::{Token, Word};
+use std::alloc::Global;
+
+/// The number of meshes, and the length of the text.
+#[derive(Clone, Copy, Debug, PartialEq, Eq)]
+pub struct Scope {
+    pub meshes: u32,
+    pub end: u32,
+}
+
+/// Chains of parts with one sign between them, from the loosest.
+#[derive(Clone, Copy, Debug, PartialEq, Eq)]
+pub enum Joint {
+    Or,
+    Xor,
+    And,
+}
+
+// The fault of the first token, which can't stand here.
+fn misplaced(scope: Scope, tokens: &[Token]) -> ExprFault
+    ensures { result ≡ misplaced scope tokens.now }
+{
+    match tokens.first() {
+        Some(token) => ExprFault::Syntax(token.place),
+        None => ExprFault::Syntax(scope.end),
+    }
+}
+
+// The tokens after the first.
+fn after_first(tokens: &[Token]) -> &[Token]
+    ensures tokens { result.now ≡ after_first tokens.now }
+    ensures shorter { length result.now ≤ length tokens.now }
+{
+    match tokens.split_first() {
+        Some((_, after)) => after,
+        None => tokens,
+    }
+}
+
+fn limited(place: u32, number: u32) -> Result<u32, ExprFault>
+    ensures { result ≡ limited place number }
+{
+    if number <= 1_000_000 {
+        Ok(number)
+    } else {
+        Err(ExprFault::Number(place))
+    }
+}
+
+fn mesh_number(scope: Scope, place: u32, number: u32) -> Result<u32, ExprFault>
+    ensures number { result ≡ mesh_number scope place number }
+    ensures exists { IfOk result (λ n. IsMeshNumber scope.meshes n) }
+{
+    let number = limited(place, number)?;
+    if number >= 1 && number <= scope.meshes {
+        Ok(number)
+    } else {
+        Err(ExprFault::NoMesh(number))
+    }
+}
+
+// wN
+fn wind(scope: Scope, tokens: &[Token]) -> Result<(u32, &[Token]), ExprFault>
+    ensures read { MatchResult result (λ r. wind scope tokens.now ≡ read r.0 r.1.now) (λ e. wind scope tokens.now ≡ Err e) }
+    ensures exists { IfOk result (λ r. IsMeshNumber scope.meshes r.0) }
+    ensures shorter { IfOk result (λ r. length r.1.now < length tokens.now) }
+{
+    match tokens.split_first() {
+        Some(
+            (
+                Token {
+                    word: Word::Wind(mesh),
+                    place,
+                },
+                after,
+            ),
+        ) => Ok((mesh_number(scope, *place, *mesh)?, after)),
+        _ => Err(misplaced(scope, tokens)),
+    }
+}
+
+// What follows a number: `*` and wN, or nothing.
+fn scaled(
+    scope: Scope,
+    minus: bool,
+    factor: u32,
+    tokens: &[Token],
+) -> Result<(Term, &[Token]), ExprFault>
+    requires { factor ≤ 1000000 }
+    ensures read { MatchResult result (λ r. scaled scope minus factor tokens.now ≡ read r.0 r.1.now) (λ e. scaled scope minus factor tokens.now ≡ Err e) }
+    ensures fit { IfOk result (λ r. IsFitTerm scope.meshes r.0) }
+    ensures shorter { IfOk result (λ r. length r.1.now ≤ length tokens.now) }
+{
+    match tokens.split_first() {
+        Some(
+            (
+                Token {
+                    word: Word::Star,
+                    ..
+                },
+                after,
+            ),
+        ) => {
+            let (mesh, rest) = wind(scope, after)?;
+            Ok((
+                Term {
+                    minus,
+                    factor,
+                    mesh,
+                },
+                rest,
+            ))
+        }
+        _ => Ok((
+            Term {
+                minus,
+                factor,
+                mesh: 0,
+            },
+            tokens,
+        )),
+    }
+}
+
+// term = number [ "*" wN ] | wN
+fn term(scope: Scope, minus: bool, tokens: &[Token]) -> Result<(Term, &[Token]), ExprFault>
+    ensures read { MatchResult result (λ r. term scope minus tokens.now ≡ read r.0 r.1.now) (λ e. term scope minus tokens.now ≡ Err e) }
+    ensures fit { IfOk result (λ r. IsFitTerm scope.meshes r.0) }
+    ensures shorter { IfOk result (λ r. length r.1.now < length tokens.now) }
+{
+    let Some((token, after)) = tokens.split_first() else {
+        return Err(ExprFault::Syntax(scope.end));
+    };
+    match token.word {
+        Word::Number(number) => {
+            let factor = limited(token.place, number)?;
+            scaled(scope, minus, factor, after)
+        }
+        Word::Wind(number) => {
+            let mesh = mesh_number(scope, token.place, number)?;
+            Ok((
+                Term {
+                    minus,
+                    factor: 1,
+                    mesh,
+                },
+                after,
+            ))
+        }
+        _ => Err(ExprFault::Syntax(token.place)),
+    }
+}
+
+// The sign before a further term: true for a minus.
+fn sign_before(tokens: &[Token]) -> Option<bool>
+    ensures sign { result ≡ sign_before tokens.now }
+    ensures shorter { IfSome result (λ _. length (after_first tokens.now) < length tokens.now) }
+{
+    match tokens.first()?.word {
+        Word::Plus => Some(false),
+        Word::Minus => Some(true),
+        _ => None,
+    }
+}
+
+// [ "-" ] term
+fn first_term(scope: Scope, tokens: &[Token]) -> Result<(Term, &[Token]), ExprFault>
+    ensures read { MatchResult result (λ r. first_term scope tokens.now ≡ read r.0 r.1.now) (λ e. first_term scope tokens.now ≡ Err e) }
+    ensures fit { IfOk result (λ r. IsFitTerm scope.meshes r.0) }
+    ensures shorter { IfOk result (λ r. length r.1.now < length tokens.now) }
+{
+    match sign_before(tokens) {
+        Some(true) => term(scope, true, after_first(tokens)),
+        _ => term(scope, false, tokens),
+    }
+}
+
+// sum = [ "-" ] term { ( "+" | "-" ) term }
+fn sum(alloc: Global, scope: Scope, tokens: &[Token]) -> Result<(Sum, &[Token]), ExprFault>
+    requires { length tokens.now ≤ 4096 }
+    ensures read { IfOk result (λ r. sum scope tokens.now ≡ read r.0 r.1.now) }
+    ensures fault { IfErr result (λ e. (e ≡ OutOfMemory) ⊎ (sum scope tokens.now ≡ Err e)) }
+    ensures fit { IfOk result (λ r. IsFitSum scope.meshes r.0) }
+    ensures shorter { IfOk result (λ r. length r.1.now < length tokens.now) }
+{
+    let (first, after) = first_term(scope, tokens)?;
+    let mut terms = Vec::new(alloc);
+    add(&mut terms, first)?;
+    let mut rest = after;
+    'terms: while let Some(minus) = sign_before(rest) {
+        let (next, after) = term(scope, minus, after_first(rest))?;
+        add(&mut terms, next)?;
+        rest = after;
+    }
+    Ok((Sum::of(terms), rest))
+}
+
+// One term more.
+fn add(terms: &mut Vec<Term>, next: Term) -> Result<(), ExprFault>
+    ensures terms { OnOk result (terms.new.items ≡ terms.old.items ++ next ∷ []) }
+    ensures fault { IfErr result (λ e. e ≡ OutOfMemory) }
+{
+    terms.push(next)?;
+    Ok(())
+}
+
+// The tokens after a `)`.
+fn closed(scope: Scope, tokens: &[Token]) -> Result<&[Token], ExprFault>
+    ensures read { MatchResult result (λ r. closed scope tokens.now ≡ Ok r.now) (λ e. closed scope tokens.now ≡ Err e) }
+    ensures shorter { IfOk result (λ r. length r.now < length tokens.now) }
+{
+    match tokens.split_first() {
+        Some(
+            (
+                Token {
+                    word: Word::Close,
+                    ..
+                },
+                after,
+            ),
+        ) => Ok(after),
+        _ => Err(misplaced(scope, tokens)),
+    }
+}
+
+fn relation(scope: Scope, tokens: &[Token]) -> Result<(Rel, &[Token]), ExprFault>
+    ensures read { MatchResult result (λ r. relation scope tokens.now ≡ read r.0 r.1.now) (λ e. relation scope tokens.now ≡ Err e) }
+    ensures shorter { IfOk result (λ r. length r.1.now < length tokens.now) }
+{
+    match tokens.split_first() {
+        Some(
+            (
+                Token {
+                    word: Word::Compare(rel),
+                    ..
+                },
+                after,
+            ),
+        ) => Ok((*rel, after)),
+        _ => Err(misplaced(scope, tokens)),
+    }
+}
+
+// sum rel sum
+fn comparison(alloc: Global, scope: Scope, tokens: &[Token]) -> Result<(Tree, &[Token]), ExprFault>
+    requires { length tokens.now ≤ 4096 }
+    ensures read { IfOk result (λ r. comparison scope tokens.now ≡ read (formula_of r.0) r.1.now) }
+    ensures fault { IfErr result (λ e. (e ≡ OutOfMemory) ⊎ (comparison scope tokens.now ≡ Err e)) }
+    ensures fit { IfOk result (λ r. IsFit scope.meshes (formula_of r.0)) }
+    ensures shorter { IfOk result (λ r. length r.1.now < length tokens.now) }
+{
+    let (left, rest) = sum(alloc, scope, tokens)?;
+    let (rel, rest) = relation(scope, rest)?;
+    let (right, rest) = sum(alloc, scope, rest)?;
+    Ok((Tree::Compare(left, rel, right), rest))
+}
+
+// How many parentheses and signs `!` may come inside this one, where `left` with this one may.
+fn one_deeper(left: u32, place: u32) -> Result<u32, ExprFault>
+    ensures inner { (scope : Scope) → MatchResult result (λ less. deeper scope left ≡ Some (not scope less)) (λ e. (deeper scope left ≡ None) × (e ≡ Deep place)) }
+    ensures less { IfOk result (λ less. less + 1 ≡ left) }
+{
+    if left == 0 {
+        Err(ExprFault::Deep(place))
+    } else {
+        Ok(left - 1)
+    }
+}
+
+// "(" sum ")", after an `odd`.
+fn odd(
+    alloc: Global,
+    scope: Scope,
+    left: u32,
+    tokens: &[Token],
+) -> Result<(Tree, &[Token]), ExprFault>
+    requires { length tokens.now ≤ 4096 }
+    ensures read { IfOk result (λ r. odd scope (deeper scope left) tokens.now ≡ read (formula_of r.0) r.1.now) }
+    ensures fault { IfErr result (λ e. (e ≡ OutOfMemory) ⊎ (odd scope (deeper scope left) tokens.now ≡ Err e)) }
+    ensures fit { IfOk result (λ r. IsFit scope.meshes (formula_of r.0)) }
+    ensures shorter { IfOk result (λ r. length r.1.now < length tokens.now) }
+{
+    match tokens.split_first() {
+        Some(
+            (
+                Token {
+                    word: Word::Open,
+                    place,
+                },
+                after,
+            ),
+        ) => {
+            let _inner = one_deeper(left, *place)?;
+            let (terms, rest) = sum(alloc, scope, after)?;
+            let rest = closed(scope, rest)?;
+            Ok((Tree::Odd(terms), rest))
+        }
+        _ => Err(misplaced(scope, tokens)),
+    }
+}
+
+// Whether the chain goes on.
+fn begins_with(kind: Joint, tokens: &[Token]) -> bool
+    ensures { result ≡ begins_with kind tokens.now }
+{
+    let Some(token) = tokens.first() else {
+        return false;
+    };
+    match (kind, token.word) {
+        (Joint::Or, Word::Bar) => true,
+        (Joint::Xor, Word::Hat) => true,
+        (Joint::And, Word::Amp) => true,
+        _ => false,
+    }
+}
+
+// Two parts of a chain.
+fn join(alloc: Global, kind: Joint, a: Tree, b: Tree) -> Result<Tree, ExprFault>
+    ensures tree { IfOk result (λ t. formula_of t ≡ join kind (formula_of a) (formula_of b)) }
+    ensures fault { IfErr result (λ e. e ≡ OutOfMemory) }
+{
+    let a = Box::new(alloc, a)?;
+    let b = Box::new(alloc, b)?;
+    match kind {
+        Joint::Or => Ok(Tree::Or(a, b)),
+        Joint::Xor => Ok(Tree::Xor(a, b)),
+        Joint::And => Ok(Tree::And(a, b)),
+    }
+}
+
+/// The tree of a text of these tokens, where at most `left` parentheses and signs `!` may stand
+/// inside one another.
+#[tactic(auto, unfolding(crate::specs::Grammar::whole))]
+pub fn formula(alloc: Global, scope: Scope, left: u32, tokens: &[Token]) -> Result<Tree, ExprFault>
+    requires { length tokens.now ≤ 4096 }
+    ensures tree { IfOk result (λ t. whole scope left tokens.now ≡ Ok (formula_of t)) }
+    ensures fault { IfErr result (λ e. (e ≡ OutOfMemory) ⊎ (whole scope left tokens.now ≡ Err e)) }
+    ensures fit { IfOk result (λ t. IsFit scope.meshes (formula_of t)) }
+{
+    let (tree, rest) = chain(alloc, scope, Joint::Or, left, tokens)?;
+    match rest.first() {
+        None => Ok(tree),
+        Some(token) => Err(ExprFault::Syntax(token.place)),
+    }
+}
+
+// or = xor { "|" xor }, xor = and { "^" and }, and = not { "&" not }
+#[cycle(grammar)]
+fn chain(
+    alloc: Global,
+    scope: Scope,
+    kind: Joint,
+    left: u32,
+    tokens: &[Token],
+) -> Result<(Tree, &[Token]), ExprFault>
+    requires { length tokens.now ≤ 4096 }
+    ensures read { IfOk result (λ r. chain_of kind (part_of kind (not scope left)) tokens.now ≡ read (formula_of r.0) r.1.now) }
+    ensures fault { IfErr result (λ e. (e ≡ OutOfMemory) ⊎ (chain_of kind (part_of kind (not scope left)) tokens.now ≡ Err e)) }
+    ensures fit { IfOk result (λ r. IsFit scope.meshes (formula_of r.0)) }
+    ensures shorter { IfOk result (λ r. length r.1.now < length tokens.now) }
+{
+    let (mut tree, mut rest) = part(alloc, scope, kind, left, tokens)?;
+    'parts: while begins_with(kind, rest) {
+        let (next, after) = part(alloc, scope, kind, left, after_first(rest))?;
+        tree = join(alloc, kind, tree, next)?;
+        rest = after;
+    }
+    Ok((tree, rest))
+}
+
+// A part of a chain.
+#[cycle(grammar)]
+fn part(
+    alloc: Global,
+    scope: Scope,
+    kind: Joint,
+    left: u32,
+    tokens: &[Token],
+) -> Result<(Tree, &[Token]), ExprFault>
+    requires { length tokens.now ≤ 4096 }
+    ensures read { IfOk result (λ r. part_of kind (not scope left) tokens.now ≡ read (formula_of r.0) r.1.now) }
+    ensures fault { IfErr result (λ e. (e ≡ OutOfMemory) ⊎ (part_of kind (not scope left) tokens.now ≡ Err e)) }
+    ensures fit { IfOk result (λ r. IsFit scope.meshes (formula_of r.0)) }
+    ensures shorter { IfOk result (λ r. length r.1.now < length tokens.now) }
+{
+    match kind {
+        Joint::Or => chain(alloc, scope, Joint::Xor, left, tokens),
+        Joint::Xor => chain(alloc, scope, Joint::And, left, tokens),
+        Joint::And => not(alloc, scope, left, tokens),
+    }
+}
+
+// not = "!" not | atom
+#[cycle(grammar)]
+fn not(
+    alloc: Global,
+    scope: Scope,
+    left: u32,
+    tokens: &[Token],
+) -> Result<(Tree, &[Token]), ExprFault>
+    requires { length tokens.now ≤ 4096 }
+    ensures read { IfOk result (λ r. not scope left tokens.now ≡ read (formula_of r.0) r.1.now) }
+    ensures fault { IfErr result (λ e. (e ≡ OutOfMemory) ⊎ (not scope left tokens.now ≡ Err e)) }
+    ensures fit { IfOk result (λ r. IsFit scope.meshes (formula_of r.0)) }
+    ensures shorter { IfOk result (λ r. length r.1.now < length tokens.now) }
+{
+    let Some((token, after)) = tokens.split_first() else {
+        return Err(ExprFault::Syntax(scope.end));
+    };
+    match token.word {
+        Word::Bang => {
+            let inner = one_deeper(left, token.place)?;
+            let (tree, rest) = not(alloc, scope, inner, after)?;
+            Ok((Tree::Not(Box::new(alloc, tree)?), rest))
+        }
+        Word::Open => {
+            let inner = one_deeper(left, token.place)?;
+            let (tree, rest) = chain(alloc, scope, Joint::Or, inner, after)?;
+            let rest = closed(scope, rest)?;
+            Ok((tree, rest))
+        }
+        Word::Mesh(number) => {
+            let mesh = mesh_number(scope, token.place, number)?;
+            Ok((Tree::Mesh(mesh), after))
+        }
+        Word::Odd => odd(alloc, scope, left, after),
+        _ => comparison(alloc, scope, tokens),
+    }
+}

@@ -1,0 +1,17 @@
+//! Expressions: from their text to a tree, and the tree's truth at the winding numbers of the
+//! meshes.
+#![tactic(auto)]
+
+mod expression;
+mod fault;
+mod formula;
+mod grammar;
+#[cfg(test)]
+mod tests;
+mod token;
+mod truth;
+
+pub use expression::{Expr, bounded, parse, tree, value};
+pub use fault::ExprFault;
+pub use formula::{Rel, Sum, Term, Tree};
+pub use truth::holds;

@@ -1,0 +1,108 @@
+// The truth of a tree at the winding numbers of all meshes.
+ghost use Rattle.std.specs.Prelude.{◌≡◌, ◌≤◌, pos, ◌*ℤ◌};
+ghost use Rattle.ember_algebra.specs.Size.{Small};
+ghost use Rattle.ember_expr.specs.Formula.{formula_of, IsFit, IsFitSum, IsFitTerm, IsMeshNumber};
+ghost use Rattle.ember_expr.specs.Truth.{AreCounts, count_of, size_of, signed, value_of, sum_of, holds_between, truth};
+
+use crate::formula::{Rel, Term, Tree};
+use ember_model::Vector;
+
+// The winding number of a mesh.
+fn count(mesh: u32, v: &Vector) -> i64
+    requires mesh { IsMeshNumber 64 mesh }
+    requires counts { AreCounts v.now.counts }
+    ensures value { result ≡ count_of v.now.counts mesh }
+    ensures small { Small 262144 result }
+{
+    i64::from(v.counts[mesh as usize - 1])
+}
+
+// The product of a factor and a winding number.
+fn product(factor: u32, count: i64) -> i64
+    requires factor { factor ≤ 1000000 }
+    requires count { Small 262144 count }
+    ensures value { result ≡ pos factor *ℤ count }
+    ensures small { Small 262144000000 result }
+{
+    i64::from(factor) * count
+}
+
+// The value of a term without its sign.
+fn size(term: &Term, v: &Vector) -> i64
+    requires fit { IsFitTerm 64 term.now }
+    requires counts { AreCounts v.now.counts }
+    ensures value { result ≡ size_of v.now.counts term.now }
+    ensures small { Small 262144000000 result }
+{
+    if term.mesh == 0 {
+        return product(term.factor, 1);
+    }
+    product(term.factor, count(term.mesh, v))
+}
+
+fn signed(minus: bool, size: i64) -> i64
+    requires { Small 262144000000 size }
+    ensures value { result ≡ signed minus size }
+    ensures small { Small 262144000000 result }
+{
+    if minus { -size } else { size }
+}
+
+fn term_value(term: &Term, v: &Vector) -> i64
+    requires fit { IsFitTerm 64 term.now }
+    requires counts { AreCounts v.now.counts }
+    ensures value { result ≡ value_of v.now.counts term.now }
+    ensures small { Small 262144000000 result }
+{
+    signed(term.minus, size(term, v))
+}
+
+fn sum_value(terms: &[Term], v: &Vector) -> i64
+    requires fit { IsFitSum 64 terms.now }
+    requires counts { AreCounts v.now.counts }
+    ensures { result ≡ sum_of v.now.counts terms.now }
+{
+    let mut sum = 0;
+    for term in terms {
+        sum += term_value(term, v);
+    }
+    sum
+}
+
+fn holds_between(rel: Rel, x: i64, y: i64) -> bool
+    ensures { result ≡ holds_between rel x y }
+{
+    match rel {
+        Rel::Less => x < y,
+        Rel::LessEqual => x <= y,
+        Rel::Equal => x == y,
+        Rel::NotEqual => x != y,
+        Rel::GreaterEqual => x >= y,
+        Rel::Greater => x > y,
+    }
+}
+
+/// Whether the tree holds at these winding numbers.
+pub fn holds(tree: &Tree, v: &Vector) -> bool
+    requires fit { IsFit 64 (formula_of tree.now) }
+    requires counts { AreCounts v.now.counts }
+    ensures { result ≡ truth v.now.counts (formula_of tree.now) }
+{
+    match tree {
+        Tree::Or(a, b) => holds(a, v) || holds(b, v),
+        Tree::Xor(a, b) => {
+            if holds(a, v) {
+                !holds(b, v)
+            } else {
+                holds(b, v)
+            }
+        }
+        Tree::And(a, b) => holds(a, v) && holds(b, v),
+        Tree::Not(a) => !holds(a, v),
+        Tree::Mesh(mesh) => count(*mesh, v) >= 1,
+        Tree::Odd(sum) => sum_value(sum.items(), v) % 2 != 0,
+        Tree::Compare(a, rel, b) => {
+            holds_between(*rel, sum_value(a.items(), v), sum_value(b.items(), v))
+        }
+    }
+}
