@@ -4,3 +4,5 @@ pub mod Planes
 pub mod Faces
 pub mod Clear
 pub mod Meshes
+pub mod Sizes
+pub mod Steps

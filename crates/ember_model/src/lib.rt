@@ -6,6 +6,8 @@ mod face;
 mod plane;
 mod point;
 mod scene;
+mod sides;
+mod steps;
 mod tri;
 mod vector;
 
