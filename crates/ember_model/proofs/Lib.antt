@@ -1,1 +1,2 @@
 pub mod PlaneSizes
+pub mod Values

@@ -1,5 +1,7 @@
 -- How large the planes of a valid triangle are.
-use Rattle.std.proofs.Common.{pos, ℕ, ℤ, arith}
+use Rattle.std.proofs.Common.{ℕ, zero, suc, ℤ, pos, negsuc, arith, List, [], ◌∷◌, All}
+use Rattle.std.proofs.lemmas.List.Elements.{All-cons, All-nil}
+use Rattle.ember_algebra.specs.Sign.{sign}
 use Rattle.ember_algebra.specs.Size.{Small}
 use Rattle.ember_algebra.proofs.Size.{small_within}
 use Rattle.ember_algebra.proofs.Exact.{Code, Inputs, input, number, ◌⊠◌, ◌⊞◌, ◌⊟◌, ◌&◌, done, bounded}
@@ -8,8 +10,9 @@ use Rattle.ember_model.specs.declared.tri.Tri.{Tri}
 use Rattle.ember_model.specs.declared.plane.Plane.{Plane}
 use Rattle.ember_model.specs.declared.point.Axis.{Axis}
 use Rattle.ember_model.specs.declared.point.Axis.TheVariants.{X, Y, Z}
-use Rattle.ember_model.specs.Planes.{unit, support_of, edge_through, times_plane}
-use Rattle.ember_model.specs.Valid.{IsValidCorner, IsValidTri, IsValidPlane}
+use Rattle.ember_model.specs.Planes.{unit, along, main_axis, support_of, edge_through, edge_planes, times_plane}
+use Rattle.ember_model.specs.Valid.{IsValidCorner, IsValidTri, IsValidPlane, IsValidFace}
+use Rattle.ember_model.specs.Faces.{face_of, edges_of}
 use Rattle.ember_model.specs.Sizes.{IsSupportSized, IsEdgeSized}
 
 pub support_valid : {p : Plane} → IsSupportSized p → IsValidPlane p
@@ -100,3 +103,26 @@ edge_sized u v Z s p q r =
       c = bounded i 4095 (input 6 ⊠ entry_z nil nil one) tt;
       d = bounded i 16777215 (input 6 ⊠ constant nil nil one) tt;
     }
+
+pub sign_small : (z : ℤ) → Small 1 (sign z)
+sign_small (pos zero) = record { small = omega arith }
+sign_small (pos (suc n)) = record { small = omega arith }
+sign_small (negsuc n) = record { small = omega arith }
+
+three_sized : {x y z : Plane} → IsEdgeSized x → IsEdgeSized y → IsEdgeSized z → All IsEdgeSized (x ∷ y ∷ z ∷ [])
+three_sized {x} {y} {z} p q r =
+    All-cons IsEdgeSized x (y ∷ z ∷ []) p (All-cons IsEdgeSized y (z ∷ []) q (All-cons IsEdgeSized z [] r (All-nil IsEdgeSized)))
+
+pub edges_sized : (t : Tri) (k : Axis) → IsValidTri t → All IsEdgeSized (edge_planes t k)
+edges_sized t k v =
+    let s = sign_small (along (support_of t) k) in
+    three_sized (edge_sized t.a t.b k (sign (along (support_of t) k)) v.a v.b s) (edge_sized t.b t.c k (sign (along (support_of t) k)) v.b v.c s) (edge_sized t.c t.a k (sign (along (support_of t) k)) v.c v.a s)
+
+-- ---- the face
+pub edges_valid : (es : List Plane) → All IsEdgeSized es → All IsValidPlane es
+edges_valid es f = λ k d l. edge_valid (f k d l)
+
+pub face_valid : (t : Tri) → IsValidTri t → IsValidFace (face_of t)
+unfolding face_of
+face_valid t v =
+    record { support = support_valid (support_sized t v); edges = edges_valid (edges_of t) (edges_sized t (main_axis (support_of t)) v) }

@@ -6,3 +6,4 @@ pub mod Clear
 pub mod Meshes
 pub mod Sizes
 pub mod Steps
+pub mod ClearTest
