@@ -1,2 +1,4 @@
 pub mod PlaneSizes
 pub mod Values
+pub mod Tests
+pub mod Hits
