@@ -15,8 +15,8 @@ use Rattle.ember_model.specs.Planes.{value_at, along}
 use Rattle.ember_model.specs.Points.{scaled, moved}
 use Rattle.ember_model.specs.Faces.{size, is_inside, is_in_closed, hit, crossing}
 use Rattle.ember_model.specs.ClearTest.{none_positive, all_negative}
-use Rattle.ember_model.proofs.Tests.{sgn_scaled, positive_in, size_positive, clash, zero_scaled}
-use Rattle.ember_model.proofs.Values.{value_scaled, value_moved, value_hit, hit_flat}
+use Rattle.ember_model.proofs.SignTests.{sgn_scaled, positive_in, size_positive, clash, zero_scaled}
+use Rattle.ember_model.proofs.PlaneValues.{value_scaled, value_moved, value_hit, hit_flat}
 
 -- ---- one place
 -- the values at y are those at x times a number: for a positive one both are one place

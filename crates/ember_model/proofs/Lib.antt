@@ -1,4 +1,4 @@
 pub mod PlaneSizes
-pub mod Values
-pub mod Tests
+pub mod PlaneValues
+pub mod SignTests
 pub mod Hits

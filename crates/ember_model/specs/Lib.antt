@@ -7,3 +7,4 @@ pub mod Meshes
 pub mod Sizes
 pub mod Steps
 pub mod ClearTest
+pub mod Rays

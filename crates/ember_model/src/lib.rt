@@ -9,6 +9,7 @@ mod scene;
 mod sides;
 mod steps;
 mod tri;
+mod values;
 mod vector;
 
 pub use face::Face;
