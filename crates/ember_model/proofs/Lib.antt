@@ -2,3 +2,4 @@ pub mod PlaneSizes
 pub mod PlaneValues
 pub mod SignTests
 pub mod Hits
+pub mod RayPlaces

@@ -109,7 +109,7 @@ sign_small (pos zero) = record { small = omega arith }
 sign_small (pos (suc n)) = record { small = omega arith }
 sign_small (negsuc n) = record { small = omega arith }
 
-three_sized : {x y z : Plane} → IsEdgeSized x → IsEdgeSized y → IsEdgeSized z → All IsEdgeSized (x ∷ y ∷ z ∷ [])
+pub three_sized : {x y z : Plane} → IsEdgeSized x → IsEdgeSized y → IsEdgeSized z → All IsEdgeSized (x ∷ y ∷ z ∷ [])
 three_sized {x} {y} {z} p q r =
     All-cons IsEdgeSized x (y ∷ z ∷ []) p (All-cons IsEdgeSized y (z ∷ []) q (All-cons IsEdgeSized z [] r (All-nil IsEdgeSized)))
 

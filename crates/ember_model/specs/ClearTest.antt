@@ -38,3 +38,6 @@ is_clear f p = not (is_in_closed f p) && (is_ray_clear f X p && (is_ray_clear f 
 
 abbrev pub is_clear_of : Tri → Spot → Bool
 is_clear_of t p = is_flat t || is_clear (face_of t) p
+
+abbrev pub face_with : Plane → List Plane → Face
+face_with n es = record { support = n; edges = es }

@@ -5,6 +5,7 @@
 mod face;
 mod plane;
 mod point;
+mod rays;
 mod scene;
 mod sides;
 mod steps;

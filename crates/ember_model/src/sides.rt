@@ -5,7 +5,7 @@ ghost use Rattle.ember_algebra.specs.Sign.{is_zero};
 ghost use Rattle.ember_model.specs.Valid.{IsValidCorner, IsValidTri, IsValidPlane, IsValidFace};
 ghost use Rattle.ember_model.specs.Sizes.{IsSupportSized, IsEdgeSized};
 ghost use Rattle.ember_model.specs.Planes.{support_of, main_axis, along, unit, times_plane, edge_through, edge_planes};
-ghost use Rattle.ember_model.specs.Faces.{is_flat, face_of};
+ghost use Rattle.ember_model.specs.Faces.{is_flat, face_of, edges_of};
 
 use std::alloc::{AllocError, Global};
 
@@ -95,6 +95,18 @@ pub fn has_no_normal(p: &Plane) -> bool
     p.a == 0 && (p.b == 0 && p.c == 0)
 }
 
+// The edge planes along the main axis.
+pub fn main_edges(t: &Tri, support: &Plane) -> [Plane; 3]
+    requires tri { IsValidTri t.now }
+    requires support { support.now ≡ support_of t.now }
+    ensures value { result ≡ edges_of t.now }
+    ensures small { All IsEdgeSized result }
+{
+    let k = main_axis(support);
+    let s = sign_number(component(support, k));
+    [side_plane(&t.a, &t.b, k, s), side_plane(&t.b, &t.c, k, s), side_plane(&t.c, &t.a, k, s)]
+}
+
 /// The triangle's face: its support plane and its edge planes along the main axis. None where
 /// the triangle's normal is zero.
 pub fn face_of(alloc: Global, t: &Tri) -> Result<Option<Face>, OutOfMemory>
@@ -108,12 +120,6 @@ pub fn face_of(alloc: Global, t: &Tri) -> Result<Option<Face>, OutOfMemory>
     if has_no_normal(&support) {
         return Ok(None);
     }
-    let k = main_axis(&support);
-    let s = sign_number(component(&support, k));
-    let edges = vec![in alloc;
-        side_plane(&t.a, &t.b, k, s),
-        side_plane(&t.b, &t.c, k, s),
-        side_plane(&t.c, &t.a, k, s)
-    ]?;
+    let edges = Vec::from_array(alloc, main_edges(t, &support))?;
     Ok(Some(Face { support, edges: Planes::of(edges) }))
 }
