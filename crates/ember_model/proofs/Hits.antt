@@ -104,3 +104,10 @@ unfolding crossing
 crossing_on f a p b w e g =
     let h = hit_inside f a p (slope_nonzero (value_at f.support p) (along f.support a) e) w ∙ g in
     λ i. cond (e i && h i) (sign (along f.support a)) (pos 0)
+
+-- where the normal has an entry along the ray
+pub crossing_across : (f : Face) (a : Axis) (p : Spot) → pos 0 <ℤ p.w → along f.support a ≢ pos 0 → crossing f a p ≡ cond (is_negative (value_at f.support p *ℤ along f.support a) && all_negative f.edges (hit f.support a p)) (sign (along f.support a)) (pos 0)
+unfolding crossing
+crossing_across f a p w nz =
+    let h = hit_inside f a p nz w in
+    λ i. cond (is_negative (value_at f.support p *ℤ along f.support a) && h i) (sign (along f.support a)) (pos 0)

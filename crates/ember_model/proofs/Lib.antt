@@ -3,3 +3,5 @@ pub mod PlaneValues
 pub mod SignTests
 pub mod Hits
 pub mod RayPlaces
+pub mod SeenCrossings
+pub mod FourSigns
