@@ -1,7 +1,9 @@
 -- What the tests of signs say, tests of all elements of a list, and members of lists.
-use Rattle.std.proofs.Common.{◌≡◌, ◌≢◌, ◌⊎◌, inl, inr, refl, sym, ap, ◌∙◌, arith, T, Bool, true, false, not, cond, ◌&&◌, ◌||◌, List, [], ◌∷◌, ℤ, pos, negsuc, zero, suc, ◌*ℤ◌, ◌<ℤ◌, ◌≤ℤ◌}
+use Rattle.std.proofs.Common.{◌≡◌, ◌≢◌, ◌⊎◌, inl, inr, refl, sym, ap, subst, ◌∙◌, arith, T, Bool, true, false, not, cond, ◌&&◌, ◌||◌, List, [], ◌∷◌, ℤ, pos, negsuc, zero, suc, ◌*ℤ◌, ◌<ℤ◌, ◌≤ℤ◌}
 use Rattle.std.specs.List.{list_all, list_any}
 use borrow.Author.Differences.{ints}
+use lib.Signed.{lt_z}
+use Rattle.std.proofs.lemmas.Int.{by_lt_z}
 use lib.IntN.{*ℤ-zero, zero-*ℤ}
 use Rattle.ember_algebra.specs.declared.Sign.{Sign}
 use Rattle.ember_algebra.specs.declared.Sign.TheVariants.{Neg, Zero, Pos}
@@ -154,3 +156,10 @@ any_out f (g ∷ gs) e = by (f g) refl e (any_out f gs)
     by : (b : Bool) → f g ≡ b → b || list_any f gs ≡ true → (list_any f gs ≡ true → Found f gs) → Found f (g ∷ gs)
     by true q r k = record { item = g; member = inl refl; passes = q }
     by false q r k = more (k r)
+
+-- ---- tests of code
+pub less_out : (a b : ℤ) → lt_z a b ≡ true → a <ℤ b
+less_out a b e = record { lt = subst (λ (x : Bool). T x) (sym e) tt }
+
+pub not_less_out : (a b : ℤ) → lt_z a b ≡ false → b ≤ℤ a
+not_less_out a b e = by_lt_z a b (λ l. absurd (subst (λ (x : Bool). T x) e l.lt)) (λ l. l)
