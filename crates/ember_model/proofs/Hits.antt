@@ -15,7 +15,7 @@ use Rattle.ember_model.specs.Planes.{value_at, along}
 use Rattle.ember_model.specs.Points.{scaled, moved}
 use Rattle.ember_model.specs.Faces.{size, is_inside, is_in_closed, hit, crossing}
 use Rattle.ember_model.specs.ClearTest.{none_positive, all_negative}
-use Rattle.ember_model.proofs.SignTests.{sgn_scaled, positive_in, size_positive, clash, zero_scaled}
+use Rattle.ember_model.proofs.SignTests.{sgn_scaled, positive_in, size_positive, clash, zero_scaled, and_parts, positive_out, zero_out}
 use Rattle.ember_model.proofs.PlaneValues.{value_scaled, value_moved, value_hit, hit_flat}
 
 -- ---- one place
@@ -79,6 +79,18 @@ inside_on f x w z = λ i. w i && (is_zero (z i) && all_negative f.edges x)
 
 pub closed_on : (f : Face) (x : Spot) → is_positive x.w ≡ true → value_at f.support x ≡ pos 0 → is_in_closed f x ≡ none_positive f.edges x
 closed_on f x w z = λ i. w i && (is_zero (z i) && none_positive f.edges x)
+
+pub closed_parts : (f : Face) (x : Spot) → is_in_closed f x ≡ true → (pos 0 <ℤ x.w) × (value_at f.support x ≡ pos 0) × (none_positive f.edges x ≡ true)
+closed_parts f x c =
+    let a = and_parts (is_positive x.w) (is_zero (value_at f.support x) && none_positive f.edges x) c in
+    let b = and_parts (is_zero (value_at f.support x)) (none_positive f.edges x) a.1 in
+    (positive_out x.w a.0, zero_out (value_at f.support x) b.0, b.1)
+
+pub inside_parts : (f : Face) (x : Spot) → is_inside f x ≡ true → (pos 0 <ℤ x.w) × (value_at f.support x ≡ pos 0) × (all_negative f.edges x ≡ true)
+inside_parts f x c =
+    let a = and_parts (is_positive x.w) (is_zero (value_at f.support x) && all_negative f.edges x) c in
+    let b = and_parts (is_zero (value_at f.support x)) (all_negative f.edges x) a.1 in
+    (positive_out x.w a.0, zero_out (value_at f.support x) b.0, b.1)
 
 -- ---- the hit
 hit_weight : (n : Plane) (a : Axis) (p : Spot) → along n a ≢ pos 0 → pos 0 <ℤ p.w → is_positive (hit n a p).w ≡ true

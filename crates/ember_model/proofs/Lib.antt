@@ -5,3 +5,5 @@ pub mod Hits
 pub mod RayPlaces
 pub mod SeenCrossings
 pub mod FourSigns
+pub mod LastZero
+pub mod ClearPoints
