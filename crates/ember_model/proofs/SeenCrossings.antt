@@ -45,9 +45,6 @@ at_hit n q p a k x h =
     rw (e, size-is (along n a), along_dot q a, along_dot n k)
     (omega (arith, linear, ap (λ (z : ℤ). sign (along n a) *ℤ z) h, solve 6 (λ w s na v sv qa. w ⊗ (s ⊗ na ⊗ v ⊖ s ⊗ sv ⊗ qa) ≈ s ⊗ (na ⊗ (w ⊗ v) ⊖ sv ⊗ (w ⊗ qa))) cancels p.w (sign (along n a)) (along n a) (value_at q p) (value_at n p) (dot (normal_of q) (unit a)), along_dot n a, ap (λ (z : ℤ). sign (along n a) *ℤ (z *ℤ (p.w *ℤ value_at q p) -ℤ value_at n p *ℤ (p.w *ℤ dot (normal_of q) (unit a)))) (along_dot n a), solve 3 (λ s k x. s ⊗ neg (k ⊗ x) ≈ neg (s ⊗ (k ⊗ x))) cancels (sign (along n a)) (dot (normal_of n) (unit k)) x))
 
-
-
-
 twice : (k a x : Sign) → T (not (is_nil k)) → times k (flip (times a (times k x))) ≡ flip (times a x)
 twice k a x t =
     same_sgn_out _ _ (use_if (not (is_nil k)) _ (signs 3 (λ k a x. not (is_nil k) ⇒ same_sgn (times k (flip (times a (times k x)))) (flip (times a x))) tt k a x) t)

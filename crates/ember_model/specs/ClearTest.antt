@@ -23,10 +23,13 @@ all_negative es x = list_all (λ e. is_negative (value_at e x)) es
 abbrev pub entry : Plane → Axis → Spot → Spot
 entry h a p = moved (scaled (neg_ℤ (along h a)) p) a (value_at h p)
 
+-- the ray passes from the front of h to its back where no plane of the list is positive
+abbrev pub is_entry : List Plane → Axis → Spot → Plane → Bool
+is_entry es a p h = is_negative (along h a) && (is_positive (value_at h p) && none_positive es (entry h a p))
+
 -- a ray inside the support plane meets the closed face: it does so at the first point where it enters through an edge
 abbrev pub enters : List Plane → Axis → Spot → Bool
-enters es a p =
-    list_any (λ h. is_negative (along h a) && (is_positive (value_at h p) && none_positive es (entry h a p))) es
+enters es a p = list_any (is_entry es a p) es
 
 -- no boundary point lies on the ray from p along a; p is not in the closed face
 abbrev pub is_ray_clear : Face → Axis → Spot → Bool

@@ -11,7 +11,7 @@ use crate::point::{Axis, Spot};
 use crate::sides::{component, support_of};
 use crate::steps::sign_number;
 use crate::tri::Tri;
-use crate::values::{all_negative, edge_value, value, Along};
+use crate::values::{Along, all_negative, edge_value, value};
 
 // A ray on which a plane has the slope `slope` from its value `front` on meets the plane.
 pub fn meets(front: i128, slope: i64) -> bool
@@ -31,7 +31,11 @@ pub fn hit_along(front: i128, slope: i64, axis: Axis) -> Along
     ensures sized { IsAlongSized result }
 {
     let s = sign_number(slope);
-    Along { axis, factor: s * slope, way: -(s as i128 * front) }
+    Along {
+        axis,
+        factor: s * slope,
+        way: -(s as i128 * front),
+    }
 }
 
 /// The signed crossing of the ray from `p` along the axis with the inside of the face: 1, -1

@@ -7,13 +7,12 @@ ghost use Rattle.ember_model.specs.Sizes.{IsSupportSized, IsEdgeSized};
 ghost use Rattle.ember_model.specs.Planes.{support_of, main_axis, along, unit, times_plane, edge_through, edge_planes};
 ghost use Rattle.ember_model.specs.Faces.{is_flat, face_of, edges_of};
 
-use std::alloc::{AllocError, Global};
-
 use crate::face::Face;
 use crate::plane::{Plane, Planes};
 use crate::point::{Axis, Corner};
 use crate::steps::{edge_normal, normal_of, plane_with, sign_number, step_between};
 use crate::tri::Tri;
+use std::alloc::{AllocError, Global};
 
 /// The only error of a call that allocates.
 pub type OutOfMemory = AllocError;
@@ -104,7 +103,11 @@ pub fn main_edges(t: &Tri, support: &Plane) -> [Plane; 3]
 {
     let k = main_axis(support);
     let s = sign_number(component(support, k));
-    [side_plane(&t.a, &t.b, k, s), side_plane(&t.b, &t.c, k, s), side_plane(&t.c, &t.a, k, s)]
+    [
+        side_plane(&t.a, &t.b, k, s),
+        side_plane(&t.b, &t.c, k, s),
+        side_plane(&t.c, &t.a, k, s),
+    ]
 }
 
 /// The triangle's face: its support plane and its edge planes along the main axis. None where
@@ -121,5 +124,8 @@ pub fn face_of(alloc: Global, t: &Tri) -> Result<Option<Face>, OutOfMemory>
         return Ok(None);
     }
     let edges = Vec::from_array(alloc, main_edges(t, &support))?;
-    Ok(Some(Face { support, edges: Planes::of(edges) }))
+    Ok(Some(Face {
+        support,
+        edges: Planes::of(edges),
+    }))
 }

@@ -39,7 +39,11 @@ pub fn normal_of(u: &Step, v: &Step) -> Step
     ensures value { vector_from result ≡ cross (vector_from u.now) (vector_from v.now) }
     ensures small { IsStepWithin 33521672 result }
 {
-    Step { x: u.y * v.z - u.z * v.y, y: u.z * v.x - u.x * v.z, z: u.x * v.y - u.y * v.x }
+    Step {
+        x: u.y * v.z - u.z * v.y,
+        y: u.z * v.x - u.x * v.z,
+        z: u.x * v.y - u.y * v.x,
+    }
 }
 
 // The plane with the normal `n` and the corner `u` on it.
@@ -50,7 +54,12 @@ pub fn plane_with(n: &Step, u: &Corner) -> Plane
     ensures { result ≡ plane_through (vector_from n.now) u.now }
 {
     let d = n.x * u.x as i64 + n.y * u.y as i64 + n.z * u.z as i64;
-    Plane { a: n.x, b: n.y, c: n.z, d }
+    Plane {
+        a: n.x,
+        b: n.y,
+        c: n.z,
+        d,
+    }
 }
 
 // The normal along an axis that an edge's plane has, times a sign.

@@ -10,7 +10,7 @@ ghost use Rattle.ember_model.specs.ClearTest.{none_positive, all_negative};
 use crate::plane::Plane;
 use crate::point::{Axis, Corner, Spot};
 use crate::sides::component;
-use crate::steps::{step_between, Step};
+use crate::steps::{Step, step_between};
 
 /// The value of a plane at a point, `a x + b y + c z - d w`: positive in front of the plane.
 #[tactic(none)]

@@ -28,9 +28,11 @@ returns-else-meets-clause-value c =
     let s = exact (c.value-front.ensures.small & done) (stored w128 (input 0)) tt ∙ c.value-front.ensures.value in
     let k = exact (c.component-slope.ensures.small & done) (stored w64 (input 0)) tt ∙ c.component-slope.ensures.value in
     let m : is_negative (value_at f.support p *ℤ along f.support a) ≡ c.meets.result = (λ i. is_negative (sym s i *ℤ sym k i)) ∙ sym c.meets.ensures in
-    elim c.else-meets.branch [ else-meets-via-then-meets+else-all_negative w ↦
-      let q = place_hit f.support a p _ _ w.hit_along.result s k w.hit_along.ensures.value in
-      let e = w.items.ensures in
-      let h : all_negative f.edges (hit f.support a p) ≡ false = (λ i. all_negative (sym e i) (sym q i)) ∙ sym w.all_negative.ensures ∙ w.if-all_negative.false in
-      sym (crossing_on f a p false c.requires.spot.weight (m ∙ w.if-meets.true) h)
-    | else-meets-via-else-meets w ↦ sym (crossing_off f a p (m ∙ w.if-meets.false)) ]
+    elim c.else-meets.branch [
+      | else-meets-via-then-meets+else-all_negative w ↦
+          let q = place_hit f.support a p _ _ w.hit_along.result s k w.hit_along.ensures.value in
+          let e = w.items.ensures in
+          let h : all_negative f.edges (hit f.support a p) ≡ false = (λ i. all_negative (sym e i) (sym q i)) ∙ sym w.all_negative.ensures ∙ w.if-all_negative.false in
+          sym (crossing_on f a p false c.requires.spot.weight (m ∙ w.if-meets.true) h)
+      | else-meets-via-else-meets w ↦ sym (crossing_off f a p (m ∙ w.if-meets.false))
+    ]

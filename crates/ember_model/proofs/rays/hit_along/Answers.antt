@@ -27,4 +27,3 @@ returns-clause-value c = let s = c.sign_number-s.ensures.value ∙ ap sign (exac
 
 pub returns-clause-sized : goal.returns-clause-sized
 returns-clause-sized c = record { factor = bounded (c.sign_number-s.ensures.small & c.requires.slope & done) 33554431 (stored w64 (stored w64 (input 0) ⊠ stored w64 (input 1))) tt; way = bounded (c.sign_number-s.ensures.small & c.requires.front & done) (2 ^ 80) (stored w128 (number (pos 0) ⊟ stored w128 (stored w128 (stored w64 (input 0)) ⊠ stored w128 (input 1)))) tt }
-

@@ -58,4 +58,3 @@ returns-in-Z-clause-value c = let x = exact (c.requires.s & c.requires.step.y & 
 
 pub returns-in-Z-clause-small : goal.returns-in-Z-clause-small
 returns-in-Z-clause-small c = record { x = bounded (c.requires.s & c.requires.step.y & done) 4094 (stored w64 (stored w64 (input 0) ⊠ stored w64 (input 1))) tt; y = bounded (c.requires.s & c.requires.step.x & done) 4094 (stored w64 (number (pos 0) ⊟ stored w64 (stored w64 (input 0) ⊠ stored w64 (input 1)))) tt; z = record { small = omega arith } }
-

@@ -28,4 +28,3 @@ overflow_add-d-2 c = no_overflow (c.requires.n.x & c.requires.u.x & c.requires.n
 
 pub returns : goal.returns
 returns c = let a = exact (c.requires.n.x & done) (stored w64 (input 0)) tt in let b = exact (c.requires.n.y & done) (stored w64 (input 0)) tt in let c' = exact (c.requires.n.z & done) (stored w64 (input 0)) tt in let d = exact (c.requires.n.x & c.requires.u.x & c.requires.n.y & c.requires.u.y & c.requires.n.z & c.requires.u.z & done) (stored w64 (stored w64 (stored w64 (stored w64 (input 0) ⊠ stored w64 (stored w32 (input 1))) ⊞ stored w64 (stored w64 (input 2) ⊠ stored w64 (stored w32 (input 3)))) ⊞ stored w64 (stored w64 (input 4) ⊠ stored w64 (stored w32 (input 5))))) tt in λ i. record { a = a i; b = b i; c = c' i; d = d i }
-

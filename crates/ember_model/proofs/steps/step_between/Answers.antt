@@ -34,4 +34,3 @@ returns-clause-value c = let x = exact (c.requires.to.x & c.requires.from.x & do
 
 pub returns-clause-small : goal.returns-clause-small
 returns-clause-small c = record { x = bounded (c.requires.to.x & c.requires.from.x & done) 4094 (stored w64 (stored w64 (stored w32 (input 0)) ⊟ stored w64 (stored w32 (input 1)))) tt; y = bounded (c.requires.to.y & c.requires.from.y & done) 4094 (stored w64 (stored w64 (stored w32 (input 0)) ⊟ stored w64 (stored w32 (input 1)))) tt; z = bounded (c.requires.to.z & c.requires.from.z & done) 4094 (stored w64 (stored w64 (stored w32 (input 0)) ⊟ stored w64 (stored w32 (input 1)))) tt }
-

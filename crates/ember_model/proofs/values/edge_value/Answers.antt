@@ -39,4 +39,3 @@ returns-in-Z-clause-value c =
     let u = c.args.u.now in let v = c.args.v.now in let s = c.args.s.now in
     let step = c.step_between-step.ensures in let at = c.seen_from-at.ensures in let e = step.value in let f = at.x in let g = at.y in
     exact (c.turn-in-Z.ensures.small & done) (stored w128 (input 0)) tt ∙ c.turn-in-Z.ensures.value ∙ exact (step.small.y & at.small.x & step.small.x & at.small.y & done) (narrow 0 ⊠ narrow 1 ⊟ narrow 2 ⊠ narrow 3) tt ∙ (λ i. (e i).y *ℤ f i -ℤ (e i).x *ℤ g i) ∙ along_z u v s ∙ ap (λ (k : Axis). value_at (edge_through u v (unit k)) s) (sym c.in-Z.is)
-

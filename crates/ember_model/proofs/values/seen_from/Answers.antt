@@ -41,4 +41,3 @@ returns-clause-z c = exact (c.requires.spot.z & c.requires.spot.w & c.requires.c
 
 pub returns-clause-small : goal.returns-clause-small
 returns-clause-small c = record { x = bounded (c.requires.spot.x & c.requires.spot.w & c.requires.corner.x & done) (2 ^ 52) (stored w64 (stored w64 (input 0) ⊟ stored w64 (stored w64 (input 1) ⊠ stored w64 (stored w32 (input 2))))) tt; y = bounded (c.requires.spot.y & c.requires.spot.w & c.requires.corner.y & done) (2 ^ 52) (stored w64 (stored w64 (input 0) ⊟ stored w64 (stored w64 (input 1) ⊠ stored w64 (stored w32 (input 2))))) tt; z = bounded (c.requires.spot.z & c.requires.spot.w & c.requires.corner.z & done) (2 ^ 52) (stored w64 (stored w64 (input 0) ⊟ stored w64 (stored w64 (input 1) ⊠ stored w64 (stored w32 (input 2))))) tt }
-

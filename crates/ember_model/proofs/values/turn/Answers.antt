@@ -29,4 +29,3 @@ returns-clause-value c = exact (c.requires.a & c.requires.x & c.requires.b & c.r
 
 pub returns-clause-small : goal.returns-clause-small
 returns-clause-small c = bounded (c.requires.a & c.requires.x & c.requires.b & c.requires.y & done) (2 ^ 66) (stored w128 (stored w128 (stored w128 (stored w64 (input 0)) ⊠ stored w128 (stored w64 (input 1))) ⊟ stored w128 (stored w128 (stored w64 (input 2)) ⊠ stored w128 (stored w64 (input 3))))) tt
-

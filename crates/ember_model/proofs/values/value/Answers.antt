@@ -53,4 +53,3 @@ returns-clause-value c = exact (c.requires.plane.a & c.requires.spot.x & c.requi
 
 pub returns-clause-small : goal.returns-clause-small
 returns-clause-small c = bounded (c.requires.plane.a & c.requires.spot.x & c.requires.plane.b & c.requires.spot.y & c.requires.plane.c & c.requires.spot.z & c.requires.plane.d & c.requires.spot.w & done) (2 ^ 80) (stored w128 (stored w128 (stored w128 (stored w128 (stored w128 (stored w64 (input 0)) ⊠ stored w128 (stored w64 (input 1))) ⊞ stored w128 (stored w128 (stored w64 (input 2)) ⊠ stored w128 (stored w64 (input 3)))) ⊞ stored w128 (stored w128 (stored w64 (input 4)) ⊠ stored w128 (stored w64 (input 5)))) ⊟ stored w128 (stored w128 (stored w64 (input 6)) ⊠ stored w128 (stored w64 (input 7))))) tt
-

@@ -34,4 +34,3 @@ returns-clause-value c = let v = c.value.ensures.value in let e = c.component.en
 
 pub returns-clause-small : goal.returns-clause-small
 returns-clause-small c = bounded (c.requires.sized.factor & c.value.ensures.small & c.requires.sized.way & c.component.ensures.small & done) (2 ^ 107) (stored w128 (stored w128 (stored w128 (stored w64 (input 0)) ⊠ stored w128 (input 1)) ⊞ stored w128 (stored w128 (input 2) ⊠ stored w128 (stored w64 (input 3))))) tt
-
