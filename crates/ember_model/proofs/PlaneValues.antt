@@ -1,13 +1,10 @@
 -- The values of planes at moved and scaled points, and those of a triangle's planes by its corners seen from the point.
 use Rattle.std.proofs.Common.{◌≡◌, refl, ◌∙◌, arith, [], ◌∷◌, ℤ, pos, negsuc, zero, suc, ◌+ℤ◌, ◌-ℤ◌, ◌*ℤ◌, neg_ℤ}
 use borrow.Author.Differences.{ints}
-use Rattle.ember_algebra.specs.Vector.{Vector}
-use Rattle.ember_algebra.specs.Vector.{Tuple}
-use Rattle.ember_algebra.specs.Vector.{dot, cross, det}
+use Rattle.ember_algebra.specs.Vector.{Vector, Tuple, dot, cross, det, normal}
 use Rattle.ember_algebra.specs.Sign.{sign, sgn, number}
 use Rattle.ember_algebra.proofs.Ring.{◌⊕◌, ◌⊖◌, ◌⊗◌, ◌≈◌, num, neg, solve, cancels}
-use Rattle.ember_algebra.proofs.Vectors.{VectorE, TupleE, vector, tuple, identity, dotE, crossE, detE, minusE, plusE, valueE}
-use Rattle.ember_algebra.proofs.QuadrantZ.{normal}
+use Rattle.ember_algebra.proofs.Vectors.{VectorE, TupleE, vector, tuple, identity, dotE, crossE, detE, minusE, normalE, vector_partE, valueE}
 use Rattle.ember_model.specs.declared.point.Corner.{Corner}
 use Rattle.ember_model.specs.declared.tri.Tri.{Tri}
 use Rattle.ember_model.specs.declared.plane.Plane.{Plane}
@@ -96,12 +93,6 @@ supportE a b c = throughE (crossE (minusE b a) (minusE c a)) a
 abbrev pub edgeE : VectorE → VectorE → VectorE → TupleE
 edgeE u v f = throughE (crossE (minusE v u) f) u
 
-abbrev pub frontE : TupleE → VectorE
-frontE p = record { x = p.x; y = p.y; z = p.z }
-
-abbrev pub normalE : VectorE → VectorE → VectorE → VectorE
-normalE u v w = plusE (plusE (crossE u v) (crossE v w)) (crossE w u)
-
 pub edge_value : (u v : Corner) (f : Vector) (p : Spot) → p.w *ℤ value_at (edge_through u v f) p ≡ neg_ℤ (dot f (cross (seen p u) (seen p v)))
 edge_value u v f p =
     identity (vector ∷ vector ∷ vector ∷ tuple ∷ []) (λ u v f p. p.w ⊗ valueE (edgeE u v f) p ≈ neg (dotE f (crossE (seenE p u) (seenE p v)))) cancels (vector_of u) (vector_of v) f (tuple_of p)
@@ -112,4 +103,4 @@ support_value t p =
 
 pub normal_value : (t : Tri) (f : Vector) (p : Spot) → dot f (normal (seen p t.a) (seen p t.b) (seen p t.c)) ≡ p.w *ℤ p.w *ℤ dot (normal_of (support_of t)) f
 normal_value t f p =
-    identity (vector ∷ vector ∷ vector ∷ tuple ∷ vector ∷ []) (λ a b c p f. dotE f (normalE (seenE p a) (seenE p b) (seenE p c)) ≈ p.w ⊗ p.w ⊗ dotE (frontE (supportE a b c)) f) cancels (vector_of t.a) (vector_of t.b) (vector_of t.c) (tuple_of p) f
+    identity (vector ∷ vector ∷ vector ∷ tuple ∷ vector ∷ []) (λ a b c p f. dotE f (normalE (seenE p a) (seenE p b) (seenE p c)) ≈ p.w ⊗ p.w ⊗ dotE (vector_partE (supportE a b c)) f) cancels (vector_of t.a) (vector_of t.b) (vector_of t.c) (tuple_of p) f

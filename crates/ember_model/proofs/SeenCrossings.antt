@@ -1,17 +1,17 @@
 -- The crossing of a triangle's face by the signs of its corners seen from the point: the main axis plays no part.
 use Rattle.std.proofs.Common.{◌≡◌, ◌≢◌, refl, sym, ap, ◌∙◌, arith, Bool, true, false, cond, not, T, ◌&&◌, [], ◌∷◌, ℤ, pos, negsuc, zero, suc, ◌+ℤ◌, ◌-ℤ◌, ◌*ℤ◌, neg_ℤ, ◌<ℤ◌, unsigned_abs, leb, ◌≤◌}
 use borrow.Author.Tests.{true-leb, false-leb}
-use Rattle.ember_algebra.specs.Vector.{Vector, dot, cross, det}
+use Rattle.ember_algebra.specs.Vector.{Vector, dot, cross, det, normal}
 use Rattle.ember_algebra.specs.declared.Sign.{Sign}
 use Rattle.ember_algebra.specs.declared.Sign.TheVariants.{Neg, Zero, Pos}
 use Rattle.ember_algebra.specs.Sign.{sign, sgn, number, flip, times, is_neg, is_nil, is_negative, same_sgn}
 use Rattle.ember_algebra.proofs.Laws.{linear}
 use Rattle.ember_algebra.proofs.Order.{by_sign, pos_mul}
 use Rattle.ember_algebra.proofs.Ring.{◌⊕◌, ◌⊖◌, ◌⊗◌, ◌≈◌, neg, solve, cancels}
-use Rattle.ember_algebra.proofs.Vectors.{vector, tuple, identity, dotE, crossE, valueE}
+use Rattle.ember_algebra.proofs.Vectors.{vector, tuple, identity, dotE, crossE, normalE, vector_partE, valueE}
 use Rattle.ember_algebra.proofs.Signs.{sgn-mul, sgn-neg, sgn_pos, sum3, sum3_from, not_null, signs, same_z, same_z_out, ◌⇒◌, use_if}
 use Rattle.ember_algebra.proofs.Quadrant.{crossing as sign_crossing}
-use Rattle.ember_algebra.proofs.QuadrantZ.{normal}
+use Rattle.ember_algebra.proofs.QuadrantLaw.{crossing_along}
 use Rattle.ember_model.specs.declared.tri.Tri.{Tri}
 use Rattle.ember_model.specs.declared.plane.Plane.{Plane}
 use Rattle.ember_model.specs.declared.point.Spot.{Spot}
@@ -21,22 +21,22 @@ use Rattle.ember_model.specs.Planes.{vector_of, unit, value_at, along, main_axis
 use Rattle.ember_model.specs.Faces.{hit, edges_of, face_of, crossing}
 use Rattle.ember_model.specs.ClearTest.{all_negative}
 use Rattle.ember_model.proofs.SignTests.{ap2, sgn_scaled, same_sgn_out, zero_scaled, negative_not}
-use Rattle.ember_model.proofs.PlaneValues.{value_times, value_hit, size-is, sign-number, sgn-sign, hit_flat, along_dot, normal_of, seen, tuple_of, seenE, supportE, edgeE, frontE, normalE, support_value, normal_value}
+use Rattle.ember_model.proofs.PlaneValues.{value_times, value_hit, size-is, sign-number, sgn-sign, hit_flat, along_dot, normal_of, seen, tuple_of, seenE, supportE, edgeE, support_value, normal_value}
 use Rattle.ember_model.proofs.Hits.{crossing_off, crossing_across}
 
 -- ---- an edge plane at the hit
 -- the identity behind it, for each of the three edges
 pub first_edge : (t : Tri) (p : Spot) (f g : Vector) → dot (normal_of (support_of t)) f *ℤ (p.w *ℤ value_at (edge_through t.a t.b g) p) -ℤ value_at (support_of t) p *ℤ (p.w *ℤ dot (normal_of (edge_through t.a t.b g)) f) ≡ neg_ℤ (dot (normal_of (support_of t)) g *ℤ dot f (cross (seen p t.a) (seen p t.b)))
 first_edge t p f g =
-    identity (vector ∷ vector ∷ vector ∷ tuple ∷ vector ∷ vector ∷ []) (λ a b c p f g. dotE (frontE (supportE a b c)) f ⊗ (p.w ⊗ valueE (edgeE a b g) p) ⊖ valueE (supportE a b c) p ⊗ (p.w ⊗ dotE (frontE (edgeE a b g)) f) ≈ neg (dotE (frontE (supportE a b c)) g ⊗ dotE f (crossE (seenE p a) (seenE p b)))) cancels (vector_of t.a) (vector_of t.b) (vector_of t.c) (tuple_of p) f g
+    identity (vector ∷ vector ∷ vector ∷ tuple ∷ vector ∷ vector ∷ []) (λ a b c p f g. dotE (vector_partE (supportE a b c)) f ⊗ (p.w ⊗ valueE (edgeE a b g) p) ⊖ valueE (supportE a b c) p ⊗ (p.w ⊗ dotE (vector_partE (edgeE a b g)) f) ≈ neg (dotE (vector_partE (supportE a b c)) g ⊗ dotE f (crossE (seenE p a) (seenE p b)))) cancels (vector_of t.a) (vector_of t.b) (vector_of t.c) (tuple_of p) f g
 
 pub second_edge : (t : Tri) (p : Spot) (f g : Vector) → dot (normal_of (support_of t)) f *ℤ (p.w *ℤ value_at (edge_through t.b t.c g) p) -ℤ value_at (support_of t) p *ℤ (p.w *ℤ dot (normal_of (edge_through t.b t.c g)) f) ≡ neg_ℤ (dot (normal_of (support_of t)) g *ℤ dot f (cross (seen p t.b) (seen p t.c)))
 second_edge t p f g =
-    identity (vector ∷ vector ∷ vector ∷ tuple ∷ vector ∷ vector ∷ []) (λ a b c p f g. dotE (frontE (supportE a b c)) f ⊗ (p.w ⊗ valueE (edgeE b c g) p) ⊖ valueE (supportE a b c) p ⊗ (p.w ⊗ dotE (frontE (edgeE b c g)) f) ≈ neg (dotE (frontE (supportE a b c)) g ⊗ dotE f (crossE (seenE p b) (seenE p c)))) cancels (vector_of t.a) (vector_of t.b) (vector_of t.c) (tuple_of p) f g
+    identity (vector ∷ vector ∷ vector ∷ tuple ∷ vector ∷ vector ∷ []) (λ a b c p f g. dotE (vector_partE (supportE a b c)) f ⊗ (p.w ⊗ valueE (edgeE b c g) p) ⊖ valueE (supportE a b c) p ⊗ (p.w ⊗ dotE (vector_partE (edgeE b c g)) f) ≈ neg (dotE (vector_partE (supportE a b c)) g ⊗ dotE f (crossE (seenE p b) (seenE p c)))) cancels (vector_of t.a) (vector_of t.b) (vector_of t.c) (tuple_of p) f g
 
 pub third_edge : (t : Tri) (p : Spot) (f g : Vector) → dot (normal_of (support_of t)) f *ℤ (p.w *ℤ value_at (edge_through t.c t.a g) p) -ℤ value_at (support_of t) p *ℤ (p.w *ℤ dot (normal_of (edge_through t.c t.a g)) f) ≡ neg_ℤ (dot (normal_of (support_of t)) g *ℤ dot f (cross (seen p t.c) (seen p t.a)))
 third_edge t p f g =
-    identity (vector ∷ vector ∷ vector ∷ tuple ∷ vector ∷ vector ∷ []) (λ a b c p f g. dotE (frontE (supportE a b c)) f ⊗ (p.w ⊗ valueE (edgeE c a g) p) ⊖ valueE (supportE a b c) p ⊗ (p.w ⊗ dotE (frontE (edgeE c a g)) f) ≈ neg (dotE (frontE (supportE a b c)) g ⊗ dotE f (crossE (seenE p c) (seenE p a)))) cancels (vector_of t.a) (vector_of t.b) (vector_of t.c) (tuple_of p) f g
+    identity (vector ∷ vector ∷ vector ∷ tuple ∷ vector ∷ vector ∷ []) (λ a b c p f g. dotE (vector_partE (supportE a b c)) f ⊗ (p.w ⊗ valueE (edgeE c a g) p) ⊖ valueE (supportE a b c) p ⊗ (p.w ⊗ dotE (vector_partE (edgeE c a g)) f) ≈ neg (dotE (vector_partE (supportE a b c)) g ⊗ dotE f (crossE (seenE p c) (seenE p a)))) cancels (vector_of t.a) (vector_of t.b) (vector_of t.c) (tuple_of p) f g
 
 -- the value of any plane q with that identity, times the weight
 at_hit : (n q : Plane) (p : Spot) (a k : Axis) (x : ℤ) → dot (normal_of n) (unit a) *ℤ (p.w *ℤ value_at q p) -ℤ value_at n p *ℤ (p.w *ℤ dot (normal_of q) (unit a)) ≡ neg_ℤ (dot (normal_of n) (unit k) *ℤ x) → p.w *ℤ value_at q (hit n a p) ≡ neg_ℤ (sign (along n a) *ℤ (along n k *ℤ x))
@@ -98,9 +98,7 @@ main_zero n k z =
 
 -- ---- the crossing along a direction, by the corners seen from the point
 abbrev pub seen_crossing : Vector → Spot → Tri → ℤ
-seen_crossing f p t =
-    let u = seen p t.a in let v = seen p t.b in let w = seen p t.c in
-    sign_crossing (sgn (det u v w)) (sgn (dot f (normal u v w))) (sgn (dot f (cross u v))) (sgn (dot f (cross v w))) (sgn (dot f (cross w u)))
+seen_crossing f p t = crossing_along f (seen p t.a) (seen p t.b) (seen p t.c)
 
 pub sum_of : (u v w f : Vector) → dot f (cross u v) +ℤ dot f (cross v w) +ℤ dot f (cross w u) ≡ dot f (normal u v w)
 sum_of = identity (vector ∷ vector ∷ vector ∷ vector ∷ []) (λ u v w f. dotE f (crossE u v) ⊕ dotE f (crossE v w) ⊕ dotE f (crossE w u) ≈ dotE f (normalE u v w)) cancels
