@@ -7,3 +7,6 @@ pub mod SeenCrossings
 pub mod FourSigns
 pub mod LastZero
 pub mod ClearPoints
+pub mod Following
+pub mod Legs
+pub mod Scaling

@@ -2,12 +2,11 @@
 ghost use Rattle.ember_algebra.specs.Size.{Small};
 ghost use Rattle.ember_model.specs.Valid.{IsValidCorner, IsValidTri, IsValidSpot};
 
-use std::test::Fail;
-
 use crate::{
-    clear, crossing, edge_plane, face_clear, face_crossing, face_of, main_axis, support_of, value,
-    Axis, Corner, Face, Lines, Plane, Planes, Scene, Soup, Spot, Tri, Tris, Vector,
+    Axis, Corner, Face, Lines, Plane, Planes, Scene, Soup, Spot, Tri, Tris, Vector, clear,
+    crossing, edge_plane, face_clear, face_crossing, face_of, main_axis, support_of, value,
 };
+use std::test::Fail;
 
 fn small(x: i32) -> i32
     ensures { Small 2047 result }
@@ -18,7 +17,11 @@ fn small(x: i32) -> i32
 fn corner(x: i32, y: i32, z: i32) -> Corner
     ensures { IsValidCorner result }
 {
-    Corner { x: small(x), y: small(y), z: small(z) }
+    Corner {
+        x: small(x),
+        y: small(y),
+        z: small(z),
+    }
 }
 
 fn tri(a: Corner, b: Corner, c: Corner) -> Tri
@@ -33,13 +36,21 @@ fn tri(a: Corner, b: Corner, c: Corner) -> Tri
 fn spot(x: i32, y: i32, z: i32, w: u8) -> Spot
     ensures { IsValidSpot result }
 {
-    Spot { x: i64::from(x), y: i64::from(y), z: i64::from(z), w: i64::from(w) + 1 }
+    Spot {
+        x: i64::from(x),
+        y: i64::from(y),
+        z: i64::from(z),
+        w: i64::from(w) + 1,
+    }
 }
 
 #[test]
 fn a_file_in_lines(rt: HostRuntime) -> Result<(), Fail> {
     let alloc = rt.alloc();
-    let soup = Soup::of(Tris::of(vec![in alloc; tetra(0)]?), Lines::of(vec![in alloc; 5]?));
+    let soup = Soup::of(
+        Tris::of(vec![in alloc; tetra(0)]?),
+        Lines::of(vec![in alloc; 5]?),
+    );
     assert_eq!(rt; soup.tris.items()[0], tetra(0));
     assert_eq!(rt; soup.lines.items()[0], 5);
     Ok(())
@@ -68,10 +79,30 @@ fn plane(a: i64, b: i64, c: i64, d: i64) -> Plane {
 // The support plane and the edge planes that the faces of the tetrahedron have.
 fn written(i: usize) -> [Plane; 4] {
     match i {
-        0 => [plane(0, 0, -1, 0), plane(-1, 0, 0, 0), plane(1, 1, 0, 1), plane(0, -1, 0, 0)],
-        1 => [plane(0, -1, 0, 0), plane(0, 0, -1, 0), plane(1, 0, 1, 1), plane(-1, 0, 0, 0)],
-        2 => [plane(-1, 0, 0, 0), plane(0, -1, 0, 0), plane(0, 1, 1, 1), plane(0, 0, -1, 0)],
-        _ => [plane(1, 1, 1, 1), plane(0, 0, -1, 0), plane(0, 1, 1, 1), plane(0, -1, 0, 0)],
+        0 => [
+            plane(0, 0, -1, 0),
+            plane(-1, 0, 0, 0),
+            plane(1, 1, 0, 1),
+            plane(0, -1, 0, 0),
+        ],
+        1 => [
+            plane(0, -1, 0, 0),
+            plane(0, 0, -1, 0),
+            plane(1, 0, 1, 1),
+            plane(-1, 0, 0, 0),
+        ],
+        2 => [
+            plane(-1, 0, 0, 0),
+            plane(0, -1, 0, 0),
+            plane(0, 1, 1, 1),
+            plane(0, 0, -1, 0),
+        ],
+        _ => [
+            plane(1, 1, 1, 1),
+            plane(0, 0, -1, 0),
+            plane(0, 1, 1, 1),
+            plane(0, -1, 0, 0),
+        ],
     }
 }
 
