@@ -8,3 +8,7 @@ pub mod Sizes
 pub mod Steps
 pub mod ClearTest
 pub mod Rays
+pub mod Owners
+pub mod Sides
+pub mod Edges
+pub mod FaceFiles
