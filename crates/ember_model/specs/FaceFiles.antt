@@ -1,12 +1,11 @@
 -- The text of faces, and the faces of a text
-use Rattle.std.specs.Prelude.{◌≡◌, ℕ, ◌≤◌, List, [], ◌∷◌, ◌++◌, All, map, flat_map, length, codes, decimal, ℤ, pos, ◌<ℤ◌, unsigned_abs}
+use Rattle.std.specs.Prelude.{◌≡◌, ℕ, ◌≤◌, List, [], ◌∷◌, ◌++◌, All, map, flat_map, length, codes, decimal, ℤ, pos, unsigned_abs}
 use Rattle.std.specs.Fmt.{signed_decimal}
 use Rattle.std.specs.Int.{◌∣◌}
-use Rattle.ember_algebra.specs.Size.{Small}
 use Rattle.ember_model.specs.declared.plane.Plane.{Plane}
 use Rattle.ember_model.specs.declared.point.Spot.{Spot}
 use Rattle.ember_model.specs.declared.face.Face.{Face}
-use Rattle.ember_model.specs.Valid.{IsValidPlane}
+use Rattle.ember_model.specs.Valid.{IsValidPlane, IsValidMeet}
 use Rattle.ember_model.specs.Edges.{RingEdge, IsOutline}
 
 -- a list of numbers, a space before each
@@ -45,13 +44,8 @@ pub record IsFaceText (f : Face) (bytes : List ℕ) : Type 0 where
   pub is : bytes ≡ face_lines f.support outline
 
 -- ---- reading
--- coordinates below 2^92 in size, the weight from 1 to below 2^78, in lowest terms
 pub record IsWrittenCorner (v : Spot) : Type 0 where
-  pub x : Small 4951760157141521099596496895 v.x
-  pub y : Small 4951760157141521099596496895 v.y
-  pub z : Small 4951760157141521099596496895 v.z
-  pub w : Small 302231454903657293676543 v.w
-  pub weight : pos 0 <ℤ v.w
+  pub valid : IsValidMeet v
   pub lowest : IsLowest v
 
 pub record IsWrittenEdge (e : RingEdge) : Type 0 where
