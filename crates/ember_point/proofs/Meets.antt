@@ -12,7 +12,7 @@ use Rattle.ember_model.specs.declared.point.Spot.{Spot}
 use Rattle.ember_model.specs.Planes.{value_at}
 use Rattle.ember_model.specs.Points.{scaled}
 use Rattle.ember_model.specs.Edges.{normal}
-use Rattle.ember_model.proofs.Tuples.{plane_tuple, normalE}
+use Rattle.ember_model.proofs.Tuples.{plane_tuple, normalE, same_spot}
 use Rattle.ember_point.specs.Points.{weight, determinants, meet_of}
 
 abbrev for_xE : TupleE → VectorE
@@ -74,9 +74,6 @@ once s a b e h = rw e (omega (arith, linear, h))
 
 turned : (s a b : ℤ) → s ≡ negsuc 0 → a ≡ b → pos 0 -ℤ a ≡ s *ℤ b
 turned s a b e h = rw e (omega (arith, linear, h))
-
-pub same_spot : {u v : Spot} → u.x ≡ v.x → u.y ≡ v.y → u.z ≡ v.z → u.w ≡ v.w → u ≡ v
-same_spot {u} {v} ex ey ez ew = λ i. record { x = ex i; y = ey i; z = ez i; w = ew i }
 
 abbrev pub same_as : Spot → Spot → Type 0
 same_as u v = u ≡ v

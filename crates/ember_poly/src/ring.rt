@@ -1,7 +1,14 @@
 // Rings: faces that keep their corners beside their edges.
+ghost use Rattle.std.specs.Prelude.{◌≡◌, None, Some, IfOk, if◌then◌else◌};
+ghost use Rattle.ember_model.specs.Valid.{IsValidCorner, IsValidTri};
+ghost use Rattle.ember_model.specs.Faces.{is_flat, face_of};
+ghost use Rattle.ember_model.specs.Owners.{spot_at};
+ghost use Rattle.ember_point.specs.Points.{spot_of};
+
 use ember_model::{Corner, OutOfMemory, Plane, Tri, face_of};
 use ember_point::Meet;
-use std::alloc::{AllocError, Global};
+use std::alloc::Global;
+use std::marker::Model;
 
 /// A convex face with its corners.
 #[derive(Drop)]
@@ -16,8 +23,21 @@ pub struct Ring {
     births: Vec<usize>,
 }
 
+impl Model for Ring {
+    ghost use Rattle.ember_model.specs.declared.face.Face.{Face};
+    ghost use Rattle.ember_poly.specs.Sides.{IsRing};
+
+    ghost Value = { Face };
+
+    ghost view = { λ r. record { support = r.support; edges = r.planes.items } };
+
+    ghost invariant = { λ r. IsRing r.support r.planes.items r.edges.items r.corners.items r.births.items };
+}
+
 // The corner as a point with the weight 1.
 fn at_corner(c: &Corner) -> Meet
+    requires { IsValidCorner c.now }
+    ensures { spot_of result ≡ spot_at c.now }
 {
     Meet {
         x: c.x as i128,
@@ -29,6 +49,8 @@ fn at_corner(c: &Corner) -> Meet
 
 /// The triangle's face, and `None` exactly where the triangle's normal is zero.
 pub fn of_tri(alloc: Global, t: &Tri) -> Result<Option<Ring>, OutOfMemory>
+    requires { IsValidTri t.now }
+    ensures { IfOk result (λ r. r ≡ (if is_flat t.now then None else Some (face_of t.now))) }
 {
     match face_of(alloc, t)? {
         None => Ok(None),
@@ -36,8 +58,10 @@ pub fn of_tri(alloc: Global, t: &Tri) -> Result<Option<Ring>, OutOfMemory>
             let support = face.support;
             let planes = face.edges.into_vec();
             let edges = Vec::from_slice(alloc, planes.as_slice())?;
-            let corners =
-                Vec::from_array(alloc, [at_corner(&t.a), at_corner(&t.b), at_corner(&t.c)])?;
+            let corners = Vec::from_array(
+                alloc,
+                [at_corner(&t.a), at_corner(&t.b), at_corner(&t.c)],
+            )?;
             let births = Vec::from_array(alloc, [0, 1, 2])?;
             Ok(Some(Ring {
                 support,
@@ -52,6 +76,7 @@ pub fn of_tri(alloc: Global, t: &Tri) -> Result<Option<Ring>, OutOfMemory>
 
 /// The same ring.
 pub fn copy(alloc: Global, r: &Ring) -> Result<Ring, OutOfMemory>
+    ensures { IfOk result (λ c. c ≡ r.now) }
 {
     let planes = Vec::from_slice(alloc, r.planes.as_slice())?;
     let edges = Vec::from_slice(alloc, r.edges.as_slice())?;
@@ -68,19 +93,18 @@ pub fn copy(alloc: Global, r: &Ring) -> Result<Ring, OutOfMemory>
 
 /// The support plane.
 pub fn support(r: &Ring) -> Plane
+    ensures { result ≡ (r.now).support }
 {
     r.support
 }
 
 /// The edge planes whose edges count, counter-clockwise seen from the front, the earliest plane
 /// first.
-pub fn edges(r: &Ring) -> &[Plane]
-{
+pub fn edges(r: &Ring) -> &[Plane] {
     &r.edges
 }
 
 /// The corners at which these edges start, in the same order.
-pub fn corners(r: &Ring) -> &[Meet]
-{
+pub fn corners(r: &Ring) -> &[Meet] {
     &r.corners
 }

@@ -8,7 +8,8 @@ use Rattle.ember_algebra.proofs.Order.{by_sign}
 use Rattle.ember_model.specs.Planes.{value_at}
 use Rattle.ember_algebra.specs.Size.{Small}
 use Rattle.ember_point.specs.Points.{weight, determinants, cross_of}
-use Rattle.ember_point.proofs.Meets.{on_first, on_second, on_third, x_is, y_is, z_is, w_is, plain_meet, turned_meet, same_spot}
+use Rattle.ember_model.proofs.Tuples.{same_spot}
+use Rattle.ember_point.proofs.Meets.{on_first, on_second, on_third, x_is, y_is, z_is, w_is, plain_meet, turned_meet}
 use Rattle.ember_point.proofs.meeting.meet.Goals as goal
 
 -- the three products that are added up, and a number turned round

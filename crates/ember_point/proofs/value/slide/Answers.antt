@@ -2,14 +2,12 @@ use mir.Syntax.{w32, w64}
 use Rattle.std.proofs.Common.{◌≡◌, refl}
 use Rattle.ember_algebra.proofs.Exact.{Code, input, stored, narrow, ◌⊠◌, ◌⊟◌, ◌&◌, done, exact, no_overflow}
 use Rattle.ember_model.specs.declared.plane.Plane.{Plane}
+use Rattle.ember_model.proofs.Tuples.{same_plane}
 use Rattle.ember_point.proofs.value.slide.Goals as goal
 
 -- d - a * at
 abbrev code : Code
 code = narrow 0 ⊟ stored w64 (narrow 1 ⊠ stored w64 (stored w32 (input 2)))
-
-same_plane : {u v : Plane} → u.a ≡ v.a → u.b ≡ v.b → u.c ≡ v.c → u.d ≡ v.d → u ≡ v
-same_plane {u} {v} ea eb ec ed = λ i. record { a = ea i; b = eb i; c = ec i; d = ed i }
 
 pub overflow_sub-result : goal.overflow_sub-result
 overflow_sub-result c = no_overflow (c.requires.plane.d & c.requires.plane.a & c.requires.place & done) w64 code tt

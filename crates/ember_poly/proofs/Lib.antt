@@ -1,0 +1,16 @@
+pub mod Chains
+pub mod Planar
+pub mod Slopes
+pub mod Lower
+pub mod Turns
+pub mod Hull
+pub mod Strict
+pub mod Inner
+pub mod Parted
+pub mod Face
+pub mod EdgeEnds
+pub mod Single
+pub mod Dropped
+pub mod Chord
+pub mod Triangle
+pub mod TriangleRing
