@@ -14,3 +14,5 @@ pub mod Dropped
 pub mod Chord
 pub mod Triangle
 pub mod TriangleRing
+pub mod FaceTests
+pub mod Outline

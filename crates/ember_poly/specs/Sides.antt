@@ -5,7 +5,7 @@ use Rattle.ember_model.specs.declared.plane.Plane.{Plane}
 use Rattle.ember_model.specs.declared.point.Spot.{Spot}
 use Rattle.ember_model.specs.Planes.{value_at}
 use Rattle.ember_model.specs.Valid.{IsValidPlane}
-use Rattle.ember_model.specs.Edges.{SamePlace}
+use Rattle.ember_model.specs.Edges.{SamePlace, RingEdge}
 use Rattle.ember_point.specs.declared.corner.Meet.{Meet}
 use Rattle.ember_point.specs.Points.{spot_of}
 use Rattle.ember_poly.specs.Rings.{Side, Closed, Stands}
@@ -46,3 +46,9 @@ pub record IsRing (n : Plane) (gs es : List Plane) (ms : List Meet) (bs : List �
   pub births : length bs ≡ length es
   pub support : IsValidPlane n
   pub planes : All IsValidPlane gs
+
+-- ---- the edges with their start corners
+abbrev pub ring_edges : List Plane → List Meet → List RingEdge
+ring_edges [] ms = []
+ring_edges (e ∷ es) [] = []
+ring_edges (e ∷ es) (m ∷ ms) = record { plane = e; start = spot_of m } ∷ ring_edges es ms
