@@ -15,4 +15,5 @@ pub mod Chord
 pub mod Triangle
 pub mod TriangleRing
 pub mod FaceTests
-pub mod Outline
+pub mod RingOutline
+pub mod Lent

@@ -3,9 +3,10 @@ use Rattle.std.specs.Prelude.{◌≡◌, ◌⊎◌, ℕ, ◌≤◌, List, [], �
 use Rattle.std.specs.List.{AllByRecursion}
 use Rattle.ember_model.specs.declared.plane.Plane.{Plane}
 use Rattle.ember_model.specs.declared.point.Spot.{Spot}
+use Rattle.ember_model.specs.declared.face.Face.{Face}
 use Rattle.ember_model.specs.Planes.{value_at}
 use Rattle.ember_model.specs.Valid.{IsValidPlane}
-use Rattle.ember_model.specs.Edges.{SamePlace, RingEdge}
+use Rattle.ember_model.specs.Edges.{SamePlace, RingEdge, IsOutline}
 use Rattle.ember_point.specs.declared.corner.Meet.{Meet}
 use Rattle.ember_point.specs.Points.{spot_of}
 use Rattle.ember_poly.specs.Rings.{Side, Closed, Stands}
@@ -52,3 +53,17 @@ abbrev pub ring_edges : List Plane → List Meet → List RingEdge
 ring_edges [] ms = []
 ring_edges (e ∷ es) [] = []
 ring_edges (e ∷ es) (m ∷ ms) = record { plane = e; start = spot_of m } ∷ ring_edges es ms
+
+-- the edge planes of the outline of f, in order
+pub record AreEdges (f : Face) (es : List Plane) : Type 0 where
+  pub starts : List Meet
+  pub outline : IsOutline f (ring_edges es starts)
+  pub paired : length starts ≡ length es
+  pub three : 3 ≤ length es
+
+-- the start corners of the outline of f, in order
+pub record AreCorners (f : Face) (ms : List Meet) : Type 0 where
+  pub planes : List Plane
+  pub outline : IsOutline f (ring_edges planes ms)
+  pub paired : length ms ≡ length planes
+  pub three : 3 ≤ length ms

@@ -3,4 +3,4 @@
 
 mod ring;
 
-pub use ring::{Ring, copy, corners, edges, of_tri, support};
+pub use ring::{Ring, copy, corners, edges, of_tri, outline, support};

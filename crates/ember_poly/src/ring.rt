@@ -1,9 +1,11 @@
 // Rings: faces that keep their corners beside their edges.
-ghost use Rattle.std.specs.Prelude.{◌≡◌, None, Some, IfOk, if◌then◌else◌};
-ghost use Rattle.ember_model.specs.Valid.{IsValidCorner, IsValidTri};
+ghost use Rattle.std.specs.Prelude.{◌≡◌, ◌≤◌, None, Some, IfOk, length, if◌then◌else◌};
+ghost use Rattle.ember_model.specs.Valid.{IsValidCorner, IsValidTri, IsValidPlane};
 ghost use Rattle.ember_model.specs.Faces.{is_flat, face_of};
 ghost use Rattle.ember_model.specs.Owners.{spot_at};
+ghost use Rattle.ember_model.specs.Edges.{IsOutline};
 ghost use Rattle.ember_point.specs.Points.{spot_of};
+ghost use Rattle.ember_poly.specs.Sides.{ring_edges, AreEdges, AreCorners};
 
 use ember_model::{Corner, OutOfMemory, Plane, Tri, face_of};
 use ember_point::Meet;
@@ -93,18 +95,32 @@ pub fn copy(alloc: Global, r: &Ring) -> Result<Ring, OutOfMemory>
 
 /// The support plane.
 pub fn support(r: &Ring) -> Plane
-    ensures { result ≡ (r.now).support }
+    ensures value { result ≡ (r.now).support }
+    ensures valid { IsValidPlane result }
 {
     r.support
 }
 
 /// The edge planes whose edges count, counter-clockwise seen from the front, the earliest plane
 /// first.
-pub fn edges(r: &Ring) -> &[Plane] {
+pub fn edges(r: &Ring) -> &[Plane]
+    ensures { AreEdges r.now result.now }
+{
     &r.edges
 }
 
 /// The corners at which these edges start, in the same order.
-pub fn corners(r: &Ring) -> &[Meet] {
+pub fn corners(r: &Ring) -> &[Meet]
+    ensures { AreCorners r.now result.now }
+{
     &r.corners
+}
+
+/// The edges that count, in order round the face, and the corners at which they start.
+pub fn outline(r: &Ring) -> (&[Plane], &[Meet])
+    ensures outline { IsOutline r.now (ring_edges result.0.now result.1.now) }
+    ensures paired { length result.1.now ≡ length result.0.now }
+    ensures three { 3 ≤ length result.0.now }
+{
+    (&r.edges, &r.corners)
 }

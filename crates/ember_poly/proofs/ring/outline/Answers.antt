@@ -1,0 +1,12 @@
+use Rattle.std.proofs.Common.{sym, ◌∙◌, subst, ◌≤◌, length, arith}
+use Rattle.ember_poly.proofs.Lent.{outline_of, lent_three}
+use Rattle.ember_poly.proofs.ring.outline.Goals as goal
+
+pub returns-clause-outline : goal.returns-clause-outline
+returns-clause-outline c = outline_of c.r.inside.support c.r.inside.planes.items c.r.inside.edges.items c.r.inside.corners.items c.r.inside.births.items c.r.invariant c.args.r.now (sym c.r.view_is) c.deref.ensures.value c.deref-2.ensures.value
+
+pub returns-clause-paired : goal.returns-clause-paired
+returns-clause-paired c = rw (c.deref.ensures.value, c.deref-2.ensures.value) c.r.invariant.corners
+
+pub returns-clause-three : goal.returns-clause-three
+returns-clause-three c = rw c.deref.ensures.value (lent_three c.r.inside.support c.r.inside.planes.items c.r.inside.edges.items c.r.inside.corners.items c.r.inside.births.items c.r.invariant)
