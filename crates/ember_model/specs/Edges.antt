@@ -1,5 +1,6 @@
 -- The edges of a face, in their order round it
-use Rattle.std.specs.Prelude.{◌≡◌, ℕ, ◌<◌, Bool, true, ◌&&◌, List, [], ◌∷◌, Some, slice_get, ℤ, ◌*ℤ◌, ◌<ℤ◌, ◌≤ℤ◌}
+use Rattle.std.specs.Prelude.{◌≡◌, ◌⊎◌, ℕ, ◌<◌, Bool, true, ◌&&◌, List, [], ◌∷◌, Some, slice_get, ℤ, ◌*ℤ◌, ◌<ℤ◌, ◌≤ℤ◌}
+use Rattle.std.specs.List.{AllByRecursion}
 use Rattle.ember_algebra.specs.Vector.{Vector}
 use Rattle.ember_algebra.specs.Vector.{dot, cross}
 use Rattle.ember_algebra.specs.Sign.{is_zero}
@@ -74,11 +75,14 @@ IsPath f end (e ∷ []) = IsEdge f e end
 IsPath f end (e ∷ d ∷ es) = IsEdge f e d.start × IsPath f end (d ∷ es)
 
 -- the edge of h is that of some member
-pub record IsAmong (f : Face) (h : Plane) (es : List RingEdge) : Type 0 where
-  pub place : ℕ
-  pub edge : RingEdge
-  pub here : slice_get es place ≡ Some edge
-  pub same : SameEdge f h edge.plane
+abbrev pub IsAmong : Face → Plane → List RingEdge → Type 0
+IsAmong f h [] = ⊥
+IsAmong f h (e ∷ es) = SameEdge f h e.plane ⊎ IsAmong f h es
+
+-- no two members have the same edge
+abbrev pub AreApart : Face → List RingEdge → Type 0
+AreApart f [] = Unit {0}
+AreApart f (e ∷ es) = AllByRecursion (λ d. SameEdge f e.plane d.plane → ⊥) es × AreApart f es
 
 -- all edges of f that count, once round, beginning with the one whose plane is the earliest
 pub record IsOutline (f : Face) (es : List RingEdge) : Type 0 where
@@ -88,4 +92,4 @@ pub record IsOutline (f : Face) (es : List RingEdge) : Type 0 where
   pub earliest : IsEarliest (λ h. Counts f h) f.edges first.plane
   pub round : IsPath f first.start es
   pub all : (i : ℕ) (h : Plane) → slice_get f.edges i ≡ Some h → Counts f h → IsAmong f h es
-  pub once : (i j : ℕ) (d e : RingEdge) → slice_get es i ≡ Some d → slice_get es j ≡ Some e → SameEdge f d.plane e.plane → i ≡ j
+  pub once : AreApart f es

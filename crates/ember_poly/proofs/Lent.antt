@@ -1,8 +1,6 @@
 -- What a ring's lists are: the outline of its face.
-use Rattle.std.proofs.Common.{◌≡◌, refl, sym, ap, subst, ◌∙◌, arith, ℕ, zero, suc, ◌+◌, ◌<◌, ◌≤◌, List, [], ◌∷◌, ◌++◌, length, All, Some, slice_get}
-use lib.ListN.{get_or}
+use Rattle.std.proofs.Common.{◌≡◌, refl, sym, ap, subst, ◌∙◌, arith, ℕ, zero, suc, ◌+◌, ◌<◌, ◌≤◌, List, [], ◌∷◌, ◌++◌, length, map, All}
 use Rattle.std.specs.List.{AllByRecursion}
-use Rattle.std.proofs.lemmas.Option.{slice_get-get_or}
 use Rattle.ember_model.specs.declared.plane.Plane.{Plane}
 use Rattle.ember_model.specs.declared.face.Face.{Face}
 use Rattle.ember_model.specs.Valid.{IsValidPlane}
@@ -11,6 +9,8 @@ use Rattle.ember_point.specs.declared.corner.Meet.{Meet}
 use Rattle.ember_point.specs.Points.{spot_of}
 use Rattle.ember_poly.specs.Rings.{Side, Sound, Long, Listed}
 use Rattle.ember_poly.specs.Sides.{sides_of, ring_edges, IsRing, AreEdges, AreCorners}
+use Rattle.ember_poly.proofs.Chains.{each_map}
+use Rattle.ember_poly.proofs.Face.{each_at}
 use Rattle.ember_poly.proofs.RingOutline.{edge_of, outline, ring_outline}
 
 outline-sides_of : (es : List Plane) (ms : List Meet) (bs : List ℕ) → length ms ≡ length es → length bs ≡ length es → outline (sides_of es ms bs) ≡ ring_edges es ms
@@ -19,6 +19,17 @@ outline-sides_of (e ∷ es) [] bs p q = absurd (omega (arith, p))
 outline-sides_of (e ∷ es) (m ∷ ms) [] p q = absurd (omega (arith, q))
 outline-sides_of (e ∷ es) (m ∷ ms) (b ∷ bs) p q =
     ap (λ zs. edge_of (record { plane = e; corner = spot_of m; birth = b }) ∷ zs) (outline-sides_of es ms bs (omega (arith, p)) (omega (arith, q)))
+
+planes-sides_of : (es : List Plane) (ms : List Meet) (bs : List ℕ) → length ms ≡ length es → length bs ≡ length es → map (λ (s : Side). s.plane) (sides_of es ms bs) ≡ es
+planes-sides_of [] ms bs p q = refl
+planes-sides_of (e ∷ es) [] bs p q = absurd (omega (arith, p))
+planes-sides_of (e ∷ es) (m ∷ ms) [] p q = absurd (omega (arith, q))
+planes-sides_of (e ∷ es) (m ∷ ms) (b ∷ bs) p q =
+    ap (λ zs. e ∷ zs) (planes-sides_of es ms bs (omega (arith, p)) (omega (arith, q)))
+
+each_plane : (xs : List Side) → AllByRecursion (λ s. IsValidPlane s.plane) xs → AllByRecursion IsValidPlane (map (λ (s : Side). s.plane) xs)
+each_plane [] h = tt
+each_plane (x ∷ xs) h = (h.0, each_plane xs h.1)
 
 length-sides_of : (es : List Plane) (ms : List Meet) (bs : List ℕ) → length ms ≡ length es → length bs ≡ length es → length (sides_of es ms bs) ≡ length es
 length-sides_of [] ms bs p q = refl
@@ -41,6 +52,9 @@ module _ (n : Plane) (gs es : List Plane) (ms : List Meet) (bs : List ℕ) (r : 
   pub lent_three : 3 ≤ length es
   lent_three =
       subst (λ k. 3 ≤ k) (length-sides_of es ms bs r.corners r.births) (sound_three n (sides_of es ms bs) r.stands.sound)
+
+  pub lent_valid : All IsValidPlane es
+  lent_valid = λ k d l. each_at IsValidPlane es k d l (subst (λ ps. AllByRecursion IsValidPlane ps) (planes-sides_of es ms bs r.corners r.births) (each_plane (sides_of es ms bs) (each_map (λ s. Listed gs s) (λ s. IsValidPlane s.plane) (sides_of es ms bs) (λ s l. subst IsValidPlane l.here (r.planes s.birth s.plane l.place)) r.stands.listed)))
 
 -- as the calls see the ring
 module _ (n : Plane) (gs es : List Plane) (ms : List Meet) (bs : List ℕ) (r : IsRing n gs es ms bs) (f : Face) (seen : f ≡ record { support = n; edges = gs }) where

@@ -10,7 +10,7 @@ use Rattle.ember_model.specs.declared.plane.Plane.{Plane}
 use Rattle.ember_model.specs.declared.point.Spot.{Spot}
 use Rattle.ember_model.specs.declared.face.Face.{Face}
 use Rattle.ember_model.specs.Planes.{value_at}
-use Rattle.ember_model.specs.Edges.{SamePlace, is_on_edge, Counts, SameEdge, IsEarliest, RingEdge, IsEdge, IsPath, IsAmong, IsOutline}
+use Rattle.ember_model.specs.Edges.{SamePlace, is_on_edge, Counts, SameEdge, IsEarliest, RingEdge, IsEdge, IsPath, IsAmong, AreApart, IsOutline}
 use Rattle.ember_poly.specs.Rings.{Side, Under, AtMost, Chain, Sound, Closed, Listed, Stands}
 use Rattle.ember_poly.specs.Sides.{OldestFirst, IsBorn, IsSingle, AllCounted}
 use Rattle.ember_poly.proofs.Chains.{each-front, each-back, each_map}
@@ -46,26 +46,6 @@ elsewhere P (y ∷ us) c ws zero x h k e = inl (subst P (by e) h.0)
     by e = cc
 elsewhere P (y ∷ us) c ws (suc i) x h k e =
     ⊎_elim (λ p. inl p) (λ q. inr (q.0, ap (λ n. suc n) q.1)) (elsewhere P us c ws i x h.1 k e)
-
--- the list around its member at a place
-pub record Around {X : Type 0} (xs : List X) (i : ℕ) (x : X) : Type 0 where
-  pub before : List X
-  pub behind : List X
-  pub split : xs ≡ before ++ x ∷ behind
-  pub place : length before ≡ i
-
-pub around : {X : Type 0} (xs : List X) (i : ℕ) (x : X) → slice_get xs i ≡ Some x → Around xs i x
-around [] i x e = absurd (by e)
-  where
-    by : {X : Type 0} {x : X} → None ≡ Some x → ⊥
-    by e = cc
-around (y ∷ xs) zero x e = record { before = []; behind = xs; split = ap (λ z. z ∷ xs) (by e); place = refl }
-  where
-    by : Some y ≡ Some x → y ≡ x
-    by e = cc
-around (y ∷ xs) (suc i) x e =
-    let a = around xs i x e in
-    record { before = y ∷ a.before; behind = a.behind; split = ap (λ zs. y ∷ zs) a.split; place = ap (λ n. suc n) a.place }
 
 abbrev head_or : Side → List Side → Side
 head_or c [] = c
@@ -119,33 +99,20 @@ edge_of s = record { plane = s.plane; start = s.corner }
 abbrev pub outline : List Side → List RingEdge
 outline xs = map edge_of xs
 
-get_edge : (xs : List Side) (i : ℕ) (s : Side) → slice_get xs i ≡ Some s → slice_get (outline xs) i ≡ Some (edge_of s)
-get_edge [] i s e = absurd (by e)
+each_outline : (P : RingEdge → Type 0) (xs : List Side) → AllByRecursion (λ s. P (edge_of s)) xs → AllByRecursion P (outline xs)
+each_outline P [] h = tt
+each_outline P (x ∷ xs) h = (h.0, each_outline P xs h.1)
+
+among_at : (f : Face) (h : Plane) (xs : List Side) (i : ℕ) (s : Side) → slice_get xs i ≡ Some s → SameEdge f h s.plane → IsAmong f h (outline xs)
+among_at f h [] i s e same = by e
   where
     by : None ≡ Some s → ⊥
     by e = cc
-get_edge (x ∷ xs) zero s e = by e
+among_at f h (x ∷ xs) zero s e same = inl (subst (λ (s : Side). SameEdge f h s.plane) (by e) same)
   where
-    by : Some x ≡ Some s → Some (edge_of x) ≡ Some (edge_of s)
+    by : Some x ≡ Some s → s ≡ x
     by e = cc
-get_edge (x ∷ xs) (suc i) s e = get_edge xs i s e
-
-record SideAt (xs : List Side) (i : ℕ) (e : RingEdge) : Type 0 where
-  pub side : Side
-  pub here : slice_get xs i ≡ Some side
-  pub is : e ≡ edge_of side
-
-side_at : (xs : List Side) (i : ℕ) (d : RingEdge) → slice_get (outline xs) i ≡ Some d → SideAt xs i d
-side_at [] i d e = absurd (by e)
-  where
-    by : None ≡ Some d → ⊥
-    by e = cc
-side_at (x ∷ xs) zero d e = record { side = x; here = refl; is = by e }
-  where
-    by : Some (edge_of x) ≡ Some d → d ≡ edge_of x
-    by e = cc
-side_at (x ∷ xs) (suc i) d e =
-    let s = side_at xs i d e in record { side = s.side; here = s.here; is = s.is }
+among_at f h (x ∷ xs) (suc i) s e same = inr (among_at f h xs i s e same)
 
 module _ (n : Plane) (gs : List Plane) (xs : List Side) (stands : Stands n gs xs) (counted : AllCounted n gs xs) where
   abbrev face : Face
@@ -298,18 +265,16 @@ module _ (n : Plane) (gs : List Plane) (xs : List Side) (stands : Stands n gs xs
         born : IsBorn i xs → IsAmong face h (outline xs)
         born b =
             let p : slice_get gs i ≡ Some b.side.plane = subst (λ k. slice_get gs k ≡ Some b.side.plane) b.birth (here_of b.at b.side b.here) in
-            record { place = b.at; edge = edge_of b.side; here = get_edge xs b.at b.side b.here; same = subst (λ p. SameEdge face h p) (one h b.side.plane (sym e ∙ p)) (λ v. refl) }
+            among_at face h xs b.at b.side b.here (subst (λ p. SameEdge face h p) (one h b.side.plane (sym e ∙ p)) (λ v. refl))
 
-    once : (i j : ℕ) (d e : RingEdge) → slice_get (outline xs) i ≡ Some d → slice_get (outline xs) j ≡ Some e → SameEdge face d.plane e.plane → i ≡ j
-    once i j d e ei ej same =
-        let s = side_at xs i d ei in let c = side_at xs j e ej in
-        let a = around xs j c.side c.here in
-        let o = only a.before c.side a.behind a.split i s.side s.here (subst (λ (e : RingEdge). SameEdge face s.side.plane e.plane) c.is (subst (λ (d : RingEdge). SameEdge face d.plane e.plane) s.is same)) in
-        o.1 ∙ a.place
+    once : (us zs : List Side) → xs ≡ us ++ zs → AreApart face (outline zs)
+    once us [] e = tt
+    once us (c ∷ ws) e =
+        (each_outline (λ d. SameEdge face c.plane d.plane → ⊥) ws (each_map (λ s. Under s.plane c.corner ⊎ Under s.plane (end us c ws e)) (λ s. SameEdge face c.plane s.plane → ⊥) ws (λ s u same. other_edge us c ws e s u (λ v. sym (same v))) (each-front (λ s. Under s.plane c.corner ⊎ Under s.plane (end us c ws e)) ws us (apart us c ws e))), once (us ++ c ∷ []) ws (e ∙ sym (append_assoc us (c ∷ []) ws)))
 
     is_outline : IsOutline face (outline xs)
     is_outline =
-        record { first = edge_of first; rest = outline rest; begins = ap (λ zs. outline zs) begins; earliest = earliest; round = path [] xs refl; all = among; once = once }
+        record { first = edge_of first; rest = outline rest; begins = ap (λ zs. outline zs) begins; earliest = earliest; round = path [] xs refl; all = among; once = once [] xs refl }
 
 pub sound_begins : (n : Plane) (xs : List Side) → Sound n xs → (first : Side) × (rest : List Side) × (xs ≡ first ∷ rest)
 sound_begins n [] h = absurd h

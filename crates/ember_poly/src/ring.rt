@@ -1,5 +1,5 @@
 // Rings: faces that keep their corners beside their edges.
-ghost use Rattle.std.specs.Prelude.{◌≡◌, ◌≤◌, None, Some, IfOk, length, if◌then◌else◌};
+ghost use Rattle.std.specs.Prelude.{◌≡◌, ◌≤◌, None, Some, IfOk, length, All, if◌then◌else◌};
 ghost use Rattle.ember_model.specs.Valid.{IsValidCorner, IsValidTri, IsValidPlane};
 ghost use Rattle.ember_model.specs.Faces.{is_flat, face_of};
 ghost use Rattle.ember_model.specs.Owners.{spot_at};
@@ -121,6 +121,7 @@ pub fn outline(r: &Ring) -> (&[Plane], &[Meet])
     ensures outline { IsOutline r.now (ring_edges result.0.now result.1.now) }
     ensures paired { length result.1.now ≡ length result.0.now }
     ensures three { 3 ≤ length result.0.now }
+    ensures valid { All IsValidPlane result.0.now }
 {
     (&r.edges, &r.corners)
 }

@@ -1,5 +1,6 @@
-use Rattle.std.proofs.Common.{sym, ◌∙◌, subst, ◌≤◌, length, arith}
-use Rattle.ember_poly.proofs.Lent.{outline_of, lent_three}
+use Rattle.std.proofs.Common.{sym, ◌∙◌, subst, ◌≤◌, length, arith, All}
+use Rattle.ember_model.specs.Valid.{IsValidPlane}
+use Rattle.ember_poly.proofs.Lent.{outline_of, lent_three, lent_valid}
 use Rattle.ember_poly.proofs.ring.outline.Goals as goal
 
 pub returns-clause-outline : goal.returns-clause-outline
@@ -10,3 +11,6 @@ returns-clause-paired c = rw (c.deref.ensures.value, c.deref-2.ensures.value) c.
 
 pub returns-clause-three : goal.returns-clause-three
 returns-clause-three c = rw c.deref.ensures.value (lent_three c.r.inside.support c.r.inside.planes.items c.r.inside.edges.items c.r.inside.corners.items c.r.inside.births.items c.r.invariant)
+
+pub returns-clause-valid : goal.returns-clause-valid
+returns-clause-valid c = rw c.deref.ensures.value (lent_valid c.r.inside.support c.r.inside.planes.items c.r.inside.edges.items c.r.inside.corners.items c.r.inside.births.items c.r.invariant)
