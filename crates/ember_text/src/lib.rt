@@ -1,9 +1,10 @@
 //! The text of faces.
 #![tactic(auto)]
 
-mod text;
+mod face;
+mod line;
 
-pub use text::face_text;
+pub use face::face_text;
 
 #[cfg(test)]
 mod tests;

@@ -1,0 +1,91 @@
+// Lines of numbers, and the lines of a face.
+ghost use Rattle.std.specs.Prelude.{◌≡◌, [], ◌∷◌, ◌++◌, length, flat_map, codes, All, OnOk, OnErr};
+ghost use Rattle.std.specs.Fmt.{signed_decimal};
+ghost use Rattle.ember_model.specs.Valid.{IsValidPlane};
+ghost use Rattle.ember_model.specs.FaceFiles.{line_of, edge_line, face_lines};
+ghost use Rattle.ember_point.specs.Points.{spot_of};
+ghost use Rattle.ember_poly.specs.Sides.{ring_edges};
+ghost use Rattle.ember_text.specs.Texts.{IsBegun};
+
+use ember_model::{OutOfMemory, Plane};
+use ember_point::Meet;
+use itoa::Buffer;
+
+// A space and the number.
+fn put_number(n: i128, out: &mut Vec<u8>) -> Result<(), OutOfMemory>
+    ensures ok { OnOk result (out.new.items ≡ out.old.items ++ (codes " " ++ signed_decimal n)) }
+    ensures err { OnErr result (IsBegun out.old.items (codes " " ++ signed_decimal n) out.new.items) }
+{
+    let mut buffer = Buffer::new();
+    out.push(b' ')?;
+    out.extend_from_slice(buffer.format(n).as_bytes())
+}
+
+// The keyword and the numbers.
+fn put_line(keyword: u8, numbers: &[i128], out: &mut Vec<u8>) -> Result<(), OutOfMemory>
+    ensures ok { OnOk result (out.new.items ≡ out.old.items ++ line_of (keyword ∷ []) numbers.now) }
+    ensures err { OnErr result (IsBegun out.old.items (line_of (keyword ∷ []) numbers.now) out.new.items) }
+{
+    out.push(keyword)?;
+    for n in numbers {
+        put_number(*n, out)?;
+    }
+    out.push(b'\n')?;
+    Ok(())
+}
+
+// The line of an edge.
+fn put_edge(edge: &Plane, start: &Meet, out: &mut Vec<u8>) -> Result<(), OutOfMemory>
+    requires { IsValidPlane edge.now }
+    ensures ok { OnOk result (out.new.items ≡ out.old.items ++ edge_line (record { plane = edge.now; start = spot_of start.now })) }
+    ensures err { OnErr result (IsBegun out.old.items (edge_line (record { plane = edge.now; start = spot_of start.now })) out.new.items) }
+{
+    let numbers = [
+        edge.a as i128,
+        edge.b as i128,
+        edge.c as i128,
+        edge.d as i128,
+        start.x,
+        start.y,
+        start.z,
+        start.w,
+    ];
+    put_line(b'e', &numbers, out)
+}
+
+// The lines of all edges, in order.
+fn put_edges(edges: &[Plane], starts: &[Meet], out: &mut Vec<u8>) -> Result<(), OutOfMemory>
+    requires paired { length starts.now ≡ length edges.now }
+    requires valid { All IsValidPlane edges.now }
+    ensures ok { OnOk result (out.new.items ≡ out.old.items ++ flat_map edge_line (ring_edges edges.now starts.now)) }
+    ensures err { OnErr result (IsBegun out.old.items (flat_map edge_line (ring_edges edges.now starts.now)) out.new.items) }
+{
+    for i in 0..edges.len() {
+        put_edge(&edges[i], &starts[i], out)?;
+    }
+    Ok(())
+}
+
+/// Appends the lines of a face with these edges, which start at these corners.
+pub fn put_face(
+    n: &Plane,
+    edges: &[Plane],
+    starts: &[Meet],
+    out: &mut Vec<u8>,
+) -> Result<(), OutOfMemory>
+    requires paired { length starts.now ≡ length edges.now }
+    requires support { IsValidPlane n.now }
+    requires valid { All IsValidPlane edges.now }
+    ensures ok { OnOk result (out.new.items ≡ out.old.items ++ face_lines n.now (ring_edges edges.now starts.now)) }
+    ensures err { OnErr result (IsBegun out.old.items (face_lines n.now (ring_edges edges.now starts.now)) out.new.items) }
+{
+    let numbers = [
+        n.a as i128,
+        n.b as i128,
+        n.c as i128,
+        n.d as i128,
+        edges.len() as i128,
+    ];
+    put_line(b'f', &numbers, out)?;
+    put_edges(edges, starts, out)
+}
