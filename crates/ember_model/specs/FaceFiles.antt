@@ -20,10 +20,13 @@ abbrev pub edge_line : RingEdge → List ℕ
 edge_line e =
     line_of (codes "e") (e.plane.a ∷ e.plane.b ∷ e.plane.c ∷ e.plane.d ∷ e.start.x ∷ e.start.y ∷ e.start.z ∷ e.start.w ∷ [])
 
--- the lines of a face: its support plane and the number of its edges, and then the edges
+-- the line of a support plane and the number of edges
+abbrev pub support_line : Plane → ℕ → List ℕ
+support_line n count = line_of (codes "f") (n.a ∷ n.b ∷ n.c ∷ n.d ∷ pos count ∷ [])
+
+-- the lines of a face
 abbrev pub face_lines : Plane → List RingEdge → List ℕ
-face_lines n es =
-    line_of (codes "f") (n.a ∷ n.b ∷ n.c ∷ n.d ∷ pos (length es) ∷ []) ++ flat_map edge_line es
+face_lines n es = support_line n (length es) ++ flat_map edge_line es
 
 abbrev pub header : List ℕ
 header = codes "ember 1\n"

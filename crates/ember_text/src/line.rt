@@ -2,7 +2,7 @@
 ghost use Rattle.std.specs.Prelude.{◌≡◌, [], ◌∷◌, ◌++◌, length, flat_map, codes, All, OnOk, OnErr};
 ghost use Rattle.std.specs.Fmt.{signed_decimal};
 ghost use Rattle.ember_model.specs.Valid.{IsValidPlane};
-ghost use Rattle.ember_model.specs.FaceFiles.{line_of, edge_line, face_lines};
+ghost use Rattle.ember_model.specs.FaceFiles.{line_of, support_line, edge_line, face_lines};
 ghost use Rattle.ember_point.specs.Points.{spot_of};
 ghost use Rattle.ember_poly.specs.Sides.{ring_edges};
 ghost use Rattle.ember_text.specs.Texts.{IsBegun};
@@ -12,13 +12,13 @@ use ember_point::Meet;
 use itoa::Buffer;
 
 // A space and the number.
-fn put_number(n: i128, out: &mut Vec<u8>) -> Result<(), OutOfMemory>
-    ensures ok { OnOk result (out.new.items ≡ out.old.items ++ (codes " " ++ signed_decimal n)) }
-    ensures err { OnErr result (IsBegun out.old.items (codes " " ++ signed_decimal n) out.new.items) }
+fn put_number(n: &i128, out: &mut Vec<u8>) -> Result<(), OutOfMemory>
+    ensures ok { OnOk result (out.new.items ≡ out.old.items ++ (codes " " ++ signed_decimal n.now)) }
+    ensures err { OnErr result (IsBegun out.old.items (codes " " ++ signed_decimal n.now) out.new.items) }
 {
     let mut buffer = Buffer::new();
     out.push(b' ')?;
-    out.extend_from_slice(buffer.format(n).as_bytes())
+    out.extend_from_slice(buffer.format(*n).as_bytes())
 }
 
 // The keyword and the numbers.
@@ -28,7 +28,7 @@ fn put_line(keyword: u8, numbers: &[i128], out: &mut Vec<u8>) -> Result<(), OutO
 {
     out.push(keyword)?;
     for n in numbers {
-        put_number(*n, out)?;
+        put_number(n, out)?;
     }
     out.push(b'\n')?;
     Ok(())
@@ -51,6 +51,22 @@ fn put_edge(edge: &Plane, start: &Meet, out: &mut Vec<u8>) -> Result<(), OutOfMe
         start.w,
     ];
     put_line(b'e', &numbers, out)
+}
+
+// The line of a support plane and the number of edges.
+fn put_support(n: &Plane, count: usize, out: &mut Vec<u8>) -> Result<(), OutOfMemory>
+    requires { IsValidPlane n.now }
+    ensures ok { OnOk result (out.new.items ≡ out.old.items ++ support_line n.now count) }
+    ensures err { OnErr result (IsBegun out.old.items (support_line n.now count) out.new.items) }
+{
+    let numbers = [
+        n.a as i128,
+        n.b as i128,
+        n.c as i128,
+        n.d as i128,
+        count as i128,
+    ];
+    put_line(b'f', &numbers, out)
 }
 
 // The lines of all edges, in order.
@@ -79,13 +95,6 @@ pub fn put_face(
     ensures ok { OnOk result (out.new.items ≡ out.old.items ++ face_lines n.now (ring_edges edges.now starts.now)) }
     ensures err { OnErr result (IsBegun out.old.items (face_lines n.now (ring_edges edges.now starts.now)) out.new.items) }
 {
-    let numbers = [
-        n.a as i128,
-        n.b as i128,
-        n.c as i128,
-        n.d as i128,
-        edges.len() as i128,
-    ];
-    put_line(b'f', &numbers, out)?;
+    put_support(n, edges.len(), out)?;
     put_edges(edges, starts, out)
 }
