@@ -115,7 +115,7 @@ leads t s v w a b d pt ps pv pa eb e =
     none : d ≡ pos 0 → s *ℤ d ≡ pos 0
     none q = rw q (solve 1 (λ s. s ⊗ num (pos 0) ≈ num (pos 0)) cancels s)
 
-reach : (n g : Plane) (v : Spot) → reach_along n g v ≡ value_at (along n g) v
+pub reach : (n g : Plane) (v : Spot) → reach_along n g v ≡ value_at (along n g) v
 reach n g v =
     identity (tuple ∷ tuple ∷ tuple ∷ []) (λ n g v. dotE (crossE (normalE n) (normalE g)) (normalE v) ≈ valueE (alongE n g) v) cancels (plane_tuple n) (plane_tuple g) (spot_tuple v)
 

@@ -17,3 +17,5 @@ pub mod TriangleRing
 pub mod FaceTests
 pub mod RingOutline
 pub mod Lent
+pub mod MovedOutline
+pub mod TurnedOutline

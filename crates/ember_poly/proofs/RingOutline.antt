@@ -79,7 +79,7 @@ begin n us c ws s = by (ws ++ us) (turned_by n us (c ∷ ws) s) (λ P e. each-tu
         third l.last l.front (turned_by n (c ∷ l.front) (l.last ∷ []) (subst (λ zs. Sound n (c ∷ zs)) l.split s)) (λ P a. each-turned P (c ∷ l.front) (l.last ∷ []) (subst (λ zs. AllByRecursion P (c ∷ zs)) l.split (m P a))) (λ P a. r P (subst (λ zs. AllByRecursion P zs) (sym l.split) (each-turned P (l.last ∷ []) l.front a))) (e ∙ front_head y ys l.front l.last l.split)
 
 -- ---- one place has one sign
-same_value : {u v : Spot} → SamePlace u v → (e : Plane) → v.w *ℤ value_at e u ≡ u.w *ℤ value_at e v
+pub same_value : {u v : Spot} → SamePlace u v → (e : Plane) → v.w *ℤ value_at e u ≡ u.w *ℤ value_at e v
 same_value {u} {v} s e =
     solve 9 (λ a b c d x y z w k. k ⊗ (a ⊗ x ⊕ b ⊗ y ⊕ c ⊗ z ⊖ d ⊗ w) ≈ a ⊗ (k ⊗ x) ⊕ b ⊗ (k ⊗ y) ⊕ c ⊗ (k ⊗ z) ⊖ d ⊗ (k ⊗ w)) cancels e.a e.b e.c e.d u.x u.y u.z u.w v.w ∙ rw (s.x, s.y, s.z) (solve 9 (λ a b c d x y z w k. a ⊗ (k ⊗ x) ⊕ b ⊗ (k ⊗ y) ⊕ c ⊗ (k ⊗ z) ⊖ d ⊗ (w ⊗ k) ≈ k ⊗ (a ⊗ x ⊕ b ⊗ y ⊕ c ⊗ z ⊖ d ⊗ w)) cancels e.a e.b e.c e.d v.x v.y v.z v.w u.w)
 
