@@ -15,7 +15,7 @@ length-ring_edges [] ms p = refl
 length-ring_edges (e ∷ es) [] p = absurd (omega (arith, p))
 length-ring_edges (e ∷ es) (m ∷ ms) p = ap (λ n. suc n) (length-ring_edges es ms (omega (arith, p)))
 
-abbrev edge_with : Plane → Meet → RingEdge
+abbrev pub edge_with : Plane → Meet → RingEdge
 edge_with e u = record { plane = e; start = spot_of u }
 
 abbrev pub zero_plane : Plane
