@@ -1,5 +1,5 @@
 -- The tests of a face's points, and the same as facts on each plane.
-use Rattle.std.proofs.Common.{◌≡◌, refl, ap, ◌∙◌, Bool, true, not, ◌&&◌, List, [], ◌∷◌, ℤ, pos}
+use Rattle.std.proofs.Common.{◌≡◌, refl, ap, Bool, true, not, ◌&&◌, List, [], ◌∷◌, ℤ, pos}
 use Rattle.std.specs.List.{list_all, AllByRecursion}
 use Rattle.ember_algebra.specs.Sign.{is_zero, is_positive}
 use Rattle.ember_model.specs.declared.plane.Plane.{Plane}

@@ -1,5 +1,5 @@
 -- What a ring's lists are: the outline of its face.
-use Rattle.std.proofs.Common.{◌≡◌, refl, sym, ap, subst, ◌∙◌, arith, ℕ, zero, suc, ◌+◌, ◌<◌, ◌≤◌, List, [], ◌∷◌, ◌++◌, length, map, All}
+use Rattle.std.proofs.Common.{◌≡◌, refl, ap, subst, arith, ℕ, suc, ◌≤◌, List, [], ◌∷◌, length, map, All}
 use Rattle.std.specs.List.{AllByRecursion}
 use Rattle.ember_model.specs.declared.plane.Plane.{Plane}
 use Rattle.ember_model.specs.declared.face.Face.{Face}
@@ -7,7 +7,7 @@ use Rattle.ember_model.specs.Valid.{IsValidPlane}
 use Rattle.ember_model.specs.Edges.{IsOutline}
 use Rattle.ember_point.specs.declared.corner.Meet.{Meet}
 use Rattle.ember_point.specs.Points.{spot_of}
-use Rattle.ember_poly.specs.Rings.{Side, Sound, Long, Listed}
+use Rattle.ember_poly.specs.Rings.{Side, Sound, Listed}
 use Rattle.ember_poly.specs.Sides.{sides_of, ring_edges, IsRing, AreEdges, AreCorners}
 use Rattle.ember_poly.proofs.Chains.{each_map}
 use Rattle.ember_poly.proofs.Face.{each_at}

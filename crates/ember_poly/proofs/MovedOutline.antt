@@ -1,9 +1,9 @@
 -- An outline with each start corner written by other numbers of the same point.
-use Rattle.std.proofs.Common.{◌≡◌, inl, inr, refl, sym, ap, subst, ◌∙◌, arith, Bool, true, List, [], ◌∷◌, ℤ, pos, ◌+ℤ◌, ◌-ℤ◌, ◌*ℤ◌, neg_ℤ, ◌<ℤ◌, ◌≤ℤ◌}
+use Rattle.std.proofs.Common.{◌≡◌, inl, inr, refl, sym, ap, subst, ◌∙◌, arith, true, List, [], ◌∷◌, ℤ, pos, ◌*ℤ◌, ◌<ℤ◌, ◌≤ℤ◌}
 use Rattle.std.specs.List.{AllByRecursion}
 use Rattle.ember_algebra.proofs.Laws.{linear}
-use Rattle.ember_algebra.proofs.Ring.{◌⊕◌, ◌⊖◌, ◌⊗◌, ◌≈◌, num, solve, cancels}
-use Rattle.ember_algebra.proofs.Order.{pos_mul, nonneg_mul, mul_lt, mul_le, cancel_lt, cancel_le, cancel_eq}
+use Rattle.ember_algebra.proofs.Ring.{◌⊗◌, ◌≈◌, num, solve, cancels}
+use Rattle.ember_algebra.proofs.Order.{pos_mul, mul_lt, mul_le, cancel_lt, cancel_le, cancel_eq}
 use Rattle.ember_model.specs.declared.plane.Plane.{Plane}
 use Rattle.ember_model.specs.declared.point.Spot.{Spot}
 use Rattle.ember_model.specs.declared.face.Face.{Face}
@@ -13,7 +13,7 @@ use Rattle.ember_poly.specs.Rings.{AtMost, along}
 use Rattle.ember_poly.proofs.Chains.{each_map}
 use Rattle.ember_poly.proofs.Lower.{not_zero}
 use Rattle.ember_poly.proofs.EdgeEnds.{reach}
-use Rattle.ember_poly.proofs.FaceTests.{edge_in, edge_out, OnEdge}
+use Rattle.ember_poly.proofs.FaceTests.{edge_in, edge_out}
 use Rattle.ember_poly.proofs.RingOutline.{same_value}
 
 -- ---- numbers

@@ -1,5 +1,5 @@
 -- The sides of a ring are the outline of its face.
-use Rattle.std.proofs.Common.{◌≡◌, ◌⊎◌, inl, inr, ⊎_elim, refl, sym, ap, subst, ◌∙◌, arith, ℕ, zero, suc, ◌+◌, ◌<◌, ◌≤◌, Option, Some, None, Bool, true, List, [], ◌∷◌, ◌++◌, length, map, slice_get, ℤ, pos, ◌-ℤ◌, ◌+ℤ◌, ◌*ℤ◌, ◌<ℤ◌}
+use Rattle.std.proofs.Common.{◌≡◌, ◌⊎◌, inl, inr, ⊎_elim, refl, sym, ap, subst, ◌∙◌, arith, ℕ, zero, suc, ◌<◌, ◌≤◌, Some, None, true, List, [], ◌∷◌, ◌++◌, length, map, slice_get, ℤ, pos, ◌*ℤ◌, ◌<ℤ◌}
 use Rattle.std.specs.List.{AllByRecursion}
 use Rattle.std.proofs.lemmas.Option.{slice_get-get_or}
 use Rattle.std.proofs.lemmas.List.{append_assoc}
@@ -11,15 +11,15 @@ use Rattle.ember_model.specs.declared.point.Spot.{Spot}
 use Rattle.ember_model.specs.declared.face.Face.{Face}
 use Rattle.ember_model.specs.Planes.{value_at}
 use Rattle.ember_model.specs.Edges.{SamePlace, is_on_edge, Counts, SameEdge, IsEarliest, RingEdge, IsEdge, IsPath, IsAmong, AreApart, IsOutline}
-use Rattle.ember_poly.specs.Rings.{Side, Under, AtMost, Chain, Sound, Closed, Listed, Stands}
+use Rattle.ember_poly.specs.Rings.{Side, Under, AtMost, Sound, Closed, Listed, Stands}
 use Rattle.ember_poly.specs.Sides.{OldestFirst, IsBorn, IsSingle, AllCounted}
 use Rattle.ember_poly.proofs.Chains.{each-front, each-back, each_map}
-use Rattle.ember_poly.proofs.Turns.{turned_by, each-turned, each-join}
-use Rattle.ember_poly.proofs.Hull.{closed_turned, last_of}
+use Rattle.ember_poly.proofs.Turns.{turned_by, each-turned}
+use Rattle.ember_poly.proofs.Hull.{last_of}
 use Rattle.ember_poly.proofs.Inner.{corner_closed}
 use Rattle.ember_poly.proofs.Face.{closed_from_face, face_from_closed}
 use Rattle.ember_poly.proofs.EdgeEnds.{edge_start, edge_end, edge_leads, not_after}
-use Rattle.ember_poly.proofs.FaceTests.{edge_in, edge_out, OnEdge}
+use Rattle.ember_poly.proofs.FaceTests.{edge_in, edge_out}
 
 -- ---- members of lists
 pub each_get : {X : Type 0} (P : X → Type 0) (xs : List X) (i : ℕ) (x : X) → AllByRecursion P xs → slice_get xs i ≡ Some x → P x

@@ -1,9 +1,9 @@
 -- The outline of a face seen from the other side.
-use Rattle.std.proofs.Common.{◌≡◌, ◌⊎◌, inl, inr, refl, sym, ap, subst, ◌∙◌, arith, Bool, true, not, ◌&&◌, List, [], ◌∷◌, ◌++◌, zero, suc, ℤ, pos, negsuc, ◌+ℤ◌, ◌-ℤ◌, ◌*ℤ◌, neg_ℤ, ◌<ℤ◌, ◌≤ℤ◌}
+use Rattle.std.proofs.Common.{◌≡◌, inl, inr, refl, sym, ap, subst, ◌∙◌, arith, not, ◌&&◌, List, [], ◌∷◌, ◌++◌, zero, suc, ℤ, pos, negsuc, ◌*ℤ◌, neg_ℤ, ◌<ℤ◌, ◌≤ℤ◌}
 use Rattle.std.specs.List.{AllByRecursion, list_all}
 use Rattle.ember_algebra.specs.Sign.{is_zero, is_positive}
 use Rattle.ember_algebra.proofs.Laws.{linear}
-use Rattle.ember_algebra.proofs.Ring.{◌⊖◌, ◌⊗◌, neg, num, ◌≈◌, solve, cancels}
+use Rattle.ember_algebra.proofs.Ring.{◌⊗◌, neg, ◌≈◌, solve, cancels}
 use Rattle.ember_algebra.proofs.Vectors.{tuple, identity, dotE, crossE, TupleE}
 use Rattle.ember_model.specs.declared.plane.Plane.{Plane}
 use Rattle.ember_model.specs.declared.point.Spot.{Spot}

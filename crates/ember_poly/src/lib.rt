@@ -4,3 +4,6 @@
 mod ring;
 
 pub use ring::{Ring, copy, corners, edges, of_tri, outline, support};
+
+#[cfg(test)]
+mod tests;

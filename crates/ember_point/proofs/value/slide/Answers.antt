@@ -1,7 +1,6 @@
 use mir.Syntax.{w32, w64}
-use Rattle.std.proofs.Common.{◌≡◌, refl}
+use Rattle.std.proofs.Common.{refl}
 use Rattle.ember_algebra.proofs.Exact.{Code, input, stored, narrow, ◌⊠◌, ◌⊟◌, ◌&◌, done, exact, no_overflow}
-use Rattle.ember_model.specs.declared.plane.Plane.{Plane}
 use Rattle.ember_model.proofs.Tuples.{same_plane}
 use Rattle.ember_point.proofs.value.slide.Goals as goal
 

@@ -1,4 +1,4 @@
-use Rattle.std.proofs.Common.{sym, ◌∙◌, subst, ◌≤◌, length, arith}
+use Rattle.std.proofs.Common.{sym}
 use Rattle.ember_poly.proofs.Lent.{are_corners}
 use Rattle.ember_poly.proofs.ring.corners.Goals as goal
 

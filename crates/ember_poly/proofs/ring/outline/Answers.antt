@@ -1,5 +1,4 @@
-use Rattle.std.proofs.Common.{sym, ◌∙◌, subst, ◌≤◌, length, arith, All}
-use Rattle.ember_model.specs.Valid.{IsValidPlane}
+use Rattle.std.proofs.Common.{sym}
 use Rattle.ember_poly.proofs.Lent.{outline_of, lent_three, lent_valid}
 use Rattle.ember_poly.proofs.ring.outline.Goals as goal
 
