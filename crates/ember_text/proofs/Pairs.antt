@@ -1,5 +1,5 @@
 -- Edge planes with their start corners, place by place; corners in lowest terms.
-use Rattle.std.proofs.Common.{◌≡◌, refl, sym, ap, subst, ◌∙◌, arith, ℕ, zero, suc, ◌+◌, ◌<◌, List, [], ◌∷◌, ◌++◌, length, take, pos}
+use Rattle.std.proofs.Common.{◌≡◌, refl, sym, ap, ◌∙◌, arith, ℕ, zero, suc, ◌+◌, ◌<◌, List, [], ◌∷◌, ◌++◌, length, take, pos}
 use lib.ListN.{get_or}
 use Rattle.std.proofs.lemmas.List.{take_more}
 use Rattle.ember_model.specs.declared.plane.Plane.{Plane}

@@ -1,4 +1,4 @@
-use Rattle.std.proofs.Common.{◌≡◌, inl, inr, sym, ap, subst, ◌∙◌, arith, ℕ, ◌≤◌, ◌<◌, length, OnOk, OnErr, Bool, true, false, if◌then◌else◌}
+use Rattle.std.proofs.Common.{◌≡◌, inr, sym, ap, subst, ◌∙◌, arith, length, OnOk, OnErr, if◌then◌else◌}
 use Rattle.std.proofs.lemmas.Result.{on_err_weaker}
 use Rattle.ember_model.specs.Faces.{turned}
 use Rattle.ember_model.specs.Valid.{IsValidPlane}

@@ -1,5 +1,4 @@
-use Rattle.std.proofs.Common.{◌≡◌, ℤ, ◌∷◌, [], ◌++◌, List, subst, OnOk, OnErr}
-use mir.Syntax.{w64, w128}
+use Rattle.std.proofs.Common.{◌≡◌, ℤ, ◌∷◌, [], ◌++◌, subst, OnOk, OnErr}
 use Rattle.ember_algebra.proofs.Exact.{wide, kept, ◌&◌, done, exact}
 use Rattle.ember_model.specs.FaceFiles.{line_of}
 use Rattle.ember_text.specs.Texts.{IsBegun}

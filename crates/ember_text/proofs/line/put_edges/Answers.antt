@@ -1,4 +1,4 @@
-use Rattle.std.proofs.Common.{◌≡◌, refl, ◌∙◌, ap, arith, ◌++◌, take, length, ◌<◌, subst, sym, flat_map}
+use Rattle.std.proofs.Common.{◌∙◌, ap, arith, ◌++◌, subst, flat_map}
 use Rattle.std.proofs.lemmas.List.{take_all}
 use Rattle.ember_model.specs.FaceFiles.{edge_line}
 use Rattle.ember_model.specs.Edges.{RingEdge}

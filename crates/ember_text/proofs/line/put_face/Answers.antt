@@ -1,6 +1,6 @@
-use Rattle.std.proofs.Common.{◌≡◌, refl, sym, ap, ◌∙◌, ◌++◌, subst, OnOk, OnErr, length, flat_map}
+use Rattle.std.proofs.Common.{◌≡◌, sym, ap, ◌∙◌, ◌++◌, subst, length, flat_map}
 use Rattle.std.proofs.lemmas.Result.{on_err_weaker}
-use Rattle.ember_model.specs.FaceFiles.{support_line, edge_line, face_lines}
+use Rattle.ember_model.specs.FaceFiles.{support_line, edge_line}
 use Rattle.ember_poly.specs.Sides.{ring_edges}
 use Rattle.ember_text.specs.Texts.{IsBegun}
 use Rattle.ember_text.proofs.Parts.{on_err, on_ok_weaker, begun_more, begun_later, all_later}

@@ -1,5 +1,5 @@
-use Rattle.std.proofs.Common.{◌≡◌, ℕ, ◌<◌, ℤ, pos, ◌∷◌, [], ◌++◌, List, subst, OnOk, OnErr, to_z-of_z, arith}
-use mir.Syntax.{w64, w128}
+use Rattle.std.proofs.Common.{◌≡◌, ℕ, ◌<◌, ℤ, pos, ◌∷◌, [], ◌++◌, subst, OnOk, OnErr, to_z-of_z, arith}
+use mir.Syntax.{w128}
 use mir.Val.{to_z}
 use Rattle.ember_algebra.specs.Size.{Small}
 use Rattle.ember_algebra.proofs.Exact.{wide, ◌&◌, done, exact}
