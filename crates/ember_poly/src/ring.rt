@@ -33,7 +33,8 @@ impl Model for Ring {
 
     ghost view = { λ r. record { support = r.support; edges = r.planes.items } };
 
-    ghost invariant = { λ r. IsRing r.support r.planes.items r.edges.items r.corners.items r.births.items };
+    ghost invariant = { λ r. IsRing r.support r.planes.items
+        r.edges.items r.corners.items r.births.items };
 }
 
 // The corner as a point with the weight 1.

@@ -1,9 +1,8 @@
 // The text of a ring's face.
-ghost use Rattle.std.specs.Prelude.{◌≡◌, ◌≤◌, ◌++◌, length, take, drop, reverse, if◌then◌else◌, All, IfOk, OnOk, OnErr};
+ghost use Rattle.std.specs.Prelude.{◌≡◌, ◌≤◌, ◌++◌, length, take, drop, reverse, All, IfOk, OnOk, OnErr};
 ghost use Rattle.ember_model.specs.Planes.{opposite};
-ghost use Rattle.ember_model.specs.Faces.{turned};
 ghost use Rattle.ember_model.specs.Valid.{IsValidPlane};
-ghost use Rattle.ember_text.specs.Texts.{AreReduced, Writes, WritesPart};
+ghost use Rattle.ember_text.specs.Texts.{AreReduced, Writes, WritesPart, seen};
 
 use crate::line::put_face;
 use ember_model::{OutOfMemory, Plane};
@@ -66,8 +65,8 @@ pub fn face_text(
     flipped: bool,
     out: &mut Vec<u8>,
 ) -> Result<(), OutOfMemory>
-    ensures ok { OnOk result (Writes (if flipped then turned r.now else r.now) out.old.items out.new.items) }
-    ensures err { OnErr result (WritesPart (if flipped then turned r.now else r.now) out.old.items out.new.items) }
+    ensures ok { OnOk result (Writes (seen r.now flipped) out.old.items out.new.items) }
+    ensures err { OnErr result (WritesPart (seen r.now flipped) out.old.items out.new.items) }
 {
     let n = support(r);
     let (edges, corners) = outline(r);

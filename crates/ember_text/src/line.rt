@@ -1,11 +1,9 @@
 // Lines of numbers, and the lines of a face.
-ghost use Rattle.std.specs.Prelude.{◌≡◌, [], ◌∷◌, ◌++◌, length, flat_map, codes, All, OnOk, OnErr};
+ghost use Rattle.std.specs.Prelude.{◌≡◌, [], ◌∷◌, ◌++◌, length, codes, All, OnOk, OnErr};
 ghost use Rattle.std.specs.Fmt.{signed_decimal};
 ghost use Rattle.ember_model.specs.Valid.{IsValidPlane};
-ghost use Rattle.ember_model.specs.FaceFiles.{line_of, support_line, edge_line, face_lines};
-ghost use Rattle.ember_point.specs.Points.{spot_of};
-ghost use Rattle.ember_poly.specs.Sides.{ring_edges};
-ghost use Rattle.ember_text.specs.Texts.{IsBegun};
+ghost use Rattle.ember_model.specs.FaceFiles.{line_of, support_line};
+ghost use Rattle.ember_text.specs.Texts.{IsBegun, edge_text, edges_text, lines_of};
 
 use ember_model::{OutOfMemory, Plane};
 use ember_point::Meet;
@@ -13,8 +11,10 @@ use itoa::Buffer;
 
 // A space and the number.
 fn put_number(n: &i128, out: &mut Vec<u8>) -> Result<(), OutOfMemory>
-    ensures ok { OnOk result (out.new.items ≡ out.old.items ++ (codes " " ++ signed_decimal n.now)) }
-    ensures err { OnErr result (IsBegun out.old.items (codes " " ++ signed_decimal n.now) out.new.items) }
+    ensures ok { OnOk result (
+        out.new.items ≡ out.old.items ++ (codes " " ++ signed_decimal n.now)) }
+    ensures err { OnErr result (
+        IsBegun out.old.items (codes " " ++ signed_decimal n.now) out.new.items) }
 {
     let mut buffer = Buffer::new();
     out.push(b' ')?;
@@ -24,7 +24,8 @@ fn put_number(n: &i128, out: &mut Vec<u8>) -> Result<(), OutOfMemory>
 // The keyword and the numbers.
 fn put_line(keyword: u8, numbers: &[i128], out: &mut Vec<u8>) -> Result<(), OutOfMemory>
     ensures ok { OnOk result (out.new.items ≡ out.old.items ++ line_of (keyword ∷ []) numbers.now) }
-    ensures err { OnErr result (IsBegun out.old.items (line_of (keyword ∷ []) numbers.now) out.new.items) }
+    ensures err { OnErr result (
+        IsBegun out.old.items (line_of (keyword ∷ []) numbers.now) out.new.items) }
 {
     out.push(keyword)?;
     for n in numbers {
@@ -37,8 +38,9 @@ fn put_line(keyword: u8, numbers: &[i128], out: &mut Vec<u8>) -> Result<(), OutO
 // The line of an edge.
 fn put_edge(edge: &Plane, start: &Meet, out: &mut Vec<u8>) -> Result<(), OutOfMemory>
     requires { IsValidPlane edge.now }
-    ensures ok { OnOk result (out.new.items ≡ out.old.items ++ edge_line (record { plane = edge.now; start = spot_of start.now })) }
-    ensures err { OnErr result (IsBegun out.old.items (edge_line (record { plane = edge.now; start = spot_of start.now })) out.new.items) }
+    ensures ok { OnOk result (out.new.items ≡ out.old.items ++ edge_text edge.now start.now) }
+    ensures err { OnErr result (
+        IsBegun out.old.items (edge_text edge.now start.now) out.new.items) }
 {
     let numbers = [
         edge.a as i128,
@@ -73,8 +75,9 @@ fn put_support(n: &Plane, count: usize, out: &mut Vec<u8>) -> Result<(), OutOfMe
 fn put_edges(edges: &[Plane], starts: &[Meet], out: &mut Vec<u8>) -> Result<(), OutOfMemory>
     requires paired { length starts.now ≡ length edges.now }
     requires valid { All IsValidPlane edges.now }
-    ensures ok { OnOk result (out.new.items ≡ out.old.items ++ flat_map edge_line (ring_edges edges.now starts.now)) }
-    ensures err { OnErr result (IsBegun out.old.items (flat_map edge_line (ring_edges edges.now starts.now)) out.new.items) }
+    ensures ok { OnOk result (out.new.items ≡ out.old.items ++ edges_text edges.now starts.now) }
+    ensures err { OnErr result (
+        IsBegun out.old.items (edges_text edges.now starts.now) out.new.items) }
 {
     for i in 0..edges.len() {
         put_edge(&edges[i], &starts[i], out)?;
@@ -92,8 +95,10 @@ pub fn put_face(
     requires paired { length starts.now ≡ length edges.now }
     requires support { IsValidPlane n.now }
     requires valid { All IsValidPlane edges.now }
-    ensures ok { OnOk result (out.new.items ≡ out.old.items ++ face_lines n.now (ring_edges edges.now starts.now)) }
-    ensures err { OnErr result (IsBegun out.old.items (face_lines n.now (ring_edges edges.now starts.now)) out.new.items) }
+    ensures ok { OnOk result (
+        out.new.items ≡ out.old.items ++ lines_of n.now edges.now starts.now) }
+    ensures err { OnErr result (
+        IsBegun out.old.items (lines_of n.now edges.now starts.now) out.new.items) }
 {
     put_support(n, edges.len(), out)?;
     put_edges(edges, starts, out)
