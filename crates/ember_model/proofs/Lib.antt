@@ -1,0 +1,13 @@
+pub mod PlaneSizes
+pub mod PlaneValues
+pub mod SignTests
+pub mod Hits
+pub mod RayPlaces
+pub mod SeenCrossings
+pub mod FourSigns
+pub mod LastZero
+pub mod ClearPoints
+pub mod Following
+pub mod Legs
+pub mod Scaling
+pub mod Tuples

@@ -4,3 +4,11 @@ pub mod Planes
 pub mod Faces
 pub mod Clear
 pub mod Meshes
+pub mod Sizes
+pub mod Steps
+pub mod ClearTest
+pub mod Rays
+pub mod Owners
+pub mod Sides
+pub mod Edges
+pub mod FaceFiles

@@ -1,7 +1,8 @@
 -- Lists of faces and triangles: winding numbers, vectors, balance, scenes
-use Rattle.std.specs.Prelude.{◌≡◌, ℕ, ◌+◌, ◌≤◌, ◌<◌, nat_eq, ℤ, pos, ◌+ℤ◌, ◌-ℤ◌, Bool, not, ◌&&◌, if◌then◌else◌, List, [], ◌∷◌, map, filter, length, All}
+use Rattle.std.specs.Prelude.{◌≡◌, ℕ, ◌≤◌, nat_eq, ℤ, ◌-ℤ◌, Bool, not, ◌&&◌, List, [], ◌∷◌, map, filter, length, All}
 use Rattle.std.specs.List.{range_with_len}
 use Rattle.ember_algebra.specs.Sign.{is_zero}
+use Rattle.ember_algebra.specs.Sums.{total, occurrences}
 use Rattle.ember_model.specs.declared.point.Corner.{Corner}
 use Rattle.ember_model.specs.declared.point.Spot.{Spot}
 use Rattle.ember_model.specs.declared.point.Axis.{Axis}
@@ -9,11 +10,6 @@ use Rattle.ember_model.specs.declared.tri.Tri.{Tri}
 use Rattle.ember_model.specs.declared.face.Face.{Face}
 use Rattle.ember_model.specs.Faces.{is_flat, face_of, crossing}
 use Rattle.ember_model.specs.Valid.{IsValidTri}
-
--- the sum over a list
-abbrev pub total : {U : Type 0} → (U → ℤ) → List U → ℤ
-total f [] = pos 0
-total f (x ∷ xs) = f x +ℤ total f xs
 
 -- the winding number: the signed crossings of the ray from p along a with all faces
 abbrev pub wind : Axis → List Face → Spot → ℤ
@@ -55,8 +51,7 @@ same_edge e f = same_corner e.from f.from && same_corner e.to f.to
 
 -- how often an edge occurs
 abbrev pub times : Edge → List Edge → ℕ
-times e [] = 0
-times e (f ∷ fs) = (if same_edge e f then 1 else 0) + times e fs
+times e es = occurrences same_edge e es
 
 -- each directed edge occurs as often as its reverse: the surface is closed
 abbrev pub IsBalanced : List Tri → Type 0

@@ -36,3 +36,11 @@ pub record IsValidSpot (s : Spot) : Type 0 where
 pub record IsValidFace (f : Face) : Type 0 where
   pub support : IsValidPlane f.support
   pub edges : All IsValidPlane f.edges
+
+-- a meet of three valid planes: coordinates below 2^92 in size, a weight from 1 to below 2^78
+pub record IsValidMeet (s : Spot) : Type 0 where
+  pub x : Small 4951760157141521099596496895 s.x
+  pub y : Small 4951760157141521099596496895 s.y
+  pub z : Small 4951760157141521099596496895 s.z
+  pub w : Small 302231454903657293676543 s.w
+  pub weight : pos 0 <ℤ s.w

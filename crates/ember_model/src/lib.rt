@@ -2,16 +2,27 @@
 //! scenes, with the definitions of crossing, winding, clear points and balance.
 #![tactic(auto)]
 
+mod clearness;
 mod face;
 mod plane;
 mod point;
+mod rays;
 mod scene;
+mod sides;
+mod steps;
+#[cfg(test)]
+mod tests;
 mod tri;
+mod values;
 mod vector;
 
+pub use clearness::{clear, face_clear};
 pub use face::Face;
 pub use plane::{Plane, Planes};
 pub use point::{Axis, Corner, Spot};
+pub use rays::{crossing, face_crossing};
 pub use scene::Scene;
+pub use sides::{OutOfMemory, edge_plane, face_of, main_axis, support_of};
 pub use tri::{Lines, Soup, Tri, Tris};
+pub use values::value;
 pub use vector::Vector;

@@ -1,0 +1,165 @@
+-- What the tests of signs say, tests of all elements of a list, and members of lists.
+use Rattle.std.proofs.Common.{◌≡◌, ◌≢◌, ◌⊎◌, inl, inr, refl, sym, ap, subst, ◌∙◌, arith, T, Bool, true, false, not, cond, ◌&&◌, ◌||◌, List, [], ◌∷◌, ℤ, pos, negsuc, zero, suc, ◌*ℤ◌, ◌<ℤ◌, ◌≤ℤ◌}
+use Rattle.std.specs.List.{list_all, list_any}
+use borrow.Author.Differences.{ints}
+use lib.Signed.{lt_z}
+use Rattle.std.proofs.lemmas.Int.{by_lt_z}
+use lib.IntN.{*ℤ-zero, zero-*ℤ}
+use Rattle.ember_algebra.specs.declared.Sign.{Sign}
+use Rattle.ember_algebra.specs.declared.Sign.TheVariants.{Neg, Zero, Pos}
+use Rattle.ember_algebra.specs.Sign.{sgn, times, is_negative, is_zero, is_positive, same_sgn}
+use Rattle.ember_algebra.proofs.Laws.{linear}
+use Rattle.ember_algebra.proofs.Signs.{sgn-mul, sgn_pos}
+use Rattle.ember_model.specs.Faces.{size}
+
+pub ap2 : {A B C : Type 0} (f : A → B → C) {a a' : A} {b b' : B} → a ≡ a' → b ≡ b' → f a b ≡ f a' b'
+ap2 f p q = λ i. f (p i) (q i)
+
+-- ---- signs
+pub sgn_scaled : {c : ℤ} (a : ℤ) → pos 0 <ℤ c → sgn (c *ℤ a) ≡ sgn a
+sgn_scaled {c} a p = sgn-mul c a ∙ ap (λ (s : Sign). times s (sgn a)) (sgn_pos p)
+
+pub same_sgn_out : (s t : Sign) → T (same_sgn s t) → s ≡ t
+same_sgn_out Neg Neg t = refl
+same_sgn_out Neg Zero t = absurd t
+same_sgn_out Neg Pos t = absurd t
+same_sgn_out Zero Neg t = absurd t
+same_sgn_out Zero Zero t = refl
+same_sgn_out Zero Pos t = absurd t
+same_sgn_out Pos Neg t = absurd t
+same_sgn_out Pos Zero t = absurd t
+same_sgn_out Pos Pos t = refl
+
+-- ---- from a fact to its test
+pub negative_in : {a : ℤ} → a <ℤ pos 0 → is_negative a ≡ true
+negative_in {a} p = by a p
+  where
+    by : (a : ℤ) → a <ℤ pos 0 → is_negative a ≡ true
+    by (pos zero) p = absurd (omega (arith, ints))
+    by (pos (suc n)) p = absurd (omega (arith, ints))
+    by (negsuc n) p = refl
+
+pub negative_not : (a : ℤ) → pos 0 ≤ℤ a → is_negative a ≡ false
+negative_not (pos zero) p = refl
+negative_not (pos (suc n)) p = refl
+negative_not (negsuc n) p = absurd (omega (arith, ints))
+
+pub positive_in : {a : ℤ} → pos 0 <ℤ a → is_positive a ≡ true
+positive_in {a} p = by a p
+  where
+    by : (a : ℤ) → pos 0 <ℤ a → is_positive a ≡ true
+    by (pos zero) p = absurd (omega (arith, ints))
+    by (pos (suc n)) p = refl
+    by (negsuc n) p = absurd (omega (arith, ints))
+
+pub not_positive_in : (a : ℤ) → a ≤ℤ pos 0 → not (is_positive a) ≡ true
+not_positive_in (pos zero) p = refl
+not_positive_in (pos (suc n)) p = absurd (omega (arith, ints))
+not_positive_in (negsuc n) p = refl
+
+-- ---- from a test to its fact
+pub negative_out : (a : ℤ) → is_negative a ≡ true → a <ℤ pos 0
+negative_out (pos zero) e = cc
+negative_out (pos (suc n)) e = cc
+negative_out (negsuc n) e = omega (arith, ints)
+
+pub positive_out : (a : ℤ) → is_positive a ≡ true → pos 0 <ℤ a
+positive_out (pos zero) e = cc
+positive_out (pos (suc n)) e = omega (arith, ints)
+positive_out (negsuc n) e = cc
+
+pub positive_from_not : (a : ℤ) → not (is_positive a) ≡ false → pos 0 <ℤ a
+positive_from_not (pos zero) e = cc
+positive_from_not (pos (suc n)) e = omega (arith, ints)
+positive_from_not (negsuc n) e = cc
+
+pub not_positive_out : (a : ℤ) → not (is_positive a) ≡ true → a ≤ℤ pos 0
+not_positive_out (pos zero) e = omega (arith, ints)
+not_positive_out (pos (suc n)) e = cc
+not_positive_out (negsuc n) e = omega (arith, ints)
+
+pub zero_out : (a : ℤ) → is_zero a ≡ true → a ≡ pos 0
+zero_out (pos zero) e = refl
+zero_out (pos (suc n)) e = cc
+zero_out (negsuc n) e = cc
+
+pub clash : {b : Bool} → b ≡ true → b ≡ false → ⊥
+clash {b} p q = by (sym p ∙ q)
+  where
+    by : true ≡ false → ⊥
+    by e = cc
+
+pub nonzero_out : (a : ℤ) → is_zero a ≡ false → a ≢ pos 0
+nonzero_out a e q = clash (ap is_zero q) e
+
+-- ---- numbers
+pub zero_scaled : (k a : ℤ) → a ≡ pos 0 → k *ℤ a ≡ pos 0
+zero_scaled k a e = ap (λ (z : ℤ). k *ℤ z) e ∙ *ℤ-zero k
+
+pub zero_times : (a k : ℤ) → a ≡ pos 0 → a *ℤ k ≡ pos 0
+zero_times a k e = ap (λ (z : ℤ). z *ℤ k) e ∙ zero-*ℤ k
+
+pub positive_nonzero : {z : ℤ} → pos 0 <ℤ z → z ≢ pos 0
+positive_nonzero p e = omega (arith, linear)
+
+pub negative_nonzero : {z : ℤ} → z <ℤ pos 0 → z ≢ pos 0
+negative_nonzero p e = omega (arith, linear)
+
+pub size_positive : (z : ℤ) → z ≢ pos 0 → pos 0 <ℤ size z
+size_positive (pos zero) nz = absurd (nz refl)
+size_positive (pos (suc n)) nz = omega (arith, ints)
+size_positive (negsuc n) nz = omega (arith, ints)
+
+-- ---- Booleans
+pub and_parts : (a b : Bool) → a && b ≡ true → (a ≡ true) × (b ≡ true)
+and_parts true b e = (refl, e)
+and_parts false b e = cc
+
+pub and_false : (a b : Bool) → b ≡ false → a && b ≡ false
+and_false true b e = e
+and_false false b e = refl
+
+pub and_true : (b : Bool) → b && true ≡ b
+and_true true = refl
+and_true false = refl
+
+pub not_true : (b : Bool) → not b ≡ true → b ≡ false
+not_true true e = cc
+not_true false e = refl
+
+-- ---- members of a list
+abbrev pub In : {A : Type 0} → A → List A → Type 0
+In h [] = ⊥
+In h (g ∷ gs) = (h ≡ g) ⊎ In h gs
+
+pub any_from : {A : Type 0} (f : A → Bool) (h : A) (es : List A) → In h es → f h ≡ true → list_any f es ≡ true
+any_from f h [] m e = absurd m
+any_from f h (g ∷ gs) (inl p) e = ap (λ (b : Bool). b || list_any f gs) (ap f (sym p) ∙ e)
+any_from f h (g ∷ gs) (inr m) e = by (f g) (any_from f h gs m e)
+  where
+    by : (b : Bool) → list_any f gs ≡ true → b || list_any f gs ≡ true
+    by true r = refl
+    by false r = r
+
+pub record Found {A : Type 0} (f : A → Bool) (es : List A) : Type 0 where
+  pub item : A
+  pub member : In item es
+  pub passes : f item ≡ true
+
+pub any_out : {A : Type 0} (f : A → Bool) (es : List A) → list_any f es ≡ true → Found f es
+any_out f [] e = cc
+any_out f (g ∷ gs) e = by (f g) refl e (any_out f gs)
+  where
+    more : Found f gs → Found f (g ∷ gs)
+    more r = record { item = r.item; member = inr r.member; passes = r.passes }
+
+    by : (b : Bool) → f g ≡ b → b || list_any f gs ≡ true → (list_any f gs ≡ true → Found f gs) → Found f (g ∷ gs)
+    by true q r k = record { item = g; member = inl refl; passes = q }
+    by false q r k = more (k r)
+
+-- ---- tests of code
+pub less_out : (a b : ℤ) → lt_z a b ≡ true → a <ℤ b
+less_out a b e = record { lt = subst (λ (x : Bool). T x) (sym e) tt }
+
+pub not_less_out : (a b : ℤ) → lt_z a b ≡ false → b ≤ℤ a
+not_less_out a b e = by_lt_z a b (λ l. absurd (subst (λ (x : Bool). T x) e l.lt)) (λ l. l)

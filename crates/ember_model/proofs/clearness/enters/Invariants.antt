@@ -1,0 +1,8 @@
+use Rattle.std.proofs.Common.{◌≡◌, false, take}
+use Rattle.std.specs.List.{list_any}
+use Rattle.ember_model.specs.ClearTest.{is_entry}
+use Rattle.ember_model.proofs.clearness.enters.Given as goal
+
+-- no plane so far is one of entry
+abbrev pub invariant-loop-h : goal.invariant-loop-h
+invariant-loop-h l = list_any (is_entry l.es l.a l.p) (take l.h-index l.es) ≡ false

@@ -1,0 +1,31 @@
+use Rattle.std.proofs.Common.{◌≡◌, sym, ap, ◌∙◌, Bool, true, false, not, cond, ◌&&◌, ℤ, pos, ◌*ℤ◌, to_z, of_z}
+use mir.Syntax.{w64, w128}
+use Rattle.ember_algebra.specs.Sign.{is_negative, is_zero}
+use Rattle.ember_algebra.proofs.Exact.{input, stored, ◌&◌, done, exact}
+use Rattle.ember_model.specs.Planes.{value_at, along}
+use Rattle.ember_model.specs.Faces.{hit}
+use Rattle.ember_model.specs.ClearTest.{enters, none_positive, all_negative}
+use Rattle.ember_model.proofs.RayPlaces.{place_hit}
+use Rattle.ember_model.proofs.clearness.is_ray_clear.Goals as goal
+
+pub returns-then-not-none_positive : goal.returns-then-not-none_positive
+returns-then-not-none_positive c =
+    let n = c.args.n.now in let p = c.args.p.now in let a = c.args.a in let es = c.args.es.now in
+    let s = exact (c.value-front.ensures.small & done) (stored w128 (input 0)) tt ∙ c.value-front.ensures.value in
+    let k = exact (c.component-slope.ensures.small & done) (stored w64 (input 0)) tt ∙ c.component-slope.ensures.value in
+    let l : is_zero (along n a) ≡ false = (λ i. is_zero (sym k i)) ∙ sym c.is_level.ensures ∙ c.if-is_level.false in
+    let m : is_negative (value_at n p *ℤ along n a) ≡ true = (λ i. is_negative (sym s i *ℤ sym k i)) ∙ sym c.meets.ensures ∙ c.if-meets.true in
+    let q = place_hit n a p _ _ c.hit_along-hit.result s k c.hit_along-hit.ensures.value in
+    let h : none_positive es (hit n a p) ≡ false = (λ i. none_positive es (sym q i)) ∙ sym c.none_positive.ensures ∙ c.if-not-none_positive.true in
+    ap not c.if-not-none_positive.true ∙ sym (λ i. cond (l i) (cond (is_zero (value_at n p)) (not (enters es a p)) true) (cond (m i && h i) (all_negative es (hit n a p)) true))
+
+pub returns-else-not-none_positive : goal.returns-else-not-none_positive
+returns-else-not-none_positive c =
+    let n = c.args.n.now in let p = c.args.p.now in let a = c.args.a in let es = c.args.es.now in
+    let s = exact (c.value-front.ensures.small & done) (stored w128 (input 0)) tt ∙ c.value-front.ensures.value in
+    let k = exact (c.component-slope.ensures.small & done) (stored w64 (input 0)) tt ∙ c.component-slope.ensures.value in
+    let l : is_zero (along n a) ≡ false = (λ i. is_zero (sym k i)) ∙ sym c.is_level.ensures ∙ c.if-is_level.false in
+    let m : is_negative (value_at n p *ℤ along n a) ≡ true = (λ i. is_negative (sym s i *ℤ sym k i)) ∙ sym c.meets.ensures ∙ c.if-meets.true in
+    let q = place_hit n a p _ _ c.hit_along-hit.result s k c.hit_along-hit.ensures.value in
+    let h : none_positive es (hit n a p) ≡ true = (λ i. none_positive es (sym q i)) ∙ sym c.none_positive.ensures ∙ c.if-not-none_positive.false in
+    c.all_negative.ensures ∙ (λ i. all_negative es (q i)) ∙ sym (λ i. cond (l i) (cond (is_zero (value_at n p)) (not (enters es a p)) true) (cond (m i && h i) (all_negative es (hit n a p)) true))

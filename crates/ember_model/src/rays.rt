@@ -1,0 +1,100 @@
+// Crossings of rays with faces and triangles.
+ghost use Rattle.std.specs.Prelude.{◌≡◌, ◌^◌, ◌*ℤ◌, neg_ℤ, ◌&&◌};
+ghost use Rattle.ember_algebra.specs.Size.{Small};
+ghost use Rattle.ember_algebra.specs.Sign.{sign, is_negative, is_positive};
+ghost use Rattle.ember_model.specs.Valid.{IsValidTri, IsValidSpot, IsValidFace};
+ghost use Rattle.ember_model.specs.Rays.{IsAlongSized};
+ghost use Rattle.ember_model.specs.Faces.{size, crossing, face_of};
+
+use crate::face::Face;
+use crate::point::{Axis, Spot};
+use crate::sides::{component, support_of};
+use crate::steps::sign_number;
+use crate::tri::Tri;
+use crate::values::{Along, all_negative, edge_value, value};
+
+// A ray on which a plane has the slope `slope` from its value `front` on meets the plane.
+pub fn meets(front: i128, slope: i64) -> bool
+    requires front { Small (2 ^ 80) front }
+    requires slope { Small 33554431 slope }
+    ensures { result ≡ is_negative (front *ℤ slope) }
+{
+    (front < 0 && slope > 0) || (front > 0 && slope < 0)
+}
+
+// The place at which it does.
+#[tactic(none)]
+pub fn hit_along(front: i128, slope: i64, axis: Axis) -> Along
+    requires front { Small (2 ^ 80) front }
+    requires slope { Small 33554431 slope }
+    ensures value { result ≡ record { axis = axis; factor = size slope; way = neg_ℤ (sign slope *ℤ front) } }
+    ensures sized { IsAlongSized result }
+{
+    let s = sign_number(slope);
+    Along {
+        axis,
+        factor: s * slope,
+        way: -(s as i128 * front),
+    }
+}
+
+/// The signed crossing of the ray from `p` along the axis with the inside of the face: 1, -1
+/// or 0, and 1 where the ray leaves through the front.
+pub fn face_crossing(p: &Spot, a: Axis, f: &Face) -> i32
+    requires spot { IsValidSpot p.now }
+    requires face { IsValidFace f.now }
+    ensures value { result ≡ crossing f.now a p.now }
+    ensures small { Small 1 result }
+{
+    let front = value(&f.support, p);
+    let slope = component(&f.support, a);
+    if meets(front, slope) && all_negative(f.edges.items(), p, &hit_along(front, slope, a)) {
+        sign_number(slope) as i32
+    } else {
+        0
+    }
+}
+
+fn all_below(s: i128, e: i128, f: i128, g: i128) -> bool
+    requires s { Small (2 ^ 80) s }
+    requires e { Small (2 ^ 66) e }
+    requires f { Small (2 ^ 66) f }
+    requires g { Small (2 ^ 66) g }
+    ensures { result ≡ is_negative s && (is_negative e && (is_negative f && is_negative g)) }
+{
+    s < 0 && (e < 0 && (f < 0 && g < 0))
+}
+
+fn all_above(s: i128, e: i128, f: i128, g: i128) -> bool
+    requires s { Small (2 ^ 80) s }
+    requires e { Small (2 ^ 66) e }
+    requires f { Small (2 ^ 66) f }
+    requires g { Small (2 ^ 66) g }
+    ensures { result ≡ is_positive s && (is_positive e && (is_positive f && is_positive g)) }
+{
+    s > 0 && (e > 0 && (f > 0 && g > 0))
+}
+
+/// The signed crossing of the ray from `p` along the axis with the inside of the triangle's
+/// face: 1, -1 or 0, and 1 where the ray leaves through the front. A triangle whose normal is
+/// zero has no inside.
+pub fn crossing(p: &Spot, a: Axis, t: &Tri) -> i32
+    requires spot { IsValidSpot p.now }
+    requires tri { IsValidTri t.now }
+    ensures value { result ≡ crossing (face_of t.now) a p.now }
+    ensures small { Small 1 result }
+{
+    let n = support_of(t);
+    let front = value(&n, p);
+    let slope = component(&n, a);
+    let e = edge_value(&t.a, &t.b, a, p);
+    let f = edge_value(&t.b, &t.c, a, p);
+    let g = edge_value(&t.c, &t.a, a, p);
+    if slope > 0 {
+        if all_below(front, e, f, g) { 1 } else { 0 }
+    } else if slope < 0 {
+        if all_above(front, e, f, g) { -1 } else { 0 }
+    } else {
+        0
+    }
+}

@@ -1,0 +1,70 @@
+// Points in lowest terms.
+ghost use Rattle.std.specs.Prelude.{◌≡◌, ◌^◌, ◌<◌, pos, ◌<ℤ◌, unsigned_abs, int_div};
+ghost use Rattle.std.specs.Int.{IsGcd};
+ghost use Rattle.ember_model.specs.Edges.{SamePlace};
+ghost use Rattle.ember_model.specs.FaceFiles.{IsLowest};
+ghost use Rattle.ember_point.specs.Points.{spot_of, IsGreatestDivisor};
+
+use crate::corner::Meet;
+
+fn small_gcd(a: u64, b: u64) -> u64
+    ensures { IsGcd a b result }
+{
+    let mut x = a;
+    let mut y = b;
+    while y != 0 {
+        let rest = x % y;
+        x = y;
+        y = rest;
+    }
+    x
+}
+
+// By steps of 128 bits only while both numbers are large.
+fn gcd(a: u128, b: u128) -> u128
+    ensures { IsGcd a b result }
+{
+    let mut x = a;
+    let mut y = b;
+    while y > u64::MAX as u128 {
+        let rest = x % y;
+        x = y;
+        y = rest;
+    }
+    if y == 0 {
+        return x;
+    }
+    small_gcd(y as u64, (x % y) as u64) as u128
+}
+
+// The greatest common divisor of the four numbers.
+fn common_divisor(m: &Meet) -> i128
+    ensures { IsGreatestDivisor (spot_of m.now) result }
+{
+    let first = gcd(m.w.unsigned_abs(), m.x.unsigned_abs());
+    let second = gcd(first, m.y.unsigned_abs());
+    let third = gcd(second, m.z.unsigned_abs());
+    third as i128
+}
+
+fn quotient(n: i128, divisor: i128) -> i128
+    requires positive { pos 0 <ℤ divisor }
+    requires small { unsigned_abs n < 2 ^ 92 }
+    ensures { result ≡ int_div n divisor }
+{
+    n / divisor
+}
+
+/// The same point, with 1 as the greatest common divisor of its four numbers.
+pub fn reduce(m: &Meet) -> Meet
+    ensures same { SamePlace (spot_of m.now) (spot_of result) }
+    ensures lowest { IsLowest (spot_of result) }
+{
+    let divisor = common_divisor(m);
+    Meet {
+        x: quotient(m.x, divisor),
+        y: quotient(m.y, divisor),
+        z: quotient(m.z, divisor),
+        w: quotient(m.w, divisor),
+    }
+}

@@ -1,0 +1,49 @@
+-- The tests of a face's points, and the same as facts on each plane.
+use Rattle.std.proofs.Common.{◌≡◌, refl, ap, Bool, true, not, ◌&&◌, List, [], ◌∷◌, ℤ, pos}
+use Rattle.std.specs.List.{list_all, AllByRecursion}
+use Rattle.ember_algebra.specs.Sign.{is_zero, is_positive}
+use Rattle.ember_model.specs.declared.plane.Plane.{Plane}
+use Rattle.ember_model.specs.declared.point.Spot.{Spot}
+use Rattle.ember_model.specs.declared.face.Face.{Face}
+use Rattle.ember_model.specs.Planes.{value_at}
+use Rattle.ember_model.specs.Faces.{is_in_closed}
+use Rattle.ember_model.specs.Edges.{is_on_edge}
+use Rattle.ember_model.proofs.SignTests.{positive_in, positive_out, not_positive_in, not_positive_out, zero_out, and_parts}
+use Rattle.ember_poly.specs.Rings.{AtMost, InClosedFace}
+
+pub and_in : {a b : Bool} → a ≡ true → b ≡ true → (a && b) ≡ true
+and_in p q = rw (p, q) refl
+
+pub zero_in : {a : ℤ} → a ≡ pos 0 → is_zero a ≡ true
+zero_in e = ap is_zero e
+
+all_in : (gs : List Plane) (v : Spot) → AllByRecursion (λ g. AtMost g v) gs → list_all (λ g. not (is_positive (value_at g v))) gs ≡ true
+all_in [] v h = refl
+all_in (g ∷ gs) v h = and_in (not_positive_in (value_at g v) h.0.at_most) (all_in gs v h.1)
+
+all_out : (gs : List Plane) (v : Spot) → list_all (λ g. not (is_positive (value_at g v))) gs ≡ true → AllByRecursion (λ g. AtMost g v) gs
+all_out [] v e = tt
+all_out (g ∷ gs) v e =
+    let p = and_parts (not (is_positive (value_at g v))) (list_all (λ g. not (is_positive (value_at g v))) gs) e in
+    (record { at_most = not_positive_out (value_at g v) p.0 }, all_out gs v p.1)
+
+pub closed_in : (f : Face) (v : Spot) → InClosedFace f.support f.edges v → is_in_closed f v ≡ true
+closed_in f v h = and_in (positive_in h.weight) (and_in (zero_in h.flat) (all_in f.edges v h.within))
+
+pub closed_out : (f : Face) (v : Spot) → is_in_closed f v ≡ true → InClosedFace f.support f.edges v
+closed_out f v e =
+    let p = and_parts (is_positive v.w) (is_zero (value_at f.support v) && list_all (λ g. not (is_positive (value_at g v))) f.edges) e in
+    let q = and_parts (is_zero (value_at f.support v)) (list_all (λ g. not (is_positive (value_at g v))) f.edges) p.1 in
+    record { flat = zero_out (value_at f.support v) q.0; weight = positive_out v.w p.0; within = all_out f.edges v q.1 }
+
+pub edge_in : (f : Face) (g : Plane) (v : Spot) → InClosedFace f.support f.edges v → value_at g v ≡ pos 0 → is_on_edge f g v ≡ true
+edge_in f g v h e = and_in (closed_in f v h) (zero_in e)
+
+pub record OnEdge (f : Face) (g : Plane) (v : Spot) : Type 0 where
+  pub closed : InClosedFace f.support f.edges v
+  pub zero : value_at g v ≡ pos 0
+
+pub edge_out : (f : Face) (g : Plane) (v : Spot) → is_on_edge f g v ≡ true → OnEdge f g v
+edge_out f g v e =
+    let p = and_parts (is_in_closed f v) (is_zero (value_at g v)) e in
+    record { closed = closed_out f v p.0; zero = zero_out (value_at g v) p.1 }

@@ -1,0 +1,133 @@
+-- The edges of a triangle's face, with its corners, are a ring.
+use Rattle.std.proofs.Common.{◌≡◌, ◌≢◌, inl, refl, sym, ap, subst, ◌∙◌, ℕ, zero, suc, ◌≤◌, Bool, true, false, cond, ◌&&◌, leb, Option, None, Some, List, [], ◌∷◌, arith, ℤ, pos, ◌*ℤ◌, ◌<ℤ◌, unsigned_abs}
+use Rattle.std.proofs.lemmas.Int.{ints}
+use Rattle.std.proofs.lemmas.Bool.{leb-true}
+use Rattle.std.proofs.Math.Dec.{leb-zero}
+use Rattle.ember_algebra.specs.Vector.{Vector}
+use Rattle.ember_algebra.specs.Vector.{dot}
+use Rattle.ember_algebra.specs.Sign.{sign, is_zero}
+use Rattle.ember_algebra.proofs.Laws.{linear}
+use Rattle.ember_algebra.proofs.Ring.{◌⊕◌, ◌⊗◌, num, ◌≈◌, solve, cancels}
+use Rattle.ember_algebra.proofs.Order.{by_sign, sign_pos, sign_neg}
+use Rattle.ember_model.specs.declared.point.Axis.{Axis}
+use Rattle.ember_model.specs.declared.point.Axis.TheVariants.{X, Y, Z}
+use Rattle.ember_model.specs.declared.plane.Plane.{Plane}
+use Rattle.ember_model.specs.declared.face.Face.{Face}
+use Rattle.ember_model.specs.declared.tri.Tri.{Tri}
+use Rattle.ember_model.specs.Planes.{along, unit, main_axis, support_of, edge_planes}
+use Rattle.ember_model.specs.Faces.{is_flat, face_of}
+use Rattle.ember_model.specs.Owners.{spot_at}
+use Rattle.ember_model.specs.Valid.{IsValidFace}
+use Rattle.ember_point.specs.declared.corner.Meet.{Meet}
+use Rattle.ember_point.specs.Points.{spot_of}
+use Rattle.ember_poly.specs.Rings.{Side, Stands}
+use Rattle.ember_poly.specs.Sides.{sides_of, OldestFirst, AllCounted, IsRing}
+use Rattle.ember_poly.proofs.Triangle.{normal_of, side_along, triangle_stands}
+
+-- ---- the main axis
+not_all_zero : (p : Plane) → (is_zero p.a && (is_zero p.b && is_zero p.c)) ≡ false → p.a ≡ pos 0 → p.b ≡ pos 0 → p.c ≡ pos 0 → ⊥
+not_all_zero p e ea eb ec = by (sym e ∙ ap (λ a. is_zero a && (is_zero p.b && is_zero p.c)) ea ∙ ap (λ b. is_zero b && is_zero p.c) eb ∙ ap is_zero ec)
+  where
+    by : false ≡ true → ⊥
+    by h = cc
+
+no_size : (a b : ℤ) → unsigned_abs b ≤ unsigned_abs a → a ≡ pos 0 → b ≡ pos 0
+no_size a b l e = omega (arith, l, e, ints)
+
+both_true : (a b : Bool) → (a && b) ≡ true → (a ≡ true) × (b ≡ true)
+both_true true b e = (refl, e)
+both_true false b e = absurd (by e)
+  where
+    by : false ≡ true → ⊥
+    by h = cc
+
+by_tests : (p : Plane) → (p.a ≡ pos 0 → p.b ≡ pos 0 → p.c ≡ pos 0 → ⊥) → (x y : Bool) → (leb (unsigned_abs p.b) (unsigned_abs p.a) && leb (unsigned_abs p.c) (unsigned_abs p.a)) ≡ x → leb (unsigned_abs p.c) (unsigned_abs p.b) ≡ y → along p (cond x X (cond y Y Z)) ≢ pos 0
+by_tests p n true y e f z =
+    let h = both_true (leb (unsigned_abs p.b) (unsigned_abs p.a)) (leb (unsigned_abs p.c) (unsigned_abs p.a)) e in
+    n z (no_size p.a p.b (leb-true _ _ h.0) z) (no_size p.a p.c (leb-true _ _ h.1) z)
+by_tests p n false true e f z =
+    let c : p.c ≡ pos 0 = no_size p.b p.c (leb-true _ _ f) z in
+    let l : (leb (unsigned_abs p.b) (unsigned_abs p.a) && leb (unsigned_abs p.c) (unsigned_abs p.a)) ≡ true = rw (z, c, leb-zero (unsigned_abs p.a)) refl in
+    differ (sym l ∙ e)
+  where
+    differ : true ≡ false → ⊥
+    differ h = cc
+by_tests p n false false e f z =
+    let l : leb (unsigned_abs p.c) (unsigned_abs p.b) ≡ true = rw z (leb-zero (unsigned_abs p.b)) in differ (sym l ∙ f)
+  where
+    differ : true ≡ false → ⊥
+    differ h = cc
+
+main_entry : (p : Plane) → (is_zero p.a && (is_zero p.b && is_zero p.c)) ≡ false → along p (main_axis p) ≢ pos 0
+main_entry p e = by_tests p (not_all_zero p e) _ _ refl refl
+
+sign_times : (a : ℤ) → a ≢ pos 0 → pos 0 <ℤ (sign a *ℤ a)
+sign_times a n =
+    by_sign a (λ p. rw (sign_pos p) (omega (arith, linear, p))) (λ z. absurd (n z)) (λ p. rw (sign_neg p) (omega (arith, linear, p)))
+
+dot_unit : (v : Vector) (d : ℤ) (k : Axis) → dot v (unit k) ≡ along (record { a = v.x; b = v.y; c = v.z; d = d }) k
+dot_unit v d X = solve 3 (λ x y z. x ⊗ num (pos 1) ⊕ y ⊗ num (pos 0) ⊕ z ⊗ num (pos 0) ≈ x) cancels v.x v.y v.z
+dot_unit v d Y = solve 3 (λ x y z. x ⊗ num (pos 0) ⊕ y ⊗ num (pos 1) ⊕ z ⊗ num (pos 0) ≈ y) cancels v.x v.y v.z
+dot_unit v d Z = solve 3 (λ x y z. x ⊗ num (pos 0) ⊕ y ⊗ num (pos 0) ⊕ z ⊗ num (pos 1) ≈ z) cancels v.x v.y v.z
+
+-- the triangle's normal points along its main axis as the sign says
+faces_axis : (t : Tri) → is_flat t ≡ false → pos 0 <ℤ (sign (along (support_of t) (main_axis (support_of t))) *ℤ dot (normal_of t.a t.b t.c) (unit (main_axis (support_of t))))
+unfolding is_flat
+faces_axis t e =
+    rw (dot_unit (normal_of t.a t.b t.c) (support_of t).d (main_axis (support_of t))) (sign_times (along (support_of t) (main_axis (support_of t))) (main_entry (support_of t) e))
+
+-- ---- the ring
+abbrev tri_sides : Tri → List Side
+tri_sides t =
+    let k = main_axis (support_of t) in let s = sign (along (support_of t) k) in
+    side_along s (unit k) t.a t.b 0 ∷ side_along s (unit k) t.b t.c 1 ∷ side_along s (unit k) t.c t.a 2 ∷ []
+
+abbrev tri_planes : Tri → List Plane
+tri_planes t = edge_planes t (main_axis (support_of t))
+
+stands : (t : Tri) → is_flat t ≡ false → Stands (support_of t) (tri_planes t) (tri_sides t)
+stands t e =
+    let k = main_axis (support_of t) in
+    triangle_stands (sign (along (support_of t) k)) (unit k) t.a t.b t.c (faces_axis t e)
+
+counted : (t : Tri) → AllCounted (support_of t) (tri_planes t) (tri_sides t)
+counted t zero h e = inl (record { at = 0; side = _; here = refl; birth = refl })
+counted t (suc zero) h e = inl (record { at = 1; side = _; here = refl; birth = refl })
+counted t (suc (suc zero)) h e = inl (record { at = 2; side = _; here = refl; birth = refl })
+counted t (suc (suc (suc i))) h e = absurd (none e)
+  where
+    none : None ≡ Some h → ⊥
+    none e = cc
+
+abbrev places : Meet → Meet → Meet → List Meet
+places u v w = u ∷ v ∷ w ∷ []
+
+same_sides : (t : Tri) (u v w : Meet) → spot_of u ≡ spot_at t.a → spot_of v ≡ spot_at t.b → spot_of w ≡ spot_at t.c → sides_of (tri_planes t) (places u v w) (0 ∷ 1 ∷ 2 ∷ []) ≡ tri_sides t
+same_sides t u v w eu ev ew =
+    let k = main_axis (support_of t) in let s = sign (along (support_of t) k) in
+    λ i. record { plane = (side_along s (unit k) t.a t.b 0).plane; corner = eu i; birth = 0 } ∷ record { plane = (side_along s (unit k) t.b t.c 1).plane; corner = ev i; birth = 1 } ∷ record { plane = (side_along s (unit k) t.c t.a 2).plane; corner = ew i; birth = 2 } ∷ []
+
+ring_of : (t : Tri) (u v w : Meet) → is_flat t ≡ false → spot_of u ≡ spot_at t.a → spot_of v ≡ spot_at t.b → spot_of w ≡ spot_at t.c → IsValidFace (face_of t) → IsRing (support_of t) (tri_planes t) (tri_planes t) (places u v w) (0 ∷ 1 ∷ 2 ∷ [])
+unfolding face_of
+ring_of t u v w e eu ev ew valid =
+    let q = sym (same_sides t u v w eu ev ew) in
+    record { stands = subst (λ xs. Stands (support_of t) (tri_planes t) xs) q (stands t e); oldest = subst (λ xs. OldestFirst xs) q (omega arith, (omega arith, tt)); counted = subst (λ xs. AllCounted (support_of t) (tri_planes t) xs) q (counted t); corners = refl; births = refl; support = valid.support; planes = valid.edges }
+
+-- from what the code holds
+pub tri_ring : (t : Tri) (f : Face) (u v w : Meet) {es gs : List Plane} {ms : List Meet} {bs : List ℕ} → is_flat t ≡ false → f ≡ face_of t → IsValidFace f → gs ≡ f.edges → es ≡ gs → ms ≡ places u v w → bs ≡ 0 ∷ 1 ∷ 2 ∷ [] → spot_of u ≡ spot_at t.a → spot_of v ≡ spot_at t.b → spot_of w ≡ spot_at t.c → IsRing f.support gs es ms bs
+unfolding face_of
+tri_ring t f u v w {es} {gs} {ms} {bs} e ef valid eg ee em eb eu ev ew =
+    let r = ring_of t u v w e eu ev ew (subst (λ g. IsValidFace g) ef valid) in
+    let planes : gs ≡ tri_planes t = eg ∙ ap (λ (g : Face). g.edges) ef in
+    rw (ap (λ (g : Face). g.support) ef, ee, planes, em, eb) r
+
+-- ---- the outcome of `face_of`
+pub some_face : (b : Bool) (f g : Face) {r : Option Face} → r ≡ cond b None (Some g) → r ≡ Some f → (b ≡ false) × (f ≡ g)
+some_face true f g e h = absurd (none (sym e ∙ h))
+  where
+    none : None ≡ Some f → ⊥
+    none e = cc
+some_face false f g e h = (refl, same (sym h ∙ e))
+  where
+    same : Some f ≡ Some g → f ≡ g
+    same e = cc

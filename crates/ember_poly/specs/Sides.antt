@@ -1,0 +1,69 @@
+-- The sides of a ring from its lists, and what a ring keeps
+use Rattle.std.specs.Prelude.{◌≡◌, ◌⊎◌, ℕ, ◌≤◌, List, [], ◌∷◌, Some, slice_get, length, All, pos}
+use Rattle.std.specs.List.{AllByRecursion}
+use Rattle.ember_model.specs.declared.plane.Plane.{Plane}
+use Rattle.ember_model.specs.declared.point.Spot.{Spot}
+use Rattle.ember_model.specs.declared.face.Face.{Face}
+use Rattle.ember_model.specs.Planes.{value_at}
+use Rattle.ember_model.specs.Valid.{IsValidPlane}
+use Rattle.ember_model.specs.Edges.{SamePlace, RingEdge, IsOutline}
+use Rattle.ember_point.specs.declared.corner.Meet.{Meet}
+use Rattle.ember_point.specs.Points.{spot_of}
+use Rattle.ember_poly.specs.Rings.{Side, Closed, Stands}
+
+abbrev pub sides_of : List Plane → List Meet → List ℕ → List Side
+sides_of [] ms bs = []
+sides_of (e ∷ es) [] bs = []
+sides_of (e ∷ es) (m ∷ ms) [] = []
+sides_of (e ∷ es) (m ∷ ms) (b ∷ bs) = record { plane = e; corner = spot_of m; birth = b } ∷ sides_of es ms bs
+
+-- the first side's plane came first
+abbrev pub OldestFirst : List Side → Type 0
+OldestFirst [] = Unit {0}
+OldestFirst (s ∷ xs) = AllByRecursion (λ r. s.birth ≤ r.birth) xs
+
+-- some side's plane is the one at this place
+pub record IsBorn (place : ℕ) (xs : List Side) : Type 0 where
+  pub at : ℕ
+  pub side : Side
+  pub here : slice_get xs at ≡ Some side
+  pub birth : side.birth ≡ place
+
+-- the plane is 0 at one place of the closed ring at most
+abbrev pub IsSingle : Plane → List Side → Plane → Type 0
+IsSingle n xs h =
+    (u v : Spot) → Closed n xs u → Closed n xs v → value_at h u ≡ pos 0 → value_at h v ≡ pos 0 → SamePlace u v
+
+-- each plane of the face is that of a side, or its edge does not count
+abbrev pub AllCounted : Plane → List Plane → List Side → Type 0
+AllCounted n gs xs = (i : ℕ) (h : Plane) → slice_get gs i ≡ Some h → IsBorn i xs ⊎ IsSingle n xs h
+
+-- what a ring keeps: the support plane, all planes, and the edges with their corners and births
+pub record IsRing (n : Plane) (gs es : List Plane) (ms : List Meet) (bs : List ℕ) : Type 0 where
+  pub stands : Stands n gs (sides_of es ms bs)
+  pub oldest : OldestFirst (sides_of es ms bs)
+  pub counted : AllCounted n gs (sides_of es ms bs)
+  pub corners : length ms ≡ length es
+  pub births : length bs ≡ length es
+  pub support : IsValidPlane n
+  pub planes : All IsValidPlane gs
+
+-- ---- the edges with their start corners
+abbrev pub ring_edges : List Plane → List Meet → List RingEdge
+ring_edges [] ms = []
+ring_edges (e ∷ es) [] = []
+ring_edges (e ∷ es) (m ∷ ms) = record { plane = e; start = spot_of m } ∷ ring_edges es ms
+
+-- the edge planes of the outline of f, in order
+pub record AreEdges (f : Face) (es : List Plane) : Type 0 where
+  pub starts : List Meet
+  pub outline : IsOutline f (ring_edges es starts)
+  pub paired : length starts ≡ length es
+  pub three : 3 ≤ length es
+
+-- the start corners of the outline of f, in order
+pub record AreCorners (f : Face) (ms : List Meet) : Type 0 where
+  pub planes : List Plane
+  pub outline : IsOutline f (ring_edges planes ms)
+  pub paired : length ms ≡ length planes
+  pub three : 3 ≤ length ms
