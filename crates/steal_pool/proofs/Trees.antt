@@ -151,7 +151,7 @@ both_left : (j : List Entry) → KeepsBoth j → KeepsLeft j
 both_left j both h = omega (arith, both h, more_weight (at_left h) (at_halves h) (λ e. halved_more e.kind (h (2 * e.path)) (h (2 * e.path) + h (2 * e.path + 1)) (omega arith)) j)
 
 keeps_at : (js : List (List Entry)) (k : ℕ) → EachKeeps js → KeepsLeft (journal_of k js)
-keeps_at [] k e h = omega arith
+keeps_at [] k e = λ h. omega arith
 keeps_at (j ∷ js) zero e = e.0
 keeps_at (j ∷ js) (suc k) e = keeps_at js k e.1
 

@@ -8,9 +8,10 @@ mod owners;
 mod pool;
 mod rule;
 mod seat;
+mod tree;
 mod turns;
 
 pub use gate::{Gate, OpenGate};
 pub use harvest::{Harvest, PartList};
-pub use pool::run_named;
+pub use tree::{run_alone, run_tree};
 

@@ -5,14 +5,14 @@ use Rattle.steal_pool.proofs.Trees.{told_all, visited_valid, keep_rules, are_par
 use Rattle.steal_pool.proofs.tree.run_alone.Goals as goal
 
 pub run_alone_for-requires-clause-call : goal.run_alone_for-requires-clause-call
-run_alone_for-requires-clause-call g c κs within =
+run_alone_for-requires-clause-call g c =
     let valid = visited_valid (g.W.Work.shape c.args.step.now.work) (g.W.Work.item c.args.step.now.work) (g.W.Work.valid c.args.step.now.work) c.args.root (λ j l r v is. (g.W.Work.halves_valid c.args.step.now.work j l r v is, g.W.Work.halves_split c.args.step.now.work j l r v is)) c.requires.root in record {
       runs = λ p w. c.requires.step.runs p (valid p.now w);
       tells = λ p r w done. told_all (g.W.Work.shape c.args.step.now.work) (g.W.Work.item c.args.step.now.work) (g.W.Work.valid c.args.step.now.work) c.args.root (λ j l r v is. (g.W.Work.halves_valid c.args.step.now.work j l r v is, g.W.Work.halves_split c.args.step.now.work j l r v is)) p.now r w (valid p.now w) (c.requires.step.tells p r (valid p.now w) done);
     }
 
 pub run_alone_for-requires-clause-root : goal.run_alone_for-requires-clause-root
-run_alone_for-requires-clause-root g c κs within = root_visited
+run_alone_for-requires-clause-root g c = root_visited
 
 pub returns-clause-parts : goal.returns-clause-parts
 returns-clause-parts g c = are_parts (g.W.Work.shape c.args.step.now.work) c.args.root c.in-Ok.harvest.parts (c.in-Ok.harvest.journals ++ [] ∷ []) (g.W.Work.item c.args.step.now.work) c.in-Ok.ensures.sums c.in-Ok.ensures.found
