@@ -1,5 +1,5 @@
 -- Boxes: the root, its halves, and the paths that name them.
-use Rattle.std.specs.Prelude.{◌≡◌, ℕ, zero, suc, pred, ◌+◌, ◌*◌, ◌^◌, ◌-◌, ◌<◌, ◌≤◌, List, [], ◌∷◌, ℤ, pos, ◌+ℤ◌, ◌-ℤ◌, neg_ℤ, refl}
+use Rattle.std.specs.Prelude.{◌≡◌, ℕ, zero, suc, pred, ◌+◌, ◌*◌, ◌^◌, ◌-◌, ◌<◌, ◌≤◌, List, [], ◌∷◌, ℤ, pos, ◌+ℤ◌, ◌-ℤ◌, neg_ℤ, refl, slice_index_or}
 use Rattle.std.specs.Coded.{Coded, code_by, coded×, coded_ℕ, coded_ℤ}
 use Rattle.std.proofs.Common.{ap}
 use Rattle.std.proofs.Math.Path.{fun_ext}
@@ -71,7 +71,7 @@ pub record Sits (low : ℤ) (log : ℕ) : Type 0 where
 pub record IsCell (c : Cell) : Type 0 where
   pub sits : (k : Axis) → Sits (low c k) (c.log k)
   pub from : 2 ^ 36 ≤ c.path * 2 ^ left c
-  pub below : c.path * 2 ^ left c < 2 ^ 37
+  pub below : (c.path + 1) * 2 ^ left c ≤ 2 ^ 37
 
 abbrev pub three : {T : Type 0} → T → T → T → Axis → T
 three x y z X = x
@@ -91,13 +91,17 @@ abbrev pub cell_code : Coded Cell
 cell_code =
     code_by (ℤ × (ℤ × (ℤ × (ℕ × (ℕ × (ℕ × ℕ)))))) (coded× coded_ℤ (coded× coded_ℤ (coded× coded_ℤ (coded× coded_ℕ (coded× coded_ℕ (coded× coded_ℕ coded_ℕ)))))) (λ c. (c.lo.x, (c.lo.y, (c.lo.z, (c.log X, (c.log Y, (c.log Z, c.path))))))) (λ p. cell_with p.0 p.1.0 p.1.1.0 p.1.1.1.0 p.1.1.1.1.0 p.1.1.1.1.1.0 p.1.1.1.1.1.1) (λ c. ap (λ f. record { lo = c.lo; log = f; path = c.path }) (fun_ext (same_log c.log)))
 
--- the entry at a place, and `d` past the end
-abbrev pub entry_or : {T : Type 0} → T → List T → ℕ → T
-entry_or d [] i = d
-entry_or d (x ∷ xs) zero = x
-entry_or d (x ∷ xs) (suc i) = entry_or d xs i
+-- a coordinate that is counted from the corner of the root box
+abbrev pub coordinate : ℕ → ℤ
+coordinate n = pos n -ℤ pos 2048
 
--- the box of three coordinates and three logarithms
-abbrev pub cell_of : List ℤ → List ℕ → ℕ → Cell
-cell_of lo log path =
-    cell_with (entry_or (pos 0) lo 0) (entry_or (pos 0) lo 1) (entry_or (pos 0) lo 2) (entry_or 0 log 0) (entry_or 0 log 1) (entry_or 0 log 2) path
+-- the box of three such coordinates and three logarithms, in the order of the axes
+abbrev pub cell_of : List ℕ → List ℕ → ℕ → Cell
+cell_of from log path =
+    cell_with (coordinate (slice_index_or from 0 0)) (coordinate (slice_index_or from 1 0)) (coordinate (slice_index_or from 2 0)) (slice_index_or log 0 0) (slice_index_or log 1 0) (slice_index_or log 2 0) path
+
+-- the place of an axis in that order
+abbrev pub place_of : Axis → ℕ
+place_of X = 0
+place_of Y = 1
+place_of Z = 2

@@ -3,4 +3,4 @@
 
 mod cell;
 
-pub use cell::{Cell, root};
+pub use cell::{Cell, halves, root};
