@@ -44,6 +44,17 @@ impl Cell {
     {
         self.path
     }
+
+    /// The logarithm of its side along an axis.
+    pub fn log(&self, k: Axis) -> u8
+        ensures { result ≡ self.now.log k }
+    {
+        match k {
+            Axis::X => self.log[0],
+            Axis::Y => self.log[1],
+            Axis::Z => self.log[2],
+        }
+    }
 }
 
 // The place of an axis in the order x, y, z.
