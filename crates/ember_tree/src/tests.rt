@@ -5,7 +5,12 @@ use std::test::Fail;
 #[test]
 fn every_order_of_the_parts_merges_alike(rt: HostRuntime) -> Result<(), Fail> {
     let alloc = rt.alloc();
-    for paths in [[4u64, 10, 11, 3], [3, 11, 10, 4], [10, 11, 3, 4], [11, 3, 4, 10]] {
+    for paths in [
+        [4u64, 10, 11, 3],
+        [3, 11, 10, 4],
+        [10, 11, 3, 4],
+        [11, 3, 4, 10],
+    ] {
         let mut parts = Vec::new(alloc);
         for path in paths {
             let Ok(()) = parts.push(Part { path, item: path }) else {

@@ -23,9 +23,11 @@ pub fn merge<I: Drop>(alloc: Global, parts: Vec<Part<I>>) -> Result<Vec<I>, OutO
     ensures { IfOk result (λ v. IsMerged parts.items v.items) }
 {
     let mut sorted = parts;
-    sorted.sort_by_key(|part: &Part<I>| -> u64
-        ensures { result ≡ tree_place part.now.path }
-    { place(part.path) })?;
+    sorted.sort_by_key(
+        |part: &Part<I>| -> u64
+            ensures { result ≡ tree_place part.now.path }
+        { place(part.path) },
+    )?;
     let mut items = Vec::with_capacity(alloc, sorted.len())?;
     sorted.reverse();
     while let Some(part) = sorted.pop() {

@@ -5,3 +5,6 @@ pub mod Lends
 pub mod Tables
 pub mod Gathered
 pub mod Trees
+pub mod Halvings
+pub mod Places
+pub mod Merging

@@ -35,10 +35,10 @@ right_less c X above = omega (arith, less_one (c.log X) above)
 right_less c Y above = omega (arith, less_one (c.log Y) above)
 right_less c Z above = omega (arith, less_one (c.log Z) above)
 
-low_less : (c l r : Cell) → IsSplit c l r → left l + 1 ≡ left c
+pub low_less : (c l r : Cell) → IsSplit c l r → left l + 1 ≡ left c
 low_less c l r s = ap (λ x. left x + 1) s.is_low ∙ left_less c s.axis s.may_halve
 
-high_less : (c l r : Cell) → IsSplit c l r → left r + 1 ≡ left c
+pub high_less : (c l r : Cell) → IsSplit c l r → left r + 1 ≡ left c
 high_less c l r s = ap (λ x. left x + 1) s.is_high ∙ right_less c s.axis s.may_halve
 
 module _ (shape : Job → Shape) where
@@ -52,11 +52,11 @@ module _ (shape : Job → Shape) where
       two : d ≡ left r.cell
       two = omega (arith, at, high)
 
-  leaf_visits : (d : ℕ) (j : Job) → shape j ≡ leafed → visited_within shape d j ≡ j ∷ []
+  pub leaf_visits : (d : ℕ) (j : Job) → shape j ≡ leafed → visited_within shape d j ≡ j ∷ []
   leaf_visits zero j is = refl
   leaf_visits (suc d) j is = ap (below_shape (visited_within shape d) j) is
 
-  passed_visits : (d : ℕ) (j : Job) → shape j ≡ passed → visited_within shape d j ≡ j ∷ []
+  pub passed_visits : (d : ℕ) (j : Job) → shape j ≡ passed → visited_within shape d j ≡ j ∷ []
   passed_visits zero j is = refl
   passed_visits (suc d) j is = ap (below_shape (visited_within shape d) j) is
 

@@ -5,3 +5,5 @@ pub mod Owners
 pub mod Tables
 pub mod Gathers
 pub mod Journals
+pub mod Halving
+pub mod Merged

@@ -4,14 +4,18 @@
 mod alone;
 mod gate;
 mod harvest;
+mod law;
 mod owners;
 mod pool;
 mod rule;
 mod seat;
+#[cfg(test)]
+mod tests;
 mod tree;
 mod turns;
 
-pub use gate::{Gate, OpenGate};
+pub use gate::{DepthGate, Gate, OpenGate, TURNS};
 pub use harvest::{Harvest, PartList};
+pub use law::{items_that_answer_are_equal, merged_items_answer_the_leaves};
 pub use tree::{run_alone, run_tree};
 
