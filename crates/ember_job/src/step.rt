@@ -30,6 +30,7 @@ pub trait Work {
 }
 
 /// A step over a work: the closure stands beside the work whose jobs it answers.
+#[derive(Drop)]
 pub struct Step<W: Work, F: Fn(&Job) -> Result<Outcome<W::Item>, OutOfMemory>> {
     pub work: W,
     pub call: F,

@@ -8,3 +8,5 @@ pub mod Trees
 pub mod Halvings
 pub mod Places
 pub mod Merging
+pub mod Owned
+pub mod CoreOwned

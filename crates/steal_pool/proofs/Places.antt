@@ -60,12 +60,9 @@ fits_high j l r s f =
       below = omega (arith, f.below, at, size);
     }
 
--- the place by the path alone
-pub place_is : (j : Job) → Fits j → tree_place j.cell.path ≡ base j * 2 ^ 27
-place_is j f = ap (λ n. j.cell.path * 2 ^ n) (sym zeros) ∙ ap (λ x. j.cell.path * x) (pow-add 2 (left j.cell) 27) ∙ assoc j.cell.path (2 ^ left j.cell) (2 ^ 27) where
-  assoc : (a b c : ℕ) → a * (b * c) ≡ a * b * c
-  assoc a b c = omega arith
-
+-- a path's digits tell how deep its box lies
+pub zeros_are : (j : Job) → Fits j → left j.cell + 27 ≡ leading_zeros w64 j.cell.path
+zeros_are j f = leading_unique 64 j.cell.path (left j.cell + 27) (37 - left j.cell) (omega (arith, f.few)) small (omega (arith, twice, large)) where
   whole : 2 ^ (37 - left j.cell) * 2 ^ left j.cell ≡ 2 ^ 37
   whole = sym (pow-add 2 (37 - left j.cell) (left j.cell)) ∙ ap (λ n. 2 ^ n) (sum (left j.cell) f.few) where
     sum : (n : ℕ) → n ≤ 36 → 37 - n + n ≡ 37
@@ -89,8 +86,11 @@ place_is j f = ap (λ n. j.cell.path * 2 ^ n) (sym zeros) ∙ ap (λ x. j.cell.p
     spread : (a x : ℕ) → (a + 1) * x ≡ a * x + x
     spread a x = omega arith
 
-  zeros : left j.cell + 27 ≡ leading_zeros w64 j.cell.path
-  zeros = leading_unique 64 j.cell.path (left j.cell + 27) (37 - left j.cell) (omega (arith, f.few)) small (omega (arith, twice, large))
+-- the place by the path alone
+pub place_is : (j : Job) → Fits j → tree_place j.cell.path ≡ base j * 2 ^ 27
+place_is j f = ap (λ n. j.cell.path * 2 ^ n) (sym (zeros_are j f)) ∙ ap (λ x. j.cell.path * x) (pow-add 2 (left j.cell) 27) ∙ assoc j.cell.path (2 ^ left j.cell) (2 ^ 27) where
+  assoc : (a b c : ℕ) → a * (b * c) ≡ a * b * c
+  assoc a b c = omega arith
 
 -- these jobs stand in ascending places, from one bound to another
 abbrev pub Within : ℕ → ℕ → List Job → Type 0

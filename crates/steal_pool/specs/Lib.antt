@@ -7,3 +7,4 @@ pub mod Gathers
 pub mod Journals
 pub mod Halving
 pub mod Merged
+pub mod CoreRuns

@@ -16,6 +16,7 @@ impl Gate for OpenGate {
 }
 
 /// The gate of the tests. It holds each box of one depth until all boxes of that depth have come, each for at most `TURNS` turns. Once a box has waited so long, it lets every box pass.
+#[derive(Drop)]
 pub struct DepthGate {
     depth: u32,
     come: AtomicU64,

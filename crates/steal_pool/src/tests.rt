@@ -15,6 +15,7 @@ use std::sync::atomic::{AtomicU64, Ordering};
 use std::test::Fail;
 
 // The work of the tests.
+#[derive(Drop)]
 struct Halving {}
 
 impl Work for Halving {
