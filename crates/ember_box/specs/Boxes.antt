@@ -1,0 +1,107 @@
+-- Boxes: the root, its halves, and the paths that name them.
+use Rattle.std.specs.Prelude.{◌≡◌, ℕ, zero, suc, pred, ◌+◌, ◌*◌, ◌^◌, ◌-◌, ◌<◌, ◌≤◌, List, [], ◌∷◌, ℤ, pos, ◌+ℤ◌, ◌-ℤ◌, neg_ℤ, refl, slice_index_or}
+use Rattle.std.specs.Coded.{Coded, code_by, coded×, coded_ℕ, coded_ℤ}
+use Rattle.std.proofs.Common.{ap}
+use Rattle.std.proofs.Math.Path.{fun_ext}
+use Rattle.ember_algebra.specs.Vector.{Vector}
+use Rattle.ember_model.specs.declared.point.Axis.{Axis}
+use Rattle.ember_model.specs.declared.point.Axis.TheVariants.{X, Y, Z}
+
+-- a box: its least corner, the logarithm of its side along each axis, and its path
+pub record Cell : Type 0 where
+  pub lo : Vector
+  pub log : Axis → ℕ
+  pub path : ℕ
+
+abbrev pub along : Axis → Vector → ℤ
+along X v = v.x
+along Y v = v.y
+along Z v = v.z
+
+-- v with k more along an axis
+abbrev pub shifted_by : Axis → ℤ → Vector → Vector
+shifted_by X k v = record v { x = v.x +ℤ k }
+shifted_by Y k v = record v { y = v.y +ℤ k }
+shifted_by Z k v = record v { z = v.z +ℤ k }
+
+abbrev pub side : Cell → Axis → ℤ
+side c k = pos (2 ^ c.log k)
+
+abbrev pub low : Cell → Axis → ℤ
+low c k = along k c.lo
+
+abbrev pub high : Cell → Axis → ℤ
+high c k = low c k +ℤ side c k
+
+abbrev pub root : Cell
+root = record { lo = record { x = neg_ℤ (pos 2048); y = neg_ℤ (pos 2048); z = neg_ℤ (pos 2048) }; log = λ k. 12; path = 1 }
+
+-- how many halvings a box may still have
+abbrev pub left : Cell → ℕ
+left c = c.log X + c.log Y + c.log Z
+
+-- f with n in place of its value at k
+abbrev pub put : Axis → ℕ → (Axis → ℕ) → Axis → ℕ
+put X n f X = n
+put X n f Y = f Y
+put X n f Z = f Z
+put Y n f X = f X
+put Y n f Y = n
+put Y n f Z = f Z
+put Z n f X = f X
+put Z n f Y = f Y
+put Z n f Z = n
+
+-- the halves along an axis: the lower one, and the upper one
+abbrev pub left_half : Cell → Axis → Cell
+left_half c k = record { lo = c.lo; log = put k (pred (c.log k)) c.log; path = 2 * c.path }
+
+abbrev pub right_half : Cell → Axis → Cell
+right_half c k =
+    record { lo = shifted_by k (pos (2 ^ pred (c.log k))) c.lo; log = put k (pred (c.log k)) c.log; path = 2 * c.path + 1 }
+
+-- along an axis a box has one of the places of its side in the root's
+pub record Sits (low : ℤ) (log : ℕ) : Type 0 where
+  pub small : log ≤ 12
+  pub place : ℕ
+  pub at : low +ℤ pos 2048 ≡ pos (place * 2 ^ log)
+  pub within : (place + 1) * 2 ^ log ≤ 4096
+
+-- what every box keeps
+pub record IsCell (c : Cell) : Type 0 where
+  pub sits : (k : Axis) → Sits (low c k) (c.log k)
+  pub from : 2 ^ 36 ≤ c.path * 2 ^ left c
+  pub below : (c.path + 1) * 2 ^ left c ≤ 2 ^ 37
+
+abbrev pub three : {T : Type 0} → T → T → T → Axis → T
+three x y z X = x
+three x y z Y = y
+three x y z Z = z
+
+abbrev pub cell_with : ℤ → ℤ → ℤ → ℕ → ℕ → ℕ → ℕ → Cell
+cell_with x y z i j k path = record { lo = record { x = x; y = y; z = z }; log = three i j k; path = path }
+
+pub same_log : (f : Axis → ℕ) (k : Axis) → three (f X) (f Y) (f Z) k ≡ f k
+same_log f X = refl
+same_log f Y = refl
+same_log f Z = refl
+
+-- a box is stored as its seven numbers
+abbrev pub cell_code : Coded Cell
+cell_code =
+    code_by (ℤ × (ℤ × (ℤ × (ℕ × (ℕ × (ℕ × ℕ)))))) (coded× coded_ℤ (coded× coded_ℤ (coded× coded_ℤ (coded× coded_ℕ (coded× coded_ℕ (coded× coded_ℕ coded_ℕ)))))) (λ c. (c.lo.x, (c.lo.y, (c.lo.z, (c.log X, (c.log Y, (c.log Z, c.path))))))) (λ p. cell_with p.0 p.1.0 p.1.1.0 p.1.1.1.0 p.1.1.1.1.0 p.1.1.1.1.1.0 p.1.1.1.1.1.1) (λ c. ap (λ f. record { lo = c.lo; log = f; path = c.path }) (fun_ext (same_log c.log)))
+
+-- a coordinate that is counted from the corner of the root box
+abbrev pub coordinate : ℕ → ℤ
+coordinate n = pos n -ℤ pos 2048
+
+-- the box of three such coordinates and three logarithms, in the order of the axes
+abbrev pub cell_of : List ℕ → List ℕ → ℕ → Cell
+cell_of from log path =
+    cell_with (coordinate (slice_index_or from 0 0)) (coordinate (slice_index_or from 1 0)) (coordinate (slice_index_or from 2 0)) (slice_index_or log 0 0) (slice_index_or log 1 0) (slice_index_or log 2 0) path
+
+-- the place of an axis in that order
+abbrev pub place_of : Axis → ℕ
+place_of X = 0
+place_of Y = 1
+place_of Z = 2

@@ -1,0 +1,120 @@
+// A box that came from the root by halving.
+ghost use Rattle.std.specs.Prelude.{◌≡◌, ◌<◌, ◌≤◌, ◌^◌};
+ghost use Rattle.ember_box.specs.Boxes as boxes;
+
+use ember_model::Axis;
+use std::marker::Model;
+
+/// The half-open box from its least corner `lo` on, with the side `2^log` along each axis. Its depth is 36 less the sum of the three logs: the number of halvings that made it of the root. Its path has one binary digit more than its depth.
+#[derive(Drop)]
+pub struct Cell {
+    // the least corner, counted from the corner of the root box
+    from: [u32; 3],
+    log: [u8; 3],
+    path: u64,
+}
+
+impl Model for Cell {
+    ghost use Rattle.ember_box.specs.Boxes.{Cell as Box, cell_code, cell_of, IsCell};
+
+    ghost Value = { Box };
+
+    ghost coded = { cell_code };
+
+    ghost view = { λ a. cell_of a.from a.log a.path };
+
+    ghost invariant = { λ a. IsCell (cell_of a.from a.log a.path) };
+}
+
+/// The root box, `[-2048, 2048)^3`, with path 1.
+pub fn root() -> Cell
+    ensures { result ≡ boxes.root }
+{
+    Cell {
+        from: [0, 0, 0],
+        log: [12, 12, 12],
+        path: 1,
+    }
+}
+
+impl Cell {
+    /// The path of the box.
+    pub fn path(&self) -> u64
+        ensures { result ≡ self.now.path }
+    {
+        self.path
+    }
+
+    /// The logarithm of its side along an axis.
+    pub fn log(&self, k: Axis) -> u8
+        ensures { result ≡ self.now.log k }
+    {
+        match k {
+            Axis::X => self.log[0],
+            Axis::Y => self.log[1],
+            Axis::Z => self.log[2],
+        }
+    }
+}
+
+// The place of an axis in the order x, y, z.
+fn place(k: Axis) -> usize
+    ensures place { result ≡ boxes.place_of k }
+    ensures below { result < 3 }
+{
+    match k {
+        Axis::X => 0,
+        Axis::Y => 1,
+        Axis::Z => 2,
+    }
+}
+
+// The side with this logarithm.
+fn side_of(log: u8) -> u32
+    requires { log ≤ 12 }
+    ensures { result ≡ 2 ^ log }
+{
+    1u32 << log
+}
+
+// The half of a box with the smaller coordinates.
+fn lower(c: &Cell, k: Axis) -> Cell
+    requires { 0 < c.now.log k }
+    ensures { result ≡ boxes.left_half c.now k }
+{
+    let i = place(k);
+    let mut log = c.log;
+    log[i] -= 1;
+    Cell {
+        from: c.from,
+        log,
+        path: 2 * c.path,
+    }
+}
+
+// The half with the larger coordinates.
+fn upper(c: &Cell, k: Axis) -> Cell
+    requires { 0 < c.now.log k }
+    ensures { result ≡ boxes.right_half c.now k }
+{
+    let i = place(k);
+    let half = c.log[i] - 1;
+    let at = c.from[i] + side_of(half);
+    let mut log = c.log;
+    log[i] = half;
+    let mut from = c.from;
+    from[i] = at;
+    Cell {
+        from,
+        log,
+        path: 2 * c.path + 1,
+    }
+}
+
+/// The two halves of a box along an axis, the one with the smaller coordinates first. Its side along that axis is above 1.
+pub fn halves(c: &Cell, k: Axis) -> (Cell, Cell)
+    requires { 0 < c.now.log k }
+    ensures { (result.0 ≡ boxes.left_half c.now k) × (result.1 ≡ boxes.right_half c.now k) }
+{
+    (lower(c, k), upper(c, k))
+}

@@ -1,0 +1,52 @@
+-- The boxes that are visited from a root.
+use Rattle.std.specs.Prelude.{◌≡◌, ℕ, zero, suc, ◌+◌, List, [], ◌∷◌, ◌++◌}
+use Rattle.ember_box.specs.Boxes.{left}
+use Rattle.ember_job.specs.declared.job.Job.{Job}
+use Rattle.ember_job.specs.declared.job.Kind.{Kind}
+use Rattle.ember_job.specs.declared.job.Kind.TheVariants.{Halved, Leafed, Passed}
+use Rattle.ember_job.specs.declared.job.Entry.{Entry}
+use Rattle.ember_job.specs.Works.{Shape, halved, leafed, passed}
+
+-- the root is visited, and so are the two halves of each visited job that is halved
+pub data IsVisited (shape : Job → Shape) (root : Job) : Job → Type 0 where
+  root_visited : IsVisited shape root root
+  left_visited : (job low high : Job) → IsVisited shape root job → shape job ≡ halved low high → IsVisited shape root low
+  right_visited : (job low high : Job) → IsVisited shape root job → shape job ≡ halved low high → IsVisited shape root high
+
+abbrev pub kind_of : Shape → Kind
+kind_of (halved low high) = Halved
+kind_of leafed = Leafed
+kind_of passed = Passed
+
+-- the entry of a visited box
+abbrev pub entry : ℕ → Kind → Entry
+entry path kind = record { path = path; kind = kind }
+
+abbrev pub entry_of : (Job → Shape) → Job → Entry
+entry_of shape job = entry job.cell.path (kind_of (shape job))
+
+-- the visited jobs from a job on, each before those below it, left half first; at most this many halvings deep
+abbrev pub below_shape : (Job → List Job) → Job → Shape → List Job
+below_shape below job (halved low high) = job ∷ below low ++ below high
+below_shape below job leafed = job ∷ []
+below_shape below job passed = job ∷ []
+
+abbrev pub visited_within : (Job → Shape) → ℕ → Job → List Job
+visited_within shape zero job = job ∷ []
+visited_within shape (suc n) job = below_shape (visited_within shape n) job (shape job)
+
+abbrev pub visited : (Job → Shape) → Job → List Job
+visited shape job = visited_within shape (left job.cell) job
+
+-- the leaves among them, in tree order
+abbrev pub if_leafed : Job → Shape → List Job
+if_leafed job (halved low high) = []
+if_leafed job leafed = job ∷ []
+if_leafed job passed = []
+
+abbrev pub leaves_among : (Job → Shape) → List Job → List Job
+leaves_among shape [] = []
+leaves_among shape (job ∷ jobs) = if_leafed job (shape job) ++ leaves_among shape jobs
+
+abbrev pub leaves : (Job → Shape) → Job → List Job
+leaves shape root = leaves_among shape (visited shape root)

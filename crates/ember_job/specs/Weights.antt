@@ -1,0 +1,11 @@
+-- Sums over lists, by which lists are compared however their elements are weighed.
+use Rattle.std.specs.Prelude.{ℕ, ◌+◌, List, [], ◌∷◌, if◌then◌else◌, ◌==◌}
+
+-- the weights of all these, added up
+abbrev pub weigh : {X : Type 0} → (X → ℕ) → List X → ℕ
+weigh h [] = 0
+weigh h (x ∷ xs) = h x + weigh h xs
+
+-- 1 at this number, and 0 elsewhere
+abbrev pub one : ℕ → ℕ → ℕ
+one x y = if y == x then 1 else 0

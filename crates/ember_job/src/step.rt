@@ -1,0 +1,57 @@
+// A step that is kept beside what it answers.
+ghost use Rattle.std.specs.Prelude.{◌≡◌, ℕ, IfOk};
+ghost use Rattle.ember_job.specs.declared.job.Job.{Job};
+ghost use Rattle.ember_job.specs.Works.{Shape, halved, IsSplit, Answers, AnswersAll};
+
+use crate::{Job, OutOfMemory, Outcome};
+
+/// What a run does at its boxes. An outcome answers a job where it has the job's shape and, for a leaf, an item that answers the job.
+pub trait Work {
+    /// What a leaf gives.
+    type Item;
+
+    /// Which jobs are valid.
+    ghost valid: { Self → Job → Type 0 };
+
+    /// The shape of a job: its two halves, a leaf, or passed over.
+    ghost shape: { Self → Job → Shape };
+
+    /// Which items answer a job that is a leaf.
+    ghost item: { Self → Job → Self.Item → Type 0 };
+
+    /// The two halves that answer a valid job are valid.
+    ghost halves_valid: { (work : Self) (job low high : Job) → valid work job → shape work job ≡ halved low high → valid work low × valid work high };
+
+    /// They are the two halves of its box along one axis.
+    ghost halves_split: { (work : Self) (job low high : Job) → valid work job → shape work job ≡ halved low high → IsSplit job.cell low.cell high.cell };
+
+    /// Two items that answer one job are equal.
+    ghost one_item: { (work : Self) (job : Job) (one other : Self.Item) → item work job one → item work job other → one ≡ other };
+}
+
+/// A step over a work: the closure stands beside the work whose jobs it answers.
+#[derive(Drop)]
+pub struct Step<W: Work, F: Fn(&Job) -> Result<Outcome<W::Item>, OutOfMemory>> {
+    pub work: W,
+    pub call: F,
+}
+
+impl<W: Work, F: Fn(&Job) -> Result<Outcome<W::Item>, OutOfMemory>> Step<W, F> {
+    /// The step that calls `call`, which may be called at every valid job and whose every Ok answers that job.
+    pub fn new(work: W, call: F) -> Step<W, F>
+        requires { AnswersAll W.valid W.shape W.item F.pre F.post work call }
+        ensures kept { (result.work ≡ work) × (result.call ≡ call) }
+        ensures step { AnswersAll W.valid W.shape W.item F.pre F.post result.work result.call }
+    {
+        Step { work, call }
+    }
+
+    /// What answers a valid job. Its one error is that of the closure, want of memory.
+    pub fn go(&self, job: &Job) -> Result<Outcome<W::Item>, OutOfMemory>
+        requires step { AnswersAll W.valid W.shape W.item F.pre F.post self.now.work self.now.call }
+        requires valid { W.valid self.now.work job.now }
+        ensures { IfOk result (λ o. Answers (W.shape self.now.work) (W.item self.now.work) job.now o) }
+    {
+        (self.call)(job)
+    }
+}

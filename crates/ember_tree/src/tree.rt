@@ -1,0 +1,37 @@
+// Parts come in any order, and their items leave in that of the tree.
+ghost use Rattle.std.specs.Prelude.{◌≡◌, ◌*◌, ◌^◌, IfOk};
+ghost use Rattle.ember_tree.specs.Order.{tree_place, IsMerged};
+
+use crate::Part;
+use std::alloc::{AllocError, Global};
+
+/// The error of a call for which memory is short.
+pub type OutOfMemory = AllocError;
+
+// The path with its first digit moved to the front of 64 binary digits.
+fn place(path: u64) -> u64
+    ensures { result ≡ tree_place path }
+{
+    if path == 0 {
+        return 0;
+    }
+    path * (1u64 << path.leading_zeros())
+}
+
+/// The items in the order of the tree, left half first. No path is the beginning of another, read as binary digits, and each is from 1 to `2^37 - 1`; so the order of the parts has no part in the answer. Its one error is want of memory.
+pub fn merge<I: Drop>(alloc: Global, parts: Vec<Part<I>>) -> Result<Vec<I>, OutOfMemory>
+    ensures { IfOk result (λ v. IsMerged parts.items v.items) }
+{
+    let mut sorted = parts;
+    sorted.sort_by_key(
+        |part: &Part<I>| -> u64
+            ensures { result ≡ tree_place part.now.path }
+        { place(part.path) },
+    )?;
+    let mut items = Vec::with_capacity(alloc, sorted.len())?;
+    sorted.reverse();
+    while let Some(part) = sorted.pop() {
+        items.push_reserved(part.item);
+    }
+    Ok(items)
+}

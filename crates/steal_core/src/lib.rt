@@ -1,0 +1,14 @@
+//! The box core: which box of a run each worker holds, has queued or has ended, and how boxes move.
+//!
+//! It is a pure machine. Worker `k` of `n` workers has hand `k` and deque `k`; number `n` is the caller, who has a hand alone. At the start worker 0 holds box 1. A box has a path `p`, and its halves have the paths `2 * p` and `2 * p + 1`.
+#![tactic(auto)]
+
+mod law;
+mod place;
+mod state;
+#[cfg(test)]
+mod tests;
+
+pub use law::{ended_boxes_come_in_pairs, every_list_of_events, journals_are_a_run};
+pub use place::{Event, Place, Placed};
+pub use state::{OutOfMemory, State};

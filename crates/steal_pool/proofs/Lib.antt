@@ -1,0 +1,12 @@
+pub mod Rules
+pub mod Passes
+pub mod Sums
+pub mod Lends
+pub mod Tables
+pub mod Gathered
+pub mod Trees
+pub mod Halvings
+pub mod Places
+pub mod Merging
+pub mod Owned
+pub mod CoreOwned

@@ -1,0 +1,130 @@
+-- The leaves of a tree stand in ascending places, and two visited jobs with one path are one.
+use Rattle.std.proofs.Common.{◌≡◌, ◌≢◌, ◌⊎◌, ℕ, zero, suc, pred, ◌+◌, ◌-◌, ◌*◌, ◌^◌, ◌<◌, ◌≤◌, List, [], ◌∷◌, ◌++◌, Bool, true, false, true≢false, refl, sym, ap, ap₂, ◌∙◌, subst, append_assoc, inl, inr, arith}
+use Rattle.std.proofs.Math.Nat.{lt_of_mul-lt-mul_right, pow-succ'}
+use Rattle.std.proofs.lemmas.Nat.{pow-add, pow_pos}
+use Rattle.std.specs.Int.{leading_zeros, w64}
+use Rattle.std.specs.Int.Count.{leading_unique}
+use Rattle.ember_box.specs.Boxes.{Cell, left, root}
+use Rattle.ember_job.specs.declared.job.Job.{Job}
+use Rattle.ember_job.specs.Works.{Shape, halved, leafed, passed, IsSplit}
+use Rattle.ember_job.specs.Visited.{IsVisited, root_visited, left_visited, right_visited, visited, visited_within, if_leafed, leaves_among, leaves}
+use Rattle.ember_tree.specs.Order.{tree_place}
+use Rattle.steal_pool.proofs.Trees.{halved_visits, leaf_visits, passed_visits, low_less, high_less}
+
+-- the place of a box among 2^36 smallest ones, and a bound on what is below it
+abbrev pub base : Job → ℕ
+base j = j.cell.path * 2 ^ left j.cell
+
+pub record Fits (j : Job) : Type 0 where
+  pub few : left j.cell ≤ 36
+  pub from : 2 ^ 36 ≤ j.cell.path * 2 ^ left j.cell
+  pub below : j.cell.path * 2 ^ left j.cell + 2 ^ left j.cell ≤ 2 ^ 37
+
+pub fits_root : (j : Job) → j.cell ≡ root → Fits j
+fits_root j at = record {
+  few = subst (λ (c : Cell). left c ≤ 36) (sym at) (omega arith);
+  from = subst (λ (c : Cell). 2 ^ 36 ≤ c.path * 2 ^ left c) (sym at) (omega arith);
+  below = subst (λ (c : Cell). c.path * 2 ^ left c + 2 ^ left c ≤ 2 ^ 37) (sym at) (omega arith);
+}
+
+double : (p m : ℕ) → p * 2 ^ suc m ≡ 2 * (p * 2 ^ m)
+double p m = ap (λ x. p * x) (pow-succ' 2 m) ∙ omega arith
+
+-- the halves share their box's place
+pub low_base : (p q l m : ℕ) → m + 1 ≡ l → q ≡ 2 * p → (q * 2 ^ m ≡ p * 2 ^ l) × (2 * 2 ^ m ≡ 2 ^ l)
+low_base p q l m e is = (ap (λ x. x * 2 ^ m) is ∙ (omega arith) ∙ sym (double p m) ∙ ap (λ n. p * 2 ^ n) same, sym (pow-succ' 2 m) ∙ ap (λ n. 2 ^ n) same) where
+  same : suc m ≡ l
+  same = omega (arith, e)
+
+pub high_base : (p q l m : ℕ) → m + 1 ≡ l → q ≡ 2 * p + 1 → q * 2 ^ m ≡ p * 2 ^ l + 2 ^ m
+high_base p q l m e is = ap (λ x. x * 2 ^ m) is ∙ spread p (2 ^ m) ∙ ap (λ x. x + 2 ^ m) (low_base p (2 * p) l m e refl).0 where
+  spread : (p x : ℕ) → (2 * p + 1) * x ≡ 2 * p * x + x
+  spread p x = omega arith
+
+pub fits_low : (j l r : Job) → IsSplit j.cell l.cell r.cell → Fits j → Fits l
+fits_low j l r s f =
+    let one = low_less j.cell l.cell r.cell s in
+    let at = low_base j.cell.path l.cell.path (left j.cell) (left l.cell) one (ap (λ (c : Cell). c.path) s.is_low) in record {
+      few = omega (arith, f.few, one);
+      from = omega (arith, f.from, at.0);
+      below = omega (arith, f.below, at.0, at.1);
+    }
+
+pub fits_high : (j l r : Job) → IsSplit j.cell l.cell r.cell → Fits j → Fits r
+fits_high j l r s f =
+    let one = high_less j.cell l.cell r.cell s in
+    let at = high_base j.cell.path r.cell.path (left j.cell) (left r.cell) one (ap (λ (c : Cell). c.path) s.is_high) in
+    let size = (low_base j.cell.path (2 * j.cell.path) (left j.cell) (left r.cell) one refl).1 in record {
+      few = omega (arith, f.few, one);
+      from = omega (arith, f.from, at);
+      below = omega (arith, f.below, at, size);
+    }
+
+-- a path's digits tell how deep its box lies
+pub zeros_are : (j : Job) → Fits j → left j.cell + 27 ≡ leading_zeros w64 j.cell.path
+zeros_are j f = leading_unique 64 j.cell.path (left j.cell + 27) (37 - left j.cell) (omega (arith, f.few)) small (omega (arith, twice, large)) where
+  whole : 2 ^ (37 - left j.cell) * 2 ^ left j.cell ≡ 2 ^ 37
+  whole = sym (pow-add 2 (37 - left j.cell) (left j.cell)) ∙ ap (λ n. 2 ^ n) (sum (left j.cell) f.few) where
+    sum : (n : ℕ) → n ≤ 36 → 37 - n + n ≡ 37
+    sum n few = omega (arith, few)
+
+  half : 2 ^ (36 - left j.cell) * 2 ^ left j.cell ≡ 2 ^ 36
+  half = sym (pow-add 2 (36 - left j.cell) (left j.cell)) ∙ ap (λ n. 2 ^ n) (sum (left j.cell) f.few) where
+    sum : (n : ℕ) → n ≤ 36 → 36 - n + n ≡ 36
+    sum n few = omega (arith, few)
+
+  twice : 2 ^ (37 - left j.cell) ≡ 2 * 2 ^ (36 - left j.cell)
+  twice = ap (λ n. 2 ^ n) (next (left j.cell) f.few) ∙ pow-succ' 2 (36 - left j.cell) where
+    next : (n : ℕ) → n ≤ 36 → 37 - n ≡ suc (36 - n)
+    next n few = omega (arith, few)
+
+  small : j.cell.path < 2 ^ (37 - left j.cell)
+  small = lt_of_mul-lt-mul_right (2 ^ left j.cell) (omega (arith, whole, f.below, pow_pos (left j.cell)))
+
+  large : 2 ^ (36 - left j.cell) < j.cell.path + 1
+  large = lt_of_mul-lt-mul_right (2 ^ left j.cell) (omega (arith, half, f.from, spread j.cell.path (2 ^ left j.cell), pow_pos (left j.cell))) where
+    spread : (a x : ℕ) → (a + 1) * x ≡ a * x + x
+    spread a x = omega arith
+
+-- the place by the path alone
+pub place_is : (j : Job) → Fits j → tree_place j.cell.path ≡ base j * 2 ^ 27
+place_is j f = ap (λ n. j.cell.path * 2 ^ n) (sym (zeros_are j f)) ∙ ap (λ x. j.cell.path * x) (pow-add 2 (left j.cell) 27) ∙ assoc j.cell.path (2 ^ left j.cell) (2 ^ 27) where
+  assoc : (a b c : ℕ) → a * (b * c) ≡ a * b * c
+  assoc a b c = omega arith
+
+-- these jobs stand in ascending places, from one bound to another
+abbrev pub Within : ℕ → ℕ → List Job → Type 0
+Within lo hi [] = lo ≤ hi
+Within lo hi (j ∷ js) = (lo ≤ base j) × Fits j × Within (base j + 1) hi js
+
+within_from : (lo low hi : ℕ) (js : List Job) → low ≤ lo → Within lo hi js → Within low hi js
+within_from lo low hi [] less w = omega (arith, less, w)
+within_from lo low hi (j ∷ js) less w = (omega (arith, less, w.0), w.1, w.2)
+
+within_append : (lo mid hi : ℕ) (xs ys : List Job) → Within lo mid xs → Within mid hi ys → Within lo hi (xs ++ ys)
+within_append lo mid hi [] ys a b = within_from mid lo hi ys a b
+within_append lo mid hi (x ∷ xs) ys a b = (a.0, a.1, within_append (base x + 1) mid hi xs ys a.2 b)
+
+module _ (shape : Job → Shape) (valid : Job → Type 0) where
+  abbrev pub Halves : Type 0
+  Halves = (j l r : Job) → valid j → shape j ≡ halved l r → (valid l × valid r) × IsSplit j.cell l.cell r.cell
+
+  leaves_append : (xs ys : List Job) → leaves_among shape (xs ++ ys) ≡ leaves_among shape xs ++ leaves_among shape ys
+  leaves_append [] ys = refl
+  leaves_append (x ∷ xs) ys = ap (λ zs. if_leafed x (shape x) ++ zs) (leaves_append xs ys) ∙ sym (append_assoc (if_leafed x (shape x)) (leaves_among shape xs) (leaves_among shape ys))
+
+  -- the leaves of a job stand within its place
+  pub leaves_within : (d : ℕ) (j : Job) → left j.cell ≡ d → Halves → valid j → Fits j → (s : Shape) → shape j ≡ s → Within (base j) (base j + 2 ^ left j.cell) (leaves_among shape (visited shape j))
+  leaves_within d j at h v f leafed is = subst (λ js. Within (base j) (base j + 2 ^ left j.cell) (leaves_among shape js)) (sym (leaf_visits shape (left j.cell) j is)) (subst (λ s. Within (base j) (base j + 2 ^ left j.cell) (if_leafed j s ++ [])) (sym is) (omega arith, f, omega (arith, pow_pos (left j.cell))))
+  leaves_within d j at h v f passed is = subst (λ js. Within (base j) (base j + 2 ^ left j.cell) (leaves_among shape js)) (sym (passed_visits shape (left j.cell) j is)) (subst (λ s. Within (base j) (base j + 2 ^ left j.cell) (if_leafed j s ++ [])) (sym is) (omega arith))
+  leaves_within zero j at h v f (halved l r) is = absurd (omega (arith, at, low_less j.cell l.cell r.cell (h j l r v is).1))
+  leaves_within (suc d) j at h v f (halved l r) is =
+      let k = h j l r v is in
+      let low = low_less j.cell l.cell r.cell k.1 in
+      let high = high_less j.cell l.cell r.cell k.1 in
+      let bl = low_base j.cell.path l.cell.path (left j.cell) (left l.cell) low (ap (λ (c : Cell). c.path) k.1.is_low) in
+      let br = high_base j.cell.path r.cell.path (left j.cell) (left r.cell) high (ap (λ (c : Cell). c.path) k.1.is_high) in
+      let sr = (low_base j.cell.path (2 * j.cell.path) (left j.cell) (left r.cell) high refl).1 in
+      let wl = leaves_within d l (omega (arith, at, low)) h k.0.0 (fits_low j l r k.1 f) (shape l) refl in
+      let wr = leaves_within d r (omega (arith, at, high)) h k.0.1 (fits_high j l r k.1 f) (shape r) refl in
+      subst (λ js. Within (base j) (base j + 2 ^ left j.cell) (leaves_among shape js)) (sym (halved_visits shape (left j.cell) j l r refl is low high)) (subst (λ s. Within (base j) (base j + 2 ^ left j.cell) (if_leafed j s ++ leaves_among shape (visited shape l ++ visited shape r))) (sym is) (subst (λ js. Within (base j) (base j + 2 ^ left j.cell) js) (sym (leaves_append (visited shape l) (visited shape r))) (within_append (base j) (base r) (base j + 2 ^ left j.cell) (leaves_among shape (visited shape l)) (leaves_among shape (visited shape r)) (subst (λ n. Within n (base r) (leaves_among shape (visited shape l))) bl.0 (subst (λ n. Within (base l) n (leaves_among shape (visited shape l))) (omega (arith, bl.0, bl.1, br, sr)) wl)) (subst (λ n. Within (base r) n (leaves_among shape (visited shape r))) (omega (arith, br, sr)) wr))))

@@ -1,0 +1,224 @@
+-- Each kind of step keeps the rule.
+use Rattle.std.proofs.Common.{◌≡◌, ◌≢◌, ◌≤◌, ◌<◌, ℕ, zero, suc, ◌+◌, ◌-◌, Bool, true, false, true≢false, List, [], ◌∷◌, ◌++◌, length, set, sym, refl, ap, ◌∙◌, subst, All, inl, inr, arith}
+use mathlib.Core.Option.{some, some-ne-none, some-injective}
+use lib.ListN.{get_elem?}
+use lib.Seq.{take-append_seam, drop-append_seam}
+use Rattle.std.proofs.lemmas.List.Elements.{All-append, All-take, All-drop}
+use Rattle.crossbeam_deque.specs.Tasks.{Pushes, Takes, Pops, Forks, Merges, Finds}
+use Rattle.crossbeam_deque.proofs.Lists.{at_set, at_snoc}
+use Rattle.ember_job.specs.declared.job.Job.{Job}
+use Rattle.steal_pool.specs.declared.rule.Hand.{Hand}
+use Rattle.ember_job.specs.Weights.{weigh}
+use Rattle.steal_pool.specs.Hands.{hand, owner_lent, guest_lent, Fits, Kept, Settles}
+
+pub weigh_append : {X : Type 0} (h : X → ℕ) (xs ys : List X) → weigh h (xs ++ ys) ≡ weigh h xs + weigh h ys
+weigh_append h [] ys = omega arith
+weigh_append h (x ∷ xs) ys = omega (arith, weigh_append h xs ys)
+
+-- the total after a change of one pass
+total_set : (f : Hand → ℕ) (views : List Hand) (port : ℕ) (v w : Hand) → get_elem? views port ≡ some v → weigh f (set views port w) + f v ≡ weigh f views + f w
+total_set f [] port v w at = absurd (some-ne-none v (sym at))
+total_set f (u ∷ us) zero v w at = let e : f u ≡ f v = ap f (some-injective u v at) in omega arith
+total_set f (u ∷ us) (suc port) v w at = omega (arith, total_set f us port v w at)
+
+total_at : (f : Hand → ℕ) (views : List Hand) (port : ℕ) (v : Hand) → get_elem? views port ≡ some v → f v ≤ weigh f views
+total_at f [] port v at = absurd (some-ne-none v (sym at))
+total_at f (u ∷ us) zero v at = let e : f u ≡ f v = ap f (some-injective u v at) in omega arith
+total_at f (u ∷ us) (suc port) v at = omega (arith, total_at f us port v at)
+
+total_none : (f : Hand → ℕ) (views : List Hand) → ((j : ℕ) (u : Hand) → get_elem? views j ≡ some u → f u ≡ 0) → weigh f views ≡ 0
+total_none f [] all = refl
+total_none f (u ∷ us) all = omega (arith, all 0 u refl, total_none f us (λ j w at. all (suc j) w at))
+
+total_one : (f : Hand → ℕ) (views : List Hand) (port : ℕ) (v : Hand) → get_elem? views port ≡ some v → ((j : ℕ) (u : Hand) → get_elem? views j ≡ some u → j ≢ port → f u ≡ 0) → weigh f views ≡ f v
+total_one f [] port v at others = absurd (some-ne-none v (sym at))
+total_one f (u ∷ us) zero v at others = let e : f u ≡ f v = ap f (some-injective u v at) in omega (arith, total_none f us (λ j w there. others (suc j) w there (λ p. absurd (omega arith))))
+total_one f (u ∷ us) (suc port) v at others = omega (arith, others 0 u refl (λ p. absurd (omega arith)), total_one f us port v at (λ j w there other. others (suc j) w there (λ p. other (omega arith))))
+
+fits_set : (owner : ℕ) (views : List Hand) (port : ℕ) (w : Hand) → ((j : ℕ) (u : Hand) → get_elem? views j ≡ some u → Fits owner j u) → Fits owner port w → (j : ℕ) (u : Hand) → get_elem? (set views port w) j ≡ some u → Fits owner j u
+fits_set owner views port w all mine j u at =
+    elim (at_set views port j w u at) [
+      | inl x ↦ subst (λ (y : ℕ × Hand). Fits owner y.0 y.1) (λ i. (sym x.0 i, x.1 i)) mine
+      | inr x ↦ all j u x.1
+    ]
+
+module _ (P : Job → Type 0) where
+  left : (xs ys : List Job) → All P (xs ++ ys) → All P xs
+  left xs ys h = subst (All P) (take-append_seam xs ys) (All-take P (length xs) (xs ++ ys) h)
+
+  right : (xs ys : List Job) → All P (xs ++ ys) → All P ys
+  right xs ys h = subst (All P) (drop-append_seam xs ys) (All-drop P (length xs) (xs ++ ys) h)
+
+  pub begins : Kept P [] (hand true 0 [] [] ∷ [])
+  begins = record { owner = 0; visited_all = λ i d l. absurd (omega arith); fits = only; same = λ h. refl; lent = refl } where
+    only : (port : ℕ) (v : Hand) → get_elem? (hand true 0 [] [] ∷ []) port ≡ some v → Fits 0 port v
+    only zero u at = ((λ _. refl), λ other. absurd (other refl))
+    only (suc j) u at = absurd (some-ne-none u (sym at))
+
+  pub pushes : (port : ℕ) (v : Hand) (xs : List Job) → v.owns ≡ true → All P xs → Pushes (Kept P) port v xs (λ w. w ≡ hand v.owns v.lent (v.pushed ++ xs) v.taken)
+  pushes port v xs own new items views k at =
+      let w : Hand = hand v.owns v.lent (v.pushed ++ xs) v.taken in
+      let here : port ≡ k.owner = (k.fits port v at).0 own in (
+        w,
+        record {
+          owner = k.owner;
+          visited_all = All-append P items xs k.visited_all new;
+          fits = fits_set k.owner views port w k.fits ((λ _. here), λ other. absurd (other here));
+          same = λ h. omega (arith, k.same h, total_set (λ u. weigh h u.pushed) views port v w at, total_set (λ u. weigh h u.taken) views port v w at, weigh_append h v.pushed xs, weigh_append h items xs);
+          lent = omega (arith, k.lent, total_set (λ u. guest_lent u.owns u.lent) views port v w at, total_set (λ u. owner_lent u.owns u.lent) views port v w at);
+        },
+        refl,
+      )
+
+  -- a pass has taken xs
+  took : (port : ℕ) (v : Hand) (xs items rest : List Job) (views : List Hand) → (k : Kept P items views) → get_elem? views port ≡ some v → All P rest → ((h : Job → ℕ) → weigh h items ≡ weigh h xs + weigh h rest) → (v.owns ≡ false → 0 < v.lent) → Kept P rest (set views port (hand v.owns v.lent v.pushed (v.taken ++ xs)))
+  took port v xs items rest views k at all split out =
+      let w : Hand = hand v.owns v.lent v.pushed (v.taken ++ xs) in record {
+        owner = k.owner;
+        visited_all = all;
+        fits = fits_set k.owner views port w k.fits ((k.fits port v at).0, λ other. (((k.fits port v at).1 other).0, λ none. absurd (mine v.owns refl other none)));
+        same = λ h. omega (arith, k.same h, split h, total_set (λ u. weigh h u.pushed) views port v w at, total_set (λ u. weigh h u.taken) views port v w at, weigh_append h v.taken xs);
+        lent = omega (arith, k.lent, total_set (λ u. guest_lent u.owns u.lent) views port v w at, total_set (λ u. owner_lent u.owns u.lent) views port v w at);
+      }
+    where
+      mine : (b : Bool) → v.owns ≡ b → port ≢ k.owner → v.lent ≡ 0 → ⊥
+      mine true e other none = other ((k.fits port v at).0 e)
+      mine false e other none = absurd (omega (arith, out e, none))
+
+  pub takes : (port : ℕ) (v : Hand) → (v.owns ≡ false → 0 < v.lent) → Takes (Kept P) port v 1 (λ xs w. (w ≡ hand v.owns v.lent v.pushed (v.taken ++ xs)) × All P xs)
+  takes port v out xs items views some_box few k at = (hand v.owns v.lent v.pushed (v.taken ++ xs), took port v xs (xs ++ items) items views k at (right xs items k.visited_all) (λ h. weigh_append h xs items) out, (refl, left xs items k.visited_all))
+
+  pub pops : (port : ℕ) (v : Hand) → (v.owns ≡ false → 0 < v.lent) → Pops (Kept P) port v (λ xs w. (w ≡ hand v.owns v.lent v.pushed (v.taken ++ xs)) × All P xs)
+  pops port v out x items views k at = (hand v.owns v.lent v.pushed (v.taken ++ x ∷ []), took port v (x ∷ []) (items ++ x ∷ []) items views k at (left items (x ∷ []) k.visited_all) (λ h. omega (arith, weigh_append h items (x ∷ []))) out, (refl, right items (x ∷ []) k.visited_all))
+
+  -- a pass is made for a thief
+  pub forks : (port : ℕ) (v : Hand) → v.owns ≡ true → Forks (Kept P) port v (hand v.owns (v.lent + 1) v.pushed v.taken) (hand false 1 [] [])
+  forks port v own items views k at =
+      let w : Hand = hand v.owns (v.lent + 1) v.pushed v.taken in
+      let new : Hand = hand false 1 [] [] in
+      let vs : List Hand = set views port w in
+      let here : port ≡ k.owner = (k.fits port v at).0 own in
+      let old = fits_set k.owner views port w k.fits ((λ _. here), λ other. absurd (other here)) in record {
+        owner = k.owner;
+        visited_all = k.visited_all;
+        fits = λ j u there. elim (at_snoc vs new u j there) [
+          | inl x ↦ old j u x
+          | inr x ↦ ((λ p. absurd (true≢false (sym (ap (λ (y : Hand). y.owns) x ∙ p)))), λ other. (ap (λ (y : Hand). y.pushed) (sym x), λ _. ap (λ (y : Hand). y.taken) (sym x)))
+        ];
+        same = λ h. omega (arith, k.same h, total_set (λ u. weigh h u.pushed) views port v w at, total_set (λ u. weigh h u.taken) views port v w at, weigh_append (λ u. weigh h u.pushed) vs (new ∷ []), weigh_append (λ u. weigh h u.taken) vs (new ∷ []));
+        lent = omega (arith, k.lent, total_set (λ u. guest_lent u.owns u.lent) views port v w at, total_set (λ u. owner_lent u.owns u.lent) views port v w at, weigh_append (λ u. guest_lent u.owns u.lent) vs (new ∷ []), weigh_append (λ u. owner_lent u.owns u.lent) vs (new ∷ []), owners v.lent, guests v.lent, owners (v.lent + 1), guests (v.lent + 1));
+      }
+    where
+      owners : (n : ℕ) → (owner_lent v.owns n ≡ n)
+      owners n = rw own refl
+
+      guests : (n : ℕ) → (guest_lent v.owns n ≡ 0)
+      guests n = rw own refl
+
+  -- a pass comes back
+  pub merges : (port : ℕ) (v : Hand) (other : ℕ) (u : Hand) → v.owns ≡ true → Merges (Kept P) port v other u (hand v.owns (v.lent - u.lent) v.pushed (v.taken ++ u.taken)) (hand false 0 [] [])
+  merges port v other u own items views k at two there =
+      let both : Hand = hand v.owns (v.lent - u.lent) v.pushed (v.taken ++ u.taken) in
+      let spent : Hand = hand false 0 [] [] in
+      let vs : List Hand = set views port both in
+      let here : port ≡ k.owner = (k.fits port v at).0 own in
+      let now = fits_set k.owner views port both k.fits ((λ _. here), λ away. absurd (away here)) in
+      let none : u.pushed ≡ [] = ((now other u there).1 (λ p. two (p ∙ sym here))).0 in
+      let guest : u.owns ≡ false = is_guest u.owns refl (λ p. two ((now other u there).0 p ∙ sym here)) in record {
+        owner = k.owner;
+        visited_all = k.visited_all;
+        fits = fits_set k.owner vs other spent now ((λ p. absurd (true≢false (sym p))), λ _. (refl, λ _. refl));
+        same = λ h. omega (
+          arith,
+          k.same h,
+          total_set (λ w. weigh h w.pushed) views port v both at,
+          total_set (λ w. weigh h w.taken) views port v both at,
+          total_set (λ w. weigh h w.pushed) vs other u spent there,
+          total_set (λ w. weigh h w.taken) vs other u spent there,
+          weigh_append h v.taken u.taken,
+          ap (weigh h) none,
+        );
+        lent = omega (
+          arith,
+          k.lent,
+          total_set (λ w. guest_lent w.owns w.lent) views port v both at,
+          total_set (λ w. owner_lent w.owns w.lent) views port v both at,
+          total_set (λ w. guest_lent w.owns w.lent) vs other u spent there,
+          total_set (λ w. owner_lent w.owns w.lent) vs other u spent there,
+          total_at (λ w. guest_lent w.owns w.lent) vs other u there,
+          total_one (λ w. owner_lent w.owns w.lent) views port v at (λ j w away far. owned j w away far k.owner here k.fits),
+          owners v.lent,
+          owners (v.lent - u.lent),
+          guests v.lent,
+          guests (v.lent - u.lent),
+          guest_all u.owns guest u.lent,
+          guest_none u.owns guest u.lent,
+        );
+      }
+    where
+      owners : (n : ℕ) → (owner_lent v.owns n ≡ n)
+      owners n = rw own refl
+
+      guests : (n : ℕ) → (guest_lent v.owns n ≡ 0)
+      guests n = rw own refl
+
+      is_guest : (b : Bool) → u.owns ≡ b → (u.owns ≡ true → ⊥) → u.owns ≡ false
+      is_guest true e far = absurd (far e)
+      is_guest false e far = e
+
+      guest_all : (b : Bool) → b ≡ false → (n : ℕ) → guest_lent b n ≡ n
+      guest_all b e n = rw e refl
+
+      guest_none : (b : Bool) → b ≡ false → (n : ℕ) → owner_lent b n ≡ 0
+      guest_none b e n = rw e refl
+
+      owned : (j : ℕ) (w : Hand) → get_elem? views j ≡ some w → j ≢ port → (owner : ℕ) → port ≡ owner → ((i : ℕ) (x : Hand) → get_elem? views i ≡ some x → Fits owner i x) → owner_lent w.owns w.lent ≡ 0
+      owned j w there far owner here fits = case w.owns refl where
+        case : (b : Bool) → w.owns ≡ b → owner_lent w.owns w.lent ≡ 0
+        case true e = absurd (far ((fits j w there).0 e ∙ sym here))
+        case false e = rw e refl
+
+  -- all passes are back, and the deque is empty
+  pub settles : (port : ℕ) (v : Hand) → v.owns ≡ true → Finds (Kept P) port v (Settles v)
+  settles port v own views k at back h =
+      let here : port ≡ k.owner = (k.fits port v at).0 own in
+      omega (
+        arith,
+        k.same h,
+        total_one (λ u. weigh h u.pushed) views port v at (λ j u there far. ap (weigh h) ((k.fits j u there).1 (λ p. far (p ∙ sym here))).0),
+        total_one (λ u. weigh h u.taken) views port v at (λ j u there far. ap (weigh h) (((k.fits j u there).1 (λ p. far (p ∙ sym here))).1 (none j u there (λ p. far ((k.fits j u there).0 p ∙ sym here)) (away j u there k.owner here k.fits k.lent)))),
+      )
+    where
+      guest : (u : Hand) → (u.owns ≡ true → ⊥) → guest_lent u.owns u.lent ≡ u.lent
+      guest u far = case u.owns refl where
+        case : (b : Bool) → u.owns ≡ b → guest_lent u.owns u.lent ≡ u.lent
+        case true e = absurd (far e)
+        case false e = rw e refl
+
+      zero_owned : (j : ℕ) (w : Hand) → get_elem? views j ≡ some w → j ≢ port → (owner : ℕ) → port ≡ owner → ((i : ℕ) (x : Hand) → get_elem? views i ≡ some x → Fits owner i x) → owner_lent w.owns w.lent ≡ 0
+      zero_owned j w there far owner here fits = case w.owns refl where
+        case : (b : Bool) → w.owns ≡ b → owner_lent w.owns w.lent ≡ 0
+        case true e = absurd (far ((fits j w there).0 e ∙ sym here))
+        case false e = rw e refl
+
+      own_zero : owner_lent v.owns v.lent ≡ 0
+      own_zero = rw (own, back) refl
+
+      away : (j : ℕ) (u : Hand) → get_elem? views j ≡ some u → (owner : ℕ) → port ≡ owner → ((i : ℕ) (x : Hand) → get_elem? views i ≡ some x → Fits owner i x) → weigh (λ w. guest_lent w.owns w.lent) views ≡ weigh (λ w. owner_lent w.owns w.lent) views → guest_lent u.owns u.lent ≡ 0
+      away j u there owner here fits lent = omega (arith, lent, own_zero, total_at (λ w. guest_lent w.owns w.lent) views j u there, total_one (λ w. owner_lent w.owns w.lent) views port v at (λ i w at' far. zero_owned i w at' far owner here fits))
+
+      none : (j : ℕ) (u : Hand) → get_elem? views j ≡ some u → (u.owns ≡ true → ⊥) → guest_lent u.owns u.lent ≡ 0 → u.lent ≡ 0
+      none j u there far e = omega (arith, guest u far, e)
+
+-- one element, and one more
+pub All_snoc : {X : Type 0} (P : X → Type 0) (xs : List X) (x : X) → All P xs → P x → All P (xs ++ x ∷ [])
+All_snoc P [] x h p zero d l = p
+All_snoc P [] x h p (suc k) d l = absurd (omega arith)
+All_snoc P (y ∷ ys) x h p zero d l = h 0 d (omega arith)
+All_snoc P (y ∷ ys) x h p (suc k) d l = All_snoc P ys x (λ j e m. h (suc j) e (omega arith)) p k d (omega arith)
+
+pub All_none : {X : Type 0} (P : X → Type 0) → All P []
+All_none P i d l = absurd (omega arith)
+
+pub All_one : {X : Type 0} (P : X → Type 0) (x : X) → P x → All P (x ∷ [])
+All_one P x p = All_snoc P [] x (All_none P) p

@@ -1,0 +1,8 @@
+use Rattle.std.proofs.Common.{ap}
+use Rattle.ember_box.specs.Boxes.{Cell}
+use Rattle.steal_pool.proofs.Places.{fits_root}
+use Rattle.steal_pool.proofs.CoreOwned.{core_run}
+use Rattle.steal_pool.proofs.law.journals_are_a_run_of_the_core.Goals as goal
+
+pub returns : goal.returns
+returns g c = λ root workers room journals v at rules many. core_run (g.W.Work.shape c.args._work.now) (g.W.Work.valid c.args._work.now) root workers journals (λ j l r w is. (g.W.Work.halves_valid c.args._work.now j l r w is, g.W.Work.halves_split c.args._work.now j l r w is)) v (fits_root root at) rules many room (ap (λ (x : Cell). x.path) at)

@@ -1,0 +1,16 @@
+use Rattle.std.proofs.Common.{[], ◌∷◌, ap, arith}
+use Rattle.steal_pool.specs.Owners.{all_pushed, all_popped}
+use Rattle.steal_pool.proofs.Sums.{pushed_snoc, popped_snoc}
+use Rattle.steal_pool.proofs.Tables.{last_is_back}
+use Rattle.steal_pool.proofs.pool.drain_all.Goals as goal
+
+pub drain-requires-clause-owner : goal.drain-requires-clause-owner
+drain-requires-clause-owner g c = (last_is_back c.loop-owner.owners.items c.pop.new.self.items c.in-Some.owner c.loop-owner.invariant.back c.in-Some.ensures.items).0
+
+pub loop-owner-preserved : goal.loop-owner-preserved
+loop-owner-preserved g c = record {
+  back = (last_is_back c.loop-owner.owners.items c.pop.new.self.items c.in-Some.owner c.loop-owner.invariant.back c.in-Some.ensures.items).1;
+  found = c.in-Ok.ensures.found;
+  stays = λ h. omega (arith, c.loop-owner.invariant.stays h, c.in-Ok.ensures.stays h);
+  sums = λ h u. omega (arith, c.loop-owner.invariant.sums h u, c.in-Ok.ensures.sums h u, ap (all_pushed (g.K.Weighing.weight h u)) c.in-Some.ensures.items, pushed_snoc (g.K.Weighing.weight h u) c.pop.new.self.items c.in-Some.owner, ap (all_popped (g.K.Weighing.weight h u)) c.in-Some.ensures.items, popped_snoc (g.K.Weighing.weight h u) c.pop.new.self.items c.in-Some.owner);
+}

@@ -1,0 +1,10 @@
+pub mod Hands
+pub mod Seats
+pub mod Turns
+pub mod Owners
+pub mod Tables
+pub mod Gathers
+pub mod Journals
+pub mod Halving
+pub mod Merged
+pub mod CoreRuns

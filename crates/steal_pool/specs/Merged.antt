@@ -1,0 +1,10 @@
+-- What a merge of a run's parts gives.
+use Rattle.std.specs.Prelude.{List, [], ◌∷◌}
+use Rattle.ember_job.specs.declared.job.Job.{Job}
+
+-- these items answer these jobs, one after the other
+abbrev pub EachAnswers : {I : Type 0} → (Job → I → Type 0) → List Job → List I → Type 0
+EachAnswers item [] [] = Unit {0}
+EachAnswers item [] (x ∷ xs) = ⊥
+EachAnswers item (j ∷ js) [] = ⊥
+EachAnswers item (j ∷ js) (x ∷ xs) = item j x × EachAnswers item js xs

@@ -1,0 +1,52 @@
+// What a run gives.
+ghost use Rattle.std.specs.Prelude.{◌≡◌};
+
+use ember_job::Journals;
+use ember_tree::Part;
+use std::marker::Model;
+
+/// A list of parts.
+#[derive(Drop)]
+pub struct PartList<I> {
+    parts: Vec<Part<I>>,
+}
+
+impl<I> Model for PartList<I> {
+    ghost use Rattle.std.specs.Prelude.{List};
+    ghost use Rattle.ember_tree.specs.declared.part.Part.{Part};
+
+    ghost Value = { List (Part I) };
+
+    ghost view = { λ s. s.parts.items };
+}
+
+impl<I> PartList<I> {
+    /// The list of these parts.
+    pub fn of(parts: Vec<Part<I>>) -> PartList<I>
+        ensures { result ≡ parts.items }
+    {
+        PartList { parts }
+    }
+
+    /// The parts in order.
+    pub fn items(&self) -> &[Part<I>]
+        ensures { result.now ≡ self.now }
+    {
+        &self.parts
+    }
+
+    /// The parts as a vector.
+    pub fn into_vec(self) -> Vec<Part<I>>
+        ensures { result.items ≡ self }
+    {
+        self.parts
+    }
+}
+
+/// What a run gives: the items of the leaves with their paths, which worker ended which box, and how many boxes were left to the caller. The last journal is the caller's.
+#[derive(Drop)]
+pub struct Harvest<I> {
+    pub parts: PartList<I>,
+    pub journals: Journals,
+    pub left: u64,
+}
