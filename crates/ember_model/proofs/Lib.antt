@@ -10,3 +10,4 @@ pub mod ClearPoints
 pub mod Following
 pub mod Legs
 pub mod Scaling
+pub mod LegSigns
