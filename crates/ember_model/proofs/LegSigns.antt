@@ -14,10 +14,10 @@ use Rattle.ember_model.specs.Planes.{value_at, along, support_of, edge_planes}
 use Rattle.ember_model.specs.Points.{scaled, moved, DifferAlong}
 use Rattle.ember_model.specs.Faces.{size, hit, between, edges_of, face_of, leg}
 use Rattle.ember_model.specs.ClearTest.{all_negative}
-use Rattle.ember_model.proofs.SignTests.{negative_not, sgn_scaled, zero_scaled, zero_times, clash}
+use Rattle.ember_model.proofs.SignTests.{negative_not, sgn_scaled, zero_scaled, clash}
 use Rattle.ember_model.proofs.PlaneValues.{value_scaled, value_moved}
 use Rattle.ember_model.proofs.Hits.{Scales, same_all_negative}
-use Rattle.ember_model.proofs.Legs.{hit_moved, value_between, between_inside, between_scales, leg_off, leg_on, LegCase, off, stay, touch, pass, leg_cases}
+use Rattle.ember_model.proofs.Legs.{hit_moved, value_between, between_scales, leg_off, leg_on, LegCase, off, stay, touch, pass, leg_cases}
 use Rattle.ember_model.proofs.Scaling.{leg_scaled}
 use Rattle.ember_model.proofs.FourSigns.{hit_edges}
 
