@@ -1,5 +1,5 @@
 -- The test of a clear point is its definition.
-use Rattle.std.proofs.Common.{◌≡◌, ◌≢◌, ◌⊎◌, ⊎_elim, inl, inr, refl, sym, ap, subst, ◌∙◌, arith, Bool, true, false, not, cond, ◌&&◌, ◌||◌, List, [], ◌∷◌, ℤ, pos, negsuc, zero, suc, ◌+ℤ◌, ◌-ℤ◌, ◌*ℤ◌, neg_ℤ, ◌<ℤ◌, ◌≤ℤ◌}
+use Rattle.std.proofs.Common.{◌≡◌, ◌≢◌, ⊎_elim, refl, sym, ap, subst, ◌∙◌, arith, Bool, true, false, not, cond, ◌&&◌, ◌||◌, List, [], ◌∷◌, ℤ, pos, negsuc, ◌+ℤ◌, ◌-ℤ◌, ◌*ℤ◌, neg_ℤ, ◌<ℤ◌, ◌≤ℤ◌}
 use Rattle.std.proofs.lemmas.Int.{by_lt_z}
 use lib.IntN.{*ℤ-zero, zero-*ℤ, *ℤ_comm}
 use Rattle.ember_algebra.specs.Sign.{sign, is_negative, is_zero, is_positive}
@@ -17,7 +17,7 @@ use Rattle.ember_model.specs.Points.{scaled, moved}
 use Rattle.ember_model.specs.Faces.{size, is_inside, is_in_closed, is_flat, face_of, hit}
 use Rattle.ember_model.specs.Clear.{IsClear, IsClearOf}
 use Rattle.ember_model.specs.ClearTest.{entry, enters, is_ray_clear, is_clear, is_clear_of, none_positive, all_negative}
-use Rattle.ember_model.proofs.SignTests.{negative_in, negative_out, positive_in, positive_out, not_positive_in, zero_out, nonzero_out, zero_scaled, zero_times, size_positive, clash, not_true, and_parts, In, any_from, any_out}
+use Rattle.ember_model.proofs.SignTests.{negative_in, negative_out, positive_in, positive_out, not_positive_in, zero_out, nonzero_out, zero_scaled, zero_times, size_positive, clash, not_true, and_parts, any_from, any_out}
 use Rattle.ember_model.proofs.PlaneValues.{value_scaled, value_hit, size-is}
 use Rattle.ember_model.proofs.Hits.{Scales, scales, same_all_negative, same_none_positive, closed_scaled, value_ray, ray_weight, closed_on, inside_on, hit_inside, hit_closed, closed_parts, inside_parts}
 use Rattle.ember_model.proofs.LastZero.{none_positive_member, all_negative_member, After, last_zero}

@@ -1,5 +1,5 @@
 -- What code tests: the crossing of a ray with a triangle's face by four signs at the point itself, with no hit.
-use Rattle.std.proofs.Common.{◌≡◌, ◌≢◌, refl, sym, ap, ◌∙◌, arith, Bool, true, false, cond, ◌&&◌, ℤ, pos, negsuc, ◌*ℤ◌, ◌<ℤ◌}
+use Rattle.std.proofs.Common.{◌≡◌, ◌≢◌, refl, sym, ap, ◌∙◌, arith, Bool, true, cond, ◌&&◌, ℤ, pos, negsuc, ◌*ℤ◌, ◌<ℤ◌}
 use lib.IntN.{*ℤ_comm}
 use Rattle.ember_algebra.specs.declared.Sign.{Sign}
 use Rattle.ember_algebra.specs.declared.Sign.TheVariants.{Neg, Zero, Pos}

@@ -1,8 +1,8 @@
 -- Segments along an axis: the crossing of the ray from p less that from q is the crossing of the segment from p to q, for any face.
 use Rattle.std.proofs.Common.{◌≡◌, ◌≢◌, refl, sym, ap, ◌∙◌, arith, Bool, true, false, cond, ◌&&◌, List, [], ◌∷◌, ℤ, pos, negsuc, ◌+ℤ◌, ◌-ℤ◌, ◌*ℤ◌, neg_ℤ, ◌<ℤ◌}
 use borrow.Author.Differences.{ints}
-use lib.IntN.{zero-*ℤ, *ℤ_comm, +ℤ_comm, *ℤ-zero}
-use Rattle.ember_algebra.specs.Sign.{sign, sgn, is_negative, is_positive, is_zero}
+use lib.IntN.{zero-*ℤ}
+use Rattle.ember_algebra.specs.Sign.{sign, is_negative, is_positive}
 use Rattle.ember_algebra.proofs.Laws.{linear, one-*ℤ}
 use Rattle.ember_algebra.proofs.Order.{by_sign, pos_mul, mul_pos_neg, mul_neg_pos, mul_neg_neg, sign_pos, sign_neg, square_nonneg}
 use Rattle.ember_algebra.proofs.Ring.{◌⊕◌, ◌⊖◌, ◌⊗◌, ◌≈◌, num, neg, solve, cancels}

@@ -11,3 +11,4 @@ pub mod Following
 pub mod Legs
 pub mod Scaling
 pub mod Tuples
+pub mod LegSigns

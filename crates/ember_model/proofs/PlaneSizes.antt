@@ -3,8 +3,7 @@ use Rattle.std.proofs.Common.{ℕ, zero, suc, ℤ, pos, negsuc, arith, List, [],
 use Rattle.std.proofs.lemmas.List.Elements.{All-cons, All-nil}
 use Rattle.ember_algebra.specs.Sign.{sign}
 use Rattle.ember_algebra.specs.Size.{Small}
-use Rattle.ember_algebra.proofs.Size.{small_within}
-use Rattle.ember_algebra.proofs.Exact.{Code, Inputs, input, number, ◌⊠◌, ◌⊞◌, ◌⊟◌, ◌&◌, done, bounded}
+use Rattle.ember_algebra.proofs.Exact.{Code, input, number, ◌⊠◌, ◌⊞◌, ◌⊟◌, ◌&◌, done, bounded}
 use Rattle.ember_model.specs.declared.point.Corner.{Corner}
 use Rattle.ember_model.specs.declared.tri.Tri.{Tri}
 use Rattle.ember_model.specs.declared.plane.Plane.{Plane}

@@ -3,13 +3,13 @@ use Rattle.std.proofs.Common.{◌≡◌, ◌≢◌, refl, sym, ap, ◌∙◌, ar
 use borrow.Author.Tests.{true-leb, false-leb}
 use Rattle.ember_algebra.specs.Vector.{Vector, dot, cross, det, normal}
 use Rattle.ember_algebra.specs.declared.Sign.{Sign}
-use Rattle.ember_algebra.specs.declared.Sign.TheVariants.{Neg, Zero, Pos}
-use Rattle.ember_algebra.specs.Sign.{sign, sgn, number, flip, times, is_neg, is_nil, is_negative, same_sgn}
+use Rattle.ember_algebra.specs.declared.Sign.TheVariants.{Zero}
+use Rattle.ember_algebra.specs.Sign.{sign, sgn, number, flip, times, is_neg, is_nil, same_sgn}
 use Rattle.ember_algebra.proofs.Laws.{linear}
 use Rattle.ember_algebra.proofs.Order.{by_sign, pos_mul}
 use Rattle.ember_algebra.proofs.Ring.{◌⊕◌, ◌⊖◌, ◌⊗◌, ◌≈◌, neg, solve, cancels}
 use Rattle.ember_algebra.proofs.Vectors.{vector, tuple, identity, dotE, crossE, normalE, vector_partE, valueE}
-use Rattle.ember_algebra.proofs.Signs.{sgn-mul, sgn-neg, sgn_pos, sum3, sum3_from, not_null, signs, same_z, same_z_out, ◌⇒◌, use_if}
+use Rattle.ember_algebra.proofs.Signs.{sgn-mul, sgn-neg, sum3, sum3_from, not_null, signs, same_z, same_z_out, ◌⇒◌, use_if}
 use Rattle.ember_algebra.proofs.Quadrant.{crossing as sign_crossing}
 use Rattle.ember_algebra.proofs.QuadrantLaw.{crossing_along}
 use Rattle.ember_model.specs.declared.tri.Tri.{Tri}
@@ -18,10 +18,9 @@ use Rattle.ember_model.specs.declared.point.Spot.{Spot}
 use Rattle.ember_model.specs.declared.point.Axis.{Axis}
 use Rattle.ember_model.specs.declared.point.Axis.TheVariants.{X, Y, Z}
 use Rattle.ember_model.specs.Planes.{vector_of, unit, value_at, along, main_axis, times_plane, support_of, edge_through}
-use Rattle.ember_model.specs.Faces.{hit, edges_of, face_of, crossing}
-use Rattle.ember_model.specs.ClearTest.{all_negative}
+use Rattle.ember_model.specs.Faces.{hit, face_of, crossing}
 use Rattle.ember_model.proofs.SignTests.{ap2, sgn_scaled, same_sgn_out, zero_scaled, negative_not}
-use Rattle.ember_model.proofs.PlaneValues.{value_times, value_hit, size-is, sign-number, sgn-sign, hit_flat, along_dot, normal_of, seen, tuple_of, seenE, supportE, edgeE, support_value, normal_value}
+use Rattle.ember_model.proofs.PlaneValues.{value_times, value_hit, size-is, sign-number, sgn-sign, along_dot, normal_of, seen, tuple_of, seenE, supportE, edgeE, support_value, normal_value}
 use Rattle.ember_model.proofs.Hits.{crossing_off, crossing_across}
 
 -- ---- an edge plane at the hit

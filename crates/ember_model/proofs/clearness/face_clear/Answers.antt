@@ -1,5 +1,4 @@
-use Rattle.std.proofs.Common.{◌≡◌, sym, ◌∙◌, true, List}
-use Rattle.ember_model.specs.declared.plane.Plane.{Plane}
+use Rattle.std.proofs.Common.{◌≡◌, sym, ◌∙◌}
 use Rattle.ember_model.specs.ClearTest.{is_clear, face_with}
 use Rattle.ember_model.proofs.ClearPoints.{clear_from, clear_to}
 use Rattle.ember_model.proofs.clearness.face_clear.Goals as goal

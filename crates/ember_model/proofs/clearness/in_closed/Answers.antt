@@ -1,4 +1,4 @@
-use Rattle.std.proofs.Common.{◌≡◌, sym, ◌∙◌, true, ◌&&◌, List, ℤ, pos, ◌+ℤ◌, ◌*ℤ◌, arith, to_z, of_z}
+use Rattle.std.proofs.Common.{◌≡◌, sym, ◌∙◌, true, ◌&&◌, List, pos, arith}
 use mir.Syntax.{w128}
 use Rattle.ember_algebra.specs.Sign.{is_zero}
 use Rattle.ember_algebra.proofs.Laws.{linear}
@@ -6,7 +6,6 @@ use Rattle.ember_algebra.proofs.Ring.{◌⊕◌, ◌⊗◌, ◌≈◌, num, solv
 use Rattle.ember_algebra.proofs.Exact.{input, stored, ◌&◌, done, exact}
 use Rattle.ember_model.specs.declared.plane.Plane.{Plane}
 use Rattle.ember_model.specs.declared.point.Spot.{Spot}
-use Rattle.ember_model.specs.declared.point.Axis.{Axis}
 use Rattle.ember_model.specs.declared.point.Axis.TheVariants.{X}
 use Rattle.ember_model.specs.Planes.{value_at, along}
 use Rattle.ember_model.specs.Points.{scaled, moved}

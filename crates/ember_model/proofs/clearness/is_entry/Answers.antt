@@ -1,9 +1,8 @@
-use Rattle.std.proofs.Common.{◌≡◌, sym, ap, subst, ◌∙◌, true, ◌&&◌, ℤ, pos, ◌-ℤ◌, neg_ℤ, ◌<ℤ◌, to_z, of_z}
+use Rattle.std.proofs.Common.{sym, ap, subst, ◌∙◌, ◌&&◌, ℤ, pos, ◌-ℤ◌, ◌<ℤ◌}
 use mir.Syntax.{w64, w128}
-use Rattle.ember_algebra.specs.Sign.{is_negative, is_positive}
 use Rattle.ember_algebra.proofs.Ring.{◌⊖◌, ◌≈◌, num, neg, solve, cancels}
 use Rattle.ember_algebra.proofs.Exact.{input, number, stored, ◌⊟◌, ◌&◌, done, exact}
-use Rattle.ember_model.specs.Planes.{value_at, along}
+use Rattle.ember_model.specs.Planes.{along}
 use Rattle.ember_model.specs.Points.{scaled, moved}
 use Rattle.ember_model.specs.ClearTest.{entry, none_positive}
 use Rattle.ember_model.proofs.SignTests.{less_out, negative_in, positive_in}

@@ -1,4 +1,4 @@
-use Rattle.std.proofs.Common.{◌≡◌, sym, ap, ◌∙◌, Bool, true, false, not, cond, ◌&&◌, ℤ, pos, ◌*ℤ◌, to_z, of_z}
+use Rattle.std.proofs.Common.{◌≡◌, sym, ap, ◌∙◌, true, false, not, cond, ◌&&◌, ◌*ℤ◌}
 use mir.Syntax.{w64, w128}
 use Rattle.ember_algebra.specs.Sign.{is_negative, is_zero}
 use Rattle.ember_algebra.proofs.Exact.{input, stored, ◌&◌, done, exact}

@@ -1,4 +1,4 @@
-use Rattle.std.proofs.Common.{◌≡◌, sym, ap, subst, ◌∙◌, Bool, true, false, cond, ◌&&◌, ℤ, pos, negsuc, ◌<ℤ◌, ◌≤ℤ◌, arith, to_z, of_z}
+use Rattle.std.proofs.Common.{◌≡◌, sym, ap, subst, ◌∙◌, Bool, true, false, cond, ◌&&◌, ℤ, pos, negsuc, ◌<ℤ◌, arith, to_z, of_z}
 use mir.Syntax.{w64, w128}
 use Rattle.ember_algebra.specs.Sign.{is_negative, is_positive}
 use Rattle.ember_algebra.proofs.Laws.{linear}

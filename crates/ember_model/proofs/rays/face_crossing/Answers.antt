@@ -1,11 +1,10 @@
-use Rattle.std.proofs.Common.{◌≡◌, ap, sym, ◌∙◌, ℤ, pos, ◌*ℤ◌, neg_ℤ, Bool, true, false, cond, to_z, of_z}
+use Rattle.std.proofs.Common.{◌≡◌, ap, sym, ◌∙◌, ◌*ℤ◌, true, false}
 use mir.Syntax.{w32, w64, w128}
 use Rattle.ember_algebra.specs.Sign.{sign, is_negative}
 use Rattle.ember_algebra.proofs.Exact.{input, stored, ◌&◌, done, exact}
 use Rattle.ember_model.specs.Planes.{value_at, along}
-use Rattle.ember_model.specs.Faces.{size, hit, crossing}
+use Rattle.ember_model.specs.Faces.{hit}
 use Rattle.ember_model.specs.ClearTest.{all_negative}
-use Rattle.ember_model.specs.Rays.{place}
 use Rattle.ember_model.proofs.Hits.{crossing_on, crossing_off}
 use Rattle.ember_model.proofs.RayPlaces.{place_hit}
 use Rattle.ember_model.proofs.rays.face_crossing.Goals as goal

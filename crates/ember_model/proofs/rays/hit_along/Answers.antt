@@ -1,6 +1,6 @@
-use mir.Syntax.{w32, w64, w128}
-use Rattle.ember_algebra.proofs.Exact.{input, number, stored, minus, ◌⊠◌, ◌⊞◌, ◌⊟◌, ◌&◌, done, exact, bounded, no_overflow}
-use Rattle.std.proofs.Common.{◌≡◌, ◌^◌, ap, sym, ◌∙◌, ℤ, pos, ◌-ℤ◌, ◌*ℤ◌, neg_ℤ}
+use mir.Syntax.{w64, w128}
+use Rattle.ember_algebra.proofs.Exact.{input, number, stored, ◌⊠◌, ◌⊟◌, ◌&◌, done, exact, bounded, no_overflow}
+use Rattle.std.proofs.Common.{◌^◌, ap, sym, ◌∙◌, ℤ, pos, ◌-ℤ◌, ◌*ℤ◌}
 use Rattle.ember_algebra.specs.Sign.{sign}
 use Rattle.ember_algebra.proofs.Ring.{◌⊖◌, ◌⊗◌, ◌≈◌, num, neg, solve, cancels}
 use Rattle.ember_model.proofs.PlaneValues.{size-is}

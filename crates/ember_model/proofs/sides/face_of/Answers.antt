@@ -1,9 +1,7 @@
-use Rattle.std.proofs.Common.{◌≡◌, ap, sym, subst, ◌∙◌, Bool, true, false, cond, ◌&&◌, List, All, Some, None}
+use Rattle.std.proofs.Common.{◌≡◌, ap, sym, subst, ◌∙◌, Bool, true, cond, ◌&&◌, List, All, Some, None}
 use Rattle.ember_algebra.specs.Sign.{is_zero}
 use Rattle.ember_model.specs.declared.plane.Plane.{Plane}
-use Rattle.ember_model.specs.declared.face.Face.{Face}
-use Rattle.ember_model.specs.Planes.{support_of, main_axis}
-use Rattle.ember_model.specs.Faces.{is_flat, face_of, edges_of}
+use Rattle.ember_model.specs.Faces.{is_flat, face_of}
 use Rattle.ember_model.specs.Sizes.{IsEdgeSized}
 use Rattle.ember_model.proofs.PlaneSizes.{edges_valid}
 use Rattle.ember_model.proofs.sides.face_of.Goals as goal

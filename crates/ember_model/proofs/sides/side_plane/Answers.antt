@@ -1,7 +1,7 @@
-use Rattle.std.proofs.Common.{◌≡◌, ap, sym, subst, ◌∙◌, ℤ, ◌*ℤ◌, to_z, of_z}
+use Rattle.std.proofs.Common.{◌≡◌, ap, sym, subst, ◌∙◌, ℤ, ◌*ℤ◌}
 use mir.Syntax.{w64}
 use Rattle.ember_algebra.proofs.Exact.{input, stored, ◌&◌, done, exact}
-use Rattle.ember_algebra.specs.Vector.{Vector, cross, scale_v, dot}
+use Rattle.ember_algebra.specs.Vector.{Vector, cross, scale_v}
 use Rattle.ember_algebra.proofs.Ring.{◌⊕◌, ◌⊗◌, ◌≈◌, solve, cancels}
 use Rattle.ember_model.specs.declared.point.Corner.{Corner}
 use Rattle.ember_model.specs.declared.plane.Plane.{Plane}

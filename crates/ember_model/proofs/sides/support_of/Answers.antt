@@ -1,8 +1,6 @@
 use Rattle.std.proofs.Common.{◌≡◌, ap, sym, subst, ◌∙◌}
 use Rattle.ember_algebra.specs.Vector.{Vector, cross}
-use Rattle.ember_model.specs.declared.tri.Tri.{Tri}
 use Rattle.ember_model.specs.declared.plane.Plane.{Plane}
-use Rattle.ember_model.specs.Valid.{IsValidPlane}
 use Rattle.ember_model.specs.Sizes.{IsSupportSized}
 use Rattle.ember_model.specs.Planes.{plane_through, support_of}
 use Rattle.ember_model.proofs.PlaneSizes.{support_sized, support_valid}

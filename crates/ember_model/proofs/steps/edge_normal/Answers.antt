@@ -1,5 +1,5 @@
-use mir.Syntax.{w32, w64, w128}
-use Rattle.ember_algebra.proofs.Exact.{input, number, stored, minus, ◌⊠◌, ◌⊞◌, ◌⊟◌, ◌&◌, done, exact, bounded, no_overflow}
+use mir.Syntax.{w64}
+use Rattle.ember_algebra.proofs.Exact.{input, number, stored, ◌⊠◌, ◌⊟◌, ◌&◌, done, exact, bounded, no_overflow}
 use Rattle.std.proofs.Common.{◌≡◌, ap, sym, ◌∙◌, ℤ, pos, ◌-ℤ◌, ◌*ℤ◌, arith}
 use Rattle.ember_algebra.specs.Vector.{Vector, cross, scale_v}
 use Rattle.ember_algebra.proofs.Ring.{◌⊖◌, ◌⊗◌, ◌≈◌, num, solve, cancels}

@@ -1,5 +1,5 @@
-use mir.Syntax.{w32, w64, w128}
-use Rattle.ember_algebra.proofs.Exact.{input, number, stored, minus, ◌⊠◌, ◌⊞◌, ◌⊟◌, ◌&◌, done, exact, bounded, no_overflow}
+use mir.Syntax.{w32, w64}
+use Rattle.ember_algebra.proofs.Exact.{input, stored, ◌⊟◌, ◌&◌, done, exact, bounded, no_overflow}
 use Rattle.ember_model.proofs.steps.step_between.Goals as goal
 
 pub overflow_cast-result : goal.overflow_cast-result

@@ -1,4 +1,4 @@
-use Rattle.std.proofs.Common.{◌≡◌, sym, ap, ◌∙◌, ℤ, pos, ◌-ℤ◌, ◌*ℤ◌}
+use Rattle.std.proofs.Common.{◌≡◌, sym, ap, ◌∙◌, pos, ◌-ℤ◌, ◌*ℤ◌}
 use mir.Syntax.{w128}
 use Rattle.ember_algebra.proofs.Ring.{◌⊕◌, ◌⊖◌, ◌⊗◌, ◌≈◌, num, solve, cancels}
 use Rattle.ember_algebra.proofs.Exact.{input, stored, narrow, ◌⊠◌, ◌⊟◌, ◌&◌, done, exact}
