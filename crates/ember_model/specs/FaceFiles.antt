@@ -2,6 +2,7 @@
 use Rattle.std.specs.Prelude.{◌≡◌, ℕ, ◌≤◌, List, [], ◌∷◌, ◌++◌, All, map, flat_map, length, codes, decimal, ℤ, pos, unsigned_abs}
 use Rattle.std.specs.Fmt.{signed_decimal}
 use Rattle.std.specs.Int.{◌∣◌}
+use Rattle.ember_algebra.specs.Relations.{Each}
 use Rattle.ember_model.specs.declared.plane.Plane.{Plane}
 use Rattle.ember_model.specs.declared.point.Spot.{Spot}
 use Rattle.ember_model.specs.declared.face.Face.{Face}
@@ -71,3 +72,9 @@ pub record IsFaceFile (bytes : List ℕ) (fs : List Face) : Type 0 where
   pub well_formed : All IsWrittenFace written
   pub is : bytes ≡ header ++ flat_map (λ w. face_lines w.support w.edges) written ++ ending (length written)
   pub faces : fs ≡ map (λ w. record { support = w.support; edges = map (λ e. e.plane) w.edges }) written
+
+-- the text of the faces fs: the header, their texts in order, and the last line with their number
+pub record IsFacesText (fs : List Face) (bytes : List ℕ) : Type 0 where
+  pub texts : List ℕ
+  pub are_texts : Each IsFaceText fs texts
+  pub is : bytes ≡ header ++ (texts ++ ending (length fs))

@@ -2,9 +2,11 @@
 #![tactic(auto)]
 
 mod face;
+mod file;
 mod line;
 
 pub use face::face_text;
+pub use file::{begin_file, end_file};
 
 #[cfg(test)]
 mod tests;

@@ -1,0 +1,25 @@
+//! The program `ember`.
+#![tactic(auto)]
+
+use ember_io::{FileShelf, StdSink};
+use ember_run::run_one;
+use std::process::ExitCode;
+use std::{env, io};
+
+const NO_WORDS: u8 = 13;
+
+const NO_MEMORY: u8 = 12;
+
+fn main(rt: HostRuntime) -> ExitCode {
+    let Ok(words) = env::args(&rt) else {
+        return ExitCode::from(NO_WORDS);
+    };
+    let Ok(words) = words.skip(1).collect::<Vec<String>>(rt.alloc()) else {
+        return ExitCode::from(NO_MEMORY);
+    };
+    let mut shelf = FileShelf::new(&rt);
+    let mut out = StdSink::new(io::writer(&rt));
+    let mut err = StdSink::new(rt.stderr());
+    let status = run_one(rt.alloc(), &words, &mut shelf, &mut out, &mut err);
+    ExitCode::from(status.number())
+}

@@ -1,0 +1,4 @@
+pub mod Pieces
+pub mod Verdicts
+pub mod Complete
+pub mod FaceLists

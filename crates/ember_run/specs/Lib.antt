@@ -1,0 +1,4 @@
+pub mod Said
+pub mod Lines
+pub mod FaceTexts
+pub mod Verdict

@@ -1,0 +1,11 @@
+//! The top call: from words and files to the output, the line on err and the exit status.
+#![tactic(auto)]
+
+mod faces;
+mod lines;
+mod reading;
+mod status;
+mod top;
+
+pub use status::{LimitKind, Status};
+pub use top::run_one;
