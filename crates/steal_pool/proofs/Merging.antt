@@ -166,15 +166,15 @@ module _ {I : Type 0} where
     first = elim (eqb_tells p.path j.cell.path) [
       | inl e ↦ e.1
       | inr n ↦ absurd (
-        omega (
-          arith,
-          job_place (base j + 1) hi p.path js w.2 (omega (arith, same (one p.path), one_same p.path p.path refl, one_other p.path j.cell.path (λ e. n.1 (sym e)))),
-          part_place (tree_place p.path) j.cell.path ps (λ i d l. rises 0 (suc i) d (omega arith) (omega (arith, l))) (omega (arith, same (one j.cell.path), one_same j.cell.path j.cell.path refl, one_other j.cell.path p.path n.1)),
-          place_is j w.1,
-          one_more (base j) (2 ^ 27),
-          pow_pos 27,
-        )
-      )
+          omega (
+            arith,
+            job_place (base j + 1) hi p.path js w.2 (omega (arith, same (one p.path), one_same p.path p.path refl, one_other p.path j.cell.path (λ e. n.1 (sym e)))),
+            part_place (tree_place p.path) j.cell.path ps (λ i d l. rises 0 (suc i) d (omega arith) (omega (arith, l))) (omega (arith, same (one j.cell.path), one_same j.cell.path j.cell.path refl, one_other j.cell.path p.path n.1)),
+            place_is j w.1,
+            one_more (base j) (2 ^ 27),
+            pow_pos 27,
+          )
+          )
     ]
 
   answered : (shape : Job → Shape) (root : Job) (item : Job → I → Type 0) (lo hi : ℕ) (all : List Job) → Within lo hi all → ((x : Job) → IsVisited shape root x → shape x ≡ leafed → Inside x all) → (ps : List (Part I)) (js : List Job) → ((x : Job) → Inside x js → Inside x all) → All (IsPart (IsVisited shape root) (AnswersLeaf shape item)) ps → SamePaths ps js → EachAnswers item js (map (λ (p : Part I). p.item) ps)

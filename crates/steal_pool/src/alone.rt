@@ -8,12 +8,12 @@ ghost use Rattle.steal_pool.specs.Hands.{hand, Settles};
 ghost use Rattle.steal_pool.specs.Owners.{Lent};
 ghost use Rattle.steal_pool.specs.Seats.{Tells, IsPart, by_path, at_entry, at_halves};
 
-use std::alloc::AllocError;
-use crate::rule::{Drained, Naming, Owner};
 use crate::gate::Gate;
+use crate::rule::{Drained, Naming, Owner};
 use crate::seat::{Weighing, ask};
 use ember_job::{Entry, Job, Kind, OutOfMemory, Outcome};
 use ember_tree::Part;
+use std::alloc::AllocError;
 use std::sync::Wait;
 
 // Runs a box and all below it, left half first.
@@ -47,10 +47,7 @@ pub fn run_below<
             }) else {
                 return Err(AllocError);
             };
-            let Ok(()) = parts.push(Part {
-                path,
-                item,
-            }) else {
+            let Ok(()) = parts.push(Part { path, item }) else {
                 return Err(AllocError);
             };
             Ok(())

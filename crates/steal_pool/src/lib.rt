@@ -20,4 +20,3 @@ pub use law::{
     items_that_answer_are_equal, journals_are_a_run_of_the_core, merged_items_answer_the_leaves,
 };
 pub use tree::{run_alone, run_tree};
-

@@ -13,10 +13,10 @@ ghost use Rattle.steal_pool.specs.Turns.{Ready, Ended, EachEnded, all_has, all_g
 ghost use Rattle.steal_pool.specs.Gathers.{HasLast, Books, Gathers};
 
 use crate::alone::drain;
-use crate::owners::{absorb_each, lend_each};
-use crate::rule::{Hand, Naming, Owner, Thief};
 use crate::gate::Gate;
 use crate::harvest::{Harvest, PartList};
+use crate::owners::{absorb_each, lend_each};
+use crate::rule::{Hand, Naming, Owner, Thief};
 use crate::seat::{Boxes, Seat, Weighing};
 use crate::turns::each_turn;
 use crossbeam_deque::Pass;

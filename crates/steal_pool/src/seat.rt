@@ -8,13 +8,13 @@ ghost use Rattle.ember_job.specs.Weights.{weigh};
 ghost use Rattle.steal_pool.specs.Hands.{hand};
 ghost use Rattle.steal_pool.specs.Seats.{Told, Tells, IsPart, Book, book, Goes, Comes, EachPass, all_taken};
 
-use std::alloc::AllocError;
 use crate::gate::Gate;
 use crate::rule::{Hand, Naming, Owner, Pushed, Taken, Thief};
 use crossbeam_deque::{Pass, Steal};
 use ember_job::{Entry, Job, Kind, OutOfMemory, Outcome};
 use ember_tree::Part;
 use smallvec::SmallVec;
+use std::alloc::AllocError;
 use std::marker::Brand;
 use std::sync::Wait;
 use std::sync::atomic::{AtomicU64, Ordering};
@@ -174,11 +174,7 @@ pub fn run_box<
             else {
                 return Err(AllocError);
             };
-            let Ok(()) = seat.parts.push(Part {
-                path,
-                item,
-            })
-            else {
+            let Ok(()) = seat.parts.push(Part { path, item }) else {
                 return Err(AllocError);
             };
             finished.fetch_add(share_of(path), Ordering::SeqCst);

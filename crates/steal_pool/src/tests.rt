@@ -102,7 +102,10 @@ fn check(
             }
         }
     }
-    assert_eq!(rt; seen.iter().filter(|times: &&u8| **times == 1).count(), 2047);
+    assert_eq!(rt;
+        seen.iter().filter(|times: &&u8| **times == 1).count(),
+        2047
+    );
     assert_eq!(rt; seen.first().copied(), Some(0));
     let items = merge(alloc, parts.into_vec())?;
     assert_eq!(rt; items.len(), 1024);
@@ -119,15 +122,43 @@ fn each_box_is_run_once(rt: HostRuntime) -> Result<(), Fail> {
     let alloc = rt.alloc();
     let calls = AtomicU64::new(0);
     let work = Halving {};
-    let step = Step::new(work, |job: &Job| -> Result<Outcome<u64>, OutOfMemory>
-        ensures { IfOk result (λ o. Answers halving_shape is_path job.now o) }
-    { halve_step(alloc, &calls, 0, job) });
+    let step = Step::new(
+        work,
+        |job: &Job| -> Result<Outcome<u64>, OutOfMemory>
+            ensures { IfOk result (λ o. Answers halving_shape is_path job.now o) }
+        { halve_step(alloc, &calls, 0, job) },
+    );
     let gate = DepthGate::new(3);
-    check(&rt, alloc, run_alone(alloc, root_job(alloc), &step, &OpenGate)?, 1)?;
-    check(&rt, alloc, run_tree(&rt, alloc, 1, root_job(alloc), &step, &OpenGate)?, 2)?;
-    check(&rt, alloc, run_tree(&rt, alloc, 3, root_job(alloc), &step, &OpenGate)?, 4)?;
-    check(&rt, alloc, run_tree(&rt, alloc, 64, root_job(alloc), &step, &OpenGate)?, 65)?;
-    check(&rt, alloc, run_tree(&rt, alloc, 8, root_job(alloc), &step, &gate)?, 9)?;
+    check(
+        &rt,
+        alloc,
+        run_alone(alloc, root_job(alloc), &step, &OpenGate)?,
+        1,
+    )?;
+    check(
+        &rt,
+        alloc,
+        run_tree(&rt, alloc, 1, root_job(alloc), &step, &OpenGate)?,
+        2,
+    )?;
+    check(
+        &rt,
+        alloc,
+        run_tree(&rt, alloc, 3, root_job(alloc), &step, &OpenGate)?,
+        4,
+    )?;
+    check(
+        &rt,
+        alloc,
+        run_tree(&rt, alloc, 64, root_job(alloc), &step, &OpenGate)?,
+        65,
+    )?;
+    check(
+        &rt,
+        alloc,
+        run_tree(&rt, alloc, 8, root_job(alloc), &step, &gate)?,
+        9,
+    )?;
     assert!(rt; !gate.was_tired());
     assert_eq!(rt; calls.load(Ordering::SeqCst), 5 * 2047);
     Ok(())

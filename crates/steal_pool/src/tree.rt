@@ -27,13 +27,7 @@ fn run_alone_for<
     I: Drop,
     F: Fn(&Job) -> Result<Outcome<I>, OutOfMemory>,
     G: Gate,
->(
-    alloc: Global,
-    root: Job,
-    _work: &W,
-    call: &F,
-    gate: &G,
-) -> Result<Harvest<I>, OutOfMemory>
+>(alloc: Global, root: Job, _work: &W, call: &F, gate: &G) -> Result<Harvest<I>, OutOfMemory>
     requires call { Tells K.is_visited K.answers K.weight F.pre F.post call.now }
     requires root { K.is_visited root }
     ensures count { IfOk result (λ v. (length v.journals ≡ 1) × (v.left ≡ 0)) }
@@ -100,9 +94,9 @@ where
     ensures parts { IfOk result (λ v. AreParts (W.shape step.now.work) (W.item step.now.work) root v.parts) }
     ensures journals { IfOk result (λ v. KeepRules (W.shape step.now.work) root 1 (v.journals ++ [] ∷ [])) }
 {
-    let Ok(harvest) =
-        run_alone_for::<Brand, W, W::Item, F, G>(alloc, root, &step.work, &step.call, gate)
-    else {
+    let Ok(harvest) = run_alone_for::<Brand, W, W::Item, F, G>(
+        alloc, root, &step.work, &step.call, gate,
+    ) else {
         return Err(AllocError);
     };
     Ok(harvest)
@@ -133,13 +127,7 @@ where
     ensures journals { IfOk result (λ v. KeepRules (W.shape step.now.work) root workers v.journals) }
 {
     let Ok(harvest) = run_tree_for::<R, Brand, W, W::Item, F, G>(
-        rt,
-        alloc,
-        workers,
-        root,
-        &step.work,
-        &step.call,
-        gate,
+        rt, alloc, workers, root, &step.work, &step.call, gate,
     ) else {
         return Err(AllocError);
     };

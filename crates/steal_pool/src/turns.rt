@@ -4,11 +4,11 @@ ghost use Rattle.std.specs.Thread.{IsSync};
 ghost use Rattle.steal_pool.specs.Seats.{Tells, IsPart};
 ghost use Rattle.steal_pool.specs.Turns.{Ready, Ended, EachEnded};
 
-use std::alloc::AllocError;
-use crate::rule::{Naming, Thief};
 use crate::gate::Gate;
+use crate::rule::{Naming, Thief};
 use crate::seat::{Seat, Weighing, work};
 use ember_job::{Job, OutOfMemory, Outcome};
+use std::alloc::AllocError;
 use std::sync::Wait;
 use std::sync::atomic::{AtomicU64, Ordering};
 use std::thread::{Threads, join};
