@@ -36,7 +36,11 @@ fn coordinate_fault(fault: &DecFault) -> &'static [u8]
 fn only_name(file: &Text, number: u32) -> &[u8]
     ensures { result.now ≡ name_of (file.now ∷ []) number }
 {
-    if number <= 1 { file.as_str().as_bytes() } else { &[] }
+    if number <= 1 {
+        file.as_str().as_bytes()
+    } else {
+        &[]
+    }
 }
 
 fn name_among(files: &Texts, number: u32) -> &[u8]
@@ -68,7 +72,10 @@ fn say_fault<E: Sink>(err: &mut E, name: &[u8], line: u32, fault: &[u8])
 {
     let mut buffer = Buffer::new();
     let line = buffer.format(line).as_bytes();
-    say(err, &[b"ember: ", name, b": line ", line, b": ", fault, b"\n"]);
+    say(
+        err,
+        &[b"ember: ", name, b": line ", line, b": ", fault, b"\n"],
+    );
 }
 
 // The line of a file's first fault.
