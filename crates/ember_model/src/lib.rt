@@ -20,7 +20,7 @@ pub use clearness::{clear, face_clear};
 pub use face::Face;
 pub use plane::{Plane, Planes};
 pub use point::{Axis, Corner, Spot};
-pub use rays::{crossing, face_crossing};
+pub use rays::{crossing, face_crossing, leg};
 pub use scene::Scene;
 pub use sides::{OutOfMemory, edge_plane, face_of, main_axis, support_of};
 pub use tri::{Lines, Soup, Tri, Tris};
