@@ -1,4 +1,4 @@
-use Rattle.std.proofs.Common.{◌≡◌, sym, ap, ◌∙◌, Bool, true, false, cond, ◌&&◌, ℤ, pos, ◌*ℤ◌, to_z, of_z}
+use Rattle.std.proofs.Common.{◌≡◌, sym, ap, ◌∙◌, Bool, true, false, cond, ◌&&◌, pos, ◌*ℤ◌}
 use mir.Syntax.{w32, w64, w128}
 use Rattle.ember_algebra.specs.Sign.{sign, is_negative}
 use Rattle.ember_algebra.proofs.Exact.{input, stored, ◌&◌, done, exact}
