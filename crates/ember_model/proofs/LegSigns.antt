@@ -5,17 +5,18 @@ use Rattle.ember_algebra.proofs.Ring.{◌⊗◌, ◌≈◌, solve, cancels}
 use Rattle.ember_algebra.specs.Sign.{sign, sgn, is_neg, is_negative}
 use Rattle.ember_algebra.proofs.Laws.{linear, one-*ℤ}
 use Rattle.ember_algebra.proofs.Order.{by_sign, square_nonneg, pos_mul, sign_scaled}
+use Rattle.ember_model.specs.declared.point.Corner.{Corner}
 use Rattle.ember_model.specs.declared.tri.Tri.{Tri}
 use Rattle.ember_model.specs.declared.plane.Plane.{Plane}
 use Rattle.ember_model.specs.declared.point.Spot.{Spot}
 use Rattle.ember_model.specs.declared.point.Axis.{Axis}
 use Rattle.ember_model.specs.declared.point.Axis.TheVariants.{X, Y, Z}
-use Rattle.ember_model.specs.Planes.{value_at, along, support_of, edge_planes}
+use Rattle.ember_model.specs.Planes.{value_at, along, unit, support_of, times_plane, edge_through, edge_planes}
 use Rattle.ember_model.specs.Points.{scaled, moved, DifferAlong}
 use Rattle.ember_model.specs.Faces.{size, hit, between, edges_of, face_of, leg}
 use Rattle.ember_model.specs.ClearTest.{all_negative}
-use Rattle.ember_model.proofs.SignTests.{negative_not, sgn_scaled, zero_scaled, clash}
-use Rattle.ember_model.proofs.PlaneValues.{value_scaled, value_moved}
+use Rattle.ember_model.proofs.SignTests.{negative_not, sgn_scaled, zero_scaled, clash, and_true}
+use Rattle.ember_model.proofs.PlaneValues.{value_scaled, value_times, value_moved}
 use Rattle.ember_model.proofs.Hits.{Scales, same_all_negative}
 use Rattle.ember_model.proofs.Legs.{hit_moved, value_between, between_scales, leg_off, leg_on, LegCase, off, stay, touch, pass, leg_cases}
 use Rattle.ember_model.proofs.Scaling.{leg_scaled}
@@ -109,3 +110,31 @@ by_signs_scaled a k m p q t lk lm =
 pub leg_is : (a : Axis) (p q : Spot) (t : Tri) → pos 0 <ℤ p.w → pos 0 <ℤ q.w → DifferAlong a p q → leg (face_of t) p q ≡ leg_by_signs a p q t
 leg_is a p q t lp lq d =
     sym (leg_scaled (face_of t) q.w p.w p q lq lp) ∙ leg_one a (scaled q.w p) (scaled p.w q) (gap_along a (scaled q.w p) (scaled p.w q)) t (pos_mul lq lp) (pos_mul lp lq) (is_moved a p q d) ∙ by_signs_scaled a q.w p.w p q t lq lp
+
+-- ---- the planes through the edges, with the triangle's sign
+abbrev edge : Corner → Corner → Axis → Spot → ℤ
+edge u v a p = value_at (edge_through u v (unit a)) p
+
+abbrev pub behind : Axis → Spot → Tri → Bool
+behind a p t =
+    let s = sign (along (support_of t) a) in
+    is_negative (s *ℤ edge t.a t.b a p) && (is_negative (s *ℤ edge t.b t.c a p) && is_negative (s *ℤ edge t.c t.a a p))
+
+edges_behind : (a : Axis) (p : Spot) (t : Tri) → all_negative (edge_planes t a) p ≡ behind a p t
+edges_behind a p t =
+    let s = sign (along (support_of t) a) in
+    let x = ap is_negative (value_times s (edge_through t.a t.b (unit a)) p) in
+    let y = ap is_negative (value_times s (edge_through t.b t.c (unit a)) p) in
+    let z = and_true (is_negative (value_at (times_plane s (edge_through t.c t.a (unit a))) p)) ∙ ap is_negative (value_times s (edge_through t.c t.a (unit a)) p) in
+    λ i. x i && (y i && z i)
+
+exchanged : (m b : Bool) (v : ℤ) → cond (m && b) v (pos 0) ≡ cond b (cond m v (pos 0)) (pos 0)
+exchanged true true v = refl
+exchanged true false v = refl
+exchanged false true v = refl
+exchanged false false v = refl
+
+pub leg_behind : (a : Axis) (p q : Spot) (t : Tri) → pos 0 <ℤ p.w → pos 0 <ℤ q.w → DifferAlong a p q → leg (face_of t) p q ≡ cond (behind a p t) (cond (is_negative (value_at (support_of t) p *ℤ value_at (support_of t) q)) (sign (value_at (support_of t) q)) (pos 0)) (pos 0)
+leg_behind a p q t wp wq d =
+    let n = support_of t in let m = is_negative (value_at n p *ℤ value_at n q) in let v = sign (value_at n q) in
+    leg_is a p q t wp wq d ∙ ap (λ (b : Bool). cond (m && b) v (pos 0)) (edges_behind a p t) ∙ exchanged m (behind a p t) v

@@ -1,5 +1,5 @@
 -- Planes and points as tuples, for identities.
-use Rattle.std.proofs.Common.{◌≡◌, ℤ}
+use Rattle.std.proofs.Common.{◌≡◌}
 use Rattle.ember_algebra.specs.Vector.{Tuple}
 use Rattle.ember_algebra.proofs.Vectors.{VectorE, TupleE}
 use Rattle.ember_model.specs.declared.plane.Plane.{Plane}

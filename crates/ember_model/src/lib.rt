@@ -1,5 +1,6 @@
 //! What ember speaks of: corners and triangles, planes and points, faces, winding vectors and
-//! scenes, with the definitions of crossing, winding, clear points and balance.
+//! scenes, with the definitions of crossing, winding, clear points and balance, and the calls that
+//! give a triangle's planes and face, crossings, and whether a point is clear.
 #![tactic(auto)]
 
 mod clearness;
@@ -20,7 +21,7 @@ pub use clearness::{clear, face_clear};
 pub use face::Face;
 pub use plane::{Plane, Planes};
 pub use point::{Axis, Corner, Spot};
-pub use rays::{crossing, face_crossing};
+pub use rays::{crossing, face_crossing, leg};
 pub use scene::Scene;
 pub use sides::{OutOfMemory, edge_plane, face_of, main_axis, support_of};
 pub use tri::{Lines, Soup, Tri, Tris};

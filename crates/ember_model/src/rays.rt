@@ -1,10 +1,11 @@
 // Crossings of rays with faces and triangles.
-ghost use Rattle.std.specs.Prelude.{◌≡◌, ◌^◌, ◌*ℤ◌, neg_ℤ, ◌&&◌};
+ghost use Rattle.std.specs.Prelude.{◌≡◌, ◌^◌, ◌*ℤ◌, neg_ℤ, pos, ◌&&◌, if◌then◌else◌};
 ghost use Rattle.ember_algebra.specs.Size.{Small};
 ghost use Rattle.ember_algebra.specs.Sign.{sign, is_negative, is_positive};
 ghost use Rattle.ember_model.specs.Valid.{IsValidTri, IsValidSpot, IsValidFace};
+ghost use Rattle.ember_model.specs.Points.{DifferAlong};
 ghost use Rattle.ember_model.specs.Rays.{IsAlongSized};
-ghost use Rattle.ember_model.specs.Faces.{size, crossing, face_of};
+ghost use Rattle.ember_model.specs.Faces.{size, crossing, leg, face_of};
 
 use crate::face::Face;
 use crate::point::{Axis, Spot};
@@ -94,6 +95,62 @@ pub fn crossing(p: &Spot, a: Axis, t: &Tri) -> i32
         if all_below(front, e, f, g) { 1 } else { 0 }
     } else if slope < 0 {
         if all_above(front, e, f, g) { -1 } else { 0 }
+    } else {
+        0
+    }
+}
+
+// The planes through the edges, with the sign that the triangle's edge planes along the axis have
+// where its normal has the entry `slope` there, are negative.
+fn all_behind(slope: i64, e: i128, f: i128, g: i128) -> bool
+    requires e { Small (2 ^ 66) e }
+    requires f { Small (2 ^ 66) f }
+    requires g { Small (2 ^ 66) g }
+    ensures { result ≡ is_negative (sign slope *ℤ e) && (is_negative (sign slope *ℤ f) && is_negative (sign slope *ℤ g)) }
+{
+    if slope > 0 {
+        e < 0 && (f < 0 && g < 0)
+    } else if slope < 0 {
+        e > 0 && (f > 0 && g > 0)
+    } else {
+        false
+    }
+}
+
+// How a way passes a plane that has the values `start` and `end` at its ends.
+fn passage(start: i128, end: i128) -> i32
+    requires start { Small (2 ^ 80) start }
+    requires end { Small (2 ^ 80) end }
+    ensures value { result ≡ (if is_negative (start *ℤ end) then sign end else pos 0) }
+    ensures small { Small 1 result }
+{
+    if start < 0 && end > 0 {
+        1
+    } else if start > 0 && end < 0 {
+        -1
+    } else {
+        0
+    }
+}
+
+/// The signed crossing of the segment from `p` to `q` with the inside of the triangle's face: 1
+/// where the way from `p` to `q` leaves through the front, -1 where it enters through it, else 0.
+/// As points of space `p` and `q` differ at most in the coordinate of the axis.
+pub fn leg(p: &Spot, q: &Spot, a: Axis, t: &Tri) -> i32
+    requires from { IsValidSpot p.now }
+    requires to { IsValidSpot q.now }
+    requires line { DifferAlong a p.now q.now }
+    requires tri { IsValidTri t.now }
+    ensures value { result ≡ leg (face_of t.now) p.now q.now }
+    ensures small { Small 1 result }
+{
+    let n = support_of(t);
+    let slope = component(&n, a);
+    let e = edge_value(&t.a, &t.b, a, p);
+    let f = edge_value(&t.b, &t.c, a, p);
+    let g = edge_value(&t.c, &t.a, a, p);
+    if all_behind(slope, e, f, g) {
+        passage(value(&n, p), value(&n, q))
     } else {
         0
     }

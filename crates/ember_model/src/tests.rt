@@ -1,10 +1,12 @@
 // Worked cases: the tetrahedron, a side of a cube, points that are clear and points that are not.
 ghost use Rattle.ember_algebra.specs.Size.{Small};
+ghost use Rattle.ember_model.specs.declared.point.Axis.TheVariants.{X};
+ghost use Rattle.ember_model.specs.Points.{DifferAlong};
 ghost use Rattle.ember_model.specs.Valid.{IsValidCorner, IsValidTri, IsValidSpot};
 
 use crate::{
     Axis, Corner, Face, Lines, Plane, Planes, Scene, Soup, Spot, Tri, Tris, Vector, clear,
-    crossing, edge_plane, face_clear, face_crossing, face_of, main_axis, support_of, value,
+    crossing, edge_plane, face_clear, face_crossing, face_of, leg, main_axis, support_of, value,
 };
 use std::test::Fail;
 
@@ -54,6 +56,21 @@ fn a_file_in_lines(rt: HostRuntime) -> Result<(), Fail> {
     assert_eq!(rt; soup.tris.items()[0], tetra(0));
     assert_eq!(rt; soup.lines.items()[0], 5);
     Ok(())
+}
+
+// The point with another x.
+fn slid(p: &Spot, x: i32) -> Spot
+    requires { IsValidSpot p.now }
+    ensures line { DifferAlong X p.now result }
+    ensures back { DifferAlong X result p.now }
+    ensures valid { IsValidSpot result }
+{
+    Spot {
+        x: i64::from(x),
+        y: p.y,
+        z: p.z,
+        w: p.w,
+    }
 }
 
 // The triangles of the tetrahedron with the corners 0, e_x, e_y and e_z.
@@ -174,6 +191,12 @@ fn the_side_of_a_cube(rt: HostRuntime) {
     assert_eq!(rt; crossing(&p, Axis::X, &high), 1);
     assert_eq!(rt; crossing(&p, Axis::Y, &high), 0);
     assert_eq!(rt; value(&support_of(&high), &p), -96);
+    // through the side from within and back, beside it, and up to it
+    let far = slid(&p, 20);
+    assert_eq!(rt; leg(&p, &far, Axis::X, &high), 1);
+    assert_eq!(rt; leg(&far, &p, Axis::X, &high), -1);
+    assert_eq!(rt; leg(&p, &far, Axis::X, &low), 0);
+    assert_eq!(rt; leg(&p, &slid(&p, 16), Axis::X, &high), 0);
 }
 
 #[test]
