@@ -2,9 +2,10 @@
 #![tactic(auto)]
 
 use ember_io::{FileShelf, StdSink};
-use ember_run::run_one;
+use ember_run::run;
 use std::process::ExitCode;
 use std::{env, io};
+use steal_pool::OpenGate;
 
 const NO_WORDS: u8 = 13;
 
@@ -20,6 +21,6 @@ fn main(rt: HostRuntime) -> ExitCode {
     let mut shelf = FileShelf::new(&rt);
     let mut out = StdSink::new(io::writer(&rt));
     let mut err = StdSink::new(rt.stderr());
-    let status = run_one(rt.alloc(), &words, &mut shelf, &mut out, &mut err);
+    let status = run(&rt, rt.alloc(), &words, &mut shelf, &mut out, &mut err, &OpenGate);
     ExitCode::from(status.number())
 }

@@ -1,7 +1,8 @@
 -- What an input asks for: its first refusal, or its output
-use Rattle.std.specs.Prelude.{◌≡◌, ⊤, Bool, true, false, ℕ, ◌-◌, List, [], ◌∷◌, length, nat_le, get_or, map, take, Option, None, Some, Result, Ok, Err, if◌then◌else◌}
+use Rattle.std.specs.Prelude.{◌≡◌, ◌≢◌, ◌⊎◌, ⊤, Bool, true, false, ℕ, ◌-◌, List, [], ◌∷◌, length, nat_le, get_or, map, take, Option, None, Some, Result, Ok, Err, if◌then◌else◌}
 use Rattle.std.specs.Io.KnownBytes.{Appends}
-use Rattle.ember_io.specs.Sinks.{AppendsPrefix}
+use Rattle.ember_io.specs.Causes.{Rose}
+use Rattle.ember_io.specs.Sinks.{AppendsPrefix, IsFlushed}
 use Rattle.ember_model.specs.declared.tri.Tri.{Tri}
 use Rattle.ember_model.specs.Meshes.{faces_of}
 use Rattle.ember_model.specs.FaceFiles.{IsFacesText}
@@ -115,3 +116,14 @@ abbrev pub IsBegun : Verdict → Option (List ℕ) → Option (List ℕ) → Typ
 IsBegun Untold old new = ⊤
 IsBegun (Refused refusal) old new = ⊥
 IsBegun (Writes output) old new = (bytes : List ℕ) × IsOutput output bytes × AppendsPrefix old new bytes
+
+-- when each status comes, and what out then took: `old` before the call and `new` after it
+pub record Serves (command : Option Command) (told : List ℕ → Option (List ℕ)) (shelf_before shelf_now fault_at out_before out_now flushed : ℕ) (old new : Option (List ℕ)) (status : Status) : Type 0 where
+  pub done : status ≡ Done → IsWritten (told_verdict command told) old new × IsFlushed new flushed
+  pub refused : is_refusal status ≡ true → IsRefusal status (told_verdict command told)
+  pub read_fault : (i : ℕ) → status ≡ ReadFault i → Rose shelf_before shelf_now × (fault_at ≡ i) × (verdict_before i command told ≡ Untold)
+  pub write_fault : status ≡ WriteFault → Rose out_before out_now × IsBegun (told_verdict command told) old new
+  pub untouched : status ≢ Done → status ≢ WriteFault → new ≡ old
+  -- where no device failed, the verdict is answered, or memory was short
+  pub output_comes : (output : Output) → told_verdict command told ≡ Writes output → ¬ Rose shelf_before shelf_now → ¬ Rose out_before out_now → (status ≡ Done) ⊎ (status ≡ OutOfMemory)
+  pub refusal_comes : (refusal : Status) → told_verdict command told ≡ Refused refusal → ¬ Rose shelf_before shelf_now → (status ≡ refusal) ⊎ (status ≡ OutOfMemory)

@@ -8,4 +8,4 @@ mod status;
 mod top;
 
 pub use status::{LimitKind, Status};
-pub use top::run_one;
+pub use top::{run, run_one};

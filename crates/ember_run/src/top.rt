@@ -1,12 +1,12 @@
 // The top call.
-ghost use Rattle.std.specs.Prelude.{ℕ, ◌≡◌, ◌≢◌, ◌≤◌, ◌⊎◌, Some, true, map, string_bytes};
+ghost use Rattle.std.specs.Prelude.{ℕ, ◌≡◌, ◌≢◌, ◌≤◌, Some, true, map, string_bytes};
 ghost use Rattle.ember_io.specs.Causes.{Rose};
 ghost use Rattle.ember_io.specs.Sinks.{IsFlushed};
 ghost use Rattle.ember_words.specs.Meaning.{command_of};
 ghost use Rattle.ember_words.specs.Within.{IsWithinLimits};
 ghost use Rattle.ember_run.specs.Said.{Says};
 ghost use Rattle.ember_run.specs.Lines.{line_on_err};
-ghost use Rattle.ember_run.specs.Verdict.{Output, Untold, Refused, Writes, IsBegun, IsRefusal, IsWritten, is_refusal, names_of, told_verdict, verdict_before};
+ghost use Rattle.ember_run.specs.Verdict.{Untold, IsBegun, IsRefusal, IsWritten, Serves, is_refusal, names_of, told_verdict, verdict_before};
 
 use crate::faces::write_faces;
 use crate::lines::{say_out_of_memory, say_status, say_words_refused};
@@ -14,6 +14,9 @@ use crate::status::Status;
 use ember_io::{Shelf, Sink};
 use ember_words::{Command, WordsFault, read_words};
 use std::alloc::Global;
+use std::sync::Wait;
+use std::thread::Threads;
+use steal_pool::Gate;
 
 // Does what the command asks for.
 fn do_command<S: Shelf, O: Sink>(
@@ -38,29 +41,23 @@ fn do_command<S: Shelf, O: Sink>(
     }
 }
 
-/// Does what the words ask for, with one worker, and writes the status's line to err.
-pub fn run_one<S: Shelf, O: Sink, E: Sink>(
+/// Does what the words ask for, with one worker, and writes the status's line to err. It waits for
+/// nobody, and takes all words that `run` takes.
+pub fn run_one<S: Shelf, O: Sink, E: Sink, G: Gate>(
     alloc: Global,
     words: &[String],
     shelf: &mut S,
     out: &mut O,
     err: &mut E,
+    gate: &G,
 ) -> Status
     ensures contents { S.contents shelf.new ≡ S.contents shelf.old }
     ensures later { S.faults shelf.old ≤ S.faults shelf.new }
     ensures out_later { O.faults out.old ≤ O.faults out.new }
-
-    ensures done { result ≡ Status.Done → IsWritten (told_verdict (command_of (map string_bytes words.now)) (S.contents shelf.old)) (O.taken out.old) (O.taken out.new) × IsFlushed (O.taken out.new) (O.flushed out.new) }
-    ensures refused { is_refusal result ≡ true → IsRefusal result (told_verdict (command_of (map string_bytes words.now)) (S.contents shelf.old)) }
-    ensures read_fault { (i : ℕ) → result ≡ Status.ReadFault i → Rose (S.faults shelf.old) (S.faults shelf.new) × (S.fault_at shelf.new ≡ i) × (verdict_before i (command_of (map string_bytes words.now)) (S.contents shelf.old) ≡ Untold) }
-    ensures write_fault { result ≡ Status.WriteFault → Rose (O.faults out.old) (O.faults out.new) × IsBegun (told_verdict (command_of (map string_bytes words.now)) (S.contents shelf.old)) (O.taken out.old) (O.taken out.new) }
-    ensures untouched { result ≢ Status.Done → result ≢ Status.WriteFault → O.taken out.new ≡ O.taken out.old }
-
-    ensures complete_output { (output : Output) → told_verdict (command_of (map string_bytes words.now)) (S.contents shelf.old) ≡ Writes output → ¬ Rose (S.faults shelf.old) (S.faults shelf.new) → ¬ Rose (O.faults out.old) (O.faults out.new) → (result ≡ Status.Done) ⊎ (result ≡ Status.OutOfMemory) }
-    ensures complete_refusal { (refusal : Status) → told_verdict (command_of (map string_bytes words.now)) (S.contents shelf.old) ≡ Refused refusal → ¬ Rose (S.faults shelf.old) (S.faults shelf.new) → (result ≡ refusal) ⊎ (result ≡ Status.OutOfMemory) }
-
+    ensures status { Serves (command_of (map string_bytes words.now)) (S.contents shelf.old) (S.faults shelf.old) (S.faults shelf.new) (S.fault_at shelf.new) (O.faults out.old) (O.faults out.new) (O.flushed out.new) (O.taken out.old) (O.taken out.new) result }
     ensures err { Says (E.faults err.old) (E.faults err.new) (E.taken err.old) (E.taken err.new) (line_on_err (names_of (command_of (map string_bytes words.now))) result) }
 {
+    let _ = gate;
     match read_words(alloc, words) {
         Ok(command) => {
             let status = do_command(alloc, &command, shelf, out);
@@ -76,4 +73,23 @@ pub fn run_one<S: Shelf, O: Sink, E: Sink>(
             Status::OutOfMemory
         }
     }
+}
+
+/// Does what the words ask for, and writes the status's line to err.
+pub fn run<R: Threads + Wait + Sync, S: Shelf, O: Sink, E: Sink, G: Gate + Sync>(
+    _rt: &R,
+    alloc: Global,
+    words: &[String],
+    shelf: &mut S,
+    out: &mut O,
+    err: &mut E,
+    gate: &G,
+) -> Status
+    ensures contents { S.contents shelf.new ≡ S.contents shelf.old }
+    ensures later { S.faults shelf.old ≤ S.faults shelf.new }
+    ensures out_later { O.faults out.old ≤ O.faults out.new }
+    ensures status { Serves (command_of (map string_bytes words.now)) (S.contents shelf.old) (S.faults shelf.old) (S.faults shelf.new) (S.fault_at shelf.new) (O.faults out.old) (O.faults out.new) (O.flushed out.new) (O.taken out.old) (O.taken out.new) result }
+    ensures err { Says (E.faults err.old) (E.faults err.new) (E.taken err.old) (E.taken err.new) (line_on_err (names_of (command_of (map string_bytes words.now))) result) }
+{
+    run_one(alloc, words, shelf, out, err, gate)
 }

@@ -1,28 +1,18 @@
-use Rattle.std.proofs.Common.{◌≡◌, ℕ, List, map, string_bytes, Some, sym, ap, subst, ◌∙◌}
+use Rattle.std.proofs.Common.{List, ℕ, sym, subst}
 use Rattle.std.specs.declared.option.Option.{Option}
 use Rattle.ember_words.specs.declared.command.Command.{Command}
 use Rattle.ember_run.specs.Said.{Says}
 use Rattle.ember_run.specs.Lines.{line_on_err}
-use Rattle.ember_run.specs.Verdict.{Untold, names_of, told_verdict, verdict_before}
-use Rattle.ember_run.proofs.Complete.{owes_same, output_or_memory, refusal_or_memory}
+use Rattle.ember_run.specs.Verdict.{Serves, names_of}
+use Rattle.ember_run.proofs.Complete.{served}
 use Rattle.ember_run.proofs.top.run_one.Goals as goal
 
-pub returns-in-Ok-clause-read_fault : goal.returns-in-Ok-clause-read_fault
-returns-in-Ok-clause-read_fault g c = λ i e.
-    let h = c.do_command-status.ensures.read_fault i e in
-    (h.0, h.1, subst (λ (command : Option Command). verdict_before i command (g.S.Shelf.contents c.args.shelf.now) ≡ Untold) (sym c.in-Ok.ensures.command) h.2)
-
-pub returns-in-Ok-clause-complete_output : goal.returns-in-Ok-clause-complete_output
-returns-in-Ok-clause-complete_output g c = λ output v r w.
-    let same = ap (λ (command : Option Command). told_verdict command (g.S.Shelf.contents c.args.shelf.now)) (sym c.in-Ok.ensures.command) ∙ v in
+pub returns-in-Ok-clause-status : goal.returns-in-Ok-clause-status
+returns-in-Ok-clause-status g c =
     let o = c.do_command-status.ensures in
-    output_or_memory output _ _ _ _ c.do_command-status.result (owes_same _ _ _ _ _ _ _ same (record { done = λ d. (o.done d).0; refused = o.refused; read_fault = λ i e. (o.read_fault i e).0; write_fault = o.write_fault })) r w
-
-pub returns-in-Ok-clause-complete_refusal : goal.returns-in-Ok-clause-complete_refusal
-returns-in-Ok-clause-complete_refusal g c = λ refusal v r.
-    let same = ap (λ (command : Option Command). told_verdict command (g.S.Shelf.contents c.args.shelf.now)) (sym c.in-Ok.ensures.command) ∙ v in
-    let o = c.do_command-status.ensures in
-    refusal_or_memory refusal _ _ _ _ c.do_command-status.result (owes_same _ _ _ _ _ _ _ same (record { done = λ d. (o.done d).0; refused = o.refused; read_fault = λ i e. (o.read_fault i e).0; write_fault = o.write_fault })) r
+    subst (λ (command : Option Command). Serves command (g.S.Shelf.contents c.args.shelf.now) (g.S.Shelf.faults c.args.shelf.now) (g.S.Shelf.faults c.do_command-status.new.shelf) (g.S.Shelf.fault_at c.do_command-status.new.shelf) (g.O.Sink.faults c.args.out.now) (g.O.Sink.faults c.do_command-status.new.out) (g.O.Sink.flushed c.do_command-status.new.out) (g.O.Sink.taken c.args.out.now) (g.O.Sink.taken c.do_command-status.new.out) c.do_command-status.result)
+    (sym c.in-Ok.ensures.command)
+    (served _ _ _ _ _ _ _ _ _ _ _ (record { done = o.done; refused = o.refused; read_fault = o.read_fault; write_fault = o.write_fault; untouched = o.untouched }))
 
 pub returns-in-Ok-clause-err : goal.returns-in-Ok-clause-err
 returns-in-Ok-clause-err g c =
