@@ -5,6 +5,8 @@ mod faces;
 mod lines;
 mod reading;
 mod status;
+#[cfg(test)]
+mod tests;
 mod top;
 
 pub use status::{LimitKind, Status};
