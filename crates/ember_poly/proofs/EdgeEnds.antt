@@ -41,11 +41,12 @@ rises t s v w a b d pt ps pv pa eb e =
         let z : t *ℤ (v *ℤ a -ℤ w *ℤ b) ≡ neg_ℤ (t *ℤ (v *ℤ neg_ℤ a)) = rw eb (solve 4 (λ t v w a. t ⊗ (v ⊗ a ⊖ w ⊗ num (pos 0)) ≈ neg (t ⊗ (v ⊗ neg a))) cancels t v w a) in
         absurd (omega (arith, linear, nonneg_mul pt (nonneg_mul pv m), mul_pos_neg ps l, z, e))
 
-pub edge_start : (n : Plane) (q c y : Side) (xs : List Side) (x : Spot) → Sound n (q ∷ c ∷ y ∷ xs) → Closed n (q ∷ c ∷ y ∷ xs) x → value_at c.plane x ≡ pos 0 → NotAbove (along n c.plane) c.corner x
-edge_start n q c y xs x h k e =
-    let root = ring-rooted n (q ∷ c ∷ y ∷ xs) h in let z = along n c.plane in
-    let s = slope n c.plane z q.plane c.corner x root.1.0.flat k.flat root.1.0.after e in
-    record { not_above = order c.corner.w (value_at z x) x.w (value_at z c.corner) (rises (turn n c.plane z) (turn n q.plane c.plane) c.corner.w x.w (value_at q.plane x) (value_at q.plane c.corner) (c.corner.w *ℤ value_at z x -ℤ x.w *ℤ value_at z c.corner) (turns_along n c.plane) h.1.0.turns (weaken root.1.0.weight) k.within.0.at_most h.1.0.before s) }
+-- the edge g doesn't come before a point at which it meets q, where q turns to g
+pub no_earlier : (n q g : Plane) (u x : Spot) → pos 0 <ℤ turn n q g → value_at n u ≡ pos 0 → value_at n x ≡ pos 0 → value_at g u ≡ pos 0 → value_at g x ≡ pos 0 → value_at q u ≡ pos 0 → value_at q x ≤ℤ pos 0 → pos 0 <ℤ u.w → NotAbove (along n g) u x
+no_earlier n q g u x t nu nx gu gx qu qx w =
+    let z = along n g in
+    let s = slope n g z q u x nu nx gu gx in
+    record { not_above = order u.w (value_at z x) x.w (value_at z u) (rises (turn n g z) (turn n q g) u.w x.w (value_at q x) (value_at q u) (u.w *ℤ value_at z x -ℤ x.w *ℤ value_at z u) (turns_along n g) t (weaken w) qx qu s) }
   where
     weaken : {a : ℤ} → pos 0 <ℤ a → pos 0 ≤ℤ a
     weaken q = omega (arith, linear, q)
@@ -53,6 +54,11 @@ edge_start n q c y xs x h k e =
     order : (a b c d : ℤ) → pos 0 ≤ℤ (a *ℤ b -ℤ c *ℤ d) → (d *ℤ c) ≤ℤ (b *ℤ a)
     order a b c d p =
         omega (arith, linear, p, solve 2 (λ a b. a ⊗ b ≈ b ⊗ a) cancels a b, solve 2 (λ c d. c ⊗ d ≈ d ⊗ c) cancels c d)
+
+pub edge_start : (n : Plane) (q c y : Side) (xs : List Side) (x : Spot) → Sound n (q ∷ c ∷ y ∷ xs) → Closed n (q ∷ c ∷ y ∷ xs) x → value_at c.plane x ≡ pos 0 → NotAbove (along n c.plane) c.corner x
+edge_start n q c y xs x h k e =
+    let root = ring-rooted n (q ∷ c ∷ y ∷ xs) h in
+    no_earlier n q.plane c.plane c.corner x h.1.0.turns root.1.0.flat k.flat root.1.0.after e h.1.0.before k.within.0.at_most root.1.0.weight
 
 pub edge_end : (n : Plane) (q c y : Side) (xs : List Side) (x : Spot) → Sound n (q ∷ c ∷ y ∷ xs) → Closed n (q ∷ c ∷ y ∷ xs) x → value_at c.plane x ≡ pos 0 → NotAbove (along n c.plane) x y.corner
 edge_end n q c y xs x h k e =

@@ -19,3 +19,4 @@ pub mod RingOutline
 pub mod Lent
 pub mod MovedOutline
 pub mod TurnedOutline
+pub mod TriangleOutline

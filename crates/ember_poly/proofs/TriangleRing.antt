@@ -77,20 +77,20 @@ faces_axis t e =
     rw (dot_unit (normal_of t.a t.b t.c) (support_of t).d (main_axis (support_of t))) (sign_times (along (support_of t) (main_axis (support_of t))) (main_entry (support_of t) e))
 
 -- ---- the ring
-abbrev tri_sides : Tri → List Side
+abbrev pub tri_sides : Tri → List Side
 tri_sides t =
     let k = main_axis (support_of t) in let s = sign (along (support_of t) k) in
     side_along s (unit k) t.a t.b 0 ∷ side_along s (unit k) t.b t.c 1 ∷ side_along s (unit k) t.c t.a 2 ∷ []
 
-abbrev tri_planes : Tri → List Plane
+abbrev pub tri_planes : Tri → List Plane
 tri_planes t = edge_planes t (main_axis (support_of t))
 
-stands : (t : Tri) → is_flat t ≡ false → Stands (support_of t) (tri_planes t) (tri_sides t)
+pub stands : (t : Tri) → is_flat t ≡ false → Stands (support_of t) (tri_planes t) (tri_sides t)
 stands t e =
     let k = main_axis (support_of t) in
     triangle_stands (sign (along (support_of t) k)) (unit k) t.a t.b t.c (faces_axis t e)
 
-counted : (t : Tri) → AllCounted (support_of t) (tri_planes t) (tri_sides t)
+pub counted : (t : Tri) → AllCounted (support_of t) (tri_planes t) (tri_sides t)
 counted t zero h e = inl (record { at = 0; side = _; here = refl; birth = refl })
 counted t (suc zero) h e = inl (record { at = 1; side = _; here = refl; birth = refl })
 counted t (suc (suc zero)) h e = inl (record { at = 2; side = _; here = refl; birth = refl })

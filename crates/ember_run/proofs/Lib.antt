@@ -1,4 +1,5 @@
 pub mod Pieces
 pub mod Verdicts
 pub mod Complete
+pub mod ReadBack
 pub mod FaceLists

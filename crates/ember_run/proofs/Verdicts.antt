@@ -1,13 +1,11 @@
 -- What the reading of a file says of the verdict.
-use Rattle.std.proofs.Common.{◌≡◌, ℕ, ◌<◌, ◌≤◌, Bool, true, false, List, length, nat_le, Some, None, Ok, Err, refl, sym, subst, arith, leb, ◌⊎◌, inl, inr}
+use Rattle.std.proofs.Common.{◌≡◌, ℕ, ◌<◌, ◌≤◌, true, false, List, length, nat_le, Some, None, Ok, Err, refl, sym, subst, arith, leb, ◌⊎◌, inl, inr}
 use Rattle.std.proofs.lemmas.Bool.{le-leb}
 use Rattle.std.proofs.lemmas.Bool.Decides.{leb_tells}
 use Rattle.std.specs.declared.option.Option.{Option}
 use Rattle.std.specs.Io.KnownBytes.{Appends}
 use Rattle.ember_io.specs.Shelves.{TellsMore}
 use Rattle.ember_io.specs.Sinks.{AppendsPrefix}
-use Rattle.ember_model.specs.Meshes.{faces_of}
-use Rattle.ember_model.specs.FaceFiles.{IsFacesText}
 use Rattle.ember_model.specs.declared.tri.Tri.{Tri}
 use Rattle.ember_obj.specs.declared.fault.ObjFault.{ObjFault}
 use Rattle.ember_obj.specs.Table.{Faces}
@@ -15,6 +13,7 @@ use Rattle.ember_obj.specs.ReadObj.{read_obj_of}
 use Rattle.ember_run.specs.declared.status.LimitKind.TheVariants.{Bytes}
 use Rattle.ember_run.specs.declared.status.Status.TheVariants.{ObjRefused, Limit}
 use Rattle.ember_run.specs.Said.{IfTold}
+use Rattle.ember_run.specs.FaceTexts.{IsFaceFileOf}
 use Rattle.ember_run.specs.Verdict.{Output, FaceTexts, Verdict, Untold, Refused, Writes, after_file, faces_verdict, IsOutput, IsBegun, IsRefusal, IsSameIfTold, IsWritten}
 
 same_self : (v : Verdict) → IsSameIfTold v v
@@ -56,14 +55,14 @@ begun (Writes other) output old new bytes e o a = subst (λ (v : Verdict). IsBeg
 pub record HasFaces (told : List ℕ → Option (List ℕ)) (places : ℕ) (file text : List ℕ) : Type 0 where
   pub tris : List Tri
   pub same : IsSameIfTold (faces_verdict places (told file)) (Writes (FaceTexts tris))
-  pub faces : IsFacesText (faces_of tris) text
+  pub faces : IsFaceFileOf tris text
 
-pub has_faces : (told : List ℕ → Option (List ℕ)) (places : ℕ) (name file : List ℕ) (tris items : List Tri) (text bytes : List ℕ) → name ≡ file → items ≡ tris → bytes ≡ text → ((next : List Tri → Verdict) → IsSameIfTold (after_file places 1 (told name) next) (next tris)) → IsFacesText (faces_of items) text → HasFaces told places file bytes
+pub has_faces : (told : List ℕ → Option (List ℕ)) (places : ℕ) (name file : List ℕ) (tris items : List Tri) (text bytes : List ℕ) → name ≡ file → items ≡ tris → bytes ≡ text → ((next : List Tri → Verdict) → IsSameIfTold (after_file places 1 (told name) next) (next tris)) → IsFaceFileOf items text → HasFaces told places file bytes
 has_faces told places name file tris items text bytes n i b read faces =
     record {
       tris = tris;
       same = subst (λ (name : List ℕ). IsSameIfTold (faces_verdict places (told name)) (Writes (FaceTexts tris))) n (read (λ tris. Writes (FaceTexts tris)));
-      faces = subst (λ (bytes : List ℕ). IsFacesText (faces_of tris) bytes) (sym b) (subst (λ (ts : List Tri). IsFacesText (faces_of ts) text) i faces);
+      faces = subst (λ (bytes : List ℕ). IsFaceFileOf tris bytes) (sym b) (subst (λ (ts : List Tri). IsFaceFileOf ts text) i faces);
     }
 
 pub faces_written : (told : List ℕ → Option (List ℕ)) (places : ℕ) (file bytes : List ℕ) (old new : Option (List ℕ)) → HasFaces told places file bytes → Appends old new bytes → IsWritten (faces_verdict places (told file)) old new

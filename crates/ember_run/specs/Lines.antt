@@ -4,7 +4,6 @@ use Rattle.ember_dec.specs.declared.DecFault.{DecFault}
 use Rattle.ember_dec.specs.declared.DecFault.TheVariants.{Malformed, Fraction, Range}
 use Rattle.ember_obj.specs.declared.fault.ObjFault.{ObjFault}
 use Rattle.ember_obj.specs.declared.fault.ObjFault.TheVariants as obj
-use Rattle.ember_run.specs.declared.status.LimitKind.{LimitKind}
 use Rattle.ember_run.specs.declared.status.LimitKind.TheVariants.{Bytes, Triangles}
 use Rattle.ember_run.specs.declared.status.Status.{Status}
 use Rattle.ember_run.specs.declared.status.Status.TheVariants.{Done, Words, ReadFault, WriteFault, ObjRefused, Limit, OutOfMemory}

@@ -4,13 +4,12 @@ use Rattle.std.specs.Io.KnownBytes.{Appends}
 use Rattle.ember_io.specs.Causes.{Rose}
 use Rattle.ember_io.specs.Sinks.{AppendsPrefix, IsFlushed}
 use Rattle.ember_model.specs.declared.tri.Tri.{Tri}
-use Rattle.ember_model.specs.Meshes.{faces_of}
-use Rattle.ember_model.specs.FaceFiles.{IsFacesText}
 use Rattle.ember_obj.specs.declared.fault.ObjFault.{ObjFault}
 use Rattle.ember_obj.specs.Table.{Faces}
 use Rattle.ember_obj.specs.ReadObj.{read_obj_of}
 use Rattle.ember_words.specs.declared.command.Command.{Command}
 use Rattle.ember_words.specs.declared.command.Command.TheVariants as command
+use Rattle.ember_run.specs.FaceTexts.{IsFaceFileOf}
 use Rattle.ember_run.specs.declared.status.LimitKind.TheVariants.{Bytes}
 use Rattle.ember_run.specs.declared.status.Status.{Status}
 use Rattle.ember_run.specs.declared.status.Status.TheVariants.{Done, Words, ReadFault, WriteFault, ObjRefused, Limit, OutOfMemory}
@@ -22,7 +21,7 @@ pub data Output : Type 0 where
 
 -- the bytes are this output
 abbrev pub IsOutput : Output → List ℕ → Type 0
-IsOutput (FaceTexts tris) bytes = IsFacesText (faces_of tris) bytes
+IsOutput (FaceTexts tris) bytes = IsFaceFileOf tris bytes
 
 -- the first refusal, or the output; Untold where it rests on contents that aren't told
 pub data Verdict : Type 0 where

@@ -4,10 +4,8 @@ ghost use Rattle.std.specs.declared.option.Option.{Option};
 ghost use Rattle.ember_io.specs.Causes.{Rose};
 ghost use Rattle.ember_io.specs.Sinks.{IsFlushed};
 ghost use Rattle.ember_model.specs.Valid.{IsValidTri};
-ghost use Rattle.ember_model.specs.Meshes.{faces_of};
-ghost use Rattle.ember_model.specs.FaceFiles.{IsFacesText};
 ghost use Rattle.ember_run.specs.Verdict.{IsBegun, IsRefusal, IsWritten, faces_verdict, is_refusal};
-ghost use Rattle.ember_run.specs.FaceTexts.{AddsFace};
+ghost use Rattle.ember_run.specs.FaceTexts.{AddsFace, IsFaceFileOf};
 
 use crate::reading::read_file;
 use crate::status::Status;
@@ -33,12 +31,12 @@ fn add_face(alloc: Global, tri: &Tri, text: &mut Vec<u8>) -> Result<u32, OutOfMe
     }
 }
 
-#[tactic(auto, using(crate::proofs::FaceLists::no_texts, crate::proofs::FaceLists::more_texts, crate::proofs::FaceLists::all_texts))]
+#[tactic(auto, using(crate::proofs::FaceLists::no_texts, crate::proofs::FaceLists::more_texts, crate::proofs::FaceLists::face_file))]
 // The text of the triangles' faces.
 fn faces_text(alloc: Global, tris: &[Tri]) -> Result<Vec<u8>, OutOfMemory>
     requires valid { All IsValidTri tris.now }
     requires few { length tris.now ≤ 262144 }
-    ensures { IfOk result (λ text. IsFacesText (faces_of tris.now) text.items) }
+    ensures { IfOk result (λ text. IsFaceFileOf tris.now text.items) }
 {
     let mut text = begin_file(alloc)?;
     let mut count = 0u32;

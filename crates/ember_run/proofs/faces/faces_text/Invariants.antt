@@ -1,4 +1,4 @@
-use Rattle.std.proofs.Common.{◌≡◌, ◌≤◌, take}
+use Rattle.std.proofs.Common.{◌≤◌, take}
 use Rattle.ember_run.specs.FaceTexts.{HasTexts}
 use Rattle.ember_run.proofs.faces.faces_text.Given as goal
 

@@ -1,4 +1,4 @@
-use Rattle.std.proofs.Common.{List, ℕ, sym, subst}
+use Rattle.std.proofs.Common.{sym, subst}
 use Rattle.std.specs.declared.option.Option.{Option}
 use Rattle.ember_words.specs.declared.command.Command.{Command}
 use Rattle.ember_run.specs.Said.{Says}
