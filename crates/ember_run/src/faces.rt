@@ -16,8 +16,8 @@ use ember_text::{begin_file, end_file, face_text};
 use ember_words::Text;
 use std::alloc::Global;
 
-#[tactic(auto, using(crate::proofs::FaceLists::flat_adds, crate::proofs::FaceLists::face_adds))]
 // Appends the triangle's face, where it has one, and gives the number of faces added.
+#[tactic(auto, using(crate::proofs::FaceLists::flat_adds, crate::proofs::FaceLists::face_adds))]
 fn add_face(alloc: Global, tri: &Tri, text: &mut Vec<u8>) -> Result<u32, OutOfMemory>
     requires { IsValidTri tri.now }
     ensures { IfOk result (λ count. AddsFace tri.now count text.old.items text.new.items) }
@@ -31,8 +31,8 @@ fn add_face(alloc: Global, tri: &Tri, text: &mut Vec<u8>) -> Result<u32, OutOfMe
     }
 }
 
-#[tactic(auto, using(crate::proofs::FaceLists::no_texts, crate::proofs::FaceLists::more_texts, crate::proofs::FaceLists::face_file))]
 // The text of the triangles' faces.
+#[tactic(auto, using(crate::proofs::FaceLists::no_texts, crate::proofs::FaceLists::more_texts, crate::proofs::FaceLists::face_file))]
 fn faces_text(alloc: Global, tris: &[Tri]) -> Result<Vec<u8>, OutOfMemory>
     requires valid { All IsValidTri tris.now }
     requires few { length tris.now ≤ 262144 }

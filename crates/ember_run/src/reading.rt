@@ -12,8 +12,8 @@ use std::alloc::Global;
 
 const MOST_BYTES: u64 = 268_435_456;
 
-#[tactic(auto, using(crate::proofs::Verdicts::file_read, crate::proofs::Verdicts::file_refused, crate::proofs::Verdicts::file_too_long))]
 /// Reads the file with this number, from 1, under its name. `places` is at most 3.
+#[tactic(auto, using(crate::proofs::Verdicts::file_read, crate::proofs::Verdicts::file_refused, crate::proofs::Verdicts::file_too_long))]
 pub fn read_file<S: Shelf>(
     alloc: Global,
     shelf: &mut S,
