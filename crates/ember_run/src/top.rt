@@ -2,6 +2,7 @@
 ghost use Rattle.std.specs.Prelude.{ℕ, ◌≡◌, ◌≢◌, ◌≤◌, Some, true, map, string_bytes};
 ghost use Rattle.ember_io.specs.Causes.{Rose};
 ghost use Rattle.ember_io.specs.Sinks.{IsFlushed};
+ghost use Rattle.ember_words.specs.Canonical.{Line, IsCanonical, command_with, words_of};
 ghost use Rattle.ember_words.specs.Meaning.{command_of};
 ghost use Rattle.ember_words.specs.Within.{IsWithinLimits};
 ghost use Rattle.ember_run.specs.Said.{Says};
@@ -55,6 +56,7 @@ pub fn run_one<S: Shelf, O: Sink, E: Sink, G: Gate>(
     ensures later { S.faults shelf.old ≤ S.faults shelf.new }
     ensures out_later { O.faults out.old ≤ O.faults out.new }
     ensures status { Serves (command_of (map string_bytes words.now)) (S.contents shelf.old) (S.faults shelf.old) (S.faults shelf.new) (S.fault_at shelf.new) (O.faults out.old) (O.faults out.new) (O.flushed out.new) (O.taken out.old) (O.taken out.new) result }
+    ensures canonical { (line : Line) → IsCanonical line → map string_bytes words.now ≡ words_of line → command_of (map string_bytes words.now) ≡ command_with line }
     ensures err { Says (E.faults err.old) (E.faults err.new) (E.taken err.old) (E.taken err.new) (line_on_err (names_of (command_of (map string_bytes words.now))) result) }
 {
     let _ = gate;
@@ -89,6 +91,7 @@ pub fn run<R: Threads + Wait + Sync, S: Shelf, O: Sink, E: Sink, G: Gate + Sync>
     ensures later { S.faults shelf.old ≤ S.faults shelf.new }
     ensures out_later { O.faults out.old ≤ O.faults out.new }
     ensures status { Serves (command_of (map string_bytes words.now)) (S.contents shelf.old) (S.faults shelf.old) (S.faults shelf.new) (S.fault_at shelf.new) (O.faults out.old) (O.faults out.new) (O.flushed out.new) (O.taken out.old) (O.taken out.new) result }
+    ensures canonical { (line : Line) → IsCanonical line → map string_bytes words.now ≡ words_of line → command_of (map string_bytes words.now) ≡ command_with line }
     ensures err { Says (E.faults err.old) (E.faults err.new) (E.taken err.old) (E.taken err.new) (line_on_err (names_of (command_of (map string_bytes words.now))) result) }
 {
     run_one(alloc, words, shelf, out, err, gate)

@@ -4,6 +4,7 @@ use Rattle.ember_words.specs.declared.command.Command.{Command}
 use Rattle.ember_run.specs.Said.{Says}
 use Rattle.ember_run.specs.Lines.{line_on_err}
 use Rattle.ember_run.specs.Verdict.{Serves, names_of}
+use Rattle.ember_run.proofs.CanonicalWords.{canonical_command}
 use Rattle.ember_run.proofs.Complete.{served}
 use Rattle.ember_run.proofs.top.run_one.Goals as goal
 
@@ -17,3 +18,6 @@ returns-in-Ok-clause-status g c =
 pub returns-in-Ok-clause-err : goal.returns-in-Ok-clause-err
 returns-in-Ok-clause-err g c =
     subst (λ (command : Option Command). Says (g.E.Sink.faults c.args.err.now) (g.E.Sink.faults c.say_status.new.err) (g.E.Sink.taken c.args.err.now) (g.E.Sink.taken c.say_status.new.err) (line_on_err (names_of command) c.do_command-status.result)) (sym c.in-Ok.ensures.command) c.say_status.ensures
+
+pub returns-in-Err-OutOfMemory-clause-canonical : goal.returns-in-Err-OutOfMemory-clause-canonical
+returns-in-Err-OutOfMemory-clause-canonical g c = λ line h is. canonical_command _ line h is
