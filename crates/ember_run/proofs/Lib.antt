@@ -3,3 +3,4 @@ pub mod Verdicts
 pub mod Complete
 pub mod ReadBack
 pub mod FaceLists
+pub mod OneReading
