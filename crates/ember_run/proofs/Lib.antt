@@ -4,3 +4,4 @@ pub mod Complete
 pub mod ReadBack
 pub mod FaceLists
 pub mod CanonicalWords
+pub mod OneReading

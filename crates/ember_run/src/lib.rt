@@ -2,6 +2,7 @@
 #![tactic(auto)]
 
 mod faces;
+mod law;
 mod lines;
 mod reading;
 mod status;
@@ -9,5 +10,6 @@ mod status;
 mod tests;
 mod top;
 
+pub use law::faces_wind_as_read;
 pub use status::{LimitKind, Status};
 pub use top::{run, run_one};

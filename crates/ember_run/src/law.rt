@@ -1,0 +1,16 @@
+// The law of the files that `faces` writes.
+ghost use Rattle.std.specs.Prelude.{◌≡◌, ℕ, List};
+ghost use Rattle.ember_model.specs.declared.face.Face.{Face};
+ghost use Rattle.ember_model.specs.declared.point.Axis.{Axis};
+ghost use Rattle.ember_model.specs.declared.point.Spot.{Spot};
+ghost use Rattle.ember_model.specs.declared.tri.Tri.{Tri};
+ghost use Rattle.ember_model.specs.FaceFiles.{IsFaceFile};
+ghost use Rattle.ember_model.specs.Meshes.{faces_of, wind};
+ghost use Rattle.ember_run.specs.Verdict.{FaceTexts, IsOutput};
+
+/// What `faces` writes for the triangles holds their faces and no other list of faces, so each
+/// winding number of the faces read back is that of the triangles.
+pub fn faces_wind_as_read()
+    ensures only { (tris : List Tri) (bytes : List ℕ) (faces : List Face) → IsOutput (FaceTexts tris) bytes → IsFaceFile bytes faces → faces ≡ faces_of tris }
+    ensures wind { (tris : List Tri) (bytes : List ℕ) (faces : List Face) → IsOutput (FaceTexts tris) bytes → IsFaceFile bytes faces → (axis : Axis) (point : Spot) → wind axis faces point ≡ wind axis (faces_of tris) point }
+{}
