@@ -1,7 +1,6 @@
 -- What answers a job, and what a stored step owes.
-use Rattle.std.specs.Prelude.{◌≡◌, ℕ, ◌<◌, List, [], ◌∷◌, Result, IfOk}
+use Rattle.std.specs.Prelude.{◌≡◌, ◌<◌, Bool, true, false, Result, IfOk}
 use Rattle.std.specs.Borrow.{Bor}
-use Rattle.std.specs.declared.alloc.Global.{Global}
 use Rattle.std.specs.declared.alloc.AllocError.{AllocError}
 use Rattle.ember_model.specs.declared.point.Axis.{Axis}
 use Rattle.ember_box.specs.Boxes.{Cell, left_half, right_half}
@@ -14,6 +13,11 @@ pub data Shape : Type 0 where
   halved : Job → Job → Shape
   leafed : Shape
   passed : Shape
+
+abbrev pub is_halved : Shape → Bool
+is_halved (halved low high) = true
+is_halved leafed = false
+is_halved passed = false
 
 -- two boxes are the halves of a box along one axis
 pub record IsSplit (whole low high : Cell) : Type 0 where

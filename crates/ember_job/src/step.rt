@@ -50,7 +50,8 @@ impl<W: Work, F: Fn(&Job) -> Result<Outcome<W::Item>, OutOfMemory>> Step<W, F> {
     pub fn go(&self, job: &Job) -> Result<Outcome<W::Item>, OutOfMemory>
         requires step { AnswersAll W.valid W.shape W.item F.pre F.post self.now.work self.now.call }
         requires valid { W.valid self.now.work job.now }
-        ensures { IfOk result (λ o. Answers (W.shape self.now.work) (W.item self.now.work) job.now o) }
+        ensures called { F.post self.now.call job.entry result }
+        ensures answers { IfOk result (λ o. Answers (W.shape self.now.work) (W.item self.now.work) job.now o) }
     {
         (self.call)(job)
     }

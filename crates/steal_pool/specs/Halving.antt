@@ -1,33 +1,28 @@
--- The step of the tests: each box of depth below 10 is halved along x, and each box of depth 10 gives its path.
-use Rattle.std.specs.Prelude.{◌≡◌, ℕ, zero, suc, ◌<◌, [], refl, true, false, Bool, List}
+-- The step of the tests, which no function of the crate cites: a box is halved along x down to a floor, and gives its path there.
+use Rattle.std.specs.Prelude.{◌≡◌, ℕ, zero, suc, ◌<◌, [], Bool, true, false, leb, refl}
 use Rattle.std.proofs.Common.{sym, ap, ◌∙◌, subst, true≢false}
 use Rattle.std.proofs.Math.Nat.{zero-lt-suc}
+use Rattle.std.proofs.Math.Dec.{leb-zero}
 use Rattle.ember_model.specs.declared.point.Axis.TheVariants.{X}
 use Rattle.ember_model.specs.declared.vector.Vector.{Vector}
 use Rattle.ember_box.specs.Boxes.{Cell, left_half, right_half}
 use Rattle.ember_job.specs.declared.job.Job.{Job}
-use Rattle.ember_job.specs.Works.{Shape, halved, leafed, passed, IsSplit}
+use Rattle.ember_job.specs.Works.{Shape, halved, leafed, passed, is_halved, IsSplit}
 
 abbrev pub job_of : Cell → Vector → Job
 job_of cell at = record { cell = cell; list = []; at = at }
 
--- by the logarithm of the side along x, which is 12 at the root
-abbrev pub shape_at : ℕ → Job → Shape
-shape_at zero j = leafed
-shape_at (suc zero) j = leafed
-shape_at (suc (suc zero)) j = leafed
-shape_at (suc (suc (suc n))) j = halved (job_of (left_half j.cell X) j.at) (job_of (right_half j.cell X) j.at)
+-- a box that may not be halved is a leaf
+abbrev pub shape_by : Bool → Job → Shape
+shape_by true j = leafed
+shape_by false j = halved (job_of (left_half j.cell X) j.at) (job_of (right_half j.cell X) j.at)
 
-abbrev pub halving_shape : Job → Shape
-halving_shape j = shape_at (j.cell.log X) j
+-- the floor is the logarithm along x at which a box is a leaf; it is 12 at the root
+abbrev pub halving_shape : ℕ → Job → Shape
+halving_shape floor j = shape_by (leb (j.cell.log X) floor) j
 
 abbrev pub is_path : Job → ℕ → Type 0
 is_path j path = path ≡ j.cell.path
-
-abbrev pub is_halved : Shape → Bool
-is_halved (halved l r) = true
-is_halved leafed = false
-is_halved passed = false
 
 abbrev pub low_of : Job → Shape → Job
 low_of j (halved l r) = l
@@ -39,16 +34,15 @@ high_of j (halved l r) = r
 high_of j leafed = j
 high_of j passed = j
 
-split_at : (n : ℕ) (j l r : Job) → j.cell.log X ≡ n → shape_at n j ≡ halved l r → IsSplit j.cell l.cell r.cell
-split_at zero j l r at e = absurd (true≢false (sym (ap is_halved e)))
-split_at (suc zero) j l r at e = absurd (true≢false (sym (ap is_halved e)))
-split_at (suc (suc zero)) j l r at e = absurd (true≢false (sym (ap is_halved e)))
-split_at (suc (suc (suc n))) j l r at e = record {
+split_at : (n floor : ℕ) (j l r : Job) → j.cell.log X ≡ n → (b : Bool) → leb n floor ≡ b → shape_by b j ≡ halved l r → IsSplit j.cell l.cell r.cell
+split_at n floor j l r at true by e = absurd (true≢false (sym (ap is_halved e)))
+split_at zero floor j l r at false by e = absurd (true≢false (sym (leb-zero floor) ∙ by))
+split_at (suc n) floor j l r at false by e = record {
   axis = X;
-  may_halve = subst (λ m. 0 < m) (sym at) (zero-lt-suc (suc (suc n)));
+  may_halve = subst (λ m. 0 < m) (sym at) (zero-lt-suc n);
   is_low = ap (λ s. (low_of j s).cell) (sym e);
   is_high = ap (λ s. (high_of j s).cell) (sym e);
 }
 
-pub halves_split : (j l r : Job) → halving_shape j ≡ halved l r → IsSplit j.cell l.cell r.cell
-halves_split j l r e = split_at (j.cell.log X) j l r refl e
+pub halves_split : (floor : ℕ) (j l r : Job) → halving_shape floor j ≡ halved l r → IsSplit j.cell l.cell r.cell
+halves_split floor j l r e = split_at (j.cell.log X) floor j l r refl (leb (j.cell.log X) floor) refl e

@@ -1,22 +1,26 @@
-// Runs of a step that halves each box of depth below 10 along x and gives the path of each box of depth 10.
-ghost use Rattle.std.specs.Prelude.{◌≡◌, IfOk};
+// Runs of a step that halves boxes along x down to a floor and gives the path of each box there.
+ghost use Rattle.std.specs.Prelude.{◌≡◌, ◌≤◌, IfOk};
 ghost use Rattle.ember_box.specs.Boxes as boxes;
 ghost use Rattle.ember_job.specs.Works.{Answers};
 ghost use Rattle.steal_pool.specs.Halving.{halving_shape, is_path};
 
-use crate::{DepthGate, Harvest, OpenGate, run_alone, run_tree};
+use crate::{DepthGate, Gate, Harvest, OpenGate, run_alone, run_tree};
 use ember_box::{halves, root};
 use ember_job::{Job, Numbers, OutOfMemory, Outcome, Step, Work};
 use ember_model::{Axis, Vector};
 use ember_tree::merge;
 use std::alloc::{AllocError, Global};
 use std::process::Abort;
+use std::sync::Wait;
 use std::sync::atomic::{AtomicU64, Ordering};
 use std::test::Fail;
+use std::thread::Threads;
 
-// The work of the tests.
+// The work of the tests, with the logarithm along x at which a box is a leaf.
 #[derive(Drop)]
-struct Halving {}
+struct Halving {
+    floor: u8,
+}
 
 impl Work for Halving {
     ghost use Rattle.std.specs.Prelude.{◌≡◌};
@@ -27,13 +31,13 @@ impl Work for Halving {
 
     ghost valid = { λ _ _. Unit {0} };
 
-    ghost shape = { λ _ j. halving_shape j };
+    ghost shape = { λ w j. halving_shape w.floor j };
 
     ghost item = { λ _ j it. is_path j it };
 
     ghost halves_valid = { λ _ _ _ _ _ _. (tt, tt) };
 
-    ghost halves_split = { λ _ j l r _ e. split j l r e };
+    ghost halves_split = { λ w j l r _ e. split w.floor j l r e };
 
     ghost one_item = { λ _ _ _ _ x y. x ∙ sym y };
 }
@@ -53,17 +57,18 @@ fn root_job(alloc: Global) -> Job
 fn halve_step(
     alloc: Global,
     calls: &AtomicU64,
+    floor: u8,
     short: u64,
     job: &Job,
 ) -> Result<Outcome<u64>, OutOfMemory>
-    ensures { IfOk result (λ o. Answers halving_shape is_path job.now o) }
+    ensures { IfOk result (λ o. Answers (halving_shape floor) is_path job.now o) }
 {
     calls.fetch_add(1, Ordering::SeqCst);
     let path = job.cell.path();
     if path == short {
         return Err(AllocError);
     }
-    if job.cell.log(Axis::X) <= 2 {
+    if job.cell.log(Axis::X) <= floor {
         return Ok(Outcome::Leaf(path));
     }
     let (low, high) = halves(&job.cell, Axis::X);
@@ -80,12 +85,37 @@ fn halve_step(
     Ok(Outcome::Halves(left, right))
 }
 
-// Each path from 1 to 2047 stands in the journals once, and the items in the order of the tree are 1024 to 2047.
+// A run by this many workers, or by one caller alone where they are none.
+fn run<R: Threads + Wait + Sync, G: Gate + Sync>(
+    rt: &R,
+    alloc: Global,
+    workers: u32,
+    floor: u8,
+    short: u64,
+    calls: &AtomicU64,
+    gate: &G,
+) -> Result<Harvest<u64>, OutOfMemory>
+    requires { workers ≤ 64 }
+{
+    let step = Step::new(
+        Halving { floor },
+        move |job: &Job| -> Result<Outcome<u64>, OutOfMemory>
+            ensures { IfOk result (λ o. Answers (halving_shape floor) is_path job.now o) }
+        { halve_step(alloc, calls, floor, short, job) },
+    );
+    if workers == 0 {
+        return run_alone(alloc, root_job(alloc), &step, gate);
+    }
+    run_tree(rt, alloc, workers, root_job(alloc), &step, gate)
+}
+
+// With this many leaves, each path from 1 to the last one stands in the journals once and nothing else does, and the items in the order of the tree are the paths of the leaves from left to right.
 fn check(
     rt: &impl Abort,
     alloc: Global,
     harvest: Harvest<u64>,
     journals: usize,
+    leaves: u64,
 ) -> Result<(), Fail> {
     let Harvest {
         parts,
@@ -95,21 +125,27 @@ fn check(
     assert_eq!(rt; left, 0);
     assert_eq!(rt; lists.items().len(), journals);
     let mut seen = vec![in alloc; 0u8; 2048]?;
+    let mut entries = 0u64;
     for journal in lists.items().iter() {
         for entry in journal.iter() {
+            entries = entries.saturating_add(1);
             if let Some(times) = seen.get_mut(entry.path as usize) {
                 *times = times.saturating_add(1);
             }
         }
     }
-    assert_eq!(rt;
-        seen.iter().filter(|times: &&u8| **times == 1).count(),
-        2047
-    );
-    assert_eq!(rt; seen.first().copied(), Some(0));
+    let ended = leaves.saturating_mul(2).saturating_sub(1);
+    assert_eq!(rt; entries, ended);
+    let mut once = 0u64;
+    for (path, times) in seen.iter().enumerate() {
+        if *times == 1 && 1 <= path && path as u64 <= ended {
+            once = once.saturating_add(1);
+        }
+    }
+    assert_eq!(rt; once, ended);
     let items = merge(alloc, parts.into_vec())?;
-    assert_eq!(rt; items.len(), 1024);
-    let mut want = 1024u64;
+    assert_eq!(rt; items.len() as u64, leaves);
+    let mut want = leaves;
     for item in items.iter() {
         assert_eq!(rt; *item, want);
         want = want.saturating_add(1);
@@ -121,45 +157,43 @@ fn check(
 fn each_box_is_run_once(rt: HostRuntime) -> Result<(), Fail> {
     let alloc = rt.alloc();
     let calls = AtomicU64::new(0);
-    let work = Halving {};
-    let step = Step::new(
-        work,
-        |job: &Job| -> Result<Outcome<u64>, OutOfMemory>
-            ensures { IfOk result (λ o. Answers halving_shape is_path job.now o) }
-        { halve_step(alloc, &calls, 0, job) },
-    );
+    let alone = run(&rt, alloc, 0, 2, 0, &calls, &OpenGate)?;
+    check(&rt, alloc, alone, 1, 1024)?;
+    let one = run(&rt, alloc, 1, 2, 0, &calls, &OpenGate)?;
+    check(&rt, alloc, one, 2, 1024)?;
+    let three = run(&rt, alloc, 3, 2, 0, &calls, &OpenGate)?;
+    check(&rt, alloc, three, 4, 1024)?;
+    let many = run(&rt, alloc, 64, 2, 0, &calls, &OpenGate)?;
+    check(&rt, alloc, many, 65, 1024)?;
     let gate = DepthGate::new(3);
-    check(
-        &rt,
-        alloc,
-        run_alone(alloc, root_job(alloc), &step, &OpenGate)?,
-        1,
-    )?;
-    check(
-        &rt,
-        alloc,
-        run_tree(&rt, alloc, 1, root_job(alloc), &step, &OpenGate)?,
-        2,
-    )?;
-    check(
-        &rt,
-        alloc,
-        run_tree(&rt, alloc, 3, root_job(alloc), &step, &OpenGate)?,
-        4,
-    )?;
-    check(
-        &rt,
-        alloc,
-        run_tree(&rt, alloc, 64, root_job(alloc), &step, &OpenGate)?,
-        65,
-    )?;
-    check(
-        &rt,
-        alloc,
-        run_tree(&rt, alloc, 8, root_job(alloc), &step, &gate)?,
-        9,
-    )?;
+    let held = run(&rt, alloc, 8, 2, 0, &calls, &gate)?;
+    check(&rt, alloc, held, 9, 1024)?;
     assert!(rt; !gate.was_tired());
     assert_eq!(rt; calls.load(Ordering::SeqCst), 5 * 2047);
+    Ok(())
+}
+
+#[test]
+fn want_of_memory_at_any_box_ends_the_run(rt: HostRuntime) -> Result<(), Fail> {
+    let alloc = rt.alloc();
+    let calls = AtomicU64::new(0);
+    for short in 1..32u64 {
+        assert!(rt; run(&rt, alloc, 0, 8, short, &calls, &OpenGate).is_err(), "alone at {short}");
+        assert!(rt; run(&rt, alloc, 2, 8, short, &calls, &OpenGate).is_err(), "two at {short}");
+    }
+    let whole = run(&rt, alloc, 2, 8, 32, &calls, &OpenGate)?;
+    check(&rt, alloc, whole, 3, 16)
+}
+
+#[test]
+fn a_thousand_runs_give_equal_answers(rt: HostRuntime) -> Result<(), Fail> {
+    let alloc = rt.alloc();
+    let calls = AtomicU64::new(0);
+    for turn in 0..1000u32 {
+        let workers = 2 + turn % 7;
+        let harvest = run(&rt, alloc, workers, 8, 0, &calls, &OpenGate)?;
+        check(&rt, alloc, harvest, workers as usize + 1, 16)?;
+    }
+    assert_eq!(rt; calls.load(Ordering::SeqCst), 1000 * 31);
     Ok(())
 }
