@@ -1,4 +1,4 @@
-// The law of the files that `faces` writes.
+// The laws of face files that `faces` writes.
 ghost use Rattle.std.specs.Prelude.{◌≡◌, ℕ, List};
 ghost use Rattle.ember_model.specs.declared.face.Face.{Face};
 ghost use Rattle.ember_model.specs.declared.point.Axis.{Axis};
@@ -13,4 +13,9 @@ ghost use Rattle.ember_run.specs.Verdict.{FaceTexts, IsOutput};
 pub fn faces_wind_as_read()
     ensures only { (tris : List Tri) (bytes : List ℕ) (faces : List Face) → IsOutput (FaceTexts tris) bytes → IsFaceFile bytes faces → faces ≡ faces_of tris }
     ensures wind { (tris : List Tri) (bytes : List ℕ) (faces : List Face) → IsOutput (FaceTexts tris) bytes → IsFaceFile bytes faces → (axis : Axis) (point : Spot) → wind axis faces point ≡ wind axis (faces_of tris) point }
+{}
+
+/// A list of bytes is the face file of one list of faces at most.
+pub fn face_files_have_one_reading()
+    ensures { (bytes : List ℕ) (faces others : List Face) → IsFaceFile bytes faces → IsFaceFile bytes others → faces ≡ others }
 {}

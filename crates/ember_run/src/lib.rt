@@ -10,6 +10,6 @@ mod status;
 mod tests;
 mod top;
 
-pub use law::faces_wind_as_read;
+pub use law::{face_files_have_one_reading, faces_wind_as_read};
 pub use status::{LimitKind, Status};
 pub use top::{run, run_one};
