@@ -1,13 +1,12 @@
-// A library with one function.
+//! The reference points of boxes: points next to their least corners that lie on no triangle's
+//! plane. The sign of a plane there, and the winding numbers of a scene, carried from the reference
+//! point of a box to that of its half by the triangles near the box alone.
 #![tactic(auto)]
 
-ghost use Rattle.std.specs.Prelude.{◌≡◌};
-ghost use Rattle.ember_ref.specs.Echo.{echo_of};
+mod shifting;
+mod signs;
+#[cfg(test)]
+mod tests;
 
-// The `ensures` clause is the contract: what `echo` returns is `echo_of` of its argument, a definition
-// in `specs/Echo.antt`, which a caller's clause can cite too.
-pub fn echo(x: usize) -> usize
-    ensures { result ≡ echo_of x }
-{
-    x
-}
+pub use shifting::shift;
+pub use signs::lex_side;
