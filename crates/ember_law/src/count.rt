@@ -58,8 +58,7 @@ pub fn axis_count(s: &Scene, p: &Spot, a: Axis, v: &mut Vector)
     requires room { HasRoom v.old.counts }
     ensures value { v.new.counts ≡ added v.old.counts (vector a s.now.tris p.now) }
     ensures within { (m : ℕ) → All (Small m) v.old.counts → All (Small (m + length s.now.tris)) v.new.counts }
-    ensures axes { AxesAgree s.now.tris }
-    ensures segments { SegmentsKeep s.now.tris }
+    ensures law { AxesAgree s.now.tris }
 {
     count_rays(s.tris.items(), p, a, v);
 }
@@ -76,6 +75,7 @@ pub fn leg_count(s: &Scene, p: &Spot, q: &Spot, a: Axis, v: &mut Vector)
     ensures value { v.new.counts ≡ added v.old.counts (leg_vector s.now.tris p.now q.now) }
     ensures within { (m : ℕ) → All (Small m) v.old.counts → All (Small (m + length s.now.tris)) v.new.counts }
     ensures law { LegsTell s.now.tris }
+    ensures segments { SegmentsKeep s.now.tris }
 {
     count_legs(s.tris.items(), p, q, a, v);
 }
