@@ -8,3 +8,6 @@ pub mod Paths
 pub mod Tallies
 pub mod Vectors
 pub mod Grown
+pub mod Separation
+pub mod GenericClear
+pub mod Segments
