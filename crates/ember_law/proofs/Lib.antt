@@ -11,3 +11,4 @@ pub mod Grown
 pub mod Separation
 pub mod GenericClear
 pub mod Segments
+pub mod CornerSides
