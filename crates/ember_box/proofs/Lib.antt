@@ -2,3 +2,4 @@ pub mod Splits
 pub mod Tests
 pub mod Crossing
 pub mod Nearby
+pub mod Counting
