@@ -1,7 +1,8 @@
 // Rings and triangles that meet.
-ghost use Rattle.std.specs.Prelude.{◌≡◌, ◌↔◌, IsTrue, false};
-ghost use Rattle.ember_model.specs.Valid.{IsValidTri};
+ghost use Rattle.std.specs.Prelude.{◌≡◌, ◌↔◌, IsTrue, false, All};
+ghost use Rattle.ember_model.specs.Valid.{IsValidTri, IsValidPlane};
 ghost use Rattle.ember_model.specs.Faces.{Meets, is_flat, face_of};
+ghost use Rattle.ember_model.specs.ClearTest.{face_with};
 
 use crate::answers::Reach;
 use crate::passage::find_passage;
@@ -115,6 +116,19 @@ fn main_edges(t: &Tri, support: &Plane) -> [Plane; 3] {
     ]
 }
 
+/// Some inside point of the ring lies in the closed face of a support plane and edge planes.
+pub fn meets_face(r: &Ring, support: &Plane, edges: &[Plane]) -> bool
+    requires support { IsValidPlane support.now }
+    requires edges { All IsValidPlane edges.now }
+    ensures { IsTrue result ↔ Meets r.now (face_with support.now edges.now) }
+{
+    match reach(r, support) {
+        Reach::Below | Reach::Above => false,
+        Reach::On => meets_within(r, edges),
+        Reach::Both => meets_along(r, support, edges),
+    }
+}
+
 /// Some inside point of the ring lies in the closed face of the triangle.
 pub fn meets(r: &Ring, t: &Tri) -> bool
     requires tri { IsValidTri t.now }
@@ -122,9 +136,5 @@ pub fn meets(r: &Ring, t: &Tri) -> bool
     ensures { IsTrue result ↔ Meets r.now (face_of t.now) }
 {
     let support = support_of(t);
-    match reach(r, &support) {
-        Reach::Below | Reach::Above => false,
-        Reach::On => meets_within(r, &main_edges(t, &support)),
-        Reach::Both => meets_along(r, &support, &main_edges(t, &support)),
-    }
+    meets_face(r, &support, &main_edges(t, &support))
 }
