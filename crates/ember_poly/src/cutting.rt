@@ -39,7 +39,7 @@ pub fn below(alloc: Global, r: &Ring, p: &Plane) -> Result<Ring, OutOfMemory>
     let mut rim = r.rim.copy(alloc)?;
     rim.turn(at.first);
     rim.truncate(at.kept + 1);
-    rim.corners[0] = at.entry;
+    rim.start_at(at.entry);
     rim.push(*p, at.exit, planes.len())?;
     planes.push(*p)?;
     let oldest = least(rim.births.as_slice());
