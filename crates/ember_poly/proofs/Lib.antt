@@ -26,3 +26,5 @@ pub mod Reached
 pub mod Runs
 pub mod Seen
 pub mod Aged
+pub mod Passed
+pub mod Divided

@@ -2,7 +2,7 @@
 use Rattle.std.proofs.Common.{◌≡◌, ◌⊎◌, ⊎_elim, inl, inr, refl, sym, ap, subst, ◌∙◌, arith, ℕ, zero, suc, ◌<◌, ◌≤◌, ◌+◌, ◌-◌, Bool, true, false, not, List, [], ◌∷◌, ◌++◌, length, take, drop, ℤ, pos, negsuc, ◌<ℤ◌, ◌≤ℤ◌, length-drop, length-append}
 use lib.ListN.{get_or}
 use Rattle.std.proofs.lemmas.Int.{ints}
-use Rattle.std.proofs.lemmas.List.{drop_more, drop_all, take-append-drop, append_assoc, append-nil, length-take-le}
+use Rattle.std.proofs.lemmas.List.{drop_more, drop_all, take_all, take-append-drop, append_assoc, append-nil, length-take-le}
 use Rattle.std.specs.List.{AllByRecursion}
 use Rattle.ember_algebra.specs.Sign.{is_negative}
 use Rattle.ember_algebra.proofs.Laws.{linear}
@@ -58,7 +58,10 @@ run_short p b (m ∷ us) bs (suc k) l r =
 
 -- a run that goes on behind the list
 pub run_long : (p : Plane) (b : Bool) (us bs : List Meet) (k h : ℕ) → length us ≤ k → IsRun p b us k → IsRun p b bs h → IsRun p b (us ++ bs) (k + h)
-run_long p b [] bs zero h l r s = s
+run_long p b [] bs zero h l r s = subst (λ j. IsRun p b bs j) (none h) s
+  where
+    none : (h : ℕ) → h ≡ 0 + h
+    none h = omega arith
 run_long p b [] bs (suc k) h l r s = absurd (omega (arith, r.fits))
 run_long p b (m ∷ us) bs zero h l r s = absurd (omega (arith, l))
 run_long p b (m ∷ us) bs (suc k) h l r s =
@@ -66,6 +69,13 @@ run_long p b (m ∷ us) bs (suc k) h l r s =
   where
     one : (k h : ℕ) → suc (k + h) ≡ suc k + h
     one k h = omega arith
+
+-- a slice to the list's end
+pub rest_of : {X : Type 0} (k : ℕ) (xs : List X) → take (length xs - k) (drop k xs) ≡ drop k xs
+rest_of k xs = take_all (length xs - k) (drop k xs) (same (length-drop k xs))
+  where
+    same : {a b : ℕ} → a ≡ b → a ≤ b
+    same e = omega (arith, e)
 
 -- ---- the entry
 pub turn_split : {X : Type 0} (xs ys : List X) (k : ℕ) → k ≡ length xs → drop k (xs ++ ys) ++ take k (xs ++ ys) ≡ ys ++ xs
@@ -139,8 +149,18 @@ module _ (p : Plane) where
         let high = subst (λ zs. AllByRecursion IsHigh zs) w.taken up.all in
         let e = enters_at (take d ms) w.front w.last w.behind down.all (each-front IsHigh w.front (w.last ∷ []) high) (each-back IsHigh w.front (w.last ∷ []) high).0 (subst (λ zs. Stops p false zs) w.left up.stops) (subst (λ zs. Straddles p (take d ms ++ zs)) w.whole apart) in
         let whole : ms ≡ (take d ms ++ w.front) ++ w.last ∷ w.behind = sym (take-append-drop d ms) ∙ ap (λ zs. take d ms ++ zs) w.whole ∙ sym (append_assoc (take d ms) w.front (w.last ∷ w.behind)) in
-        let count : d + u - 1 ≡ length (take d ms ++ w.front) = rw (length-append (take d ms) w.front, length-take-le d ms down.fits, w.count) (less d (length w.front)) in
+        let count : d + u - 1 ≡ length (take d ms ++ w.front) = ap (λ k. d + k - 1) w.count ∙ less d (length w.front) ∙ sym (length-append (take d ms) w.front ∙ ap (λ k. k + length w.front) (length-take-le d ms down.fits)) in
         subst (λ zs. Enters p zs) (sym ((λ i. drop (d + u - 1) (whole i) ++ take (d + u - 1) (whole i)) ∙ turn_split (take d ms ++ w.front) (w.last ∷ w.behind) (d + u - 1) count)) e
       where
         less : (d k : ℕ) → d + suc k - 1 ≡ d + k
         less d k = omega arith
+
+-- a corner below comes second
+pub run_positive : (p : Plane) (m : Meet) (ns : List Meet) (c : ℕ) → Enters p (m ∷ ns) → IsRun p true ns c → 0 < c
+run_positive p m [] c e r = absurd e
+run_positive p m (n ∷ ns) zero e r = clash e.1 r.stops
+run_positive p m (n ∷ ns) (suc c) e r = omega arith
+
+pub head_high : (p : Plane) (m : Meet) (ns : List Meet) → Enters p (m ∷ ns) → AtLeast p (spot_of m)
+head_high p m [] e = absurd e
+head_high p m (n ∷ ns) e = least_out p m e.0
