@@ -2,11 +2,10 @@
 use Rattle.std.proofs.Common.{◌≡◌, ℕ, zero, suc, pred, ◌+◌, ◌-◌, ◌*◌, ◌^◌, ◌<◌, ◌≤◌, List, [], ◌∷◌, ℤ, pos, ◌+ℤ◌, ◌-ℤ◌, unsigned_abs, length, slice_index_or, slice_set, refl, sym, ap, ap₂, ◌∙◌, subst, arith}
 use Rattle.std.proofs.Math.Path.{fun_ext}
 use Rattle.std.proofs.Math.Nat.{pow-succ'}
-use Rattle.ember_algebra.specs.Vector.{Vector}
 use Rattle.ember_algebra.proofs.Ring.{solve, ◌⊕◌, ◌⊖◌, ◌≈◌, cancels}
 use Rattle.ember_model.specs.declared.point.Axis.{Axis}
 use Rattle.ember_model.specs.declared.point.Axis.TheVariants.{X, Y, Z}
-use Rattle.ember_box.specs.Boxes.{Cell, along, shifted_by, low, left, put, left_half, right_half, Sits, IsCell, three, cell_with, coordinate, cell_of, place_of}
+use Rattle.ember_box.specs.Boxes.{Cell, low, left, put, left_half, right_half, Sits, IsCell, three, coordinate, cell_of, place_of}
 
 minus_pred : (a : ℕ) → a - 1 ≡ pred a
 minus_pred zero = refl
@@ -154,6 +153,24 @@ pub may_move : (from log : List ℕ) (path : ℕ) (k : Axis) → 0 < slice_index
 may_move from log path X above s = (room (slice_index_or from 0 0) (slice_index_or log 0 0) above (s.sits X), (s.sits X).small)
 may_move from log path Y above s = (room (slice_index_or from 1 0) (slice_index_or log 1 0) above (s.sits Y), (s.sits Y).small)
 may_move from log path Z above s = (room (slice_index_or from 2 0) (slice_index_or log 2 0) above (s.sits Z), (s.sits Z).small)
+
+-- a box lies in the root
+within : (x n : ℕ) → Sits (coordinate x) n → x ≤ 4096
+within x n s =
+    omega (arith, offset x (s.place * 2 ^ n) s.at, s.within, next s.place (2 ^ n))
+
+pub lies : (from log : List ℕ) (path : ℕ) (k : Axis) → IsCell (cell_of from log path) → (slice_index_or from (place_of k) 0 ≤ 4096) × (slice_index_or log (place_of k) 0 ≤ 12)
+lies from log path X s =
+    (within (slice_index_or from 0 0) (slice_index_or log 0 0) (s.sits X), (s.sits X).small)
+lies from log path Y s =
+    (within (slice_index_or from 1 0) (slice_index_or log 1 0) (s.sits Y), (s.sits Y).small)
+lies from log path Z s =
+    (within (slice_index_or from 2 0) (slice_index_or log 2 0) (s.sits Z), (s.sits Z).small)
+
+pub low_of : (from log : List ℕ) (path : ℕ) (k : Axis) → coordinate (slice_index_or from (place_of k) 0) ≡ low (cell_of from log path) k
+low_of from log path X = refl
+low_of from log path Y = refl
+low_of from log path Z = refl
 
 pub log_of : (from log : List ℕ) (path : ℕ) (k : Axis) → (cell_of from log path).log k ≡ slice_index_or log (place_of k) 0
 log_of from log path k = log_at log k
