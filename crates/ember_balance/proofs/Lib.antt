@@ -1,0 +1,5 @@
+pub mod Walk
+pub mod EdgeNumbers
+pub mod Edges
+pub mod Sorted
+pub mod Least

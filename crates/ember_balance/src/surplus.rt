@@ -10,7 +10,7 @@ pub fn count(number: u128, numbers: &[u128]) -> u32
 {
     let mut found = 0;
     for other in numbers {
-        if *other == number {
+        if number == *other {
             found += 1;
         }
     }
@@ -25,12 +25,19 @@ pub fn first_surplus(there: &[u128], back: &[u128]) -> Option<u128>
 {
     let mut i = 0;
     for number in back {
-        if i == there.len() || there[i] < *number {
-            break;
+        if i == there.len() {
+            return None;
+        }
+        if there[i] < *number {
+            return Some(there[i]);
         }
         if there[i] == *number {
             i += 1;
         }
     }
-    there.get(i).copied()
+    if i < there.len() {
+        Some(there[i])
+    } else {
+        None
+    }
 }
