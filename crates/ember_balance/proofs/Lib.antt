@@ -3,3 +3,4 @@ pub mod EdgeNumbers
 pub mod Edges
 pub mod Sorted
 pub mod Least
+pub mod Balanced
