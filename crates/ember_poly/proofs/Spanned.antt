@@ -119,7 +119,7 @@ record Passing (n p : Plane) (hs : List Plane) (a b : Spot) : Type 0 where
   pub across : IsAcross plane a b
   pub fits : Fits n p plane hs
 
-last_free : (hs gs : List Plane) (g : Plane) (a x : Spot) → After a x g gs → none_positive gs (mixed2 (neg_ℤ (value_at g x)) (value_at g a) a x) ≡ true
+pub last_free : (hs gs : List Plane) (g : Plane) (a x : Spot) → After a x g gs → none_positive gs (mixed2 (neg_ℤ (value_at g x)) (value_at g a) a x) ≡ true
 last_free hs [] g a x f = refl
 last_free hs (h ∷ gs) g a x f =
     all_in (h ∷ gs) (mixed2 (neg_ℤ (value_at g x)) (value_at g a) a x) (record { at_most = rw (mixed2_value (neg_ℤ (value_at g x)) (value_at g a) a x h) (below (value_at h a) (value_at h x) (value_at g a) (value_at g x) f.0) }, all_out gs (mixed2 (neg_ℤ (value_at g x)) (value_at g a) a x) (last_free hs gs g a x f.1))
