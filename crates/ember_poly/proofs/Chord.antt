@@ -3,18 +3,15 @@ use Rattle.std.proofs.Common.{◌⊎◌, ⊎_elim, ℕ, List, [], ◌∷◌, ◌
 use Rattle.std.specs.List.{AllByRecursion}
 use Rattle.ember_model.specs.declared.plane.Plane.{Plane}
 use Rattle.ember_model.specs.declared.point.Spot.{Spot}
-use Rattle.ember_model.specs.Planes.{value_at}
 use Rattle.ember_algebra.proofs.Laws.{linear}
-use Rattle.ember_poly.specs.Rings.{entered, closing, Side, Under, AtMost, Inside, Closed, Sound, Long}
+use Rattle.ember_poly.specs.Rings.{entered, closing, Side, Under, AtMost, Closed, Sound}
 use Rattle.ember_poly.proofs.Planar.{most_at}
 use Rattle.ember_poly.proofs.Chains.{each_both, each-back, each-front, chain_ends, ends_under}
 use Rattle.ember_poly.proofs.Turns.{each-join}
-use Rattle.ember_poly.proofs.Lower.{Rooted, Outcome, head_of}
-use Rattle.ember_poly.proofs.Hull.{ring-rooted}
+use Rattle.ember_poly.proofs.Lower.{Outcome, head_of}
 use Rattle.ember_poly.specs.Spans.{mixed2}
-use Rattle.ember_poly.proofs.Inner.{scaled_under, scaled_first, flat_sum, weight_sum}
+use Rattle.ember_poly.proofs.Inner.{scaled_under, scaled_first}
 use Rattle.ember_poly.proofs.Parted.{ring-closed}
-use Rattle.ember_poly.proofs.Dropped.{somewhere}
 
 -- the kept sides' planes: f at y, the others at z
 pub front_y : (n : Plane) (f l p : Side) (ks : List Side) → Sound n (f ∷ (ks ++ l ∷ []) ++ p ∷ []) → Under f.plane p.corner

@@ -4,8 +4,8 @@ use Rattle.std.proofs.lemmas.Int.{by_lt_z}
 use Rattle.std.proofs.lemmas.List.{take-append-drop, append-nil}
 use Rattle.std.specs.List.{AllByRecursion}
 use Rattle.ember_algebra.proofs.Laws.{linear}
-use Rattle.ember_algebra.proofs.Ring.{◌⊕◌, ◌⊖◌, ◌⊗◌, neg, num, ◌≈◌, solve, cancels}
-use Rattle.ember_algebra.proofs.Order.{pos_mul, nonneg_mul, mul_pos_neg, mul_neg_neg, zero_product}
+use Rattle.ember_algebra.proofs.Ring.{◌⊖◌, ◌⊗◌, neg, num, ◌≈◌, solve, cancels}
+use Rattle.ember_algebra.proofs.Order.{nonneg_mul, mul_pos_neg, mul_neg_neg, zero_product}
 use Rattle.ember_model.specs.declared.plane.Plane.{Plane}
 use Rattle.ember_model.specs.declared.point.Spot.{Spot}
 use Rattle.ember_model.specs.Planes.{value_at}
@@ -13,17 +13,16 @@ use Rattle.ember_model.specs.ClearTest.{none_positive, face_with}
 use Rattle.ember_model.specs.Faces.{Meets as MeetsFace}
 use Rattle.ember_point.specs.Points.{spot_of}
 use Rattle.ember_poly.specs.declared.passage.Passage.{Passage}
-use Rattle.ember_poly.specs.Rings.{entered, closing, Side, Under, Over, AtMost, AtLeast, Inside, Closed, InClosedFace, Meets, Sound, Stands, turn, Long}
+use Rattle.ember_poly.specs.Rings.{entered, closing, Side, Under, Over, AtMost, AtLeast, Inside, Meets, Sound, Stands, Long}
 use Rattle.ember_poly.specs.Passages.{Leaves, IsPassage}
 use Rattle.ember_poly.specs.Spans.{mixed2, IsOpen, IsLine}
 use Rattle.ember_poly.proofs.Chains.{each_map, each_both, each-back, each-front}
-use Rattle.ember_poly.proofs.Turns.{turned_by, each-turned, each-join}
-use Rattle.ember_poly.proofs.Planar.{most_at, same_place}
-use Rattle.ember_poly.proofs.Lower.{Outcome, head_of, below_some, below_all, not_zero}
-use Rattle.ember_poly.proofs.Hull.{closed_turned, blend, blended}
+use Rattle.ember_poly.proofs.Turns.{turned_by, each-turned}
+use Rattle.ember_poly.proofs.Planar.{same_place}
+use Rattle.ember_poly.proofs.Lower.{below_some, below_all, not_zero}
+use Rattle.ember_poly.proofs.Hull.{blend, blended}
 use Rattle.ember_poly.proofs.Strict.{mixed2_value}
-use Rattle.ember_poly.proofs.Inner.{weak, head_closed, corner_closed, flat_sum, weight_sum, scaled_under, scaled_first}
-use Rattle.ember_poly.proofs.Parted.{ring-closed}
+use Rattle.ember_poly.proofs.Inner.{head_closed, corner_closed, flat_sum, weight_sum}
 use Rattle.ember_poly.proofs.Chord.{front_y, kept_z, at_y, at_z, middle_under}
 use Rattle.ember_poly.proofs.Dropped.{somewhere}
 use Rattle.ember_poly.proofs.FaceTests.{all_in, all_out, closed_in, closed_out}

@@ -1,5 +1,5 @@
 -- Inside points of a face that lie above no plane of a list.
-use Rattle.std.proofs.Common.{◌≡◌, ◌⊎◌, ⊎_elim, inl, inr, refl, sym, subst, ◌∙◌, arith, ℕ, ◌<◌, ◌≤◌, ◌+◌, Bool, true, false, not, List, [], ◌∷◌, ◌++◌, length, take, ℤ, pos, ◌+ℤ◌, ◌*ℤ◌, neg_ℤ, ◌<ℤ◌, ◌≤ℤ◌}
+use Rattle.std.proofs.Common.{◌≡◌, ◌⊎◌, ⊎_elim, inl, inr, refl, sym, subst, ◌∙◌, arith, ℕ, ◌<◌, ◌≤◌, ◌+◌, Bool, true, false, not, List, [], ◌∷◌, ◌++◌, length, take, ℤ, pos, neg_ℤ, ◌<ℤ◌, ◌≤ℤ◌}
 use lib.ListN.{get_or}
 use Rattle.std.proofs.lemmas.List.{take_more, take_all}
 use Rattle.std.specs.List.{AllByRecursion}
@@ -10,14 +10,14 @@ use Rattle.ember_model.specs.declared.plane.Plane.{Plane}
 use Rattle.ember_model.specs.declared.point.Spot.{Spot}
 use Rattle.ember_model.specs.declared.face.Face.{Face}
 use Rattle.ember_model.specs.Planes.{value_at}
-use Rattle.ember_model.specs.Faces.{is_inside, is_in_closed, Somewhere, Everywhere, Cuts, Meets}
+use Rattle.ember_model.specs.Faces.{is_inside, Somewhere, Everywhere, Cuts, Meets}
 use Rattle.ember_model.specs.ClearTest.{none_positive, face_with}
-use Rattle.ember_model.proofs.SignTests.{In, negative_out, zero_out, positive_out, positive_in, not_positive_in, not_positive_out}
+use Rattle.ember_model.proofs.SignTests.{In, negative_out, zero_out, positive_out, not_positive_in, not_positive_out}
 use Rattle.ember_model.proofs.LastZero.{Last, last_zero, none_positive_member}
-use Rattle.ember_poly.specs.Rings.{Under, AtMost, InFace}
+use Rattle.ember_poly.specs.Rings.{Under, AtMost}
 use Rattle.ember_poly.specs.Passages.{Has}
 use Rattle.ember_poly.specs.Spans.{mixed2}
-use Rattle.ember_poly.specs.Cuts.{IsWhole}
+use Rattle.ember_poly.specs.Cuts.{HasInside, IsWhole}
 use Rattle.ember_poly.proofs.Chains.{each_map, each_both, each-push}
 use Rattle.ember_poly.proofs.Members.{has-push, has-front, has_pick}
 use Rattle.ember_poly.proofs.Strict.{mixed2_value}
@@ -94,7 +94,7 @@ module _ (f : Face) (hs : List Plane) where
       record { at = m.at; inside = m.inside; holds = all_in hs m.at (closed_out (face_with h hs) m.at m.holds).within }
 
   -- the end of the list
-  all_low : Somewhere f (λ v. Unit {0}) → AllByRecursion (λ h. IsLow f h) hs → Somewhere f (λ v. none_positive hs v ≡ true)
+  all_low : HasInside f → AllByRecursion (λ h. IsLow f h) hs → Somewhere f (λ v. none_positive hs v ≡ true)
   all_low s a =
       record { at = s.at; inside = s.inside; holds = all_in hs s.at (each_map (λ h. IsLow f h) (λ h. AtMost h s.at) hs (λ h l. record { at_most = not_positive_out (value_at h s.at) (l.holds s.at s.inside) }) a) }
 
@@ -137,7 +137,7 @@ module _ (f : Face) (hs : List Plane) where
       all_in_list [] = tt
       all_in_list (x ∷ xs) = (inl refl, later xs xs x (all_in_list xs))
 
-  pub tested_end : (b : Bool) (i : ℕ) → length hs ≤ i → Tested b (take i hs) → Somewhere f (λ v. Unit {0}) → (b ≡ true → Somewhere f (λ v. none_positive hs v ≡ true)) × (Somewhere f (λ v. none_positive hs v ≡ true) → b ≡ true)
+  pub tested_end : (b : Bool) (i : ℕ) → length hs ≤ i → Tested b (take i hs) → HasInside f → (b ≡ true → Somewhere f (λ v. none_positive hs v ≡ true)) × (Somewhere f (λ v. none_positive hs v ≡ true) → b ≡ true)
   tested_end b i m t s = by b (subst (λ gs. Tested b gs) (take_all i hs m) t)
     where
       differ : false ≡ true → ⊥
