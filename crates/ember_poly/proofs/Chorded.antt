@@ -1,5 +1,5 @@
 -- The chord in which a plane passes a ring: its points are the inside points on the plane.
-use Rattle.std.proofs.Common.{◌≡◌, ◌⊎◌, ⊎_elim, inl, inr, sym, subst, ◌∙◌, arith, true, List, [], ◌∷◌, ◌++◌, take, drop, ℤ, pos, ◌+ℤ◌, ◌-ℤ◌, ◌*ℤ◌, neg_ℤ, ◌<ℤ◌, ◌≤ℤ◌}
+use Rattle.std.proofs.Common.{◌≡◌, ⊎_elim, sym, subst, ◌∙◌, arith, true, List, [], ◌∷◌, ◌++◌, take, drop, ℤ, pos, ◌+ℤ◌, ◌-ℤ◌, ◌*ℤ◌, neg_ℤ, ◌<ℤ◌, ◌≤ℤ◌}
 use Rattle.std.proofs.lemmas.Int.{by_lt_z}
 use Rattle.std.proofs.lemmas.List.{take-append-drop, append-nil}
 use Rattle.std.specs.List.{AllByRecursion}
@@ -13,7 +13,7 @@ use Rattle.ember_model.specs.ClearTest.{none_positive, face_with}
 use Rattle.ember_model.specs.Faces.{Meets as MeetsFace}
 use Rattle.ember_point.specs.Points.{spot_of}
 use Rattle.ember_poly.specs.declared.passage.Passage.{Passage}
-use Rattle.ember_poly.specs.Rings.{entered, closing, Side, Under, Over, AtMost, AtLeast, Inside, Meets, Sound, Stands, Long}
+use Rattle.ember_poly.specs.Rings.{entered, closing, Side, Under, AtMost, AtLeast, Inside, Meets, Sound, Stands}
 use Rattle.ember_poly.specs.Passages.{Leaves, IsPassage}
 use Rattle.ember_poly.specs.Spans.{mixed2, IsOpen, IsLine}
 use Rattle.ember_poly.proofs.Chains.{each_map, each_both, each-back, each-front}

@@ -19,7 +19,7 @@ use Rattle.ember_model.proofs.SignTests.{negative_out, positive_out}
 use Rattle.ember_point.specs.declared.corner.Meet.{Meet}
 use Rattle.ember_point.specs.Points.{spot_of}
 use Rattle.ember_poly.specs.declared.passage.Passage.{Passage}
-use Rattle.ember_poly.specs.Rings.{entered, closing, Side, Under, Over, AtMost, AtLeast, Lone, Long, Meets, Sound, Closed, Listed, Stands}
+use Rattle.ember_poly.specs.Rings.{entered, closing, Side, Under, AtMost, AtLeast, Lone, Meets, Sound, Closed, Listed, Stands}
 use Rattle.ember_poly.specs.Sides.{sides_of, IsBorn, IsSingle, AllCounted, IsRing}
 use Rattle.ember_poly.specs.Rims.{starting, LeastFirst}
 use Rattle.ember_poly.specs.Passages.{Has, Straddles, Leaves, IsPassage}
