@@ -1,12 +1,11 @@
 -- The part of a ring below a plane: its sides, and what it keeps.
-use Rattle.std.proofs.Common.{◌≡◌, ◌⊎◌, ⊎_elim, inl, inr, refl, sym, ap, subst, ◌∙◌, arith, ℕ, zero, suc, ◌<◌, ◌≤◌, ◌+◌, Some, None, true, List, [], ◌∷◌, ◌++◌, length, take, drop, slice_get, All, ℤ, pos, ◌+ℤ◌, ◌*ℤ◌, ◌<ℤ◌, ◌≤ℤ◌}
+use Rattle.std.proofs.Common.{◌≡◌, ◌⊎◌, ⊎_elim, inl, inr, refl, sym, ap, subst, ◌∙◌, arith, ℕ, ◌<◌, ◌≤◌, ◌+◌, Some, List, [], ◌∷◌, ◌++◌, length, take, drop, slice_get, All, ℤ, pos, ◌*ℤ◌, ◌<ℤ◌, ◌≤ℤ◌}
 use lib.ListN.{get_or}
-use Rattle.std.proofs.lemmas.List.{take-append-drop, append-nil, length_push, get_or_append_left, get_or_push}
+use Rattle.std.proofs.lemmas.List.{take-append-drop, append-nil, length_push, get_or_append_left}
 use Rattle.std.proofs.lemmas.Bool.{cases_lt}
 use Rattle.std.proofs.lemmas.List.Elements.{All-push}
 use Rattle.std.proofs.lemmas.Option.{slice_get_within, get_or_from_slice_get, slice_get-get_or}
 use Rattle.std.specs.List.{AllByRecursion}
-use Rattle.ember_algebra.specs.Sign.{is_negative, is_positive}
 use Rattle.ember_algebra.proofs.Laws.{linear}
 use Rattle.ember_algebra.proofs.Ring.{◌⊕◌, ◌⊖◌, ◌⊗◌, ◌≈◌, num, solve, cancels}
 use Rattle.ember_model.specs.declared.plane.Plane.{Plane}
@@ -20,20 +19,21 @@ use Rattle.ember_model.proofs.SignTests.{negative_out, positive_out}
 use Rattle.ember_point.specs.declared.corner.Meet.{Meet}
 use Rattle.ember_point.specs.Points.{spot_of}
 use Rattle.ember_poly.specs.declared.passage.Passage.{Passage}
-use Rattle.ember_poly.specs.Rings.{entered, closing, Side, Under, Over, AtMost, AtLeast, Lone, Long, Meets, Sound, Closed, Listed, Stands}
+use Rattle.ember_poly.specs.Rings.{entered, closing, Side, Under, AtMost, AtLeast, Lone, Meets, Sound, Closed, Listed, Stands}
 use Rattle.ember_poly.specs.Sides.{sides_of, IsBorn, IsSingle, AllCounted, IsRing}
 use Rattle.ember_poly.specs.Rims.{starting, LeastFirst}
 use Rattle.ember_poly.specs.Passages.{Has, Straddles, Leaves, IsPassage}
 use Rattle.ember_poly.proofs.Chains.{each_map, each_both, each-back}
-use Rattle.ember_poly.proofs.Lower.{Outcome, head_of, below_some, below_all}
+use Rattle.ember_poly.proofs.Lower.{below_some, below_all}
 use Rattle.ember_poly.proofs.Hull.{corners_at_most, closed_turned}
 use Rattle.ember_poly.proofs.Inner.{head_closed, corner_closed}
-use Rattle.ember_poly.proofs.Parted.{Part, part_of, each_swap, ring-closed}
+use Rattle.ember_poly.proofs.Parted.{part_of, each_swap, ring-closed}
 use Rattle.ember_poly.proofs.Face.{stands_turned, cut_some, cut_all}
 use Rattle.ember_poly.proofs.Single.{one_place}
 use Rattle.ember_poly.proofs.Dropped.{dropped_lone}
 use Rattle.ember_poly.proofs.Members.{has-front, has-back, has-split, has-turned, born_has, has_born, Found, has_pick}
 use Rattle.ember_poly.proofs.Rows.{each_corner, oldest_first}
+use Rattle.ember_poly.proofs.Passed.{passes}
 use Rattle.ember_poly.proofs.Reached.{most_opposite, least_from_opposite, closed_from_inside, inside_seen}
 
 -- ---- a plane that cuts the face has corners on both sides
@@ -119,9 +119,6 @@ module _ (n p : Plane) (gs : List Plane) (f l : Side) (ks : List Side) (y z : Sp
     pub out : (v : Spot) → Closed n part v → Closed n (f ∷ (ks ++ l ∷ []) ++ ds) v
     pub gone : AllByRecursion (λ d. Gone d) ds
 
-  passes : (d : Side) (ds : List Side) → (Over p f.corner ⊎ (Over p d.corner ⊎ Long ds)) → ((pos 0 <ℤ value_at p f.corner) ⊎ ((pos 0 <ℤ value_at p d.corner) ⊎ Long ds))
-  passes d ds q = ⊎_elim (λ a. inl a.over) (λ r. inr (⊎_elim (λ a. inl a.over) (λ a. inr a) r)) q
-
   divide : (ds : List Side) → Stands n gs (f ∷ (ks ++ l ∷ []) ++ ds) → Leaves p f ds → Division ds
   divide [] s q =
       let o = below_all n p f l y z (length gs) q.over my mz ks (subst (λ zs. Sound n (f ∷ zs)) (append-nil (ks ++ l ∷ [])) s.sound) under in
@@ -130,7 +127,7 @@ module _ (n p : Plane) (gs : List Plane) (f l : Side) (ks : List Side) (y z : Sp
   divide (d ∷ ds) s q =
       let o = below_some n p f l d ds y z (length gs) enters.at_least q.0.at_least my mz ks s.sound under in
       let r = part_of n p f l ks (d ∷ ds) y z (length gs) d.corner s.sound (corner_closed n (f ∷ (ks ++ l ∷ [])) d ds s.sound) o in
-      let lone = dropped_lone n p f l d ks ds y z (length gs) s.sound o.exit o.entry (passes d ds q.1) in
+      let lone = dropped_lone n p f l d ks ds y z (length gs) s.sound o.exit o.entry (passes p f d ds q) in
       let most = each_swap (λ (s t : Side). AtMost t.plane s.corner) part (d ∷ ds) (each_map (λ s. Closed n part s.corner) (λ s. AllByRecursion (λ t. AtMost t.plane s.corner) (d ∷ ds)) part (λ s k. each-back (λ t. AtMost t.plane s.corner) (ks ++ l ∷ []) (d ∷ ds) (r.out_closed s.corner k).0.within.1) (ring-closed n part o.sound)) in
       let listed = each-back (λ t. Listed gs t) (ks ++ l ∷ []) (d ∷ ds) s.listed.1 in
       record {

@@ -1,0 +1,52 @@
+// Which triangle owns a region.
+ghost use Rattle.std.specs.Prelude.{◌≡◌, ◌<◌, ◌↔◌, true, IsTrue, IfSome, All, length, slice_get};
+ghost use Rattle.ember_algebra.specs.Sign.{is_negative};
+ghost use Rattle.ember_model.specs.Valid.{IsValidPlane, IsValidTri};
+ghost use Rattle.ember_model.specs.Planes.{value_at};
+ghost use Rattle.ember_model.specs.Faces.{face_of, Everywhere, Contains};
+ghost use Rattle.ember_model.specs.Owners.{IsOwner};
+ghost use Rattle.ember_coplanar.specs.Lying.{LiesOn};
+
+use crate::plane::same_plane;
+use ember_model::{Plane, Tri, edge_plane, main_axis, support_of};
+use ember_poly::{Reach, Ring, reach};
+
+// Every inside point is on the negative side of the plane.
+fn is_below(r: &Ring, p: &Plane) -> bool
+    requires { IsValidPlane p.now }
+    ensures { IsTrue result ↔ Everywhere r.now (λ v. is_negative (value_at p.now v) ≡ true) }
+{
+    match reach(r, p) {
+        Reach::Below => true,
+        Reach::Above | Reach::On | Reach::Both => false,
+    }
+}
+
+/// Every inside point of `r`, which lies in the plane of `t`, is an inside point of the face of
+/// `t`.
+pub fn contains(t: &Tri, r: &Ring) -> bool
+    requires tri { IsValidTri t.now }
+    requires plane { LiesOn t.now r.now }
+    ensures { IsTrue result ↔ Contains (face_of t.now) r.now }
+{
+    let k = main_axis(&support_of(t));
+    is_below(r, &edge_plane(t, 0, k))
+        && (is_below(r, &edge_plane(t, 1, k)) && is_below(r, &edge_plane(t, 2, k)))
+}
+
+/// Triangle `i` of the list, in whose plane `r` lies, owns `r`: no triangle before it in the list
+/// that is coplanar with it contains `r`.
+pub fn is_owner(near: &[Tri], i: u32, r: &Ring) -> bool
+    requires valid { All IsValidTri near.now }
+    requires place { i < length near.now }
+    requires plane { IfSome (slice_get near.now i) (λ t. LiesOn t r.now) }
+    ensures { IsTrue result ↔ IsOwner near.now i r.now }
+{
+    let own = &near[i as usize];
+    for t in &near[..i as usize] {
+        if same_plane(t, own) && contains(t, r) {
+            return false;
+        }
+    }
+    true
+}

@@ -1,0 +1,52 @@
+// Triangles that lie in one plane.
+ghost use Rattle.std.specs.Prelude.{◌≡◌, ◌&&◌, not};
+ghost use Rattle.ember_algebra.specs.Sign.{is_zero};
+ghost use Rattle.ember_model.specs.Valid.{IsValidCorner, IsValidTri};
+ghost use Rattle.ember_model.specs.Sizes.{IsSupportSized};
+ghost use Rattle.ember_model.specs.Planes.{value_at};
+ghost use Rattle.ember_model.specs.Owners.{spot_at, is_coplanar};
+
+use ember_model::{Corner, Plane, Tri, support_of};
+
+// The value of the plane at a corner.
+#[tactic(none)]
+fn value_at_corner(p: &Plane, c: &Corner) -> i64
+    requires plane { IsSupportSized p.now }
+    requires corner { IsValidCorner c.now }
+    ensures { result ≡ value_at p.now (spot_at c.now) }
+{
+    p.a * c.x as i64 + p.b * c.y as i64 + p.c * c.z as i64 - p.d
+}
+
+// A corner at which a plane has this value lies on it.
+fn is_on(value: i64) -> bool
+    ensures { result ≡ is_zero value }
+{
+    value == 0
+}
+
+fn has_normal(p: &Plane) -> bool
+    ensures { result ≡ not (is_zero p.now.a && (is_zero p.now.b && is_zero p.now.c)) }
+{
+    p.a != 0 || p.b != 0 || p.c != 0
+}
+
+// All corners of the triangle lie on the plane.
+fn lies_on(p: &Plane, t: &Tri) -> bool
+    requires plane { IsSupportSized p.now }
+    requires tri { IsValidTri t.now }
+    ensures { result ≡ is_zero (value_at p.now (spot_at t.now.a)) && (is_zero (value_at p.now (spot_at t.now.b)) && is_zero (value_at p.now (spot_at t.now.c))) }
+{
+    is_on(value_at_corner(p, &t.a))
+        && (is_on(value_at_corner(p, &t.b)) && is_on(value_at_corner(p, &t.c)))
+}
+
+/// Neither triangle's normal is zero, and they lie in one plane.
+pub fn same_plane(t: &Tri, u: &Tri) -> bool
+    requires t { IsValidTri t.now }
+    requires u { IsValidTri u.now }
+    ensures { result ≡ is_coplanar t.now u.now }
+{
+    let support = support_of(t);
+    has_normal(&support) && (lies_on(&support, u) && has_normal(&support_of(u)))
+}
