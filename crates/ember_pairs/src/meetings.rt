@@ -27,7 +27,8 @@ fn are_meeting(r: &Option<Ring>, t: &Tri, q: &Option<Ring>, u: &Tri) -> bool
     }
 }
 
-fn meet_at(alloc: Global, tris: &[Tri], i: u32, j: u32) -> Result<bool, OutOfMemory>
+/// The same by the triangles.
+pub fn meet_at(alloc: Global, tris: &[Tri], i: u32, j: u32) -> Result<bool, OutOfMemory>
     requires valid { All IsValidTri tris.now }
     requires one { i < length tris.now }
     requires other { j < length tris.now }
