@@ -28,3 +28,6 @@ pub mod Seen
 pub mod Aged
 pub mod Passed
 pub mod Divided
+pub mod Spanned
+pub mod Chorded
+pub mod Touching
