@@ -4,6 +4,7 @@
 mod edges;
 mod faces;
 mod fault;
+mod fields;
 mod list;
 mod number;
 mod parts;
