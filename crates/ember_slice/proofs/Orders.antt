@@ -41,7 +41,7 @@ module _ (n : Plane) (u v w : Spot) (pu : pos 0 <ℤ u.w) (pv : pos 0 <ℤ v.w) 
 -- what implies the other test leaves the other one out
 implied : (a b : Bool) → (b ≡ true → a ≡ true) → a && b ≡ b
 implied true b f = refl
-implied false true f = sym (f refl)
+implied false true f = f refl
 implied false false f = refl
 
 pub absorbs_first : (a b : Bool) → (b ≡ true → a ≡ true) → b ≡ a && b
