@@ -37,10 +37,10 @@ on_line_in n at v h = λ i. positive_in h.weight i && (zero_in h.support i && ze
 abbrev pub slope : Plane → Plane → ℤ
 slope n p = n.a *ℤ p.b -ℤ n.b *ℤ p.a
 
-abbrev square : Plane → ℤ
+abbrev pub square : Plane → ℤ
 square n = n.a *ℤ n.a +ℤ n.b *ℤ n.b
 
-square_above : (n : Plane) → (IsFlat n → ⊥) → pos 0 <ℤ square n
+pub square_above : (n : Plane) → (IsFlat n → ⊥) → pos 0 <ℤ square n
 square_above n t =
     by_sign n.a
     (λ h. omega (arith, linear, square_pos (above h), square_nonneg n.b))

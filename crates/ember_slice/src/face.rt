@@ -1,12 +1,13 @@
 // Segments of faces.
-ghost use Rattle.std.specs.Prelude.{ℤ, pos, negsuc, ◌≡◌, ◌≤ℤ◌, MatchOption, MatchResult};
+ghost use Rattle.std.specs.Prelude.{ℤ, pos, negsuc, ◌≡◌, ◌≤ℤ◌, true, false, MatchOption};
+ghost use Rattle.ember_algebra.specs.Sign.{is_negative};
+ghost use Rattle.ember_model.specs.declared.face.Face.{Face};
 ghost use Rattle.ember_model.specs.Valid.{IsValidFace};
-ghost use Rattle.ember_algebra.specs.Sign.{sgn, Neg};
 ghost use Rattle.ember_model.specs.Planes.{value_at};
-ghost use Rattle.ember_model.specs.Edges.{SamePlace};
-ghost use Rattle.ember_model.specs.FaceFiles.{IsLowest};
 ghost use Rattle.ember_point.specs.Points.{spot_of};
-ghost use Rattle.ember_slice.specs.Segments.{GivesNone, IsEndless, IsSegment};
+ghost use Rattle.ember_slice.specs.Lines.{IsFlat};
+ghost use Rattle.ember_slice.specs.Spans.{IsSpan};
+ghost use Rattle.ember_slice.specs.Segments.{IsAnswer, Joins};
 
 use crate::ends::Segment;
 use crate::fault::Endless;
@@ -18,7 +19,7 @@ use ember_point::{reduce, side};
 
 // The segment from one end to the other, where the first comes before the last.
 fn between(first: &End, last: &End) -> Option<Segment>
-    ensures { MatchOption result (sgn (value_at last.now.plane (spot_of first.now.point)) ≡ Neg → ⊥) (λ s. (sgn (value_at last.now.plane (spot_of first.now.point)) ≡ Neg) × SamePlace (spot_of first.now.point) (spot_of s.first) × IsLowest (spot_of s.first) × SamePlace (spot_of last.now.point) (spot_of s.last) × IsLowest (spot_of s.last)) }
+    ensures { let test = is_negative (value_at last.now.plane (spot_of first.now.point)) in MatchOption result (test ≡ false) (λ s. (test ≡ true) × Joins (spot_of first.now.point) (spot_of last.now.point) s) }
 {
     match side(&last.plane, &first.point) {
         Sign::Neg => Some(Segment {
@@ -29,11 +30,17 @@ fn between(first: &End, last: &End) -> Option<Segment>
     }
 }
 
-fn segment_of(span: &Span) -> Result<Option<Segment>, Endless> {
-    match (span.first, span.last) {
-        (Some(first), Some(last)) => Ok(between(&first, &last)),
-        _ => Err(Endless),
-    }
+// The segment from the first end to the last, where there are both.
+fn segment_of(span: &Span) -> Result<Option<Segment>, Endless>
+    ensures { (f : Face) (at : ℤ) → (IsFlat f.support → ⊥) → IsSpan f.support at f.edges span.now → IsAnswer f at result }
+{
+    let Some(first) = span.first else {
+        return Err(Endless);
+    };
+    let Some(last) = span.last else {
+        return Err(Endless);
+    };
+    Ok(between(&first, &last))
 }
 
 /// The segment of the face in the plane z = at + 1/2, where it gives one: the inside points there, in
@@ -43,7 +50,7 @@ pub fn segment(f: &Face, at: i32) -> Result<Option<Segment>, Endless>
     requires face { IsValidFace f.now }
     requires low { negsuc 2047 ≤ℤ at }
     requires high { at ≤ℤ pos 2047 }
-    ensures { MatchResult result (λ given. MatchOption given (GivesNone f.now at) (λ s. IsSegment f.now at (spot_of s.first) (spot_of s.last))) (λ _. IsEndless f.now at) }
+    ensures { IsAnswer f.now at result }
 {
     if f.support.a == 0 && f.support.b == 0 {
         return Ok(None);
