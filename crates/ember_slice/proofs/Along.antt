@@ -1,7 +1,7 @@
 -- How the values of a plane change along the line of another one at a level.
-use Rattle.std.proofs.Common.{◌≡◌, ◌≢◌, refl, sym, ap, subst, ◌∙◌, arith, ℤ, pos, negsuc, ◌+ℤ◌, ◌-ℤ◌, ◌*ℤ◌, neg_ℤ, ◌<ℤ◌, ◌≤ℤ◌, Bool, true, false, ◌&&◌, [], ◌∷◌}
+use Rattle.std.proofs.Common.{◌≡◌, ◌≢◌, sym, ap, ◌∙◌, arith, ℤ, pos, negsuc, ◌+ℤ◌, ◌-ℤ◌, ◌*ℤ◌, neg_ℤ, ◌<ℤ◌, true, ◌&&◌, [], ◌∷◌}
 use Rattle.std.proofs.lemmas.Int.{ints}
-use Rattle.ember_algebra.specs.Sign.{sgn, is_negative, is_zero, is_positive}
+use Rattle.ember_algebra.specs.Sign.{sgn, is_zero, is_positive}
 use Rattle.ember_algebra.proofs.Laws.{linear, from_one, from_two}
 use Rattle.ember_algebra.proofs.Ring.{Expr, num, neg, ◌⊕◌, ◌⊖◌, ◌⊗◌, ◌≈◌, solve, cancels}
 use Rattle.ember_algebra.proofs.Vectors.{scalar, tuple, identity, TupleE, detE}

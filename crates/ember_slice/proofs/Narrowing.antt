@@ -1,7 +1,7 @@
 -- What planes leave of a line.
-use Rattle.std.proofs.Common.{◌≡◌, refl, sym, ap, subst, ◌∙◌, arith, ℕ, suc, ◌+◌, ◌<◌, ◌≤◌, ℤ, pos, neg_ℤ, ◌<ℤ◌, ◌≤ℤ◌, Bool, true, false, not, cond, ◌&&◌, List, [], ◌∷◌, length, drop, get_or, add-one, drop-cons, drop_of_length-le, Option, Some, None}
-use Rattle.std.specs.Prelude.{MatchOption, IfSome}
-use Rattle.ember_algebra.specs.Sign.{sgn, is_neg, is_pos, is_negative, is_positive}
+use Rattle.std.proofs.Common.{◌≡◌, refl, sym, ap, subst, ◌∙◌, arith, ℕ, ◌+◌, ◌<◌, ◌≤◌, ℤ, pos, ◌<ℤ◌, Bool, true, false, not, cond, ◌&&◌, List, [], ◌∷◌, length, drop, get_or, add-one, drop-cons, drop_of_length-le, Option, Some, None}
+use Rattle.std.specs.Prelude.{MatchOption}
+use Rattle.ember_algebra.specs.Sign.{is_neg, is_pos, is_negative, is_positive}
 use Rattle.ember_algebra.proofs.Laws.{linear}
 use Rattle.ember_model.specs.declared.plane.Plane.{Plane}
 use Rattle.ember_model.specs.declared.point.Spot.{Spot}
@@ -12,7 +12,7 @@ use Rattle.ember_slice.specs.declared.span.End.{End}
 use Rattle.ember_slice.specs.declared.span.Span.{Span}
 use Rattle.ember_slice.specs.Lines.{is_on_line, ahead, is_before}
 use Rattle.ember_slice.specs.Spans.{AllOf, Enters, Leaves, AreEnds, IsNarrowed, IsSpan, is_after, is_until, is_in_span, is_behind}
-use Rattle.ember_slice.proofs.Along.{OnLine, on_line_out, ahead_turned}
+use Rattle.ember_slice.proofs.Along.{on_line_out, ahead_turned}
 use Rattle.ember_slice.proofs.Orders.{not_after_then, then_not_after, absorbs_first, absorbs_second}
 
 -- ---- tests
