@@ -190,7 +190,7 @@ module _ (f : Face) (at : ℤ) (t : IsFlat f.support → ⊥) where
     beyond =
         by_sign (ahead n a u)
         (λ l. let k = ahead_of_further n at a on_a t in
-          (further n a, further_on_line n at a on_a, negative_in k, negative_in (not_after_then n u a (further n a) wu wa wa (omega (arith, linear, l, ahead_turned n a u)) k)))
+        (further n a, further_on_line n at a on_a, negative_in k, negative_in (not_after_then n u a (further n a) wu wa wa (omega (arith, linear, l, ahead_turned n a u)) k)))
         (λ l. past (omega (arith, linear, l)))
         (λ l. past (omega (arith, linear, l)))
       where
@@ -203,7 +203,7 @@ module _ (f : Face) (at : ℤ) (t : IsFlat f.support → ⊥) where
     ahead_of =
         by_sign (ahead n u a)
         (λ l. let k = nearer_ahead n at a on_a t in
-          (nearer n a, nearer_on_line n at a on_a, negative_in k, negative_in (then_not_after n (nearer n a) a u wa wa wu k (omega (arith, linear, l, ahead_turned n u a)))))
+        (nearer n a, nearer_on_line n at a on_a, negative_in k, negative_in (then_not_after n (nearer n a) a u wa wa wu k (omega (arith, linear, l, ahead_turned n u a)))))
         (λ l. past (omega (arith, linear, l)))
         (λ l. past (omega (arith, linear, l)))
       where

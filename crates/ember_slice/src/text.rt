@@ -8,8 +8,8 @@ ghost use Rattle.ember_slice.specs.Segments.{IsEndless, IsFirstEndless, IsSliceT
 ghost use Rattle.ember_slice.specs.Texts.{AddsSegment};
 
 use crate::ends::Segment;
-use crate::fault::SliceFault;
 use crate::face::segment;
+use crate::fault::SliceFault;
 use ember_model::{Face, OutOfMemory};
 use ember_reread::FaceList;
 use itoa::Buffer;
@@ -40,14 +40,7 @@ fn put_segment(s: &Segment, out: &mut Vec<u8>) -> Result<(), OutOfMemory>
     ensures { OnOk result (out.new.items ≡ out.old.items ++ segment_line (record { first = spot_of s.now.first; last = spot_of s.now.last })) }
 {
     let numbers = [
-        s.first.x,
-        s.first.y,
-        s.first.z,
-        s.first.w,
-        s.last.x,
-        s.last.y,
-        s.last.z,
-        s.last.w,
+        s.first.x, s.first.y, s.first.z, s.first.w, s.last.x, s.last.y, s.last.z, s.last.w,
     ];
     put_line(b"s", &numbers, out)
 }
