@@ -1,0 +1,6 @@
+pub mod Along
+pub mod Orders
+pub mod Narrowing
+pub mod Bounds
+pub mod SliceTexts
+pub mod Passing

@@ -1,0 +1,5 @@
+pub mod Lines
+pub mod Spans
+pub mod Segments
+pub mod Texts
+pub mod Crossings

@@ -1,0 +1,19 @@
+//! The directed segments in which a level plane cuts faces.
+#![tactic(auto)]
+
+mod ends;
+mod face;
+mod fault;
+mod law;
+mod line;
+mod narrow;
+mod span;
+#[cfg(test)]
+mod tests;
+mod text;
+
+pub use ends::Segment;
+pub use face::segment;
+pub use fault::{Endless, SliceFault};
+pub use law::segments_wind_as_faces;
+pub use text::slice_text;
