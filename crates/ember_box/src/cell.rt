@@ -38,11 +38,48 @@ pub fn root() -> Cell
 }
 
 impl Cell {
+    /// The same box.
+    pub fn copy(&self) -> Cell
+        ensures { result ≡ self.now }
+    {
+        Cell {
+            from: self.from,
+            log: self.log,
+            path: self.path,
+        }
+    }
+
     /// The path of the box.
     pub fn path(&self) -> u64
         ensures { result ≡ self.now.path }
     {
         self.path
+    }
+
+    /// Its least corner, in the scaled unit: at least -2048 along each axis.
+    pub fn lo(&self) -> [i32; 3]
+        ensures { result ≡ self.now.lo.x ∷ self.now.lo.y ∷ self.now.lo.z ∷ [] }
+    {
+        [self.low(Axis::X), self.low(Axis::Y), self.low(Axis::Z)]
+    }
+
+    /// The coordinate of its least corner along an axis.
+    pub fn low(&self, k: Axis) -> i32
+        ensures value { result ≡ boxes.low self.now k }
+    {
+        let from = match k {
+            Axis::X => self.from[0],
+            Axis::Y => self.from[1],
+            Axis::Z => self.from[2],
+        };
+        from as i32 - 2048
+    }
+
+    /// Its side along an axis, a power of two up to 4096.
+    pub fn side(&self, k: Axis) -> i32
+        ensures value { result ≡ boxes.side self.now k }
+    {
+        1i32 << self.log(k)
     }
 
     /// The logarithm of its side along an axis.
