@@ -1,6 +1,7 @@
 // A box that came from the root by halving.
-ghost use Rattle.std.specs.Prelude.{◌≡◌, ◌<◌, ◌≤◌, ◌^◌};
+ghost use Rattle.std.specs.Prelude.{◌≡◌, ◌<◌, ◌≤◌, ◌^◌, [], ◌∷◌};
 ghost use Rattle.ember_box.specs.Boxes as boxes;
+ghost use Rattle.ember_box.specs.Boxes.{IsCell};
 
 use ember_model::Axis;
 use std::marker::Model;
@@ -66,20 +67,16 @@ impl Cell {
     /// The coordinate of its least corner along an axis.
     pub fn low(&self, k: Axis) -> i32
         ensures value { result ≡ boxes.low self.now k }
+        ensures kept { IsCell self.now }
     {
-        let from = match k {
-            Axis::X => self.from[0],
-            Axis::Y => self.from[1],
-            Axis::Z => self.from[2],
-        };
-        from as i32 - 2048
+        coordinate_of(self.from[place(k)])
     }
 
     /// Its side along an axis, a power of two up to 4096.
     pub fn side(&self, k: Axis) -> i32
-        ensures value { result ≡ boxes.side self.now k }
+        ensures { result ≡ boxes.side self.now k }
     {
-        1i32 << self.log(k)
+        side_of(self.log[place(k)]) as i32
     }
 
     /// The logarithm of its side along an axis.
@@ -92,6 +89,14 @@ impl Cell {
             Axis::Z => self.log[2],
         }
     }
+}
+
+// A coordinate that is counted from the corner of the root box, counted from 0.
+fn coordinate_of(from: u32) -> i32
+    requires { from ≤ 4096 }
+    ensures { result ≡ boxes.coordinate from }
+{
+    from as i32 - 2048
 }
 
 // The place of an axis in the order x, y, z.
@@ -109,7 +114,8 @@ fn place(k: Axis) -> usize
 // The side with this logarithm.
 fn side_of(log: u8) -> u32
     requires { log ≤ 12 }
-    ensures { result ≡ 2 ^ log }
+    ensures value { result ≡ 2 ^ log }
+    ensures bound { result ≤ 4096 }
 {
     1u32 << log
 }

@@ -3,12 +3,12 @@
 #![tactic(auto)]
 
 mod cell;
-mod halving;
-mod near;
+mod nearness;
 mod spans;
+mod sums;
 #[cfg(test)]
 mod tests;
 
 pub use cell::{Cell, halves, root};
-pub use halving::{halving, is_leaf, split_axis};
-pub use near::{near, near_list, near_tri};
+pub use nearness::{near, near_list, near_tri};
+pub use sums::{halving, is_leaf, split_axis};

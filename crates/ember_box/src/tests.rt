@@ -1,6 +1,6 @@
 // The root and its halves along each axis; triangles near boxes, and where halving ends.
-use crate::halving::halving_of;
-use crate::near::near_among;
+use crate::nearness::near_among;
+use crate::sums::halving_of;
 use crate::{Cell, halves, near_tri, root};
 use ember_model::{Axis, Corner, Tri};
 use std::alloc::{AllocError, Global};
