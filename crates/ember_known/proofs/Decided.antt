@@ -1,5 +1,5 @@
 -- Where the three-valued truth is decided, it is the truth, whatever the undecided meshes count.
-use Rattle.std.proofs.Common.{◌≡◌, ℕ, suc, ◌≤◌, ◌==◌, ℤ, pos, int_le, ◌+ℤ◌, ◌*ℤ◌, Bool, true, false, not, ◌&&◌, ◌||◌, ◌⊎◌, inl, inr, if◌then◌else◌, List, [], ◌∷◌, All, Option, Some, None, refl, sym, ap, ap₂, ◌∙◌, subst, arith}
+use Rattle.std.proofs.Common.{◌≡◌, ℕ, suc, ◌≤◌, ◌==◌, ℤ, pos, int_le, ◌+ℤ◌, ◌*ℤ◌, Bool, true, false, not, ◌&&◌, ◌||◌, ◌⊎◌, inl, inr, if◌then◌else◌, List, [], ◌∷◌, All, Option, Some, None, IfSome, refl, sym, ap, ap₂, ◌∙◌, subst, arith}
 use Rattle.std.proofs.lemmas.Bool.Decides.{eqb_tells}
 use Rattle.ember_expr.specs.declared.formula.Term.{Term}
 use Rattle.ember_expr.specs.Formula.{Formula, Or, Xor, And, Not, Mesh, Odd, Compare, IsFit, IsFitSum, IsFitTerm, IsMeshNumber}
@@ -69,8 +69,33 @@ module _ (undecided : ℕ → Bool) (counts others : List ℤ) (agree : AgreeOut
   tells (Mesh n) fit = plain_tells (undecided n) (truth counts (Mesh n)) (truth others (Mesh n)) (λ e. ap (int_le (pos 1)) (sym (agree.same n fit e)))
   tells (Odd sum) fit = plain_tells (mentions undecided sum) (truth counts (Odd sum)) (truth others (Odd sum)) (λ e. ap is_odd (sum_same (pos 0) sum fit.terms e))
   tells (Compare left rel right) fit = plain_tells (mentions undecided left || mentions undecided right) (truth counts (Compare left rel right)) (truth others (Compare left rel right)) (λ e.
-    let both = neither (mentions undecided left) (mentions undecided right) e in
-    ap₂ (holds_between rel) (sum_same (pos 0) left fit.0.terms both.0) (sum_same (pos 0) right fit.1.terms both.1))
+      let both = neither (mentions undecided left) (mentions undecided right) e in
+      ap₂ (holds_between rel) (sum_same (pos 0) left fit.0.terms both.0) (sum_same (pos 0) right fit.1.terms both.1))
 
   pub decided_tells : (f : Formula) (b : Bool) → IsFit 64 f → known undecided counts f ≡ Some b → truth others f ≡ b
   decided_tells f b fit e = subst (λ o. Tells o (truth others f)) e (tells f fit)
+
+-- the same meshes are undecided
+module _ (u w : ℕ → Bool) (same : (n : ℕ) → IsMeshNumber 64 n → u n ≡ w n) where
+  mention_same : (n : ℕ) → n ≤ 64 → (not (n == 0) && u n) ≡ (not (n == 0) && w n)
+  mention_same n last = elim (eqb_tells n 0) [
+    | inl none ↦ rw none.0 refl
+    | inr some ↦ ap (λ b. not (n == 0) && b) (same n (record { first = omega (arith, some.1); last = last }))
+  ]
+
+  mentions_same : (ts : List Term) → All (IsFitTerm 64) ts → mentions u ts ≡ mentions w ts
+  mentions_same [] fit = refl
+  mentions_same (t ∷ ts) fit = ap₂ (λ a b. a || b) (mention_same t.mesh (fit 0 t (omega arith)).mesh) (mentions_same ts (λ i d l. fit (suc i) d (omega (arith, l))))
+
+  pub known_same : (counts : List ℤ) (f : Formula) → IsFit 64 f → known u counts f ≡ known w counts f
+  known_same counts (Or a b) fit = ap₂ known_or (known_same counts a fit.0) (known_same counts b fit.1)
+  known_same counts (Xor a b) fit = ap₂ known_xor (known_same counts a fit.0) (known_same counts b fit.1)
+  known_same counts (And a b) fit = ap₂ known_and (known_same counts a fit.0) (known_same counts b fit.1)
+  known_same counts (Not a) fit = ap known_not (known_same counts a fit)
+  known_same counts (Mesh n) fit = ap (λ b. plain_unless b (truth counts (Mesh n))) (same n fit)
+  known_same counts (Odd sum) fit = ap (λ b. plain_unless b (truth counts (Odd sum))) (mentions_same sum fit.terms)
+  known_same counts (Compare left rel right) fit = ap₂ (λ a b. plain_unless (a || b) (truth counts (Compare left rel right))) (mentions_same left fit.0.terms) (mentions_same right fit.1.terms)
+
+pub decided_if : (undecided : ℕ → Bool) (counts : List ℤ) (f : Formula) → IsFit 64 f → (o : Option Bool) → o ≡ known undecided counts f → IfSome o (λ b. (others : List ℤ) → AgreeOutside undecided counts others → truth others f ≡ b)
+decided_if undecided counts f fit None e = tt
+decided_if undecided counts f fit (Some b) e = λ others agree. decided_tells undecided counts others agree f b fit (sym e)

@@ -1,6 +1,6 @@
 // The three-valued truth of a tree.
 ghost use Rattle.std.specs.Prelude.{◌≡◌, ℕ, Bool, ℤ, List, Some, IfSome};
-ghost use Rattle.ember_expr.specs.Formula.{Formula, formula_of, IsFit, IsFitSum};
+ghost use Rattle.ember_expr.specs.Formula.{Formula, formula_of, IsFit, IsFitSum, IsMeshNumber};
 ghost use Rattle.ember_expr.specs.Truth.{AreCounts, truth};
 ghost use Rattle.ember_known.specs.Masks.{is_in};
 ghost use Rattle.ember_known.specs.Known as three_valued;
@@ -30,7 +30,11 @@ fn plain_unless(undecided: bool, tree: &Tree, v: &Vector) -> Option<bool>
     requires counts { AreCounts v.now.counts }
     ensures { result ≡ plain_unless undecided (truth v.now.counts (formula_of tree.now)) }
 {
-    if undecided { None } else { Some(holds(tree, v)) }
+    if undecided {
+        None
+    } else {
+        Some(holds(tree, v))
+    }
 }
 
 fn known_in(tree: &Tree, v: &Vector, m: Mask) -> Option<bool>
@@ -76,6 +80,7 @@ fn known_in(tree: &Tree, v: &Vector, m: Mask) -> Option<bool>
 pub fn known(e: &Expr, v: &Vector, m: &Mask) -> Option<bool>
     requires { AreCounts v.now.counts }
     ensures value { result ≡ three_valued.known (is_in m.now.0) v.now.counts (formula_of e.now) }
+    ensures same { (undecided : ℕ → Bool) → ((n : ℕ) → IsMeshNumber 64 n → is_in m.now.0 n ≡ undecided n) → result ≡ three_valued.known undecided v.now.counts (formula_of e.now) }
     ensures law { IfSome result (λ b. (others : List ℤ) → AgreeOutside (is_in m.now.0) v.now.counts others → truth others (formula_of e.now) ≡ b) }
 {
     known_in(tree(e), v, *m)
