@@ -1,1 +1,5 @@
 pub mod Splits
+pub mod Tests
+pub mod Crossing
+pub mod Nearby
+pub mod Counting
