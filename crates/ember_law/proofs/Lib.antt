@@ -5,3 +5,6 @@ pub mod Directions
 pub mod Generic
 pub mod Axes
 pub mod Paths
+pub mod Tallies
+pub mod Vectors
+pub mod Grown

@@ -8,10 +8,10 @@ use Rattle.ember_model.specs.declared.face.Face.{Face}
 use Rattle.ember_model.specs.Faces.{leg}
 use Rattle.ember_model.specs.Meshes.{faces_of, of_mesh, meshes}
 
--- the sums of two vectors, entry by entry
+-- the sums of two vectors, entry by entry; what the second has no entry for stays
 abbrev pub added : List ℤ → List ℤ → List ℤ
 added [] ys = []
-added (x ∷ xs) [] = []
+added (x ∷ xs) [] = x ∷ xs
 added (x ∷ xs) (y ∷ ys) = (x +ℤ y) ∷ added xs ys
 
 -- the vector with more at the entry of a mesh

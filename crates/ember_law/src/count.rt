@@ -5,7 +5,7 @@ ghost use Rattle.ember_model.specs.Valid.{IsValidTri, IsValidSpot};
 ghost use Rattle.ember_model.specs.Points.{DifferAlong};
 ghost use Rattle.ember_model.specs.Meshes.{HasMesh, vector};
 ghost use Rattle.ember_law.specs.Counts.{added, with_more, leg_vector, HasRoom};
-ghost use Rattle.ember_law.specs.Laws.{AxesAgree, LegsTell, SegmentsKeep};
+ghost use Rattle.ember_law.specs.Laws.{AxesAgree, LegsTell};
 
 use ember_model::{Axis, Scene, Spot, Tri, Vector, crossing, leg};
 
@@ -58,8 +58,7 @@ pub fn axis_count(s: &Scene, p: &Spot, a: Axis, v: &mut Vector)
     requires room { HasRoom v.old.counts }
     ensures value { v.new.counts ≡ added v.old.counts (vector a s.now.tris p.now) }
     ensures within { (m : ℕ) → All (Small m) v.old.counts → All (Small (m + length s.now.tris)) v.new.counts }
-    ensures axes { AxesAgree s.now.tris }
-    ensures segments { SegmentsKeep s.now.tris }
+    ensures law { AxesAgree s.now.tris }
 {
     count_rays(s.tris.items(), p, a, v);
 }
