@@ -26,6 +26,11 @@ has-split P (x ∷ xs) ys (inr h) = ⊎_elim (λ a. inl (inr a)) (λ b. inr b) (
 pub has-turned : {X : Type 0} (P : X → Type 0) (xs ys : List X) → Has P (xs ++ ys) → Has P (ys ++ xs)
 has-turned P xs ys h = ⊎_elim (λ a. has-back P ys xs a) (λ b. has-front P ys xs b) (has-split P xs ys h)
 
+pub has_map : {X : Type 0} (P Q : X → Type 0) (xs : List X) → ((x : X) → P x → Q x) → Has P xs → Has Q xs
+has_map P Q [] f h = absurd h
+has_map P Q (x ∷ xs) f (inl p) = inl (f x p)
+has_map P Q (x ∷ xs) f (inr h) = inr (has_map P Q xs f h)
+
 -- a member that has the one property, and the other, which all have
 pub record Found {X : Type 0} (P Q : X → Type 0) : Type 0 where
   pub member : X

@@ -1,5 +1,6 @@
 -- The sides of three lists: joined, cut, turned.
-use Rattle.std.proofs.Common.{◌≡◌, refl, sym, ap, subst, ◌∙◌, arith, ℕ, zero, suc, ◌≤◌, ◌<◌, List, [], ◌∷◌, ◌++◌, length, take, drop, length-drop, length-append}
+use Rattle.std.proofs.Common.{◌≡◌, inl, inr, refl, sym, ap, subst, ◌∙◌, arith, ℕ, zero, suc, ◌≤◌, ◌<◌, List, [], ◌∷◌, ◌++◌, length, take, drop, length-drop, length-append}
+use lib.ListN.{set}
 use Rattle.std.specs.List.{AllByRecursion}
 use Rattle.std.proofs.lemmas.List.{take-append-drop}
 use Rattle.ember_model.specs.declared.plane.Plane.{Plane}
@@ -18,6 +19,13 @@ each_corner P [] ms bs h = tt
 each_corner P (e ∷ es) [] bs h = tt
 each_corner P (e ∷ es) (m ∷ ms) [] h = tt
 each_corner P (e ∷ es) (m ∷ ms) (b ∷ bs) h = (h.0, each_corner P es ms bs h.1)
+
+pub corner_each : (P : Spot → Type 0) (es : List Plane) (ms : List Meet) (bs : List ℕ) → length ms ≡ length es → length bs ≡ length es → AllByRecursion (λ s. P s.corner) (sides_of es ms bs) → AllByRecursion (λ m. P (spot_of m)) ms
+corner_each P es [] bs p q h = tt
+corner_each P [] (m ∷ ms) bs p q h = absurd (omega (arith, p))
+corner_each P (e ∷ es) (m ∷ ms) [] p q h = absurd (omega (arith, q))
+corner_each P (e ∷ es) (m ∷ ms) (b ∷ bs) p q h =
+    (h.0, corner_each P es ms bs (omega (arith, p)) (omega (arith, q)) h.1)
 
 pub has_corner : (P : Spot → Type 0) (es : List Plane) (ms : List Meet) (bs : List ℕ) → length ms ≡ length es → length bs ≡ length es → Has (λ m. P (spot_of m)) ms → Has (λ s. P s.corner) (sides_of es ms bs)
 has_corner P [] [] bs p q h = absurd h
@@ -62,7 +70,7 @@ sides-turned k es us ms ns bs cs p q eu en ec =
     rw (eu, en, ec) (sides-append (drop k es) (take k es) (drop k ms) (take k ms) (drop k bs) (take k bs) (dropped k es ms p) (dropped k es bs q)) ∙ (λ i. sides-drop k es ms bs p q i ++ sides-take k es ms bs i)
 
 -- ---- the first corner
-pub sides-starting : (c : Meet) (es : List Plane) (ms : List Meet) (bs : List ℕ) → sides_of es (first_is c ms) bs ≡ starting (spot_of c) (sides_of es ms bs)
+pub sides-starting : (c : Meet) (es : List Plane) (ms : List Meet) (bs : List ℕ) → sides_of es (set ms 0 c) bs ≡ starting (spot_of c) (sides_of es ms bs)
 sides-starting c [] ms bs = refl
 sides-starting c (e ∷ es) [] bs = refl
 sides-starting c (e ∷ es) (m ∷ ms) [] = refl

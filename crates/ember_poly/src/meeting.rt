@@ -1,5 +1,6 @@
 // Rings and triangles that meet.
-ghost use Rattle.std.specs.Prelude.{◌≡◌, ◌↔◌, IsTrue, true, false, All};
+ghost use Rattle.std.specs.Prelude.{◌≡◌, ◌↔◌, IsTrue, true, false, All, ℤ};
+ghost use Rattle.ember_algebra.specs.Sign.{sgn, is_positive};
 ghost use Rattle.ember_model.specs.Valid.{IsValidTri, IsValidPlane};
 ghost use Rattle.ember_model.specs.Planes.{value_at, support_of};
 ghost use Rattle.ember_model.specs.Faces.{Cuts, Meets, Somewhere, is_flat, face_of, edges_of};
@@ -26,15 +27,31 @@ enum Span {
     Shut,
 }
 
-fn span_of(h: &Plane, y: &Meet, z: &Meet) -> Span
-    requires { IsValidPlane h.now }
-    ensures { IsSpan (value_at h.now (spot_of y.now)) (value_at h.now (spot_of z.now)) result }
+// By the signs of the plane at the two points.
+fn span_of(y: Sign, z: Sign) -> Span
+    ensures { (a b : ℤ) → y ≡ sgn a → z ≡ sgn b → IsSpan a b result }
 {
-    match (side(h, y), side(h, z)) {
-        (Sign::Pos, Sign::Neg) | (Sign::Neg, Sign::Pos) => Span::Split,
-        (Sign::Pos, _) | (_, Sign::Pos) => Span::Shut,
-        _ => Span::Free,
+    match y {
+        Sign::Pos => match z {
+            Sign::Neg => Span::Split,
+            _ => Span::Shut,
+        },
+        Sign::Zero => match z {
+            Sign::Pos => Span::Shut,
+            _ => Span::Free,
+        },
+        Sign::Neg => match z {
+            Sign::Pos => Span::Split,
+            _ => Span::Free,
+        },
     }
+}
+
+fn is_above(h: &Plane, m: &Meet) -> bool
+    requires { IsValidPlane h.now }
+    ensures { result ≡ is_positive (value_at h.now (spot_of m.now)) }
+{
+    side(h, m) == Sign::Pos
 }
 
 fn none_above(hs: &[Plane], m: &Meet) -> bool
@@ -42,7 +59,7 @@ fn none_above(hs: &[Plane], m: &Meet) -> bool
     ensures { result ≡ none_positive hs.now (spot_of m.now) }
 {
     for h in hs {
-        if side(h, m) == Sign::Pos {
+        if is_above(h, m) {
             return false;
         }
     }
@@ -73,7 +90,7 @@ fn meets_chord(n: &Plane, p: &Plane, y: &Meet, z: &Meet, hs: &[Plane]) -> bool
 {
     let mut free = true;
     for h in hs {
-        match span_of(h, y, z) {
+        match span_of(side(h, y), side(h, z)) {
             Span::Free => {}
             Span::Shut => {
                 return false;

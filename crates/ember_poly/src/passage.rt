@@ -104,7 +104,8 @@ pub fn find_passage(support: &Plane, rim: &Rim, p: &Plane) -> Passage
     requires paired { IsPaired rim.now }
     requires sound { Sound support.now (sides rim.now) }
     requires straddles { Straddles p.now rim.now.corners.items }
-    ensures { IsPassage support.now p.now (sides rim.now) result }
+    ensures passage { IsPassage support.now p.now (sides rim.now) result }
+    ensures kept { result.kept < length rim.now.edges.items }
 {
     let corners = rim.corners.as_slice();
     let first = first_side(p, corners);

@@ -20,12 +20,16 @@ fn with_corner(seen: Reach, at: Sign) -> Reach
     match at {
         Sign::Zero => seen,
         Sign::Neg => match seen {
-            Reach::Above | Reach::Both => Reach::Both,
-            _ => Reach::Below,
+            Reach::Below => Reach::Below,
+            Reach::Above => Reach::Both,
+            Reach::On => Reach::Below,
+            Reach::Both => Reach::Both,
         },
         Sign::Pos => match seen {
-            Reach::Below | Reach::Both => Reach::Both,
-            _ => Reach::Above,
+            Reach::Below => Reach::Both,
+            Reach::Above => Reach::Above,
+            Reach::On => Reach::Above,
+            Reach::Both => Reach::Both,
         },
     }
 }
@@ -37,9 +41,13 @@ fn signs_of(p: &Plane, corners: &[Meet]) -> Reach
 {
     let mut seen = Reach::On;
     for m in corners {
-        seen = with_corner(seen, side(p, m));
-        if seen == Reach::Both {
-            return seen;
+        match with_corner(seen, side(p, m)) {
+            Reach::Both => {
+                return Reach::Both;
+            }
+            other => {
+                seen = other;
+            }
         }
     }
     seen
