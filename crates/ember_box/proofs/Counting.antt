@@ -18,7 +18,7 @@ use Rattle.ember_box.specs.Near.{is_near, near, no_tri, tri_at, listed}
 use Rattle.ember_box.specs.Spans.{spans_of, bounding, overlap, within, crosses}
 use Rattle.ember_box.specs.Halving.{half_sum, is_no_better, halving_axis, spreads, is_leaf}
 use Rattle.ember_box.specs.Sums.{number, IsPlaneOf, IsSight, may_cross, sees, AreHalves, halves_seen, IsSumOf, AreSums}
-use Rattle.ember_box.proofs.Tests.{and_implied}
+use Rattle.ember_box.proofs.Orders.{and_implied}
 use Rattle.ember_box.proofs.Nearby.{near_is, AreInside, are_inside, inside_crossed, left_crossed, right_crossed}
 
 -- ---- one triangle

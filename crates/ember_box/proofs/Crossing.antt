@@ -21,7 +21,7 @@ use Rattle.ember_box.specs.declared.spans.Spans.{Spans}
 use Rattle.ember_box.specs.Boxes.{Cell, low, high, side}
 use Rattle.ember_box.specs.Near.{place, corners}
 use Rattle.ember_box.specs.Spans.{spans_of, least_end, greatest_end, least, greatest, crosses}
-use Rattle.ember_box.proofs.Tests.{le_in, le_out, same_test}
+use Rattle.ember_box.proofs.Orders.{le_in, le_out, same_test}
 
 -- ---- one axis
 pub record IsBetween (s : Span) (x : ℤ) : Type 0 where

@@ -20,7 +20,7 @@ use Rattle.ember_box.specs.declared.spans.Spans.{Spans}
 use Rattle.ember_box.specs.Boxes.{Cell, along, low, high, left_half, right_half, root}
 use Rattle.ember_box.specs.Near.{spans_meet, is_near, near}
 use Rattle.ember_box.specs.Spans.{spans_of, span_over, bounding, reaches, overlap, covers, within, has, holds, crosses}
-use Rattle.ember_box.proofs.Tests.{le_in, le_out, same_test, and_assoc, one_of_three, least_of, greatest_of, reaches_is, All3, all3, from3}
+use Rattle.ember_box.proofs.Orders.{le_in, le_out, same_test, and_assoc, one_of_three, least_of, greatest_of, reaches_is, All3, all3, from3}
 use Rattle.ember_box.proofs.Crossing.{IsBetween, IsIn, IsWithin, crosses_at, crosses_is, crosses_more}
 
 pub near_is : (c : Cell) (t : Tri) → is_near c t ≡ overlap (bounding t) (spans_of c) && crosses (support_of t) (spans_of c)

@@ -1,4 +1,4 @@
-use Rattle.std.proofs.Common.{◌≡◌, ◌≤◌, ap, ◌∙◌, sym, true, None, Some, if◌then◌else◌, nat_le, length, arith}
+use Rattle.std.proofs.Common.{◌≤◌, ap, ◌∙◌, sym, None, Some, if◌then◌else◌, length, arith}
 use Rattle.std.proofs.lemmas.Bool.{leb-true}
 use Rattle.std.proofs.lemmas.List.{length-map}
 use Rattle.ember_box.specs.Near.{listed, tri_at}
