@@ -12,7 +12,6 @@ use Rattle.ember_model.specs.Points.{scaled, moved, DifferAlong}
 use Rattle.ember_model.specs.Clear.{AreClear}
 use Rattle.ember_model.specs.Meshes.{wind, faces_of, IsBalanced}
 use Rattle.ember_model.proofs.SignTests.{negative_not}
-use Rattle.ember_model.proofs.Hits.{moved_weight}
 use Rattle.ember_model.proofs.Legs.{leg_off, face_leg}
 use Rattle.ember_model.proofs.LegSigns.{moved_zero, moved_back, gap_along, is_moved}
 use Rattle.ember_model.proofs.Scaling.{crossing_scaled, clear_scaled, leg_scaled, leg_back}

@@ -1,5 +1,5 @@
 -- Sums over the faces of each mesh, triangle by triangle.
-use Rattle.std.proofs.Common.{◌≡◌, ◌≢◌, ℕ, zero, suc, ◌+◌, ◌-◌, ◌<◌, ◌≤◌, Bool, true, false, not, cond, nat_eq, List, [], ◌∷◌, map, filter, length, take, take_all, get_or, set, ℤ, pos, ◌+ℤ◌, refl, sym, ap, subst, ◌∙◌, arith}
+use Rattle.std.proofs.Common.{◌≡◌, ◌≢◌, ℕ, zero, suc, ◌+◌, ◌-◌, ◌<◌, Bool, cond, nat_eq, List, [], ◌∷◌, map, length, take, get_or, set, ℤ, pos, ◌+ℤ◌, refl, sym, ap, subst, ◌∙◌, arith}
 use Rattle.std.specs.List.{range_with_len}
 use Rattle.std.proofs.lemmas.Bool.{ne_eqb, eq-eqb}
 use Rattle.ember_algebra.specs.Sums.{total}
@@ -51,10 +51,10 @@ added_nothing g z (suc n) a (c ∷ cs) =
 
 -- ---- one more triangle
 module _ (f : Face → ℤ) (flat : (t : Tri) → IsFlat t → f (face_of t) ≡ pos 0) where
-  of_one : ℕ → Tri → ℤ
+  unfoldable pub of_one : ℕ → Tri → ℤ
   of_one m t = cond (nat_eq t.mesh m) (f (face_of t)) (pos 0)
 
-  entry : (m : ℕ) (ts : List Tri) → total f (faces_of (of_mesh m ts)) ≡ total (of_one m) ts
+  pub entry : (m : ℕ) (ts : List Tri) → total f (faces_of (of_mesh m ts)) ≡ total (of_one m) ts
   unfolding of_one
   entry m ts = total_faces f flat (of_mesh m ts) ∙ total-filter (λ t. f (face_of t)) (λ t. nat_eq t.mesh m) ts
 

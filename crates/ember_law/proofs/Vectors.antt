@@ -1,5 +1,5 @@
 -- The laws for all meshes of a scene at once.
-use Rattle.std.proofs.Common.{◌≡◌, ℕ, Bool, true, false, not, cond, nat_eq, List, [], ◌∷◌, map, filter, ℤ, pos, ◌+ℤ◌, ◌-ℤ◌, ◌<ℤ◌, refl, arith}
+use Rattle.std.proofs.Common.{◌≡◌, ℕ, Bool, true, false, not, cond, nat_eq, List, [], ◌∷◌, map, filter, ℤ, ◌+ℤ◌, ◌-ℤ◌, refl, arith}
 use Rattle.std.specs.List.{AllByRecursion}
 use Rattle.ember_algebra.proofs.Laws.{linear}
 use Rattle.ember_model.specs.declared.tri.Tri.{Tri}

@@ -1,5 +1,5 @@
 -- The path law: at clear points all axes count alike, and between two of them the segment's crossings tell the difference
-use Rattle.std.specs.Prelude.{◌≡◌, ℤ, pos, ◌<ℤ◌, ◌≤ℤ◌, List, true, false}
+use Rattle.std.specs.Prelude.{◌≡◌, ℤ, pos, ◌<ℤ◌, ◌≤ℤ◌, List, false}
 use Rattle.std.specs.List.{AllByRecursion}
 use Rattle.ember_model.specs.declared.point.Spot.{Spot}
 use Rattle.ember_model.specs.declared.point.Axis.{Axis}

@@ -1,0 +1,3 @@
+pub mod ReferenceSigns
+pub mod ReferenceLegs
+pub mod Carried

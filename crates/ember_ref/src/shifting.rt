@@ -7,7 +7,7 @@ ghost use Rattle.ember_model.specs.Points.{DifferAlong};
 ghost use Rattle.ember_model.specs.Faces.{face_of, leg};
 ghost use Rattle.ember_model.specs.Meshes.{HasMesh};
 ghost use Rattle.ember_law.specs.Counts.{HasRoom};
-ghost use Rattle.ember_ref.specs.References.{corner_of, reference_at, carried};
+ghost use Rattle.ember_ref.specs.References.{corner_of, reference_of, IsBoxCorner, carried};
 
 use crate::signs::{is_behind, lex_side};
 use ember_algebra::Sign;
@@ -37,10 +37,10 @@ fn passage(start: Sign, end: Sign) -> i32
 // least corners, with the inside of the triangle's face.
 fn leg_between(t: &Tri, p: [i32; 3], q: [i32; 3], k: Axis) -> i32
     requires tri { IsValidTri t.now }
-    requires from { All (Small 2048) p }
-    requires to { All (Small 2048) q }
-    requires line { DifferAlong k (reference_at (corner_of p)) (reference_at (corner_of q)) }
-    ensures value { result ≡ leg (face_of t.now) (reference_at (corner_of p)) (reference_at (corner_of q)) }
+    requires from { IsBoxCorner (corner_of p) }
+    requires to { IsBoxCorner (corner_of q) }
+    requires line { DifferAlong k (reference_of p) (reference_of q) }
+    ensures value { result ≡ leg (face_of t.now) (reference_of p) (reference_of q) }
     ensures small { Small 1 result }
 {
     let n = support_of(t);
@@ -50,6 +50,13 @@ fn leg_between(t: &Tri, p: [i32; 3], q: [i32; 3], k: Axis) -> i32
     } else {
         0
     }
+}
+
+fn least_corner(c: &Cell) -> [i32; 3]
+    ensures value { corner_of result ≡ c.now.lo }
+    ensures sized { IsBoxCorner (corner_of result) }
+{
+    [c.low(Axis::X), c.low(Axis::Y), c.low(Axis::Z)]
 }
 
 /// Carries the winding numbers from the reference point of a box to that of its right half along
@@ -64,8 +71,8 @@ pub fn shift(near: &[Tri], c: &Cell, k: Axis, v: &mut Vector)
     ensures value { v.new.counts ≡ carried near.now c.now k v.old.counts }
     ensures within { (m : ℕ) → All (Small m) v.old.counts → All (Small (m + length near.now)) v.new.counts }
 {
-    let start = c.lo();
-    let end = halves(c, k).1.lo();
+    let start = least_corner(c);
+    let end = least_corner(&halves(c, k).1);
     for t in near {
         add_to(v, t.mesh, leg_between(t, end, start, k));
     }

@@ -1,11 +1,12 @@
 // Signs of planes at reference points.
-ghost use Rattle.std.specs.Prelude.{◌≡◌, ◌^◌, pos, All};
+ghost use Rattle.std.specs.Prelude.{◌≡◌, ◌^◌, ◌<◌};
 ghost use Rattle.ember_algebra.specs.Size.{Small};
 ghost use Rattle.ember_algebra.specs.Sign.{sgn, is_negative};
 ghost use Rattle.ember_model.specs.Valid.{IsValidPlane, IsValidTri};
 ghost use Rattle.ember_model.specs.Planes.{value_at, edge_planes};
 ghost use Rattle.ember_model.specs.ClearTest.{all_negative};
-ghost use Rattle.ember_ref.specs.References.{corner_of, spot_of, reference_at, or_sign};
+ghost use Rattle.ember_box.specs.Near.{place};
+ghost use Rattle.ember_ref.specs.References.{corner_of, reference_of, or_sign, IsBoxCorner, IsLevel};
 
 use ember_algebra::{Sign, sign_of};
 use ember_model::{Axis, Plane, Tri, edge_plane};
@@ -22,8 +23,8 @@ fn or_sign(first: Sign, second: Sign) -> Sign
 
 fn value_at_corner(p: &Plane, at: [i32; 3]) -> i64
     requires plane { IsValidPlane p.now }
-    requires corner { All (Small 2048) at }
-    ensures value { result ≡ value_at p.now (spot_of (corner_of at)) }
+    requires corner { IsBoxCorner (corner_of at) }
+    ensures value { result ≡ value_at p.now (place (corner_of at)) }
     ensures small { Small (2 ^ 40) result }
 {
     let [x, y, z] = at;
@@ -35,9 +36,9 @@ fn value_at_corner(p: &Plane, at: [i32; 3]) -> i64
 /// entries of its normal that isn't 0 decides.
 pub fn lex_side(p: &Plane, lo: [i32; 3]) -> Sign
     requires plane { IsValidPlane p.now }
-    requires corner { All (Small 2048) lo }
-    ensures value { result ≡ sgn (value_at p.now (reference_at (corner_of lo))) }
-    ensures normal { result ≡ Zero → (p.now.a ≡ pos 0) × (p.now.b ≡ pos 0) × (p.now.c ≡ pos 0) }
+    requires corner { IsBoxCorner (corner_of lo) }
+    ensures value { result ≡ sgn (value_at p.now (reference_of lo)) }
+    ensures normal { result ≡ Sign.Zero → IsLevel p.now }
 {
     let at = sign_of(value_at_corner(p, lo) as i128);
     let a = sign_of(p.a as i128);
@@ -48,8 +49,8 @@ pub fn lex_side(p: &Plane, lo: [i32; 3]) -> Sign
 
 fn is_below(p: &Plane, at: [i32; 3]) -> bool
     requires plane { IsValidPlane p.now }
-    requires corner { All (Small 2048) at }
-    ensures { result ≡ is_negative (value_at p.now (reference_at (corner_of at))) }
+    requires corner { IsBoxCorner (corner_of at) }
+    ensures { result ≡ is_negative (value_at p.now (reference_of at)) }
 {
     matches!(lex_side(p, at), Sign::Neg)
 }
@@ -57,8 +58,8 @@ fn is_below(p: &Plane, at: [i32; 3]) -> bool
 /// At the reference point all edge planes of the triangle along the axis are negative.
 pub fn is_behind(t: &Tri, k: Axis, at: [i32; 3]) -> bool
     requires tri { IsValidTri t.now }
-    requires corner { All (Small 2048) at }
-    ensures { result ≡ all_negative (edge_planes t.now k) (reference_at (corner_of at)) }
+    requires corner { IsBoxCorner (corner_of at) }
+    ensures { result ≡ all_negative (edge_planes t.now k) (reference_of at) }
 {
     is_below(&edge_plane(t, 0, k), at)
         && (is_below(&edge_plane(t, 1, k), at) && is_below(&edge_plane(t, 2, k), at))

@@ -1,4 +1,4 @@
-use Rattle.std.proofs.Common.{ℕ, ◌+◌, List, All, length, subst}
+use Rattle.std.proofs.Common.{◌+◌, List, All, length, subst}
 use Rattle.ember_algebra.specs.Size.{Small}
 use Rattle.ember_model.specs.declared.tri.Tri.{Tri}
 use Rattle.ember_law.proofs.Vectors.{legs_law}
