@@ -11,7 +11,7 @@ use Rattle.ember_poly.proofs.Chains.{each_both, each-back, each-front, chain_end
 use Rattle.ember_poly.proofs.Turns.{each-join}
 use Rattle.ember_poly.proofs.Lower.{Rooted, Outcome, head_of}
 use Rattle.ember_poly.proofs.Hull.{ring-rooted}
-use Rattle.ember_poly.proofs.Strict.{mixed2}
+use Rattle.ember_poly.specs.Spans.{mixed2}
 use Rattle.ember_poly.proofs.Inner.{scaled_under, scaled_first, flat_sum, weight_sum}
 use Rattle.ember_poly.proofs.Parted.{ring-closed}
 use Rattle.ember_poly.proofs.Dropped.{somewhere}

@@ -26,8 +26,8 @@ IsReach f p reach.Both = Cuts f p
 -- the plane cuts f, and these are the parts below it and above it
 pub record AreParts (f : Face) (p : Plane) (low high : Face) : Type 0 where
   pub cuts : Cuts f p
-  pub low : low ≡ below f p
-  pub high : high ≡ above f p
+  pub is_low : low ≡ below f p
+  pub is_high : high ≡ above f p
 
 -- the side on which all of f lies, or its two parts
 abbrev pub IsCut : Face → Plane → Cut → Type 0

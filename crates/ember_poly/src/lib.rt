@@ -10,8 +10,8 @@ mod rim;
 mod ring;
 
 pub use answers::{Cut, Reach};
-pub use cutting::cut;
-pub use meeting::meets;
+pub use cutting::{below, cut};
+pub use meeting::{meets, meets_face};
 pub use reaching::reach;
 pub use ring::{Ring, copy, corners, edges, of_tri, outline, support};
 
