@@ -5,8 +5,8 @@ ghost use Rattle.ember_expr.specs.Formula.{formula_of, IsMeshNumber};
 ghost use Rattle.ember_expr.specs.Truth.{AreCounts};
 ghost use Rattle.ember_known.specs.Masks.{is_in};
 ghost use Rattle.ember_box.specs.Near.{listed};
-ghost use Rattle.ember_step.specs.Values as values;
-ghost use Rattle.ember_step.specs.Values.{has_mesh};
+ghost use Rattle.ember_visit.specs.Values as values;
+ghost use Rattle.ember_visit.specs.Values.{has_mesh};
 
 use ember_expr::Expr;
 use ember_job::Job;

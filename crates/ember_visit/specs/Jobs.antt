@@ -1,5 +1,5 @@
 -- The jobs of a scene: the root's, and those of the halves of a job
-use Rattle.std.specs.Prelude.{◌≡◌, ℕ, ◌-◌, ◌*◌, ◌<◌, ℤ, pos, List, All, length, replicate}
+use Rattle.std.specs.Prelude.{◌≡◌, ℕ, ◌-◌, ◌*◌, ◌≤◌, ℤ, pos, List, All, replicate}
 use Rattle.ember_algebra.specs.Size.{Small}
 use Rattle.ember_model.specs.declared.tri.Tri.{Tri}
 use Rattle.ember_model.specs.declared.point.Axis.{Axis}
@@ -19,11 +19,11 @@ near_of ts j = listed ts j.list
 abbrev pub depth : Cell → ℕ
 depth c = 36 - left c
 
--- the list is that of the triangles near the box, and each halving added no more to a count than there are triangles
+-- the list is that of the triangles near the box, and no halving added more to a count than there are triangles
 pub record IsJob (ts : List Tri) (j : Job) : Type 0 where
   pub list : j.list ≡ near_places ts j.cell (places ts)
   pub counts : All (Small (262144 * depth j.cell)) j.at.counts
-  pub all_meshes : length j.at.counts ≡ 64
+  pub inside : left j.cell ≤ 36
 
 -- the root, with the triangles near it and no windings
 abbrev pub root_job : List Tri → Job

@@ -2,7 +2,7 @@
 ghost use Rattle.std.specs.Prelude.{◌≡◌, ◌<◌, ◌≤◌, length, All, IfOk};
 ghost use Rattle.ember_box.specs.Near.{listed};
 ghost use Rattle.ember_law.specs.Counts.{HasRoom};
-ghost use Rattle.ember_step.specs.Jobs.{AreHalves};
+ghost use Rattle.ember_visit.specs.Jobs.{AreHalves};
 
 use ember_box::{halves, near_list};
 use ember_job::{Job, Numbers};
