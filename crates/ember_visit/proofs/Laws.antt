@@ -18,7 +18,7 @@ use Rattle.ember_job.specs.Works.{Shape, halved, leafed, passed, IsSplit}
 use Rattle.ember_visit.specs.Jobs.{depth, near_of, IsJob, left_job, right_job, AreHalves}
 use Rattle.ember_visit.specs.Values.{unless_known, leaf_or, box_value, shape}
 use Rattle.ember_visit.proofs.Among.{few_listed}
-use Rattle.ember_visit.proofs.Axes.{axis_may_halve}
+use Rattle.ember_box.proofs.Halvable.{halvable_unless_leaf}
 
 -- ---- the halves along any axis
 right_left : (c : Cell) (k : Axis) → left (right_half c k) ≡ left (left_half c k)
@@ -61,14 +61,14 @@ module _ (ts : List Tri) (f : Formula) (j low high : Job) where
   pub halves_are_jobs : length ts ≤ 262144 → IsJob ts j → shape ts f j ≡ halved low high → IsJob ts low × IsJob ts high
   halves_are_jobs few h e =
       let i = into e in
-      let may = axis_may_halve (near_of ts j) j.cell i.not_leaf in
+      let may = halvable_unless_leaf (near_of ts j) j.cell i.not_leaf in
       (subst (IsJob ts) i.is_low (left_is_job ts few j h axis may), subst (IsJob ts) i.is_high (right_is_job ts few j h axis may))
 
   pub halves_are_split : shape ts f j ≡ halved low high → IsSplit j.cell low.cell high.cell
   halves_are_split e =
       let i = into e in record {
         axis = axis;
-        may_halve = axis_may_halve (near_of ts j) j.cell i.not_leaf;
+        may_halve = halvable_unless_leaf (near_of ts j) j.cell i.not_leaf;
         is_low = ap (λ (x : Job). x.cell) (sym i.is_low);
         is_high = ap (λ (x : Job). x.cell) (sym i.is_high);
       }
