@@ -1,5 +1,5 @@
 -- Lists of places, and the triangles that they list.
-use Rattle.std.proofs.Common.{◌≡◌, ℕ, zero, suc, ◌+◌, ◌*◌, ◌-◌, ◌<◌, ◌≤◌, ◌==◌, ◌||◌, Bool, true, false, List, [], ◌∷◌, map, filter, length, get_or, All, cond, refl, sym, ap, ◌∙◌, subst, arith}
+use Rattle.std.proofs.Common.{◌≡◌, ℕ, zero, suc, ◌+◌, ◌*◌, ◌-◌, ◌<◌, ◌≤◌, ◌==◌, ◌||◌, Bool, true, false, List, [], ◌∷◌, ◌++◌, map, filter, length, get_or, All, cond, refl, sym, ap, ◌∙◌, subst, arith}
 use Rattle.std.specs.List.{range_with_len}
 use Rattle.std.proofs.lemmas.List.{length-map}
 use Rattle.std.proofs.lemmas.List.Elements.{All-get_or, All-weaker, All-cons, All-map}
@@ -48,3 +48,10 @@ pub moved_in : (now before rest all : Bool) → (before || (now || rest)) ≡ al
 moved_in true true rest all e = e
 moved_in true false rest all e = e
 moved_in false before rest all e = e
+
+-- one number more
+pub range_more : (n : ℕ) → range_with_len 0 (n + 1) ≡ range_with_len 0 n ++ n ∷ []
+range_more n = let e : n + 1 ≡ suc n = omega arith in ap (range_with_len 0) e ∙ from 0 n n (omega arith) where
+  from : (a k m : ℕ) → a + k ≡ m → range_with_len a (suc k) ≡ range_with_len a k ++ m ∷ []
+  from a zero m e = ap (λ b. b ∷ []) (let f : a ≡ m = omega (arith, e) in f)
+  from a (suc k) m e = ap (λ xs. a ∷ xs) (from (a + 1) k m (omega (arith, e)))

@@ -1,12 +1,12 @@
 -- The halves of a job are jobs, and its box is halved in two.
-use Rattle.std.proofs.Common.{◌≡◌, ℕ, ◌+◌, ◌*◌, ◌-◌, ◌<◌, ◌≤◌, Bool, true, false, Option, Some, None, List, All, length, refl, sym, ap, ◌∙◌, subst, arith}
+use Rattle.std.proofs.Common.{◌≡◌, ℕ, ◌+◌, ◌*◌, ◌-◌, ◌<◌, ◌≤◌, pos, Bool, true, false, Option, Some, None, List, All, length, refl, sym, ap, ◌∙◌, subst, arith}
 use Rattle.std.proofs.lemmas.List.{length-map}
-use Rattle.std.proofs.lemmas.List.Elements.{All-weaker}
+use Rattle.std.proofs.lemmas.List.Elements.{All-weaker, All-replicate}
 use Rattle.ember_algebra.specs.Size.{Small}
 use Rattle.ember_model.specs.declared.tri.Tri.{Tri}
 use Rattle.ember_model.specs.declared.point.Axis.{Axis}
 use Rattle.ember_expr.specs.Formula.{Formula}
-use Rattle.ember_box.specs.Boxes.{Cell, left, left_half, right_half}
+use Rattle.ember_box.specs.Boxes.{Cell, root, left, left_half, right_half}
 use Rattle.ember_box.specs.Near.{tri_at, near_places, places}
 use Rattle.ember_box.specs.Halving.{is_leaf, halving_axis}
 use Rattle.ember_box.proofs.Splits.{left_less}
@@ -15,7 +15,7 @@ use Rattle.ember_ref.specs.References.{carried}
 use Rattle.ember_ref.proofs.Carried.{carried_within}
 use Rattle.ember_job.specs.declared.job.Job.{Job}
 use Rattle.ember_job.specs.Works.{Shape, halved, leafed, passed, IsSplit}
-use Rattle.ember_visit.specs.Jobs.{depth, near_of, IsJob, left_job, right_job, AreHalves}
+use Rattle.ember_visit.specs.Jobs.{depth, near_of, IsJob, root_job, left_job, right_job, AreHalves}
 use Rattle.ember_visit.specs.Values.{unless_known, leaf_or, box_value, shape}
 use Rattle.ember_visit.proofs.Among.{few_listed}
 use Rattle.ember_box.proofs.Halvable.{halvable_unless_leaf}
@@ -38,6 +38,14 @@ module _ (ts : List Tri) (few : length ts ≤ 262144) (j : Job) (h : IsJob ts j)
     counts = All-weaker (Small (262144 * depth j.cell + length (near_of ts j))) (Small (262144 * depth (right_half j.cell k))) (λ z s. record { small = omega (arith, s.small, left_less j.cell k may, right_left j.cell k, h.inside, few_listed ts j h few, length-map j.list (λ i. tri_at ts i)) }) (carried (near_of ts j) j.cell k j.at.counts) (carried_within (near_of ts j) j.cell k (262144 * depth j.cell) j.at.counts h.counts);
     inside = omega (arith, h.inside, left_less j.cell k may, right_left j.cell k);
   }
+
+-- ---- the root
+pub root_is_job : (ts : List Tri) → IsJob ts (root_job ts)
+root_is_job ts = record {
+  list = refl;
+  counts = All-replicate (Small (262144 * depth root)) 64 (pos 0) (record { small = omega arith });
+  inside = omega arith;
+}
 
 -- ---- the halves of a job that is halved
 record HalvedInto (leaf : Bool) (x y low high : Job) : Type 0 where

@@ -3,11 +3,11 @@
 #![tactic(auto)]
 
 mod halving;
+mod law;
 mod start;
-#[cfg(test)]
-mod tests;
 mod value;
 
 pub use halving::{halve_job, tris_at};
+pub use law::halves_of_a_job_are_jobs;
 pub use start::root_job;
 pub use value::box_value;
