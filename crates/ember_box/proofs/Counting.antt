@@ -1,5 +1,5 @@
 -- Triangles near a box and its halves, counted one triangle after another.
-use Rattle.std.proofs.Common.{◌≡◌, ℕ, zero, suc, ◌+◌, ◌*◌, ◌<◌, ◌≤◌, refl, sym, ap, ◌∙◌, subst, arith, Bool, true, false, not, ◌&&◌, ◌||◌, if◌then◌else◌, nat_lt, nat_le, List, [], ◌∷◌, filter, map, length, take, get_or, slice_index_or, None, Some, Option}
+use Rattle.std.proofs.Common.{◌≡◌, ℕ, ◌+◌, ◌*◌, ◌<◌, ◌≤◌, refl, sym, ap, ◌∙◌, subst, arith, Bool, true, false, not, ◌&&◌, ◌||◌, if◌then◌else◌, nat_lt, nat_le, List, length, take, get_or, None, Some, Option}
 use Rattle.std.proofs.lemmas.List.{length-take, take_all}
 use Rattle.std.proofs.lemmas.List.Filters.{length-filter_more}
 use Rattle.std.proofs.lemmas.List.Sums.{length-filter, count_by-le-length}
@@ -14,8 +14,8 @@ use Rattle.ember_box.specs.declared.sums.Sight.{Sight}
 use Rattle.ember_box.specs.declared.sums.Halves.{Halves}
 use Rattle.ember_box.specs.declared.sums.Sums.{Sums}
 use Rattle.ember_box.specs.Boxes.{Cell, left_half, right_half}
-use Rattle.ember_box.specs.Near.{is_near, near, no_tri, tri_at, listed}
-use Rattle.ember_box.specs.Spans.{spans_of, bounding, overlap, within, crosses}
+use Rattle.ember_box.specs.Near.{is_near, near, no_tri}
+use Rattle.ember_box.specs.Spans.{spans_of, bounding, overlap, crosses}
 use Rattle.ember_box.specs.Halving.{half_sum, is_no_better, halving_axis, spreads, is_leaf}
 use Rattle.ember_box.specs.Sums.{number, IsPlaneOf, IsSight, may_cross, sees, AreHalves, halves_seen, IsSumOf, AreSums}
 use Rattle.ember_box.proofs.Orders.{and_implied}

@@ -4,3 +4,4 @@ pub mod Crossing
 pub mod Nearby
 pub mod Counting
 pub mod Lists
+pub mod Halvable

@@ -1,6 +1,6 @@
 -- Near triangles by what they and boxes span: a triangle that has a corner in a box is near it, and
 -- one that is near a half is near the whole.
-use Rattle.std.proofs.Common.{◌≡◌, ◌⊎◌, ⊎_elim, inl, inr, ℕ, zero, suc, pred, ◌+◌, ◌*◌, ◌^◌, ◌<◌, refl, sym, ap, ◌∙◌, arith, Bool, true, false, ◌&&◌, ◌||◌, ℤ, pos, ◌+ℤ◌, ◌-ℤ◌, ◌*ℤ◌, neg_ℤ, ◌≤ℤ◌, int_le, List, [], ◌∷◌, filter, map, length}
+use Rattle.std.proofs.Common.{◌≡◌, ⊎_elim, ℕ, zero, suc, pred, ◌^◌, ◌<◌, refl, sym, ◌∙◌, arith, true, ◌&&◌, ◌||◌, ℤ, pos, ◌+ℤ◌, ◌*ℤ◌, ◌≤ℤ◌, int_le}
 use Rattle.std.specs.Int.{int_min, int_max}
 use Rattle.std.proofs.Math.Nat.{pow-succ'}
 use Rattle.std.proofs.lemmas.Int.{clamps}
@@ -9,7 +9,6 @@ use borrow.Author.Differences.{ints}
 use Rattle.ember_algebra.proofs.Laws.{linear}
 use Rattle.ember_algebra.proofs.Ring.{◌⊕◌, ◌⊖◌, ◌⊗◌, ◌≈◌, solve, cancels}
 use Rattle.ember_model.specs.declared.tri.Tri.{Tri}
-use Rattle.ember_model.specs.declared.plane.Plane.{Plane}
 use Rattle.ember_model.specs.declared.point.Corner.{Corner}
 use Rattle.ember_model.specs.declared.point.Axis.{Axis}
 use Rattle.ember_model.specs.declared.point.Axis.TheVariants.{X, Y, Z}
@@ -18,9 +17,9 @@ use Rattle.ember_model.specs.Valid.{IsValidCorner, IsValidTri}
 use Rattle.ember_box.specs.declared.spans.Span.{Span}
 use Rattle.ember_box.specs.declared.spans.Spans.{Spans}
 use Rattle.ember_box.specs.Boxes.{Cell, along, low, high, left_half, right_half, root}
-use Rattle.ember_box.specs.Near.{spans_meet, is_near, near}
+use Rattle.ember_box.specs.Near.{spans_meet, is_near}
 use Rattle.ember_box.specs.Spans.{spans_of, span_over, bounding, reaches, overlap, covers, within, has, holds, crosses}
-use Rattle.ember_box.proofs.Orders.{le_in, le_out, same_test, and_assoc, one_of_three, least_of, greatest_of, reaches_is, All3, all3, from3}
+use Rattle.ember_box.proofs.Orders.{le_in, le_out, and_assoc, one_of_three, least_of, greatest_of, reaches_is, All3, all3, from3}
 use Rattle.ember_box.proofs.Crossing.{IsBetween, IsIn, IsWithin, crosses_at, crosses_is, crosses_more}
 
 pub near_is : (c : Cell) (t : Tri) → is_near c t ≡ overlap (bounding t) (spans_of c) && crosses (support_of t) (spans_of c)

@@ -1,7 +1,8 @@
 // Along which axis a box is halved, and where halving ends.
-ghost use Rattle.std.specs.Prelude.{◌≡◌, ◌+◌, ◌*◌, ◌<◌, ◌≤◌, ◌&&◌, ◌||◌, not, nat_le, nat_lt, length, All, List, None, Some, if◌then◌else◌};
+ghost use Rattle.std.specs.Prelude.{◌≡◌, ◌+◌, ◌*◌, ◌<◌, ◌≤◌, ◌&&◌, ◌||◌, not, nat_le, nat_lt, length, All, List, None, Some, IfSome, if◌then◌else◌};
 ghost use Rattle.ember_model.specs.Valid.{IsValidTri};
 ghost use Rattle.ember_model.specs.declared.tri.Tri.{Tri};
+ghost use Rattle.ember_model.specs.declared.point.Axis.{Axis};
 ghost use Rattle.ember_model.specs.declared.point.Axis.TheVariants.{X, Y, Z};
 ghost use Rattle.ember_box.specs.Spans.{bounding, AreSpansSized};
 ghost use Rattle.ember_box.specs.Near.{listed};
@@ -215,9 +216,11 @@ fn is_leaf_by(c: &Cell, sums: &Sums) -> bool
 /// The axis along which the box is halved: the one with the least sum, the first of them in a tie,
 /// of those along which the side is above 1. The sum of an axis is the number of listed triangles
 /// near the lower half plus the number near the upper half. Some side is above 1.
+#[tactic(auto, using(crate::proofs::Halvable::halvable_along))]
 pub fn split_axis(s: &Scene, list: &[u32], c: &Cell) -> Axis
     requires { All (λ i. i < length s.now.tris) list.now }
-    ensures { result ≡ halvings.halving_axis (listed s.now.tris list.now) c.now }
+    ensures axis { result ≡ halvings.halving_axis (listed s.now.tris list.now) c.now }
+    ensures halvable { (k : Axis) → 0 < c.now.log k → 0 < c.now.log result }
 {
     least_axis(c, &half_sums(s.tris.items(), list, c))
 }
@@ -234,16 +237,19 @@ pub fn is_leaf(s: &Scene, list: &[u32], c: &Cell) -> bool
 /// None where the box is a leaf, and else the axis along which it is halved.
 pub fn halving(s: &Scene, list: &[u32], c: &Cell) -> Option<Axis>
     requires { All (λ i. i < length s.now.tris) list.now }
-    ensures { result ≡ (if halvings.is_leaf (listed s.now.tris list.now) c.now then None else Some (halvings.halving_axis (listed s.now.tris list.now) c.now)) }
+    ensures answer { result ≡ (if halvings.is_leaf (listed s.now.tris list.now) c.now then None else Some (halvings.halving_axis (listed s.now.tris list.now) c.now)) }
+    ensures halvable { IfSome result (λ k. 0 < c.now.log k) }
 {
     halving_of(s.tris.items(), list, c)
 }
 
 /// The same by the triangles.
+#[tactic(auto, using(crate::proofs::Halvable::halvable_unless_leaf))]
 pub fn halving_of(tris: &[Tri], list: &[u32], c: &Cell) -> Option<Axis>
     requires valid { All IsValidTri tris.now }
     requires places { All (λ i. i < length tris.now) list.now }
-    ensures { result ≡ (if halvings.is_leaf (listed tris.now list.now) c.now then None else Some (halvings.halving_axis (listed tris.now list.now) c.now)) }
+    ensures answer { result ≡ (if halvings.is_leaf (listed tris.now list.now) c.now then None else Some (halvings.halving_axis (listed tris.now list.now) c.now)) }
+    ensures halvable { IfSome result (λ k. 0 < c.now.log k) }
 {
     if is_few(list.len() as u64) {
         return None;

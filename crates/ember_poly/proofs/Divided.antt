@@ -64,14 +64,15 @@ take_front xs ys k e = ap (λ j. take j (xs ++ ys)) e ∙ by xs ys
     by [] ys = refl
     by (x ∷ xs) ys = ap (λ zs. x ∷ zs) (by xs ys)
 
-pub part_sides : (n p : Plane) (xs : List Side) (at : Passage) (q : IsPassage n p xs at) (b : ℕ) {s t u v : List Side} → s ≡ drop at.first xs ++ take at.first xs → t ≡ take (at.kept + 1) s → u ≡ starting (spot_of at.entry) t → v ≡ u ++ closing p (spot_of at.exit) b ∷ [] → v ≡ entered q.head (spot_of at.entry) ∷ (q.front ++ q.last ∷ []) ++ closing p (spot_of at.exit) b ∷ []
-part_sides n p xs at q b {s} {t} {u} {v} es et eu ev =
+-- the kept sides
+pub kept_sides : (n p : Plane) (xs : List Side) (at : Passage) (q : IsPassage n p xs at) {s t : List Side} → s ≡ drop at.first xs ++ take at.first xs → t ≡ take (at.kept + 1) s → t ≡ q.head ∷ (q.front ++ q.last ∷ [])
+kept_sides n p xs at q {s} {t} es et =
     let whole : s ≡ (q.head ∷ (q.front ++ q.last ∷ [])) ++ q.others = es ∙ q.turned in
-    let kept : t ≡ q.head ∷ (q.front ++ q.last ∷ []) = et ∙ ap (λ zs. take (at.kept + 1) zs) whole ∙ take_front (q.head ∷ (q.front ++ q.last ∷ [])) q.others (at.kept + 1) (count (length q.front) q.count) in
-    ev ∙ ap (λ zs. zs ++ closing p (spot_of at.exit) b ∷ []) (eu ∙ ap (λ zs. starting (spot_of at.entry) zs) kept)
-  where
-    count : (k : ℕ) → at.kept ≡ suc k → at.kept + 1 ≡ suc (length (q.front ++ q.last ∷ []))
-    count k e = omega (arith, q.count, length_push q.front q.last)
+    et ∙ ap (λ zs. take (at.kept + 1) zs) whole ∙ take_front (q.head ∷ (q.front ++ q.last ∷ [])) q.others (at.kept + 1) (omega (arith, q.count, length_push q.front q.last))
+
+pub part_sides : (n p : Plane) (xs : List Side) (at : Passage) (q : IsPassage n p xs at) (b : ℕ) {s t u v : List Side} → s ≡ drop at.first xs ++ take at.first xs → t ≡ take (at.kept + 1) s → u ≡ starting (spot_of at.entry) t → v ≡ u ++ closing p (spot_of at.exit) b ∷ [] → v ≡ entered q.head (spot_of at.entry) ∷ (q.front ++ q.last ∷ []) ++ closing p (spot_of at.exit) b ∷ []
+part_sides n p xs at q b es et eu ev =
+    ev ∙ ap (λ zs. zs ++ closing p (spot_of at.exit) b ∷ []) (eu ∙ ap (λ zs. starting (spot_of at.entry) zs) (kept_sides n p xs at q es et))
 
 pub some_edges : (es : List Plane) (ms : List Meet) (bs : List ℕ) (s : Side) (xs : List Side) → sides_of es ms bs ≡ s ∷ xs → 0 < length es
 some_edges [] ms bs s xs e = cc

@@ -165,6 +165,10 @@ module _ (n p : Plane) (gs : List Plane) (xs : List Side) (s : Stands n gs xs) w
       let u = some_below n p xs s.sound a in let o = some_above n p xs s.sound b in
       record { low = record { at = u.point; inside = seen_inside u.point u.inside; holds = negative_in u.holds.under }; high = record { at = o.point; inside = seen_inside o.point o.inside; holds = positive_in o.holds.over } }
 
+pub cuts_opposite : (f : Face) (p : Plane) → Cuts f p → Cuts f (opposite p)
+cuts_opposite f p c =
+    record { low = record { at = c.high.at; inside = c.high.inside; holds = negative_in (over_opposite p c.high.at (record { over = positive_out (value_at p c.high.at) c.high.holds })).under }; high = record { at = c.low.at; inside = c.low.inside; holds = positive_in (under_opposite p c.low.at (record { under = negative_out (value_at p c.low.at) c.low.holds })).over } }
+
 pub reach_is : (n p : Plane) (gs es : List Plane) (ms : List Meet) (bs : List ℕ) (r : Reach) → length ms ≡ length es → length bs ≡ length es → Stands n gs (sides_of es ms bs) → AreSigns p ms r → IsReach (record { support = n; edges = gs }) p r
 reach_is n p gs es ms bs Below em eb s q =
     let xs = sides_of es ms bs in
