@@ -5,7 +5,7 @@ ghost use Rattle.ember_model.specs.Valid.{IsValidTri, IsValidSpot};
 ghost use Rattle.ember_model.specs.Points.{DifferAlong};
 ghost use Rattle.ember_model.specs.Meshes.{HasMesh, vector};
 ghost use Rattle.ember_law.specs.Counts.{added, with_more, leg_vector, HasRoom};
-ghost use Rattle.ember_law.specs.Laws.{AxesAgree, LegsTell};
+ghost use Rattle.ember_law.specs.Laws.{AxesAgree, LegsTell, SegmentsKeep};
 
 use ember_model::{Axis, Scene, Spot, Tri, Vector, crossing, leg};
 
@@ -75,6 +75,7 @@ pub fn leg_count(s: &Scene, p: &Spot, q: &Spot, a: Axis, v: &mut Vector)
     ensures value { v.new.counts ≡ added v.old.counts (leg_vector s.now.tris p.now q.now) }
     ensures within { (m : ℕ) → All (Small m) v.old.counts → All (Small (m + length s.now.tris)) v.new.counts }
     ensures law { LegsTell s.now.tris }
+    ensures segments { SegmentsKeep s.now.tris }
 {
     count_legs(s.tris.items(), p, q, a, v);
 }

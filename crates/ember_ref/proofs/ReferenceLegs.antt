@@ -12,35 +12,35 @@ use Rattle.ember_model.specs.declared.point.Axis.TheVariants.{X, Y, Z}
 use Rattle.ember_model.specs.declared.plane.Plane.{Plane}
 use Rattle.ember_model.specs.declared.tri.Tri.{Tri}
 use Rattle.ember_model.specs.Planes.{value_at, support_of, edge_planes}
-use Rattle.ember_model.specs.Points.{DifferAlong}
+use Rattle.ember_model.specs.Points.{shifted, DifferAlong}
 use Rattle.ember_model.specs.Faces.{face_of, leg}
 use Rattle.ember_model.specs.ClearTest.{all_negative}
 use Rattle.ember_model.proofs.PlaneValues.{sign-number}
 use Rattle.ember_model.proofs.LegSigns.{leg_is}
 use Rattle.ember_box.specs.Boxes.{Cell, shifted_by, right_half}
+use Rattle.ember_box.specs.Near.{place}
 use Rattle.ember_box.specs.Reference.{reference_at, reference}
 use Rattle.ember_ref.specs.References.{corner_of, reference_of}
 
 -- ---- reference points
-weight_near : (m : ℤ) (v : Vector) → pos 0 <ℤ m → pos 0 <ℤ (reference_at m v).w
+weight_near : (m : ℤ) (v : Vector) → pos 0 <ℤ m → pos 0 <ℤ (shifted (place v) m).w
 weight_near m v l = pos_mul (pos_mul (pos_mul l l) l) (omega (arith, linear))
 
 pub weight_of : (lo : List ℤ) → pos 0 <ℤ (reference_of lo).w
 unfolding reference_of
 weight_of lo = weight_near (pos (2 ^ 27)) (corner_of lo) (omega (arith, ints))
 
-differ_along : (m : ℤ) (k : Axis) (by : ℤ) (v : Vector) → DifferAlong k (reference_at m (shifted_by k by v)) (reference_at m v)
+differ_along : (m : ℤ) (k : Axis) (by : ℤ) (v : Vector) → DifferAlong k (shifted (place (shifted_by k by v)) m) (shifted (place v) m)
 differ_along m X by v = (refl, refl)
 differ_along m Y by v = (refl, refl)
 differ_along m Z by v = (refl, refl)
 
 pub reference_is : (lo : List ℤ) (c : Cell) → corner_of lo ≡ c.lo → reference_of lo ≡ reference c
-unfolding reference_of reference
-reference_is lo c e = ap (λ (v : Vector). reference_at (pos (2 ^ 27)) v) e
+unfolding reference_of
+reference_is lo c e = ap reference_at e
 
 -- the reference points of a box and its right half
 pub halves_differ : (c : Cell) (k : Axis) → DifferAlong k (reference (right_half c k)) (reference c)
-unfolding reference
 halves_differ c k = differ_along (pos (2 ^ 27)) k (pos (2 ^ pred (c.log k))) c.lo
 
 -- ---- the crossing

@@ -1,5 +1,5 @@
 -- Reference points given by a box's least corner, and the winding numbers carried to that of a half
-use Rattle.std.specs.Prelude.{◌≡◌, ◌^◌, ℤ, pos, List, slice_index_or}
+use Rattle.std.specs.Prelude.{◌≡◌, ℤ, pos, List, slice_index_or}
 use Rattle.ember_algebra.specs.Vector.{Vector}
 use Rattle.ember_algebra.specs.Size.{Small}
 use Rattle.ember_algebra.specs.declared.Sign.{Sign}
@@ -24,7 +24,7 @@ pub record IsBoxCorner (v : Vector) : Type 0 where
 
 -- the reference point of a box with this least corner
 unfoldable pub reference_of : List ℤ → Spot
-reference_of lo = reference_at (pos (2 ^ 27)) (corner_of lo)
+reference_of lo = reference_at (corner_of lo)
 
 -- the first of two signs that isn't zero
 abbrev pub or_sign : Sign → Sign → Sign
