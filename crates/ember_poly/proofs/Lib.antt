@@ -28,3 +28,5 @@ pub mod Seen
 pub mod Aged
 pub mod Passed
 pub mod Divided
+pub mod Spanned
+pub mod Chorded

@@ -93,6 +93,12 @@ leaves_by p f ks (d ∷ []) u h n =
     (h, by_lt_z (pos 0) (value_at p f.corner) (λ l. inl (record { over = l })) (λ l. by_lt_z (pos 0) (value_at p d.corner) (λ k. inr (inl (record { over = k }))) (λ k. absurd (n (record { at_most = l }, each-join (λ s. AtMost p s.corner) ks (d ∷ []) (each_map (λ s. Under p s.corner) (λ s. AtMost p s.corner) ks (λ s q. weak q) u) (record { at_most = k }, tt))))))
 leaves_by p f ks (d ∷ e ∷ ds) u h n = (h, inr (inr tt))
 
+-- the planes at the two ends of the chord meet in one point
+pub turns_of : (n p : Plane) (f l : Side) (ks ds : List Side) → Sound n (f ∷ (ks ++ l ∷ []) ++ ds) → AllByRecursion (λ s. Under p s.corner) (ks ++ l ∷ []) → AtLeast p f.corner → Leaves p f ds → (pos 0 <ℤ turn n l.plane p) × (pos 0 <ℤ turn n p f.plane)
+turns_of n p f l ks [] s u a q =
+    turns_all n p f l ks q.over (subst (λ zs. Sound n (f ∷ zs)) (append-nil (ks ++ l ∷ [])) s) u
+turns_of n p f l ks (d ∷ ds) s u a q = turns_some n p f l d ds ks a.at_least q.0.at_least s u
+
 module _ (n p : Plane) (es : List Plane) (ms : List Meet) (bs : List ℕ) (k c r : ℕ) (em : length ms ≡ length es) (eb : length bs ≡ length es) (within : k < length ms) (enters : Enters p (drop k ms ++ take k ms)) (run : IsRun p true (drop (k + 1) ms ++ take k ms) c) (sound : Sound n (sides_of es ms bs)) (straddles : Straddles p ms) where
   abbrev xs : List Side
   xs = sides_of es ms bs
@@ -172,13 +178,7 @@ module _ (n p : Plane) (es : List Plane) (ms : List Meet) (bs : List ℕ) (k c r
       subst (λ zs. Sound n zs) turned (turned_by n (take k xs) (drop k xs) (subst (λ zs. Sound n zs) (sym (take-append-drop k xs)) sound))
 
   turns : (pos 0 <ℤ turn n w.last.plane p) × (pos 0 <ℤ turn n p e.at)
-  turns = by w.behind sound' leaves
-    where
-      by : (ds : List Side) → Sound n (head ∷ (w.front ++ w.last ∷ []) ++ ds) → Leaves p head ds → (pos 0 <ℤ turn n w.last.plane p) × (pos 0 <ℤ turn n p e.at)
-      by [] s l =
-          turns_all n p head w.last w.front l.over (subst (λ zs. Sound n (head ∷ zs)) (append-nil (w.front ++ w.last ∷ [])) s) under
-      by (d ∷ ds) s l =
-          turns_some n p head w.last d ds w.front (head_high p m.at ms' enters').at_least l.0.at_least s under
+  turns = turns_of n p head w.last w.front w.behind sound' under (head_high p m.at ms' enters') leaves
 
   module _ (in_r : r < length ms) (place : (r ≡ k + c) ⊎ (r + length ms ≡ k + c)) where
     last_plane : (d : Plane) → get_or es r d ≡ w.last.plane
