@@ -36,7 +36,7 @@ impl<'a> Work for BoolWork<'a> {
 
     ghost item = { λ w job kept. ArePlaced (near_of w.scene.now.tris job) kept };
 
-    ghost halves_valid = { λ w job low high is e. halves_are_jobs w.scene.now.tris (formula_of w.expr.now) job low high w.scene.now.kept.few is e };
+    ghost halves_valid = { λ w job low high is e. halves_are_jobs w.scene.now.tris (formula_of w.expr.now) job low high w.scene.now.meshes w.scene.now.kept is e };
 
     ghost halves_split = { λ w job low high is e. halves_are_split w.scene.now.tris (formula_of w.expr.now) job low high e };
 }
