@@ -13,6 +13,7 @@ use Rattle.ember_model.specs.declared.face.Face.{Face}
 use Rattle.ember_model.specs.Planes.{value_at, along}
 use Rattle.ember_model.specs.Faces.{face_of, crossing, leg}
 use Rattle.ember_model.specs.Meshes.{faces_of, of_mesh, meshes}
+use Rattle.ember_model.proofs.PlaneSizes.{sign_small}
 use Rattle.ember_law.specs.Counts.{added}
 use Rattle.ember_law.proofs.Flats.{IsFlat}
 use Rattle.ember_law.proofs.Tallies.{tally, of_one, entry}
@@ -21,22 +22,17 @@ pub all_within : {m n : ℕ} (xs : List ℤ) → m ≤ n → All (Small m) xs �
 all_within xs l h = λ k d i. small_within l (h k d i)
 
 -- ---- one crossing
-small_sign : (z : ℤ) → Small 1 (sign z)
-small_sign (pos zero) = record { small = omega arith }
-small_sign (pos (suc n)) = record { small = omega arith }
-small_sign (negsuc n) = record { small = omega arith }
-
 small_or_none : (m : ℕ) (b : Bool) (z : ℤ) → Small m z → Small m (cond b z (pos 0))
 small_or_none m true z s = s
 small_or_none m false z s = record { small = omega arith }
 
 pub crossing_small : (f : Face) (a : Axis) (p : Spot) → Small 1 (crossing f a p)
 unfolding crossing
-crossing_small f a p = small_or_none 1 _ (sign (along f.support a)) (small_sign (along f.support a))
+crossing_small f a p = small_or_none 1 _ (sign (along f.support a)) (sign_small (along f.support a))
 
 pub leg_small : (f : Face) (p q : Spot) → Small 1 (leg f p q)
 unfolding leg
-leg_small f p q = small_or_none 1 _ (sign (value_at f.support q)) (small_sign (value_at f.support q))
+leg_small f p q = small_or_none 1 _ (sign (value_at f.support q)) (sign_small (value_at f.support q))
 
 -- ---- all of them
 added_within : (m n : ℕ) (g : ℕ → ℤ) → ((j : ℕ) → Small n (g j)) → (k a : ℕ) (xs : List ℤ) → All (Small m) xs → All (Small (m + n)) (added xs (map g (range_with_len a k)))

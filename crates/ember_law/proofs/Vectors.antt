@@ -12,6 +12,7 @@ use Rattle.ember_law.specs.Laws.{AxesAgree, LegsTell, Misses, SegmentsKeep}
 use Rattle.ember_law.proofs.Axes.{axes_agree}
 use Rattle.ember_law.proofs.Paths.{path_law}
 use Rattle.ember_law.proofs.Segments.{segment_law}
+use Rattle.ember_law.proofs.Tallies.{map_same}
 
 -- what holds of all faces holds of those of a mesh
 pub of_mesh_all : (P : Face → Type 0) (m : ℕ) (ts : List Tri) → AllByRecursion P (faces_of ts) → AllByRecursion P (faces_of (of_mesh m ts))
@@ -23,10 +24,6 @@ of_mesh_all P m (t ∷ ts) h = by (is_flat t) (nat_eq t.mesh m) refl h (of_mesh_
     by true false e h r = r h
     by false true e h r = rw e (h.0, r h.1)
     by false false e h r = r h.1
-
-pub map_same : (f g : ℕ → ℤ) → ((m : ℕ) → f m ≡ g m) → (ms : List ℕ) → map f ms ≡ map g ms
-map_same f g e [] = refl
-map_same f g e (m ∷ ms) = let x = e m in let r = map_same f g e ms in λ i. x i ∷ r i
 
 map_added : (f g h : ℕ → ℤ) → ((m : ℕ) → f m -ℤ g m ≡ h m) → (ms : List ℕ) → map f ms ≡ added (map g ms) (map h ms)
 map_added f g h e [] = refl

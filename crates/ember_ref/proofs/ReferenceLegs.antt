@@ -26,9 +26,12 @@ use Rattle.ember_ref.specs.References.{corner_of, reference_of}
 weight_near : (m : ℤ) (v : Vector) → pos 0 <ℤ m → pos 0 <ℤ (shifted (place v) m).w
 weight_near m v l = pos_mul (pos_mul (pos_mul l l) l) (omega (arith, linear))
 
+pub weight_at : (v : Vector) → pos 0 <ℤ (reference_at v).w
+weight_at v = weight_near (pos (2 ^ 27)) v (omega (arith, ints))
+
 pub weight_of : (lo : List ℤ) → pos 0 <ℤ (reference_of lo).w
 unfolding reference_of
-weight_of lo = weight_near (pos (2 ^ 27)) (corner_of lo) (omega (arith, ints))
+weight_of lo = weight_at (corner_of lo)
 
 differ_along : (m : ℤ) (k : Axis) (by : ℤ) (v : Vector) → DifferAlong k (shifted (place (shifted_by k by v)) m) (shifted (place v) m)
 differ_along m X by v = (refl, refl)

@@ -10,7 +10,7 @@ use Rattle.ember_model.specs.declared.plane.Plane.{Plane}
 use Rattle.ember_model.specs.declared.tri.Tri.{Tri}
 use Rattle.ember_law.specs.Counts.{added, leg_vector}
 use Rattle.ember_box.specs.Boxes.{Cell, right_half}
-use Rattle.ember_box.specs.Reference.{reference_at, reference}
+use Rattle.ember_box.specs.Reference.{reference_at, reference, vector_at, Fits}
 
 -- three coordinates, in the order of the axes
 abbrev pub corner_of : List ℤ → Vector
@@ -39,3 +39,7 @@ IsLevel p = (p.a ≡ pos 0) × (p.b ≡ pos 0) × (p.c ≡ pos 0)
 -- the counts at a box's reference point, with the crossings on the way back to it from that of its right half
 abbrev pub carried : List Tri → Cell → Axis → List ℤ → List ℤ
 carried near c k counts = added counts (leg_vector near (reference (right_half c k)) (reference c))
+
+-- in each scene that fits, the vector at the reference point of the right half is the new one
+abbrev pub ShiftsAll : List Tri → Cell → Axis → List ℤ → List ℤ → Type 0
+ShiftsAll near c k old new = (scene : List Tri) → Fits scene near c old → vector_at scene (right_half c k) ≡ new

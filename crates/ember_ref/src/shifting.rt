@@ -7,7 +7,7 @@ ghost use Rattle.ember_model.specs.Points.{DifferAlong};
 ghost use Rattle.ember_model.specs.Faces.{face_of, leg};
 ghost use Rattle.ember_model.specs.Meshes.{HasMesh};
 ghost use Rattle.ember_law.specs.Counts.{HasRoom};
-ghost use Rattle.ember_ref.specs.References.{corner_of, reference_of, IsBoxCorner, carried};
+ghost use Rattle.ember_ref.specs.References.{corner_of, reference_of, IsBoxCorner, carried, ShiftsAll};
 
 use crate::signs::{is_behind, lex_side};
 use ember_algebra::Sign;
@@ -69,6 +69,7 @@ pub fn shift(near: &[Tri], c: &Cell, k: Axis, v: &mut Vector)
     requires side { 0 < c.now.log k }
     requires room { HasRoom v.old.counts }
     ensures value { v.new.counts ≡ carried near.now c.now k v.old.counts }
+    ensures law { ShiftsAll near.now c.now k v.old.counts v.new.counts }
     ensures within { (m : ℕ) → All (Small m) v.old.counts → All (Small (m + length near.now)) v.new.counts }
 {
     let start = least_corner(c);

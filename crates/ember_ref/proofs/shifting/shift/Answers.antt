@@ -1,7 +1,8 @@
-use Rattle.std.proofs.Common.{◌+◌, sym, ap, subst, ◌∙◌, arith, get_or}
+use Rattle.std.proofs.Common.{List, take_all, ◌+◌, sym, ap, subst, ◌∙◌, arith, get_or}
 use mir.Syntax.{w32}
 use Rattle.ember_algebra.proofs.Exact.{input, stored, ◌&◌, done, exact}
 use Rattle.ember_model.specs.declared.point.Spot.{Spot}
+use Rattle.ember_model.specs.declared.tri.Tri.{Tri}
 use Rattle.ember_model.specs.Points.{DifferAlong}
 use Rattle.ember_model.specs.Faces.{face_of, leg}
 use Rattle.ember_law.specs.Counts.{with_more}
@@ -10,8 +11,9 @@ use Rattle.ember_law.proofs.Tallies.{no_tri, tally_more, tally_none}
 use Rattle.ember_law.proofs.Grown.{all_within}
 use Rattle.ember_box.specs.Boxes.{Cell, right_half}
 use Rattle.ember_box.specs.Reference.{reference}
-use Rattle.ember_ref.specs.References.{reference_of}
+use Rattle.ember_ref.specs.References.{reference_of, carried}
 use Rattle.ember_ref.proofs.ReferenceLegs.{reference_is, halves_differ}
+use Rattle.ember_ref.proofs.ShiftLaw.{shift_law}
 use Rattle.ember_ref.proofs.shifting.shift.Goals as goal
 
 pub loop-t-init : goal.loop-t-init
@@ -45,3 +47,8 @@ loop-t-preserved c =
 
 pub returns-clause-within : goal.returns-clause-within
 returns-clause-within c = λ m h. let e = c.loop-t-test.false in let f = c.loop-t.auto.t-index-end in all_within c.loop-t.v.counts (omega arith) (c.loop-t.invariant.within m h)
+
+pub returns-clause-law : goal.returns-clause-law
+returns-clause-law c = λ ts f.
+    let b = c.args.c.now in let k = c.args.k in let old = c.args.v.now.counts in
+    shift_law ts c.args.near.now b k old c.requires.side f ∙ sym (c.loop-t.invariant.value ∙ ap (λ (ns : List Tri). carried ns b k old) (take_all c.loop-t.t-index c.args.near.now c.loop-t-test.false))
