@@ -1,8 +1,8 @@
 -- Journals that keep the rules are a run of the core: the tree of the visited boxes with the owner of each.
-use Rattle.std.proofs.Common.{◌≡◌, ◌≢◌, ◌⊎◌, ℕ, zero, suc, ◌+◌, ◌*◌, ◌^◌, ◌<◌, ◌≤◌, List, [], ◌∷◌, ◌++◌, length, map, refl, sym, ap, ap₂, ◌∙◌, subst, inl, inr, arith}
+use Rattle.std.proofs.Common.{◌≡◌, ℕ, zero, suc, ◌+◌, ◌*◌, ◌^◌, ◌<◌, ◌≤◌, List, [], ◌∷◌, ◌++◌, length, map, refl, sym, ap, ap₂, ◌∙◌, subst, arith}
 use Rattle.std.proofs.lemmas.List.{map-append}
 use Rattle.std.proofs.lemmas.Nat.{pow_pos}
-use Rattle.steal_core.specs.Runs.{Tree, rests, halved as node, Rules, keep, halved_in, others_in, halved_by, finished_by, IsRun}
+use Rattle.steal_core.specs.Runs.{Tree, rests, halved as node, Rules, halved_in, others_in}
 use Rattle.steal_core.proofs.Journals.{is_run}
 use Rattle.ember_box.specs.Boxes.{Cell, left}
 use Rattle.ember_job.specs.Weights.{weigh, one}
@@ -12,14 +12,14 @@ use Rattle.ember_job.specs.declared.job.Entry.{Entry}
 use Rattle.ember_job.specs.declared.job.Kind.{Kind}
 use Rattle.ember_job.specs.declared.job.Kind.TheVariants.{Halved, Leafed, Passed}
 use Rattle.ember_job.specs.Works.{Shape, halved, leafed, passed, Splits}
-use Rattle.ember_job.specs.Visited.{entry, kind_of, entry_of, visited, visited_within}
-use Rattle.steal_pool.specs.Seats.{at_job, at_entry, if_halved}
+use Rattle.ember_job.specs.Visited.{kind_of, entry_of, visited}
+use Rattle.steal_pool.specs.Seats.{at_entry, if_halved}
 use Rattle.steal_pool.specs.Journals.{times, times_halved, if_halved_at, journal_of, KeepRules}
 use Rattle.steal_pool.specs.CoreRuns.{unless_halved, IsCoreRun}
 use Rattle.steal_pool.proofs.Rules.{weigh_append}
 use Rattle.steal_pool.proofs.Trees.{one_same, halved_visits, leaf_visits, passed_visits, low_less, high_less}
 use Rattle.steal_pool.proofs.Places.{base, Fits, low_base, high_base, fits_low, fits_high}
-use Rattle.steal_pool.proofs.Owned.{turn_of, turn_is, Up, up_append, up_from, once, top, owner, owner_has, some_journal, one_journal, owner_is, only, keep_weighs, by_owner, by_all, outer}
+use Rattle.steal_pool.proofs.Owned.{turn_of, turn_is, Up, up_append, up_from, once, top, owner, owner_has, some_journal, owner_is, only, keep_weighs, by_owner, outer}
 
 halved_nil : (κ : Kind) → if_halved κ 0 ≡ 0
 halved_nil Halved = refl

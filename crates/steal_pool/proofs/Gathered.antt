@@ -10,10 +10,10 @@ use Rattle.ember_job.specs.declared.job.Entry.{Entry}
 use Rattle.ember_tree.specs.declared.part.Part.{Part}
 use Rattle.steal_pool.specs.declared.rule.Hand.{Hand}
 use Rattle.steal_pool.specs.declared.seat.Seat.{Seat}
-use Rattle.steal_pool.specs.Seats.{Weight, at_job, at_entry, at_left, at_halves}
-use Rattle.steal_pool.specs.Turns.{Ready, Ended, EachEnded}
+use Rattle.steal_pool.specs.Seats.{Weight, at_job, at_entry, at_left}
+use Rattle.steal_pool.specs.Turns.{Ready, EachEnded}
 use Rattle.steal_pool.proofs.Rules.{weigh_append}
-use Rattle.steal_pool.specs.Gathers.{KeepsLeft, KeepsBoth, Begins, EachKeeps, HasLast, EachStays, Books, Gathers}
+use Rattle.steal_pool.specs.Gathers.{Begins, EachKeeps, HasLast, EachStays, Books, Gathers}
 
 pub each_stays : {P K I : Type 0} (visited : Job → Type 0) (found : Part I → Type 0) (w : Weight) (ts : List (Stealer Job Global Hand P)) (ss vs : List (Seat K I)) → All (λ s. Ready visited found ts s) ss → EachEnded found w ts ss vs → EachStays ss (map (λ (s : Seat K I). s.journal.items) vs)
 each_stays visited found w ts [] [] a e = tt

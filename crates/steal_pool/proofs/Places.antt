@@ -1,5 +1,5 @@
 -- The leaves of a tree stand in ascending places, and two visited jobs with one path are one.
-use Rattle.std.proofs.Common.{◌≡◌, ◌≢◌, ◌⊎◌, ℕ, zero, suc, pred, ◌+◌, ◌-◌, ◌*◌, ◌^◌, ◌<◌, ◌≤◌, List, [], ◌∷◌, ◌++◌, Bool, true, false, true≢false, refl, sym, ap, ap₂, ◌∙◌, subst, append_assoc, inl, inr, arith}
+use Rattle.std.proofs.Common.{◌≡◌, ℕ, zero, suc, ◌+◌, ◌-◌, ◌*◌, ◌^◌, ◌<◌, ◌≤◌, List, [], ◌∷◌, ◌++◌, refl, sym, ap, ◌∙◌, subst, append_assoc, arith}
 use Rattle.std.proofs.Math.Nat.{lt_of_mul-lt-mul_right, pow-succ'}
 use Rattle.std.proofs.lemmas.Nat.{pow-add, pow_pos}
 use Rattle.std.specs.Int.{leading_zeros, w64}
@@ -7,7 +7,7 @@ use Rattle.std.specs.Int.Count.{leading_unique}
 use Rattle.ember_box.specs.Boxes.{Cell, left, root}
 use Rattle.ember_job.specs.declared.job.Job.{Job}
 use Rattle.ember_job.specs.Works.{Shape, halved, leafed, passed, IsSplit, Splits}
-use Rattle.ember_job.specs.Visited.{IsVisited, root_visited, left_visited, right_visited, visited, visited_within, if_leafed, leaves_among, leaves}
+use Rattle.ember_job.specs.Visited.{visited, if_leafed, leaves_among}
 use Rattle.ember_tree.specs.Order.{tree_place}
 use Rattle.steal_pool.proofs.Trees.{halved_visits, leaf_visits, passed_visits, low_less, high_less}
 

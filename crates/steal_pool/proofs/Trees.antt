@@ -14,7 +14,7 @@ use Rattle.ember_job.specs.declared.job.Kind.TheVariants.{Halved, Leafed, Passed
 use Rattle.ember_job.specs.declared.job.Outcome.{Outcome}
 use Rattle.ember_job.specs.declared.job.Outcome.TheVariants.{Halves, Leaf, Skipped}
 use Rattle.ember_job.specs.Works.{Shape, halved, leafed, passed, IsSplit, Splits, Answers}
-use Rattle.ember_job.specs.Visited.{IsVisited, root_visited, left_visited, right_visited, entry, kind_of, entry_of, visited, visited_within, below_shape, if_leafed, leaves_among, leaves}
+use Rattle.ember_job.specs.Visited.{IsVisited, root_visited, left_visited, right_visited, entry, kind_of, entry_of, visited, visited_within, below_shape, if_leafed, leaves_among}
 use Rattle.ember_tree.specs.declared.part.Part.{Part}
 use Rattle.steal_pool.specs.Seats.{Told, IsPart, by_path, at_job, at_entry, at_left, at_halves, if_halved}
 use Rattle.steal_pool.specs.Gathers.{KeepsLeft, KeepsBoth, Begins, EachKeeps, Gathers}

@@ -1,0 +1,8 @@
+//! One box of a Boolean's tree: passed where the expression's value is known in it, else a leaf
+//! with its written regions, else its two halves.
+#![tactic(auto)]
+
+mod step;
+
+pub use ember_visit::{box_value, halve_job, root_job};
+pub use step::{BoolWork, box_step};
