@@ -1,0 +1,138 @@
+-- Edges that are one, how often they stand, and lists of them
+use Rattle.std.proofs.Common.{◌≡◌, ◌⊎◌, inl, inr, ℕ, ◌+◌, ◌*◌, ◌<◌, Bool, true, false, cond, ◌&&◌, List, [], ◌∷◌, ◌++◌, map, length, take, get_or, refl, sym, ap, subst, ◌∙◌, arith, eqb, ℤ, pos, ◌-ℤ◌}
+use Rattle.std.specs.List.{All, AllByRecursion}
+use Rattle.std.proofs.lemmas.List.{take_more, map-append}
+use Rattle.std.proofs.lemmas.Bool.{and_parts, and_from, eq-eqb, eqb-true, ne_eqb}
+use Rattle.std.proofs.lemmas.List.Elements.{All-head, All-tail}
+use Rattle.ember_algebra.specs.Sign.{is_zero}
+use Rattle.ember_algebra.proofs.Laws.{linear}
+use Rattle.ember_algebra.proofs.Sums.{IsEquality, occurrences-map}
+use Rattle.ember_model.specs.declared.point.Corner.{Corner}
+use Rattle.ember_model.specs.declared.tri.Tri.{Tri}
+use Rattle.ember_model.specs.Valid.{IsValidTri}
+use Rattle.ember_model.specs.Meshes.{Edge, reversed, edges_in, same_corner, same_edge, times}
+use Rattle.ember_model.proofs.SignTests.{zero_out, clash, In}
+use Rattle.ember_balance.specs.Counts.{count}
+use Rattle.ember_balance.specs.Numbers.{edge_number, IsValidEdge}
+use Rattle.ember_balance.proofs.EdgeNumbers.{same_edges}
+
+-- ---- equal edges
+same_corners_out : (u v : Corner) → same_corner u v ≡ true → u ≡ v
+same_corners_out u v e =
+    let p = and_parts (is_zero (u.x -ℤ v.x)) (is_zero (u.y -ℤ v.y) && is_zero (u.z -ℤ v.z)) e in
+    let q = and_parts (is_zero (u.y -ℤ v.y)) (is_zero (u.z -ℤ v.z)) p.1 in
+    let a = zero_out (u.x -ℤ v.x) p.0 in let b = zero_out (u.y -ℤ v.y) q.0 in let c = zero_out (u.z -ℤ v.z) q.1 in
+    let x : u.x ≡ v.x = omega (arith, linear, a) in
+    let y : u.y ≡ v.y = omega (arith, linear, b) in
+    let z : u.z ≡ v.z = omega (arith, linear, c) in
+    λ i. record { x = x i; y = y i; z = z i }
+
+no_difference : (z : ℤ) → is_zero (z -ℤ z) ≡ true
+no_difference z = let e : z -ℤ z ≡ pos 0 = omega (arith, linear) in ap is_zero e
+
+same_corner-refl : (u : Corner) → same_corner u u ≡ true
+same_corner-refl u =
+    and_from _ _ (no_difference u.x) (and_from _ _ (no_difference u.y) (no_difference u.z))
+
+same_edge_out : (e f : Edge) → same_edge e f ≡ true → e ≡ f
+same_edge_out e f h =
+    let p = and_parts (same_corner e.from f.from) (same_corner e.to f.to) h in
+    let from = same_corners_out e.from f.from p.0 in let to = same_corners_out e.to f.to p.1 in
+    λ i. record { from = from i; to = to i }
+
+same_edge-refl : (e : Edge) → same_edge e e ≡ true
+same_edge-refl e = and_from _ _ (same_corner-refl e.from) (same_corner-refl e.to)
+
+pub edges_are_equal : IsEquality Edge same_edge
+edges_are_equal = record { sound = same_edge_out; reflexive = same_edge-refl }
+
+and_swapped : (a b : Bool) → a && b ≡ b && a
+and_swapped true true = refl
+and_swapped true false = refl
+and_swapped false true = refl
+and_swapped false false = refl
+
+same_reversed : (e f : Edge) → same_edge e (reversed f) ≡ same_edge (reversed e) f
+same_reversed e f = and_swapped (same_corner e.from f.to) (same_corner e.to f.from)
+
+pub times_reversed : (e : Edge) (es : List Edge) → times e (map reversed es) ≡ times (reversed e) es
+times_reversed = occurrences-map same_edge reversed reversed same_reversed
+
+-- ---- by their numbers
+same_by_number : (e f : Edge) → IsValidEdge e → IsValidEdge f → same_edge e f ≡ eqb (edge_number e) (edge_number f)
+same_by_number e f v w = by (same_edge e f) refl
+  where
+    by : (b : Bool) → same_edge e f ≡ b → b ≡ eqb (edge_number e) (edge_number f)
+    by true h = sym (eq-eqb _ _ (ap edge_number (same_edge_out e f h)))
+    by false h =
+        sym (ne_eqb _ _ (λ n. clash (subst (λ (g : Edge). same_edge e g ≡ true) (same_edges v w n) (same_edge-refl e)) h))
+
+pub times_is_count : (e : Edge) → IsValidEdge e → (es : List Edge) → AllByRecursion IsValidEdge es → times e es ≡ count (edge_number e) (map edge_number es)
+times_is_count e v [] a = refl
+times_is_count e v (f ∷ es) a =
+    let t = times_is_count e v es a.1 in
+    let s = same_by_number e f v a.0 in
+    λ i. cond (s i) 1 0 + t i
+
+-- ---- the edges of triangles
+pub valid_edges : (ts : List Tri) → All IsValidTri ts → AllByRecursion IsValidEdge (edges_in ts)
+valid_edges [] h = tt
+valid_edges (t ∷ ts) h =
+    let v = All-head IsValidTri t ts h in
+    (record { from = v.a; to = v.b }, (record { from = v.b; to = v.c }, (record { from = v.c; to = v.a }, valid_edges ts (All-tail IsValidTri t ts h))))
+
+pub valid_reversed : (es : List Edge) → AllByRecursion IsValidEdge es → AllByRecursion IsValidEdge (map reversed es)
+valid_reversed [] a = tt
+valid_reversed (e ∷ es) a = (record { from = a.0.to; to = a.0.from }, valid_reversed es a.1)
+
+pub length-edges_in : (ts : List Tri) → length (edges_in ts) ≡ 3 * length ts
+length-edges_in [] = refl
+length-edges_in (t ∷ ts) = omega (arith, length-edges_in ts)
+
+pub edges_in-append : (ts us : List Tri) → edges_in (ts ++ us) ≡ edges_in ts ++ edges_in us
+edges_in-append [] us = refl
+edges_in-append (t ∷ ts) us = let r = edges_in-append ts us in λ i. record { from = t.a; to = t.b } ∷ record { from = t.b; to = t.c } ∷ record { from = t.c; to = t.a } ∷ r i
+
+abbrev IsLaidOut : (List Edge → List ℕ) → Type 0
+IsLaidOut f = (es gs : List Edge) → f (es ++ gs) ≡ f es ++ f gs
+
+more : (f : List Edge → List ℕ) → IsLaidOut f → (ts : List Tri) (i : ℕ) (d : Tri) (ns ms : List ℕ) → i < length ts → ns ≡ f (edges_in (take i ts)) → ms ≡ ns ++ f (edges_in (get_or ts i d ∷ [])) → ms ≡ f (edges_in (take (i + 1) ts))
+more f h ts i d ns ms l e g =
+    let t = get_or ts i d ∷ [] in
+    let laid : f (edges_in (take (i + 1) ts)) ≡ f (edges_in (take i ts)) ++ f (edges_in t) = ap (λ (us : List Tri). f (edges_in us)) (take_more ts i d l) ∙ ap f (edges_in-append (take i ts) t) ∙ h (edges_in (take i ts)) (edges_in t) in
+    g ∙ ap (λ (ks : List ℕ). ks ++ f (edges_in t)) e ∙ sym laid
+
+pub there_more : (ts : List Tri) (i : ℕ) (d : Tri) (ns ms : List ℕ) → i < length ts → ns ≡ map edge_number (edges_in (take i ts)) → ms ≡ ns ++ map edge_number (edges_in (get_or ts i d ∷ [])) → ms ≡ map edge_number (edges_in (take (i + 1) ts))
+there_more = more (map edge_number) (map-append edge_number)
+
+pub back_more : (ts : List Tri) (i : ℕ) (d : Tri) (ns ms : List ℕ) → i < length ts → ns ≡ map edge_number (map reversed (edges_in (take i ts))) → ms ≡ ns ++ map edge_number (map reversed (edges_in (get_or ts i d ∷ []))) → ms ≡ map edge_number (map reversed (edges_in (take (i + 1) ts)))
+back_more =
+    more (λ es. map edge_number (map reversed es)) (λ es gs. ap (map edge_number) (map-append reversed es gs) ∙ map-append edge_number (map reversed es) (map reversed gs))
+
+-- ---- members
+pub member_from_times : (e : Edge) (es : List Edge) → 0 < times e es → In e es
+member_from_times e [] l = absurd (omega (arith, l))
+member_from_times e (f ∷ es) l = by (same_edge e f) refl l (member_from_times e es)
+  where
+    by : (b : Bool) → same_edge e f ≡ b → 0 < cond b 1 0 + times e es → (0 < times e es → In e es) → (e ≡ f) ⊎ In e es
+    by true h l k = inl (same_edge_out e f h)
+    by false h l k = inr (k (omega (arith, l)))
+
+pub valid_member : (e : Edge) (es : List Edge) → In e es → AllByRecursion IsValidEdge es → IsValidEdge e
+valid_member e [] m a = absurd m
+valid_member e (f ∷ es) (inl p) a = subst IsValidEdge (sym p) a.0
+valid_member e (f ∷ es) (inr m) a = valid_member e es m a.1
+
+pub record Numbered (k : ℕ) (es : List Edge) : Type 0 where
+  pub edge : Edge
+  pub member : In edge es
+  pub number : edge_number edge ≡ k
+
+pub member_from_count : (k : ℕ) (es : List Edge) → 0 < count k (map edge_number es) → Numbered k es
+member_from_count k [] l = absurd (omega (arith, l))
+member_from_count k (f ∷ es) l = by (eqb k (edge_number f)) refl l (member_from_count k es)
+  where
+    by : (b : Bool) → eqb k (edge_number f) ≡ b → 0 < cond b 1 0 + count k (map edge_number es) → (0 < count k (map edge_number es) → Numbered k es) → Numbered k (f ∷ es)
+    by true h l r = record { edge = f; member = inl refl; number = sym (eqb-true k (edge_number f) h) }
+    by false h l r =
+        let n = r (omega (arith, l)) in record { edge = n.edge; member = inr n.member; number = n.number }

@@ -1,0 +1,6 @@
+pub mod Walk
+pub mod EdgeNumbers
+pub mod Edges
+pub mod Sorted
+pub mod Least
+pub mod Balanced

@@ -1,0 +1,29 @@
+-- Edges as numbers
+use Rattle.std.specs.Prelude.{ℕ, ◌+◌, ◌*◌, ◌^◌, List, map, ℤ, pos, ◌+ℤ◌, unsigned_abs}
+use Rattle.std.specs.List.Sorted.{IsPermutation, IsNonDecreasing}
+use Rattle.ember_model.specs.declared.point.Corner.{Corner}
+use Rattle.ember_model.specs.declared.tri.Tri.{Tri}
+use Rattle.ember_model.specs.Valid.{IsValidCorner}
+use Rattle.ember_model.specs.Meshes.{Edge, reversed, edges_in}
+
+-- from 0 to 4094
+abbrev pub digit : ℤ → ℕ
+digit z = unsigned_abs (z +ℤ pos 2047)
+
+-- the digits x, y and z to the base 4096
+abbrev pub corner_number : Corner → ℕ
+corner_number c = (digit c.x * 4096 + digit c.y) * 4096 + digit c.z
+
+abbrev pub edge_number : Edge → ℕ
+edge_number e = corner_number e.from * 2 ^ 36 + corner_number e.to
+
+pub record IsValidEdge (e : Edge) : Type 0 where
+  pub from : IsValidCorner e.from
+  pub to : IsValidCorner e.to
+
+-- the numbers of the edges of the triangles, and those of their reverses, each list in order
+pub record AreNumbers (ts : List Tri) (ns rs : List ℕ) : Type 0 where
+  pub there : IsPermutation (map edge_number (edges_in ts)) ns
+  pub back : IsPermutation (map edge_number (map reversed (edges_in ts))) rs
+  pub there_rises : IsNonDecreasing ns
+  pub back_rises : IsNonDecreasing rs

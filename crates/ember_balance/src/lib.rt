@@ -1,0 +1,10 @@
+//! Whether triangles are closed: no directed edge stands more often than its reverse.
+#![tactic(auto)]
+
+mod loose;
+mod numbers;
+mod surplus;
+#[cfg(test)]
+mod tests;
+
+pub use loose::{Loose, balance};

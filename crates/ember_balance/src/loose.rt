@@ -1,0 +1,113 @@
+// Edges that stand more often than their reverse.
+ghost use Rattle.std.specs.Prelude.{◌≡◌, ◌<◌, ◌≤◌, ◌^◌, [], ◌∷◌, ◌++◌, length, map, All, IfOk, OnOk, MatchOption};
+ghost use Rattle.ember_model.specs.Valid.{IsValidCorner, IsValidTri};
+ghost use Rattle.ember_model.specs.Meshes.{Edge, reversed, edges_in, IsBalanced};
+ghost use Rattle.ember_balance.specs.Counts.{count};
+ghost use Rattle.ember_balance.specs.Numbers.{edge_number, IsValidEdge, AreNumbers};
+ghost use Rattle.ember_balance.specs.Loose.{edge_of, loose_of, IsLeastLoose};
+
+use crate::numbers::{edge_number, ends_of};
+use crate::surplus::{count, first_surplus};
+use ember_model::{Corner, OutOfMemory, Tri};
+use std::alloc::Global;
+
+/// A directed edge, how often it stands `there`, and how often its reverse stands, `back`.
+#[derive(Clone, Copy, Debug, PartialEq, Eq)]
+pub struct Loose {
+    pub from: Corner,
+    pub to: Corner,
+    pub there: u32,
+    pub back: u32,
+}
+
+// The numbers of edges and of their reverses.
+#[derive(Drop)]
+struct Numbers {
+    there: Vec<u128>,
+    back: Vec<u128>,
+}
+
+impl Numbers {
+    fn push(&mut self, from: &Corner, to: &Corner) -> Result<(), OutOfMemory>
+        requires from { IsValidCorner from.now }
+        requires to { IsValidCorner to.now }
+        ensures there { OnOk result (self.new.there.items ≡ self.old.there.items ++ edge_number (record { from = from.now; to = to.now }) ∷ []) }
+        ensures back { OnOk result (self.new.back.items ≡ self.old.back.items ++ edge_number (record { from = to.now; to = from.now }) ∷ []) }
+    {
+        self.there.push(edge_number(from, to))?;
+        self.back.push(edge_number(to, from))?;
+        Ok(())
+    }
+
+    fn push_edges(&mut self, t: &Tri) -> Result<(), OutOfMemory>
+        requires { IsValidTri t.now }
+        ensures there { OnOk result (self.new.there.items ≡ self.old.there.items ++ map edge_number (edges_in (t.now ∷ []))) }
+        ensures back { OnOk result (self.new.back.items ≡ self.old.back.items ++ map edge_number (map reversed (edges_in (t.now ∷ [])))) }
+    {
+        self.push(&t.a, &t.b)?;
+        self.push(&t.b, &t.c)?;
+        self.push(&t.c, &t.a)
+    }
+}
+
+fn numbers_of(alloc: Global, tris: &[Tri]) -> Result<Numbers, OutOfMemory>
+    requires valid { All IsValidTri tris.now }
+    requires few { length tris.now ≤ 262144 }
+    ensures there { IfOk result (λ n. n.there.items ≡ map edge_number (edges_in tris.now)) }
+    ensures back { IfOk result (λ n. n.back.items ≡ map edge_number (map reversed (edges_in tris.now))) }
+{
+    let edges = 3 * tris.len();
+    let mut numbers = Numbers {
+        there: Vec::with_capacity(alloc, edges)?,
+        back: Vec::with_capacity(alloc, edges)?,
+    };
+    for t in tris {
+        numbers.push_edges(t)?;
+    }
+    Ok(numbers)
+}
+
+fn sorted_numbers(alloc: Global, tris: &[Tri]) -> Result<Numbers, OutOfMemory>
+    requires valid { All IsValidTri tris.now }
+    requires few { length tris.now ≤ 262144 }
+    ensures { IfOk result (λ n. AreNumbers tris.now n.there.items n.back.items) }
+{
+    let mut numbers = numbers_of(alloc, tris)?;
+    numbers.there.sort_unstable();
+    numbers.back.sort_unstable();
+    Ok(numbers)
+}
+
+// The edge with this number, and how often it and its reverse stand.
+fn loose_with(number: u128, numbers: &Numbers) -> Loose
+    requires number { number < 2 ^ 72 }
+    requires there { length numbers.now.there.items ≤ 786432 }
+    requires back { length numbers.now.back.items ≤ 786432 }
+    ensures edge { (e : Edge) → IsValidEdge e → edge_number e ≡ number → edge_of result ≡ e }
+    ensures there { result.there ≡ count number numbers.now.there.items }
+    ensures back { result.back ≡ count number numbers.now.back.items }
+{
+    let (from, to) = ends_of(number);
+    Loose {
+        from,
+        to,
+        there: count(number, &numbers.there),
+        back: count(number, &numbers.back),
+    }
+}
+
+/// `None` exactly where the triangles are balanced: each directed edge stands as often as its
+/// reverse. Else the least edge, by x, y and z of `from` and then of `to`, that stands more often
+/// than its reverse.
+pub fn balance(alloc: Global, tris: &[Tri]) -> Result<Option<Loose>, OutOfMemory>
+    requires valid { All IsValidTri tris.now }
+    requires few { length tris.now ≤ 262144 }
+    ensures value { IfOk result (λ found. found ≡ loose_of tris.now) }
+    ensures meaning { IfOk result (λ found. MatchOption found (IsBalanced tris.now) (λ l. IsLeastLoose tris.now l)) }
+{
+    let numbers = sorted_numbers(alloc, tris)?;
+    match first_surplus(&numbers.there, &numbers.back) {
+        None => Ok(None),
+        Some(number) => Ok(Some(loose_with(number, &numbers))),
+    }
+}
