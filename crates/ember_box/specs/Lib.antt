@@ -1,1 +1,7 @@
 pub mod Boxes
+pub mod Spans
+pub mod Near
+pub mod Halving
+pub mod Sums
+pub mod Reference
+pub mod Regions

@@ -1,6 +1,7 @@
 // A box that came from the root by halving.
-ghost use Rattle.std.specs.Prelude.{◌≡◌, ◌<◌, ◌≤◌, ◌^◌};
+ghost use Rattle.std.specs.Prelude.{◌≡◌, ◌<◌, ◌≤◌, ◌^◌, [], ◌∷◌};
 ghost use Rattle.ember_box.specs.Boxes as boxes;
+ghost use Rattle.ember_box.specs.Boxes.{IsCell};
 
 use ember_model::Axis;
 use std::marker::Model;
@@ -38,11 +39,44 @@ pub fn root() -> Cell
 }
 
 impl Cell {
+    /// The same box.
+    pub fn copy(&self) -> Cell
+        ensures { result ≡ self.now }
+    {
+        Cell {
+            from: self.from,
+            log: self.log,
+            path: self.path,
+        }
+    }
+
     /// The path of the box.
     pub fn path(&self) -> u64
         ensures { result ≡ self.now.path }
     {
         self.path
+    }
+
+    /// Its least corner, in the scaled unit: at least -2048 along each axis.
+    pub fn lo(&self) -> [i32; 3]
+        ensures { result ≡ self.now.lo.x ∷ self.now.lo.y ∷ self.now.lo.z ∷ [] }
+    {
+        [self.low(Axis::X), self.low(Axis::Y), self.low(Axis::Z)]
+    }
+
+    /// The coordinate of its least corner along an axis.
+    pub fn low(&self, k: Axis) -> i32
+        ensures value { result ≡ boxes.low self.now k }
+        ensures kept { IsCell self.now }
+    {
+        coordinate_of(self.from[place(k)])
+    }
+
+    /// Its side along an axis, a power of two up to 4096.
+    pub fn side(&self, k: Axis) -> i32
+        ensures { result ≡ boxes.side self.now k }
+    {
+        side_of(self.log[place(k)]) as i32
     }
 
     /// The logarithm of its side along an axis.
@@ -55,6 +89,14 @@ impl Cell {
             Axis::Z => self.log[2],
         }
     }
+}
+
+// A coordinate that is counted from the corner of the root box, counted from 0.
+fn coordinate_of(from: u32) -> i32
+    requires { from ≤ 4096 }
+    ensures { result ≡ boxes.coordinate from }
+{
+    from as i32 - 2048
 }
 
 // The place of an axis in the order x, y, z.
@@ -72,7 +114,8 @@ fn place(k: Axis) -> usize
 // The side with this logarithm.
 fn side_of(log: u8) -> u32
     requires { log ≤ 12 }
-    ensures { result ≡ 2 ^ log }
+    ensures value { result ≡ 2 ^ log }
+    ensures bound { result ≤ 4096 }
 {
     1u32 << log
 }

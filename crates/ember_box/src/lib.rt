@@ -1,8 +1,14 @@
-//! Boxes of space: the root box, its halves, and the paths that name them.
+//! Boxes of space: the root box, its halves and the paths that name them, which triangles are near
+//! a box, along which axis it is halved, and where halving ends.
 #![tactic(auto)]
 
 mod cell;
+mod nearness;
+mod spans;
+mod sums;
 #[cfg(test)]
 mod tests;
 
 pub use cell::{Cell, halves, root};
+pub use nearness::{near, near_list, near_tri};
+pub use sums::{halving, is_leaf, split_axis};

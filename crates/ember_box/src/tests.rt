@@ -1,20 +1,115 @@
-// The root and its halves along each axis.
-use crate::{halves, root};
-use ember_model::Axis;
+// The root and its halves along each axis; triangles near boxes, and where halving ends.
+use crate::nearness::near_among;
+use crate::sums::halving_of;
+use crate::{Cell, halves, near_tri, root};
+use ember_model::{Axis, Corner, Tri};
+use std::alloc::{AllocError, Global};
 use std::test::Fail;
 
 #[test]
 fn the_root_is_halved_along_each_axis(rt: HostRuntime) -> Result<(), Fail> {
     let whole = root();
     assert_eq!(rt; whole.path(), 1);
+    assert!(rt; whole.lo() == [-2048, -2048, -2048]);
     for k in [Axis::X, Axis::Y, Axis::Z] {
         let (low, high) = halves(&whole, k);
         assert_eq!(rt; (low.path(), high.path()), (2, 3));
+        assert_eq!(rt; (low.low(k), high.low(k)), (-2048, 0));
         for other in [Axis::X, Axis::Y, Axis::Z] {
             let want = if other == k { 11 } else { 12 };
-            assert_eq!(rt; whole.log(other), 12);
+            assert_eq!(rt; (whole.log(other), whole.side(other)), (12, 4096));
             assert_eq!(rt; (low.log(other), high.log(other)), (want, want));
         }
     }
+    Ok(())
+}
+
+// The half that holds the points with the coordinate 0, until the side along each axis is 2^log.
+fn around_zero(log: u8) -> Cell {
+    let mut c = root();
+    for k in [Axis::X, Axis::Y, Axis::Z] {
+        for _ in 0..12 {
+            if c.log(k) > log {
+                let (low, high) = halves(&c, k);
+                c = if high.low(k) <= 0 { high } else { low };
+            }
+        }
+    }
+    c
+}
+
+fn corner(x: i32, y: i32, z: i32) -> Corner {
+    Corner { x, y, z }
+}
+
+// The faces of the tetrahedron with the corners 0 and the unit points.
+fn tetra() -> [Tri; 4] {
+    let o = corner(0, 0, 0);
+    let x = corner(1, 0, 0);
+    let y = corner(0, 1, 0);
+    let z = corner(0, 0, 1);
+    [tri(o, y, x), tri(o, x, z), tri(o, z, y), tri(x, y, z)]
+}
+
+fn tri(a: Corner, b: Corner, c: Corner) -> Tri {
+    Tri { a, b, c, mesh: 1 }
+}
+
+// The numbers below n, so many times over.
+fn numbers(alloc: Global, n: u32, times: u32) -> Result<Vec<u32>, AllocError> {
+    let mut list = Vec::new(alloc);
+    for _ in 0..times {
+        for i in 0..n {
+            list.push(i)?;
+        }
+    }
+    Ok(list)
+}
+
+#[test]
+fn the_tetrahedron_is_near_the_boxes_that_it_touches(rt: HostRuntime) -> Result<(), Fail> {
+    let alloc = rt.alloc();
+    let faces = tetra();
+    let all = numbers(alloc, 4, 1)?;
+    assert!(rt; near_among(alloc, &faces, &all, &root())?.as_slice() == [0, 1, 2, 3].as_slice());
+    let (_low, high) = halves(&root(), Axis::X);
+    assert!(rt; near_among(alloc, &faces, &all, &high)?.as_slice() == [0, 1, 2, 3].as_slice());
+    let (_lower, upper) = halves(&around_zero(1), Axis::X);
+    assert!(rt; near_among(alloc, &faces, &all, &upper)?.as_slice() == [0, 1, 3].as_slice());
+    Ok(())
+}
+
+#[test]
+fn a_plane_beside_a_box_keeps_its_triangle_away(rt: HostRuntime) -> Result<(), Fail> {
+    let unit = around_zero(0);
+    assert!(rt; unit.lo() == [0, 0, 0]);
+    let touching = tri(corner(3, 0, 0), corner(0, 3, 0), corner(0, 0, 3));
+    let beside = tri(corner(4, 0, 0), corner(0, 4, 0), corner(0, 0, 4));
+    let flat = tri(corner(4, 0, 0), corner(0, 4, 0), corner(4, 0, 0));
+    assert!(rt; near_tri(&unit, &touching));
+    assert!(rt; !near_tri(&unit, &beside));
+    assert!(rt; near_tri(&unit, &flat));
+    Ok(())
+}
+
+#[test]
+fn few_triangles_or_none_to_be_parted_make_a_leaf(rt: HostRuntime) -> Result<(), Fail> {
+    let alloc = rt.alloc();
+    let faces = tetra();
+    let few = numbers(alloc, 4, 4)?;
+    assert!(rt; halving_of(&faces, &few, &root()).is_none());
+    // Each half of the root along each axis is near at least three of the four faces.
+    let more = numbers(alloc, 4, 5)?;
+    assert!(rt; halving_of(&faces, &more, &root()).is_none());
+    Ok(())
+}
+
+#[test]
+fn triangles_apart_are_parted_along_the_first_best_axis(rt: HostRuntime) -> Result<(), Fail> {
+    let alloc = rt.alloc();
+    let here = tri(corner(9, 9, 9), corner(-8, 9, 9), corner(9, 8, 9));
+    let there = tri(corner(9, -9, -9), corner(-8, -9, -9), corner(9, -8, -9));
+    let list = numbers(alloc, 2, 9)?;
+    assert!(rt; halving_of(&[here, there], &list, &root()) == Some(Axis::Y));
     Ok(())
 }

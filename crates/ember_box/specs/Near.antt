@@ -1,0 +1,58 @@
+-- Which triangles are near a box
+use Rattle.std.specs.Prelude.{ℕ, pos, Bool, not, ◌&&◌, ◌||◌, int_le, List, [], ◌∷◌, filter, map, length, slice_index_or}
+use Rattle.std.specs.List.{list_all, range_with_len}
+use Rattle.ember_algebra.specs.Sign.{is_negative, is_positive}
+use Rattle.ember_algebra.specs.Vector.{Vector}
+use Rattle.ember_model.specs.declared.tri.Tri.{Tri}
+use Rattle.ember_model.specs.declared.point.Corner.{Corner}
+use Rattle.ember_model.specs.declared.point.Spot.{Spot}
+use Rattle.ember_model.specs.declared.point.Axis.{Axis}
+use Rattle.ember_model.specs.declared.point.Axis.TheVariants.{X, Y, Z}
+use Rattle.ember_model.specs.Planes.{vector_of, value_at, support_of}
+use Rattle.ember_model.specs.Points.{moved}
+use Rattle.ember_box.specs.Boxes.{Cell, along, side, low, high}
+
+-- along the axis the triangle's bounding box meets the closed box
+abbrev pub spans_meet : Cell → Tri → Axis → Bool
+spans_meet c t k =
+    (int_le (along k (vector_of t.a)) (high c k) || (int_le (along k (vector_of t.b)) (high c k) || int_le (along k (vector_of t.c)) (high c k))) && (int_le (low c k) (along k (vector_of t.a)) || (int_le (low c k) (along k (vector_of t.b)) || int_le (low c k) (along k (vector_of t.c))))
+
+abbrev pub boxes_meet : Cell → Tri → Bool
+boxes_meet c t = spans_meet c t X && (spans_meet c t Y && spans_meet c t Z)
+
+abbrev pub place : Vector → Spot
+place v = record { x = v.x; y = v.y; z = v.z; w = pos 1 }
+
+-- the eight corners of a box
+abbrev pub corners : Cell → List Spot
+corners c =
+    let x = side c X in let y = side c Y in let z = side c Z in let o = place c.lo in
+    o ∷ moved o X x ∷ moved o Y y ∷ moved (moved o Y y) X x ∷ moved o Z z ∷ moved (moved o Z z) X x ∷ moved (moved o Z z) Y y ∷ moved (moved (moved o Z z) Y y) X x ∷ []
+
+-- the bounding box meets the closed box, and the corners of the box aren't all strictly on one side of the support plane
+unfoldable pub is_near : Cell → Tri → Bool
+is_near c t =
+    boxes_meet c t && (not (list_all (λ v. is_positive (value_at (support_of t) v)) (corners c)) && not (list_all (λ v. is_negative (value_at (support_of t) v)) (corners c)))
+
+-- those triangles of a list that are near a box, in order
+abbrev pub near : List Tri → Cell → List Tri
+near ts c = filter (λ t. is_near c t) ts
+
+-- ---- by their places in a scene
+-- what stands past the end
+abbrev pub no_tri : Tri
+no_tri =
+    let o : Corner = record { x = pos 0; y = pos 0; z = pos 0 } in record { a = o; b = o; c = o; mesh = 0 }
+
+abbrev pub tri_at : List Tri → ℕ → Tri
+tri_at ts i = slice_index_or ts i no_tri
+
+abbrev pub listed : List Tri → List ℕ → List Tri
+listed ts is = map (λ i. tri_at ts i) is
+
+-- the places of a list at which a triangle near the box stands
+abbrev pub near_places : List Tri → Cell → List ℕ → List ℕ
+near_places ts c is = filter (λ i. is_near c (tri_at ts i)) is
+
+abbrev pub places : List Tri → List ℕ
+places ts = range_with_len 0 (length ts)

@@ -1,0 +1,28 @@
+-- The reference point of a box, and which lists of triangles fit what is known at a box
+use Rattle.std.specs.Prelude.{◌≡◌, ◌^◌, ℤ, pos, List}
+use Rattle.ember_algebra.specs.Vector.{Vector}
+use Rattle.ember_model.specs.declared.tri.Tri.{Tri}
+use Rattle.ember_model.specs.declared.point.Spot.{Spot}
+use Rattle.ember_model.specs.declared.point.Axis.TheVariants.{X}
+use Rattle.ember_model.specs.Points.{shifted}
+use Rattle.ember_model.specs.Meshes.{vector, IsScene}
+use Rattle.ember_box.specs.Boxes.{Cell}
+use Rattle.ember_box.specs.Near.{place, near}
+
+-- lo + (1/m, 1/m^2, 1/m^3)
+abbrev pub reference_at : ℤ → Vector → Spot
+reference_at m lo = shifted (place lo) m
+
+-- lo + (2^-27, 2^-54, 2^-81), with the weight 2^81
+unfoldable pub reference : Cell → Spot
+reference c = reference_at (pos (2 ^ 27)) c.lo
+
+-- the winding numbers there
+abbrev pub vector_at : List Tri → Cell → List ℤ
+vector_at ts c = vector X ts (reference c)
+
+-- a scene whose triangles near the box are these, in order, and whose winding numbers at the reference point are these
+pub record Fits (ts : List Tri) (ns : List Tri) (c : Cell) (counts : List ℤ) : Type 0 where
+  pub scene : IsScene ts 64
+  pub near : near ts c ≡ ns
+  pub at : vector_at ts c ≡ counts

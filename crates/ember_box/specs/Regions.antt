@@ -1,0 +1,81 @@
+-- What of a triangle's face belongs to a box, and the regions into which the near triangles cut it
+use Rattle.std.specs.Prelude.{◌≡◌, ℕ, nat_eq, Bool, true, false, ℤ, List, [], ◌∷◌, map, flat_map, length}
+use Rattle.std.specs.List.{range_with_len}
+use Rattle.ember_algebra.specs.Relations.{Each, Chain}
+use Rattle.ember_algebra.specs.Sign.{is_positive, is_zero}
+use Rattle.ember_model.specs.declared.tri.Tri.{Tri}
+use Rattle.ember_model.specs.declared.plane.Plane.{Plane}
+use Rattle.ember_model.specs.declared.face.Face.{Face}
+use Rattle.ember_model.specs.declared.point.Axis.{Axis}
+use Rattle.ember_model.specs.declared.point.Axis.TheVariants.{X, Y, Z}
+use Rattle.ember_model.specs.Planes.{unit, value_at, support_of, opposite}
+use Rattle.ember_model.specs.Faces.{is_flat, face_of, edges_of, Everywhere, Cuts, Meets, below, above}
+use Rattle.ember_model.specs.Owners.{is_coplanar}
+use Rattle.ember_box.specs.Boxes.{Cell, low, high}
+use Rattle.ember_box.specs.Near.{tri_at}
+
+-- ---- start
+-- the plane through the points with this coordinate along an axis
+abbrev pub level : Axis → ℤ → Plane
+level k h = record { a = (unit k).x; b = (unit k).y; c = (unit k).z; d = h }
+
+-- a plane that is negative in the box
+pub record Wall : Type 0 where
+  pub plane : Plane
+  pub is_high : Bool
+
+abbrev pub low_wall : Cell → Axis → Wall
+low_wall c k = record { plane = opposite (level k (low c k)); is_high = false }
+
+abbrev pub high_wall : Cell → Axis → Wall
+high_wall c k = record { plane = level k (high c k); is_high = true }
+
+abbrev pub walls : Cell → List Wall
+walls c = flat_map (λ k. low_wall c k ∷ high_wall c k ∷ []) (X ∷ Y ∷ Z ∷ [])
+
+abbrev pub IsAbove : Face → Plane → Type 0
+IsAbove f p = Everywhere f (λ v. is_positive (value_at p v) ≡ true)
+
+abbrev pub LiesOn : Face → Plane → Type 0
+LiesOn f p = Everywhere f (λ v. is_zero (value_at p v) ≡ true)
+
+-- what a wall leaves of a face
+pub data AtWall (w : Wall) (f : Face) : List Face → Type 0 where
+  cut : Cuts f w.plane → AtWall w f (below f w.plane ∷ [])
+  outside : IsAbove f w.plane → AtWall w f []
+  in_high : w.is_high ≡ true → LiesOn f w.plane → AtWall w f []
+  stays : (Cuts f w.plane → ⊥) → (IsAbove f w.plane → ⊥) → (w.is_high ≡ true → LiesOn f w.plane → ⊥) → AtWall w f (f ∷ [])
+
+-- the start of a triangle in a box: one face, or none
+abbrev pub IsStart : Cell → Tri → List Face → Type 0
+IsStart c t fs =
+    Chain (λ w. Each (AtWall w)) (walls c) (elim (is_flat t) [ true ↦ [] | false ↦ face_of t ∷ [] ]) fs
+
+-- ---- regions
+-- a plane that cuts what meets the face
+pub record Blade : Type 0 where
+  pub face : Face
+  pub plane : Plane
+
+-- the blades that u has for the regions of t
+abbrev pub blades_of : Tri → Tri → List Blade
+blades_of t u =
+    elim (is_flat u) [ true ↦ [] | false ↦ map (λ p. record { face = face_of u; plane = p }) (elim (is_coplanar t u) [ true ↦ edges_of u | false ↦ support_of u ∷ [] ]) ]
+
+-- what a blade leaves of a face
+pub data AtBlade (b : Blade) (f : Face) : List Face → Type 0 where
+  splits : Meets f b.face → Cuts f b.plane → AtBlade b f (below f b.plane ∷ above f b.plane ∷ [])
+  whole : (Meets f b.face → Cuts f b.plane → ⊥) → AtBlade b f (f ∷ [])
+
+-- the blades for triangle i of a leaf whose near triangles are these: those of each other triangle, in order
+abbrev pub blades_at : List Tri → ℕ → ℕ → List Blade
+blades_at ts i j = elim (nat_eq j i) [ true ↦ [] | false ↦ blades_of (tri_at ts i) (tri_at ts j) ]
+
+abbrev pub blades : List Tri → ℕ → List Blade
+blades ts i = flat_map (λ j. blades_at ts i j) (range_with_len 0 (length ts))
+
+-- the regions of triangle i in a box whose near triangles are these
+pub record IsRegions (c : Cell) (ts : List Tri) (i : ℕ) (fs : List Face) : Type 0 where
+  pub start : List Face
+  pub is_start : IsStart c (tri_at ts i) start
+  pub cuts : Chain (λ b. Each (AtBlade b)) (blades ts i) start fs

@@ -1,0 +1,68 @@
+// Which triangles are near a box.
+ghost use Rattle.std.specs.Prelude.{◌≡◌, ◌<◌, length, All, IfOk};
+ghost use Rattle.ember_model.specs.Valid.{IsValidTri};
+ghost use Rattle.ember_box.specs.Near.{is_near, tri_at, near_places};
+
+use crate::cell::Cell;
+use crate::spans::{bounding, crosses, holds, overlap, spans_of};
+use ember_model::{OutOfMemory, Scene, Tri, support_of};
+use std::alloc::Global;
+
+/// The triangle is near the box: its bounding box meets the closed box, and the corners of the box
+/// aren't all strictly on one side of its support plane.
+pub fn near_tri(c: &Cell, t: &Tri) -> bool
+    requires { IsValidTri t.now }
+    ensures { result ≡ is_near c.now t.now }
+{
+    let b = spans_of(c);
+    holds(&b, &t.a) || overlap(&bounding(t), &b) && crosses(&support_of(t), &b)
+}
+
+/// Triangle `i` of the scene is near the box.
+pub fn near(s: &Scene, c: &Cell, i: u32) -> bool
+    requires { i < length s.now.tris }
+    ensures { result ≡ is_near c.now (tri_at s.now.tris i) }
+{
+    near_at(s.tris.items(), c, i)
+}
+
+fn near_at(tris: &[Tri], c: &Cell, i: u32) -> bool
+    requires valid { All IsValidTri tris.now }
+    requires place { i < length tris.now }
+    ensures { result ≡ is_near c.now (tri_at tris.now i) }
+{
+    near_tri(c, &tris[i as usize])
+}
+
+/// Those of the listed places of the triangles that are near the box, in order.
+pub fn near_among(
+    alloc: Global,
+    tris: &[Tri],
+    list: &[u32],
+    c: &Cell,
+) -> Result<Vec<u32>, OutOfMemory>
+    requires valid { All IsValidTri tris.now }
+    requires places { All (λ i. i < length tris.now) list.now }
+    ensures { IfOk result (λ v. v.items ≡ near_places tris.now c.now list.now) }
+{
+    let mut found = Vec::with_capacity(alloc, list.len())?;
+    for i in list {
+        if near_at(tris, c, *i) {
+            found.push(*i)?;
+        }
+    }
+    Ok(found)
+}
+
+/// Those of the listed triangles that are near the box, in order.
+pub fn near_list(
+    alloc: Global,
+    s: &Scene,
+    list: &[u32],
+    c: &Cell,
+) -> Result<Vec<u32>, OutOfMemory>
+    requires { All (λ i. i < length s.now.tris) list.now }
+    ensures { IfOk result (λ v. v.items ≡ near_places s.now.tris c.now list.now) }
+{
+    near_among(alloc, s.tris.items(), list, c)
+}

@@ -1,0 +1,228 @@
+// Along which axis a box is halved, and where halving ends.
+ghost use Rattle.std.specs.Prelude.{◌≡◌, ◌+◌, ◌*◌, ◌<◌, ◌≤◌, ◌&&◌, ◌||◌, not, nat_le, nat_lt, length, All, None, Some, if◌then◌else◌};
+ghost use Rattle.ember_model.specs.Valid.{IsValidTri};
+ghost use Rattle.ember_box.specs.Boxes as boxes;
+ghost use Rattle.ember_box.specs.Spans.{bounding, AreSpansSized};
+ghost use Rattle.ember_box.specs.Near.{listed};
+ghost use Rattle.ember_box.specs.Halving as halvings;
+ghost use Rattle.ember_box.specs.Sums.{number, IsSight, IsPlaneOf, IsPlaneSized, may_cross, sees, AreHalves, AreHalvesSized, halves_seen, AreSums};
+
+use crate::cell::{Cell, halves};
+use crate::spans::{Spans, bounding, crosses, overlap, spans_of, within};
+use ember_model::{Axis, Plane, Scene, Tri, support_of};
+
+// A box with at most so many near triangles is a leaf.
+const FEW: u64 = 16;
+
+// What the tests of one triangle against a box and its halves look at. It has no plane where the
+// triangle lies in the box: there it is near each half that its bounding box meets.
+#[derive(Clone, Copy)]
+struct Sight {
+    spans: Spans,
+    plane: Option<Plane>,
+}
+
+fn plane_of(whole: &Spans, spans: &Spans, t: &Tri) -> Option<Plane>
+    requires valid { IsValidTri t.now }
+    requires spans { spans.now ≡ bounding t.now }
+    ensures value { IsPlaneOf whole.now t.now result }
+    ensures sized { IsPlaneSized result }
+{
+    if within(whole, spans) {
+        None
+    } else {
+        Some(support_of(t))
+    }
+}
+
+fn sight_of(whole: &Spans, t: &Tri) -> Sight
+    requires { IsValidTri t.now }
+    ensures value { IsSight whole.now t.now result }
+    ensures sized { IsPlaneSized result.plane }
+{
+    let spans = bounding(t);
+    Sight {
+        spans,
+        plane: plane_of(whole, &spans, t),
+    }
+}
+
+fn may_cross(b: &Spans, plane: &Option<Plane>) -> bool
+    requires spans { AreSpansSized b.now }
+    requires plane { IsPlaneSized plane.now }
+    ensures { result ≡ may_cross b.now plane.now }
+{
+    match plane {
+        None => true,
+        Some(p) => crosses(p, b),
+    }
+}
+
+fn sees(b: &Spans, t: &Sight) -> bool
+    requires spans { AreSpansSized b.now }
+    requires plane { IsPlaneSized t.now.plane }
+    ensures { result ≡ sees b.now t.now }
+{
+    overlap(&t.spans, b) && may_cross(b, &t.plane)
+}
+
+// The halves of a box along an axis, the lower one first.
+#[derive(Clone, Copy)]
+struct Halves {
+    low: Spans,
+    high: Spans,
+}
+
+// None where the side is 1.
+fn halves_along(c: &Cell, k: Axis) -> Option<Halves>
+    ensures value { AreHalves c.now k result }
+    ensures sized { AreHalvesSized result }
+{
+    if c.log(k) == 0 {
+        return None;
+    }
+    let (low, high) = halves(c, k);
+    Some(Halves {
+        low: spans_of(&low),
+        high: spans_of(&high),
+    })
+}
+
+fn number(b: bool) -> u64
+    ensures value { result ≡ number b }
+    ensures bound { result ≤ 1 }
+{
+    if b { 1 } else { 0 }
+}
+
+// The number of halves that a triangle is near.
+fn halves_seen(h: &Option<Halves>, t: &Sight) -> u64
+    requires halves { AreHalvesSized h.now }
+    requires plane { IsPlaneSized t.now.plane }
+    ensures value { result ≡ halves_seen h.now t.now }
+    ensures bound { result ≤ 2 }
+{
+    match h {
+        None => 0,
+        Some(h) => number(sees(&h.low, t)) + number(sees(&h.high, t)),
+    }
+}
+
+// How many triangles of a list are near a box, and the sum of each axis: how many are near its
+// halves, those near both counted twice. The sum is 0 where the side is 1.
+#[derive(Clone, Copy)]
+struct Sums {
+    near: u64,
+    x: u64,
+    y: u64,
+    z: u64,
+}
+
+fn half_sums(tris: &[Tri], list: &[u32], c: &Cell) -> Sums
+    requires valid { All IsValidTri tris.now }
+    requires places { All (λ i. i < length tris.now) list.now }
+    ensures { AreSums (listed tris.now list.now) c.now result }
+{
+    let whole = spans_of(c);
+    let x = halves_along(c, Axis::X);
+    let y = halves_along(c, Axis::Y);
+    let z = halves_along(c, Axis::Z);
+    let mut near = 0;
+    let mut x_sum = 0;
+    let mut y_sum = 0;
+    let mut z_sum = 0;
+    for i in list {
+        let t = sight_of(&whole, &tris[*i as usize]);
+        near += number(sees(&whole, &t));
+        x_sum += halves_seen(&x, &t);
+        y_sum += halves_seen(&y, &t);
+        z_sum += halves_seen(&z, &t);
+    }
+    Sums {
+        near,
+        x: x_sum,
+        y: y_sum,
+        z: z_sum,
+    }
+}
+
+// Of two axes the second is not to be preferred: its side is 1, or its sum is no smaller and the
+// side along the first isn't 1.
+fn is_no_better(first: u8, first_sum: u64, second: u8, second_sum: u64) -> bool
+    ensures { result ≡ (not (nat_lt 0 second) || (nat_lt 0 first && nat_le first_sum second_sum)) }
+{
+    second == 0 || first > 0 && first_sum <= second_sum
+}
+
+fn least_axis(c: &Cell, sums: &Sums) -> Axis
+    ensures { (ts : List Tri) → AreSums ts c.now sums.now → result ≡ halvings.halving_axis ts c.now }
+{
+    let (x, y, z) = (c.log(Axis::X), c.log(Axis::Y), c.log(Axis::Z));
+    if is_no_better(x, sums.x, y, sums.y) && is_no_better(x, sums.x, z, sums.z) {
+        Axis::X
+    } else if is_no_better(y, sums.y, z, sums.z) {
+        Axis::Y
+    } else {
+        Axis::Z
+    }
+}
+
+// Halving along the axis isn't possible, or isn't worth it.
+fn spreads(log: u8, near: u64, sum: u64) -> bool
+    ensures { result ≡ (not (nat_lt 0 log) || nat_le (7 * near) (4 * sum)) }
+{
+    log == 0 || 7 * near as u128 <= 4 * sum as u128
+}
+
+fn is_leaf_by(c: &Cell, sums: &Sums) -> bool
+    ensures { (ts : List Tri) → AreSums ts c.now sums.now → result ≡ halvings.is_leaf ts c.now }
+{
+    sums.near <= FEW
+        || spreads(c.log(Axis::X), sums.near, sums.x)
+            && spreads(c.log(Axis::Y), sums.near, sums.y)
+            && spreads(c.log(Axis::Z), sums.near, sums.z)
+}
+
+/// The axis along which the box is halved: the one with the least sum, the first of them in a tie,
+/// of those along which the side is above 1. The sum of an axis is the number of listed triangles
+/// near the lower half plus the number near the upper half. Some side is above 1.
+pub fn split_axis(s: &Scene, list: &[u32], c: &Cell) -> Axis
+    requires { All (λ i. i < length s.now.tris) list.now }
+    ensures { result ≡ halvings.halving_axis (listed s.now.tris list.now) c.now }
+{
+    least_axis(c, &half_sums(s.tris.items(), list, c))
+}
+
+/// The box is a leaf: at most 16 listed triangles are near it, or all sides are 1, or for every
+/// axis with a side above 1 four times the sum is at least seven times the number near the box.
+pub fn is_leaf(s: &Scene, list: &[u32], c: &Cell) -> bool
+    requires { All (λ i. i < length s.now.tris) list.now }
+    ensures { result ≡ halvings.is_leaf (listed s.now.tris list.now) c.now }
+{
+    list.len() as u64 <= FEW || is_leaf_by(c, &half_sums(s.tris.items(), list, c))
+}
+
+/// None where the box is a leaf, and else the axis along which it is halved.
+pub fn halving(s: &Scene, list: &[u32], c: &Cell) -> Option<Axis>
+    requires { All (λ i. i < length s.now.tris) list.now }
+    ensures { result ≡ (if halvings.is_leaf (listed s.now.tris list.now) c.now then None else Some (halvings.halving_axis (listed s.now.tris list.now) c.now)) }
+{
+    halving_of(s.tris.items(), list, c)
+}
+
+/// The same by the triangles.
+pub fn halving_of(tris: &[Tri], list: &[u32], c: &Cell) -> Option<Axis>
+    requires valid { All IsValidTri tris.now }
+    requires places { All (λ i. i < length tris.now) list.now }
+    ensures { result ≡ (if halvings.is_leaf (listed tris.now list.now) c.now then None else Some (halvings.halving_axis (listed tris.now list.now) c.now)) }
+{
+    if list.len() as u64 <= FEW {
+        return None;
+    }
+    let sums = half_sums(tris, list, c);
+    if is_leaf_by(c, &sums) {
+        None
+    } else {
+        Some(least_axis(c, &sums))
+    }
+}

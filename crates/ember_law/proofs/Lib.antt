@@ -1,0 +1,10 @@
+pub mod Balance
+pub mod Shifted
+pub mod Flats
+pub mod Directions
+pub mod Generic
+pub mod Axes
+pub mod Paths
+pub mod Tallies
+pub mod Vectors
+pub mod Grown

@@ -1,0 +1,9 @@
+use Rattle.std.proofs.Common.{◌≡◌, ℕ, ◌+◌, take, All}
+use Rattle.ember_algebra.specs.Size.{Small}
+use Rattle.ember_model.specs.Meshes.{vector}
+use Rattle.ember_law.specs.Counts.{added}
+use Rattle.ember_law.proofs.count.count_rays.Given as goal
+
+abbrev pub invariant-loop-t : goal.invariant-loop-t
+invariant-loop-t l =
+    record { value : l.v.counts ≡ added l.initial.v.counts (vector l.a (take l.t-index l.tris) l.p); within : (m : ℕ) → All (Small m) l.initial.v.counts → All (Small (m + l.t-index)) l.v.counts }

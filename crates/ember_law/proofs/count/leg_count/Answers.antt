@@ -1,0 +1,12 @@
+use Rattle.std.proofs.Common.{ℕ, ◌+◌, List, All, length, subst}
+use Rattle.ember_algebra.specs.Size.{Small}
+use Rattle.ember_model.specs.declared.tri.Tri.{Tri}
+use Rattle.ember_law.proofs.Vectors.{legs_law}
+use Rattle.ember_law.proofs.count.leg_count.Goals as goal
+
+pub returns-clause-within : goal.returns-clause-within
+returns-clause-within c = λ m h.
+    let P : List Tri → Type 0 = λ ts. All (Small (m + length ts)) c.count_legs.new.v.counts in subst P c.items.ensures (c.count_legs.ensures.within m h)
+
+pub returns-clause-law : goal.returns-clause-law
+returns-clause-law c = legs_law c.args.s.now.tris c.args.s.now.meshes c.args.s.now.kept

@@ -1,0 +1,80 @@
+// The crossings of rays and segments with a scene.
+ghost use Rattle.std.specs.Prelude.{◌≡◌, ℕ, ◌+◌, ◌≤◌, All, length};
+ghost use Rattle.ember_algebra.specs.Size.{Small};
+ghost use Rattle.ember_model.specs.Valid.{IsValidTri, IsValidSpot};
+ghost use Rattle.ember_model.specs.Points.{DifferAlong};
+ghost use Rattle.ember_model.specs.Meshes.{HasMesh, vector};
+ghost use Rattle.ember_law.specs.Counts.{added, with_more, leg_vector, HasRoom};
+ghost use Rattle.ember_law.specs.Laws.{AxesAgree, LegsTell};
+
+use ember_model::{Axis, Scene, Spot, Tri, Vector, crossing, leg};
+
+/// Adds to the count of a mesh, 1 to 64.
+pub fn add_to(v: &mut Vector, mesh: u32, more: i32)
+    requires first { 1 ≤ mesh }
+    requires last { mesh ≤ 64 }
+    requires more { Small 1 more }
+    requires room { All (Small 1073741823) v.old.counts }
+    ensures value { v.new.counts ≡ with_more v.old.counts mesh more }
+    ensures within { (m : ℕ) → All (Small m) v.old.counts → All (Small (m + 1)) v.new.counts }
+{
+    v.counts[mesh as usize - 1] += more;
+}
+
+pub fn count_rays(tris: &[Tri], p: &Spot, a: Axis, v: &mut Vector)
+    requires valid { All IsValidTri tris.now }
+    requires numbered { All (HasMesh 64) tris.now }
+    requires few { length tris.now ≤ 262144 }
+    requires spot { IsValidSpot p.now }
+    requires room { HasRoom v.old.counts }
+    ensures value { v.new.counts ≡ added v.old.counts (vector a tris.now p.now) }
+    ensures within { (m : ℕ) → All (Small m) v.old.counts → All (Small (m + length tris.now)) v.new.counts }
+{
+    for t in tris {
+        add_to(v, t.mesh, crossing(p, a, t));
+    }
+}
+
+pub fn count_legs(tris: &[Tri], p: &Spot, q: &Spot, a: Axis, v: &mut Vector)
+    requires valid { All IsValidTri tris.now }
+    requires numbered { All (HasMesh 64) tris.now }
+    requires few { length tris.now ≤ 262144 }
+    requires from { IsValidSpot p.now }
+    requires to { IsValidSpot q.now }
+    requires line { DifferAlong a p.now q.now }
+    requires room { HasRoom v.old.counts }
+    ensures value { v.new.counts ≡ added v.old.counts (leg_vector tris.now p.now q.now) }
+    ensures within { (m : ℕ) → All (Small m) v.old.counts → All (Small (m + length tris.now)) v.new.counts }
+{
+    for t in tris {
+        add_to(v, t.mesh, leg(p, q, a, t));
+    }
+}
+
+/// Adds to the count of each mesh the signed crossings of the ray from `p` along the axis with
+/// the mesh's faces. For a clear point these are its winding numbers there, whatever the axis.
+pub fn axis_count(s: &Scene, p: &Spot, a: Axis, v: &mut Vector)
+    requires spot { IsValidSpot p.now }
+    requires room { HasRoom v.old.counts }
+    ensures value { v.new.counts ≡ added v.old.counts (vector a s.now.tris p.now) }
+    ensures within { (m : ℕ) → All (Small m) v.old.counts → All (Small (m + length s.now.tris)) v.new.counts }
+    ensures law { AxesAgree s.now.tris }
+{
+    count_rays(s.tris.items(), p, a, v);
+}
+
+/// Adds to the count of each mesh the signed crossings of the segment from `p` to `q` with the
+/// mesh's faces: 1 where the way from `p` to `q` leaves through the front. For clear points these
+/// are the winding numbers at `p` less those at `q`. As points of space `p` and `q` differ at most
+/// in the coordinate of the axis.
+pub fn leg_count(s: &Scene, p: &Spot, q: &Spot, a: Axis, v: &mut Vector)
+    requires from { IsValidSpot p.now }
+    requires to { IsValidSpot q.now }
+    requires line { DifferAlong a p.now q.now }
+    requires room { HasRoom v.old.counts }
+    ensures value { v.new.counts ≡ added v.old.counts (leg_vector s.now.tris p.now q.now) }
+    ensures within { (m : ℕ) → All (Small m) v.old.counts → All (Small (m + length s.now.tris)) v.new.counts }
+    ensures law { LegsTell s.now.tris }
+{
+    count_legs(s.tris.items(), p, q, a, v);
+}

@@ -1,0 +1,9 @@
+//! Winding numbers of a scene at points of space, counted along rays, and carried from point to
+//! point along segments. They don't depend on the axis.
+#![tactic(auto)]
+
+mod count;
+#[cfg(test)]
+mod tests;
+
+pub use count::{add_to, axis_count, leg_count};

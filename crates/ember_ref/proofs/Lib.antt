@@ -1,0 +1,2 @@
+pub mod ReferenceSigns
+pub mod ReferenceLegs

@@ -1,0 +1,64 @@
+-- The crossing of a segment between two reference points, by the signs of a triangle's planes.
+use Rattle.std.proofs.Common.{◌≡◌, pred, ◌^◌, refl, sym, ap, ◌∙◌, arith, Bool, true, false, cond, ◌&&◌, List, ℤ, pos, ◌<ℤ◌}
+use borrow.Author.Differences.{ints}
+use Rattle.ember_algebra.specs.Vector.{Vector}
+use Rattle.ember_algebra.specs.declared.Sign.{Sign}
+use Rattle.ember_algebra.specs.Sign.{sgn, number, times, is_neg}
+use Rattle.ember_algebra.proofs.Laws.{linear}
+use Rattle.ember_algebra.proofs.Order.{pos_mul}
+use Rattle.ember_algebra.proofs.Signs.{sgn-mul}
+use Rattle.ember_model.specs.declared.point.Axis.{Axis}
+use Rattle.ember_model.specs.declared.point.Axis.TheVariants.{X, Y, Z}
+use Rattle.ember_model.specs.declared.plane.Plane.{Plane}
+use Rattle.ember_model.specs.declared.tri.Tri.{Tri}
+use Rattle.ember_model.specs.Planes.{value_at, support_of, edge_planes}
+use Rattle.ember_model.specs.Points.{DifferAlong}
+use Rattle.ember_model.specs.Faces.{face_of, leg}
+use Rattle.ember_model.specs.ClearTest.{all_negative}
+use Rattle.ember_model.proofs.PlaneValues.{sign-number}
+use Rattle.ember_model.proofs.LegSigns.{leg_is}
+use Rattle.ember_box.specs.Boxes.{Cell, shifted_by, right_half}
+use Rattle.ember_box.specs.Reference.{reference_at, reference}
+use Rattle.ember_ref.specs.References.{corner_of, reference_of}
+
+-- ---- reference points
+weight_near : (m : ℤ) (v : Vector) → pos 0 <ℤ m → pos 0 <ℤ (reference_at m v).w
+weight_near m v l = pos_mul (pos_mul (pos_mul l l) l) (omega (arith, linear))
+
+pub weight_of : (lo : List ℤ) → pos 0 <ℤ (reference_of lo).w
+unfolding reference_of
+weight_of lo = weight_near (pos (2 ^ 27)) (corner_of lo) (omega (arith, ints))
+
+differ_along : (m : ℤ) (k : Axis) (by : ℤ) (v : Vector) → DifferAlong k (reference_at m (shifted_by k by v)) (reference_at m v)
+differ_along m X by v = (refl, refl)
+differ_along m Y by v = (refl, refl)
+differ_along m Z by v = (refl, refl)
+
+pub reference_is : (lo : List ℤ) (c : Cell) → corner_of lo ≡ c.lo → reference_of lo ≡ reference c
+unfolding reference_of reference
+reference_is lo c e = ap (λ (v : Vector). reference_at (pos (2 ^ 27)) v) e
+
+-- the reference points of a box and its right half
+pub halves_differ : (c : Cell) (k : Axis) → DifferAlong k (reference (right_half c k)) (reference c)
+unfolding reference
+halves_differ c k = differ_along (pos (2 ^ 27)) k (pos (2 ^ pred (c.log k))) c.lo
+
+-- ---- the crossing
+exchanged : (m b : Bool) (v : ℤ) → cond (m && b) v (pos 0) ≡ cond b (cond m v (pos 0)) (pos 0)
+exchanged true true v = refl
+exchanged true false v = refl
+exchanged false true v = refl
+exchanged false false v = refl
+
+-- where n is the support plane, s and e its signs at the ends, and v what they tell
+pub leg_told : (k : Axis) (p q : List ℤ) (t : Tri) (n : Plane) (s e : Sign) (v : ℤ) → DifferAlong k (reference_of p) (reference_of q) → n ≡ support_of t → s ≡ sgn (value_at n (reference_of p)) → e ≡ sgn (value_at n (reference_of q)) → v ≡ cond (is_neg (times s e)) (number e) (pos 0) → leg (face_of t) (reference_of p) (reference_of q) ≡ cond (all_negative (edge_planes t k) (reference_of p)) v (pos 0)
+leg_told k p q t n s e v d en es ee ev =
+    let x = value_at (support_of t) (reference_of p) in let y = value_at (support_of t) (reference_of q) in let b = all_negative (edge_planes t k) (reference_of p) in
+    let sx = es ∙ ap (λ (n : Plane). sgn (value_at n (reference_of p))) en in let sy = ee ∙ ap (λ (n : Plane). sgn (value_at n (reference_of q))) en in
+    let m = ap is_neg (sgn-mul x y) in let f = sign-number y in
+    let told = ev ∙ (λ i. cond (is_neg (times (sx i) (sy i))) (number (sy i)) (pos 0)) in
+    leg_is k (reference_of p) (reference_of q) t (weight_of p) (weight_of q) d ∙ (λ i. cond (m i && b) (f i) (pos 0)) ∙ exchanged (is_neg (times (sgn x) (sgn y))) b (number (sgn y)) ∙ ap (λ (v : ℤ). cond b v (pos 0)) (sym told)
+
+pub nothing_told : (b : Bool) (v : ℤ) → v ≡ pos 0 → pos 0 ≡ cond b v (pos 0)
+nothing_told true v e = sym e
+nothing_told false v e = refl

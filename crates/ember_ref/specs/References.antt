@@ -1,0 +1,41 @@
+-- Reference points given by a box's least corner, and the winding numbers carried to that of a half
+use Rattle.std.specs.Prelude.{◌≡◌, ◌^◌, ℤ, pos, List, slice_index_or}
+use Rattle.ember_algebra.specs.Vector.{Vector}
+use Rattle.ember_algebra.specs.Size.{Small}
+use Rattle.ember_algebra.specs.declared.Sign.{Sign}
+use Rattle.ember_algebra.specs.declared.Sign.TheVariants.{Neg, Zero, Pos}
+use Rattle.ember_model.specs.declared.point.Spot.{Spot}
+use Rattle.ember_model.specs.declared.point.Axis.{Axis}
+use Rattle.ember_model.specs.declared.plane.Plane.{Plane}
+use Rattle.ember_model.specs.declared.tri.Tri.{Tri}
+use Rattle.ember_law.specs.Counts.{added, leg_vector}
+use Rattle.ember_box.specs.Boxes.{Cell, right_half}
+use Rattle.ember_box.specs.Reference.{reference_at, reference}
+
+-- three coordinates, in the order of the axes
+abbrev pub corner_of : List ℤ → Vector
+corner_of cs = record { x = slice_index_or cs 0 (pos 0); y = slice_index_or cs 1 (pos 0); z = slice_index_or cs 2 (pos 0) }
+
+-- the coordinates of boxes' corners are at most 2048 in size
+pub record IsBoxCorner (v : Vector) : Type 0 where
+  pub x : Small 2048 v.x
+  pub y : Small 2048 v.y
+  pub z : Small 2048 v.z
+
+-- the reference point of a box with this least corner
+unfoldable pub reference_of : List ℤ → Spot
+reference_of lo = reference_at (pos (2 ^ 27)) (corner_of lo)
+
+-- the first of two signs that isn't zero
+abbrev pub or_sign : Sign → Sign → Sign
+or_sign Neg s = Neg
+or_sign Zero s = s
+or_sign Pos s = Pos
+
+-- the normal is zero
+abbrev pub IsLevel : Plane → Type 0
+IsLevel p = (p.a ≡ pos 0) × (p.b ≡ pos 0) × (p.c ≡ pos 0)
+
+-- the counts at a box's reference point, with the crossings on the way back to it from that of its right half
+abbrev pub carried : List Tri → Cell → Axis → List ℤ → List ℤ
+carried near c k counts = added counts (leg_vector near (reference (right_half c k)) (reference c))

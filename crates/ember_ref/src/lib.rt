@@ -1,0 +1,12 @@
+//! The reference points of boxes: points next to their least corners that lie on no triangle's
+//! plane. The sign of a plane there, and the winding numbers of a scene, carried from the reference
+//! point of a box to that of its half by the triangles near the box alone.
+#![tactic(auto)]
+
+mod shifting;
+mod signs;
+#[cfg(test)]
+mod tests;
+
+pub use shifting::shift;
+pub use signs::lex_side;

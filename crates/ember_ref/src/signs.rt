@@ -1,0 +1,66 @@
+// Signs of planes at reference points.
+ghost use Rattle.std.specs.Prelude.{◌≡◌, ◌^◌, ◌<◌};
+ghost use Rattle.ember_algebra.specs.Size.{Small};
+ghost use Rattle.ember_algebra.specs.Sign.{sgn, is_negative};
+ghost use Rattle.ember_model.specs.Valid.{IsValidPlane, IsValidTri};
+ghost use Rattle.ember_model.specs.Planes.{value_at, edge_planes};
+ghost use Rattle.ember_model.specs.ClearTest.{all_negative};
+ghost use Rattle.ember_box.specs.Near.{place};
+ghost use Rattle.ember_ref.specs.References.{corner_of, reference_of, or_sign, IsBoxCorner, IsLevel};
+
+use ember_algebra::{Sign, sign_of};
+use ember_model::{Axis, Plane, Tri, edge_plane};
+
+// The first of two signs that isn't zero.
+fn or_sign(first: Sign, second: Sign) -> Sign
+    ensures { result ≡ or_sign first second }
+{
+    match first {
+        Sign::Zero => second,
+        _ => first,
+    }
+}
+
+fn value_at_corner(p: &Plane, at: [i32; 3]) -> i64
+    requires plane { IsValidPlane p.now }
+    requires corner { IsBoxCorner (corner_of at) }
+    ensures value { result ≡ value_at p.now (place (corner_of at)) }
+    ensures small { Small (2 ^ 40) result }
+{
+    let [x, y, z] = at;
+    p.a * x as i64 + p.b * y as i64 + p.c * z as i64 - p.d
+}
+
+/// The sign of the plane at the reference point of a box with the least corner `lo`. It is never
+/// `Zero` where the plane has a normal: the first of the plane's value at the corner and the
+/// entries of its normal that isn't 0 decides.
+pub fn lex_side(p: &Plane, lo: [i32; 3]) -> Sign
+    requires plane { IsValidPlane p.now }
+    requires corner { IsBoxCorner (corner_of lo) }
+    ensures value { result ≡ sgn (value_at p.now (reference_of lo)) }
+    ensures normal { result ≡ Sign.Zero → IsLevel p.now }
+{
+    let at = sign_of(value_at_corner(p, lo) as i128);
+    let a = sign_of(p.a as i128);
+    let b = sign_of(p.b as i128);
+    let c = sign_of(p.c as i128);
+    or_sign(at, or_sign(a, or_sign(b, c)))
+}
+
+fn is_below(p: &Plane, at: [i32; 3]) -> bool
+    requires plane { IsValidPlane p.now }
+    requires corner { IsBoxCorner (corner_of at) }
+    ensures { result ≡ is_negative (value_at p.now (reference_of at)) }
+{
+    matches!(lex_side(p, at), Sign::Neg)
+}
+
+/// At the reference point all edge planes of the triangle along the axis are negative.
+pub fn is_behind(t: &Tri, k: Axis, at: [i32; 3]) -> bool
+    requires tri { IsValidTri t.now }
+    requires corner { IsBoxCorner (corner_of at) }
+    ensures { result ≡ all_negative (edge_planes t.now k) (reference_of at) }
+{
+    is_below(&edge_plane(t, 0, k), at)
+        && (is_below(&edge_plane(t, 1, k), at) && is_below(&edge_plane(t, 2, k), at))
+}
