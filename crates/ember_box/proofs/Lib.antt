@@ -1,1 +1,4 @@
 pub mod Splits
+pub mod Tests
+pub mod Crossing
+pub mod Nearby

@@ -155,5 +155,23 @@ may_move from log path X above s = (room (slice_index_or from 0 0) (slice_index_
 may_move from log path Y above s = (room (slice_index_or from 1 0) (slice_index_or log 1 0) above (s.sits Y), (s.sits Y).small)
 may_move from log path Z above s = (room (slice_index_or from 2 0) (slice_index_or log 2 0) above (s.sits Z), (s.sits Z).small)
 
+-- a box lies in the root
+within : (x n : ℕ) → Sits (coordinate x) n → x ≤ 4096
+within x n s =
+    omega (arith, offset x (s.place * 2 ^ n) s.at, s.within, next s.place (2 ^ n))
+
+pub lies : (from log : List ℕ) (path : ℕ) (k : Axis) → IsCell (cell_of from log path) → (slice_index_or from (place_of k) 0 ≤ 4096) × (slice_index_or log (place_of k) 0 ≤ 12)
+lies from log path X s =
+    (within (slice_index_or from 0 0) (slice_index_or log 0 0) (s.sits X), (s.sits X).small)
+lies from log path Y s =
+    (within (slice_index_or from 1 0) (slice_index_or log 1 0) (s.sits Y), (s.sits Y).small)
+lies from log path Z s =
+    (within (slice_index_or from 2 0) (slice_index_or log 2 0) (s.sits Z), (s.sits Z).small)
+
+pub low_of : (from log : List ℕ) (path : ℕ) (k : Axis) → coordinate (slice_index_or from (place_of k) 0) ≡ low (cell_of from log path) k
+low_of from log path X = refl
+low_of from log path Y = refl
+low_of from log path Z = refl
+
 pub log_of : (from log : List ℕ) (path : ℕ) (k : Axis) → (cell_of from log path).log k ≡ slice_index_or log (place_of k) 0
 log_of from log path k = log_at log k

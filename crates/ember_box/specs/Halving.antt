@@ -31,7 +31,7 @@ spreads ts c k = not (is_halvable c k) || nat_le (7 * length (near ts c)) (4 * h
 -- at most 16 triangles are near the box, or no axis is worth a halving
 unfoldable pub is_leaf : List Tri → Cell → Bool
 is_leaf ts c =
-    nat_le (length (near ts c)) 16 || (spreads ts c X && (spreads ts c Y && spreads ts c Z))
+    nat_le (length (near ts c)) 16 || spreads ts c X && spreads ts c Y && spreads ts c Z
 
 -- ---- the full tree
 -- the leaves under a box, the lower half's first; at most this many halvings deep

@@ -162,6 +162,7 @@ fn greatest(p: &Plane, b: &Spans) -> i64
 
 /// The corners aren't all strictly on one side of the plane: it isn't positive at the one where
 /// it is least, and not negative at the one where it is greatest.
+#[tactic(auto, unfolding(crate::specs::Spans::crosses))]
 pub fn crosses(p: &Plane, b: &Spans) -> bool
     requires plane { IsSupportSized p.now }
     requires spans { AreSpansSized b.now }

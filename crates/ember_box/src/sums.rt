@@ -1,7 +1,8 @@
 // Along which axis a box is halved, and where halving ends.
-ghost use Rattle.std.specs.Prelude.{◌≡◌, ◌+◌, ◌*◌, ◌<◌, ◌≤◌, ◌&&◌, ◌||◌, not, nat_le, nat_lt, length, All, None, Some, if◌then◌else◌};
+ghost use Rattle.std.specs.Prelude.{◌≡◌, ◌+◌, ◌*◌, ◌<◌, ◌≤◌, ◌&&◌, ◌||◌, not, nat_le, nat_lt, length, All, List, None, Some, if◌then◌else◌};
 ghost use Rattle.ember_model.specs.Valid.{IsValidTri};
-ghost use Rattle.ember_box.specs.Boxes as boxes;
+ghost use Rattle.ember_model.specs.declared.tri.Tri.{Tri};
+ghost use Rattle.ember_model.specs.declared.point.Axis.TheVariants.{X, Y, Z};
 ghost use Rattle.ember_box.specs.Spans.{bounding, AreSpansSized};
 ghost use Rattle.ember_box.specs.Near.{listed};
 ghost use Rattle.ember_box.specs.Halving as halvings;
@@ -154,17 +155,31 @@ fn is_no_better(first: u8, first_sum: u64, second: u8, second_sum: u64) -> bool
     second == 0 || first > 0 && first_sum <= second_sum
 }
 
-fn least_axis(c: &Cell, sums: &Sums) -> Axis
-    ensures { (ts : List Tri) → AreSums ts c.now sums.now → result ≡ halvings.halving_axis ts c.now }
+// X or Y or Z, by what is said of the first two.
+fn chosen(is_x: bool, is_y: bool) -> Axis
+    ensures { result ≡ (if is_x then X else (if is_y then Y else Z)) }
 {
-    let (x, y, z) = (c.log(Axis::X), c.log(Axis::Y), c.log(Axis::Z));
-    if is_no_better(x, sums.x, y, sums.y) && is_no_better(x, sums.x, z, sums.z) {
+    if is_x {
         Axis::X
-    } else if is_no_better(y, sums.y, z, sums.z) {
+    } else if is_y {
         Axis::Y
     } else {
         Axis::Z
     }
+}
+
+fn least_axis(c: &Cell, sums: &Sums) -> Axis
+    ensures { (ts : List Tri) → AreSums ts c.now sums.now → result ≡ halvings.halving_axis ts c.now }
+{
+    let x = c.log(Axis::X);
+    let y = c.log(Axis::Y);
+    let z = c.log(Axis::Z);
+    let x_then_y = is_no_better(x, sums.x, y, sums.y);
+    let x_then_z = is_no_better(x, sums.x, z, sums.z);
+    chosen(
+        x_then_y && x_then_z,
+        is_no_better(y, sums.y, z, sums.z),
+    )
 }
 
 // Halving along the axis isn't possible, or isn't worth it.
@@ -177,10 +192,10 @@ fn spreads(log: u8, near: u64, sum: u64) -> bool
 fn is_leaf_by(c: &Cell, sums: &Sums) -> bool
     ensures { (ts : List Tri) → AreSums ts c.now sums.now → result ≡ halvings.is_leaf ts c.now }
 {
-    sums.near <= FEW
-        || spreads(c.log(Axis::X), sums.near, sums.x)
-            && spreads(c.log(Axis::Y), sums.near, sums.y)
-            && spreads(c.log(Axis::Z), sums.near, sums.z)
+    let x = spreads(c.log(Axis::X), sums.near, sums.x);
+    let y = spreads(c.log(Axis::Y), sums.near, sums.y);
+    let z = spreads(c.log(Axis::Z), sums.near, sums.z);
+    sums.near <= FEW || x && y && z
 }
 
 /// The axis along which the box is halved: the one with the least sum, the first of them in a tie,

@@ -10,9 +10,9 @@ use Rattle.ember_expr.specs.Formula.{Formula, Or, Xor, And, Not, Mesh, Odd, Comp
 abbrev pub count_of : List ℤ → ℕ → ℤ
 count_of counts n = slice_index_or counts (n - 1) (pos 0)
 
--- each count is at most 262,144 in size
+-- each count is at most 2 ^ 24 in size
 abbrev pub AreCounts : List ℤ → Type 0
-AreCounts counts = All (Small 262144) counts
+AreCounts counts = All (Small 16777216) counts
 
 -- the number that a factor stands before; mesh 0 stands for a plain number
 abbrev pub counted : List ℤ → ℕ → ℤ

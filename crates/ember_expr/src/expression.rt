@@ -60,7 +60,7 @@ pub fn parse(alloc: Global, text: &[u8], meshes: u32) -> Result<Expr, ExprFault>
     Ok(Expr { formula })
 }
 
-/// Whether the expression holds at these winding numbers.
+/// Whether the expression holds at these winding numbers, each of which is at most 2^24 in size.
 pub fn value(e: &Expr, v: &Vector) -> bool
     requires { AreCounts v.now.counts }
     ensures { result ≡ truth v.now.counts (formula_of e.now) }

@@ -12,7 +12,7 @@ fn count(mesh: u32, v: &Vector) -> i64
     requires mesh { IsMeshNumber 64 mesh }
     requires counts { AreCounts v.now.counts }
     ensures value { result ≡ count_of v.now.counts mesh }
-    ensures small { Small 262144 result }
+    ensures small { Small 16777216 result }
 {
     i64::from(v.counts[mesh as usize - 1])
 }
@@ -20,9 +20,9 @@ fn count(mesh: u32, v: &Vector) -> i64
 // The product of a factor and a winding number.
 fn product(factor: u32, count: i64) -> i64
     requires factor { factor ≤ 1000000 }
-    requires count { Small 262144 count }
+    requires count { Small 16777216 count }
     ensures value { result ≡ pos factor *ℤ count }
-    ensures small { Small 262144000000 result }
+    ensures small { Small 16777216000000 result }
 {
     i64::from(factor) * count
 }
@@ -32,7 +32,7 @@ fn size(term: &Term, v: &Vector) -> i64
     requires fit { IsFitTerm 64 term.now }
     requires counts { AreCounts v.now.counts }
     ensures value { result ≡ size_of v.now.counts term.now }
-    ensures small { Small 262144000000 result }
+    ensures small { Small 16777216000000 result }
 {
     if term.mesh == 0 {
         return product(term.factor, 1);
@@ -41,9 +41,9 @@ fn size(term: &Term, v: &Vector) -> i64
 }
 
 fn signed(minus: bool, size: i64) -> i64
-    requires { Small 262144000000 size }
+    requires { Small 16777216000000 size }
     ensures value { result ≡ signed minus size }
-    ensures small { Small 262144000000 result }
+    ensures small { Small 16777216000000 result }
 {
     if minus { -size } else { size }
 }
@@ -52,7 +52,7 @@ fn term_value(term: &Term, v: &Vector) -> i64
     requires fit { IsFitTerm 64 term.now }
     requires counts { AreCounts v.now.counts }
     ensures value { result ≡ value_of v.now.counts term.now }
-    ensures small { Small 262144000000 result }
+    ensures small { Small 16777216000000 result }
 {
     signed(term.minus, size(term, v))
 }
@@ -82,7 +82,7 @@ fn holds_between(rel: Rel, x: i64, y: i64) -> bool
     }
 }
 
-/// Whether the tree holds at these winding numbers.
+/// Whether the tree holds at these winding numbers, each of which is at most 2^24 in size.
 pub fn holds(tree: &Tree, v: &Vector) -> bool
     requires fit { IsFit 64 (formula_of tree.now) }
     requires counts { AreCounts v.now.counts }

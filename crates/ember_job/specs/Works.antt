@@ -26,6 +26,10 @@ pub record IsSplit (whole low high : Cell) : Type 0 where
   pub is_low : low ≡ left_half whole axis
   pub is_high : high ≡ right_half whole axis
 
+-- what a work's laws say of the two halves that answer a valid job
+abbrev pub Splits : (Job → Shape) → (Job → Type 0) → Type 0
+Splits shape valid = (job low high : Job) → valid job → shape job ≡ halved low high → (valid low × valid high) × IsSplit job.cell low.cell high.cell
+
 -- an outcome answers a job where it has the job's shape and its item answers the job
 abbrev pub Answers : {I : Type 0} → (Job → Shape) → (Job → I → Type 0) → Job → Outcome I → Type 0
 Answers shape item job (Halves low high) = shape job ≡ halved low high

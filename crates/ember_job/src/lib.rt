@@ -9,4 +9,4 @@ mod tests;
 
 pub use job::{Entry, Job, Kind, OutOfMemory, Outcome};
 pub use lists::{Journals, Numbers};
-pub use step::{Step, Work};
+pub use step::{OneItem, Step, Work};

@@ -5,7 +5,8 @@ ghost use Rattle.ember_job.specs.Works.{Shape, halved, IsSplit, Answers, Answers
 
 use crate::{Job, OutOfMemory, Outcome};
 
-/// What a run does at its boxes. An outcome answers a job where it has the job's shape and, for a leaf, an item that answers the job.
+/// What a run does at its boxes. An outcome answers a job where it has the job's shape and, for a
+/// leaf, an item that answers the job.
 pub trait Work {
     /// What a leaf gives.
     type Item;
@@ -24,9 +25,12 @@ pub trait Work {
 
     /// They are the two halves of its box along one axis.
     ghost halves_split: { (work : Self) (job low high : Job) → valid work job → shape work job ≡ halved low high → IsSplit job.cell low.cell high.cell };
+}
 
+/// A work whose jobs have one answer each.
+pub trait OneItem: Work {
     /// Two items that answer one job are equal.
-    ghost one_item: { (work : Self) (job : Job) (one other : Self.Item) → item work job one → item work job other → one ≡ other };
+    ghost one_item: { (work : Self) (job : Job) (one other : Self.Item) → Self.item work job one → Self.item work job other → one ≡ other };
 }
 
 /// A step over a work: the closure stands beside the work whose jobs it answers.
@@ -37,7 +41,8 @@ pub struct Step<W: Work, F: Fn(&Job) -> Result<Outcome<W::Item>, OutOfMemory>> {
 }
 
 impl<W: Work, F: Fn(&Job) -> Result<Outcome<W::Item>, OutOfMemory>> Step<W, F> {
-    /// The step that calls `call`, which may be called at every valid job and whose every Ok answers that job.
+    /// The step that calls `call`, which may be called at every valid job and whose every Ok
+    /// answers that job.
     pub fn new(work: W, call: F) -> Step<W, F>
         requires { AnswersAll W.valid W.shape W.item F.pre F.post work call }
         ensures kept { (result.work ≡ work) × (result.call ≡ call) }

@@ -2,7 +2,7 @@
 ghost use Rattle.std.specs.Prelude.{◌≡◌, IfOk};
 ghost use Rattle.ember_job.specs.Works.{Answers, leafed};
 
-use crate::{Job, Numbers, OutOfMemory, Outcome, Step, Work};
+use crate::{Job, Numbers, OneItem, OutOfMemory, Outcome, Step, Work};
 use ember_box::root;
 use ember_model::Vector;
 use std::test::Fail;
@@ -12,7 +12,7 @@ struct Leaves {}
 
 impl Work for Leaves {
     ghost use Rattle.std.specs.Prelude.{◌≡◌};
-    ghost use Rattle.std.proofs.Common.{◌∙◌, sym, ap, true≢false};
+    ghost use Rattle.std.proofs.Common.{sym, ap, true≢false};
     ghost use Rattle.ember_job.specs.Works.{leafed, is_halved};
 
     type Item = u64;
@@ -26,6 +26,10 @@ impl Work for Leaves {
     ghost halves_valid = { λ _ _ _ _ _ _. (tt, tt) };
 
     ghost halves_split = { λ _ _ _ _ _ e. absurd (true≢false (sym (ap is_halved e))) };
+}
+
+impl OneItem for Leaves {
+    ghost use Rattle.std.proofs.Common.{◌∙◌, sym};
 
     ghost one_item = { λ _ _ _ _ one other. one ∙ sym other };
 }

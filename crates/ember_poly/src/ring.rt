@@ -7,6 +7,7 @@ ghost use Rattle.ember_model.specs.Edges.{IsOutline};
 ghost use Rattle.ember_point.specs.Points.{spot_of};
 ghost use Rattle.ember_poly.specs.Sides.{ring_edges, AreEdges, AreCorners};
 
+use crate::rim::{Rim, with_room};
 use ember_model::{Corner, OutOfMemory, Plane, Tri, face_of};
 use ember_point::Meet;
 use std::alloc::Global;
@@ -15,14 +16,10 @@ use std::marker::Model;
 /// A convex face with its corners.
 #[derive(Drop)]
 pub struct Ring {
-    support: Plane,
+    pub(crate) support: Plane,
     // All edge planes of the face, the earliest first.
-    planes: Vec<Plane>,
-    // The planes whose edges count, in their order round the face, with the corner where each edge
-    // starts and its place among all planes.
-    edges: Vec<Plane>,
-    corners: Vec<Meet>,
-    births: Vec<usize>,
+    pub(crate) planes: Vec<Plane>,
+    pub(crate) rim: Rim,
 }
 
 impl Model for Ring {
@@ -34,7 +31,7 @@ impl Model for Ring {
     ghost view = { λ r. record { support = r.support; edges = r.planes.items } };
 
     ghost invariant = { λ r. IsRing r.support r.planes.items
-        r.edges.items r.corners.items r.births.items };
+        r.rim.edges.items r.rim.corners.items r.rim.births.items };
 }
 
 // The corner as a point with the weight 1.
@@ -69,9 +66,11 @@ pub fn of_tri(alloc: Global, t: &Tri) -> Result<Option<Ring>, OutOfMemory>
             Ok(Some(Ring {
                 support,
                 planes,
-                edges,
-                corners,
-                births,
+                rim: Rim {
+                    edges,
+                    corners,
+                    births,
+                },
             }))
         }
     }
@@ -81,16 +80,12 @@ pub fn of_tri(alloc: Global, t: &Tri) -> Result<Option<Ring>, OutOfMemory>
 pub fn copy(alloc: Global, r: &Ring) -> Result<Ring, OutOfMemory>
     ensures { IfOk result (λ c. c ≡ r.now) }
 {
-    let planes = Vec::from_slice(alloc, r.planes.as_slice())?;
-    let edges = Vec::from_slice(alloc, r.edges.as_slice())?;
-    let corners = Vec::from_slice(alloc, r.corners.as_slice())?;
-    let births = Vec::from_slice(alloc, r.births.as_slice())?;
+    let planes = with_room(alloc, r.planes.as_slice())?;
+    let rim = r.rim.copy(alloc)?;
     Ok(Ring {
         support: r.support,
         planes,
-        edges,
-        corners,
-        births,
+        rim,
     })
 }
 
@@ -107,14 +102,14 @@ pub fn support(r: &Ring) -> Plane
 pub fn edges(r: &Ring) -> &[Plane]
     ensures { AreEdges r.now result.now }
 {
-    &r.edges
+    &r.rim.edges
 }
 
 /// The corners at which these edges start, in the same order.
 pub fn corners(r: &Ring) -> &[Meet]
     ensures { AreCorners r.now result.now }
 {
-    &r.corners
+    &r.rim.corners
 }
 
 /// The edges that count, in order round the face, and the corners at which they start.
@@ -124,5 +119,5 @@ pub fn outline(r: &Ring) -> (&[Plane], &[Meet])
     ensures three { 3 ≤ length result.0.now }
     ensures valid { All IsValidPlane result.0.now }
 {
-    (&r.edges, &r.corners)
+    (&r.rim.edges, &r.rim.corners)
 }

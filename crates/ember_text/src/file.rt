@@ -17,6 +17,13 @@ pub fn begin_file(alloc: Global) -> Result<Vec<u8>, OutOfMemory>
 pub fn end_file(count: u32, out: &mut Vec<u8>) -> Result<(), OutOfMemory>
     ensures { OnOk result (out.new.items ≡ out.old.items ++ ending count) }
 {
+    put_ending(u64::from(count), out)
+}
+
+// The last line, with this number of faces.
+pub fn put_ending(count: u64, out: &mut Vec<u8>) -> Result<(), OutOfMemory>
+    ensures { OnOk result (out.new.items ≡ out.old.items ++ ending count) }
+{
     let mut buffer = Buffer::new();
     out.extend_from_slice(b"end ")?;
     out.extend_from_slice(buffer.format(count).as_bytes())?;

@@ -1,28 +1,25 @@
 -- Journals that keep the rules are a run of the core: the tree of the visited boxes with the owner of each.
-use Rattle.std.proofs.Common.{◌≡◌, ◌≢◌, ◌⊎◌, ℕ, zero, suc, ◌+◌, ◌*◌, ◌^◌, ◌<◌, ◌≤◌, List, [], ◌∷◌, ◌++◌, length, map, refl, sym, ap, ap₂, ◌∙◌, subst, inl, inr, arith}
+use Rattle.std.proofs.Common.{◌≡◌, ℕ, zero, suc, ◌+◌, ◌*◌, ◌^◌, ◌<◌, ◌≤◌, List, [], ◌∷◌, ◌++◌, length, map, refl, sym, ap, ap₂, ◌∙◌, subst, arith}
 use Rattle.std.proofs.lemmas.List.{map-append}
 use Rattle.std.proofs.lemmas.Nat.{pow_pos}
-use Rattle.steal_core.specs.Runs.{Tree, rests, halved as node, Rules, keep, halved_in, others_in, halved_by, finished_by, IsRun}
+use Rattle.steal_core.specs.Runs.{Tree, rests, halved as node, Rules, halved_in, others_in}
 use Rattle.steal_core.proofs.Journals.{is_run}
 use Rattle.ember_box.specs.Boxes.{Cell, left}
 use Rattle.ember_job.specs.Weights.{weigh, one}
+use Rattle.ember_job.proofs.Weights.{weigh_map, more_weight}
 use Rattle.ember_job.specs.declared.job.Job.{Job}
 use Rattle.ember_job.specs.declared.job.Entry.{Entry}
 use Rattle.ember_job.specs.declared.job.Kind.{Kind}
 use Rattle.ember_job.specs.declared.job.Kind.TheVariants.{Halved, Leafed, Passed}
-use Rattle.ember_job.specs.Works.{Shape, halved, leafed, passed, IsSplit}
-use Rattle.ember_job.specs.Visited.{entry, kind_of, entry_of, visited, visited_within}
-use Rattle.steal_pool.specs.Seats.{at_job, at_entry, if_halved}
+use Rattle.ember_job.specs.Works.{Shape, halved, leafed, passed, Splits}
+use Rattle.ember_job.specs.Visited.{kind_of, entry_of, visited}
+use Rattle.steal_pool.specs.Seats.{at_entry, if_halved}
 use Rattle.steal_pool.specs.Journals.{times, times_halved, if_halved_at, journal_of, KeepRules}
 use Rattle.steal_pool.specs.CoreRuns.{unless_halved, IsCoreRun}
 use Rattle.steal_pool.proofs.Rules.{weigh_append}
 use Rattle.steal_pool.proofs.Trees.{one_same, halved_visits, leaf_visits, passed_visits, low_less, high_less}
 use Rattle.steal_pool.proofs.Places.{base, Fits, low_base, high_base, fits_low, fits_high}
-use Rattle.steal_pool.proofs.Owned.{turn_of, turn_is, Up, up_append, up_from, once, top, owner, owner_has, some_journal, one_journal, owner_is, only, keep_weighs, by_owner, by_all, outer}
-
-pub weigh_map : {A C : Type 0} (f : A → C) (h : C → ℕ) (xs : List A) → weigh h (map f xs) ≡ weigh (λ x. h (f x)) xs
-weigh_map f h [] = refl
-weigh_map f h (x ∷ xs) = omega (arith, weigh_map f h xs)
+use Rattle.steal_pool.proofs.Owned.{turn_of, turn_is, Up, up_append, up_from, once, top, owner, owner_has, some_journal, owner_is, only, keep_weighs, by_owner, outer}
 
 halved_nil : (κ : Kind) → if_halved κ 0 ≡ 0
 halved_nil Halved = refl
@@ -39,14 +36,7 @@ half_less Halved n = omega arith
 half_less Leafed n = omega arith
 half_less Passed n = omega arith
 
-less_weight : {X : Type 0} (h k : X → ℕ) → ((x : X) → h x ≤ k x) → (xs : List X) → weigh h xs ≤ weigh k xs
-less_weight h k less [] = omega arith
-less_weight h k less (x ∷ xs) = omega (arith, less x, less_weight h k less xs)
-
 module _ (shape : Job → Shape) (valid : Job → Type 0) where
-  abbrev pub Halves : Type 0
-  Halves = (j l r : Job) → valid j → shape j ≡ halved l r → (valid l × valid r) × IsSplit j.cell l.cell r.cell
-
   abbrev tree_shape : (Job → Tree) → Shape → Tree
   tree_shape below (halved l r) = node (below l) (below r)
   tree_shape below leafed = rests
@@ -77,7 +67,7 @@ module _ (shape : Job → Shape) (valid : Job → Type 0) where
   tree_passed (suc d) j is = ap (tree_shape (tree_within d)) is
 
   -- the visited boxes stand in the order of their turns
-  ups : (d : ℕ) (j : Job) → left j.cell ≡ d → Halves → valid j → Fits j → (s : Shape) → shape j ≡ s → Up (turn_of j.cell.path) (top j) (visited shape j)
+  ups : (d : ℕ) (j : Job) → left j.cell ≡ d → Splits shape valid → valid j → Fits j → (s : Shape) → shape j ≡ s → Up (turn_of j.cell.path) (top j) (visited shape j)
   ups d j at h v f leafed is = subst (Up (turn_of j.cell.path) (top j)) (sym (leaf_visits shape (left j.cell) j is)) (omega arith, omega (arith, turn_is j f, room (base j) (2 ^ left j.cell) (pow_pos (left j.cell)))) where
     room : (b x : ℕ) → 0 < x → b * 2 ^ 27 * 64 + 36 + 1 ≤ (b + x) * 2 ^ 27 * 64
     room b x above = omega (arith, above)
@@ -101,7 +91,7 @@ module _ (shape : Job → Shape) (valid : Job → Type 0) where
       let end : top r ≡ top j = omega (arith, br, sr) in
       subst (Up (turn_of j.cell.path) (top j)) (sym (halved_visits shape (left j.cell) j l r refl is low high)) (omega arith, up_append (turn_of j.cell.path + 1) (top l) (top j) (visited shape l) (visited shape r) (subst (λ n. Up n (top l) (visited shape l)) next wl) (up_from (turn_of r.cell.path) (top l) (top j) (visited shape r) mid (subst (λ n. Up (turn_of r.cell.path) n (visited shape r)) end wr)))
 
-  module _ (root : Job) (n : ℕ) (js : List (List Entry)) (h : Halves) (v : valid root) (f : Fits root) (rules : KeepRules shape root n js) (many : length js ≡ n + 1) where
+  module _ (root : Job) (n : ℕ) (js : List (List Entry)) (h : Splits shape valid) (v : valid root) (f : Fits root) (rules : KeepRules shape root n js) (many : length js ≡ n + 1) where
     abbrev own : ℕ → ℕ
     own = owner js
 
@@ -124,7 +114,7 @@ module _ (shape : Job → Shape) (valid : Job → Type 0) where
         let p : ℕ = j.cell.path in
         let me : if_halved (kind_of (shape j)) (one p p) ≡ 1 = ap (λ s. if_halved (kind_of s) (one p p)) cut ∙ one_same p p refl in
         let found = some_journal (times_halved p) js (omega (arith, rules.once (if_halved_at p), part (if_halved_at p), ap (λ xs. weigh (if_halved_at p) (map (entry_of shape) xs)) is, me)) in
-        let here : own p ≡ found.0 = owner_is js p found.0 (few p) (omega (arith, found.1, less_weight (if_halved_at p) (at_entry (one p)) (λ e. half_less e.kind (one p e.path)) (journal_of found.0 js))) in
+        let here : own p ≡ found.0 = owner_is js p found.0 (few p) (omega (arith, found.1, more_weight (if_halved_at p) (at_entry (one p)) (λ e. half_less e.kind (one p e.path)) (journal_of found.0 js))) in
         subst (λ k. 0 < times_halved p (journal_of k js)) (sym here) found.1
 
     kept : (d : ℕ) (j : Job) → left j.cell ≡ d → valid j → Part j → (s : Shape) → shape j ≡ s → Rules n own (tree j) j.cell.path

@@ -4,15 +4,16 @@ use Rattle.std.proofs.lemmas.List.{reverse-append, length-reverse, map-append}
 use Rattle.std.specs.declared.alloc.Global.{Global}
 use Rattle.crossbeam_deque.specs.declared.handles.Stealer.{Stealer}
 use Rattle.ember_job.specs.Weights.{weigh}
+use Rattle.ember_job.proofs.Weights.{weigh_map}
 use Rattle.ember_job.specs.declared.job.Job.{Job}
 use Rattle.ember_job.specs.declared.job.Entry.{Entry}
 use Rattle.ember_tree.specs.declared.part.Part.{Part}
 use Rattle.steal_pool.specs.declared.rule.Hand.{Hand}
 use Rattle.steal_pool.specs.declared.seat.Seat.{Seat}
-use Rattle.steal_pool.specs.Seats.{Weight, at_job, at_entry, at_left, at_halves}
-use Rattle.steal_pool.specs.Turns.{Ready, Ended, EachEnded}
+use Rattle.steal_pool.specs.Seats.{Weight, at_job, at_entry, at_left}
+use Rattle.steal_pool.specs.Turns.{Ready, EachEnded}
 use Rattle.steal_pool.proofs.Rules.{weigh_append}
-use Rattle.steal_pool.specs.Gathers.{KeepsLeft, KeepsBoth, Begins, EachKeeps, HasLast, EachStays, Books, Gathers}
+use Rattle.steal_pool.specs.Gathers.{Begins, EachKeeps, HasLast, EachStays, Books, Gathers}
 
 pub each_stays : {P K I : Type 0} (visited : Job → Type 0) (found : Part I → Type 0) (w : Weight) (ts : List (Stealer Job Global Hand P)) (ss vs : List (Seat K I)) → All (λ s. Ready visited found ts s) ss → EachEnded found w ts ss vs → EachStays ss (map (λ (s : Seat K I). s.journal.items) vs)
 each_stays visited found w ts [] [] a e = tt
@@ -29,10 +30,6 @@ map_reverse f (x ∷ xs) = ap (map f) (reverse-append (x ∷ []) xs) ∙ map-app
 
 pub journals_are : {A C : Type 0} (f : A → C) (js rs ps : List A) (j : A) (ended : List C) → rs ≡ reverse js → ps ≡ rs ++ j ∷ [] → map f js ≡ ended → map f ps ≡ reverse ended ++ f j ∷ []
 journals_are f js rs ps j ended turned pushed same = ap (map f) pushed ∙ map-append f rs (j ∷ []) ∙ ap (λ ys. ys ++ f j ∷ []) (ap (map f) turned ∙ map_reverse f js ∙ ap reverse same)
-
-weigh_map : {A C : Type 0} (f : A → C) (h : C → ℕ) (xs : List A) → weigh h (map f xs) ≡ weigh (λ x. h (f x)) xs
-weigh_map f h [] = refl
-weigh_map f h (x ∷ xs) = omega (arith, weigh_map f h xs)
 
 weigh_reverse : {A : Type 0} (h : A → ℕ) (xs : List A) → weigh h (reverse xs) ≡ weigh h xs
 weigh_reverse h [] = refl

@@ -3,12 +3,12 @@ use Rattle.std.proofs.Common.{◌≡◌, ◌≢◌, ◌⊎◌, ℕ, zero, suc, �
 use Rattle.std.proofs.lemmas.Bool.Decides.{eqb_tells}
 use Rattle.std.proofs.lemmas.Nat.{pow_pos}
 use Rattle.std.specs.List.{sum_by, fold}
-use Rattle.std.specs.List.Sorted.{IsPermutation, IsNonDecreasingBy}
+use Rattle.std.specs.List.Sorted.{IsNonDecreasingBy}
 use Rattle.std.proofs.lemmas.List.Sorted.{sum_by-IsPermutation, All-permutation}
-use Rattle.ember_box.specs.Boxes.{Cell, left}
+use Rattle.ember_box.specs.Boxes.{left}
 use Rattle.ember_job.specs.Weights.{weigh, one}
 use Rattle.ember_job.specs.declared.job.Job.{Job}
-use Rattle.ember_job.specs.Works.{Shape, halved, leafed, passed, IsSplit}
+use Rattle.ember_job.specs.Works.{Shape, halved, leafed, passed, Splits}
 use Rattle.ember_job.specs.Visited.{IsVisited, root_visited, left_visited, right_visited, visited, visited_within, below_shape, if_leafed, leaves_among, leaves}
 use Rattle.ember_tree.specs.declared.part.Part.{Part}
 use Rattle.ember_tree.specs.Order.{tree_place, IsMerged}
@@ -59,9 +59,6 @@ no_passed : (s : Shape) (a b : Job) → s ≡ passed → s ≡ halved a b → �
 no_passed s a b e u = subst IsHalved (sym (sym e ∙ u)) tt
 
 module _ (shape : Job → Shape) (valid : Job → Type 0) where
-  abbrev Halves : Type 0
-  Halves = (j l r : Job) → valid j → shape j ≡ halved l r → (valid l × valid r) × IsSplit j.cell l.cell r.cell
-
   first_visit : (d : ℕ) (j : Job) → Inside j (visited_within shape d j)
   first_visit zero j = inl refl
   first_visit (suc d) j = at (shape j) where
@@ -71,7 +68,7 @@ module _ (shape : Job → Shape) (valid : Job → Type 0) where
     at passed = inl refl
 
   -- the halves of what stands in the tree stand there
-  closed : (d : ℕ) (j : Job) → left j.cell ≡ d → Halves → valid j → (s : Shape) → shape j ≡ s → (x a b : Job) → Inside x (visited shape j) → shape x ≡ halved a b → Inside a (visited shape j) × Inside b (visited shape j)
+  closed : (d : ℕ) (j : Job) → left j.cell ≡ d → Splits shape valid → valid j → (s : Shape) → shape j ≡ s → (x a b : Job) → Inside x (visited shape j) → shape x ≡ halved a b → Inside a (visited shape j) × Inside b (visited shape j)
   closed d j at h v leafed is x a b i e = elim (subst (Inside x) (leaf_visits shape (left j.cell) j is) i) [ inl same ↦ absurd (no_leaf (shape x) a b (ap shape same ∙ is) e) | inr none ↦ absurd none ]
   closed d j at h v passed is x a b i e = elim (subst (Inside x) (passed_visits shape (left j.cell) j is) i) [ inl same ↦ absurd (no_passed (shape x) a b (ap shape same ∙ is) e) | inr none ↦ absurd none ]
   closed zero j at h v (halved l r) is x a b i e = absurd (omega (arith, at, low_less j.cell l.cell r.cell (h j l r v is).1))
@@ -94,7 +91,7 @@ module _ (shape : Job → Shape) (valid : Job → Type 0) where
         | inr two ↦ let r' = in_high two in (inside_right a (visited shape l) (visited shape r) r'.0, inside_right b (visited shape l) (visited shape r) r'.1)
       ]
 
-  stands : (root : Job) → Halves → valid root → (x : Job) → IsVisited shape root x → Inside x (visited shape root)
+  stands : (root : Job) → Splits shape valid → valid root → (x : Job) → IsVisited shape root x → Inside x (visited shape root)
   stands root h v x root_visited = first_visit (left root.cell) root
   stands root h v x (left_visited j l r w is) = (closed (left root.cell) root refl h v (shape root) refl j l r (stands root h v j w) is).0
   stands root h v x (right_visited j l r w is) = (closed (left root.cell) root refl h v (shape root) refl j l r (stands root h v j w) is).1
@@ -203,7 +200,7 @@ module _ {I : Type 0} where
     start : (n : ℕ) → n ≡ 0 + n
     start n = omega arith
 
-  pub merged : (shape : Job → Shape) (item : Job → I → Type 0) (valid : Job → Type 0) → ((j l r : Job) → valid j → shape j ≡ halved l r → (valid l × valid r) × IsSplit j.cell l.cell r.cell) → (root : Job) → valid root → Fits root → (parts : List (Part I)) (items : List I) → AreParts shape item root parts → IsMerged parts items → EachAnswers item (leaves shape root) items
+  pub merged : (shape : Job → Shape) (item : Job → I → Type 0) (valid : Job → Type 0) → Splits shape valid → (root : Job) → valid root → Fits root → (parts : List (Part I)) (items : List I) → AreParts shape item root parts → IsMerged parts items → EachAnswers item (leaves shape root) items
   merged shape item valid h root v f parts items are m =
       let w = leaves_within shape valid (left root.cell) root refl h v f (shape root) refl in
       subst (EachAnswers item (leaves shape root)) (sym m.are)

@@ -1,26 +1,18 @@
 -- Journals that keep the rules are a run of the core.
-use Rattle.std.proofs.Common.{◌≡◌, ◌≢◌, ◌⊎◌, ℕ, zero, suc, ◌+◌, ◌-◌, ◌*◌, ◌^◌, ◌<◌, ◌≤◌, List, [], ◌∷◌, ◌++◌, length, map, if◌then◌else◌, ◌==◌, refl, sym, ap, ap₂, ◌∙◌, subst, inl, inr, arith}
+use Rattle.std.proofs.Common.{◌≡◌, ◌≢◌, ℕ, zero, suc, ◌+◌, ◌-◌, ◌*◌, ◌^◌, ◌<◌, ◌≤◌, List, [], ◌∷◌, ◌++◌, length, if◌then◌else◌, ◌==◌, refl, sym, ap, ap₂, ◌∙◌, subst, inl, inr, arith}
 use Rattle.std.proofs.lemmas.Bool.Decides.{eqb_tells}
-use Rattle.std.proofs.lemmas.List.{map-append}
-use Rattle.std.proofs.lemmas.Nat.{pow_pos}
 use Rattle.std.specs.Int.{leading_zeros, w64}
-use Rattle.steal_core.specs.Runs.{Tree, rests, halved as node, Rules, keep, halved_in, others_in, halved_by, finished_by, IsRun}
-use Rattle.steal_core.proofs.Journals.{is_run}
-use Rattle.ember_box.specs.Boxes.{Cell, left}
+use Rattle.steal_core.specs.Runs.{keep}
+use Rattle.ember_box.specs.Boxes.{left}
 use Rattle.ember_job.specs.Weights.{weigh, one}
 use Rattle.ember_job.specs.declared.job.Job.{Job}
 use Rattle.ember_job.specs.declared.job.Entry.{Entry}
 use Rattle.ember_job.specs.declared.job.Kind.{Kind}
-use Rattle.ember_job.specs.declared.job.Kind.TheVariants.{Halved, Leafed, Passed}
-use Rattle.ember_job.specs.Works.{Shape, halved, leafed, passed, IsSplit}
-use Rattle.ember_job.specs.Visited.{entry, kind_of, entry_of, visited, visited_within}
 use Rattle.ember_tree.specs.Order.{tree_place}
-use Rattle.steal_pool.specs.Seats.{at_job, at_entry, if_halved}
-use Rattle.steal_pool.specs.Journals.{times, times_halved, if_halved_at, journal_of, KeepRules}
-use Rattle.steal_pool.specs.CoreRuns.{unless_halved, IsCoreRun}
-use Rattle.steal_pool.proofs.Rules.{weigh_append}
-use Rattle.steal_pool.proofs.Trees.{one_same, halved_visits, leaf_visits, passed_visits, low_less, high_less}
-use Rattle.steal_pool.proofs.Places.{base, Fits, place_is, zeros_are, low_base, high_base, fits_low, fits_high, fits_root}
+use Rattle.steal_pool.specs.Seats.{at_job}
+use Rattle.steal_pool.specs.Journals.{times, journal_of}
+use Rattle.steal_pool.proofs.Trees.{one_same}
+use Rattle.steal_pool.proofs.Places.{base, Fits, place_is, zeros_are}
 
 one_other : (x y : ℕ) → y ≢ x → one x y ≡ 0
 one_other x y n = elim (eqb_tells y x) [ inl h ↦ absurd (n h.1) | inr h ↦ rw h.0 refl ]

@@ -1,13 +1,13 @@
 -- The leaves of a tree stand in ascending places, and two visited jobs with one path are one.
-use Rattle.std.proofs.Common.{◌≡◌, ◌≢◌, ◌⊎◌, ℕ, zero, suc, pred, ◌+◌, ◌-◌, ◌*◌, ◌^◌, ◌<◌, ◌≤◌, List, [], ◌∷◌, ◌++◌, Bool, true, false, true≢false, refl, sym, ap, ap₂, ◌∙◌, subst, append_assoc, inl, inr, arith}
+use Rattle.std.proofs.Common.{◌≡◌, ℕ, zero, suc, ◌+◌, ◌-◌, ◌*◌, ◌^◌, ◌<◌, ◌≤◌, List, [], ◌∷◌, ◌++◌, refl, sym, ap, ◌∙◌, subst, append_assoc, arith}
 use Rattle.std.proofs.Math.Nat.{lt_of_mul-lt-mul_right, pow-succ'}
 use Rattle.std.proofs.lemmas.Nat.{pow-add, pow_pos}
 use Rattle.std.specs.Int.{leading_zeros, w64}
 use Rattle.std.specs.Int.Count.{leading_unique}
 use Rattle.ember_box.specs.Boxes.{Cell, left, root}
 use Rattle.ember_job.specs.declared.job.Job.{Job}
-use Rattle.ember_job.specs.Works.{Shape, halved, leafed, passed, IsSplit}
-use Rattle.ember_job.specs.Visited.{IsVisited, root_visited, left_visited, right_visited, visited, visited_within, if_leafed, leaves_among, leaves}
+use Rattle.ember_job.specs.Works.{Shape, halved, leafed, passed, IsSplit, Splits}
+use Rattle.ember_job.specs.Visited.{visited, if_leafed, leaves_among}
 use Rattle.ember_tree.specs.Order.{tree_place}
 use Rattle.steal_pool.proofs.Trees.{halved_visits, leaf_visits, passed_visits, low_less, high_less}
 
@@ -106,15 +106,12 @@ within_append lo mid hi [] ys a b = within_from mid lo hi ys a b
 within_append lo mid hi (x ∷ xs) ys a b = (a.0, a.1, within_append (base x + 1) mid hi xs ys a.2 b)
 
 module _ (shape : Job → Shape) (valid : Job → Type 0) where
-  abbrev pub Halves : Type 0
-  Halves = (j l r : Job) → valid j → shape j ≡ halved l r → (valid l × valid r) × IsSplit j.cell l.cell r.cell
-
   leaves_append : (xs ys : List Job) → leaves_among shape (xs ++ ys) ≡ leaves_among shape xs ++ leaves_among shape ys
   leaves_append [] ys = refl
   leaves_append (x ∷ xs) ys = ap (λ zs. if_leafed x (shape x) ++ zs) (leaves_append xs ys) ∙ sym (append_assoc (if_leafed x (shape x)) (leaves_among shape xs) (leaves_among shape ys))
 
   -- the leaves of a job stand within its place
-  pub leaves_within : (d : ℕ) (j : Job) → left j.cell ≡ d → Halves → valid j → Fits j → (s : Shape) → shape j ≡ s → Within (base j) (base j + 2 ^ left j.cell) (leaves_among shape (visited shape j))
+  pub leaves_within : (d : ℕ) (j : Job) → left j.cell ≡ d → Splits shape valid → valid j → Fits j → (s : Shape) → shape j ≡ s → Within (base j) (base j + 2 ^ left j.cell) (leaves_among shape (visited shape j))
   leaves_within d j at h v f leafed is = subst (λ js. Within (base j) (base j + 2 ^ left j.cell) (leaves_among shape js)) (sym (leaf_visits shape (left j.cell) j is)) (subst (λ s. Within (base j) (base j + 2 ^ left j.cell) (if_leafed j s ++ [])) (sym is) (omega arith, f, omega (arith, pow_pos (left j.cell))))
   leaves_within d j at h v f passed is = subst (λ js. Within (base j) (base j + 2 ^ left j.cell) (leaves_among shape js)) (sym (passed_visits shape (left j.cell) j is)) (subst (λ s. Within (base j) (base j + 2 ^ left j.cell) (if_leafed j s ++ [])) (sym is) (omega arith))
   leaves_within zero j at h v f (halved l r) is = absurd (omega (arith, at, low_less j.cell l.cell r.cell (h j l r v is).1))

@@ -6,14 +6,15 @@ use Rattle.ember_model.specs.declared.point.Axis.{Axis}
 use Rattle.ember_model.specs.declared.point.Axis.TheVariants.{X, Y, Z}
 use Rattle.ember_box.specs.Boxes.{Cell, left, left_half, right_half}
 use Rattle.ember_job.specs.Weights.{weigh, one}
+use Rattle.ember_job.proofs.Weights.{more_weight}
 use Rattle.ember_job.specs.declared.job.Job.{Job}
 use Rattle.ember_job.specs.declared.job.Entry.{Entry}
 use Rattle.ember_job.specs.declared.job.Kind.{Kind}
 use Rattle.ember_job.specs.declared.job.Kind.TheVariants.{Halved, Leafed, Passed}
 use Rattle.ember_job.specs.declared.job.Outcome.{Outcome}
 use Rattle.ember_job.specs.declared.job.Outcome.TheVariants.{Halves, Leaf, Skipped}
-use Rattle.ember_job.specs.Works.{Shape, halved, leafed, passed, IsSplit, Answers}
-use Rattle.ember_job.specs.Visited.{IsVisited, root_visited, left_visited, right_visited, entry, kind_of, entry_of, visited, visited_within, below_shape, if_leafed, leaves_among, leaves}
+use Rattle.ember_job.specs.Works.{Shape, halved, leafed, passed, IsSplit, Splits, Answers}
+use Rattle.ember_job.specs.Visited.{IsVisited, root_visited, left_visited, right_visited, entry, kind_of, entry_of, visited, visited_within, below_shape, if_leafed, leaves_among}
 use Rattle.ember_tree.specs.declared.part.Part.{Part}
 use Rattle.steal_pool.specs.Seats.{Told, IsPart, by_path, at_job, at_entry, at_left, at_halves, if_halved}
 use Rattle.steal_pool.specs.Gathers.{KeepsLeft, KeepsBoth, Begins, EachKeeps, Gathers}
@@ -83,16 +84,12 @@ module _ (shape : Job → Shape) where
   leaves_weigh g (j ∷ js) = omega (arith, leaf_at g j (shape j), weigh_append (at_job g) (if_leafed j (shape j)) (leaves_among shape js), leaves_weigh g js)
 
   module _ {I : Type 0} (item : Job → I → Type 0) (valid : Job → Type 0) (root : Job) where
-    -- what a work's laws say of two halves
-    abbrev pub Splits : Type 0
-    Splits = (j l r : Job) → valid j → shape j ≡ halved l r → (valid l × valid r) × IsSplit j.cell l.cell r.cell
-
-    pub visited_valid : Splits → valid root → (j : Job) → IsVisited shape root j → valid j
+    pub visited_valid : Splits shape valid → valid root → (j : Job) → IsVisited shape root j → valid j
     visited_valid s v j root_visited = v
     visited_valid s v j (left_visited p l r w is) = (s p l r (visited_valid s v p w) is).0.0
     visited_valid s v j (right_visited p l r w is) = (s p l r (visited_valid s v p w) is).0.1
 
-    pub told : Splits → (j : Job) (o : Outcome I) → IsVisited shape root j → valid j → Answers shape item j o → Told (IsVisited shape root) (AnswersLeaf shape item) (tree_weight shape) j o
+    pub told : Splits shape valid → (j : Job) (o : Outcome I) → IsVisited shape root j → valid j → Answers shape item j o → Told (IsVisited shape root) (AnswersLeaf shape item) (tree_weight shape) j o
     told s j (Halves l r) w v e =
         let cut = (s j l r v e).1 in
         let low = low_less j.cell l.cell r.cell cut in
@@ -108,7 +105,7 @@ module _ (shape : Job → Shape) where
     told s j (Leaf it) w v e = ((e.0, e.1), λ h g. omega (arith, ap (weigh (box_weight shape h g)) (leaf_visits (left j.cell) j e.0), box_weighs h g j leafed e.0))
     told s j Skipped w v e = λ h g. omega (arith, ap (weigh (box_weight shape h g)) (passed_visits (left j.cell) j e), box_weighs h g j passed e)
 
-    pub told_all : Splits → (j : Job) (r : Result (Outcome I) AllocError) → IsVisited shape root j → valid j → IfOk r (λ o. Answers shape item j o) → IfOk r (λ o. Told (IsVisited shape root) (AnswersLeaf shape item) (tree_weight shape) j o)
+    pub told_all : Splits shape valid → (j : Job) (r : Result (Outcome I) AllocError) → IsVisited shape root j → valid j → IfOk r (λ o. Answers shape item j o) → IfOk r (λ o. Told (IsVisited shape root) (AnswersLeaf shape item) (tree_weight shape) j o)
     told_all s j (Ok o) w v e = told s j o w v e
     told_all s j (Err x) w v e = e
 
@@ -116,10 +113,6 @@ module _ (shape : Job → Shape) where
 no_weight : {X : Type 0} (h : X → ℕ) → ((x : X) → h x ≡ 0) → (xs : List X) → weigh h xs ≡ 0
 no_weight h none [] = refl
 no_weight h none (x ∷ xs) = omega (arith, none x, no_weight h none xs)
-
-more_weight : {X : Type 0} (h k : X → ℕ) → ((x : X) → h x ≤ k x) → (xs : List X) → weigh h xs ≤ weigh k xs
-more_weight h k less [] = omega arith
-more_weight h k less (x ∷ xs) = omega (arith, less x, more_weight h k less xs)
 
 pub one_same : (x y : ℕ) → y ≡ x → one x y ≡ 1
 one_same x y e = elim (eqb_tells y x) [ inl h ↦ rw h.0 refl | inr h ↦ absurd (h.1 e) ]

@@ -1,5 +1,5 @@
 -- Journals as a run of the core.
-use Rattle.std.specs.Prelude.{◌≡◌, ℕ, zero, suc, ◌*◌, List, [], ◌∷◌}
+use Rattle.std.specs.Prelude.{◌≡◌, ℕ, List}
 use Rattle.steal_core.specs.declared.place.Placed.{Placed}
 use Rattle.steal_core.specs.declared.place.Event.{Event}
 use Rattle.steal_core.specs.Core.{core, begin, AllEnded}

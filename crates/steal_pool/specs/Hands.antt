@@ -1,5 +1,5 @@
 -- What the passes of one deque know.
-use Rattle.std.specs.Prelude.{◌≡◌, ◌≢◌, ℕ, ◌+◌, Bool, true, false, List, [], ◌∷◌, All}
+use Rattle.std.specs.Prelude.{◌≡◌, ◌≢◌, ℕ, ◌+◌, Bool, true, false, List, [], All}
 use mathlib.Core.Option.{some}
 use lib.ListN.{get_elem?}
 use Rattle.ember_job.specs.Weights.{weigh}

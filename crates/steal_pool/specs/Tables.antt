@@ -6,7 +6,6 @@ use Rattle.crossbeam_deque.specs.declared.handles.Stealer.{Stealer}
 use Rattle.crossbeam_deque.specs.declared.handles.Worker.{Worker}
 use Rattle.ember_job.specs.declared.job.Job.{Job}
 use Rattle.ember_job.specs.declared.job.Entry.{Entry}
-use Rattle.ember_tree.specs.declared.part.Part.{Part}
 use Rattle.steal_pool.specs.declared.rule.Hand.{Hand}
 use Rattle.steal_pool.specs.declared.rule.Fair.{Fair}
 use Rattle.steal_pool.specs.declared.seat.Seat.{Seat}

@@ -15,7 +15,8 @@ impl Gate for OpenGate {
     fn enter(&self, _path: u64) {}
 }
 
-/// The gate of the tests. It holds each box of one depth until all boxes of that depth have come, each for at most `TURNS` turns. Once a box has waited so long, it lets every box pass.
+/// The gate of the tests. It holds each box of one depth until all boxes of that depth have come,
+/// each for at most `TURNS` turns. Once a box has waited so long, it lets every box pass.
 #[derive(Drop)]
 pub struct DepthGate {
     depth: u32,

@@ -43,7 +43,8 @@ impl<I> PartList<I> {
     }
 }
 
-/// What a run gives: the items of the leaves with their paths, which worker ended which box, and how many boxes were left to the caller. The last journal is the caller's.
+/// What a run gives: the items of the leaves with their paths, which worker ended which box, and
+/// how many boxes were left to the caller. The last journal is the caller's.
 #[derive(Drop)]
 pub struct Harvest<I> {
     pub parts: PartList<I>,

@@ -10,19 +10,22 @@ ghost use Rattle.steal_pool.specs.Journals.{AreParts, KeepRules};
 ghost use Rattle.steal_pool.specs.CoreRuns.{IsCoreRun};
 ghost use Rattle.steal_pool.specs.Merged.{EachAnswers};
 
-use ember_job::Work;
+use ember_job::{OneItem, Work};
 
-/// The items of a run's parts, merged, answer the leaves of the visited tree in its order, for every number of workers and every schedule.
+/// The items of a run's parts, merged, answer the leaves of the visited tree in its order, for
+/// every number of workers and every schedule.
 pub fn merged_items_answer_the_leaves<W: Work>(_work: &W)
     ensures { (root : Job) (parts : List (Part W.Item)) (items : List W.Item) → W.valid _work.now root → root.cell ≡ boxes.root → AreParts (W.shape _work.now) (W.item _work.now) root parts → IsMerged parts items → EachAnswers (W.item _work.now) (leaves (W.shape _work.now) root) items }
 {}
 
-/// Items that answer the same jobs are the same items. So the merged items of a run don't depend on the number of workers, nor on the schedule.
-pub fn items_that_answer_are_equal<W: Work>(_work: &W)
+/// Where a job has one answer, items that answer the same jobs are the same items. So the merged
+/// items of a run don't depend on the number of workers, nor on the schedule.
+pub fn items_that_answer_are_equal<W: OneItem>(_work: &W)
     ensures { (jobs : List Job) (items others : List W.Item) → EachAnswers (W.item _work.now) jobs items → EachAnswers (W.item _work.now) jobs others → items ≡ others }
 {}
 
-/// Journals of a run are a run of the core: the first four rules of journals give a list of steps in which each number ends just the boxes of its journal.
+/// Journals of a run are a run of the core: the first four rules of journals give a list of steps
+/// in which each number ends just the boxes of its journal.
 pub fn journals_are_a_run_of_the_core<W: Work>(_work: &W)
     ensures { (root : Job) (workers room : ℕ) (journals : List (List Entry)) → W.valid _work.now root → root.cell ≡ boxes.root → KeepRules (W.shape _work.now) root workers journals → length journals ≡ workers + 1 → IsCoreRun workers room journals }
 {}

@@ -35,7 +35,8 @@ impl<I> Weighing<I> for Brand {
 
 pub type Boxes = SmallVec<Job, 40>;
 
-/// What a worker has: its end of its own deque, a pass on each deque, the boxes in its hand, and what it has ended.
+/// What a worker has: its end of its own deque, a pass on each deque, the boxes in its hand, and
+/// what it has ended.
 #[derive(Drop)]
 pub struct Seat<K: Naming, I> {
     pub owner: Owner<K>,

@@ -6,7 +6,7 @@ ghost use Rattle.steal_pool.specs.Halving.{halving_shape, is_path};
 
 use crate::{DepthGate, Gate, Harvest, OpenGate, run_alone, run_tree};
 use ember_box::{halves, root};
-use ember_job::{Job, Numbers, OutOfMemory, Outcome, Step, Work};
+use ember_job::{Job, Numbers, OneItem, OutOfMemory, Outcome, Step, Work};
 use ember_model::{Axis, Vector};
 use ember_tree::merge;
 use std::alloc::{AllocError, Global};
@@ -24,7 +24,6 @@ struct Halving {
 
 impl Work for Halving {
     ghost use Rattle.std.specs.Prelude.{◌≡◌};
-    ghost use Rattle.std.proofs.Common.{◌∙◌, sym};
     ghost use Rattle.steal_pool.specs.Halving.{halving_shape, is_path, halves_split as split};
 
     type Item = u64;
@@ -38,6 +37,10 @@ impl Work for Halving {
     ghost halves_valid = { λ _ _ _ _ _ _. (tt, tt) };
 
     ghost halves_split = { λ w j l r _ e. split w.floor j l r e };
+}
+
+impl OneItem for Halving {
+    ghost use Rattle.std.proofs.Common.{◌∙◌, sym};
 
     ghost one_item = { λ _ _ _ _ x y. x ∙ sym y };
 }

@@ -78,7 +78,10 @@ fn run_tree_for<
     run_named::<R, K, I, F, G>(rt, alloc, workers as usize, root, call, gate)
 }
 
-/// Runs the root and all that is visited below it, in this thread alone, left halves first, and enters the gate before each box. The root is a valid job of the root box. There is one journal, that of worker 0, and nothing is left to the caller. It makes no deque and waits for nobody. Its one error is want of memory.
+/// Runs the root and all that is visited below it, in this thread alone, left halves first, and
+/// enters the gate before each box. The root is a valid job of the root box. There is one journal,
+/// that of worker 0, and nothing is left to the caller. It makes no deque and waits for nobody. Its
+/// one error is want of memory.
 pub fn run_alone<W: Work, F: Fn(&Job) -> Result<Outcome<W::Item>, OutOfMemory>, G: Gate>(
     alloc: Global,
     root: Job,
@@ -102,7 +105,10 @@ where
     Ok(harvest)
 }
 
-/// Runs the root and all that is visited below it by 1 to 64 `workers` and, after them, the caller, and enters the gate before each box. The root is a valid job of the root box. There are `workers + 1` journals; the last is the caller's, and `left` is its length. Its one error is want of memory.
+/// Runs the root and all that is visited below it by 1 to 64 `workers` and, after them, the caller,
+/// and enters the gate before each box. The root is a valid job of the root box. There are `workers
+/// + 1` journals; the last is the caller's, and `left` is its length. Its one error is want of
+/// memory.
 pub fn run_tree<
     R: Threads + Wait + Sync,
     W: Work + Sync,

@@ -4,4 +4,4 @@ use Rattle.ember_algebra.specs.Size.{Small}
 use Rattle.ember_expr.proofs.expression.bounded.Goals as goal
 
 pub value-requires : goal.value-requires
-value-requires c = All-replicate (Small 262144) 64 (pos 0) (record { small = omega arith })
+value-requires c = All-replicate (Small 16777216) 64 (pos 0) (record { small = omega arith })

@@ -6,5 +6,5 @@ use Rattle.ember_expr.proofs.truth.sum_value.Given as goal
 abbrev pub invariant-loop-term : goal.invariant-loop-term
 invariant-loop-term l = record {
   same : sum_of l.v.counts l.terms ≡ sum_from l.sum l.v.counts (drop l.term-index l.terms);
-  small : Small (262144000000 * l.term-index) l.sum;
+  small : Small (16777216000000 * l.term-index) l.sum;
 }

@@ -1,7 +1,6 @@
 use Rattle.std.proofs.Common.{◌≡◌, ◌+◌, ◌≤◌, ℕ, All}
 use Rattle.crossbeam_deque.specs.Handles.{worker_view}
 use Rattle.ember_job.specs.declared.job.Entry.{Entry}
-use Rattle.ember_tree.specs.declared.part.Part.{Part}
 use Rattle.ember_job.specs.Weights.{weigh}
 use Rattle.steal_pool.specs.Owners.{Lent}
 use Rattle.steal_pool.specs.Seats.{IsPart, by_path, at_entry, at_halves}

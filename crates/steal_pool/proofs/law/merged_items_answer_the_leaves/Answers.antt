@@ -1,4 +1,3 @@
-use Rattle.std.proofs.Common.{sym, subst, arith}
 use Rattle.steal_pool.proofs.Places.{fits_root}
 use Rattle.steal_pool.proofs.Merging.{merged}
 use Rattle.steal_pool.proofs.law.merged_items_answer_the_leaves.Goals as goal

@@ -1,4 +1,4 @@
-use Rattle.std.proofs.Common.{[], ◌∷◌, ap, arith}
+use Rattle.std.proofs.Common.{ap, arith}
 use Rattle.steal_pool.specs.Owners.{all_pushed, all_popped}
 use Rattle.steal_pool.proofs.Sums.{pushed_snoc, popped_snoc}
 use Rattle.steal_pool.proofs.Tables.{last_is_back}

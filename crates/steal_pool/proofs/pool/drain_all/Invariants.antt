@@ -1,6 +1,5 @@
 use Rattle.std.proofs.Common.{◌≡◌, ◌+◌, ◌≤◌, ℕ, All, length}
 use Rattle.ember_job.specs.declared.job.Entry.{Entry}
-use Rattle.ember_tree.specs.declared.part.Part.{Part}
 use Rattle.ember_job.specs.Weights.{weigh}
 use Rattle.steal_pool.specs.Seats.{IsPart, by_path, at_entry, at_halves}
 use Rattle.steal_pool.specs.Owners.{AllBack, all_pushed, all_popped}

@@ -1,6 +1,5 @@
 use Rattle.std.proofs.Common.{map, ◌++◌, ◌≡◌, ◌+◌, ℕ, [], All, length, vec_len}
 use Rattle.ember_job.specs.declared.job.Entry.{Entry}
-use Rattle.ember_tree.specs.declared.part.Part.{Part}
 use Rattle.ember_job.specs.Weights.{weigh}
 use Rattle.steal_pool.specs.Owners.{Lent, all_pushed, all_popped}
 use Rattle.steal_pool.specs.Seats.{EachPass, all_taken, IsPart, by_path}

@@ -1,7 +1,6 @@
-use Rattle.std.proofs.Common.{[], ◌∷◌, ap, arith, map, refl, sym, ◌∙◌}
+use Rattle.std.proofs.Common.{ap, arith, map, ◌∙◌}
 use Rattle.ember_job.specs.Weights.{weigh}
 use Rattle.steal_pool.specs.Seats.{IsPart, by_path, at_entry, at_halves}
-use Rattle.steal_pool.proofs.Rules.{weigh_append}
 use Rattle.steal_pool.proofs.Sums.{each_sums}
 use Rattle.steal_pool.proofs.Tables.{ended_all}
 use Rattle.steal_pool.proofs.Gathered.{each_stays, journals_are, journals_weigh}

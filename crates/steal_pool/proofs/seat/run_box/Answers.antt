@@ -1,5 +1,4 @@
-use Rattle.std.proofs.Common.{[], ◌∷◌, ◌*◌, ap, arith, ◌∙◌, sym}
-use Rattle.crossbeam_deque.specs.Handles.{worker_view}
+use Rattle.std.proofs.Common.{[], ◌∷◌, ◌*◌, ap, arith}
 use Rattle.ember_job.specs.declared.job.Kind.TheVariants.{Halved}
 use Rattle.ember_job.specs.Visited.{entry}
 use Rattle.ember_job.specs.Weights.{weigh}

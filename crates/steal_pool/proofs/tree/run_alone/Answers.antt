@@ -1,6 +1,6 @@
 use Rattle.std.proofs.Common.{ap, [], ◌∷◌, ◌++◌}
 use Rattle.ember_box.specs.Boxes.{Cell}
-use Rattle.ember_job.specs.Visited.{IsVisited, root_visited}
+use Rattle.ember_job.specs.Visited.{root_visited}
 use Rattle.steal_pool.proofs.Trees.{told_all, visited_valid, keep_rules, are_parts}
 use Rattle.steal_pool.proofs.tree.run_alone.Goals as goal
 

@@ -1,6 +1,6 @@
 use Rattle.std.proofs.Common.{[], ◌∷◌, ◌++◌, ap, ◌∙◌, refl, length, map, arith}
 use Rattle.ember_job.specs.Weights.{weigh}
-use Rattle.steal_pool.specs.Seats.{by_path, at_entry, at_halves}
+use Rattle.steal_pool.specs.Seats.{by_path}
 use Rattle.steal_pool.proofs.Trees.{begins_both}
 use Rattle.steal_pool.proofs.tree.run_alone_for.Goals as goal
 

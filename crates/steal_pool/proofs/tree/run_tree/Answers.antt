@@ -1,6 +1,6 @@
 use Rattle.std.proofs.Common.{ap, ◌∙◌, sym, length}
 use Rattle.ember_box.specs.Boxes.{Cell}
-use Rattle.ember_job.specs.Visited.{IsVisited, root_visited}
+use Rattle.ember_job.specs.Visited.{root_visited}
 use Rattle.steal_pool.proofs.Trees.{told_all, visited_valid, keep_rules, are_parts, many, caller_is}
 use Rattle.steal_pool.proofs.tree.run_tree.Goals as goal
 

@@ -1,0 +1,11 @@
+//! The three-valued truth of an expression, where the winding numbers of some meshes are
+//! undecided.
+#![tactic(auto)]
+
+mod mask;
+#[cfg(test)]
+mod tests;
+mod truth;
+
+pub use mask::Mask;
+pub use truth::{decided_is_true, known};

@@ -1,0 +1,37 @@
+-- On which sides of a plane a face lies, and its two parts
+use Rattle.std.specs.Prelude.{◌≡◌, true}
+use Rattle.ember_algebra.specs.Sign.{is_negative, is_zero, is_positive}
+use Rattle.ember_model.specs.declared.plane.Plane.{Plane}
+use Rattle.ember_model.specs.declared.point.Spot.{Spot}
+use Rattle.ember_model.specs.declared.face.Face.{Face}
+use Rattle.ember_model.specs.Planes.{value_at}
+use Rattle.ember_model.specs.Faces.{Somewhere, Everywhere, Cuts, below, above}
+use Rattle.ember_poly.specs.declared.answers.Reach.{Reach}
+use Rattle.ember_poly.specs.declared.answers.Reach.TheVariants as reach
+use Rattle.ember_poly.specs.declared.answers.Cut.{Cut}
+use Rattle.ember_poly.specs.declared.answers.Cut.TheVariants as cut
+
+-- f has inside points, and each of them has the property
+pub record IsWhole (f : Face) (P : Spot → Type 0) : Type 0 where
+  pub somewhere : Somewhere f P
+  pub everywhere : Everywhere f P
+
+-- on which sides of the plane the inside points lie
+abbrev pub IsReach : Face → Plane → Reach → Type 0
+IsReach f p reach.Below = IsWhole f (λ v. is_negative (value_at p v) ≡ true)
+IsReach f p reach.Above = IsWhole f (λ v. is_positive (value_at p v) ≡ true)
+IsReach f p reach.On = IsWhole f (λ v. is_zero (value_at p v) ≡ true)
+IsReach f p reach.Both = Cuts f p
+
+-- the plane cuts f, and these are the parts below it and above it
+pub record AreParts (f : Face) (p : Plane) (low high : Face) : Type 0 where
+  pub cuts : Cuts f p
+  pub low : low ≡ below f p
+  pub high : high ≡ above f p
+
+-- the side on which all of f lies, or its two parts
+abbrev pub IsCut : Face → Plane → Cut → Type 0
+IsCut f p cut.Below = IsReach f p reach.Below
+IsCut f p cut.Above = IsReach f p reach.Above
+IsCut f p cut.On = IsReach f p reach.On
+IsCut f p (cut.Both low high) = AreParts f p low high

@@ -1,0 +1,69 @@
+// Rings cut by planes.
+ghost use Rattle.std.specs.Prelude.{◌≡◌, IfOk};
+ghost use Rattle.ember_model.specs.Valid.{IsValidPlane};
+ghost use Rattle.ember_model.specs.Planes.{opposite};
+ghost use Rattle.ember_model.specs.Faces.{Cuts, below};
+ghost use Rattle.ember_poly.specs.Cuts.{IsCut};
+
+use crate::answers::{Cut, Reach};
+use crate::passage::find_passage;
+use crate::reaching::reach;
+use crate::rim::{least, with_room};
+use crate::ring::Ring;
+use ember_model::{OutOfMemory, Plane};
+use std::alloc::Global;
+
+// The same plane with the opposite front.
+fn opposite(p: &Plane) -> Plane
+    requires { IsValidPlane p.now }
+    ensures value { result ≡ opposite p.now }
+    ensures valid { IsValidPlane result }
+{
+    Plane {
+        a: -p.a,
+        b: -p.b,
+        c: -p.c,
+        d: -p.d,
+    }
+}
+
+// The part below a plane that has inside points on both sides.
+fn part_below(alloc: Global, r: &Ring, p: &Plane) -> Result<Ring, OutOfMemory>
+    requires plane { IsValidPlane p.now }
+    requires cuts { Cuts r.now p.now }
+    ensures { IfOk result (λ part. part ≡ below r.now p.now) }
+{
+    let at = find_passage(&r.support, &r.rim, p);
+    let mut planes = with_room(alloc, r.planes.as_slice())?;
+    let mut rim = r.rim.copy(alloc)?;
+    rim.turn(at.first);
+    rim.truncate(at.kept + 1);
+    rim.corners[0] = at.entry;
+    rim.push(*p, at.exit, planes.len())?;
+    planes.push(*p)?;
+    let oldest = least(rim.births.as_slice());
+    rim.turn(oldest);
+    Ok(Ring {
+        support: r.support,
+        planes,
+        rim,
+    })
+}
+
+/// Cuts a ring by a plane: the part below has the plane as one more edge plane, the part above
+/// has its opposite.
+pub fn cut(alloc: Global, r: &Ring, p: &Plane) -> Result<Cut, OutOfMemory>
+    requires { IsValidPlane p.now }
+    ensures { IfOk result (λ c. IsCut r.now p.now c) }
+{
+    match reach(r, p) {
+        Reach::Below => Ok(Cut::Below),
+        Reach::Above => Ok(Cut::Above),
+        Reach::On => Ok(Cut::On),
+        Reach::Both => {
+            let low = part_below(alloc, r, p)?;
+            let high = part_below(alloc, r, &opposite(p))?;
+            Ok(Cut::Both(low, high))
+        }
+    }
+}

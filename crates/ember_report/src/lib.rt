@@ -1,0 +1,10 @@
+//! The numbers of a run, and their line.
+#![tactic(auto)]
+
+mod line;
+mod report;
+#[cfg(test)]
+mod tests;
+
+pub use line::report_line;
+pub use report::{Report, report_of};

@@ -1,0 +1,41 @@
+-- The jobs of a scene: the root's, and those of the halves of a job
+use Rattle.std.specs.Prelude.{◌≡◌, ℕ, ◌-◌, ◌*◌, ◌<◌, ℤ, pos, List, All, length, replicate}
+use Rattle.ember_algebra.specs.Size.{Small}
+use Rattle.ember_model.specs.declared.tri.Tri.{Tri}
+use Rattle.ember_model.specs.declared.point.Axis.{Axis}
+use Rattle.ember_box.specs.Boxes.{Cell, root, left, left_half, right_half}
+use Rattle.ember_box.specs.Near.{listed, near_places, places}
+use Rattle.ember_ref.specs.References.{carried}
+use Rattle.ember_job.specs.declared.job.Job.{Job}
+
+abbrev pub job_of : Cell → List ℕ → List ℤ → Job
+job_of cell list counts = record { cell = cell; list = list; at = record { counts = counts } }
+
+-- the triangles near a job's box, by its list
+abbrev pub near_of : List Tri → Job → List Tri
+near_of ts j = listed ts j.list
+
+-- how many halvings made a box
+abbrev pub depth : Cell → ℕ
+depth c = 36 - left c
+
+-- the list is that of the triangles near the box, and each halving added no more to a count than there are triangles
+pub record IsJob (ts : List Tri) (j : Job) : Type 0 where
+  pub list : j.list ≡ near_places ts j.cell (places ts)
+  pub counts : All (Small (262144 * depth j.cell)) j.at.counts
+  pub all_meshes : length j.at.counts ≡ 64
+
+-- the root, with the triangles near it and no windings
+abbrev pub root_job : List Tri → Job
+root_job ts = job_of root (near_places ts root (places ts)) (replicate 64 (pos 0))
+
+-- the halves of a job along an axis, each with the triangles near it; the reference point of the left half is that of the whole
+abbrev pub left_job : List Tri → Job → Axis → Job
+left_job ts j k = job_of (left_half j.cell k) (near_places ts (left_half j.cell k) j.list) j.at.counts
+
+abbrev pub right_job : List Tri → Job → Axis → Job
+right_job ts j k = job_of (right_half j.cell k) (near_places ts (right_half j.cell k) j.list) (carried (near_of ts j) j.cell k j.at.counts)
+
+pub record AreHalves (ts : List Tri) (j : Job) (k : Axis) (low high : Job) : Type 0 where
+  pub is_low : low ≡ left_job ts j k
+  pub is_high : high ≡ right_job ts j k

@@ -1,0 +1,32 @@
+-- What is known of an expression in a whole box, and what becomes of a job
+use Rattle.std.specs.Prelude.{ℕ, ◌==◌, ◌||◌, Bool, true, false, List, [], ◌∷◌, Option, None, Some}
+use Rattle.ember_model.specs.declared.tri.Tri.{Tri}
+use Rattle.ember_expr.specs.Formula.{Formula}
+use Rattle.ember_known.specs.Known.{known}
+use Rattle.ember_box.specs.Halving.{is_leaf, halving_axis}
+use Rattle.ember_job.specs.declared.job.Job.{Job}
+use Rattle.ember_job.specs.Works.{Shape, halved, leafed, passed}
+use Rattle.ember_step.specs.Jobs.{near_of, left_job, right_job}
+
+-- a triangle of the mesh is among these
+abbrev pub has_mesh : List Tri → ℕ → Bool
+has_mesh [] n = false
+has_mesh (t ∷ ts) n = n == t.mesh || has_mesh ts n
+
+-- the value of a box, where it is known: the meshes that have a triangle near the box are undecided, and the others count as at its reference point
+unfoldable pub box_value : List Tri → Formula → Job → Option Bool
+box_value ts f j = known (has_mesh (near_of ts j)) j.at.counts f
+
+abbrev pub unless_known : Option Bool → Shape → Shape
+unless_known (Some b) s = passed
+unless_known None s = s
+
+abbrev pub leaf_or : Bool → Shape → Shape
+leaf_or true s = leafed
+leaf_or false s = s
+
+-- a box is passed where its value is known, and else it is a leaf or is halved along its axis
+unfoldable pub shape : List Tri → Formula → Job → Shape
+shape ts f j =
+    let k = halving_axis (near_of ts j) j.cell in
+    unless_known (box_value ts f j) (leaf_or (is_leaf (near_of ts j) j.cell) (halved (left_job ts j k) (right_job ts j k)))

@@ -1,0 +1,63 @@
+// The halves of a job.
+ghost use Rattle.std.specs.Prelude.{◌≡◌, ◌<◌, ◌≤◌, length, All, IfOk};
+ghost use Rattle.ember_box.specs.Near.{listed};
+ghost use Rattle.ember_law.specs.Counts.{HasRoom};
+ghost use Rattle.ember_step.specs.Jobs.{AreHalves};
+
+use ember_box::{halves, near_list};
+use ember_job::{Job, Numbers};
+use ember_model::{Axis, OutOfMemory, Scene, Tri, Vector};
+use ember_ref::shift;
+use std::alloc::Global;
+
+/// The listed triangles, in the order of the list.
+pub fn tris_at(alloc: Global, tris: &[Tri], list: &[u32]) -> Result<Vec<Tri>, OutOfMemory>
+    requires { All (λ i. i < length tris.now) list.now }
+    ensures { IfOk result (λ found. found.items ≡ listed tris.now list.now) }
+{
+    let mut found = Vec::with_capacity(alloc, list.len())?;
+    for i in list {
+        found.push(tris[*i as usize])?;
+    }
+    Ok(found)
+}
+
+/// The two halves of a job along an axis, each with those of the job's triangles that are near it
+/// and with the winding numbers at its own reference point. The side along the axis is above 1,
+/// the list holds places of the scene's triangles, at most 262,144, and each count leaves room for
+/// a crossing with each of them.
+pub fn halve_job(
+    alloc: Global,
+    s: &Scene,
+    job: &Job,
+    k: Axis,
+) -> Result<(Job, Job), OutOfMemory>
+    requires side { 0 < job.now.cell.log k }
+    requires places { All (λ i. i < length s.now.tris) job.now.list }
+    requires few { length job.now.list ≤ 262144 }
+    requires room { HasRoom job.now.at.counts }
+    ensures { IfOk result (λ r. AreHalves s.now.tris job.now k r.0 r.1) }
+{
+    let list = job.list.items();
+    let (left, right) = halves(&job.cell, k);
+    let left_list = near_list(alloc, s, list, &left)?;
+    let right_list = near_list(alloc, s, list, &right)?;
+    let mut at = job.at;
+    shift(
+        &tris_at(alloc, s.tris.items(), list)?,
+        &job.cell,
+        k,
+        &mut at,
+    );
+    let low = Job {
+        cell: left,
+        list: Numbers::of(left_list),
+        at: job.at,
+    };
+    let high = Job {
+        cell: right,
+        list: Numbers::of(right_list),
+        at,
+    };
+    Ok((low, high))
+}

@@ -1,0 +1,35 @@
+// The job at which a run begins.
+ghost use Rattle.std.specs.Prelude.{◌≡◌, ◌≤◌, IfOk};
+ghost use Rattle.std.specs.List.{range_with_len};
+ghost use Rattle.ember_step.specs.Jobs as jobs;
+
+use ember_box::{near_list, root};
+use ember_job::{Job, Numbers};
+use ember_model::{OutOfMemory, Scene, Vector};
+use std::alloc::Global;
+
+// The numbers below `count`.
+fn numbers_below(alloc: Global, count: u32) -> Result<Vec<u32>, OutOfMemory>
+    ensures { IfOk result (λ numbers. numbers.items ≡ range_with_len 0 count) }
+{
+    let mut numbers = Vec::with_capacity(alloc, count as usize)?;
+    for i in 0..count {
+        numbers.push(i)?;
+    }
+    Ok(numbers)
+}
+
+/// The root box with the triangles near it, and with no windings: its reference point lies outside
+/// all meshes.
+pub fn root_job(alloc: Global, s: &Scene) -> Result<Job, OutOfMemory>
+    ensures { IfOk result (λ job. job ≡ jobs.root_job s.now.tris) }
+{
+    let root = root();
+    let all = numbers_below(alloc, s.tris.items().len() as u32)?;
+    let list = near_list(alloc, s, &all, &root)?;
+    Ok(Job {
+        cell: root,
+        list: Numbers::of(list),
+        at: Vector { counts: [0; 64] },
+    })
+}

@@ -1,0 +1,38 @@
+// What is known of an expression in a whole box.
+ghost use Rattle.std.specs.Prelude.{◌≡◌, ◌<◌, ℕ, length, All};
+ghost use Rattle.ember_model.specs.Meshes.{HasMesh};
+ghost use Rattle.ember_expr.specs.Formula.{formula_of, IsMeshNumber};
+ghost use Rattle.ember_expr.specs.Truth.{AreCounts};
+ghost use Rattle.ember_known.specs.Masks.{is_in};
+ghost use Rattle.ember_box.specs.Near.{listed};
+ghost use Rattle.ember_step.specs.Values as values;
+ghost use Rattle.ember_step.specs.Values.{has_mesh};
+
+use ember_expr::Expr;
+use ember_job::Job;
+use ember_known::{Mask, known};
+use ember_model::{Scene, Tri};
+
+// The meshes of the listed triangles.
+fn meshes_of(tris: &[Tri], list: &[u32]) -> Mask
+    requires numbered { All (HasMesh 64) tris.now }
+    requires places { All (λ i. i < length tris.now) list.now }
+    ensures { (n : ℕ) → IsMeshNumber 64 n → is_in result.0 n ≡ has_mesh (listed tris.now list.now) n }
+{
+    let mut meshes = Mask::none();
+    for i in list {
+        meshes = meshes.with(tris[*i as usize].mesh);
+    }
+    meshes
+}
+
+/// The value of the expression in the whole box of a job, where it is known: a mesh with a
+/// triangle in the job's list is undecided, and each other mesh counts as in the job's vector. The
+/// list holds places of the scene's triangles, and each count is at most 2^24 in size.
+pub fn box_value(e: &Expr, s: &Scene, job: &Job) -> Option<bool>
+    requires places { All (λ i. i < length s.now.tris) job.now.list }
+    requires counts { AreCounts job.now.at.counts }
+    ensures { result ≡ values.box_value s.now.tris (formula_of e.now) job.now }
+{
+    known(e, &job.at, &meshes_of(s.tris.items(), job.list.items()))
+}

@@ -1,0 +1,12 @@
+//! A solid sampled on a lattice: the work of one box, and the text of all cells.
+#![tactic(auto)]
+
+mod fill;
+mod grid;
+mod step;
+#[cfg(test)]
+mod tests;
+
+pub use fill::{Fill, FillList};
+pub use grid::grid_text;
+pub use step::{VoxelWork, voxel_step};
