@@ -1,5 +1,5 @@
 // The command `at`.
-ghost use Rattle.std.specs.Prelude.{ℕ, ◌≡◌, ◌≢◌, ◌≤◌, ◌++◌, Bool, length, map, take, true, All, None, Some, Err, IfOk, IfErr, OnOk};
+ghost use Rattle.std.specs.Prelude.{ℕ, ◌≡◌, ◌≢◌, ◌≤◌, ◌++◌, ◌-◌, Bool, length, map, take, true, All, None, Some, Err, IfOk, IfErr, OnOk};
 ghost use Rattle.std.specs.List.{list_all};
 ghost use Rattle.std.specs.declared.option.Option.{Option};
 ghost use Rattle.ember_expr.specs.Formula.{Formula, formula_of};
