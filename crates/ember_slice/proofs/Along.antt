@@ -62,7 +62,7 @@ levelE e = record { x = num (pos 0); y = num (pos 0); z = num (pos 2); w = e }
 abbrev pub alongE : TupleE → TupleE → Expr
 alongE n v = n.x ⊗ v.y ⊖ n.y ⊗ v.x
 
-nothing : (k l m o a b c d : ℤ) → a ≡ pos 0 → b ≡ pos 0 → c ≡ pos 0 → d ≡ pos 0 → k *ℤ a +ℤ l *ℤ b +ℤ m *ℤ c +ℤ o *ℤ d ≡ pos 0
+pub nothing : (k l m o a b c d : ℤ) → a ≡ pos 0 → b ≡ pos 0 → c ≡ pos 0 → d ≡ pos 0 → k *ℤ a +ℤ l *ℤ b +ℤ m *ℤ c +ℤ o *ℤ d ≡ pos 0
 nothing k l m o a b c d ea eb ec ed = rw (ea, eb, ec, ed) (omega (arith, ints))
 
 pub compared : (n : Plane) (at : ℤ) (p : Plane) (u v : Spot) → OnLine n at u → OnLine n at v → (pos 2 *ℤ square n) *ℤ (u.w *ℤ value_at p v -ℤ v.w *ℤ value_at p u) ≡ (pos 2 *ℤ slope n p) *ℤ ahead n v u

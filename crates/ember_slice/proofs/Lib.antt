@@ -4,3 +4,4 @@ pub mod Narrowing
 pub mod Bounds
 pub mod SliceTexts
 pub mod Passing
+pub mod OneAnswer

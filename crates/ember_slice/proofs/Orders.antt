@@ -1,11 +1,13 @@
 -- The order of points along a line.
-use Rattle.std.proofs.Common.{◌≡◌, refl, sym, arith, ℤ, pos, ◌-ℤ◌, ◌*ℤ◌, ◌<ℤ◌, ◌≤ℤ◌, Bool, true, false, ◌&&◌}
+use Rattle.std.proofs.Common.{◌≡◌, ◌∙◌, refl, sym, arith, ℤ, pos, ◌-ℤ◌, ◌*ℤ◌, ◌<ℤ◌, ◌≤ℤ◌, Bool, true, false, ◌&&◌}
 use Rattle.ember_algebra.proofs.Laws.{linear, expand}
+use Rattle.ember_algebra.proofs.Ring.{num, ◌⊖◌, ◌⊗◌, ◌≈◌, solve, cancels}
 use Rattle.ember_algebra.proofs.Order.{mul_lt, mul_le, cancel_lt}
 use Rattle.ember_model.specs.declared.plane.Plane.{Plane}
 use Rattle.ember_model.specs.declared.point.Spot.{Spot}
 use Rattle.ember_model.proofs.SignTests.{negative_in, negative_out}
-use Rattle.ember_slice.specs.Lines.{along_line, ahead, is_before}
+use Rattle.ember_slice.specs.Lines.{IsFlat, along_line, ahead, is_before}
+use Rattle.ember_slice.proofs.Along.{ahead_turned}
 
 -- ---- fractions
 pub weak_first : (a b c u v w : ℤ) → pos 0 <ℤ u → pos 0 <ℤ v → pos 0 <ℤ w → (v *ℤ a -ℤ u *ℤ b) ≤ℤ pos 0 → (w *ℤ b -ℤ v *ℤ c) <ℤ pos 0 → (w *ℤ a -ℤ u *ℤ c) <ℤ pos 0
@@ -49,3 +51,14 @@ absorbs_first a b f = sym (implied a b f)
 pub absorbs_second : (a b : Bool) → (a ≡ true → b ≡ true) → a ≡ a && b
 absorbs_second true b f = sym (f refl)
 absorbs_second false b f = refl
+
+-- ---- two points
+pub not_both : (n : Plane) (u v : Spot) → is_before n u v ≡ true → is_before n v u ≡ true → ⊥
+not_both n u v h k =
+    omega (arith, linear, negative_out (ahead n u v) h, negative_out (ahead n v u) k, ahead_turned n u v)
+
+-- a flat plane has no order
+pub tilted : (n : Plane) (u v : Spot) → is_before n u v ≡ true → IsFlat n → ⊥
+tilted n u v h t =
+    let e : ahead n u v ≡ pos 0 = (λ i. v.w *ℤ (t.0 i *ℤ u.y -ℤ t.1 i *ℤ u.x) -ℤ u.w *ℤ (t.0 i *ℤ v.y -ℤ t.1 i *ℤ v.x)) ∙ solve 6 (λ a b x y z q. a ⊗ (num (pos 0) ⊗ x ⊖ num (pos 0) ⊗ y) ⊖ b ⊗ (num (pos 0) ⊗ z ⊖ num (pos 0) ⊗ q) ≈ num (pos 0)) cancels v.w u.w u.y u.x v.y v.x in
+    omega (arith, linear, negative_out (ahead n u v) h, e)

@@ -27,14 +27,11 @@ use Rattle.ember_slice.specs.Lines.{level, IsFlat, along_line, ahead, is_before}
 use Rattle.ember_slice.specs.Spans.{is_behind}
 use Rattle.ember_slice.specs.Segments.{IsSegment, GivesNone, Directed, Gives}
 use Rattle.ember_slice.specs.Crossings.{gap, is_lower, turn, passing, ray_x, ray_y}
-use Rattle.ember_slice.proofs.Along.{OnLine, on_line_out, on_line_in, square, square_above, valueE, levelE, alongE}
-use Rattle.ember_slice.proofs.Orders.{weak_first}
+use Rattle.ember_slice.proofs.Along.{OnLine, on_line_out, on_line_in, square, square_above, nothing, valueE, levelE, alongE}
+use Rattle.ember_slice.proofs.Orders.{weak_first, tilted}
 use Rattle.ember_slice.proofs.Bounds.{cut_on_line}
 
 -- ---- coordinates along the line
-nothing_of_four : (k l m o a b c d : ℤ) → a ≡ pos 0 → b ≡ pos 0 → c ≡ pos 0 → d ≡ pos 0 → k *ℤ a +ℤ l *ℤ b +ℤ m *ℤ c +ℤ o *ℤ d ≡ pos 0
-nothing_of_four k l m o a b c d ea eb ec ed = rw (ea, eb, ec, ed) (omega (arith, linear))
-
 module _ (n : Plane) (at : ℤ) (u v : Spot) (hu : OnLine n at u) (hv : OnLine n at v) where
   pub rises : (pos 2 *ℤ n.a) *ℤ ahead n u v ≡ (pos 2 *ℤ square n) *ℤ gap (λ s. s.y) u v
   rises =
@@ -42,7 +39,7 @@ module _ (n : Plane) (at : ℤ) (u v : Spot) (hu : OnLine n at u) (hv : OnLine n
       identity (tuple ∷ scalar ∷ tuple ∷ tuple ∷ []) (λ n at u v.
       let q = levelE (num (pos 2) ⊗ at ⊕ num (pos 1)) in let s = n.x ⊗ n.x ⊕ n.y ⊗ n.y in
       (num (pos 2) ⊗ n.x) ⊗ (v.w ⊗ alongE n u ⊖ u.w ⊗ alongE n v) ⊖ (num (pos 2) ⊗ s) ⊗ (v.w ⊗ u.y ⊖ u.w ⊗ v.y) ≈ neg (num (pos 2) ⊗ n.y ⊗ v.w) ⊗ valueE n u ⊕ (num (pos 2) ⊗ n.y ⊗ u.w) ⊗ valueE n v ⊕ (n.y ⊗ n.z ⊗ v.w) ⊗ valueE q u ⊕ neg (n.y ⊗ n.z ⊗ u.w) ⊗ valueE q v) cancels (plane_tuple n) at (spot_tuple u) (spot_tuple v) in
-      let z = e ∙ nothing_of_four _ _ _ _ _ _ _ _ hu.support hv.support hu.level hv.level in
+      let z = e ∙ nothing _ _ _ _ _ _ _ _ hu.support hv.support hu.level hv.level in
       omega (arith, linear, z)
 
   pub falls : (pos 2 *ℤ n.b) *ℤ ahead n u v ≡ (pos 2 *ℤ square n) *ℤ gap (λ s. neg_ℤ s.x) u v
@@ -51,7 +48,7 @@ module _ (n : Plane) (at : ℤ) (u v : Spot) (hu : OnLine n at u) (hv : OnLine n
       identity (tuple ∷ scalar ∷ tuple ∷ tuple ∷ []) (λ n at u v.
       let q = levelE (num (pos 2) ⊗ at ⊕ num (pos 1)) in let s = n.x ⊗ n.x ⊕ n.y ⊗ n.y in
       (num (pos 2) ⊗ n.y) ⊗ (v.w ⊗ alongE n u ⊖ u.w ⊗ alongE n v) ⊖ (num (pos 2) ⊗ s) ⊗ (v.w ⊗ neg u.x ⊖ u.w ⊗ neg v.x) ≈ (num (pos 2) ⊗ n.x ⊗ v.w) ⊗ valueE n u ⊕ neg (num (pos 2) ⊗ n.x ⊗ u.w) ⊗ valueE n v ⊕ neg (n.x ⊗ n.z ⊗ v.w) ⊗ valueE q u ⊕ (n.x ⊗ n.z ⊗ u.w) ⊗ valueE q v) cancels (plane_tuple n) at (spot_tuple u) (spot_tuple v) in
-      let z = e ∙ nothing_of_four _ _ _ _ _ _ _ _ hu.support hv.support hu.level hv.level in
+      let z = e ∙ nothing _ _ _ _ _ _ _ _ hu.support hv.support hu.level hv.level in
       omega (arith, linear, z)
 
   -- the way from u to v turns round p as p lies to the front or the back of n
@@ -65,7 +62,7 @@ module _ (n : Plane) (at : ℤ) (u v : Spot) (hu : OnLine n at u) (hv : OnLine n
       let i = alongE n v ⊗ p.w ⊖ v.w ⊗ alongE n p in let j = alongE n u ⊗ p.w ⊖ u.w ⊗ alongE n p in
       let a = v.w ⊗ alongE n u ⊖ u.w ⊗ alongE n v in
       (num (pos 2) ⊗ s) ⊗ (u.x ⊗ (v.y ⊗ p.w ⊖ v.w ⊗ p.y) ⊖ u.y ⊗ (v.x ⊗ p.w ⊖ v.w ⊗ p.x) ⊕ u.w ⊗ (v.x ⊗ p.y ⊖ v.y ⊗ p.x)) ⊖ (num (pos 2) ⊗ valueE n p) ⊗ a ≈ ((num (pos 2) ⊗ i) ⊗ valueE n u ⊕ neg (num (pos 2) ⊗ j) ⊗ valueE n v ⊕ neg (n.z ⊗ i) ⊗ valueE q u ⊕ (n.z ⊗ j) ⊗ valueE q v) ⊕ neg (n.z ⊗ a) ⊗ valueE q p) cancels (plane_tuple n) at (spot_tuple u) (spot_tuple v) (spot_tuple p) in
-      let z = e ∙ (λ k. nothing_of_four (pos 2 *ℤ i) (neg_ℤ (pos 2 *ℤ j)) (neg_ℤ (n.c *ℤ i)) (n.c *ℤ j) _ _ _ _ hu.support hv.support hu.level hv.level k +ℤ neg_ℤ (n.c *ℤ ahead n u v) *ℤ hp k) in
+      let z = e ∙ (λ k. nothing (pos 2 *ℤ i) (neg_ℤ (pos 2 *ℤ j)) (neg_ℤ (n.c *ℤ i)) (n.c *ℤ j) _ _ _ _ hu.support hv.support hu.level hv.level k +ℤ neg_ℤ (n.c *ℤ ahead n u v) *ℤ hp k) in
       finish _ _ (neg_ℤ (n.c *ℤ ahead n u v)) z
     where
       finish : (a b c : ℤ) → a -ℤ b ≡ pos 0 +ℤ c *ℤ pos 0 → a ≡ b
@@ -261,10 +258,8 @@ module _ (a : Axis) (c : Spot → ℤ) (p : Spot) (across : IsAcross a c p) (f :
     leads : ahead n u v <ℤ pos 0
     leads = negative_out (ahead n u v) s.leads
 
-    tilted : IsFlat n → ⊥
-    tilted t =
-        let e : ahead n u v ≡ pos 0 = (λ i. v.w *ℤ (t.0 i *ℤ u.y -ℤ t.1 i *ℤ u.x) -ℤ u.w *ℤ (t.0 i *ℤ v.y -ℤ t.1 i *ℤ v.x)) ∙ solve 6 (λ a b x y z q. a ⊗ (num (pos 0) ⊗ x ⊖ num (pos 0) ⊗ y) ⊖ b ⊗ (num (pos 0) ⊗ z ⊖ num (pos 0) ⊗ q) ≈ num (pos 0)) cancels v.w u.w u.y u.x v.y v.x in
-        omega (arith, linear, leads, e)
+    steep : IsFlat n → ⊥
+    steep = tilted n u v s.leads
 
     low : k ≢ pos 0 → (x : Spot) → is_lower c x h ≡ is_lower c x p
     low nz x = ap is_negative (scaled_low x) ∙ ap is_neg (sgn_scaled (gap c x p) (size_positive k nz))
@@ -284,21 +279,21 @@ module _ (a : Axis) (c : Spot → ℤ) (p : Spot) (across : IsAcross a c p) (f :
     segment_crossed =
         by_sign k
         (λ l. let nz = positive_nonzero l in let hh = hit_on_line n at a p nz (across.flat at) w hp in
-        let inner : is_behind f.edges h ≡ is_lower c u p && is_lower c p v = inside_is nz ∙ (λ i. (up n at c k tilted (across.grows n at) l u h hu hh ∙ low nz u) i && (up n at c k tilted (across.grows n at) l h v hh hv ∙ high nz v) i) in
-        let order = negative_out (gap c u v) (sym (up n at c k tilted (across.grows n at) l u v hu hv) ∙ s.leads) in
-        let away = not_between n at c k tilted (across.grows n at) v u p hv.weight hu.weight w (omega (arith, linear, order, gap_turned n at c k tilted (across.grows n at) u v)) in
+        let inner : is_behind f.edges h ≡ is_lower c u p && is_lower c p v = inside_is nz ∙ (λ i. (up n at c k steep (across.grows n at) l u h hu hh ∙ low nz u) i && (up n at c k steep (across.grows n at) l h v hh hv ∙ high nz v) i) in
+        let order = negative_out (gap c u v) (sym (up n at c k steep (across.grows n at) l u v hu hv) ∙ s.leads) in
+        let away = not_between n at c k steep (across.grows n at) v u p hv.weight hu.weight w (omega (arith, linear, order, gap_turned n at c k steep (across.grows n at) u v)) in
         met (is_lower c u p && is_lower c p v) nz inner
-        ∙ (λ i. cond ((facing_up l ∙ sym (turn_left n at c k tilted (across.grows n at) u v p hu hv hp leads)) i && (is_lower c u p && is_lower c p v)) (sign_pos l i) (pos 0))
+        ∙ (λ i. cond ((facing_up l ∙ sym (turn_left n at c k steep (across.grows n at) u v p hu hv hp leads)) i && (is_lower c u p && is_lower c p v)) (sign_pos l i) (pos 0))
         ∙ pick_first (is_positive (turn u v p)) (is_lower c u p && is_lower c p v) (is_lower c v p && is_lower c p u) (is_negative (turn u v p)) away)
         (λ e. no_entry e ∙ pick_none (is_lower c u p && is_lower c p v) (is_lower c v p && is_lower c p u) (is_positive (turn u v p)) (is_negative (turn u v p))
-        (not_between n at c k tilted (across.grows n at) u v p hu.weight hv.weight w (omega (arith, linear, level_gap e)))
-        (not_between n at c k tilted (across.grows n at) v u p hv.weight hu.weight w (omega (arith, linear, level_gap e, gap_turned n at c k tilted (across.grows n at) u v))))
+        (not_between n at c k steep (across.grows n at) u v p hu.weight hv.weight w (omega (arith, linear, level_gap e)))
+        (not_between n at c k steep (across.grows n at) v u p hv.weight hu.weight w (omega (arith, linear, level_gap e, gap_turned n at c k steep (across.grows n at) u v))))
         (λ l. let nz = negative_nonzero l in let hh = hit_on_line n at a p nz (across.flat at) w hp in
-        let inner : is_behind f.edges h ≡ is_lower c p u && is_lower c v p = inside_is nz ∙ (λ i. (down n at c k tilted (across.grows n at) l u h hu hh ∙ high nz u) i && (down n at c k tilted (across.grows n at) l h v hh hv ∙ low nz v) i) in
-        let order = negative_out (gap c v u) (sym (down n at c k tilted (across.grows n at) l u v hu hv) ∙ s.leads) in
-        let away = not_between n at c k tilted (across.grows n at) u v p hu.weight hv.weight w (omega (arith, linear, order, gap_turned n at c k tilted (across.grows n at) u v)) in
+        let inner : is_behind f.edges h ≡ is_lower c p u && is_lower c v p = inside_is nz ∙ (λ i. (down n at c k steep (across.grows n at) l u h hu hh ∙ high nz u) i && (down n at c k steep (across.grows n at) l h v hh hv ∙ low nz v) i) in
+        let order = negative_out (gap c v u) (sym (down n at c k steep (across.grows n at) l u v hu hv) ∙ s.leads) in
+        let away = not_between n at c k steep (across.grows n at) u v p hu.weight hv.weight w (omega (arith, linear, order, gap_turned n at c k steep (across.grows n at) u v)) in
         met (is_lower c v p && is_lower c p u) nz (inner ∙ swap (is_lower c p u) (is_lower c v p))
-        ∙ (λ i. cond ((facing_down l ∙ sym (turn_right n at c k tilted (across.grows n at) u v p hu hv hp leads)) i && (is_lower c v p && is_lower c p u)) (sign_neg l i) (pos 0))
+        ∙ (λ i. cond ((facing_down l ∙ sym (turn_right n at c k steep (across.grows n at) u v p hu hv hp leads)) i && (is_lower c v p && is_lower c p u)) (sign_neg l i) (pos 0))
         ∙ pick_second (is_negative (turn u v p)) (is_lower c v p && is_lower c p u) (is_lower c u p && is_lower c p v) (is_positive (turn u v p)) away)
       where
         swap : (x y : Bool) → x && y ≡ y && x
@@ -321,7 +316,7 @@ module _ (a : Axis) (c : Spot → ℤ) (p : Spot) (across : IsAcross a c p) (f :
 
         level_gap : k ≡ pos 0 → gap c u v ≡ pos 0
         level_gap e =
-            cancel_eq {c = pos 2 *ℤ square n} (λ z. omega (arith, linear, z, twice (square_above n tilted))) (sym (across.grows n at u v hu hv) ∙ ap (λ z. (pos 2 *ℤ z) *ℤ ahead n u v) e ∙ zeros (ahead n u v) (pos 2 *ℤ square n))
+            cancel_eq {c = pos 2 *ℤ square n} (λ z. omega (arith, linear, z, twice (square_above n steep))) (sym (across.grows n at u v hu hv) ∙ ap (λ z. (pos 2 *ℤ z) *ℤ ahead n u v) e ∙ zeros (ahead n u v) (pos 2 *ℤ square n))
           where
             zeros : (x y : ℤ) → (pos 2 *ℤ pos 0) *ℤ x ≡ y *ℤ pos 0
             zeros x y = omega (arith, linear)

@@ -13,14 +13,15 @@ use Rattle.ember_model.specs.declared.plane.Plane.{Plane}
 use Rattle.ember_model.specs.declared.point.Spot.{Spot}
 use Rattle.ember_model.specs.declared.face.Face.{Face}
 use Rattle.ember_model.specs.FaceFiles.{line_of, ending}
-use Rattle.ember_model.proofs.SignTests.{negative_out, and_parts, clash}
+use Rattle.ember_model.proofs.SignTests.{and_parts, clash}
 use Rattle.ember_point.specs.Points.{spot_of}
 use Rattle.ember_slice.specs.declared.ends.Segment.{Segment}
-use Rattle.ember_slice.specs.Lines.{IsFlat, is_on_line, ahead, is_before}
+use Rattle.ember_slice.specs.Lines.{IsFlat, is_on_line, is_before}
 use Rattle.ember_slice.specs.Segments.{is_cut, IsSegment, GivesNone, IsEndless, Directed, Gives, segment_line, IsSliceText, IsFirstEndless}
 use Rattle.ember_slice.specs.Texts.{AddsSegment, HasSegments}
+use Rattle.ember_slice.proofs.Orders.{not_both}
 use Rattle.ember_slice.proofs.Bounds.{cut_line}
-use Rattle.ember_slice.proofs.Along.{on_line_in, ahead_turned, square, square_above}
+use Rattle.ember_slice.proofs.Along.{on_line_in, square, square_above}
 
 -- ---- one face
 pub adds_none : (f : Face) (at : ℤ) (text : List ℕ) → GivesNone f at → AddsSegment f at 0 text text
@@ -81,10 +82,6 @@ point_on_line n at t =
       support = solve 5 (λ a b c d at. let e = num (pos 2) ⊗ at ⊕ num (pos 1) in let k = num (pos 2) ⊗ d ⊖ c ⊗ e in let s = a ⊗ a ⊕ b ⊗ b in a ⊗ (a ⊗ k) ⊕ b ⊗ (b ⊗ k) ⊕ c ⊗ (e ⊗ s) ⊖ d ⊗ (num (pos 2) ⊗ s) ≈ num (pos 0)) cancels n.a n.b n.c n.d at;
       level = solve 5 (λ a b c d at. let e = num (pos 2) ⊗ at ⊕ num (pos 1) in let k = num (pos 2) ⊗ d ⊖ c ⊗ e in let s = a ⊗ a ⊕ b ⊗ b in num (pos 0) ⊗ (a ⊗ k) ⊕ num (pos 0) ⊗ (b ⊗ k) ⊕ num (pos 2) ⊗ (e ⊗ s) ⊖ e ⊗ (num (pos 2) ⊗ s) ≈ num (pos 0)) cancels n.a n.b n.c n.d at;
     })
-
-not_both : (n : Plane) (u v : Spot) → is_before n u v ≡ true → is_before n v u ≡ true → ⊥
-not_both n u v h k =
-    omega (arith, linear, negative_out (ahead n u v) h, negative_out (ahead n v u) k, ahead_turned n u v)
 
 not_empty : (f : Face) (at : ℤ) → IsEndless f at → ((p : Spot) → is_cut f at p ≡ false) → ⊥
 not_empty f at h k =

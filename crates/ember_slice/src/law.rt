@@ -1,4 +1,4 @@
-// The law of the segments of a slice.
+// The laws of slices.
 ghost use Rattle.std.specs.Prelude.{◌≡◌, ℕ, ℤ, pos, ◌<ℤ◌, List};
 ghost use Rattle.ember_algebra.specs.Sums.{total};
 ghost use Rattle.ember_model.specs.declared.face.Face.{Face};
@@ -15,4 +15,9 @@ ghost use Rattle.ember_slice.specs.Segments.{IsSliceText};
 pub fn segments_wind_as_faces()
     ensures x { (faces : List Face) (at : ℤ) (bytes : List ℕ) (text : IsSliceText faces at bytes) (p : Spot) → pos 0 <ℤ p.w → value_at (level at) p ≡ pos 0 → total (ray_x p) text.segments ≡ wind X faces p }
     ensures y { (faces : List Face) (at : ℤ) (bytes : List ℕ) (text : IsSliceText faces at bytes) (p : Spot) → pos 0 <ℤ p.w → value_at (level at) p ≡ pos 0 → total (ray_y p) text.segments ≡ wind Y faces p }
+{}
+
+/// The faces have one text at a level.
+pub fn slices_have_one_text()
+    ensures { (faces : List Face) (at : ℤ) (one other : List ℕ) → IsSliceText faces at one → IsSliceText faces at other → one ≡ other }
 {}

@@ -15,5 +15,5 @@ mod text;
 pub use ends::Segment;
 pub use face::segment;
 pub use fault::{Endless, SliceFault};
-pub use law::segments_wind_as_faces;
+pub use law::{segments_wind_as_faces, slices_have_one_text};
 pub use text::slice_text;

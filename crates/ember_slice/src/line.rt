@@ -1,5 +1,5 @@
 // The line in which a support plane meets a level plane.
-ghost use Rattle.std.specs.Prelude.{ℤ, pos, negsuc, ◌≡◌, ◌-ℤ◌, ◌*ℤ◌, ◌≤ℤ◌, true, false, MatchBool};
+ghost use Rattle.std.specs.Prelude.{ℤ, pos, negsuc, ◌≡◌, ◌-ℤ◌, ◌*ℤ◌, ◌≤ℤ◌};
 ghost use Rattle.ember_algebra.specs.Size.{Small};
 ghost use Rattle.ember_model.specs.Valid.{IsValidPlane};
 ghost use Rattle.ember_slice.specs.Lines.{level, IsFlat};
