@@ -1,0 +1,5 @@
+pub mod Along
+pub mod Orders
+pub mod Narrowing
+pub mod Bounds
+pub mod SliceTexts
