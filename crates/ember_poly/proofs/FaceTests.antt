@@ -1,15 +1,15 @@
 -- The tests of a face's points, and the same as facts on each plane.
 use Rattle.std.proofs.Common.{◌≡◌, refl, ap, Bool, true, not, ◌&&◌, List, [], ◌∷◌, ℤ, pos}
 use Rattle.std.specs.List.{list_all, AllByRecursion}
-use Rattle.ember_algebra.specs.Sign.{is_zero, is_positive}
+use Rattle.ember_algebra.specs.Sign.{is_negative, is_zero, is_positive}
 use Rattle.ember_model.specs.declared.plane.Plane.{Plane}
 use Rattle.ember_model.specs.declared.point.Spot.{Spot}
 use Rattle.ember_model.specs.declared.face.Face.{Face}
 use Rattle.ember_model.specs.Planes.{value_at}
-use Rattle.ember_model.specs.Faces.{is_in_closed}
+use Rattle.ember_model.specs.Faces.{is_inside, is_in_closed}
 use Rattle.ember_model.specs.Edges.{is_on_edge}
-use Rattle.ember_model.proofs.SignTests.{positive_in, positive_out, not_positive_in, not_positive_out, zero_out, and_parts}
-use Rattle.ember_poly.specs.Rings.{AtMost, InClosedFace}
+use Rattle.ember_model.proofs.SignTests.{negative_in, negative_out, positive_in, positive_out, not_positive_in, not_positive_out, zero_out, and_parts}
+use Rattle.ember_poly.specs.Rings.{Under, AtMost, InFace, InClosedFace}
 
 pub and_in : {a b : Bool} → a ≡ true → b ≡ true → (a && b) ≡ true
 and_in p q = rw (p, q) refl
@@ -17,11 +17,11 @@ and_in p q = rw (p, q) refl
 pub zero_in : {a : ℤ} → a ≡ pos 0 → is_zero a ≡ true
 zero_in e = ap is_zero e
 
-all_in : (gs : List Plane) (v : Spot) → AllByRecursion (λ g. AtMost g v) gs → list_all (λ g. not (is_positive (value_at g v))) gs ≡ true
+pub all_in : (gs : List Plane) (v : Spot) → AllByRecursion (λ g. AtMost g v) gs → list_all (λ g. not (is_positive (value_at g v))) gs ≡ true
 all_in [] v h = refl
 all_in (g ∷ gs) v h = and_in (not_positive_in (value_at g v) h.0.at_most) (all_in gs v h.1)
 
-all_out : (gs : List Plane) (v : Spot) → list_all (λ g. not (is_positive (value_at g v))) gs ≡ true → AllByRecursion (λ g. AtMost g v) gs
+pub all_out : (gs : List Plane) (v : Spot) → list_all (λ g. not (is_positive (value_at g v))) gs ≡ true → AllByRecursion (λ g. AtMost g v) gs
 all_out [] v e = tt
 all_out (g ∷ gs) v e =
     let p = and_parts (not (is_positive (value_at g v))) (list_all (λ g. not (is_positive (value_at g v))) gs) e in
@@ -36,6 +36,27 @@ closed_out f v e =
     let q = and_parts (is_zero (value_at f.support v)) (list_all (λ g. not (is_positive (value_at g v))) f.edges) p.1 in
     record { flat = zero_out (value_at f.support v) q.0; weight = positive_out v.w p.0; within = all_out f.edges v q.1 }
 
+-- ---- inside points
+all_under_in : (gs : List Plane) (v : Spot) → AllByRecursion (λ g. Under g v) gs → list_all (λ g. is_negative (value_at g v)) gs ≡ true
+all_under_in [] v h = refl
+all_under_in (g ∷ gs) v h = and_in (negative_in h.0.under) (all_under_in gs v h.1)
+
+all_under_out : (gs : List Plane) (v : Spot) → list_all (λ g. is_negative (value_at g v)) gs ≡ true → AllByRecursion (λ g. Under g v) gs
+all_under_out [] v e = tt
+all_under_out (g ∷ gs) v e =
+    let p = and_parts (is_negative (value_at g v)) (list_all (λ g. is_negative (value_at g v)) gs) e in
+    (record { under = negative_out (value_at g v) p.0 }, all_under_out gs v p.1)
+
+pub inside_in : (f : Face) (v : Spot) → InFace f.support f.edges v → is_inside f v ≡ true
+inside_in f v h = and_in (positive_in h.weight) (and_in (zero_in h.flat) (all_under_in f.edges v h.within))
+
+pub inside_out : (f : Face) (v : Spot) → is_inside f v ≡ true → InFace f.support f.edges v
+inside_out f v e =
+    let p = and_parts (is_positive v.w) (is_zero (value_at f.support v) && list_all (λ g. is_negative (value_at g v)) f.edges) e in
+    let q = and_parts (is_zero (value_at f.support v)) (list_all (λ g. is_negative (value_at g v)) f.edges) p.1 in
+    record { flat = zero_out (value_at f.support v) q.0; weight = positive_out v.w p.0; within = all_under_out f.edges v q.1 }
+
+-- ---- edges
 pub edge_in : (f : Face) (g : Plane) (v : Spot) → InClosedFace f.support f.edges v → value_at g v ≡ pos 0 → is_on_edge f g v ≡ true
 edge_in f g v h e = and_in (closed_in f v h) (zero_in e)
 

@@ -12,7 +12,8 @@ use Rattle.ember_poly.proofs.Chains.{each_both, each-back, chain_ends}
 use Rattle.ember_poly.proofs.Turns.{turned_by}
 use Rattle.ember_poly.proofs.Lower.{at_most, below_at_most, ends_rooted}
 use Rattle.ember_poly.proofs.Hull.{closed_turned}
-use Rattle.ember_poly.proofs.Strict.{mixed2, mixed2_value}
+use Rattle.ember_poly.specs.Spans.{mixed2}
+use Rattle.ember_poly.proofs.Strict.{mixed2_value}
 
 -- ---- corners are closed
 pub weak : {p : Plane} {v : Spot} → Under p v → AtMost p v

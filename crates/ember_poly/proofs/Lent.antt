@@ -31,7 +31,7 @@ each_plane : (xs : List Side) → AllByRecursion (λ s. IsValidPlane s.plane) xs
 each_plane [] h = tt
 each_plane (x ∷ xs) h = (h.0, each_plane xs h.1)
 
-length-sides_of : (es : List Plane) (ms : List Meet) (bs : List ℕ) → length ms ≡ length es → length bs ≡ length es → length (sides_of es ms bs) ≡ length es
+pub length-sides_of : (es : List Plane) (ms : List Meet) (bs : List ℕ) → length ms ≡ length es → length bs ≡ length es → length (sides_of es ms bs) ≡ length es
 length-sides_of [] ms bs p q = refl
 length-sides_of (e ∷ es) [] bs p q = absurd (omega (arith, p))
 length-sides_of (e ∷ es) (m ∷ ms) [] p q = absurd (omega (arith, q))

@@ -20,3 +20,15 @@ pub mod Lent
 pub mod MovedOutline
 pub mod TurnedOutline
 pub mod TriangleOutline
+pub mod Members
+pub mod Rows
+pub mod Reached
+pub mod Runs
+pub mod Seen
+pub mod Aged
+pub mod Passed
+pub mod Divided
+pub mod Spanned
+pub mod Chorded
+pub mod Touching
+pub mod Aside

@@ -13,7 +13,7 @@ use Rattle.ember_poly.proofs.Hull.{ring-rooted, corners_at_most}
 use Rattle.ember_poly.proofs.Strict.{corners_under}
 use Rattle.ember_poly.proofs.Inner.{corner_closed}
 
-each_swap : {X Y : Type 0} (R : X → Y → Type 0) (xs : List X) (ys : List Y) → AllByRecursion (λ x. AllByRecursion (λ y. R x y) ys) xs → AllByRecursion (λ y. AllByRecursion (λ x. R x y) xs) ys
+pub each_swap : {X Y : Type 0} (R : X → Y → Type 0) (xs : List X) (ys : List Y) → AllByRecursion (λ x. AllByRecursion (λ y. R x y) ys) xs → AllByRecursion (λ y. AllByRecursion (λ x. R x y) xs) ys
 each_swap R [] ys h = every (λ y. tt) ys
   where
     every : {Y : Type 0} {Q : Y → Type 0} → ((y : Y) → Q y) → (ys : List Y) → AllByRecursion Q ys

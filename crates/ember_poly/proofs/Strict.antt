@@ -13,14 +13,11 @@ use Rattle.ember_algebra.proofs.Vectors.{scalar, tuple, identity, TupleE, valueE
 use Rattle.ember_algebra.proofs.Order.{nonneg_mul}
 use Rattle.ember_model.proofs.Tuples.{plane_tuple, spot_tuple}
 use Rattle.ember_poly.specs.Rings.{Side, Under, AtMost, Inside, Closed, Sound}
+use Rattle.ember_poly.specs.Spans.{mixed2}
 use Rattle.ember_poly.proofs.Chains.{each_map}
 use Rattle.ember_poly.proofs.Hull.{corners_at_most}
 
 -- ---- i u + j v
-abbrev pub mixed2 : ℤ → ℤ → Spot → Spot → Spot
-mixed2 i j u v =
-    record { x = i *ℤ u.x +ℤ j *ℤ v.x; y = i *ℤ u.y +ℤ j *ℤ v.y; z = i *ℤ u.z +ℤ j *ℤ v.z; w = i *ℤ u.w +ℤ j *ℤ v.w }
-
 abbrev mixed2E : Expr → Expr → TupleE → TupleE → TupleE
 mixed2E i j u v =
     record { x = i ⊗ u.x ⊕ j ⊗ v.x; y = i ⊗ u.y ⊕ j ⊗ v.y; z = i ⊗ u.z ⊕ j ⊗ v.z; w = i ⊗ u.w ⊕ j ⊗ v.w }

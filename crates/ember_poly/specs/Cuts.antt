@@ -11,6 +11,10 @@ use Rattle.ember_poly.specs.declared.answers.Reach.TheVariants as reach
 use Rattle.ember_poly.specs.declared.answers.Cut.{Cut}
 use Rattle.ember_poly.specs.declared.answers.Cut.TheVariants as cut
 
+-- f has an inside point
+abbrev pub HasInside : Face → Type 0
+HasInside f = Somewhere f (λ v. Unit {0})
+
 -- f has inside points, and each of them has the property
 pub record IsWhole (f : Face) (P : Spot → Type 0) : Type 0 where
   pub somewhere : Somewhere f P
@@ -26,8 +30,8 @@ IsReach f p reach.Both = Cuts f p
 -- the plane cuts f, and these are the parts below it and above it
 pub record AreParts (f : Face) (p : Plane) (low high : Face) : Type 0 where
   pub cuts : Cuts f p
-  pub low : low ≡ below f p
-  pub high : high ≡ above f p
+  pub is_low : low ≡ below f p
+  pub is_high : high ≡ above f p
 
 -- the side on which all of f lies, or its two parts
 abbrev pub IsCut : Face → Plane → Cut → Type 0

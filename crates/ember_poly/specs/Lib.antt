@@ -1,3 +1,6 @@
 pub mod Cuts
+pub mod Passages
+pub mod Rims
 pub mod Rings
 pub mod Sides
+pub mod Spans

@@ -27,8 +27,9 @@ fn opposite(p: &Plane) -> Plane
     }
 }
 
-// The part below a plane that has inside points on both sides.
-fn part_below(alloc: Global, r: &Ring, p: &Plane) -> Result<Ring, OutOfMemory>
+/// The part below a plane that has inside points of the ring on both sides: the ring with the
+/// plane as one more edge plane.
+pub fn below(alloc: Global, r: &Ring, p: &Plane) -> Result<Ring, OutOfMemory>
     requires plane { IsValidPlane p.now }
     requires cuts { Cuts r.now p.now }
     ensures { IfOk result (λ part. part ≡ below r.now p.now) }
@@ -38,7 +39,7 @@ fn part_below(alloc: Global, r: &Ring, p: &Plane) -> Result<Ring, OutOfMemory>
     let mut rim = r.rim.copy(alloc)?;
     rim.turn(at.first);
     rim.truncate(at.kept + 1);
-    rim.corners[0] = at.entry;
+    rim.start_at(at.entry);
     rim.push(*p, at.exit, planes.len())?;
     planes.push(*p)?;
     let oldest = least(rim.births.as_slice());
@@ -61,8 +62,8 @@ pub fn cut(alloc: Global, r: &Ring, p: &Plane) -> Result<Cut, OutOfMemory>
         Reach::Above => Ok(Cut::Above),
         Reach::On => Ok(Cut::On),
         Reach::Both => {
-            let low = part_below(alloc, r, p)?;
-            let high = part_below(alloc, r, &opposite(p))?;
+            let low = below(alloc, r, p)?;
+            let high = below(alloc, r, &opposite(p))?;
             Ok(Cut::Both(low, high))
         }
     }

@@ -1,4 +1,5 @@
-//! Convex faces with their corners: the face of a triangle, and its edges in order round it.
+//! Convex faces with their corners: the face of a triangle, its edges in order round it, on which
+//! sides of a plane it lies, its parts below and above one, and the triangles that it meets.
 #![tactic(auto)]
 
 mod answers;
@@ -10,8 +11,8 @@ mod rim;
 mod ring;
 
 pub use answers::{Cut, Reach};
-pub use cutting::cut;
-pub use meeting::meets;
+pub use cutting::{below, cut};
+pub use meeting::{meets, meets_face};
 pub use reaching::reach;
 pub use ring::{Ring, copy, corners, edges, of_tri, outline, support};
 

@@ -1,14 +1,22 @@
 // Rings and triangles that meet.
-ghost use Rattle.std.specs.Prelude.{◌≡◌, ◌↔◌, IsTrue, false};
-ghost use Rattle.ember_model.specs.Valid.{IsValidTri};
-ghost use Rattle.ember_model.specs.Faces.{Meets, is_flat, face_of};
+ghost use Rattle.std.specs.Prelude.{◌≡◌, ◌↔◌, ◌^◌, IsTrue, true, false, All, ℤ, pos, ◌<ℤ◌};
+ghost use Rattle.ember_algebra.specs.Size.{Small};
+ghost use Rattle.ember_algebra.specs.Sign.{sgn, is_positive};
+ghost use Rattle.ember_model.specs.Valid.{IsValidCorner, IsValidTri, IsValidPlane};
+ghost use Rattle.ember_model.specs.Planes.{value_at, support_of};
+ghost use Rattle.ember_model.specs.Faces.{Cuts, Meets, Somewhere, is_flat, face_of, edges_of};
+ghost use Rattle.ember_model.specs.ClearTest.{face_with, none_positive};
+ghost use Rattle.ember_point.specs.Points.{spot_of};
+ghost use Rattle.ember_poly.specs.Cuts.{HasInside};
+ghost use Rattle.ember_model.specs.Owners.{spot_at};
+ghost use Rattle.ember_poly.specs.Spans.{IsAside, IsSpan, IsLine, IsOpen, Fits};
 
 use crate::answers::Reach;
 use crate::passage::find_passage;
 use crate::reaching::reach;
 use crate::ring::Ring;
 use ember_algebra::Sign;
-use ember_model::{Plane, Tri, edge_plane, main_axis, support_of};
+use ember_model::{Corner, Plane, Tri, edge_plane, main_axis, support_of};
 use ember_point::{Meet, meet, side};
 
 // What a plane leaves of the chord between two points.
@@ -22,28 +30,37 @@ enum Span {
     Shut,
 }
 
-fn span_of(y: Sign, z: Sign) -> Span {
+// By the signs of the plane at the two points.
+fn span_of(y: Sign, z: Sign) -> Span
+    ensures { (a b : ℤ) → y ≡ sgn a → z ≡ sgn b → IsSpan a b result }
+{
     match y {
         Sign::Pos => match z {
             Sign::Neg => Span::Split,
             _ => Span::Shut,
         },
-        Sign::Neg => match z {
-            Sign::Pos => Span::Split,
-            _ => Span::Free,
-        },
         Sign::Zero => match z {
             Sign::Pos => Span::Shut,
+            _ => Span::Free,
+        },
+        Sign::Neg => match z {
+            Sign::Pos => Span::Split,
             _ => Span::Free,
         },
     }
 }
 
-fn is_above(h: &Plane, m: &Meet) -> bool {
+fn is_above(h: &Plane, m: &Meet) -> bool
+    requires { IsValidPlane h.now }
+    ensures { result ≡ is_positive (value_at h.now (spot_of m.now)) }
+{
     side(h, m) == Sign::Pos
 }
 
-fn none_above(hs: &[Plane], m: &Meet) -> bool {
+fn none_above(hs: &[Plane], m: &Meet) -> bool
+    requires { All IsValidPlane hs.now }
+    ensures { result ≡ none_positive hs.now (spot_of m.now) }
+{
     for h in hs {
         if is_above(h, m) {
             return false;
@@ -53,7 +70,13 @@ fn none_above(hs: &[Plane], m: &Meet) -> bool {
 }
 
 // No plane is positive where the planes n, p and h meet.
-fn fits(n: &Plane, p: &Plane, h: &Plane, hs: &[Plane]) -> bool {
+fn fits(n: &Plane, p: &Plane, h: &Plane, hs: &[Plane]) -> bool
+    requires valid_n { IsValidPlane n.now }
+    requires valid_p { IsValidPlane p.now }
+    requires valid_h { IsValidPlane h.now }
+    requires valid { All IsValidPlane hs.now }
+    ensures { IsTrue result ↔ Fits n.now p.now h.now hs.now }
+{
     match meet(n, p, h) {
         Some(m) => none_above(hs, &m),
         None => false,
@@ -61,7 +84,13 @@ fn fits(n: &Plane, p: &Plane, h: &Plane, hs: &[Plane]) -> bool {
 }
 
 // Some point between the chord's two ends is above no plane of the list.
-fn meets_chord(n: &Plane, p: &Plane, y: &Meet, z: &Meet, hs: &[Plane]) -> bool {
+fn meets_chord(n: &Plane, p: &Plane, y: &Meet, z: &Meet, hs: &[Plane]) -> bool
+    requires valid_n { IsValidPlane n.now }
+    requires valid_p { IsValidPlane p.now }
+    requires valid { All IsValidPlane hs.now }
+    requires line { IsLine n.now p.now (spot_of y.now) (spot_of z.now) }
+    ensures { IsTrue result ↔ IsOpen hs.now (spot_of y.now) (spot_of z.now) }
+{
     let mut free = true;
     for h in hs {
         match span_of(side(h, y), side(h, z)) {
@@ -80,18 +109,29 @@ fn meets_chord(n: &Plane, p: &Plane, y: &Meet, z: &Meet, hs: &[Plane]) -> bool {
     free
 }
 
-// Some inside point on the plane, which has inside points on both sides, is above no plane of the list.
-fn meets_along(r: &Ring, p: &Plane, hs: &[Plane]) -> bool {
+// Some inside point on the plane, which has inside points on both sides, is above no plane of
+// the list.
+fn meets_along(r: &Ring, p: &Plane, hs: &[Plane]) -> bool
+    requires plane { IsValidPlane p.now }
+    requires planes { All IsValidPlane hs.now }
+    requires cuts { Cuts r.now p.now }
+    ensures { IsTrue result ↔ Meets r.now (face_with p.now hs.now) }
+{
     let at = find_passage(&r.support, &r.rim, p);
     meets_chord(&r.support, p, &at.exit, &at.entry, hs)
 }
 
 // Some inside point is above no plane of the list.
-fn meets_within(r: &Ring, hs: &[Plane]) -> bool {
+fn meets_within(r: &Ring, hs: &[Plane]) -> bool
+    requires planes { All IsValidPlane hs.now }
+    requires inside { HasInside r.now }
+    ensures { IsTrue result ↔ Somewhere r.now (λ v. none_positive hs.now v ≡ true) }
+{
     let mut free = true;
     for h in hs {
         match reach(r, h) {
-            Reach::Below | Reach::On => {}
+            Reach::Below => {}
+            Reach::On => {}
             Reach::Above => {
                 return false;
             }
@@ -106,7 +146,13 @@ fn meets_within(r: &Ring, hs: &[Plane]) -> bool {
     free
 }
 
-fn main_edges(t: &Tri, support: &Plane) -> [Plane; 3] {
+// The edge planes along the main axis.
+fn main_edges(t: &Tri, support: &Plane) -> [Plane; 3]
+    requires tri { IsValidTri t.now }
+    requires support { support.now ≡ support_of t.now }
+    ensures value { result ≡ edges_of t.now }
+    ensures valid { All IsValidPlane result }
+{
     let k = main_axis(support);
     [
         edge_plane(t, 0, k),
@@ -115,16 +161,61 @@ fn main_edges(t: &Tri, support: &Plane) -> [Plane; 3] {
     ]
 }
 
+/// Some inside point of the ring lies in the closed face of a support plane and edge planes.
+pub fn meets_face(r: &Ring, support: &Plane, edges: &[Plane]) -> bool
+    requires support { IsValidPlane support.now }
+    requires edges { All IsValidPlane edges.now }
+    ensures { IsTrue result ↔ Meets r.now (face_with support.now edges.now) }
+{
+    match reach(r, support) {
+        Reach::Below | Reach::Above => false,
+        Reach::On => meets_within(r, edges),
+        Reach::Both => meets_along(r, support, edges),
+    }
+}
+
+fn height(p: &Plane, u: &Corner) -> i64
+    requires plane { IsValidPlane p.now }
+    requires corner { IsValidCorner u.now }
+    ensures value { result ≡ value_at p.now (spot_at u.now) }
+    ensures small { Small (2 ^ 40) result }
+{
+    p.a * u.x as i64 + p.b * u.y as i64 + p.c * u.z as i64 - p.d
+}
+
+fn are_above(a: i64, b: i64, c: i64) -> bool
+    ensures { IsTrue result → (pos 0 <ℤ a) × (pos 0 <ℤ b) × (pos 0 <ℤ c) }
+{
+    a > 0 && (b > 0 && c > 0)
+}
+
+fn are_below(a: i64, b: i64, c: i64) -> bool
+    ensures { IsTrue result → (a <ℤ pos 0) × (b <ℤ pos 0) × (c <ℤ pos 0) }
+{
+    a < 0 && (b < 0 && c < 0)
+}
+
+// The triangle lies strictly on one side of the plane.
+fn is_aside(p: &Plane, t: &Tri) -> bool
+    requires plane { IsValidPlane p.now }
+    requires tri { IsValidTri t.now }
+    ensures { IsTrue result → IsAside p.now t.now }
+{
+    let a = height(p, &t.a);
+    let b = height(p, &t.b);
+    let c = height(p, &t.c);
+    are_above(a, b, c) || are_below(a, b, c)
+}
+
 /// Some inside point of the ring lies in the closed face of the triangle.
 pub fn meets(r: &Ring, t: &Tri) -> bool
     requires tri { IsValidTri t.now }
     requires normal { is_flat t.now ≡ false }
     ensures { IsTrue result ↔ Meets r.now (face_of t.now) }
 {
-    let support = support_of(t);
-    match reach(r, &support) {
-        Reach::Below | Reach::Above => false,
-        Reach::On => meets_within(r, &main_edges(t, &support)),
-        Reach::Both => meets_along(r, &support, &main_edges(t, &support)),
+    if is_aside(&r.support, t) {
+        return false;
     }
+    let support = support_of(t);
+    meets_face(r, &support, &main_edges(t, &support))
 }

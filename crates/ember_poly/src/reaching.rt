@@ -1,6 +1,11 @@
 // On which sides of a plane a ring lies.
+ghost use Rattle.std.specs.Prelude.{◌≡◌, ◌++◌, ◌∷◌, [], List};
+ghost use Rattle.ember_algebra.specs.Sign.{sgn};
+ghost use Rattle.ember_model.specs.Planes.{value_at};
+ghost use Rattle.ember_point.specs.Points.{spot_of};
 ghost use Rattle.ember_model.specs.Valid.{IsValidPlane};
 ghost use Rattle.ember_poly.specs.Cuts.{IsReach};
+ghost use Rattle.ember_poly.specs.Passages.{AreSigns};
 
 use crate::answers::Reach;
 use crate::ring::Ring;
@@ -9,26 +14,40 @@ use ember_model::Plane;
 use ember_point::{Meet, side};
 
 // With one more corner, on this side.
-fn with_corner(seen: Reach, at: Sign) -> Reach {
+fn with_corner(seen: Reach, at: Sign) -> Reach
+    ensures { (p : Plane) (ms : List Meet) (m : Meet) → AreSigns p ms seen → at ≡ sgn (value_at p (spot_of m)) → AreSigns p (ms ++ m ∷ []) result }
+{
     match at {
         Sign::Zero => seen,
         Sign::Neg => match seen {
-            Reach::Above | Reach::Both => Reach::Both,
-            _ => Reach::Below,
+            Reach::Below => Reach::Below,
+            Reach::Above => Reach::Both,
+            Reach::On => Reach::Below,
+            Reach::Both => Reach::Both,
         },
         Sign::Pos => match seen {
-            Reach::Below | Reach::Both => Reach::Both,
-            _ => Reach::Above,
+            Reach::Below => Reach::Both,
+            Reach::Above => Reach::Above,
+            Reach::On => Reach::Above,
+            Reach::Both => Reach::Both,
         },
     }
 }
 
-pub fn reach_of(corners: &[Meet], p: &Plane) -> Reach {
+// The signs of the plane at the corners.
+fn signs_of(p: &Plane, corners: &[Meet]) -> Reach
+    requires { IsValidPlane p.now }
+    ensures { AreSigns p.now corners.now result }
+{
     let mut seen = Reach::On;
     for m in corners {
-        seen = with_corner(seen, side(p, m));
-        if seen == Reach::Both {
-            return seen;
+        match with_corner(seen, side(p, m)) {
+            Reach::Both => {
+                return Reach::Both;
+            }
+            other => {
+                seen = other;
+            }
         }
     }
     seen
@@ -39,5 +58,5 @@ pub fn reach(r: &Ring, p: &Plane) -> Reach
     requires { IsValidPlane p.now }
     ensures { IsReach r.now p.now result }
 {
-    reach_of(r.rim.corners.as_slice(), p)
+    signs_of(p, r.rim.corners.as_slice())
 }

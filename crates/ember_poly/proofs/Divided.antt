@@ -1,0 +1,202 @@
+-- The part of a ring below a plane: its sides, and what it keeps.
+use Rattle.std.proofs.Common.{◌≡◌, ◌⊎◌, ⊎_elim, inl, inr, refl, sym, ap, subst, ◌∙◌, arith, ℕ, ◌<◌, ◌≤◌, ◌+◌, Some, List, [], ◌∷◌, ◌++◌, length, take, drop, slice_get, All, ℤ, pos, ◌*ℤ◌, ◌<ℤ◌, ◌≤ℤ◌}
+use lib.ListN.{get_or}
+use Rattle.std.proofs.lemmas.List.{take-append-drop, append-nil, length_push, get_or_append_left}
+use Rattle.std.proofs.lemmas.Bool.{cases_lt}
+use Rattle.std.proofs.lemmas.List.Elements.{All-push}
+use Rattle.std.proofs.lemmas.Option.{slice_get_within, get_or_from_slice_get, slice_get-get_or}
+use Rattle.std.specs.List.{AllByRecursion}
+use Rattle.ember_algebra.proofs.Laws.{linear}
+use Rattle.ember_algebra.proofs.Ring.{◌⊕◌, ◌⊖◌, ◌⊗◌, ◌≈◌, num, solve, cancels}
+use Rattle.ember_model.specs.declared.plane.Plane.{Plane}
+use Rattle.ember_model.specs.declared.point.Spot.{Spot}
+use Rattle.ember_model.specs.declared.face.Face.{Face}
+use Rattle.ember_model.specs.Valid.{IsValidPlane}
+use Rattle.ember_model.specs.Planes.{value_at, opposite}
+use Rattle.ember_model.specs.Faces.{Cuts}
+use Rattle.ember_model.specs.Edges.{SamePlace}
+use Rattle.ember_model.proofs.SignTests.{negative_out, positive_out}
+use Rattle.ember_point.specs.declared.corner.Meet.{Meet}
+use Rattle.ember_point.specs.Points.{spot_of}
+use Rattle.ember_poly.specs.declared.passage.Passage.{Passage}
+use Rattle.ember_poly.specs.Rings.{entered, closing, Side, Under, AtMost, AtLeast, Lone, Meets, Sound, Closed, Listed, Stands}
+use Rattle.ember_poly.specs.Sides.{sides_of, IsBorn, IsSingle, AllCounted, IsRing}
+use Rattle.ember_poly.specs.Rims.{starting, LeastFirst}
+use Rattle.ember_poly.specs.Passages.{Has, Straddles, Leaves, IsPassage}
+use Rattle.ember_poly.proofs.Chains.{each_map, each_both, each-back}
+use Rattle.ember_poly.proofs.Lower.{below_some, below_all}
+use Rattle.ember_poly.proofs.Hull.{corners_at_most, closed_turned}
+use Rattle.ember_poly.proofs.Inner.{head_closed, corner_closed}
+use Rattle.ember_poly.proofs.Parted.{part_of, each_swap, ring-closed}
+use Rattle.ember_poly.proofs.Face.{stands_turned, cut_some, cut_all}
+use Rattle.ember_poly.proofs.Single.{one_place}
+use Rattle.ember_poly.proofs.Dropped.{dropped_lone}
+use Rattle.ember_poly.proofs.Members.{has-front, has-back, has-split, has-turned, born_has, has_born, Found, has_pick}
+use Rattle.ember_poly.proofs.Rows.{each_corner, oldest_first}
+use Rattle.ember_poly.proofs.Passed.{passes}
+use Rattle.ember_poly.proofs.Reached.{most_opposite, least_from_opposite, closed_from_inside, inside_seen}
+
+-- ---- a plane that cuts the face has corners on both sides
+never_over : (a : ℤ) → pos 0 <ℤ a → a ≤ℤ pos 0 → ⊥
+never_over a p q = absurd (omega (arith, linear, p, q))
+
+never_under : (a : ℤ) → a <ℤ pos 0 → pos 0 ≤ℤ a → ⊥
+never_under a p q = absurd (omega (arith, linear, p, q))
+
+pub straddles_from : (n p : Plane) (gs es : List Plane) (ms : List Meet) (bs : List ℕ) (f : Face) → f ≡ record { support = n; edges = gs } → Stands n gs (sides_of es ms bs) → Cuts f p → Straddles p ms
+straddles_from n p gs es ms bs f e s c = by (subst (λ f. Cuts f p) e c)
+  where
+    by : Cuts (record { support = n; edges = gs }) p → Straddles p ms
+    by k =
+        let xs = sides_of es ms bs in
+        let low = closed_from_inside n xs k.low.at (inside_seen n p gs xs s k.low.at k.low.inside) in
+        let high = closed_from_inside n xs k.high.at (inside_seen n p gs xs s k.high.at k.high.inside) in
+        record {
+          above = λ h. never_over (value_at p k.high.at) (positive_out (value_at p k.high.at) k.high.holds) (corners_at_most n p k.high.at xs s.sound (each_corner (λ v. AtMost p v) es ms bs h) high).at_most;
+          under = λ h. never_under (value_at p k.low.at) (negative_out (value_at p k.low.at) k.low.holds) (least_from_opposite p k.low.at (corners_at_most n (opposite p) k.low.at xs s.sound (each_map (λ r. AtLeast p r.corner) (λ r. AtMost (opposite p) r.corner) xs (λ r q. most_opposite p r.corner q) (each_corner (λ v. AtLeast p v) es ms bs h)) low)).at_least;
+        }
+
+-- ---- the sides of the part, step by step
+take_front : {X : Type 0} (xs ys : List X) (k : ℕ) → k ≡ length xs → take k (xs ++ ys) ≡ xs
+take_front xs ys k e = ap (λ j. take j (xs ++ ys)) e ∙ by xs ys
+  where
+    by : {X : Type 0} (xs ys : List X) → take (length xs) (xs ++ ys) ≡ xs
+    by [] ys = refl
+    by (x ∷ xs) ys = ap (λ zs. x ∷ zs) (by xs ys)
+
+-- the kept sides
+pub kept_sides : (n p : Plane) (xs : List Side) (at : Passage) (q : IsPassage n p xs at) {s t : List Side} → s ≡ drop at.first xs ++ take at.first xs → t ≡ take (at.kept + 1) s → t ≡ q.head ∷ (q.front ++ q.last ∷ [])
+kept_sides n p xs at q {s} {t} es et =
+    let whole : s ≡ (q.head ∷ (q.front ++ q.last ∷ [])) ++ q.others = es ∙ q.turned in
+    et ∙ ap (λ zs. take (at.kept + 1) zs) whole ∙ take_front (q.head ∷ (q.front ++ q.last ∷ [])) q.others (at.kept + 1) (omega (arith, q.count, length_push q.front q.last))
+
+pub part_sides : (n p : Plane) (xs : List Side) (at : Passage) (q : IsPassage n p xs at) (b : ℕ) {s t u v : List Side} → s ≡ drop at.first xs ++ take at.first xs → t ≡ take (at.kept + 1) s → u ≡ starting (spot_of at.entry) t → v ≡ u ++ closing p (spot_of at.exit) b ∷ [] → v ≡ entered q.head (spot_of at.entry) ∷ (q.front ++ q.last ∷ []) ++ closing p (spot_of at.exit) b ∷ []
+part_sides n p xs at q b es et eu ev =
+    ev ∙ ap (λ zs. zs ++ closing p (spot_of at.exit) b ∷ []) (eu ∙ ap (λ zs. starting (spot_of at.entry) zs) (kept_sides n p xs at q es et))
+
+pub some_edges : (es : List Plane) (ms : List Meet) (bs : List ℕ) (s : Side) (xs : List Side) → sides_of es ms bs ≡ s ∷ xs → 0 < length es
+some_edges [] ms bs s xs e = cc
+some_edges (e ∷ es) ms bs s xs h = omega arith
+
+-- ---- one place
+pub same_from : (u v : Spot) → ((e : Plane) → u.w *ℤ value_at e v ≡ v.w *ℤ value_at e u) → SamePlace u v
+same_from u v h =
+    record {
+      x = first v.w u.x u.y u.z u.w ∙ sym (h (record { a = pos 1; b = pos 0; c = pos 0; d = pos 0 })) ∙ sym (first u.w v.x v.y v.z v.w);
+      y = second v.w u.x u.y u.z u.w ∙ sym (h (record { a = pos 0; b = pos 1; c = pos 0; d = pos 0 })) ∙ sym (second u.w v.x v.y v.z v.w);
+      z = third v.w u.x u.y u.z u.w ∙ sym (h (record { a = pos 0; b = pos 0; c = pos 1; d = pos 0 })) ∙ sym (third u.w v.x v.y v.z v.w);
+    }
+  where
+    first : (k x y z w : ℤ) → k *ℤ x ≡ k *ℤ value_at (record { a = pos 1; b = pos 0; c = pos 0; d = pos 0 }) (record { x = x; y = y; z = z; w = w })
+    first = solve 5 (λ k x y z w. k ⊗ x ≈ k ⊗ (num (pos 1) ⊗ x ⊕ num (pos 0) ⊗ y ⊕ num (pos 0) ⊗ z ⊖ num (pos 0) ⊗ w)) cancels
+
+    second : (k x y z w : ℤ) → k *ℤ y ≡ k *ℤ value_at (record { a = pos 0; b = pos 1; c = pos 0; d = pos 0 }) (record { x = x; y = y; z = z; w = w })
+    second = solve 5 (λ k x y z w. k ⊗ y ≈ k ⊗ (num (pos 0) ⊗ x ⊕ num (pos 1) ⊗ y ⊕ num (pos 0) ⊗ z ⊖ num (pos 0) ⊗ w)) cancels
+
+    third : (k x y z w : ℤ) → k *ℤ z ≡ k *ℤ value_at (record { a = pos 0; b = pos 0; c = pos 1; d = pos 0 }) (record { x = x; y = y; z = z; w = w })
+    third = solve 5 (λ k x y z w. k ⊗ z ≈ k ⊗ (num (pos 0) ⊗ x ⊕ num (pos 0) ⊗ y ⊕ num (pos 1) ⊗ z ⊖ num (pos 0) ⊗ w)) cancels
+
+-- ---- what is counted, after a turn
+pub counted_turned : (n : Plane) (gs : List Plane) (xs ys : List Side) → AllCounted n gs (xs ++ ys) → AllCounted n gs (ys ++ xs)
+counted_turned n gs xs ys c =
+    λ i h e. ⊎_elim (λ b. inl (has_born i (ys ++ xs) (has-turned (λ s. s.birth ≡ i) xs ys (born_has i (xs ++ ys) b)))) (λ s. inr (λ u v ku kv. s u v (closed_turned n u ys xs ku) (closed_turned n v ys xs kv))) (c i h e)
+
+-- ---- the sides that are dropped
+module _ (n p : Plane) (gs : List Plane) (f l : Side) (ks : List Side) (y z : Spot) (mz : Meets n f.plane p z) (my : Meets n l.plane p y) (under : AllByRecursion (λ s. Under p s.corner) (ks ++ l ∷ [])) (enters : AtLeast p f.corner) where
+  abbrev kept : List Side
+  kept = ks ++ l ∷ []
+
+  abbrev part : List Side
+  part = entered f z ∷ (ks ++ l ∷ []) ++ closing p y (length gs) ∷ []
+
+  record Gone (d : Side) : Type 0 where
+    pub listed : Listed gs d
+    pub lone : Lone d.plane part
+    pub at_most : AllByRecursion (λ s. AtMost d.plane s.corner) part
+
+  record Division (ds : List Side) : Type 0 where
+    pub stands : Stands n (gs ++ p ∷ []) part
+    pub out : (v : Spot) → Closed n part v → Closed n (f ∷ (ks ++ l ∷ []) ++ ds) v
+    pub gone : AllByRecursion (λ d. Gone d) ds
+
+  divide : (ds : List Side) → Stands n gs (f ∷ (ks ++ l ∷ []) ++ ds) → Leaves p f ds → Division ds
+  divide [] s q =
+      let o = below_all n p f l y z (length gs) q.over my mz ks (subst (λ zs. Sound n (f ∷ zs)) (append-nil (ks ++ l ∷ [])) s.sound) under in
+      let r = part_of n p f l ks [] y z (length gs) f.corner s.sound (head_closed n f ((ks ++ l ∷ []) ++ []) s.sound) o in
+      record { stands = cut_all n p gs f l ks y z my mz s q.over under; out = λ v k. (r.out_closed v k).0; gone = tt }
+  divide (d ∷ ds) s q =
+      let o = below_some n p f l d ds y z (length gs) enters.at_least q.0.at_least my mz ks s.sound under in
+      let r = part_of n p f l ks (d ∷ ds) y z (length gs) d.corner s.sound (corner_closed n (f ∷ (ks ++ l ∷ [])) d ds s.sound) o in
+      let lone = dropped_lone n p f l d ks ds y z (length gs) s.sound o.exit o.entry (passes p f d ds q) in
+      let most = each_swap (λ (s t : Side). AtMost t.plane s.corner) part (d ∷ ds) (each_map (λ s. Closed n part s.corner) (λ s. AllByRecursion (λ t. AtMost t.plane s.corner) (d ∷ ds)) part (λ s k. each-back (λ t. AtMost t.plane s.corner) (ks ++ l ∷ []) (d ∷ ds) (r.out_closed s.corner k).0.within.1) (ring-closed n part o.sound)) in
+      let listed = each-back (λ t. Listed gs t) (ks ++ l ∷ []) (d ∷ ds) s.listed.1 in
+      record {
+        stands = cut_some n p gs f l ks y z my mz d ds s enters.at_least q.0.at_least under;
+        out = λ v k. (r.out_closed v k).0;
+        gone = each_both (λ t. Listed gs t) (λ t. Lone t.plane part × AllByRecursion (λ s. AtMost t.plane s.corner) part) (λ t. Gone t) (d ∷ ds) (λ t a b. record { listed = a; lone = b.0; at_most = b.1 }) listed (each_both (λ t. Lone t.plane part) (λ t. AllByRecursion (λ s. AtMost t.plane s.corner) part) (λ t. Lone t.plane part × AllByRecursion (λ s. AtMost t.plane s.corner) part) (d ∷ ds) (λ t a b. (a, b)) lone most);
+      }
+
+  -- a dropped side's plane is 0 at one place of the part at most
+  gone_single : (d : Side) (h : Plane) → Sound n part → Gone d → d.plane ≡ h → IsSingle n part h
+  gone_single d h s g e =
+      subst (λ k. IsSingle n part k) e (λ u v ku kv zu zv. same_from u v (λ k. one_place n d.plane part s g.at_most g.lone u v k ku kv zu zv))
+
+  divide_counted : (ds : List Side) → AllCounted n gs (f ∷ (ks ++ l ∷ []) ++ ds) → Division ds → AllCounted n (gs ++ p ∷ []) part
+  divide_counted ds ct dv =
+      λ i h e. ⊎_elim (λ b. before i h (within i h b e)) (λ b. inl (newest i (last i h b e))) (cases_lt i (length gs))
+    where
+      within : (i : ℕ) (h : Plane) → i < length gs → slice_get (gs ++ p ∷ []) i ≡ Some h → slice_get gs i ≡ Some h
+      within i h b e =
+          slice_get-get_or gs i h b ∙ ap (λ g. Some g) (sym (get_or_append_left gs (p ∷ []) h i b) ∙ get_or_from_slice_get (gs ++ p ∷ []) i h h e)
+
+      last : (i : ℕ) (h : Plane) → length gs ≤ i → slice_get (gs ++ p ∷ []) i ≡ Some h → length gs ≡ i
+      last i h b e = omega (arith, b, slice_get_within (gs ++ p ∷ []) i h e, length_push gs p)
+
+      newest : (i : ℕ) → length gs ≡ i → IsBorn i part
+      newest i e = has_born i part (inr (has-back (λ s. s.birth ≡ i) (ks ++ l ∷ []) (closing p y (length gs) ∷ []) (inl e)))
+
+      lost : (i : ℕ) (h : Plane) → slice_get gs i ≡ Some h → Found (λ s. s.birth ≡ i) (λ d. Gone d) → IsSingle n part h
+      lost i h e t =
+          gone_single t.member h dv.stands.sound t.also (sym t.also.listed.here ∙ ap (λ j. get_or gs j t.member.plane) t.holds ∙ get_or_from_slice_get gs i h t.member.plane e)
+
+      born : (i : ℕ) (h : Plane) → slice_get gs i ≡ Some h → Has (λ s. s.birth ≡ i) (f ∷ (ks ++ l ∷ []) ++ ds) → IsBorn i part ⊎ IsSingle n part h
+      born i h e (inl b) = inl (has_born i part (inl b))
+      born i h e (inr b) =
+          ⊎_elim (λ a. inl (has_born i part (inr (has-front (λ s. s.birth ≡ i) (ks ++ l ∷ []) (closing p y (length gs) ∷ []) a)))) (λ a. inr (lost i h e (has_pick (λ s. s.birth ≡ i) (λ d. Gone d) ds a dv.gone))) (has-split (λ s. s.birth ≡ i) (ks ++ l ∷ []) ds b)
+
+      before : (i : ℕ) (h : Plane) → slice_get gs i ≡ Some h → IsBorn i part ⊎ IsSingle n part h
+      before i h e =
+          ⊎_elim (λ b. born i h e (born_has i (f ∷ (ks ++ l ∷ []) ++ ds) b)) (λ s. inr (λ u v ku kv. s u v (dv.out u ku) (dv.out v kv))) (ct i h e)
+
+-- ---- the ring below
+-- begun at another side
+begun_stands : (n : Plane) (gs : List Plane) (k : ℕ) (xs : List Side) → Stands n gs xs → Stands n gs (drop k xs ++ take k xs)
+begun_stands n gs k xs s =
+    stands_turned n gs (take k xs) (drop k xs) (subst (λ zs. Stands n gs zs) (sym (take-append-drop k xs)) s)
+
+begun_counted : (n : Plane) (gs : List Plane) (k : ℕ) (xs : List Side) → AllCounted n gs xs → AllCounted n gs (drop k xs ++ take k xs)
+begun_counted n gs k xs c =
+    counted_turned n gs (take k xs) (drop k xs) (subst (λ zs. AllCounted n gs zs) (sym (take-append-drop k xs)) c)
+
+module _ (n p : Plane) (gs : List Plane) (xs : List Side) (at : Passage) (q : IsPassage n p xs at) (st : Stands n gs xs) (ct : AllCounted n gs xs) where
+  abbrev below_sides : List Side
+  below_sides = entered q.head (spot_of at.entry) ∷ (q.front ++ q.last ∷ []) ++ closing p (spot_of at.exit) (length gs) ∷ []
+
+  division : Division n p gs q.head q.last q.front (spot_of at.exit) (spot_of at.entry) q.entry q.exit q.under q.enters q.others
+  division =
+      divide n p gs q.head q.last q.front (spot_of at.exit) (spot_of at.entry) q.entry q.exit q.under q.enters q.others (subst (λ zs. Stands n gs zs) q.turned (begun_stands n gs at.first xs st)) q.leaves
+
+  pub below_ring : (es : List Plane) (ms : List Meet) (bs cs : List ℕ) (k : ℕ) (hs : List Plane) (zs : List Side) → zs ≡ below_sides → sides_of es ms bs ≡ drop k zs ++ take k zs → bs ≡ drop k cs ++ take k cs → LeastFirst (drop k cs ++ take k cs) → length ms ≡ length es → length bs ≡ length es → hs ≡ gs ++ p ∷ [] → IsValidPlane n → All IsValidPlane gs → IsValidPlane p → IsRing n hs es ms bs
+  below_ring es ms bs cs k hs zs ez et eb least em el eh vn vs vp =
+      let e : sides_of es ms bs ≡ drop k below_sides ++ take k below_sides = et ∙ (λ i. drop k (ez i) ++ take k (ez i)) in
+      let s = begun_stands n (gs ++ p ∷ []) k below_sides division.stands in
+      let c = begun_counted n (gs ++ p ∷ []) k below_sides (divide_counted n p gs q.head q.last q.front (spot_of at.exit) (spot_of at.entry) q.entry q.exit q.under q.enters q.others (subst (λ zs. AllCounted n gs zs) q.turned (begun_counted n gs at.first xs ct)) division) in
+      record {
+        stands = subst (λ us. Stands n us (sides_of es ms bs)) (sym eh) (subst (λ us. Stands n (gs ++ p ∷ []) us) (sym e) s);
+        oldest = oldest_first es ms bs (subst (λ us. LeastFirst us) (sym eb) least);
+        counted = subst (λ us. AllCounted n us (sides_of es ms bs)) (sym eh) (subst (λ us. AllCounted n (gs ++ p ∷ []) us) (sym e) c);
+        corners = em;
+        births = el;
+        support = vn;
+        planes = subst (λ us. All IsValidPlane us) (sym eh) (All-push IsValidPlane gs p vs vp);
+      }

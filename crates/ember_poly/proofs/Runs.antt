@@ -1,0 +1,164 @@
+-- Runs of corners on one side of a plane, and the corner where the plane's negative side is entered.
+use Rattle.std.proofs.Common.{◌≡◌, refl, sym, ap, subst, ◌∙◌, arith, ℕ, zero, suc, ◌<◌, ◌≤◌, ◌+◌, ◌-◌, Bool, true, false, not, List, [], ◌∷◌, ◌++◌, length, take, drop, ℤ, pos, negsuc, ◌≤ℤ◌, length-drop, length-append}
+use lib.ListN.{get_or}
+use Rattle.std.proofs.lemmas.Int.{ints}
+use Rattle.std.proofs.lemmas.List.{drop_more, drop_all, take_all, take-append-drop, append_assoc, append-nil, length-take-le}
+use Rattle.std.specs.List.{AllByRecursion}
+use Rattle.ember_algebra.specs.Sign.{is_negative}
+use Rattle.ember_model.specs.declared.plane.Plane.{Plane}
+use Rattle.ember_model.specs.Planes.{value_at}
+use Rattle.ember_model.proofs.SignTests.{negative_out}
+use Rattle.ember_point.specs.declared.corner.Meet.{Meet}
+use Rattle.ember_point.specs.Points.{spot_of}
+use Rattle.ember_poly.specs.Rings.{Under, AtMost, AtLeast}
+use Rattle.ember_poly.specs.Passages.{is_under, Stops, IsRun, Enters, Straddles}
+use Rattle.ember_poly.proofs.Chains.{each_map, each-front, each-back}
+use Rattle.ember_poly.proofs.Inner.{weak}
+use Rattle.ember_poly.proofs.Turns.{each-join}
+
+-- ---- the test of one corner
+pub under_out : (p : Plane) (m : Meet) → is_under p m ≡ true → Under p (spot_of m)
+under_out p m e = record { under = negative_out (value_at p (spot_of m)) e }
+
+not_negative : (a : ℤ) → is_negative a ≡ false → pos 0 ≤ℤ a
+not_negative (pos zero) e = omega (arith, ints)
+not_negative (pos (suc n)) e = omega (arith, ints)
+not_negative (negsuc n) e = cc
+
+pub least_out : (p : Plane) (m : Meet) → is_under p m ≡ false → AtLeast p (spot_of m)
+least_out p m e = record { at_least = not_negative (value_at p (spot_of m)) e }
+
+pub clash : {X : Type 0} {b : Bool} → b ≡ true → b ≡ false → X
+clash p q = absurd (by (sym p ∙ q))
+  where
+    by : true ≡ false → ⊥
+    by e = cc
+
+-- ---- runs
+pub stops_at : (p : Plane) (b : Bool) (ms : List Meet) (i : ℕ) (d : Meet) → i < length ms → is_under p (get_or ms i d) ≡ not b → Stops p b (drop i ms)
+stops_at p b ms i d l e = subst (λ ys. Stops p b ys) (sym (drop_more ms i d l)) e
+
+pub stops_end : (p : Plane) (b : Bool) (ms : List Meet) (i : ℕ) → length ms ≤ i → Stops p b (drop i ms)
+stops_end p b ms i l = subst (λ ys. Stops p b ys) (sym (drop_all i ms l)) tt
+
+run_rest : (p : Plane) (b : Bool) (m : Meet) (ms : List Meet) (k : ℕ) → IsRun p b (m ∷ ms) (suc k) → IsRun p b ms k
+run_rest p b m ms k r = record { fits = omega (arith, r.fits); all = r.all.1; stops = r.stops }
+
+run_more : (p : Plane) (b : Bool) (m : Meet) (ms : List Meet) (k : ℕ) → is_under p m ≡ b → IsRun p b ms k → IsRun p b (m ∷ ms) (suc k)
+run_more p b m ms k e r = record { fits = omega (arith, r.fits); all = (e, r.all); stops = r.stops }
+
+-- a run that ends before the list does
+pub run_short : (p : Plane) (b : Bool) (us bs : List Meet) (k : ℕ) → k < length us → IsRun p b us k → IsRun p b (us ++ bs) k
+run_short p b [] bs k l r = absurd (omega (arith, l))
+run_short p b (m ∷ us) bs zero l r = record { fits = omega arith; all = tt; stops = r.stops }
+run_short p b (m ∷ us) bs (suc k) l r =
+    run_more p b m (us ++ bs) k r.all.0 (run_short p b us bs k (omega (arith, l)) (run_rest p b m us k r))
+
+-- a run that goes on behind the list
+pub run_long : (p : Plane) (b : Bool) (us bs : List Meet) (k h : ℕ) → length us ≤ k → IsRun p b us k → IsRun p b bs h → IsRun p b (us ++ bs) (k + h)
+run_long p b [] bs zero h l r s = subst (λ j. IsRun p b bs j) (none h) s
+  where
+    none : (h : ℕ) → h ≡ 0 + h
+    none h = omega arith
+run_long p b [] bs (suc k) h l r s = absurd (omega (arith, r.fits))
+run_long p b (m ∷ us) bs zero h l r s = absurd (omega (arith, l))
+run_long p b (m ∷ us) bs (suc k) h l r s =
+    subst (λ j. IsRun p b (m ∷ (us ++ bs)) j) (one k h) (run_more p b m (us ++ bs) (k + h) r.all.0 (run_long p b us bs k h (omega (arith, l)) (run_rest p b m us k r) s))
+  where
+    one : (k h : ℕ) → suc (k + h) ≡ suc k + h
+    one k h = omega arith
+
+-- a slice to the list's end
+pub rest_of : {X : Type 0} (k : ℕ) (xs : List X) → take (length xs - k) (drop k xs) ≡ drop k xs
+rest_of k xs = take_all (length xs - k) (drop k xs) (same (length-drop k xs))
+  where
+    same : {a b : ℕ} → a ≡ b → a ≤ b
+    same e = omega (arith, e)
+
+-- ---- the entry
+pub turn_split : {X : Type 0} (xs ys : List X) (k : ℕ) → k ≡ length xs → drop k (xs ++ ys) ++ take k (xs ++ ys) ≡ ys ++ xs
+turn_split xs ys k e = rw e (λ i. dropped xs ys i ++ taken xs ys i)
+  where
+    dropped : {X : Type 0} (xs ys : List X) → drop (length xs) (xs ++ ys) ≡ ys
+    dropped [] ys = refl
+    dropped (x ∷ xs) ys = dropped xs ys
+
+    taken : {X : Type 0} (xs ys : List X) → take (length xs) (xs ++ ys) ≡ xs
+    taken [] ys = refl
+    taken (x ∷ xs) ys = ap (λ zs. x ∷ zs) (taken xs ys)
+
+-- the first u of a list, the last of them taken apart
+pub record LastOfFirst {X : Type 0} (u : ℕ) (ys : List X) : Type 0 where
+  pub front : List X
+  pub last : X
+  pub behind : List X
+  pub whole : ys ≡ front ++ last ∷ behind
+  pub taken : take u ys ≡ front ++ last ∷ []
+  pub left : drop u ys ≡ behind
+  pub count : u ≡ suc (length front)
+
+pub last_of_first : {X : Type 0} (u : ℕ) (ys : List X) → 0 < u → u ≤ length ys → LastOfFirst u ys
+last_of_first zero ys z l = absurd (omega (arith, z))
+last_of_first (suc u) [] z l = absurd (omega (arith, l))
+last_of_first (suc zero) (y ∷ ys) z l =
+    record { front = []; last = y; behind = ys; whole = refl; taken = refl; left = refl; count = refl }
+last_of_first (suc (suc u)) (y ∷ ys) z l =
+    let r = last_of_first (suc u) ys (omega arith) (omega (arith, l)) in
+    record { front = y ∷ r.front; last = r.last; behind = r.behind; whole = ap (λ zs. y ∷ zs) r.whole; taken = ap (λ zs. y ∷ zs) r.taken; left = r.left; count = ap suc r.count }
+
+module _ (p : Plane) where
+  abbrev IsLow : Meet → Type 0
+  IsLow m = is_under p m ≡ true
+
+  abbrev IsHigh : Meet → Type 0
+  IsHigh m = is_under p m ≡ false
+
+  lows : (us : List Meet) → AllByRecursion IsLow us → AllByRecursion (λ m. AtMost p (spot_of m)) us
+  lows us h = each_map IsLow (λ m. AtMost p (spot_of m)) us (λ m e. weak (under_out p m e)) h
+
+  highs : (us : List Meet) → AllByRecursion IsHigh us → AllByRecursion (λ m. AtLeast p (spot_of m)) us
+  highs us h = each_map IsHigh (λ m. AtLeast p (spot_of m)) us (λ m e. least_out p m e) h
+
+  enters_at : (us bs : List Meet) (y : Meet) (cs : List Meet) → AllByRecursion IsLow us → AllByRecursion IsHigh bs → IsHigh y → Stops p false cs → Straddles p (us ++ (bs ++ y ∷ cs)) → Enters p ((y ∷ cs) ++ (us ++ bs))
+  enters_at us bs y (c ∷ cs) ha hb hy s t = (hy, s)
+  enters_at (a ∷ us) bs y [] ha hb hy s t = (hy, ha.0)
+  enters_at [] bs y [] ha hb hy s t =
+      absurd (t.under (each-join (λ m. AtLeast p (spot_of m)) bs (y ∷ []) (highs bs hb) (least_out p y hy, tt)))
+
+  pub first_positive : (us ys : List Meet) (u : ℕ) → AllByRecursion IsLow us → Stops p true ys → Stops p false (drop u ys) → Straddles p (us ++ ys) → 0 < u
+  first_positive us ys (suc u) ha s f t = omega arith
+  first_positive us (y ∷ ys) zero ha s f t = clash f s
+  first_positive us [] zero ha s f t =
+      absurd (t.above (subst (λ zs. AllByRecursion (λ m. AtMost p (spot_of m)) zs) (sym (append-nil us)) (lows us ha)))
+
+  module _ (ms : List Meet) (d u : ℕ) (down : IsRun p true ms d) (up : IsRun p false (drop d ms) u) (t : Straddles p ms) where
+    apart : Straddles p (take d ms ++ drop d ms)
+    apart = subst (λ zs. Straddles p zs) (sym (take-append-drop d ms)) t
+
+    pub up_positive : 0 < u
+    up_positive = first_positive (take d ms) (drop d ms) u down.all down.stops up.stops apart
+
+    pub entry_within : d + u - 1 < length ms
+    entry_within = omega (arith, up_positive, up.fits, down.fits, length-drop d ms)
+
+    pub entry_enters : Enters p (drop (d + u - 1) ms ++ take (d + u - 1) ms)
+    entry_enters =
+        let w = last_of_first u (drop d ms) up_positive up.fits in
+        let high = subst (λ zs. AllByRecursion IsHigh zs) w.taken up.all in
+        let e = enters_at (take d ms) w.front w.last w.behind down.all (each-front IsHigh w.front (w.last ∷ []) high) (each-back IsHigh w.front (w.last ∷ []) high).0 (subst (λ zs. Stops p false zs) w.left up.stops) (subst (λ zs. Straddles p (take d ms ++ zs)) w.whole apart) in
+        let whole : ms ≡ (take d ms ++ w.front) ++ w.last ∷ w.behind = sym (take-append-drop d ms) ∙ ap (λ zs. take d ms ++ zs) w.whole ∙ sym (append_assoc (take d ms) w.front (w.last ∷ w.behind)) in
+        let count : d + u - 1 ≡ length (take d ms ++ w.front) = ap (λ k. d + k - 1) w.count ∙ less d (length w.front) ∙ sym (length-append (take d ms) w.front ∙ ap (λ k. k + length w.front) (length-take-le d ms down.fits)) in
+        subst (λ zs. Enters p zs) (sym ((λ i. drop (d + u - 1) (whole i) ++ take (d + u - 1) (whole i)) ∙ turn_split (take d ms ++ w.front) (w.last ∷ w.behind) (d + u - 1) count)) e
+      where
+        less : (d k : ℕ) → d + suc k - 1 ≡ d + k
+        less d k = omega arith
+
+-- a corner below comes second
+pub run_positive : (p : Plane) (m : Meet) (ns : List Meet) (c : ℕ) → Enters p (m ∷ ns) → IsRun p true ns c → 0 < c
+run_positive p m [] c e r = absurd e
+run_positive p m (n ∷ ns) zero e r = clash e.1 r.stops
+run_positive p m (n ∷ ns) (suc c) e r = omega arith
+
+pub head_high : (p : Plane) (m : Meet) (ns : List Meet) → Enters p (m ∷ ns) → AtLeast p (spot_of m)
+head_high p m [] e = absurd e
+head_high p m (n ∷ ns) e = least_out p m e.0

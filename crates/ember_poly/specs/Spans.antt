@@ -1,0 +1,53 @@
+-- What planes leave of the chord between two points
+use Rattle.std.specs.Prelude.{◌≡◌, ◌≢◌, ◌⊎◌, true, List, ℤ, pos, ◌+ℤ◌, ◌*ℤ◌, ◌<ℤ◌, ◌≤ℤ◌}
+use Rattle.ember_model.specs.declared.plane.Plane.{Plane}
+use Rattle.ember_model.specs.declared.point.Spot.{Spot}
+use Rattle.ember_model.specs.declared.tri.Tri.{Tri}
+use Rattle.ember_model.specs.Planes.{value_at}
+use Rattle.ember_model.specs.Owners.{spot_at}
+use Rattle.ember_model.specs.ClearTest.{none_positive}
+use Rattle.ember_poly.specs.declared.meeting.Span.{Span}
+use Rattle.ember_poly.specs.declared.meeting.Span.TheVariants.{Free, Split, Shut}
+use Rattle.ember_poly.specs.Rings.{Under, Over, turn, Meets}
+
+-- of a plane with these values at the two points: it is positive at no point between them, at some, or at all
+abbrev pub IsSpan : ℤ → ℤ → Span → Type 0
+IsSpan a b Free = (a ≤ℤ pos 0) × (b ≤ℤ pos 0)
+IsSpan a b Split = ((pos 0 <ℤ a) × (b <ℤ pos 0)) ⊎ ((a <ℤ pos 0) × (pos 0 <ℤ b))
+IsSpan a b Shut = ((pos 0 <ℤ a) × (pos 0 ≤ℤ b)) ⊎ ((pos 0 ≤ℤ a) × (pos 0 <ℤ b))
+
+-- i y + j z
+abbrev pub mixed2 : ℤ → ℤ → Spot → Spot → Spot
+mixed2 i j u v =
+    record { x = i *ℤ u.x +ℤ j *ℤ v.x; y = i *ℤ u.y +ℤ j *ℤ v.y; z = i *ℤ u.z +ℤ j *ℤ v.z; w = i *ℤ u.w +ℤ j *ℤ v.w }
+
+-- some point strictly between y and z is above no plane of the list
+pub record IsOpen (hs : List Plane) (y z : Spot) : Type 0 where
+  pub i : ℤ
+  pub j : ℤ
+  pub from_y : pos 0 <ℤ i
+  pub from_z : pos 0 <ℤ j
+  pub free : none_positive hs (mixed2 i j y z) ≡ true
+
+-- the three planes meet in a point that is above no plane of the list
+pub record Fits (n p h : Plane) (hs : List Plane) : Type 0 where
+  pub turns : turn n p h ≢ pos 0
+  pub at : Spot
+  pub meets : Meets n p h at
+  pub free : none_positive hs at ≡ true
+
+-- y and z are points of the line of n and p
+pub record IsLine (n p : Plane) (y z : Spot) : Type 0 where
+  pub flat_y : value_at n y ≡ pos 0
+  pub flat_z : value_at n z ≡ pos 0
+  pub on_y : value_at p y ≡ pos 0
+  pub on_z : value_at p z ≡ pos 0
+  pub weight_y : pos 0 <ℤ y.w
+  pub weight_z : pos 0 <ℤ z.w
+  pub across : Plane
+  pub turns : turn n p across ≢ pos 0
+
+-- the triangle lies strictly on one side of the plane
+abbrev pub IsAside : Plane → Tri → Type 0
+IsAside p t =
+    (Over p (spot_at t.a) × Over p (spot_at t.b) × Over p (spot_at t.c)) ⊎ (Under p (spot_at t.a) × Under p (spot_at t.b) × Under p (spot_at t.c))
