@@ -1,8 +1,8 @@
 -- A plane's least and greatest value over a box: a plane crosses a box where the box's corners aren't
 -- all strictly on one side of it.
-use Rattle.std.proofs.Common.{◌≡◌, zero, suc, refl, sym, ap, ◌∙◌, arith, Bool, true, false, not, ◌&&◌, if◌then◌else◌, cond, ℤ, pos, negsuc, ◌+ℤ◌, ◌-ℤ◌, ◌*ℤ◌, neg_ℤ, ◌≤ℤ◌, ◌<ℤ◌, int_le, List, [], ◌∷◌, ◌^◌}
+use Rattle.std.proofs.Common.{◌≡◌, zero, suc, refl, sym, arith, Bool, true, false, not, ◌&&◌, if◌then◌else◌, ℤ, pos, negsuc, ◌+ℤ◌, ◌*ℤ◌, neg_ℤ, ◌≤ℤ◌, ◌<ℤ◌, int_le, [], ◌∷◌}
 use Rattle.std.specs.List.{list_all}
-use Rattle.std.proofs.lemmas.Bool.{and_parts, and_from, true_from_ne_false, false_from_ne_true, not_from_false, not-true}
+use Rattle.std.proofs.lemmas.Bool.{and_parts, and_from}
 use Rattle.std.proofs.lemmas.Int.{by_lt_z}
 use borrow.Author.Differences.{ints}
 use Rattle.ember_algebra.specs.Sign.{is_negative, is_positive}
@@ -10,7 +10,6 @@ use Rattle.ember_algebra.proofs.Laws.{linear}
 use Rattle.ember_algebra.proofs.Order.{mul_le}
 use Rattle.ember_algebra.proofs.Ring.{◌⊗◌, ◌≈◌, neg, solve, cancels}
 use Rattle.ember_model.specs.declared.plane.Plane.{Plane}
-use Rattle.ember_model.specs.declared.point.Corner.{Corner}
 use Rattle.ember_model.specs.declared.point.Spot.{Spot}
 use Rattle.ember_model.specs.declared.point.Axis.TheVariants.{X, Y, Z}
 use Rattle.ember_model.specs.Planes.{value_at}
@@ -21,7 +20,7 @@ use Rattle.ember_box.specs.declared.spans.Spans.{Spans}
 use Rattle.ember_box.specs.Boxes.{Cell, low, high, side}
 use Rattle.ember_box.specs.Near.{place, corners}
 use Rattle.ember_box.specs.Spans.{spans_of, least_end, greatest_end, least, greatest, crosses}
-use Rattle.ember_box.proofs.Tests.{le_in, le_out, same_test}
+use Rattle.ember_box.proofs.Orders.{le_in, le_out}
 
 -- ---- one axis
 pub record IsBetween (s : Span) (x : ℤ) : Type 0 where

@@ -1,4 +1,7 @@
 pub mod Splits
-pub mod Tests
+pub mod Orders
 pub mod Crossing
 pub mod Nearby
+pub mod Counting
+pub mod Lists
+pub mod Halvable

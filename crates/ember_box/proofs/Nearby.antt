@@ -1,6 +1,6 @@
 -- Near triangles by what they and boxes span: a triangle that has a corner in a box is near it, and
 -- one that is near a half is near the whole.
-use Rattle.std.proofs.Common.{◌≡◌, ◌⊎◌, ⊎_elim, inl, inr, ℕ, zero, suc, pred, ◌+◌, ◌*◌, ◌^◌, ◌<◌, refl, sym, ap, ◌∙◌, arith, Bool, true, false, ◌&&◌, ◌||◌, ℤ, pos, ◌+ℤ◌, ◌-ℤ◌, ◌*ℤ◌, neg_ℤ, ◌≤ℤ◌, int_le, List, [], ◌∷◌, filter, map, length}
+use Rattle.std.proofs.Common.{◌≡◌, ⊎_elim, ℕ, zero, suc, pred, ◌^◌, ◌<◌, refl, sym, ◌∙◌, arith, true, ◌&&◌, ◌||◌, ℤ, pos, ◌+ℤ◌, ◌*ℤ◌, ◌≤ℤ◌, int_le}
 use Rattle.std.specs.Int.{int_min, int_max}
 use Rattle.std.proofs.Math.Nat.{pow-succ'}
 use Rattle.std.proofs.lemmas.Int.{clamps}
@@ -9,7 +9,6 @@ use borrow.Author.Differences.{ints}
 use Rattle.ember_algebra.proofs.Laws.{linear}
 use Rattle.ember_algebra.proofs.Ring.{◌⊕◌, ◌⊖◌, ◌⊗◌, ◌≈◌, solve, cancels}
 use Rattle.ember_model.specs.declared.tri.Tri.{Tri}
-use Rattle.ember_model.specs.declared.plane.Plane.{Plane}
 use Rattle.ember_model.specs.declared.point.Corner.{Corner}
 use Rattle.ember_model.specs.declared.point.Axis.{Axis}
 use Rattle.ember_model.specs.declared.point.Axis.TheVariants.{X, Y, Z}
@@ -18,9 +17,9 @@ use Rattle.ember_model.specs.Valid.{IsValidCorner, IsValidTri}
 use Rattle.ember_box.specs.declared.spans.Span.{Span}
 use Rattle.ember_box.specs.declared.spans.Spans.{Spans}
 use Rattle.ember_box.specs.Boxes.{Cell, along, low, high, left_half, right_half, root}
-use Rattle.ember_box.specs.Near.{spans_meet, is_near, near}
+use Rattle.ember_box.specs.Near.{spans_meet, is_near}
 use Rattle.ember_box.specs.Spans.{spans_of, span_over, bounding, reaches, overlap, covers, within, has, holds, crosses}
-use Rattle.ember_box.proofs.Tests.{le_in, le_out, same_test, and_assoc, one_of_three, least_of, greatest_of, reaches_is, All3, all3, from3}
+use Rattle.ember_box.proofs.Orders.{le_in, le_out, and_assoc, one_of_three, least_of, greatest_of, reaches_is, All3, all3, from3}
 use Rattle.ember_box.proofs.Crossing.{IsBetween, IsIn, IsWithin, crosses_at, crosses_is, crosses_more}
 
 pub near_is : (c : Cell) (t : Tri) → is_near c t ≡ overlap (bounding t) (spans_of c) && crosses (support_of t) (spans_of c)
@@ -110,9 +109,12 @@ right_in c Z u p i h =
 
 -- all corners in a box
 pub record AreInside (b : Spans) (t : Tri) : Type 0 where
-  pub a : IsInside b t.a
-  pub b' : IsInside b t.b
-  pub c : IsInside b t.c
+  pub of_a : IsInside b t.a
+  pub of_b : IsInside b t.b
+  pub of_c : IsInside b t.c
+
+pub inside_crossed : (t : Tri) (b : Spans) → AreInside b t → crosses (support_of t) b ≡ true
+inside_crossed t b i = crossed_a t b i.of_a
 
 covered : (x y z : ℤ) (s : Span) → covers s (span_over x y z) ≡ true → IsBetween s x × (IsBetween s y × IsBetween s z)
 covered x y z s e =
@@ -125,24 +127,24 @@ are_inside b t e =
     let r = all3 (covers b.x (bounding t).x) (covers b.y (bounding t).y) (covers b.z (bounding t).z) e in
     let x = covered t.a.x t.b.x t.c.x b.x r.one in let y = covered t.a.y t.b.y t.c.y b.y r.two in let z = covered t.a.z t.b.z t.c.z b.z r.three in
     record {
-      a = record { on_x = x.0; on_y = y.0; on_z = z.0 };
-      b' = record { on_x = x.1.0; on_y = y.1.0; on_z = z.1.0 };
-      c = record { on_x = x.1.1; on_y = y.1.1; on_z = z.1.1 };
+      of_a = record { on_x = x.0; on_y = y.0; on_z = z.0 };
+      of_b = record { on_x = x.1.0; on_y = y.1.0; on_z = z.1.0 };
+      of_c = record { on_x = x.1.1; on_y = y.1.1; on_z = z.1.1 };
     }
 
 -- a half is crossed where the triangle lies in the box and its bounding box meets the half
 some_left : (c : Cell) (k : Axis) (t : Tri) → AreInside (spans_of c) t → int_le (along k (vector_of t.a)) (high (left_half c k) k) || (int_le (along k (vector_of t.b)) (high (left_half c k) k) || int_le (along k (vector_of t.c)) (high (left_half c k) k)) ≡ true → crosses (support_of t) (spans_of (left_half c k)) ≡ true
 some_left c k t i e =
     let h = high (left_half c k) k in
-    ⊎_elim (λ p. crossed_a t (spans_of (left_half c k)) (left_in c k t.a i.a (le_out (along k (vector_of t.a)) h p)))
-    (λ q. ⊎_elim (λ p. crossed_b t (spans_of (left_half c k)) (left_in c k t.b i.b' (le_out (along k (vector_of t.b)) h p))) (λ p. crossed_c t (spans_of (left_half c k)) (left_in c k t.c i.c (le_out (along k (vector_of t.c)) h p))) q)
+    ⊎_elim (λ p. crossed_a t (spans_of (left_half c k)) (left_in c k t.a i.of_a (le_out (along k (vector_of t.a)) h p)))
+    (λ q. ⊎_elim (λ p. crossed_b t (spans_of (left_half c k)) (left_in c k t.b i.of_b (le_out (along k (vector_of t.b)) h p))) (λ p. crossed_c t (spans_of (left_half c k)) (left_in c k t.c i.of_c (le_out (along k (vector_of t.c)) h p))) q)
     (one_of_three (int_le (along k (vector_of t.a)) h) (int_le (along k (vector_of t.b)) h) (int_le (along k (vector_of t.c)) h) e)
 
 some_right : (c : Cell) (k : Axis) (t : Tri) → 0 < c.log k → AreInside (spans_of c) t → int_le (low (right_half c k) k) (along k (vector_of t.a)) || (int_le (low (right_half c k) k) (along k (vector_of t.b)) || int_le (low (right_half c k) k) (along k (vector_of t.c))) ≡ true → crosses (support_of t) (spans_of (right_half c k)) ≡ true
 some_right c k t p i e =
     let l = low (right_half c k) k in
-    ⊎_elim (λ h. crossed_a t (spans_of (right_half c k)) (right_in c k t.a p i.a (le_out l (along k (vector_of t.a)) h)))
-    (λ q. ⊎_elim (λ h. crossed_b t (spans_of (right_half c k)) (right_in c k t.b p i.b' (le_out l (along k (vector_of t.b)) h))) (λ h. crossed_c t (spans_of (right_half c k)) (right_in c k t.c p i.c (le_out l (along k (vector_of t.c)) h))) q)
+    ⊎_elim (λ h. crossed_a t (spans_of (right_half c k)) (right_in c k t.a p i.of_a (le_out l (along k (vector_of t.a)) h)))
+    (λ q. ⊎_elim (λ h. crossed_b t (spans_of (right_half c k)) (right_in c k t.b p i.of_b (le_out l (along k (vector_of t.b)) h))) (λ h. crossed_c t (spans_of (right_half c k)) (right_in c k t.c p i.of_c (le_out l (along k (vector_of t.c)) h))) q)
     (one_of_three (int_le l (along k (vector_of t.a))) (int_le l (along k (vector_of t.b))) (int_le l (along k (vector_of t.c))) e)
 
 overlaps : (a b : Spans) → overlap a b ≡ true → All3 (reaches a.x b.x) (reaches a.y b.y) (reaches a.z b.z)

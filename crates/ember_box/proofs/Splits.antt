@@ -2,11 +2,10 @@
 use Rattle.std.proofs.Common.{◌≡◌, ℕ, zero, suc, pred, ◌+◌, ◌-◌, ◌*◌, ◌^◌, ◌<◌, ◌≤◌, List, [], ◌∷◌, ℤ, pos, ◌+ℤ◌, ◌-ℤ◌, unsigned_abs, length, slice_index_or, slice_set, refl, sym, ap, ap₂, ◌∙◌, subst, arith}
 use Rattle.std.proofs.Math.Path.{fun_ext}
 use Rattle.std.proofs.Math.Nat.{pow-succ'}
-use Rattle.ember_algebra.specs.Vector.{Vector}
 use Rattle.ember_algebra.proofs.Ring.{solve, ◌⊕◌, ◌⊖◌, ◌≈◌, cancels}
 use Rattle.ember_model.specs.declared.point.Axis.{Axis}
 use Rattle.ember_model.specs.declared.point.Axis.TheVariants.{X, Y, Z}
-use Rattle.ember_box.specs.Boxes.{Cell, along, shifted_by, low, left, put, left_half, right_half, Sits, IsCell, three, cell_with, coordinate, cell_of, place_of}
+use Rattle.ember_box.specs.Boxes.{Cell, low, left, put, left_half, right_half, Sits, IsCell, three, coordinate, cell_of, place_of}
 
 minus_pred : (a : ℕ) → a - 1 ≡ pred a
 minus_pred zero = refl

@@ -9,13 +9,12 @@ use Rattle.ember_model.specs.Meshes.{vector, IsScene}
 use Rattle.ember_box.specs.Boxes.{Cell}
 use Rattle.ember_box.specs.Near.{place, near}
 
--- lo + (1/m, 1/m^2, 1/m^3)
-abbrev pub reference_at : ℤ → Vector → Spot
-reference_at m lo = shifted (place lo) m
-
 -- lo + (2^-27, 2^-54, 2^-81), with the weight 2^81
-unfoldable pub reference : Cell → Spot
-reference c = reference_at (pos (2 ^ 27)) c.lo
+abbrev pub reference_at : Vector → Spot
+reference_at lo = shifted (place lo) (pos (2 ^ 27))
+
+abbrev pub reference : Cell → Spot
+reference c = reference_at c.lo
 
 -- the winding numbers there
 abbrev pub vector_at : List Tri → Cell → List ℤ

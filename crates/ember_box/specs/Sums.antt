@@ -12,7 +12,7 @@ use Rattle.ember_box.specs.declared.sums.Halves.{Halves}
 use Rattle.ember_box.specs.declared.sums.Sums.{Sums}
 use Rattle.ember_box.specs.Boxes.{Cell, left_half, right_half}
 use Rattle.ember_box.specs.Spans.{spans_of, bounding, overlap, within, crosses, AreSpansSized}
-use Rattle.ember_box.specs.Near.{is_near, near}
+use Rattle.ember_box.specs.Near.{near}
 use Rattle.ember_box.specs.Halving.{half_sum}
 
 abbrev pub number : Bool → ℕ

@@ -1,5 +1,6 @@
 // A box that came from the root by halving.
-ghost use Rattle.std.specs.Prelude.{◌≡◌, ◌<◌, ◌≤◌, ◌^◌, [], ◌∷◌};
+ghost use Rattle.std.specs.Prelude.{◌≡◌, ◌<◌, ◌≤◌, ◌^◌, [], ◌∷◌, All};
+ghost use Rattle.ember_algebra.specs.Size.{Small};
 ghost use Rattle.ember_box.specs.Boxes as boxes;
 ghost use Rattle.ember_box.specs.Boxes.{IsCell};
 
@@ -59,7 +60,8 @@ impl Cell {
 
     /// Its least corner, in the scaled unit: at least -2048 along each axis.
     pub fn lo(&self) -> [i32; 3]
-        ensures { result ≡ self.now.lo.x ∷ self.now.lo.y ∷ self.now.lo.z ∷ [] }
+        ensures value { result ≡ self.now.lo.x ∷ self.now.lo.y ∷ self.now.lo.z ∷ [] }
+        ensures small { All (Small 2048) result }
     {
         [self.low(Axis::X), self.low(Axis::Y), self.low(Axis::Z)]
     }
@@ -67,6 +69,7 @@ impl Cell {
     /// The coordinate of its least corner along an axis.
     pub fn low(&self, k: Axis) -> i32
         ensures value { result ≡ boxes.low self.now k }
+        ensures small { Small 2048 result }
         ensures kept { IsCell self.now }
     {
         coordinate_of(self.from[place(k)])
@@ -94,7 +97,8 @@ impl Cell {
 // A coordinate that is counted from the corner of the root box, counted from 0.
 fn coordinate_of(from: u32) -> i32
     requires { from ≤ 4096 }
-    ensures { result ≡ boxes.coordinate from }
+    ensures value { result ≡ boxes.coordinate from }
+    ensures small { Small 2048 result }
 {
     from as i32 - 2048
 }

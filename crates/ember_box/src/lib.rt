@@ -11,4 +11,5 @@ mod tests;
 
 pub use cell::{Cell, halves, root};
 pub use nearness::{near, near_list, near_tri};
+pub use spans::{Span, Spans, bounding, overlap, spans_of};
 pub use sums::{halving, is_leaf, split_axis};

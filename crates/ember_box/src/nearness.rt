@@ -55,12 +55,7 @@ pub fn near_among(
 }
 
 /// Those of the listed triangles that are near the box, in order.
-pub fn near_list(
-    alloc: Global,
-    s: &Scene,
-    list: &[u32],
-    c: &Cell,
-) -> Result<Vec<u32>, OutOfMemory>
+pub fn near_list(alloc: Global, s: &Scene, list: &[u32], c: &Cell) -> Result<Vec<u32>, OutOfMemory>
     requires { All (λ i. i < length s.now.tris) list.now }
     ensures { IfOk result (λ v. v.items ≡ near_places s.now.tris c.now list.now) }
 {

@@ -1,7 +1,8 @@
 // Along which axis a box is halved, and where halving ends.
-ghost use Rattle.std.specs.Prelude.{◌≡◌, ◌+◌, ◌*◌, ◌<◌, ◌≤◌, ◌&&◌, ◌||◌, not, nat_le, nat_lt, length, All, List, None, Some, if◌then◌else◌};
+ghost use Rattle.std.specs.Prelude.{◌≡◌, ◌+◌, ◌*◌, ◌<◌, ◌≤◌, ◌&&◌, ◌||◌, not, nat_le, nat_lt, length, All, List, None, Some, IfSome, if◌then◌else◌};
 ghost use Rattle.ember_model.specs.Valid.{IsValidTri};
 ghost use Rattle.ember_model.specs.declared.tri.Tri.{Tri};
+ghost use Rattle.ember_model.specs.declared.point.Axis.{Axis};
 ghost use Rattle.ember_model.specs.declared.point.Axis.TheVariants.{X, Y, Z};
 ghost use Rattle.ember_box.specs.Spans.{bounding, AreSpansSized};
 ghost use Rattle.ember_box.specs.Near.{listed};
@@ -155,13 +156,13 @@ fn is_no_better(first: u8, first_sum: u64, second: u8, second_sum: u64) -> bool
     second == 0 || first > 0 && first_sum <= second_sum
 }
 
-// X or Y or Z, by what is said of the first two.
-fn chosen(is_x: bool, is_y: bool) -> Axis
-    ensures { result ≡ (if is_x then X else (if is_y then Y else Z)) }
+// The first axis that no later one is better than, by what is said of each two.
+fn chosen(x_before_y: bool, x_before_z: bool, y_before_z: bool) -> Axis
+    ensures { result ≡ (if x_before_y && x_before_z then X else (if y_before_z then Y else Z)) }
 {
-    if is_x {
+    if x_before_y && x_before_z {
         Axis::X
-    } else if is_y {
+    } else if y_before_z {
         Axis::Y
     } else {
         Axis::Z
@@ -174,10 +175,9 @@ fn least_axis(c: &Cell, sums: &Sums) -> Axis
     let x = c.log(Axis::X);
     let y = c.log(Axis::Y);
     let z = c.log(Axis::Z);
-    let x_then_y = is_no_better(x, sums.x, y, sums.y);
-    let x_then_z = is_no_better(x, sums.x, z, sums.z);
     chosen(
-        x_then_y && x_then_z,
+        is_no_better(x, sums.x, y, sums.y),
+        is_no_better(x, sums.x, z, sums.z),
         is_no_better(y, sums.y, z, sums.z),
     )
 }
@@ -189,21 +189,38 @@ fn spreads(log: u8, near: u64, sum: u64) -> bool
     log == 0 || 7 * near as u128 <= 4 * sum as u128
 }
 
+fn is_few(near: u64) -> bool
+    ensures { result ≡ nat_le near 16 }
+{
+    near <= FEW
+}
+
+// There are few triangles, or no axis is worth a halving.
+fn ends(is_few: bool, x_spreads: bool, y_spreads: bool, z_spreads: bool) -> bool
+    ensures { result ≡ (is_few || x_spreads && y_spreads && z_spreads) }
+{
+    is_few || x_spreads && y_spreads && z_spreads
+}
+
 fn is_leaf_by(c: &Cell, sums: &Sums) -> bool
     ensures { (ts : List Tri) → AreSums ts c.now sums.now → result ≡ halvings.is_leaf ts c.now }
 {
-    let x = spreads(c.log(Axis::X), sums.near, sums.x);
-    let y = spreads(c.log(Axis::Y), sums.near, sums.y);
-    let z = spreads(c.log(Axis::Z), sums.near, sums.z);
-    sums.near <= FEW || x && y && z
+    ends(
+        is_few(sums.near),
+        spreads(c.log(Axis::X), sums.near, sums.x),
+        spreads(c.log(Axis::Y), sums.near, sums.y),
+        spreads(c.log(Axis::Z), sums.near, sums.z),
+    )
 }
 
 /// The axis along which the box is halved: the one with the least sum, the first of them in a tie,
 /// of those along which the side is above 1. The sum of an axis is the number of listed triangles
 /// near the lower half plus the number near the upper half. Some side is above 1.
+#[tactic(auto, using(crate::proofs::Halvable::halvable_along))]
 pub fn split_axis(s: &Scene, list: &[u32], c: &Cell) -> Axis
     requires { All (λ i. i < length s.now.tris) list.now }
-    ensures { result ≡ halvings.halving_axis (listed s.now.tris list.now) c.now }
+    ensures axis { result ≡ halvings.halving_axis (listed s.now.tris list.now) c.now }
+    ensures halvable { (k : Axis) → 0 < c.now.log k → 0 < c.now.log result }
 {
     least_axis(c, &half_sums(s.tris.items(), list, c))
 }
@@ -214,24 +231,27 @@ pub fn is_leaf(s: &Scene, list: &[u32], c: &Cell) -> bool
     requires { All (λ i. i < length s.now.tris) list.now }
     ensures { result ≡ halvings.is_leaf (listed s.now.tris list.now) c.now }
 {
-    list.len() as u64 <= FEW || is_leaf_by(c, &half_sums(s.tris.items(), list, c))
+    halving(s, list, c).is_none()
 }
 
 /// None where the box is a leaf, and else the axis along which it is halved.
 pub fn halving(s: &Scene, list: &[u32], c: &Cell) -> Option<Axis>
     requires { All (λ i. i < length s.now.tris) list.now }
-    ensures { result ≡ (if halvings.is_leaf (listed s.now.tris list.now) c.now then None else Some (halvings.halving_axis (listed s.now.tris list.now) c.now)) }
+    ensures answer { result ≡ (if halvings.is_leaf (listed s.now.tris list.now) c.now then None else Some (halvings.halving_axis (listed s.now.tris list.now) c.now)) }
+    ensures halvable { IfSome result (λ k. 0 < c.now.log k) }
 {
     halving_of(s.tris.items(), list, c)
 }
 
 /// The same by the triangles.
+#[tactic(auto, using(crate::proofs::Halvable::halvable_unless_leaf))]
 pub fn halving_of(tris: &[Tri], list: &[u32], c: &Cell) -> Option<Axis>
     requires valid { All IsValidTri tris.now }
     requires places { All (λ i. i < length tris.now) list.now }
-    ensures { result ≡ (if halvings.is_leaf (listed tris.now list.now) c.now then None else Some (halvings.halving_axis (listed tris.now list.now) c.now)) }
+    ensures answer { result ≡ (if halvings.is_leaf (listed tris.now list.now) c.now then None else Some (halvings.halving_axis (listed tris.now list.now) c.now)) }
+    ensures halvable { IfSome result (λ k. 0 < c.now.log k) }
 {
-    if list.len() as u64 <= FEW {
+    if is_few(list.len() as u64) {
         return None;
     }
     let sums = half_sums(tris, list, c);

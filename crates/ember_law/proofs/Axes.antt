@@ -1,5 +1,5 @@
 -- At a clear point of a balanced mesh the crossings along all axes agree.
-use Rattle.std.proofs.Common.{◌≡◌, refl, sym, ◌∙◌, arith, List, le_refl, ℤ, pos, ◌<ℤ◌}
+use Rattle.std.proofs.Common.{◌≡◌, refl, sym, ◌∙◌, arith, List, le_refl, pos, ◌<ℤ◌}
 use Rattle.ember_algebra.specs.Sums.{total}
 use Rattle.ember_algebra.proofs.Laws.{linear}
 use Rattle.ember_algebra.proofs.Large.{eventually_both}

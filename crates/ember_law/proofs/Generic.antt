@@ -42,7 +42,7 @@ edge_generic u v f p h w =
       z = λ z. identity s (λ u v f p. (crossE (minusE (seenE p v) (seenE p u)) f).z ≈ p.w ⊗ (crossE (minusE v u) f).z) cancels a b f q ∙ zero_scaled p.w n.c (none z).2;
     }
 
--- p lies on none of the planes through the triangle and, along f, its edges, unless they have no normal
+-- p lies on none of the planes through the triangle and, along f, its edges that have a normal
 pub record IsOff (f : Vector) (p : Spot) (t : Tri) : Type 0 where
   pub weight : pos 0 <ℤ p.w
   pub plane : value_at (support_of t) p ≡ pos 0 → NoNormal (support_of t)
@@ -61,7 +61,7 @@ generic_off f p t m =
           edges = record { first = edge_generic t.a t.b f p m.first m.weight; second = edge_generic t.b t.c f p m.second m.weight; third = edge_generic t.c t.a f p m.third m.weight };
         }
 
-off_all : (f : Vector) (p : Spot) (t : Tri) → pos 0 <ℤ p.w → Eventually (λ n. IsOff f (shifted p (pos n)) t)
+pub off_all : (f : Vector) (p : Spot) (t : Tri) → pos 0 <ℤ p.w → Eventually (λ n. IsOff f (shifted p (pos n)) t)
 off_all f p t w =
     eventually_map (λ n h. record { weight = h.0; plane = h.1.0; first = h.1.1.0; second = h.1.1.1.0; third = h.1.1.1.1 })
     (eventually_both (weight_shifted p w) (eventually_both (off_shifted p (support_of t)) (eventually_both (off_shifted p (edge_through t.a t.b f)) (eventually_both (off_shifted p (edge_through t.b t.c f)) (off_shifted p (edge_through t.c t.a f))))))

@@ -8,3 +8,7 @@ pub mod Paths
 pub mod Tallies
 pub mod Vectors
 pub mod Grown
+pub mod Separation
+pub mod GenericClear
+pub mod Segments
+pub mod CornerSides

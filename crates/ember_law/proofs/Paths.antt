@@ -1,5 +1,5 @@
--- The path law: of two clear points of a line along an axis, the crossings at the first less those at the second are those
--- of the segment between them.
+-- The path law: of two clear points of a line along an axis, the crossings at the first less those
+-- at the second are those of the segment between them.
 use Rattle.std.proofs.Common.{◌≡◌, refl, sym, ap, subst, ◌∙◌, arith, List, [], ◌∷◌, ℤ, pos, ◌-ℤ◌, ◌*ℤ◌, neg_ℤ, ◌<ℤ◌}
 use Rattle.ember_algebra.proofs.Laws.{linear}
 use Rattle.ember_algebra.proofs.Order.{by_sign, pos_mul, square_nonneg}
@@ -12,7 +12,6 @@ use Rattle.ember_model.specs.Points.{scaled, moved, DifferAlong}
 use Rattle.ember_model.specs.Clear.{AreClear}
 use Rattle.ember_model.specs.Meshes.{wind, faces_of, IsBalanced}
 use Rattle.ember_model.proofs.SignTests.{negative_not}
-use Rattle.ember_model.proofs.Hits.{moved_weight}
 use Rattle.ember_model.proofs.Legs.{leg_off, face_leg}
 use Rattle.ember_model.proofs.LegSigns.{moved_zero, moved_back, gap_along, is_moved}
 use Rattle.ember_model.proofs.Scaling.{crossing_scaled, clear_scaled, leg_scaled, leg_back}

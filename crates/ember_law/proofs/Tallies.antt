@@ -1,10 +1,10 @@
 -- Sums over the faces of each mesh, triangle by triangle.
-use Rattle.std.proofs.Common.{◌≡◌, ◌≢◌, ℕ, zero, suc, ◌+◌, ◌-◌, ◌<◌, ◌≤◌, Bool, true, false, not, cond, nat_eq, List, [], ◌∷◌, map, filter, length, take, take_all, get_or, set, ℤ, pos, ◌+ℤ◌, refl, sym, ap, subst, ◌∙◌, arith}
+use Rattle.std.proofs.Common.{All, ◌≡◌, ◌≢◌, ℕ, zero, suc, ◌+◌, ◌-◌, ◌<◌, Bool, true, false, cond, filter, nat_eq, List, [], ◌∷◌, map, length, take, get_or, set, ℤ, pos, ◌+ℤ◌, refl, sym, ap, subst, ◌∙◌, arith}
 use Rattle.std.specs.List.{range_with_len}
 use Rattle.std.proofs.lemmas.Bool.{ne_eqb, eq-eqb}
 use Rattle.ember_algebra.specs.Sums.{total}
 use Rattle.ember_algebra.proofs.Laws.{linear}
-use Rattle.ember_algebra.proofs.Sums.{total-take_more, total-filter}
+use Rattle.ember_algebra.proofs.Sums.{total-take_more, total-filter, total_same, total_same_all, total_zero}
 use Rattle.ember_model.specs.declared.point.Corner.{Corner}
 use Rattle.ember_model.specs.declared.tri.Tri.{Tri}
 use Rattle.ember_model.specs.declared.face.Face.{Face}
@@ -26,6 +26,10 @@ no_tri =
     let u : Corner = record { x = pos 0; y = pos 0; z = pos 0 } in record { a = u; b = u; c = u; mesh = 0 }
 
 -- ---- lists of counts
+pub map_same : (f g : ℕ → ℤ) → ((m : ℕ) → f m ≡ g m) → (ms : List ℕ) → map f ms ≡ map g ms
+map_same f g e [] = refl
+map_same f g e (m ∷ ms) = let x = e m in let r = map_same f g e ms in λ i. x i ∷ r i
+
 same_below : (g h : ℕ → ℤ) (j : ℕ) (n a : ℕ) → j < a → ((m : ℕ) → j ≢ m → h m ≡ g m) → (old : List ℤ) → added old (map h (range_with_len a n)) ≡ added old (map g (range_with_len a n))
 same_below g h j zero a l e [] = refl
 same_below g h j zero a l e (c ∷ cs) = refl
@@ -51,10 +55,10 @@ added_nothing g z (suc n) a (c ∷ cs) =
 
 -- ---- one more triangle
 module _ (f : Face → ℤ) (flat : (t : Tri) → IsFlat t → f (face_of t) ≡ pos 0) where
-  of_one : ℕ → Tri → ℤ
+  unfoldable pub of_one : ℕ → Tri → ℤ
   of_one m t = cond (nat_eq t.mesh m) (f (face_of t)) (pos 0)
 
-  entry : (m : ℕ) (ts : List Tri) → total f (faces_of (of_mesh m ts)) ≡ total (of_one m) ts
+  pub entry : (m : ℕ) (ts : List Tri) → total f (faces_of (of_mesh m ts)) ≡ total (of_one m) ts
   unfolding of_one
   entry m ts = total_faces f flat (of_mesh m ts) ∙ total-filter (λ t. f (face_of t)) (λ t. nat_eq t.mesh m) ts
 
@@ -72,6 +76,44 @@ module _ (f : Face → ℤ) (flat : (t : Tri) → IsFlat t → f (face_of t) ≡
       (entry_more t.mesh ts i d l ∙ ap (λ (b : Bool). g t.mesh +ℤ cond b (f (face_of t)) (pos 0)) (eq-eqb t.mesh t.mesh refl))
       (λ m n. entry_more m ts i d l ∙ ap (λ (b : Bool). g m +ℤ cond b (f (face_of t)) (pos 0)) (ne_eqb t.mesh m n) ∙ omega (arith, linear))
       (t.mesh - 1) 64 1 (omega arith) (omega arith) old
+
+  -- triangles whose face adds nothing may be left out
+  pub tally_filter : (p : Tri → Bool) → ((t : Tri) → p t ≡ false → f (face_of t) ≡ pos 0) → (ts : List Tri) → tally f (filter p ts) ≡ tally f ts
+  unfolding of_one
+  tally_filter p z ts = map_same (λ m. total f (faces_of (of_mesh m (filter p ts)))) (λ m. total f (faces_of (of_mesh m ts))) each meshes
+    where
+      none : (m : ℕ) (t : Tri) → p t ≡ false → of_one m t ≡ pos 0
+      none m t e = by (nat_eq t.mesh m)
+        where
+          by : (b : Bool) → cond b (f (face_of t)) (pos 0) ≡ pos 0
+          by true = z t e
+          by false = refl
+
+      kept : (m : ℕ) (t : Tri) → cond (p t) (of_one m t) (pos 0) ≡ of_one m t
+      kept m t = by (p t) refl
+        where
+          by : (b : Bool) → p t ≡ b → cond b (of_one m t) (pos 0) ≡ of_one m t
+          by true e = refl
+          by false e = sym (none m t e)
+
+      each : (m : ℕ) → total f (faces_of (of_mesh m (filter p ts))) ≡ total f (faces_of (of_mesh m ts))
+      each m =
+          entry m (filter p ts) ∙ total-filter (of_one m) p ts ∙ total_same (λ t. cond (p t) (of_one m t) (pos 0)) (of_one m) (kept m) ts ∙ sym (entry m ts)
+
+  -- where no face adds anything
+  pub tally_zero : (ts : List Tri) → All (λ t. f (face_of t) ≡ pos 0) ts → tally f ts ≡ map (λ m. pos 0) meshes
+  unfolding of_one
+  tally_zero ts z = map_same (λ m. total f (faces_of (of_mesh m ts))) (λ m. pos 0) each meshes
+    where
+      none : (m : ℕ) → All (λ t. of_one m t ≡ pos 0) ts
+      none m = λ i d l. by (get_or ts i d) (nat_eq (get_or ts i d).mesh m) (z i d l)
+        where
+          by : (t : Tri) (b : Bool) → f (face_of t) ≡ pos 0 → cond b (f (face_of t)) (pos 0) ≡ pos 0
+          by t true e = e
+          by t false e = refl
+
+      each : (m : ℕ) → total f (faces_of (of_mesh m ts)) ≡ pos 0
+      each m = entry m ts ∙ total_same_all (of_one m) (λ t. pos 0) ts (none m) ∙ total_zero (λ t. pos 0) (λ t. refl) ts
 
 pub tally_none : (f : Face → ℤ) (old : List ℤ) → added old (tally f []) ≡ old
 unfolding meshes

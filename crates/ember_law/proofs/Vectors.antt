@@ -1,5 +1,5 @@
 -- The laws for all meshes of a scene at once.
-use Rattle.std.proofs.Common.{◌≡◌, ℕ, Bool, true, false, not, cond, nat_eq, List, [], ◌∷◌, map, filter, ℤ, pos, ◌+ℤ◌, ◌-ℤ◌, ◌<ℤ◌, refl, arith}
+use Rattle.std.proofs.Common.{◌≡◌, ℕ, Bool, true, false, not, cond, nat_eq, List, [], ◌∷◌, map, filter, ℤ, ◌+ℤ◌, ◌-ℤ◌, refl, arith}
 use Rattle.std.specs.List.{AllByRecursion}
 use Rattle.ember_algebra.proofs.Laws.{linear}
 use Rattle.ember_model.specs.declared.tri.Tri.{Tri}
@@ -8,9 +8,11 @@ use Rattle.ember_model.specs.Faces.{is_flat, face_of}
 use Rattle.ember_model.specs.Clear.{IsClear}
 use Rattle.ember_model.specs.Meshes.{wind, faces_of, of_mesh, meshes, IsScene}
 use Rattle.ember_law.specs.Counts.{added, leg_wind}
-use Rattle.ember_law.specs.Laws.{AxesAgree, LegsTell}
+use Rattle.ember_law.specs.Laws.{AxesAgree, LegsTell, Misses, SegmentsKeep}
 use Rattle.ember_law.proofs.Axes.{axes_agree}
 use Rattle.ember_law.proofs.Paths.{path_law}
+use Rattle.ember_law.proofs.Segments.{segment_law}
+use Rattle.ember_law.proofs.Tallies.{map_same}
 
 -- what holds of all faces holds of those of a mesh
 pub of_mesh_all : (P : Face → Type 0) (m : ℕ) (ts : List Tri) → AllByRecursion P (faces_of ts) → AllByRecursion P (faces_of (of_mesh m ts))
@@ -22,10 +24,6 @@ of_mesh_all P m (t ∷ ts) h = by (is_flat t) (nat_eq t.mesh m) refl h (of_mesh_
     by true false e h r = r h
     by false true e h r = rw e (h.0, r h.1)
     by false false e h r = r h.1
-
-pub map_same : (f g : ℕ → ℤ) → ((m : ℕ) → f m ≡ g m) → (ms : List ℕ) → map f ms ≡ map g ms
-map_same f g e [] = refl
-map_same f g e (m ∷ ms) = let x = e m in let r = map_same f g e ms in λ i. x i ∷ r i
 
 map_added : (f g h : ℕ → ℤ) → ((m : ℕ) → f m -ℤ g m ≡ h m) → (ms : List ℕ) → map f ms ≡ added (map g ms) (map h ms)
 map_added f g h e [] = refl
@@ -39,3 +37,7 @@ axes_law ts n s p a b w c =
 pub legs_law : (ts : List Tri) (n : ℕ) → IsScene ts n → LegsTell ts
 legs_law ts n s a b p q wp wq d cp cq =
     map_added (λ m. wind b (faces_of (of_mesh m ts)) p) (λ m. wind b (faces_of (of_mesh m ts)) q) (λ m. leg_wind (faces_of (of_mesh m ts)) p q) (λ m. path_law a b p q (of_mesh m ts) (s.balanced m) wp wq d (of_mesh_all (λ f. IsClear f p) m ts cp) (of_mesh_all (λ f. IsClear f q) m ts cq)) meshes
+
+pub segments_law : (ts : List Tri) (n : ℕ) → IsScene ts n → SegmentsKeep ts
+segments_law ts n s a b p q wp wq cp cq h =
+    map_same (λ m. wind a (faces_of (of_mesh m ts)) p) (λ m. wind b (faces_of (of_mesh m ts)) q) (λ m. segment_law a b p q (of_mesh m ts) (s.balanced m) wp wq (of_mesh_all (λ f. IsClear f p) m ts cp) (of_mesh_all (λ f. IsClear f q) m ts cq) (of_mesh_all (Misses p q) m ts h)) meshes

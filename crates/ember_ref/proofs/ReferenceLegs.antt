@@ -1,7 +1,9 @@
 -- The crossing of a segment between two reference points, by the signs of a triangle's planes.
-use Rattle.std.proofs.Common.{◌≡◌, pred, ◌^◌, refl, sym, ap, ◌∙◌, arith, Bool, true, false, cond, ◌&&◌, List, ℤ, pos, ◌<ℤ◌}
+use Rattle.std.proofs.Common.{◌≡◌, ℕ, zero, suc, pred, ◌^◌, refl, sym, ap, ◌∙◌, arith, Bool, true, false, cond, ◌&&◌, List, [], ◌∷◌, All, get_or, ℤ, pos, ◌<ℤ◌}
+use Rattle.std.proofs.lemmas.List.Elements.{All-head, All-tail}
 use borrow.Author.Differences.{ints}
 use Rattle.ember_algebra.specs.Vector.{Vector}
+use Rattle.ember_algebra.specs.Size.{Small}
 use Rattle.ember_algebra.specs.declared.Sign.{Sign}
 use Rattle.ember_algebra.specs.Sign.{sgn, number, times, is_neg}
 use Rattle.ember_algebra.proofs.Laws.{linear}
@@ -12,35 +14,46 @@ use Rattle.ember_model.specs.declared.point.Axis.TheVariants.{X, Y, Z}
 use Rattle.ember_model.specs.declared.plane.Plane.{Plane}
 use Rattle.ember_model.specs.declared.tri.Tri.{Tri}
 use Rattle.ember_model.specs.Planes.{value_at, support_of, edge_planes}
-use Rattle.ember_model.specs.Points.{DifferAlong}
+use Rattle.ember_model.specs.Points.{shifted, DifferAlong}
 use Rattle.ember_model.specs.Faces.{face_of, leg}
 use Rattle.ember_model.specs.ClearTest.{all_negative}
 use Rattle.ember_model.proofs.PlaneValues.{sign-number}
 use Rattle.ember_model.proofs.LegSigns.{leg_is}
 use Rattle.ember_box.specs.Boxes.{Cell, shifted_by, right_half}
+use Rattle.ember_box.specs.Near.{place}
 use Rattle.ember_box.specs.Reference.{reference_at, reference}
-use Rattle.ember_ref.specs.References.{corner_of, reference_of}
+use Rattle.ember_ref.specs.References.{corner_of, reference_of, IsBoxCorner}
 
 -- ---- reference points
-weight_near : (m : ℤ) (v : Vector) → pos 0 <ℤ m → pos 0 <ℤ (reference_at m v).w
+pub box_corner : (cs : List ℤ) → All (Small 2048) cs → IsBoxCorner (corner_of cs)
+box_corner cs h = record { x = at cs 0 h; y = at cs 1 h; z = at cs 2 h }
+  where
+    at : (cs : List ℤ) (i : ℕ) → All (Small 2048) cs → Small 2048 (get_or cs i (pos 0))
+    at [] i h = record { small = omega arith }
+    at (c ∷ cs) zero h = All-head (Small 2048) c cs h
+    at (c ∷ cs) (suc i) h = at cs i (All-tail (Small 2048) c cs h)
+
+weight_near : (m : ℤ) (v : Vector) → pos 0 <ℤ m → pos 0 <ℤ (shifted (place v) m).w
 weight_near m v l = pos_mul (pos_mul (pos_mul l l) l) (omega (arith, linear))
+
+pub weight_at : (v : Vector) → pos 0 <ℤ (reference_at v).w
+weight_at v = weight_near (pos (2 ^ 27)) v (omega (arith, ints))
 
 pub weight_of : (lo : List ℤ) → pos 0 <ℤ (reference_of lo).w
 unfolding reference_of
-weight_of lo = weight_near (pos (2 ^ 27)) (corner_of lo) (omega (arith, ints))
+weight_of lo = weight_at (corner_of lo)
 
-differ_along : (m : ℤ) (k : Axis) (by : ℤ) (v : Vector) → DifferAlong k (reference_at m (shifted_by k by v)) (reference_at m v)
+differ_along : (m : ℤ) (k : Axis) (by : ℤ) (v : Vector) → DifferAlong k (shifted (place (shifted_by k by v)) m) (shifted (place v) m)
 differ_along m X by v = (refl, refl)
 differ_along m Y by v = (refl, refl)
 differ_along m Z by v = (refl, refl)
 
 pub reference_is : (lo : List ℤ) (c : Cell) → corner_of lo ≡ c.lo → reference_of lo ≡ reference c
-unfolding reference_of reference
-reference_is lo c e = ap (λ (v : Vector). reference_at (pos (2 ^ 27)) v) e
+unfolding reference_of
+reference_is lo c e = ap reference_at e
 
 -- the reference points of a box and its right half
 pub halves_differ : (c : Cell) (k : Axis) → DifferAlong k (reference (right_half c k)) (reference c)
-unfolding reference
 halves_differ c k = differ_along (pos (2 ^ 27)) k (pos (2 ^ pred (c.log k))) c.lo
 
 -- ---- the crossing

@@ -1,5 +1,5 @@
 -- Reference points given by a box's least corner, and the winding numbers carried to that of a half
-use Rattle.std.specs.Prelude.{◌≡◌, ◌^◌, ℤ, pos, List, slice_index_or}
+use Rattle.std.specs.Prelude.{◌≡◌, ℤ, pos, List, slice_index_or}
 use Rattle.ember_algebra.specs.Vector.{Vector}
 use Rattle.ember_algebra.specs.Size.{Small}
 use Rattle.ember_algebra.specs.declared.Sign.{Sign}
@@ -10,7 +10,7 @@ use Rattle.ember_model.specs.declared.plane.Plane.{Plane}
 use Rattle.ember_model.specs.declared.tri.Tri.{Tri}
 use Rattle.ember_law.specs.Counts.{added, leg_vector}
 use Rattle.ember_box.specs.Boxes.{Cell, right_half}
-use Rattle.ember_box.specs.Reference.{reference_at, reference}
+use Rattle.ember_box.specs.Reference.{reference_at, reference, vector_at, Fits}
 
 -- three coordinates, in the order of the axes
 abbrev pub corner_of : List ℤ → Vector
@@ -24,7 +24,7 @@ pub record IsBoxCorner (v : Vector) : Type 0 where
 
 -- the reference point of a box with this least corner
 unfoldable pub reference_of : List ℤ → Spot
-reference_of lo = reference_at (pos (2 ^ 27)) (corner_of lo)
+reference_of lo = reference_at (corner_of lo)
 
 -- the first of two signs that isn't zero
 abbrev pub or_sign : Sign → Sign → Sign
@@ -36,6 +36,11 @@ or_sign Pos s = Pos
 abbrev pub IsLevel : Plane → Type 0
 IsLevel p = (p.a ≡ pos 0) × (p.b ≡ pos 0) × (p.c ≡ pos 0)
 
--- the counts at a box's reference point, with the crossings on the way back to it from that of its right half
+-- the counts at a box's reference point, with the crossings on the way back to it from that of its
+-- right half
 abbrev pub carried : List Tri → Cell → Axis → List ℤ → List ℤ
 carried near c k counts = added counts (leg_vector near (reference (right_half c k)) (reference c))
+
+-- in each scene that fits, the vector at the reference point of the right half is the new one
+abbrev pub ShiftsAll : List Tri → Cell → Axis → List ℤ → List ℤ → Type 0
+ShiftsAll near c k old new = (scene : List Tri) → Fits scene near c old → vector_at scene (right_half c k) ≡ new

@@ -1,4 +1,4 @@
-use Rattle.std.proofs.Common.{◌<◌, ◌-◌, ◌*◌, slice_set, slice_index_or, sym, subst, arith}
+use Rattle.std.proofs.Common.{◌<◌, sym, subst, arith}
 use Rattle.ember_box.specs.Boxes.{Cell, IsCell, cell_of}
 use Rattle.ember_box.proofs.Splits.{is_lower, left_is_cell}
 use Rattle.ember_box.proofs.cell.lower.Goals as goal

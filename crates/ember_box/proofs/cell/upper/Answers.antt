@@ -1,4 +1,4 @@
-use Rattle.std.proofs.Common.{◌<◌, ◌≡◌, ◌-◌, ◌*◌, ◌+◌, ◌^◌, ap, ◌∙◌, slice_set, slice_index_or, sym, subst, arith}
+use Rattle.std.proofs.Common.{◌<◌, ap, ◌∙◌, sym, subst, arith}
 use Rattle.ember_box.specs.Boxes.{Cell, IsCell, cell_of, right_half}
 use Rattle.ember_box.proofs.Splits.{is_upper, right_is_cell, may_move, log_of}
 use Rattle.ember_box.proofs.cell.upper.Goals as goal

@@ -1,7 +1,7 @@
-use Rattle.std.proofs.Common.{ℕ, ◌+◌, List, All, length, subst}
+use Rattle.std.proofs.Common.{◌+◌, List, All, length, subst}
 use Rattle.ember_algebra.specs.Size.{Small}
 use Rattle.ember_model.specs.declared.tri.Tri.{Tri}
-use Rattle.ember_law.proofs.Vectors.{legs_law}
+use Rattle.ember_law.proofs.Vectors.{legs_law, segments_law}
 use Rattle.ember_law.proofs.count.leg_count.Goals as goal
 
 pub returns-clause-within : goal.returns-clause-within
@@ -10,3 +10,6 @@ returns-clause-within c = λ m h.
 
 pub returns-clause-law : goal.returns-clause-law
 returns-clause-law c = legs_law c.args.s.now.tris c.args.s.now.meshes c.args.s.now.kept
+
+pub returns-clause-segments : goal.returns-clause-segments
+returns-clause-segments c = segments_law c.args.s.now.tris c.args.s.now.meshes c.args.s.now.kept

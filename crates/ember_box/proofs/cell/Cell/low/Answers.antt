@@ -1,4 +1,4 @@
-use Rattle.std.proofs.Common.{◌≡◌, ◌≤◌, ap, ◌∙◌, slice_index_or, to_z-of_z}
+use Rattle.std.proofs.Common.{ap, ◌∙◌, slice_index_or, to_z-of_z}
 use mir.Syntax.{w32}
 use Rattle.ember_box.specs.Boxes.{low, coordinate}
 use Rattle.ember_box.proofs.Splits.{lies, low_of}
@@ -11,4 +11,4 @@ coordinate_of-requires c =
 
 pub returns-clause-value : goal.returns-clause-value
 returns-clause-value c =
-    to_z-of_z {w = w32} (record { sfits = c.coordinate_of.type_inv }) ∙ c.coordinate_of.ensures ∙ ap (λ n. coordinate (slice_index_or c.self.inside.from n 0)) c.place.ensures.place ∙ low_of c.self.inside.from c.self.inside.log c.self.inside.path c.args.k ∙ ap (λ x. low x c.args.k) c.self.view_is
+    to_z-of_z {w = w32} (record { sfits = c.coordinate_of.type_inv }) ∙ c.coordinate_of.ensures.value ∙ ap (λ n. coordinate (slice_index_or c.self.inside.from n 0)) c.place.ensures.place ∙ low_of c.self.inside.from c.self.inside.log c.self.inside.path c.args.k ∙ ap (λ x. low x c.args.k) c.self.view_is

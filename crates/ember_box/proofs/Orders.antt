@@ -1,8 +1,7 @@
 -- Tests of order, and what the least and the greatest of three numbers say.
-use Rattle.std.proofs.Common.{◌≡◌, ◌⊎◌, inl, inr, refl, sym, ap, ◌∙◌, arith, Bool, true, false, ◌&&◌, ◌||◌, cond, ℤ, ◌≤ℤ◌, ◌<ℤ◌, int_le, int_lt}
+use Rattle.std.proofs.Common.{◌≡◌, ◌⊎◌, inl, inr, refl, sym, ap, ◌∙◌, arith, Bool, true, false, ◌&&◌, ◌||◌, cond, ℤ, ◌≤ℤ◌, int_le, int_lt}
 use Rattle.std.specs.Int.{int_min, int_max}
-use Rattle.std.proofs.lemmas.Int.{clamps}
-use Rattle.std.proofs.lemmas.Bool.{and_parts, and_from, or_cases, or_left, or_right}
+use Rattle.std.proofs.lemmas.Bool.{and_parts, and_from}
 use borrow.Author.Differences.{ints}
 use Rattle.ember_box.specs.declared.spans.Span.{Span}
 use Rattle.ember_box.specs.Spans.{span_over, reaches}

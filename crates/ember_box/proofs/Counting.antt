@@ -1,0 +1,136 @@
+-- Triangles near a box and its halves, counted one triangle after another.
+use Rattle.std.proofs.Common.{◌≡◌, ℕ, ◌+◌, ◌*◌, ◌<◌, ◌≤◌, refl, sym, ap, ◌∙◌, subst, arith, Bool, true, false, not, ◌&&◌, ◌||◌, if◌then◌else◌, nat_lt, nat_le, List, length, take, get_or, None, Some, Option}
+use Rattle.std.proofs.lemmas.List.{length-take, take_all}
+use Rattle.std.proofs.lemmas.List.Filters.{length-filter_more}
+use Rattle.std.proofs.lemmas.List.Sums.{length-filter, count_by-le-length}
+use Rattle.std.proofs.lemmas.Bool.{le-leb, or_left}
+use Rattle.ember_model.specs.declared.tri.Tri.{Tri}
+use Rattle.ember_model.specs.declared.plane.Plane.{Plane}
+use Rattle.ember_model.specs.declared.point.Axis.{Axis}
+use Rattle.ember_model.specs.declared.point.Axis.TheVariants.{X, Y, Z}
+use Rattle.ember_model.specs.Planes.{support_of}
+use Rattle.ember_box.specs.declared.spans.Spans.{Spans}
+use Rattle.ember_box.specs.declared.sums.Sight.{Sight}
+use Rattle.ember_box.specs.declared.sums.Halves.{Halves}
+use Rattle.ember_box.specs.declared.sums.Sums.{Sums}
+use Rattle.ember_box.specs.Boxes.{Cell, left_half, right_half}
+use Rattle.ember_box.specs.Near.{is_near, near, no_tri}
+use Rattle.ember_box.specs.Spans.{spans_of, bounding, overlap, crosses}
+use Rattle.ember_box.specs.Halving.{half_sum, is_no_better, halving_axis, spreads, is_leaf}
+use Rattle.ember_box.specs.Sums.{number, IsPlaneOf, IsSight, may_cross, sees, AreHalves, halves_seen, IsSumOf, AreSums}
+use Rattle.ember_box.proofs.Orders.{and_implied}
+use Rattle.ember_box.proofs.Nearby.{near_is, AreInside, are_inside, inside_crossed, left_crossed, right_crossed}
+
+-- ---- one triangle
+-- where a triangle without a plane is crossed by what its bounding box meets, the sight of it is right
+seen : (whole : Spans) (c : Cell) (t : Tri) (s : Sight) → IsSight whole t s → (AreInside whole t → overlap (bounding t) (spans_of c) ≡ true → crosses (support_of t) (spans_of c) ≡ true) → sees (spans_of c) s ≡ is_near c t
+seen whole c t s sight crossed =
+    ap (λ b. overlap b (spans_of c) && may_cross (spans_of c) s.plane) sight.spans ∙ by s.plane sight.plane ∙ sym (near_is c t)
+  where
+    by : (p : Option Plane) → IsPlaneOf whole t p → overlap (bounding t) (spans_of c) && may_cross (spans_of c) p ≡ overlap (bounding t) (spans_of c) && crosses (support_of t) (spans_of c)
+    by None e =
+        always (overlap (bounding t) (spans_of c)) ∙ and_implied (overlap (bounding t) (spans_of c)) (crosses (support_of t) (spans_of c)) (crossed (are_inside whole t e))
+      where
+        always : (b : Bool) → b && true ≡ b
+        always true = refl
+        always false = refl
+    by (Some p) e = ap (λ q. overlap (bounding t) (spans_of c) && crosses q (spans_of c)) e
+
+pub seen_whole : (c : Cell) (t : Tri) (s : Sight) → IsSight (spans_of c) t s → sees (spans_of c) s ≡ is_near c t
+seen_whole c t s sight = seen (spans_of c) c t s sight (λ i _. inside_crossed t (spans_of c) i)
+
+-- the number of halves along an axis that a triangle is near
+pub near_halves : Cell → Axis → Tri → ℕ
+near_halves c k t = number (is_near (left_half c k) t) + number (is_near (right_half c k) t)
+
+pub seen_halves : (c : Cell) (k : Axis) (h : Option Halves) (t : Tri) (s : Sight) → AreHalves c k h → IsSight (spans_of c) t s → 0 < c.log k → halves_seen h s ≡ near_halves c k t
+unfolding near_halves
+seen_halves c k None t s are sight p = absurd (omega (arith, are))
+seen_halves c k (Some h) t s are sight p =
+    let l = seen (spans_of c) (left_half c k) t s sight (left_crossed c k t) in
+    let r = seen (spans_of c) (right_half c k) t s sight (right_crossed c k t p) in
+    (λ i. number (sees (are.1 i) s) + number (sees (are.2 i) s)) ∙ (λ i. number (l i) + number (r i))
+
+-- ---- a list
+half_sum_more : (ts : List Tri) (c : Cell) (k : Axis) (i : ℕ) → i < length ts → half_sum (take (i + 1) ts) c k ≡ half_sum (take i ts) c k + near_halves c k (get_or ts i no_tri)
+unfolding half_sum near_halves
+half_sum_more ts c k i l =
+    omega (arith, length-filter_more (λ t. is_near (left_half c k) t) ts i no_tri l, length-filter_more (λ t. is_near (right_half c k) t) ts i no_tri l)
+
+none_yet : (ts : List Tri) (c : Cell) (k : Axis) → half_sum (take 0 ts) c k ≡ 0
+unfolding half_sum
+none_yet ts c k = refl
+
+abbrev pub sums_of : ℕ → ℕ → ℕ → ℕ → Sums
+sums_of n x y z = record { near = n; x = x; y = y; z = z }
+
+pub sums_none : (ts : List Tri) (c : Cell) → AreSums (take 0 ts) c (sums_of 0 0 0 0)
+sums_none ts c = record { near = refl; bound = omega arith; x = at X; y = at Y; z = at Z }
+  where
+    at : (k : Axis) → IsSumOf (take 0 ts) c k 0
+    at k = record { value = λ _. sym (none_yet ts c k); bound = omega arith }
+
+sum_more : (ts : List Tri) (c : Cell) (k : Axis) (i n d : ℕ) → i < length ts → IsSumOf (take i ts) c k n → (0 < c.log k → d ≡ near_halves c k (get_or ts i no_tri)) → d ≤ 2 → IsSumOf (take (i + 1) ts) c k (n + d)
+sum_more ts c k i n d l s e b =
+    record {
+      value = λ p. (λ j. s.value p j + e p j) ∙ sym (half_sum_more ts c k i l);
+      bound = omega (arith, s.bound, length-take i ts, length-take (i + 1) ts);
+    }
+
+pub sums_more : (ts : List Tri) (c : Cell) (i n x y z m dx dy dz : ℕ) → i < length ts → AreSums (take i ts) c (sums_of n x y z) → m ≡ number (is_near c (get_or ts i no_tri)) → m ≤ 1 → (0 < c.log X → dx ≡ near_halves c X (get_or ts i no_tri)) → dx ≤ 2 → (0 < c.log Y → dy ≡ near_halves c Y (get_or ts i no_tri)) → dy ≤ 2 → (0 < c.log Z → dz ≡ near_halves c Z (get_or ts i no_tri)) → dz ≤ 2 → AreSums (take (i + 1) ts) c (sums_of (n + m) (x + dx) (y + dy) (z + dz))
+sums_more ts c i n x y z m dx dy dz l s em bm ex bx ey by' ez bz =
+    record {
+      near = (λ j. s.near j + em j) ∙ sym (length-filter_more (λ t. is_near c t) ts i no_tri l);
+      bound = omega (arith, s.bound, length-take i ts, length-take (i + 1) ts);
+      x = sum_more ts c X i x dx l s.x ex bx;
+      y = sum_more ts c Y i y dy l s.y ey by';
+      z = sum_more ts c Z i z dz l s.z ez bz;
+    }
+
+pub sums_all : (ts : List Tri) (c : Cell) (i : ℕ) (s : Sums) → length ts ≤ i → AreSums (take i ts) c s → AreSums ts c s
+sums_all ts c i s l a = subst (λ xs. AreSums xs c s) (take_all i ts l) a
+
+-- ---- what is decided by the sums
+pub no_better : (ts : List Tri) (c : Cell) (j k : Axis) (a b : ℕ) → IsSumOf ts c j a → IsSumOf ts c k b → (not (nat_lt 0 (c.log k)) || (nat_lt 0 (c.log j) && nat_le a b)) ≡ is_no_better ts c j k
+no_better ts c j k a b s t =
+    by (nat_lt 0 (c.log k)) (nat_lt 0 (c.log j)) (λ e. t.value (positive (c.log k) e)) (λ e. s.value (positive (c.log j) e))
+  where
+    positive : (n : ℕ) → nat_lt 0 n ≡ true → 0 < n
+    positive n e = grind arith
+
+    by : (p q : Bool) → (p ≡ true → b ≡ half_sum ts c k) → (q ≡ true → a ≡ half_sum ts c j) → (not p || (q && nat_le a b)) ≡ (not p || (q && nat_le (half_sum ts c j) (half_sum ts c k)))
+    by false q f g = refl
+    by true false f g = refl
+    by true true f g = λ i. nat_le (g refl i) (f refl i)
+
+pub spread : (ts : List Tri) (c : Cell) (k : Axis) (n a : ℕ) → n ≡ length (near ts c) → IsSumOf ts c k a → (not (nat_lt 0 (c.log k)) || nat_le (7 * n) (4 * a)) ≡ spreads ts c k
+spread ts c k n a e s = by (nat_lt 0 (c.log k)) (λ p. s.value (positive (c.log k) p))
+  where
+    positive : (n : ℕ) → nat_lt 0 n ≡ true → 0 < n
+    positive n e = grind arith
+
+    by : (p : Bool) → (p ≡ true → a ≡ half_sum ts c k) → (not p || nat_le (7 * n) (4 * a)) ≡ (not p || nat_le (7 * length (near ts c)) (4 * half_sum ts c k))
+    by false f = refl
+    by true f = λ i. nat_le (7 * e i) (4 * f refl i)
+
+pub halving_axis_is : (ts : List Tri) (c : Cell) (s : Sums) (p q r : Bool) → AreSums ts c s → p ≡ (not (nat_lt 0 (c.log Y)) || (nat_lt 0 (c.log X) && nat_le s.x s.y)) → q ≡ (not (nat_lt 0 (c.log Z)) || (nat_lt 0 (c.log X) && nat_le s.x s.z)) → r ≡ (not (nat_lt 0 (c.log Z)) || (nat_lt 0 (c.log Y) && nat_le s.y s.z)) → (if p && q then X else (if r then Y else Z)) ≡ halving_axis ts c
+unfolding halving_axis
+halving_axis_is ts c s p q r a e f g =
+    let xy = e ∙ no_better ts c X Y s.x s.y a.x a.y in let xz = f ∙ no_better ts c X Z s.x s.z a.x a.z in
+    let yz = g ∙ no_better ts c Y Z s.y s.z a.y a.z in
+    λ i. if xy i && xz i then X else (if yz i then Y else Z)
+
+pub is_leaf_is : (ts : List Tri) (c : Cell) (s : Sums) (few x y z : Bool) → AreSums ts c s → few ≡ nat_le s.near 16 → x ≡ (not (nat_lt 0 (c.log X)) || nat_le (7 * s.near) (4 * s.x)) → y ≡ (not (nat_lt 0 (c.log Y)) || nat_le (7 * s.near) (4 * s.y)) → z ≡ (not (nat_lt 0 (c.log Z)) || nat_le (7 * s.near) (4 * s.z)) → (few || x && y && z) ≡ is_leaf ts c
+unfolding is_leaf
+is_leaf_is ts c s few x y z a e ex ey ez =
+    let n = e ∙ ap (λ m. nat_le m 16) a.near in
+    let px = ex ∙ spread ts c X s.near s.x a.near a.x in let py = ey ∙ spread ts c Y s.near s.y a.near a.y in
+    let pz = ez ∙ spread ts c Z s.near s.z a.near a.z in
+    λ i. n i || px i && py i && pz i
+
+-- a list of few triangles has few near ones
+pub few_end : (ts : List Tri) (c : Cell) → length ts ≤ 16 → is_leaf ts c ≡ true
+unfolding is_leaf
+few_end ts c few =
+    let n : nat_le (length (near ts c)) 16 ≡ true = le-leb (length (near ts c)) 16 (omega (arith, few, length-filter (λ t. is_near c t) ts, count_by-le-length (λ t. is_near c t) ts)) in
+    or_left (nat_le (length (near ts c)) 16) (spreads ts c X && spreads ts c Y && spreads ts c Z) n

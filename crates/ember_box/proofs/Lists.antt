@@ -1,0 +1,135 @@
+-- Lists of near triangles that shrink with the box: what is near a half is found among what is near the
+-- whole, and at the root every triangle is near.
+use Rattle.std.proofs.Common.{◌≡◌, ℕ, suc, ◌+◌, ◌*◌, ◌<◌, refl, sym, ap, ◌∙◌, arith, Bool, true, false, not, ◌&&◌, ◌||◌, cond, if◌then◌else◌, nat_lt, nat_le, List, [], ◌∷◌, filter, map, length, All}
+use Rattle.std.specs.List.{range_with_len}
+use Rattle.std.proofs.lemmas.List.Elements.{All-filter, All-head, All-tail, All-weaker, All-get_or}
+use Rattle.ember_model.specs.declared.tri.Tri.{Tri}
+use Rattle.ember_model.specs.declared.point.Axis.{Axis}
+use Rattle.ember_model.specs.declared.point.Axis.TheVariants.{X, Y, Z}
+use Rattle.ember_model.specs.Valid.{IsValidTri}
+use Rattle.ember_box.specs.Boxes.{Cell, root, left_half, right_half}
+use Rattle.ember_box.specs.Near.{is_near, near, no_tri, tri_at, listed, near_places, places}
+use Rattle.ember_box.specs.Halving.{half_sum, is_no_better, halving_axis, spreads, is_leaf}
+use Rattle.ember_box.proofs.Nearby.{left_near, right_near, near_root}
+
+-- ---- filters
+false_by : (s t : Bool) → (s ≡ true → t ≡ true) → t ≡ false → s ≡ false
+false_by true t f e = sym (f refl) ∙ e
+false_by false t f e = refl
+
+-- what passes p passes q
+pub filter_within : {X : Type 0} (p q : X → Bool) → ((x : X) → p x ≡ true → q x ≡ true) → (xs : List X) → filter p (filter q xs) ≡ filter p xs
+filter_within {X} p q f [] = refl
+filter_within {X} p q f (x ∷ xs) = by (q x) refl (filter_within p q f xs)
+  where
+    by : (t : Bool) → q x ≡ t → filter p (filter q xs) ≡ filter p xs → filter p (cond t (x ∷ filter q xs) (filter q xs)) ≡ cond (p x) (x ∷ filter p xs) (filter p xs)
+    by true e h = ap (λ (l : List X). cond (p x) (x ∷ l) l) h
+    by false e h = h ∙ ap (λ (b : Bool). cond b (x ∷ filter p xs) (filter p xs)) (sym (false_by (p x) (q x) (f x) e))
+
+pub map-filter : {X Y : Type 0} (f : X → Y) (p : Y → Bool) (xs : List X) → map f (filter (λ x. p (f x)) xs) ≡ filter p (map f xs)
+map-filter f p [] = refl
+map-filter {X} {Y} f p (x ∷ xs) = by (p (f x)) (map-filter f p xs)
+  where
+    by : (t : Bool) → map f (filter (λ x. p (f x)) xs) ≡ filter p (map f xs) → map f (cond t (x ∷ filter (λ x. p (f x)) xs) (filter (λ x. p (f x)) xs)) ≡ cond t (f x ∷ filter p (map f xs)) (filter p (map f xs))
+    by true h = ap (λ (l : List Y). f x ∷ l) h
+    by false h = h
+
+-- ---- a half of a box
+pub left_list : (ts : List Tri) (c : Cell) (k : Axis) → 0 < c.log k → near (near ts c) (left_half c k) ≡ near ts (left_half c k)
+left_list ts c k p =
+    filter_within (λ t. is_near (left_half c k) t) (λ t. is_near c t) (λ t. left_near c k t p) ts
+
+pub right_list : (ts : List Tri) (c : Cell) (k : Axis) → 0 < c.log k → near (near ts c) (right_half c k) ≡ near ts (right_half c k)
+right_list ts c k p =
+    filter_within (λ t. is_near (right_half c k) t) (λ t. is_near c t) (λ t. right_near c k t p) ts
+
+pub left_places : (ts : List Tri) (c : Cell) (k : Axis) (is : List ℕ) → 0 < c.log k → near_places ts (left_half c k) (near_places ts c is) ≡ near_places ts (left_half c k) is
+left_places ts c k is p =
+    filter_within (λ i. is_near (left_half c k) (tri_at ts i)) (λ i. is_near c (tri_at ts i)) (λ i. left_near c k (tri_at ts i) p) is
+
+pub right_places : (ts : List Tri) (c : Cell) (k : Axis) (is : List ℕ) → 0 < c.log k → near_places ts (right_half c k) (near_places ts c is) ≡ near_places ts (right_half c k) is
+right_places ts c k is p =
+    filter_within (λ i. is_near (right_half c k) (tri_at ts i)) (λ i. is_near c (tri_at ts i)) (λ i. right_near c k (tri_at ts i) p) is
+
+near_again : (ts : List Tri) (c : Cell) → near (near ts c) c ≡ near ts c
+near_again ts c = filter_within (λ t. is_near c t) (λ t. is_near c t) (λ t e. e) ts
+
+half_sum_near : (ts : List Tri) (c : Cell) (k : Axis) → 0 < c.log k → half_sum (near ts c) c k ≡ half_sum ts c k
+unfolding half_sum
+half_sum_near ts c k p = λ i. length (left_list ts c k p i) + length (right_list ts c k p i)
+
+positive : (n : ℕ) → nat_lt 0 n ≡ true → 0 < n
+positive n e = grind arith
+
+-- the near triangles alone decide along which axis a box is halved, and whether it is a leaf
+no_better_near : (ts : List Tri) (c : Cell) (j k : Axis) → is_no_better (near ts c) c j k ≡ is_no_better ts c j k
+no_better_near ts c j k =
+    by (nat_lt 0 (c.log k)) (nat_lt 0 (c.log j)) (λ e. half_sum_near ts c k (positive (c.log k) e)) (λ e. half_sum_near ts c j (positive (c.log j) e))
+  where
+    by : (p q : Bool) → (p ≡ true → half_sum (near ts c) c k ≡ half_sum ts c k) → (q ≡ true → half_sum (near ts c) c j ≡ half_sum ts c j) → (not p || (q && nat_le (half_sum (near ts c) c j) (half_sum (near ts c) c k))) ≡ (not p || (q && nat_le (half_sum ts c j) (half_sum ts c k)))
+    by false q f g = refl
+    by true false f g = refl
+    by true true f g = λ i. nat_le (g refl i) (f refl i)
+
+spreads_near : (ts : List Tri) (c : Cell) (k : Axis) → spreads (near ts c) c k ≡ spreads ts c k
+spreads_near ts c k = by (nat_lt 0 (c.log k)) (λ e. half_sum_near ts c k (positive (c.log k) e))
+  where
+    by : (p : Bool) → (p ≡ true → half_sum (near ts c) c k ≡ half_sum ts c k) → (not p || nat_le (7 * length (near (near ts c) c)) (4 * half_sum (near ts c) c k)) ≡ (not p || nat_le (7 * length (near ts c)) (4 * half_sum ts c k))
+    by false f = refl
+    by true f = λ i. nat_le (7 * length (near_again ts c i)) (4 * f refl i)
+
+pub halving_axis_near : (ts : List Tri) (c : Cell) → halving_axis (near ts c) c ≡ halving_axis ts c
+unfolding halving_axis
+halving_axis_near ts c =
+    λ i. if no_better_near ts c X Y i && no_better_near ts c X Z i then X else (if no_better_near ts c Y Z i then Y else Z)
+
+pub is_leaf_near : (ts : List Tri) (c : Cell) → is_leaf (near ts c) c ≡ is_leaf ts c
+unfolding is_leaf
+is_leaf_near ts c =
+    λ i. nat_le (length (near_again ts c i)) 16 || spreads_near ts c X i && spreads_near ts c Y i && spreads_near ts c Z i
+
+-- ---- by places
+pub listed_near : (ts : List Tri) (c : Cell) (is : List ℕ) → listed ts (near_places ts c is) ≡ near (listed ts is) c
+listed_near ts c is = map-filter (λ i. tri_at ts i) (λ t. is_near c t) is
+
+from_place : (ts : List Tri) (ks : List Tri) (n : ℕ) → ((i : ℕ) → tri_at ks (n + i) ≡ tri_at ts i) → map (λ i. tri_at ks i) (range_with_len n (length ts)) ≡ ts
+from_place [] ks n h = refl
+from_place (t ∷ ts) ks n h =
+    λ j. first j ∷ from_place ts ks (n + 1) (λ i. ap (λ m. tri_at ks m) (onward i) ∙ h (suc i)) j
+  where
+    first : tri_at ks n ≡ t
+    first = let e : n ≡ n + 0 = omega arith in ap (λ m. tri_at ks m) e ∙ h 0
+
+    onward : (i : ℕ) → n + 1 + i ≡ n + suc i
+    onward i = omega arith
+
+-- all places list all triangles
+pub listed_all : (ts : List Tri) → listed ts (places ts) ≡ ts
+listed_all ts = from_place ts ts 0 (λ i. let e : 0 + i ≡ i = omega arith in ap (λ m. tri_at ts m) e)
+
+pub listed_near_all : (ts : List Tri) (c : Cell) → listed ts (near_places ts c (places ts)) ≡ near ts c
+listed_near_all ts c = listed_near ts c (places ts) ∙ ap (λ us. near us c) (listed_all ts)
+
+pub halving_axis_listed : (ts : List Tri) (c : Cell) → halving_axis (listed ts (near_places ts c (places ts))) c ≡ halving_axis ts c
+halving_axis_listed ts c = ap (λ us. halving_axis us c) (listed_near_all ts c) ∙ halving_axis_near ts c
+
+pub is_leaf_listed : (ts : List Tri) (c : Cell) → is_leaf (listed ts (near_places ts c (places ts))) c ≡ is_leaf ts c
+is_leaf_listed ts c = ap (λ us. is_leaf us c) (listed_near_all ts c) ∙ is_leaf_near ts c
+
+pub near_in_range : (ts : List Tri) (c : Cell) (is : List ℕ) → All (λ i. i < length ts) is → All (λ i. i < length ts) (near_places ts c is)
+near_in_range ts c is a = All-filter (λ i. is_near c (tri_at ts i)) (λ i. i < length ts) is a
+
+-- ---- the root
+pub filter_all : {X : Type 0} (p : X → Bool) (xs : List X) → All (λ x. p x ≡ true) xs → filter p xs ≡ xs
+filter_all p [] a = refl
+filter_all {X} p (x ∷ xs) a =
+    let rest : filter p xs ≡ xs = filter_all p xs (All-tail (λ x. p x ≡ true) x xs a) in
+    λ j. cond (All-head (λ x. p x ≡ true) x xs a j) (x ∷ rest j) (rest j)
+
+pub root_list : (ts : List Tri) → All IsValidTri ts → near ts root ≡ ts
+root_list ts a =
+    filter_all (λ t. is_near root t) ts (All-weaker IsValidTri (λ t. is_near root t ≡ true) (λ t v. near_root t v) ts a)
+
+pub root_places : (ts : List Tri) (is : List ℕ) → All IsValidTri ts → All (λ i. i < length ts) is → near_places ts root is ≡ is
+root_places ts is a b =
+    filter_all (λ i. is_near root (tri_at ts i)) is (All-weaker (λ i. i < length ts) (λ i. is_near root (tri_at ts i) ≡ true) (λ i l. near_root (tri_at ts i) (All-get_or IsValidTri ts i no_tri l a)) is b)

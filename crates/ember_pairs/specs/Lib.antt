@@ -1,0 +1,6 @@
+pub mod Pairs
+pub mod Works
+pub mod Laws
+pub mod Gathering
+pub mod Texts
+pub mod Whole

@@ -1,0 +1,51 @@
+-- Which pairs of triangles meet, and the list of those that do
+use Rattle.std.specs.Prelude.{◌≡◌, ◌⊎◌, ℕ, false, List, [], ◌∷◌, ◌++◌, map, Option, None, Some, if◌then◌else◌}
+use Rattle.ember_algebra.specs.Relations.{Each}
+use Rattle.ember_model.specs.declared.tri.Tri.{Tri}
+use Rattle.ember_model.specs.declared.face.Face.{Face}
+use Rattle.ember_model.specs.Faces.{is_flat, face_of, Meets}
+use Rattle.ember_box.specs.Near.{tri_at, places}
+use Rattle.ember_pairs.specs.declared.pair.Pair.{Pair}
+
+-- neither is flat, and some inside point of the face of one lies in the closed face of the other
+pub record AreMeeting (t u : Tri) : Type 0 where
+  pub one : is_flat t ≡ false
+  pub other : is_flat u ≡ false
+  pub meet : Meets (face_of t) (face_of u) ⊎ Meets (face_of u) (face_of t)
+
+abbrev pub pair : ℕ → ℕ → Pair
+pair i j = record { low = i; high = j }
+
+-- what a pair of places gives: itself where its triangles meet, and else nothing
+pub data AtPair (ts : List Tri) (p : Pair) : List Pair → Type 0 where
+  meeting : AreMeeting (tri_at ts p.low) (tri_at ts p.high) → AtPair ts p (p ∷ [])
+  apart : (AreMeeting (tri_at ts p.low) (tri_at ts p.high) → ⊥) → AtPair ts p []
+
+-- the pairs of i with these
+abbrev pub row : ℕ → List ℕ → List Pair
+row i is = map (λ j. pair i j) is
+
+-- all pairs of members of a list, the earlier member first: by the first, and then by the second
+abbrev pub pairs_of : List ℕ → List Pair
+pairs_of [] = []
+pairs_of (i ∷ is) = row i is ++ pairs_of is
+
+-- the pairs among these places whose triangles meet, in order
+abbrev pub AreMeetingPairs : List Tri → List ℕ → List Pair → Type 0
+AreMeetingPairs ts is ps = Each (AtPair ts) (pairs_of is) ps
+
+-- those of all triangles of a scene
+abbrev pub ArePairs : List Tri → List Pair → Type 0
+ArePairs ts ps = AreMeetingPairs ts (places ts) ps
+
+-- ---- on the way
+-- the face of a triangle that has one
+abbrev pub face_if : Tri → Option Face
+face_if t = if is_flat t then None else Some (face_of t)
+
+abbrev pub faces_at : List Tri → List ℕ → List (Option Face)
+faces_at ts is = map (λ i. face_if (tri_at ts i)) is
+
+-- with what `later` gives, `out` is what `all` gives
+pub record Completes (ts : List Tri) (all later out : List Pair) : Type 0 where
+  pub completed : (more : List Pair) → Each (AtPair ts) later more → Each (AtPair ts) all (out ++ more)

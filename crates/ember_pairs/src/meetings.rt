@@ -1,0 +1,127 @@
+// Which triangles meet.
+ghost use Rattle.std.specs.Prelude.{◌≡◌, ◌+◌, ◌<◌, ◌↔◌, List, [], ◌∷◌, ◌++◌, if◌then◌else◌, drop, map, length, All, slice_index, IfOk, OnOk, IsTrue};
+ghost use Rattle.ember_model.specs.Valid.{IsValidTri};
+ghost use Rattle.ember_box.specs.Near.{tri_at};
+ghost use Rattle.ember_pairs.specs.declared.pair.Pair.{Pair};
+ghost use Rattle.ember_pairs.specs.Pairs.{AreMeeting, AreMeetingPairs, Completes, face_if, faces_at, row, pairs_of};
+
+use crate::pair::{Pair, PairList};
+use ember_model::{OutOfMemory, Scene, Tri};
+use ember_poly::{Ring, meets, of_tri};
+use std::alloc::Global;
+
+// Two triangles meet; each is handed over with the ring of its face, if it has one.
+fn are_meeting(r: &Option<Ring>, t: &Tri, q: &Option<Ring>, u: &Tri) -> bool
+    requires one { IsValidTri t.now }
+    requires other { IsValidTri u.now }
+    requires one_face { r.now ≡ face_if t.now }
+    requires other_face { q.now ≡ face_if u.now }
+    ensures { IsTrue result ↔ AreMeeting t.now u.now }
+{
+    match r {
+        None => false,
+        Some(r) => match q {
+            None => false,
+            Some(q) => meets(r, u) || meets(q, t),
+        },
+    }
+}
+
+/// The same by the triangles.
+pub fn meet_at(alloc: Global, tris: &[Tri], i: u32, j: u32) -> Result<bool, OutOfMemory>
+    requires valid { All IsValidTri tris.now }
+    requires one { i < length tris.now }
+    requires other { j < length tris.now }
+    ensures { IfOk result (λ b. IsTrue b ↔ AreMeeting (tri_at tris.now i) (tri_at tris.now j)) }
+{
+    let t = tris[i as usize];
+    let u = tris[j as usize];
+    let r = of_tri(alloc, &t)?;
+    let q = of_tri(alloc, &u)?;
+    Ok(are_meeting(&r, &t, &q, &u))
+}
+
+/// The triangles `i` and `j` of the scene meet: neither has a zero normal, and some inside point of
+/// the face of one lies in the closed face of the other.
+pub fn meeting(alloc: Global, s: &Scene, i: u32, j: u32) -> Result<bool, OutOfMemory>
+    requires one { i < length s.now.tris }
+    requires other { j < length s.now.tris }
+    ensures { IfOk result (λ b. IsTrue b ↔ AreMeeting (tri_at s.now.tris i) (tri_at s.now.tris j)) }
+{
+    meet_at(alloc, s.tris.items(), i, j)
+}
+
+// The rings of the listed triangles.
+fn rings_at(alloc: Global, tris: &[Tri], list: &[u32]) -> Result<Vec<Option<Ring>>, OutOfMemory>
+    requires valid { All IsValidTri tris.now }
+    requires places { All (λ i. i < length tris.now) list.now }
+    ensures { IfOk result (λ v. v.items ≡ faces_at tris.now list.now) }
+{
+    let mut rings = Vec::with_capacity(alloc, list.len())?;
+    for i in list {
+        rings.push(of_tri(alloc, &tris[*i as usize])?)?;
+    }
+    Ok(rings)
+}
+
+// The triangles at places a and b of the list meet.
+fn meet_in(tris: &[Tri], list: &[u32], rings: &[Option<Ring>], a: usize, b: usize) -> bool
+    requires valid { All IsValidTri tris.now }
+    requires places { All (λ i. i < length tris.now) list.now }
+    requires rings { rings.now ≡ faces_at tris.now list.now }
+    requires one { a < length list.now }
+    requires other { b < length list.now }
+    ensures { IsTrue result ↔ AreMeeting (tri_at tris.now (slice_index list.now a)) (tri_at tris.now (slice_index list.now b)) }
+{
+    let t = tris[list[a] as usize];
+    let u = tris[list[b] as usize];
+    are_meeting(&rings[a], &t, &rings[b], &u)
+}
+
+// Appends a pair where its triangles meet.
+fn push_if(meet: bool, p: Pair, out: &mut Vec<Pair>) -> Result<(), OutOfMemory>
+    ensures { OnOk result (out.new.items ≡ out.old.items ++ (if meet then p ∷ [] else [])) }
+{
+    if meet {
+        out.push(p)?;
+    }
+    Ok(())
+}
+
+// Appends the meeting pairs of the place a with all later ones of the list.
+fn push_row(
+    tris: &[Tri],
+    list: &[u32],
+    rings: &[Option<Ring>],
+    a: usize,
+    out: &mut Vec<Pair>,
+) -> Result<(), OutOfMemory>
+    requires valid { All IsValidTri tris.now }
+    requires places { All (λ i. i < length tris.now) list.now }
+    requires rings { rings.now ≡ faces_at tris.now list.now }
+    requires place { a < length list.now }
+    ensures { OnOk result ((all later : List Pair) → Completes tris.now all (row (slice_index list.now a) (drop (a + 1) list.now) ++ later) out.old.items → Completes tris.now all later out.new.items) }
+{
+    for b in a + 1..list.len() {
+        let pair = Pair {
+            low: list[a],
+            high: list[b],
+        };
+        push_if(meet_in(tris, list, rings, a, b), pair, out)?;
+    }
+    Ok(())
+}
+
+/// The pairs of listed triangles that meet, in order.
+pub fn meeting_pairs(alloc: Global, tris: &[Tri], list: &[u32]) -> Result<PairList, OutOfMemory>
+    requires valid { All IsValidTri tris.now }
+    requires places { All (λ i. i < length tris.now) list.now }
+    ensures { IfOk result (λ ps. AreMeetingPairs tris.now list.now ps) }
+{
+    let rings = rings_at(alloc, tris, list)?;
+    let mut out = Vec::new(alloc);
+    for a in 0..list.len() {
+        push_row(tris, list, &rings, a, &mut out)?;
+    }
+    Ok(PairList::of(out))
+}

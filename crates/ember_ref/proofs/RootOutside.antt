@@ -1,0 +1,69 @@
+-- The reference point of the root box lies outside all meshes.
+use Rattle.std.proofs.Common.{◌≡◌, inl, inr, ◌⊎◌, refl, ap, ◌∙◌, arith, ℕ, Bool, true, false, cond, ◌&&◌, List, get_or, replicate, ℤ, pos, negsuc, ◌+ℤ◌, ◌*ℤ◌, neg_ℤ, ◌<ℤ◌, ◌≤ℤ◌}
+use borrow.Author.Differences.{ints}
+use Rattle.ember_algebra.specs.Size.{Small}
+use Rattle.ember_algebra.specs.Sign.{sign, is_negative}
+use Rattle.ember_algebra.proofs.Laws.{linear}
+use Rattle.ember_algebra.proofs.Order.{pos_mul, by_sign}
+use Rattle.ember_algebra.proofs.Ring.{◌⊕◌, ◌⊗◌, ◌≈◌, num, neg, solve, cancels}
+use Rattle.ember_model.specs.declared.point.Spot.{Spot}
+use Rattle.ember_model.specs.declared.point.Axis.TheVariants.{X, Y}
+use Rattle.ember_model.specs.declared.face.Face.{Face}
+use Rattle.ember_model.specs.declared.tri.Tri.{Tri}
+use Rattle.ember_model.specs.Planes.{value_at, along}
+use Rattle.ember_model.specs.Faces.{size, is_flat, face_of, is_inside, hit, crossing}
+use Rattle.ember_model.specs.Valid.{IsValidTri}
+use Rattle.ember_model.specs.Meshes.{meshes, IsScene}
+use Rattle.ember_model.proofs.SignTests.{zero_times}
+use Rattle.ember_model.proofs.Hits.{inside_parts}
+use Rattle.ember_law.proofs.Flats.{flat_case, flat_out, flat_crossing}
+use Rattle.ember_law.proofs.Tallies.{tally_zero}
+use Rattle.ember_box.specs.Boxes.{root}
+use Rattle.ember_box.specs.Reference.{reference, vector_at}
+use Rattle.ember_ref.proofs.NearPoints.{past_corners}
+use Rattle.ember_ref.proofs.ShiftLaw.{inside_closed, size_at_least}
+
+-- y lies below -2047 times the weight, so k * y does
+below_all : (k y w : ℤ) → pos 0 ≤ℤ k → (y +ℤ pos 2047 *ℤ w) <ℤ pos 0 → (neg_ℤ (pos 2047) *ℤ (k *ℤ w)) ≤ℤ (pos 1 *ℤ (k *ℤ y)) → pos 0 <ℤ (k *ℤ w) → ⊥
+below_all k y w a l h p =
+    by_sign k
+    (λ q. let n : pos 0 <ℤ neg_ℤ (y +ℤ pos 2047 *ℤ w) = omega (arith, linear) in let r = pos_mul q n in
+    omega (arith, linear, h, r, solve 3 (λ k y w. k ⊗ neg (y ⊕ num (pos 2047) ⊗ w) ⊕ num (pos 1) ⊗ (k ⊗ y) ≈ neg (num (pos 2047)) ⊗ (k ⊗ w)) cancels k y w))
+    (λ z. let e = zero_times k w z in omega (arith, linear, e, p))
+    (λ q. omega (arith, linear))
+
+at_least : (z : ℤ) → Small 2047 z → neg_ℤ (pos 2047) ≤ℤ (pos 1 *ℤ z)
+at_least (pos n) s = omega (arith, ints)
+at_least (negsuc n) s = omega (arith, ints, s.small)
+
+crossing_outside : (f : Face) (p : Spot) → is_inside f (hit f.support X p) ≡ false → crossing f X p ≡ pos 0
+unfolding crossing
+crossing_outside f p e =
+    ap (λ (b : Bool). cond (is_negative (value_at f.support p *ℤ along f.support X) && b) (sign (along f.support X)) (pos 0)) e ∙ none (is_negative (value_at f.support p *ℤ along f.support X))
+  where
+    none : (b : Bool) → cond (b && false) (sign (along f.support X)) (pos 0) ≡ pos 0
+    none true = refl
+    none false = refl
+
+-- a ray along x from a point below all corners meets no face
+crossing_below : (t : Tri) (p : Spot) → IsValidTri t → (p.y +ℤ pos 2047 *ℤ p.w) <ℤ pos 0 → crossing (face_of t) X p ≡ pos 0
+crossing_below t p v l = by (flat_case t)
+  where
+    outside : is_flat t ≡ false → (b : Bool) → is_inside (face_of t) (hit (face_of t).support X p) ≡ b → is_inside (face_of t) (hit (face_of t).support X p) ≡ false
+    outside nf true e =
+        let k = size (along (face_of t).support X) in let x = hit (face_of t).support X p in
+        let h = past_corners Y (pos 1) (neg_ℤ (pos 2047)) t x nf (at_least t.a.y v.a.y) (at_least t.b.y v.b.y) (at_least t.c.y v.c.y) (inside_closed (face_of t) x e) in
+        absurd (below_all k p.y p.w (size_at_least (along (face_of t).support X)) l h (inside_parts (face_of t) x e).0)
+    outside nf false e = e
+
+    by : (is_flat t ≡ true) ⊎ (is_flat t ≡ false) → crossing (face_of t) X p ≡ pos 0
+    by (inl e) = flat_crossing X p t (flat_out t e)
+    by (inr e) = crossing_outside (face_of t) p (outside e (is_inside (face_of t) (hit (face_of t).support X p)) refl)
+
+root_crossing : (t : Tri) → IsValidTri t → crossing (face_of t) X (reference root) ≡ pos 0
+root_crossing t v = crossing_below t (reference root) v (omega (arith, ints))
+
+pub root_is_outside : (ts : List Tri) (n : ℕ) → IsScene ts n → vector_at ts root ≡ replicate 64 (pos 0)
+unfolding meshes
+root_is_outside ts n s =
+    tally_zero (λ f. crossing f X (reference root)) (flat_crossing X (reference root)) ts (λ i d l. root_crossing (get_or ts i d) (s.valid i d l))
