@@ -1,13 +1,10 @@
-//! One box of a Boolean's tree: what is known of the expression in it, its halves, and what is
-//! written in a leaf.
+//! One box of a Boolean's tree: passed where the expression's value is known in it, else a leaf
+//! with its written regions, else its two halves.
 #![tactic(auto)]
 
-mod halving;
-mod start;
+mod step;
 #[cfg(test)]
 mod tests;
-mod value;
 
-pub use halving::halve_job;
-pub use start::root_job;
-pub use value::box_value;
+pub use ember_visit::{box_value, halve_job, root_job};
+pub use step::{BoolWork, box_step};

@@ -6,7 +6,7 @@ use Rattle.ember_known.specs.Known.{known}
 use Rattle.ember_box.specs.Halving.{is_leaf, halving_axis}
 use Rattle.ember_job.specs.declared.job.Job.{Job}
 use Rattle.ember_job.specs.Works.{Shape, halved, leafed, passed}
-use Rattle.ember_step.specs.Jobs.{near_of, left_job, right_job}
+use Rattle.ember_visit.specs.Jobs.{near_of, left_job, right_job}
 
 -- a triangle of the mesh is among these
 abbrev pub has_mesh : List Tri → ℕ → Bool

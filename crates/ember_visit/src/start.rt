@@ -1,7 +1,7 @@
 // The job at which a run begins.
 ghost use Rattle.std.specs.Prelude.{◌≡◌, ◌≤◌, IfOk};
 ghost use Rattle.std.specs.List.{range_with_len};
-ghost use Rattle.ember_step.specs.Jobs as jobs;
+ghost use Rattle.ember_visit.specs.Jobs as jobs;
 
 use ember_box::{near_list, root};
 use ember_job::{Job, Numbers};

@@ -2,7 +2,7 @@
 ghost use Rattle.std.specs.Prelude.{◌≡◌, ◌<◌, ◌≤◌, length, All, IfOk};
 ghost use Rattle.ember_box.specs.Near.{listed};
 ghost use Rattle.ember_law.specs.Counts.{HasRoom};
-ghost use Rattle.ember_step.specs.Jobs.{AreHalves};
+ghost use Rattle.ember_visit.specs.Jobs.{AreHalves};
 
 use ember_box::{halves, near_list};
 use ember_job::{Job, Numbers};
@@ -26,12 +26,7 @@ pub fn tris_at(alloc: Global, tris: &[Tri], list: &[u32]) -> Result<Vec<Tri>, Ou
 /// and with the winding numbers at its own reference point. The side along the axis is above 1,
 /// the list holds places of the scene's triangles, at most 262,144, and each count leaves room for
 /// a crossing with each of them.
-pub fn halve_job(
-    alloc: Global,
-    s: &Scene,
-    job: &Job,
-    k: Axis,
-) -> Result<(Job, Job), OutOfMemory>
+pub fn halve_job(alloc: Global, s: &Scene, job: &Job, k: Axis) -> Result<(Job, Job), OutOfMemory>
     requires side { 0 < job.now.cell.log k }
     requires places { All (λ i. i < length s.now.tris) job.now.list }
     requires few { length job.now.list ≤ 262144 }

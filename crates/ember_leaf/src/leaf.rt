@@ -1,0 +1,164 @@
+// The written regions of a leaf.
+ghost use Rattle.std.specs.Prelude.{◌≡◌, ◌≤◌, ◌<◌, length, All, IfOk};
+ghost use Rattle.ember_model.specs.Valid.{IsValidTri};
+ghost use Rattle.ember_model.specs.Meshes.{HasMesh};
+ghost use Rattle.ember_coplanar.specs.Lying.{LiesOn};
+ghost use Rattle.ember_trace.specs.Facets.{AreBoxCounts, AreSideCounts};
+ghost use Rattle.ember_leaf.specs.Leaves.{ArePlaced};
+
+use crate::blade::Blade;
+use crate::kept::{Kept, KeptList};
+use crate::regions::regions;
+use crate::rivals::{find_blades, find_lower};
+use crate::start::{start, walls};
+use crate::wall::Wall;
+use ember_box::Cell;
+use ember_coplanar::contains;
+use ember_expr::{Expr, value};
+use ember_model::{Axis, OutOfMemory, Plane, Tri, Vector, main_axis};
+use ember_poly::{Ring, support};
+use ember_trace::{Facet, Sides, facets, sides_beside};
+use std::alloc::Global;
+
+// None of the triangles contains the region.
+fn is_free(lower: &[Tri], r: &Ring) -> bool
+    requires valid { All IsValidTri lower.now }
+    requires plane { All (λ t. LiesOn t r.now) lower.now }
+{
+    for t in lower {
+        if contains(t, r) {
+            return false;
+        }
+    }
+    true
+}
+
+// The plane's front is on the side to which its main axis points.
+fn faces_on(p: &Plane) -> bool {
+    match main_axis(p) {
+        Axis::X => p.a > 0,
+        Axis::Y => p.b > 0,
+        Axis::Z => p.c > 0,
+    }
+}
+
+// None where the expression has one value on both sides. Else whether it holds in front.
+fn turn_of(e: &Expr, sides: &Sides, r: &Ring) -> Option<bool>
+    requires before { AreSideCounts sides.now.before.counts }
+    requires after { AreSideCounts sides.now.after.counts }
+{
+    let before = value(e, &sides.before);
+    let after = value(e, &sides.after);
+    if before == after {
+        None
+    } else if faces_on(&support(r)) {
+        Some(after)
+    } else {
+        Some(before)
+    }
+}
+
+// A leaf box, with the triangles near it and the winding numbers at its reference point.
+#[derive(Clone, Copy)]
+struct Leaf<'a> {
+    expr: &'a Expr,
+    cell: &'a Cell,
+    near: &'a [Facet],
+    at: &'a Vector,
+}
+
+impl Leaf<'_> {
+    // The region as it is written, if it is.
+    fn kept(&self, i: usize, lower: &[Tri], ring: Ring) -> Option<Kept> {
+        if !is_free(lower, &ring) {
+            return None;
+        }
+        let sides = sides_beside(self.near, self.cell, self.at, &ring);
+        match turn_of(self.expr, &sides, &ring) {
+            Some(flipped) => Some(Kept {
+                tri: i as u32,
+                flipped,
+                ring,
+            }),
+            None => None,
+        }
+    }
+
+    // Adds the written ones of the regions of triangle `i`.
+    fn keep(
+        &self,
+        list: Vec<Ring>,
+        i: usize,
+        lower: &[Tri],
+        kept: &mut Vec<Kept>,
+    ) -> Result<(), OutOfMemory> {
+        for ring in list {
+            if let Some(k) = self.kept(i, lower, ring) {
+                kept.push(k)?;
+            }
+        }
+        Ok(())
+    }
+
+    // Adds the written regions of triangle `i`.
+    fn keep_of(
+        &self,
+        alloc: Global,
+        walls: &[Wall],
+        i: usize,
+        rivals: &mut Rivals,
+        kept: &mut Vec<Kept>,
+    ) -> Result<(), OutOfMemory> {
+        if find_lower(self.near, i, &mut rivals.lower)? {
+            return Ok(());
+        }
+        if let Some(ring) = start(alloc, &self.near[i], walls)? {
+            find_blades(self.near, i, &mut rivals.blades)?;
+            let list = regions(alloc, ring, &rivals.blades)?;
+            self.keep(list, i, &rivals.lower, kept)?;
+        }
+        Ok(())
+    }
+}
+
+// What may touch the regions of one triangle: the blades in order, and the triangles before it in
+// its plane.
+#[derive(Drop)]
+struct Rivals {
+    blades: Vec<Blade>,
+    lower: Vec<Tri>,
+}
+
+/// The written regions of a leaf box, by their triangles in order, and for each triangle in the
+/// order of its regions. Meshes are numbered from 1 to 64.
+pub fn leaf_faces(
+    alloc: Global,
+    e: &Expr,
+    c: &Cell,
+    near: &[Tri],
+    v: &Vector,
+) -> Result<KeptList, OutOfMemory>
+    requires valid { All IsValidTri near.now }
+    requires numbered { All (HasMesh 64) near.now }
+    requires few { length near.now ≤ 262144 }
+    requires counts { AreBoxCounts v.now.counts }
+    ensures { IfOk result (λ ks. ArePlaced near.now ks) }
+{
+    let facets = facets(alloc, near, c)?;
+    let leaf = Leaf {
+        expr: e,
+        cell: c,
+        near: &facets,
+        at: v,
+    };
+    let walls = walls(c);
+    let mut rivals = Rivals {
+        blades: Vec::new(alloc),
+        lower: Vec::new(alloc),
+    };
+    let mut kept = Vec::new(alloc);
+    for i in 0..facets.len() {
+        leaf.keep_of(alloc, &walls, i, &mut rivals, &mut kept)?;
+    }
+    Ok(KeptList::of(kept))
+}

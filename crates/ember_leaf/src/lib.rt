@@ -1,0 +1,19 @@
+//! The written regions of a leaf box: its near triangles, clipped by the box and cut by one
+//! another, where a Boolean's value changes.
+#![tactic(auto)]
+
+mod blade;
+mod heights;
+mod kept;
+mod leaf;
+mod pairs;
+mod regions;
+mod rivals;
+mod start;
+mod wall;
+
+pub use kept::{Kept, KeptList};
+pub use leaf::leaf_faces;
+
+#[cfg(test)]
+mod tests;

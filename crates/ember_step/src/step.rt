@@ -1,0 +1,74 @@
+// What becomes of a box.
+ghost use Rattle.std.specs.Prelude.{IfOk};
+ghost use Rattle.ember_expr.specs.Formula.{formula_of};
+ghost use Rattle.ember_job.specs.Works.{Answers};
+ghost use Rattle.ember_leaf.specs.Leaves.{ArePlaced};
+ghost use Rattle.ember_visit.specs.Jobs.{IsJob, near_of};
+ghost use Rattle.ember_visit.specs.Values.{shape};
+
+use ember_box::halving;
+use ember_expr::Expr;
+use ember_job::{Job, Outcome, Work};
+use ember_leaf::{KeptList, leaf_faces};
+use ember_model::{OutOfMemory, Scene};
+use ember_visit::{box_value, halve_job, tris_at};
+use std::alloc::Global;
+
+/// The Boolean of an expression over a scene: the work whose items are the written regions of the
+/// leaves.
+pub struct BoolWork<'a> {
+    pub scene: &'a Scene,
+    pub expr: &'a Expr,
+}
+
+impl<'a> Work for BoolWork<'a> {
+    ghost use Rattle.ember_expr.specs.Formula.{formula_of};
+    ghost use Rattle.ember_leaf.specs.Leaves.{ArePlaced};
+    ghost use Rattle.ember_visit.specs.Jobs.{IsJob, near_of};
+    ghost use Rattle.ember_visit.specs.Values.{shape as shape_of};
+    ghost use Rattle.ember_visit.proofs.Laws.{halves_are_jobs, halves_are_split};
+
+    type Item = KeptList;
+
+    ghost valid = { λ w job. IsJob w.scene.now.tris job };
+
+    ghost shape = { λ w job. shape_of w.scene.now.tris (formula_of w.expr.now) job };
+
+    ghost item = { λ w job kept. ArePlaced (near_of w.scene.now.tris job) kept };
+
+    ghost halves_valid = { λ w job low high is e. halves_are_jobs w.scene.now.tris (formula_of w.expr.now) job low high w.scene.now.meshes w.scene.now.kept is e };
+
+    ghost halves_split = { λ w job low high is e. halves_are_split w.scene.now.tris (formula_of w.expr.now) job low high e };
+}
+
+// The written regions of a leaf.
+fn kept_in(alloc: Global, s: &Scene, e: &Expr, job: &Job) -> Result<KeptList, OutOfMemory>
+    requires { IsJob s.now.tris job.now }
+    ensures { IfOk result (λ kept. ArePlaced (near_of s.now.tris job.now) kept) }
+{
+    let near = tris_at(alloc, s.tris.items(), job.list.items())?;
+    leaf_faces(alloc, e, &job.cell, &near, &job.at)
+}
+
+/// What becomes of a job: it is passed over where the expression's value is known in the whole
+/// box, and else it is a leaf with the written regions, or it is halved.
+pub fn box_step(
+    alloc: Global,
+    s: &Scene,
+    e: &Expr,
+    job: &Job,
+) -> Result<Outcome<KeptList>, OutOfMemory>
+    requires { IsJob s.now.tris job.now }
+    ensures { IfOk result (λ o. Answers (shape s.now.tris (formula_of e.now)) (λ j kept. ArePlaced (near_of s.now.tris j) kept) job.now o) }
+{
+    if box_value(e, s, job).is_some() {
+        return Ok(Outcome::Skipped);
+    }
+    match halving(s, job.list.items(), &job.cell) {
+        None => Ok(Outcome::Leaf(kept_in(alloc, s, e, job)?)),
+        Some(k) => {
+            let (low, high) = halve_job(alloc, s, job, k)?;
+            Ok(Outcome::Halves(low, high))
+        }
+    }
+}

@@ -1,0 +1,45 @@
+// The facets of the triangles near a box.
+ghost use Rattle.std.specs.Prelude.{◌≡◌, All, IfOk};
+ghost use Rattle.ember_algebra.specs.Size.{Small};
+ghost use Rattle.ember_algebra.specs.Sign.{sgn};
+ghost use Rattle.ember_model.specs.Valid.{IsValidTri};
+ghost use Rattle.ember_model.specs.Planes.{value_at};
+ghost use Rattle.ember_model.specs.Meshes.{HasMesh};
+ghost use Rattle.ember_ref.specs.References.{reference_at, corner_of};
+ghost use Rattle.ember_trace.specs.Facets.{AreFacets};
+
+use crate::facet::Facet;
+use ember_box::{Cell, bounding};
+use ember_model::{OutOfMemory, Tri, support_of};
+use ember_ref::lex_side;
+use std::alloc::Global;
+
+fn facet_of(t: &Tri, lo: [i32; 3]) -> Facet
+    requires valid { IsValidTri t.now }
+    requires mesh { HasMesh 64 t.now }
+    requires corner { All (Small 2048) lo }
+    ensures tri { result.tri ≡ t.now }
+    ensures start { result.start ≡ sgn (value_at result.support (reference_at (corner_of lo))) }
+{
+    let support = support_of(t);
+    Facet {
+        tri: *t,
+        support,
+        spans: bounding(t),
+        start: lex_side(&support, lo),
+    }
+}
+
+/// The triangles near a box, in order, each with its planes. Meshes are numbered from 1 to 64.
+pub fn facets(alloc: Global, near: &[Tri], c: &Cell) -> Result<Vec<Facet>, OutOfMemory>
+    requires valid { All IsValidTri near.now }
+    requires numbered { All (HasMesh 64) near.now }
+    ensures { IfOk result (λ v. AreFacets near.now c.now v.items) }
+{
+    let lo = c.lo();
+    let mut found = Vec::with_capacity(alloc, near.len())?;
+    for t in near {
+        found.push(facet_of(t, lo))?;
+    }
+    Ok(found)
+}

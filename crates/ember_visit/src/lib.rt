@@ -1,0 +1,13 @@
+//! The jobs of a run over a scene: that of the root, what is known of an expression in the whole
+//! box of a job, and the jobs of its halves.
+#![tactic(auto)]
+
+mod halving;
+mod law;
+mod start;
+mod value;
+
+pub use halving::{halve_job, tris_at};
+pub use law::halves_of_a_job_are_jobs;
+pub use start::root_job;
+pub use value::box_value;
