@@ -1,5 +1,5 @@
 -- What an input asks for: its first refusal, or its output
-use Rattle.std.specs.Prelude.{ℕ, zero, suc, ◌+◌, ◌-◌, List, [], ◌∷◌, ◌++◌, length, nat_le, get_or, map, None, Some, Result, Ok, Err, if◌then◌else◌}
+use Rattle.std.specs.Prelude.{ℕ, ℤ, zero, suc, ◌+◌, ◌-◌, List, [], ◌∷◌, ◌++◌, length, nat_le, get_or, map, None, Some, Result, Ok, Err, if◌then◌else◌}
 use Rattle.std.specs.declared.option.Option.{Option}
 use Rattle.std.specs.List.{list_all}
 use Rattle.ember_balance.specs.declared.loose.Loose.{Loose}
@@ -26,6 +26,8 @@ pub data Verdict : Type 0 where
   Untold : Verdict
   Refused : Status → Verdict
   Writes : Output → Verdict
+  -- what slicing these bytes at a level gives, a refusal or an output
+  Slices : (at : ℤ) (bytes : List ℕ) → Verdict
 
 -- what stands under the name of each file of the words, in order, where it is told
 abbrev pub Contents : Type 0
@@ -94,6 +96,9 @@ counts_verdict point meshes expr tris = after_clear point tris (Writes (Counts p
 abbrev pub at_verdict : Spot → Option (List ℕ) → ℕ → Contents → Verdict
 at_verdict point expr places contents =
     after_given expr (length contents) (λ formula. after_scene places contents (counts_verdict point (length contents) formula))
+
+abbrev pub slice_verdict : ℤ → Option (List ℕ) → Verdict
+slice_verdict at told = after_bytes 1 told (λ bytes. Slices at bytes)
 
 -- the verdict of a command; no command: the words are refused
 abbrev pub verdict_of : Option Command → Contents → Verdict
