@@ -14,10 +14,8 @@ fn the_root_is_one_cell(rt: HostRuntime) -> Result<(), Error> {
     let scene = scene_of(alloc, 1)?;
     let e = parse(alloc, b"m1", 2)?;
     let root = root_job(alloc, &scene)?;
-    match voxel_step(alloc, &scene, &e, 12, &root)? {
-        Outcome::Leaf(fill) => assert!(rt; !fill.bit),
-        _ => assert!(rt; false),
-    }
+    let outcome = voxel_step(alloc, &scene, &e, 12, &root)?;
+    assert!(rt; matches!(&outcome, Outcome::Leaf(fill) if !fill.bit));
     Ok(())
 }
 
@@ -25,7 +23,16 @@ fn the_root_is_one_cell(rt: HostRuntime) -> Result<(), Error> {
 fn the_lower_half_is_lit(rt: HostRuntime) -> Result<(), Error> {
     let alloc = rt.alloc();
     let (low, high) = halves(&root(), Axis::X);
-    let fills = vec![in alloc; Fill { cell: low, bit: true }, Fill { cell: high, bit: false }]?;
+    let fills = vec![in alloc;
+        Fill {
+            cell: low,
+            bit: true
+        },
+        Fill {
+            cell: high,
+            bit: false
+        },
+    ]?;
     let text = grid_text(alloc, 11, fills.as_slice())?;
     assert!(rt; text.as_slice() == b"voxels 11 2\n10\n10\n10\n10\nend 4\n".as_slice());
     Ok(())
