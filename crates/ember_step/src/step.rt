@@ -16,6 +16,7 @@ use std::alloc::Global;
 
 /// The Boolean of an expression over a scene: the work whose items are the written regions of the
 /// leaves.
+#[derive(Drop)]
 pub struct BoolWork<'a> {
     pub scene: &'a Scene,
     pub expr: &'a Expr,
@@ -36,7 +37,7 @@ impl<'a> Work for BoolWork<'a> {
 
     ghost item = { λ w job kept. ArePlaced (near_of w.scene.now.tris job) kept };
 
-    ghost halves_valid = { λ w job low high is e. halves_are_jobs w.scene.now.tris (formula_of w.expr.now) job low high w.scene.now.kept.few is e };
+    ghost halves_valid = { λ w job low high is e. halves_are_jobs w.scene.now.tris (formula_of w.expr.now) job low high w.scene.now.meshes w.scene.now.kept is e };
 
     ghost halves_split = { λ w job low high is e. halves_are_split w.scene.now.tris (formula_of w.expr.now) job low high e };
 }

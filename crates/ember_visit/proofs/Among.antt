@@ -1,19 +1,27 @@
 -- Lists of places, and the triangles that they list.
-use Rattle.std.proofs.Common.{◌≡◌, ℕ, zero, suc, ◌+◌, ◌*◌, ◌-◌, ◌<◌, ◌≤◌, ◌==◌, ◌||◌, Bool, true, false, List, [], ◌∷◌, ◌++◌, map, filter, length, get_or, All, cond, refl, sym, ap, ◌∙◌, subst, arith}
+use Rattle.std.proofs.Common.{◌≡◌, ℕ, zero, suc, ◌+◌, ◌*◌, ◌-◌, ◌<◌, ◌≤◌, ◌==◌, ◌||◌, Bool, true, false, not, nat_eq, List, [], ◌∷◌, ◌++◌, map, filter, length, get_or, All, cond, refl, sym, ap, ◌∙◌, subst, arith}
 use Rattle.std.specs.List.{range_with_len}
 use Rattle.std.proofs.lemmas.List.{length-map}
 use Rattle.std.proofs.lemmas.List.Elements.{All-get_or, All-weaker, All-cons, All-map}
 use Rattle.std.proofs.lemmas.List.Sums.{length-filter, count_by-le-length}
 use Rattle.std.proofs.lemmas.List.FromFn.{length-range_with_len}
 use Rattle.ember_algebra.specs.Size.{Small}
+use Rattle.ember_algebra.proofs.Size.{small_within, small_add}
 use Rattle.ember_model.specs.declared.tri.Tri.{Tri}
-use Rattle.ember_model.specs.Meshes.{HasMesh}
+use Rattle.ember_model.specs.declared.point.Axis.{Axis}
+use Rattle.ember_model.specs.declared.point.Axis.TheVariants.{X}
+use Rattle.ember_model.specs.declared.point.Spot.{Spot}
+use Rattle.ember_model.specs.declared.face.Face.{Face}
+use Rattle.ember_model.specs.Faces.{is_flat, face_of}
+use Rattle.ember_model.specs.Meshes.{HasMesh, IsScene, wind, faces_of, of_mesh, meshes}
+use Rattle.ember_law.proofs.Grown.{crossing_small}
 use Rattle.ember_expr.specs.Formula.{IsMeshNumber}
-use Rattle.ember_box.specs.Boxes.{left}
-use Rattle.ember_box.specs.Near.{is_near, no_tri, tri_at, listed, near_places, places}
-use Rattle.ember_box.proofs.Lists.{near_in_range}
+use Rattle.ember_box.specs.Boxes.{Cell}
+use Rattle.ember_box.specs.Reference.{reference, vector_at}
+use Rattle.ember_box.specs.Near.{is_near, near, no_tri, tri_at, listed, near_places, places}
+use Rattle.ember_box.proofs.Lists.{near_in_range, listed_near_all}
 use Rattle.ember_job.specs.declared.job.Job.{Job}
-use Rattle.ember_visit.specs.Jobs.{depth, near_of, IsJob}
+use Rattle.ember_visit.specs.Jobs.{near_of, IsJob}
 use Rattle.ember_visit.specs.Values.{has_mesh}
 
 -- what holds of all triangles holds of those that are listed
@@ -23,6 +31,11 @@ all_listed P ts is a within = All-map P (λ i. tri_at ts i) is (All-weaker (λ i
 pub numbered_less : (n : ℕ) (ts : List Tri) → n ≤ 64 → All (HasMesh n) ts → All (HasMesh 64) ts
 numbered_less n ts le a = All-weaker (HasMesh n) (HasMesh 64) (λ t h. record { first = h.first; last = omega (arith, h.last, le) }) ts a
 
+-- a scene may have 64 meshes
+pub of_64 : (ts : List Tri) (n : ℕ) → IsScene ts n → IsScene ts 64
+of_64 ts n s =
+    record { valid = s.valid; few = s.few; few_meshes = omega arith; numbered = numbered_less n ts s.few_meshes s.numbered; balanced = s.balanced }
+
 -- the numbers of a range
 range_below : (from n most : ℕ) → from + n ≤ most → All (λ i. i < most) (range_with_len from n)
 range_below from zero most le = λ k d l. absurd (omega arith)
@@ -31,6 +44,30 @@ range_below from (suc n) most le = All-cons (λ i. i < most) from (range_with_le
 pub all_places : (ts : List Tri) → All (λ i. i < length ts) (places ts)
 all_places ts = range_below 0 (length ts) (length ts) (omega arith)
 
+-- ---- winding numbers are small
+wind_small : (a : Axis) (p : Spot) (fs : List Face) → Small (length fs) (wind a fs p)
+wind_small a p [] = record { small = omega arith }
+wind_small a p (f ∷ fs) = small_within (omega arith) (small_add (crossing_small f a p) (wind_small a p fs))
+
+few_faces : (m : ℕ) (ts : List Tri) → length (faces_of (of_mesh m ts)) ≤ length ts
+few_faces m ts =
+    let flat : Tri → Bool = λ t. not (is_flat t) in let same : Tri → Bool = λ t. nat_eq t.mesh m in
+    omega (
+      arith,
+      length-map (filter flat (of_mesh m ts)) face_of,
+      length-filter flat (of_mesh m ts),
+      count_by-le-length flat (of_mesh m ts),
+      length-filter same ts,
+      count_by-le-length same ts,
+    )
+
+pub vector_small : (ts : List Tri) (c : Cell) → length ts ≤ 262144 → All (Small 262144) (vector_at ts c)
+vector_small ts c few =
+    All-map (Small 262144) (λ m. wind X (faces_of (of_mesh m ts)) (reference c)) meshes (λ k d l.
+      let m = get_or meshes k d in
+      small_within (omega (arith, few, few_faces m ts)) (wind_small X (reference c) (faces_of (of_mesh m ts))))
+
+-- ---- what a job keeps
 module _ (ts : List Tri) (j : Job) (h : IsJob ts j) where
   pub job_places : All (λ i. i < length ts) j.list
   job_places = subst (All (λ i. i < length ts)) (sym h.list) (near_in_range ts j.cell (places ts) (all_places ts))
@@ -40,8 +77,12 @@ module _ (ts : List Tri) (j : Job) (h : IsJob ts j) where
       let p : ℕ → Bool = λ i. is_near j.cell (tri_at ts i) in
       omega (arith, few, ap length h.list, length-filter p (places ts), count_by-le-length p (places ts), length-range_with_len 0 (length ts))
 
-  pub counts_within : (m : ℕ) → 9437184 ≤ m → All (Small m) j.at.counts
-  counts_within m le = All-weaker (Small (262144 * depth j.cell)) (Small m) (λ z s. record { small = omega (arith, s.small, h.inside, le) }) j.at.counts h.counts
+  pub counts_within : (m : ℕ) → 262144 ≤ m → length ts ≤ 262144 → All (Small m) j.at.counts
+  counts_within m le few =
+      subst (All (Small m)) (sym h.at) (λ k d l. small_within le (vector_small ts j.cell few k d l))
+
+  pub near_listed : near ts j.cell ≡ near_of ts j
+  near_listed = sym (ap (listed ts) h.list ∙ listed_near_all ts j.cell)
 
 -- a mesh more, and one triangle less to come
 pub moved_in : (now before rest all : Bool) → (before || (now || rest)) ≡ all → ((now || before) || rest) ≡ all

@@ -1,10 +1,10 @@
 -- The jobs of a scene: the root's, and those of the halves of a job
-use Rattle.std.specs.Prelude.{◌≡◌, ℕ, ◌-◌, ◌*◌, ◌≤◌, ℤ, pos, List, All, replicate}
-use Rattle.ember_algebra.specs.Size.{Small}
+use Rattle.std.specs.Prelude.{◌≡◌, ℕ, ℤ, pos, List, replicate}
 use Rattle.ember_model.specs.declared.tri.Tri.{Tri}
 use Rattle.ember_model.specs.declared.point.Axis.{Axis}
-use Rattle.ember_box.specs.Boxes.{Cell, root, left, left_half, right_half}
+use Rattle.ember_box.specs.Boxes.{Cell, root, left_half, right_half}
 use Rattle.ember_box.specs.Near.{listed, near_places, places}
+use Rattle.ember_box.specs.Reference.{vector_at}
 use Rattle.ember_ref.specs.References.{carried}
 use Rattle.ember_job.specs.declared.job.Job.{Job}
 
@@ -15,15 +15,10 @@ job_of cell list counts = record { cell = cell; list = list; at = record { count
 abbrev pub near_of : List Tri → Job → List Tri
 near_of ts j = listed ts j.list
 
--- how many halvings made a box
-abbrev pub depth : Cell → ℕ
-depth c = 36 - left c
-
--- the list is that of the triangles near the box, and no halving added more to a count than there are triangles
+-- the list is that of the triangles near the box, and the counts are those at its reference point
 pub record IsJob (ts : List Tri) (j : Job) : Type 0 where
   pub list : j.list ≡ near_places ts j.cell (places ts)
-  pub counts : All (Small (262144 * depth j.cell)) j.at.counts
-  pub inside : left j.cell ≤ 36
+  pub at : j.at.counts ≡ vector_at ts j.cell
 
 -- the root, with the triangles near it and no windings
 abbrev pub root_job : List Tri → Job

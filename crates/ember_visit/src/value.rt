@@ -1,10 +1,12 @@
 // What is known of an expression in a whole box.
-ghost use Rattle.std.specs.Prelude.{◌≡◌, ◌<◌, ℕ, length, All};
+ghost use Rattle.std.specs.Prelude.{◌≡◌, ◌<◌, ℕ, ℤ, List, length, All, IfSome};
 ghost use Rattle.ember_model.specs.Meshes.{HasMesh};
 ghost use Rattle.ember_expr.specs.Formula.{formula_of, IsMeshNumber};
-ghost use Rattle.ember_expr.specs.Truth.{AreCounts};
+ghost use Rattle.ember_expr.specs.Truth.{AreCounts, truth};
 ghost use Rattle.ember_known.specs.Masks.{is_in};
+ghost use Rattle.ember_known.specs.Law.{AgreeOutside};
 ghost use Rattle.ember_box.specs.Near.{listed};
+ghost use Rattle.ember_visit.specs.Jobs.{near_of};
 ghost use Rattle.ember_visit.specs.Values as values;
 ghost use Rattle.ember_visit.specs.Values.{has_mesh};
 
@@ -27,12 +29,14 @@ fn meshes_of(tris: &[Tri], list: &[u32]) -> Mask
 }
 
 /// The value of the expression in the whole box of a job, where it is known: a mesh with a
-/// triangle in the job's list is undecided, and each other mesh counts as in the job's vector. The
-/// list holds places of the scene's triangles, and each count is at most 2^24 in size.
+/// triangle in the job's list is undecided, and each other mesh counts as in the job's vector. It
+/// is the truth at each vector with the same counts of those other meshes. The list holds places
+/// of the scene's triangles, and each count is at most 2^24 in size.
 pub fn box_value(e: &Expr, s: &Scene, job: &Job) -> Option<bool>
     requires places { All (λ i. i < length s.now.tris) job.now.list }
     requires counts { AreCounts job.now.at.counts }
-    ensures { result ≡ values.box_value s.now.tris (formula_of e.now) job.now }
+    ensures value { result ≡ values.box_value s.now.tris (formula_of e.now) job.now }
+    ensures law { IfSome result (λ b. (others : List ℤ) → AgreeOutside (has_mesh (near_of s.now.tris job.now)) job.now.at.counts others → truth others (formula_of e.now) ≡ b) }
 {
     known(e, &job.at, &meshes_of(s.tris.items(), job.list.items()))
 }
