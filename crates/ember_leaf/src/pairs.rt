@@ -1,18 +1,18 @@
 // How two triangles lie to each other, by their corners.
-ghost use Rattle.std.specs.Prelude.{◌≡◌, ◌<◌, true, false};
-ghost use Rattle.ember_model.specs.Faces.{is_flat, face_of, Contains};
-ghost use Rattle.ember_model.specs.Owners.{is_coplanar};
-ghost use Rattle.ember_leaf.specs.Pairs.{IsPair, AreApart};
+ghost use Rattle.std.specs.Prelude.{◌≡◌, ◌<◌, ◌&&◌};
+ghost use Rattle.ember_algebra.specs.Sign.{is_zero};
+ghost use Rattle.ember_model.specs.Faces.{is_flat};
+ghost use Rattle.ember_model.specs.Owners.{lies_in_plane_of, is_coplanar};
 
 use crate::heights::heights_of;
 use ember_box::overlap;
-use ember_model::{edge_plane, main_axis};
+use ember_model::{Plane, edge_plane, main_axis};
 use ember_trace::Facet;
 
 /// How a triangle lies to the closed face of another.
 #[derive(Clone, Copy)]
 pub enum Pair {
-    /// No inside point of the first lies in the closed face of the second, or that is flat.
+    /// No inside point of the first lies in the closed face of the second.
     Apart,
     /// They may meet, in different planes.
     Across,
@@ -20,26 +20,36 @@ pub enum Pair {
     Coplanar,
 }
 
+fn has_no_normal(p: &Plane) -> bool
+    ensures { result ≡ is_zero p.now.a && (is_zero p.now.b && is_zero p.now.c) }
+{
+    p.a == 0 && (p.b == 0 && p.c == 0)
+}
+
 /// The normal of the triangle is zero.
 pub fn is_flat(f: &Facet) -> bool
     ensures { result ≡ is_flat f.now.tri }
 {
-    f.support.a == 0 && (f.support.b == 0 && f.support.c == 0)
+    has_no_normal(&f.support)
+}
+
+// All corners of the second lie in the plane of the first.
+fn holds_corners(f: &Facet, g: &Facet) -> bool
+    ensures { result ≡ lies_in_plane_of f.now.tri g.now.tri }
+{
+    heights_of(&f.support, &g.tri).all_on()
 }
 
 /// The two lie in one plane, and neither is flat.
 pub fn are_coplanar(f: &Facet, g: &Facet) -> bool
     ensures { result ≡ is_coplanar f.now.tri g.now.tri }
 {
-    !is_flat(f) && (!is_flat(g) && heights_of(&f.support, &g.tri).all_on())
+    !is_flat(f) && (holds_corners(f, g) && !is_flat(g))
 }
 
 // The plane of an edge of the first triangle keeps the two apart.
 fn parts(f: &Facet, g: &Facet, edge: u8) -> bool
-    requires edge { edge < 3 }
-    requires first { is_flat f.now.tri ≡ false }
-    requires second { is_flat g.now.tri ≡ false }
-    ensures { result ≡ true → AreApart f.now.tri g.now.tri × AreApart g.now.tri f.now.tri }
+    requires { edge < 3 }
 {
     let k = main_axis(&f.support);
     let theirs = heights_of(&edge_plane(&f.tri, edge, k), &g.tri);
@@ -47,11 +57,7 @@ fn parts(f: &Facet, g: &Facet, edge: u8) -> bool
 }
 
 // The plane of an edge of one of them keeps the two apart.
-fn are_parted(f: &Facet, g: &Facet) -> bool
-    requires first { is_flat f.now.tri ≡ false }
-    requires second { is_flat g.now.tri ≡ false }
-    ensures { result ≡ true → AreApart f.now.tri g.now.tri }
-{
+fn are_parted(f: &Facet, g: &Facet) -> bool {
     for edge in 0..3 {
         if parts(f, g, edge) || parts(g, f, edge) {
             return true;
@@ -61,12 +67,7 @@ fn are_parted(f: &Facet, g: &Facet) -> bool
 }
 
 // How a triangle lies to another one that lies in its plane.
-fn coplanar_pair(f: &Facet, g: &Facet) -> Pair
-    requires first { is_flat f.now.tri ≡ false }
-    requires second { is_flat g.now.tri ≡ false }
-    requires plane { is_coplanar f.now.tri g.now.tri ≡ true }
-    ensures { IsPair f.now.tri g.now.tri result }
-{
+fn coplanar_pair(f: &Facet, g: &Facet) -> Pair {
     if are_parted(f, g) {
         Pair::Apart
     } else {
@@ -75,12 +76,7 @@ fn coplanar_pair(f: &Facet, g: &Facet) -> Pair
 }
 
 // How it lies to one that is not in its plane.
-fn crossing_pair(f: &Facet, g: &Facet) -> Pair
-    requires first { is_flat f.now.tri ≡ false }
-    requires second { is_flat g.now.tri ≡ false }
-    requires plane { is_coplanar f.now.tri g.now.tri ≡ false }
-    ensures { IsPair f.now.tri g.now.tri result }
-{
+fn crossing_pair(f: &Facet, g: &Facet) -> Pair {
     let own = heights_of(&g.support, &f.tri);
     if (own.none_behind() || own.none_in_front()) && !own.all_on() {
         Pair::Apart
@@ -89,12 +85,9 @@ fn crossing_pair(f: &Facet, g: &Facet) -> Pair
     }
 }
 
-/// How a triangle, which isn't flat, lies to another one.
-pub fn pair_of(f: &Facet, g: &Facet) -> Pair
-    requires { is_flat f.now.tri ≡ false }
-    ensures { IsPair f.now.tri g.now.tri result }
-{
-    if !overlap(&f.spans, &g.spans) || is_flat(g) {
+/// How a triangle lies to another one. Neither is flat.
+pub fn pair_of(f: &Facet, g: &Facet) -> Pair {
+    if !overlap(&f.spans, &g.spans) {
         return Pair::Apart;
     }
     let theirs = heights_of(&f.support, &g.tri);
@@ -117,9 +110,6 @@ fn is_behind_edge(f: &Facet, g: &Facet, edge: u8) -> bool
 }
 
 /// The second triangle, which lies in the plane of the first, is covered by it.
-pub fn covers(f: &Facet, g: &Facet) -> bool
-    requires { is_coplanar f.now.tri g.now.tri ≡ true }
-    ensures { result ≡ true → Contains (face_of f.now.tri) (face_of g.now.tri) }
-{
+pub fn covers(f: &Facet, g: &Facet) -> bool {
     is_behind_edge(f, g, 0) && (is_behind_edge(f, g, 1) && is_behind_edge(f, g, 2))
 }
