@@ -1,13 +1,13 @@
 -- Written regions of one triangle after another.
-use Rattle.std.proofs.Common.{◌≡◌, refl, sym, ap, subst, ◌∙◌, arith, ℕ, ◌+◌, ◌<◌, ◌≤◌, Bool, true, Some, List, [], ◌∷◌, ◌++◌, All, length, map, get_or, append_assoc, None, false, ℤ, if◌then◌else◌, Option, IfSome}
+use Rattle.std.proofs.Common.{◌≡◌, refl, sym, ap, subst, ◌∙◌, arith, ℕ, ◌+◌, ◌<◌, ◌≤◌, Bool, true, Some, List, [], ◌∷◌, ◌++◌, All, length, get_or, append_assoc, None, false, if◌then◌else◌, Option, IfSome}
 use Rattle.std.proofs.lemmas.List.{get_or-map, length-map}
 use Rattle.std.proofs.lemmas.List.Elements.{All-nil, All-push, All-pop, All-append}
 use Rattle.std.proofs.lemmas.List.Quantifiers.{all_pairs_push}
 use Rattle.ember_model.specs.declared.tri.Tri.{Tri}
 use Rattle.ember_model.specs.declared.plane.Plane.{Plane}
 use Rattle.ember_model.specs.declared.face.Face.{Face}
-use Rattle.ember_model.specs.Planes.{support_of, value_at}
-use Rattle.ember_model.specs.Faces.{is_flat, face_of, is_inside}
+use Rattle.ember_model.specs.Planes.{support_of}
+use Rattle.ember_model.specs.Faces.{is_flat, face_of}
 use Rattle.ember_model.specs.Owners.{lies_in_plane_of}
 use Rattle.ember_box.specs.Near.{tri_at, no_tri}
 use Rattle.ember_coplanar.specs.Lying.{LiesOn}
@@ -20,7 +20,7 @@ use Rattle.ember_trace.specs.Facets.{tri_of}
 use Rattle.ember_leaf.specs.declared.kept.Kept.{Kept}
 use Rattle.ember_leaf.specs.declared.heights.Heights.{Heights}
 use Rattle.ember_leaf.specs.Pairs.{IsLower, heights_of, all_on}
-use Rattle.ember_leaf.specs.Leaves.{IsRegionOf, StayInPlane, IsKeptOf, IsPlaced, ArePlaced, ArePlacedBelow, tris_of}
+use Rattle.ember_leaf.specs.Leaves.{IsRegionOf, StayInPlane, IsKeptOf, IsPlaced, ArePlacedBelow, tris_of}
 
 -- ---- the plane of a triangle
 pub in_plane : (t u : Tri) {p : Plane} {h : Heights} {b : Bool} → p ≡ support_of t → h ≡ heights_of p u → b ≡ all_on h → b ≡ lies_in_plane_of t u
