@@ -9,4 +9,5 @@ pub mod FaceLists
 pub mod CanonicalWords
 pub mod OneReading
 pub mod SliceFaults
+pub mod SliceVerdict
 pub mod Complete

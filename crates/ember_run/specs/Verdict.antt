@@ -109,7 +109,7 @@ verdict_of (Some (command.Boole expr workers places report files)) contents = Re
 verdict_of (Some (command.Demo boxes workers)) contents = Refused Words
 verdict_of (Some (command.Voxels expr size workers places files)) contents = Refused Words
 verdict_of (Some (command.Pairs workers places files)) contents = Refused Words
-verdict_of (Some (command.Slice at file)) contents = Refused Words
+verdict_of (Some (command.Slice at file)) contents = slice_verdict at (file_at contents 1)
 
 -- the names of the command's files, in order
 abbrev pub names_of : Option Command → List (List ℕ)

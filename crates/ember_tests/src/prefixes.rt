@@ -5,8 +5,8 @@ use ember_run::Status;
 use std::test::Fail;
 
 // The answer of the reading at the first so many bytes; each line of the file has eight.
-fn reading_of(bytes: usize) -> Status {
-    let line = bytes as u32 / 8 + 1;
+fn reading_of(bytes: u32) -> Status {
+    let line = bytes / 8 + 1;
     let cut = bytes % 8;
     if cut == 0 || cut == 7 {
         Status::Done
@@ -25,8 +25,8 @@ fn every_prefix_is_read_or_refused(rt: HostRuntime) -> Result<(), Fail> {
         let mut out = failing_sink(alloc, 0)?;
         let mut err = failing_sink(alloc, 0)?;
         let status = answer(alloc, FACES, &["a.obj"], &mut shelf, &mut out, &mut err)?;
-        assert_eq!(rt; status, reading_of(bytes));
-        let wanted = reading_of(bytes);
+        assert_eq!(rt; status, reading_of(bytes as u32));
+        let wanted = reading_of(bytes as u32);
         let status = answer(alloc, AT, &["a.obj"], &mut shelf, &mut out, &mut err)?;
         let is_open = bytes > 38 && bytes < 63;
         if wanted == Status::Done && is_open {
