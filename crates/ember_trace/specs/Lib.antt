@@ -1,2 +1,3 @@
+pub mod Crossings
 pub mod Facets
 pub mod Ways

@@ -1,33 +1,25 @@
 // Where the legs of a way cross a triangle.
+ghost use Rattle.std.specs.Prelude.{◌≡◌, int_le, int_lt, ◌&&◌};
 ghost use Rattle.ember_algebra.specs.Size.{Small};
+ghost use Rattle.ember_algebra.specs.declared.Sign.{Sign};
+ghost use Rattle.ember_algebra.specs.Sign.{is_neg};
 ghost use Rattle.ember_model.specs.Valid.{IsValidTri, IsValidPlane};
+ghost use Rattle.ember_model.specs.Sizes.{IsSupportSized};
+ghost use Rattle.ember_model.specs.Planes.{edge_planes};
+ghost use Rattle.ember_trace.specs.Ways.{coordinate, side_at_start, side_after_first, side_at_end, floor_at_end};
+ghost use Rattle.ember_trace.specs.Crossings.{all_behind, span_along, has_above, may_have, may_end, is_on_first, is_on_second, is_on_last, first_leg, second_leg, legs_in_wall, last_leg, crossing_before, crossing_after};
 
 use crate::facet::Facet;
-use crate::stops::{coordinate, entry};
+use crate::passing::{passage, side_after, side_before};
+use crate::stops::coordinate;
 use crate::way::Way;
 use ember_algebra::Sign;
 use ember_box::{Span, Spans};
 use ember_model::{Axis, Plane, Tri, edge_plane};
-use ember_ref::lex_side;
 
-// A leg from one side of a plane to another passes it: 1 from behind to the front, -1 back.
-fn passage(from: Sign, to: Sign) -> i32
-    ensures { Small 1 result }
+fn span_along(s: &Spans, k: Axis) -> Span
+    ensures { result ≡ span_along s.now k }
 {
-    match from {
-        Sign::Zero => 0,
-        Sign::Neg => match to {
-            Sign::Pos => 1,
-            _ => 0,
-        },
-        Sign::Pos => match to {
-            Sign::Neg => -1,
-            _ => 0,
-        },
-    }
-}
-
-fn span(s: &Spans, k: Axis) -> Span {
     match k {
         Axis::X => s.x,
         Axis::Y => s.y,
@@ -36,72 +28,148 @@ fn span(s: &Spans, k: Axis) -> Span {
 }
 
 // A place a little above the whole number is strictly within.
-fn has_above(s: &Span, at: i32) -> bool {
+fn has_above(s: &Span, at: i32) -> bool
+    ensures { result ≡ has_above s.now at }
+{
     s.low <= at && at < s.high
 }
 
 // A place from this whole number to the next can be within.
-fn may_have(s: &Span, floor: i128) -> bool {
+fn may_have(s: &Span, floor: i128) -> bool
+    ensures { result ≡ may_have s.now floor }
+{
     i128::from(s.low) <= floor && floor <= i128::from(s.high)
 }
 
 /// The whole numbers at or below the coordinates of a way's end, but for the main axis.
 #[derive(Clone, Copy)]
 pub struct Ends {
-    first: i128,
-    second: i128,
+    pub first: i128,
+    pub second: i128,
 }
 
 /// Those of a way.
-pub fn ends_of(way: &Way) -> Ends {
+pub fn ends_of(way: &Way) -> Ends
+    ensures first { result.first ≡ floor_at_end way.now way.now.first }
+    ensures second { result.second ≡ floor_at_end way.now way.now.second }
+{
     Ends {
         first: way.floor_at_end(way.first),
         second: way.floor_at_end(way.second),
     }
 }
 
+fn is_neg(s: Sign) -> bool
+    ensures { result ≡ is_neg s }
+{
+    matches!(s, Sign::Neg)
+}
+
+fn is_behind_at_start(way: &Way, p: &Plane) -> bool
+    requires { IsValidPlane p.now }
+    ensures { result ≡ is_neg (side_at_start way.now p.now) }
+{
+    is_neg(way.side_at_start(p))
+}
+
+fn is_behind_after_first(way: &Way, p: &Plane) -> bool
+    requires { IsSupportSized p.now }
+    ensures { result ≡ is_neg (side_after_first way.now p.now) }
+{
+    is_neg(way.side_after_first(p))
+}
+
+fn is_behind_at_end(way: &Way, p: &Plane) -> bool
+    requires { IsValidPlane p.now }
+    ensures { result ≡ is_neg (side_at_end way.now p.now) }
+{
+    is_neg(way.side_at_end(p))
+}
+
 // All edge planes along the first leg are negative where it begins.
 fn first_is_behind(t: &Tri, way: &Way) -> bool
     requires { IsValidTri t.now }
+    ensures { result ≡ all_behind (λ p. side_at_start way.now p) (edge_planes t.now way.now.first) }
 {
-    for e in 0..3 {
-        if lex_side(&edge_plane(t, e, way.first), way.lo) != Sign::Neg {
-            return false;
-        }
-    }
-    true
+    let k = way.first;
+    is_behind_at_start(way, &edge_plane(t, 0, k))
+        && (is_behind_at_start(way, &edge_plane(t, 1, k))
+            && is_behind_at_start(way, &edge_plane(t, 2, k)))
 }
 
 // All edge planes along the second leg are negative where it begins.
 fn second_is_behind(t: &Tri, way: &Way) -> bool
     requires { IsValidTri t.now }
+    ensures { result ≡ all_behind (λ p. side_after_first way.now p) (edge_planes t.now way.now.second) }
 {
-    for e in 0..3 {
-        if way.side_after_first(&edge_plane(t, e, way.second)) != Sign::Neg {
-            return false;
-        }
-    }
-    true
+    let k = way.second;
+    is_behind_after_first(way, &edge_plane(t, 0, k))
+        && (is_behind_after_first(way, &edge_plane(t, 1, k))
+            && is_behind_after_first(way, &edge_plane(t, 2, k)))
 }
 
 // All edge planes along the last leg are negative where it ends.
 fn last_is_behind(t: &Tri, way: &Way) -> bool
     requires { IsValidTri t.now }
+    ensures { result ≡ all_behind (λ p. side_at_end way.now p) (edge_planes t.now way.now.main) }
 {
-    for e in 0..3 {
-        if way.side_at_end(&edge_plane(t, e, way.main)) != Sign::Neg {
-            return false;
-        }
-    }
-    true
+    let k = way.main;
+    is_behind_at_end(way, &edge_plane(t, 0, k))
+        && (is_behind_at_end(way, &edge_plane(t, 1, k))
+            && is_behind_at_end(way, &edge_plane(t, 2, k)))
+}
+
+fn is_on_first(f: &Facet, way: &Way) -> bool
+    ensures { result ≡ is_on_first way.now f.now }
+{
+    has_above(
+        &span_along(&f.spans, way.second),
+        coordinate(way.lo, way.second),
+    ) && first_is_behind(&f.tri, way)
+}
+
+fn may_end_along_first(f: &Facet, way: &Way, at: &Ends) -> bool
+    requires { at.now.first ≡ floor_at_end way.now way.now.first }
+    ensures { result ≡ may_have (span_along f.now.spans way.now.first) (floor_at_end way.now way.now.first) }
+{
+    may_have(&span_along(&f.spans, way.first), at.first)
+}
+
+fn may_end_along_second(f: &Facet, way: &Way, at: &Ends) -> bool
+    requires { at.now.second ≡ floor_at_end way.now way.now.second }
+    ensures { result ≡ may_have (span_along f.now.spans way.now.second) (floor_at_end way.now way.now.second) }
+{
+    may_have(&span_along(&f.spans, way.second), at.second)
+}
+
+fn may_end(f: &Facet, way: &Way, at: &Ends) -> bool
+    requires first { at.now.first ≡ floor_at_end way.now way.now.first }
+    requires second { at.now.second ≡ floor_at_end way.now way.now.second }
+    ensures { result ≡ may_end way.now f.now }
+{
+    may_end_along_first(f, way, at) && may_end_along_second(f, way, at)
+}
+
+fn is_on_second(f: &Facet, way: &Way, at: &Ends) -> bool
+    requires { at.now.first ≡ floor_at_end way.now way.now.first }
+    ensures { result ≡ is_on_second way.now f.now }
+{
+    may_end_along_first(f, way, at) && second_is_behind(&f.tri, way)
+}
+
+fn is_on_last(f: &Facet, way: &Way, at: &Ends) -> bool
+    requires first { at.now.first ≡ floor_at_end way.now way.now.first }
+    requires second { at.now.second ≡ floor_at_end way.now way.now.second }
+    ensures { result ≡ is_on_last way.now f.now }
+{
+    may_end(f, way, at) && last_is_behind(&f.tri, way)
 }
 
 fn first_leg(f: &Facet, way: &Way) -> i32
-    ensures { Small 1 result }
+    ensures value { result ≡ first_leg way.now f.now }
+    ensures small { Small 1 result }
 {
-    if has_above(&span(&f.spans, way.second), coordinate(way.lo, way.second))
-        && first_is_behind(&f.tri, way)
-    {
+    if is_on_first(f, way) {
         passage(f.start, way.side_after_first(&f.support))
     } else {
         0
@@ -109,9 +177,11 @@ fn first_leg(f: &Facet, way: &Way) -> i32
 }
 
 fn second_leg(f: &Facet, way: &Way, at: &Ends) -> i32
-    ensures { Small 1 result }
+    requires { at.now.first ≡ floor_at_end way.now way.now.first }
+    ensures value { result ≡ second_leg way.now f.now }
+    ensures small { Small 1 result }
 {
-    if may_have(&span(&f.spans, way.first), at.first) && second_is_behind(&f.tri, way) {
+    if is_on_second(f, way, at) {
         passage(
             way.side_after_first(&f.support),
             way.side_after_second(&f.support),
@@ -121,11 +191,22 @@ fn second_leg(f: &Facet, way: &Way, at: &Ends) -> i32
     }
 }
 
+fn is_in_wall(f: &Facet, way: &Way) -> bool
+    ensures { result ≡ has_above (span_along f.now.spans way.now.main) (coordinate way.now.lo way.now.main) }
+{
+    has_above(
+        &span_along(&f.spans, way.main),
+        coordinate(way.lo, way.main),
+    )
+}
+
 // The crossings of the legs in the low wall of the main axis.
 fn legs_in_wall(f: &Facet, way: &Way, at: &Ends) -> i32
-    ensures { Small 2 result }
+    requires { at.now.first ≡ floor_at_end way.now way.now.first }
+    ensures value { result ≡ legs_in_wall way.now f.now }
+    ensures small { Small 2 result }
 {
-    if has_above(&span(&f.spans, way.main), coordinate(way.lo, way.main)) {
+    if is_in_wall(f, way) {
         first_leg(f, way) + second_leg(f, way, at)
     } else {
         0
@@ -140,68 +221,33 @@ pub struct Crossings {
     pub after: i32,
 }
 
-// The sides of a plane on which the ways end: an inside point lies on the plane.
-#[derive(Clone, Copy)]
-struct Beside {
-    before: Sign,
-    after: Sign,
-}
-
-// Where the inside point is on the plane, the ways end on both sides of it.
-fn sides_of_end(p: &Plane, way: &Way) -> Beside
-    requires { IsValidPlane p.now }
+fn last_leg(f: &Facet, way: &Way, is_on: bool, end: Sign) -> i32
+    requires { is_on ≡ is_on_last way.now f.now }
+    ensures value { result ≡ last_leg way.now f.now end }
+    ensures small { Small 1 result }
 {
-    match way.side_at_end(p) {
-        Sign::Zero => {
-            let slope = entry(p, way.main);
-            if slope > 0 {
-                Beside {
-                    before: Sign::Neg,
-                    after: Sign::Pos,
-                }
-            } else {
-                Beside {
-                    before: Sign::Pos,
-                    after: Sign::Neg,
-                }
-            }
-        }
-        s => Beside {
-            before: s,
-            after: s,
-        },
-    }
-}
-
-fn last_leg(f: &Facet, way: &Way, at: &Ends) -> Crossings
-    ensures { Small 1 result.before × Small 1 result.after }
-{
-    if may_have(&span(&f.spans, way.first), at.first)
-        && may_have(&span(&f.spans, way.second), at.second)
-        && last_is_behind(&f.tri, way)
-    {
-        let from = way.side_after_second(&f.support);
-        let end = sides_of_end(&f.support, way);
-        Crossings {
-            before: passage(from, end.before),
-            after: passage(from, end.after),
-        }
+    if is_on {
+        passage(way.side_after_second(&f.support), end)
     } else {
-        Crossings {
-            before: 0,
-            after: 0,
-        }
+        0
     }
 }
 
 /// The crossings of the ways with a triangle.
 pub fn crossings_of(f: &Facet, way: &Way, at: &Ends) -> Crossings
-    ensures { Small 3 result.before × Small 3 result.after }
+    requires first { at.now.first ≡ floor_at_end way.now way.now.first }
+    requires second { at.now.second ≡ floor_at_end way.now way.now.second }
+    ensures before { result.before ≡ crossing_before way.now f.now }
+    ensures after { result.after ≡ crossing_after way.now f.now }
+    ensures small { Small 3 result.before × Small 3 result.after }
 {
     let both = legs_in_wall(f, way, at);
-    let last = last_leg(f, way, at);
+    let is_on = is_on_last(f, way, at);
+    let end = way.side_at_end(&f.support);
+    let before = side_before(&f.support, way.main, end);
+    let after = side_after(&f.support, way.main, end);
     Crossings {
-        before: both + last.before,
-        after: both + last.after,
+        before: both + last_leg(f, way, is_on, before),
+        after: both + last_leg(f, way, is_on, after),
     }
 }

@@ -4,6 +4,8 @@
 mod facet;
 mod legs;
 mod near;
+mod pair;
+mod passing;
 mod sides;
 mod stops;
 mod way;
@@ -11,7 +13,8 @@ mod whole;
 
 pub use facet::Facet;
 pub use near::facets;
-pub use sides::{Sides, sides_beside, sides_traced};
+pub use pair::Sides;
+pub use sides::{sides_beside, sides_traced};
 pub use whole::{sides_by_rays, sides_whole};
 
 #[cfg(test)]

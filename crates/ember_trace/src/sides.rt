@@ -5,22 +5,17 @@ ghost use Rattle.ember_model.specs.Valid.{IsValidTri};
 ghost use Rattle.ember_model.specs.Meshes.{HasMesh};
 ghost use Rattle.ember_law.specs.Counts.{with_more};
 ghost use Rattle.ember_trace.specs.Facets.{AreBoxCounts, StayWithin};
+ghost use Rattle.ember_trace.specs.Crossings.{AreTraced, AreTracedBy};
 
 use crate::facet::Facet;
 use crate::legs::{crossings_of, ends_of};
 use crate::near::facets;
+use crate::pair::Sides;
 use crate::stops::way_to;
 use ember_box::Cell;
 use ember_model::{OutOfMemory, Tri, Vector};
 use ember_poly::Ring;
 use std::alloc::Global;
-
-/// The winding numbers directly before and after a region, along its main axis.
-#[derive(Clone, Copy, Debug, PartialEq, Eq)]
-pub struct Sides {
-    pub before: Vector,
-    pub after: Vector,
-}
 
 // Takes from the count of a mesh, 1 to 64.
 fn take_from(v: &mut Vector, mesh: u32, less: i32)
@@ -39,6 +34,7 @@ fn take_from(v: &mut Vector, mesh: u32, less: i32)
 pub fn sides_beside(near: &[Facet], c: &Cell, v: &Vector, r: &Ring) -> Sides
     requires few { length near.now ≤ 262144 }
     requires counts { AreBoxCounts v.now.counts }
+    ensures traced { AreTraced c.now near.now v.now.counts r.now result }
     ensures before { StayWithin (length near.now) v.now.counts result.before.counts }
     ensures after { StayWithin (length near.now) v.now.counts result.after.counts }
 {
@@ -67,6 +63,7 @@ pub fn sides_traced(
     requires numbered { All (HasMesh 64) near.now }
     requires few { length near.now ≤ 262144 }
     requires counts { AreBoxCounts v.now.counts }
+    ensures traced { IfOk result (λ s. AreTracedBy near.now c.now v.now.counts r.now s) }
     ensures before { IfOk result (λ s. StayWithin (length near.now) v.now.counts s.before.counts) }
     ensures after { IfOk result (λ s. StayWithin (length near.now) v.now.counts s.after.counts) }
 {

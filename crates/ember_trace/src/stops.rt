@@ -3,8 +3,7 @@ ghost use Rattle.std.specs.Prelude.{◌≡◌, ◌≤◌, All, length};
 ghost use Rattle.ember_algebra.specs.Size.{Small};
 ghost use Rattle.ember_model.specs.Valid.{IsValidPlane};
 ghost use Rattle.ember_model.specs.Sizes.{IsSupportSized};
-ghost use Rattle.ember_model.specs.Planes.{along};
-ghost use Rattle.ember_trace.specs.Ways.{coordinate, inside_side, side_at_start, side_at_end, side_after_first, side_after_second, slid_to_start};
+ghost use Rattle.ember_trace.specs.Ways.{coordinate, inside_side, side_at_start, side_at_end, side_after_first, side_after_second, slid_to_start, floor_at_end, first_of, second_of, IsWay};
 
 use crate::way::Way;
 use ember_algebra::Sign;
@@ -14,24 +13,35 @@ use ember_point::{Meet, side, slide};
 use ember_poly::{Ring, corners, support};
 use ember_ref::lex_side;
 
-// The two other axes.
-fn others(k: Axis) -> (Axis, Axis) {
+// The two other axes, in order.
+fn first_of(k: Axis) -> Axis
+    ensures { result ≡ first_of k }
+{
     match k {
-        Axis::X => (Axis::Y, Axis::Z),
-        Axis::Y => (Axis::X, Axis::Z),
-        Axis::Z => (Axis::X, Axis::Y),
+        Axis::X => Axis::Y,
+        _ => Axis::X,
+    }
+}
+
+fn second_of(k: Axis) -> Axis
+    ensures { result ≡ second_of k }
+{
+    match k {
+        Axis::Z => Axis::Y,
+        _ => Axis::Z,
     }
 }
 
 /// The way from the reference point of the box to the region.
-pub fn way_to(c: &Cell, r: &Ring) -> Way {
+pub fn way_to(c: &Cell, r: &Ring) -> Way
+    ensures { IsWay c.now r.now result }
+{
     let main = main_axis(&support(r));
-    let (first, second) = others(main);
     let at = corners(r);
     Way {
         lo: c.lo(),
-        first,
-        second,
+        first: first_of(main),
+        second: second_of(main),
         main,
         corner: at[0],
         next: at[1],
@@ -49,17 +59,6 @@ pub fn coordinate(at: [i32; 3], k: Axis) -> i32
         Axis::X => at[0],
         Axis::Y => at[1],
         Axis::Z => at[2],
-    }
-}
-
-/// The entry of a plane's normal along an axis.
-pub fn entry(p: &Plane, k: Axis) -> i64
-    ensures { result ≡ along p.now k }
-{
-    match k {
-        Axis::X => p.a,
-        Axis::Y => p.b,
-        Axis::Z => p.c,
     }
 }
 
@@ -88,7 +87,8 @@ fn slid_to_start(w: &Way, k: Axis, p: &Plane) -> Plane
 }
 
 impl Way {
-    fn side_at_start(&self, p: &Plane) -> Sign
+    /// The side of a plane on which the way begins.
+    pub fn side_at_start(&self, p: &Plane) -> Sign
         requires { IsValidPlane p.now }
         ensures { result ≡ side_at_start self.now p.now }
     {
@@ -127,7 +127,9 @@ impl Way {
     }
 
     /// The whole number at or below the inside point's coordinate.
-    pub fn floor_at_end(&self, k: Axis) -> i128 {
+    pub fn floor_at_end(&self, k: Axis) -> i128
+        ensures { result ≡ floor_at_end self.now k }
+    {
         let m = &self.corner;
         match k {
             Axis::X => m.x.div_euclid(m.w),

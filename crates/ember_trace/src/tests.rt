@@ -47,7 +47,7 @@ fn counts(first: i32) -> Vector {
 
 #[test]
 fn the_sides_of_a_tetrahedron(rt: HostRuntime) -> Result<(), Fail> {
-    let zero = counts(0);
+    let zero = Vector { counts: [0; 64] };
     let inner = [true, true, true, false];
     for i in 0..4 {
         if let Some(ring) = of_tri(rt.alloc(), &TETRA[i])? {

@@ -1,14 +1,20 @@
 // The sides of a region, by whole rays.
-ghost use Rattle.std.specs.Prelude.{◌≤◌, All, IfOk, length};
+ghost use Rattle.std.specs.Prelude.{◌≡◌, ◌≤◌, All, IfOk, length};
 ghost use Rattle.ember_algebra.specs.Size.{Small};
-ghost use Rattle.ember_model.specs.Valid.{IsValidTri};
+ghost use Rattle.ember_algebra.specs.Sign.{is_neg};
+ghost use Rattle.ember_model.specs.Valid.{IsValidTri, IsValidPlane};
 ghost use Rattle.ember_model.specs.Meshes.{HasMesh};
+ghost use Rattle.ember_trace.specs.Ways.{inside_side};
+ghost use Rattle.ember_trace.specs.Crossings.{is_pierced, ray_before, ray_after, AreRayCounts};
 
-use crate::sides::Sides;
-use crate::stops::{entry, inside_side};
+use crate::pair::Sides;
+use crate::passing::{passage_along, side_after, side_before};
+use crate::stops::inside_side;
 use ember_algebra::Sign;
 use ember_law::add_to;
-use ember_model::{Axis, OutOfMemory, Scene, Tri, Vector, edge_plane, main_axis, support_of};
+use ember_model::{
+    Axis, OutOfMemory, Plane, Scene, Tri, Vector, edge_plane, main_axis, support_of,
+};
 use ember_point::Meet;
 use ember_poly::{Ring, corners, support};
 use std::alloc::Global;
@@ -21,54 +27,54 @@ struct Corners {
     third: Meet,
 }
 
+fn side_of(p: &Plane, at: &Corners) -> Sign
+    requires { IsValidPlane p.now }
+    ensures { result ≡ inside_side p.now at.now.first at.now.second at.now.third }
+{
+    inside_side(p, &at.first, &at.second, &at.third)
+}
+
+fn is_behind(p: &Plane, at: &Corners) -> bool
+    requires { IsValidPlane p.now }
+    ensures { result ≡ is_neg (inside_side p.now at.now.first at.now.second at.now.third) }
+{
+    matches!(side_of(p, at), Sign::Neg)
+}
+
 // The line through the inside point along the axis runs through the triangle.
 fn is_pierced(t: &Tri, k: Axis, at: &Corners) -> bool
     requires { IsValidTri t.now }
+    ensures { result ≡ is_pierced t.now k at.now.first at.now.second at.now.third }
 {
-    for e in 0..3 {
-        if inside_side(&edge_plane(t, e, k), &at.first, &at.second, &at.third) != Sign::Neg {
-            return false;
-        }
-    }
-    true
+    is_behind(&edge_plane(t, 0, k), at)
+        && (is_behind(&edge_plane(t, 1, k), at) && is_behind(&edge_plane(t, 2, k), at))
 }
 
-// How often the rays that begin before and after the inside point leave through the front.
-#[derive(Clone, Copy)]
-struct Hits {
-    before: i32,
-    after: i32,
-}
-
-fn hits_of(before: i32, after: i32) -> Hits
-    requires before { Small 1 before }
-    requires after { Small 1 after }
-    ensures { Small 1 result.before × Small 1 result.after }
-{
-    Hits { before, after }
-}
-
-fn ray_hits(t: &Tri, k: Axis, at: &Corners) -> Hits
+// The crossing of the ray that begins directly before the inside point.
+fn ray_before(t: &Tri, k: Axis, at: &Corners) -> i32
     requires { IsValidTri t.now }
-    ensures { Small 1 result.before × Small 1 result.after }
+    ensures value { result ≡ ray_before t.now k at.now.first at.now.second at.now.third }
+    ensures small { Small 1 result }
 {
     let n = support_of(t);
-    let slope = entry(&n, k);
-    if slope == 0 || !is_pierced(t, k, at) {
-        return hits_of(0, 0);
+    if is_pierced(t, k, at) {
+        passage_along(side_before(&n, k, side_of(&n, at)), &n, k)
+    } else {
+        0
     }
-    match inside_side(&n, &at.first, &at.second, &at.third) {
-        Sign::Zero => hits_of(if slope > 0 { 1 } else { -1 }, 0),
-        Sign::Neg => if slope > 0 {
-            hits_of(1, 1)
-        } else {
-            hits_of(0, 0)
-        },
-        Sign::Pos => if slope > 0 {
-            hits_of(0, 0)
-        } else {
-            hits_of(-1, -1)
-        },
+}
+
+// The crossing of the ray that begins directly after it.
+fn ray_after(t: &Tri, k: Axis, at: &Corners) -> i32
+    requires { IsValidTri t.now }
+    ensures value { result ≡ ray_after t.now k at.now.first at.now.second at.now.third }
+    ensures small { Small 1 result }
+{
+    let n = support_of(t);
+    if is_pierced(t, k, at) {
+        passage_along(side_after(&n, k, side_of(&n, at)), &n, k)
+    } else {
+        0
     }
 }
 
@@ -78,6 +84,7 @@ pub fn sides_by_rays(tris: &[Tri], r: &Ring) -> Sides
     requires valid { All IsValidTri tris.now }
     requires numbered { All (HasMesh 64) tris.now }
     requires few { length tris.now ≤ 262144 }
+    ensures counted { AreRayCounts tris.now r.now result }
     ensures before { All (Small (length tris.now)) result.before.counts }
     ensures after { All (Small (length tris.now)) result.after.counts }
 {
@@ -91,15 +98,15 @@ pub fn sides_by_rays(tris: &[Tri], r: &Ring) -> Sides
     let mut before = Vector { counts: [0; 64] };
     let mut after = Vector { counts: [0; 64] };
     for t in tris {
-        let more = ray_hits(t, k, &at);
-        add_to(&mut before, t.mesh, more.before);
-        add_to(&mut after, t.mesh, more.after);
+        add_to(&mut before, t.mesh, ray_before(t, k, &at));
+        add_to(&mut after, t.mesh, ray_after(t, k, &at));
     }
     Sides { before, after }
 }
 
 /// The sides of a region of a box, as `sides_by_rays` gives them for all triangles of the scene.
 pub fn sides_whole(_alloc: Global, s: &Scene, r: &Ring) -> Result<Sides, OutOfMemory>
+    ensures counted { IfOk result (λ x. AreRayCounts s.now.tris r.now x) }
     ensures before { IfOk result (λ x. All (Small (length s.now.tris)) x.before.counts) }
     ensures after { IfOk result (λ x. All (Small (length s.now.tris)) x.after.counts) }
 {

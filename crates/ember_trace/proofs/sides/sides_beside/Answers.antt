@@ -1,5 +1,11 @@
-use Rattle.std.proofs.Common.{◌+◌, ◌*◌, arith}
+use Rattle.std.proofs.Common.{ap, ◌∙◌, ◌+◌, ◌*◌, arith, List}
+use mir.Syntax.{w32}
+use Rattle.std.proofs.lemmas.List.{take_all}
+use Rattle.ember_algebra.proofs.Exact.{input, stored, ◌&◌, done, exact}
+use Rattle.ember_trace.specs.declared.facet.Facet.{Facet}
 use Rattle.ember_law.proofs.Grown.{all_within}
+use Rattle.ember_trace.specs.Crossings.{taken, crossing_before, crossing_after}
+use Rattle.ember_trace.proofs.Tallies.{taken_more}
 use Rattle.ember_trace.proofs.sides.sides_beside.Goals as goal
 
 pub take_from-requires-clause-room : goal.take_from-requires-clause-room
@@ -14,10 +20,15 @@ take_from-requires-in-loop-f-clause-room c =
 
 pub loop-f-preserved : goal.loop-f-preserved
 loop-f-preserved c =
-    let i = c.loop-f.f-index in
+    let i = c.loop-f.f-index in let n = c.args.near.now in let v = c.args.v.now.counts in let w = c.way_to-way.result in let f = c.f-item.result in
+    let less = c.crossings_of-less.ensures in
+    let before = exact (less.small.0 & done) (stored w32 (input 0)) tt ∙ less.before in
+    let after = exact (less.small.1 & done) (stored w32 (input 0)) tt ∙ less.after in
     record {
       before = λ m h. all_within c.take_from.new.v.counts (omega arith) (c.take_from.ensures.within (m + 3 * i) (c.loop-f.invariant.before m h));
       after = λ m h. all_within c.take_from-in-loop-f.new.v.counts (omega arith) (c.take_from-in-loop-f.ensures.within (m + 3 * i) (c.loop-f.invariant.after m h));
+      traced_before = taken_more (crossing_before w) n i f v c.loop-f.before.counts _ _ c.loop-f-test.true c.f-item.is c.loop-f.invariant.traced_before before c.take_from.ensures.value;
+      traced_after = taken_more (crossing_after w) n i f v c.loop-f.after.counts _ _ c.loop-f-test.true c.f-item.is c.loop-f.invariant.traced_after after c.take_from-in-loop-f.ensures.value;
     }
 
 pub returns-clause-before : goal.returns-clause-before
@@ -27,3 +38,15 @@ returns-clause-before c = λ m h.
 pub returns-clause-after : goal.returns-clause-after
 returns-clause-after c = λ m h.
     let e = c.loop-f-test.false in let f = c.loop-f.auto.f-index-end in all_within c.loop-f.after.counts (omega arith) (c.loop-f.invariant.after m h)
+
+pub returns-clause-traced : goal.returns-clause-traced
+returns-clause-traced c =
+    let w = c.way_to-way.result in let v = c.args.v.now.counts in
+    let past = c.loop-f-test.false in
+    let all = take_all c.loop-f.f-index c.args.near.now (omega arith) in
+    record {
+      way = w;
+      is_way = c.way_to-way.ensures;
+      before = c.loop-f.invariant.traced_before ∙ ap (λ (fs : List Facet). taken (crossing_before w) fs v) all;
+      after = c.loop-f.invariant.traced_after ∙ ap (λ (fs : List Facet). taken (crossing_after w) fs v) all;
+    }
