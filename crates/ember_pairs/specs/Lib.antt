@@ -1,5 +1,7 @@
 pub mod Pairs
+pub mod Facets
 pub mod Works
 pub mod Laws
 pub mod Gathering
 pub mod Texts
+pub mod Whole
