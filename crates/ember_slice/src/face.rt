@@ -43,9 +43,9 @@ fn segment_of(span: &Span) -> Result<Option<Segment>, Endless>
     Ok(between(&first, &last))
 }
 
-/// The segment of the face in the plane z = at + 1/2, where it gives one: the inside points there, in
-/// the direction (-b, a, 0) of the support plane's normal (a, b, c), from their first end to their
-/// last one, both in lowest terms. Takes no memory.
+/// The segment of the face in the plane z = at + 1/2, where it gives one: the inside points there,
+/// in the direction (-b, a, 0) of the support plane's normal (a, b, c), from their first end to
+/// their last one, both in lowest terms. Takes no memory.
 pub fn segment(f: &Face, at: i32) -> Result<Option<Segment>, Endless>
     requires face { IsValidFace f.now }
     requires low { negsuc 2047 ≤ℤ at }

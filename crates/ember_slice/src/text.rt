@@ -66,8 +66,8 @@ fn put_face(face: &Face, number: u32, at: i32, out: &mut Vec<u8>) -> Result<u32,
 }
 
 /// The text of the segments of the faces in the plane z = at + 1/2: the line `slice` with `at`, the
-/// line `s` with the two ends of each segment in order, and the line `end` with their number. Refused
-/// with the number of the first face, from 1, whose inside points there aren't bounded.
+/// line `s` with the two ends of each segment in order, and the line `end` with their number.
+/// Refused with the number of the first face, from 1, whose inside points there aren't bounded.
 pub fn slice_text(alloc: Global, faces: &FaceList, at: i32) -> Result<Vec<u8>, SliceFault>
     requires faces { All IsValidFace faces.now }
     requires few { length faces.now < 2 ^ 32 }
