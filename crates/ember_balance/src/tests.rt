@@ -1,67 +1,82 @@
+ghost use Rattle.std.specs.Prelude.{All};
+ghost use Rattle.ember_algebra.specs.Size.{Small};
+ghost use Rattle.ember_model.specs.Valid.{IsValidCorner, IsValidTri};
+
 use crate::{Loose, balance};
 use ember_model::{Corner, Tri};
 use std::alloc::AllocError;
 
-const O: Corner = Corner { x: 0, y: 0, z: 0 };
+fn small(x: i32) -> i32
+    ensures { Small 2047 result }
+{
+    if x > 2047 || x < -2047 { 0 } else { x }
+}
 
-const X: Corner = Corner { x: 1, y: 0, z: 0 };
+fn corner(x: i32, y: i32, z: i32) -> Corner
+    ensures { IsValidCorner result }
+{
+    Corner {
+        x: small(x),
+        y: small(y),
+        z: small(z),
+    }
+}
 
-const Y: Corner = Corner { x: 0, y: 1, z: 0 };
-
-const Z: Corner = Corner { x: 0, y: 0, z: 1 };
-
-fn tri(a: Corner, b: Corner, c: Corner) -> Tri {
+fn tri(a: Corner, b: Corner, c: Corner) -> Tri
+    requires a { IsValidCorner a }
+    requires b { IsValidCorner b }
+    requires c { IsValidCorner c }
+    ensures { IsValidTri result }
+{
     Tri { a, b, c, mesh: 1 }
+}
+
+// The tetrahedron over the unit steps, its last face turned where it is to be open.
+fn tetra(open: bool) -> [Tri; 4]
+    ensures { All IsValidTri result }
+{
+    let (o, x, y, z) = (
+        corner(0, 0, 0),
+        corner(1, 0, 0),
+        corner(0, 1, 0),
+        corner(0, 0, 1),
+    );
+    let last = if open { tri(x, z, y) } else { tri(x, y, z) };
+    [tri(o, y, x), tri(o, x, z), tri(o, z, y), last]
 }
 
 #[test]
 fn a_tetrahedron_is_balanced(rt: HostRuntime) -> Result<(), AllocError> {
-    let tris = [tri(O, Y, X), tri(O, X, Z), tri(O, Z, Y), tri(X, Y, Z)];
-    assert!(&rt; balance(rt.alloc(), &tris)?.is_none());
+    assert!(&rt; balance(rt.alloc(), &tetra(false))?.is_none());
     assert!(&rt; balance(rt.alloc(), &[])?.is_none());
     Ok(())
 }
 
 #[test]
 fn the_least_loose_edge(rt: HostRuntime) -> Result<(), AllocError> {
-    let open = [tri(O, Y, X), tri(O, X, Z), tri(O, Z, Y), tri(X, Z, Y)];
     let loose = Loose {
-        from: Z,
-        to: Y,
+        from: corner(0, 0, 1),
+        to: corner(0, 1, 0),
         there: 2,
         back: 0,
     };
-    assert!(&rt; balance(rt.alloc(), &open)? == Some(loose));
+    assert!(&rt; balance(rt.alloc(), &tetra(true))? == Some(loose));
     Ok(())
 }
 
 #[test]
 fn edges_from_end_to_end(rt: HostRuntime) -> Result<(), AllocError> {
-    let low = Corner {
-        x: -2047,
-        y: 2047,
-        z: -2047,
-    };
-    let high = Corner {
-        x: 2047,
-        y: -2047,
-        z: 2047,
-    };
-    let tris = [tri(low, high, low), tri(O, high, low)];
-    let loose = Loose {
-        from: low,
-        to: O,
-        there: 1,
-        back: 0,
-    };
-    assert!(&rt; balance(rt.alloc(), &tris)? == Some(loose));
-    let thin = [tri(low, high, O)];
+    let (low, middle, high) = (
+        corner(-2047, 2047, -2047),
+        corner(0, 0, 0),
+        corner(2047, -2047, 2047),
+    );
     let loose = Loose {
         from: low,
         to: high,
         there: 1,
         back: 0,
     };
-    assert!(&rt; balance(rt.alloc(), &thin)? == Some(loose));
+    assert!(&rt; balance(rt.alloc(), &[tri(low, high, middle)])? == Some(loose));
     Ok(())
 }

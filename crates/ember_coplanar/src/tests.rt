@@ -1,19 +1,33 @@
+ghost use Rattle.ember_algebra.specs.Size.{Small};
+ghost use Rattle.ember_model.specs.Valid.{IsValidCorner, IsValidTri};
+
 use crate::{contains, is_owner, same_plane};
 use ember_model::{Corner, Tri};
 use ember_poly::of_tri;
 use std::alloc::AllocError;
 
-const O: Corner = Corner { x: 0, y: 0, z: 0 };
+fn small(x: i32) -> i32
+    ensures { Small 2047 result }
+{
+    if x > 2047 || x < -2047 { 0 } else { x }
+}
 
-const X: Corner = Corner { x: 1, y: 0, z: 0 };
+fn corner(x: i32, y: i32, z: i32) -> Corner
+    ensures { IsValidCorner result }
+{
+    Corner {
+        x: small(x),
+        y: small(y),
+        z: small(z),
+    }
+}
 
-const Y: Corner = Corner { x: 0, y: 1, z: 0 };
-
-const FAR: Corner = Corner { x: 4, y: 4, z: 0 };
-
-const ABOVE: Corner = Corner { x: 0, y: 1, z: 1 };
-
-fn tri(a: Corner, b: Corner, c: Corner) -> Tri {
+fn tri(a: Corner, b: Corner, c: Corner) -> Tri
+    requires a { IsValidCorner a }
+    requires b { IsValidCorner b }
+    requires c { IsValidCorner c }
+    ensures { IsValidTri result }
+{
     Tri { a, b, c, mesh: 1 }
 }
 

@@ -6,29 +6,9 @@ use Rattle.std.proofs.lemmas.List.Elements.{All-nil, All-head, All-tail, All-app
 use Rattle.ember_model.specs.declared.tri.Tri.{Tri}
 use Rattle.ember_model.specs.Valid.{IsValidTri}
 use Rattle.ember_model.specs.Meshes.{of_mesh, IsBalanced, HasMesh, IsScene}
-use Rattle.ember_balance.proofs.Balanced.{balanced-nil, balanced-append}
+use Rattle.ember_balance.proofs.Balanced.{balanced-nil, balanced-append, balanced_of_mesh}
 use Rattle.ember_mesh.specs.declared.states.Closed.{Closed}
 use Rattle.ember_mesh.specs.Joined.{triangles_of, AreNumbered}
-
--- ---- triangles of one mesh
-all_of_mesh : (m : ℕ) (ts : List Tri) → All (λ t. t.mesh ≡ m) ts → of_mesh m ts ≡ ts
-all_of_mesh m [] h = refl
-all_of_mesh m (t ∷ ts) h =
-    rw (eq-eqb t.mesh m (All-head (λ t. t.mesh ≡ m) t ts h)) (ap (λ (us : List Tri). t ∷ us) (all_of_mesh m ts (All-tail (λ t. t.mesh ≡ m) t ts h)))
-
-none_of_mesh : (m k : ℕ) (ts : List Tri) → (k ≡ m → ⊥) → All (λ t. t.mesh ≡ k) ts → of_mesh m ts ≡ []
-none_of_mesh m k [] d h = refl
-none_of_mesh m k (t ∷ ts) d h =
-    let e = All-head (λ t. t.mesh ≡ k) t ts h in
-    rw (ne_eqb t.mesh m (λ p. d (sym e ∙ p))) (none_of_mesh m k ts d (All-tail (λ t. t.mesh ≡ k) t ts h))
-
-balanced_of_mesh : (m k : ℕ) (ts : List Tri) → All (λ t. t.mesh ≡ k) ts → IsBalanced ts → IsBalanced (of_mesh m ts)
-balanced_of_mesh m k ts h b = by (cases_eq k m)
-  where
-    by : (k ≡ m) ⊎ (k ≡ m → ⊥) → IsBalanced (of_mesh m ts)
-    by (inl e) =
-        subst IsBalanced (sym (all_of_mesh m ts (subst (λ (n : ℕ). All (λ t. t.mesh ≡ n) ts) e h))) b
-    by (inr d) = subst IsBalanced (sym (none_of_mesh m k ts d h)) balanced-nil
 
 -- ---- all meshes together
 balanced_parts : (m k : ℕ) (parts : List Closed) → AreNumbered k parts → IsBalanced (of_mesh m (triangles_of parts))

@@ -1,24 +1,54 @@
+ghost use Rattle.std.specs.Prelude.{◌≡◌, All};
+ghost use Rattle.ember_algebra.specs.Size.{Small};
+ghost use Rattle.ember_model.specs.Valid.{IsValidCorner, IsValidTri};
+
 use crate::{JoinFault, MeshFault, Parts, balanced, check, join};
 use ember_model::{Corner, Lines, Soup, Tri, Tris};
 use std::alloc::AllocError;
 
-const O: Corner = Corner { x: 0, y: 0, z: 0 };
+fn small(x: i32) -> i32
+    ensures { Small 2047 result }
+{
+    if x > 2047 || x < -2047 { 0 } else { x }
+}
 
-const X: Corner = Corner { x: 1, y: 0, z: 0 };
+fn corner(x: i32, y: i32, z: i32) -> Corner
+    ensures { IsValidCorner result }
+{
+    Corner {
+        x: small(x),
+        y: small(y),
+        z: small(z),
+    }
+}
 
-const Y: Corner = Corner { x: 0, y: 1, z: 0 };
-
-const Z: Corner = Corner { x: 0, y: 0, z: 1 };
-
-fn tri(a: Corner, b: Corner, c: Corner) -> Tri {
+fn tri(a: Corner, b: Corner, c: Corner) -> Tri
+    requires a { IsValidCorner a }
+    requires b { IsValidCorner b }
+    requires c { IsValidCorner c }
+    ensures valid { IsValidTri result }
+    ensures mesh { result.mesh ≡ 1 }
+{
     Tri { a, b, c, mesh: 1 }
+}
+
+fn tetra() -> [Tri; 4]
+    ensures valid { All IsValidTri result }
+    ensures numbered { All (λ t. t.mesh ≡ 1) result }
+{
+    let (o, x, y, z) = (
+        corner(0, 0, 0),
+        corner(1, 0, 0),
+        corner(0, 1, 0),
+        corner(0, 0, 1),
+    );
+    [tri(o, y, x), tri(o, x, z), tri(o, z, y), tri(x, y, z)]
 }
 
 #[test]
 fn a_tetrahedron_becomes_a_scene(rt: HostRuntime) -> Result<(), AllocError> {
-    let tris = [tri(O, Y, X), tri(O, X, Z), tri(O, Z, Y), tri(X, Y, Z)];
     let soup = Soup::of(
-        Tris::of(Vec::from_slice(rt.alloc(), &tris)?),
+        Tris::of(Vec::from_array(rt.alloc(), tetra())?),
         Lines::of(Vec::from_slice(rt.alloc(), &[5, 6, 7, 8])?),
     );
     match balanced(rt.alloc(), check(soup)) {
@@ -28,7 +58,7 @@ fn a_tetrahedron_becomes_a_scene(rt: HostRuntime) -> Result<(), AllocError> {
             match join(rt.alloc(), Parts::of(parts)) {
                 Ok(scene) => {
                     assert!(&rt; scene.meshes == 1);
-                    assert!(&rt; scene.tris.items() == tris.as_slice());
+                    assert!(&rt; scene.tris.items() == tetra().as_slice());
                 }
                 Err(fault) => assert!(&rt; fault == JoinFault::OutOfMemory),
             }
@@ -40,9 +70,10 @@ fn a_tetrahedron_becomes_a_scene(rt: HostRuntime) -> Result<(), AllocError> {
 
 #[test]
 fn a_lone_triangle_is_refused_and_handed_back(rt: HostRuntime) -> Result<(), AllocError> {
+    let lone = tri(corner(0, 0, 0), corner(1, 0, 0), corner(0, 1, 0));
     let soup = Soup::of(
-        Tris::of(Vec::from_slice(rt.alloc(), &[tri(O, X, Y)])?),
-        Lines::of(Vec::from_slice(rt.alloc(), &[4])?),
+        Tris::of(Vec::from_array(rt.alloc(), [lone])?),
+        Lines::of(Vec::from_array(rt.alloc(), [4])?),
     );
     match balanced(rt.alloc(), check(soup)) {
         Ok(_) => assert!(&rt; false),

@@ -1,0 +1,3 @@
+pub mod States
+pub mod Boxes
+pub mod Scenes
