@@ -1,5 +1,5 @@
 -- The least number of a list, and the list begun with it.
-use Rattle.std.proofs.Common.{◌≡◌, sym, subst, ◌∙◌, ℕ, ◌<◌, ◌≤◌, ◌+◌, length, take, drop, List, [], ◌∷◌, ◌++◌, arith}
+use Rattle.std.proofs.Common.{◌≡◌, sym, subst, ℕ, ◌<◌, ◌≤◌, ◌+◌, length, take, drop, List, [], ◌∷◌, ◌++◌, arith}
 use lib.ListN.{get_or}
 use Rattle.std.proofs.lemmas.List.{take_more, drop_more, take_all, take-append-drop, get_or_default}
 use Rattle.std.specs.List.{AllByRecursion}

@@ -1,12 +1,11 @@
 -- The part of a ring below a plane: its sides, and what it keeps.
-use Rattle.std.proofs.Common.{◌≡◌, ◌⊎◌, ⊎_elim, inl, inr, refl, sym, ap, subst, ◌∙◌, arith, ℕ, zero, suc, ◌<◌, ◌≤◌, ◌+◌, Some, None, true, List, [], ◌∷◌, ◌++◌, length, take, drop, slice_get, All, ℤ, pos, ◌+ℤ◌, ◌*ℤ◌, ◌<ℤ◌, ◌≤ℤ◌}
+use Rattle.std.proofs.Common.{◌≡◌, ◌⊎◌, ⊎_elim, inl, inr, refl, sym, ap, subst, ◌∙◌, arith, ℕ, ◌<◌, ◌≤◌, ◌+◌, Some, List, [], ◌∷◌, ◌++◌, length, take, drop, slice_get, All, ℤ, pos, ◌*ℤ◌, ◌<ℤ◌, ◌≤ℤ◌}
 use lib.ListN.{get_or}
-use Rattle.std.proofs.lemmas.List.{take-append-drop, append-nil, length_push, get_or_append_left, get_or_push}
+use Rattle.std.proofs.lemmas.List.{take-append-drop, append-nil, length_push, get_or_append_left}
 use Rattle.std.proofs.lemmas.Bool.{cases_lt}
 use Rattle.std.proofs.lemmas.List.Elements.{All-push}
 use Rattle.std.proofs.lemmas.Option.{slice_get_within, get_or_from_slice_get, slice_get-get_or}
 use Rattle.std.specs.List.{AllByRecursion}
-use Rattle.ember_algebra.specs.Sign.{is_negative, is_positive}
 use Rattle.ember_algebra.proofs.Laws.{linear}
 use Rattle.ember_algebra.proofs.Ring.{◌⊕◌, ◌⊖◌, ◌⊗◌, ◌≈◌, num, solve, cancels}
 use Rattle.ember_model.specs.declared.plane.Plane.{Plane}
@@ -25,10 +24,10 @@ use Rattle.ember_poly.specs.Sides.{sides_of, IsBorn, IsSingle, AllCounted, IsRin
 use Rattle.ember_poly.specs.Rims.{starting, LeastFirst}
 use Rattle.ember_poly.specs.Passages.{Has, Straddles, Leaves, IsPassage}
 use Rattle.ember_poly.proofs.Chains.{each_map, each_both, each-back}
-use Rattle.ember_poly.proofs.Lower.{Outcome, head_of, below_some, below_all}
+use Rattle.ember_poly.proofs.Lower.{below_some, below_all}
 use Rattle.ember_poly.proofs.Hull.{corners_at_most, closed_turned}
 use Rattle.ember_poly.proofs.Inner.{head_closed, corner_closed}
-use Rattle.ember_poly.proofs.Parted.{Part, part_of, each_swap, ring-closed}
+use Rattle.ember_poly.proofs.Parted.{part_of, each_swap, ring-closed}
 use Rattle.ember_poly.proofs.Face.{stands_turned, cut_some, cut_all}
 use Rattle.ember_poly.proofs.Single.{one_place}
 use Rattle.ember_poly.proofs.Dropped.{dropped_lone}

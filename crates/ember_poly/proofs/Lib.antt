@@ -30,3 +30,4 @@ pub mod Passed
 pub mod Divided
 pub mod Spanned
 pub mod Chorded
+pub mod Touching

@@ -1,5 +1,5 @@
 -- Where a plane passes a ring, from what a pass over the corners finds.
-use Rattle.std.proofs.Common.{◌≡◌, ◌⊎◌, ⊎_elim, inl, inr, refl, sym, ap, subst, ◌∙◌, arith, ℕ, zero, suc, ◌<◌, ◌≤◌, ◌+◌, ◌-◌, true, List, [], ◌∷◌, ◌++◌, length, take, drop, pos, ◌<ℤ◌, ◌≤ℤ◌, length-drop, length-append}
+use Rattle.std.proofs.Common.{◌≡◌, ◌⊎◌, ⊎_elim, inl, inr, sym, ap, subst, ◌∙◌, arith, ℕ, suc, ◌<◌, ◌≤◌, ◌+◌, ◌-◌, true, List, [], ◌∷◌, ◌++◌, length, take, drop, pos, ◌<ℤ◌, length-drop, length-append}
 use lib.ListN.{get_or}
 use Rattle.std.proofs.lemmas.Int.{by_lt_z}
 use Rattle.std.proofs.lemmas.List.{drop_more, get_or_default, take-append-drop, append_assoc, append-nil, length-take-le, get_or_append_left, get_or-append_right, get_or-drop, get_or-take}
@@ -8,11 +8,10 @@ use Rattle.ember_model.specs.declared.plane.Plane.{Plane}
 use Rattle.ember_model.specs.Planes.{value_at}
 use Rattle.ember_point.specs.declared.corner.Meet.{Meet}
 use Rattle.ember_point.specs.Points.{spot_of}
-use Rattle.ember_poly.specs.declared.passage.Passage.{Passage}
-use Rattle.ember_poly.specs.Rings.{Side, Under, Over, AtMost, AtLeast, Sound, Meets, turn}
+use Rattle.ember_poly.specs.Rings.{Side, Under, AtMost, AtLeast, Sound, Meets, turn}
 use Rattle.ember_poly.specs.Sides.{sides_of}
 use Rattle.ember_poly.specs.Passages.{is_under, Stops, IsRun, Enters, Straddles, Leaves, IsPassage}
-use Rattle.ember_poly.proofs.Chains.{each_map, each-front, each-back}
+use Rattle.ember_poly.proofs.Chains.{each_map}
 use Rattle.ember_poly.proofs.Turns.{each-join, each-turned, turned_by}
 use Rattle.ember_poly.proofs.Inner.{weak}
 use Rattle.ember_poly.proofs.Lower.{turns_some, turns_all}

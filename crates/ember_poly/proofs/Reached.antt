@@ -1,5 +1,5 @@
 -- On which sides of a plane the inside points lie, from the signs at the corners.
-use Rattle.std.proofs.Common.{◌≡◌, sym, subst, true, ℕ, length, List, [], ◌∷◌, arith, ℤ, pos, ◌+ℤ◌, ◌*ℤ◌, neg_ℤ, ◌<ℤ◌, ◌≤ℤ◌}
+use Rattle.std.proofs.Common.{◌≡◌, true, ℕ, length, List, [], ◌∷◌, arith, ℤ, pos, ◌+ℤ◌, ◌*ℤ◌, neg_ℤ, ◌<ℤ◌, ◌≤ℤ◌}
 use Rattle.std.specs.List.{AllByRecursion}
 use Rattle.ember_algebra.specs.Sign.{is_negative, is_zero, is_positive}
 use Rattle.ember_algebra.specs.Large.{Eventually}
@@ -10,10 +10,9 @@ use Rattle.ember_model.specs.declared.plane.Plane.{Plane}
 use Rattle.ember_model.specs.declared.point.Spot.{Spot}
 use Rattle.ember_model.specs.declared.face.Face.{Face}
 use Rattle.ember_model.specs.Planes.{value_at, opposite}
-use Rattle.ember_model.specs.Faces.{is_inside, Somewhere, Everywhere, Cuts}
+use Rattle.ember_model.specs.Faces.{is_inside, Cuts}
 use Rattle.ember_model.proofs.SignTests.{negative_in, negative_out, positive_in, positive_out}
 use Rattle.ember_point.specs.declared.corner.Meet.{Meet}
-use Rattle.ember_point.specs.Points.{spot_of}
 use Rattle.ember_poly.specs.declared.answers.Reach.{Reach}
 use Rattle.ember_poly.specs.declared.answers.Reach.TheVariants.{Below, Above, On, Both}
 use Rattle.ember_poly.specs.Rings.{Side, Under, Over, OnPlane, AtMost, AtLeast, Inside, Closed, Sound, Stands}

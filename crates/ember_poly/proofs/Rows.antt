@@ -1,17 +1,14 @@
 -- The sides of three lists: joined, cut, turned.
-use Rattle.std.proofs.Common.{◌≡◌, inl, inr, refl, sym, ap, subst, ◌∙◌, arith, ℕ, zero, suc, ◌≤◌, ◌<◌, List, [], ◌∷◌, ◌++◌, length, take, drop, length-drop, length-append}
+use Rattle.std.proofs.Common.{◌≡◌, inl, inr, refl, ap, ◌∙◌, arith, ℕ, zero, suc, ◌≤◌, List, [], ◌∷◌, ◌++◌, length, take, drop, length-drop}
 use lib.ListN.{set}
 use Rattle.std.specs.List.{AllByRecursion}
-use Rattle.std.proofs.lemmas.List.{take-append-drop}
 use Rattle.ember_model.specs.declared.plane.Plane.{Plane}
 use Rattle.ember_model.specs.declared.point.Spot.{Spot}
 use Rattle.ember_point.specs.declared.corner.Meet.{Meet}
 use Rattle.ember_point.specs.Points.{spot_of}
-use Rattle.ember_poly.specs.Rings.{Side, closing}
 use Rattle.ember_poly.specs.Sides.{sides_of, OldestFirst}
 use Rattle.ember_poly.specs.Rims.{starting, LeastFirst}
 use Rattle.ember_poly.specs.Passages.{Has}
-use Rattle.ember_poly.proofs.Chains.{each-back}
 
 -- ---- what all corners or one corner has
 pub each_corner : (P : Spot → Type 0) (es : List Plane) (ms : List Meet) (bs : List ℕ) → AllByRecursion (λ m. P (spot_of m)) ms → AllByRecursion (λ s. P s.corner) (sides_of es ms bs)

@@ -1,13 +1,11 @@
 -- Runs of corners on one side of a plane, and the corner where the plane's negative side is entered.
-use Rattle.std.proofs.Common.{◌≡◌, ◌⊎◌, ⊎_elim, inl, inr, refl, sym, ap, subst, ◌∙◌, arith, ℕ, zero, suc, ◌<◌, ◌≤◌, ◌+◌, ◌-◌, Bool, true, false, not, List, [], ◌∷◌, ◌++◌, length, take, drop, ℤ, pos, negsuc, ◌<ℤ◌, ◌≤ℤ◌, length-drop, length-append}
+use Rattle.std.proofs.Common.{◌≡◌, refl, sym, ap, subst, ◌∙◌, arith, ℕ, zero, suc, ◌<◌, ◌≤◌, ◌+◌, ◌-◌, Bool, true, false, not, List, [], ◌∷◌, ◌++◌, length, take, drop, ℤ, pos, negsuc, ◌≤ℤ◌, length-drop, length-append}
 use lib.ListN.{get_or}
 use Rattle.std.proofs.lemmas.Int.{ints}
 use Rattle.std.proofs.lemmas.List.{drop_more, drop_all, take_all, take-append-drop, append_assoc, append-nil, length-take-le}
 use Rattle.std.specs.List.{AllByRecursion}
 use Rattle.ember_algebra.specs.Sign.{is_negative}
-use Rattle.ember_algebra.proofs.Laws.{linear}
 use Rattle.ember_model.specs.declared.plane.Plane.{Plane}
-use Rattle.ember_model.specs.declared.point.Spot.{Spot}
 use Rattle.ember_model.specs.Planes.{value_at}
 use Rattle.ember_model.proofs.SignTests.{negative_out}
 use Rattle.ember_point.specs.declared.corner.Meet.{Meet}

@@ -1,10 +1,10 @@
 -- What planes leave of the segment between two points.
-use Rattle.std.proofs.Common.{◌≡◌, ◌≢◌, ◌⊎◌, ⊎_elim, inl, inr, refl, sym, subst, ◌∙◌, ap, arith, ℕ, zero, suc, ◌<◌, ◌≤◌, ◌+◌, Bool, true, false, not, ◌&&◌, List, [], ◌∷◌, ◌++◌, length, take, ℤ, pos, ◌+ℤ◌, ◌-ℤ◌, ◌*ℤ◌, neg_ℤ, ◌<ℤ◌, ◌≤ℤ◌}
+use Rattle.std.proofs.Common.{◌≡◌, ◌≢◌, ◌⊎◌, ⊎_elim, inl, inr, refl, sym, subst, ◌∙◌, arith, ℕ, zero, suc, ◌<◌, ◌≤◌, ◌+◌, Bool, true, false, List, [], ◌∷◌, ◌++◌, length, take, ℤ, pos, ◌+ℤ◌, ◌-ℤ◌, ◌*ℤ◌, neg_ℤ, ◌<ℤ◌, ◌≤ℤ◌}
 use lib.ListN.{get_or}
 use Rattle.std.proofs.lemmas.List.{take_more, take_all}
 use Rattle.std.specs.List.{AllByRecursion}
 use Rattle.ember_algebra.proofs.Laws.{linear}
-use Rattle.ember_algebra.proofs.Ring.{◌⊕◌, ◌⊖◌, ◌⊗◌, neg, num, ◌≈◌, solve, cancels}
+use Rattle.ember_algebra.proofs.Ring.{◌⊕◌, ◌⊗◌, neg, num, ◌≈◌, solve, cancels}
 use Rattle.ember_algebra.proofs.Order.{pos_mul, nonneg_mul, mul_pos_neg, cancel_le, cancel_lt, zero_product}
 use Rattle.ember_model.specs.declared.plane.Plane.{Plane}
 use Rattle.ember_model.specs.declared.point.Spot.{Spot}
@@ -18,12 +18,11 @@ use Rattle.ember_poly.specs.Rings.{AtMost, Meets, turn}
 use Rattle.ember_poly.specs.Passages.{Has}
 use Rattle.ember_poly.specs.Spans.{IsSpan, mixed2, IsOpen, Fits, IsLine}
 use Rattle.ember_poly.proofs.Chains.{each_map, each_both, each-push}
-use Rattle.ember_poly.proofs.Members.{Found, has-push, has-front, has_pick}
+use Rattle.ember_poly.proofs.Members.{has-push, has-front, has_pick}
 use Rattle.ember_poly.proofs.Planar.{same_place}
 use Rattle.ember_poly.proofs.Slopes.{swap_last, slope}
 use Rattle.ember_poly.proofs.Strict.{mixed2_value}
 use Rattle.ember_poly.proofs.Inner.{flat_sum, weight_sum, scaled_both}
-use Rattle.ember_poly.proofs.Face.{each_at}
 use Rattle.ember_poly.proofs.FaceTests.{all_in, all_out}
 
 -- ---- the tests of a list
@@ -119,7 +118,7 @@ record Passing (n p : Plane) (hs : List Plane) (a b : Spot) : Type 0 where
   pub across : IsAcross plane a b
   pub fits : Fits n p plane hs
 
-last_free : (hs gs : List Plane) (g : Plane) (a x : Spot) → After a x g gs → none_positive gs (mixed2 (neg_ℤ (value_at g x)) (value_at g a) a x) ≡ true
+pub last_free : (hs gs : List Plane) (g : Plane) (a x : Spot) → After a x g gs → none_positive gs (mixed2 (neg_ℤ (value_at g x)) (value_at g a) a x) ≡ true
 last_free hs [] g a x f = refl
 last_free hs (h ∷ gs) g a x f =
     all_in (h ∷ gs) (mixed2 (neg_ℤ (value_at g x)) (value_at g a) a x) (record { at_most = rw (mixed2_value (neg_ℤ (value_at g x)) (value_at g a) a x h) (below (value_at h a) (value_at h x) (value_at g a) (value_at g x) f.0) }, all_out gs (mixed2 (neg_ℤ (value_at g x)) (value_at g a) a x) (last_free hs gs g a x f.1))

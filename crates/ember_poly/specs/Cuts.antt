@@ -11,6 +11,10 @@ use Rattle.ember_poly.specs.declared.answers.Reach.TheVariants as reach
 use Rattle.ember_poly.specs.declared.answers.Cut.{Cut}
 use Rattle.ember_poly.specs.declared.answers.Cut.TheVariants as cut
 
+-- f has an inside point
+abbrev pub HasInside : Face → Type 0
+HasInside f = Somewhere f (λ v. Unit {0})
+
 -- f has inside points, and each of them has the property
 pub record IsWhole (f : Face) (P : Spot → Type 0) : Type 0 where
   pub somewhere : Somewhere f P

@@ -6,6 +6,7 @@ ghost use Rattle.ember_model.specs.Planes.{value_at, support_of};
 ghost use Rattle.ember_model.specs.Faces.{Cuts, Meets, Somewhere, is_flat, face_of, edges_of};
 ghost use Rattle.ember_model.specs.ClearTest.{face_with, none_positive};
 ghost use Rattle.ember_point.specs.Points.{spot_of};
+ghost use Rattle.ember_poly.specs.Cuts.{HasInside};
 ghost use Rattle.ember_poly.specs.Spans.{IsSpan, IsLine, IsOpen, Fits};
 
 use crate::answers::Reach;
@@ -120,13 +121,15 @@ fn meets_along(r: &Ring, p: &Plane, hs: &[Plane]) -> bool
 
 // Some inside point is above no plane of the list.
 fn meets_within(r: &Ring, hs: &[Plane]) -> bool
-    requires { All IsValidPlane hs.now }
+    requires planes { All IsValidPlane hs.now }
+    requires inside { HasInside r.now }
     ensures { IsTrue result ↔ Somewhere r.now (λ v. none_positive hs.now v ≡ true) }
 {
     let mut free = true;
     for h in hs {
         match reach(r, h) {
-            Reach::Below | Reach::On => {}
+            Reach::Below => {}
+            Reach::On => {}
             Reach::Above => {
                 return false;
             }

@@ -1,4 +1,4 @@
-use Rattle.std.proofs.Common.{◌≡◌, sym, subst, ap, ◌∙◌, arith, ◌<◌, ◌++◌, ◌∷◌, [], length, drop, take}
+use Rattle.std.proofs.Common.{◌≡◌, sym, subst, ap, ◌∙◌, arith, ◌++◌, ◌∷◌, [], length, drop, take}
 use Rattle.ember_point.specs.Points.{spot_of}
 use Rattle.ember_poly.specs.Rings.{closing}
 use Rattle.ember_poly.specs.Sides.{sides_of}

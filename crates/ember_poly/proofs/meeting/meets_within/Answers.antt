@@ -1,0 +1,37 @@
+use Rattle.std.proofs.Common.{◌≡◌, sym, subst, ◌∙◌, refl, true, false, take, ◌+◌, pos}
+use lib.ListN.{get_or}
+use Rattle.ember_model.specs.declared.plane.Plane.{Plane}
+use Rattle.ember_poly.specs.Cuts.{IsReach}
+use Rattle.ember_poly.proofs.Touching.{Tested, low_below, low_on, low_at, cut_at, above_at, met_free, tested_end}
+use Rattle.ember_poly.proofs.meeting.meets_within.Goals.{in-Below, in-On, in-Both+else-meets_along}
+use Rattle.ember_poly.proofs.meeting.meets_within.Goals as goal
+
+differ : true ≡ false → ⊥
+differ e = cc
+
+abbrev none : Plane
+none = record { a = pos 0; b = pos 0; c = pos 0; d = pos 0 }
+
+pub returns-in-Above : goal.returns-in-Above
+returns-in-Above c =
+    let f = c.args.r.now in let hs = c.args.hs.now in let i = c.loop-h.h-index in let h = get_or hs i none in
+    (λ e. absurd (differ (sym e)), λ s. absurd (above_at f hs i none c.loop-h-test.true (subst (λ r. IsReach f h r) c.in-Above.is c.reach.ensures) s))
+
+pub returns-then-meets_along : goal.returns-then-meets_along
+returns-then-meets_along c =
+    let f = c.args.r.now in let hs = c.args.hs.now in let h = get_or hs c.loop-h.h-index none in
+    (λ e. met_free f hs h (c.meets_along.ensures.0 c.if-meets_along.true), λ s. refl)
+
+pub loop-h-preserved : goal.loop-h-preserved
+loop-h-preserved c =
+    let f = c.args.r.now in let hs = c.args.hs.now in let i = c.loop-h.h-index in let h = get_or hs i none in
+    let l = c.loop-h-test.true in let v = c.loop-h.invariant in let b = c.loop-h.free in
+    elim c.match-reach.branch [
+      | in-Below w ↦ subst (λ b. Tested f hs b (take (i + 1) hs)) (sym w.free-is) (low_at f hs b i none l (low_below f h (subst (λ r. IsReach f h r) w.in-Below.is c.reach.ensures)) v)
+      | in-On w ↦ subst (λ b. Tested f hs b (take (i + 1) hs)) (sym w.free-is) (low_at f hs b i none l (low_on f h (subst (λ r. IsReach f h r) w.in-On.is c.reach.ensures)) v)
+      | in-Both+else-meets_along w ↦ subst (λ b. Tested f hs b (take (i + 1) hs)) (sym w.free-is) (cut_at f hs b i none l (subst (λ r. IsReach f h r) w.in-Both.is c.reach.ensures) (λ m. differ (sym (w.meets_along.ensures.1 m) ∙ w.if-meets_along.false)) v)
+    ]
+
+pub returns : goal.returns
+returns c =
+    tested_end c.args.r.now c.args.hs.now c.loop-h.free c.loop-h.h-index c.loop-h-test.false c.loop-h.invariant c.requires.inside
