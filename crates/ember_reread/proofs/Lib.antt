@@ -1,0 +1,9 @@
+pub mod Digits
+pub mod Words
+pub mod FieldTexts
+pub mod Lowest
+pub mod LineTexts
+pub mod Chains
+pub mod FaceTexts
+pub mod BodyTexts
+pub mod Prefixes

@@ -1,0 +1,66 @@
+// The lines of a face.
+ghost use Rattle.std.specs.Prelude.{ℕ, List, ◌≡◌, ◌⊎◌, ◌≤◌, length, MatchOption, IfSome, IfOk, IfErr};
+ghost use Rattle.ember_model.specs.declared.plane.Plane.{Plane};
+ghost use Rattle.ember_model.specs.Edges.{RingEdge};
+ghost use Rattle.ember_model.specs.FaceFiles.{WrittenFace};
+ghost use Rattle.ember_reread.specs.Lines.{IsEdgeLine, IsSupportLine, HasEdge, HasEdges, IsFaceLines, HasFace};
+
+use crate::fault::RereadFault;
+use crate::parts::{skip_byte, skip_corner, take_number, take_plane};
+use ember_model::{Face, Plane, Planes};
+use std::alloc::Global;
+
+// The plane of an edge's line, and what follows the line.
+fn take_edge(bytes: &[u8]) -> Option<(Plane, &[u8])>
+    ensures { MatchOption result ((e : RingEdge) (rest : List ℕ) → IsEdgeLine e bytes.now rest → ⊥) (λ t. HasEdge t.0 bytes.now t.1.now) }
+{
+    let (plane, rest) = take_plane(skip_byte(bytes, b'e')?)?;
+    let rest = skip_byte(skip_corner(rest)?, b'\n')?;
+    Some((plane, rest))
+}
+
+// The planes of that many edges' lines, and what follows.
+fn take_edges(alloc: Global, bytes: &[u8], count: usize) -> Result<(Vec<Plane>, &[u8]), RereadFault>
+    ensures ok { IfOk result (λ t. HasEdges count t.0.items bytes.now t.1.now) }
+    ensures form { IfErr result (λ e. (e ≡ RereadFault.OutOfMemory) ⊎ ((ps : List Plane) (rest : List ℕ) → HasEdges count ps bytes.now rest → ⊥)) }
+{
+    let mut planes = Vec::new(alloc);
+    let mut rest = bytes;
+    for _edge in 0..count {
+        let Some((plane, after)) = take_edge(rest) else {
+            return Err(RereadFault::Form);
+        };
+        planes.push(plane)?;
+        rest = after;
+    }
+    Ok((planes, rest))
+}
+
+// A face's first line: its support plane and the number of its edges. And what follows the line.
+fn take_support(bytes: &[u8]) -> Option<(Plane, usize, &[u8])>
+    ensures line { MatchOption result ((n : Plane) (count : ℕ) (rest : List ℕ) → count ≤ length bytes.now → IsSupportLine n count bytes.now rest → ⊥) (λ t. IsSupportLine t.0 t.1 bytes.now t.2.now) }
+    ensures fits { IfSome result (λ t. t.1 ≤ length bytes.now) }
+{
+    let (support, rest) = take_plane(skip_byte(bytes, b'f')?)?;
+    let (count, rest) = take_number(rest, bytes.len() as u128)?;
+    if count < 3 {
+        return None;
+    }
+    Some((support, count as usize, skip_byte(rest, b'\n')?))
+}
+
+// The face of the lines of a face, and what follows them.
+pub(crate) fn take_face(alloc: Global, bytes: &[u8]) -> Result<(Face, &[u8]), RereadFault>
+    ensures ok { IfOk result (λ t. HasFace t.0 bytes.now t.1.now) }
+    ensures form { IfErr result (λ e. (e ≡ RereadFault.OutOfMemory) ⊎ ((w : WrittenFace) (rest : List ℕ) → IsFaceLines w bytes.now rest → ⊥)) }
+{
+    let Some((support, count, rest)) = take_support(bytes) else {
+        return Err(RereadFault::Form);
+    };
+    let (edges, rest) = take_edges(alloc, rest, count)?;
+    let face = Face {
+        support,
+        edges: Planes::of(edges),
+    };
+    Ok((face, rest))
+}

@@ -1,0 +1,112 @@
+// The parts of a line.
+ghost use Rattle.std.specs.Prelude.{ℕ, ℤ, List, ◌≡◌, ◌<◌, ◌^◌, ◌∷◌, ◌++◌, IsTrue, ◌↔◌, MatchOption};
+ghost use Rattle.ember_model.specs.declared.plane.Plane.{Plane};
+ghost use Rattle.ember_model.specs.declared.point.Spot.{Spot};
+ghost use Rattle.ember_model.specs.FaceFiles.{IsLowest};
+ghost use Rattle.ember_point.specs.Points.{spot_of};
+ghost use Rattle.ember_reread.specs.declared.fields.Four.{Four};
+ghost use Rattle.ember_reread.specs.Numbers.{word_of, behind_word};
+ghost use Rattle.ember_reread.specs.Lines.{IsField, AreFields, IsPlane, IsCorner};
+
+use crate::fields::Four;
+use crate::number::number_in;
+use ember_model::Plane;
+use ember_point::{Meet, reduce};
+
+// What follows the byte, where the bytes begin with it.
+pub(crate) fn skip_byte(bytes: &[u8], byte: u8) -> Option<&[u8]>
+    ensures { MatchOption result ((rest : List ℕ) → bytes.now ≡ byte ∷ rest → ⊥) (λ rest. bytes.now ≡ byte ∷ rest.now) }
+{
+    match bytes.split_first() {
+        Some((first, rest)) if *first == byte => Some(rest),
+        _ => None,
+    }
+}
+
+// What follows the text, where the bytes begin with it.
+pub(crate) fn skip_bytes<'a>(bytes: &'a [u8], text: &[u8]) -> Option<&'a [u8]>
+    ensures { MatchOption result ((rest : List ℕ) → bytes.now ≡ text.now ++ rest → ⊥) (λ rest. bytes.now ≡ text.now ++ rest.now) }
+{
+    bytes.strip_prefix(text)
+}
+
+// The bytes before the first that is a space or lies below it, and from it on.
+fn cut_word(bytes: &[u8]) -> (&[u8], &[u8])
+    ensures word { result.0.now ≡ word_of bytes.now }
+    ensures behind { result.1.now ≡ behind_word bytes.now }
+{
+    let mut end = 0;
+    while end < bytes.len() && bytes[end] > b' ' {
+        end += 1;
+    }
+    bytes.split_at(end)
+}
+
+// A space and a number of at most this size, and what follows.
+pub(crate) fn take_number(bytes: &[u8], most: u128) -> Option<(i128, &[u8])>
+    requires { most < 2 ^ 124 }
+    ensures { MatchOption result ((z : ℤ) (rest : List ℕ) → IsField most z bytes.now rest → ⊥) (λ p. IsField most p.0 bytes.now p.1.now) }
+{
+    let (word, rest) = cut_word(skip_byte(bytes, b' ')?);
+    Some((number_in(word, most)?, rest))
+}
+
+// Three numbers of at most the size `most` and one of at most the size `last`, and what follows.
+fn take_four(bytes: &[u8], most: u128, last: u128) -> Option<(Four, &[u8])>
+    requires most { most < 2 ^ 124 }
+    requires last { last < 2 ^ 124 }
+    ensures { MatchOption result ((v : Four) (rest : List ℕ) → AreFields most last v bytes.now rest → ⊥) (λ p. AreFields most last p.0 bytes.now p.1.now) }
+{
+    let (x, rest) = take_number(bytes, most)?;
+    let (y, rest) = take_number(rest, most)?;
+    let (z, rest) = take_number(rest, most)?;
+    let (w, rest) = take_number(rest, last)?;
+    Some((Four { x, y, z, w }, rest))
+}
+
+// The largest entry of a normal, and the largest constant of a plane.
+const MOST_NORMAL: u128 = (1 << 25) - 1;
+
+const MOST_CONSTANT: u128 = (1 << 39) - 1;
+
+// The largest coordinate of a corner, and its largest weight.
+const MOST_COORDINATE: u128 = (1 << 92) - 1;
+
+const MOST_WEIGHT: u128 = (1 << 78) - 1;
+
+// A valid plane, and what follows.
+pub(crate) fn take_plane(bytes: &[u8]) -> Option<(Plane, &[u8])>
+    ensures { MatchOption result ((p : Plane) (rest : List ℕ) → IsPlane p bytes.now rest → ⊥) (λ t. IsPlane t.0 bytes.now t.1.now) }
+{
+    let (four, rest) = take_four(bytes, MOST_NORMAL, MOST_CONSTANT)?;
+    let plane = Plane {
+        a: four.x as i64,
+        b: four.y as i64,
+        c: four.z as i64,
+        d: four.w as i64,
+    };
+    Some((plane, rest))
+}
+
+fn is_lowest(corner: &Meet) -> bool
+    ensures { IsTrue result ↔ IsLowest (spot_of corner.now) }
+{
+    corner.w == 1 || reduce(corner) == *corner
+}
+
+// What follows a corner in lowest terms.
+pub(crate) fn skip_corner(bytes: &[u8]) -> Option<&[u8]>
+    ensures { MatchOption result ((v : Spot) (rest : List ℕ) → IsCorner v bytes.now rest → ⊥) (λ rest. (v : Spot) × IsCorner v bytes.now rest.now) }
+{
+    let (four, rest) = take_four(bytes, MOST_COORDINATE, MOST_WEIGHT)?;
+    if four.w < 1 {
+        return None;
+    }
+    let corner = Meet {
+        x: four.x,
+        y: four.y,
+        z: four.z,
+        w: four.w,
+    };
+    if is_lowest(&corner) { Some(rest) } else { None }
+}

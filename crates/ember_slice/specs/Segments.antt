@@ -1,0 +1,69 @@
+-- Directed segments of faces at a level, and the text of a slice
+use Rattle.std.specs.Prelude.{◌≡◌, ◌⊎◌, ℕ, ◌+◌, ◌<◌, ℤ, Bool, true, false, ◌&&◌, List, [], ◌∷◌, ◌++◌, flat_map, length, codes, Some, slice_get}
+use Rattle.ember_algebra.specs.Sign.{is_zero}
+use Rattle.ember_algebra.specs.Relations.{Each}
+use Rattle.ember_model.specs.declared.point.Spot.{Spot}
+use Rattle.ember_model.specs.declared.face.Face.{Face}
+use Rattle.ember_model.specs.Planes.{value_at}
+use Rattle.ember_model.specs.Faces.{is_inside}
+use Rattle.ember_model.specs.FaceFiles.{line_of, ending, IsLowest}
+use Rattle.ember_slice.specs.Lines.{level, IsFlat, is_on_line, is_before}
+
+-- an inside point of f at the level
+abbrev pub is_cut : Face → ℤ → Spot → Bool
+is_cut f at v = is_inside f v && is_zero (value_at (level at) v)
+
+-- the inside points of f at the level are those between u and v, in lowest terms
+pub record IsSegment (f : Face) (at : ℤ) (u v : Spot) : Type 0 where
+  pub first : is_on_line f.support at u ≡ true
+  pub last : is_on_line f.support at v ≡ true
+  pub leads : is_before f.support u v ≡ true
+  pub between : (p : Spot) → is_on_line f.support at p ≡ true → is_cut f at p ≡ is_before f.support u p && is_before f.support p v
+  pub first_lowest : IsLowest u
+  pub last_lowest : IsLowest v
+
+-- f gives no segment
+abbrev pub GivesNone : Face → ℤ → Type 0
+GivesNone f at = IsFlat f.support ⊎ ((p : Spot) → is_cut f at p ≡ false)
+
+-- some inside point at the level lies beyond each point of the line
+abbrev pub GoesOn : Face → ℤ → Type 0
+GoesOn f at = (u : Spot) → is_on_line f.support at u ≡ true → (p : Spot) × (is_cut f at p ≡ true) × (is_before f.support u p ≡ true)
+
+abbrev pub GoesBack : Face → ℤ → Type 0
+GoesBack f at = (u : Spot) → is_on_line f.support at u ≡ true → (p : Spot) × (is_cut f at p ≡ true) × (is_before f.support p u ≡ true)
+
+-- the inside points at the level aren't bounded
+pub record IsEndless (f : Face) (at : ℤ) : Type 0 where
+  pub tilted : IsFlat f.support → ⊥
+  pub unbounded : GoesOn f at ⊎ GoesBack f at
+
+-- ---- the text
+pub record Directed : Type 0 where
+  pub first : Spot
+  pub last : Spot
+
+-- the segment of f, or none
+abbrev pub Gives : ℤ → Face → List Directed → Type 0
+Gives at f [] = GivesNone f at
+Gives at f (s ∷ []) = IsSegment f at s.first s.last
+Gives at f (s ∷ t ∷ ss) = ⊥
+
+abbrev pub segment_line : Directed → List ℕ
+segment_line s =
+    line_of (codes "s") (s.first.x ∷ s.first.y ∷ s.first.z ∷ s.first.w ∷ s.last.x ∷ s.last.y ∷ s.last.z ∷ s.last.w ∷ [])
+
+-- the line with the level, those of the segments in order, and the last line with their number
+pub record IsSliceText (fs : List Face) (at : ℤ) (bytes : List ℕ) : Type 0 where
+  pub segments : List Directed
+  pub are_segments : Each (Gives at) fs segments
+  pub is : bytes ≡ line_of (codes "slice") (at ∷ []) ++ (flat_map segment_line segments ++ ending (length segments))
+
+-- the face with the number n, from 1, is the first endless one
+pub record IsFirstEndless (fs : List Face) (at : ℤ) (n : ℕ) : Type 0 where
+  pub face : Face
+  pub place : ℕ
+  pub number : n ≡ place + 1
+  pub here : slice_get fs place ≡ Some face
+  pub endless : IsEndless face at
+  pub earliest : (i : ℕ) (g : Face) → i < place → slice_get fs i ≡ Some g → IsEndless g at → ⊥

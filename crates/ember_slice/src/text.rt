@@ -1,0 +1,71 @@
+// The text of a slice.
+ghost use Rattle.std.specs.Prelude.{ℕ, ℤ, ◌≡◌, ◌<◌, ◌^◌, pos, negsuc, ◌≤ℤ◌, length, All, IfOk};
+ghost use Rattle.ember_model.specs.Valid.{IsValidFace};
+ghost use Rattle.ember_slice.specs.Segments.{IsFirstEndless, IsSliceText};
+
+use crate::ends::Segment;
+use crate::fault::SliceFault;
+use crate::segment::segment;
+use ember_model::{Face, OutOfMemory};
+use ember_reread::FaceList;
+use itoa::Buffer;
+use std::alloc::Global;
+
+// A space and the number.
+fn put_number(n: i128, out: &mut Vec<u8>) -> Result<(), OutOfMemory> {
+    let mut buffer = Buffer::new();
+    out.push(b' ')?;
+    out.extend_from_slice(buffer.format(n).as_bytes())
+}
+
+// The keyword and the numbers.
+fn put_line(keyword: &[u8], numbers: &[i128], out: &mut Vec<u8>) -> Result<(), OutOfMemory> {
+    out.extend_from_slice(keyword)?;
+    for n in numbers {
+        put_number(*n, out)?;
+    }
+    out.push(b'\n')?;
+    Ok(())
+}
+
+fn put_segment(s: &Segment, out: &mut Vec<u8>) -> Result<(), OutOfMemory> {
+    let numbers = [
+        s.first.x, s.first.y, s.first.z, s.first.w, s.last.x, s.last.y, s.last.z, s.last.w,
+    ];
+    put_line(b"s", &numbers, out)
+}
+
+// The line of the face with this number, where it gives a segment, and how many lines these are.
+fn put_face(face: &Face, number: u32, at: i32, out: &mut Vec<u8>) -> Result<u32, SliceFault> {
+    match segment(face, at) {
+        Ok(None) => Ok(0),
+        Ok(Some(s)) => {
+            put_segment(&s, out)?;
+            Ok(1)
+        }
+        Err(_) => Err(SliceFault::Endless(number)),
+    }
+}
+
+/// The text of the segments of the faces in the plane z = at + 1/2: the line `slice` with `at`, the
+/// line `s` with the two ends of each segment in order, and the line `end` with their number. Refused
+/// with the number of the first face, from 1, whose inside points there aren't bounded.
+pub fn slice_text(alloc: Global, faces: &FaceList, at: i32) -> Result<Vec<u8>, SliceFault>
+    requires faces { All IsValidFace faces.now }
+    requires few { length faces.now < 2 ^ 32 }
+    requires low { negsuc 2047 ≤ℤ at }
+    requires high { at ≤ℤ pos 2047 }
+    ensures text { IfOk result (λ text. IsSliceText faces.now at text.items) }
+    ensures endless { (n : ℕ) → result ≡ Err (SliceFault.Endless n) → IsFirstEndless faces.now at n }
+{
+    let mut text = Vec::new(alloc);
+    put_line(b"slice", &[i128::from(at)], &mut text)?;
+    let mut number = 0u32;
+    let mut count = 0u32;
+    for face in faces.items() {
+        number += 1;
+        count += put_face(face, number, at, &mut text)?;
+    }
+    put_line(b"end", &[i128::from(count)], &mut text)?;
+    Ok(text)
+}
