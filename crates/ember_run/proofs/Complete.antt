@@ -5,8 +5,10 @@ use Rattle.ember_io.specs.Causes.{Rose}
 use Rattle.ember_io.specs.Sinks.{IsFlushed}
 use Rattle.ember_words.specs.declared.command.Command.{Command}
 use Rattle.ember_run.specs.declared.status.Status.{Status}
-use Rattle.ember_run.specs.declared.status.Status.TheVariants.{Done, Words, ReadFault, WriteFault, ObjRefused, Limit, OutOfMemory}
-use Rattle.ember_run.specs.Verdict.{Output, Verdict, Untold, Refused, Writes, IsBegun, IsRefusal, IsWritten, Serves, is_refusal, told_verdict, verdict_before}
+use Rattle.ember_run.specs.declared.status.Status.TheVariants.{Done, Words, ReadFault, WriteFault, ObjRefused, MeshRefused, ExprRefused, Unbounded, Limit, NotClear, FaceRefused, OutOfMemory}
+use Rattle.ember_run.specs.Outputs.{Output}
+use Rattle.ember_run.specs.Serves.{IsBegun, IsRefusal, IsWritten, Serves, is_refusal}
+use Rattle.ember_run.specs.Verdict.{Verdict, Untold, Refused, Writes, told_verdict, verdict_before}
 
 -- what a status must be for, by the verdict v
 pub record Owes (v : Verdict) (R W : Type 0) (old new : Option (List ℕ)) (status : Status) : Type 0 where
@@ -24,16 +26,26 @@ output_or_memory output R W old new Words o r w = absurd (o.refused refl)
 output_or_memory output R W old new (ReadFault i) o r w = absurd (r (o.read_fault i refl))
 output_or_memory output R W old new WriteFault o r w = absurd (w (o.write_fault refl).0)
 output_or_memory output R W old new (ObjRefused i fault) o r w = absurd (o.refused refl)
+output_or_memory output R W old new (MeshRefused i fault) o r w = absurd (o.refused refl)
+output_or_memory output R W old new (ExprRefused fault) o r w = absurd (o.refused refl)
+output_or_memory output R W old new Unbounded o r w = absurd (o.refused refl)
 output_or_memory output R W old new (Limit kind count) o r w = absurd (o.refused refl)
+output_or_memory output R W old new NotClear o r w = absurd (o.refused refl)
+output_or_memory output R W old new (FaceRefused fault) o r w = absurd (o.refused refl)
 output_or_memory output R W old new OutOfMemory o r w = inr refl
 
 refusal_or_memory : (refusal : Status) (R W : Type 0) (old new : Option (List ℕ)) (status : Status) → Owes (Refused refusal) R W old new status → ¬ R → (status ≡ refusal) ⊎ (status ≡ OutOfMemory)
-refusal_or_memory refusal R W old new Done o r = absurd (o.done refl)
+refusal_or_memory refusal R W old new Done o r = absurd (o.done refl).1
 refusal_or_memory refusal R W old new Words o r = inl (sym (o.refused refl))
 refusal_or_memory refusal R W old new (ReadFault i) o r = absurd (r (o.read_fault i refl))
-refusal_or_memory refusal R W old new WriteFault o r = absurd (o.write_fault refl).1
+refusal_or_memory refusal R W old new WriteFault o r = absurd (o.write_fault refl).1.1
 refusal_or_memory refusal R W old new (ObjRefused i fault) o r = inl (sym (o.refused refl))
+refusal_or_memory refusal R W old new (MeshRefused i fault) o r = inl (sym (o.refused refl))
+refusal_or_memory refusal R W old new (ExprRefused fault) o r = inl (sym (o.refused refl))
+refusal_or_memory refusal R W old new Unbounded o r = inl (sym (o.refused refl))
 refusal_or_memory refusal R W old new (Limit kind count) o r = inl (sym (o.refused refl))
+refusal_or_memory refusal R W old new NotClear o r = inl (sym (o.refused refl))
+refusal_or_memory refusal R W old new (FaceRefused fault) o r = inl (sym (o.refused refl))
 refusal_or_memory refusal R W old new OutOfMemory o r = inr refl
 
 -- the rows of the statuses alone

@@ -1,5 +1,6 @@
 pub mod Pieces
 pub mod Verdicts
+pub mod SceneFiles
 pub mod Complete
 pub mod ReadBack
 pub mod FaceLists

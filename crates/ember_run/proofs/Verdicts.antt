@@ -1,72 +1,76 @@
--- What the reading of a file says of the verdict.
-use Rattle.std.proofs.Common.{◌≡◌, ℕ, ◌<◌, ◌≤◌, true, false, List, length, nat_le, Some, None, Ok, Err, refl, sym, subst, arith, leb, ◌⊎◌, inl, inr}
+-- What follows on a step of a verdict, and what the reading of a file says of it.
+use Rattle.std.proofs.Common.{◌≡◌, ℕ, ◌<◌, ◌≤◌, true, false, List, length, nat_le, Some, None, Result, Ok, Err, refl, sym, subst, arith, leb, ◌⊎◌, inl, inr, ◌∙◌}
 use Rattle.std.proofs.lemmas.Bool.{le-leb}
 use Rattle.std.proofs.lemmas.Bool.Decides.{leb_tells}
 use Rattle.std.specs.declared.option.Option.{Option}
 use Rattle.std.specs.Io.KnownBytes.{Appends}
-use Rattle.ember_io.specs.Shelves.{TellsMore}
+use Rattle.ember_io.specs.Shelves.{Tells, TellsMore}
 use Rattle.ember_io.specs.Sinks.{AppendsPrefix}
 use Rattle.ember_model.specs.declared.tri.Tri.{Tri}
 use Rattle.ember_obj.specs.declared.fault.ObjFault.{ObjFault}
 use Rattle.ember_obj.specs.Table.{Faces}
 use Rattle.ember_obj.specs.ReadObj.{read_obj_of}
 use Rattle.ember_run.specs.declared.status.LimitKind.TheVariants.{Bytes}
+use Rattle.ember_run.specs.declared.status.Status.{Status}
 use Rattle.ember_run.specs.declared.status.Status.TheVariants.{ObjRefused, Limit}
-use Rattle.ember_run.specs.Said.{IfTold}
 use Rattle.ember_run.specs.FaceTexts.{IsFaceFileOf}
-use Rattle.ember_run.specs.Verdict.{Output, FaceTexts, Verdict, Untold, Refused, Writes, after_file, faces_verdict, IsOutput, IsBegun, IsRefusal, IsSameIfTold, IsWritten}
+use Rattle.ember_run.specs.Outputs.{Output, FaceTexts, IsOutput}
+use Rattle.ember_run.specs.Verdict.{Verdict, Untold, Refused, Writes, after_bytes, after_file, after_triangles, faces_verdict}
+use Rattle.ember_run.specs.Serves.{IsRefusal, IsSameIfTold, IsText}
 
-same_self : (v : Verdict) → IsSameIfTold v v
+-- ---- one step after another
+pub same_self : (v : Verdict) → IsSameIfTold v v
 same_self Untold = tt
 same_self (Refused status) = refl
 same_self (Writes output) = refl
 
-pub file_read : (places i : ℕ) (told : Option (List ℕ)) (faces : Faces) (next : List Tri → Verdict) → IfTold told (λ bytes. (length bytes ≤ 268435456) × (read_obj_of places i bytes ≡ Ok faces)) → IsSameIfTold (after_file places i told next) (next faces.tris)
-file_read places i None faces next h = tt
-file_read places i (Some bytes) faces next h = rw (le-leb (length bytes) 268435456 h.0, h.1) (same_self (next faces.tris))
+pub same_then : (u v w : Verdict) → IsSameIfTold u v → IsSameIfTold v w → IsSameIfTold u w
+same_then Untold v w e f = tt
+same_then (Refused status) v w e f = subst (λ v. IsSameIfTold v w) (sym e) f
+same_then (Writes output) v w e f = subst (λ v. IsSameIfTold v w) (sym e) f
 
-pub file_refused : (places i : ℕ) (told : Option (List ℕ)) (fault : ObjFault) (next : List Tri → Verdict) → IfTold told (λ bytes. (length bytes ≤ 268435456) × (read_obj_of places i bytes ≡ Err fault)) → IsRefusal (ObjRefused i fault) (after_file places i told next)
-file_refused places i None fault next h = tt
-file_refused places i (Some bytes) fault next h = rw (le-leb (length bytes) 268435456 h.0, h.1) refl
+pub refusal_then : (status : Status) (u v : Verdict) → IsSameIfTold u v → IsRefusal status v → IsRefusal status u
+refusal_then status Untold v e f = tt
+refusal_then status (Refused refusal) v e f = subst (λ v. IsRefusal status v) (sym e) f
+refusal_then status (Writes output) v e f = subst (λ v. IsRefusal status v) (sym e) f
 
-above : (a b : ℕ) → b < a → nat_le a b ≡ false
+pub text_then : (bytes : List ℕ) (u v : Verdict) → IsSameIfTold u v → IsText v bytes → IsText u bytes
+text_then bytes Untold v e f = tt
+text_then bytes (Refused refusal) v e f = subst (λ v. IsText v bytes) (sym e) f
+text_then bytes (Writes output) v e f = subst (λ v. IsText v bytes) (sym e) f
+
+pub untold_then : (u v : Verdict) → IsSameIfTold u v → v ≡ Untold → u ≡ Untold
+untold_then Untold v e f = refl
+untold_then (Refused refusal) v e f = e ∙ f
+untold_then (Writes output) v e f = e ∙ f
+
+-- ---- a file
+pub above : (a b : ℕ) → b < a → nat_le a b ≡ false
 above a b h = by (leb_tells a b)
   where
     by : ((leb a b ≡ true) × (a ≤ b)) ⊎ ((leb a b ≡ false) × (b < a)) → leb a b ≡ false
     by (inl p) = absurd (omega (arith, p.1, h))
     by (inr p) = p.0
 
-pub file_too_long : (places i : ℕ) (told : Option (List ℕ)) (next : List Tri → Verdict) → TellsMore told 268435456 → IsRefusal (Limit (Bytes i) 268435457) (after_file places i told next)
-file_too_long places i None next h = tt
-file_too_long places i (Some bytes) next h = rw (above (length bytes) 268435456 h) refl
+pub bytes_read : (i : ℕ) (told : Option (List ℕ)) (bytes : List ℕ) (next : List ℕ → Verdict) → Tells told bytes → length bytes ≤ 268435456 → IsSameIfTold (after_bytes i told next) (next bytes)
+bytes_read i None bytes next h l = tt
+bytes_read i (Some told) bytes next h l =
+    let m : length told ≤ 268435456 = subst (λ (b : List ℕ). length b ≤ 268435456) h l in
+    subst (λ (b : List ℕ). IsSameIfTold (after_bytes i (Some told) next) (next b)) (sym h) (rw (le-leb (length told) 268435456 m) (same_self (next told)))
 
--- ---- what is written where the verdict is an output
-written : (v : Verdict) (output : Output) (old new : Option (List ℕ)) (bytes : List ℕ) → IsSameIfTold v (Writes output) → IsOutput output bytes → Appends old new bytes → IsWritten v old new
-written Untold output old new bytes e o a = tt
-written (Refused status) output old new bytes e o a = cc
-written (Writes other) output old new bytes e o a = subst (λ (v : Verdict). IsWritten v old new) (sym e) (bytes, o, a)
+pub bytes_too_long : (i count : ℕ) (told : Option (List ℕ)) (next : List ℕ → Verdict) → count ≡ 268435457 → TellsMore told 268435456 → IsRefusal (Limit (Bytes i) count) (after_bytes i told next)
+bytes_too_long i count None next e h = tt
+bytes_too_long i count (Some bytes) next e h = subst (λ (n : ℕ). IsRefusal (Limit (Bytes i) n) (after_bytes i (Some bytes) next)) (sym e) (rw (above (length bytes) 268435456 h) refl)
 
-begun : (v : Verdict) (output : Output) (old new : Option (List ℕ)) (bytes : List ℕ) → IsSameIfTold v (Writes output) → IsOutput output bytes → AppendsPrefix old new bytes → IsBegun v old new
-begun Untold output old new bytes e o a = tt
-begun (Refused status) output old new bytes e o a = cc
-begun (Writes other) output old new bytes e o a = subst (λ (v : Verdict). IsBegun v old new) (sym e) (bytes, o, a)
+pub file_read : (places i : ℕ) (told : Option (List ℕ)) (bytes : List ℕ) (faces : Faces) (next : List Tri → Verdict) → ((next : List ℕ → Verdict) → IsSameIfTold (after_bytes i told next) (next bytes)) → read_obj_of places i bytes ≡ Ok faces → IsSameIfTold (after_file places i told next) (next faces.tris)
+file_read places i told bytes faces next read e =
+    same_then (after_file places i told next) (after_triangles i (read_obj_of places i bytes) next) (next faces.tris) (read (λ bytes. after_triangles i (read_obj_of places i bytes) next)) (subst (λ (r : Result Faces ObjFault). IsSameIfTold (after_triangles i r next) (next faces.tris)) (sym e) (same_self (next faces.tris)))
 
--- the triangles of the file named so were read, and their faces are the text
-pub record HasFaces (told : List ℕ → Option (List ℕ)) (places : ℕ) (file text : List ℕ) : Type 0 where
-  pub tris : List Tri
-  pub same : IsSameIfTold (faces_verdict places (told file)) (Writes (FaceTexts tris))
-  pub faces : IsFaceFileOf tris text
+pub file_refused : (places i : ℕ) (told : Option (List ℕ)) (bytes : List ℕ) (fault : ObjFault) (next : List Tri → Verdict) → ((next : List ℕ → Verdict) → IsSameIfTold (after_bytes i told next) (next bytes)) → read_obj_of places i bytes ≡ Err fault → IsRefusal (ObjRefused i fault) (after_file places i told next)
+file_refused places i told bytes fault next read e =
+    refusal_then (ObjRefused i fault) (after_file places i told next) (after_triangles i (read_obj_of places i bytes) next) (read (λ bytes. after_triangles i (read_obj_of places i bytes) next)) (subst (λ (r : Result Faces ObjFault). IsRefusal (ObjRefused i fault) (after_triangles i r next)) (sym e) refl)
 
-pub has_faces : (told : List ℕ → Option (List ℕ)) (places : ℕ) (name file : List ℕ) (tris items : List Tri) (text bytes : List ℕ) → name ≡ file → items ≡ tris → bytes ≡ text → ((next : List Tri → Verdict) → IsSameIfTold (after_file places 1 (told name) next) (next tris)) → IsFaceFileOf items text → HasFaces told places file bytes
-has_faces told places name file tris items text bytes n i b read faces =
-    record {
-      tris = tris;
-      same = subst (λ (name : List ℕ). IsSameIfTold (faces_verdict places (told name)) (Writes (FaceTexts tris))) n (read (λ tris. Writes (FaceTexts tris)));
-      faces = subst (λ (bytes : List ℕ). IsFaceFileOf tris bytes) (sym b) (subst (λ (ts : List Tri). IsFaceFileOf ts text) i faces);
-    }
-
-pub faces_written : (told : List ℕ → Option (List ℕ)) (places : ℕ) (file bytes : List ℕ) (old new : Option (List ℕ)) → HasFaces told places file bytes → Appends old new bytes → IsWritten (faces_verdict places (told file)) old new
-faces_written told places file bytes old new h a = written (faces_verdict places (told file)) (FaceTexts h.tris) old new bytes h.same h.faces a
-
-pub faces_begun : (told : List ℕ → Option (List ℕ)) (places : ℕ) (file bytes : List ℕ) (old new : Option (List ℕ)) → HasFaces told places file bytes → AppendsPrefix old new bytes → IsBegun (faces_verdict places (told file)) old new
-faces_begun told places file bytes old new h a = begun (faces_verdict places (told file)) (FaceTexts h.tris) old new bytes h.same h.faces a
+-- the faces of the triangles that were read
+pub faces_read : (told : Option (List ℕ)) (places : ℕ) (tris : List Tri) (bytes : List ℕ) → ((next : List Tri → Verdict) → IsSameIfTold (after_file places 1 told next) (next tris)) → IsFaceFileOf tris bytes → IsText (faces_verdict places told) bytes
+faces_read told places tris bytes read faces =
+    text_then bytes (faces_verdict places told) (Writes (FaceTexts tris)) (read (λ tris. Writes (FaceTexts tris))) faces

@@ -1,15 +1,14 @@
 // The command `faces`.
-ghost use Rattle.std.specs.Prelude.{ℕ, ◌≡◌, ◌≢◌, ◌≤◌, length, true, All, IfOk};
-ghost use Rattle.std.specs.declared.option.Option.{Option};
+ghost use Rattle.std.specs.Prelude.{ℕ, ◌≡◌, ◌≢◌, ◌≤◌, length, true, All, Err, IfOk, IfErr};
 ghost use Rattle.ember_io.specs.Causes.{Rose};
-ghost use Rattle.ember_io.specs.Sinks.{IsFlushed};
 ghost use Rattle.ember_model.specs.Valid.{IsValidTri};
-ghost use Rattle.ember_run.specs.Verdict.{IsBegun, IsRefusal, IsWritten, faces_verdict, is_refusal};
 ghost use Rattle.ember_run.specs.FaceTexts.{AddsFace, IsFaceFileOf};
+ghost use Rattle.ember_run.specs.Serves.{IsRefusal, IsText, is_refusal};
+ghost use Rattle.ember_run.specs.Verdict.{faces_verdict};
 
 use crate::reading::read_file;
 use crate::status::Status;
-use ember_io::{Shelf, Sink, write_all};
+use ember_io::Shelf;
 use ember_model::{OutOfMemory, Tri};
 use ember_poly::of_tri;
 use ember_text::{begin_file, end_file, face_text};
@@ -47,34 +46,22 @@ fn faces_text(alloc: Global, tris: &[Tri]) -> Result<Vec<u8>, OutOfMemory>
     Ok(text)
 }
 
-/// Writes the face of each triangle of the file. `places` is at most 3.
-pub fn write_faces<S: Shelf, O: Sink>(
+/// The text of `faces`: the face of each triangle of the file, in order. `places` is at most 3.
+#[tactic(auto, using(crate::proofs::Verdicts::faces_read))]
+pub fn faces_output<S: Shelf>(
     alloc: Global,
     places: u8,
     file: &Text,
     shelf: &mut S,
-    out: &mut O,
-) -> Status
+) -> Result<Vec<u8>, Status>
     requires { places ≤ 3 }
     ensures contents { S.contents shelf.new ≡ S.contents shelf.old }
     ensures later { S.faults shelf.old ≤ S.faults shelf.new }
-    ensures out_later { O.faults out.old ≤ O.faults out.new }
-    ensures done { result ≡ Status.Done → IsWritten (faces_verdict places (S.contents shelf.old file.now)) (O.taken out.old) (O.taken out.new) × IsFlushed (O.taken out.new) (O.flushed out.new) }
-    ensures refused { is_refusal result ≡ true → IsRefusal result (faces_verdict places (S.contents shelf.old file.now)) }
-    ensures accepted { result ≢ Status.Words }
-    ensures read_fault { (i : ℕ) → result ≡ Status.ReadFault i → (i ≡ 1) × Rose (S.faults shelf.old) (S.faults shelf.new) × (S.fault_at shelf.new ≡ i) }
-    ensures write_fault { result ≡ Status.WriteFault → Rose (O.faults out.old) (O.faults out.new) × IsBegun (faces_verdict places (S.contents shelf.old file.now)) (O.taken out.old) (O.taken out.new) }
-    ensures untouched { result ≢ Status.Done → result ≢ Status.WriteFault → O.taken out.new ≡ O.taken out.old }
+    ensures text { IfOk result (λ text. IsText (faces_verdict places (S.contents shelf.old file.now)) text.items) }
+    ensures refused { IfErr result (λ status. is_refusal status ≡ true → IsRefusal status (faces_verdict places (S.contents shelf.old file.now))) }
+    ensures read_fault { (i : ℕ) → result ≡ Err (Status.ReadFault i) → (i ≡ 1) × Rose (S.faults shelf.old) (S.faults shelf.new) × (S.fault_at shelf.new ≡ i) }
+    ensures no_other { (result ≢ Err Status.Done) × (result ≢ Err Status.Words) × (result ≢ Err Status.WriteFault) }
 {
-    let soup = match read_file(alloc, shelf, file.as_str(), 1, places) {
-        Ok(soup) => soup,
-        Err(status) => return status,
-    };
-    let Ok(text) = faces_text(alloc, soup.tris.items()) else {
-        return Status::OutOfMemory;
-    };
-    match write_all(out, &text) {
-        Ok(()) => Status::Done,
-        Err(_) => Status::WriteFault,
-    }
+    let soup = read_file(alloc, shelf, file.as_str(), 1, places)?;
+    Ok(faces_text(alloc, soup.tris.items())?)
 }

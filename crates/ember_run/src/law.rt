@@ -6,7 +6,7 @@ ghost use Rattle.ember_model.specs.declared.point.Spot.{Spot};
 ghost use Rattle.ember_model.specs.declared.tri.Tri.{Tri};
 ghost use Rattle.ember_model.specs.FaceFiles.{IsFaceFile};
 ghost use Rattle.ember_model.specs.Meshes.{faces_of, wind};
-ghost use Rattle.ember_run.specs.Verdict.{FaceTexts, IsOutput};
+ghost use Rattle.ember_run.specs.Outputs.{FaceTexts, IsOutput};
 
 /// What `faces` writes for the triangles holds their faces and no other list of faces, so each
 /// winding number of the faces read back is that of the triangles.

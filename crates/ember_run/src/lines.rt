@@ -2,11 +2,14 @@
 ghost use Rattle.std.specs.Prelude.{◌≡◌, [], ◌∷◌, Some, flat_map};
 ghost use Rattle.ember_run.specs.Said.{Says};
 ghost use Rattle.ember_run.specs.Verdict.{names_of};
-ghost use Rattle.ember_run.specs.Lines.{decimal_text, fault_line, line_on_err, name_of, obj_line, triangles_line};
+ghost use Rattle.ember_run.specs.Lines.{decimal_text, endless_line, expr_line, face_line, fault_line, line_on_err, loose_line, mesh_line, name_of, no_mesh_line, obj_line, place_line, triangles_line};
 
-use crate::status::{LimitKind, Status};
+use crate::status::{FaceFault, LimitKind, Status};
+use ember_balance::Loose;
 use ember_dec::DecFault;
+use ember_expr::ExprFault;
 use ember_io::{Sink, write_all};
+use ember_mesh::MeshFault;
 use ember_obj::ObjFault;
 use ember_words::{Command, Text, Texts};
 use itoa::Buffer;
@@ -89,7 +92,105 @@ fn say_obj_fault<E: Sink>(err: &mut E, name: &[u8], fault: &ObjFault)
         ObjFault::FewCorners(line) => say_fault(err, name, *line, b"few corners"),
         ObjFault::LongLine(line) => say_fault(err, name, *line, b"long line"),
         ObjFault::TooMany(line) => say_fault(err, name, *line, b"too many"),
-        ObjFault::OutOfMemory => say(err, &[b"ember: out of memory\n"]),
+        ObjFault::OutOfMemory => say_out_of_memory(err),
+    }
+}
+
+// The line of an edge that stands more often than its reverse.
+fn say_loose<E: Sink>(err: &mut E, name: &[u8], loose: &Loose)
+    ensures { Says (E.faults err.old) (E.faults err.new) (E.taken err.old) (E.taken err.new) (loose_line name.now loose.now) }
+{
+    let (from, to) = (loose.from, loose.to);
+    let (mut x, mut y, mut z) = (Buffer::new(), Buffer::new(), Buffer::new());
+    let (mut u, mut v, mut w) = (Buffer::new(), Buffer::new(), Buffer::new());
+    let (mut there, mut back) = (Buffer::new(), Buffer::new());
+    say(
+        err,
+        &[
+            b"ember: ",
+            name,
+            b": edge ",
+            x.format(from.x).as_bytes(),
+            b" ",
+            y.format(from.y).as_bytes(),
+            b" ",
+            z.format(from.z).as_bytes(),
+            b" to ",
+            u.format(to.x).as_bytes(),
+            b" ",
+            v.format(to.y).as_bytes(),
+            b" ",
+            w.format(to.z).as_bytes(),
+            b" stands ",
+            there.format(loose.there).as_bytes(),
+            b" times and ",
+            back.format(loose.back).as_bytes(),
+            b" times reversed\n",
+        ],
+    );
+}
+
+// The line of a mesh that isn't closed.
+fn say_mesh_fault<E: Sink>(err: &mut E, name: &[u8], fault: &MeshFault)
+    ensures { Says (E.faults err.old) (E.faults err.new) (E.taken err.old) (E.taken err.new) (mesh_line name.now fault.now) }
+{
+    match fault {
+        MeshFault::Unbalanced(loose) => say_loose(err, name, loose),
+        MeshFault::OutOfMemory => say_out_of_memory(err),
+    }
+}
+
+fn say_place<E: Sink>(err: &mut E, fault: &[u8], place: u32)
+    ensures { Says (E.faults err.old) (E.faults err.new) (E.taken err.old) (E.taken err.new) (place_line fault.now place) }
+{
+    let mut buffer = Buffer::new();
+    let place = buffer.format(place).as_bytes();
+    say(
+        err,
+        &[b"ember: expression: ", fault, b" at ", place, b"\n"],
+    );
+}
+
+fn say_no_mesh<E: Sink>(err: &mut E, number: u32)
+    ensures { Says (E.faults err.old) (E.faults err.new) (E.taken err.old) (E.taken err.new) (no_mesh_line number) }
+{
+    let mut buffer = Buffer::new();
+    let number = buffer.format(number).as_bytes();
+    say(err, &[b"ember: expression: no mesh ", number, b"\n"]);
+}
+
+// The line of an expression's first fault.
+fn say_expr_fault<E: Sink>(err: &mut E, fault: &ExprFault)
+    ensures { Says (E.faults err.old) (E.faults err.new) (E.taken err.old) (E.taken err.new) (expr_line fault.now) }
+{
+    match fault {
+        ExprFault::Syntax(place) => say_place(err, b"syntax", *place),
+        ExprFault::Deep(place) => say_place(err, b"deep", *place),
+        ExprFault::Number(place) => say_place(err, b"number", *place),
+        ExprFault::NoMesh(number) => say_no_mesh(err, *number),
+        ExprFault::Long => say(err, &[b"ember: expression: long\n"]),
+        ExprFault::OutOfMemory => say_out_of_memory(err),
+    }
+}
+
+fn say_endless<E: Sink>(err: &mut E, name: &[u8], number: u32)
+    ensures { Says (E.faults err.old) (E.faults err.new) (E.taken err.old) (E.taken err.new) (endless_line name.now number) }
+{
+    let mut buffer = Buffer::new();
+    let number = buffer.format(number).as_bytes();
+    say(
+        err,
+        &[b"ember: ", name, b": face ", number, b" endless\n"],
+    );
+}
+
+// The line of a face file's fault.
+fn say_face_fault<E: Sink>(err: &mut E, name: &[u8], fault: &FaceFault)
+    ensures { Says (E.faults err.old) (E.faults err.new) (E.taken err.old) (E.taken err.new) (face_line name.now fault.now) }
+{
+    match fault {
+        FaceFault::Form => say(err, &[b"ember: ", name, b": not a face file\n"]),
+        FaceFault::Endless(number) => say_endless(err, name, *number),
     }
 }
 
@@ -141,7 +242,12 @@ pub fn say_status<E: Sink>(err: &mut E, command: &Command, status: &Status)
         }
         Status::WriteFault => say(err, &[b"ember: cannot write\n"]),
         Status::ObjRefused(i, fault) => say_obj_fault(err, name_at(command, *i), fault),
+        Status::MeshRefused(i, fault) => say_mesh_fault(err, name_at(command, *i), fault),
+        Status::ExprRefused(fault) => say_expr_fault(err, fault),
+        Status::Unbounded => say(err, &[b"ember: expression holds outside all meshes\n"]),
         Status::Limit(kind, count) => say_limit(err, command, *kind, *count),
+        Status::NotClear => say(err, &[b"ember: point not clear\n"]),
+        Status::FaceRefused(fault) => say_face_fault(err, name_at(command, 1), fault),
         Status::OutOfMemory => say_out_of_memory(err),
     }
 }

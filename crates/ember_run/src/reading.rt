@@ -1,8 +1,9 @@
-// The triangles of a file.
-ghost use Rattle.std.specs.Prelude.{ℕ, List, ◌≡◌, ◌≢◌, ◌≤◌, length, true, Err, IfOk, IfErr};
+// The bytes and the triangles of a file.
+ghost use Rattle.std.specs.Prelude.{ℕ, List, ◌≡◌, ◌≢◌, ◌≤◌, length, true, All, Err, IfOk, IfErr};
 ghost use Rattle.ember_io.specs.Causes.{Rose};
 ghost use Rattle.ember_model.specs.declared.tri.Tri.{Tri};
-ghost use Rattle.ember_run.specs.Verdict.{Verdict, IsRefusal, IsSameIfTold, after_file, is_refusal};
+ghost use Rattle.ember_run.specs.Serves.{IsRefusal, IsSameIfTold, is_refusal};
+ghost use Rattle.ember_run.specs.Verdict.{Verdict, after_bytes, after_file};
 
 use crate::status::{LimitKind, Status};
 use ember_io::{ReadEnd, Shelf, read_all};
@@ -12,8 +13,32 @@ use std::alloc::Global;
 
 const MOST_BYTES: u64 = 268_435_456;
 
-/// Reads the file with this number, from 1, under its name. `places` is at most 3.
-#[tactic(auto, using(crate::proofs::Verdicts::file_read, crate::proofs::Verdicts::file_refused, crate::proofs::Verdicts::file_too_long))]
+/// The bytes of the file with this number, from 1, under its name.
+#[tactic(auto, using(crate::proofs::Verdicts::bytes_read, crate::proofs::Verdicts::bytes_too_long))]
+pub fn read_bytes<S: Shelf>(
+    alloc: Global,
+    shelf: &mut S,
+    name: &str,
+    number: u32,
+) -> Result<Vec<u8>, Status>
+    ensures contents { S.contents shelf.new ≡ S.contents shelf.old }
+    ensures later { S.faults shelf.old ≤ S.faults shelf.new }
+    ensures read { IfOk result (λ bytes. (next : List ℕ → Verdict) → IsSameIfTold (after_bytes number (S.contents shelf.old name.now) next) (next bytes.items)) }
+    ensures few { IfOk result (λ bytes. length bytes.items ≤ 268435456) }
+    ensures refused { IfErr result (λ status. is_refusal status ≡ true → (next : List ℕ → Verdict) → IsRefusal status (after_bytes number (S.contents shelf.old name.now) next)) }
+    ensures read_fault { (i : ℕ) → result ≡ Err (Status.ReadFault i) → (i ≡ number) × Rose (S.faults shelf.old) (S.faults shelf.new) × (S.fault_at shelf.new ≡ i) }
+    ensures no_other { (result ≢ Err Status.Done) × (result ≢ Err Status.Words) × (result ≢ Err Status.WriteFault) }
+{
+    match read_all(alloc, shelf, name, number, MOST_BYTES) {
+        Ok(bytes) => Ok(bytes),
+        Err(ReadEnd::ReadFault) => Err(Status::ReadFault(number)),
+        Err(ReadEnd::TooLong(count)) => Err(Status::Limit(LimitKind::Bytes(number), count)),
+        Err(ReadEnd::OutOfMemory) => Err(Status::OutOfMemory),
+    }
+}
+
+/// The triangles of the file with this number, from 1, under its name. `places` is at most 3.
+#[tactic(auto, using(crate::proofs::Verdicts::file_read, crate::proofs::Verdicts::file_refused))]
 pub fn read_file<S: Shelf>(
     alloc: Global,
     shelf: &mut S,
@@ -26,18 +51,12 @@ pub fn read_file<S: Shelf>(
     ensures later { S.faults shelf.old ≤ S.faults shelf.new }
     ensures read { IfOk result (λ soup. (next : List Tri → Verdict) → IsSameIfTold (after_file places number (S.contents shelf.old name.now) next) (next soup.tris)) }
     ensures few { IfOk result (λ soup. length soup.tris ≤ 262144) }
+    ensures mesh { IfOk result (λ soup. All (λ t. t.mesh ≡ number) soup.tris) }
     ensures refused { IfErr result (λ status. is_refusal status ≡ true → (next : List Tri → Verdict) → IsRefusal status (after_file places number (S.contents shelf.old name.now) next)) }
     ensures read_fault { (i : ℕ) → result ≡ Err (Status.ReadFault i) → (i ≡ number) × Rose (S.faults shelf.old) (S.faults shelf.new) × (S.fault_at shelf.new ≡ i) }
     ensures no_other { (result ≢ Err Status.Done) × (result ≢ Err Status.Words) × (result ≢ Err Status.WriteFault) }
 {
-    let bytes = match read_all(alloc, shelf, name, number, MOST_BYTES) {
-        Ok(bytes) => bytes,
-        Err(ReadEnd::ReadFault) => return Err(Status::ReadFault(number)),
-        Err(ReadEnd::TooLong(count)) => {
-            return Err(Status::Limit(LimitKind::Bytes(number), count));
-        }
-        Err(ReadEnd::OutOfMemory) => return Err(Status::OutOfMemory),
-    };
+    let bytes = read_bytes(alloc, shelf, name, number)?;
     match read_obj(alloc, &bytes, places, number) {
         Ok(soup) => Ok(soup),
         Err(ObjFault::OutOfMemory) => Err(Status::OutOfMemory),

@@ -1,8 +1,12 @@
 // How a call ends.
 ghost use Rattle.std.specs.Prelude.{◌≡◌};
 ghost use Rattle.ember_run.specs.Lines.{number_of};
+ghost use Rattle.ember_run.specs.declared.status.Status.TheVariants.{OutOfMemory};
 
+use ember_expr::ExprFault;
+use ember_mesh::MeshFault;
 use ember_obj::ObjFault;
+use std::alloc::{AllocError, AllocFailed};
 
 /// What there is too much of.
 #[derive(Clone, Copy, Debug, PartialEq, Eq)]
@@ -11,6 +15,15 @@ pub enum LimitKind {
     Bytes(u32),
     /// The triangles of all files together.
     Triangles,
+}
+
+/// Why a face file can't be sliced.
+#[derive(Clone, Copy, Debug, PartialEq, Eq)]
+pub enum FaceFault {
+    /// The bytes aren't a face file.
+    Form,
+    /// The face with this number, from 1, meets the plane of the slice without bound.
+    Endless(u32),
 }
 
 /// How a call ends. A number alone is that of a file, from 1, in the order of the words.
@@ -26,8 +39,18 @@ pub enum Status {
     WriteFault,
     /// The file has this first fault.
     ObjRefused(u32, ObjFault),
+    /// The mesh of the file isn't closed.
+    MeshRefused(u32, MeshFault),
+    /// The expression has this first fault.
+    ExprRefused(ExprFault),
+    /// The expression holds where all winding numbers are 0.
+    Unbounded,
     /// There are so many bytes or triangles, more than are allowed.
     Limit(LimitKind, u64),
+    /// The point isn't clear of some triangle.
+    NotClear,
+    /// The face file has this fault.
+    FaceRefused(FaceFault),
     OutOfMemory,
 }
 
@@ -42,8 +65,29 @@ impl Status {
             Status::ReadFault(_) => 3,
             Status::WriteFault => 4,
             Status::ObjRefused(_, _) => 5,
+            Status::MeshRefused(_, _) => 6,
+            Status::ExprRefused(_) => 7,
+            Status::Unbounded => 8,
             Status::Limit(_, _) => 9,
+            Status::NotClear => 10,
+            Status::FaceRefused(_) => 11,
             Status::OutOfMemory => 12,
         }
+    }
+}
+
+impl From<AllocError> for Status {
+    ghost from_gives = { λ _ status. status ≡ OutOfMemory };
+
+    fn from(_e: AllocError) -> Status {
+        Status::OutOfMemory
+    }
+}
+
+impl<T: Drop> From<AllocFailed<T>> for Status {
+    ghost from_gives = { λ _ status. status ≡ OutOfMemory };
+
+    fn from(_e: AllocFailed<T>) -> Status {
+        Status::OutOfMemory
     }
 }

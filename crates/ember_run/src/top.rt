@@ -1,23 +1,61 @@
 // The top call.
-ghost use Rattle.std.specs.Prelude.{ℕ, ◌≡◌, ◌≢◌, ◌≤◌, Some, true, map, string_bytes};
+ghost use Rattle.std.specs.Prelude.{ℕ, ◌≡◌, ◌≢◌, ◌≤◌, ◌⊎◌, Some, Err, IfOk, IfErr, true, map, string_bytes};
+ghost use Rattle.std.specs.Io.KnownBytes.{Appends};
 ghost use Rattle.ember_io.specs.Causes.{Rose};
-ghost use Rattle.ember_io.specs.Sinks.{IsFlushed};
+ghost use Rattle.ember_io.specs.Sinks.{AppendsPrefix, IsFlushed};
 ghost use Rattle.ember_words.specs.Canonical.{Line, IsCanonical, command_with, words_of};
 ghost use Rattle.ember_words.specs.Meaning.{command_of};
 ghost use Rattle.ember_words.specs.Within.{IsWithinLimits};
 ghost use Rattle.ember_run.specs.Said.{Says};
 ghost use Rattle.ember_run.specs.Lines.{line_on_err};
-ghost use Rattle.ember_run.specs.Verdict.{Untold, IsBegun, IsRefusal, IsWritten, Serves, is_refusal, names_of, told_verdict, verdict_before};
+ghost use Rattle.ember_run.specs.Serves.{IsBegun, IsRefusal, IsText, IsWritten, Serves, is_refusal};
+ghost use Rattle.ember_run.specs.Verdict.{Untold, names_of, told_verdict, verdict_before};
 
-use crate::faces::write_faces;
+use crate::at::at_output;
+use crate::faces::faces_output;
 use crate::lines::{say_out_of_memory, say_status, say_words_refused};
 use crate::status::Status;
-use ember_io::{Shelf, Sink};
+use ember_io::{Shelf, Sink, write_all};
 use ember_words::{Command, WordsFault, read_words};
 use std::alloc::Global;
 use std::sync::Wait;
 use std::thread::Threads;
 use steal_pool::Gate;
+
+// The output of the command, or why there is none.
+fn output_of<S: Shelf>(alloc: Global, command: &Command, shelf: &mut S) -> Result<Vec<u8>, Status>
+    requires { IsWithinLimits command.now }
+    ensures contents { S.contents shelf.new ≡ S.contents shelf.old }
+    ensures later { S.faults shelf.old ≤ S.faults shelf.new }
+    ensures text { IfOk result (λ text. IsText (told_verdict (Some command.now) (S.contents shelf.old)) text.items) }
+    ensures refused { IfErr result (λ status. is_refusal status ≡ true → IsRefusal status (told_verdict (Some command.now) (S.contents shelf.old))) }
+    ensures read_fault { (i : ℕ) → result ≡ Err (Status.ReadFault i) → Rose (S.faults shelf.old) (S.faults shelf.new) × (S.fault_at shelf.new ≡ i) × (verdict_before i (Some command.now) (S.contents shelf.old) ≡ Untold) }
+    ensures no_other { (result ≢ Err Status.Done) × (result ≢ Err Status.WriteFault) }
+{
+    match command {
+        Command::Faces { places, file } => faces_output(alloc, *places as u8, file, shelf),
+        Command::At {
+            point,
+            expr,
+            places,
+            files,
+        } => at_output(alloc, point, expr, *places as u8, files, shelf),
+        _ => Err(Status::Words),
+    }
+}
+
+// Writes the output.
+fn write_output<O: Sink>(out: &mut O, text: &[u8]) -> Status
+    ensures out_later { O.faults out.old ≤ O.faults out.new }
+    ensures done { result ≡ Status.Done → Appends (O.taken out.old) (O.taken out.new) text.now × IsFlushed (O.taken out.new) (O.flushed out.new) }
+    ensures write_fault { result ≡ Status.WriteFault → Rose (O.faults out.old) (O.faults out.new) × AppendsPrefix (O.taken out.old) (O.taken out.new) text.now }
+    ensures either { (result ≡ Status.Done) ⊎ (result ≡ Status.WriteFault) }
+{
+    match write_all(out, text) {
+        Ok(()) => Status::Done,
+        Err(_) => Status::WriteFault,
+    }
+}
 
 // Does what the command asks for.
 fn do_command<S: Shelf, O: Sink>(
@@ -36,9 +74,9 @@ fn do_command<S: Shelf, O: Sink>(
     ensures write_fault { result ≡ Status.WriteFault → Rose (O.faults out.old) (O.faults out.new) × IsBegun (told_verdict (Some command.now) (S.contents shelf.old)) (O.taken out.old) (O.taken out.new) }
     ensures untouched { result ≢ Status.Done → result ≢ Status.WriteFault → O.taken out.new ≡ O.taken out.old }
 {
-    match command {
-        Command::Faces { places, file } => write_faces(alloc, *places as u8, file, shelf, out),
-        _ => Status::Words,
+    match output_of(alloc, command, shelf) {
+        Ok(text) => write_output(out, &text),
+        Err(status) => status,
     }
 }
 

@@ -3,7 +3,8 @@ use Rattle.std.specs.declared.option.Option.{Option}
 use Rattle.ember_words.specs.declared.command.Command.{Command}
 use Rattle.ember_run.specs.Said.{Says}
 use Rattle.ember_run.specs.Lines.{line_on_err}
-use Rattle.ember_run.specs.Verdict.{Serves, names_of}
+use Rattle.ember_run.specs.Serves.{Serves}
+use Rattle.ember_run.specs.Verdict.{names_of}
 use Rattle.ember_run.proofs.CanonicalWords.{canonical_command}
 use Rattle.ember_run.proofs.Complete.{served}
 use Rattle.ember_run.proofs.top.run_one.Goals as goal

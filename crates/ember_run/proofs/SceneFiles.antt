@@ -1,0 +1,105 @@
+-- The files of a scene, one after another.
+use Rattle.std.proofs.Common.{◌≡◌, ℕ, ◌+◌, ◌-◌, ◌<◌, ◌≤◌, zero, suc, true, false, List, [], ◌∷◌, ◌++◌, length, map, take, drop, get_or, nat_le, All, Some, None, refl, sym, ap, subst, arith, ◌∙◌, append_assoc, length-append}
+use Rattle.std.proofs.lemmas.Bool.{le-leb}
+use Rattle.std.proofs.lemmas.List.{take_more, drop_more, append-nil, length-map, map-append}
+use Rattle.std.proofs.lemmas.Grind.{flat_map-append}
+use Rattle.std.specs.declared.option.Option.{Option}
+use Rattle.ember_balance.specs.Loose.{loose_of}
+use Rattle.ember_balance.specs.declared.loose.Loose.{Loose}
+use Rattle.ember_mesh.specs.declared.states.Closed.{Closed}
+use Rattle.ember_mesh.specs.Joined.{AreNumbered, triangles_of}
+use Rattle.ember_mesh.specs.declared.fault.MeshFault.TheVariants.{Unbalanced}
+use Rattle.ember_model.specs.declared.tri.Tri.{Tri}
+use Rattle.ember_run.specs.declared.status.Status.{Status}
+use Rattle.ember_run.specs.declared.status.LimitKind.TheVariants.{Triangles}
+use Rattle.ember_run.specs.declared.status.Status.TheVariants.{MeshRefused, Limit}
+use Rattle.ember_run.specs.Serves.{IsRefusal, IsSameIfTold}
+use Rattle.ember_run.specs.Scenes.{HasParts, MayRead}
+use Rattle.ember_run.specs.Verdict.{Contents, Verdict, Untold, after_balance, after_file, after_files, after_mesh, after_scene, after_total, first_told}
+use Rattle.ember_run.proofs.Verdicts.{same_self, same_then, refusal_then, untold_then, above}
+
+-- ---- one mesh
+pub mesh_read : (places i : ℕ) (told : Option (List ℕ)) (tris : List Tri) (next : List Tri → Verdict) → ((next : List Tri → Verdict) → IsSameIfTold (after_file places i told next) (next tris)) → loose_of tris ≡ None → IsSameIfTold (after_mesh places i told next) (next tris)
+mesh_read places i told tris next read closed =
+    same_then (after_mesh places i told next) (after_balance i (loose_of tris) (next tris)) (next tris) (read (λ tris. after_balance i (loose_of tris) (next tris))) (subst (λ (found : Option Loose). IsSameIfTold (after_balance i found (next tris)) (next tris)) (sym closed) (same_self (next tris)))
+
+pub mesh_refused : (places i : ℕ) (told : Option (List ℕ)) (tris : List Tri) (loose : Loose) (next : List Tri → Verdict) → ((next : List Tri → Verdict) → IsSameIfTold (after_file places i told next) (next tris)) → loose_of tris ≡ Some loose → IsRefusal (MeshRefused i (Unbalanced loose)) (after_mesh places i told next)
+mesh_refused places i told tris loose next read found =
+    refusal_then (MeshRefused i (Unbalanced loose)) (after_mesh places i told next) (after_balance i (loose_of tris) (next tris)) (read (λ tris. after_balance i (loose_of tris) (next tris))) (subst (λ (found : Option Loose). IsRefusal (MeshRefused i (Unbalanced loose)) (after_balance i found (next tris))) (sym found) refl)
+
+-- ---- one mesh more
+numbered_more : (m : ℕ) (parts : List Closed) (part : Closed) → AreNumbered m parts → All (λ t. t.mesh ≡ m + length parts) part.tris → AreNumbered m (parts ++ part ∷ [])
+numbered_more m [] part h l = (subst (λ (n : ℕ). All (λ t. t.mesh ≡ n) part.tris) (omega arith) l, tt)
+numbered_more m (p ∷ parts) part h l = (h.0, numbered_more (m + 1) parts part h.1 (subst (λ (n : ℕ). All (λ t. t.mesh ≡ n) part.tris) (omega arith) l))
+
+pub no_parts : (places : ℕ) → HasParts places [] []
+no_parts places = record { count = refl; numbered = tt; same = λ more next. same_self (after_files places 1 [] more next) }
+
+-- what was read, with one file more
+more_read : (told : List ℕ → Option (List ℕ)) (files : List (List ℕ)) (k : ℕ) (d : List ℕ) (more : Contents) → k < length files → map told (take (k + 1) files) ++ more ≡ map told (take k files) ++ told (get_or files k d) ∷ more
+more_read told files k d more l =
+    ap (λ (names : List (List ℕ)). map told names ++ more) (take_more files k d l) ∙ ap (λ (xs : Contents). xs ++ more) (map-append told (take k files) (get_or files k d ∷ [])) ∙ append_assoc (map told (take k files)) (told (get_or files k d) ∷ []) more
+
+read_count : (told : List ℕ → Option (List ℕ)) (files : List (List ℕ)) (k : ℕ) → k ≤ length files → length (map told (take k files)) ≡ k
+read_count told files k l = grind arith
+
+pub more_parts : (places : ℕ) (told : List ℕ → Option (List ℕ)) (files : List (List ℕ)) (k : ℕ) (d : List ℕ) (parts : List Closed) (part : Closed) → k < length files → HasParts places (map told (take k files)) parts → All (λ t. t.mesh ≡ k + 1) part.tris → ((next : List Tri → Verdict) → IsSameIfTold (after_mesh places (k + 1) (told (get_or files k d)) next) (next part.tris)) → HasParts places (map told (take (k + 1) files)) (parts ++ part ∷ [])
+more_parts places told files k d parts part l h numbered read =
+    let n = read_count told files k (omega (arith, l)) in
+    let m = read_count told files (k + 1) (omega (arith, l)) in
+    let all = flat_map-append (λ (part : Closed). part.tris) parts (part ∷ []) ∙ ap (λ (ts : List Tri). triangles_of parts ++ ts) (append-nil part.tris) in
+    record {
+      count = length-append parts (part ∷ []) ∙ ap (λ (n : ℕ). n + 1) (h.count ∙ n) ∙ sym m;
+      numbered = numbered_more 1 parts part h.numbered (subst (λ (n : ℕ). All (λ t. t.mesh ≡ n) part.tris) (omega (arith, h.count, n)) numbered);
+      same = λ more next.
+        subst (λ (contents : Contents). IsSameIfTold (after_scene places contents next) (after_files places (length (map told (take (k + 1) files)) + 1) (triangles_of (parts ++ part ∷ [])) more next)) (sym (more_read told files k d more l))
+        (subst (λ (tris : List Tri). IsSameIfTold (after_scene places (map told (take k files) ++ told (get_or files k d) ∷ more) next) (after_files places (length (map told (take (k + 1) files)) + 1) tris more next)) (sym all)
+        (subst (λ (n : ℕ). IsSameIfTold (after_scene places (map told (take k files) ++ told (get_or files k d) ∷ more) next) (after_files places (n + 1) (triangles_of parts ++ part.tris) more next)) (sym m)
+        (same_then _ _ _ (h.same (told (get_or files k d) ∷ more) next)
+        (subst (λ (n : ℕ). IsSameIfTold (after_files places (n + 1) (triangles_of parts) (told (get_or files k d) ∷ more) next) (after_files places (k + 1 + 1) (triangles_of parts ++ part.tris) more next)) (sym n)
+        (read (λ mesh. after_files places (k + 1 + 1) (triangles_of parts ++ mesh) more next))))));
+    }
+
+-- ---- a file that gives no mesh
+-- all contents are those read, that of the next file, and the others
+all_contents : (told : List ℕ → Option (List ℕ)) (files : List (List ℕ)) (k : ℕ) (d : List ℕ) → k < length files → map told files ≡ map told (take k files) ++ told (get_or files k d) ∷ map told (drop (k + 1) files)
+all_contents told [] k d l = absurd (omega (arith, l))
+all_contents told (file ∷ files) zero d l = refl
+all_contents told (file ∷ files) (suc k) d l = ap (λ (xs : Contents). told file ∷ xs) (all_contents told files k d (omega (arith, l)))
+
+pub part_refused : (places : ℕ) (told : List ℕ → Option (List ℕ)) (files : List (List ℕ)) (k : ℕ) (d : List ℕ) (parts : List Closed) (status : Status) (next : List Tri → Verdict) → k < length files → HasParts places (map told (take k files)) parts → ((next : List Tri → Verdict) → IsRefusal status (after_mesh places (k + 1) (told (get_or files k d)) next)) → IsRefusal status (after_scene places (map told files) next)
+part_refused places told files k d parts status next l h refused =
+    let more = map told (drop (k + 1) files) in
+    subst (λ (contents : Contents). IsRefusal status (after_scene places contents next)) (sym (all_contents told files k d l))
+    (refusal_then status _ _ (h.same (told (get_or files k d) ∷ more) next)
+    (subst (λ (n : ℕ). IsRefusal status (after_files places (n + 1) (triangles_of parts) (told (get_or files k d) ∷ more) next)) (sym (read_count told files k (omega (arith, l))))
+    (refused (λ mesh. after_files places (k + 1 + 1) (triangles_of parts ++ mesh) more next))))
+
+first_contents : (told : List ℕ → Option (List ℕ)) (files : List (List ℕ)) (k : ℕ) → k < length files → (more : Contents) × (first_told k (map told files) ≡ map told (take k files) ++ None ∷ more)
+first_contents told [] k l = absurd (omega (arith, l))
+first_contents told (file ∷ files) zero l = (first_told 0 (map told files), refl)
+first_contents told (file ∷ files) (suc k) l =
+    let r = first_contents told files k (omega (arith, l)) in (r.0, ap (λ (xs : Contents). told file ∷ xs) r.1)
+
+pub part_unread : (places : ℕ) (told : List ℕ → Option (List ℕ)) (files : List (List ℕ)) (k i : ℕ) (parts : List Closed) → k < length files → HasParts places (map told (take k files)) parts → i ≡ k + 1 → MayRead places (map told files) i
+part_unread places told files k i parts l h e next =
+    let r = first_contents told files k l in
+    let n : i - 1 ≡ k = omega (arith, e) in
+    subst (λ (n : ℕ). after_scene places (first_told n (map told files)) next ≡ Untold) (sym n)
+    (subst (λ (contents : Contents). after_scene places contents next ≡ Untold) (sym r.1)
+    (untold_then _ _ (h.same (None ∷ r.0) next) refl))
+
+-- ---- all files
+pub few_joined : (tris : List Tri) (next : List Tri → Verdict) → length tris ≤ 262144 → after_total tris next ≡ next tris
+few_joined tris next l = rw (le-leb (length tris) 262144 l) refl
+
+pub many_refused : (tris : List Tri) (count : ℕ) (next : List Tri → Verdict) → count ≡ length tris → 262144 < count → IsRefusal (Limit Triangles count) (after_total tris next)
+many_refused tris count next e l = subst (λ (n : ℕ). IsRefusal (Limit Triangles n) (after_total tris next)) (sym e) (rw (above (length tris) 262144 (omega (arith, e, l))) refl)
+
+pub scene_joined : (places : ℕ) (contents : Contents) (parts : List Closed) (tris : List Tri) (next : List Tri → Verdict) → HasParts places contents parts → after_total (triangles_of parts) next ≡ next tris → IsSameIfTold (after_scene places contents next) (next tris)
+scene_joined places contents parts tris next h e =
+    subst (λ (v : Verdict). IsSameIfTold (after_scene places contents next) v) e (subst (λ (cs : Contents). IsSameIfTold (after_scene places cs next) (after_total (triangles_of parts) next)) (append-nil contents) (h.same [] next))
+
+pub scene_refused : (places : ℕ) (contents : Contents) (parts : List Closed) (status : Status) (next : List Tri → Verdict) → HasParts places contents parts → IsRefusal status (after_total (triangles_of parts) next) → IsRefusal status (after_scene places contents next)
+scene_refused places contents parts status next h r =
+    refusal_then status _ _ (subst (λ (cs : Contents). IsSameIfTold (after_scene places cs next) (after_total (triangles_of parts) next)) (append-nil contents) (h.same [] next)) r

@@ -1,0 +1,9 @@
+-- An expression that may be given
+use Rattle.std.specs.Prelude.{None, Some}
+use Rattle.std.specs.declared.option.Option.{Option}
+use Rattle.ember_expr.specs.declared.formula.Tree.{Tree}
+use Rattle.ember_expr.specs.Formula.{Formula, formula_of}
+
+abbrev pub given_formula : Option Tree → Option Formula
+given_formula None = None
+given_formula (Some tree) = Some (formula_of tree)

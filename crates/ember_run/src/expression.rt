@@ -1,0 +1,45 @@
+// The expression of the words.
+ghost use Rattle.std.specs.Prelude.{ℕ, ◌≡◌, ◌≢◌, ◌≤◌, true, Err, IfOk, IfErr};
+ghost use Rattle.std.specs.declared.option.Option.{Option};
+ghost use Rattle.ember_expr.specs.Formula.{Formula, formula_of};
+ghost use Rattle.ember_run.specs.Given.{given_formula};
+ghost use Rattle.ember_run.specs.Serves.{IsRefusal, is_refusal};
+ghost use Rattle.ember_run.specs.Verdict.{Verdict, after_expr, after_given};
+
+use crate::status::Status;
+use ember_expr::{Expr, ExprFault, parse};
+use ember_words::Text;
+use std::alloc::Global;
+
+/// The expression of a text over so many meshes, at most 64.
+pub fn parse_text(alloc: Global, text: &Text, meshes: u32) -> Result<Expr, Status>
+    requires { meshes ≤ 64 }
+    ensures expr { IfOk result (λ expr. (next : Formula → Verdict) → after_expr text.now meshes next ≡ next (formula_of expr)) }
+    ensures refused { IfErr result (λ status. is_refusal status ≡ true → (next : Formula → Verdict) → IsRefusal status (after_expr text.now meshes next)) }
+    ensures only { (i : ℕ) → result ≢ Err (Status.ReadFault i) }
+    ensures no_other { (result ≢ Err Status.Done) × (result ≢ Err Status.Words) × (result ≢ Err Status.WriteFault) }
+{
+    match parse(alloc, text.as_str().as_bytes(), meshes) {
+        Ok(expr) => Ok(expr),
+        Err(ExprFault::OutOfMemory) => Err(Status::OutOfMemory),
+        Err(fault) => Err(Status::ExprRefused(fault)),
+    }
+}
+
+/// The expression of a text, where one is given.
+pub fn parse_given(
+    alloc: Global,
+    text: &Option<Text>,
+    meshes: u32,
+) -> Result<Option<Expr>, Status>
+    requires { meshes ≤ 64 }
+    ensures expr { IfOk result (λ expr. (next : Option Formula → Verdict) → after_given text.now meshes next ≡ next (given_formula expr)) }
+    ensures refused { IfErr result (λ status. is_refusal status ≡ true → (next : Option Formula → Verdict) → IsRefusal status (after_given text.now meshes next)) }
+    ensures only { (i : ℕ) → result ≢ Err (Status.ReadFault i) }
+    ensures no_other { (result ≢ Err Status.Done) × (result ≢ Err Status.Words) × (result ≢ Err Status.WriteFault) }
+{
+    match text {
+        Some(text) => Ok(Some(parse_text(alloc, text, meshes)?)),
+        None => Ok(None),
+    }
+}

@@ -1,0 +1,114 @@
+// The scene of several files: each a closed mesh, all of them together within the limit.
+ghost use Rattle.std.specs.Prelude.{ℕ, List, ◌≡◌, ◌≢◌, ◌≤◌, ◌-◌, length, map, true, All, Err, IfOk, IfErr};
+ghost use Rattle.ember_io.specs.Causes.{Rose};
+ghost use Rattle.ember_mesh.specs.Joined.{AreNumbered, triangles_of};
+ghost use Rattle.ember_model.specs.declared.tri.Tri.{Tri};
+ghost use Rattle.ember_run.specs.Scenes.{HasParts, MayRead};
+ghost use Rattle.ember_run.specs.Serves.{IsRefusal, IsSameIfTold, is_refusal};
+ghost use Rattle.ember_run.specs.Verdict.{Untold, Verdict, after_mesh, after_scene, after_total, first_told};
+
+use crate::reading::read_file;
+use crate::status::{LimitKind, Status};
+use ember_io::Shelf;
+use ember_mesh::{Closed, JoinFault, MeshFault, Parts, balanced, check, join};
+use ember_model::Scene;
+use ember_words::Text;
+use std::alloc::Global;
+
+// The closed mesh of the file with this number, from 1.
+#[tactic(auto, using(crate::proofs::SceneFiles::mesh_read, crate::proofs::SceneFiles::mesh_refused))]
+fn read_mesh<S: Shelf>(
+    alloc: Global,
+    shelf: &mut S,
+    name: &str,
+    number: u32,
+    places: u8,
+) -> Result<Closed, Status>
+    requires { places ≤ 3 }
+    ensures contents { S.contents shelf.new ≡ S.contents shelf.old }
+    ensures later { S.faults shelf.old ≤ S.faults shelf.new }
+    ensures read { IfOk result (λ mesh. (next : List Tri → Verdict) → IsSameIfTold (after_mesh places number (S.contents shelf.old name.now) next) (next mesh.tris)) }
+    ensures number { IfOk result (λ mesh. All (λ t. t.mesh ≡ number) mesh.tris) }
+    ensures refused { IfErr result (λ status. is_refusal status ≡ true → (next : List Tri → Verdict) → IsRefusal status (after_mesh places number (S.contents shelf.old name.now) next)) }
+    ensures read_fault { (i : ℕ) → result ≡ Err (Status.ReadFault i) → (i ≡ number) × Rose (S.faults shelf.old) (S.faults shelf.new) × (S.fault_at shelf.new ≡ i) }
+    ensures no_other { (result ≢ Err Status.Done) × (result ≢ Err Status.Words) × (result ≢ Err Status.WriteFault) }
+{
+    let soup = read_file(alloc, shelf, name, number, places)?;
+    match balanced(alloc, check(soup)) {
+        Ok(mesh) => Ok(mesh),
+        Err((_, MeshFault::Unbalanced(loose))) => {
+            Err(Status::MeshRefused(number, MeshFault::Unbalanced(loose)))
+        }
+        Err((_, MeshFault::OutOfMemory)) => Err(Status::OutOfMemory),
+    }
+}
+
+// The closed meshes of the files, in order.
+fn read_parts<S: Shelf>(
+    alloc: Global,
+    shelf: &mut S,
+    files: &[Text],
+    places: u8,
+) -> Result<Vec<Closed>, Status>
+    requires places { places ≤ 3 }
+    requires few { length files.now ≤ 64 }
+    ensures contents { S.contents shelf.new ≡ S.contents shelf.old }
+    ensures later { S.faults shelf.old ≤ S.faults shelf.new }
+    ensures parts { IfOk result (λ parts. HasParts places (map (S.contents shelf.old) files.now) parts.items) }
+    ensures refused { IfErr result (λ status. is_refusal status ≡ true → (next : List Tri → Verdict) → IsRefusal status (after_scene places (map (S.contents shelf.old) files.now) next)) }
+    ensures read_fault { (i : ℕ) → result ≡ Err (Status.ReadFault i) → Rose (S.faults shelf.old) (S.faults shelf.new) × (S.fault_at shelf.new ≡ i) × MayRead places (map (S.contents shelf.old) files.now) i }
+    ensures no_other { (result ≢ Err Status.Done) × (result ≢ Err Status.Words) × (result ≢ Err Status.WriteFault) }
+{
+    let mut parts = Vec::new(alloc);
+    let mut number = 1;
+    for file in files {
+        let part = read_mesh(alloc, shelf, file.as_str(), number, places)?;
+        parts.push(part)?;
+        number += 1;
+    }
+    Ok(parts)
+}
+
+// The scene of the meshes, where they have few enough triangles.
+#[tactic(auto, using(crate::proofs::SceneFiles::few_joined, crate::proofs::SceneFiles::many_refused))]
+fn join_parts(alloc: Global, parts: Vec<Closed>) -> Result<Scene, Status>
+    requires few { length parts.items ≤ 64 }
+    requires numbered { AreNumbered 1 parts.items }
+    ensures scene { IfOk result (λ scene. (next : List Tri → Verdict) → after_total (triangles_of parts.items) next ≡ next scene.tris) }
+    ensures meshes { IfOk result (λ scene. scene.meshes ≡ length parts.items) }
+    ensures refused { IfErr result (λ status. is_refusal status ≡ true → (next : List Tri → Verdict) → IsRefusal status (after_total (triangles_of parts.items) next)) }
+    ensures only { (i : ℕ) → result ≢ Err (Status.ReadFault i) }
+    ensures no_other { (result ≢ Err Status.Done) × (result ≢ Err Status.Words) × (result ≢ Err Status.WriteFault) }
+{
+    match join(alloc, Parts::of(parts)) {
+        Ok(scene) => Ok(scene),
+        Err(JoinFault::TooManyTriangles(count)) => {
+            Err(Status::Limit(LimitKind::Triangles, count))
+        }
+        Err(JoinFault::OutOfMemory) => Err(Status::OutOfMemory),
+    }
+}
+
+/// The scene of the files, in order. `places` is at most 3, and there are at most 64 files.
+///
+/// A file is begun only where none before it is refused, and its text is dropped before the next
+/// one is read.
+pub fn read_scene<S: Shelf>(
+    alloc: Global,
+    shelf: &mut S,
+    files: &[Text],
+    places: u8,
+) -> Result<Scene, Status>
+    requires places { places ≤ 3 }
+    requires few { length files.now ≤ 64 }
+    ensures contents { S.contents shelf.new ≡ S.contents shelf.old }
+    ensures later { S.faults shelf.old ≤ S.faults shelf.new }
+    ensures read { IfOk result (λ scene. (next : List Tri → Verdict) → IsSameIfTold (after_scene places (map (S.contents shelf.old) files.now) next) (next scene.tris)) }
+    ensures meshes { IfOk result (λ scene. scene.meshes ≡ length files.now) }
+    ensures refused { IfErr result (λ status. is_refusal status ≡ true → (next : List Tri → Verdict) → IsRefusal status (after_scene places (map (S.contents shelf.old) files.now) next)) }
+    ensures read_fault { (i : ℕ) → result ≡ Err (Status.ReadFault i) → Rose (S.faults shelf.old) (S.faults shelf.new) × (S.fault_at shelf.new ≡ i) × MayRead places (map (S.contents shelf.old) files.now) i }
+    ensures no_other { (result ≢ Err Status.Done) × (result ≢ Err Status.Words) × (result ≢ Err Status.WriteFault) }
+{
+    let parts = read_parts(alloc, shelf, files, places)?;
+    join_parts(alloc, parts)
+}
