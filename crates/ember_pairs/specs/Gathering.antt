@@ -1,10 +1,13 @@
 -- The pairs of several lists in one, each once
-use Rattle.std.specs.Prelude.{◌≡◌, ◌⊎◌, ◌<◌, ◌↔◌, List, flat_map, AllPairs, Contains}
+use Rattle.std.specs.Prelude.{◌↔◌, List, flat_map, Contains}
+use Rattle.std.specs.List.Sorted.{IsStrictlySortedBy}
+use Rattle.std.specs.Ordering.{nat_cmp, ordering_then}
+use Rattle.std.specs.declared.cmp.Ordering.{Ordering}
 use Rattle.ember_pairs.specs.declared.pair.Pair.{Pair}
 
--- p stands before q: its first number is lower, or that is the same and its second is
-abbrev pub Precedes : Pair → Pair → Type 0
-Precedes p q = (p.low < q.low) ⊎ ((p.low ≡ q.low) × (p.high < q.high))
+-- by the first number, and then by the second
+abbrev pub pair_order : Pair → Pair → Ordering
+pair_order p q = ordering_then (nat_cmp p.low q.low) (nat_cmp p.high q.high)
 
 -- all members of these lists, one list after another
 abbrev pub together : List (List Pair) → List Pair
@@ -12,5 +15,5 @@ together items = flat_map (λ ps. ps) items
 
 -- the pairs that stand in some list, each once, in order
 pub record AreGathered (items : List (List Pair)) (ps : List Pair) : Type 0 where
-  pub in_order : AllPairs Precedes ps
+  pub in_order : IsStrictlySortedBy pair_order ps
   pub same : (p : Pair) → Contains ps p ↔ Contains (together items) p

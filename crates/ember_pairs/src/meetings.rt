@@ -1,5 +1,5 @@
 // Which triangles meet.
-ghost use Rattle.std.specs.Prelude.{◌≡◌, ◌+◌, ◌<◌, ◌↔◌, List, ◌++◌, drop, map, length, All, slice_index, IfOk, OnOk, IsTrue};
+ghost use Rattle.std.specs.Prelude.{◌≡◌, ◌+◌, ◌<◌, ◌↔◌, List, [], ◌∷◌, ◌++◌, if◌then◌else◌, drop, map, length, All, slice_index, IfOk, OnOk, IsTrue};
 ghost use Rattle.ember_model.specs.Valid.{IsValidTri};
 ghost use Rattle.ember_box.specs.Near.{tri_at};
 ghost use Rattle.ember_pairs.specs.declared.pair.Pair.{Pair};
@@ -27,7 +27,8 @@ fn are_meeting(r: &Option<Ring>, t: &Tri, q: &Option<Ring>, u: &Tri) -> bool
     }
 }
 
-fn meet_at(alloc: Global, tris: &[Tri], i: u32, j: u32) -> Result<bool, OutOfMemory>
+/// The same by the triangles.
+pub fn meet_at(alloc: Global, tris: &[Tri], i: u32, j: u32) -> Result<bool, OutOfMemory>
     requires valid { All IsValidTri tris.now }
     requires one { i < length tris.now }
     requires other { j < length tris.now }
@@ -77,6 +78,16 @@ fn meet_in(tris: &[Tri], list: &[u32], rings: &[Option<Ring>], a: usize, b: usiz
     are_meeting(&rings[a], &t, &rings[b], &u)
 }
 
+// Appends a pair where its triangles meet.
+fn push_if(meet: bool, p: Pair, out: &mut Vec<Pair>) -> Result<(), OutOfMemory>
+    ensures { OnOk result (out.new.items ≡ out.old.items ++ (if meet then p ∷ [] else [])) }
+{
+    if meet {
+        out.push(p)?;
+    }
+    Ok(())
+}
+
 // Appends the meeting pairs of the place a with all later ones of the list.
 fn push_row(
     tris: &[Tri],
@@ -92,12 +103,11 @@ fn push_row(
     ensures { OnOk result ((all later : List Pair) → Completes tris.now all (row (slice_index list.now a) (drop (a + 1) list.now) ++ later) out.old.items → Completes tris.now all later out.new.items) }
 {
     for b in a + 1..list.len() {
-        if meet_in(tris, list, rings, a, b) {
-            out.push(Pair {
-                low: list[a],
-                high: list[b],
-            })?;
-        }
+        let pair = Pair {
+            low: list[a],
+            high: list[b],
+        };
+        push_if(meet_in(tris, list, rings, a, b), pair, out)?;
     }
     Ok(())
 }

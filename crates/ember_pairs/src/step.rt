@@ -56,10 +56,8 @@ fn numbers_below(alloc: Global, count: u32) -> Result<Vec<u32>, OutOfMemory>
     Ok(numbers)
 }
 
-/// The job of the root box, with the triangles near it.
-pub fn root_pairs(alloc: Global, s: &Scene) -> Result<Job, OutOfMemory>
-    ensures value { IfOk result (λ job. job ≡ job_at s.now.tris root) }
-    ensures valid { IfOk result (λ job. IsPairsJob s.now.tris job) }
+fn root_job(alloc: Global, s: &Scene) -> Result<Job, OutOfMemory>
+    ensures { IfOk result (λ job. job ≡ job_at s.now.tris root) }
 {
     let root = root();
     let all = numbers_below(alloc, s.tris.items().len() as u32)?;
@@ -69,6 +67,15 @@ pub fn root_pairs(alloc: Global, s: &Scene) -> Result<Job, OutOfMemory>
         list: Numbers::of(list),
         at: Vector { counts: [0; 64] },
     })
+}
+
+/// The job of the root box, with the triangles near it.
+#[tactic(auto, using(crate::proofs::Steps::root_is_valid))]
+pub fn root_pairs(alloc: Global, s: &Scene) -> Result<Job, OutOfMemory>
+    ensures value { IfOk result (λ job. job ≡ job_at s.now.tris root) }
+    ensures valid { IfOk result (λ job. IsPairsJob s.now.tris job) }
+{
+    root_job(alloc, s)
 }
 
 // The job of a box with those of the listed triangles that are near it.
