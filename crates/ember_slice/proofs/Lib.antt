@@ -1,0 +1,4 @@
+pub mod Along
+pub mod Orders
+pub mod Narrowing
+pub mod Bounds

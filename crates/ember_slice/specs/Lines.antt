@@ -21,6 +21,9 @@ is_on_line n at v = is_positive v.w && (is_zero (value_at n v) && is_zero (value
 abbrev pub along_line : Plane → Spot → ℤ
 along_line n v = n.a *ℤ v.y -ℤ n.b *ℤ v.x
 
--- u comes before v in that direction
+-- how far u lies ahead of v in that direction, times the weights
+abbrev pub ahead : Plane → Spot → Spot → ℤ
+ahead n u v = v.w *ℤ along_line n u -ℤ u.w *ℤ along_line n v
+
 abbrev pub is_before : Plane → Spot → Spot → Bool
-is_before n u v = is_negative (v.w *ℤ along_line n u -ℤ u.w *ℤ along_line n v)
+is_before n u v = is_negative (ahead n u v)

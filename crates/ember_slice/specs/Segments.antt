@@ -1,12 +1,16 @@
 -- Directed segments of faces at a level, and the text of a slice
-use Rattle.std.specs.Prelude.{◌≡◌, ◌⊎◌, ℕ, ◌+◌, ◌<◌, ℤ, Bool, true, false, ◌&&◌, List, [], ◌∷◌, ◌++◌, flat_map, length, codes, Some, slice_get}
+use Rattle.std.specs.Prelude.{◌≡◌, ◌⊎◌, ℕ, ◌+◌, ◌<◌, ℤ, Bool, true, false, ◌&&◌, List, [], ◌∷◌, ◌++◌, flat_map, length, codes, Option, Some, None, Result, Ok, Err, slice_get}
 use Rattle.ember_algebra.specs.Sign.{is_zero}
 use Rattle.ember_algebra.specs.Relations.{Each}
 use Rattle.ember_model.specs.declared.point.Spot.{Spot}
 use Rattle.ember_model.specs.declared.face.Face.{Face}
 use Rattle.ember_model.specs.Planes.{value_at}
 use Rattle.ember_model.specs.Faces.{is_inside}
+use Rattle.ember_model.specs.Edges.{SamePlace}
 use Rattle.ember_model.specs.FaceFiles.{line_of, ending, IsLowest}
+use Rattle.ember_point.specs.Points.{spot_of}
+use Rattle.ember_slice.specs.declared.ends.Segment.{Segment}
+use Rattle.ember_slice.specs.declared.fault.Endless.{Endless}
 use Rattle.ember_slice.specs.Lines.{level, IsFlat, is_on_line, is_before}
 
 -- an inside point of f at the level
@@ -37,6 +41,19 @@ GoesBack f at = (u : Spot) → is_on_line f.support at u ≡ true → (p : Spot)
 pub record IsEndless (f : Face) (at : ℤ) : Type 0 where
   pub tilted : IsFlat f.support → ⊥
   pub unbounded : GoesOn f at ⊎ GoesBack f at
+
+-- the segment goes from u to v, in lowest terms
+pub record Joins (u v : Spot) (s : Segment) : Type 0 where
+  pub first : SamePlace u (spot_of s.first)
+  pub last : SamePlace v (spot_of s.last)
+  pub first_lowest : IsLowest (spot_of s.first)
+  pub last_lowest : IsLowest (spot_of s.last)
+
+-- what is answered for f
+abbrev pub IsAnswer : Face → ℤ → Result (Option Segment) Endless → Type 0
+IsAnswer f at (Ok None) = GivesNone f at
+IsAnswer f at (Ok (Some s)) = IsSegment f at (spot_of s.first) (spot_of s.last)
+IsAnswer f at (Err e) = IsEndless f at
 
 -- ---- the text
 pub record Directed : Type 0 where

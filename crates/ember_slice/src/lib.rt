@@ -2,9 +2,11 @@
 #![tactic(auto)]
 
 mod ends;
+mod face;
 mod fault;
 mod line;
-mod segment;
+mod narrow;
+
 mod span;
 #[cfg(test)]
 mod tests;
@@ -12,5 +14,5 @@ mod text;
 
 pub use ends::Segment;
 pub use fault::{Endless, SliceFault};
-pub use segment::segment;
+pub use face::segment;
 pub use text::slice_text;

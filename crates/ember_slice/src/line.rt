@@ -1,17 +1,16 @@
-// The line in which a support plane and a level plane meet.
+// The line in which a support plane meets a level plane.
+ghost use Rattle.std.specs.Prelude.{ℤ, pos, negsuc, ◌≡◌, ◌-ℤ◌, ◌*ℤ◌, ◌≤ℤ◌, true, false, MatchBool};
+ghost use Rattle.ember_algebra.specs.Size.{Small};
+ghost use Rattle.ember_model.specs.Valid.{IsValidPlane};
+ghost use Rattle.ember_slice.specs.Lines.{level, IsFlat};
+ghost use Rattle.ember_slice.specs.Spans.{AllOf, IsPart};
 
 use ember_algebra::Sign;
 use ember_model::Plane;
 use ember_point::{Meet, meet, side};
 
-/// A line in a level plane, with the direction in which it is followed.
-#[derive(Clone, Copy)]
-pub(crate) struct Line {
-    support: Plane,
-    level: Plane,
-}
-
-/// The part of a line that lies behind a plane.
+/// The part of a line that lies behind a plane. The line is that of a support plane at a level, and
+/// goes along (-b, a, 0) where that plane has the normal (a, b, c).
 pub(crate) enum Part {
     Nothing,
     Everything,
@@ -21,8 +20,13 @@ pub(crate) enum Part {
     To(Meet),
 }
 
-/// The plane z = at + 1/2.
-fn level_plane(at: i32) -> Plane {
+// The plane z = at + 1/2.
+fn level_plane(at: i32) -> Plane
+    requires low { negsuc 2047 ≤ℤ at }
+    requires high { at ≤ℤ pos 2047 }
+    ensures value { result ≡ level at }
+    ensures valid { IsValidPlane result }
+{
     Plane {
         a: 0,
         b: 0,
@@ -31,48 +35,65 @@ fn level_plane(at: i32) -> Plane {
     }
 }
 
-/// The line in which the plane `support` meets z = at + 1/2. It is followed along (-b, a, 0).
-pub(crate) fn line_at(support: &Plane, at: i32) -> Option<Line> {
-    if support.a == 0 && support.b == 0 {
-        return None;
-    }
-    Some(Line {
-        support: *support,
-        level: level_plane(at),
-    })
-}
-
 // How much greater the plane's value gets along the line.
-fn climb(support: &Plane, p: &Plane) -> i64 {
+fn climb(support: &Plane, p: &Plane) -> i64
+    requires support { IsValidPlane support.now }
+    requires plane { IsValidPlane p.now }
+    ensures value { result ≡ support.now.a *ℤ p.now.b -ℤ support.now.b *ℤ p.now.a }
+    ensures small { Small 2251799679467522 result }
+{
     support.a * p.b - support.b * p.a
 }
 
-// Whether a plane that is parallel to the line has it behind it.
-fn is_behind(line: &Line, p: &Plane) -> bool {
-    let across = Plane {
-        a: -line.support.b,
-        b: line.support.a,
+// The vertical plane through the origin that the line crosses at right angles.
+fn across(support: &Plane) -> Plane
+    requires { IsValidPlane support.now }
+    ensures value { result ≡ record { a = pos 0 -ℤ support.now.b; b = support.now.a; c = pos 0; d = pos 0 } }
+    ensures valid { IsValidPlane result }
+{
+    Plane {
+        a: -support.b,
+        b: support.a,
         c: 0,
         d: 0,
-    };
-    match meet(&line.support, &line.level, &across) {
+    }
+}
+
+// Whether the line lies behind a plane that is parallel to it.
+fn is_behind(support: &Plane, at: i32, p: &Plane) -> bool
+    requires support { IsValidPlane support.now }
+    requires low { negsuc 2047 ≤ℤ at }
+    requires high { at ≤ℤ pos 2047 }
+    requires plane { IsValidPlane p.now }
+    requires tilted { IsFlat support.now → ⊥ }
+    requires parallel { support.now.a *ℤ p.now.b -ℤ support.now.b *ℤ p.now.a ≡ pos 0 }
+    ensures { AllOf support.now at p.now result }
+{
+    match meet(support, &level_plane(at), &across(support)) {
         Some(point) => matches!(side(p, &point), Sign::Neg),
         None => false,
     }
 }
 
 /// The part of the line that lies behind the plane.
-pub(crate) fn part_behind(line: &Line, p: &Plane) -> Part {
-    match meet(&line.support, &line.level, p) {
+pub(crate) fn part_behind(support: &Plane, at: i32, p: &Plane) -> Part
+    requires support { IsValidPlane support.now }
+    requires low { negsuc 2047 ≤ℤ at }
+    requires high { at ≤ℤ pos 2047 }
+    requires plane { IsValidPlane p.now }
+    requires tilted { IsFlat support.now → ⊥ }
+    ensures { IsPart support.now at p.now result }
+{
+    match meet(support, &level_plane(at), p) {
         None => {
-            if is_behind(line, p) {
+            if is_behind(support, at, p) {
                 Part::Everything
             } else {
                 Part::Nothing
             }
         }
         Some(point) => {
-            if climb(&line.support, p) < 0 {
+            if climb(support, p) < 0 {
                 Part::From(point)
             } else {
                 Part::To(point)

@@ -5,7 +5,7 @@ ghost use Rattle.ember_slice.specs.Segments.{IsFirstEndless, IsSliceText};
 
 use crate::ends::Segment;
 use crate::fault::SliceFault;
-use crate::segment::segment;
+use crate::face::segment;
 use ember_model::{Face, OutOfMemory};
 use ember_reread::FaceList;
 use itoa::Buffer;

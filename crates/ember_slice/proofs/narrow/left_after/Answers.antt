@@ -1,0 +1,6 @@
+use Rattle.ember_slice.proofs.Narrowing.{narrowed_after}
+use Rattle.ember_slice.proofs.narrow.left_after.Goals as goal
+
+pub returns : goal.returns
+returns c =
+    λ n at ends h. narrowed_after n at _ h c.args.span.first c.args.span.last c.tighter.result c.tighter.ensures ends

@@ -1,0 +1,6 @@
+use Rattle.ember_slice.proofs.Narrowing.{narrowed_until}
+use Rattle.ember_slice.proofs.narrow.left_before.Goals as goal
+
+pub returns : goal.returns
+returns c =
+    λ n at ends h. narrowed_until n at _ h c.args.span.first c.args.span.last c.tighter.result c.tighter.ensures ends

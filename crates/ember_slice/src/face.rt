@@ -1,0 +1,62 @@
+// Segments of faces.
+ghost use Rattle.std.specs.Prelude.{ℤ, pos, negsuc, ◌≡◌, ◌≤ℤ◌, true, false, MatchOption};
+ghost use Rattle.ember_algebra.specs.Sign.{is_negative};
+ghost use Rattle.ember_model.specs.declared.face.Face.{Face};
+ghost use Rattle.ember_model.specs.Valid.{IsValidFace};
+ghost use Rattle.ember_model.specs.Planes.{value_at};
+ghost use Rattle.ember_point.specs.Points.{spot_of};
+ghost use Rattle.ember_slice.specs.Lines.{IsFlat};
+ghost use Rattle.ember_slice.specs.Spans.{IsSpan};
+ghost use Rattle.ember_slice.specs.Segments.{IsAnswer, Joins};
+
+use crate::ends::Segment;
+use crate::fault::Endless;
+use crate::narrow::span_behind;
+use crate::span::{End, Span};
+use ember_algebra::Sign;
+use ember_model::Face;
+use ember_point::{reduce, side};
+
+// The segment from one end to the other, where the first comes before the last.
+fn between(first: &End, last: &End) -> Option<Segment>
+    ensures { let test = is_negative (value_at last.now.plane (spot_of first.now.point)) in MatchOption result (test ≡ false) (λ s. (test ≡ true) × Joins (spot_of first.now.point) (spot_of last.now.point) s) }
+{
+    match side(&last.plane, &first.point) {
+        Sign::Neg => Some(Segment {
+            first: reduce(&first.point),
+            last: reduce(&last.point),
+        }),
+        _ => None,
+    }
+}
+
+// The segment from the first end to the last, where there are both.
+fn segment_of(span: &Span) -> Result<Option<Segment>, Endless>
+    ensures { (f : Face) (at : ℤ) → (IsFlat f.support → ⊥) → IsSpan f.support at f.edges span.now → IsAnswer f at result }
+{
+    let Some(first) = span.first else {
+        return Err(Endless);
+    };
+    let Some(last) = span.last else {
+        return Err(Endless);
+    };
+    Ok(between(&first, &last))
+}
+
+/// The segment of the face in the plane z = at + 1/2, where it gives one: the inside points there, in
+/// the direction (-b, a, 0) of the support plane's normal (a, b, c), from their first end to their
+/// last one, both in lowest terms. Takes no memory.
+pub fn segment(f: &Face, at: i32) -> Result<Option<Segment>, Endless>
+    requires face { IsValidFace f.now }
+    requires low { negsuc 2047 ≤ℤ at }
+    requires high { at ≤ℤ pos 2047 }
+    ensures { IsAnswer f.now at result }
+{
+    if f.support.a == 0 && f.support.b == 0 {
+        return Ok(None);
+    }
+    match span_behind(&f.support, at, f.edges.items()) {
+        Some(span) => segment_of(&span),
+        None => Ok(None),
+    }
+}

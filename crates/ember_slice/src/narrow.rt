@@ -1,0 +1,108 @@
+// What planes leave of a line.
+ghost use Rattle.std.specs.Prelude.{ℤ, pos, negsuc, ◌≡◌, ◌≤ℤ◌, true, false, All, MatchOption, if◌then◌else◌};
+ghost use Rattle.ember_algebra.specs.Sign.{is_positive};
+ghost use Rattle.ember_model.specs.Valid.{IsValidPlane};
+ghost use Rattle.ember_model.specs.Planes.{value_at};
+ghost use Rattle.ember_model.specs.declared.plane.Plane.{Plane};
+ghost use Rattle.ember_model.specs.declared.point.Spot.{Spot};
+ghost use Rattle.ember_point.specs.Points.{spot_of};
+ghost use Rattle.ember_slice.specs.Lines.{IsFlat, is_on_line};
+ghost use Rattle.ember_slice.specs.Spans.{AllOf, AreEnds, Enters, IsNarrowed, IsSpan, Leaves, is_behind};
+
+use crate::line::{Part, part_behind};
+use crate::span::{End, Span};
+use ember_algebra::Sign;
+use ember_model::Plane;
+use ember_point::{Meet, side};
+
+// Whether the point is in front of the plane.
+fn is_in_front(p: &Plane, point: &Meet) -> bool
+    requires { IsValidPlane p.now }
+    ensures { result ≡ is_positive (value_at p.now (spot_of point.now)) }
+{
+    matches!(side(p, point), Sign::Pos)
+}
+
+// Of two ends on the same side the one that leaves less of the line.
+fn tighter(end: Option<End>, new: End) -> End
+    ensures { MatchOption end (result ≡ new) (λ e. result ≡ (if is_positive (value_at new.plane (spot_of e.point)) then new else e)) }
+{
+    match end {
+        None => new,
+        Some(end) => {
+            if is_in_front(&new.plane, &end.point) {
+                new
+            } else {
+                end
+            }
+        }
+    }
+}
+
+// What is left of the span after the point, where the line passes to behind the plane.
+fn left_after(span: Span, plane: &Plane, point: Meet) -> Span
+    requires { IsValidPlane plane.now }
+    ensures { (n : Plane) (at : ℤ) → AreEnds n at span → Enters n at plane.now (spot_of point) → IsNarrowed n at plane.now span result }
+{
+    let end = End {
+        plane: *plane,
+        point,
+    };
+    Span {
+        first: Some(tighter(span.first, end)),
+        last: span.last,
+    }
+}
+
+// What is left of the span before the point, where the line passes back to the plane's front.
+fn left_before(span: Span, plane: &Plane, point: Meet) -> Span
+    requires { IsValidPlane plane.now }
+    ensures { (n : Plane) (at : ℤ) → AreEnds n at span → Leaves n at plane.now (spot_of point) → IsNarrowed n at plane.now span result }
+{
+    let end = End {
+        plane: *plane,
+        point,
+    };
+    Span {
+        first: span.first,
+        last: Some(tighter(span.last, end)),
+    }
+}
+
+// What is left of the span behind the plane, where any of the line is.
+fn narrowed(support: &Plane, at: i32, span: Span, p: &Plane) -> Option<Span>
+    requires support { IsValidPlane support.now }
+    requires low { negsuc 2047 ≤ℤ at }
+    requires high { at ≤ℤ pos 2047 }
+    requires plane { IsValidPlane p.now }
+    requires tilted { IsFlat support.now → ⊥ }
+    requires ends { AreEnds support.now at span }
+    ensures { MatchOption result (AllOf support.now at p.now false) (IsNarrowed support.now at p.now span) }
+{
+    match part_behind(support, at, p) {
+        Part::Nothing => None,
+        Part::Everything => Some(span),
+        Part::From(point) => Some(left_after(span, p, point)),
+        Part::To(point) => Some(left_before(span, p, point)),
+    }
+}
+
+/// What is left of the line behind all the planes. `None` where one of them has all of the line on
+/// its front.
+pub(crate) fn span_behind(support: &Plane, at: i32, planes: &[Plane]) -> Option<Span>
+    requires support { IsValidPlane support.now }
+    requires low { negsuc 2047 ≤ℤ at }
+    requires high { at ≤ℤ pos 2047 }
+    requires planes { All IsValidPlane planes.now }
+    requires tilted { IsFlat support.now → ⊥ }
+    ensures { MatchOption result ((v : Spot) → is_on_line support.now at v ≡ true → is_behind planes.now v ≡ false) (IsSpan support.now at planes.now) }
+{
+    let mut span = Span {
+        first: None,
+        last: None,
+    };
+    for p in planes {
+        span = narrowed(support, at, span, p)?;
+    }
+    Some(span)
+}
