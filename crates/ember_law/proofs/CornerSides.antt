@@ -1,7 +1,6 @@
 -- A point of a triangle's closed face lies on each side of a plane on which all three corners lie.
-use Rattle.std.proofs.Common.{◌≡◌, ◌≢◌, refl, sym, ap, ◌∙◌, arith, Bool, true, false, not, ◌&&◌, [], ◌∷◌, ℤ, pos, ◌+ℤ◌, ◌-ℤ◌, ◌*ℤ◌, neg_ℤ, ◌<ℤ◌, ◌≤ℤ◌}
+use Rattle.std.proofs.Common.{◌≡◌, ◌≢◌, sym, ap, ◌∙◌, arith, true, false, not, [], ◌∷◌, ℤ, pos, ◌+ℤ◌, ◌*ℤ◌, neg_ℤ, ◌<ℤ◌, ◌≤ℤ◌}
 use Rattle.std.proofs.lemmas.Int.{by_lt_z}
-use Rattle.ember_algebra.specs.Vector.{dot}
 use Rattle.ember_algebra.specs.Sign.{sign, is_positive}
 use Rattle.ember_algebra.proofs.Laws.{linear}
 use Rattle.ember_algebra.proofs.Order.{pos_mul, nonneg_mul}
@@ -13,11 +12,11 @@ use Rattle.ember_model.specs.declared.point.Spot.{Spot}
 use Rattle.ember_model.specs.declared.point.Axis.{Axis}
 use Rattle.ember_model.specs.declared.point.Axis.TheVariants.{X, Y, Z}
 use Rattle.ember_model.specs.Planes.{vector_of, unit, value_at, along, main_axis, times_plane, support_of, edge_through}
-use Rattle.ember_model.specs.Faces.{size, is_flat, face_of, edges_of, is_in_closed}
+use Rattle.ember_model.specs.Faces.{is_flat, face_of, is_in_closed}
 use Rattle.ember_model.specs.ClearTest.{none_positive}
 use Rattle.ember_model.specs.Owners.{spot_at}
 use Rattle.ember_model.proofs.SignTests.{and_parts, not_positive_out, size_positive, clash, zero_scaled}
-use Rattle.ember_model.proofs.PlaneValues.{value_times, size-is, along_dot, normal_of, tuple_of, supportE, edgeE}
+use Rattle.ember_model.proofs.PlaneValues.{value_times, size-is, along_dot, tuple_of, supportE, edgeE}
 use Rattle.ember_model.proofs.SeenCrossings.{main_zero}
 use Rattle.ember_model.proofs.Hits.{closed_parts}
 use Rattle.ember_model.proofs.Tuples.{plane_tuple}

@@ -356,10 +356,15 @@ generic_way p q ts l lp lq h gp gq sp s =
     let sq = are_strict_there (unit X) p q ts lp lq sp gq in
     wind_seen X p ts lp ∙ directions_agree (unit X) (toward p q) p ts l h gp (are_generic (toward p q) p ts sp) ∙ mesh_way p q ts lp lq sp sq s ∙ sym (directions_agree (unit X) (toward p q) q ts l h gq (are_generic (toward p q) q ts sq)) ∙ sym (wind_seen X q ts lq)
 
+-- by a generic point near each of the two
+by_way : (a b : Axis) (p q v w : Spot) (ts : List Tri) → IsBalanced ts → pos 0 <ℤ p.w → pos 0 <ℤ q.w → AreClear (faces_of ts) p → AreClear (faces_of ts) q → pos 0 <ℤ v.w → pos 0 <ℤ w.w → wind X (faces_of ts) p ≡ wind X (faces_of ts) v → wind X (faces_of ts) q ≡ wind X (faces_of ts) w → IsAcross (unit X) (toward v w) → AreGeneric (unit X) v ts → AreGeneric (unit X) w ts → AreStrict (toward v w) v ts → AreApart v w ts → wind a (faces_of ts) p ≡ wind b (faces_of ts) q
+by_way a b p q v w ts l lp lq kp kq lv lw ev ew h gv gw sv s =
+    axes_agree a X p ts l lp kp ∙ ev ∙ generic_way v w ts l lv lw h gv gw sv s ∙ sym ew ∙ axes_agree X b q ts l lq kq
+
 pub segment_law : (a b : Axis) (p q : Spot) (ts : List Tri) → IsBalanced ts → pos 0 <ℤ p.w → pos 0 <ℤ q.w → AreClear (faces_of ts) p → AreClear (faces_of ts) q → AllByRecursion (Misses p q) (faces_of ts) → wind a (faces_of ts) p ≡ wind b (faces_of ts) q
 segment_law a b p q ts l lp lq kp kq h =
     let e = eventually_both (weight_shifted p lp) (eventually_both (wind_shifted X p (faces_of ts) lp kp) (eventually_both (generic_shifted (unit X) p ts lp) (near_shifted p q ts (are_apart p q ts lp lq h)))) in
     let p' = shifted p (pos e.from) in let r = e.holds e.from (le_refl e.from) in
     let d = eventually_both (weight_shifted q lq) (eventually_both (wind_shifted X q (faces_of ts) lq kq) (eventually_both (generic_shifted (unit X) q ts lq) (eventually_both (far_shifted p' q ts r.1.1.1) (eventually_both (are_strict_shifted (unit X) p' q ts r.0 r.1.1.0) (off_shifted q (sight (unit Y) p')))))) in
     let q' = shifted q (pos d.from) in let s = d.holds d.from (le_refl d.from) in
-    axes_agree a X p ts l lp kp ∙ r.1.0 ∙ generic_way p' q' ts l r.0 s.0 (across_x p' q' r.0 s.1.1.1.1.1) r.1.1.0 s.1.1.0 s.1.1.1.1.0 s.1.1.1.0 ∙ sym s.1.0 ∙ axes_agree X b q ts l lq kq
+    by_way a b p q p' q' ts l lp lq kp kq r.0 s.0 r.1.0 s.1.0 (across_x p' q' r.0 s.1.1.1.1.1) r.1.1.0 s.1.1.0 s.1.1.1.1.0 s.1.1.1.0

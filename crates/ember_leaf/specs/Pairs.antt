@@ -1,11 +1,11 @@
 -- How the near triangles of a leaf lie to one another, and what of them cuts regions
-use Rattle.std.specs.Prelude.{◌≡◌, ◌⊎◌, Bool, true, false, not, ◌&&◌, List, [], ◌++◌, map}
-use Rattle.ember_algebra.specs.Sign.{is_negative, is_zero, is_positive}
+use Rattle.std.specs.Prelude.{◌≡◌, ◌⊎◌, ℕ, ◌<◌, true, false, ℤ, List, [], ◌++◌, map, All}
+use Rattle.std.specs.List.{AllByRecursion}
 use Rattle.ember_model.specs.declared.plane.Plane.{Plane}
 use Rattle.ember_model.specs.declared.tri.Tri.{Tri}
 use Rattle.ember_model.specs.Valid.{IsValidTri}
 use Rattle.ember_model.specs.Planes.{value_at}
-use Rattle.ember_model.specs.Faces.{is_flat, face_of, is_in_closed, Everywhere}
+use Rattle.ember_model.specs.Faces.{is_flat, face_of, is_in_closed, Everywhere, Contains}
 use Rattle.ember_model.specs.Owners.{spot_at, is_coplanar}
 use Rattle.ember_box.specs.Regions.{blades_of}
 use Rattle.ember_box.specs.Regions as regions
@@ -18,22 +18,6 @@ use Rattle.ember_leaf.specs.declared.blade.Blade.{Blade}
 abbrev pub heights_of : Plane → Tri → Heights
 heights_of p t =
     record { a = value_at p (spot_at t.a); b = value_at p (spot_at t.b); c = value_at p (spot_at t.c) }
-
--- no corner is behind the plane, none is in front of it, all are on one side, all are on it
-abbrev pub none_behind : Heights → Bool
-none_behind h = not (is_negative h.a) && (not (is_negative h.b) && not (is_negative h.c))
-
-abbrev pub none_in_front : Heights → Bool
-none_in_front h = not (is_positive h.a) && (not (is_positive h.b) && not (is_positive h.c))
-
-abbrev pub all_behind : Heights → Bool
-all_behind h = is_negative h.a && (is_negative h.b && is_negative h.c)
-
-abbrev pub all_in_front : Heights → Bool
-all_in_front h = is_positive h.a && (is_positive h.b && is_positive h.c)
-
-abbrev pub all_on : Heights → Bool
-all_on h = is_zero h.a && (is_zero h.b && is_zero h.c)
 
 -- no inside point of t lies in the closed face of u
 abbrev pub AreApart : Tri → Tri → Type 0

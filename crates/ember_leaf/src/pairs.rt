@@ -1,16 +1,16 @@
 // How two triangles lie to each other, by their corners.
-ghost use Rattle.std.specs.Prelude.{◌≡◌, ◌<◌, true, false};
-ghost use Rattle.ember_model.specs.Faces.{is_flat, face_of, Contains};
+ghost use Rattle.std.specs.Prelude.{◌≡◌, false};
+ghost use Rattle.ember_model.specs.Faces.{is_flat};
 ghost use Rattle.ember_model.specs.Owners.{is_coplanar};
-ghost use Rattle.ember_leaf.specs.Pairs.{IsPair, AreApart};
+ghost use Rattle.ember_leaf.specs.Pairs.{IsPair};
 
 use crate::heights::heights_of;
 use ember_box::overlap;
-use ember_model::{edge_plane, main_axis};
+use ember_model::{Plane, edge_plane, main_axis};
 use ember_trace::Facet;
 
 /// How a triangle lies to the closed face of another.
-#[derive(Clone, Copy)]
+#[derive(Clone, Copy, PartialEq, Eq)]
 pub enum Pair {
     /// No inside point of the first lies in the closed face of the second, or that is flat.
     Apart,
@@ -20,72 +20,44 @@ pub enum Pair {
     Coplanar,
 }
 
-/// The normal of the triangle is zero.
-pub fn is_flat(f: &Facet) -> bool
-    ensures { result ≡ is_flat f.now.tri }
-{
-    f.support.a == 0 && (f.support.b == 0 && f.support.c == 0)
+fn has_normal(p: &Plane) -> bool {
+    p.a != 0 || p.b != 0 || p.c != 0
 }
 
-/// The two lie in one plane, and neither is flat.
-pub fn are_coplanar(f: &Facet, g: &Facet) -> bool
-    ensures { result ≡ is_coplanar f.now.tri g.now.tri }
-{
-    !is_flat(f) && (!is_flat(g) && heights_of(&f.support, &g.tri).all_on())
-}
-
-// The plane of an edge of the first triangle keeps the two apart.
-fn parts(f: &Facet, g: &Facet, edge: u8) -> bool
-    requires edge { edge < 3 }
-    requires first { is_flat f.now.tri ≡ false }
-    requires second { is_flat g.now.tri ≡ false }
-    ensures { result ≡ true → AreApart f.now.tri g.now.tri × AreApart g.now.tri f.now.tri }
-{
+// An edge plane of the first triangle keeps the second one off its inside.
+fn is_parted(f: &Facet, g: &Facet) -> bool {
     let k = main_axis(&f.support);
-    let theirs = heights_of(&edge_plane(&f.tri, edge, k), &g.tri);
-    theirs.none_behind() && !theirs.all_on()
-}
-
-// The plane of an edge of one of them keeps the two apart.
-fn are_parted(f: &Facet, g: &Facet) -> bool
-    requires first { is_flat f.now.tri ≡ false }
-    requires second { is_flat g.now.tri ≡ false }
-    ensures { result ≡ true → AreApart f.now.tri g.now.tri }
-{
-    for edge in 0..3 {
-        if parts(f, g, edge) || parts(g, f, edge) {
+    for e in 0..3 {
+        if heights_of(&edge_plane(&f.tri, e, k), &g.tri).none_below() {
             return true;
         }
     }
     false
 }
 
-// How a triangle lies to another one that lies in its plane.
-fn coplanar_pair(f: &Facet, g: &Facet) -> Pair
-    requires first { is_flat f.now.tri ≡ false }
-    requires second { is_flat g.now.tri ≡ false }
-    requires plane { is_coplanar f.now.tri g.now.tri ≡ true }
-    ensures { IsPair f.now.tri g.now.tri result }
+// The second triangle lies in the closed face of the first, in whose plane it is.
+fn is_covered(f: &Facet, g: &Facet) -> bool {
+    let k = main_axis(&f.support);
+    for e in 0..3 {
+        if !heights_of(&edge_plane(&f.tri, e, k), &g.tri).none_above() {
+            return false;
+        }
+    }
+    true
+}
+
+/// The two lie in one plane, and neither is flat.
+pub fn are_coplanar(f: &Facet, g: &Facet) -> bool
+    ensures { result ≡ is_coplanar f.now.tri g.now.tri }
 {
-    if are_parted(f, g) {
+    has_normal(&f.support) && has_normal(&g.support) && heights_of(&f.support, &g.tri).all_on()
+}
+
+fn coplanar_pair(f: &Facet, g: &Facet) -> Pair {
+    if is_parted(f, g) || is_parted(g, f) {
         Pair::Apart
     } else {
         Pair::Coplanar
-    }
-}
-
-// How it lies to one that is not in its plane.
-fn crossing_pair(f: &Facet, g: &Facet) -> Pair
-    requires first { is_flat f.now.tri ≡ false }
-    requires second { is_flat g.now.tri ≡ false }
-    requires plane { is_coplanar f.now.tri g.now.tri ≡ false }
-    ensures { IsPair f.now.tri g.now.tri result }
-{
-    let own = heights_of(&g.support, &f.tri);
-    if (own.none_behind() || own.none_in_front()) && !own.all_on() {
-        Pair::Apart
-    } else {
-        Pair::Across
     }
 }
 
@@ -94,32 +66,25 @@ pub fn pair_of(f: &Facet, g: &Facet) -> Pair
     requires { is_flat f.now.tri ≡ false }
     ensures { IsPair f.now.tri g.now.tri result }
 {
-    if !overlap(&f.spans, &g.spans) || is_flat(g) {
+    if !overlap(&f.spans, &g.spans) || !has_normal(&g.support) {
         return Pair::Apart;
     }
     let theirs = heights_of(&f.support, &g.tri);
-    if theirs.all_in_front() || theirs.all_behind() {
+    if theirs.all_aside() {
+        return Pair::Apart;
+    }
+    if theirs.all_on() {
+        return coplanar_pair(f, g);
+    }
+    let own = heights_of(&g.support, &f.tri);
+    if own.none_below() || own.none_above() {
         Pair::Apart
-    } else if theirs.all_on() {
-        coplanar_pair(f, g)
     } else {
-        crossing_pair(f, g)
+        Pair::Across
     }
 }
 
-// The second triangle lies behind the plane of an edge of the first.
-fn is_behind_edge(f: &Facet, g: &Facet, edge: u8) -> bool
-    requires { edge < 3 }
-{
-    let k = main_axis(&f.support);
-    let theirs = heights_of(&edge_plane(&f.tri, edge, k), &g.tri);
-    theirs.none_in_front() && !theirs.all_on()
-}
-
 /// The second triangle, which lies in the plane of the first, is covered by it.
-pub fn covers(f: &Facet, g: &Facet) -> bool
-    requires { is_coplanar f.now.tri g.now.tri ≡ true }
-    ensures { result ≡ true → Contains (face_of f.now.tri) (face_of g.now.tri) }
-{
-    is_behind_edge(f, g, 0) && (is_behind_edge(f, g, 1) && is_behind_edge(f, g, 2))
+pub fn covers(f: &Facet, g: &Facet) -> bool {
+    overlap(&f.spans, &g.spans) && is_covered(f, g)
 }

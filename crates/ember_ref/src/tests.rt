@@ -1,7 +1,11 @@
 // Signs at reference points, and a vector carried into a cube.
+ghost use Rattle.std.specs.Prelude.{◌≡◌, ◌<◌, All, length};
+ghost use Rattle.ember_model.specs.Meshes.{HasMesh};
+ghost use Rattle.ember_model.specs.Valid.{IsValidCorner, IsValidTri};
+
 use crate::{lex_side, shift};
 use ember_algebra::Sign;
-use ember_box::{halves, root};
+use ember_box::{Cell, halves, root};
 use ember_model::{Axis, Corner, Plane, Tri, Vector};
 use std::test::Fail;
 
@@ -31,12 +35,21 @@ fn signs_beside_a_corner(rt: HostRuntime) -> Result<(), Fail> {
     Ok(())
 }
 
-// The side of a cube with these corners, in two triangles of mesh 1.
-fn side(a: [i32; 3], b: [i32; 3], c: [i32; 3], d: [i32; 3]) -> [Tri; 2] {
-    [tri(a, b, c), tri(a, c, d)]
+// A corner of a cube of side 4, numbered by the binary digits of z, y and x.
+fn corner(i: u8) -> Corner
+    ensures { IsValidCorner result }
+{
+    Corner {
+        x: i32::from(4 * (i % 2)),
+        y: i32::from(4 * (i / 2 % 2)),
+        z: i32::from(4 * (i / 4 % 2)),
+    }
 }
 
-fn tri(a: [i32; 3], b: [i32; 3], c: [i32; 3]) -> Tri {
+fn tri(a: u8, b: u8, c: u8) -> Tri
+    ensures valid { IsValidTri result }
+    ensures numbered { HasMesh 64 result }
+{
     Tri {
         a: corner(a),
         b: corner(b),
@@ -45,29 +58,41 @@ fn tri(a: [i32; 3], b: [i32; 3], c: [i32; 3]) -> Tri {
     }
 }
 
-fn corner(at: [i32; 3]) -> Corner {
-    Corner {
-        x: at[0],
-        y: at[1],
-        z: at[2],
-    }
+fn cube() -> [Tri; 12]
+    ensures valid { All IsValidTri result }
+    ensures numbered { All (HasMesh 64) result }
+    ensures twelve { length result ≡ 12 }
+{
+    [
+        tri(0, 2, 3),
+        tri(0, 3, 1),
+        tri(4, 5, 7),
+        tri(4, 7, 6),
+        tri(0, 1, 5),
+        tri(0, 5, 4),
+        tri(1, 3, 7),
+        tri(1, 7, 5),
+        tri(3, 2, 6),
+        tri(3, 6, 7),
+        tri(2, 0, 4),
+        tri(2, 4, 6),
+    ]
+}
+
+// The quarter of the root box in which x and y are at least 0.
+fn quarter() -> Cell
+    ensures { 0 < result.log Axis.Z }
+{
+    let (_, right) = halves(&root(), Axis::X);
+    halves(&right, Axis::Y).1
 }
 
 #[test]
 fn into_a_cube_along_z(rt: HostRuntime) -> Result<(), Fail> {
-    let (_, right) = halves(&root(), Axis::X);
-    let (_, upper) = halves(&right, Axis::Y);
-    assert_eq!(rt; (upper.path(), upper.lo()), (7, [0, 0, -2048]));
+    let c = quarter();
+    assert_eq!(rt; (c.path(), c.lo()), (7, [0, 0, -2048]));
     let mut v = Vector { counts: [0; 64] };
-    let below = side([0, 0, 0], [0, 4, 0], [4, 4, 0], [4, 0, 0]);
-    let above = side([0, 0, 4], [4, 0, 4], [4, 4, 4], [0, 4, 4]);
-    let front = side([0, 0, 0], [4, 0, 0], [4, 0, 4], [0, 0, 4]);
-    let right = side([4, 0, 0], [4, 4, 0], [4, 4, 4], [4, 0, 4]);
-    let back = side([4, 4, 0], [0, 4, 0], [0, 4, 4], [4, 4, 4]);
-    let left = side([0, 4, 0], [0, 0, 0], [0, 0, 4], [0, 4, 4]);
-    for near in [below, above, front, right, back, left] {
-        shift(&near, &upper, Axis::Z, &mut v);
-    }
+    shift(&cube(), &c, Axis::Z, &mut v);
     assert_eq!(rt; (v.counts[0], v.counts[1]), (1, 0));
     Ok(())
 }
