@@ -1,0 +1,3 @@
+pub mod Containing
+pub mod Coplanar
+pub mod Owning

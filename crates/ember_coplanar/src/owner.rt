@@ -1,31 +1,25 @@
 // Which triangle owns a region.
-ghost use Rattle.std.specs.Prelude.{◌≡◌, ◌<◌, ◌↔◌, IsTrue, IfSome, All, length, not, slice_get};
-ghost use Rattle.std.specs.List.{list_all};
-ghost use Rattle.ember_algebra.specs.Sign.{is_positive};
+ghost use Rattle.std.specs.Prelude.{◌≡◌, ◌<◌, ◌↔◌, true, IsTrue, IfSome, All, length, slice_get};
+ghost use Rattle.ember_algebra.specs.Sign.{is_negative};
 ghost use Rattle.ember_model.specs.Valid.{IsValidPlane, IsValidTri};
 ghost use Rattle.ember_model.specs.Planes.{value_at};
-ghost use Rattle.ember_model.specs.Faces.{face_of, Contains};
+ghost use Rattle.ember_model.specs.Faces.{face_of, Everywhere, Contains};
 ghost use Rattle.ember_model.specs.Owners.{IsOwner};
-ghost use Rattle.ember_point.specs.Points.{spot_of};
 ghost use Rattle.ember_coplanar.specs.Lying.{LiesOn};
 
 use crate::plane::same_plane;
-use ember_algebra::Sign;
 use ember_model::{Plane, Tri, edge_plane, main_axis, support_of};
-use ember_point::{Meet, side};
-use ember_poly::{Ring, corners};
+use ember_poly::{Reach, Ring, reach};
 
-// The plane is positive at none of the points.
-fn none_above(p: &Plane, points: &[Meet]) -> bool
+// Every inside point is on the negative side of the plane.
+fn is_below(r: &Ring, p: &Plane) -> bool
     requires { IsValidPlane p.now }
-    ensures { result ≡ list_all (λ m. not (is_positive (value_at p.now (spot_of m)))) points.now }
+    ensures { IsTrue result ↔ Everywhere r.now (λ v. is_negative (value_at p.now v) ≡ true) }
 {
-    for m in points {
-        if side(p, m) == Sign::Pos {
-            return false;
-        }
+    match reach(r, p) {
+        Reach::Below => true,
+        Reach::Above | Reach::On | Reach::Both => false,
     }
-    true
 }
 
 /// Every inside point of `r`, which lies in the plane of `t`, is an inside point of the face of
@@ -36,10 +30,8 @@ pub fn contains(t: &Tri, r: &Ring) -> bool
     ensures { IsTrue result ↔ Contains (face_of t.now) r.now }
 {
     let k = main_axis(&support_of(t));
-    let points = corners(r);
-    none_above(&edge_plane(t, 0, k), points)
-        && none_above(&edge_plane(t, 1, k), points)
-        && none_above(&edge_plane(t, 2, k), points)
+    is_below(r, &edge_plane(t, 0, k))
+        && (is_below(r, &edge_plane(t, 1, k)) && is_below(r, &edge_plane(t, 2, k)))
 }
 
 /// Triangle `i` of the list, in whose plane `r` lies, owns `r`: no triangle before it in the list

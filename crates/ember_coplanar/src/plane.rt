@@ -8,19 +8,37 @@ ghost use Rattle.ember_model.specs.Owners.{spot_at, is_coplanar};
 
 use ember_model::{Corner, Plane, Tri, support_of};
 
-// The corner lies on the plane.
-fn is_on(p: &Plane, c: &Corner) -> bool
+// The value of the plane at a corner.
+#[tactic(none)]
+fn value_at_corner(p: &Plane, c: &Corner) -> i64
     requires plane { IsSupportSized p.now }
     requires corner { IsValidCorner c.now }
-    ensures { result ≡ is_zero (value_at p.now (spot_at c.now)) }
+    ensures { result ≡ value_at p.now (spot_at c.now) }
 {
-    p.a * c.x as i64 + p.b * c.y as i64 + p.c * c.z as i64 - p.d == 0
+    p.a * c.x as i64 + p.b * c.y as i64 + p.c * c.z as i64 - p.d
+}
+
+// A corner at which a plane has this value lies on it.
+fn is_on(value: i64) -> bool
+    ensures { result ≡ is_zero value }
+{
+    value == 0
 }
 
 fn has_normal(p: &Plane) -> bool
     ensures { result ≡ not (is_zero p.now.a && (is_zero p.now.b && is_zero p.now.c)) }
 {
     p.a != 0 || p.b != 0 || p.c != 0
+}
+
+// All corners of the triangle lie on the plane.
+fn lies_on(p: &Plane, t: &Tri) -> bool
+    requires plane { IsSupportSized p.now }
+    requires tri { IsValidTri t.now }
+    ensures { result ≡ is_zero (value_at p.now (spot_at t.now.a)) && (is_zero (value_at p.now (spot_at t.now.b)) && is_zero (value_at p.now (spot_at t.now.c))) }
+{
+    is_on(value_at_corner(p, &t.a))
+        && (is_on(value_at_corner(p, &t.b)) && is_on(value_at_corner(p, &t.c)))
 }
 
 /// Neither triangle's normal is zero, and they lie in one plane.
@@ -30,9 +48,5 @@ pub fn same_plane(t: &Tri, u: &Tri) -> bool
     ensures { result ≡ is_coplanar t.now u.now }
 {
     let support = support_of(t);
-    has_normal(&support)
-        && is_on(&support, &u.a)
-        && is_on(&support, &u.b)
-        && is_on(&support, &u.c)
-        && has_normal(&support_of(u))
+    has_normal(&support) && (lies_on(&support, u) && has_normal(&support_of(u)))
 }

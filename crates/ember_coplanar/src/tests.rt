@@ -33,17 +33,36 @@ fn tri(a: Corner, b: Corner, c: Corner) -> Tri
 
 #[test]
 fn triangles_of_one_plane(rt: HostRuntime) {
-    let up = tri(O, X, Y);
-    assert!(&rt; same_plane(&up, &tri(Y, X, FAR)));
-    assert!(&rt; same_plane(&up, &tri(O, Y, X)));
-    assert!(&rt; !same_plane(&up, &tri(O, X, ABOVE)));
-    assert!(&rt; !same_plane(&up, &tri(O, X, X)));
+    let (o, x, y, far) = (
+        corner(0, 0, 0),
+        corner(1, 0, 0),
+        corner(0, 1, 0),
+        corner(4, 4, 0),
+    );
+    let up = tri(o, x, y);
+    assert!(&rt; same_plane(&up, &tri(y, x, far)));
+    assert!(&rt; same_plane(&up, &tri(o, y, x)));
+    assert!(&rt; !same_plane(&up, &tri(o, x, corner(0, 1, 1))));
+    assert!(&rt; !same_plane(&up, &tri(o, x, x)));
+    assert!(&rt; !same_plane(&tri(o, x, x), &up));
 }
 
 #[test]
 fn the_first_that_contains_a_region_owns_it(rt: HostRuntime) -> Result<(), AllocError> {
-    let near = [tri(O, X, ABOVE), tri(O, FAR, Y), tri(O, X, Y), tri(Y, X, O)];
-    match of_tri(rt.alloc(), &near[2])? {
+    let (o, x, y, far) = (
+        corner(0, 0, 0),
+        corner(1, 0, 0),
+        corner(0, 1, 0),
+        corner(4, 4, 0),
+    );
+    let own = tri(o, x, y);
+    let near = [
+        tri(o, x, corner(0, 1, 1)),
+        tri(o, far, y),
+        own,
+        tri(y, x, o),
+    ];
+    match of_tri(rt.alloc(), &own)? {
         Some(ring) => {
             assert!(&rt; contains(&near[2], &ring));
             assert!(&rt; contains(&near[3], &ring));

@@ -1,5 +1,5 @@
 -- The twelve triangles of a box: they are closed and valid
-use Rattle.std.proofs.Common.{◌≡◌, ℕ, ◌+◌, ◌*◌, ◌/◌, ◌%◌, ◌<◌, ◌≤◌, cond, List, [], ◌∷◌, ◌++◌, append_assoc, length, refl, sym, ap, ◌∙◌, arith, ℤ, pos, ◌+ℤ◌, ◌-ℤ◌}
+use Rattle.std.proofs.Common.{◌≡◌, ℕ, ◌+◌, ◌*◌, cond, List, ◌++◌, append_assoc, length, refl, ap, ◌∙◌, arith, pos, ◌+ℤ◌}
 use borrow.Author.Differences.{ints}
 use Rattle.std.specs.List.{All}
 use Rattle.std.proofs.lemmas.Nat.{mod_below}
@@ -8,7 +8,7 @@ use Rattle.ember_algebra.specs.Size.{Small}
 use Rattle.ember_model.specs.declared.point.Corner.{Corner}
 use Rattle.ember_model.specs.declared.tri.Tri.{Tri}
 use Rattle.ember_model.specs.Valid.{IsValidCorner, IsValidTri}
-use Rattle.ember_model.specs.Meshes.{reversed, edges_in, same_edge, times, IsBalanced}
+use Rattle.ember_model.specs.Meshes.{edges_in, same_edge, IsBalanced}
 use Rattle.ember_balance.proofs.Edges.{times_reversed}
 use Rattle.ember_gen.specs.declared.block.Block.{Block}
 use Rattle.ember_gen.specs.Numbers.{draw, place, side}

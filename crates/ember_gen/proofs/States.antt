@@ -1,5 +1,5 @@
 -- The generator's numbers one after another, and the box that six of them draw
-use Rattle.std.proofs.Common.{◌≡◌, ℕ, suc, ◌+◌, ◌*◌, refl, ap, ◌∙◌, arith, ℤ, pos, ◌+ℤ◌}
+use Rattle.std.proofs.Common.{◌≡◌, ℕ, suc, ◌+◌, ◌*◌, ap, ◌∙◌, arith, ℤ, pos, ◌+ℤ◌}
 use Rattle.ember_gen.specs.Numbers.{next, state, drawn, place, side}
 use Rattle.ember_gen.specs.Blocks.{block_of}
 

@@ -1,5 +1,5 @@
 -- The numbers of a linear congruential generator
-use Rattle.std.specs.Prelude.{ℕ, zero, suc, ◌+◌, ◌*◌, ◌/◌, ◌%◌, ◌^◌, ℤ, pos, ◌-ℤ◌, ◌+ℤ◌}
+use Rattle.std.specs.Prelude.{ℕ, zero, suc, ◌+◌, ◌*◌, ◌/◌, ◌%◌, ◌^◌, ℤ, pos, ◌-ℤ◌}
 
 abbrev pub next : ℕ → ℕ
 next s = (1103515245 * s + 12345) % 2 ^ 31

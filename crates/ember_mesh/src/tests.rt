@@ -1,10 +1,10 @@
-ghost use Rattle.std.specs.Prelude.{◌≡◌, All};
+ghost use Rattle.std.specs.Prelude.{◌≡◌, All, IfOk};
 ghost use Rattle.ember_algebra.specs.Size.{Small};
 ghost use Rattle.ember_model.specs.Valid.{IsValidCorner, IsValidTri};
 
-use crate::{JoinFault, MeshFault, Parts, balanced, check, join};
+use crate::{Closed, JoinFault, MeshFault, Parts, balanced, check, join};
 use ember_model::{Corner, Lines, Soup, Tri, Tris};
-use std::alloc::AllocError;
+use std::alloc::{AllocError, Global};
 
 fn small(x: i32) -> i32
     ensures { Small 2047 result }
@@ -45,27 +45,35 @@ fn tetra() -> [Tri; 4]
     [tri(o, y, x), tri(o, x, z), tri(o, z, y), tri(x, y, z)]
 }
 
+fn closed_tetra(alloc: Global) -> Result<Closed, AllocError>
+    ensures { IfOk result (λ closed. All (λ t. t.mesh ≡ 1) closed.tris) }
+{
+    let soup = Soup::of(
+        Tris::of(Vec::from_array(alloc, tetra())?),
+        Lines::of(Vec::from_array(alloc, [5, 6, 7, 8])?),
+    );
+    match balanced(alloc, check(soup)) {
+        Ok(closed) => Ok(closed),
+        Err((_solid, _fault)) => Err(AllocError),
+    }
+}
+
 #[test]
 fn a_tetrahedron_becomes_a_scene(rt: HostRuntime) -> Result<(), AllocError> {
-    let soup = Soup::of(
-        Tris::of(Vec::from_array(rt.alloc(), tetra())?),
-        Lines::of(Vec::from_slice(rt.alloc(), &[5, 6, 7, 8])?),
-    );
-    match balanced(rt.alloc(), check(soup)) {
-        Ok(closed) => {
-            let mut parts = Vec::new(rt.alloc());
-            parts.push(closed)?;
-            match join(rt.alloc(), Parts::of(parts)) {
-                Ok(scene) => {
-                    assert!(&rt; scene.meshes == 1);
-                    assert!(&rt; scene.tris.items() == tetra().as_slice());
-                }
-                Err(fault) => assert!(&rt; fault == JoinFault::OutOfMemory),
-            }
+    let mut parts = Vec::new(rt.alloc());
+    parts.push(closed_tetra(rt.alloc())?)?;
+    match join(rt.alloc(), Parts::of(parts)) {
+        Ok(scene) => {
+            assert!(&rt; scene.meshes == 1);
+            assert!(&rt; scene.tris.items() == tetra().as_slice());
         }
-        Err((_, fault)) => assert!(&rt; fault == MeshFault::OutOfMemory),
+        Err(fault) => assert!(&rt; fault == JoinFault::OutOfMemory),
     }
     Ok(())
+}
+
+fn is_unbalanced(fault: &MeshFault) -> bool {
+    matches!(fault, MeshFault::Unbalanced(_))
 }
 
 #[test]
@@ -75,12 +83,10 @@ fn a_lone_triangle_is_refused_and_handed_back(rt: HostRuntime) -> Result<(), All
         Tris::of(Vec::from_array(rt.alloc(), [lone])?),
         Lines::of(Vec::from_array(rt.alloc(), [4])?),
     );
-    match balanced(rt.alloc(), check(soup)) {
-        Ok(_) => assert!(&rt; false),
-        Err((solid, fault)) => {
-            assert!(&rt; solid.tris.items().len() == 1 && solid.lines.items().len() == 1);
-            assert!(&rt; matches!(&fault, MeshFault::Unbalanced(loose) if loose.there == 1));
-        }
-    }
+    let handed_back = match balanced(rt.alloc(), check(soup)) {
+        Ok(_closed) => false,
+        Err((solid, fault)) => solid.tris.items().len() == 1 && is_unbalanced(&fault),
+    };
+    assert!(&rt; handed_back);
     Ok(())
 }
