@@ -1,5 +1,5 @@
 -- The chord in which a plane passes a ring: its points are the inside points on the plane.
-use Rattle.std.proofs.Common.{◌≡◌, ◌⊎◌, ⊎_elim, inl, inr, sym, subst, ◌∙◌, arith, true, List, [], ◌∷◌, ◌++◌, take, drop, ℤ, pos, ◌+ℤ◌, ◌-ℤ◌, ◌*ℤ◌, neg_ℤ, ◌<ℤ◌, ◌≤ℤ◌}
+use Rattle.std.proofs.Common.{◌≡◌, ⊎_elim, sym, subst, ◌∙◌, arith, true, List, [], ◌∷◌, ◌++◌, take, drop, ℤ, pos, ◌+ℤ◌, ◌-ℤ◌, ◌*ℤ◌, neg_ℤ, ◌<ℤ◌, ◌≤ℤ◌}
 use Rattle.std.proofs.lemmas.Int.{by_lt_z}
 use Rattle.std.proofs.lemmas.List.{take-append-drop, append-nil}
 use Rattle.std.specs.List.{AllByRecursion}
@@ -13,7 +13,7 @@ use Rattle.ember_model.specs.ClearTest.{none_positive, face_with}
 use Rattle.ember_model.specs.Faces.{Meets as MeetsFace}
 use Rattle.ember_point.specs.Points.{spot_of}
 use Rattle.ember_poly.specs.declared.passage.Passage.{Passage}
-use Rattle.ember_poly.specs.Rings.{entered, closing, Side, Under, Over, AtMost, AtLeast, Inside, Meets, Sound, Stands, Long}
+use Rattle.ember_poly.specs.Rings.{entered, closing, Side, Under, AtMost, AtLeast, Inside, Meets, Sound, Stands}
 use Rattle.ember_poly.specs.Passages.{Leaves, IsPassage}
 use Rattle.ember_poly.specs.Spans.{mixed2, IsOpen, IsLine}
 use Rattle.ember_poly.proofs.Chains.{each_map, each_both, each-back, each-front}
@@ -27,7 +27,7 @@ use Rattle.ember_poly.proofs.Chord.{front_y, kept_z, at_y, at_z, middle_under}
 use Rattle.ember_poly.proofs.Dropped.{somewhere}
 use Rattle.ember_poly.proofs.FaceTests.{all_in, all_out, closed_in, closed_out}
 use Rattle.ember_poly.proofs.Reached.{seen_inside, inside_seen}
-use Rattle.ember_poly.proofs.Passed.{turns_of}
+use Rattle.ember_poly.proofs.Passed.{passes, turns_of}
 
 -- ---- the two ends
 record Ends (n p : Plane) (f l : Side) (y z : Spot) (whole : List Side) : Type 0 where
@@ -54,26 +54,23 @@ ends_of n p f l ks (d ∷ ds) y z mz my s u a q =
     record {
       at_y = at_y n p f l ks (d ∷ ds) y z 0 d.corner s c o;
       at_z = at_z n p f l ks (d ∷ ds) y z 0 d.corner s c o;
-      middle = middle_under n p f l ks (d ∷ ds) y z 0 d.corner s c o (somewhere n p f l d ks ds y z 0 s o.exit o.entry (passes d ds q.1));
+      middle = middle_under n p f l ks (d ∷ ds) y z 0 d.corner s c o (somewhere n p f l d ks ds y z 0 s o.exit o.entry (passes p f d ds q));
       first = front_y n (entered f z) l (closing p y 0) ks o.sound;
       last = (each-back (λ s. Under s.plane z) ks (l ∷ []) (kept_z n (entered f z) l (closing p y 0) ks o.sound)).0;
     }
-  where
-    passes : (d : Side) (ds : List Side) → (Over p f.corner ⊎ (Over p d.corner ⊎ Long ds)) → ((pos 0 <ℤ value_at p f.corner) ⊎ ((pos 0 <ℤ value_at p d.corner) ⊎ Long ds))
-    passes d ds q = ⊎_elim (λ a. inl a.over) (λ r. inr (⊎_elim (λ a. inl a.over) (λ a. inr a) r)) q
 
 -- ---- numbers
+lower : {k u : ℤ} → pos 0 <ℤ k → u ≤ℤ pos 0 → (k *ℤ u) ≤ℤ pos 0
+lower {k} {u} p q =
+    let m : pos 0 ≤ℤ neg_ℤ u = omega (arith, linear, q) in let n : pos 0 ≤ℤ k = omega (arith, linear, p) in
+    omega (arith, linear, nonneg_mul n m, solve 2 (λ k u. k ⊗ neg u ≈ neg (k ⊗ u)) cancels k u)
+
 between : {i j a b : ℤ} → pos 0 <ℤ i → pos 0 <ℤ j → a ≤ℤ pos 0 → b ≤ℤ pos 0 → (pos 1 *ℤ a +ℤ pos 1 *ℤ b) <ℤ pos 0 → (i *ℤ a +ℤ j *ℤ b) <ℤ pos 0
 between {i} {j} {a} {b} pi pj pa pb s =
     by_lt_z a (pos 0)
     (λ l. omega (arith, linear, mul_pos_neg pi l, lower pj pb))
     (λ l. omega (arith, linear, lower pi pa, mul_pos_neg pj (other l)))
   where
-    lower : {k u : ℤ} → pos 0 <ℤ k → u ≤ℤ pos 0 → (k *ℤ u) ≤ℤ pos 0
-    lower {k} {u} p q =
-        let m : pos 0 ≤ℤ neg_ℤ u = omega (arith, linear, q) in let n : pos 0 ≤ℤ k = omega (arith, linear, p) in
-        omega (arith, linear, nonneg_mul n m, solve 2 (λ k u. k ⊗ neg u ≈ neg (k ⊗ u)) cancels k u)
-
     other : pos 0 ≤ℤ a → b <ℤ pos 0
     other l =
         omega (arith, linear, l, s, solve 1 (λ a. num (pos 1) ⊗ a ≈ a) cancels a, solve 1 (λ b. num (pos 1) ⊗ b ≈ b) cancels b)
@@ -155,11 +152,6 @@ module _ (n p : Plane) (f l : Side) (ks ds : List Side) (y z : Spot) (mz : Meets
     chord_open : (hs : List Plane) → none_positive hs x ≡ true → IsOpen hs y z
     chord_open hs e =
         record { i = j; j = h; from_y = mul_neg_neg at_f ends.last.under; from_z = mul_neg_neg ends.first.under at_l; free = all_in hs (mixed2 j h y z) (each_map (λ g. AtMost g x) (λ g. AtMost g (mixed2 j h y z)) hs (λ g a. record { at_most = rw (mixed2_value j h y z g) (subst (λ k. k ≤ℤ pos 0) (combination g) (lower (mul_neg_neg ends.first.under ends.last.under) a.at_most)) }) (all_out hs x e)) }
-      where
-        lower : {k u : ℤ} → pos 0 <ℤ k → u ≤ℤ pos 0 → (k *ℤ u) ≤ℤ pos 0
-        lower {k} {u} p q =
-            let m : pos 0 ≤ℤ neg_ℤ u = omega (arith, linear, q) in let n : pos 0 ≤ℤ k = omega (arith, linear, p) in
-            omega (arith, linear, nonneg_mul n m, solve 2 (λ k u. k ⊗ neg u ≈ neg (k ⊗ u)) cancels k u)
 
 -- ---- the ring begun at another side
 inside_turned : (n : Plane) (v : Spot) (xs ys : List Side) → Inside n (xs ++ ys) v → Inside n (ys ++ xs) v

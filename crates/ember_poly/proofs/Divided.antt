@@ -19,7 +19,7 @@ use Rattle.ember_model.proofs.SignTests.{negative_out, positive_out}
 use Rattle.ember_point.specs.declared.corner.Meet.{Meet}
 use Rattle.ember_point.specs.Points.{spot_of}
 use Rattle.ember_poly.specs.declared.passage.Passage.{Passage}
-use Rattle.ember_poly.specs.Rings.{entered, closing, Side, Under, Over, AtMost, AtLeast, Lone, Long, Meets, Sound, Closed, Listed, Stands}
+use Rattle.ember_poly.specs.Rings.{entered, closing, Side, Under, AtMost, AtLeast, Lone, Meets, Sound, Closed, Listed, Stands}
 use Rattle.ember_poly.specs.Sides.{sides_of, IsBorn, IsSingle, AllCounted, IsRing}
 use Rattle.ember_poly.specs.Rims.{starting, LeastFirst}
 use Rattle.ember_poly.specs.Passages.{Has, Straddles, Leaves, IsPassage}
@@ -33,6 +33,7 @@ use Rattle.ember_poly.proofs.Single.{one_place}
 use Rattle.ember_poly.proofs.Dropped.{dropped_lone}
 use Rattle.ember_poly.proofs.Members.{has-front, has-back, has-split, has-turned, born_has, has_born, Found, has_pick}
 use Rattle.ember_poly.proofs.Rows.{each_corner, oldest_first}
+use Rattle.ember_poly.proofs.Passed.{passes}
 use Rattle.ember_poly.proofs.Reached.{most_opposite, least_from_opposite, closed_from_inside, inside_seen}
 
 -- ---- a plane that cuts the face has corners on both sides
@@ -118,9 +119,6 @@ module _ (n p : Plane) (gs : List Plane) (f l : Side) (ks : List Side) (y z : Sp
     pub out : (v : Spot) → Closed n part v → Closed n (f ∷ (ks ++ l ∷ []) ++ ds) v
     pub gone : AllByRecursion (λ d. Gone d) ds
 
-  passes : (d : Side) (ds : List Side) → (Over p f.corner ⊎ (Over p d.corner ⊎ Long ds)) → ((pos 0 <ℤ value_at p f.corner) ⊎ ((pos 0 <ℤ value_at p d.corner) ⊎ Long ds))
-  passes d ds q = ⊎_elim (λ a. inl a.over) (λ r. inr (⊎_elim (λ a. inl a.over) (λ a. inr a) r)) q
-
   divide : (ds : List Side) → Stands n gs (f ∷ (ks ++ l ∷ []) ++ ds) → Leaves p f ds → Division ds
   divide [] s q =
       let o = below_all n p f l y z (length gs) q.over my mz ks (subst (λ zs. Sound n (f ∷ zs)) (append-nil (ks ++ l ∷ [])) s.sound) under in
@@ -129,7 +127,7 @@ module _ (n p : Plane) (gs : List Plane) (f l : Side) (ks : List Side) (y z : Sp
   divide (d ∷ ds) s q =
       let o = below_some n p f l d ds y z (length gs) enters.at_least q.0.at_least my mz ks s.sound under in
       let r = part_of n p f l ks (d ∷ ds) y z (length gs) d.corner s.sound (corner_closed n (f ∷ (ks ++ l ∷ [])) d ds s.sound) o in
-      let lone = dropped_lone n p f l d ks ds y z (length gs) s.sound o.exit o.entry (passes d ds q.1) in
+      let lone = dropped_lone n p f l d ks ds y z (length gs) s.sound o.exit o.entry (passes p f d ds q) in
       let most = each_swap (λ (s t : Side). AtMost t.plane s.corner) part (d ∷ ds) (each_map (λ s. Closed n part s.corner) (λ s. AllByRecursion (λ t. AtMost t.plane s.corner) (d ∷ ds)) part (λ s k. each-back (λ t. AtMost t.plane s.corner) (ks ++ l ∷ []) (d ∷ ds) (r.out_closed s.corner k).0.within.1) (ring-closed n part o.sound)) in
       let listed = each-back (λ t. Listed gs t) (ks ++ l ∷ []) (d ∷ ds) s.listed.1 in
       record {

@@ -8,7 +8,7 @@ use Rattle.ember_model.specs.declared.plane.Plane.{Plane}
 use Rattle.ember_model.specs.Planes.{value_at}
 use Rattle.ember_point.specs.declared.corner.Meet.{Meet}
 use Rattle.ember_point.specs.Points.{spot_of}
-use Rattle.ember_poly.specs.Rings.{Side, Under, AtMost, AtLeast, Sound, Meets, turn}
+use Rattle.ember_poly.specs.Rings.{Side, Under, AtMost, AtLeast, Long, Sound, Meets, turn}
 use Rattle.ember_poly.specs.Sides.{sides_of}
 use Rattle.ember_poly.specs.Passages.{is_under, Stops, IsRun, Enters, Straddles, Leaves, IsPassage}
 use Rattle.ember_poly.proofs.Chains.{each_map}
@@ -91,6 +91,10 @@ leaves_by p f ks [] u h n =
 leaves_by p f ks (d ∷ []) u h n =
     (h, by_lt_z (pos 0) (value_at p f.corner) (λ l. inl (record { over = l })) (λ l. by_lt_z (pos 0) (value_at p d.corner) (λ k. inr (inl (record { over = k }))) (λ k. absurd (n (record { at_most = l }, each-join (λ s. AtMost p s.corner) ks (d ∷ []) (each_map (λ s. Under p s.corner) (λ s. AtMost p s.corner) ks (λ s q. weak q) u) (record { at_most = k }, tt))))))
 leaves_by p f ks (d ∷ e ∷ ds) u h n = (h, inr (inr tt))
+
+-- not all that is left behind the kept sides lies on the plane
+pub passes : (p : Plane) (f d : Side) (ds : List Side) → Leaves p f (d ∷ ds) → (pos 0 <ℤ value_at p f.corner) ⊎ ((pos 0 <ℤ value_at p d.corner) ⊎ Long ds)
+passes p f d ds q = ⊎_elim (λ a. inl a.over) (λ r. inr (⊎_elim (λ a. inl a.over) (λ a. inr a) r)) q.1
 
 -- the planes at the two ends of the chord meet in one point
 pub turns_of : (n p : Plane) (f l : Side) (ks ds : List Side) → Sound n (f ∷ (ks ++ l ∷ []) ++ ds) → AllByRecursion (λ s. Under p s.corner) (ks ++ l ∷ []) → AtLeast p f.corner → Leaves p f ds → (pos 0 <ℤ turn n l.plane p) × (pos 0 <ℤ turn n p f.plane)

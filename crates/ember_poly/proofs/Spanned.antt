@@ -118,10 +118,10 @@ record Passing (n p : Plane) (hs : List Plane) (a b : Spot) : Type 0 where
   pub across : IsAcross plane a b
   pub fits : Fits n p plane hs
 
-pub last_free : (hs gs : List Plane) (g : Plane) (a x : Spot) → After a x g gs → none_positive gs (mixed2 (neg_ℤ (value_at g x)) (value_at g a) a x) ≡ true
-last_free hs [] g a x f = refl
-last_free hs (h ∷ gs) g a x f =
-    all_in (h ∷ gs) (mixed2 (neg_ℤ (value_at g x)) (value_at g a) a x) (record { at_most = rw (mixed2_value (neg_ℤ (value_at g x)) (value_at g a) a x h) (below (value_at h a) (value_at h x) (value_at g a) (value_at g x) f.0) }, all_out gs (mixed2 (neg_ℤ (value_at g x)) (value_at g a) a x) (last_free hs gs g a x f.1))
+pub last_free : (gs : List Plane) (g : Plane) (a x : Spot) → After a x g gs → none_positive gs (mixed2 (neg_ℤ (value_at g x)) (value_at g a) a x) ≡ true
+last_free [] g a x f = refl
+last_free (h ∷ gs) g a x f =
+    all_in (h ∷ gs) (mixed2 (neg_ℤ (value_at g x)) (value_at g a) a x) (record { at_most = rw (mixed2_value (neg_ℤ (value_at g x)) (value_at g a) a x h) (below (value_at h a) (value_at h x) (value_at g a) (value_at g x) f.0) }, all_out gs (mixed2 (neg_ℤ (value_at g x)) (value_at g a) a x) (last_free gs g a x f.1))
   where
     below : (ha hx ga gx : ℤ) → (ha *ℤ neg_ℤ gx) ≤ℤ (ga *ℤ neg_ℤ hx) → (neg_ℤ gx *ℤ ha +ℤ ga *ℤ hx) ≤ℤ pos 0
     below ha hx ga gx l =
@@ -155,7 +155,7 @@ passing n p hs a b l o f = by (last_zero a x hs f o.free)
           plane = g;
           member = r.member;
           across = s;
-          fits = record { turns = across_turns n p g a b l s; at = mixed2 (neg_ℤ (value_at g x)) (value_at g a) a x; meets = meets_line (neg_ℤ (value_at g x)) (value_at g a) n p g a x (up at) r.up l.flat_y flat l.on_y on l.weight_y heavy (solve 2 (λ u v. neg v ⊗ u ⊕ u ⊗ v ≈ num (pos 0)) cancels (value_at g a) (value_at g x)); free = last_free hs hs g a x r.after };
+          fits = record { turns = across_turns n p g a b l s; at = mixed2 (neg_ℤ (value_at g x)) (value_at g a) a x; meets = meets_line (neg_ℤ (value_at g x)) (value_at g a) n p g a x (up at) r.up l.flat_y flat l.on_y on l.weight_y heavy (solve 2 (λ u v. neg v ⊗ u ⊕ u ⊗ v ≈ num (pos 0)) cancels (value_at g a) (value_at g x)); free = last_free hs g a x r.after };
         }
 
 -- ---- the planes of a list one after another

@@ -116,7 +116,7 @@ module _ (f : Face) (hs : List Plane) where
 
     met_last : Meets f (face_with r.plane hs)
     met_last =
-        record { at = between; inside = here; holds = closed_in (face_with r.plane hs) between (record { flat = zero; weight = (inside_out f between here).weight; within = all_out hs between (last_free hs hs r.plane u x r.after) }) }
+        record { at = between; inside = here; holds = closed_in (face_with r.plane hs) between (record { flat = zero; weight = (inside_out f between here).weight; within = all_out hs between (last_free hs r.plane u x r.after) }) }
 
     passed_last : AllByRecursion Passed hs → ⊥
     passed_last a = by (each_in Passed r.plane hs r.member a)
