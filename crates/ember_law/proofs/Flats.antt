@@ -1,4 +1,5 @@
--- Flat triangles: their planes are 0 everywhere, and nothing crosses them. So sums over the faces of triangles run over all of them.
+-- Flat triangles: their support plane is 0 everywhere, and nothing crosses them. So sums over the
+-- faces of triangles are sums over all triangles.
 use Rattle.std.proofs.Common.{◌≡◌, ◌⊎◌, inl, inr, refl, sym, ap, ◌∙◌, arith, Bool, true, false, not, cond, ◌&&◌, List, [], ◌∷◌, ℤ, pos, ◌+ℤ◌, ◌-ℤ◌, ◌*ℤ◌}
 use Rattle.ember_algebra.specs.Vector.{Vector, dot, cross, det, normal}
 use Rattle.ember_algebra.specs.declared.Sign.{Sign}

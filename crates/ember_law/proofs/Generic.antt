@@ -42,7 +42,7 @@ edge_generic u v f p h w =
       z = λ z. identity s (λ u v f p. (crossE (minusE (seenE p v) (seenE p u)) f).z ≈ p.w ⊗ (crossE (minusE v u) f).z) cancels a b f q ∙ zero_scaled p.w n.c (none z).2;
     }
 
--- p lies on none of the planes through the triangle and, along f, its edges, unless they have no normal
+-- p lies on none of the planes through the triangle and, along f, its edges that have a normal
 pub record IsOff (f : Vector) (p : Spot) (t : Tri) : Type 0 where
   pub weight : pos 0 <ℤ p.w
   pub plane : value_at (support_of t) p ≡ pos 0 → NoNormal (support_of t)

@@ -1,5 +1,5 @@
--- The path law: of two clear points of a line along an axis, the crossings at the first less those at the second are those
--- of the segment between them.
+-- The path law: of two clear points of a line along an axis, the crossings at the first less those
+-- at the second are those of the segment between them.
 use Rattle.std.proofs.Common.{◌≡◌, refl, sym, ap, subst, ◌∙◌, arith, List, [], ◌∷◌, ℤ, pos, ◌-ℤ◌, ◌*ℤ◌, neg_ℤ, ◌<ℤ◌}
 use Rattle.ember_algebra.proofs.Laws.{linear}
 use Rattle.ember_algebra.proofs.Order.{by_sign, pos_mul, square_nonneg}

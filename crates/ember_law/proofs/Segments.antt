@@ -158,7 +158,7 @@ back_form p q t lp lq =
     front_form (toward p q) q t lq ∙ (λ i. crossing (flip (sgn (value_at (support_of t) q))) (sgn (dot (normal_of (support_of t)) (toward p q))) (a i) (b i) (c i))
 
 -- the value of an edge plane at the point between, where the signs of the support plane differ
--- s, s': the support plane at p and q; e: the edge plane at p; ef, nf: along the direction; x: the edge's number
+-- s, s': the support plane at p and q; e: the edge plane at p; ef, nf: along the direction
 between_value : (w w' s s' e e' nf ef nk x : ℤ) → w *ℤ s' ≡ w' *ℤ s +ℤ nf → w *ℤ e' ≡ w' *ℤ e +ℤ ef → nf *ℤ (w *ℤ e) -ℤ s *ℤ (w *ℤ ef) ≡ neg_ℤ (nk *ℤ x) → w *ℤ w *ℤ (s' *ℤ e -ℤ s *ℤ e') ≡ neg_ℤ (nk *ℤ x)
 between_value w w' s s' e e' nf ef nk x hs he h =
     from_three (w *ℤ e) (neg_ℤ (w *ℤ s)) (pos 1) hs he h (solve 10 (λ w w' s s' e e' nf ef nk x. w ⊗ w ⊗ (s' ⊗ e ⊖ s ⊗ e') ⊖ neg (nk ⊗ x) ≈ w ⊗ e ⊗ (w ⊗ s' ⊖ (w' ⊗ s ⊕ nf)) ⊕ neg (w ⊗ s) ⊗ (w ⊗ e' ⊖ (w' ⊗ e ⊕ ef)) ⊕ num (pos 1) ⊗ (nf ⊗ (w ⊗ e) ⊖ s ⊗ (w ⊗ ef) ⊖ neg (nk ⊗ x))) cancels w w' s s' e e' nf ef nk x)

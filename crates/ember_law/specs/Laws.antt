@@ -1,4 +1,5 @@
--- The path law: at clear points all axes count alike, and between two of them the segment's crossings tell the difference
+-- The path law: at clear points all axes count alike, and the crossings of the segment between two
+-- of them tell the difference
 use Rattle.std.specs.Prelude.{◌≡◌, ℤ, pos, ◌<ℤ◌, ◌≤ℤ◌, List, false}
 use Rattle.std.specs.List.{AllByRecursion}
 use Rattle.ember_model.specs.declared.point.Spot.{Spot}
@@ -15,8 +16,8 @@ use Rattle.ember_law.specs.Counts.{added, leg_vector}
 abbrev pub AxesAgree : List Tri → Type 0
 AxesAgree ts = (p : Spot) (a b : Axis) → pos 0 <ℤ p.w → AreClear (faces_of ts) p → vector a ts p ≡ vector b ts p
 
--- of two clear points that differ at most in one coordinate, the vector at the first is that at the second with the
--- crossings of the segment from the first to the second
+-- of two clear points that differ at most in one coordinate, the vector at the first is that at the
+-- second with the crossings of the segment from the first to the second
 abbrev pub LegsTell : List Tri → Type 0
 LegsTell ts =
     (a b : Axis) (p q : Spot) → pos 0 <ℤ p.w → pos 0 <ℤ q.w → DifferAlong a p q → AreClear (faces_of ts) p → AreClear (faces_of ts) q → vector b ts p ≡ added (vector b ts q) (leg_vector ts p q)

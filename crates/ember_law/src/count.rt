@@ -9,7 +9,7 @@ ghost use Rattle.ember_law.specs.Laws.{AxesAgree, LegsTell, SegmentsKeep};
 
 use ember_model::{Axis, Scene, Spot, Tri, Vector, crossing, leg};
 
-/// Adds to the count of a mesh, 1 to 64.
+/// Adds 1, 0 or -1 to the count of a mesh. Meshes are numbered from 1 to 64.
 pub fn add_to(v: &mut Vector, mesh: u32, more: i32)
     requires first { 1 ≤ mesh }
     requires last { mesh ≤ 64 }
@@ -21,6 +21,7 @@ pub fn add_to(v: &mut Vector, mesh: u32, more: i32)
     v.counts[mesh as usize - 1] += more;
 }
 
+// The crossings of the ray from p along the axis with any triangles.
 pub fn count_rays(tris: &[Tri], p: &Spot, a: Axis, v: &mut Vector)
     requires valid { All IsValidTri tris.now }
     requires numbered { All (HasMesh 64) tris.now }
@@ -35,6 +36,7 @@ pub fn count_rays(tris: &[Tri], p: &Spot, a: Axis, v: &mut Vector)
     }
 }
 
+// The crossings of the segment from p to q with any triangles.
 pub fn count_legs(tris: &[Tri], p: &Spot, q: &Spot, a: Axis, v: &mut Vector)
     requires valid { All IsValidTri tris.now }
     requires numbered { All (HasMesh 64) tris.now }
@@ -53,6 +55,7 @@ pub fn count_legs(tris: &[Tri], p: &Spot, q: &Spot, a: Axis, v: &mut Vector)
 
 /// Adds to the count of each mesh the signed crossings of the ray from `p` along the axis with
 /// the mesh's faces. For a clear point these are its winding numbers there, whatever the axis.
+/// The counts leave room for the triangles of a scene: they are at most 2^24 - 262,144 in size.
 pub fn axis_count(s: &Scene, p: &Spot, a: Axis, v: &mut Vector)
     requires spot { IsValidSpot p.now }
     requires room { HasRoom v.old.counts }
@@ -66,7 +69,7 @@ pub fn axis_count(s: &Scene, p: &Spot, a: Axis, v: &mut Vector)
 /// Adds to the count of each mesh the signed crossings of the segment from `p` to `q` with the
 /// mesh's faces: 1 where the way from `p` to `q` leaves through the front. For clear points these
 /// are the winding numbers at `p` less those at `q`. As points of space `p` and `q` differ at most
-/// in the coordinate of the axis.
+/// in the coordinate of the axis. The counts leave room as for `axis_count`.
 pub fn leg_count(s: &Scene, p: &Spot, q: &Spot, a: Axis, v: &mut Vector)
     requires from { IsValidSpot p.now }
     requires to { IsValidSpot q.now }

@@ -1,7 +1,9 @@
 -- The crossing of a segment between two reference points, by the signs of a triangle's planes.
-use Rattle.std.proofs.Common.{◌≡◌, pred, ◌^◌, refl, sym, ap, ◌∙◌, arith, Bool, true, false, cond, ◌&&◌, List, ℤ, pos, ◌<ℤ◌}
+use Rattle.std.proofs.Common.{◌≡◌, ℕ, zero, suc, pred, ◌^◌, refl, sym, ap, ◌∙◌, arith, Bool, true, false, cond, ◌&&◌, List, [], ◌∷◌, All, get_or, ℤ, pos, ◌<ℤ◌}
+use Rattle.std.proofs.lemmas.List.Elements.{All-head, All-tail}
 use borrow.Author.Differences.{ints}
 use Rattle.ember_algebra.specs.Vector.{Vector}
+use Rattle.ember_algebra.specs.Size.{Small}
 use Rattle.ember_algebra.specs.declared.Sign.{Sign}
 use Rattle.ember_algebra.specs.Sign.{sgn, number, times, is_neg}
 use Rattle.ember_algebra.proofs.Laws.{linear}
@@ -20,9 +22,17 @@ use Rattle.ember_model.proofs.LegSigns.{leg_is}
 use Rattle.ember_box.specs.Boxes.{Cell, shifted_by, right_half}
 use Rattle.ember_box.specs.Near.{place}
 use Rattle.ember_box.specs.Reference.{reference_at, reference}
-use Rattle.ember_ref.specs.References.{corner_of, reference_of}
+use Rattle.ember_ref.specs.References.{corner_of, reference_of, IsBoxCorner}
 
 -- ---- reference points
+pub box_corner : (cs : List ℤ) → All (Small 2048) cs → IsBoxCorner (corner_of cs)
+box_corner cs h = record { x = at cs 0 h; y = at cs 1 h; z = at cs 2 h }
+  where
+    at : (cs : List ℤ) (i : ℕ) → All (Small 2048) cs → Small 2048 (get_or cs i (pos 0))
+    at [] i h = record { small = omega arith }
+    at (c ∷ cs) zero h = All-head (Small 2048) c cs h
+    at (c ∷ cs) (suc i) h = at cs i (All-tail (Small 2048) c cs h)
+
 weight_near : (m : ℤ) (v : Vector) → pos 0 <ℤ m → pos 0 <ℤ (shifted (place v) m).w
 weight_near m v l = pos_mul (pos_mul (pos_mul l l) l) (omega (arith, linear))
 

@@ -1,4 +1,5 @@
--- The sign of a plane at a reference point: that of the first of its value at the corner and its normal's entries that isn't 0.
+-- The sign of a plane at a reference point: that of the first of its value at the corner and its
+-- normal's entries that isn't 0.
 use Rattle.std.proofs.Common.{◌≡◌, ℕ, ◌^◌, ◌<◌, refl, sym, ap, ◌∙◌, arith, ℤ, pos, ◌+ℤ◌, ◌*ℤ◌}
 use Rattle.ember_algebra.specs.Vector.{Vector}
 use Rattle.ember_algebra.specs.Size.{Small}

@@ -1,4 +1,5 @@
--- The vector at the reference point of a box's right half, by the triangles near the box: for each scene that fits them.
+-- The vector at the reference point of a box's right half, by the triangles near the box: in each
+-- scene that fits them.
 use Rattle.std.proofs.Common.{◌≡◌, ◌⊎◌, inl, inr, refl, sym, ap, ◌∙◌, arith, ℕ, zero, suc, pred, ◌^◌, ◌<◌, ◌≤◌, Bool, true, false, cond, ◌&&◌, List, [], ◌∷◌, ℤ, pos, ◌+ℤ◌, ◌*ℤ◌, ◌<ℤ◌, ◌≤ℤ◌}
 use borrow.Author.Differences.{ints}
 use Rattle.std.proofs.Math.Nat.{pow-succ'}

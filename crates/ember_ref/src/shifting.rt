@@ -52,13 +52,6 @@ fn leg_between(t: &Tri, p: [i32; 3], q: [i32; 3], k: Axis) -> i32
     }
 }
 
-fn least_corner(c: &Cell) -> [i32; 3]
-    ensures value { corner_of result ≡ c.now.lo }
-    ensures sized { IsBoxCorner (corner_of result) }
-{
-    [c.low(Axis::X), c.low(Axis::Y), c.low(Axis::Z)]
-}
-
 /// Carries the winding numbers from the reference point of a box to that of its right half along
 /// an axis, by the triangles near the box: adds to the count of each mesh the signed crossings of
 /// the segment from the second point to the first. Its side along that axis is above 1.
@@ -72,8 +65,8 @@ pub fn shift(near: &[Tri], c: &Cell, k: Axis, v: &mut Vector)
     ensures law { ShiftsAll near.now c.now k v.old.counts v.new.counts }
     ensures within { (m : ℕ) → All (Small m) v.old.counts → All (Small (m + length near.now)) v.new.counts }
 {
-    let start = least_corner(c);
-    let end = least_corner(&halves(c, k).1);
+    let start = c.lo();
+    let end = halves(c, k).1.lo();
     for t in near {
         add_to(v, t.mesh, leg_between(t, end, start, k));
     }

@@ -31,6 +31,26 @@ fn value_at_corner(p: &Plane, at: [i32; 3]) -> i64
     p.a * x as i64 + p.b * y as i64 + p.c * z as i64 - p.d
 }
 
+// The sign of the first entry of the normal that isn't 0.
+fn lead_sign(p: &Plane) -> Sign
+    ensures { result ≡ or_sign (sgn p.now.a) (or_sign (sgn p.now.b) (sgn p.now.c)) }
+{
+    let a = sign_of(p.a as i128);
+    let b = sign_of(p.b as i128);
+    let c = sign_of(p.c as i128);
+    or_sign(a, or_sign(b, c))
+}
+
+// The sign at the corner, or where that is 0 the one beside it.
+fn or_lead(at: Sign, p: &Plane) -> Sign
+    ensures { result ≡ or_sign at (or_sign (sgn p.now.a) (or_sign (sgn p.now.b) (sgn p.now.c))) }
+{
+    match at {
+        Sign::Zero => lead_sign(p),
+        _ => at,
+    }
+}
+
 /// The sign of the plane at the reference point of a box with the least corner `lo`. It is never
 /// `Zero` where the plane has a normal: the first of the plane's value at the corner and the
 /// entries of its normal that isn't 0 decides.
@@ -40,11 +60,7 @@ pub fn lex_side(p: &Plane, lo: [i32; 3]) -> Sign
     ensures value { result ≡ sgn (value_at p.now (reference_of lo)) }
     ensures normal { result ≡ Sign.Zero → IsLevel p.now }
 {
-    let at = sign_of(value_at_corner(p, lo) as i128);
-    let a = sign_of(p.a as i128);
-    let b = sign_of(p.b as i128);
-    let c = sign_of(p.c as i128);
-    or_sign(at, or_sign(a, or_sign(b, c)))
+    or_lead(sign_of(value_at_corner(p, lo) as i128), p)
 }
 
 fn is_below(p: &Plane, at: [i32; 3]) -> bool

@@ -11,8 +11,8 @@ use Rattle.ember_law.proofs.Tallies.{no_tri, tally_more, tally_none}
 use Rattle.ember_law.proofs.Grown.{all_within}
 use Rattle.ember_box.specs.Boxes.{Cell, right_half}
 use Rattle.ember_box.specs.Reference.{reference}
-use Rattle.ember_ref.specs.References.{reference_of, carried}
-use Rattle.ember_ref.proofs.ReferenceLegs.{reference_is, halves_differ}
+use Rattle.ember_ref.specs.References.{corner_of, reference_of, carried}
+use Rattle.ember_ref.proofs.ReferenceLegs.{box_corner, reference_is, halves_differ}
 use Rattle.ember_ref.proofs.ShiftLaw.{shift_law}
 use Rattle.ember_ref.proofs.shifting.shift.Goals as goal
 
@@ -23,10 +23,16 @@ loop-t-init c =
       within = λ m h. all_within c.args.v.now.counts (omega arith) h;
     }
 
+pub leg_between-requires-clause-from : goal.leg_between-requires-clause-from
+leg_between-requires-clause-from c = box_corner c.lo-end.result c.lo-end.ensures.small
+
+pub leg_between-requires-clause-to : goal.leg_between-requires-clause-to
+leg_between-requires-clause-to c = box_corner c.lo-start.result c.lo-start.ensures.small
+
 pub leg_between-requires-clause-line : goal.leg_between-requires-clause-line
 leg_between-requires-clause-line c =
-    let k = c.args.k in let end = reference_is c.least_corner-end.result (right_half c.args.c.now c.args.k) (c.least_corner-end.ensures.value ∙ ap (λ (h : Cell). h.lo) c.halves.ensures.1) in let start = reference_is c.least_corner-start.result c.args.c.now c.least_corner-start.ensures.value in
-    subst (λ (p : Spot). DifferAlong k p (reference_of c.least_corner-start.result)) (sym end) (subst (λ (q : Spot). DifferAlong k (reference (right_half c.args.c.now k)) q) (sym start) (halves_differ c.args.c.now k))
+    let k = c.args.k in let end = reference_is c.lo-end.result (right_half c.args.c.now c.args.k) (ap corner_of c.lo-end.ensures.value ∙ ap (λ (h : Cell). h.lo) c.halves.ensures.1) in let start = reference_is c.lo-start.result c.args.c.now (ap corner_of c.lo-start.ensures.value) in
+    subst (λ (p : Spot). DifferAlong k p (reference_of c.lo-start.result)) (sym end) (subst (λ (q : Spot). DifferAlong k (reference (right_half c.args.c.now k)) q) (sym start) (halves_differ c.args.c.now k))
 
 pub add_to-requires-clause-room : goal.add_to-requires-clause-room
 add_to-requires-clause-room c =
@@ -37,7 +43,7 @@ pub loop-t-preserved : goal.loop-t-preserved
 loop-t-preserved c =
     let p = reference (right_half c.args.c.now c.args.k) in let q = reference c.args.c.now in let ts = c.args.near.now in let k = c.loop-t.t-index in
     let l = c.loop-t-test.true in let m = c.requires.numbered k no_tri l in
-    let ep = reference_is c.least_corner-end.result (right_half c.args.c.now c.args.k) (c.least_corner-end.ensures.value ∙ ap (λ (h : Cell). h.lo) c.halves.ensures.1) in let eq = reference_is c.least_corner-start.result c.args.c.now c.least_corner-start.ensures.value in
+    let ep = reference_is c.lo-end.result (right_half c.args.c.now c.args.k) (ap corner_of c.lo-end.ensures.value ∙ ap (λ (h : Cell). h.lo) c.halves.ensures.1) in let eq = reference_is c.lo-start.result c.args.c.now (ap corner_of c.lo-start.ensures.value) in
     let more = exact (c.leg_between.ensures.small & done) (stored w32 (input 0)) tt ∙ c.leg_between.ensures.value ∙ (λ i. leg (face_of (get_or ts k no_tri)) (ep i) (eq i)) in
     let old = c.loop-t.invariant.value in
     record {
