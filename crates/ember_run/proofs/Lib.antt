@@ -1,6 +1,8 @@
 pub mod Pieces
 pub mod Verdicts
 pub mod SceneFiles
+pub mod PointCounts
+pub mod AtVerdict
 pub mod Complete
 pub mod ReadBack
 pub mod FaceLists

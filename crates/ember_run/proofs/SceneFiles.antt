@@ -1,7 +1,7 @@
 -- The files of a scene, one after another.
-use Rattle.std.proofs.Common.{◌≡◌, ℕ, ◌+◌, ◌-◌, ◌<◌, ◌≤◌, zero, suc, true, false, List, [], ◌∷◌, ◌++◌, length, map, take, drop, get_or, nat_le, All, Some, None, refl, sym, ap, subst, arith, ◌∙◌, append_assoc, length-append}
+use Rattle.std.proofs.Common.{◌≡◌, ℕ, ◌+◌, ◌-◌, ◌<◌, ◌≤◌, zero, suc, true, false, List, [], ◌∷◌, ◌++◌, length, map, take, drop, get_or, nat_le, All, Some, None, Result, Ok, Err, IfOk, IfErr, refl, sym, ap, subst, arith, ◌∙◌, append_assoc, length-append}
 use Rattle.std.proofs.lemmas.Bool.{le-leb}
-use Rattle.std.proofs.lemmas.List.{take_more, drop_more, append-nil, length-map, map-append}
+use Rattle.std.proofs.lemmas.List.{take_more, append-nil, map-append}
 use Rattle.std.proofs.lemmas.Grind.{flat_map-append}
 use Rattle.std.specs.declared.option.Option.{Option}
 use Rattle.ember_balance.specs.Loose.{loose_of}
@@ -9,11 +9,12 @@ use Rattle.ember_balance.specs.declared.loose.Loose.{Loose}
 use Rattle.ember_mesh.specs.declared.states.Closed.{Closed}
 use Rattle.ember_mesh.specs.Joined.{AreNumbered, triangles_of}
 use Rattle.ember_mesh.specs.declared.fault.MeshFault.TheVariants.{Unbalanced}
+use Rattle.ember_model.specs.declared.scene.Scene.{Scene}
 use Rattle.ember_model.specs.declared.tri.Tri.{Tri}
 use Rattle.ember_run.specs.declared.status.Status.{Status}
 use Rattle.ember_run.specs.declared.status.LimitKind.TheVariants.{Triangles}
 use Rattle.ember_run.specs.declared.status.Status.TheVariants.{MeshRefused, Limit}
-use Rattle.ember_run.specs.Serves.{IsRefusal, IsSameIfTold}
+use Rattle.ember_run.specs.Serves.{IsRefusal, IsSameIfTold, is_refusal}
 use Rattle.ember_run.specs.Scenes.{HasParts, MayRead}
 use Rattle.ember_run.specs.Verdict.{Contents, Verdict, Untold, after_balance, after_file, after_files, after_mesh, after_scene, after_total, first_told}
 use Rattle.ember_run.proofs.Verdicts.{same_self, same_then, refusal_then, untold_then, above}
@@ -41,10 +42,12 @@ more_read told files k d more l =
     ap (λ (names : List (List ℕ)). map told names ++ more) (take_more files k d l) ∙ ap (λ (xs : Contents). xs ++ more) (map-append told (take k files) (get_or files k d ∷ [])) ∙ append_assoc (map told (take k files)) (told (get_or files k d) ∷ []) more
 
 read_count : (told : List ℕ → Option (List ℕ)) (files : List (List ℕ)) (k : ℕ) → k ≤ length files → length (map told (take k files)) ≡ k
-read_count told files k l = grind arith
+read_count told files zero l = refl
+read_count told [] (suc k) l = absurd (omega (arith, l))
+read_count told (file ∷ files) (suc k) l = ap suc (read_count told files k (omega (arith, l)))
 
-pub more_parts : (places : ℕ) (told : List ℕ → Option (List ℕ)) (files : List (List ℕ)) (k : ℕ) (d : List ℕ) (parts : List Closed) (part : Closed) → k < length files → HasParts places (map told (take k files)) parts → All (λ t. t.mesh ≡ k + 1) part.tris → ((next : List Tri → Verdict) → IsSameIfTold (after_mesh places (k + 1) (told (get_or files k d)) next) (next part.tris)) → HasParts places (map told (take (k + 1) files)) (parts ++ part ∷ [])
-more_parts places told files k d parts part l h numbered read =
+more_same : (places : ℕ) (told : List ℕ → Option (List ℕ)) (files : List (List ℕ)) (k : ℕ) (d : List ℕ) (parts : List Closed) (part : Closed) → k < length files → HasParts places (map told (take k files)) parts → All (λ t. t.mesh ≡ k + 1) part.tris → ((next : List Tri → Verdict) → IsSameIfTold (after_mesh places (k + 1) (told (get_or files k d)) next) (next part.tris)) → HasParts places (map told (take (k + 1) files)) (parts ++ part ∷ [])
+more_same places told files k d parts part l h numbered read =
     let n = read_count told files k (omega (arith, l)) in
     let m = read_count told files (k + 1) (omega (arith, l)) in
     let all = flat_map-append (λ (part : Closed). part.tris) parts (part ∷ []) ∙ ap (λ (ts : List Tri). triangles_of parts ++ ts) (append-nil part.tris) in
@@ -52,28 +55,36 @@ more_parts places told files k d parts part l h numbered read =
       count = length-append parts (part ∷ []) ∙ ap (λ (n : ℕ). n + 1) (h.count ∙ n) ∙ sym m;
       numbered = numbered_more 1 parts part h.numbered (subst (λ (n : ℕ). All (λ t. t.mesh ≡ n) part.tris) (omega (arith, h.count, n)) numbered);
       same = λ more next.
-        subst (λ (contents : Contents). IsSameIfTold (after_scene places contents next) (after_files places (length (map told (take (k + 1) files)) + 1) (triangles_of (parts ++ part ∷ [])) more next)) (sym (more_read told files k d more l))
-        (subst (λ (tris : List Tri). IsSameIfTold (after_scene places (map told (take k files) ++ told (get_or files k d) ∷ more) next) (after_files places (length (map told (take (k + 1) files)) + 1) tris more next)) (sym all)
-        (subst (λ (n : ℕ). IsSameIfTold (after_scene places (map told (take k files) ++ told (get_or files k d) ∷ more) next) (after_files places (n + 1) (triangles_of parts ++ part.tris) more next)) (sym m)
-        (same_then _ _ _ (h.same (told (get_or files k d) ∷ more) next)
-        (subst (λ (n : ℕ). IsSameIfTold (after_files places (n + 1) (triangles_of parts) (told (get_or files k d) ∷ more) next) (after_files places (k + 1 + 1) (triangles_of parts ++ part.tris) more next)) (sym n)
-        (read (λ mesh. after_files places (k + 1 + 1) (triangles_of parts ++ mesh) more next))))));
+          subst (λ (contents : Contents). IsSameIfTold (after_scene places contents next) (after_files places (length (map told (take (k + 1) files)) + 1) (triangles_of (parts ++ part ∷ [])) more next)) (sym (more_read told files k d more l))
+          (subst (λ (tris : List Tri). IsSameIfTold (after_scene places (map told (take k files) ++ told (get_or files k d) ∷ more) next) (after_files places (length (map told (take (k + 1) files)) + 1) tris more next)) (sym all)
+          (subst (λ (n : ℕ). IsSameIfTold (after_scene places (map told (take k files) ++ told (get_or files k d) ∷ more) next) (after_files places (n + 1) (triangles_of parts ++ part.tris) more next)) (sym m)
+          (same_then _ _ _ (h.same (told (get_or files k d) ∷ more) next)
+          (subst (λ (n : ℕ). IsSameIfTold (after_files places (n + 1) (triangles_of parts) (told (get_or files k d) ∷ more) next) (after_files places (k + 1 + 1) (triangles_of parts ++ part.tris) more next)) (sym n)
+          (read (λ mesh. after_files places (k + 1 + 1) (triangles_of parts ++ mesh) more next))))));
     }
 
--- ---- a file that gives no mesh
--- all contents are those read, that of the next file, and the others
-all_contents : (told : List ℕ → Option (List ℕ)) (files : List (List ℕ)) (k : ℕ) (d : List ℕ) → k < length files → map told files ≡ map told (take k files) ++ told (get_or files k d) ∷ map told (drop (k + 1) files)
-all_contents told [] k d l = absurd (omega (arith, l))
-all_contents told (file ∷ files) zero d l = refl
-all_contents told (file ∷ files) (suc k) d l = ap (λ (xs : Contents). told file ∷ xs) (all_contents told files k d (omega (arith, l)))
+pub more_parts : (places : ℕ) (told now : List ℕ → Option (List ℕ)) (files : List (List ℕ)) (k number : ℕ) (d name : List ℕ) (parts all : List Closed) (part : Closed) → k < length files → HasParts places (map told (take k files)) parts → now ≡ told → number ≡ k + 1 → name ≡ get_or files k d → all ≡ parts ++ part ∷ [] → All (λ t. t.mesh ≡ number) part.tris → ((next : List Tri → Verdict) → IsSameIfTold (after_mesh places number (now name) next) (next part.tris)) → HasParts places (map told (take (k + 1) files)) all
+more_parts places told now files k number d name parts all part l h t e n a numbered read =
+    subst (λ (all : List Closed). HasParts places (map told (take (k + 1) files)) all) (sym a)
+    (more_same places told files k d parts part l h (subst (λ (number : ℕ). All (λ t. t.mesh ≡ number) part.tris) e numbered)
+    (λ next. subst (λ (c : Option (List ℕ)). IsSameIfTold (after_mesh places (k + 1) c next) (next part.tris)) (λ i. t i (n i)) (subst (λ (number : ℕ). IsSameIfTold (after_mesh places number (now name) next) (next part.tris)) e (read next))))
 
-pub part_refused : (places : ℕ) (told : List ℕ → Option (List ℕ)) (files : List (List ℕ)) (k : ℕ) (d : List ℕ) (parts : List Closed) (status : Status) (next : List Tri → Verdict) → k < length files → HasParts places (map told (take k files)) parts → ((next : List Tri → Verdict) → IsRefusal status (after_mesh places (k + 1) (told (get_or files k d)) next)) → IsRefusal status (after_scene places (map told files) next)
-part_refused places told files k d parts status next l h refused =
-    let more = map told (drop (k + 1) files) in
-    subst (λ (contents : Contents). IsRefusal status (after_scene places contents next)) (sym (all_contents told files k d l))
-    (refusal_then status _ _ (h.same (told (get_or files k d) ∷ more) next)
-    (subst (λ (n : ℕ). IsRefusal status (after_files places (n + 1) (triangles_of parts) (told (get_or files k d) ∷ more) next)) (sym (read_count told files k (omega (arith, l))))
-    (refused (λ mesh. after_files places (k + 1 + 1) (triangles_of parts ++ mesh) more next))))
+-- ---- a file that gives no mesh
+-- all contents are those read, that of the next file, and others
+all_contents : (told : List ℕ → Option (List ℕ)) (files : List (List ℕ)) (k : ℕ) (d : List ℕ) → k < length files → (more : Contents) × (map told files ≡ map told (take k files) ++ told (get_or files k d) ∷ more)
+all_contents told [] k d l = absurd (omega (arith, l))
+all_contents told (file ∷ files) zero d l = (map told files, refl)
+all_contents told (file ∷ files) (suc k) d l =
+    let r = all_contents told files k d (omega (arith, l)) in (r.0, ap (λ (xs : Contents). told file ∷ xs) r.1)
+
+pub part_refused : (places : ℕ) (told now : List ℕ → Option (List ℕ)) (files : List (List ℕ)) (k number : ℕ) (d name : List ℕ) (parts : List Closed) (status : Status) (next : List Tri → Verdict) → k < length files → HasParts places (map told (take k files)) parts → now ≡ told → number ≡ k + 1 → name ≡ get_or files k d → ((next : List Tri → Verdict) → IsRefusal status (after_mesh places number (now name) next)) → IsRefusal status (after_scene places (map told files) next)
+part_refused places told now files k number d name parts status next l h t e n refused =
+    let r = all_contents told files k d l in
+    let rest = λ (mesh : List Tri). after_files places (k + 1 + 1) (triangles_of parts ++ mesh) r.0 next in
+    subst (λ (contents : Contents). IsRefusal status (after_scene places contents next)) (sym r.1)
+    (refusal_then status _ _ (h.same (told (get_or files k d) ∷ r.0) next)
+    (subst (λ (n : ℕ). IsRefusal status (after_files places (n + 1) (triangles_of parts) (told (get_or files k d) ∷ r.0) next)) (sym (read_count told files k (omega (arith, l))))
+    (subst (λ (c : Option (List ℕ)). IsRefusal status (after_mesh places (k + 1) c rest)) (λ i. t i (n i)) (subst (λ (number : ℕ). IsRefusal status (after_mesh places number (now name) rest)) e (refused rest)))))
 
 first_contents : (told : List ℕ → Option (List ℕ)) (files : List (List ℕ)) (k : ℕ) → k < length files → (more : Contents) × (first_told k (map told files) ≡ map told (take k files) ++ None ∷ more)
 first_contents told [] k l = absurd (omega (arith, l))
@@ -81,10 +92,10 @@ first_contents told (file ∷ files) zero l = (first_told 0 (map told files), re
 first_contents told (file ∷ files) (suc k) l =
     let r = first_contents told files k (omega (arith, l)) in (r.0, ap (λ (xs : Contents). told file ∷ xs) r.1)
 
-pub part_unread : (places : ℕ) (told : List ℕ → Option (List ℕ)) (files : List (List ℕ)) (k i : ℕ) (parts : List Closed) → k < length files → HasParts places (map told (take k files)) parts → i ≡ k + 1 → MayRead places (map told files) i
-part_unread places told files k i parts l h e next =
+pub part_unread : (places : ℕ) (told : List ℕ → Option (List ℕ)) (files : List (List ℕ)) (k number i : ℕ) (parts : List Closed) → k < length files → HasParts places (map told (take k files)) parts → number ≡ k + 1 → i ≡ number → MayRead places (map told files) i
+part_unread places told files k number i parts l h e q next =
     let r = first_contents told files k l in
-    let n : i - 1 ≡ k = omega (arith, e) in
+    let n : i - 1 ≡ k = omega (arith, e, q) in
     subst (λ (n : ℕ). after_scene places (first_told n (map told files)) next ≡ Untold) (sym n)
     (subst (λ (contents : Contents). after_scene places contents next ≡ Untold) (sym r.1)
     (untold_then _ _ (h.same (None ∷ r.0) next) refl))
@@ -96,10 +107,18 @@ few_joined tris next l = rw (le-leb (length tris) 262144 l) refl
 pub many_refused : (tris : List Tri) (count : ℕ) (next : List Tri → Verdict) → count ≡ length tris → 262144 < count → IsRefusal (Limit Triangles count) (after_total tris next)
 many_refused tris count next e l = subst (λ (n : ℕ). IsRefusal (Limit Triangles n) (after_total tris next)) (sym e) (rw (above (length tris) 262144 (omega (arith, e, l))) refl)
 
-pub scene_joined : (places : ℕ) (contents : Contents) (parts : List Closed) (tris : List Tri) (next : List Tri → Verdict) → HasParts places contents parts → after_total (triangles_of parts) next ≡ next tris → IsSameIfTold (after_scene places contents next) (next tris)
+scene_joined : (places : ℕ) (contents : Contents) (parts : List Closed) (tris : List Tri) (next : List Tri → Verdict) → HasParts places contents parts → after_total (triangles_of parts) next ≡ next tris → IsSameIfTold (after_scene places contents next) (next tris)
 scene_joined places contents parts tris next h e =
     subst (λ (v : Verdict). IsSameIfTold (after_scene places contents next) v) e (subst (λ (cs : Contents). IsSameIfTold (after_scene places cs next) (after_total (triangles_of parts) next)) (append-nil contents) (h.same [] next))
 
-pub scene_refused : (places : ℕ) (contents : Contents) (parts : List Closed) (status : Status) (next : List Tri → Verdict) → HasParts places contents parts → IsRefusal status (after_total (triangles_of parts) next) → IsRefusal status (after_scene places contents next)
+scene_refused : (places : ℕ) (contents : Contents) (parts : List Closed) (status : Status) (next : List Tri → Verdict) → HasParts places contents parts → IsRefusal status (after_total (triangles_of parts) next) → IsRefusal status (after_scene places contents next)
 scene_refused places contents parts status next h r =
     refusal_then status _ _ (subst (λ (cs : Contents). IsSameIfTold (after_scene places cs next) (after_total (triangles_of parts) next)) (append-nil contents) (h.same [] next)) r
+
+pub joined_if : {E : Type 0} (places : ℕ) (contents : Contents) (parts : List Closed) (result : Result Scene E) → HasParts places contents parts → IfOk result (λ scene. (next : List Tri → Verdict) → after_total (triangles_of parts) next ≡ next scene.tris) → IfOk result (λ scene. (next : List Tri → Verdict) → IsSameIfTold (after_scene places contents next) (next scene.tris))
+joined_if places contents parts (Ok scene) h e = λ next. scene_joined places contents parts scene.tris next h (e next)
+joined_if places contents parts (Err error) h e = tt
+
+pub refused_if : {A : Type 0} (places : ℕ) (contents : Contents) (parts : List Closed) (result : Result A Status) → HasParts places contents parts → IfErr result (λ status. is_refusal status ≡ true → (next : List Tri → Verdict) → IsRefusal status (after_total (triangles_of parts) next)) → IfErr result (λ status. is_refusal status ≡ true → (next : List Tri → Verdict) → IsRefusal status (after_scene places contents next))
+refused_if places contents parts (Ok value) h e = tt
+refused_if places contents parts (Err status) h e = λ r next. scene_refused places contents parts status next h (e r next)

@@ -1,5 +1,5 @@
 -- What follows on a step of a verdict, and what the reading of a file says of it.
-use Rattle.std.proofs.Common.{◌≡◌, ℕ, ◌<◌, ◌≤◌, true, false, List, length, nat_le, Some, None, Result, Ok, Err, refl, sym, subst, arith, leb, ◌⊎◌, inl, inr, ◌∙◌}
+use Rattle.std.proofs.Common.{◌≡◌, ℕ, ◌<◌, ◌≤◌, true, false, List, length, nat_le, Some, None, Result, Ok, Err, refl, sym, ap, subst, arith, leb, ◌⊎◌, inl, inr, ◌∙◌}
 use Rattle.std.proofs.lemmas.Bool.{le-leb}
 use Rattle.std.proofs.lemmas.Bool.Decides.{leb_tells}
 use Rattle.std.specs.declared.option.Option.{Option}
@@ -43,6 +43,15 @@ pub untold_then : (u v : Verdict) → IsSameIfTold u v → v ≡ Untold → u �
 untold_then Untold v e f = refl
 untold_then (Refused refusal) v e f = e ∙ f
 untold_then (Writes output) v e f = e ∙ f
+
+-- ---- errors
+abbrev error_or : {A E : Type 0} → Result A E → E → E
+error_or (Ok value) other = other
+error_or (Err error) other = error
+
+-- one error, whatever the value might have been
+pub same_error : {A B E : Type 0} (error other : E) → ◌≡◌ {A = Result A E} (Err error) (Err other) → ◌≡◌ {A = Result B E} (Err error) (Err other)
+same_error {A = A} {E = E} error other e = ap Err (ap (λ (r : Result A E). error_or r error) e)
 
 -- ---- a file
 pub above : (a b : ℕ) → b < a → nat_le a b ≡ false

@@ -1,9 +1,7 @@
 // The command `at`.
-ghost use Rattle.std.specs.Prelude.{ℕ, ◌≡◌, ◌≢◌, ◌≤◌, ◌++◌, ◌-◌, Bool, length, map, take, true, All, None, Some, Err, IfOk, IfErr, OnOk};
+ghost use Rattle.std.specs.Prelude.{ℕ, ◌≡◌, ◌≢◌, ◌≤◌, ◌++◌, ◌-◌, length, map, true, All, Err, IfOk, IfErr, OnOk};
 ghost use Rattle.std.specs.List.{list_all};
-ghost use Rattle.std.specs.declared.option.Option.{Option};
-ghost use Rattle.ember_expr.specs.Formula.{Formula, formula_of};
-ghost use Rattle.ember_expr.specs.Truth.{AreCounts, truth};
+ghost use Rattle.ember_expr.specs.Truth.{AreCounts};
 ghost use Rattle.ember_io.specs.Causes.{Rose};
 ghost use Rattle.ember_model.specs.declared.point.Axis.TheVariants.{X};
 ghost use Rattle.ember_model.specs.ClearTest.{is_clear_of};
@@ -11,9 +9,8 @@ ghost use Rattle.ember_model.specs.Meshes.{vector};
 ghost use Rattle.ember_model.specs.Valid.{IsValidSpot, IsValidTri};
 ghost use Rattle.ember_run.specs.Given.{given_formula};
 ghost use Rattle.ember_run.specs.Outputs.{count_line, count_lines, counts_text, value_line, value_lines};
-ghost use Rattle.ember_run.specs.Scenes.{MayRead};
 ghost use Rattle.ember_run.specs.Serves.{IsRefusal, IsText, is_refusal};
-ghost use Rattle.ember_run.specs.Verdict.{Untold, Verdict, after_given, at_verdict, first_told};
+ghost use Rattle.ember_run.specs.Verdict.{Untold, at_verdict, counts_verdict, first_told};
 
 use crate::expression::parse_given;
 use crate::scene::read_scene;
@@ -35,6 +32,7 @@ fn is_clear(point: &Spot, tri: &Tri) -> bool
 }
 
 // Whether the point is clear of all these triangles.
+#[tactic(auto, using(crate::proofs::PointCounts::all_more))]
 fn is_clear_of_all(point: &Spot, tris: &[Tri]) -> bool
     requires point { IsValidSpot point.now }
     requires tris { All IsValidTri tris.now }
@@ -91,11 +89,7 @@ fn value_text(holds: bool) -> &'static [u8]
 }
 
 // The value of the expression, where one is given.
-fn put_value(
-    counts: &Vector,
-    expr: &Option<Expr>,
-    text: &mut Vec<u8>,
-) -> Result<(), OutOfMemory>
+fn put_value(counts: &Vector, expr: &Option<Expr>, text: &mut Vec<u8>) -> Result<(), OutOfMemory>
     requires { AreCounts counts.now.counts }
     ensures { OnOk result (text.new.items ≡ text.old.items ++ value_lines counts.now.counts (given_formula expr.now)) }
 {
@@ -122,6 +116,29 @@ fn counts_lines(
     Ok(text)
 }
 
+// The text at a point, where that is clear of the scene.
+#[tactic(auto, using(crate::proofs::AtVerdict::clear_text, crate::proofs::AtVerdict::unclear_refused))]
+fn text_at(
+    alloc: Global,
+    point: &Spot,
+    scene: &Scene,
+    meshes: usize,
+    expr: &Option<Expr>,
+) -> Result<Vec<u8>, Status>
+    requires point { IsValidSpot point.now }
+    requires meshes { meshes ≤ 64 }
+    ensures text { IfOk result (λ text. IsText (counts_verdict point.now meshes (given_formula expr.now) scene.now.tris) text.items) }
+    ensures refused { IfErr result (λ status. is_refusal status ≡ true → IsRefusal status (counts_verdict point.now meshes (given_formula expr.now) scene.now.tris)) }
+    ensures only { (i : ℕ) → result ≢ Err (Status.ReadFault i) }
+    ensures no_other { (result ≢ Err Status.Done) × (result ≢ Err Status.Words) × (result ≢ Err Status.WriteFault) }
+{
+    if !is_clear_of_all(point, scene.tris.items()) {
+        return Err(Status::NotClear);
+    }
+    let counts = counts_at(scene, point);
+    Ok(counts_lines(alloc, meshes, &counts, expr)?)
+}
+
 /// The text of `at`: the winding number of each mesh at the point, in the scaled unit, and the
 /// expression's value, where one is given. `places` is at most 3, and there are at most 64 files.
 pub fn at_output<S: Shelf>(
@@ -143,11 +160,13 @@ pub fn at_output<S: Shelf>(
     ensures no_other { (result ≢ Err Status.Done) × (result ≢ Err Status.Words) × (result ≢ Err Status.WriteFault) }
 {
     let files = files.items();
-    let expr = parse_given(alloc, expr, files.len() as u32)?;
-    let scene = read_scene(alloc, shelf, files, places)?;
-    if !is_clear_of_all(point, scene.tris.items()) {
-        return Err(Status::NotClear);
-    }
-    let counts = counts_at(&scene, point);
-    Ok(counts_lines(alloc, files.len(), &counts, &expr)?)
+    let expr = match parse_given(alloc, expr, files.len() as u32) {
+        Ok(expr) => expr,
+        Err(status) => return Err(status),
+    };
+    let scene = match read_scene(alloc, shelf, files, places) {
+        Ok(scene) => scene,
+        Err(status) => return Err(status),
+    };
+    text_at(alloc, point, &scene, files.len(), &expr)
 }

@@ -27,11 +27,7 @@ pub fn parse_text(alloc: Global, text: &Text, meshes: u32) -> Result<Expr, Statu
 }
 
 /// The expression of a text, where one is given.
-pub fn parse_given(
-    alloc: Global,
-    text: &Option<Text>,
-    meshes: u32,
-) -> Result<Option<Expr>, Status>
+pub fn parse_given(alloc: Global, text: &Option<Text>, meshes: u32) -> Result<Option<Expr>, Status>
     requires { meshes ≤ 64 }
     ensures expr { IfOk result (λ expr. (next : Option Formula → Verdict) → after_given text.now meshes next ≡ next (given_formula expr)) }
     ensures refused { IfErr result (λ status. is_refusal status ≡ true → (next : Option Formula → Verdict) → IsRefusal status (after_given text.now meshes next)) }

@@ -1,23 +1,17 @@
 //! The top call: from words and files to the output, the line on err and the exit status.
 #![tactic(auto)]
 
-mod answer;
 mod at;
-mod boole;
-mod crew;
 mod expression;
 mod faces;
 mod law;
 mod lines;
-mod pairs;
 mod reading;
 mod scene;
-mod slice;
 mod status;
 #[cfg(test)]
 mod tests;
 mod top;
-mod voxels;
 
 pub use law::{face_files_have_one_reading, faces_wind_as_read};
 pub use status::{FaceFault, LimitKind, Status};

@@ -1,5 +1,6 @@
 // The line on err of a status.
-ghost use Rattle.std.specs.Prelude.{◌≡◌, [], ◌∷◌, Some, flat_map};
+ghost use Rattle.std.specs.Prelude.{◌≡◌, [], ◌∷◌, Some, decimal, flat_map};
+ghost use Rattle.std.specs.Fmt.{signed_decimal};
 ghost use Rattle.ember_run.specs.Said.{Says};
 ghost use Rattle.ember_run.specs.Verdict.{names_of};
 ghost use Rattle.ember_run.specs.Lines.{decimal_text, endless_line, expr_line, face_line, fault_line, line_on_err, loose_line, mesh_line, name_of, no_mesh_line, obj_line, place_line, triangles_line};
@@ -10,6 +11,7 @@ use ember_dec::DecFault;
 use ember_expr::ExprFault;
 use ember_io::{Sink, write_all};
 use ember_mesh::MeshFault;
+use ember_model::Corner;
 use ember_obj::ObjFault;
 use ember_words::{Command, Text, Texts};
 use itoa::Buffer;
@@ -96,11 +98,34 @@ fn say_obj_fault<E: Sink>(err: &mut E, name: &[u8], fault: &ObjFault)
     }
 }
 
+fn x_digits<'a>(buffer: &'a mut Buffer, corner: &Corner) -> &'a [u8]
+    ensures { result.now ≡ signed_decimal corner.now.x }
+{
+    buffer.format(corner.x).as_bytes()
+}
+
+fn y_digits<'a>(buffer: &'a mut Buffer, corner: &Corner) -> &'a [u8]
+    ensures { result.now ≡ signed_decimal corner.now.y }
+{
+    buffer.format(corner.y).as_bytes()
+}
+
+fn z_digits<'a>(buffer: &'a mut Buffer, corner: &Corner) -> &'a [u8]
+    ensures { result.now ≡ signed_decimal corner.now.z }
+{
+    buffer.format(corner.z).as_bytes()
+}
+
+fn count_digits(buffer: &mut Buffer, count: u32) -> &[u8]
+    ensures { result.now ≡ decimal count }
+{
+    buffer.format(count).as_bytes()
+}
+
 // The line of an edge that stands more often than its reverse.
 fn say_loose<E: Sink>(err: &mut E, name: &[u8], loose: &Loose)
     ensures { Says (E.faults err.old) (E.faults err.new) (E.taken err.old) (E.taken err.new) (loose_line name.now loose.now) }
 {
-    let (from, to) = (loose.from, loose.to);
     let (mut x, mut y, mut z) = (Buffer::new(), Buffer::new(), Buffer::new());
     let (mut u, mut v, mut w) = (Buffer::new(), Buffer::new(), Buffer::new());
     let (mut there, mut back) = (Buffer::new(), Buffer::new());
@@ -110,21 +135,21 @@ fn say_loose<E: Sink>(err: &mut E, name: &[u8], loose: &Loose)
             b"ember: ",
             name,
             b": edge ",
-            x.format(from.x).as_bytes(),
+            x_digits(&mut x, &loose.from),
             b" ",
-            y.format(from.y).as_bytes(),
+            y_digits(&mut y, &loose.from),
             b" ",
-            z.format(from.z).as_bytes(),
+            z_digits(&mut z, &loose.from),
             b" to ",
-            u.format(to.x).as_bytes(),
+            x_digits(&mut u, &loose.to),
             b" ",
-            v.format(to.y).as_bytes(),
+            y_digits(&mut v, &loose.to),
             b" ",
-            w.format(to.z).as_bytes(),
+            z_digits(&mut w, &loose.to),
             b" stands ",
-            there.format(loose.there).as_bytes(),
+            count_digits(&mut there, loose.there),
             b" times and ",
-            back.format(loose.back).as_bytes(),
+            count_digits(&mut back, loose.back),
             b" times reversed\n",
         ],
     );
@@ -145,10 +170,7 @@ fn say_place<E: Sink>(err: &mut E, fault: &[u8], place: u32)
 {
     let mut buffer = Buffer::new();
     let place = buffer.format(place).as_bytes();
-    say(
-        err,
-        &[b"ember: expression: ", fault, b" at ", place, b"\n"],
-    );
+    say(err, &[b"ember: expression: ", fault, b" at ", place, b"\n"]);
 }
 
 fn say_no_mesh<E: Sink>(err: &mut E, number: u32)
@@ -178,10 +200,13 @@ fn say_endless<E: Sink>(err: &mut E, name: &[u8], number: u32)
 {
     let mut buffer = Buffer::new();
     let number = buffer.format(number).as_bytes();
-    say(
-        err,
-        &[b"ember: ", name, b": face ", number, b" endless\n"],
-    );
+    say(err, &[b"ember: ", name, b": face ", number, b" endless\n"]);
+}
+
+fn say_no_face_file<E: Sink>(err: &mut E, name: &[u8])
+    ensures { Says (E.faults err.old) (E.faults err.new) (E.taken err.old) (E.taken err.new) (face_line name.now FaceFault.Form) }
+{
+    say(err, &[b"ember: ", name, b": not a face file\n"]);
 }
 
 // The line of a face file's fault.
@@ -189,7 +214,7 @@ fn say_face_fault<E: Sink>(err: &mut E, name: &[u8], fault: &FaceFault)
     ensures { Says (E.faults err.old) (E.faults err.new) (E.taken err.old) (E.taken err.new) (face_line name.now fault.now) }
 {
     match fault {
-        FaceFault::Form => say(err, &[b"ember: ", name, b": not a face file\n"]),
+        FaceFault::Form => say_no_face_file(err, name),
         FaceFault::Endless(number) => say_endless(err, name, *number),
     }
 }

@@ -62,7 +62,10 @@ fn read_parts<S: Shelf>(
     let mut parts = Vec::new(alloc);
     let mut number = 1;
     for file in files {
-        let part = read_mesh(alloc, shelf, file.as_str(), number, places)?;
+        let part = match read_mesh(alloc, shelf, file.as_str(), number, places) {
+            Ok(part) => part,
+            Err(status) => return Err(status),
+        };
         parts.push(part)?;
         number += 1;
     }

@@ -11,16 +11,10 @@ ghost use Rattle.ember_run.specs.Lines.{line_on_err};
 ghost use Rattle.ember_run.specs.Serves.{IsBegun, IsRefusal, IsText, IsWritten, Serves, is_refusal};
 ghost use Rattle.ember_run.specs.Verdict.{Untold, names_of, told_verdict, verdict_before};
 
-use crate::answer::Answer;
 use crate::at::at_output;
-use crate::boole::{boole_output, demo_output};
-use crate::crew::{Alone, Crew, Workers};
 use crate::faces::faces_output;
 use crate::lines::{say_out_of_memory, say_status, say_words_refused};
-use crate::pairs::pairs_output;
-use crate::slice::slice_output;
 use crate::status::Status;
-use crate::voxels::voxels_output;
 use ember_io::{Shelf, Sink, write_all};
 use ember_words::{Command, WordsFault, read_words};
 use std::alloc::Global;
@@ -29,42 +23,25 @@ use std::thread::Threads;
 use steal_pool::Gate;
 
 // The output of the command, or why there is none.
-fn output_of<S: Shelf, C: Crew>(
-    alloc: Global,
-    command: &Command,
-    shelf: &mut S,
-    crew: &C,
-) -> Result<Answer, Status> {
-    let out = match command {
-        Command::Faces { places, file } => faces_output(alloc, *places as u8, file, shelf)?,
+fn output_of<S: Shelf>(alloc: Global, command: &Command, shelf: &mut S) -> Result<Vec<u8>, Status>
+    requires { IsWithinLimits command.now }
+    ensures contents { S.contents shelf.new ≡ S.contents shelf.old }
+    ensures later { S.faults shelf.old ≤ S.faults shelf.new }
+    ensures text { IfOk result (λ text. IsText (told_verdict (Some command.now) (S.contents shelf.old)) text.items) }
+    ensures refused { IfErr result (λ status. is_refusal status ≡ true → IsRefusal status (told_verdict (Some command.now) (S.contents shelf.old))) }
+    ensures read_fault { (i : ℕ) → result ≡ Err (Status.ReadFault i) → Rose (S.faults shelf.old) (S.faults shelf.new) × (S.fault_at shelf.new ≡ i) × (verdict_before i (Some command.now) (S.contents shelf.old) ≡ Untold) }
+    ensures no_other { (result ≢ Err Status.Done) × (result ≢ Err Status.WriteFault) }
+{
+    match command {
+        Command::Faces { places, file } => faces_output(alloc, *places as u8, file, shelf),
         Command::At {
             point,
             expr,
             places,
             files,
-        } => at_output(alloc, point, expr, *places as u8, files, shelf)?,
-        Command::Boole {
-            expr,
-            places,
-            report,
-            files,
-            ..
-        } => return boole_output(alloc, expr, *places as u8, *report, files, shelf, crew),
-        Command::Demo { boxes, .. } => demo_output(alloc, *boxes, crew)?,
-        Command::Voxels {
-            expr,
-            size,
-            places,
-            files,
-            ..
-        } => voxels_output(alloc, expr, *size as u8, *places as u8, files, shelf, crew)?,
-        Command::Pairs { places, files, .. } => {
-            pairs_output(alloc, *places as u8, files, shelf, crew)?
-        }
-        Command::Slice { at, file } => slice_output(alloc, *at, file, shelf)?,
-    };
-    let err = Vec::new(alloc);
-    Ok(Answer { out, err })
+        } => at_output(alloc, point, expr, *places as u8, files, shelf),
+        _ => Err(Status::Words),
+    }
 }
 
 // Writes the output.
@@ -81,46 +58,25 @@ fn write_output<O: Sink>(out: &mut O, text: &[u8]) -> Status
 }
 
 // Does what the command asks for.
-fn do_command<S: Shelf, O: Sink, E: Sink, C: Crew>(
+fn do_command<S: Shelf, O: Sink>(
     alloc: Global,
     command: &Command,
     shelf: &mut S,
     out: &mut O,
-    err: &mut E,
-    crew: &C,
-) -> Status {
-    match output_of(alloc, command, shelf, crew) {
-        Ok(answer) => {
-            let status = write_output(out, &answer.out);
-            if status == Status::Done {
-                let _ = write_all(err, &answer.err);
-            }
-            status
-        }
+) -> Status
+    requires { IsWithinLimits command.now }
+    ensures contents { S.contents shelf.new ≡ S.contents shelf.old }
+    ensures later { S.faults shelf.old ≤ S.faults shelf.new }
+    ensures out_later { O.faults out.old ≤ O.faults out.new }
+    ensures done { result ≡ Status.Done → IsWritten (told_verdict (Some command.now) (S.contents shelf.old)) (O.taken out.old) (O.taken out.new) × IsFlushed (O.taken out.new) (O.flushed out.new) }
+    ensures refused { is_refusal result ≡ true → IsRefusal result (told_verdict (Some command.now) (S.contents shelf.old)) }
+    ensures read_fault { (i : ℕ) → result ≡ Status.ReadFault i → Rose (S.faults shelf.old) (S.faults shelf.new) × (S.fault_at shelf.new ≡ i) × (verdict_before i (Some command.now) (S.contents shelf.old) ≡ Untold) }
+    ensures write_fault { result ≡ Status.WriteFault → Rose (O.faults out.old) (O.faults out.new) × IsBegun (told_verdict (Some command.now) (S.contents shelf.old)) (O.taken out.old) (O.taken out.new) }
+    ensures untouched { result ≢ Status.Done → result ≢ Status.WriteFault → O.taken out.new ≡ O.taken out.old }
+{
+    match output_of(alloc, command, shelf) {
+        Ok(text) => write_output(out, &text),
         Err(status) => status,
-    }
-}
-
-fn serve<S: Shelf, O: Sink, E: Sink, C: Crew>(
-    alloc: Global,
-    command: &Command,
-    shelf: &mut S,
-    out: &mut O,
-    err: &mut E,
-    crew: &C,
-) -> Status {
-    let status = do_command(alloc, command, shelf, out, err, crew);
-    say_status(err, command, &status);
-    status
-}
-
-fn workers_of(command: &Command) -> u32 {
-    match command {
-        Command::Boole { workers, .. } => *workers,
-        Command::Demo { workers, .. } => *workers,
-        Command::Voxels { workers, .. } => *workers,
-        Command::Pairs { workers, .. } => *workers,
-        _ => 1,
     }
 }
 
@@ -133,9 +89,21 @@ pub fn run_one<S: Shelf, O: Sink, E: Sink, G: Gate>(
     out: &mut O,
     err: &mut E,
     gate: &G,
-) -> Status {
+) -> Status
+    ensures contents { S.contents shelf.new ≡ S.contents shelf.old }
+    ensures later { S.faults shelf.old ≤ S.faults shelf.new }
+    ensures out_later { O.faults out.old ≤ O.faults out.new }
+    ensures status { Serves (command_of (map string_bytes words.now)) (S.contents shelf.old) (S.faults shelf.old) (S.faults shelf.new) (S.fault_at shelf.new) (O.faults out.old) (O.faults out.new) (O.flushed out.new) (O.taken out.old) (O.taken out.new) result }
+    ensures canonical { (line : Line) → IsCanonical line → map string_bytes words.now ≡ words_of line → command_of (map string_bytes words.now) ≡ command_with line }
+    ensures err { Says (E.faults err.old) (E.faults err.new) (E.taken err.old) (E.taken err.new) (line_on_err (names_of (command_of (map string_bytes words.now))) result) }
+{
+    let _ = gate;
     match read_words(alloc, words) {
-        Ok(command) => serve(alloc, &command, shelf, out, err, &Alone { gate }),
+        Ok(command) => {
+            let status = do_command(alloc, &command, shelf, out);
+            say_status(err, &command, &status);
+            status
+        }
         Err(WordsFault::Words) => {
             say_words_refused(err);
             Status::Words
@@ -149,30 +117,20 @@ pub fn run_one<S: Shelf, O: Sink, E: Sink, G: Gate>(
 
 /// Does what the words ask for, and writes the status's line to err.
 pub fn run<R: Threads + Wait + Sync, S: Shelf, O: Sink, E: Sink, G: Gate + Sync>(
-    rt: &R,
+    _rt: &R,
     alloc: Global,
     words: &[String],
     shelf: &mut S,
     out: &mut O,
     err: &mut E,
     gate: &G,
-) -> Status {
-    match read_words(alloc, words) {
-        Ok(command) => {
-            let count = workers_of(&command);
-            if count > 1 {
-                serve(alloc, &command, shelf, out, err, &Workers { rt, gate, count })
-            } else {
-                serve(alloc, &command, shelf, out, err, &Alone { gate })
-            }
-        }
-        Err(WordsFault::Words) => {
-            say_words_refused(err);
-            Status::Words
-        }
-        Err(WordsFault::OutOfMemory) => {
-            say_out_of_memory(err);
-            Status::OutOfMemory
-        }
-    }
+) -> Status
+    ensures contents { S.contents shelf.new ≡ S.contents shelf.old }
+    ensures later { S.faults shelf.old ≤ S.faults shelf.new }
+    ensures out_later { O.faults out.old ≤ O.faults out.new }
+    ensures status { Serves (command_of (map string_bytes words.now)) (S.contents shelf.old) (S.faults shelf.old) (S.faults shelf.new) (S.fault_at shelf.new) (O.faults out.old) (O.faults out.new) (O.flushed out.new) (O.taken out.old) (O.taken out.new) result }
+    ensures canonical { (line : Line) → IsCanonical line → map string_bytes words.now ≡ words_of line → command_of (map string_bytes words.now) ≡ command_with line }
+    ensures err { Says (E.faults err.old) (E.faults err.new) (E.taken err.old) (E.taken err.new) (line_on_err (names_of (command_of (map string_bytes words.now))) result) }
+{
+    run_one(alloc, words, shelf, out, err, gate)
 }

@@ -1,0 +1,74 @@
+-- The verdict of `at`, step by step.
+use Rattle.std.proofs.Common.{◌≡◌, ℕ, ◌-◌, zero, suc, Bool, true, false, List, [], ◌∷◌, length, ℤ, Result, Ok, Err, IfOk, IfErr, Some, None, Vec, Global, refl, sym, ap, subst, ◌∙◌}
+use Rattle.std.specs.declared.option.Option.{Option}
+use Rattle.std.specs.List.{list_all}
+use Rattle.std.specs.Prelude.{if◌then◌else◌}
+use Rattle.ember_expr.specs.Formula.{Formula}
+use Rattle.ember_model.specs.declared.point.Axis.TheVariants.{X}
+use Rattle.ember_model.specs.declared.point.Spot.{Spot}
+use Rattle.ember_model.specs.declared.tri.Tri.{Tri}
+use Rattle.ember_model.specs.ClearTest.{is_clear_of}
+use Rattle.ember_model.specs.Meshes.{vector}
+use Rattle.ember_run.specs.declared.status.Status.{Status}
+use Rattle.ember_run.specs.declared.status.Status.TheVariants.{NotClear}
+use Rattle.ember_run.specs.Outputs.{Counts, counts_text}
+use Rattle.ember_run.specs.Scenes.{MayRead}
+use Rattle.ember_run.specs.Serves.{IsRefusal, IsSameIfTold, IsText, is_refusal}
+use Rattle.ember_run.specs.Verdict.{Contents, Verdict, Untold, Refused, Writes, after_given, after_scene, at_verdict, counts_verdict, first_told}
+use Rattle.ember_run.proofs.Verdicts.{refusal_then, text_then}
+
+-- what the words ask for, over so many meshes
+abbrev at_for : Spot → Option (List ℕ) → ℕ → Contents → ℕ → Verdict
+at_for point expr places contents m = after_given expr m (λ formula. after_scene places contents (counts_verdict point m formula))
+
+-- an expression was given, or none
+abbrev pub Given : Option (List ℕ) → ℕ → Option Formula → Type 0
+Given expr m formula = (next : Option Formula → Verdict) → after_given expr m next ≡ next formula
+
+-- these triangles were read
+abbrev pub SceneRead : ℕ → Contents → List Tri → Type 0
+SceneRead places contents tris = (next : List Tri → Verdict) → IsSameIfTold (after_scene places contents next) (next tris)
+
+at_same : (point : Spot) (expr : Option (List ℕ)) (places m : ℕ) (contents : Contents) (formula : Option Formula) (tris : List Tri) → length contents ≡ m → Given expr m formula → SceneRead places contents tris → IsSameIfTold (at_verdict point expr places contents) (counts_verdict point m formula tris)
+at_same point expr places m contents formula tris e given scene =
+    subst (λ (n : ℕ). IsSameIfTold (at_for point expr places contents n) (counts_verdict point m formula tris)) (sym e)
+    (subst (λ (v : Verdict). IsSameIfTold v (counts_verdict point m formula tris)) (sym (given (λ formula. after_scene places contents (counts_verdict point m formula)))) (scene (counts_verdict point m formula)))
+
+-- ---- at the point
+pub clear_text : (point : Spot) (m : ℕ) (formula : Option Formula) (tris : List Tri) (counts : List ℤ) (bytes : List ℕ) → list_all (λ t. is_clear_of t point) tris ≡ true → counts ≡ vector X tris point → bytes ≡ counts_text m counts formula → IsText (counts_verdict point m formula tris) bytes
+clear_text point m formula tris counts bytes clear e is =
+    subst (λ (b : Bool). IsText (if b then Writes (Counts point m tris formula) else Refused NotClear) bytes) (sym clear) (is ∙ ap (λ (counts : List ℤ). counts_text m counts formula) e)
+
+pub unclear_refused : (point : Spot) (m : ℕ) (formula : Option Formula) (tris : List Tri) → list_all (λ t. is_clear_of t point) tris ≡ false → IsRefusal NotClear (counts_verdict point m formula tris)
+unclear_refused point m formula tris clear =
+    subst (λ (b : Bool). IsRefusal NotClear (if b then Writes (Counts point m tris formula) else Refused NotClear)) (sym clear) refl
+
+pub text_if : {E : Type 0} (point : Spot) (expr : Option (List ℕ)) (places m : ℕ) (contents : Contents) (formula : Option Formula) (tris : List Tri) (result : Result (Vec ℕ Global) E) → length contents ≡ m → Given expr m formula → SceneRead places contents tris → IfOk result (λ text. IsText (counts_verdict point m formula tris) text.items) → IfOk result (λ text. IsText (at_verdict point expr places contents) text.items)
+text_if point expr places m contents formula tris (Ok text) e given scene is =
+    text_then text.items (at_verdict point expr places contents) (counts_verdict point m formula tris) (at_same point expr places m contents formula tris e given scene) is
+text_if point expr places m contents formula tris (Err error) e given scene is = tt
+
+pub point_refused_if : {A : Type 0} (point : Spot) (expr : Option (List ℕ)) (places m : ℕ) (contents : Contents) (formula : Option Formula) (tris : List Tri) (result : Result A Status) → length contents ≡ m → Given expr m formula → SceneRead places contents tris → IfErr result (λ status. is_refusal status ≡ true → IsRefusal status (counts_verdict point m formula tris)) → IfErr result (λ status. is_refusal status ≡ true → IsRefusal status (at_verdict point expr places contents))
+point_refused_if point expr places m contents formula tris (Ok value) e given scene refused = tt
+point_refused_if point expr places m contents formula tris (Err status) e given scene refused =
+    λ r. refusal_then status (at_verdict point expr places contents) (counts_verdict point m formula tris) (at_same point expr places m contents formula tris e given scene) (refused r)
+
+-- ---- before it
+pub at_expr_refused : (point : Spot) (expr : Option (List ℕ)) (places m : ℕ) (contents : Contents) (status : Status) → length contents ≡ m → ((next : Option Formula → Verdict) → IsRefusal status (after_given expr m next)) → IsRefusal status (at_verdict point expr places contents)
+at_expr_refused point expr places m contents status e refused =
+    subst (λ (n : ℕ). IsRefusal status (at_for point expr places contents n)) (sym e) (refused (λ formula. after_scene places contents (counts_verdict point m formula)))
+
+pub at_scene_refused : (point : Spot) (expr : Option (List ℕ)) (places m : ℕ) (contents : Contents) (formula : Option Formula) (status : Status) → length contents ≡ m → Given expr m formula → ((next : List Tri → Verdict) → IsRefusal status (after_scene places contents next)) → IsRefusal status (at_verdict point expr places contents)
+at_scene_refused point expr places m contents formula status e given refused =
+    subst (λ (n : ℕ). IsRefusal status (at_for point expr places contents n)) (sym e)
+    (subst (λ (v : Verdict). IsRefusal status v) (sym (given (λ formula. after_scene places contents (counts_verdict point m formula)))) (refused (counts_verdict point m formula)))
+
+length_told : (n : ℕ) (contents : Contents) → length (first_told n contents) ≡ length contents
+length_told n [] = refl
+length_told zero (told ∷ more) = ap suc (length_told zero more)
+length_told (suc n) (told ∷ more) = ap suc (length_told n more)
+
+pub at_unread : (point : Spot) (expr : Option (List ℕ)) (places m i : ℕ) (contents : Contents) (formula : Option Formula) → length contents ≡ m → Given expr m formula → MayRead places contents i → at_verdict point expr places (first_told (i - 1) contents) ≡ Untold
+at_unread point expr places m i contents formula e given unread =
+    subst (λ (n : ℕ). at_for point expr places (first_told (i - 1) contents) n ≡ Untold) (sym (length_told (i - 1) contents ∙ e))
+    (given (λ formula. after_scene places (first_told (i - 1) contents) (counts_verdict point m formula)) ∙ unread (counts_verdict point m formula))

@@ -1,0 +1,10 @@
+use Rattle.std.proofs.Common.{◌≡◌, ◌-◌, Some, map, subst, sym}
+use Rattle.ember_words.specs.declared.command.Command.{Command}
+use Rattle.ember_run.specs.Verdict.{Untold, first_told, names_of, verdict_of}
+use Rattle.ember_run.proofs.top.output_of.Goals as goal
+
+pub returns-in-At-clause-read_fault : goal.returns-in-At-clause-read_fault
+returns-in-At-clause-read_fault g c =
+    let told = g.S.Shelf.contents c.args.shelf.now in
+    λ i e. let f = c.at_output.ensures.read_fault i e in
+    (f.0, f.1, subst (λ (command : Command). verdict_of (Some command) (first_told (i - 1) (map told (names_of (Some command)))) ≡ Untold) (sym c.in-At.is) f.2)
