@@ -1,7 +1,7 @@
 -- How the values of a plane change along the line of another one at a level.
-use Rattle.std.proofs.Common.{◌≡◌, ◌≢◌, refl, sym, ap, subst, ◌∙◌, arith, ℤ, pos, negsuc, ◌+ℤ◌, ◌-ℤ◌, ◌*ℤ◌, neg_ℤ, ◌<ℤ◌, ◌≤ℤ◌, Bool, true, false, ◌&&◌, [], ◌∷◌}
+use Rattle.std.proofs.Common.{◌≡◌, ◌≢◌, sym, ap, ◌∙◌, arith, ℤ, pos, negsuc, ◌+ℤ◌, ◌-ℤ◌, ◌*ℤ◌, neg_ℤ, ◌<ℤ◌, true, ◌&&◌, [], ◌∷◌}
 use Rattle.std.proofs.lemmas.Int.{ints}
-use Rattle.ember_algebra.specs.Sign.{sgn, is_negative, is_zero, is_positive}
+use Rattle.ember_algebra.specs.Sign.{sgn, is_zero, is_positive}
 use Rattle.ember_algebra.proofs.Laws.{linear, from_one, from_two}
 use Rattle.ember_algebra.proofs.Ring.{Expr, num, neg, ◌⊕◌, ◌⊖◌, ◌⊗◌, ◌≈◌, solve, cancels}
 use Rattle.ember_algebra.proofs.Vectors.{scalar, tuple, identity, TupleE, detE}
@@ -70,9 +70,9 @@ compared n at p u v hu hv =
     let m = n.a *ℤ p.a +ℤ n.b *ℤ p.b in
     let k = square n *ℤ p.c -ℤ m *ℤ n.c in
     let e : (pos 2 *ℤ square n) *ℤ (u.w *ℤ value_at p v -ℤ v.w *ℤ value_at p u) -ℤ (pos 2 *ℤ slope n p) *ℤ ahead n v u ≡ neg_ℤ (pos 2 *ℤ m *ℤ v.w) *ℤ value_at n u +ℤ (pos 2 *ℤ m *ℤ u.w) *ℤ value_at n v +ℤ neg_ℤ (k *ℤ v.w) *ℤ value_at (level at) u +ℤ (k *ℤ u.w) *ℤ value_at (level at) v =
-      identity (tuple ∷ scalar ∷ tuple ∷ tuple ∷ tuple ∷ []) (λ n at p u v.
-        let s = n.x ⊗ n.x ⊕ n.y ⊗ n.y in let m = n.x ⊗ p.x ⊕ n.y ⊗ p.y in let k = s ⊗ p.z ⊖ m ⊗ n.z in let q = levelE (num (pos 2) ⊗ at ⊕ num (pos 1)) in
-        (num (pos 2) ⊗ s) ⊗ (u.w ⊗ valueE p v ⊖ v.w ⊗ valueE p u) ⊖ (num (pos 2) ⊗ (n.x ⊗ p.y ⊖ n.y ⊗ p.x)) ⊗ (u.w ⊗ alongE n v ⊖ v.w ⊗ alongE n u) ≈ neg (num (pos 2) ⊗ m ⊗ v.w) ⊗ valueE n u ⊕ (num (pos 2) ⊗ m ⊗ u.w) ⊗ valueE n v ⊕ neg (k ⊗ v.w) ⊗ valueE q u ⊕ (k ⊗ u.w) ⊗ valueE q v) cancels (plane_tuple n) at (plane_tuple p) (spot_tuple u) (spot_tuple v) in
+    identity (tuple ∷ scalar ∷ tuple ∷ tuple ∷ tuple ∷ []) (λ n at p u v.
+    let s = n.x ⊗ n.x ⊕ n.y ⊗ n.y in let m = n.x ⊗ p.x ⊕ n.y ⊗ p.y in let k = s ⊗ p.z ⊖ m ⊗ n.z in let q = levelE (num (pos 2) ⊗ at ⊕ num (pos 1)) in
+    (num (pos 2) ⊗ s) ⊗ (u.w ⊗ valueE p v ⊖ v.w ⊗ valueE p u) ⊖ (num (pos 2) ⊗ (n.x ⊗ p.y ⊖ n.y ⊗ p.x)) ⊗ (u.w ⊗ alongE n v ⊖ v.w ⊗ alongE n u) ≈ neg (num (pos 2) ⊗ m ⊗ v.w) ⊗ valueE n u ⊕ (num (pos 2) ⊗ m ⊗ u.w) ⊗ valueE n v ⊕ neg (k ⊗ v.w) ⊗ valueE q u ⊕ (k ⊗ u.w) ⊗ valueE q v) cancels (plane_tuple n) at (plane_tuple p) (spot_tuple u) (spot_tuple v) in
     let z = e ∙ nothing _ _ _ _ _ _ _ _ hu.support hv.support hu.level hv.level in
     omega (arith, linear, z)
 

@@ -1,6 +1,5 @@
 -- The segment between two ends, and faces without one.
-use Rattle.std.proofs.Common.{◌≡◌, ◌⊎◌, inl, inr, refl, sym, ap, subst, ◌∙◌, arith, ℤ, pos, ◌+ℤ◌, ◌-ℤ◌, ◌*ℤ◌, neg_ℤ, ◌<ℤ◌, ◌≤ℤ◌, Bool, true, false, ◌&&◌, [], ◌∷◌, Option, Some, None, Ok}
-use Rattle.std.specs.List.{list_all}
+use Rattle.std.proofs.Common.{◌≡◌, inl, inr, refl, sym, ap, ◌∙◌, arith, ℤ, pos, ◌+ℤ◌, ◌-ℤ◌, ◌*ℤ◌, neg_ℤ, ◌<ℤ◌, ◌≤ℤ◌, Bool, true, false, ◌&&◌, Option, Some, None, Ok}
 use Rattle.std.specs.Prelude.{MatchOption}
 use Rattle.ember_algebra.specs.Sign.{sgn, flip, is_neg, is_negative, is_zero, is_positive}
 use Rattle.ember_algebra.proofs.Signs.{sgn-neg}
@@ -12,17 +11,14 @@ use Rattle.ember_model.specs.declared.point.Spot.{Spot}
 use Rattle.ember_model.specs.declared.face.Face.{Face}
 use Rattle.ember_model.specs.Planes.{value_at}
 use Rattle.ember_model.specs.Edges.{SamePlace}
-use Rattle.ember_model.specs.FaceFiles.{IsLowest}
-use Rattle.ember_model.proofs.SignTests.{sgn_scaled, negative_in, negative_out}
-use Rattle.ember_point.specs.declared.corner.Meet.{Meet}
+use Rattle.ember_model.proofs.SignTests.{and_parts, sgn_scaled, negative_in}
 use Rattle.ember_point.specs.Points.{spot_of}
 use Rattle.ember_slice.specs.declared.ends.Segment.{Segment}
 use Rattle.ember_slice.specs.declared.span.End.{End}
-use Rattle.ember_slice.specs.declared.span.Span.{Span}
 use Rattle.ember_slice.specs.Lines.{level, IsFlat, is_on_line, along_line, ahead, is_before}
-use Rattle.ember_slice.specs.Spans.{Enters, Leaves, IsSpan, is_behind}
+use Rattle.ember_slice.specs.Spans.{IsSpan, is_behind}
 use Rattle.ember_slice.specs.Segments.{is_cut, IsSegment, IsAnswer, Joins, GivesNone, GoesOn, GoesBack, IsEndless}
-use Rattle.ember_slice.proofs.Along.{OnLine, on_line_out, on_line_in, ahead_turned, square, square_above}
+use Rattle.ember_slice.proofs.Along.{OnLine, on_line_out, on_line_in, ahead_turned, square_above}
 use Rattle.ember_slice.proofs.Orders.{not_after_then, then_not_after, before_trans}
 
 -- ---- inside points at the level
@@ -40,6 +36,9 @@ cut_split f at v =
 
 cut_on_line : (f : Face) (at : ℤ) (v : Spot) → is_on_line f.support at v ≡ true → is_cut f at v ≡ is_behind f.edges v
 cut_on_line f at v on = cut_split f at v ∙ ap (λ b. b && is_behind f.edges v) on
+
+pub cut_line : (f : Face) (at : ℤ) (v : Spot) → is_cut f at v ≡ true → is_on_line f.support at v ≡ true
+cut_line f at v e = (and_parts (is_on_line f.support at v) (is_behind f.edges v) (sym (cut_split f at v) ∙ e)).0
 
 pub none_behind : (f : Face) (at : ℤ) → ((v : Spot) → is_on_line f.support at v ≡ true → is_behind f.edges v ≡ false) → GivesNone f at
 none_behind f at h = inr (λ v. cut_split f at v ∙ by v (is_on_line f.support at v) refl)
@@ -191,7 +190,7 @@ module _ (f : Face) (at : ℤ) (t : IsFlat f.support → ⊥) where
     beyond =
         by_sign (ahead n a u)
         (λ l. let k = ahead_of_further n at a on_a t in
-          (further n a, further_on_line n at a on_a, negative_in k, negative_in (not_after_then n u a (further n a) wu wa wa (omega (arith, linear, l, ahead_turned n a u)) k)))
+        (further n a, further_on_line n at a on_a, negative_in k, negative_in (not_after_then n u a (further n a) wu wa wa (omega (arith, linear, l, ahead_turned n a u)) k)))
         (λ l. past (omega (arith, linear, l)))
         (λ l. past (omega (arith, linear, l)))
       where
@@ -204,7 +203,7 @@ module _ (f : Face) (at : ℤ) (t : IsFlat f.support → ⊥) where
     ahead_of =
         by_sign (ahead n u a)
         (λ l. let k = nearer_ahead n at a on_a t in
-          (nearer n a, nearer_on_line n at a on_a, negative_in k, negative_in (then_not_after n (nearer n a) a u wa wa wu k (omega (arith, linear, l, ahead_turned n u a)))))
+        (nearer n a, nearer_on_line n at a on_a, negative_in k, negative_in (then_not_after n (nearer n a) a u wa wa wu k (omega (arith, linear, l, ahead_turned n u a)))))
         (λ l. past (omega (arith, linear, l)))
         (λ l. past (omega (arith, linear, l)))
       where

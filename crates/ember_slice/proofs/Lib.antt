@@ -2,3 +2,4 @@ pub mod Along
 pub mod Orders
 pub mod Narrowing
 pub mod Bounds
+pub mod SliceTexts

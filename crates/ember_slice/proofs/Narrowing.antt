@@ -1,7 +1,7 @@
 -- What planes leave of a line.
-use Rattle.std.proofs.Common.{◌≡◌, refl, sym, ap, subst, ◌∙◌, arith, ℕ, suc, ◌+◌, ◌<◌, ◌≤◌, ℤ, pos, neg_ℤ, ◌<ℤ◌, ◌≤ℤ◌, Bool, true, false, not, cond, ◌&&◌, List, [], ◌∷◌, length, drop, get_or, add-one, drop-cons, drop_of_length-le, Option, Some, None}
-use Rattle.std.specs.Prelude.{MatchOption, IfSome}
-use Rattle.ember_algebra.specs.Sign.{sgn, is_neg, is_pos, is_negative, is_positive}
+use Rattle.std.proofs.Common.{◌≡◌, refl, sym, ap, subst, ◌∙◌, arith, ℕ, ◌+◌, ◌<◌, ◌≤◌, ℤ, pos, ◌<ℤ◌, Bool, true, false, not, cond, ◌&&◌, List, [], ◌∷◌, length, drop, get_or, add-one, drop-cons, drop_of_length-le, Option, Some, None}
+use Rattle.std.specs.Prelude.{MatchOption}
+use Rattle.ember_algebra.specs.Sign.{is_neg, is_pos, is_negative, is_positive}
 use Rattle.ember_algebra.proofs.Laws.{linear}
 use Rattle.ember_model.specs.declared.plane.Plane.{Plane}
 use Rattle.ember_model.specs.declared.point.Spot.{Spot}
@@ -12,7 +12,7 @@ use Rattle.ember_slice.specs.declared.span.End.{End}
 use Rattle.ember_slice.specs.declared.span.Span.{Span}
 use Rattle.ember_slice.specs.Lines.{is_on_line, ahead, is_before}
 use Rattle.ember_slice.specs.Spans.{AllOf, Enters, Leaves, AreEnds, IsNarrowed, IsSpan, is_after, is_until, is_in_span, is_behind}
-use Rattle.ember_slice.proofs.Along.{OnLine, on_line_out, ahead_turned}
+use Rattle.ember_slice.proofs.Along.{on_line_out, ahead_turned}
 use Rattle.ember_slice.proofs.Orders.{not_after_then, then_not_after, absorbs_first, absorbs_second}
 
 -- ---- tests
@@ -85,13 +85,13 @@ module _ (n : Plane) (at : ℤ) (new : End) (h : Enters n at new.plane (spot_of 
           subst (λ d. IsNarrowed n at new.plane (record { first = Some e; last = last }) (record { first = Some d; last = last })) (sym p) (record {
             ends = record { first = h; last = ends.last };
             left = λ v on. let b = is_before n (spot_of new.point) v in let a = is_before n (spot_of e.point) v in
-              join_first a b (is_until n last v) (absorbs_first a b (later_new e ends.first v on t)) ∙ ap (λ c. (a && is_until n last v) && c) (sym (behind_after v on));
+                join_first a b (is_until n last v) (absorbs_first a b (later_new e ends.first v on t)) ∙ ap (λ c. (a && is_until n last v) && c) (sym (behind_after v on));
           })
       by false t p =
           subst (λ d. IsNarrowed n at new.plane (record { first = Some e; last = last }) (record { first = Some d; last = last })) (sym p) (record {
             ends = record { first = ends.first; last = ends.last };
             left = λ v on. let b = is_before n (spot_of new.point) v in let a = is_before n (spot_of e.point) v in
-              keep_first a b (is_until n last v) (absorbs_second a b (later_old e ends.first v on t)) ∙ ap (λ c. (a && is_until n last v) && c) (sym (behind_after v on));
+                keep_first a b (is_until n last v) (absorbs_second a b (later_old e ends.first v on t)) ∙ ap (λ c. (a && is_until n last v) && c) (sym (behind_after v on));
           })
 
 -- ---- the line passes back to the plane's front
@@ -131,13 +131,13 @@ module _ (n : Plane) (at : ℤ) (new : End) (h : Leaves n at new.plane (spot_of 
           subst (λ d. IsNarrowed n at new.plane (record { first = first; last = Some e }) (record { first = first; last = Some d })) (sym p) (record {
             ends = record { first = ends.first; last = h };
             left = λ v on. let b = is_before n v (spot_of new.point) in let a = is_before n v (spot_of e.point) in
-              join_last (is_after n first v) a b (absorbs_first a b (sooner_new e ends.last v on t)) ∙ ap (λ c. (is_after n first v && a) && c) (sym (behind_until v on));
+                join_last (is_after n first v) a b (absorbs_first a b (sooner_new e ends.last v on t)) ∙ ap (λ c. (is_after n first v && a) && c) (sym (behind_until v on));
           })
       by false t p =
           subst (λ d. IsNarrowed n at new.plane (record { first = first; last = Some e }) (record { first = first; last = Some d })) (sym p) (record {
             ends = record { first = ends.first; last = ends.last };
             left = λ v on. let b = is_before n v (spot_of new.point) in let a = is_before n v (spot_of e.point) in
-              keep_last (is_after n first v) a b (absorbs_second a b (sooner_old e ends.last v on t)) ∙ ap (λ c. (is_after n first v && a) && c) (sym (behind_until v on));
+                keep_last (is_after n first v) a b (absorbs_second a b (sooner_old e ends.last v on t)) ∙ ap (λ c. (is_after n first v && a) && c) (sym (behind_until v on));
           })
 
 -- ---- all of the line

@@ -1,11 +1,10 @@
 -- The order of points along a line.
-use Rattle.std.proofs.Common.{◌≡◌, refl, sym, ap, ◌∙◌, arith, ℤ, pos, ◌+ℤ◌, ◌-ℤ◌, ◌*ℤ◌, neg_ℤ, ◌<ℤ◌, ◌≤ℤ◌, Bool, true, false, ◌&&◌}
-use Rattle.ember_algebra.specs.Sign.{sgn, is_negative, is_positive}
+use Rattle.std.proofs.Common.{◌≡◌, refl, sym, arith, ℤ, pos, ◌-ℤ◌, ◌*ℤ◌, ◌<ℤ◌, ◌≤ℤ◌, Bool, true, false, ◌&&◌}
 use Rattle.ember_algebra.proofs.Laws.{linear, expand}
 use Rattle.ember_algebra.proofs.Order.{mul_lt, mul_le, cancel_lt}
 use Rattle.ember_model.specs.declared.plane.Plane.{Plane}
 use Rattle.ember_model.specs.declared.point.Spot.{Spot}
-use Rattle.ember_model.proofs.SignTests.{negative_in, negative_not, negative_out}
+use Rattle.ember_model.proofs.SignTests.{negative_in, negative_out}
 use Rattle.ember_slice.specs.Lines.{along_line, ahead, is_before}
 
 -- ---- fractions

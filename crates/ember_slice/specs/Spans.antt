@@ -5,7 +5,6 @@ use Rattle.ember_algebra.specs.Sign.{sgn, is_negative}
 use Rattle.ember_model.specs.declared.plane.Plane.{Plane}
 use Rattle.ember_model.specs.declared.point.Spot.{Spot}
 use Rattle.ember_model.specs.Planes.{value_at}
-use Rattle.ember_point.specs.declared.corner.Meet.{Meet}
 use Rattle.ember_point.specs.Points.{spot_of}
 use Rattle.ember_slice.specs.declared.line.Part.{Part}
 use Rattle.ember_slice.specs.declared.line.Part.TheVariants.{Nothing, Everything, From, To}

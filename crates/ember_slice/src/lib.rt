@@ -6,13 +6,12 @@ mod face;
 mod fault;
 mod line;
 mod narrow;
-
 mod span;
 #[cfg(test)]
 mod tests;
 mod text;
 
 pub use ends::Segment;
-pub use fault::{Endless, SliceFault};
 pub use face::segment;
+pub use fault::{Endless, SliceFault};
 pub use text::slice_text;

@@ -1,25 +1,33 @@
 // The text of a slice.
-ghost use Rattle.std.specs.Prelude.{ℕ, ℤ, ◌≡◌, ◌<◌, ◌^◌, pos, negsuc, ◌≤ℤ◌, length, All, IfOk};
+ghost use Rattle.std.specs.Prelude.{ℕ, ℤ, ◌≡◌, ◌⊎◌, ◌≤◌, ◌<◌, ◌^◌, ◌++◌, pos, negsuc, ◌≤ℤ◌, length, codes, All, IfOk, IfErr, OnOk};
+ghost use Rattle.std.specs.Fmt.{signed_decimal};
 ghost use Rattle.ember_model.specs.Valid.{IsValidFace};
-ghost use Rattle.ember_slice.specs.Segments.{IsFirstEndless, IsSliceText};
+ghost use Rattle.ember_model.specs.FaceFiles.{line_of};
+ghost use Rattle.ember_point.specs.Points.{spot_of};
+ghost use Rattle.ember_slice.specs.Segments.{IsEndless, IsFirstEndless, IsSliceText, segment_line};
+ghost use Rattle.ember_slice.specs.Texts.{AddsSegment};
 
 use crate::ends::Segment;
-use crate::fault::SliceFault;
 use crate::face::segment;
+use crate::fault::SliceFault;
 use ember_model::{Face, OutOfMemory};
 use ember_reread::FaceList;
 use itoa::Buffer;
 use std::alloc::Global;
 
 // A space and the number.
-fn put_number(n: i128, out: &mut Vec<u8>) -> Result<(), OutOfMemory> {
+fn put_number(n: i128, out: &mut Vec<u8>) -> Result<(), OutOfMemory>
+    ensures { OnOk result (out.new.items ≡ out.old.items ++ (codes " " ++ signed_decimal n)) }
+{
     let mut buffer = Buffer::new();
     out.push(b' ')?;
     out.extend_from_slice(buffer.format(n).as_bytes())
 }
 
 // The keyword and the numbers.
-fn put_line(keyword: &[u8], numbers: &[i128], out: &mut Vec<u8>) -> Result<(), OutOfMemory> {
+fn put_line(keyword: &[u8], numbers: &[i128], out: &mut Vec<u8>) -> Result<(), OutOfMemory>
+    ensures { OnOk result (out.new.items ≡ out.old.items ++ line_of keyword.now numbers.now) }
+{
     out.extend_from_slice(keyword)?;
     for n in numbers {
         put_number(*n, out)?;
@@ -28,15 +36,25 @@ fn put_line(keyword: &[u8], numbers: &[i128], out: &mut Vec<u8>) -> Result<(), O
     Ok(())
 }
 
-fn put_segment(s: &Segment, out: &mut Vec<u8>) -> Result<(), OutOfMemory> {
+fn put_segment(s: &Segment, out: &mut Vec<u8>) -> Result<(), OutOfMemory>
+    ensures { OnOk result (out.new.items ≡ out.old.items ++ segment_line (record { first = spot_of s.now.first; last = spot_of s.now.last })) }
+{
     let numbers = [
         s.first.x, s.first.y, s.first.z, s.first.w, s.last.x, s.last.y, s.last.z, s.last.w,
     ];
     put_line(b"s", &numbers, out)
 }
 
-// The line of the face with this number, where it gives a segment, and how many lines these are.
-fn put_face(face: &Face, number: u32, at: i32, out: &mut Vec<u8>) -> Result<u32, SliceFault> {
+// The line of the segment of the face with this number, where it gives one, and how many lines these
+// are.
+fn put_face(face: &Face, number: u32, at: i32, out: &mut Vec<u8>) -> Result<u32, SliceFault>
+    requires face { IsValidFace face.now }
+    requires low { negsuc 2047 ≤ℤ at }
+    requires high { at ≤ℤ pos 2047 }
+    ensures ok { IfOk result (λ count. AddsSegment face.now at count out.old.items out.new.items) }
+    ensures one { IfOk result (λ count. count ≤ 1) }
+    ensures endless { IfErr result (λ e. (e ≡ SliceFault.OutOfMemory) ⊎ ((e ≡ SliceFault.Endless number) × IsEndless face.now at)) }
+{
     match segment(face, at) {
         Ok(None) => Ok(0),
         Ok(Some(s)) => {
@@ -56,7 +74,7 @@ pub fn slice_text(alloc: Global, faces: &FaceList, at: i32) -> Result<Vec<u8>, S
     requires low { negsuc 2047 ≤ℤ at }
     requires high { at ≤ℤ pos 2047 }
     ensures text { IfOk result (λ text. IsSliceText faces.now at text.items) }
-    ensures endless { (n : ℕ) → result ≡ Err (SliceFault.Endless n) → IsFirstEndless faces.now at n }
+    ensures endless { IfErr result (λ e. (e ≡ SliceFault.OutOfMemory) ⊎ ((n : ℕ) × (e ≡ SliceFault.Endless n) × IsFirstEndless faces.now at n)) }
 {
     let mut text = Vec::new(alloc);
     put_line(b"slice", &[i128::from(at)], &mut text)?;

@@ -1,4 +1,4 @@
-use Rattle.std.proofs.Common.{subst, Some, None}
+use Rattle.std.proofs.Common.{subst, Some}
 use Rattle.ember_slice.specs.Spans.{IsSpan}
 use Rattle.ember_slice.proofs.Bounds.{endless_on, endless_back, answer_between}
 use Rattle.ember_slice.proofs.face.segment_of.Goals as goal

@@ -1,6 +1,6 @@
-use Rattle.std.proofs.Common.{to_z-of_z, ◌≡◌, ◌∙◌, sym, ap, subst, pos, true, false, refl}
+use Rattle.std.proofs.Common.{to_z-of_z, ◌≡◌, ◌∙◌, sym, ap, subst, pos, false, refl}
 use Rattle.ember_slice.specs.Lines.{level}
-use Rattle.ember_algebra.specs.Sign.{sgn, is_neg}
+use Rattle.ember_algebra.specs.Sign.{is_neg}
 use Rattle.ember_algebra.specs.declared.Sign.{Sign}
 use Rattle.ember_algebra.specs.declared.Sign.TheVariants.{Neg, Zero, Pos}
 use Rattle.ember_model.specs.Planes.{value_at}

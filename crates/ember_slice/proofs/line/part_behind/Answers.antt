@@ -4,7 +4,6 @@ use Rattle.ember_algebra.proofs.Order.{by_sign}
 use Rattle.std.proofs.lemmas.Int.{ints}
 use Rattle.ember_algebra.proofs.Exact.{kept, ◌&◌, done, exact}
 use Rattle.ember_model.specs.Planes.{value_at}
-use Rattle.ember_model.specs.declared.plane.Plane.{Plane}
 use Rattle.ember_point.specs.Points.{spot_of, weight}
 use Rattle.ember_slice.specs.Lines.{level}
 use Rattle.ember_slice.proofs.Along.{OnLine, slope, parallel_slope, crossing_slope, enters_at, leaves_at}

@@ -1,8 +1,8 @@
-use Rattle.std.proofs.Common.{◌≡◌, sym, subst, to_z-of_z, true, false, drop}
+use Rattle.std.proofs.Common.{◌≡◌, subst, to_z-of_z, true, false}
 use Rattle.ember_model.specs.declared.point.Spot.{Spot}
 use Rattle.ember_slice.specs.Lines.{is_on_line}
 use Rattle.ember_slice.specs.Spans.{IsSpan, is_behind}
-use Rattle.ember_slice.proofs.Narrowing.{LeftOf, less_left, nothing_left, span_left, next_plane, last_plane}
+use Rattle.ember_slice.proofs.Narrowing.{less_left, nothing_left, span_left, next_plane, last_plane}
 use Rattle.ember_slice.proofs.narrow.span_behind.Goals as goal
 
 pub returns-in_err-span : goal.returns-in_err-span
