@@ -1,5 +1,5 @@
 -- Lists of meeting pairs, made pair by pair.
-use Rattle.std.proofs.Common.{◌≡◌, ℕ, ◌+◌, ◌<◌, ◌≤◌, refl, sym, ap, ◌∙◌, subst, arith, List, [], ◌∷◌, ◌++◌, append_assoc, map, length, drop, get_or, Bool, true, false, if◌then◌else◌, IsTrue, ◌↔◌, add-one, drop-cons}
+use Rattle.std.proofs.Common.{◌≡◌, ℕ, ◌+◌, ◌<◌, ◌≤◌, refl, sym, subst, List, [], ◌∷◌, ◌++◌, append_assoc, length, drop, get_or, Bool, true, false, if◌then◌else◌, IsTrue, ◌↔◌, add-one, drop-cons}
 use Rattle.std.proofs.lemmas.List.{append-nil, drop_all}
 use Rattle.std.proofs.lemmas.Bool.{false≢true}
 use Rattle.ember_box.specs.Near.{tri_at}

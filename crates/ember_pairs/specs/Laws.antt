@@ -2,17 +2,16 @@
 -- places has one list of meeting pairs.
 use Rattle.std.specs.Prelude.{◌≡◌, ℕ, ◌<◌, refl, Bool, true, false, if◌then◌else◌, nat_lt, List, length}
 use Rattle.std.proofs.Common.{sym, ap, subst, true≢false}
-use Rattle.ember_algebra.specs.Relations.{Each}
 use Rattle.ember_algebra.proofs.Relations.{each_unique}
 use Rattle.ember_model.specs.declared.tri.Tri.{Tri}
-use Rattle.ember_box.specs.Boxes.{Cell, left_half, right_half}
+use Rattle.ember_box.specs.Boxes.{left_half, right_half}
 use Rattle.ember_box.specs.Halving.{halving_axis, is_leaf}
 use Rattle.ember_box.proofs.Halvable.{halvable_unless_leaf}
 use Rattle.ember_job.specs.declared.job.Job.{Job}
 use Rattle.ember_job.specs.Works.{Shape, halved, leafed, passed, is_halved, IsSplit}
 use Rattle.ember_pairs.specs.declared.pair.Pair.{Pair}
 use Rattle.ember_pairs.specs.Pairs.{AtPair, meeting, apart, AreMeetingPairs}
-use Rattle.ember_pairs.specs.Works.{IsFromRoot, low_half, high_half, job_at, IsPairsJob, pairs_shape}
+use Rattle.ember_pairs.specs.Works.{low_half, high_half, job_at, IsPairsJob, pairs_shape}
 
 abbrev low_of : Job → Shape → Job
 low_of job (halved low high) = low

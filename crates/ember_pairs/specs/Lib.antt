@@ -3,3 +3,4 @@ pub mod Works
 pub mod Laws
 pub mod Gathering
 pub mod Texts
+pub mod Whole

@@ -1,5 +1,5 @@
 -- The work that looks for meeting pairs box by box
-use Rattle.std.specs.Prelude.{◌≡◌, ℕ, ◌<◌, nat_lt, if◌then◌else◌, ℤ, pos, List, length, replicate}
+use Rattle.std.specs.Prelude.{◌≡◌, ◌<◌, nat_lt, if◌then◌else◌, pos, List, length, replicate}
 use Rattle.ember_model.specs.declared.tri.Tri.{Tri}
 use Rattle.ember_model.specs.declared.vector.Vector.{Vector}
 use Rattle.ember_box.specs.Boxes.{Cell, root, left_half, right_half}

@@ -3,6 +3,7 @@
 #![tactic(auto)]
 
 mod gathering;
+mod law;
 mod meetings;
 mod pair;
 mod step;
@@ -11,6 +12,7 @@ mod tests;
 mod text;
 
 pub use gathering::gather;
+pub use law::gathered_pairs_are_all;
 pub use meetings::meeting;
 pub use pair::{Pair, PairList};
 pub use step::{PairWork, pair_step, root_pairs};

@@ -1,4 +1,4 @@
-use Rattle.std.proofs.Common.{◌≡◌, ◌∙◌, List, IsPermutation, sym, ap, subst}
+use Rattle.std.proofs.Common.{◌∙◌, List, IsPermutation, sym, ap, subst}
 use Rattle.std.proofs.lemmas.List.Filters.{dedup_is}
 use Rattle.ember_pairs.specs.declared.pair.Pair.{Pair}
 use Rattle.ember_pairs.specs.Gathering.{together, AreGathered}

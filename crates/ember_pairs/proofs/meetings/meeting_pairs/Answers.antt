@@ -1,4 +1,4 @@
-use Rattle.std.proofs.Common.{◌<◌, List, sym, subst, drop, length, arith}
+use Rattle.std.proofs.Common.{◌<◌, List, sym, subst, length, arith}
 use Rattle.ember_pairs.specs.declared.pair.Pair.{Pair}
 use Rattle.ember_pairs.specs.Pairs.{Completes, pairs_of, AreMeetingPairs}
 use Rattle.ember_pairs.proofs.Rows.{completes_none, rows_more, rows_done}

@@ -1,4 +1,4 @@
-use Rattle.std.proofs.Common.{◌≡◌, ◌<◌, ◌∙◌, ℕ, List, All, sym, ap, subst, length}
+use Rattle.std.proofs.Common.{◌<◌, ◌∙◌, ℕ, List, All, sym, ap, subst, length}
 use Rattle.std.specs.List.{range_with_len}
 use Rattle.ember_model.specs.declared.tri.Tri.{Tri}
 use Rattle.ember_pairs.proofs.Steps.{places_in_range}
