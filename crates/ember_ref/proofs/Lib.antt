@@ -3,5 +3,7 @@ pub mod ReferenceLegs
 pub mod Carried
 pub mod ClearReferences
 pub mod NearPoints
+pub mod BoxPoints
+pub mod FarTriangles
 pub mod ShiftLaw
 pub mod RootOutside

@@ -21,7 +21,8 @@ use Rattle.ember_law.proofs.Tallies.{tally_zero}
 use Rattle.ember_box.specs.Boxes.{root}
 use Rattle.ember_box.specs.Reference.{reference, vector_at}
 use Rattle.ember_ref.proofs.NearPoints.{past_corners}
-use Rattle.ember_ref.proofs.ShiftLaw.{inside_closed, size_at_least}
+use Rattle.ember_ref.proofs.BoxPoints.{size_at_least}
+use Rattle.ember_ref.proofs.FarTriangles.{inside_closed}
 
 -- y lies below -2047 times the weight, so k * y does
 below_all : (k y w : ℤ) → pos 0 ≤ℤ k → (y +ℤ pos 2047 *ℤ w) <ℤ pos 0 → (neg_ℤ (pos 2047) *ℤ (k *ℤ w)) ≤ℤ (pos 1 *ℤ (k *ℤ y)) → pos 0 <ℤ (k *ℤ w) → ⊥
