@@ -35,7 +35,7 @@ not_cut p c b =
     clash c.high.holds (negative_or (value_at p c.high.at) (b.holds c.high.at c.high.inside)).1
 
 -- ---- the three edge planes
-none_some : {A : Type 0} (o : Option A) {x : A} → o ≡ None → o ≡ Some x → ⊥
+pub none_some : {A : Type 0} (o : Option A) {x : A} → o ≡ None → o ≡ Some x → ⊥
 none_some {A} o n e =
     clash refl (ap (λ (o : Option A). elim o as (λ _. Bool) [ None ↦ true | Some z ↦ false ]) (sym n ∙ e))
 

@@ -1,17 +1,44 @@
 -- A triangle owns a face where none before it contains the face
-use Rattle.std.proofs.Common.{◌≡◌, ◌⊎◌, inl, inr, ℕ, ◌+◌, ◌<◌, ◌≤◌, sym, ap, subst, ◌∙◌, arith, Some, List, length, length-take, take, get_or, slice_get}
+use Rattle.std.proofs.Common.{◌≡◌, ◌⊎◌, inl, inr, ℕ, ◌+◌, ◌<◌, ◌≤◌, refl, sym, ap, subst, ◌∙◌, arith, Bool, true, false, cond, None, Some, pos, List, length, length-take, take, get_or, slice_get}
 use Rattle.std.specs.Option.{IfSome}
-use Rattle.std.proofs.lemmas.Bool.{cases_lt}
+use Rattle.std.proofs.lemmas.Bool.{cases_lt, and_parts}
 use Rattle.std.proofs.lemmas.Option.{slice_get-get_or}
 use Rattle.std.proofs.lemmas.List.{get_or-take}
+use Rattle.ember_algebra.specs.Sign.{is_zero, is_positive}
+use Rattle.ember_model.specs.declared.plane.Plane.{Plane}
+use Rattle.ember_model.specs.declared.point.Spot.{Spot}
 use Rattle.ember_model.specs.declared.tri.Tri.{Tri}
+use Rattle.ember_model.specs.Planes.{value_at, support_of}
+use Rattle.ember_model.specs.Faces.{is_inside, is_flat, face_of}
+use Rattle.ember_model.proofs.SignTests.{zero_out}
 use Rattle.ember_model.specs.declared.face.Face.{Face}
 use Rattle.ember_coplanar.specs.Lying.{LiesOn}
-use Rattle.ember_coplanar.proofs.Containing.{some_inj}
+use Rattle.ember_coplanar.proofs.Containing.{none_some, some_inj}
 
+-- ---- faces of a triangle's own plane
+pub lies_by_support : (t : Tri) (f : Face) → is_flat t ≡ false → f.support ≡ support_of t → LiesOn t f
+lies_by_support t f n e = record { normal = n; plane = plane }
+  where
+    plane : (v : Spot) → is_inside f v ≡ true → value_at (support_of t) v ≡ pos 0
+    plane v i =
+        ap (λ (p : Plane). value_at p v) (sym e) ∙ zero_out (value_at f.support v) (and_parts (is_zero (value_at f.support v)) _ (and_parts (is_positive v.w) _ i).1).0
+
+pub own_face : (t : Tri) (f : Face) → Some f ≡ cond (is_flat t) None (Some (face_of t)) → LiesOn t f
+unfolding face_of
+own_face t f e = by (is_flat t) refl e
+  where
+    by : (b : Bool) → is_flat t ≡ b → Some f ≡ cond b None (Some (face_of t)) → LiesOn t f
+    by true h q = absurd (none_some _ refl (sym q))
+    by false h q = lies_by_support t f h (ap (λ (g : Face). g.support) (some_inj q))
+
+-- ---- the triangle at a place
 pub own_lies : (ts : List Tri) (i : ℕ) (d : Tri) (f : Face) → i < length ts → IfSome (slice_get ts i) (λ t. LiesOn t f) → LiesOn (get_or ts i d) f
 own_lies ts i d f l h =
     subst (λ o. IfSome o (λ t. LiesOn t f)) (slice_get-get_or ts i d l) h
+
+pub lies_at : (ts : List Tri) (i : ℕ) (d : Tri) (f : Face) → i < length ts → LiesOn (get_or ts i d) f → IfSome (slice_get ts i) (λ t. LiesOn t f)
+lies_at ts i d f l h =
+    subst (λ o. IfSome o (λ t. LiesOn t f)) (sym (slice_get-get_or ts i d l)) h
 
 pub own_is : (ts : List Tri) (i : ℕ) (d : Tri) → i < length ts → slice_get ts i ≡ Some (get_or ts i d)
 own_is ts i d l = slice_get-get_or ts i d l

@@ -1,9 +1,11 @@
+ghost use Rattle.std.specs.Prelude.{◌≡◌, ◌<◌, All, length};
 ghost use Rattle.ember_algebra.specs.Size.{Small};
 ghost use Rattle.ember_model.specs.Valid.{IsValidCorner, IsValidTri};
+ghost use Rattle.ember_coplanar.specs.Lying.{LiesOn};
 
 use crate::{contains, is_owner, same_plane};
 use ember_model::{Corner, Tri};
-use ember_poly::of_tri;
+use ember_poly::{Ring, of_tri};
 use std::alloc::AllocError;
 
 fn small(x: i32) -> i32
@@ -47,29 +49,57 @@ fn triangles_of_one_plane(rt: HostRuntime) {
     assert!(&rt; !same_plane(&tri(o, x, x), &up));
 }
 
+// The triangle at a place is coplanar with `own`, in whose plane the ring lies, and contains it.
+fn holds(near: &[Tri], place: usize, own: &Tri, ring: &Ring) -> bool
+    requires valid { All IsValidTri near.now }
+    requires place { place < length near.now }
+    requires own { IsValidTri own.now }
+    requires ring { LiesOn own.now ring.now }
+{
+    let t = &near[place];
+    same_plane(t, own) && contains(t, ring)
+}
+
+// The triangle at a place is coplanar with `own`, and owns the ring.
+fn owns(near: &[Tri], place: u32, own: &Tri, ring: &Ring) -> bool
+    requires valid { All IsValidTri near.now }
+    requires place { place < length near.now }
+    requires own { IsValidTri own.now }
+    requires ring { LiesOn own.now ring.now }
+{
+    same_plane(&near[place as usize], own) && is_owner(near, place, ring)
+}
+
+fn are_right(near: &[Tri], own: &Tri, ring: &Ring) -> bool
+    requires valid { All IsValidTri near.now }
+    requires four { length near.now ≡ 4 }
+    requires own { IsValidTri own.now }
+    requires ring { LiesOn own.now ring.now }
+{
+    let contained = holds(near, 2, own, ring) && holds(near, 3, own, ring);
+    let apart = !holds(near, 0, own, ring) && !holds(near, 1, own, ring);
+    contained && apart && owns(near, 2, own, ring) && !owns(near, 3, own, ring)
+}
+
+// Triangles of another plane and of another place, then `own`, and then the same turned.
+fn near(own: &Tri) -> [Tri; 4]
+    requires { IsValidTri own.now }
+    ensures { All IsValidTri result }
+{
+    let (o, x, y) = (corner(0, 0, 0), corner(1, 0, 0), corner(0, 1, 0));
+    [
+        tri(o, x, corner(0, 1, 1)),
+        tri(o, corner(4, 4, 0), y),
+        *own,
+        tri(y, x, o),
+    ]
+}
+
 #[test]
 fn the_first_that_contains_a_region_owns_it(rt: HostRuntime) -> Result<(), AllocError> {
-    let (o, x, y, far) = (
-        corner(0, 0, 0),
-        corner(1, 0, 0),
-        corner(0, 1, 0),
-        corner(4, 4, 0),
-    );
-    let own = tri(o, x, y);
-    let near = [
-        tri(o, x, corner(0, 1, 1)),
-        tri(o, far, y),
-        own,
-        tri(y, x, o),
-    ];
+    let own = tri(corner(0, 0, 0), corner(1, 0, 0), corner(0, 1, 0));
     match of_tri(rt.alloc(), &own)? {
-        Some(ring) => {
-            assert!(&rt; contains(&near[2], &ring));
-            assert!(&rt; contains(&near[3], &ring));
-            assert!(&rt; !contains(&near[1], &ring));
-            assert!(&rt; is_owner(&near, 2, &ring));
-            assert!(&rt; !is_owner(&near, 3, &ring));
-        }
+        Some(ring) => assert!(&rt; are_right(&near(&own), &own, &ring)),
         None => assert!(&rt; false),
     }
     Ok(())
