@@ -31,3 +31,4 @@ pub mod Divided
 pub mod Spanned
 pub mod Chorded
 pub mod Touching
+pub mod Aside

@@ -2,11 +2,13 @@
 use Rattle.std.specs.Prelude.{◌≡◌, ◌≢◌, ◌⊎◌, true, List, ℤ, pos, ◌+ℤ◌, ◌*ℤ◌, ◌<ℤ◌, ◌≤ℤ◌}
 use Rattle.ember_model.specs.declared.plane.Plane.{Plane}
 use Rattle.ember_model.specs.declared.point.Spot.{Spot}
+use Rattle.ember_model.specs.declared.tri.Tri.{Tri}
 use Rattle.ember_model.specs.Planes.{value_at}
+use Rattle.ember_model.specs.Owners.{spot_at}
 use Rattle.ember_model.specs.ClearTest.{none_positive}
 use Rattle.ember_poly.specs.declared.meeting.Span.{Span}
 use Rattle.ember_poly.specs.declared.meeting.Span.TheVariants.{Free, Split, Shut}
-use Rattle.ember_poly.specs.Rings.{turn, Meets}
+use Rattle.ember_poly.specs.Rings.{Under, Over, turn, Meets}
 
 -- of a plane with these values at the two points: it is positive at no point between them, at some, or at all
 abbrev pub IsSpan : ℤ → ℤ → Span → Type 0
@@ -44,3 +46,8 @@ pub record IsLine (n p : Plane) (y z : Spot) : Type 0 where
   pub weight_z : pos 0 <ℤ z.w
   pub across : Plane
   pub turns : turn n p across ≢ pos 0
+
+-- the triangle lies strictly on one side of the plane
+abbrev pub IsAside : Plane → Tri → Type 0
+IsAside p t =
+    (Over p (spot_at t.a) × Over p (spot_at t.b) × Over p (spot_at t.c)) ⊎ (Under p (spot_at t.a) × Under p (spot_at t.b) × Under p (spot_at t.c))

@@ -1,4 +1,5 @@
-//! Convex faces with their corners: the face of a triangle, and its edges in order round it.
+//! Convex faces with their corners: the face of a triangle, its edges in order round it, on which
+//! sides of a plane it lies, its parts below and above one, and the triangles that it meets.
 #![tactic(auto)]
 
 mod answers;

@@ -1,20 +1,22 @@
 // Rings and triangles that meet.
-ghost use Rattle.std.specs.Prelude.{◌≡◌, ◌↔◌, IsTrue, true, false, All, ℤ};
+ghost use Rattle.std.specs.Prelude.{◌≡◌, ◌↔◌, ◌^◌, IsTrue, true, false, All, ℤ, pos, ◌<ℤ◌};
+ghost use Rattle.ember_algebra.specs.Size.{Small};
 ghost use Rattle.ember_algebra.specs.Sign.{sgn, is_positive};
-ghost use Rattle.ember_model.specs.Valid.{IsValidTri, IsValidPlane};
+ghost use Rattle.ember_model.specs.Valid.{IsValidCorner, IsValidTri, IsValidPlane};
 ghost use Rattle.ember_model.specs.Planes.{value_at, support_of};
 ghost use Rattle.ember_model.specs.Faces.{Cuts, Meets, Somewhere, is_flat, face_of, edges_of};
 ghost use Rattle.ember_model.specs.ClearTest.{face_with, none_positive};
 ghost use Rattle.ember_point.specs.Points.{spot_of};
 ghost use Rattle.ember_poly.specs.Cuts.{HasInside};
-ghost use Rattle.ember_poly.specs.Spans.{IsSpan, IsLine, IsOpen, Fits};
+ghost use Rattle.ember_model.specs.Owners.{spot_at};
+ghost use Rattle.ember_poly.specs.Spans.{IsAside, IsSpan, IsLine, IsOpen, Fits};
 
 use crate::answers::Reach;
 use crate::passage::find_passage;
 use crate::reaching::reach;
 use crate::ring::Ring;
 use ember_algebra::Sign;
-use ember_model::{Plane, Tri, edge_plane, main_axis, support_of};
+use ember_model::{Corner, Plane, Tri, edge_plane, main_axis, support_of};
 use ember_point::{Meet, meet, side};
 
 // What a plane leaves of the chord between two points.
@@ -172,12 +174,48 @@ pub fn meets_face(r: &Ring, support: &Plane, edges: &[Plane]) -> bool
     }
 }
 
+fn height(p: &Plane, u: &Corner) -> i64
+    requires plane { IsValidPlane p.now }
+    requires corner { IsValidCorner u.now }
+    ensures value { result ≡ value_at p.now (spot_at u.now) }
+    ensures small { Small (2 ^ 40) result }
+{
+    p.a * u.x as i64 + p.b * u.y as i64 + p.c * u.z as i64 - p.d
+}
+
+fn are_above(a: i64, b: i64, c: i64) -> bool
+    ensures { IsTrue result → (pos 0 <ℤ a) × (pos 0 <ℤ b) × (pos 0 <ℤ c) }
+{
+    a > 0 && (b > 0 && c > 0)
+}
+
+fn are_below(a: i64, b: i64, c: i64) -> bool
+    ensures { IsTrue result → (a <ℤ pos 0) × (b <ℤ pos 0) × (c <ℤ pos 0) }
+{
+    a < 0 && (b < 0 && c < 0)
+}
+
+// The triangle lies strictly on one side of the plane.
+fn is_aside(p: &Plane, t: &Tri) -> bool
+    requires plane { IsValidPlane p.now }
+    requires tri { IsValidTri t.now }
+    ensures { IsTrue result → IsAside p.now t.now }
+{
+    let a = height(p, &t.a);
+    let b = height(p, &t.b);
+    let c = height(p, &t.c);
+    are_above(a, b, c) || are_below(a, b, c)
+}
+
 /// Some inside point of the ring lies in the closed face of the triangle.
 pub fn meets(r: &Ring, t: &Tri) -> bool
     requires tri { IsValidTri t.now }
     requires normal { is_flat t.now ≡ false }
     ensures { IsTrue result ↔ Meets r.now (face_of t.now) }
 {
+    if is_aside(&r.support, t) {
+        return false;
+    }
     let support = support_of(t);
     meets_face(r, &support, &main_edges(t, &support))
 }

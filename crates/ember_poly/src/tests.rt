@@ -151,6 +151,7 @@ fn rings_and_triangles(rt: HostRuntime) -> Result<(), AllocError> {
         ([a, b, c], [p, s, r], true),
         ([o, b, a], [p, r, q], true),
         ([o, b, a], [o, a, c], false),
+        ([o, b, a], [c, s, [0, 2, 2]], false),
     ];
     for ([a, b, c], [u, v, w], want) in table {
         assert!(&rt; meet(rt.alloc(), &triangle(a, b, c), &triangle(u, v, w))? == want);

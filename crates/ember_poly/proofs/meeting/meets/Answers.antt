@@ -1,6 +1,8 @@
-use Rattle.std.proofs.Common.{sym, subst, ◌≡◌}
+use Rattle.std.proofs.Common.{sym, subst, ap, ◌≡◌, true, false}
+use Rattle.ember_model.specs.declared.face.Face.{Face}
 use Rattle.ember_model.specs.Faces.{Meets, face_of}
 use Rattle.ember_model.specs.ClearTest.{face_with}
+use Rattle.ember_poly.proofs.Aside.{aside}
 use Rattle.ember_poly.proofs.meeting.meets.Goals as goal
 
 pub returns : goal.returns
@@ -9,3 +11,11 @@ returns c =
     let f = c.args.r.now in let n = c.support_of-support.ensures.value in let es = c.main_edges.ensures.value in
     let e : face_with c.support_of-support.result c.main_edges.result ≡ face_of c.args.t.now = λ i. face_with (n i) (es i) in
     (λ t. subst (λ g. Meets f g) e (c.meets_face.ensures.0 t), λ m. c.meets_face.ensures.1 (subst (λ g. Meets f g) (sym e) m))
+
+differ : false ≡ true → ⊥
+differ e = cc
+
+pub returns-then-is_aside : goal.returns-then-is_aside
+returns-then-is_aside c =
+    let f = c.args.r.now in
+    (λ e. absurd (differ e), λ m. absurd (aside f c.r.inside.support c.args.t.now (ap (λ (g : Face). g.support) (sym c.r.view_is)) c.requires.normal (c.is_aside.ensures c.if-is_aside.true) m))
