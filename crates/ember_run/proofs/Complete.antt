@@ -1,5 +1,5 @@
 -- Where no device failed, a call gives what the verdict says, or memory was short.
-use Rattle.std.proofs.Common.{◌≡◌, ◌≢◌, ℕ, List, true, ◌⊎◌, inl, inr, refl, sym, subst}
+use Rattle.std.proofs.Common.{◌≡◌, ◌≢◌, ℕ, ℤ, List, true, ◌⊎◌, inl, inr, refl, sym, subst}
 use Rattle.std.specs.declared.option.Option.{Option}
 use Rattle.ember_io.specs.Causes.{Rose}
 use Rattle.ember_io.specs.Sinks.{IsFlushed}
@@ -8,7 +8,8 @@ use Rattle.ember_run.specs.declared.status.Status.{Status}
 use Rattle.ember_run.specs.declared.status.Status.TheVariants.{Done, Words, ReadFault, WriteFault, ObjRefused, MeshRefused, ExprRefused, Unbounded, Limit, NotClear, FaceRefused, OutOfMemory}
 use Rattle.ember_run.specs.Outputs.{Output}
 use Rattle.ember_run.specs.Serves.{IsBegun, IsRefusal, IsWritten, Serves, is_refusal}
-use Rattle.ember_run.specs.Verdict.{Verdict, Untold, Refused, Writes, told_verdict, verdict_before}
+use Rattle.ember_run.specs.Slices.{IsSliceRefusal}
+use Rattle.ember_run.specs.Verdict.{Verdict, Untold, Refused, Writes, Slices, told_verdict, verdict_before}
 
 -- what a status must be for, by the verdict v
 pub record Owes (v : Verdict) (R W : Type 0) (old new : Option (List ℕ)) (status : Status) : Type 0 where
@@ -48,6 +49,20 @@ refusal_or_memory refusal R W old new NotClear o r = inl (sym (o.refused refl))
 refusal_or_memory refusal R W old new (FaceRefused fault) o r = inl (sym (o.refused refl))
 refusal_or_memory refusal R W old new OutOfMemory o r = inr refl
 
+slice_or_memory : (at : ℤ) (bytes : List ℕ) (R W : Type 0) (old new : Option (List ℕ)) (status : Status) → Owes (Slices at bytes) R W old new status → ¬ R → ¬ W → (status ≡ Done) ⊎ (IsSliceRefusal at bytes status ⊎ (status ≡ OutOfMemory))
+slice_or_memory at bytes R W old new Done o r w = inl refl
+slice_or_memory at bytes R W old new Words o r w = inr (inl (o.refused refl))
+slice_or_memory at bytes R W old new (ReadFault i) o r w = absurd (r (o.read_fault i refl))
+slice_or_memory at bytes R W old new WriteFault o r w = absurd (w (o.write_fault refl).0)
+slice_or_memory at bytes R W old new (ObjRefused i fault) o r w = inr (inl (o.refused refl))
+slice_or_memory at bytes R W old new (MeshRefused i fault) o r w = inr (inl (o.refused refl))
+slice_or_memory at bytes R W old new (ExprRefused fault) o r w = inr (inl (o.refused refl))
+slice_or_memory at bytes R W old new Unbounded o r w = inr (inl (o.refused refl))
+slice_or_memory at bytes R W old new (Limit kind count) o r w = inr (inl (o.refused refl))
+slice_or_memory at bytes R W old new NotClear o r w = inr (inl (o.refused refl))
+slice_or_memory at bytes R W old new (FaceRefused fault) o r w = inr (inl (o.refused refl))
+slice_or_memory at bytes R W old new OutOfMemory o r w = inr (inr refl)
+
 -- the rows of the statuses alone
 pub record Rows (command : Option Command) (told : List ℕ → Option (List ℕ)) (shelf_before shelf_now fault_at out_before out_now flushed : ℕ) (old new : Option (List ℕ)) (status : Status) : Type 0 where
   pub done : status ≡ Done → IsWritten (told_verdict command told) old new × IsFlushed new flushed
@@ -67,4 +82,5 @@ served command told a b c d e f old new status rows =
       untouched = rows.untouched;
       output_comes = λ output v r w. output_or_memory output (Rose a b) (Rose d e) old new status (owes_same (told_verdict command told) (Writes output) (Rose a b) (Rose d e) old new status v owes) r w;
       refusal_comes = λ refusal v r. refusal_or_memory refusal (Rose a b) (Rose d e) old new status (owes_same (told_verdict command told) (Refused refusal) (Rose a b) (Rose d e) old new status v owes) r;
+      slice_comes = λ at bytes v r w. slice_or_memory at bytes (Rose a b) (Rose d e) old new status (owes_same (told_verdict command told) (Slices at bytes) (Rose a b) (Rose d e) old new status v owes) r w;
     }

@@ -3,6 +3,7 @@ pub mod Verdicts
 pub mod SceneFiles
 pub mod PointCounts
 pub mod AtVerdict
+pub mod SliceVerdict
 pub mod Complete
 pub mod ReadBack
 pub mod FaceLists

@@ -2,6 +2,7 @@ pub mod Said
 pub mod Lines
 pub mod FaceTexts
 pub mod Outputs
+pub mod Slices
 pub mod Verdict
 pub mod Serves
 pub mod Scenes

@@ -1,12 +1,13 @@
 -- What a status says of the verdict and of the devices
-use Rattle.std.specs.Prelude.{◌≡◌, ◌≢◌, ◌⊎◌, ⊤, Bool, true, false, ℕ, List, None, Some, Result, Ok, Err, MatchResult}
+use Rattle.std.specs.Prelude.{◌≡◌, ◌≢◌, ◌⊎◌, ⊤, Bool, true, false, ℕ, ℤ, List, None, Some, Result, Ok, Err, MatchResult}
 use Rattle.std.specs.declared.option.Option.{Option}
 use Rattle.std.specs.Io.KnownBytes.{Appends}
 use Rattle.ember_io.specs.Causes.{Rose}
 use Rattle.ember_io.specs.Sinks.{AppendsPrefix, IsFlushed}
 use Rattle.ember_words.specs.declared.command.Command.{Command}
 use Rattle.ember_run.specs.Outputs.{Output, IsOutput}
-use Rattle.ember_run.specs.Verdict.{Verdict, Untold, Refused, Writes, told_verdict, verdict_before}
+use Rattle.ember_run.specs.Slices.{IsSliceOf, IsSliceRefusal}
+use Rattle.ember_run.specs.Verdict.{Verdict, Untold, Refused, Writes, Slices, told_verdict, verdict_before}
 use Rattle.ember_run.specs.declared.status.Status.{Status}
 use Rattle.ember_run.specs.declared.status.Status.TheVariants.{Done, Words, ReadFault, WriteFault, ObjRefused, MeshRefused, ExprRefused, Unbounded, Limit, NotClear, FaceRefused, OutOfMemory}
 
@@ -30,18 +31,21 @@ abbrev pub IsSameIfTold : Verdict → Verdict → Type 0
 IsSameIfTold Untold other = ⊤
 IsSameIfTold (Refused refusal) other = Refused refusal ≡ other
 IsSameIfTold (Writes output) other = Writes output ≡ other
+IsSameIfTold (Slices at bytes) other = Slices at bytes ≡ other
 
--- the verdict, where told, is this refusal
+-- the verdict, where told, is this refusal, or asks for it
 abbrev pub IsRefusal : Status → Verdict → Type 0
 IsRefusal status Untold = ⊤
 IsRefusal status (Refused refusal) = refusal ≡ status
 IsRefusal status (Writes output) = ⊥
+IsRefusal status (Slices at bytes) = IsSliceRefusal at bytes status
 
 -- the verdict, where told, is an output, and these are its bytes
 abbrev pub IsText : Verdict → List ℕ → Type 0
 IsText Untold bytes = ⊤
 IsText (Refused refusal) bytes = ⊥
 IsText (Writes output) bytes = IsOutput output bytes
+IsText (Slices at bytes) text = IsSliceOf at bytes text
 
 -- the verdict, where told, is an output, and it was written
 abbrev pub IsWritten : Verdict → Option (List ℕ) → Option (List ℕ) → Type 0
@@ -61,3 +65,4 @@ pub record Serves (command : Option Command) (told : List ℕ → Option (List �
   -- where no device failed, the verdict is answered, or memory was short
   pub output_comes : (output : Output) → told_verdict command told ≡ Writes output → ¬ Rose shelf_before shelf_now → ¬ Rose out_before out_now → (status ≡ Done) ⊎ (status ≡ OutOfMemory)
   pub refusal_comes : (refusal : Status) → told_verdict command told ≡ Refused refusal → ¬ Rose shelf_before shelf_now → (status ≡ refusal) ⊎ (status ≡ OutOfMemory)
+  pub slice_comes : (at : ℤ) (bytes : List ℕ) → told_verdict command told ≡ Slices at bytes → ¬ Rose shelf_before shelf_now → ¬ Rose out_before out_now → (status ≡ Done) ⊎ (IsSliceRefusal at bytes status ⊎ (status ≡ OutOfMemory))

@@ -1,5 +1,5 @@
 -- What an input asks for: its first refusal, or its output
-use Rattle.std.specs.Prelude.{ℕ, zero, suc, ◌+◌, ◌-◌, List, [], ◌∷◌, ◌++◌, length, nat_le, get_or, map, None, Some, Result, Ok, Err, if◌then◌else◌}
+use Rattle.std.specs.Prelude.{ℕ, ℤ, zero, suc, ◌+◌, ◌-◌, List, [], ◌∷◌, ◌++◌, length, nat_le, get_or, map, None, Some, Result, Ok, Err, if◌then◌else◌}
 use Rattle.std.specs.declared.option.Option.{Option}
 use Rattle.std.specs.List.{list_all}
 use Rattle.ember_balance.specs.declared.loose.Loose.{Loose}
@@ -26,6 +26,8 @@ pub data Verdict : Type 0 where
   Untold : Verdict
   Refused : Status → Verdict
   Writes : Output → Verdict
+  -- the slice of a face file of these bytes at a level, or a refusal of them
+  Slices : (at : ℤ) (bytes : List ℕ) → Verdict
 
 -- what stands under the name of each file of the words, in order, where it is told
 abbrev pub Contents : Type 0
@@ -84,6 +86,9 @@ file_at contents i = get_or contents (i - 1) None
 abbrev pub faces_verdict : ℕ → Option (List ℕ) → Verdict
 faces_verdict places told = after_file places 1 told (λ tris. Writes (FaceTexts tris))
 
+abbrev pub slice_verdict : ℤ → Option (List ℕ) → Verdict
+slice_verdict at told = after_bytes 1 told (λ bytes. Slices at bytes)
+
 -- a point that isn't clear of a triangle has no winding numbers
 abbrev pub after_clear : Spot → List Tri → Verdict → Verdict
 after_clear point tris next = if list_all (λ t. is_clear_of t point) tris then next else Refused NotClear
@@ -104,7 +109,7 @@ verdict_of (Some (command.Boole expr workers places report files)) contents = Re
 verdict_of (Some (command.Demo boxes workers)) contents = Refused Words
 verdict_of (Some (command.Voxels expr size workers places files)) contents = Refused Words
 verdict_of (Some (command.Pairs workers places files)) contents = Refused Words
-verdict_of (Some (command.Slice at file)) contents = Refused Words
+verdict_of (Some (command.Slice at file)) contents = slice_verdict at (file_at contents 1)
 
 -- the names of the command's files, in order
 abbrev pub names_of : Option Command → List (List ℕ)

@@ -8,6 +8,7 @@ mod law;
 mod lines;
 mod reading;
 mod scene;
+mod slice;
 mod status;
 #[cfg(test)]
 mod tests;

@@ -1,28 +1,90 @@
 // The command `slice`.
+ghost use Rattle.std.specs.Prelude.{ℕ, ℤ, pos, negsuc, ◌≤ℤ◌, ◌≡◌, ◌≢◌, ◌≤◌, List, length, true, All, Err, IfOk, IfErr};
+ghost use Rattle.ember_io.specs.Causes.{Rose};
+ghost use Rattle.ember_model.specs.FaceFiles.{IsFaceFile};
+ghost use Rattle.ember_model.specs.Valid.{IsValidFace};
+ghost use Rattle.ember_run.specs.Serves.{IsRefusal, IsText, is_refusal};
+ghost use Rattle.ember_run.specs.Slices.{IsSliceOf, IsSliceRefusal};
+ghost use Rattle.ember_run.specs.Verdict.{slice_verdict};
+
 use crate::reading::read_bytes;
 use crate::status::{FaceFault, Status};
 use ember_io::Shelf;
-use ember_reread::{RereadFault, read_faces};
+use ember_reread::{FaceList, RereadFault, read_faces};
 use ember_slice::{SliceFault, slice_text};
 use ember_words::Text;
 use std::alloc::Global;
 
-/// The text of the segments of a face file in the plane z = at + 1/2, for -2048 to 2047.
+// The faces of a face file.
+fn faces_in(alloc: Global, bytes: &[u8]) -> Result<FaceList, Status>
+    requires few { length bytes.now ≤ 268435456 }
+    ensures faces { IfOk result (λ faces. IsFaceFile bytes.now faces) }
+    ensures valid { IfOk result (λ faces. All IsValidFace faces) }
+    ensures count { IfOk result (λ faces. length faces ≤ 268435456) }
+    ensures refused { (at : ℤ) → IfErr result (λ status. is_refusal status ≡ true → IsSliceRefusal at bytes.now status) }
+    ensures only { (i : ℕ) → result ≢ Err (Status.ReadFault i) }
+    ensures no_other { (result ≢ Err Status.Done) × (result ≢ Err Status.Words) × (result ≢ Err Status.WriteFault) }
+{
+    match read_faces(alloc, bytes) {
+        Ok(faces) => Ok(faces),
+        Err(RereadFault::Form) => Err(Status::FaceRefused(FaceFault::Form)),
+        Err(RereadFault::OutOfMemory) => Err(Status::OutOfMemory),
+    }
+}
+
+// The text of the segments of these faces, which the bytes hold.
+fn segments_text(alloc: Global, faces: &FaceList, at: i32) -> Result<Vec<u8>, Status>
+    requires valid { All IsValidFace faces.now }
+    requires few { length faces.now ≤ 268435456 }
+    requires low { negsuc 2047 ≤ℤ at }
+    requires high { at ≤ℤ pos 2047 }
+    ensures text { (bytes : List ℕ) → IsFaceFile bytes faces.now → IfOk result (λ text. IsSliceOf at bytes text.items) }
+    ensures refused { (bytes : List ℕ) → IsFaceFile bytes faces.now → IfErr result (λ status. is_refusal status ≡ true → IsSliceRefusal at bytes status) }
+    ensures only { (i : ℕ) → result ≢ Err (Status.ReadFault i) }
+    ensures no_other { (result ≢ Err Status.Done) × (result ≢ Err Status.Words) × (result ≢ Err Status.WriteFault) }
+{
+    match slice_text(alloc, faces, at) {
+        Ok(text) => Ok(text),
+        Err(SliceFault::Endless(n)) => Err(Status::FaceRefused(FaceFault::Endless(n))),
+        Err(SliceFault::OutOfMemory) => Err(Status::OutOfMemory),
+    }
+}
+
+// The slice of a face file.
+fn slice_of(alloc: Global, bytes: &[u8], at: i32) -> Result<Vec<u8>, Status>
+    requires few { length bytes.now ≤ 268435456 }
+    requires low { negsuc 2047 ≤ℤ at }
+    requires high { at ≤ℤ pos 2047 }
+    ensures text { IfOk result (λ text. IsSliceOf at bytes.now text.items) }
+    ensures refused { IfErr result (λ status. is_refusal status ≡ true → IsSliceRefusal at bytes.now status) }
+    ensures only { (i : ℕ) → result ≢ Err (Status.ReadFault i) }
+    ensures no_other { (result ≢ Err Status.Done) × (result ≢ Err Status.Words) × (result ≢ Err Status.WriteFault) }
+{
+    match faces_in(alloc, bytes) {
+        Ok(faces) => segments_text(alloc, &faces, at),
+        Err(status) => Err(status),
+    }
+}
+
+/// The text of `slice`: the segments of a face file in the plane z = at + 1/2, for -2048 to 2047.
 pub fn slice_output<S: Shelf>(
     alloc: Global,
     at: i32,
     file: &Text,
     shelf: &mut S,
-) -> Result<Vec<u8>, Status> {
-    let bytes = read_bytes(alloc, shelf, file.as_str(), 1)?;
-    let faces = match read_faces(alloc, &bytes) {
-        Ok(faces) => faces,
-        Err(RereadFault::Form) => return Err(Status::FaceRefused(FaceFault::Form)),
-        Err(RereadFault::OutOfMemory) => return Err(Status::OutOfMemory),
+) -> Result<Vec<u8>, Status>
+    requires low { negsuc 2047 ≤ℤ at }
+    requires high { at ≤ℤ pos 2047 }
+    ensures contents { S.contents shelf.new ≡ S.contents shelf.old }
+    ensures later { S.faults shelf.old ≤ S.faults shelf.new }
+    ensures text { IfOk result (λ text. IsText (slice_verdict at (S.contents shelf.old file.now)) text.items) }
+    ensures refused { IfErr result (λ status. is_refusal status ≡ true → IsRefusal status (slice_verdict at (S.contents shelf.old file.now))) }
+    ensures read_fault { (i : ℕ) → result ≡ Err (Status.ReadFault i) → (i ≡ 1) × Rose (S.faults shelf.old) (S.faults shelf.new) × (S.fault_at shelf.new ≡ i) }
+    ensures no_other { (result ≢ Err Status.Done) × (result ≢ Err Status.Words) × (result ≢ Err Status.WriteFault) }
+{
+    let bytes = match read_bytes(alloc, shelf, file.as_str(), 1) {
+        Ok(bytes) => bytes,
+        Err(status) => return Err(status),
     };
-    match slice_text(alloc, &faces, at) {
-        Ok(text) => Ok(text),
-        Err(SliceFault::Endless(n)) => Err(Status::FaceRefused(FaceFault::Endless(n))),
-        Err(SliceFault::OutOfMemory) => Err(Status::OutOfMemory),
-    }
+    slice_of(alloc, &bytes, at)
 }

@@ -14,6 +14,7 @@ ghost use Rattle.ember_run.specs.Verdict.{Untold, names_of, told_verdict, verdic
 use crate::at::at_output;
 use crate::faces::faces_output;
 use crate::lines::{say_out_of_memory, say_status, say_words_refused};
+use crate::slice::slice_output;
 use crate::status::Status;
 use ember_io::{Shelf, Sink, write_all};
 use ember_words::{Command, WordsFault, read_words};
@@ -40,6 +41,7 @@ fn output_of<S: Shelf>(alloc: Global, command: &Command, shelf: &mut S) -> Resul
             places,
             files,
         } => at_output(alloc, point, expr, *places as u8, files, shelf),
+        Command::Slice { at, file } => slice_output(alloc, *at, file, shelf),
         _ => Err(Status::Words),
     }
 }
