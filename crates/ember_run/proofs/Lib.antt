@@ -4,6 +4,8 @@ pub mod SceneFiles
 pub mod PointCounts
 pub mod AtVerdict
 pub mod SliceVerdict
+pub mod SceneVerdicts
+pub mod Reports
 pub mod Complete
 pub mod ReadBack
 pub mod FaceLists

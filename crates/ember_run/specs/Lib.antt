@@ -1,9 +1,11 @@
 pub mod Said
 pub mod Lines
 pub mod FaceTexts
+pub mod PairLists
 pub mod Outputs
 pub mod Slices
 pub mod Verdict
 pub mod Serves
 pub mod Scenes
 pub mod Given
+pub mod Runs

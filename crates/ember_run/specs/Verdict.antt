@@ -16,7 +16,7 @@ use Rattle.ember_obj.specs.Table.{Faces}
 use Rattle.ember_obj.specs.ReadObj.{read_obj_of}
 use Rattle.ember_words.specs.declared.command.Command.{Command}
 use Rattle.ember_words.specs.declared.command.Command.TheVariants as command
-use Rattle.ember_run.specs.Outputs.{Output, FaceTexts, Counts}
+use Rattle.ember_run.specs.Outputs.{Output, FaceTexts, Counts, MeetingPairs}
 use Rattle.ember_run.specs.declared.status.LimitKind.TheVariants.{Bytes, Triangles}
 use Rattle.ember_run.specs.declared.status.Status.{Status}
 use Rattle.ember_run.specs.declared.status.Status.TheVariants.{Words, ObjRefused, MeshRefused, ExprRefused, Limit, NotClear}
@@ -99,6 +99,9 @@ counts_verdict point meshes expr tris = after_clear point tris (Writes (Counts p
 abbrev pub at_verdict : Spot → Option (List ℕ) → ℕ → Contents → Verdict
 at_verdict point expr places contents =
     after_given expr (length contents) (λ formula. after_scene places contents (counts_verdict point (length contents) formula))
+
+abbrev pub pairs_verdict : ℕ → Contents → Verdict
+pairs_verdict places contents = after_scene places contents (λ tris. Writes (MeetingPairs tris))
 
 -- the verdict of a command; no command: the words are refused
 abbrev pub verdict_of : Option Command → Contents → Verdict

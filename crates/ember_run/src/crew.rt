@@ -15,7 +15,7 @@ use steal_pool::{Gate, Harvest, run_alone, run_tree};
 /// Who runs the boxes of a work.
 pub trait Crew {
     /// What the leaves below the root give, and which boxes were ended. The root is a valid job of
-    /// the root box.
+    /// the root box. Its one error is want of memory.
     fn harvest<W: Work + Sync, F: Fn(&Job) -> Result<Outcome<W::Item>, OutOfMemory> + Sync>(
         &self,
         alloc: Global,
@@ -48,6 +48,7 @@ pub struct Workers<'a, R: Threads + Wait + Sync, G: Gate + Sync> {
 }
 
 impl<'a, G: Gate> Crew for Alone<'a, G> {
+    #[tactic(auto, using(crate::proofs::Reports::holds_alone))]
     fn harvest<W: Work + Sync, F: Fn(&Job) -> Result<Outcome<W::Item>, OutOfMemory> + Sync>(
         &self,
         alloc: Global,
@@ -57,7 +58,8 @@ impl<'a, G: Gate> Crew for Alone<'a, G> {
     where
         W::Item: Drop + Send,
     {
-        run_alone(alloc, root, step, self.gate)
+        let harvest = run_alone(alloc, root, step, self.gate)?;
+        Ok(harvest)
     }
 }
 
@@ -71,6 +73,7 @@ impl<'a, R: Threads + Wait + Sync, G: Gate + Sync> Crew for Workers<'a, R, G> {
     where
         W::Item: Drop + Send,
     {
-        run_tree(self.rt, alloc, self.count, root, step, self.gate)
+        let harvest = run_tree(self.rt, alloc, self.count, root, step, self.gate)?;
+        Ok(harvest)
     }
 }

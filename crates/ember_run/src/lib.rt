@@ -2,10 +2,12 @@
 #![tactic(auto)]
 
 mod at;
+mod crew;
 mod expression;
 mod faces;
 mod law;
 mod lines;
+mod pairs;
 mod reading;
 mod scene;
 mod slice;
