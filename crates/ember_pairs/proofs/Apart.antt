@@ -17,7 +17,7 @@ use Rattle.ember_model.proofs.Hits.{closed_parts}
 use Rattle.ember_box.specs.Boxes.{along}
 use Rattle.ember_box.specs.Spans.{bounding, span_over, reaches, overlap}
 use Rattle.ember_ref.proofs.NearPoints.{past_corners}
-use Rattle.ember_ref.proofs.ShiftLaw.{inside_closed}
+use Rattle.ember_ref.proofs.FarTriangles.{inside_closed}
 use Rattle.ember_pairs.specs.Pairs.{AreMeeting}
 
 -- a point of both closed faces, with all corners of t past those of u along an axis

@@ -16,7 +16,7 @@ use Rattle.ember_model.proofs.SignTests.{In}
 use Rattle.ember_box.specs.Boxes.{Cell, root, left, left_half, right_half}
 use Rattle.ember_box.specs.Near.{is_near, tri_at, no_tri, near_places, places}
 use Rattle.ember_box.specs.Halving.{halving_axis, is_leaf}
-use Rattle.ember_ref.proofs.ShiftLaw.{inside_closed}
+use Rattle.ember_ref.proofs.FarTriangles.{inside_closed}
 use Rattle.ember_job.specs.declared.job.Job.{Job}
 use Rattle.ember_job.specs.Works.{Shape, halved, leafed, passed}
 use Rattle.ember_job.specs.Visited.{below_shape, visited_within, if_leafed, leaves_among}
