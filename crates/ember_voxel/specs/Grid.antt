@@ -1,9 +1,5 @@
 -- The text of a lattice: a character for each cell, a line for each row
-<<<<<<< HEAD
-use Rattle.std.specs.Prelude.{◌≡◌, ℕ, ◌+◌, ◌-◌, ◌*◌, ◌^◌, ◌<◌, ◌==◌, Bool, true, false, ◌&&◌, nat_le, nat_lt, int_le, int_lt, ℤ, pos, ◌-ℤ◌, if◌then◌else◌, List, ◌++◌, length, count_by, slice_index_or, codes, decimal}
-=======
 use Rattle.std.specs.Prelude.{◌≡◌, ℕ, ◌+◌, ◌-◌, ◌*◌, ◌^◌, ◌<◌, ◌≤◌, ◌==◌, Bool, true, false, ◌&&◌, nat_le, nat_lt, int_le, int_lt, ℤ, pos, ◌-ℤ◌, if◌then◌else◌, List, ◌++◌, length, count_by, slice_index_or, codes, decimal}
->>>>>>> 13ffff57ce4db21c1286e1444fe6bdd5f207e35f
 use Rattle.std.specs.List.{list_any}
 use Rattle.ember_model.specs.declared.point.Axis.{Axis}
 use Rattle.ember_model.specs.declared.point.Axis.TheVariants.{X, Y, Z}
@@ -57,14 +53,11 @@ pub record IsGridText (size : ℕ) (fills : List Fill) (text : List ℕ) : Type 
 abbrev pub between : Extent → ℕ → Bool
 between e i = nat_le e.from i && nat_lt i e.end
 
-<<<<<<< HEAD
-=======
 -- cells up to the last of a row
 pub record IsExtent (n : ℕ) (e : Extent) : Type 0 where
   pub order : e.from ≤ e.end
   pub bound : e.end ≤ n
 
->>>>>>> 13ffff57ce4db21c1286e1444fe6bdd5f207e35f
 pub record KeepsFeeds (n : ℕ) (old new : List ℕ) : Type 0 where
   pub kept : (r : ℕ) → char_at n new r n ≡ char_at n old r n
 

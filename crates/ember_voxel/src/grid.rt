@@ -1,12 +1,7 @@
 // The text of all lattice cells.
-<<<<<<< HEAD
-ghost use Rattle.std.specs.Prelude.{◌≡◌, ℕ, ◌+◌, ◌-◌, ◌*◌, ◌^◌, ◌<◌, ◌≤◌, ◌==◌, ◌&&◌, Bool, codes, decimal, ◌++◌, length, count_by, if◌then◌else◌, IfOk, OnOk};
-ghost use Rattle.ember_voxel.specs.Grid.{char_at, between, covers, lights, lit, is_one, IsGridText, AddsRows, KeepsFeeds, header_of};
-=======
 ghost use Rattle.std.specs.Prelude.{◌≡◌, ℕ, ◌+◌, ◌-◌, ◌*◌, ◌^◌, ◌<◌, ◌≤◌, ◌==◌, ◌&&◌, Bool, nat_lt, nat_le, pos, ◌+ℤ◌, codes, decimal, ◌++◌, length, count_by, if◌then◌else◌, IfOk, OnOk};
 ghost use Rattle.ember_voxel.specs.Grid.{char_at, between, covers, lights, lit, is_one, IsExtent, IsGridText, AddsRows, KeepsFeeds, header_of};
 ghost use Rattle.ember_box.specs.Boxes as boxes;
->>>>>>> 13ffff57ce4db21c1286e1444fe6bdd5f207e35f
 ghost use Rattle.ember_voxel.specs.Grid as grids;
 
 use crate::fill::Fill;
@@ -74,11 +69,7 @@ fn set_row(rows: &mut [u8], n: usize, r: usize, x: &Extent)
     requires few { n ≤ 4096 }
     requires size { length rows.old ≡ n * n * (n + 1) }
     requires row { r < n * n }
-<<<<<<< HEAD
-    requires x { x.now.end ≤ n }
-=======
     requires x { IsExtent n x.now }
->>>>>>> 13ffff57ce4db21c1286e1444fe6bdd5f207e35f
     ensures len { length rows.new ≡ length rows.old }
     ensures cells { (q i : ℕ) → i < n → char_at n rows.new q i ≡ (if q == r && between x.now i then 49 else char_at n rows.old q i) }
     ensures feeds { KeepsFeeds n rows.old rows.new }
@@ -94,13 +85,8 @@ fn set_layer(rows: &mut [u8], n: usize, l: usize, x: &Extent, y: &Extent)
     requires few { n ≤ 4096 }
     requires size { length rows.old ≡ n * n * (n + 1) }
     requires layer { l < n }
-<<<<<<< HEAD
-    requires x { x.now.end ≤ n }
-    requires y { y.now.end ≤ n }
-=======
     requires x { IsExtent n x.now }
     requires y { IsExtent n y.now }
->>>>>>> 13ffff57ce4db21c1286e1444fe6bdd5f207e35f
     ensures len { length rows.new ≡ length rows.old }
     ensures cells { (i j m : ℕ) → i < n → j < n → m < n → char_at n rows.new (m * n + j) i ≡ (if m == l && (between y.now j && between x.now i) then 49 else char_at n rows.old (m * n + j) i) }
     ensures feeds { KeepsFeeds n rows.old rows.new }
@@ -114,15 +100,9 @@ fn set_layer(rows: &mut [u8], n: usize, l: usize, x: &Extent, y: &Extent)
 fn set_block(rows: &mut [u8], n: usize, b: &Block)
     requires few { n ≤ 4096 }
     requires size { length rows.old ≡ n * n * (n + 1) }
-<<<<<<< HEAD
-    requires x { b.now.x.end ≤ n }
-    requires y { b.now.y.end ≤ n }
-    requires z { b.now.z.end ≤ n }
-=======
     requires x { IsExtent n b.now.x }
     requires y { IsExtent n b.now.y }
     requires z { IsExtent n b.now.z }
->>>>>>> 13ffff57ce4db21c1286e1444fe6bdd5f207e35f
     ensures len { length rows.new ≡ length rows.old }
     ensures cells { (i j m : ℕ) → i < n → j < n → m < n → char_at n rows.new (m * n + j) i ≡ (if between b.now.z m && (between b.now.y j && between b.now.x i) then 49 else char_at n rows.old (m * n + j) i) }
     ensures feeds { KeepsFeeds n rows.old rows.new }
@@ -132,20 +112,6 @@ fn set_block(rows: &mut [u8], n: usize, b: &Block)
     }
 }
 
-<<<<<<< HEAD
-// The cells whose least corner lies in the box, along an axis.
-fn extent_along(size: u8, c: &Cell, k: Axis) -> Extent
-    requires { size ≤ 12 }
-    ensures bound { result.end ≤ 2 ^ (12 - size) }
-    ensures cells { (i : ℕ) → between result i ≡ grids.spans size c.now k i }
-{
-    let low = (c.low(k) + 2048) as usize;
-    let high = low + c.side(k) as usize;
-    let most = (1usize << size) - 1;
-    Extent {
-        from: (low + most) >> size,
-        end: (high + most) >> size,
-=======
 // How far a box begins from the corner of the root box, along an axis.
 fn offset(c: &Cell, k: Axis) -> usize
     ensures value { pos result ≡ boxes.low c.now k +ℤ pos 2048 }
@@ -177,21 +143,14 @@ fn extent_along(size: u8, c: &Cell, k: Axis) -> Extent
     Extent {
         from: cells_before(size, low),
         end: cells_before(size, high),
->>>>>>> 13ffff57ce4db21c1286e1444fe6bdd5f207e35f
     }
 }
 
 fn block_of(size: u8, c: &Cell) -> Block
     requires { size ≤ 12 }
-<<<<<<< HEAD
-    ensures x { result.x.end ≤ 2 ^ (12 - size) }
-    ensures y { result.y.end ≤ 2 ^ (12 - size) }
-    ensures z { result.z.end ≤ 2 ^ (12 - size) }
-=======
     ensures x { IsExtent (2 ^ (12 - size)) result.x }
     ensures y { IsExtent (2 ^ (12 - size)) result.y }
     ensures z { IsExtent (2 ^ (12 - size)) result.z }
->>>>>>> 13ffff57ce4db21c1286e1444fe6bdd5f207e35f
     ensures cells { (i j l : ℕ) → (between result.z l && (between result.y j && between result.x i)) ≡ covers size c.now i j l }
 {
     Block {

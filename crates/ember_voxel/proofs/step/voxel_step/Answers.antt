@@ -32,10 +32,5 @@ halve_job-requires-clause-room c = counts_within c.args.s.now.tris c.args.job.no
 pub returns-in_ok-low-in-None : goal.returns-in_ok-low-in-None
 returns-in_ok-low-in-None c =
     let ts = c.args.s.now.tris in let j = c.args.job.now in
-<<<<<<< HEAD
-    let h : AreHalves ts j (longest j.cell) c.in_ok-low.low c.in_ok-low.high = subst (λ k. AreHalves ts j k c.in_ok-low.low c.in_ok-low.high) c.longest.ensures c.in_ok-low.ensures in
-    halved_by ts (formula_of c.args.e.now) c.args.size j c.in_ok-low.low c.in_ok-low.high c.in-None.ensures.ends h.is_low h.is_high
-=======
     let h : AreHalves ts j (longest j.cell) c.in_ok-low-in-None.low c.in_ok-low-in-None.high = subst (λ k. AreHalves ts j k c.in_ok-low-in-None.low c.in_ok-low-in-None.high) c.longest.ensures c.in_ok-low-in-None.ensures in
     halved_by ts (formula_of c.args.e.now) c.args.size j c.in_ok-low-in-None.low c.in_ok-low-in-None.high c.in-None.ensures.ends h.is_low h.is_high
->>>>>>> 13ffff57ce4db21c1286e1444fe6bdd5f207e35f
