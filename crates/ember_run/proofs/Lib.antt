@@ -6,6 +6,7 @@ pub mod AtVerdict
 pub mod SliceVerdict
 pub mod SceneVerdicts
 pub mod Reports
+pub mod SliceFaults
 pub mod Complete
 pub mod ReadBack
 pub mod FaceLists

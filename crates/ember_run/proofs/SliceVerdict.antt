@@ -3,7 +3,7 @@ use Rattle.std.proofs.Common.{◌≡◌, ◌⊎◌, inl, inr, ℕ, ℤ, true, Li
 use Rattle.std.specs.declared.option.Option.{Option}
 use Rattle.ember_run.specs.declared.status.Status.{Status}
 use Rattle.ember_run.specs.Serves.{IsRefusal, IsSameIfTold, IsText, is_refusal}
-use Rattle.ember_run.specs.Slices.{IsSliceOf, IsSliceRefusal}
+use Rattle.ember_run.specs.Slices.{IsSlice, IsSliceRefusal}
 use Rattle.ember_run.specs.Verdict.{Verdict, Slices, after_bytes, slice_verdict}
 use Rattle.ember_run.proofs.Verdicts.{refusal_then, text_then}
 
@@ -11,7 +11,7 @@ use Rattle.ember_run.proofs.Verdicts.{refusal_then, text_then}
 abbrev pub BytesRead : Option (List ℕ) → List ℕ → Type 0
 BytesRead told bytes = (next : List ℕ → Verdict) → IsSameIfTold (after_bytes 1 told next) (next bytes)
 
-pub slice_if : {E : Type 0} (at : ℤ) (told : Option (List ℕ)) (bytes : List ℕ) (result : Result (Vec ℕ Global) E) → BytesRead told bytes → IfOk result (λ text. IsSliceOf at bytes text.items) → IfOk result (λ text. IsText (slice_verdict at told) text.items)
+pub slice_if : {E : Type 0} (at : ℤ) (told : Option (List ℕ)) (bytes : List ℕ) (result : Result (Vec ℕ Global) E) → BytesRead told bytes → IfOk result (λ text. IsSlice at bytes text.items) → IfOk result (λ text. IsText (slice_verdict at told) text.items)
 slice_if at told bytes (Ok text) read is = text_then text.items (slice_verdict at told) (Slices at bytes) (read (λ bytes. Slices at bytes)) is
 slice_if at told bytes (Err error) read is = tt
 

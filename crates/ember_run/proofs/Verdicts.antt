@@ -41,7 +41,7 @@ pub text_then : (bytes : List ℕ) (u v : Verdict) → IsSameIfTold u v → IsTe
 text_then bytes Untold v e f = tt
 text_then bytes (Refused refusal) v e f = subst (λ v. IsText v bytes) (sym e) f
 text_then bytes (Writes output) v e f = subst (λ v. IsText v bytes) (sym e) f
-text_then text (Slices at bytes) v e f = subst (λ v. IsText v text) (sym e) f
+text_then bytes (Slices at file) v e f = subst (λ v. IsText v bytes) (sym e) f
 
 pub untold_then : (u v : Verdict) → IsSameIfTold u v → v ≡ Untold → u ≡ Untold
 untold_then Untold v e f = refl

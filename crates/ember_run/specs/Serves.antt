@@ -1,12 +1,12 @@
 -- What a status says of the verdict and of the devices
-use Rattle.std.specs.Prelude.{◌≡◌, ◌≢◌, ◌⊎◌, ⊤, Bool, true, false, ℕ, ℤ, List, None, Some, Result, Ok, Err, MatchResult}
+use Rattle.std.specs.Prelude.{◌≡◌, ◌≢◌, ◌⊎◌, ⊤, Bool, true, false, ℕ, List, None, Some, Result, Ok, Err, MatchResult}
 use Rattle.std.specs.declared.option.Option.{Option}
 use Rattle.std.specs.Io.KnownBytes.{Appends}
 use Rattle.ember_io.specs.Causes.{Rose}
 use Rattle.ember_io.specs.Sinks.{AppendsPrefix, IsFlushed}
 use Rattle.ember_words.specs.declared.command.Command.{Command}
-use Rattle.ember_run.specs.Outputs.{Output, IsOutput}
-use Rattle.ember_run.specs.Slices.{IsSliceOf, IsSliceRefusal}
+use Rattle.ember_run.specs.Outputs.{IsOutput}
+use Rattle.ember_run.specs.Slices.{IsSlice, IsSliceRefusal, IsSliceable}
 use Rattle.ember_run.specs.Verdict.{Verdict, Untold, Refused, Writes, Slices, told_verdict, verdict_before}
 use Rattle.ember_run.specs.declared.status.Status.{Status}
 use Rattle.ember_run.specs.declared.status.Status.TheVariants.{Done, Words, ReadFault, WriteFault, ObjRefused, MeshRefused, ExprRefused, Unbounded, Limit, NotClear, FaceRefused, OutOfMemory}
@@ -33,7 +33,7 @@ IsSameIfTold (Refused refusal) other = Refused refusal ≡ other
 IsSameIfTold (Writes output) other = Writes output ≡ other
 IsSameIfTold (Slices at bytes) other = Slices at bytes ≡ other
 
--- the verdict, where told, is this refusal, or asks for it
+-- the verdict, where told, is this refusal
 abbrev pub IsRefusal : Status → Verdict → Type 0
 IsRefusal status Untold = ⊤
 IsRefusal status (Refused refusal) = refusal ≡ status
@@ -45,7 +45,21 @@ abbrev pub IsText : Verdict → List ℕ → Type 0
 IsText Untold bytes = ⊤
 IsText (Refused refusal) bytes = ⊥
 IsText (Writes output) bytes = IsOutput output bytes
-IsText (Slices at bytes) text = IsSliceOf at bytes text
+IsText (Slices at file) bytes = IsSlice at file bytes
+
+-- the verdict is told, and is an output
+abbrev pub AsksOutput : Verdict → Type 0
+AsksOutput Untold = ⊥
+AsksOutput (Refused refusal) = ⊥
+AsksOutput (Writes output) = ⊤
+AsksOutput (Slices at bytes) = IsSliceable at bytes
+
+-- the verdict is told, and is this refusal
+abbrev pub AsksRefusal : Status → Verdict → Type 0
+AsksRefusal status Untold = ⊥
+AsksRefusal status (Refused refusal) = refusal ≡ status
+AsksRefusal status (Writes output) = ⊥
+AsksRefusal status (Slices at bytes) = IsSliceRefusal at bytes status
 
 -- the verdict, where told, is an output, and it was written
 abbrev pub IsWritten : Verdict → Option (List ℕ) → Option (List ℕ) → Type 0
@@ -63,6 +77,5 @@ pub record Serves (command : Option Command) (told : List ℕ → Option (List �
   pub write_fault : status ≡ WriteFault → Rose out_before out_now × IsBegun (told_verdict command told) old new
   pub untouched : status ≢ Done → status ≢ WriteFault → new ≡ old
   -- where no device failed, the verdict is answered, or memory was short
-  pub output_comes : (output : Output) → told_verdict command told ≡ Writes output → ¬ Rose shelf_before shelf_now → ¬ Rose out_before out_now → (status ≡ Done) ⊎ (status ≡ OutOfMemory)
-  pub refusal_comes : (refusal : Status) → told_verdict command told ≡ Refused refusal → ¬ Rose shelf_before shelf_now → (status ≡ refusal) ⊎ (status ≡ OutOfMemory)
-  pub slice_comes : (at : ℤ) (bytes : List ℕ) → told_verdict command told ≡ Slices at bytes → ¬ Rose shelf_before shelf_now → ¬ Rose out_before out_now → (status ≡ Done) ⊎ (IsSliceRefusal at bytes status ⊎ (status ≡ OutOfMemory))
+  pub output_comes : AsksOutput (told_verdict command told) → ¬ Rose shelf_before shelf_now → ¬ Rose out_before out_now → (status ≡ Done) ⊎ (status ≡ OutOfMemory)
+  pub refusal_comes : (refusal : Status) → AsksRefusal refusal (told_verdict command told) → ¬ Rose shelf_before shelf_now → (status ≡ refusal) ⊎ (status ≡ OutOfMemory)

@@ -16,7 +16,7 @@ use Rattle.ember_obj.specs.Table.{Faces}
 use Rattle.ember_obj.specs.ReadObj.{read_obj_of}
 use Rattle.ember_words.specs.declared.command.Command.{Command}
 use Rattle.ember_words.specs.declared.command.Command.TheVariants as command
-use Rattle.ember_run.specs.Outputs.{Output, FaceTexts, Counts, MeetingPairs}
+use Rattle.ember_run.specs.Outputs.{Output, FaceTexts, Counts, MeetingPairs, Lattice}
 use Rattle.ember_run.specs.declared.status.LimitKind.TheVariants.{Bytes, Triangles}
 use Rattle.ember_run.specs.declared.status.Status.{Status}
 use Rattle.ember_run.specs.declared.status.Status.TheVariants.{Words, ObjRefused, MeshRefused, ExprRefused, Limit, NotClear}
@@ -26,7 +26,7 @@ pub data Verdict : Type 0 where
   Untold : Verdict
   Refused : Status → Verdict
   Writes : Output → Verdict
-  -- the slice of a face file of these bytes at a level, or a refusal of them
+  -- what slicing these bytes at a level gives, a refusal or an output
   Slices : (at : ℤ) (bytes : List ℕ) → Verdict
 
 -- what stands under the name of each file of the words, in order, where it is told
@@ -100,6 +100,10 @@ abbrev pub at_verdict : Spot → Option (List ℕ) → ℕ → Contents → Verd
 at_verdict point expr places contents =
     after_given expr (length contents) (λ formula. after_scene places contents (counts_verdict point (length contents) formula))
 
+abbrev pub voxels_verdict : List ℕ → ℕ → ℕ → Contents → Verdict
+voxels_verdict expr size places contents =
+    after_expr expr (length contents) (λ formula. after_scene places contents (λ tris. Writes (Lattice tris formula size)))
+
 abbrev pub pairs_verdict : ℕ → Contents → Verdict
 pairs_verdict places contents = after_scene places contents (λ tris. Writes (MeetingPairs tris))
 
@@ -110,8 +114,8 @@ verdict_of (Some (command.Faces places file)) contents = faces_verdict places (f
 verdict_of (Some (command.At point expr places files)) contents = at_verdict point expr places contents
 verdict_of (Some (command.Boole expr workers places report files)) contents = Refused Words
 verdict_of (Some (command.Demo boxes workers)) contents = Refused Words
-verdict_of (Some (command.Voxels expr size workers places files)) contents = Refused Words
-verdict_of (Some (command.Pairs workers places files)) contents = Refused Words
+verdict_of (Some (command.Voxels expr size workers places files)) contents = voxels_verdict expr size places contents
+verdict_of (Some (command.Pairs workers places files)) contents = pairs_verdict places contents
 verdict_of (Some (command.Slice at file)) contents = slice_verdict at (file_at contents 1)
 
 -- the names of the command's files, in order

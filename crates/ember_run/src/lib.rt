@@ -15,6 +15,7 @@ mod status;
 #[cfg(test)]
 mod tests;
 mod top;
+mod voxels;
 
 pub use law::{face_files_have_one_reading, faces_wind_as_read};
 pub use status::{FaceFault, LimitKind, Status};

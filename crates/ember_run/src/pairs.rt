@@ -1,10 +1,6 @@
 // The command `pairs`.
 ghost use Rattle.std.specs.Prelude.{ℕ, ◌≡◌, ◌≢◌, ◌≤◌, ◌-◌, length, map, true, Err, IfOk, IfErr};
 ghost use Rattle.ember_io.specs.Causes.{Rose};
-ghost use Rattle.ember_job.specs.Works.{Answers};
-ghost use Rattle.ember_pairs.specs.Pairs.{AreMeetingPairs};
-ghost use Rattle.ember_pairs.specs.Whole.{AreItems, leaf_jobs};
-ghost use Rattle.ember_pairs.specs.Works.{IsPairsJob, pairs_shape};
 ghost use Rattle.ember_run.specs.PairLists.{IsPairsText};
 ghost use Rattle.ember_run.specs.Serves.{IsRefusal, IsText, is_refusal};
 ghost use Rattle.ember_run.specs.Verdict.{Untold, first_told, pairs_verdict};
@@ -13,43 +9,17 @@ use crate::crew::Crew;
 use crate::scene::read_scene;
 use crate::status::Status;
 use ember_io::Shelf;
-use ember_job::{Job, Outcome, Step};
 use ember_model::{OutOfMemory, Scene};
-use ember_pairs::{
-    PairList, PairWork, gather, gathered_pairs_are_all, pair_step, pairs_text, root_pairs,
-};
-use ember_tree::merge;
+use ember_pairs::{gather, gathered_pairs_are_all, pairs_text};
 use ember_words::Texts;
 use std::alloc::Global;
-use steal_pool::merged_items_answer_the_leaves;
-
-// The pairs of each leaf, in the order of the tree.
-fn pairs_of_leaves<C: Crew>(
-    alloc: Global,
-    scene: &Scene,
-    crew: &C,
-) -> Result<Vec<PairList>, OutOfMemory>
-    ensures { IfOk result (λ items. AreItems scene.now.tris (leaf_jobs scene.now.tris) items.items) }
-{
-    let root = root_pairs(alloc, scene)?;
-    let step = Step::new(
-        PairWork { scene },
-        |job: &Job| -> Result<Outcome<PairList>, OutOfMemory>
-            requires { IsPairsJob scene.now.tris job.now }
-            ensures { IfOk result (λ o. Answers (λ j. pairs_shape scene.now.tris j) (λ j ps. AreMeetingPairs scene.now.tris j.list ps) job.now o) }
-        { pair_step(alloc, scene, job) },
-    );
-    let harvest = crew.harvest(alloc, root, &step)?;
-    let items = merge(alloc, harvest.parts.into_vec())?;
-    merged_items_answer_the_leaves(&step.work);
-    Ok(items)
-}
 
 // The text of the scene's pairs.
+#[tactic(auto, using(crate::proofs::SceneVerdicts::pairs_text_of))]
 fn text_of_pairs<C: Crew>(alloc: Global, scene: &Scene, crew: &C) -> Result<Vec<u8>, OutOfMemory>
     ensures { IfOk result (λ text. IsPairsText scene.now.tris text.items) }
 {
-    let items = pairs_of_leaves(alloc, scene, crew)?;
+    let items = crew.pairs(alloc, scene)?;
     let pairs = gather(alloc, items)?;
     gathered_pairs_are_all(scene);
     pairs_text(alloc, pairs.items())

@@ -4,7 +4,7 @@ ghost use Rattle.ember_io.specs.Causes.{Rose};
 ghost use Rattle.ember_model.specs.FaceFiles.{IsFaceFile};
 ghost use Rattle.ember_model.specs.Valid.{IsValidFace};
 ghost use Rattle.ember_run.specs.Serves.{IsRefusal, IsText, is_refusal};
-ghost use Rattle.ember_run.specs.Slices.{IsSliceOf, IsSliceRefusal};
+ghost use Rattle.ember_run.specs.Slices.{IsSlice, IsSliceRefusal};
 ghost use Rattle.ember_run.specs.Verdict.{slice_verdict};
 
 use crate::reading::read_bytes;
@@ -38,7 +38,7 @@ fn segments_text(alloc: Global, faces: &FaceList, at: i32) -> Result<Vec<u8>, St
     requires few { length faces.now ≤ 268435456 }
     requires low { negsuc 2047 ≤ℤ at }
     requires high { at ≤ℤ pos 2047 }
-    ensures text { (bytes : List ℕ) → IsFaceFile bytes faces.now → IfOk result (λ text. IsSliceOf at bytes text.items) }
+    ensures text { (bytes : List ℕ) → IsFaceFile bytes faces.now → IfOk result (λ text. IsSlice at bytes text.items) }
     ensures refused { (bytes : List ℕ) → IsFaceFile bytes faces.now → IfErr result (λ status. is_refusal status ≡ true → IsSliceRefusal at bytes status) }
     ensures only { (i : ℕ) → result ≢ Err (Status.ReadFault i) }
     ensures no_other { (result ≢ Err Status.Done) × (result ≢ Err Status.Words) × (result ≢ Err Status.WriteFault) }
@@ -55,7 +55,7 @@ fn slice_of(alloc: Global, bytes: &[u8], at: i32) -> Result<Vec<u8>, Status>
     requires few { length bytes.now ≤ 268435456 }
     requires low { negsuc 2047 ≤ℤ at }
     requires high { at ≤ℤ pos 2047 }
-    ensures text { IfOk result (λ text. IsSliceOf at bytes.now text.items) }
+    ensures text { IfOk result (λ text. IsSlice at bytes.now text.items) }
     ensures refused { IfErr result (λ status. is_refusal status ≡ true → IsSliceRefusal at bytes.now status) }
     ensures only { (i : ℕ) → result ≢ Err (Status.ReadFault i) }
     ensures no_other { (result ≢ Err Status.Done) × (result ≢ Err Status.Words) × (result ≢ Err Status.WriteFault) }
