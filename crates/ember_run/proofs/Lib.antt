@@ -5,7 +5,6 @@ pub mod PointCounts
 pub mod AtVerdict
 pub mod SliceVerdict
 pub mod SceneVerdicts
-pub mod Reports
 pub mod SliceFaults
 pub mod Complete
 pub mod ReadBack

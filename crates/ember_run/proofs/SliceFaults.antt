@@ -23,13 +23,15 @@ use Rattle.ember_run.proofs.OneReading.{one_reading}
 point_on : (n : Plane) (at : ℤ) → (IsFlat n → ⊥) → (v : Spot) × (is_on_line n at v ≡ true)
 point_on n at t =
     let h = pos 2 *ℤ at +ℤ pos 1 in let m = pos 2 *ℤ n.d -ℤ n.c *ℤ h in let q = square n in
-    let v : Spot = record { x = n.a *ℤ m; y = n.b *ℤ m; z = h *ℤ q; w = pos 2 *ℤ q } in
-    (v, on_line_in n at v
-    (record {
-      weight = omega (arith, linear, square_above n t);
-      support = solve 5 (λ a b c d e. let h = num (pos 2) ⊗ e ⊕ num (pos 1) in let m = num (pos 2) ⊗ d ⊖ c ⊗ h in let q = a ⊗ a ⊕ b ⊗ b in a ⊗ (a ⊗ m) ⊕ b ⊗ (b ⊗ m) ⊕ c ⊗ (h ⊗ q) ⊖ d ⊗ (num (pos 2) ⊗ q) ≈ num (pos 0)) cancels n.a n.b n.c n.d at;
-      level = solve 5 (λ a b c d e. let h = num (pos 2) ⊗ e ⊕ num (pos 1) in let m = num (pos 2) ⊗ d ⊖ c ⊗ h in let q = a ⊗ a ⊕ b ⊗ b in num (pos 0) ⊗ (a ⊗ m) ⊕ num (pos 0) ⊗ (b ⊗ m) ⊕ num (pos 2) ⊗ (h ⊗ q) ⊖ h ⊗ (num (pos 2) ⊗ q) ≈ num (pos 0)) cancels n.a n.b n.c n.d at;
-    }))
+    let v : Spot = record { x = n.a *ℤ m; y = n.b *ℤ m; z = h *ℤ q; w = pos 2 *ℤ q } in (
+      v,
+      on_line_in n at v
+          (record {
+            weight = omega (arith, linear, square_above n t);
+            support = solve 5 (λ a b c d e. let h = num (pos 2) ⊗ e ⊕ num (pos 1) in let m = num (pos 2) ⊗ d ⊖ c ⊗ h in let q = a ⊗ a ⊕ b ⊗ b in a ⊗ (a ⊗ m) ⊕ b ⊗ (b ⊗ m) ⊕ c ⊗ (h ⊗ q) ⊖ d ⊗ (num (pos 2) ⊗ q) ≈ num (pos 0)) cancels n.a n.b n.c n.d at;
+            level = solve 5 (λ a b c d e. let h = num (pos 2) ⊗ e ⊕ num (pos 1) in let m = num (pos 2) ⊗ d ⊖ c ⊗ h in let q = a ⊗ a ⊕ b ⊗ b in num (pos 0) ⊗ (a ⊗ m) ⊕ num (pos 0) ⊗ (b ⊗ m) ⊕ num (pos 2) ⊗ (h ⊗ q) ⊖ h ⊗ (num (pos 2) ⊗ q) ≈ num (pos 0)) cancels n.a n.b n.c n.d at;
+          }),
+    )
 
 beyond : (f : Face) (at : ℤ) (v : Spot) → is_on_line f.support at v ≡ true → GoesOn f at ⊎ GoesBack f at → (p : Spot) × (is_cut f at p ≡ true)
 beyond f at v on (inl goes) = let p = goes v on in (p.0, p.1)
@@ -41,7 +43,7 @@ not_both n u v h k =
 
 none_ends : (f : Face) (at : ℤ) → IsEndless f at → GivesNone f at → ⊥
 none_ends f at h (inl flat) = h.tilted flat
-none_ends f at h (inr no) = let v = point_on f.support at h.tilted in let p = beyond f at v.0 v.1 h.unbounded in clash p.1 (no p.0)
+none_ends f at h (inr empty) = let v = point_on f.support at h.tilted in let p = beyond f at v.0 v.1 h.unbounded in clash p.1 (empty p.0)
 
 segment_ends : (f : Face) (at : ℤ) (u v : Spot) → GoesOn f at ⊎ GoesBack f at → IsSegment f at u v → ⊥
 segment_ends f at u v (inl goes) s =

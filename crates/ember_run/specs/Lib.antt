@@ -9,4 +9,3 @@ pub mod Verdict
 pub mod Serves
 pub mod Scenes
 pub mod Given
-pub mod Runs
