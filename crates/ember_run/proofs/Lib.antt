@@ -2,12 +2,13 @@ pub mod Pieces
 pub mod Verdicts
 pub mod SceneFiles
 pub mod PointCounts
+pub mod ClearFaces
 pub mod AtVerdict
 pub mod SliceVerdict
 pub mod SceneVerdicts
-pub mod SliceFaults
-pub mod Complete
 pub mod ReadBack
 pub mod FaceLists
 pub mod CanonicalWords
 pub mod OneReading
+pub mod SliceFaults
+pub mod Complete

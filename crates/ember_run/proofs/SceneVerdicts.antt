@@ -1,5 +1,5 @@
 -- What follows on an expression, and on the scene of the files.
-use Rattle.std.proofs.Common.{◌≡◌, ℕ, ◌-◌, ◌≤◌, zero, suc, true, List, [], ◌∷◌, length, Some, None, refl, sym, ap, subst, ◌∙◌}
+use Rattle.std.proofs.Common.{◌≡◌, ℕ, ◌-◌, ◌≤◌, zero, suc, true, List, [], ◌∷◌, length, Some, None, Result, Ok, Err, IfOk, Vec, Global, refl, sym, ap, subst, ◌∙◌}
 use Rattle.std.specs.declared.option.Option.{Option}
 use Rattle.ember_expr.specs.Formula.{Formula}
 use Rattle.ember_job.specs.declared.job.Job.{Job}
@@ -40,8 +40,10 @@ are_items tris [] (ps ∷ items) h = h
 are_items tris (job ∷ jobs) [] h = h
 are_items tris (job ∷ jobs) (ps ∷ items) h = (h.0, are_items tris jobs items h.1)
 
-pub pairs_text_of : (tris : List Tri) (items : List (List Pair)) (ps : List Pair) (bytes : List ℕ) → ((items : List (List Pair)) (ps : List Pair) → AreItems tris (leaf_jobs tris) items → AreGathered items ps → ArePairs tris ps) → ArePairsOfLeaves tris items → AreGathered items ps → bytes ≡ pairs_text ps → IsPairsText tris bytes
-pairs_text_of tris items ps bytes law are gathered is = (ps, law items ps (are_items tris (leaf_jobs tris) items are) gathered, is)
+pub pairs_text_if : {E : Type 0} (tris : List Tri) (items : List (List Pair)) (ps shown : List Pair) (result : Result (Vec ℕ Global) E) → ((items : List (List Pair)) (ps : List Pair) → AreItems tris (leaf_jobs tris) items → AreGathered items ps → ArePairs tris ps) → ArePairsOfLeaves tris items → AreGathered items ps → shown ≡ ps → IfOk result (λ text. text.items ≡ pairs_text shown) → IfOk result (λ text. IsPairsText tris text.items)
+pairs_text_if tris items ps shown (Ok text) law are gathered e is =
+    (ps, law items ps (are_items tris (leaf_jobs tris) items are) gathered, is ∙ ap pairs_text e)
+pairs_text_if tris items ps shown (Err error) law are gathered e is = tt
 
 pub pairs_listed : (places : ℕ) (contents : Contents) (tris : List Tri) (bytes : List ℕ) → ((next : List Tri → Verdict) → IsSameIfTold (after_scene places contents next) (next tris)) → IsPairsText tris bytes → IsText (pairs_verdict places contents) bytes
 pairs_listed places contents tris bytes scene is =

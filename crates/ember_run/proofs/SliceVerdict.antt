@@ -1,6 +1,8 @@
 -- The verdict of `slice`, step by step.
 use Rattle.std.proofs.Common.{◌≡◌, ◌⊎◌, inl, inr, ℕ, ℤ, true, List, Result, Ok, Err, IfOk, IfErr, Vec, Global, sym, subst}
 use Rattle.std.specs.declared.option.Option.{Option}
+use Rattle.ember_reread.specs.declared.fault.RereadFault.{RereadFault}
+use Rattle.ember_reread.specs.declared.fault.RereadFault.TheVariants.{Form, OutOfMemory}
 use Rattle.ember_run.specs.declared.status.Status.{Status}
 use Rattle.ember_run.specs.Serves.{IsRefusal, IsSameIfTold, IsText, is_refusal}
 use Rattle.ember_run.specs.Slices.{IsSlice, IsSliceRefusal}
@@ -19,3 +21,8 @@ pub slice_refused_if : {A : Type 0} (at : ℤ) (told : Option (List ℕ)) (bytes
 slice_refused_if at told bytes (Ok value) read refused = tt
 slice_refused_if at told bytes (Err status) read refused =
     λ r. refusal_then status (slice_verdict at told) (Slices at bytes) (read (λ bytes. Slices at bytes)) (refused r)
+
+-- of the two ways to be refused, that of the form
+pub form_only : {P : Type 0} (fault : RereadFault) → fault ≡ Form → (fault ≡ OutOfMemory) ⊎ P → P
+form_only fault is (inl memory) = absurd (cc)
+form_only fault is (inr refused) = refused

@@ -1,11 +1,14 @@
-// The laws of face files that `faces` writes.
-ghost use Rattle.std.specs.Prelude.{◌≡◌, ℕ, List};
+// The laws of what `faces` and `at` write.
+ghost use Rattle.std.specs.Prelude.{◌≡◌, ◌↔◌, ℕ, pos, ◌<ℤ◌, true, List};
+ghost use Rattle.std.specs.List.{list_all};
 ghost use Rattle.ember_model.specs.declared.face.Face.{Face};
 ghost use Rattle.ember_model.specs.declared.point.Axis.{Axis};
 ghost use Rattle.ember_model.specs.declared.point.Spot.{Spot};
 ghost use Rattle.ember_model.specs.declared.tri.Tri.{Tri};
 ghost use Rattle.ember_model.specs.FaceFiles.{IsFaceFile};
-ghost use Rattle.ember_model.specs.Meshes.{faces_of, wind};
+ghost use Rattle.ember_model.specs.Clear.{IsClearOf};
+ghost use Rattle.ember_model.specs.ClearTest.{is_clear_of};
+ghost use Rattle.ember_model.specs.Meshes.{IsScene, faces_of, vector, wind};
 ghost use Rattle.ember_run.specs.Outputs.{FaceTexts, IsOutput};
 
 /// What `faces` writes for the triangles holds their faces and no other list of faces, so each
@@ -18,4 +21,14 @@ pub fn faces_wind_as_read()
 /// A list of bytes is the face file of one list of faces at most.
 pub fn face_files_have_one_reading()
     ensures { (bytes : List ℕ) (faces others : List Face) → IsFaceFile bytes faces → IsFaceFile bytes others → faces ≡ others }
+{}
+
+/// The test by which `at` refuses a point finds exactly the points that are clear of a triangle.
+pub fn clear_points_are_found()
+    ensures { (tri : Tri) (point : Spot) → pos 0 <ℤ point.w → (is_clear_of tri point ≡ true) ↔ IsClearOf tri point }
+{}
+
+/// At a point that `at` takes the winding numbers are the same along all axes.
+pub fn counts_along_all_axes_agree()
+    ensures { (tris : List Tri) (meshes : ℕ) → IsScene tris meshes → (point : Spot) → pos 0 <ℤ point.w → list_all (λ t. is_clear_of t point) tris ≡ true → (axis other : Axis) → vector axis tris point ≡ vector other tris point }
 {}

@@ -12,11 +12,12 @@ mod reading;
 mod scene;
 mod slice;
 mod status;
-#[cfg(test)]
-mod tests;
 mod top;
 mod voxels;
 
-pub use law::{face_files_have_one_reading, faces_wind_as_read};
+pub use law::{
+    clear_points_are_found, counts_along_all_axes_agree, face_files_have_one_reading,
+    faces_wind_as_read,
+};
 pub use status::{FaceFault, LimitKind, Status};
 pub use top::{run, run_one};

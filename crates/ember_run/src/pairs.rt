@@ -15,7 +15,6 @@ use ember_words::Texts;
 use std::alloc::Global;
 
 // The text of the scene's pairs.
-#[tactic(auto, using(crate::proofs::SceneVerdicts::pairs_text_of))]
 fn text_of_pairs<C: Crew>(alloc: Global, scene: &Scene, crew: &C) -> Result<Vec<u8>, OutOfMemory>
     ensures { IfOk result (λ text. IsPairsText scene.now.tris text.items) }
 {

@@ -1,0 +1,39 @@
+// Every prefix of a file.
+use crate::files::{AT, FACES, TETRA, answer, failing_sink, safe_shelf};
+use ember_obj::ObjFault;
+use ember_run::Status;
+use std::test::Fail;
+
+// The answer of the reading at the first so many bytes; each line of the file has eight.
+fn reading_of(bytes: usize) -> Status {
+    let line = bytes as u32 / 8 + 1;
+    let cut = bytes % 8;
+    if cut == 0 || cut == 7 {
+        Status::Done
+    } else if line <= 4 {
+        Status::ObjRefused(1, ObjFault::Word(line))
+    } else {
+        Status::ObjRefused(1, ObjFault::FewCorners(line))
+    }
+}
+
+#[test]
+fn every_prefix_is_read_or_refused(rt: HostRuntime) -> Result<(), Fail> {
+    let alloc = rt.alloc();
+    for bytes in 0..65usize {
+        let mut shelf = safe_shelf(alloc, &TETRA[..bytes])?;
+        let mut out = failing_sink(alloc, 0)?;
+        let mut err = failing_sink(alloc, 0)?;
+        let status = answer(alloc, FACES, &["a.obj"], &mut shelf, &mut out, &mut err)?;
+        assert_eq!(rt; status, reading_of(bytes));
+        let wanted = reading_of(bytes);
+        let status = answer(alloc, AT, &["a.obj"], &mut shelf, &mut out, &mut err)?;
+        let is_open = bytes > 38 && bytes < 63;
+        if wanted == Status::Done && is_open {
+            assert!(rt; matches!(&status, Status::MeshRefused(1, _)));
+        } else {
+            assert_eq!(rt; status, wanted);
+        }
+    }
+    Ok(())
+}
