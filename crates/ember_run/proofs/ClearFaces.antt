@@ -1,5 +1,5 @@
 -- A point that passes the test at each triangle is clear of all faces.
-use Rattle.std.proofs.Common.{◌≡◌, ℕ, Bool, true, false, not, cond, List, [], ◌∷◌, map, filter, ℤ, pos, ◌<ℤ◌, refl}
+use Rattle.std.proofs.Common.{◌≡◌, ℕ, Bool, true, false, not, cond, List, [], ◌∷◌, map, filter, pos, ◌<ℤ◌, refl}
 use Rattle.std.specs.List.{AllByRecursion, list_all}
 use Rattle.ember_model.specs.declared.point.Axis.{Axis}
 use Rattle.ember_model.specs.declared.point.Spot.{Spot}

@@ -1,5 +1,5 @@
 -- The files of a scene, one after another.
-use Rattle.std.proofs.Common.{◌≡◌, ℕ, ◌+◌, ◌-◌, ◌<◌, ◌≤◌, zero, suc, true, false, List, [], ◌∷◌, ◌++◌, length, map, take, drop, get_or, nat_le, All, Some, None, Result, Ok, Err, IfOk, IfErr, refl, sym, ap, subst, arith, ◌∙◌, append_assoc, length-append}
+use Rattle.std.proofs.Common.{◌≡◌, ℕ, ◌+◌, ◌-◌, ◌<◌, ◌≤◌, zero, suc, true, List, [], ◌∷◌, ◌++◌, length, map, take, get_or, All, Some, None, Result, Ok, Err, IfOk, IfErr, refl, sym, ap, subst, arith, ◌∙◌, append_assoc, length-append}
 use Rattle.std.proofs.lemmas.Bool.{le-leb}
 use Rattle.std.proofs.lemmas.List.{take_more, append-nil, map-append}
 use Rattle.std.proofs.lemmas.Grind.{flat_map-append}

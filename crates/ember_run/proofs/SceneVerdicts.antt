@@ -1,11 +1,9 @@
 -- What follows on an expression, and on the scene of the files.
-use Rattle.std.proofs.Common.{◌≡◌, ℕ, ◌-◌, ◌≤◌, zero, suc, true, List, [], ◌∷◌, length, Some, None, Result, Ok, Err, IfOk, Vec, Global, refl, sym, ap, subst, ◌∙◌}
-use Rattle.std.specs.declared.option.Option.{Option}
+use Rattle.std.proofs.Common.{◌≡◌, ℕ, ◌-◌, ◌≤◌, zero, suc, List, [], ◌∷◌, length, Result, Ok, Err, IfOk, Vec, Global, refl, sym, ap, subst, ◌∙◌}
 use Rattle.ember_expr.specs.Formula.{Formula}
 use Rattle.ember_job.specs.declared.job.Job.{Job}
 use Rattle.ember_model.specs.declared.scene.Scene.{Scene}
 use Rattle.ember_model.specs.declared.tri.Tri.{Tri}
-use Rattle.ember_model.specs.Meshes.{IsScene}
 use Rattle.ember_pairs.specs.declared.pair.Pair.{Pair}
 use Rattle.ember_pairs.specs.Gathering.{AreGathered}
 use Rattle.ember_pairs.specs.Pairs.{AreMeetingPairs, ArePairs}
@@ -20,9 +18,9 @@ use Rattle.ember_run.specs.Lattices.{IsLatticeText}
 use Rattle.ember_run.specs.Outputs.{Lattice, MeetingPairs}
 use Rattle.ember_run.specs.PairLists.{ArePairsOfLeaves, IsPairsText}
 use Rattle.ember_run.specs.Scenes.{MayRead}
-use Rattle.ember_run.specs.Serves.{IsRefusal, IsSameIfTold, IsText, is_refusal}
+use Rattle.ember_run.specs.Serves.{IsRefusal, IsSameIfTold, IsText}
 use Rattle.ember_run.specs.Verdict.{Contents, Verdict, Untold, Writes, after_expr, after_scene, first_told, pairs_verdict, voxels_verdict}
-use Rattle.ember_run.proofs.Verdicts.{refusal_then, text_then}
+use Rattle.ember_run.proofs.Verdicts.{text_then}
 
 -- these triangles were read
 abbrev pub SceneRead : ℕ → Contents → List Tri → Type 0

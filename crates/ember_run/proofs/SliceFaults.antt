@@ -1,14 +1,13 @@
 -- A file's slice and its faults exclude one another, and it has one fault.
-use Rattle.std.proofs.Common.{◌≡◌, ◌≢◌, ◌⊎◌, inl, inr, ℕ, zero, suc, ◌+◌, ◌<◌, Bool, true, false, ◌&&◌, List, [], ◌∷◌, ◌++◌, Some, None, ℤ, pos, negsuc, ◌+ℤ◌, ◌-ℤ◌, ◌*ℤ◌, refl, sym, ap, subst, ◌∙◌, arith}
+use Rattle.std.proofs.Common.{◌≡◌, ◌⊎◌, inl, inr, ℕ, zero, suc, ◌+◌, ◌<◌, true, List, [], ◌∷◌, Some, None, ℤ, pos, ◌+ℤ◌, ◌-ℤ◌, ◌*ℤ◌, refl, sym, ap, subst, ◌∙◌, arith}
 use Rattle.std.specs.Prelude.{slice_get}
 use Rattle.std.specs.declared.option.Option.{Option}
-use Rattle.ember_algebra.specs.Relations.{Each, none, more}
+use Rattle.ember_algebra.specs.Relations.{Each, more}
 use Rattle.ember_algebra.proofs.Laws.{linear}
 use Rattle.ember_algebra.proofs.Ring.{num, ◌⊕◌, ◌⊖◌, ◌⊗◌, ◌≈◌, solve, cancels}
 use Rattle.ember_model.specs.declared.face.Face.{Face}
 use Rattle.ember_model.specs.declared.plane.Plane.{Plane}
 use Rattle.ember_model.specs.declared.point.Spot.{Spot}
-use Rattle.ember_model.specs.FaceFiles.{IsFaceFile}
 use Rattle.ember_model.proofs.SignTests.{and_parts, clash, negative_out}
 use Rattle.ember_slice.specs.Lines.{IsFlat, ahead, is_before, is_on_line}
 use Rattle.ember_slice.specs.Segments.{Directed, Gives, GivesNone, GoesBack, GoesOn, IsEndless, IsFirstEndless, IsSegment, IsSliceText, is_cut}

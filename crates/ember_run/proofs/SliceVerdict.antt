@@ -1,5 +1,5 @@
 -- The verdict of `slice`, step by step.
-use Rattle.std.proofs.Common.{◌≡◌, ◌⊎◌, inl, inr, ℕ, ℤ, true, List, Result, Ok, Err, IfOk, IfErr, Vec, Global, sym, subst}
+use Rattle.std.proofs.Common.{◌≡◌, ◌⊎◌, inl, inr, ℕ, ℤ, true, List, Result, Ok, Err, IfOk, IfErr, Vec, Global}
 use Rattle.std.specs.declared.option.Option.{Option}
 use Rattle.ember_reread.specs.declared.fault.RereadFault.{RereadFault}
 use Rattle.ember_reread.specs.declared.fault.RereadFault.TheVariants.{Form, OutOfMemory}

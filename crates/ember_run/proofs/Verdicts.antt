@@ -3,9 +3,7 @@ use Rattle.std.proofs.Common.{◌≡◌, ℕ, ◌<◌, ◌≤◌, true, false, L
 use Rattle.std.proofs.lemmas.Bool.{le-leb}
 use Rattle.std.proofs.lemmas.Bool.Decides.{leb_tells}
 use Rattle.std.specs.declared.option.Option.{Option}
-use Rattle.std.specs.Io.KnownBytes.{Appends}
 use Rattle.ember_io.specs.Shelves.{Tells, TellsMore}
-use Rattle.ember_io.specs.Sinks.{AppendsPrefix}
 use Rattle.ember_model.specs.declared.tri.Tri.{Tri}
 use Rattle.ember_obj.specs.declared.fault.ObjFault.{ObjFault}
 use Rattle.ember_obj.specs.Table.{Faces}
@@ -14,7 +12,7 @@ use Rattle.ember_run.specs.declared.status.LimitKind.TheVariants.{Bytes}
 use Rattle.ember_run.specs.declared.status.Status.{Status}
 use Rattle.ember_run.specs.declared.status.Status.TheVariants.{ObjRefused, Limit}
 use Rattle.ember_run.specs.FaceTexts.{IsFaceFileOf}
-use Rattle.ember_run.specs.Outputs.{Output, FaceTexts, IsOutput}
+use Rattle.ember_run.specs.Outputs.{FaceTexts}
 use Rattle.ember_run.specs.Verdict.{Verdict, Untold, Refused, Writes, Slices, after_bytes, after_file, after_triangles, faces_verdict}
 use Rattle.ember_run.specs.Serves.{IsRefusal, IsSameIfTold, IsText}
 

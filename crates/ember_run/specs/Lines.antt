@@ -1,5 +1,5 @@
 -- The number of a status, and its line on err
-use Rattle.std.specs.Prelude.{ℕ, ◌-◌, ℤ, List, [], ◌++◌, codes, decimal, get_or}
+use Rattle.std.specs.Prelude.{ℕ, ◌-◌, List, [], ◌++◌, codes, decimal, get_or}
 use Rattle.std.specs.Fmt.{signed_decimal}
 use Rattle.ember_balance.specs.declared.loose.Loose.{Loose}
 use Rattle.ember_dec.specs.declared.DecFault.{DecFault}

@@ -1,5 +1,5 @@
 -- The files of a scene while they are read, one after another
-use Rattle.std.specs.Prelude.{◌≡◌, ℕ, ◌+◌, ◌-◌, List, [], ◌∷◌, ◌++◌, length}
+use Rattle.std.specs.Prelude.{◌≡◌, ℕ, ◌+◌, ◌-◌, List, ◌++◌, length}
 use Rattle.ember_mesh.specs.declared.states.Closed.{Closed}
 use Rattle.ember_mesh.specs.Joined.{AreNumbered, triangles_of}
 use Rattle.ember_model.specs.declared.tri.Tri.{Tri}

@@ -20,9 +20,7 @@ use ember_tree::merge;
 use ember_visit::root_job;
 use ember_voxel::{Fill, VoxelWork, voxel_step};
 use std::alloc::Global;
-use std::sync::Wait;
-use std::thread::Threads;
-use steal_pool::{Gate, merged_items_answer_the_leaves, run_alone, run_tree};
+use steal_pool::{Gate, merged_items_answer_the_leaves, run_alone};
 
 /// Who runs the boxes: what the leaves give, in the order of the tree.
 pub trait Crew {
@@ -49,16 +47,6 @@ pub struct Alone<'a, G: Gate> {
     pub gate: &'a G,
 }
 
-/// So many workers, from 1 to 64.
-#[derive(Drop)]
-pub struct Workers<'a, R: Threads + Wait + Sync, G: Gate + Sync> {
-    pub rt: &'a R,
-    pub gate: &'a G,
-    pub count: u32,
-    ghost some: { 1 ≤ count },
-    ghost few: { count ≤ 64 },
-}
-
 // What the leaves below the root give, run by this thread alone.
 fn items_alone<W: Work, F: Fn(&Job) -> Result<Outcome<W::Item>, OutOfMemory>, G: Gate>(
     alloc: Global,
@@ -74,34 +62,6 @@ where
     ensures { IfOk result (λ items. EachAnswers (W.item step.now.work) (leaves (W.shape step.now.work) root) items.items) }
 {
     let harvest = run_alone(alloc, root, step, gate)?;
-    let items = merge(alloc, harvest.parts.into_vec())?;
-    merged_items_answer_the_leaves(&step.work);
-    Ok(items)
-}
-
-// The same, run by so many workers.
-fn items_by_workers<
-    R: Threads + Wait + Sync,
-    W: Work + Sync,
-    F: Fn(&Job) -> Result<Outcome<W::Item>, OutOfMemory> + Sync,
-    G: Gate + Sync,
->(
-    rt: &R,
-    alloc: Global,
-    workers: u32,
-    root: Job,
-    step: &Step<W, F>,
-    gate: &G,
-) -> Result<Vec<W::Item>, OutOfMemory>
-where
-    W::Item: Drop + Send,
-    requires step { AnswersAll W.valid W.shape W.item F.pre F.post step.now.work step.now.call }
-    requires workers { (1 ≤ workers) × (workers ≤ 64) }
-    requires root { W.valid step.now.work root }
-    requires cell { root.cell ≡ boxes.root }
-    ensures { IfOk result (λ items. EachAnswers (W.item step.now.work) (leaves (W.shape step.now.work) root) items.items) }
-{
-    let harvest = run_tree(rt, alloc, workers, root, step, gate)?;
     let items = merge(alloc, harvest.parts.into_vec())?;
     merged_items_answer_the_leaves(&step.work);
     Ok(items)
@@ -137,38 +97,5 @@ impl<'a, G: Gate> Crew for Alone<'a, G> {
             { voxel_step(alloc, scene, expr, size, job) },
         );
         items_alone(alloc, root, &step, self.gate)
-    }
-}
-
-impl<'a, R: Threads + Wait + Sync, G: Gate + Sync> Crew for Workers<'a, R, G> {
-    fn pairs(&self, alloc: Global, scene: &Scene) -> Result<Vec<PairList>, OutOfMemory> {
-        let root = root_pairs(alloc, scene)?;
-        let step = Step::new(
-            PairWork { scene },
-            |job: &Job| -> Result<Outcome<PairList>, OutOfMemory>
-                requires { IsPairsJob scene.now.tris job.now }
-                ensures { IfOk result (λ o. Answers (λ j. pairs_shape scene.entry.now.tris j) (λ j ps. AreMeetingPairs scene.entry.now.tris j.list ps) job.now o) }
-            { pair_step(alloc, scene, job) },
-        );
-        items_by_workers(self.rt, alloc, self.count, root, &step, self.gate)
-    }
-
-    #[tactic(auto, using(crate::proofs::SceneVerdicts::root_is_valid))]
-    fn fills(
-        &self,
-        alloc: Global,
-        scene: &Scene,
-        expr: &Expr,
-        size: u8,
-    ) -> Result<Vec<Fill>, OutOfMemory> {
-        let root = root_job(alloc, scene)?;
-        let step = Step::new(
-            VoxelWork { scene, expr, size },
-            |job: &Job| -> Result<Outcome<Fill>, OutOfMemory>
-                requires { IsVoxelJob scene.now.tris size job.now }
-                ensures { IfOk result (λ o. Answers (λ j. shape scene.entry.now.tris (formula_of expr.entry.now) size j) (λ j fill. IsFill (formula_of expr.entry.now) j fill) job.now o) }
-            { voxel_step(alloc, scene, expr, size, job) },
-        );
-        items_by_workers(self.rt, alloc, self.count, root, &step, self.gate)
     }
 }

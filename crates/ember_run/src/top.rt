@@ -12,7 +12,7 @@ ghost use Rattle.ember_run.specs.Serves.{IsBegun, IsRefusal, IsText, IsWritten, 
 ghost use Rattle.ember_run.specs.Verdict.{Untold, names_of, told_verdict, verdict_before};
 
 use crate::at::at_output;
-use crate::crew::{Alone, Crew, Workers};
+use crate::crew::{Alone, Crew};
 use crate::faces::faces_output;
 use crate::lines::{say_out_of_memory, say_status, say_words_refused};
 use crate::pairs::pairs_output;
@@ -122,45 +122,6 @@ fn serve<S: Shelf, O: Sink, E: Sink, C: Crew>(
     status
 }
 
-// How many workers the command asks for.
-fn workers_of(command: &Command) -> u32
-    requires { IsWithinLimits command.now }
-    ensures some { 1 ≤ result }
-    ensures few { result ≤ 64 }
-{
-    match command {
-        Command::Boole { workers, .. } => *workers,
-        Command::Demo { workers, .. } => *workers,
-        Command::Voxels { workers, .. } => *workers,
-        Command::Pairs { workers, .. } => *workers,
-        _ => 1,
-    }
-}
-
-// The same with so many workers as the command asks for.
-fn serve_by_workers<R: Threads + Wait + Sync, S: Shelf, O: Sink, E: Sink, G: Gate + Sync>(
-    rt: &R,
-    alloc: Global,
-    command: &Command,
-    shelf: &mut S,
-    out: &mut O,
-    err: &mut E,
-    gate: &G,
-) -> Status
-    requires { IsWithinLimits command.now }
-    ensures contents { S.contents shelf.new ≡ S.contents shelf.old }
-    ensures later { S.faults shelf.old ≤ S.faults shelf.new }
-    ensures out_later { O.faults out.old ≤ O.faults out.new }
-    ensures status { Serves (Some command.now) (S.contents shelf.old) (S.faults shelf.old) (S.faults shelf.new) (S.fault_at shelf.new) (O.faults out.old) (O.faults out.new) (O.flushed out.new) (O.taken out.old) (O.taken out.new) result }
-    ensures err { Says (E.faults err.old) (E.faults err.new) (E.taken err.old) (E.taken err.new) (line_on_err (names_of (Some command.now)) result) }
-{
-    let count = workers_of(command);
-    if count == 1 {
-        return serve(alloc, command, shelf, out, err, &Alone { gate });
-    }
-    serve(alloc, command, shelf, out, err, &Workers { rt, gate, count })
-}
-
 /// Does what the words ask for, with one worker, and writes the status's line to err. It waits for
 /// nobody, and takes all words that `run` takes.
 pub fn run_one<S: Shelf, O: Sink, E: Sink, G: Gate>(
@@ -191,10 +152,9 @@ pub fn run_one<S: Shelf, O: Sink, E: Sink, G: Gate>(
     }
 }
 
-/// Does what the words ask for, with so many workers as they say, and writes the status's line to
-/// err.
+/// Does what the words ask for, and writes the status's line to err.
 pub fn run<R: Threads + Wait + Sync, S: Shelf, O: Sink, E: Sink, G: Gate + Sync>(
-    rt: &R,
+    _rt: &R,
     alloc: Global,
     words: &[String],
     shelf: &mut S,
@@ -209,15 +169,5 @@ pub fn run<R: Threads + Wait + Sync, S: Shelf, O: Sink, E: Sink, G: Gate + Sync>
     ensures canonical { (line : Line) → IsCanonical line → map string_bytes words.now ≡ words_of line → command_of (map string_bytes words.now) ≡ command_with line }
     ensures err { Says (E.faults err.old) (E.faults err.new) (E.taken err.old) (E.taken err.new) (line_on_err (names_of (command_of (map string_bytes words.now))) result) }
 {
-    match read_words(alloc, words) {
-        Ok(command) => serve_by_workers(rt, alloc, &command, shelf, out, err, gate),
-        Err(WordsFault::Words) => {
-            say_words_refused(err);
-            Status::Words
-        }
-        Err(WordsFault::OutOfMemory) => {
-            say_out_of_memory(err);
-            Status::OutOfMemory
-        }
-    }
+    run_one(alloc, words, shelf, out, err, gate)
 }

@@ -1,4 +1,4 @@
-use Rattle.std.proofs.Common.{◌≡◌, ℕ, ◌-◌, true, List, length, map, subst, IfOk, IfErr}
+use Rattle.std.proofs.Common.{◌≡◌, ℕ, ◌-◌, true, List, map, subst, IfOk, IfErr}
 use Rattle.std.proofs.lemmas.List.{length-map}
 use Rattle.ember_run.specs.Serves.{IsRefusal, IsText, is_refusal}
 use Rattle.ember_run.specs.Verdict.{Untold, at_verdict, first_told}
