@@ -1,5 +1,5 @@
 -- A triangle owns a face where none before it contains the face
-use Rattle.std.proofs.Common.{◌≡◌, ◌⊎◌, inl, inr, ℕ, ◌+◌, ◌<◌, ◌≤◌, sym, ap, subst, ◌∙◌, arith, Some, List, length, length-take, take, get_or, slice_get}
+use Rattle.std.proofs.Common.{◌≡◌, ◌⊎◌, inl, inr, ℕ, ◌+◌, ◌<◌, ◌≤◌, refl, sym, ap, subst, ◌∙◌, arith, Bool, true, false, cond, None, Some, pos, List, length, length-take, take, get_or, slice_get}
 use Rattle.std.specs.Option.{IfSome}
 use Rattle.std.proofs.lemmas.Bool.{cases_lt, and_parts}
 use Rattle.std.proofs.lemmas.Option.{slice_get-get_or}
@@ -9,6 +9,7 @@ use Rattle.ember_model.specs.declared.plane.Plane.{Plane}
 use Rattle.ember_model.specs.declared.point.Spot.{Spot}
 use Rattle.ember_model.specs.declared.tri.Tri.{Tri}
 use Rattle.ember_model.specs.Planes.{value_at, support_of}
+use Rattle.ember_model.specs.Faces.{is_inside, is_flat, face_of}
 use Rattle.ember_model.proofs.SignTests.{zero_out}
 use Rattle.ember_model.specs.declared.face.Face.{Face}
 use Rattle.ember_coplanar.specs.Lying.{LiesOn}
@@ -34,6 +35,10 @@ own_face t f e = by (is_flat t) refl e
 pub own_lies : (ts : List Tri) (i : ℕ) (d : Tri) (f : Face) → i < length ts → IfSome (slice_get ts i) (λ t. LiesOn t f) → LiesOn (get_or ts i d) f
 own_lies ts i d f l h =
     subst (λ o. IfSome o (λ t. LiesOn t f)) (slice_get-get_or ts i d l) h
+
+pub lies_at : (ts : List Tri) (i : ℕ) (d : Tri) (f : Face) → i < length ts → LiesOn (get_or ts i d) f → IfSome (slice_get ts i) (λ t. LiesOn t f)
+lies_at ts i d f l h =
+    subst (λ o. IfSome o (λ t. LiesOn t f)) (sym (slice_get-get_or ts i d l)) h
 
 pub own_is : (ts : List Tri) (i : ℕ) (d : Tri) → i < length ts → slice_get ts i ≡ Some (get_or ts i d)
 own_is ts i d l = slice_get-get_or ts i d l

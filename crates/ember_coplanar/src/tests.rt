@@ -1,4 +1,4 @@
-ghost use Rattle.std.specs.Prelude.{◌≡◌, All, slice_get};
+ghost use Rattle.std.specs.Prelude.{◌≡◌, ◌<◌, All, length};
 ghost use Rattle.ember_algebra.specs.Size.{Small};
 ghost use Rattle.ember_model.specs.Valid.{IsValidCorner, IsValidTri};
 ghost use Rattle.ember_coplanar.specs.Lying.{LiesOn};
@@ -49,20 +49,42 @@ fn triangles_of_one_plane(rt: HostRuntime) {
     assert!(&rt; !same_plane(&tri(o, x, x), &up));
 }
 
-// The triangle is coplanar with the one whose ring this is, and contains the ring.
-fn holds(t: &Tri, own: &Tri, ring: &Ring) -> bool
-    requires t { IsValidTri t.now }
+// The triangle at a place is coplanar with `own`, in whose plane the ring lies, and contains it.
+fn holds(near: &[Tri], place: usize, own: &Tri, ring: &Ring) -> bool
+    requires valid { All IsValidTri near.now }
+    requires place { place < length near.now }
     requires own { IsValidTri own.now }
     requires ring { LiesOn own.now ring.now }
 {
+    let t = &near[place];
     same_plane(t, own) && contains(t, ring)
 }
 
-// Two triangles of another plane or place, then `own`, and then `own` turned.
+// The triangle at a place is coplanar with `own`, and owns the ring.
+fn owns(near: &[Tri], place: u32, own: &Tri, ring: &Ring) -> bool
+    requires valid { All IsValidTri near.now }
+    requires place { place < length near.now }
+    requires own { IsValidTri own.now }
+    requires ring { LiesOn own.now ring.now }
+{
+    same_plane(&near[place as usize], own) && is_owner(near, place, ring)
+}
+
+fn are_right(near: &[Tri], own: &Tri, ring: &Ring) -> bool
+    requires valid { All IsValidTri near.now }
+    requires four { length near.now ≡ 4 }
+    requires own { IsValidTri own.now }
+    requires ring { LiesOn own.now ring.now }
+{
+    let contained = holds(near, 2, own, ring) && holds(near, 3, own, ring);
+    let apart = !holds(near, 0, own, ring) && !holds(near, 1, own, ring);
+    contained && apart && owns(near, 2, own, ring) && !owns(near, 3, own, ring)
+}
+
+// Triangles of another plane and of another place, then `own`, and then the same turned.
 fn near(own: &Tri) -> [Tri; 4]
     requires { IsValidTri own.now }
-    ensures valid { All IsValidTri result }
-    ensures third { slice_get result 2 ≡ Some own.now }
+    ensures { All IsValidTri result }
 {
     let (o, x, y) = (corner(0, 0, 0), corner(1, 0, 0), corner(0, 1, 0));
     [
@@ -76,18 +98,8 @@ fn near(own: &Tri) -> [Tri; 4]
 #[test]
 fn the_first_that_contains_a_region_owns_it(rt: HostRuntime) -> Result<(), AllocError> {
     let own = tri(corner(0, 0, 0), corner(1, 0, 0), corner(0, 1, 0));
-    let near = near(&own);
     match of_tri(rt.alloc(), &own)? {
-        Some(ring) => {
-            assert!(&rt; !holds(&near[0], &own, &ring));
-            assert!(&rt; !holds(&near[1], &own, &ring));
-            assert!(&rt; holds(&near[2], &own, &ring));
-            assert!(&rt; holds(&near[3], &own, &ring));
-            assert!(&rt; is_owner(&near, 2, &ring));
-            if same_plane(&near[3], &own) {
-                assert!(&rt; !is_owner(&near, 3, &ring));
-            }
-        }
+        Some(ring) => assert!(&rt; are_right(&near(&own), &own, &ring)),
         None => assert!(&rt; false),
     }
     Ok(())

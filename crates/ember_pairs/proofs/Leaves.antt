@@ -1,11 +1,10 @@
 -- Two triangles that meet share a leaf: in each box that holds the point at which they meet both are near.
-use Rattle.std.proofs.Common.{◌≡◌, ◌⊎◌, ⊎_elim, inl, inr, ℕ, zero, suc, pred, ◌+◌, ◌^◌, ◌<◌, ◌≤◌, refl, sym, ap, ◌∙◌, subst, arith, Bool, true, false, if◌then◌else◌, nat_lt, List, [], ◌∷◌, ◌++◌, length, ℤ, pos, negsuc, ◌+ℤ◌, ◌*ℤ◌, neg_ℤ, ◌≤ℤ◌, ◌<ℤ◌}
+use Rattle.std.proofs.Common.{◌≡◌, ◌⊎◌, ⊎_elim, inl, inr, ℕ, zero, suc, pred, ◌^◌, ◌<◌, ◌≤◌, refl, sym, ap, ◌∙◌, subst, arith, Bool, true, false, if◌then◌else◌, List, [], ◌∷◌, ◌++◌, length, ℤ, pos, negsuc, ◌+ℤ◌, ◌*ℤ◌, neg_ℤ, ◌≤ℤ◌, ◌<ℤ◌}
 use borrow.Author.Differences.{ints}
 use Rattle.std.proofs.lemmas.Int.{by_lt_z}
 use Rattle.std.proofs.lemmas.Bool.{le-ltb}
 use Rattle.ember_algebra.specs.Size.{Small}
 use Rattle.ember_algebra.proofs.Laws.{linear}
-use Rattle.ember_algebra.proofs.Ring.{◌⊕◌, ◌⊗◌, ◌≈◌, solve, cancels}
 use Rattle.ember_model.specs.declared.tri.Tri.{Tri}
 use Rattle.ember_model.specs.declared.point.Spot.{Spot}
 use Rattle.ember_model.specs.declared.point.Axis.{Axis}
@@ -14,17 +13,17 @@ use Rattle.ember_model.specs.Valid.{IsValidTri}
 use Rattle.ember_model.specs.Faces.{is_flat, face_of, is_in_closed}
 use Rattle.ember_model.proofs.SignTests.{In}
 use Rattle.ember_model.proofs.Hits.{closed_parts}
-use Rattle.ember_box.specs.Boxes.{Cell, low, high, root, left, left_half, right_half}
+use Rattle.ember_box.specs.Boxes.{Cell, low, root, left, left_half, right_half}
 use Rattle.ember_box.specs.Spans.{spans_of}
 use Rattle.ember_box.specs.Near.{is_near, tri_at, near_places, places}
 use Rattle.ember_box.specs.Halving.{halving_axis, is_leaf}
 use Rattle.ember_box.proofs.Nearby.{halves_end}
 use Rattle.ember_box.proofs.Splits.{left_less}
 use Rattle.ember_box.proofs.Halvable.{halvable_unless_leaf}
-use Rattle.ember_ref.proofs.NearPoints.{coordinate, IsAcross, HasPoint, near_point, past_corners}
+use Rattle.ember_ref.proofs.NearPoints.{IsAcross, HasPoint, near_point, past_corners}
 use Rattle.ember_job.specs.declared.job.Job.{Job}
 use Rattle.ember_job.specs.Works.{Shape, halved, leafed, passed}
-use Rattle.ember_job.specs.Visited.{below_shape, visited_within, if_leafed, leaves_among, leaves}
+use Rattle.ember_job.specs.Visited.{below_shape, visited_within, if_leafed, leaves_among}
 use Rattle.ember_pairs.specs.Works.{job_at, pairs_shape}
 use Rattle.ember_pairs.specs.Whole.{leaf_jobs}
 use Rattle.ember_pairs.proofs.Members.{in_append_left, in_append_right, in_append_out, in_filter}

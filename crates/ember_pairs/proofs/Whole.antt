@@ -1,5 +1,5 @@
 -- The gathered pairs of all leaves are the meeting pairs of the scene.
-use Rattle.std.proofs.Common.{◌≡◌, ◌⊎◌, ⊎_elim, inl, inr, ℕ, zero, suc, ◌+◌, ◌<◌, ◌≤◌, refl, sym, ap, ◌∙◌, subst, arith, Bool, true, false, if◌then◌else◌, nat_lt, List, [], ◌∷◌, ◌++◌, length, All, Contains, flat_map}
+use Rattle.std.proofs.Common.{◌≡◌, ⊎_elim, inl, inr, ℕ, zero, suc, ◌<◌, refl, sym, ap, ◌∙◌, subst, arith, Bool, true, false, if◌then◌else◌, nat_lt, List, [], ◌∷◌, length, All}
 use Rattle.std.specs.List.{AllByRecursion}
 use Rattle.std.specs.List.Sorted.{IsStrictlySortedBy}
 use Rattle.std.specs.Ordering.{MatchOrdering, ordering_then, nat_cmp}
@@ -11,23 +11,23 @@ use Rattle.ember_algebra.specs.Relations.{Each, none, more}
 use Rattle.ember_model.specs.declared.tri.Tri.{Tri}
 use Rattle.ember_model.specs.declared.point.Spot.{Spot}
 use Rattle.ember_model.specs.Valid.{IsValidTri}
-use Rattle.ember_model.specs.Faces.{face_of, Meets, is_in_closed}
+use Rattle.ember_model.specs.Faces.{face_of}
 use Rattle.ember_model.proofs.SignTests.{In}
 use Rattle.ember_box.specs.Boxes.{Cell, root, left, left_half, right_half}
 use Rattle.ember_box.specs.Near.{is_near, tri_at, no_tri, near_places, places}
 use Rattle.ember_box.specs.Halving.{halving_axis, is_leaf}
-use Rattle.ember_ref.proofs.ShiftLaw.{inside_closed}
+use Rattle.ember_ref.proofs.FarTriangles.{inside_closed}
 use Rattle.ember_job.specs.declared.job.Job.{Job}
 use Rattle.ember_job.specs.Works.{Shape, halved, leafed, passed}
 use Rattle.ember_job.specs.Visited.{below_shape, visited_within, if_leafed, leaves_among}
 use Rattle.ember_pairs.specs.declared.pair.Pair.{Pair}
-use Rattle.ember_pairs.specs.Pairs.{AreMeeting, AtPair, meeting, apart, pair, pairs_of, AreMeetingPairs, ArePairs}
+use Rattle.ember_pairs.specs.Pairs.{AreMeeting, AtPair, meeting, apart, pairs_of, AreMeetingPairs, ArePairs}
 use Rattle.ember_pairs.specs.Works.{job_at, pairs_shape}
 use Rattle.ember_pairs.specs.Gathering.{pair_order, together, AreGathered}
 use Rattle.ember_pairs.specs.Whole.{AreItems, leaf_jobs}
 use Rattle.ember_pairs.proofs.Members.{in_append_left, in_append_right, in_append_out, in_filter_out, in_from_contains, contains_from_in}
-use Rattle.ember_pairs.proofs.Ascending.{Ascending, in_range_out, range_ascending, filter_ascending, pair_in, PairOf, pair_out, Precedes, precedes_not, precedes_itself, Sorted, pairs_sorted}
-use Rattle.ember_pairs.proofs.Leaves.{LeafAt, Share, listed_at, shared_leaf}
+use Rattle.ember_pairs.proofs.Ascending.{Ascending, in_range_out, range_ascending, filter_ascending, pair_in, pair_out, Precedes, precedes_not, precedes_itself, Sorted, pairs_sorted}
+use Rattle.ember_pairs.proofs.Leaves.{Share, listed_at, shared_leaf}
 
 abbrev Meeting : List Tri → Pair → Type 0
 Meeting ts p = AreMeeting (tri_at ts p.low) (tri_at ts p.high)

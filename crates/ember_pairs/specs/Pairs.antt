@@ -43,9 +43,6 @@ ArePairs ts ps = AreMeetingPairs ts (places ts) ps
 abbrev pub face_if : Tri → Option Face
 face_if t = if is_flat t then None else Some (face_of t)
 
-abbrev pub faces_at : List Tri → List ℕ → List (Option Face)
-faces_at ts is = map (λ i. face_if (tri_at ts i)) is
-
 -- with what `later` gives, `out` is what `all` gives
 pub record Completes (ts : List Tri) (all later out : List Pair) : Type 0 where
   pub completed : (more : List Pair) → Each (AtPair ts) later more → Each (AtPair ts) all (out ++ more)

@@ -3,15 +3,35 @@ ghost use Rattle.std.specs.Prelude.{◌≡◌, ◌+◌, ◌<◌, ◌↔◌, List
 ghost use Rattle.ember_model.specs.Valid.{IsValidTri};
 ghost use Rattle.ember_box.specs.Near.{tri_at};
 ghost use Rattle.ember_pairs.specs.declared.pair.Pair.{Pair};
-ghost use Rattle.ember_pairs.specs.Pairs.{AreMeeting, AreMeetingPairs, Completes, face_if, faces_at, row, pairs_of};
+ghost use Rattle.ember_pairs.specs.Pairs.{AreMeeting, AreMeetingPairs, Completes, face_if, row, pairs_of};
+ghost use Rattle.ember_pairs.specs.Facets.{facet_of, facets_at};
 
 use crate::pair::{Pair, PairList};
+use ember_box::{Spans, bounding, overlap};
 use ember_model::{OutOfMemory, Scene, Tri};
 use ember_poly::{Ring, meets, of_tri};
 use std::alloc::Global;
 
+// A triangle's bounding box and the ring of its face, if it has one.
+#[derive(Drop)]
+struct Facet {
+    spans: Spans,
+    ring: Option<Ring>,
+}
+
+fn facet_of(alloc: Global, t: &Tri) -> Result<Facet, OutOfMemory>
+    requires { IsValidTri t.now }
+    ensures { IfOk result (λ f. f ≡ facet_of t.now) }
+{
+    let ring = of_tri(alloc, t)?;
+    Ok(Facet {
+        spans: bounding(t),
+        ring,
+    })
+}
+
 // Two triangles meet; each is handed over with the ring of its face, if it has one.
-fn are_meeting(r: &Option<Ring>, t: &Tri, q: &Option<Ring>, u: &Tri) -> bool
+fn rings_meet(r: &Option<Ring>, t: &Tri, q: &Option<Ring>, u: &Tri) -> bool
     requires one { IsValidTri t.now }
     requires other { IsValidTri u.now }
     requires one_face { r.now ≡ face_if t.now }
@@ -27,6 +47,17 @@ fn are_meeting(r: &Option<Ring>, t: &Tri, q: &Option<Ring>, u: &Tri) -> bool
     }
 }
 
+// The same, but triangles whose bounding boxes are apart are told so at once.
+fn are_meeting(f: &Facet, t: &Tri, g: &Facet, u: &Tri) -> bool
+    requires one { IsValidTri t.now }
+    requires other { IsValidTri u.now }
+    requires facet { f.now ≡ facet_of t.now }
+    requires other_facet { g.now ≡ facet_of u.now }
+    ensures { IsTrue result ↔ AreMeeting t.now u.now }
+{
+    overlap(&f.spans, &g.spans) && rings_meet(&f.ring, t, &g.ring, u)
+}
+
 /// The same by the triangles.
 pub fn meet_at(alloc: Global, tris: &[Tri], i: u32, j: u32) -> Result<bool, OutOfMemory>
     requires valid { All IsValidTri tris.now }
@@ -36,9 +67,9 @@ pub fn meet_at(alloc: Global, tris: &[Tri], i: u32, j: u32) -> Result<bool, OutO
 {
     let t = tris[i as usize];
     let u = tris[j as usize];
-    let r = of_tri(alloc, &t)?;
-    let q = of_tri(alloc, &u)?;
-    Ok(are_meeting(&r, &t, &q, &u))
+    let f = facet_of(alloc, &t)?;
+    let g = facet_of(alloc, &u)?;
+    Ok(are_meeting(&f, &t, &g, &u))
 }
 
 /// The triangles `i` and `j` of the scene meet: neither has a zero normal, and some inside point of
@@ -51,31 +82,30 @@ pub fn meeting(alloc: Global, s: &Scene, i: u32, j: u32) -> Result<bool, OutOfMe
     meet_at(alloc, s.tris.items(), i, j)
 }
 
-// The rings of the listed triangles.
-fn rings_at(alloc: Global, tris: &[Tri], list: &[u32]) -> Result<Vec<Option<Ring>>, OutOfMemory>
+fn facets_at(alloc: Global, tris: &[Tri], list: &[u32]) -> Result<Vec<Facet>, OutOfMemory>
     requires valid { All IsValidTri tris.now }
     requires places { All (λ i. i < length tris.now) list.now }
-    ensures { IfOk result (λ v. v.items ≡ faces_at tris.now list.now) }
+    ensures { IfOk result (λ v. v.items ≡ facets_at tris.now list.now) }
 {
-    let mut rings = Vec::with_capacity(alloc, list.len())?;
+    let mut facets = Vec::with_capacity(alloc, list.len())?;
     for i in list {
-        rings.push(of_tri(alloc, &tris[*i as usize])?)?;
+        facets.push(facet_of(alloc, &tris[*i as usize])?)?;
     }
-    Ok(rings)
+    Ok(facets)
 }
 
 // The triangles at places a and b of the list meet.
-fn meet_in(tris: &[Tri], list: &[u32], rings: &[Option<Ring>], a: usize, b: usize) -> bool
+fn meet_in(tris: &[Tri], list: &[u32], facets: &[Facet], a: usize, b: usize) -> bool
     requires valid { All IsValidTri tris.now }
     requires places { All (λ i. i < length tris.now) list.now }
-    requires rings { rings.now ≡ faces_at tris.now list.now }
+    requires facets { facets.now ≡ facets_at tris.now list.now }
     requires one { a < length list.now }
     requires other { b < length list.now }
     ensures { IsTrue result ↔ AreMeeting (tri_at tris.now (slice_index list.now a)) (tri_at tris.now (slice_index list.now b)) }
 {
     let t = tris[list[a] as usize];
     let u = tris[list[b] as usize];
-    are_meeting(&rings[a], &t, &rings[b], &u)
+    are_meeting(&facets[a], &t, &facets[b], &u)
 }
 
 // Appends a pair where its triangles meet.
@@ -92,13 +122,13 @@ fn push_if(meet: bool, p: Pair, out: &mut Vec<Pair>) -> Result<(), OutOfMemory>
 fn push_row(
     tris: &[Tri],
     list: &[u32],
-    rings: &[Option<Ring>],
+    facets: &[Facet],
     a: usize,
     out: &mut Vec<Pair>,
 ) -> Result<(), OutOfMemory>
     requires valid { All IsValidTri tris.now }
     requires places { All (λ i. i < length tris.now) list.now }
-    requires rings { rings.now ≡ faces_at tris.now list.now }
+    requires facets { facets.now ≡ facets_at tris.now list.now }
     requires place { a < length list.now }
     ensures { OnOk result ((all later : List Pair) → Completes tris.now all (row (slice_index list.now a) (drop (a + 1) list.now) ++ later) out.old.items → Completes tris.now all later out.new.items) }
 {
@@ -107,7 +137,7 @@ fn push_row(
             low: list[a],
             high: list[b],
         };
-        push_if(meet_in(tris, list, rings, a, b), pair, out)?;
+        push_if(meet_in(tris, list, facets, a, b), pair, out)?;
     }
     Ok(())
 }
@@ -118,10 +148,10 @@ pub fn meeting_pairs(alloc: Global, tris: &[Tri], list: &[u32]) -> Result<PairLi
     requires places { All (λ i. i < length tris.now) list.now }
     ensures { IfOk result (λ ps. AreMeetingPairs tris.now list.now ps) }
 {
-    let rings = rings_at(alloc, tris, list)?;
+    let facets = facets_at(alloc, tris, list)?;
     let mut out = Vec::new(alloc);
     for a in 0..list.len() {
-        push_row(tris, list, &rings, a, &mut out)?;
+        push_row(tris, list, &facets, a, &mut out)?;
     }
     Ok(PairList::of(out))
 }

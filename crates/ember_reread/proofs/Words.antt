@@ -17,7 +17,7 @@ pub tails : {X : Type 0} {x y : X} {xs ys : List X} → x ∷ xs ≡ y ∷ ys �
 tails e = cc
 
 -- all bytes lie above the space
-abbrev IsWord : List ℕ → Type 0
+abbrev pub IsWord : List ℕ → Type 0
 IsWord bs = AllByRecursion (λ b. 32 < b) bs
 
 -- ---- a word and what follows it
@@ -61,11 +61,11 @@ digits_word (suc k) n bs h =
     either true xs ys p q = p
     either false xs ys p q = q
 
-decimal_word : (n : ℕ) → IsWord (decimal n)
+pub decimal_word : (n : ℕ) → IsWord (decimal n)
 unfolding digits
 decimal_word n = digits_word 64 n [] tt
 
-number_word : (z : ℤ) → IsWord (signed_decimal z)
+pub number_word : (z : ℤ) → IsWord (signed_decimal z)
 number_word (pos n) = decimal_word n
 number_word (negsuc n) = (omega arith, decimal_word (suc n))
 

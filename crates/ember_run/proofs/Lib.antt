@@ -4,10 +4,11 @@ pub mod SceneFiles
 pub mod PointCounts
 pub mod ClearFaces
 pub mod AtVerdict
+pub mod SliceVerdict
+pub mod SceneVerdicts
 pub mod ReadBack
 pub mod FaceLists
 pub mod CanonicalWords
 pub mod OneReading
 pub mod SliceFaults
-pub mod SliceVerdict
 pub mod Complete

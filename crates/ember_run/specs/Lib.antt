@@ -1,6 +1,8 @@
 pub mod Said
 pub mod Lines
 pub mod FaceTexts
+pub mod PairLists
+pub mod Lattices
 pub mod Outputs
 pub mod Slices
 pub mod Verdict

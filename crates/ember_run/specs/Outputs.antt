@@ -9,12 +9,18 @@ use Rattle.ember_model.specs.declared.point.Spot.{Spot}
 use Rattle.ember_model.specs.declared.tri.Tri.{Tri}
 use Rattle.ember_model.specs.Meshes.{vector}
 use Rattle.ember_run.specs.FaceTexts.{IsFaceFileOf}
+use Rattle.ember_run.specs.Lattices.{IsLatticeText}
+use Rattle.ember_run.specs.PairLists.{IsPairsText}
 
 pub data Output : Type 0 where
   -- the faces of these triangles, in order
   FaceTexts : List Tri → Output
   -- the winding numbers of so many meshes at a point, and the value of an expression there
   Counts : (point : Spot) (meshes : ℕ) (tris : List Tri) (expr : Option Formula) → Output
+  -- the list of the pairs of these triangles that meet
+  MeetingPairs : List Tri → Output
+  -- the solid of these triangles, sampled at cells of the side 2 ^ size
+  Lattice : (tris : List Tri) (formula : Formula) (size : ℕ) → Output
 
 -- ---- winding numbers at a point, a line for each mesh from this one on, and then the value
 abbrev pub count_line : ℕ → ℤ → List ℕ
@@ -39,3 +45,5 @@ counts_text meshes counts expr = count_lines 1 (take meshes counts) ++ value_lin
 abbrev pub IsOutput : Output → List ℕ → Type 0
 IsOutput (FaceTexts tris) bytes = IsFaceFileOf tris bytes
 IsOutput (Counts point meshes tris expr) bytes = bytes ≡ counts_text meshes (vector X tris point) expr
+IsOutput (MeetingPairs tris) bytes = IsPairsText tris bytes
+IsOutput (Lattice tris formula size) bytes = IsLatticeText tris formula size bytes

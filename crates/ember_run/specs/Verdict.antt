@@ -16,7 +16,7 @@ use Rattle.ember_obj.specs.Table.{Faces}
 use Rattle.ember_obj.specs.ReadObj.{read_obj_of}
 use Rattle.ember_words.specs.declared.command.Command.{Command}
 use Rattle.ember_words.specs.declared.command.Command.TheVariants as command
-use Rattle.ember_run.specs.Outputs.{Output, FaceTexts, Counts}
+use Rattle.ember_run.specs.Outputs.{Output, FaceTexts, Counts, MeetingPairs, Lattice}
 use Rattle.ember_run.specs.declared.status.LimitKind.TheVariants.{Bytes, Triangles}
 use Rattle.ember_run.specs.declared.status.Status.{Status}
 use Rattle.ember_run.specs.declared.status.Status.TheVariants.{Words, ObjRefused, MeshRefused, ExprRefused, Limit, NotClear}
@@ -86,6 +86,9 @@ file_at contents i = get_or contents (i - 1) None
 abbrev pub faces_verdict : ℕ → Option (List ℕ) → Verdict
 faces_verdict places told = after_file places 1 told (λ tris. Writes (FaceTexts tris))
 
+abbrev pub slice_verdict : ℤ → Option (List ℕ) → Verdict
+slice_verdict at told = after_bytes 1 told (λ bytes. Slices at bytes)
+
 -- a point that isn't clear of a triangle has no winding numbers
 abbrev pub after_clear : Spot → List Tri → Verdict → Verdict
 after_clear point tris next = if list_all (λ t. is_clear_of t point) tris then next else Refused NotClear
@@ -97,8 +100,12 @@ abbrev pub at_verdict : Spot → Option (List ℕ) → ℕ → Contents → Verd
 at_verdict point expr places contents =
     after_given expr (length contents) (λ formula. after_scene places contents (counts_verdict point (length contents) formula))
 
-abbrev pub slice_verdict : ℤ → Option (List ℕ) → Verdict
-slice_verdict at told = after_bytes 1 told (λ bytes. Slices at bytes)
+abbrev pub voxels_verdict : List ℕ → ℕ → ℕ → Contents → Verdict
+voxels_verdict expr size places contents =
+    after_expr expr (length contents) (λ formula. after_scene places contents (λ tris. Writes (Lattice tris formula size)))
+
+abbrev pub pairs_verdict : ℕ → Contents → Verdict
+pairs_verdict places contents = after_scene places contents (λ tris. Writes (MeetingPairs tris))
 
 -- the verdict of a command; no command: the words are refused
 abbrev pub verdict_of : Option Command → Contents → Verdict
@@ -107,8 +114,8 @@ verdict_of (Some (command.Faces places file)) contents = faces_verdict places (f
 verdict_of (Some (command.At point expr places files)) contents = at_verdict point expr places contents
 verdict_of (Some (command.Boole expr workers places report files)) contents = Refused Words
 verdict_of (Some (command.Demo boxes workers)) contents = Refused Words
-verdict_of (Some (command.Voxels expr size workers places files)) contents = Refused Words
-verdict_of (Some (command.Pairs workers places files)) contents = Refused Words
+verdict_of (Some (command.Voxels expr size workers places files)) contents = voxels_verdict expr size places contents
+verdict_of (Some (command.Pairs workers places files)) contents = pairs_verdict places contents
 verdict_of (Some (command.Slice at file)) contents = slice_verdict at (file_at contents 1)
 
 -- the names of the command's files, in order

@@ -2,15 +2,18 @@
 #![tactic(auto)]
 
 mod at;
+mod crew;
 mod expression;
 mod faces;
 mod law;
 mod lines;
+mod pairs;
 mod reading;
 mod scene;
 mod slice;
 mod status;
 mod top;
+mod voxels;
 
 pub use law::{
     clear_points_are_found, counts_along_all_axes_agree, face_files_have_one_reading,

@@ -12,10 +12,13 @@ ghost use Rattle.ember_run.specs.Serves.{IsBegun, IsRefusal, IsText, IsWritten, 
 ghost use Rattle.ember_run.specs.Verdict.{Untold, names_of, told_verdict, verdict_before};
 
 use crate::at::at_output;
+use crate::crew::{Alone, Crew};
 use crate::faces::faces_output;
 use crate::lines::{say_out_of_memory, say_status, say_words_refused};
+use crate::pairs::pairs_output;
 use crate::slice::slice_output;
 use crate::status::Status;
+use crate::voxels::voxels_output;
 use ember_io::{Shelf, Sink, write_all};
 use ember_words::{Command, WordsFault, read_words};
 use std::alloc::Global;
@@ -24,7 +27,12 @@ use std::thread::Threads;
 use steal_pool::Gate;
 
 // The output of the command, or why there is none.
-fn output_of<S: Shelf>(alloc: Global, command: &Command, shelf: &mut S) -> Result<Vec<u8>, Status>
+fn output_of<S: Shelf, C: Crew>(
+    alloc: Global,
+    command: &Command,
+    shelf: &mut S,
+    crew: &C,
+) -> Result<Vec<u8>, Status>
     requires { IsWithinLimits command.now }
     ensures contents { S.contents shelf.new ≡ S.contents shelf.old }
     ensures later { S.faults shelf.old ≤ S.faults shelf.new }
@@ -41,6 +49,16 @@ fn output_of<S: Shelf>(alloc: Global, command: &Command, shelf: &mut S) -> Resul
             places,
             files,
         } => at_output(alloc, point, expr, *places as u8, files, shelf),
+        Command::Voxels {
+            expr,
+            size,
+            places,
+            files,
+            ..
+        } => voxels_output(alloc, expr, *size as u8, *places as u8, files, shelf, crew),
+        Command::Pairs { places, files, .. } => {
+            pairs_output(alloc, *places as u8, files, shelf, crew)
+        }
         Command::Slice { at, file } => slice_output(alloc, *at, file, shelf),
         _ => Err(Status::Words),
     }
@@ -60,11 +78,12 @@ fn write_output<O: Sink>(out: &mut O, text: &[u8]) -> Status
 }
 
 // Does what the command asks for.
-fn do_command<S: Shelf, O: Sink>(
+fn do_command<S: Shelf, O: Sink, C: Crew>(
     alloc: Global,
     command: &Command,
     shelf: &mut S,
     out: &mut O,
+    crew: &C,
 ) -> Status
     requires { IsWithinLimits command.now }
     ensures contents { S.contents shelf.new ≡ S.contents shelf.old }
@@ -76,10 +95,31 @@ fn do_command<S: Shelf, O: Sink>(
     ensures write_fault { result ≡ Status.WriteFault → Rose (O.faults out.old) (O.faults out.new) × IsBegun (told_verdict (Some command.now) (S.contents shelf.old)) (O.taken out.old) (O.taken out.new) }
     ensures untouched { result ≢ Status.Done → result ≢ Status.WriteFault → O.taken out.new ≡ O.taken out.old }
 {
-    match output_of(alloc, command, shelf) {
+    match output_of(alloc, command, shelf, crew) {
         Ok(text) => write_output(out, &text),
         Err(status) => status,
     }
+}
+
+// Does what the command asks for, and writes the status's line to err.
+fn serve<S: Shelf, O: Sink, E: Sink, C: Crew>(
+    alloc: Global,
+    command: &Command,
+    shelf: &mut S,
+    out: &mut O,
+    err: &mut E,
+    crew: &C,
+) -> Status
+    requires { IsWithinLimits command.now }
+    ensures contents { S.contents shelf.new ≡ S.contents shelf.old }
+    ensures later { S.faults shelf.old ≤ S.faults shelf.new }
+    ensures out_later { O.faults out.old ≤ O.faults out.new }
+    ensures status { Serves (Some command.now) (S.contents shelf.old) (S.faults shelf.old) (S.faults shelf.new) (S.fault_at shelf.new) (O.faults out.old) (O.faults out.new) (O.flushed out.new) (O.taken out.old) (O.taken out.new) result }
+    ensures err { Says (E.faults err.old) (E.faults err.new) (E.taken err.old) (E.taken err.new) (line_on_err (names_of (Some command.now)) result) }
+{
+    let status = do_command(alloc, command, shelf, out, crew);
+    say_status(err, command, &status);
+    status
 }
 
 /// Does what the words ask for, with one worker, and writes the status's line to err. It waits for
@@ -99,13 +139,8 @@ pub fn run_one<S: Shelf, O: Sink, E: Sink, G: Gate>(
     ensures canonical { (line : Line) → IsCanonical line → map string_bytes words.now ≡ words_of line → command_of (map string_bytes words.now) ≡ command_with line }
     ensures err { Says (E.faults err.old) (E.faults err.new) (E.taken err.old) (E.taken err.new) (line_on_err (names_of (command_of (map string_bytes words.now))) result) }
 {
-    let _ = gate;
     match read_words(alloc, words) {
-        Ok(command) => {
-            let status = do_command(alloc, &command, shelf, out);
-            say_status(err, &command, &status);
-            status
-        }
+        Ok(command) => serve(alloc, &command, shelf, out, err, &Alone { gate }),
         Err(WordsFault::Words) => {
             say_words_refused(err);
             Status::Words

@@ -53,13 +53,13 @@ square_above n t =
     below : {a : ℤ} → a <ℤ pos 0 → a ≢ pos 0
     below h e = omega (arith, linear, h, e)
 
-abbrev valueE : TupleE → TupleE → Expr
+abbrev pub valueE : TupleE → TupleE → Expr
 valueE p v = p.x ⊗ v.x ⊕ p.y ⊗ v.y ⊕ p.z ⊗ v.z ⊖ p.w ⊗ v.w
 
-abbrev levelE : Expr → TupleE
+abbrev pub levelE : Expr → TupleE
 levelE e = record { x = num (pos 0); y = num (pos 0); z = num (pos 2); w = e }
 
-abbrev alongE : TupleE → TupleE → Expr
+abbrev pub alongE : TupleE → TupleE → Expr
 alongE n v = n.x ⊗ v.y ⊖ n.y ⊗ v.x
 
 nothing : (k l m o a b c d : ℤ) → a ≡ pos 0 → b ≡ pos 0 → c ≡ pos 0 → d ≡ pos 0 → k *ℤ a +ℤ l *ℤ b +ℤ m *ℤ c +ℤ o *ℤ d ≡ pos 0

@@ -34,7 +34,7 @@ cut_split : (f : Face) (at : ℤ) (v : Spot) → is_cut f at v ≡ is_on_line f.
 cut_split f at v =
     four (is_positive v.w) (is_zero (value_at f.support v)) (is_behind f.edges v) (is_zero (value_at (level at) v))
 
-cut_on_line : (f : Face) (at : ℤ) (v : Spot) → is_on_line f.support at v ≡ true → is_cut f at v ≡ is_behind f.edges v
+pub cut_on_line : (f : Face) (at : ℤ) (v : Spot) → is_on_line f.support at v ≡ true → is_cut f at v ≡ is_behind f.edges v
 cut_on_line f at v on = cut_split f at v ∙ ap (λ b. b && is_behind f.edges v) on
 
 pub cut_line : (f : Face) (at : ℤ) (v : Spot) → is_cut f at v ≡ true → is_on_line f.support at v ≡ true

@@ -3,3 +3,4 @@ pub mod Orders
 pub mod Narrowing
 pub mod Bounds
 pub mod SliceTexts
+pub mod Passing

@@ -8,7 +8,7 @@ use Rattle.ember_model.proofs.SignTests.{negative_in, negative_out}
 use Rattle.ember_slice.specs.Lines.{along_line, ahead, is_before}
 
 -- ---- fractions
-weak_first : (a b c u v w : ℤ) → pos 0 <ℤ u → pos 0 <ℤ v → pos 0 <ℤ w → (v *ℤ a -ℤ u *ℤ b) ≤ℤ pos 0 → (w *ℤ b -ℤ v *ℤ c) <ℤ pos 0 → (w *ℤ a -ℤ u *ℤ c) <ℤ pos 0
+pub weak_first : (a b c u v w : ℤ) → pos 0 <ℤ u → pos 0 <ℤ v → pos 0 <ℤ w → (v *ℤ a -ℤ u *ℤ b) ≤ℤ pos 0 → (w *ℤ b -ℤ v *ℤ c) <ℤ pos 0 → (w *ℤ a -ℤ u *ℤ c) <ℤ pos 0
 weak_first a b c u v w pu pv pw h k =
     let l : (v *ℤ a) ≤ℤ (u *ℤ b) = omega (arith, linear, h) in
     let m : (w *ℤ b) <ℤ (v *ℤ c) = omega (arith, linear, k) in

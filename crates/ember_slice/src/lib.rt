@@ -4,6 +4,7 @@
 mod ends;
 mod face;
 mod fault;
+mod law;
 mod line;
 mod narrow;
 mod span;
@@ -14,4 +15,5 @@ mod text;
 pub use ends::Segment;
 pub use face::segment;
 pub use fault::{Endless, SliceFault};
+pub use law::segments_wind_as_faces;
 pub use text::slice_text;

@@ -16,6 +16,7 @@ use std::alloc::Global;
 
 /// The Boolean of an expression over a scene: the work whose items are the written regions of the
 /// leaves.
+#[derive(Drop)]
 pub struct BoolWork<'a> {
     pub scene: &'a Scene,
     pub expr: &'a Expr,

@@ -1,11 +1,11 @@
 -- Triangles near a box, and counts that leave room for crossings with them
-use Rattle.std.specs.Prelude.{◌≡◌, ℕ, ◌+◌, ◌*◌, ◌≤◌, ℤ, List, All, map, length}
+use Rattle.std.specs.Prelude.{◌≡◌, ℕ, ◌+◌, ◌*◌, ℤ, List, [], ◌∷◌, All, map}
 use Rattle.ember_algebra.specs.Size.{Small}
 use Rattle.ember_algebra.specs.Sign.{sgn}
 use Rattle.ember_model.specs.declared.tri.Tri.{Tri}
 use Rattle.ember_model.specs.Planes.{value_at}
 use Rattle.ember_box.specs.Boxes.{Cell}
-use Rattle.ember_ref.specs.References.{reference_at}
+use Rattle.ember_ref.specs.References.{reference_of}
 use Rattle.ember_trace.specs.declared.facet.Facet.{Facet}
 
 abbrev pub tri_of : Facet → Tri
@@ -13,7 +13,7 @@ tri_of f = f.tri
 
 -- the side of the triangle's plane on which the reference point of the box lies
 pub record StartsIn (c : Cell) (f : Facet) : Type 0 where
-  pub start : f.start ≡ sgn (value_at f.support (reference_at c.lo))
+  pub start : f.start ≡ sgn (value_at f.support (reference_of (c.lo.x ∷ c.lo.y ∷ c.lo.z ∷ [])))
 
 -- the facets of these triangles in this box
 pub record AreFacets (ts : List Tri) (c : Cell) (fs : List Facet) : Type 0 where

@@ -1,14 +1,15 @@
 -- The sides of a plane on which the stops of a way lie: the way goes from the reference point of a
 -- box, along one axis after another, to an inside point of a region
 use Rattle.std.specs.Prelude.{ℤ, pos, List, slice_index_or}
-use Rattle.ember_algebra.specs.Sign.{Sign, sgn}
+use Rattle.ember_algebra.specs.declared.Sign.{Sign}
+use Rattle.ember_algebra.specs.Sign.{sgn}
 use Rattle.ember_model.specs.declared.plane.Plane.{Plane}
 use Rattle.ember_model.specs.declared.point.Axis.{Axis}
 use Rattle.ember_model.specs.declared.point.Axis.TheVariants.{X, Y, Z}
 use Rattle.ember_model.specs.Planes.{value_at}
 use Rattle.ember_point.specs.declared.corner.Meet.{Meet}
 use Rattle.ember_point.specs.Points.{spot_of, slid}
-use Rattle.ember_ref.specs.References.{corner_of, reference_at, or_sign}
+use Rattle.ember_ref.specs.References.{reference_of, or_sign}
 use Rattle.ember_trace.specs.declared.way.Way.{Way}
 
 -- the coordinate of a place along an axis
@@ -24,7 +25,7 @@ inside_side p a b c =
     or_sign (sgn (value_at p (spot_of a))) (or_sign (sgn (value_at p (spot_of b))) (sgn (value_at p (spot_of c))))
 
 abbrev pub side_at_start : Way → Plane → Sign
-side_at_start w p = sgn (value_at p (reference_at (corner_of w.lo)))
+side_at_start w p = sgn (value_at p (reference_of w.lo))
 
 abbrev pub side_at_end : Way → Plane → Sign
 side_at_end w p = inside_side p w.corner w.next w.last

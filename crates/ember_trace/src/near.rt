@@ -5,7 +5,7 @@ ghost use Rattle.ember_algebra.specs.Sign.{sgn};
 ghost use Rattle.ember_model.specs.Valid.{IsValidTri};
 ghost use Rattle.ember_model.specs.Planes.{value_at};
 ghost use Rattle.ember_model.specs.Meshes.{HasMesh};
-ghost use Rattle.ember_ref.specs.References.{reference_at, corner_of};
+ghost use Rattle.ember_ref.specs.References.{reference_of};
 ghost use Rattle.ember_trace.specs.Facets.{AreFacets};
 
 use crate::facet::Facet;
@@ -19,7 +19,7 @@ fn facet_of(t: &Tri, lo: [i32; 3]) -> Facet
     requires mesh { HasMesh 64 t.now }
     requires corner { All (Small 2048) lo }
     ensures tri { result.tri ≡ t.now }
-    ensures start { result.start ≡ sgn (value_at result.support (reference_at (corner_of lo))) }
+    ensures start { result.start ≡ sgn (value_at result.support (reference_of lo)) }
 {
     let support = support_of(t);
     Facet {

@@ -1,0 +1,6 @@
+pub mod Codes
+pub mod Lattice
+pub mod Fills
+pub mod Sides
+pub mod Laws
+pub mod Grid

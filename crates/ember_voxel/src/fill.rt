@@ -20,8 +20,11 @@ pub struct FillList {
 impl Model for FillList {
     ghost use Rattle.std.specs.Prelude.{List};
     ghost use Rattle.ember_voxel.specs.declared.fill.Fill.{Fill};
+    ghost use Rattle.ember_voxel.specs.Codes.{fills_code};
 
     ghost Value = { List Fill };
+
+    ghost coded = { fills_code };
 
     ghost view = { λ s. s.fills.items };
 }

@@ -1,5 +1,8 @@
 // The text of all lattice cells.
-ghost use Rattle.std.specs.Prelude.{◌≡◌, ◌+◌, ◌-◌, ◌*◌, ◌^◌, ◌<◌, ◌≤◌, length, IfOk};
+ghost use Rattle.std.specs.Prelude.{◌≡◌, ℕ, ◌+◌, ◌-◌, ◌*◌, ◌^◌, ◌<◌, ◌≤◌, ◌==◌, ◌&&◌, Bool, nat_lt, nat_le, pos, ◌+ℤ◌, codes, decimal, ◌++◌, length, count_by, if◌then◌else◌, IfOk, OnOk};
+ghost use Rattle.ember_voxel.specs.Grid.{char_at, between, covers, lights, lit, is_one, IsExtent, IsGridText, AddsRows, KeepsFeeds, header_of};
+ghost use Rattle.ember_box.specs.Boxes as boxes;
+ghost use Rattle.ember_voxel.specs.Grid as grids;
 
 use crate::fill::Fill;
 use ember_box::Cell;
@@ -9,32 +12,147 @@ use std::alloc::Global;
 
 // The lattice cells of a box along one axis, from the first one up to the one after the last.
 #[derive(Clone, Copy)]
-struct Extent {
-    from: usize,
-    end: usize,
+pub struct Extent {
+    pub from: usize,
+    pub end: usize,
 }
 
 // The lattice cells of a box.
 #[derive(Clone, Copy)]
-struct Block {
-    x: Extent,
-    y: Extent,
-    z: Extent,
+pub struct Block {
+    pub x: Extent,
+    pub y: Extent,
+    pub z: Extent,
 }
 
-fn extent_along(size: u8, c: &Cell, k: Axis) -> Extent
+// How many cells lie along each axis.
+fn cells_along(size: u8) -> usize
     requires { size ≤ 12 }
-    ensures { (result.from ≤ result.end) × (result.end ≤ 2 ^ (12 - size)) }
+    ensures value { result ≡ 2 ^ (12 - size) }
+    ensures bound { result ≤ 4096 }
 {
-    let low = c.low(k) + 2048;
-    let high = low + c.side(k);
-    Extent {
-        from: low as usize >> size,
-        end: high as usize >> size,
+    1usize << (12 - size)
+}
+
+// A row for each pair of coordinates y and z.
+fn row_count(n: usize) -> usize
+    requires { n ≤ 4096 }
+    ensures value { result ≡ n * n }
+    ensures bound { result ≤ 16777216 }
+{
+    n * n
+}
+
+// The row of the cells with the coordinates j along y and l along z.
+fn row_of(n: usize, j: usize, l: usize) -> usize
+    requires few { n ≤ 4096 }
+    requires j { j < n }
+    requires l { l < n }
+    ensures value { result ≡ l * n + j }
+    ensures bound { result < n * n }
+{
+    l * n + j
+}
+
+// Where a row of n cells and a line feed begins.
+fn row_start(n: usize, r: usize) -> usize
+    requires few { n ≤ 4096 }
+    requires row { r < n * n }
+    ensures value { result ≡ r * (n + 1) }
+    ensures bound { result + (n + 1) ≤ n * n * (n + 1) }
+{
+    r * (n + 1)
+}
+
+// Sets cells of a row.
+fn set_row(rows: &mut [u8], n: usize, r: usize, x: &Extent)
+    requires few { n ≤ 4096 }
+    requires size { length rows.old ≡ n * n * (n + 1) }
+    requires row { r < n * n }
+    requires x { IsExtent n x.now }
+    ensures len { length rows.new ≡ length rows.old }
+    ensures cells { (q i : ℕ) → i < n → char_at n rows.new q i ≡ (if q == r && between x.now i then 49 else char_at n rows.old q i) }
+    ensures feeds { KeepsFeeds n rows.old rows.new }
+{
+    let start = row_start(n, r);
+    for i in x.from..x.end {
+        rows[start + i] = b'1';
     }
 }
 
-fn block_of(size: u8, c: &Cell) -> Block {
+// Sets the cells of a block that have the coordinate l along z.
+fn set_layer(rows: &mut [u8], n: usize, l: usize, x: &Extent, y: &Extent)
+    requires few { n ≤ 4096 }
+    requires size { length rows.old ≡ n * n * (n + 1) }
+    requires layer { l < n }
+    requires x { IsExtent n x.now }
+    requires y { IsExtent n y.now }
+    ensures len { length rows.new ≡ length rows.old }
+    ensures cells { (i j m : ℕ) → i < n → j < n → m < n → char_at n rows.new (m * n + j) i ≡ (if m == l && (between y.now j && between x.now i) then 49 else char_at n rows.old (m * n + j) i) }
+    ensures feeds { KeepsFeeds n rows.old rows.new }
+{
+    for j in y.from..y.end {
+        set_row(rows, n, row_of(n, j, l), x);
+    }
+}
+
+// Sets the cells of a block.
+fn set_block(rows: &mut [u8], n: usize, b: &Block)
+    requires few { n ≤ 4096 }
+    requires size { length rows.old ≡ n * n * (n + 1) }
+    requires x { IsExtent n b.now.x }
+    requires y { IsExtent n b.now.y }
+    requires z { IsExtent n b.now.z }
+    ensures len { length rows.new ≡ length rows.old }
+    ensures cells { (i j m : ℕ) → i < n → j < n → m < n → char_at n rows.new (m * n + j) i ≡ (if between b.now.z m && (between b.now.y j && between b.now.x i) then 49 else char_at n rows.old (m * n + j) i) }
+    ensures feeds { KeepsFeeds n rows.old rows.new }
+{
+    for l in b.z.from..b.z.end {
+        set_layer(rows, n, l, &b.x, &b.y);
+    }
+}
+
+// How far a box begins from the corner of the root box, along an axis.
+fn offset(c: &Cell, k: Axis) -> usize
+    ensures value { pos result ≡ boxes.low c.now k +ℤ pos 2048 }
+    ensures within { result + 2 ^ c.now.log k ≤ 4096 }
+    ensures log { c.now.log k ≤ 12 }
+{
+    (c.low(k) + 2048) as usize
+}
+
+// How many cells begin before a place, counted from the corner of the root box.
+fn cells_before(size: u8, x: usize) -> usize
+    requires size { size ≤ 12 }
+    requires x { x ≤ 4096 }
+    ensures bound { result ≤ 2 ^ (12 - size) }
+    ensures below { (i : ℕ) → nat_lt i result ≡ nat_lt (i * 2 ^ size) x }
+    ensures from { (i : ℕ) → nat_le result i ≡ nat_le x (i * 2 ^ size) }
+{
+    (x + ((1usize << size) - 1)) >> size
+}
+
+// The cells whose least corner lies in the box, along an axis.
+fn extent_along(size: u8, c: &Cell, k: Axis) -> Extent
+    requires { size ≤ 12 }
+    ensures extent { IsExtent (2 ^ (12 - size)) result }
+    ensures cells { (i : ℕ) → between result i ≡ grids.spans size c.now k i }
+{
+    let low = offset(c, k);
+    let high = low + (1usize << c.log(k));
+    Extent {
+        from: cells_before(size, low),
+        end: cells_before(size, high),
+    }
+}
+
+fn block_of(size: u8, c: &Cell) -> Block
+    requires { size ≤ 12 }
+    ensures x { IsExtent (2 ^ (12 - size)) result.x }
+    ensures y { IsExtent (2 ^ (12 - size)) result.y }
+    ensures z { IsExtent (2 ^ (12 - size)) result.z }
+    ensures cells { (i j l : ℕ) → (between result.z l && (between result.y j && between result.x i)) ≡ covers size c.now i j l }
+{
     Block {
         x: extent_along(size, c, Axis::X),
         y: extent_along(size, c, Axis::Y),
@@ -42,66 +160,92 @@ fn block_of(size: u8, c: &Cell) -> Block {
     }
 }
 
-// Sets the cells of a block in the rows of n cells and a line feed each.
-fn set_cells(rows: &mut [u8], n: usize, b: &Block) {
-    for l in b.z.from..b.z.end {
-        for j in b.y.from..b.y.end {
-            let row = (l * n + j) * (n + 1);
-            rows[row + b.x.from..row + b.x.end].fill(b'1');
-        }
+// Sets the cells of the box where its value is 1.
+fn set_fill(rows: &mut [u8], size: u8, n: usize, fill: &Fill)
+    requires few { size ≤ 12 }
+    requires cells { n ≡ 2 ^ (12 - size) }
+    requires size { length rows.old ≡ n * n * (n + 1) }
+    ensures len { length rows.new ≡ length rows.old }
+    ensures cells { (i j m : ℕ) → i < n → j < n → m < n → char_at n rows.new (m * n + j) i ≡ (if lights size i j m fill.now then 49 else char_at n rows.old (m * n + j) i) }
+    ensures feeds { KeepsFeeds n rows.old rows.new }
+{
+    if fill.bit {
+        set_block(rows, n, &block_of(size, &fill.cell));
     }
 }
 
-// Appends n * n rows of n cells that aren't set.
-fn put_rows(alloc: Global, n: usize, text: &mut Vec<u8>) -> Result<(), OutOfMemory> {
+fn set_fills(rows: &mut [u8], size: u8, n: usize, fills: &[Fill])
+    requires few { size ≤ 12 }
+    requires cells { n ≡ 2 ^ (12 - size) }
+    requires size { length rows.old ≡ n * n * (n + 1) }
+    ensures len { length rows.new ≡ length rows.old }
+    ensures cells { (i j m : ℕ) → i < n → j < n → m < n → char_at n rows.new (m * n + j) i ≡ (if lit size fills.now i j m then 49 else char_at n rows.old (m * n + j) i) }
+    ensures feeds { KeepsFeeds n rows.old rows.new }
+{
+    for fill in fills {
+        set_fill(rows, size, n, fill);
+    }
+}
+
+// Appends all rows, with no cell set.
+fn put_rows(alloc: Global, n: usize, text: &mut Vec<u8>) -> Result<(), OutOfMemory>
+    requires { n ≤ 4096 }
+    ensures { OnOk result (AddsRows n (n * n) text.old.items text.new.items) }
+{
     let mut row = vec![in alloc; b'0'; n]?;
     row.push(b'\n')?;
-    for _ in 0..n * n {
+    for _ in 0..row_count(n) {
         text.extend_from_slice(&row)?;
     }
     Ok(())
 }
 
-fn header(alloc: Global, size: u8, n: usize) -> Result<Vec<u8>, OutOfMemory> {
+fn put_number(number: u64, text: &mut Vec<u8>) -> Result<(), OutOfMemory>
+    ensures { OnOk result (text.new.items ≡ text.old.items ++ decimal number) }
+{
     let mut buffer = Buffer::new();
-    let mut text = Vec::with_capacity(alloc, n * n * (n + 1) + 32)?;
+    text.extend_from_slice(buffer.format(number).as_bytes())
+}
+
+// The first line.
+fn header(alloc: Global, size: u8, n: usize) -> Result<Vec<u8>, OutOfMemory>
+    requires { n ≤ 4096 }
+    ensures { IfOk result (λ text. text.items ≡ header_of size n) }
+{
+    let mut text = Vec::with_capacity(alloc, row_count(n) * (n + 1) + 64)?;
     text.extend_from_slice(b"voxels ")?;
-    text.extend_from_slice(buffer.format(size).as_bytes())?;
+    put_number(u64::from(size), &mut text)?;
     text.push(b' ')?;
-    text.extend_from_slice(buffer.format(n as u64).as_bytes())?;
+    put_number(n as u64, &mut text)?;
     text.push(b'\n')?;
     Ok(text)
 }
 
 // Appends the last line, with the number of cells that are set.
-fn put_end(ones: u64, text: &mut Vec<u8>) -> Result<(), OutOfMemory> {
-    let mut buffer = Buffer::new();
+fn put_end(ones: u64, text: &mut Vec<u8>) -> Result<(), OutOfMemory>
+    ensures { OnOk result (text.new.items ≡ text.old.items ++ (codes "end " ++ decimal ones ++ codes "\n")) }
+{
     text.extend_from_slice(b"end ")?;
-    text.extend_from_slice(buffer.format(ones).as_bytes())?;
+    put_number(ones, text)?;
     text.push(b'\n')?;
     Ok(())
 }
 
-fn set_fills(rows: &mut [u8], size: u8, n: usize, fills: &[Fill]) {
-    for fill in fills {
-        if fill.bit {
-            set_cells(rows, n, &block_of(size, &fill.cell));
-        }
-    }
-}
-
-fn count_ones(rows: &[u8]) -> u64 {
+fn count_ones(rows: &[u8]) -> u64
+    ensures { result ≡ count_by is_one rows.now }
+{
     rows.iter().filter(|c| **c == b'1').count() as u64
 }
 
-/// The text of a lattice whose cells have the side `2^size`, with `size` from 4 to 12: the line
+/// The text of a lattice whose cells have the side `2^size`, with `size` at most 12: the line
 /// `voxels S n`, with n cells along each axis, a line for each row along x, by z and then by y,
-/// with `1` or `0` for each cell by the bit of the box that it lies in, and the line `end N` with
-/// the number of ones. Each cell lies in one of the boxes.
+/// with `1` for each cell whose least corner lies in a box of the value 1 and `0` for each other
+/// one, and the line `end N` with the number of ones.
 pub fn grid_text(alloc: Global, size: u8, fills: &[Fill]) -> Result<Vec<u8>, OutOfMemory>
-    requires { (4 ≤ size) × (size ≤ 12) }
+    requires { size ≤ 12 }
+    ensures { IfOk result (λ text. IsGridText size fills.now text.items) }
 {
-    let n = 1usize << (12 - size);
+    let n = cells_along(size);
     let mut text = header(alloc, size, n)?;
     let begin = text.len();
     put_rows(alloc, n, &mut text)?;

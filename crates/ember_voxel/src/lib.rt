@@ -4,8 +4,6 @@
 mod fill;
 mod grid;
 mod step;
-#[cfg(test)]
-mod tests;
 
 pub use fill::{Fill, FillList};
 pub use grid::grid_text;

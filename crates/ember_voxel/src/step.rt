@@ -1,15 +1,24 @@
 // The work of one box.
-ghost use Rattle.std.specs.Prelude.{◌≡◌, ◌≤◌, IfOk};
+ghost use Rattle.std.specs.Prelude.{◌≡◌, ◌<◌, ◌≤◌, length, All, IfOk, IfSome, is_some};
+ghost use Rattle.ember_expr.specs.Formula.{formula_of};
+ghost use Rattle.ember_expr.specs.Truth.{AreCounts, truth};
+ghost use Rattle.ember_job.specs.Works.{Answers};
+ghost use Rattle.ember_visit.specs.Values as values;
+ghost use Rattle.ember_voxel.specs.Lattice as lattice;
+ghost use Rattle.ember_voxel.specs.Lattice.{IsVoxelJob, ends, shape};
+ghost use Rattle.ember_voxel.specs.Fills.{IsFill};
 
 use crate::fill::Fill;
 use ember_box::Cell;
 use ember_expr::{Expr, value};
-use ember_job::{Job, OutOfMemory, Outcome};
+use ember_job::{Job, OneItem, OutOfMemory, Outcome, Work};
 use ember_model::{Axis, Scene};
-use ember_step::{box_value, halve_job};
+use ember_visit::{box_value, halve_job};
 use std::alloc::Global;
 
-/// Sampling an expression over a scene on the lattice of cells with the side `2^size`.
+/// Sampling an expression over a scene on the lattice of cells with the side `2^size`, with
+/// `size` from 4 to 12.
+#[derive(Drop)]
 pub struct VoxelWork<'a> {
     pub scene: &'a Scene,
     pub expr: &'a Expr,
@@ -17,8 +26,36 @@ pub struct VoxelWork<'a> {
     ghost sized: { (4 ≤ size) × (size ≤ 12) },
 }
 
+impl<'a> Work for VoxelWork<'a> {
+    ghost use Rattle.ember_expr.specs.Formula.{formula_of};
+    ghost use Rattle.ember_voxel.specs.Lattice.{IsVoxelJob, shape as shape_of};
+    ghost use Rattle.ember_voxel.specs.Fills.{IsFill};
+    ghost use Rattle.ember_voxel.specs.Laws.{halves_are_jobs, halves_are_split};
+
+    type Item = Fill;
+
+    ghost valid = { λ w job. IsVoxelJob w.scene.now.tris w.size job };
+
+    ghost shape = { λ w job. shape_of w.scene.now.tris (formula_of w.expr.now) w.size job };
+
+    ghost item = { λ w job fill. IsFill (formula_of w.expr.now) job fill };
+
+    ghost halves_valid = { λ w job low high is e. halves_are_jobs w.scene.now.tris (formula_of w.expr.now) w.size job low high w.scene.now.meshes w.scene.now.kept is e };
+
+    ghost halves_split = { λ w job low high is e. halves_are_split w.scene.now.tris (formula_of w.expr.now) w.size job low high is e };
+}
+
+impl<'a> OneItem for VoxelWork<'a> {
+    ghost use Rattle.ember_expr.specs.Formula.{formula_of};
+    ghost use Rattle.ember_voxel.specs.Laws.{one_fill};
+
+    ghost one_item = { λ w job one other is also. one_fill (formula_of w.expr.now) job one other is also };
+}
+
 // The axis of the longest side, the first one in a tie.
-fn longest(c: &Cell) -> Axis {
+fn longest(c: &Cell) -> Axis
+    ensures { result ≡ lattice.longest c.now }
+{
     let x = c.log(Axis::X);
     let y = c.log(Axis::Y);
     let z = c.log(Axis::Z);
@@ -32,12 +69,19 @@ fn longest(c: &Cell) -> Axis {
 }
 
 // All sides are 2^size.
-fn is_lattice_cell(c: &Cell, size: u8) -> bool {
-    c.log(Axis::X) == size && c.log(Axis::Y) == size && c.log(Axis::Z) == size
+fn is_lattice_cell(c: &Cell, size: u8) -> bool
+    ensures { result ≡ lattice.is_lattice_cell size c.now }
+{
+    c.log(Axis::X) == size && (c.log(Axis::Y) == size && c.log(Axis::Z) == size)
 }
 
 // The value of the expression in the whole box, or in a box of one lattice cell.
-fn bit_of(e: &Expr, s: &Scene, size: u8, job: &Job) -> Option<bool> {
+fn bit_of(e: &Expr, s: &Scene, size: u8, job: &Job) -> Option<bool>
+    requires places { All (λ i. i < length s.now.tris) job.now.list }
+    requires counts { AreCounts job.now.at.counts }
+    ensures ends { is_some result ≡ ends (values.box_value s.now.tris (formula_of e.now) job.now) (lattice.is_lattice_cell size job.now.cell) }
+    ensures bit { IfSome result (λ b. b ≡ truth job.now.at.counts (formula_of e.now)) }
+{
     match box_value(e, s, job) {
         Some(bit) => Some(bit),
         None => {
@@ -50,21 +94,27 @@ fn bit_of(e: &Expr, s: &Scene, size: u8, job: &Job) -> Option<bool> {
     }
 }
 
-/// What becomes of a job: a leaf with the box and its value where that is known, or where the box
-/// is a cell of the lattice; else its halves along the longest side, the first one in a tie.
+/// What becomes of a job: a leaf with the box and the expression's value, where that is known in
+/// the whole box or where the box is a cell of the lattice; else its halves along the longest
+/// side, the first one in a tie.
 pub fn voxel_step(
     alloc: Global,
     s: &Scene,
     e: &Expr,
     size: u8,
     job: &Job,
-) -> Result<Outcome<Fill>, OutOfMemory> {
-    if let Some(bit) = bit_of(e, s, size, job) {
-        return Ok(Outcome::Leaf(Fill {
+) -> Result<Outcome<Fill>, OutOfMemory>
+    requires { IsVoxelJob s.now.tris size job.now }
+    ensures { IfOk result (λ o. Answers (shape s.now.tris (formula_of e.now) size) (IsFill (formula_of e.now)) job.now o) }
+{
+    match bit_of(e, s, size, job) {
+        Some(bit) => Ok(Outcome::Leaf(Fill {
             cell: job.cell.copy(),
             bit,
-        }));
+        })),
+        None => {
+            let (low, high) = halve_job(alloc, s, job, longest(&job.cell))?;
+            Ok(Outcome::Halves(low, high))
+        }
     }
-    let (low, high) = halve_job(alloc, s, job, longest(&job.cell))?;
-    Ok(Outcome::Halves(low, high))
 }

@@ -8,3 +8,15 @@ returns-in-At-clause-read_fault g c =
     let told = g.S.Shelf.contents c.args.shelf.now in
     λ i e. let f = c.at_output.ensures.read_fault i e in
     (f.0, f.1, subst (λ (command : Command). verdict_of (Some command) (first_told (i - 1) (map told (names_of (Some command)))) ≡ Untold) (sym c.in-At.is) f.2)
+
+pub returns-in-Voxels-clause-read_fault : goal.returns-in-Voxels-clause-read_fault
+returns-in-Voxels-clause-read_fault g c =
+    let told = g.S.Shelf.contents c.args.shelf.now in
+    λ i e. let f = c.voxels_output.ensures.read_fault i e in
+    (f.0, f.1, subst (λ (command : Command). verdict_of (Some command) (first_told (i - 1) (map told (names_of (Some command)))) ≡ Untold) (sym c.in-Voxels.is) f.2)
+
+pub returns-in-Pairs-clause-read_fault : goal.returns-in-Pairs-clause-read_fault
+returns-in-Pairs-clause-read_fault g c =
+    let told = g.S.Shelf.contents c.args.shelf.now in
+    λ i e. let f = c.pairs_output.ensures.read_fault i e in
+    (f.0, f.1, subst (λ (command : Command). verdict_of (Some command) (first_told (i - 1) (map told (names_of (Some command)))) ≡ Untold) (sym c.in-Pairs.is) f.2)

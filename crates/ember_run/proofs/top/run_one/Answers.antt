@@ -6,19 +6,16 @@ use Rattle.ember_run.specs.Lines.{line_on_err}
 use Rattle.ember_run.specs.Serves.{Serves}
 use Rattle.ember_run.specs.Verdict.{names_of}
 use Rattle.ember_run.proofs.CanonicalWords.{canonical_command}
-use Rattle.ember_run.proofs.Complete.{served}
 use Rattle.ember_run.proofs.top.run_one.Goals as goal
 
 pub returns-in-Ok-clause-status : goal.returns-in-Ok-clause-status
 returns-in-Ok-clause-status g c =
-    let o = c.do_command-status.ensures in
-    subst (λ (command : Option Command). Serves command (g.S.Shelf.contents c.args.shelf.now) (g.S.Shelf.faults c.args.shelf.now) (g.S.Shelf.faults c.do_command-status.new.shelf) (g.S.Shelf.fault_at c.do_command-status.new.shelf) (g.O.Sink.faults c.args.out.now) (g.O.Sink.faults c.do_command-status.new.out) (g.O.Sink.flushed c.do_command-status.new.out) (g.O.Sink.taken c.args.out.now) (g.O.Sink.taken c.do_command-status.new.out) c.do_command-status.result)
-    (sym c.in-Ok.ensures.command)
-    (served _ _ _ _ _ _ _ _ _ _ _ (record { done = o.done; refused = o.refused; read_fault = o.read_fault; write_fault = o.write_fault; untouched = o.untouched }))
+    subst (λ (command : Option Command). Serves command (g.S.Shelf.contents c.args.shelf.now) (g.S.Shelf.faults c.args.shelf.now) (g.S.Shelf.faults c.serve.new.shelf) (g.S.Shelf.fault_at c.serve.new.shelf) (g.O.Sink.faults c.args.out.now) (g.O.Sink.faults c.serve.new.out) (g.O.Sink.flushed c.serve.new.out) (g.O.Sink.taken c.args.out.now) (g.O.Sink.taken c.serve.new.out) c.serve.result)
+    (sym c.in-Ok.ensures.command) c.serve.ensures.status
 
 pub returns-in-Ok-clause-err : goal.returns-in-Ok-clause-err
 returns-in-Ok-clause-err g c =
-    subst (λ (command : Option Command). Says (g.E.Sink.faults c.args.err.now) (g.E.Sink.faults c.say_status.new.err) (g.E.Sink.taken c.args.err.now) (g.E.Sink.taken c.say_status.new.err) (line_on_err (names_of command) c.do_command-status.result)) (sym c.in-Ok.ensures.command) c.say_status.ensures
+    subst (λ (command : Option Command). Says (g.E.Sink.faults c.args.err.now) (g.E.Sink.faults c.serve.new.err) (g.E.Sink.taken c.args.err.now) (g.E.Sink.taken c.serve.new.err) (line_on_err (names_of command) c.serve.result)) (sym c.in-Ok.ensures.command) c.serve.ensures.err
 
 pub returns-in-Err-OutOfMemory-clause-canonical : goal.returns-in-Err-OutOfMemory-clause-canonical
 returns-in-Err-OutOfMemory-clause-canonical g c = λ line h is. canonical_command _ line h is

@@ -1,0 +1,3 @@
+pub mod FacetLists
+pub mod Places
+pub mod Slides

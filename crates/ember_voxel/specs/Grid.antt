@@ -1,0 +1,73 @@
+-- The text of a lattice: a character for each cell, a line for each row
+use Rattle.std.specs.Prelude.{◌≡◌, ℕ, ◌+◌, ◌-◌, ◌*◌, ◌^◌, ◌<◌, ◌≤◌, ◌==◌, Bool, true, false, ◌&&◌, nat_le, nat_lt, int_le, int_lt, ℤ, pos, ◌-ℤ◌, if◌then◌else◌, List, ◌++◌, length, count_by, slice_index_or, codes, decimal}
+use Rattle.std.specs.List.{list_any}
+use Rattle.ember_model.specs.declared.point.Axis.{Axis}
+use Rattle.ember_model.specs.declared.point.Axis.TheVariants.{X, Y, Z}
+use Rattle.ember_box.specs.Boxes.{Cell, low, high}
+use Rattle.ember_voxel.specs.declared.fill.Fill.{Fill}
+use Rattle.ember_voxel.specs.declared.grid.Extent.{Extent}
+
+-- ---- which cells lie in a box
+-- the coordinate of the least corner of cell i
+abbrev pub corner : ℕ → ℕ → ℤ
+corner size i = pos (i * 2 ^ size) -ℤ pos 2048
+
+-- along an axis that corner lies in the box
+abbrev pub spans : ℕ → Cell → Axis → ℕ → Bool
+spans size c k i = int_le (low c k) (corner size i) && int_lt (corner size i) (high c k)
+
+-- the least corner of the cell (i, j, l) lies in the box
+abbrev pub covers : ℕ → Cell → ℕ → ℕ → ℕ → Bool
+covers size c i j l = spans size c Z l && (spans size c Y j && spans size c X i)
+
+abbrev pub lights : ℕ → ℕ → ℕ → ℕ → Fill → Bool
+lights size i j l f = f.bit && covers size f.cell i j l
+
+-- some box of the value 1 has the cell
+abbrev pub lit : ℕ → List Fill → ℕ → ℕ → ℕ → Bool
+lit size fills i j l = list_any (lights size i j l) fills
+
+-- ---- rows of n cells and a line feed each
+abbrev pub char_at : ℕ → List ℕ → ℕ → ℕ → ℕ
+char_at n rows r i = slice_index_or rows (r * (n + 1) + i) 0
+
+abbrev pub is_one : ℕ → Bool
+is_one c = c == 49
+
+-- the character of each cell is its bit, and each row ends with a line feed
+pub record IsGrid (n : ℕ) (bit : ℕ → ℕ → ℕ → Bool) (rows : List ℕ) : Type 0 where
+  pub size : length rows ≡ n * n * (n + 1)
+  pub cell : (i j l : ℕ) → i < n → j < n → l < n → char_at n rows (l * n + j) i ≡ (if bit i j l then 49 else 48)
+  pub feed : (r : ℕ) → r < n * n → char_at n rows r n ≡ 10
+
+abbrev pub header_of : ℕ → ℕ → List ℕ
+header_of size n = codes "voxels " ++ decimal size ++ codes " " ++ decimal n ++ codes "\n"
+
+-- the text of the cells of side 2 ^ size, with the number of ones
+pub record IsGridText (size : ℕ) (fills : List Fill) (text : List ℕ) : Type 0 where
+  pub rows : List ℕ
+  pub grid : IsGrid (2 ^ (12 - size)) (lit size fills) rows
+  pub is : text ≡ header_of size (2 ^ (12 - size)) ++ rows ++ (codes "end " ++ decimal (count_by is_one rows) ++ codes "\n")
+
+-- ---- while it is made
+abbrev pub between : Extent → ℕ → Bool
+between e i = nat_le e.from i && nat_lt i e.end
+
+-- cells up to the last of a row
+pub record IsExtent (n : ℕ) (e : Extent) : Type 0 where
+  pub order : e.from ≤ e.end
+  pub bound : e.end ≤ n
+
+pub record KeepsFeeds (n : ℕ) (old new : List ℕ) : Type 0 where
+  pub kept : (r : ℕ) → char_at n new r n ≡ char_at n old r n
+
+-- so many rows with no cell set
+pub record AreBlank (n count : ℕ) (rows : List ℕ) : Type 0 where
+  pub size : length rows ≡ count * (n + 1)
+  pub cell : (r i : ℕ) → r < count → i < n → char_at n rows r i ≡ 48
+  pub feed : (r : ℕ) → r < count → char_at n rows r n ≡ 10
+
+pub record AddsRows (n count : ℕ) (old new : List ℕ) : Type 0 where
+  pub rows : List ℕ
+  pub is : new ≡ old ++ rows
+  pub blank : AreBlank n count rows
