@@ -54,11 +54,7 @@ pub fn find_blades(near: &[Facet], i: usize, blades: &mut Vec<Blade>) -> Result<
 
 /// Fills the list with those of these triangles that lie in the plane of another one. `true`,
 /// with a part of them, where one of them covers it, and so owns all its regions.
-pub fn find_lower(
-    own: &Facet,
-    before: &[Facet],
-    lower: &mut Vec<Tri>,
-) -> Result<bool, OutOfMemory>
+pub fn find_lower(own: &Facet, before: &[Facet], lower: &mut Vec<Tri>) -> Result<bool, OutOfMemory>
     ensures { OnOk result (All (IsLower own.now.tri) lower.new.items) }
 {
     lower.clear();
