@@ -1,9 +1,9 @@
 -- Where the three-valued truth is decided, it is the truth, whatever the undecided meshes count.
-use Rattle.std.proofs.Common.{◌≡◌, ℕ, suc, ◌≤◌, ◌==◌, ℤ, pos, int_le, ◌+ℤ◌, ◌*ℤ◌, Bool, true, false, not, ◌&&◌, ◌||◌, ◌⊎◌, inl, inr, if◌then◌else◌, List, [], ◌∷◌, All, Option, Some, None, IfSome, refl, sym, ap, ap₂, ◌∙◌, subst, arith}
+use Rattle.std.proofs.Common.{◌≡◌, ℕ, suc, ◌≤◌, ◌==◌, ℤ, pos, int_le, ◌+ℤ◌, ◌*ℤ◌, Bool, true, false, not, ◌&&◌, ◌||◌, inl, inr, List, [], ◌∷◌, All, Option, Some, None, IfSome, refl, sym, ap, ap₂, ◌∙◌, subst, arith}
 use Rattle.std.proofs.lemmas.Bool.Decides.{eqb_tells}
 use Rattle.ember_expr.specs.declared.formula.Term.{Term}
-use Rattle.ember_expr.specs.Formula.{Formula, Or, Xor, And, Not, Mesh, Odd, Compare, IsFit, IsFitSum, IsFitTerm, IsMeshNumber}
-use Rattle.ember_expr.specs.Truth.{count_of, counted, signed, value_of, sum_from, sum_of, is_odd, holds_between, differ, truth}
+use Rattle.ember_expr.specs.Formula.{Formula, Or, Xor, And, Not, Mesh, Odd, Compare, IsFit, IsFitTerm, IsMeshNumber}
+use Rattle.ember_expr.specs.Truth.{counted, signed, value_of, sum_from, is_odd, holds_between, differ, truth}
 use Rattle.ember_known.specs.Known.{mentions, plain_unless, known_and, known_or, known_xor, known_not, known}
 use Rattle.ember_known.specs.Law.{AgreeOutside}
 

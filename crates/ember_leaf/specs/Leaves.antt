@@ -1,23 +1,43 @@
 -- What is known of the written regions of a leaf
-use Rattle.std.specs.Prelude.{◌≡◌, ℕ, ◌<◌, ◌≤◌, false, List, [], ◌∷◌, length, All}
-use Rattle.std.specs.List.{AllByRecursion}
+use Rattle.std.specs.Prelude.{◌≡◌, ℕ, ◌<◌, ◌≤◌, false, List, length, All, map}
+use Rattle.std.specs.List.{AllPairs}
 use Rattle.ember_model.specs.declared.tri.Tri.{Tri}
+use Rattle.ember_model.specs.declared.face.Face.{Face}
 use Rattle.ember_model.specs.Planes.{support_of}
 use Rattle.ember_model.specs.Faces.{is_flat}
 use Rattle.ember_box.specs.Near.{tri_at}
+use Rattle.ember_trace.specs.declared.facet.Facet.{Facet}
+use Rattle.ember_trace.specs.Facets.{tri_of}
 use Rattle.ember_leaf.specs.declared.kept.Kept.{Kept}
 
--- a region in the plane of a triangle of the list, which is not flat
+-- in the plane of a triangle that is not flat
+pub record IsRegionOf (t : Tri) (f : Face) : Type 0 where
+  pub normal : is_flat t ≡ false
+  pub support : f.support ≡ support_of t
+
+-- what was in the plane of a triangle has become what is so
+pub record StayInPlane (old new : List Face) : Type 0 where
+  pub holds : (t : Tri) → All (IsRegionOf t) old → All (IsRegionOf t) new
+
+-- a written region of triangle i, which is t
+pub record IsKeptOf (t : Tri) (i : ℕ) (k : Kept) : Type 0 where
+  pub number : k.tri ≡ i
+  pub region : IsRegionOf t k.ring
+
+-- a region of a triangle of the list
 pub record IsPlaced (ts : List Tri) (k : Kept) : Type 0 where
   pub place : k.tri < length ts
-  pub normal : is_flat (tri_at ts k.tri) ≡ false
-  pub support : k.ring.support ≡ support_of (tri_at ts k.tri)
+  pub region : IsRegionOf (tri_at ts k.tri) k.ring
 
 -- by their triangles in order
-abbrev pub AreOrdered : List Kept → Type 0
-AreOrdered [] = Unit {0}
-AreOrdered (k ∷ ks) = AllByRecursion (λ l. k.tri ≤ l.tri) ks × AreOrdered ks
-
 pub record ArePlaced (ts : List Tri) (ks : List Kept) : Type 0 where
   pub each : All (IsPlaced ts) ks
-  pub ordered : AreOrdered ks
+  pub ordered : AllPairs (λ k l. k.tri ≤ l.tri) ks
+
+-- of the first n triangles
+pub record ArePlacedBelow (ts : List Tri) (n : ℕ) (ks : List Kept) : Type 0 where
+  pub placed : ArePlaced ts ks
+  pub below : All (λ k. k.tri < n) ks
+
+abbrev pub tris_of : List Facet → List Tri
+tris_of fs = map tri_of fs

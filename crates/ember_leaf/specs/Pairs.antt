@@ -1,46 +1,32 @@
--- How the near triangles of a leaf lie to one another, and what of them cuts regions
-use Rattle.std.specs.Prelude.{◌≡◌, ◌⊎◌, ℕ, ◌<◌, true, false, ℤ, List, [], ◌++◌, map, All}
-use Rattle.std.specs.List.{AllByRecursion}
+-- The values of a plane at the corners of a triangle, and how triangles lie to it by them
+use Rattle.std.specs.Prelude.{◌≡◌, Bool, true, not, ◌&&◌}
+use Rattle.ember_algebra.specs.Sign.{is_negative, is_zero, is_positive}
 use Rattle.ember_model.specs.declared.plane.Plane.{Plane}
 use Rattle.ember_model.specs.declared.tri.Tri.{Tri}
 use Rattle.ember_model.specs.Valid.{IsValidTri}
 use Rattle.ember_model.specs.Planes.{value_at}
-use Rattle.ember_model.specs.Faces.{is_flat, face_of, is_in_closed, Everywhere, Contains}
 use Rattle.ember_model.specs.Owners.{spot_at, is_coplanar}
-use Rattle.ember_box.specs.Regions.{blades_of}
-use Rattle.ember_box.specs.Regions as regions
 use Rattle.ember_leaf.specs.declared.heights.Heights.{Heights}
-use Rattle.ember_leaf.specs.declared.pairs.Pair.{Pair}
-use Rattle.ember_leaf.specs.declared.pairs.Pair.TheVariants.{Apart, Across, Coplanar}
-use Rattle.ember_leaf.specs.declared.blade.Blade.{Blade}
 
--- the values of a plane at the corners of a triangle
 abbrev pub heights_of : Plane → Tri → Heights
 heights_of p t =
     record { a = value_at p (spot_at t.a); b = value_at p (spot_at t.b); c = value_at p (spot_at t.c) }
 
--- no inside point of t lies in the closed face of u
-abbrev pub AreApart : Tri → Tri → Type 0
-AreApart t u = Everywhere (face_of t) (λ v. is_in_closed (face_of u) v ≡ false)
+-- no corner is behind the plane, none is in front of it, all are on one side, all are on it
+abbrev pub none_behind : Heights → Bool
+none_behind h = not (is_negative h.a) && (not (is_negative h.b) && not (is_negative h.c))
 
--- how u lies to t
-abbrev pub IsPair : Tri → Tri → Pair → Type 0
-IsPair t u Apart = is_flat u ≡ false → AreApart t u
-IsPair t u Across = (is_flat u ≡ false) × (is_coplanar t u ≡ false)
-IsPair t u Coplanar = is_coplanar t u ≡ true
+abbrev pub none_in_front : Heights → Bool
+none_in_front h = not (is_positive h.a) && (not (is_positive h.b) && not (is_positive h.c))
 
-abbrev pub blade_of : Blade → regions.Blade
-blade_of b = record { face = face_of b.tri; plane = b.plane }
+abbrev pub all_behind : Heights → Bool
+all_behind h = is_negative h.a && (is_negative h.b && is_negative h.c)
 
--- the blades of u for the regions of t, or none where no region of t meets u
-abbrev pub Serve : Tri → Tri → List Blade → Type 0
-Serve t u bs = (map blade_of bs ≡ blades_of t u) ⊎ ((bs ≡ []) × AreApart t u)
+abbrev pub all_in_front : Heights → Bool
+all_in_front h = is_positive h.a && (is_positive h.b && is_positive h.c)
 
--- such blades were added
-pub record AddsBlades (t u : Tri) (old new : List Blade) : Type 0 where
-  pub more : List Blade
-  pub serve : Serve t u more
-  pub is : new ≡ old ++ more
+abbrev pub all_on : Heights → Bool
+all_on h = is_zero h.a && (is_zero h.b && is_zero h.c)
 
 -- a triangle of lower number in the plane of t
 pub record IsLower (t u : Tri) : Type 0 where

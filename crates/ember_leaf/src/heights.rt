@@ -1,10 +1,11 @@
 // The values of a plane at the corners of a triangle.
 ghost use Rattle.std.specs.Prelude.{◌≡◌};
+ghost use Rattle.ember_algebra.specs.Sign.{is_negative, is_zero, is_positive};
 ghost use Rattle.ember_model.specs.Valid.{IsValidCorner, IsValidTri};
 ghost use Rattle.ember_model.specs.Sizes.{IsSupportSized};
 ghost use Rattle.ember_model.specs.Planes.{value_at};
 ghost use Rattle.ember_model.specs.Owners.{spot_at};
-ghost use Rattle.ember_leaf.specs.Pairs.{heights_of};
+ghost use Rattle.ember_leaf.specs.Pairs.{heights_of, none_behind, none_in_front, all_behind, all_in_front, all_on};
 
 use ember_model::{Corner, Plane, Tri};
 
@@ -38,24 +39,57 @@ pub fn heights_of(p: &Plane, t: &Tri) -> Heights
     }
 }
 
+fn is_behind(height: i64) -> bool
+    ensures { result ≡ is_negative height }
+{
+    height < 0
+}
+
+fn is_in_front(height: i64) -> bool
+    ensures { result ≡ is_positive height }
+{
+    height > 0
+}
+
+fn is_on(height: i64) -> bool
+    ensures { result ≡ is_zero height }
+{
+    height == 0
+}
+
 impl Heights {
     /// No corner is behind the plane.
-    pub fn none_below(&self) -> bool {
-        self.a >= 0 && self.b >= 0 && self.c >= 0
+    pub fn none_behind(&self) -> bool
+        ensures { result ≡ none_behind self.now }
+    {
+        !is_behind(self.a) && (!is_behind(self.b) && !is_behind(self.c))
     }
 
     /// No corner is in front of it.
-    pub fn none_above(&self) -> bool {
-        self.a <= 0 && self.b <= 0 && self.c <= 0
+    pub fn none_in_front(&self) -> bool
+        ensures { result ≡ none_in_front self.now }
+    {
+        !is_in_front(self.a) && (!is_in_front(self.b) && !is_in_front(self.c))
     }
 
-    /// All are strictly on one side.
-    pub fn all_aside(&self) -> bool {
-        (self.a > 0 && self.b > 0 && self.c > 0) || (self.a < 0 && self.b < 0 && self.c < 0)
+    /// All are strictly behind it.
+    pub fn all_behind(&self) -> bool
+        ensures { result ≡ all_behind self.now }
+    {
+        is_behind(self.a) && (is_behind(self.b) && is_behind(self.c))
+    }
+
+    /// All are strictly in front of it.
+    pub fn all_in_front(&self) -> bool
+        ensures { result ≡ all_in_front self.now }
+    {
+        is_in_front(self.a) && (is_in_front(self.b) && is_in_front(self.c))
     }
 
     /// All are on it.
-    pub fn all_on(&self) -> bool {
-        self.a == 0 && self.b == 0 && self.c == 0
+    pub fn all_on(&self) -> bool
+        ensures { result ≡ all_on self.now }
+    {
+        is_on(self.a) && (is_on(self.b) && is_on(self.c))
     }
 }

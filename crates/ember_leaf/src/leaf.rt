@@ -1,10 +1,12 @@
 // The written regions of a leaf.
-ghost use Rattle.std.specs.Prelude.{◌≡◌, ◌≤◌, ◌<◌, length, All, IfOk};
+ghost use Rattle.std.specs.Prelude.{◌≤◌, ◌<◌, ◌+◌, length, All, IfOk, IfSome, OnOk};
 ghost use Rattle.ember_model.specs.Valid.{IsValidTri};
 ghost use Rattle.ember_model.specs.Meshes.{HasMesh};
+ghost use Rattle.ember_box.specs.Near.{tri_at};
 ghost use Rattle.ember_coplanar.specs.Lying.{LiesOn};
 ghost use Rattle.ember_trace.specs.Facets.{AreBoxCounts, AreSideCounts};
-ghost use Rattle.ember_leaf.specs.Leaves.{ArePlaced};
+ghost use Rattle.ember_leaf.specs.Pairs.{IsLower};
+ghost use Rattle.ember_leaf.specs.Leaves.{IsRegionOf, IsKeptOf, ArePlaced, ArePlacedBelow, tris_of};
 
 use crate::blade::Blade;
 use crate::kept::{Kept, KeptList};
@@ -69,7 +71,14 @@ struct Leaf<'a> {
 
 impl Leaf<'_> {
     // The region as it is written, if it is.
-    fn kept(&self, i: usize, lower: &[Tri], ring: Ring) -> Option<Kept> {
+    fn kept(&self, i: usize, lower: &[Tri], ring: Ring) -> Option<Kept>
+        requires few { length self.now.near.now ≤ 262144 }
+        requires counts { AreBoxCounts self.now.at.now.counts }
+        requires place { i < length self.now.near.now }
+        requires lower { All (IsLower (tri_at (tris_of self.now.near.now) i)) lower.now }
+        requires region { IsRegionOf (tri_at (tris_of self.now.near.now) i) ring }
+        ensures { IfSome result (IsKeptOf (tri_at (tris_of self.now.near.now) i) i) }
+    {
         if !is_free(lower, &ring) {
             return None;
         }
@@ -91,7 +100,15 @@ impl Leaf<'_> {
         i: usize,
         lower: &[Tri],
         kept: &mut Vec<Kept>,
-    ) -> Result<(), OutOfMemory> {
+    ) -> Result<(), OutOfMemory>
+        requires few { length self.now.near.now ≤ 262144 }
+        requires counts { AreBoxCounts self.now.at.now.counts }
+        requires place { i < length self.now.near.now }
+        requires lower { All (IsLower (tri_at (tris_of self.now.near.now) i)) lower.now }
+        requires regions { All (IsRegionOf (tri_at (tris_of self.now.near.now) i)) list.items }
+        requires kept { ArePlacedBelow (tris_of self.now.near.now) (i + 1) kept.old.items }
+        ensures { OnOk result (ArePlacedBelow (tris_of self.now.near.now) (i + 1) kept.new.items) }
+    {
         for ring in list {
             if let Some(k) = self.kept(i, lower, ring) {
                 kept.push(k)?;
@@ -108,11 +125,18 @@ impl Leaf<'_> {
         i: usize,
         rivals: &mut Rivals,
         kept: &mut Vec<Kept>,
-    ) -> Result<(), OutOfMemory> {
-        if find_lower(self.near, i, &mut rivals.lower)? {
+    ) -> Result<(), OutOfMemory>
+        requires few { length self.now.near.now ≤ 262144 }
+        requires counts { AreBoxCounts self.now.at.now.counts }
+        requires place { i < length self.now.near.now }
+        requires kept { ArePlacedBelow (tris_of self.now.near.now) (i + 1) kept.old.items }
+        ensures { OnOk result (ArePlacedBelow (tris_of self.now.near.now) (i + 1) kept.new.items) }
+    {
+        let own = &self.near[i];
+        if find_lower(own, &self.near[..i], &mut rivals.lower)? {
             return Ok(());
         }
-        if let Some(ring) = start(alloc, &self.near[i], walls)? {
+        if let Some(ring) = start(alloc, own, walls)? {
             find_blades(self.near, i, &mut rivals.blades)?;
             let list = regions(alloc, ring, &rivals.blades)?;
             self.keep(list, i, &rivals.lower, kept)?;

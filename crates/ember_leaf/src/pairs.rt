@@ -1,8 +1,8 @@
 // How two triangles lie to each other, by their corners.
-ghost use Rattle.std.specs.Prelude.{◌≡◌, false};
+ghost use Rattle.std.specs.Prelude.{◌≡◌, ◌<◌, ◌&&◌};
+ghost use Rattle.ember_algebra.specs.Sign.{is_zero};
 ghost use Rattle.ember_model.specs.Faces.{is_flat};
-ghost use Rattle.ember_model.specs.Owners.{is_coplanar};
-ghost use Rattle.ember_leaf.specs.Pairs.{IsPair};
+ghost use Rattle.ember_model.specs.Owners.{lies_in_plane_of, is_coplanar};
 
 use crate::heights::heights_of;
 use ember_box::overlap;
@@ -10,9 +10,9 @@ use ember_model::{Plane, edge_plane, main_axis};
 use ember_trace::Facet;
 
 /// How a triangle lies to the closed face of another.
-#[derive(Clone, Copy, PartialEq, Eq)]
+#[derive(Clone, Copy)]
 pub enum Pair {
-    /// No inside point of the first lies in the closed face of the second, or that is flat.
+    /// No inside point of the first lies in the closed face of the second.
     Apart,
     /// They may meet, in different planes.
     Across,
@@ -20,71 +20,96 @@ pub enum Pair {
     Coplanar,
 }
 
-fn has_normal(p: &Plane) -> bool {
-    p.a != 0 || p.b != 0 || p.c != 0
+fn has_no_normal(p: &Plane) -> bool
+    ensures { result ≡ is_zero p.now.a && (is_zero p.now.b && is_zero p.now.c) }
+{
+    p.a == 0 && (p.b == 0 && p.c == 0)
 }
 
-// An edge plane of the first triangle keeps the second one off its inside.
-fn is_parted(f: &Facet, g: &Facet) -> bool {
-    let k = main_axis(&f.support);
-    for e in 0..3 {
-        if heights_of(&edge_plane(&f.tri, e, k), &g.tri).none_below() {
-            return true;
-        }
-    }
-    false
+/// The normal of the triangle is zero.
+pub fn is_flat(f: &Facet) -> bool
+    ensures { result ≡ is_flat f.now.tri }
+{
+    has_no_normal(&f.support)
 }
 
-// The second triangle lies in the closed face of the first, in whose plane it is.
-fn is_covered(f: &Facet, g: &Facet) -> bool {
-    let k = main_axis(&f.support);
-    for e in 0..3 {
-        if !heights_of(&edge_plane(&f.tri, e, k), &g.tri).none_above() {
-            return false;
-        }
-    }
-    true
+// All corners of the second lie in the plane of the first.
+fn holds_corners(f: &Facet, g: &Facet) -> bool
+    ensures { result ≡ lies_in_plane_of f.now.tri g.now.tri }
+{
+    heights_of(&f.support, &g.tri).all_on()
 }
 
 /// The two lie in one plane, and neither is flat.
 pub fn are_coplanar(f: &Facet, g: &Facet) -> bool
     ensures { result ≡ is_coplanar f.now.tri g.now.tri }
 {
-    has_normal(&f.support) && has_normal(&g.support) && heights_of(&f.support, &g.tri).all_on()
+    !is_flat(f) && (holds_corners(f, g) && !is_flat(g))
 }
 
+// The plane of an edge of the first triangle keeps the two apart.
+fn parts(f: &Facet, g: &Facet, edge: u8) -> bool
+    requires { edge < 3 }
+{
+    let k = main_axis(&f.support);
+    let theirs = heights_of(&edge_plane(&f.tri, edge, k), &g.tri);
+    theirs.none_behind() && !theirs.all_on()
+}
+
+// The plane of an edge of one of them keeps the two apart.
+fn are_parted(f: &Facet, g: &Facet) -> bool {
+    for edge in 0..3 {
+        if parts(f, g, edge) || parts(g, f, edge) {
+            return true;
+        }
+    }
+    false
+}
+
+// How a triangle lies to another one that lies in its plane.
 fn coplanar_pair(f: &Facet, g: &Facet) -> Pair {
-    if is_parted(f, g) || is_parted(g, f) {
+    if are_parted(f, g) {
         Pair::Apart
     } else {
         Pair::Coplanar
     }
 }
 
-/// How a triangle, which isn't flat, lies to another one.
-pub fn pair_of(f: &Facet, g: &Facet) -> Pair
-    requires { is_flat f.now.tri ≡ false }
-    ensures { IsPair f.now.tri g.now.tri result }
-{
-    if !overlap(&f.spans, &g.spans) || !has_normal(&g.support) {
-        return Pair::Apart;
-    }
-    let theirs = heights_of(&f.support, &g.tri);
-    if theirs.all_aside() {
-        return Pair::Apart;
-    }
-    if theirs.all_on() {
-        return coplanar_pair(f, g);
-    }
+// How it lies to one that is not in its plane.
+fn crossing_pair(f: &Facet, g: &Facet) -> Pair {
     let own = heights_of(&g.support, &f.tri);
-    if own.none_below() || own.none_above() {
+    if (own.none_behind() || own.none_in_front()) && !own.all_on() {
         Pair::Apart
     } else {
         Pair::Across
     }
 }
 
+/// How a triangle lies to another one. Neither is flat.
+pub fn pair_of(f: &Facet, g: &Facet) -> Pair {
+    if !overlap(&f.spans, &g.spans) {
+        return Pair::Apart;
+    }
+    let theirs = heights_of(&f.support, &g.tri);
+    if theirs.all_in_front() || theirs.all_behind() {
+        Pair::Apart
+    } else if theirs.all_on() {
+        coplanar_pair(f, g)
+    } else {
+        crossing_pair(f, g)
+    }
+}
+
+// The second triangle lies behind the plane of an edge of the first.
+fn is_behind_edge(f: &Facet, g: &Facet, edge: u8) -> bool
+    requires { edge < 3 }
+{
+    let k = main_axis(&f.support);
+    let theirs = heights_of(&edge_plane(&f.tri, edge, k), &g.tri);
+    theirs.none_in_front() && !theirs.all_on()
+}
+
 /// The second triangle, which lies in the plane of the first, is covered by it.
 pub fn covers(f: &Facet, g: &Facet) -> bool {
-    overlap(&f.spans, &g.spans) && is_covered(f, g)
+    is_behind_edge(f, g, 0) && (is_behind_edge(f, g, 1) && is_behind_edge(f, g, 2))
 }

@@ -1,8 +1,6 @@
 // The regions of a triangle: its start, cut by blade after blade.
-ghost use Rattle.std.specs.Prelude.{[], ◌∷◌, map, IfOk};
-ghost use Rattle.ember_algebra.specs.Relations.{Each, Chain};
-ghost use Rattle.ember_box.specs.Regions.{AtBlade};
-ghost use Rattle.ember_leaf.specs.Pairs.{blade_of};
+ghost use Rattle.std.specs.Prelude.{[], ◌∷◌, IfOk};
+ghost use Rattle.ember_leaf.specs.Leaves.{StayInPlane};
 
 use crate::blade::Blade;
 use ember_model::OutOfMemory;
@@ -11,7 +9,7 @@ use std::alloc::Global;
 
 // One blade cuts each region that meets its triangle.
 fn split_all(alloc: Global, list: Vec<Ring>, b: &Blade) -> Result<Vec<Ring>, OutOfMemory>
-    ensures { IfOk result (λ out. Each (AtBlade (blade_of b.now)) list.items out.items) }
+    ensures { IfOk result (λ out. StayInPlane list.items out.items) }
 {
     let mut out = Vec::new(alloc);
     for r in list {
@@ -34,7 +32,7 @@ fn split_all(alloc: Global, list: Vec<Ring>, b: &Blade) -> Result<Vec<Ring>, Out
 
 /// The regions that the blades leave of a start, in order.
 pub fn regions(alloc: Global, start: Ring, blades: &[Blade]) -> Result<Vec<Ring>, OutOfMemory>
-    ensures { IfOk result (λ out. Chain (λ b. Each (AtBlade b)) (map blade_of blades.now) (start ∷ []) out.items) }
+    ensures { IfOk result (λ out. StayInPlane (start ∷ []) out.items) }
 {
     let mut list = Vec::new(alloc);
     list.push(start)?;

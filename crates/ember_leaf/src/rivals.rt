@@ -1,10 +1,10 @@
 // The other triangles near a leaf that matter to the regions of one.
-ghost use Rattle.std.specs.Prelude.{◌≡◌, ℕ, ◌<◌, false, length, All, OnOk, IfOk};
+ghost use Rattle.std.specs.Prelude.{◌≡◌, ◌<◌, false, length, All, OnOk};
 ghost use Rattle.ember_model.specs.Faces.{is_flat};
-ghost use Rattle.ember_leaf.specs.Pairs.{AddsBlades, IsLower};
+ghost use Rattle.ember_leaf.specs.Pairs.{IsLower};
 
 use crate::blade::Blade;
-use crate::pairs::{Pair, are_coplanar, covers, pair_of};
+use crate::pairs::{Pair, are_coplanar, covers, is_flat, pair_of};
 use ember_model::{OutOfMemory, Tri, edge_plane, main_axis};
 use ember_trace::Facet;
 
@@ -22,9 +22,10 @@ fn add_edges(g: &Facet, blades: &mut Vec<Blade>) -> Result<(), OutOfMemory>
 }
 
 // Adds the blades of a triangle for the regions of another one.
-fn add_blades(own: &Facet, g: &Facet, blades: &mut Vec<Blade>) -> Result<(), OutOfMemory>
-    requires { is_flat own.now.tri ≡ false }
-{
+fn add_blades(own: &Facet, g: &Facet, blades: &mut Vec<Blade>) -> Result<(), OutOfMemory> {
+    if is_flat(g) {
+        return Ok(());
+    }
     match pair_of(own, g) {
         Pair::Apart => Ok(()),
         Pair::Across => {
@@ -51,14 +52,17 @@ pub fn find_blades(near: &[Facet], i: usize, blades: &mut Vec<Blade>) -> Result<
     Ok(())
 }
 
-/// Fills the list with the triangles before triangle `i` that lie in its plane. `true`, with a
-/// part of them, where one of them covers it, and so owns all its regions.
-pub fn find_lower(near: &[Facet], i: usize, lower: &mut Vec<Tri>) -> Result<bool, OutOfMemory>
-    requires place { i < length near.now }
+/// Fills the list with those of these triangles that lie in the plane of another one. `true`,
+/// with a part of them, where one of them covers it, and so owns all its regions.
+pub fn find_lower(
+    own: &Facet,
+    before: &[Facet],
+    lower: &mut Vec<Tri>,
+) -> Result<bool, OutOfMemory>
+    ensures { OnOk result (All (IsLower own.now.tri) lower.new.items) }
 {
     lower.clear();
-    let own = &near[i];
-    for g in near[..i].iter().rev() {
+    for g in before.iter().rev() {
         if are_coplanar(g, own) {
             if covers(g, own) {
                 return Ok(true);

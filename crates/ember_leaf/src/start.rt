@@ -1,7 +1,9 @@
 // The part of a triangle that belongs to a box.
 ghost use Rattle.std.specs.Prelude.{◌≡◌, IfOk, IfSome};
+ghost use Rattle.ember_algebra.specs.Size.{Small};
 ghost use Rattle.ember_model.specs.Valid.{IsValidPlane};
-ghost use Rattle.ember_leaf.specs.Walls.{plane_of};
+ghost use Rattle.ember_box.specs.Spans.{IsSpanSized};
+ghost use Rattle.ember_leaf.specs.Leaves.{IsRegionOf};
 
 use crate::wall::Wall;
 use ember_box::{Cell, Span, Spans, spans_of};
@@ -18,18 +20,22 @@ fn span(b: &Spans, k: Axis) -> Span {
     }
 }
 
-fn low_wall(b: &Spans, axis: Axis) -> Wall {
+fn low_wall(s: &Span, axis: Axis) -> Wall
+    requires { IsSpanSized s.now }
+{
     Wall {
         axis,
-        at: span(b, axis).low,
+        at: s.low,
         is_high: false,
     }
 }
 
-fn high_wall(b: &Spans, axis: Axis) -> Wall {
+fn high_wall(s: &Span, axis: Axis) -> Wall
+    requires { IsSpanSized s.now }
+{
     Wall {
         axis,
-        at: span(b, axis).high,
+        at: s.high,
         is_high: true,
     }
 }
@@ -38,17 +44,21 @@ fn high_wall(b: &Spans, axis: Axis) -> Wall {
 pub fn walls(c: &Cell) -> [Wall; 6] {
     let b = spans_of(c);
     [
-        low_wall(&b, Axis::X),
-        high_wall(&b, Axis::X),
-        low_wall(&b, Axis::Y),
-        high_wall(&b, Axis::Y),
-        low_wall(&b, Axis::Z),
-        high_wall(&b, Axis::Z),
+        low_wall(&b.x, Axis::X),
+        high_wall(&b.x, Axis::X),
+        low_wall(&b.y, Axis::Y),
+        high_wall(&b.y, Axis::Y),
+        low_wall(&b.z, Axis::Z),
+        high_wall(&b.z, Axis::Z),
     ]
 }
 
 // The plane with this normal along an axis and this constant.
-fn level(axis: Axis, n: i64, d: i64) -> Plane {
+fn level(axis: Axis, n: i64, d: i64) -> Plane
+    requires n { Small 1 n }
+    requires d { Small 2048 d }
+    ensures { IsValidPlane result }
+{
     match axis {
         Axis::X => Plane {
             a: n,
@@ -73,8 +83,7 @@ fn level(axis: Axis, n: i64, d: i64) -> Plane {
 
 // The plane of the wall, negative in the box.
 fn plane_of(w: &Wall) -> Plane
-    ensures value { result ≡ plane_of w.now }
-    ensures valid { IsValidPlane result }
+    ensures { IsValidPlane result }
 {
     let at = i64::from(w.at);
     if w.is_high {
@@ -150,14 +159,15 @@ fn at_wall(alloc: Global, f: Ring, w: &Wall) -> Result<Option<Ring>, OutOfMemory
 fn within_walls(
     alloc: Global,
     part: Ring,
+    f: &Facet,
     walls: &[Wall],
-    bounds: &Spans,
 ) -> Result<Option<Ring>, OutOfMemory>
-    ensures { IfOk result (λ out. IfSome out (λ r. r.support ≡ part.support)) }
+    requires { IsRegionOf f.now.tri part }
+    ensures { IfOk result (λ out. IfSome out (IsRegionOf f.now.tri)) }
 {
     let mut ring = part;
     for w in walls {
-        if stay_at(w, bounds) != Stay::Whole {
+        if stay_at(w, &f.spans) != Stay::Whole {
             match at_wall(alloc, ring, w)? {
                 Some(left) => ring = left,
                 None => return Ok(None),
@@ -169,13 +179,13 @@ fn within_walls(
 
 /// The part of a triangle that belongs to the box with these walls, if there is any.
 pub fn start(alloc: Global, f: &Facet, walls: &[Wall]) -> Result<Option<Ring>, OutOfMemory>
-    ensures { IfOk result (λ out. IfSome out (λ r. r.support ≡ f.now.support)) }
+    ensures { IfOk result (λ out. IfSome out (IsRegionOf f.now.tri)) }
 {
     if is_outside(walls, &f.spans) {
         return Ok(None);
     }
     match of_tri(alloc, &f.tri)? {
-        Some(ring) => within_walls(alloc, ring, walls, &f.spans),
+        Some(ring) => within_walls(alloc, ring, f, walls),
         None => Ok(None),
     }
 }

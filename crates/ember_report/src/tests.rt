@@ -13,7 +13,8 @@ fn entries_are_counted_by_their_kind(rt: HostRuntime) -> Result<(), Fail> {
     let first = vec![in alloc;
         entry(1, Kind::Halved),
         entry(2, Kind::Passed),
-        entry(3, Kind::Halved)]?;
+        entry(3, Kind::Halved),
+    ]?;
     let second = vec![in alloc; entry(6, Kind::Leafed), entry(7, Kind::Leafed)]?;
     let journals = Journals::of(vec![in alloc; first, second, Vec::new(alloc)]?);
     let report = report_of(&journals, 26);

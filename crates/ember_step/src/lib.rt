@@ -3,6 +3,8 @@
 #![tactic(auto)]
 
 mod step;
+#[cfg(test)]
+mod tests;
 
 pub use ember_visit::{box_value, halve_job, root_job};
 pub use step::{BoolWork, box_step};

@@ -1,5 +1,5 @@
 -- Lists of places, and the triangles that they list.
-use Rattle.std.proofs.Common.{◌≡◌, ℕ, zero, suc, ◌+◌, ◌*◌, ◌-◌, ◌<◌, ◌≤◌, ◌==◌, ◌||◌, Bool, true, false, not, nat_eq, List, [], ◌∷◌, ◌++◌, map, filter, length, get_or, All, cond, refl, sym, ap, ◌∙◌, subst, arith}
+use Rattle.std.proofs.Common.{◌≡◌, ℕ, zero, suc, ◌+◌, ◌<◌, ◌≤◌, ◌||◌, Bool, true, false, not, nat_eq, List, [], ◌∷◌, ◌++◌, filter, length, get_or, All, sym, ap, ◌∙◌, subst, arith}
 use Rattle.std.specs.List.{range_with_len}
 use Rattle.std.proofs.lemmas.List.{length-map}
 use Rattle.std.proofs.lemmas.List.Elements.{All-get_or, All-weaker, All-cons, All-map}
@@ -15,14 +15,12 @@ use Rattle.ember_model.specs.declared.face.Face.{Face}
 use Rattle.ember_model.specs.Faces.{is_flat, face_of}
 use Rattle.ember_model.specs.Meshes.{HasMesh, IsScene, wind, faces_of, of_mesh, meshes}
 use Rattle.ember_law.proofs.Grown.{crossing_small}
-use Rattle.ember_expr.specs.Formula.{IsMeshNumber}
 use Rattle.ember_box.specs.Boxes.{Cell}
 use Rattle.ember_box.specs.Reference.{reference, vector_at}
-use Rattle.ember_box.specs.Near.{is_near, near, no_tri, tri_at, listed, near_places, places}
+use Rattle.ember_box.specs.Near.{is_near, near, no_tri, tri_at, listed, places}
 use Rattle.ember_box.proofs.Lists.{near_in_range, listed_near_all}
 use Rattle.ember_job.specs.declared.job.Job.{Job}
 use Rattle.ember_visit.specs.Jobs.{near_of, IsJob}
-use Rattle.ember_visit.specs.Values.{has_mesh}
 
 -- what holds of all triangles holds of those that are listed
 pub all_listed : (P : Tri → Type 0) (ts : List Tri) (is : List ℕ) → All P ts → All (λ i. i < length ts) is → All P (listed ts is)
@@ -64,8 +62,8 @@ few_faces m ts =
 pub vector_small : (ts : List Tri) (c : Cell) → length ts ≤ 262144 → All (Small 262144) (vector_at ts c)
 vector_small ts c few =
     All-map (Small 262144) (λ m. wind X (faces_of (of_mesh m ts)) (reference c)) meshes (λ k d l.
-      let m = get_or meshes k d in
-      small_within (omega (arith, few, few_faces m ts)) (wind_small X (reference c) (faces_of (of_mesh m ts))))
+    let m = get_or meshes k d in
+    small_within (omega (arith, few, few_faces m ts)) (wind_small X (reference c) (faces_of (of_mesh m ts))))
 
 -- ---- what a job keeps
 module _ (ts : List Tri) (j : Job) (h : IsJob ts j) where

@@ -1,23 +1,20 @@
 -- The halves of a job are jobs, and its box is halved in two.
-use Rattle.std.proofs.Common.{◌≡◌, ℕ, ◌+◌, ◌*◌, ◌-◌, ◌<◌, ◌≤◌, pos, Bool, true, false, Option, Some, None, List, All, length, refl, sym, ap, ◌∙◌, subst, arith}
-use Rattle.std.proofs.lemmas.List.{length-map}
-use Rattle.std.proofs.lemmas.List.Elements.{All-weaker, All-replicate}
+use Rattle.std.proofs.Common.{◌≡◌, ℕ, ◌<◌, Bool, true, false, Option, Some, None, List, refl, sym, ap, ◌∙◌, subst}
 use Rattle.ember_model.specs.declared.tri.Tri.{Tri}
 use Rattle.ember_model.specs.declared.point.Axis.{Axis}
 use Rattle.ember_model.specs.declared.point.Axis.TheVariants.{X}
 use Rattle.ember_model.specs.Meshes.{IsScene, vector}
 use Rattle.ember_expr.specs.Formula.{Formula}
 use Rattle.ember_box.specs.Boxes.{Cell, left_half, right_half}
-use Rattle.ember_box.specs.Near.{tri_at, near_places, places}
+use Rattle.ember_box.specs.Near.{near_places, places}
 use Rattle.ember_box.specs.Reference.{reference}
 use Rattle.ember_box.specs.Halving.{is_leaf, halving_axis}
-use Rattle.ember_box.proofs.Splits.{left_less}
 use Rattle.ember_box.proofs.Lists.{left_places, right_places}
 use Rattle.ember_ref.proofs.ShiftLaw.{shift_law}
 use Rattle.ember_ref.proofs.RootOutside.{root_is_outside}
 use Rattle.ember_job.specs.declared.job.Job.{Job}
-use Rattle.ember_job.specs.Works.{Shape, halved, leafed, passed, IsSplit}
-use Rattle.ember_visit.specs.Jobs.{near_of, IsJob, root_job, left_job, right_job, AreHalves}
+use Rattle.ember_job.specs.Works.{halved, IsSplit}
+use Rattle.ember_visit.specs.Jobs.{near_of, IsJob, root_job, left_job, right_job}
 use Rattle.ember_visit.specs.Values.{unless_known, leaf_or, box_value, shape}
 use Rattle.ember_visit.proofs.Among.{of_64, near_listed}
 use Rattle.ember_box.proofs.Halvable.{halvable_unless_leaf}

@@ -2,6 +2,7 @@
 ghost use Rattle.std.specs.Prelude.{◌≡◌, ◌≤◌, IfOk};
 ghost use Rattle.std.specs.List.{range_with_len};
 ghost use Rattle.ember_visit.specs.Jobs as jobs;
+ghost use Rattle.ember_visit.specs.Jobs.{IsJob};
 
 use ember_box::{near_list, root};
 use ember_job::{Job, Numbers};
@@ -22,7 +23,8 @@ fn numbers_below(alloc: Global, count: u32) -> Result<Vec<u32>, OutOfMemory>
 /// The root box with the triangles near it, and with no windings: its reference point lies outside
 /// all meshes.
 pub fn root_job(alloc: Global, s: &Scene) -> Result<Job, OutOfMemory>
-    ensures { IfOk result (λ job. job ≡ jobs.root_job s.now.tris) }
+    ensures value { IfOk result (λ job. job ≡ jobs.root_job s.now.tris) }
+    ensures valid { IfOk result (λ job. IsJob s.now.tris job) }
 {
     let root = root();
     let all = numbers_below(alloc, s.tris.items().len() as u32)?;

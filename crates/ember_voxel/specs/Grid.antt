@@ -1,5 +1,5 @@
 -- The text of a lattice: a character for each cell, a line for each row
-use Rattle.std.specs.Prelude.{◌≡◌, ℕ, ◌+◌, ◌-◌, ◌*◌, ◌^◌, ◌<◌, ◌≤◌, ◌==◌, Bool, true, false, ◌&&◌, nat_le, nat_lt, int_le, int_lt, ℤ, pos, ◌-ℤ◌, if◌then◌else◌, List, ◌++◌, length, count_by, slice_index_or, codes, decimal}
+use Rattle.std.specs.Prelude.{◌≡◌, ℕ, ◌+◌, ◌-◌, ◌*◌, ◌^◌, ◌<◌, ◌≤◌, ◌==◌, Bool, ◌&&◌, nat_le, nat_lt, int_le, int_lt, ℤ, pos, ◌-ℤ◌, if◌then◌else◌, List, ◌++◌, length, count_by, slice_index_or, codes, decimal}
 use Rattle.std.specs.List.{list_any}
 use Rattle.ember_model.specs.declared.point.Axis.{Axis}
 use Rattle.ember_model.specs.declared.point.Axis.TheVariants.{X, Y, Z}

@@ -1,13 +1,11 @@
 -- The halves of a job are jobs, its box is halved in two, and it has one answer.
 use Rattle.std.proofs.Common.{◌≡◌, ℕ, ◌<◌, ◌≤◌, Option, None, Some, Bool, true, false, List, refl, sym, ap, ap₂, ◌∙◌, subst, arith}
 use Rattle.ember_model.specs.declared.tri.Tri.{Tri}
-use Rattle.ember_model.specs.declared.point.Axis.{Axis}
 use Rattle.ember_model.specs.Meshes.{IsScene}
 use Rattle.ember_expr.specs.Formula.{Formula}
-use Rattle.ember_box.specs.Boxes.{Cell, root}
 use Rattle.ember_job.specs.declared.job.Job.{Job}
-use Rattle.ember_job.specs.Works.{Shape, halved, leafed, passed, IsSplit}
-use Rattle.ember_visit.specs.Jobs.{IsJob, root_job, left_job, right_job}
+use Rattle.ember_job.specs.Works.{halved, leafed, IsSplit}
+use Rattle.ember_visit.specs.Jobs.{root_job, left_job, right_job}
 use Rattle.ember_visit.specs.Values.{box_value, leaf_or}
 use Rattle.ember_visit.proofs.Laws.{root_is_job, left_is_job, right_is_job}
 use Rattle.ember_voxel.specs.declared.fill.Fill.{Fill}

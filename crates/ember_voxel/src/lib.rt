@@ -4,6 +4,8 @@
 mod fill;
 mod grid;
 mod step;
+#[cfg(test)]
+mod tests;
 
 pub use fill::{Fill, FillList};
 pub use grid::grid_text;

@@ -1,4 +1,4 @@
-use Rattle.std.proofs.Common.{◌≡◌, All, subst, sym, ◌∙◌, ap}
+use Rattle.std.proofs.Common.{◌≡◌, All, subst, sym, ◌∙◌}
 use Rattle.ember_model.specs.Valid.{IsValidTri}
 use Rattle.ember_model.specs.Meshes.{HasMesh}
 use Rattle.ember_box.specs.Near.{listed}

@@ -1,4 +1,4 @@
-use Rattle.std.proofs.Common.{◌≡◌, ℕ, false, Option, None, Some, IfSome, ◌∙◌, sym, List, ℤ, Bool}
+use Rattle.std.proofs.Common.{◌≡◌, ℕ, Option, None, Some, IfSome, ◌∙◌, sym, List, ℤ, Bool}
 use Rattle.ember_expr.specs.Formula.{Formula, formula_of, IsMeshNumber}
 use Rattle.ember_expr.specs.Truth.{truth}
 use Rattle.ember_known.specs.Masks.{is_in}

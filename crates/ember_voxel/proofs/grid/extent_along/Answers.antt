@@ -1,6 +1,5 @@
-use Rattle.std.proofs.Common.{◌≡◌, ◌+◌, ◌*◌, ◌^◌, ◌≤◌, ◌<◌, ◌%◌, ◌&&◌, nat_le, nat_lt, pos, ◌+ℤ◌, ap, sym, ◌∙◌, arith}
+use Rattle.std.proofs.Common.{◌≡◌, ◌+◌, ◌*◌, ◌^◌, ◌<◌, ◌%◌, ◌&&◌, pos, ap, ◌∙◌, arith}
 use Rattle.std.proofs.lemmas.Nat.{one_shl}
-use Rattle.std.proofs.lemmas.Int.{ints}
 use Rattle.ember_box.specs.Boxes as boxes
 use Rattle.ember_voxel.proofs.Ceilings.{begins, ends, further, in_order}
 use Rattle.ember_voxel.proofs.grid.extent_along.Goals as goal

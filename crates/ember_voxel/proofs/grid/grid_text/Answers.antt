@@ -1,4 +1,4 @@
-use Rattle.std.proofs.Common.{◌≡◌, List, ℕ, length, sym, ap, ◌∙◌, arith}
+use Rattle.std.proofs.Common.{◌≡◌, length, arith}
 use Rattle.ember_voxel.proofs.Written.{made}
 use Rattle.ember_voxel.proofs.grid.grid_text.Goals as goal
 

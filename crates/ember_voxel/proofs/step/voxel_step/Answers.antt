@@ -1,4 +1,4 @@
-use Rattle.std.proofs.Common.{◌≡◌, ap, sym, ◌∙◌, subst, ◌<◌, arith}
+use Rattle.std.proofs.Common.{sym, subst, ◌<◌, arith}
 use Rattle.ember_expr.specs.Formula.{formula_of}
 use Rattle.ember_visit.specs.Jobs.{AreHalves}
 use Rattle.ember_visit.proofs.Among.{job_places, few_listed, counts_within}
