@@ -1,14 +1,14 @@
 //! The text of faces.
 #![tactic(auto)]
 
-mod document;
 mod face;
 mod file;
 mod line;
+mod whole;
 
-pub use document::document;
 pub use face::face_text;
 pub use file::{begin_file, end_file};
+pub use whole::document;
 
 #[cfg(test)]
 mod tests;

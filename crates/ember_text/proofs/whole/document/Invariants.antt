@@ -1,6 +1,6 @@
 use Rattle.std.proofs.Common.{map, take}
 use Rattle.ember_text.specs.Documents.{HasGoodTexts, written_face}
-use Rattle.ember_text.proofs.document.document.Given as goal
+use Rattle.ember_text.proofs.whole.document.Given as goal
 
 abbrev pub invariant-loop-k : goal.invariant-loop-k
 invariant-loop-k l = HasGoodTexts (map written_face (take l.k-index l.kept)) l.text.items

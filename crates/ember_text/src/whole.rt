@@ -10,6 +10,7 @@ use std::alloc::Global;
 
 /// The face file of written regions: the header, their faces in order, each with the opposite
 /// front where it is flipped, and the last line with their number.
+#[tactic(auto, using(crate::proofs::GrowingTexts::no_good_texts, crate::proofs::GrowingTexts::more_good_texts, crate::proofs::GrowingTexts::ended_text))]
 pub fn document(alloc: Global, kept: &[Kept]) -> Result<Vec<u8>, OutOfMemory>
     ensures { IfOk result (λ text. IsDocumentText (map written_face kept.now) text.items) }
 {
