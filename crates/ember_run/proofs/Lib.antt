@@ -6,6 +6,8 @@ pub mod ClearFaces
 pub mod AtVerdict
 pub mod SliceVerdict
 pub mod SceneVerdicts
+pub mod Reports
+pub mod SolidVerdicts
 pub mod ReadBack
 pub mod FaceLists
 pub mod CanonicalWords
