@@ -7,6 +7,7 @@ pub mod AtVerdict
 pub mod SliceVerdict
 pub mod SceneVerdicts
 pub mod Reports
+pub mod KeptLists
 pub mod SolidVerdicts
 pub mod ReadBack
 pub mod FaceLists

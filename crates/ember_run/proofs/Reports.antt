@@ -1,5 +1,5 @@
 -- How many boxes a run ends, and how many of each kind.
-use Rattle.std.proofs.Common.{◌≡◌, ℕ, zero, suc, ◌+◌, ◌*◌, ◌<◌, ◌≤◌, ◌^◌, Bool, true, false, cond, List, [], ◌∷◌, ◌++◌, length, map, refl, sym, ap, subst, ◌∙◌, arith, length-append}
+use Rattle.std.proofs.Common.{◌≡◌, ℕ, zero, suc, ◌+◌, ◌*◌, ◌<◌, ◌≤◌, ◌^◌, Bool, cond, List, [], ◌∷◌, ◌++◌, length, refl, sym, ap, subst, ◌∙◌, arith, length-append}
 use Rattle.std.specs.Prelude.{count_by}
 use Rattle.std.specs.List.{fold, sum_by}
 use Rattle.std.proofs.lemmas.List.{length-map}
@@ -9,7 +9,6 @@ use Rattle.ember_job.specs.declared.job.Job.{Job}
 use Rattle.ember_job.specs.Visited.{below_shape, entry_of, visited, visited_within}
 use Rattle.ember_job.specs.Weights.{weigh}
 use Rattle.ember_job.specs.Works.{Shape, halved, leafed, passed}
-use Rattle.ember_report.specs.declared.report.Report.{Report}
 use Rattle.ember_report.specs.Reports.{is_leaf, is_skipped, report_from}
 use Rattle.ember_run.specs.Runs.{HoldEntries, entries, run_report}
 
@@ -38,14 +37,6 @@ few_visited shape root e =
 one_more : (n : ℕ) → suc n ≡ 1 + n
 one_more n = omega arith
 
-count_case : (b : Bool) (m n : ℕ) → m ≡ n → cond b (suc m) m ≡ cond b 1 0 + n
-count_case true m n e = ap suc e ∙ one_more n
-count_case false m n e = omega (arith, e)
-
-count_weighs : {X : Type 0} (p : X → Bool) (xs : List X) → count_by p xs ≡ weigh (λ x. cond (p x) 1 0) xs
-count_weighs p [] = refl
-count_weighs p (x ∷ xs) = count_case (p x) (count_by p xs) (weigh (λ x. cond (p x) 1 0) xs) (count_weighs p xs)
-
 length_weighs : {X : Type 0} (xs : List X) → length xs ≡ weigh (λ x. 1) xs
 length_weighs [] = refl
 length_weighs (x ∷ xs) = ap suc (length_weighs xs) ∙ one_more (weigh (λ x. 1) xs)
@@ -53,6 +44,10 @@ length_weighs (x ∷ xs) = ap suc (length_weighs xs) ∙ one_more (weigh (λ x. 
 fold_weighs : {X : Type 0} (f g : X → ℕ) → ((x : X) → f x ≡ g x) → (n : ℕ) (xs : List X) → fold (λ a x. a + f x) n xs ≡ n + weigh g xs
 fold_weighs f g e n [] = omega arith
 fold_weighs f g e n (x ∷ xs) = let p = e x in let q = fold_weighs f g e (n + f x) xs in omega (arith, p, q)
+
+count_weighs : {X : Type 0} (p : X → Bool) (xs : List X) → count_by p xs ≡ weigh (λ x. cond (p x) 1 0) xs
+count_weighs p xs =
+    let q : count_by p xs ≡ 0 + weigh (λ x. cond (p x) 1 0) xs = fold_weighs (λ x. cond (p x) 1 0) (λ x. cond (p x) 1 0) (λ x. refl) 0 xs in omega (arith, q)
 
 sum_weighs : {X : Type 0} (f g : X → ℕ) → ((x : X) → f x ≡ g x) → (xs : List X) → sum_by f xs ≡ weigh g xs
 sum_weighs f g e xs = let q : sum_by f xs ≡ 0 + weigh g xs = fold_weighs f g e 0 xs in omega (arith, q)

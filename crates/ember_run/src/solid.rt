@@ -18,18 +18,21 @@ pub struct Solid {
 }
 
 // All of these in one list.
+#[tactic(auto, using(crate::proofs::KeptLists::kept_more))]
 fn all_kept(alloc: Global, items: Vec<KeptList>) -> Result<Vec<Kept>, OutOfMemory>
     ensures { IfOk result (λ kept. kept.items ≡ flat_map (λ ks. ks) items.items) }
 {
+    let mut rest = items;
+    rest.reverse();
     let mut kept = Vec::new(alloc);
-    for list in items {
+    while let Some(list) = rest.pop() {
         kept.append(&mut list.into_vec())?;
     }
     Ok(kept)
 }
 
 /// The solid of an expression over a scene.
-#[tactic(auto, using(crate::proofs::SolidVerdicts::journals_fit, crate::proofs::SolidVerdicts::is_solid))]
+#[tactic(auto, using(crate::proofs::SolidVerdicts::is_solid))]
 pub fn solid_of<C: Crew>(
     alloc: Global,
     scene: &Scene,

@@ -72,7 +72,16 @@ fn output_of<S: Shelf, C: Crew>(
             report,
             files,
             ..
-        } => boole_output(alloc, expr, *places as u8, *report, files, shelf, crew, lines),
+        } => boole_output(
+            alloc,
+            expr,
+            *places as u8,
+            *report,
+            files,
+            shelf,
+            crew,
+            lines,
+        ),
     }
 }
 
