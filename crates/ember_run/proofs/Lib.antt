@@ -6,6 +6,9 @@ pub mod ClearFaces
 pub mod AtVerdict
 pub mod SliceVerdict
 pub mod SceneVerdicts
+pub mod Reports
+pub mod KeptLists
+pub mod SolidVerdicts
 pub mod ReadBack
 pub mod FaceLists
 pub mod CanonicalWords

@@ -26,9 +26,9 @@ use Rattle.ember_run.proofs.Verdicts.{text_then}
 abbrev pub SceneRead : ℕ → Contents → List Tri → Type 0
 SceneRead places contents tris = (next : List Tri → Verdict) → IsSameIfTold (after_scene places contents next) (next tris)
 
--- this expression was given, over so many meshes
-abbrev pub ExprRead : List ℕ → ℕ → Formula → Type 0
-ExprRead expr m formula = (next : Formula → Verdict) → after_expr expr m next ≡ next formula
+-- this expression was given, over so many meshes; `after` is what follows on it
+abbrev pub ExprRead : (ℕ → (Formula → Verdict) → Verdict) → ℕ → Formula → Type 0
+ExprRead after m formula = (next : Formula → Verdict) → after m next ≡ next formula
 
 -- ---- pairs
 -- the pairs of leaves, as the law of the whole list takes them
@@ -48,18 +48,18 @@ pairs_listed places contents tris bytes scene is =
     text_then bytes (pairs_verdict places contents) (Writes (MeetingPairs tris)) (scene (λ tris. Writes (MeetingPairs tris))) is
 
 -- ---- an expression and a scene
-module _ (expr : List ℕ) (places m : ℕ) (contents : Contents) (count : length contents ≡ m) where
-  pub expr_refused : (status : Status) (next : Formula → Verdict) → ((next : Formula → Verdict) → IsRefusal status (after_expr expr m next)) → IsRefusal status (after_expr expr (length contents) next)
-  expr_refused status next refused = subst (λ (n : ℕ). IsRefusal status (after_expr expr n next)) (sym count) (refused next)
+module _ (after : ℕ → (Formula → Verdict) → Verdict) (places m : ℕ) (contents : Contents) (count : length contents ≡ m) where
+  pub expr_refused : (status : Status) (next : Formula → Verdict) → ((next : Formula → Verdict) → IsRefusal status (after m next)) → IsRefusal status (after (length contents) next)
+  expr_refused status next refused = subst (λ (n : ℕ). IsRefusal status (after n next)) (sym count) (refused next)
 
-  pub after_read : (formula : Formula) (next : Formula → Verdict) → ExprRead expr m formula → after_expr expr (length contents) next ≡ next formula
-  after_read formula next given = subst (λ (n : ℕ). after_expr expr n next ≡ next formula) (sym count) (given next)
+  pub after_read : (formula : Formula) (next : Formula → Verdict) → ExprRead after m formula → after (length contents) next ≡ next formula
+  after_read formula next given = subst (λ (n : ℕ). after n next ≡ next formula) (sym count) (given next)
 
-  pub scene_refused : (formula : Formula) (status : Status) (next : Formula → List Tri → Verdict) → ExprRead expr m formula → ((next : List Tri → Verdict) → IsRefusal status (after_scene places contents next)) → IsRefusal status (after_expr expr (length contents) (λ formula. after_scene places contents (next formula)))
+  pub scene_refused : (formula : Formula) (status : Status) (next : Formula → List Tri → Verdict) → ExprRead after m formula → ((next : List Tri → Verdict) → IsRefusal status (after_scene places contents next)) → IsRefusal status (after (length contents) (λ formula. after_scene places contents (next formula)))
   scene_refused formula status next given refused =
       subst (λ (v : Verdict). IsRefusal status v) (sym (after_read formula (λ formula. after_scene places contents (next formula)) given)) (refused (next formula))
 
-  pub scene_text : (formula : Formula) (tris : List Tri) (bytes : List ℕ) (next : Formula → List Tri → Verdict) → ExprRead expr m formula → SceneRead places contents tris → IsText (next formula tris) bytes → IsText (after_expr expr (length contents) (λ formula. after_scene places contents (next formula))) bytes
+  pub scene_text : (formula : Formula) (tris : List Tri) (bytes : List ℕ) (next : Formula → List Tri → Verdict) → ExprRead after m formula → SceneRead places contents tris → IsText (next formula tris) bytes → IsText (after (length contents) (λ formula. after_scene places contents (next formula))) bytes
   scene_text formula tris bytes next given scene is =
       subst (λ (v : Verdict). IsText v bytes) (sym (after_read formula (λ formula. after_scene places contents (next formula)) given))
       (text_then bytes (after_scene places contents (next formula)) (next formula tris) (scene (next formula)) is)
@@ -69,14 +69,14 @@ length_told n [] = refl
 length_told zero (told ∷ more) = ap suc (length_told zero more)
 length_told (suc n) (told ∷ more) = ap suc (length_told n more)
 
-pub scene_unread : (expr : List ℕ) (places m i : ℕ) (contents : Contents) (formula : Formula) (next : Formula → List Tri → Verdict) → length contents ≡ m → ExprRead expr m formula → MayRead places contents i → after_expr expr (length (first_told (i - 1) contents)) (λ formula. after_scene places (first_told (i - 1) contents) (next formula)) ≡ Untold
-scene_unread expr places m i contents formula next count given unread =
-    after_read expr places m (first_told (i - 1) contents) (length_told (i - 1) contents ∙ count) formula (λ formula. after_scene places (first_told (i - 1) contents) (next formula)) given ∙ unread (next formula)
+pub scene_unread : (after : ℕ → (Formula → Verdict) → Verdict) (places m i : ℕ) (contents : Contents) (formula : Formula) (next : Formula → List Tri → Verdict) → length contents ≡ m → ExprRead after m formula → MayRead places contents i → after (length (first_told (i - 1) contents)) (λ formula. after_scene places (first_told (i - 1) contents) (next formula)) ≡ Untold
+scene_unread after places m i contents formula next count given unread =
+    after_read after places m (first_told (i - 1) contents) (length_told (i - 1) contents ∙ count) formula (λ formula. after_scene places (first_told (i - 1) contents) (next formula)) given ∙ unread (next formula)
 
 -- ---- a lattice
 pub root_is_valid : (scene : Scene) (size : ℕ) (job : Job) → size ≤ 12 → job ≡ root_job scene.tris → IsVoxelJob scene.tris size job
 root_is_valid scene size job le e = subst (IsVoxelJob scene.tris size) (sym e) (root_is_voxel_job scene.tris scene.meshes size scene.kept le)
 
-pub lattice_sampled : (expr : List ℕ) (size places m : ℕ) (contents : Contents) (formula : Formula) (tris : List Tri) (bytes : List ℕ) → length contents ≡ m → ExprRead expr m formula → SceneRead places contents tris → IsLatticeText tris formula size bytes → IsText (voxels_verdict expr size places contents) bytes
+pub lattice_sampled : (expr : List ℕ) (size places m : ℕ) (contents : Contents) (formula : Formula) (tris : List Tri) (bytes : List ℕ) → length contents ≡ m → ExprRead (after_expr expr) m formula → SceneRead places contents tris → IsLatticeText tris formula size bytes → IsText (voxels_verdict expr size places contents) bytes
 lattice_sampled expr size places m contents formula tris bytes count given scene is =
-    scene_text expr places m contents count formula tris bytes (λ formula tris. Writes (Lattice tris formula size)) given scene is
+    scene_text (after_expr expr) places m contents count formula tris bytes (λ formula tris. Writes (Lattice tris formula size)) given scene is

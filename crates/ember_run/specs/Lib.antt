@@ -2,10 +2,13 @@ pub mod Said
 pub mod Lines
 pub mod FaceTexts
 pub mod PairLists
+pub mod Runs
+pub mod Solids
 pub mod Lattices
 pub mod Outputs
 pub mod Slices
 pub mod Verdict
 pub mod Serves
+pub mod Reported
 pub mod Scenes
 pub mod Given

@@ -111,3 +111,8 @@ line_on_err names (Limit Triangles count) = triangles_line count
 line_on_err names NotClear = codes "ember: point not clear\n"
 line_on_err names (FaceRefused fault) = face_line (name_of names 1) fault
 line_on_err names OutOfMemory = memory_line
+
+-- what err takes: the report after success, and else the line of the status
+abbrev pub text_on_err : List (List ℕ) → Status → List ℕ → List ℕ
+text_on_err names Done report = report
+text_on_err names status report = line_on_err names status

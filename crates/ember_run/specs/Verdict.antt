@@ -1,5 +1,5 @@
 -- What an input asks for: its first refusal, or its output
-use Rattle.std.specs.Prelude.{ℕ, ℤ, zero, suc, ◌+◌, ◌-◌, List, [], ◌∷◌, ◌++◌, length, nat_le, get_or, map, None, Some, Result, Ok, Err, if◌then◌else◌}
+use Rattle.std.specs.Prelude.{ℕ, ℤ, zero, suc, ◌+◌, ◌-◌, List, [], ◌∷◌, ◌++◌, length, nat_le, get_or, map, None, Some, Result, Ok, Err, if◌then◌else◌, codes, pos, replicate}
 use Rattle.std.specs.declared.option.Option.{Option}
 use Rattle.std.specs.List.{list_all}
 use Rattle.ember_balance.specs.declared.loose.Loose.{Loose}
@@ -7,6 +7,8 @@ use Rattle.ember_balance.specs.Loose.{loose_of}
 use Rattle.ember_expr.specs.declared.fault.ExprFault.{ExprFault}
 use Rattle.ember_expr.specs.Formula.{Formula}
 use Rattle.ember_expr.specs.Grammar.{expr_of}
+use Rattle.ember_expr.specs.Truth.{truth}
+use Rattle.ember_gen.specs.Scene.{scene_of}
 use Rattle.ember_mesh.specs.declared.fault.MeshFault.TheVariants.{Unbalanced}
 use Rattle.ember_model.specs.declared.point.Spot.{Spot}
 use Rattle.ember_model.specs.declared.tri.Tri.{Tri}
@@ -16,10 +18,10 @@ use Rattle.ember_obj.specs.Table.{Faces}
 use Rattle.ember_obj.specs.ReadObj.{read_obj_of}
 use Rattle.ember_words.specs.declared.command.Command.{Command}
 use Rattle.ember_words.specs.declared.command.Command.TheVariants as command
-use Rattle.ember_run.specs.Outputs.{Output, FaceTexts, Counts, MeetingPairs, Lattice}
+use Rattle.ember_run.specs.Outputs.{Output, FaceTexts, Counts, MeetingPairs, Lattice, SolidFaces, SolidReport}
 use Rattle.ember_run.specs.declared.status.LimitKind.TheVariants.{Bytes, Triangles}
 use Rattle.ember_run.specs.declared.status.Status.{Status}
-use Rattle.ember_run.specs.declared.status.Status.TheVariants.{Words, ObjRefused, MeshRefused, ExprRefused, Limit, NotClear}
+use Rattle.ember_run.specs.declared.status.Status.TheVariants.{Words, ObjRefused, MeshRefused, ExprRefused, Unbounded, Limit, NotClear}
 
 -- the first refusal, or the output; Untold where it rests on contents that aren't told
 pub data Verdict : Type 0 where
@@ -104,6 +106,21 @@ abbrev pub voxels_verdict : List ℕ → ℕ → ℕ → Contents → Verdict
 voxels_verdict expr size places contents =
     after_expr expr (length contents) (λ formula. after_scene places contents (λ tris. Writes (Lattice tris formula size)))
 
+-- an expression that holds where all counts are 0 bounds nothing
+abbrev pub after_bounded : Formula → Verdict → Verdict
+after_bounded formula next = if truth (replicate 64 (pos 0)) formula then Refused Unbounded else next
+
+abbrev pub after_solid : List ℕ → ℕ → (Formula → Verdict) → Verdict
+after_solid text meshes next = after_expr text meshes (λ formula. after_bounded formula (next formula))
+
+abbrev pub bool_verdict : List ℕ → ℕ → Contents → Verdict
+bool_verdict expr places contents =
+    after_solid expr (length contents) (λ formula. after_scene places contents (λ tris. Writes (SolidFaces tris formula)))
+
+-- the union of the two meshes
+abbrev pub demo_verdict : ℕ → Verdict
+demo_verdict boxes = after_expr (codes "m1|m2") 2 (λ formula. Writes (SolidReport (scene_of boxes) formula))
+
 abbrev pub pairs_verdict : ℕ → Contents → Verdict
 pairs_verdict places contents = after_scene places contents (λ tris. Writes (MeetingPairs tris))
 
@@ -112,8 +129,8 @@ abbrev pub verdict_of : Option Command → Contents → Verdict
 verdict_of None contents = Refused Words
 verdict_of (Some (command.Faces places file)) contents = faces_verdict places (file_at contents 1)
 verdict_of (Some (command.At point expr places files)) contents = at_verdict point expr places contents
-verdict_of (Some (command.Boole expr workers places report files)) contents = Refused Words
-verdict_of (Some (command.Demo boxes workers)) contents = Refused Words
+verdict_of (Some (command.Boole expr workers places report files)) contents = bool_verdict expr places contents
+verdict_of (Some (command.Demo boxes workers)) contents = demo_verdict boxes
 verdict_of (Some (command.Voxels expr size workers places files)) contents = voxels_verdict expr size places contents
 verdict_of (Some (command.Pairs workers places files)) contents = pairs_verdict places contents
 verdict_of (Some (command.Slice at file)) contents = slice_verdict at (file_at contents 1)

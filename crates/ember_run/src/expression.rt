@@ -1,13 +1,13 @@
 // The expression of the words.
-ghost use Rattle.std.specs.Prelude.{ℕ, ◌≡◌, ◌≢◌, ◌≤◌, true, Err, IfOk, IfErr};
+ghost use Rattle.std.specs.Prelude.{ℕ, ◌≡◌, ◌≢◌, ◌≤◌, true, Err, IfOk, IfErr, codes};
 ghost use Rattle.std.specs.declared.option.Option.{Option};
 ghost use Rattle.ember_expr.specs.Formula.{Formula, formula_of};
 ghost use Rattle.ember_run.specs.Given.{given_formula};
 ghost use Rattle.ember_run.specs.Serves.{IsRefusal, is_refusal};
-ghost use Rattle.ember_run.specs.Verdict.{Verdict, after_expr, after_given};
+ghost use Rattle.ember_run.specs.Verdict.{Verdict, after_expr, after_given, after_solid};
 
 use crate::status::Status;
-use ember_expr::{Expr, ExprFault, parse};
+use ember_expr::{Expr, ExprFault, bounded, parse};
 use ember_words::Text;
 use std::alloc::Global;
 
@@ -37,5 +37,39 @@ pub fn parse_given(alloc: Global, text: &Option<Text>, meshes: u32) -> Result<Op
     match text {
         Some(text) => Ok(Some(parse_text(alloc, text, meshes)?)),
         None => Ok(None),
+    }
+}
+
+/// The expression of a text over so many meshes, at most 64, where it doesn't hold outside all of
+/// them.
+#[tactic(auto, using(crate::proofs::SolidVerdicts::bounded_read, crate::proofs::SolidVerdicts::bounded_refused, crate::proofs::SolidVerdicts::unbounded_refused))]
+pub fn parse_bounded(alloc: Global, text: &Text, meshes: u32) -> Result<Expr, Status>
+    requires { meshes ≤ 64 }
+    ensures expr { IfOk result (λ expr. (next : Formula → Verdict) → after_solid text.now meshes next ≡ next (formula_of expr)) }
+    ensures refused { IfErr result (λ status. is_refusal status ≡ true → (next : Formula → Verdict) → IsRefusal status (after_solid text.now meshes next)) }
+    ensures only { (i : ℕ) → result ≢ Err (Status.ReadFault i) }
+    ensures no_other { (result ≢ Err Status.Done) × (result ≢ Err Status.Words) × (result ≢ Err Status.WriteFault) }
+{
+    let expr = match parse_text(alloc, text, meshes) {
+        Ok(expr) => expr,
+        Err(status) => return Err(status),
+    };
+    if !bounded(&expr) {
+        return Err(Status::Unbounded);
+    }
+    Ok(expr)
+}
+
+/// The union of two meshes.
+pub fn parse_union(alloc: Global) -> Result<Expr, Status>
+    ensures expr { IfOk result (λ expr. (next : Formula → Verdict) → after_expr (codes "m1|m2") 2 next ≡ next (formula_of expr)) }
+    ensures refused { IfErr result (λ status. is_refusal status ≡ true → (next : Formula → Verdict) → IsRefusal status (after_expr (codes "m1|m2") 2 next)) }
+    ensures only { (i : ℕ) → result ≢ Err (Status.ReadFault i) }
+    ensures no_other { (result ≢ Err Status.Done) × (result ≢ Err Status.Words) × (result ≢ Err Status.WriteFault) }
+{
+    match parse(alloc, b"m1|m2", 2) {
+        Ok(expr) => Ok(expr),
+        Err(ExprFault::OutOfMemory) => Err(Status::OutOfMemory),
+        Err(fault) => Err(Status::ExprRefused(fault)),
     }
 }

@@ -2,6 +2,7 @@
 #![tactic(auto)]
 
 mod at;
+mod boole;
 mod crew;
 mod expression;
 mod faces;
@@ -11,6 +12,7 @@ mod pairs;
 mod reading;
 mod scene;
 mod slice;
+mod solid;
 mod status;
 mod top;
 mod voxels;

@@ -3,7 +3,7 @@ ghost use Rattle.std.specs.Prelude.{◌≡◌, [], ◌∷◌, Some, decimal, fla
 ghost use Rattle.std.specs.Fmt.{signed_decimal};
 ghost use Rattle.ember_run.specs.Said.{Says};
 ghost use Rattle.ember_run.specs.Verdict.{names_of};
-ghost use Rattle.ember_run.specs.Lines.{decimal_text, endless_line, expr_line, face_line, fault_line, line_on_err, loose_line, mesh_line, name_of, no_mesh_line, obj_line, place_line, triangles_line};
+ghost use Rattle.ember_run.specs.Lines.{decimal_text, endless_line, expr_line, face_line, fault_line, line_on_err, loose_line, mesh_line, name_of, no_mesh_line, obj_line, place_line, text_on_err, triangles_line};
 
 use crate::status::{FaceFault, LimitKind, Status};
 use ember_balance::Loose;
@@ -254,12 +254,13 @@ pub fn say_out_of_memory<E: Sink>(err: &mut E)
     say(err, &[b"ember: out of memory\n"]);
 }
 
-/// Writes the status's line to err. A fault of err ends the line, and changes nothing else.
-pub fn say_status<E: Sink>(err: &mut E, command: &Command, status: &Status)
-    ensures { Says (E.faults err.old) (E.faults err.new) (E.taken err.old) (E.taken err.new) (line_on_err (names_of (Some command.now)) status.now) }
+/// Writes the status's line to err, or the report after success. A fault of err ends the line, and
+/// changes nothing else.
+pub fn say_status<E: Sink>(err: &mut E, command: &Command, status: &Status, report: &[u8])
+    ensures { Says (E.faults err.old) (E.faults err.new) (E.taken err.old) (E.taken err.new) (text_on_err (names_of (Some command.now)) status.now report.now) }
 {
     match status {
-        Status::Done => say(err, &[]),
+        Status::Done => say(err, &[report]),
         Status::Words => say_words_refused(err),
         Status::ReadFault(i) => {
             let name = name_at(command, *i);

@@ -1,5 +1,5 @@
 // The top call.
-ghost use Rattle.std.specs.Prelude.{ℕ, ◌≡◌, ◌≢◌, ◌≤◌, ◌⊎◌, Some, Err, IfOk, IfErr, true, map, string_bytes};
+ghost use Rattle.std.specs.Prelude.{ℕ, List, [], ◌≡◌, ◌≢◌, ◌≤◌, ◌⊎◌, Some, Err, IfOk, IfErr, true, map, string_bytes};
 ghost use Rattle.std.specs.Io.KnownBytes.{Appends};
 ghost use Rattle.ember_io.specs.Causes.{Rose};
 ghost use Rattle.ember_io.specs.Sinks.{AppendsPrefix, IsFlushed};
@@ -7,11 +7,12 @@ ghost use Rattle.ember_words.specs.Canonical.{Line, IsCanonical, command_with, w
 ghost use Rattle.ember_words.specs.Meaning.{command_of};
 ghost use Rattle.ember_words.specs.Within.{IsWithinLimits};
 ghost use Rattle.ember_run.specs.Said.{Says};
-ghost use Rattle.ember_run.specs.Lines.{line_on_err};
+ghost use Rattle.ember_run.specs.Reported.{IsErrText, IsReportIf, asks_report};
 ghost use Rattle.ember_run.specs.Serves.{IsBegun, IsRefusal, IsText, IsWritten, Serves, is_refusal};
-ghost use Rattle.ember_run.specs.Verdict.{Untold, names_of, told_verdict, verdict_before};
+ghost use Rattle.ember_run.specs.Verdict.{Untold, told_verdict, verdict_before};
 
 use crate::at::at_output;
+use crate::boole::{boole_output, demo_output};
 use crate::crew::{Alone, Crew};
 use crate::faces::faces_output;
 use crate::lines::{say_out_of_memory, say_status, say_words_refused};
@@ -26,17 +27,21 @@ use std::sync::Wait;
 use std::thread::Threads;
 use steal_pool::Gate;
 
-// The output of the command, or why there is none.
+// The output of the command, or why there is none. The line of a report goes to `lines`, where one
+// is asked for.
 fn output_of<S: Shelf, C: Crew>(
     alloc: Global,
     command: &Command,
     shelf: &mut S,
     crew: &C,
+    lines: &mut Vec<u8>,
 ) -> Result<Vec<u8>, Status>
-    requires { IsWithinLimits command.now }
+    requires command { IsWithinLimits command.now }
+    requires lines { lines.old.items ≡ [] }
     ensures contents { S.contents shelf.new ≡ S.contents shelf.old }
     ensures later { S.faults shelf.old ≤ S.faults shelf.new }
     ensures text { IfOk result (λ text. IsText (told_verdict (Some command.now) (S.contents shelf.old)) text.items) }
+    ensures report { IfOk result (λ _. IsReportIf (asks_report (Some command.now)) (told_verdict (Some command.now) (S.contents shelf.old)) lines.new.items) }
     ensures refused { IfErr result (λ status. is_refusal status ≡ true → IsRefusal status (told_verdict (Some command.now) (S.contents shelf.old))) }
     ensures read_fault { (i : ℕ) → result ≡ Err (Status.ReadFault i) → Rose (S.faults shelf.old) (S.faults shelf.new) × (S.fault_at shelf.new ≡ i) × (verdict_before i (Some command.now) (S.contents shelf.old) ≡ Untold) }
     ensures no_other { (result ≢ Err Status.Done) × (result ≢ Err Status.WriteFault) }
@@ -60,7 +65,23 @@ fn output_of<S: Shelf, C: Crew>(
             pairs_output(alloc, *places as u8, files, shelf, crew)
         }
         Command::Slice { at, file } => slice_output(alloc, *at, file, shelf),
-        _ => Err(Status::Words),
+        Command::Demo { boxes, .. } => demo_output(alloc, *boxes, crew),
+        Command::Boole {
+            expr,
+            places,
+            report,
+            files,
+            ..
+        } => boole_output(
+            alloc,
+            expr,
+            *places as u8,
+            *report,
+            files,
+            shelf,
+            crew,
+            lines,
+        ),
     }
 }
 
@@ -84,18 +105,21 @@ fn do_command<S: Shelf, O: Sink, C: Crew>(
     shelf: &mut S,
     out: &mut O,
     crew: &C,
+    lines: &mut Vec<u8>,
 ) -> Status
-    requires { IsWithinLimits command.now }
+    requires command { IsWithinLimits command.now }
+    requires lines { lines.old.items ≡ [] }
     ensures contents { S.contents shelf.new ≡ S.contents shelf.old }
     ensures later { S.faults shelf.old ≤ S.faults shelf.new }
     ensures out_later { O.faults out.old ≤ O.faults out.new }
     ensures done { result ≡ Status.Done → IsWritten (told_verdict (Some command.now) (S.contents shelf.old)) (O.taken out.old) (O.taken out.new) × IsFlushed (O.taken out.new) (O.flushed out.new) }
+    ensures report { result ≡ Status.Done → IsReportIf (asks_report (Some command.now)) (told_verdict (Some command.now) (S.contents shelf.old)) lines.new.items }
     ensures refused { is_refusal result ≡ true → IsRefusal result (told_verdict (Some command.now) (S.contents shelf.old)) }
     ensures read_fault { (i : ℕ) → result ≡ Status.ReadFault i → Rose (S.faults shelf.old) (S.faults shelf.new) × (S.fault_at shelf.new ≡ i) × (verdict_before i (Some command.now) (S.contents shelf.old) ≡ Untold) }
     ensures write_fault { result ≡ Status.WriteFault → Rose (O.faults out.old) (O.faults out.new) × IsBegun (told_verdict (Some command.now) (S.contents shelf.old)) (O.taken out.old) (O.taken out.new) }
     ensures untouched { result ≢ Status.Done → result ≢ Status.WriteFault → O.taken out.new ≡ O.taken out.old }
 {
-    match output_of(alloc, command, shelf, crew) {
+    match output_of(alloc, command, shelf, crew, lines) {
         Ok(text) => write_output(out, &text),
         Err(status) => status,
     }
@@ -115,10 +139,11 @@ fn serve<S: Shelf, O: Sink, E: Sink, C: Crew>(
     ensures later { S.faults shelf.old ≤ S.faults shelf.new }
     ensures out_later { O.faults out.old ≤ O.faults out.new }
     ensures status { Serves (Some command.now) (S.contents shelf.old) (S.faults shelf.old) (S.faults shelf.new) (S.fault_at shelf.new) (O.faults out.old) (O.faults out.new) (O.flushed out.new) (O.taken out.old) (O.taken out.new) result }
-    ensures err { Says (E.faults err.old) (E.faults err.new) (E.taken err.old) (E.taken err.new) (line_on_err (names_of (Some command.now)) result) }
+    ensures err { (text : List ℕ) × IsErrText (Some command.now) (S.contents shelf.old) result text × Says (E.faults err.old) (E.faults err.new) (E.taken err.old) (E.taken err.new) text }
 {
-    let status = do_command(alloc, command, shelf, out, crew);
-    say_status(err, command, &status);
+    let mut lines = Vec::new(alloc);
+    let status = do_command(alloc, command, shelf, out, crew, &mut lines);
+    say_status(err, command, &status, &lines);
     status
 }
 
@@ -137,7 +162,7 @@ pub fn run_one<S: Shelf, O: Sink, E: Sink, G: Gate>(
     ensures out_later { O.faults out.old ≤ O.faults out.new }
     ensures status { Serves (command_of (map string_bytes words.now)) (S.contents shelf.old) (S.faults shelf.old) (S.faults shelf.new) (S.fault_at shelf.new) (O.faults out.old) (O.faults out.new) (O.flushed out.new) (O.taken out.old) (O.taken out.new) result }
     ensures canonical { (line : Line) → IsCanonical line → map string_bytes words.now ≡ words_of line → command_of (map string_bytes words.now) ≡ command_with line }
-    ensures err { Says (E.faults err.old) (E.faults err.new) (E.taken err.old) (E.taken err.new) (line_on_err (names_of (command_of (map string_bytes words.now))) result) }
+    ensures err { (text : List ℕ) × IsErrText (command_of (map string_bytes words.now)) (S.contents shelf.old) result text × Says (E.faults err.old) (E.faults err.new) (E.taken err.old) (E.taken err.new) text }
 {
     match read_words(alloc, words) {
         Ok(command) => serve(alloc, &command, shelf, out, err, &Alone { gate }),
@@ -167,7 +192,7 @@ pub fn run<R: Threads + Wait + Sync, S: Shelf, O: Sink, E: Sink, G: Gate + Sync>
     ensures out_later { O.faults out.old ≤ O.faults out.new }
     ensures status { Serves (command_of (map string_bytes words.now)) (S.contents shelf.old) (S.faults shelf.old) (S.faults shelf.new) (S.fault_at shelf.new) (O.faults out.old) (O.faults out.new) (O.flushed out.new) (O.taken out.old) (O.taken out.new) result }
     ensures canonical { (line : Line) → IsCanonical line → map string_bytes words.now ≡ words_of line → command_of (map string_bytes words.now) ≡ command_with line }
-    ensures err { Says (E.faults err.old) (E.faults err.new) (E.taken err.old) (E.taken err.new) (line_on_err (names_of (command_of (map string_bytes words.now))) result) }
+    ensures err { (text : List ℕ) × IsErrText (command_of (map string_bytes words.now)) (S.contents shelf.old) result text × Says (E.faults err.old) (E.faults err.new) (E.taken err.old) (E.taken err.new) text }
 {
     run_one(alloc, words, shelf, out, err, gate)
 }

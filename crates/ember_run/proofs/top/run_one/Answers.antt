@@ -1,10 +1,8 @@
 use Rattle.std.proofs.Common.{sym, subst}
 use Rattle.std.specs.declared.option.Option.{Option}
 use Rattle.ember_words.specs.declared.command.Command.{Command}
-use Rattle.ember_run.specs.Said.{Says}
-use Rattle.ember_run.specs.Lines.{line_on_err}
+use Rattle.ember_run.specs.Reported.{IsErrText}
 use Rattle.ember_run.specs.Serves.{Serves}
-use Rattle.ember_run.specs.Verdict.{names_of}
 use Rattle.ember_run.proofs.CanonicalWords.{canonical_command}
 use Rattle.ember_run.proofs.top.run_one.Goals as goal
 
@@ -15,7 +13,8 @@ returns-in-Ok-clause-status g c =
 
 pub returns-in-Ok-clause-err : goal.returns-in-Ok-clause-err
 returns-in-Ok-clause-err g c =
-    subst (λ (command : Option Command). Says (g.E.Sink.faults c.args.err.now) (g.E.Sink.faults c.serve.new.err) (g.E.Sink.taken c.args.err.now) (g.E.Sink.taken c.serve.new.err) (line_on_err (names_of command) c.serve.result)) (sym c.in-Ok.ensures.command) c.serve.ensures.err
+    let e = c.serve.ensures.err in
+    (e.0, subst (λ (command : Option Command). IsErrText command (g.S.Shelf.contents c.args.shelf.now) c.serve.result e.0) (sym c.in-Ok.ensures.command) e.1, e.2)
 
 pub returns-in-Err-OutOfMemory-clause-canonical : goal.returns-in-Err-OutOfMemory-clause-canonical
 returns-in-Err-OutOfMemory-clause-canonical g c = λ line h is. canonical_command _ line h is

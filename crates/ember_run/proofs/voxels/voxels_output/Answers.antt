@@ -2,7 +2,7 @@ use Rattle.std.proofs.Common.{◌≡◌, ℕ, ◌-◌, List, map, subst}
 use Rattle.std.proofs.lemmas.List.{length-map}
 use Rattle.ember_run.specs.Outputs.{Lattice}
 use Rattle.ember_run.specs.Serves.{IsText}
-use Rattle.ember_run.specs.Verdict.{Untold, Writes, first_told, voxels_verdict}
+use Rattle.ember_run.specs.Verdict.{Untold, Writes, after_expr, first_told, voxels_verdict}
 use Rattle.ember_run.proofs.SceneVerdicts.{lattice_sampled, scene_unread}
 use Rattle.ember_run.proofs.Verdicts.{same_error}
 use Rattle.ember_run.proofs.voxels.voxels_output.Goals as goal
@@ -14,7 +14,7 @@ returns-in-Err-read_scene-clause-read_fault g c =
       f.0,
       f.1,
       subst (λ (names : List (List ℕ)). voxels_verdict a.expr.now a.size a.places (first_told (i - 1) (map told names)) ≡ Untold) c.items-files.ensures
-          (scene_unread a.expr.now a.places _ i (map told names) _ (λ formula tris. Writes (Lattice tris formula a.size)) (length-map names told) c.in-Ok.ensures.expr f.2),
+          (scene_unread (after_expr a.expr.now) a.places _ i (map told names) _ (λ formula tris. Writes (Lattice tris formula a.size)) (length-map names told) c.in-Ok.ensures.expr f.2),
     )
 
 pub returns-clause-text : goal.returns-clause-text

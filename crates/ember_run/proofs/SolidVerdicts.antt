@@ -1,0 +1,119 @@
+-- The verdicts of `bool` and `demo`, step by step.
+use Rattle.std.proofs.Common.{◌≡◌, ◌<◌, ◌^◌, ℕ, Bool, true, false, not, List, [], flat_map, length, pos, Some, Result, Ok, Err, IfOk, refl, sym, ap, subst, ◌∙◌}
+use Rattle.std.specs.Prelude.{codes, map, replicate, if◌then◌else◌}
+use Rattle.ember_expr.specs.Formula.{Formula}
+use Rattle.ember_expr.specs.Truth.{truth}
+use Rattle.ember_job.specs.declared.job.Job.{Job}
+use Rattle.ember_model.specs.declared.scene.Scene.{Scene}
+use Rattle.ember_model.specs.declared.tri.Tri.{Tri}
+use Rattle.ember_report.specs.declared.report.Report.{Report}
+use Rattle.ember_report.specs.Reports.{line_of}
+use Rattle.ember_visit.specs.Jobs.{IsJob, root_job}
+use Rattle.ember_visit.proofs.Laws.{root_is_job}
+use Rattle.ember_run.specs.declared.status.Status.{Status}
+use Rattle.ember_run.specs.declared.status.Status.TheVariants.{Done, Words, ReadFault, WriteFault, ObjRefused, MeshRefused, ExprRefused, Unbounded, Limit, NotClear, FaceRefused, OutOfMemory}
+use Rattle.ember_run.specs.Outputs.{SolidFaces, SolidReport}
+use Rattle.ember_run.specs.Reported.{IsErrText, IsReport, IsReportIf, asks_report}
+use Rattle.ember_run.specs.Lines.{text_on_err}
+use Rattle.ember_words.specs.declared.command.Command.{Command}
+use Rattle.std.specs.declared.option.Option.{Option}
+use Rattle.ember_run.specs.Serves.{IsRefusal, IsSameIfTold, IsText}
+use Rattle.ember_job.specs.declared.job.Entry.{Entry}
+use Rattle.ember_report.specs.Reports.{report_from}
+use Rattle.ember_visit.specs.Values.{shape}
+use Rattle.std.specs.List.{sum_by}
+use Rattle.ember_run.specs.Runs.{HoldEntries, run_report}
+use Rattle.ember_run.proofs.Reports.{entries_fit, same_report}
+use Rattle.ember_run.specs.Solids.{AreKept, IsReportLine, IsReportText, IsSolid, IsSolidText, report_lines}
+use Rattle.ember_gen.specs.Scene.{scene_of}
+use Rattle.ember_leaf.specs.declared.kept.Kept.{Kept}
+use Rattle.ember_text.specs.Documents.{IsDocumentText, written_face}
+use Rattle.ember_run.specs.Verdict.{Contents, Verdict, Untold, Refused, Writes, Slices, after_bounded, after_expr, after_scene, after_solid, bool_verdict, demo_verdict, names_of, told_verdict}
+use Rattle.ember_run.proofs.SceneVerdicts.{ExprRead, SceneRead, after_read, scene_text}
+
+pub root_is_valid : (scene : Scene) (job : Job) → job ≡ root_job scene.tris → IsJob scene.tris job
+root_is_valid scene job e = subst (IsJob scene.tris) (sym e) (root_is_job scene.tris scene.meshes scene.kept)
+
+-- ---- the run
+pub journals_fit : (tris : List Tri) (formula : Formula) (journals : List (List Entry)) → HoldEntries (shape tris formula) (root_job tris) journals → sum_by length journals < 2 ^ 64
+journals_fit tris formula journals holds = entries_fit (shape tris formula) (root_job tris) journals refl holds
+
+pub is_solid : (tris : List Tri) (formula : Formula) (items : List (List Kept)) (kept : List Kept) (journals : List (List Entry)) (faces : ℕ) (report : Report) → AreKept tris formula items → HoldEntries (shape tris formula) (root_job tris) journals → kept ≡ flat_map (λ ks. ks) items → report ≡ report_from journals faces → faces ≡ length kept → IsSolid tris formula kept report
+is_solid tris formula items kept journals faces report are holds all e f =
+    record { items = items; are = are; all = all; report_is = e ∙ same_report (shape tris formula) (root_job tris) journals faces holds ∙ ap (run_report (shape tris formula) (root_job tris)) f }
+
+-- ---- bounded expressions
+not_true : (b : Bool) → true ≡ not b → b ≡ false
+not_true true e = absurd (cc)
+not_true false e = refl
+
+not_false : (b : Bool) → false ≡ not b → b ≡ true
+not_false true e = refl
+not_false false e = absurd (cc)
+
+pub bounded_read : (text : List ℕ) (m : ℕ) (formula : Formula) (next : Formula → Verdict) → ((next : Formula → Verdict) → after_expr text m next ≡ next formula) → true ≡ not (truth (replicate 64 (pos 0)) formula) → after_solid text m next ≡ next formula
+bounded_read text m formula next given e =
+    given (λ formula. after_bounded formula (next formula)) ∙ ap (λ (b : Bool). if b then Refused Unbounded else next formula) (not_true (truth (replicate 64 (pos 0)) formula) e)
+
+pub unbounded_refused : (text : List ℕ) (m : ℕ) (formula : Formula) (next : Formula → Verdict) → ((next : Formula → Verdict) → after_expr text m next ≡ next formula) → false ≡ not (truth (replicate 64 (pos 0)) formula) → IsRefusal Unbounded (after_solid text m next)
+unbounded_refused text m formula next given e =
+    subst (λ (v : Verdict). IsRefusal Unbounded v) (sym (given (λ formula. after_bounded formula (next formula)) ∙ ap (λ (b : Bool). if b then Refused Unbounded else next formula) (not_false (truth (replicate 64 (pos 0)) formula) e))) refl
+
+pub bounded_refused : (text : List ℕ) (m : ℕ) (status : Status) (next : Formula → Verdict) → ((next : Formula → Verdict) → IsRefusal status (after_expr text m next)) → IsRefusal status (after_solid text m next)
+bounded_refused text m status next refused = refused (λ formula. after_bounded formula (next formula))
+
+-- ---- texts
+pub solid_text : (tris : List Tri) (formula : Formula) (kept : List Kept) (report : Report) (lines : List ℕ) (reported : Bool) → IsSolid tris formula kept report → lines ≡ report_lines reported report → IsReportLine reported tris formula lines
+solid_text tris formula kept report lines true solid e = record { kept = kept; report = report; solid = solid; text = e }
+solid_text tris formula kept report lines false solid e = e
+
+pub is_solid_text : (tris : List Tri) (formula : Formula) (kept : List Kept) (report : Report) (bytes : List ℕ) → IsSolid tris formula kept report → IsDocumentText (map written_face kept) bytes → IsSolidText tris formula bytes
+is_solid_text tris formula kept report bytes solid text = record { kept = kept; report = report; solid = solid; text = text }
+
+pub is_report_text : (tris : List Tri) (formula : Formula) (kept : List Kept) (report : Report) (bytes : List ℕ) → IsSolid tris formula kept report → bytes ≡ line_of report → IsReportText tris formula bytes
+is_report_text tris formula kept report bytes solid text = record { kept = kept; report = report; solid = solid; text = text }
+
+-- ---- the generated scene
+pub report_written : (boxes : ℕ) (formula : Formula) (tris : List Tri) (bytes : List ℕ) → ((next : Formula → Verdict) → after_expr (codes "m1|m2") 2 next ≡ next formula) → tris ≡ scene_of boxes → IsReportText tris formula bytes → IsText (demo_verdict boxes) bytes
+report_written boxes formula tris bytes given e is =
+    subst (λ (v : Verdict). IsText v bytes) (sym (given (λ formula. Writes (SolidReport (scene_of boxes) formula)))) (subst (λ (tris : List Tri). IsReportText tris formula bytes) e is)
+
+pub report_refused : (boxes : ℕ) (status : Status) → ((next : Formula → Verdict) → IsRefusal status (after_expr (codes "m1|m2") 2 next)) → IsRefusal status (demo_verdict boxes)
+report_refused boxes status refused = refused (λ formula. Writes (SolidReport (scene_of boxes) formula))
+
+-- ---- the document
+pub solid_written : (expr : List ℕ) (places m : ℕ) (contents : Contents) (formula : Formula) (tris : List Tri) (bytes : List ℕ) → length contents ≡ m → ExprRead (after_solid expr) m formula → SceneRead places contents tris → IsSolidText tris formula bytes → IsText (bool_verdict expr places contents) bytes
+solid_written expr places m contents formula tris bytes count given scene is =
+    scene_text (after_solid expr) places m contents count formula tris bytes (λ formula tris. Writes (SolidFaces tris formula)) given scene is
+
+report_then : (line : List ℕ) (u v : Verdict) → IsSameIfTold u v → IsReport v line → IsReport u line
+report_then line Untold v e f = tt
+report_then line (Refused refusal) v e f = subst (λ v. IsReport v line) (sym e) f
+report_then line (Writes output) v e f = subst (λ v. IsReport v line) (sym e) f
+report_then line (Slices at bytes) v e f = subst (λ v. IsReport v line) (sym e) f
+
+pub solid_reported : (reported : Bool) (expr : List ℕ) (places m : ℕ) (contents : Contents) (formula : Formula) (tris : List Tri) (line : List ℕ) → length contents ≡ m → ExprRead (after_solid expr) m formula → SceneRead places contents tris → IsReportLine reported tris formula line → IsReportIf reported (bool_verdict expr places contents) line
+solid_reported true expr places m contents formula tris line count given scene is =
+    subst (λ (v : Verdict). IsReport v line) (sym (after_read (after_solid expr) places m contents count formula (λ formula. after_scene places contents (λ tris. Writes (SolidFaces tris formula))) given))
+    (report_then line (after_scene places contents (λ tris. Writes (SolidFaces tris formula))) (Writes (SolidFaces tris formula)) (scene (λ tris. Writes (SolidFaces tris formula))) is)
+solid_reported false expr places m contents formula tris line count given scene is = is
+
+-- ---- what err takes
+pub no_report : {A E : Type 0} (result : Result A E) (command known : Command) (verdict : Verdict) (lines : List ℕ) → command ≡ known → asks_report (Some known) ≡ false → lines ≡ [] → IfOk result (λ _. IsReportIf (asks_report (Some command)) verdict lines)
+no_report (Ok value) command known verdict lines e a l =
+    subst (λ (b : Bool). IsReportIf b verdict lines) (sym (ap (λ (c : Command). asks_report (Some c)) e ∙ a)) l
+no_report (Err error) command known verdict lines e a l = tt
+
+pub err_text : (command : Option Command) (told : List ℕ → Option (List ℕ)) (status : Status) (lines : List ℕ) → (status ≡ Done → IsReportIf (asks_report command) (told_verdict command told) lines) → IsErrText command told status (text_on_err (names_of command) status lines)
+err_text command told Done lines h = h refl
+err_text command told Words lines h = refl
+err_text command told (ReadFault i) lines h = refl
+err_text command told WriteFault lines h = refl
+err_text command told (ObjRefused i fault) lines h = refl
+err_text command told (MeshRefused i fault) lines h = refl
+err_text command told (ExprRefused fault) lines h = refl
+err_text command told Unbounded lines h = refl
+err_text command told (Limit kind count) lines h = refl
+err_text command told NotClear lines h = refl
+err_text command told (FaceRefused fault) lines h = refl
+err_text command told OutOfMemory lines h = refl

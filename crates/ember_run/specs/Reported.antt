@@ -1,0 +1,48 @@
+-- What err takes of a call
+use Rattle.std.specs.Prelude.{◌≡◌, ⊤, ℕ, Bool, true, false, List, [], None, Some}
+use Rattle.std.specs.declared.option.Option.{Option}
+use Rattle.ember_words.specs.declared.command.Command.{Command}
+use Rattle.ember_words.specs.declared.command.Command.TheVariants as command
+use Rattle.ember_run.specs.declared.status.Status.{Status}
+use Rattle.ember_run.specs.declared.status.Status.TheVariants.{Done}
+use Rattle.ember_run.specs.Lines.{line_on_err}
+use Rattle.ember_run.specs.Outputs.{Output, FaceTexts, Counts, MeetingPairs, SolidFaces, SolidReport, Lattice}
+use Rattle.ember_run.specs.Solids.{IsReportText}
+use Rattle.ember_run.specs.Verdict.{Verdict, Untold, Refused, Writes, Slices, names_of, told_verdict}
+
+-- a report is asked for
+abbrev pub asks_report : Option Command → Bool
+asks_report None = false
+asks_report (Some (command.Faces places file)) = false
+asks_report (Some (command.At point expr places files)) = false
+asks_report (Some (command.Boole expr workers places report files)) = report
+asks_report (Some (command.Demo boxes workers)) = false
+asks_report (Some (command.Voxels expr size workers places files)) = false
+asks_report (Some (command.Pairs workers places files)) = false
+asks_report (Some (command.Slice at file)) = false
+
+-- the line is the report of the solid that is written
+abbrev pub IsReportOf : Output → List ℕ → Type 0
+IsReportOf (FaceTexts tris) line = ⊥
+IsReportOf (Counts point meshes tris expr) line = ⊥
+IsReportOf (MeetingPairs tris) line = ⊥
+IsReportOf (SolidFaces tris formula) line = IsReportText tris formula line
+IsReportOf (SolidReport tris formula) line = ⊥
+IsReportOf (Lattice tris formula size) line = ⊥
+
+-- where the verdict is told
+abbrev pub IsReport : Verdict → List ℕ → Type 0
+IsReport Untold line = ⊤
+IsReport (Refused refusal) line = ⊥
+IsReport (Writes output) line = IsReportOf output line
+IsReport (Slices at bytes) line = ⊥
+
+-- a report where one is asked for, and else nothing
+abbrev pub IsReportIf : Bool → Verdict → List ℕ → Type 0
+IsReportIf false verdict line = line ≡ []
+IsReportIf true verdict line = IsReport verdict line
+
+-- the text on err: a report after success, and else the line of the status
+abbrev pub IsErrText : Option Command → (List ℕ → Option (List ℕ)) → Status → List ℕ → Type 0
+IsErrText command told Done text = IsReportIf (asks_report command) (told_verdict command told) text
+IsErrText command told status text = text ≡ line_on_err (names_of command) status

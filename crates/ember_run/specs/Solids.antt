@@ -1,0 +1,49 @@
+-- The written regions of a solid, and what is reported of its run
+use Rattle.std.specs.Prelude.{◌≡◌, ℕ, Bool, true, false, List, [], flat_map, length, map}
+use Rattle.ember_expr.specs.Formula.{Formula}
+use Rattle.ember_job.specs.Visited.{leaves}
+use Rattle.ember_leaf.specs.declared.kept.Kept.{Kept}
+use Rattle.ember_leaf.specs.Leaves.{ArePlaced}
+use Rattle.ember_model.specs.declared.tri.Tri.{Tri}
+use Rattle.ember_report.specs.declared.report.Report.{Report}
+use Rattle.ember_report.specs.Reports.{line_of}
+use Rattle.ember_text.specs.Documents.{IsDocumentText, written_face}
+use Rattle.ember_visit.specs.Jobs.{near_of, root_job}
+use Rattle.ember_visit.specs.Values.{shape}
+use Rattle.steal_pool.specs.Merged.{EachAnswers}
+use Rattle.ember_run.specs.Runs.{run_report}
+
+-- the written regions of each leaf of the tree of boxes
+abbrev pub AreKept : List Tri → Formula → List (List Kept) → Type 0
+AreKept tris formula items =
+    EachAnswers (λ job kept. ArePlaced (near_of tris job) kept) (leaves (shape tris formula) (root_job tris)) items
+
+-- the written regions of all leaves, and the numbers of the run that wrote so many
+pub record IsSolid (tris : List Tri) (formula : Formula) (kept : List Kept) (report : Report) : Type 0 where
+  pub items : List (List Kept)
+  pub are : AreKept tris formula items
+  pub all : kept ≡ flat_map (λ ks. ks) items
+  pub report_is : report ≡ run_report (shape tris formula) (root_job tris) (length kept)
+
+-- the bytes are the face file of the solid's written regions
+pub record IsSolidText (tris : List Tri) (formula : Formula) (bytes : List ℕ) : Type 0 where
+  pub kept : List Kept
+  pub report : Report
+  pub solid : IsSolid tris formula kept report
+  pub text : IsDocumentText (map written_face kept) bytes
+
+-- the bytes are the line of the solid's report
+pub record IsReportText (tris : List Tri) (formula : Formula) (bytes : List ℕ) : Type 0 where
+  pub kept : List Kept
+  pub report : Report
+  pub solid : IsSolid tris formula kept report
+  pub text : bytes ≡ line_of report
+
+-- the line of a report, where one is asked for
+abbrev pub report_lines : Bool → Report → List ℕ
+report_lines true report = line_of report
+report_lines false report = []
+
+abbrev pub IsReportLine : Bool → List Tri → Formula → List ℕ → Type 0
+IsReportLine true tris formula line = IsReportText tris formula line
+IsReportLine false tris formula line = line ≡ []
