@@ -1,5 +1,6 @@
 pub mod Corners
 pub mod FacetLists
+pub mod PastLegs
 pub mod Places
 pub mod Slides
 pub mod Tallies
