@@ -1,4 +1,5 @@
 pub mod Corners
+pub mod FacetLegs
 pub mod FacetLists
 pub mod PastLegs
 pub mod Places
