@@ -65,16 +65,16 @@ powers m l =
     record { square = sq; square_below = omega (arith, linear, b, four, sq); below = omega (arith, linear, a, b, two, four, l); one_below = omega (arith, linear, a, b, two, four, l) }
 
 -- y / w lies between a whole number and the next
-record IsAbove (at y w : ℤ) : Type 0 where
-  from : (at *ℤ w) <ℤ y
-  to : y <ℤ ((at +ℤ pos 1) *ℤ w)
+pub record IsAbove (at y w : ℤ) : Type 0 where
+  pub from : (at *ℤ w) <ℤ y
+  pub to : y <ℤ ((at +ℤ pos 1) *ℤ w)
 
 above : (at m e : ℤ) → pos 0 <ℤ e → e <ℤ m → IsAbove at (m *ℤ at +ℤ e) (m *ℤ pos 1)
 above at m e l h =
     let x = solve 2 (λ a m. a ⊗ (m ⊗ num (pos 1)) ≈ m ⊗ a) cancels at m in let y = solve 2 (λ a m. (a ⊕ num (pos 1)) ⊗ (m ⊗ num (pos 1)) ≈ m ⊗ a ⊕ m) cancels at m in
     record { from = omega (arith, linear, x, l); to = omega (arith, linear, y, h) }
 
-start_above : (lo : Vector) (n : ℕ) (k : Axis) → 2 ^ 27 ≤ n → IsAbove (coordinate (entries lo) k) (along_point k (stop_at_start lo n)) (stop_at_start lo n).w
+pub start_above : (lo : Vector) (n : ℕ) (k : Axis) → 2 ^ 27 ≤ n → IsAbove (coordinate (entries lo) k) (along_point k (stop_at_start lo n)) (stop_at_start lo n).w
 start_above lo n k l = by k
   where
     p : ArePowers (pos n)
@@ -122,7 +122,7 @@ edge_level s u v X = solve 3 (λ s y z. s ⊗ (y ⊗ num (pos 0) ⊖ z ⊗ num (
 edge_level s u v Y = solve 3 (λ s z x. s ⊗ (z ⊗ num (pos 0) ⊖ x ⊗ num (pos 0)) ≈ num (pos 0)) cancels s (v.z -ℤ u.z) (v.x -ℤ u.x)
 edge_level s u v Z = solve 3 (λ s x y. s ⊗ (x ⊗ num (pos 0) ⊖ y ⊗ num (pos 0)) ≈ num (pos 0)) cancels s (v.x -ℤ u.x) (v.y -ℤ u.y)
 
-edge_support : {p : Plane} → IsEdgeSized p → IsSupportSized p
+pub edge_support : {p : Plane} → IsEdgeSized p → IsSupportSized p
 edge_support s =
     record { a = small_within (omega arith) s.a; b = small_within (omega arith) s.b; c = small_within (omega arith) s.c; d = small_within (omega arith) s.d }
 
@@ -188,6 +188,7 @@ pub record IsEnd (k : Axis) (a b c : Meet) (turn : Sign → Sign) (e : Spot) : T
   pub weight : pos 0 <ℤ e.w
   pub side : (h : Plane) → IsSupportSized h → sgn (value_at h e) ≡ or_sign (inside_side h a b c) (turn (sgn (along h k)))
   pub level : turn Zero ≡ Zero
+  pub level_out : (s : Sign) → turn s ≡ Zero → s ≡ Zero
 
 or_zero : (s t : Sign) → t ≡ Zero → or_sign s t ≡ s
 or_zero Neg t e = refl

@@ -1,6 +1,8 @@
+pub mod ClearStops
 pub mod Corners
 pub mod FacetLegs
 pub mod FacetLists
+pub mod MeshSums
 pub mod PastLegs
 pub mod Places
 pub mod Slides
