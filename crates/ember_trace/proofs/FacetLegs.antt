@@ -127,7 +127,7 @@ edge_support s =
     record { a = small_within (omega arith) s.a; b = small_within (omega arith) s.b; c = small_within (omega arith) s.c; d = small_within (omega arith) s.d }
 
 -- all edge planes are negative at p where the sides say so
-edges_behind : (side : Plane → Sign) (t : Tri) (k : Axis) (p : Spot) → IsValidTri t → ((h : Plane) → IsSupportSized h → along h k ≡ pos 0 → sgn (value_at h p) ≡ side h) → all_negative (edge_planes t k) p ≡ all_behind side (edge_planes t k)
+pub edges_behind : (side : Plane → Sign) (t : Tri) (k : Axis) (p : Spot) → IsValidTri t → ((h : Plane) → IsSupportSized h → along h k ≡ pos 0 → sgn (value_at h p) ≡ side h) → all_negative (edge_planes t k) p ≡ all_behind side (edge_planes t k)
 edges_behind side t k p v f =
     let x = each t.a t.b v.a v.b in let y = each t.b t.c v.b v.c in let z = each t.c t.a v.c v.a in λ i. is_neg (x i) && (is_neg (y i) && (is_neg (z i) && true))
   where
@@ -190,7 +190,7 @@ pub record IsEnd (k : Axis) (a b c : Meet) (turn : Sign → Sign) (e : Spot) : T
   pub level : turn Zero ≡ Zero
   pub level_out : (s : Sign) → turn s ≡ Zero → s ≡ Zero
 
-or_zero : (s t : Sign) → t ≡ Zero → or_sign s t ≡ s
+pub or_zero : (s t : Sign) → t ≡ Zero → or_sign s t ≡ s
 or_zero Neg t e = refl
 or_zero Zero t e = e
 or_zero Pos t e = refl

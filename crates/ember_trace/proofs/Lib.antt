@@ -2,6 +2,7 @@ pub mod ClearStops
 pub mod Corners
 pub mod FacetLegs
 pub mod FacetLists
+pub mod FarLegs
 pub mod MeshSums
 pub mod PastLegs
 pub mod Places
