@@ -9,5 +9,6 @@ pub mod Places
 pub mod Slides
 pub mod Tallies
 pub mod Threes
+pub mod TracedSides
 pub mod WayPoints
 pub mod WaySigns

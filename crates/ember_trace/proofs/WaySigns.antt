@@ -71,7 +71,7 @@ value_small h v s =
     small_sub (small_add (small_add (small_mul s.a (own v.x)) (small_mul s.b (own v.y))) (small_mul s.c (own v.z))) (small_mul s.d (own v.w))
 
 -- the sign of a plane at a point that is close to u, closest to the line from there to v
-close_sign : (n : ℕ) (h : Plane) (u v w : Spot) → IsValidPlane h → value_bound v < n → value_bound w < n → sgn (value_at h (close_to (pos n) u v w)) ≡ or_sign (sgn (value_at h u)) (or_sign (sgn (value_at h v)) (sgn (value_at h w)))
+pub close_sign : (n : ℕ) (h : Plane) (u v w : Spot) → IsValidPlane h → value_bound v < n → value_bound w < n → sgn (value_at h (close_to (pos n) u v w)) ≡ or_sign (sgn (value_at h u)) (or_sign (sgn (value_at h v)) (sgn (value_at h w)))
 close_sign n h u v w i lv lw =
     let a = value_at h u in let b = value_at h v in let c = value_at h w in
     ap sgn (value_close h (pos n) u v w) ∙ next_sign n (a *ℤ pos n +ℤ b) c (value_small h w i) lw ∙ ap (λ (s : Sign). or_sign s (sgn c)) (next_sign n a b (value_small h v i) lv) ∙ or_sign_assoc (sgn a) (sgn b) (sgn c)
