@@ -62,7 +62,7 @@ same_zero a b f g = by (is_zero a) (is_zero b) refl refl
     by false false e h = refl
 
 -- ---- lists of planes
-none_at : (es : List Plane) (x : Spot) → none_positive es x ≡ true → (i : ℕ) (p : Plane) → slice_get es i ≡ Some p → value_at p x ≤ℤ pos 0
+pub none_at : (es : List Plane) (x : Spot) → none_positive es x ≡ true → (i : ℕ) (p : Plane) → slice_get es i ≡ Some p → value_at p x ≤ℤ pos 0
 none_at [] x h i p e = by e
   where
     by : None ≡ Some p → value_at p x ≤ℤ pos 0

@@ -1,5 +1,5 @@
 -- The counts that the ways to a region give are the winding numbers directly before and after it.
-use Rattle.std.proofs.Common.{◌≡◌, refl, sym, ap, subst, ◌∙◌, arith, ℕ, ◌+◌, ◌*◌, ◌^◌, ◌<◌, ◌≤◌, Bool, true, cond, ◌&&◌, List, [], ◌∷◌, All, map, get_or, ℤ, pos, ◌+ℤ◌, ◌*ℤ◌, neg_ℤ, ◌<ℤ◌, ◌≤ℤ◌, unsigned_abs}
+use Rattle.std.proofs.Common.{◌≡◌, refl, sym, ap, subst, ◌∙◌, arith, ℕ, ◌+◌, ◌*◌, ◌^◌, ◌<◌, ◌≤◌, Bool, true, cond, ◌&&◌, List, [], ◌∷◌, All, map, get_or, Some, slice_get, ℤ, pos, ◌+ℤ◌, ◌-ℤ◌, ◌*ℤ◌, neg_ℤ, ◌<ℤ◌, ◌≤ℤ◌, unsigned_abs}
 use borrow.Author.Differences.{ints}
 use Rattle.ember_algebra.specs.Vector.{Vector}
 use Rattle.ember_algebra.specs.Size.{Small}
@@ -16,7 +16,7 @@ use Rattle.ember_model.specs.declared.point.Axis.TheVariants.{X, Y, Z}
 use Rattle.ember_model.specs.declared.plane.Plane.{Plane}
 use Rattle.ember_model.specs.declared.tri.Tri.{Tri}
 use Rattle.ember_model.specs.declared.face.Face.{Face}
-use Rattle.ember_model.specs.Planes.{value_at, along, main_axis, support_of, edge_planes}
+use Rattle.ember_model.specs.Planes.{value_at, along, main_axis, opposite, support_of, edge_planes}
 use Rattle.ember_model.specs.Points.{scaled, moved, DifferAlong}
 use Rattle.ember_model.specs.Valid.{IsValidTri, IsValidPlane}
 use Rattle.ember_model.specs.Sizes.{IsSupportSized}
@@ -28,7 +28,7 @@ use Rattle.ember_model.specs.Sides.{Sees, IsSides}
 use Rattle.ember_model.proofs.SignTests.{ap2, zero_out, and_parts, not_positive_out}
 use Rattle.ember_model.proofs.FourSigns.{crossing_is}
 use Rattle.ember_model.proofs.Hits.{inside_parts}
-use Rattle.ember_model.proofs.PlaneSizes.{support_sized}
+use Rattle.ember_model.proofs.PlaneSizes.{support_sized, support_valid}
 use Rattle.ember_law.specs.Counts.{added, leg_vector}
 use Rattle.ember_law.proofs.Flats.{flat_crossing, flat_leg}
 use Rattle.ember_law.proofs.Tallies.{tally}
@@ -41,7 +41,7 @@ use Rattle.ember_box.specs.Near.{near, is_near}
 use Rattle.ember_box.specs.Reference.{reference_at, reference, vector_at, Fits}
 use Rattle.ember_box.specs.Regions.{walls, level}
 use Rattle.ember_ref.specs.References.{or_sign}
-use Rattle.ember_ref.proofs.NearPoints.{HasPoint}
+use Rattle.ember_ref.proofs.NearPoints.{HasPoint, IsAcross, coordinate as along_point}
 use Rattle.ember_ref.proofs.ReferenceLegs.{weight_at}
 use Rattle.ember_ref.proofs.FarTriangles.{legs_near}
 use Rattle.ember_trace.specs.declared.facet.Facet.{Facet}
@@ -55,7 +55,7 @@ use Rattle.ember_trace.proofs.Places.{coordinate_small}
 use Rattle.ember_trace.proofs.Slides.{slid_once, slid_twice}
 use Rattle.ember_trace.proofs.WayPoints.{close_to, entries, differ_with, differ_last, moved_weight}
 use Rattle.ember_trace.proofs.WaySigns.{AreStops, both_zero, value_bound, close_sign, stop_at_start, stop_after_first, stop_after_second, start_sign, after_sign, before_sign}
-use Rattle.ember_trace.proofs.Corners.{AreFirst, first_corners}
+use Rattle.ember_trace.proofs.Corners.{AreFirst, first_corners, none_at}
 use Rattle.ember_trace.proofs.FacetLegs.{IsEnd, edges_behind, differ_back, start_weight, first_legs, final_leg}
 use Rattle.ember_trace.proofs.ClearStops.{generic_clear, has_with, has_start, start_generic, first_generic, second_generic, end_generic}
 use Rattle.ember_trace.proofs.FarLegs.{last_far}
@@ -92,8 +92,27 @@ find f lo a b d first small =
         first.apart h (zero_out u (ap is_nil x.0)) (zero_out v (ap is_nil y.0)) (zero_out w (ap is_nil y.1)) e
 
 -- ---- in the box
+-- a plane across an axis, and its opposite
+level_value : (k : Axis) (h : ℤ) (v : Spot) → value_at (level k h) v ≡ along_point k v -ℤ h *ℤ v.w
+level_value X h v = solve 5 (λ h x y z w. num (pos 1) ⊗ x ⊕ num (pos 0) ⊗ y ⊕ num (pos 0) ⊗ z ⊖ h ⊗ w ≈ x ⊖ h ⊗ w) cancels h v.x v.y v.z v.w
+level_value Y h v = solve 5 (λ h x y z w. num (pos 0) ⊗ x ⊕ num (pos 1) ⊗ y ⊕ num (pos 0) ⊗ z ⊖ h ⊗ w ≈ y ⊖ h ⊗ w) cancels h v.x v.y v.z v.w
+level_value Z h v = solve 5 (λ h x y z w. num (pos 0) ⊗ x ⊕ num (pos 0) ⊗ y ⊕ num (pos 1) ⊗ z ⊖ h ⊗ w ≈ z ⊖ h ⊗ w) cancels h v.x v.y v.z v.w
+
+opposite_value : (p : Plane) (v : Spot) → value_at (opposite p) v ≡ neg_ℤ (value_at p v)
+opposite_value p v =
+    solve 8 (λ a b c d x y z w. neg a ⊗ x ⊕ neg b ⊗ y ⊕ neg c ⊗ z ⊖ neg d ⊗ w ≈ neg (a ⊗ x ⊕ b ⊗ y ⊕ c ⊗ z ⊖ d ⊗ w)) cancels p.a p.b p.c p.d v.x v.y v.z v.w
+
 in_box : (c : Cell) (f : Face) (q : Spot) → LiesIn c f → is_inside f q ≡ true → HasPoint c q
-in_box c f q l i = ?
+in_box c f q l i =
+    record { weight = (inside_parts f q i).0; on_x = across X (wall 0 _ refl) (wall 1 _ refl); on_y = across Y (wall 2 _ refl) (wall 3 _ refl); on_z = across Z (wall 4 _ refl) (wall 5 _ refl) }
+  where
+    wall : (j : ℕ) (p : Plane) → slice_get (map (λ w. w.plane) (walls c)) j ≡ Some p → value_at p q ≤ℤ pos 0
+    wall j p e = none_at (map (λ w. w.plane) (walls c)) q (l.holds q i) j p e
+
+    across : (k : Axis) → value_at (opposite (level k (low c k))) q ≤ℤ pos 0 → value_at (level k (high c k)) q ≤ℤ pos 0 → IsAcross (span_between (low c k) (high c k)) (along_point k q) q.w
+    across k a b =
+        let x = opposite_value (level k (low c k)) q in let y = level_value k (low c k) q in let z = level_value k (high c k) q in
+        record { from = omega (arith, linear, a, x, y); to = omega (arith, linear, b, z) }
 
 -- ---- the vector at the start
 -- is the same at all points that are close enough to the corner
@@ -180,3 +199,59 @@ module _ (ts ns : List Tri) (c : Cell) (counts : List ℤ) (fits : Fits ts ns c 
       each : (f : Facet) → StartsIn c f → legs (face_of f.tri) ≡ neg_ℤ (less f)
       each f from =
           let x = first_legs c k v e q n s f from in let y = final_leg c k v e q n s f from turn p3 end line in omega (arith, linear, x, y)
+
+-- ---- the region
+module _ (ns : List Tri) (c : Cell) (counts : List ℤ) (f : Face) (v : Way) (is : IsWay c f v) where
+  abbrev k : Axis
+  k = main_axis f.support
+
+  small : (k : Axis) → Small 2048 (coordinate (entries c.lo) k)
+  small k = subst (λ (lo : List ℤ). Small 2048 (coordinate lo k)) is.lo (coordinate_small 2048 v.lo k v.small)
+
+  first : AreFirst f (spot_of v.corner) (spot_of v.next) (spot_of v.last)
+  first = first_corners f is.corners v.corner v.next v.last is.are_corners is.corner is.next is.last
+
+  -- the way with its axes told by the last
+  told : v ≡ record v { first = first_of k; second = second_of k; main = k }
+  told = λ i. record v { first = is.first i; second = is.second i; main = is.main i }
+
+  along_small : (h : Plane) (k : Axis) → IsSupportSized h → Small 33554431 (along h k)
+  along_small h X i = i.a
+  along_small h Y i = i.b
+  along_small h Z i = i.c
+
+  module _ (u : Found f k c.lo v.corner v.next v.last) (s m : ℕ) (ls : 1 ≤ s) (lm : 33554431 * s < m) where
+    weight : (by : ℤ) → pos 0 <ℤ (moved (scaled (pos m) u.q) k by).w
+    weight by =
+        let e = moved_weight (scaled (pos m) u.q) k by in let l : pos 0 <ℤ pos m = omega (arith, ints, lm) in let p = pos_mul l u.stops.weight in omega (arith, linear, e, p)
+
+    after_end : IsEnd k v.corner v.next v.last (λ t. t) (moved (scaled (pos m) u.q) k (pos s))
+    after_end =
+        record { weight = weight (pos s); side = λ h i. after_sign k u.q h (along_small h k i) m s ls lm ∙ ap (λ (t : Sign). or_sign t (sgn (along h k))) (u.stops.at_end h (support_valid i)); level = refl; level_out = λ t e. e }
+
+    before_end : IsEnd k v.corner v.next v.last flip (moved (scaled (pos m) u.q) k (neg_ℤ (pos s)))
+    before_end =
+        record { weight = weight (neg_ℤ (pos s)); side = λ h i. before_sign k u.q h (along_small h k i) m s ls lm ∙ ap (λ (t : Sign). or_sign t (flip (sgn (along h k)))) (u.stops.at_end h (support_valid i)); level = refl; level_out = flip_zero }
+      where
+        flip_zero : (t : Sign) → flip t ≡ Zero → t ≡ Zero
+        flip_zero Neg e = cc
+        flip_zero Zero e = refl
+        flip_zero Pos e = cc
+
+  -- the traced counts are the sides in each scene that fits
+  pub traced_sides : (fs : List Facet) → AreFacets ns c fs → (before after : List ℤ) → before ≡ taken (crossing_before v) fs counts → after ≡ taken (crossing_after v) fs counts → LiesIn c f → (ts : List Tri) → Fits ts ns c counts → IsSides ts f before after
+  unfolding crossing_before crossing_after
+  traced_sides fs facets before after eb ea l ts fits =
+      let u = find f c.lo v.corner v.next v.last first small in let has = in_box c f u.q l u.inside in
+      let line = λ (m s : ℤ). differ_last k (stop_at_start c.lo u.n) u.q m s in
+      record {
+        at = u.q;
+        inside = u.inside;
+        bound = 33554431;
+        sees_before = λ s m ls lm.
+        let e = before_end u s m ls lm in
+        record { clear = clear_end ts ns c counts fits k v is.lo u.q u.n u.stops has fs facets flip _ e (line (pos m) (neg_ℤ (pos s))); counts_are = end_vector ts ns c counts fits k v is.lo u.q u.n u.stops has fs facets flip _ e (line (pos m) (neg_ℤ (pos s))) ∙ sym (eb ∙ ap (λ (w : Way). taken (crossing_before w) fs counts) told) };
+        sees_after = λ s m ls lm.
+        let e = after_end u s m ls lm in
+        record { clear = clear_end ts ns c counts fits k v is.lo u.q u.n u.stops has fs facets (λ t. t) _ e (line (pos m) (pos s)); counts_are = end_vector ts ns c counts fits k v is.lo u.q u.n u.stops has fs facets (λ t. t) _ e (line (pos m) (pos s)) ∙ sym (ea ∙ ap (λ (w : Way). taken (crossing_after w) fs counts) told) };
+      }
