@@ -49,7 +49,7 @@ use Rattle.ember_trace.specs.declared.way.Way.{Way}
 use Rattle.ember_trace.specs.declared.pair.Sides.{Sides}
 use Rattle.ember_trace.specs.Facets.{AreFacets, StartsIn, tri_of}
 use Rattle.ember_trace.specs.Ways.{coordinate, inside_side, first_of, second_of, side_at_end, IsWay}
-use Rattle.ember_trace.specs.Crossings.{taken, legs_in_wall, last_leg, crossing_before, crossing_after, AreTraced, AreTracedBy}
+use Rattle.ember_trace.specs.Crossings.{taken, legs_in_wall, last_leg, crossing_before, crossing_after, AreTraced}
 use Rattle.ember_trace.specs.Boxed.{LiesIn, AreSides}
 use Rattle.ember_trace.proofs.Places.{coordinate_small}
 use Rattle.ember_trace.proofs.Slides.{slid_once, slid_twice}
@@ -249,9 +249,12 @@ module _ (ns : List Tri) (c : Cell) (counts : List ℤ) (f : Face) (v : Way) (is
         inside = u.inside;
         bound = 33554431;
         sees_before = λ s m ls lm.
-        let e = before_end u s m ls lm in
-        record { clear = clear_end ts ns c counts fits k v is.lo u.q u.n u.stops has fs facets flip _ e (line (pos m) (neg_ℤ (pos s))); counts_are = end_vector ts ns c counts fits k v is.lo u.q u.n u.stops has fs facets flip _ e (line (pos m) (neg_ℤ (pos s))) ∙ sym (eb ∙ ap (λ (w : Way). taken (crossing_before w) fs counts) told) };
+            let e = before_end u s m ls lm in
+            record { clear = clear_end ts ns c counts fits k v is.lo u.q u.n u.stops has fs facets flip _ e (line (pos m) (neg_ℤ (pos s))); counts_are = end_vector ts ns c counts fits k v is.lo u.q u.n u.stops has fs facets flip _ e (line (pos m) (neg_ℤ (pos s))) ∙ sym (eb ∙ ap (λ (w : Way). taken (crossing_before w) fs counts) told) };
         sees_after = λ s m ls lm.
-        let e = after_end u s m ls lm in
-        record { clear = clear_end ts ns c counts fits k v is.lo u.q u.n u.stops has fs facets (λ t. t) _ e (line (pos m) (pos s)); counts_are = end_vector ts ns c counts fits k v is.lo u.q u.n u.stops has fs facets (λ t. t) _ e (line (pos m) (pos s)) ∙ sym (ea ∙ ap (λ (w : Way). taken (crossing_after w) fs counts) told) };
+            let e = after_end u s m ls lm in
+            record { clear = clear_end ts ns c counts fits k v is.lo u.q u.n u.stops has fs facets (λ t. t) _ e (line (pos m) (pos s)); counts_are = end_vector ts ns c counts fits k v is.lo u.q u.n u.stops has fs facets (λ t. t) _ e (line (pos m) (pos s)) ∙ sym (ea ∙ ap (λ (w : Way). taken (crossing_after w) fs counts) told) };
       }
+
+pub are_sides : (ns : List Tri) (c : Cell) (counts : List ℤ) (f : Face) (s : Sides) (fs : List Facet) → AreFacets ns c fs → AreTraced c fs counts f s → AreSides ns c counts f s
+are_sides ns c counts f s fs facets t = traced_sides ns c counts f t.way t.is_way fs facets s.before.counts s.after.counts t.before t.after
