@@ -1,8 +1,10 @@
+pub mod BoxedRegions
 pub mod ClearStops
 pub mod Corners
 pub mod FacetLegs
 pub mod FacetLists
 pub mod FarLegs
+pub mod FilledFaces
 pub mod MeshSums
 pub mod PastLegs
 pub mod Places
