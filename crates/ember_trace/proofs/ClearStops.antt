@@ -39,7 +39,7 @@ use Rattle.ember_ref.proofs.ReferenceSigns.{sign_at_reference, level_from}
 use Rattle.ember_ref.proofs.NearPoints.{HasPoint, IsAcross, coordinate as along_point}
 use Rattle.ember_trace.specs.Ways.{coordinate, inside_side, first_of, second_of}
 use Rattle.ember_trace.proofs.WayPoints.{with_along, weight_with, entries, slid_once_to, slid_twice_to}
-use Rattle.ember_trace.proofs.WaySigns.{AreStops, both_zero, stop_at_start, stop_after_first, stop_after_second, start_sign, first_sign, second_sign}
+use Rattle.ember_trace.proofs.WaySigns.{IsClose, AreStops, both_zero, stop_at_start, stop_after_first, stop_after_second, start_sign, first_sign, second_sign}
 use Rattle.ember_trace.proofs.FacetLegs.{IsEnd, edge_support, start_above, start_weight}
 
 -- a point that is on no plane of a triangle's size but those without a normal
@@ -123,7 +123,7 @@ module _ (k : Axis) (lo : Vector) (a b c : Meet) (q : Spot) (n : ℕ) (s : AreSt
   second_generic h i z =
       reference_level lo h i (both_zero _ _ (sym (second_sign k lo a b c q n s h i) ∙ ap sgn z)).1
 
-  pub end_generic : (turn : Sign → Sign) (e : Spot) → IsEnd k a b c turn e → IsGeneric e
-  end_generic turn e end h i z =
-      let p = both_zero _ _ (sym (end.side h i) ∙ ap sgn z) in
-      s.apart h p.0 (zero_out (along h k) (ap is_nil (end.level_out (sgn (along h k)) p.1)))
+pub end_generic : (k : Axis) (a b c : Meet) (q : Spot) → IsClose k a b c q → (turn : Sign → Sign) (e : Spot) → IsEnd k a b c turn e → IsGeneric e
+end_generic k a b c q close turn e end h i z =
+    let p = both_zero _ _ (sym (end.side h i) ∙ ap sgn z) in
+    close.apart h p.0 (zero_out (along h k) (ap is_nil (end.level_out (sgn (along h k)) p.1)))

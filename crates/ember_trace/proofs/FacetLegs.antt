@@ -230,10 +230,10 @@ module _ (c : Cell) (k : Axis) (v : Way) (e : v.lo ≡ entries c.lo) (q : Spot) 
   w0 = start_weight c.lo n s.large
 
   w1 : pos 0 <ℤ p1.w
-  w1 = weight_with (first_of k) p0 q w0 s.weight
+  w1 = weight_with (first_of k) p0 q w0 s.close.weight
 
   w2 : pos 0 <ℤ p2.w
-  w2 = weight_with (second_of k) p1 q w1 s.weight
+  w2 = weight_with (second_of k) p1 q w1 s.close.weight
 
   -- ---- sides, as the code has them
   side_start : (h : Plane) → side_at_start w h ≡ sgn (value_at h (reference_at c.lo))
@@ -282,11 +282,11 @@ module _ (c : Cell) (k : Axis) (v : Way) (e : v.lo ≡ entries c.lo) (q : Spot) 
 
   behind_q : (a : Axis) (i : IsPast t a (along_point a (spot_of v.corner)) v.corner.w) → value_at (across a i.s i.d) q <ℤ pos 0
   behind_q a i =
-      negative_sign (value_at (across a i.s i.d) q) (s.at_end (across a i.s i.d) (support_valid (across_sized a i.s i.d i.small_s i.small_d)) ∙ behind_end a i)
+      negative_sign (value_at (across a i.s i.d) q) (s.close.at_end (across a i.s i.d) (support_valid (across_sized a i.s i.d i.small_s i.small_d)) ∙ behind_end a i)
 
   -- a plane stays behind along an axis at which it has no entry
   stays : (g : Plane) (a : Axis) (u : Spot) → along g a ≡ pos 0 → value_at g u <ℤ pos 0 → value_at g (with_along a u q) <ℤ pos 0
-  stays g a u z l = let x = level_with g a u q z in let m = mul_pos_neg s.weight l in omega (arith, linear, x, m)
+  stays g a u z l = let x = level_with g a u q z in let m = mul_pos_neg s.close.weight l in omega (arith, linear, x, m)
 
   comes : (a : Axis) (b d : ℤ) (u : Spot) → pos 0 <ℤ u.w → value_at (across a b d) q <ℤ pos 0 → value_at (across a b d) (with_along a u q) <ℤ pos 0
   comes a b d u pw l = let x = across_with a b d u q in let m = mul_pos_neg pw l in omega (arith, linear, x, m)

@@ -88,11 +88,11 @@ module _ (c : Cell) (k : Axis) (a b d : Meet) (q : Spot) (n : ℕ) (s : AreStops
     sized = support_sized t v
 
     at_q : sgn (value_at n' q) ≡ inside_side n' a b d
-    at_q = s.at_end n' (support_valid sized)
+    at_q = s.close.at_end n' (support_valid sized)
 
     behind : all_negative (edge_planes t k) e ≡ all_negative (edge_planes t k) q
     behind =
-        edges_behind (λ h. inside_side h a b d) t k e v (λ h i z. end.side h i ∙ or_zero (inside_side h a b d) (turn (sgn (along h k))) (ap turn (ap sgn z) ∙ end.level)) ∙ sym (edges_behind (λ h. inside_side h a b d) t k q v (λ h i z. s.at_end h (support_valid i)))
+        edges_behind (λ h. inside_side h a b d) t k e v (λ h i z. end.side h i ∙ or_zero (inside_side h a b d) (turn (sgn (along h k))) (ap turn (ap sgn z) ∙ end.level)) ∙ sym (edges_behind (λ h. inside_side h a b d) t k q v (λ h i z. s.close.at_end h (support_valid i)))
 
     -- the plane isn't 0 at q: the end lies on the same side
     aside : sgn (value_at n' e) ≡ sgn (value_at n' q) → leg (face_of t) e p ≡ pos 0
@@ -115,7 +115,7 @@ module _ (c : Cell) (k : Axis) (a b d : Meet) (q : Spot) (n : ℕ) (s : AreStops
       where
         slope : along n' k ≢ pos 0
         slope f =
-            let l = s.apart n' (sym at_q ∙ ap sgn z) f in clash (flat_in t (record { a = l.0; b = l.1; c = l.2 })) nf
+            let l = s.close.apart n' (sym at_q ∙ ap sgn z) f in clash (flat_in t (record { a = l.0; b = l.1; c = l.2 })) nf
 
         by : (b : Bool) → all_negative (edge_planes t k) q ≡ b → leg (face_of t) e p ≡ pos 0
         by true h = absurd (clash (near_point c t q nf in_box (inside_closed (face_of t) q (inside_along t k q in_box.weight slope z h))) far)

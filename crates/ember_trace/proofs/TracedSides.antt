@@ -57,39 +57,10 @@ use Rattle.ember_trace.proofs.WayPoints.{close_to, entries, differ_with, differ_
 use Rattle.ember_trace.proofs.WaySigns.{AreStops, both_zero, value_bound, close_sign, stop_at_start, stop_after_first, stop_after_second, start_sign, after_sign, before_sign}
 use Rattle.ember_trace.proofs.Corners.{AreFirst, first_corners, none_at}
 use Rattle.ember_trace.proofs.FacetLegs.{IsEnd, edges_behind, differ_back, start_weight, first_legs, final_leg}
+use Rattle.ember_trace.proofs.RegionEnds.{find, far_out, stops_from, before_end, after_end}
 use Rattle.ember_trace.proofs.ClearStops.{generic_clear, has_with, has_start, start_generic, first_generic, second_generic, end_generic}
 use Rattle.ember_trace.proofs.FarLegs.{last_far}
 use Rattle.ember_trace.proofs.MeshSums.{LeavesFlat, tally_same, tally_kept, tally_both, taken_legs}
-
--- ---- an inside point, close enough to the first corner
-record Found (f : Face) (k : Axis) (lo : Vector) (a b d : Meet) : Type 0 where
-  q : Spot
-  n : ℕ
-  inside : is_inside f q ≡ true
-  stops : AreStops k lo a b d q n
-
-find : (f : Face) (lo : Vector) (a b d : Meet) → AreFirst f (spot_of a) (spot_of b) (spot_of d) → ((k : Axis) → Small 2048 (coordinate (entries lo) k)) → Found f (main_axis f.support) lo a b d
-find f lo a b d first small =
-    record { q = q; n = n; inside = inside; stops = record { weight = (inside_parts f q inside).0; at_end = λ h i. close_sign m h (spot_of a) (spot_of b) (spot_of d) i (omega arith) (omega arith); apart = apart; large = omega arith; once = omega arith; twice = omega arith; valid_once = λ h i. slid_once h (main_axis f.support) _ i (small (main_axis f.support)); valid_twice = λ h i. slid_twice h (second_of (main_axis f.support)) (main_axis f.support) _ _ i (small (second_of (main_axis f.support))) (small (main_axis f.support)) } }
-  where
-    m : ℕ
-    m = value_bound (spot_of b) + value_bound (spot_of d) + 1
-
-    q : Spot
-    q = close_to (pos m) (spot_of a) (spot_of b) (spot_of d)
-
-    n : ℕ
-    n =
-        2 ^ 27 + unsigned_abs q.w * 33554431 + unsigned_abs q.w * (unsigned_abs q.w * 33554431) + 1
-
-    inside : is_inside f q ≡ true
-    inside = first.inside (pos m) (omega (arith, ints))
-
-    apart : (h : Plane) → inside_side h a b d ≡ Zero → along h (main_axis f.support) ≡ pos 0 → (h.a ≡ pos 0) × (h.b ≡ pos 0) × (h.c ≡ pos 0)
-    apart h z e =
-        let u = value_at h (spot_of a) in let v = value_at h (spot_of b) in let w = value_at h (spot_of d) in
-        let x = both_zero (sgn u) (or_sign (sgn v) (sgn w)) z in let y = both_zero (sgn v) (sgn w) x.1 in
-        first.apart h (zero_out u (ap is_nil x.0)) (zero_out v (ap is_nil y.0)) (zero_out w (ap is_nil y.1)) e
 
 -- ---- in the box
 -- a plane across an axis, and its opposite
@@ -163,7 +134,7 @@ module _ (ts ns : List Tri) (c : Cell) (counts : List ℤ) (fits : Fits ts ns c 
   c2 = generic_clear p2 ts h2.weight (second_generic k c.lo v.corner v.next v.last q n s) fits.scene.valid
 
   pub clear_end : AreClear (faces_of ts) p3
-  clear_end = generic_clear p3 ts end.weight (end_generic k c.lo v.corner v.next v.last q n s turn p3 end) fits.scene.valid
+  clear_end = generic_clear p3 ts end.weight (end_generic k v.corner v.next v.last q s.close turn p3 end) fits.scene.valid
 
   legs_one : leg_vector ts p1 p0 ≡ leg_vector ns p1 p0
   legs_one = sym (legs_near ts c p1 p0 h1 h0) ∙ ap (λ (us : List Tri). leg_vector us p1 p0) fits.near
@@ -215,45 +186,23 @@ module _ (ns : List Tri) (c : Cell) (counts : List ℤ) (f : Face) (v : Way) (is
   told : v ≡ record v { first = first_of k; second = second_of k; main = k }
   told = λ i. record v { first = is.first i; second = is.second i; main = is.main i }
 
-  along_small : (h : Plane) (k : Axis) → IsSupportSized h → Small 33554431 (along h k)
-  along_small h X i = i.a
-  along_small h Y i = i.b
-  along_small h Z i = i.c
-
-  module _ (u : Found f k c.lo v.corner v.next v.last) (s m : ℕ) (ls : 1 ≤ s) (lm : 33554431 * s < m) where
-    weight : (by : ℤ) → pos 0 <ℤ (moved (scaled (pos m) u.q) k by).w
-    weight by =
-        let e = moved_weight (scaled (pos m) u.q) k by in let l : pos 0 <ℤ pos m = omega (arith, ints, lm) in let p = pos_mul l u.stops.weight in omega (arith, linear, e, p)
-
-    after_end : IsEnd k v.corner v.next v.last (λ t. t) (moved (scaled (pos m) u.q) k (pos s))
-    after_end =
-        record { weight = weight (pos s); side = λ h i. after_sign k u.q h (along_small h k i) m s ls lm ∙ ap (λ (t : Sign). or_sign t (sgn (along h k))) (u.stops.at_end h (support_valid i)); level = refl; level_out = λ t e. e }
-
-    before_end : IsEnd k v.corner v.next v.last flip (moved (scaled (pos m) u.q) k (neg_ℤ (pos s)))
-    before_end =
-        record { weight = weight (neg_ℤ (pos s)); side = λ h i. before_sign k u.q h (along_small h k i) m s ls lm ∙ ap (λ (t : Sign). or_sign t (flip (sgn (along h k)))) (u.stops.at_end h (support_valid i)); level = refl; level_out = flip_zero }
-      where
-        flip_zero : (t : Sign) → flip t ≡ Zero → t ≡ Zero
-        flip_zero Neg e = cc
-        flip_zero Zero e = refl
-        flip_zero Pos e = cc
-
   -- the traced counts are the sides in each scene that fits
   pub traced_sides : (fs : List Facet) → AreFacets ns c fs → (before after : List ℤ) → before ≡ taken (crossing_before v) fs counts → after ≡ taken (crossing_after v) fs counts → LiesIn c f → (ts : List Tri) → Fits ts ns c counts → IsSides ts f before after
   unfolding crossing_before crossing_after
   traced_sides fs facets before after eb ea l ts fits =
-      let u = find f c.lo v.corner v.next v.last first small in let has = in_box c f u.q l u.inside in
-      let line = λ (m s : ℤ). differ_last k (stop_at_start c.lo u.n) u.q m s in
+      let u = find f v.corner v.next v.last first in let has = in_box c f u.q l u.inside in
+      let n = far_out u.q in let stops = stops_from k c.lo v.corner v.next v.last u.q u.close small in
+      let line = λ (m s : ℤ). differ_last k (stop_at_start c.lo n) u.q m s in
       record {
         at = u.q;
         inside = u.inside;
         bound = 33554431;
         sees_before = λ s m ls lm.
-            let e = before_end u s m ls lm in
-            record { clear = clear_end ts ns c counts fits k v is.lo u.q u.n u.stops has fs facets flip _ e (line (pos m) (neg_ℤ (pos s))); counts_are = end_vector ts ns c counts fits k v is.lo u.q u.n u.stops has fs facets flip _ e (line (pos m) (neg_ℤ (pos s))) ∙ sym (eb ∙ ap (λ (w : Way). taken (crossing_before w) fs counts) told) };
+            let e = before_end k v.corner v.next v.last u.q u.close s m ls lm in
+            record { clear = clear_end ts ns c counts fits k v is.lo u.q n stops has fs facets flip _ e (line (pos m) (neg_ℤ (pos s))); counts_are = end_vector ts ns c counts fits k v is.lo u.q n stops has fs facets flip _ e (line (pos m) (neg_ℤ (pos s))) ∙ sym (eb ∙ ap (λ (w : Way). taken (crossing_before w) fs counts) told) };
         sees_after = λ s m ls lm.
-            let e = after_end u s m ls lm in
-            record { clear = clear_end ts ns c counts fits k v is.lo u.q u.n u.stops has fs facets (λ t. t) _ e (line (pos m) (pos s)); counts_are = end_vector ts ns c counts fits k v is.lo u.q u.n u.stops has fs facets (λ t. t) _ e (line (pos m) (pos s)) ∙ sym (ea ∙ ap (λ (w : Way). taken (crossing_after w) fs counts) told) };
+            let e = after_end k v.corner v.next v.last u.q u.close s m ls lm in
+            record { clear = clear_end ts ns c counts fits k v is.lo u.q n stops has fs facets (λ t. t) _ e (line (pos m) (pos s)); counts_are = end_vector ts ns c counts fits k v is.lo u.q n stops has fs facets (λ t. t) _ e (line (pos m) (pos s)) ∙ sym (ea ∙ ap (λ (w : Way). taken (crossing_after w) fs counts) told) };
       }
 
 pub are_sides : (ns : List Tri) (c : Cell) (counts : List ℤ) (f : Face) (s : Sides) (fs : List Facet) → AreFacets ns c fs → AreTraced c fs counts f s → AreSides ns c counts f s

@@ -96,12 +96,15 @@ pinned_within h Y q s = record { a = small_mul (own q.w) s.a; b = none _; c = sm
 pinned_within h Z q s = record { a = small_mul (own q.w) s.a; b = small_mul (own q.w) s.b; c = none _ }
 
 -- ---- the stops
--- q is an inside point close enough to the first of three corners a, b, c, and n a number that is
--- large enough, of a way with the last axis k from the corner lo of a box
-pub record AreStops (k : Axis) (lo : Vector) (a b c : Meet) (q : Spot) (n : ℕ) : Type 0 where
+-- q is a point of the face close enough to the first of its three corners a, b, c; k is its main axis
+pub record IsClose (k : Axis) (a b c : Meet) (q : Spot) : Type 0 where
   pub weight : pos 0 <ℤ q.w
   pub at_end : (h : Plane) → IsValidPlane h → sgn (value_at h q) ≡ inside_side h a b c
   pub apart : (h : Plane) → inside_side h a b c ≡ Zero → along h k ≡ pos 0 → NoNormal h
+
+-- so is n large enough, of a way from the corner lo of a box
+pub record AreStops (k : Axis) (lo : Vector) (a b c : Meet) (q : Spot) (n : ℕ) : Type 0 where
+  pub close : IsClose k a b c q
   pub large : 2 ^ 27 ≤ n
   pub once : unsigned_abs q.w * 33554431 < n
   pub twice : unsigned_abs q.w * (unsigned_abs q.w * 33554431) < n
@@ -176,13 +179,13 @@ module _ (k : Axis) (lo : Vector) (a b c : Meet) (q : Spot) (n : ℕ) (s : AreSt
       strict : (inside_side g a b c ≡ Zero → ⊥) → sgn (value_at h (stop_after_first k lo q n)) ≡ inside_side g a b c
       strict nz =
           let p = pinned h (first_of k) q in let w = pinned_within h (first_of k) q (sized_normal h i) in
-          let e = pinned_once h k lo q in let at = s.at_end g (s.valid_twice h i) in
+          let e = pinned_once h k lo q in let at = s.close.at_end g (s.valid_twice h i) in
           ap sgn (value_pinned h (first_of k) start q) ∙ follows n p (place lo) s.once w.a w.b w.c (λ z. nz (sym at ∙ ap sgn (sym e ∙ z))) ∙ ap sgn e ∙ at
 
       level : inside_side g a b c ≡ Zero → sgn (value_at h (stop_after_first k lo q n)) ≡ sgn (value_at h (reference_at lo))
       level z =
-          let l = twice_level k lo h (s.apart g z (slid_last (slid_once_to (second_of k) lo h) k _)) in
-          ap sgn (level_with h (first_of k) start q l) ∙ sgn_scaled (value_at h start) s.weight ∙ start_sign h i
+          let l = twice_level k lo h (s.close.apart g z (slid_last (slid_once_to (second_of k) lo h) k _)) in
+          ap sgn (level_with h (first_of k) start q l) ∙ sgn_scaled (value_at h start) s.close.weight ∙ start_sign h i
 
   pub second_sign : (h : Plane) → IsSupportSized h → sgn (value_at h (stop_after_second k lo q n)) ≡ or_sign (inside_side (slid_once_to k lo h) a b c) (sgn (value_at h (reference_at lo)))
   second_sign h i = either _ _ _ strict level
@@ -194,13 +197,13 @@ module _ (k : Axis) (lo : Vector) (a b c : Meet) (q : Spot) (n : ℕ) (s : AreSt
       strict nz =
           let o = pinned h (second_of k) q in let p = pinned o (first_of k) q in
           let w = pinned_within o (first_of k) q (pinned_within h (second_of k) q (sized_normal h i)) in
-          let e = ap sgn (pinned_twice h k lo q) ∙ sgn_scaled (value_at g q) s.weight ∙ s.at_end g (s.valid_once h i) in
+          let e = ap sgn (pinned_twice h k lo q) ∙ sgn_scaled (value_at g q) s.close.weight ∙ s.close.at_end g (s.valid_once h i) in
           ap sgn (value_pinned h (second_of k) (stop_after_first k lo q n) q ∙ value_pinned o (first_of k) start q) ∙ follows n p (place lo) s.twice w.a w.b w.c (λ z. nz (sym e ∙ ap sgn z)) ∙ e
 
       level : inside_side g a b c ≡ Zero → sgn (value_at h (stop_after_second k lo q n)) ≡ sgn (value_at h (reference_at lo))
       level z =
-          let l = once_level k lo h (s.apart g z (slid_last h k _)) in
-          ap sgn (level_with h (second_of k) (stop_after_first k lo q n) q l.1) ∙ sgn_scaled (value_at h (stop_after_first k lo q n)) s.weight ∙ ap sgn (level_with h (first_of k) start q l.0) ∙ sgn_scaled (value_at h start) s.weight ∙ start_sign h i
+          let l = once_level k lo h (s.close.apart g z (slid_last h k _)) in
+          ap sgn (level_with h (second_of k) (stop_after_first k lo q n) q l.1) ∙ sgn_scaled (value_at h (stop_after_first k lo q n)) s.close.weight ∙ ap sgn (level_with h (first_of k) start q l.0) ∙ sgn_scaled (value_at h start) s.close.weight ∙ start_sign h i
 
 -- ---- directly beside the end
 -- m v + s n, where m is large
