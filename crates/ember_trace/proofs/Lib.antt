@@ -8,6 +8,7 @@ pub mod FilledFaces
 pub mod MeshSums
 pub mod PastLegs
 pub mod Places
+pub mod RaySides
 pub mod RegionEnds
 pub mod Slides
 pub mod Tallies
