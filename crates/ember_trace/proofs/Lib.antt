@@ -5,6 +5,7 @@ pub mod FacetLegs
 pub mod FacetLists
 pub mod FarLegs
 pub mod FilledFaces
+pub mod FlatPlanes
 pub mod MeshSums
 pub mod PastLegs
 pub mod Places

@@ -46,7 +46,7 @@ use Rattle.ember_trace.specs.Ways.{coordinate, first_of, second_of, side_at_end,
 use Rattle.ember_trace.specs.Crossings.{taken, legs_in_wall, last_leg, crossing_before, crossing_after, AreTraced}
 use Rattle.ember_trace.specs.Boxed.{LiesIn, AreSides}
 use Rattle.ember_trace.proofs.Places.{coordinate_small}
-use Rattle.ember_trace.proofs.WayPoints.{entries, differ_with, differ_last}
+use Rattle.ember_trace.proofs.WayPoints.{entries, differ_with, differ_last, opposite_value}
 use Rattle.ember_trace.proofs.WaySigns.{AreStops, stop_at_start, stop_after_first, stop_after_second, start_sign}
 use Rattle.ember_trace.proofs.Corners.{AreFirst, first_corners, none_at}
 use Rattle.ember_trace.proofs.FacetLegs.{IsEnd, edges_behind, differ_back, start_weight, first_legs, final_leg}
@@ -56,15 +56,11 @@ use Rattle.ember_trace.proofs.FarLegs.{last_far}
 use Rattle.ember_trace.proofs.MeshSums.{LeavesFlat, tally_same, tally_kept, tally_both, taken_legs}
 
 -- ---- in the box
--- a plane across an axis, and its opposite
+-- a plane across an axis
 level_value : (k : Axis) (h : ℤ) (v : Spot) → value_at (level k h) v ≡ along_point k v -ℤ h *ℤ v.w
 level_value X h v = solve 5 (λ h x y z w. num (pos 1) ⊗ x ⊕ num (pos 0) ⊗ y ⊕ num (pos 0) ⊗ z ⊖ h ⊗ w ≈ x ⊖ h ⊗ w) cancels h v.x v.y v.z v.w
 level_value Y h v = solve 5 (λ h x y z w. num (pos 0) ⊗ x ⊕ num (pos 1) ⊗ y ⊕ num (pos 0) ⊗ z ⊖ h ⊗ w ≈ y ⊖ h ⊗ w) cancels h v.x v.y v.z v.w
 level_value Z h v = solve 5 (λ h x y z w. num (pos 0) ⊗ x ⊕ num (pos 0) ⊗ y ⊕ num (pos 1) ⊗ z ⊖ h ⊗ w ≈ z ⊖ h ⊗ w) cancels h v.x v.y v.z v.w
-
-opposite_value : (p : Plane) (v : Spot) → value_at (opposite p) v ≡ neg_ℤ (value_at p v)
-opposite_value p v =
-    solve 8 (λ a b c d x y z w. neg a ⊗ x ⊕ neg b ⊗ y ⊕ neg c ⊗ z ⊖ neg d ⊗ w ≈ neg (a ⊗ x ⊕ b ⊗ y ⊕ c ⊗ z ⊖ d ⊗ w)) cancels p.a p.b p.c p.d v.x v.y v.z v.w
 
 in_box : (c : Cell) (f : Face) (q : Spot) → LiesIn c f → is_inside f q ≡ true → HasPoint c q
 in_box c f q l i =
