@@ -1,5 +1,5 @@
--- The sides of a region have one value: of two points beside it on one side, the segment between them
--- meets no face.
+-- The sides of a region have one value: the segment between two points beside it, on one side of
+-- it, meets no face.
 use Rattle.std.proofs.Common.{◌≡◌, ◌≢◌, ⊎_elim, refl, sym, ap, subst, ◌∙◌, arith, le_refl, ℕ, ◌+◌, ◌*◌, ◌<◌, Bool, true, false, not, cond, ◌&&◌, List, [], ◌∷◌, All, map, filter, length, ℤ, pos, ◌+ℤ◌, ◌*ℤ◌, neg_ℤ, ◌<ℤ◌, ◌≤ℤ◌}
 use Rattle.std.specs.List.{AllByRecursion}
 use Rattle.std.proofs.lemmas.List.{get_or_default}
@@ -73,7 +73,7 @@ record IsHeld (u : Tri) (p q : Spot) (k : Axis) (e : ℤ) : Type 0 where
   low : (x : Spot) → is_in_closed (face_of u) x ≡ true → value_at plane x ≤ℤ pos 0
   past : Eventually (λ m. (pos 0 <ℤ value_at plane (moved (scaled (pos m) p) k e)) × (pos 0 <ℤ value_at plane (moved (scaled (pos m) q) k e)))
 
-value_beside : (h : Plane) (m : ℕ) (p : Spot) (k : Axis) (e : ℤ) → value_at h (moved (scaled (pos m) p) k e) ≡ value_at h p *ℤ pos m +ℤ e *ℤ along h k
+pub value_beside : (h : Plane) (m : ℕ) (p : Spot) (k : Axis) (e : ℤ) → value_at h (moved (scaled (pos m) p) k e) ≡ value_at h p *ℤ pos m +ℤ e *ℤ along h k
 value_beside h m p k e =
     let x = value_moved h (scaled (pos m) p) k e in let y = value_scaled (pos m) h p in let z = solve 2 (λ m v. m ⊗ v ≈ v ⊗ m) cancels (pos m) (value_at h p) in
     omega (arith, linear, x, y, z)
@@ -106,7 +106,7 @@ held_level t u p q k e c zp zq nz =
         let o = opposite_value n (moved (scaled (pos m) v) k e) in let x = value_beside n m v k e in let y = zero_times (value_at n v) (pos m) z in omega (arith, linear, l, o, x, y)
 
 -- so the segment misses the face
-held_misses : (u : Tri) (p q : Spot) (g : Plane) → ((x : Spot) → is_in_closed (face_of u) x ≡ true → value_at g x ≤ℤ pos 0) → pos 0 <ℤ value_at g p → pos 0 <ℤ value_at g q → Misses p q (face_of u)
+pub held_misses : (u : Tri) (p q : Spot) (g : Plane) → ((x : Spot) → is_in_closed (face_of u) x ≡ true → value_at g x ≤ℤ pos 0) → pos 0 <ℤ value_at g p → pos 0 <ℤ value_at g q → Misses p q (face_of u)
 held_misses u p q g low gp gq k m pk pm = by (is_in_closed (face_of u) (mix k m p q)) refl
   where
     by : (b : Bool) → is_in_closed (face_of u) (mix k m p q) ≡ b → is_in_closed (face_of u) (mix k m p q) ≡ false
