@@ -99,7 +99,7 @@ module _ (u : Tri) (k : Axis) (nz : along (support_of u) k ≢ pos 0) where
   third_edge h =
       nz (along_dot (support_of u) k ∙ identity (vector ∷ vector ∷ vector ∷ vector ∷ []) (λ a b c f. dotE (crossE (minusE b a) (minusE c a)) f ≈ neg (dotE (minusE b a) (crossE (minusE a c) f))) cancels (vector_of u.a) (vector_of u.b) (vector_of u.c) (unit k) ∙ ap neg_ℤ (dot_zero (side_of u.a u.b) (cross (side_of u.c u.a) (unit k)) h.0 h.1 h.2))
 
--- a plane that doesn't cut a face, nor holds it, is negative on it where it isn't positive somewhere
+-- a plane that doesn't cut a face, nor holds it, and isn't positive at a point, is negative on it
 one_side : (f : Face) (h : Plane) (v w : Spot) → (Cuts f h → ⊥) → (Everywhere f (λ x. value_at h x ≡ pos 0) → ⊥) → is_inside f v ≡ true → value_at h v ≤ℤ pos 0 → is_inside f w ≡ true → value_at h w <ℤ pos 0
 one_side f h v w uncut off iv lv iw =
     by_sign (value_at h w) (λ l. absurd (uncut (record { low = record { at = v; inside = iv; holds = negative_in (strict (value_at h v) lv (λ z. off (uncut_flat f h uncut v iv z))) }; high = record { at = w; inside = iw; holds = positive_in l } }))) (λ z. absurd (off (uncut_flat f h uncut w iw z))) (λ l. l)
@@ -107,7 +107,8 @@ one_side f h v w uncut off iv lv iw =
     strict : (x : ℤ) → x ≤ℤ pos 0 → (x ≡ pos 0 → ⊥) → x <ℤ pos 0
     strict x l n = by_sign x (λ p. absurd (omega (arith, linear, p, l))) (λ z. absurd (n z)) (λ p. p)
 
--- what isn't cut by the edge planes of a coplanar triangle lies inside it where one point lies in its closed face
+-- what isn't cut by the edge planes of a coplanar triangle lies inside it where one point lies in
+-- its closed face
 pub shared_inside : (t u : Tri) (f : Face) (v w : Spot) → f.support ≡ support_of t → is_coplanar t u ≡ true → (Cuts f (times_plane (sign (along (support_of u) (main_axis (support_of u)))) (edge_through u.a u.b (unit (main_axis (support_of u))))) → ⊥) → (Cuts f (times_plane (sign (along (support_of u) (main_axis (support_of u)))) (edge_through u.b u.c (unit (main_axis (support_of u))))) → ⊥) → (Cuts f (times_plane (sign (along (support_of u) (main_axis (support_of u)))) (edge_through u.c u.a (unit (main_axis (support_of u))))) → ⊥) → is_inside f v ≡ true → is_in_closed (face_of u) v ≡ true → is_inside f w ≡ true → is_inside (face_of u) w ≡ true
 unfolding face_of
 shared_inside t u f v w s e xa xb xc iv cv iw =
