@@ -1,23 +1,18 @@
 -- Which cells of the lattice lie in a box: those of its halves, in the root all of them, and in a
--- box of the size of a cell that one. The reference point of each lies in the box.
+-- box of the size of a cell that one.
 use Rattle.std.proofs.Common.{◌≡◌, ◌==◌, ℕ, pred, ◌+◌, ◌-◌, ◌*◌, ◌^◌, ◌<◌, ◌≤◌, Bool, true, false, ◌&&◌, ◌||◌, nat_lt, int_le, int_lt, ℤ, pos, ◌+ℤ◌, neg_ℤ, ◌≤ℤ◌, ◌<ℤ◌, refl, sym, ap, ◌∙◌, subst, arith}
 use Rattle.std.proofs.lemmas.Bool.{and_parts, and_from, eqb-true, ltb-true, ltb-false}
 use Rattle.std.proofs.lemmas.Nat.{pow_pos}
 use Rattle.std.proofs.Math.Nat.{mul-le-mul_right}
 use borrow.Author.Differences.{ints}
 use Rattle.ember_algebra.proofs.Laws.{linear}
-use Rattle.ember_algebra.proofs.Order.{mul_le}
-use Rattle.ember_algebra.proofs.Ring.{◌⊗◌, ◌≈◌, solve, cancels}
 use Rattle.ember_model.specs.declared.point.Axis.{Axis}
 use Rattle.ember_model.specs.declared.point.Axis.TheVariants.{X, Y, Z}
-use Rattle.ember_box.specs.Boxes.{Cell, Sits, IsCell, low, high, root, left_half, right_half}
-use Rattle.ember_box.specs.Spans.{span_between}
-use Rattle.ember_box.specs.Reference.{reference_at}
+use Rattle.ember_box.specs.Boxes.{Cell, along, Sits, IsCell, low, high, root, left_half, right_half}
 use Rattle.ember_box.proofs.Orders.{le_in, le_out}
 use Rattle.ember_box.proofs.Nearby.{halves_end}
 use Rattle.ember_box.proofs.Splits.{left_is_cell, right_is_cell}
-use Rattle.ember_ref.proofs.NearPoints.{IsAcross, HasPoint}
-use Rattle.ember_ref.proofs.BoxPoints.{has_reference}
+use Rattle.ember_visit.specs.Values.{HasCorner}
 use Rattle.ember_voxel.specs.Grid.{corner, spans, covers}
 use Rattle.ember_voxel.specs.Lattice.{longest, IsEven, whole, low as low_even, high as high_even, is_lattice_cell}
 use Rattle.ember_voxel.specs.Voxels.{least_corner}
@@ -77,42 +72,26 @@ pub root_covers : (size i j l : ℕ) → size ≤ 12 → i < 2 ^ (12 - size) →
 root_covers size i j l le p q r = λ t. root_span size l le r t && (root_span size j le q t && root_span size i le p t)
 
 -- ---- the cells of a box
-record IsWithin (size : ℕ) (c : Cell) (k : Axis) (i : ℕ) : Type 0 where
-  from : low c k ≤ℤ corner size i
-  until : corner size i <ℤ high c k
-
-within : (size : ℕ) (c : Cell) (k : Axis) (i : ℕ) → spans size c k i ≡ true → IsWithin size c k i
+within : (size : ℕ) (c : Cell) (k : Axis) (i : ℕ) → spans size c k i ≡ true → (low c k ≤ℤ corner size i) × (corner size i <ℤ high c k)
 within size c k i e =
     let p = and_parts (int_le (low c k) (corner size i)) (int_lt (corner size i) (high c k)) e in
-    record { from = le_out (low c k) (corner size i) p.0; until = lt_out (corner size i) (high c k) p.1 }
+    (le_out (low c k) (corner size i) p.0, lt_out (corner size i) (high c k) p.1)
 
-record Covers (size : ℕ) (c : Cell) (i j l : ℕ) : Type 0 where
-  x : IsWithin size c X i
-  y : IsWithin size c Y j
-  z : IsWithin size c Z l
+pub covered : (size : ℕ) (c : Cell) (i j l : ℕ) → covers size c i j l ≡ true → HasCorner c (least_corner size i j l)
+covered size c i j l e = record { from = λ k. (at k).0; until = λ k. (at k).1 } where
+  p : (spans size c Z l ≡ true) × ((spans size c Y j && spans size c X i) ≡ true)
+  p = and_parts (spans size c Z l) (spans size c Y j && spans size c X i) e
 
-covered : (size : ℕ) (c : Cell) (i j l : ℕ) → covers size c i j l ≡ true → Covers size c i j l
-covered size c i j l e =
-    let p = and_parts (spans size c Z l) (spans size c Y j && spans size c X i) e in let q = and_parts (spans size c Y j) (spans size c X i) p.1 in
-    record { x = within size c X i q.1; y = within size c Y j q.0; z = within size c Z l p.0 }
+  q : (spans size c Y j ≡ true) × (spans size c X i ≡ true)
+  q = and_parts (spans size c Y j) (spans size c X i) p.1
 
--- ---- reference points
-wider : (lo hi v x w : ℤ) → pos 0 <ℤ w → lo ≤ℤ v → v <ℤ hi → IsAcross (span_between v (v +ℤ pos 1)) x w → IsAcross (span_between lo hi) x w
-wider lo hi v x w p a b f =
-    let z : pos 0 ≤ℤ w = omega (arith, linear) in let c : (v +ℤ pos 1) ≤ℤ hi = omega (arith, ints) in
-    let turn = λ (u : ℤ). solve 2 (λ u w. u ⊗ w ≈ w ⊗ u) cancels u w in
-    record { from = omega (arith, linear, mul_le z a, f.from, turn lo, turn v); to = omega (arith, linear, mul_le z c, f.to, turn hi, turn (v +ℤ pos 1)) }
+  at : (k : Axis) → (low c k ≤ℤ along k (least_corner size i j l)) × (along k (least_corner size i j l) <ℤ high c k)
+  at X = within size c X i q.1
+  at Y = within size c Y j q.0
+  at Z = within size c Z l p.0
 
-pub has_cell : (size : ℕ) (c : Cell) (i j l : ℕ) → covers size c i j l ≡ true → HasPoint c (reference_at (least_corner size i j l))
-has_cell size c i j l e =
-    let unit : Cell = record { lo = least_corner size i j l; log = λ k. 0; path = 1 } in
-    let h = has_reference unit in let at = covered size c i j l e in let p = reference_at (least_corner size i j l) in
-    record {
-      weight = h.weight;
-      on_x = wider (low c X) (high c X) (corner size i) p.x p.w h.weight at.x.from at.x.until h.on_x;
-      on_y = wider (low c Y) (high c Y) (corner size j) p.y p.w h.weight at.y.from at.y.until h.on_y;
-      on_z = wider (low c Z) (high c Z) (corner size l) p.z p.w h.weight at.z.from at.z.until h.on_z;
-    }
+pub own_corner : (c : Cell) → HasCorner c c.lo
+own_corner c = record { from = λ k. omega (arith, linear); until = λ k. let some = pow_pos (c.log k) in omega (arith, ints) }
 
 -- ---- a box of the size of a cell
 root_is_cell : IsCell root
@@ -145,7 +124,7 @@ pub least_is : (size : ℕ) (c : Cell) (i j l : ℕ) → IsEven c → is_lattice
 least_is size c i j l even last e =
     let p = and_parts (c.log X == size) (c.log Y == size && c.log Z == size) last in let q = and_parts (c.log Y == size) (c.log Z == size) p.1 in
     let at = covered size c i j l e in let sits = (even_is_cell c even).sits in
-    let x = begins_there size (c.log X) i c.lo.x (eqb-true (c.log X) size p.0) (sits X) at.x.from at.x.until in
-    let y = begins_there size (c.log Y) j c.lo.y (eqb-true (c.log Y) size q.0) (sits Y) at.y.from at.y.until in
-    let z = begins_there size (c.log Z) l c.lo.z (eqb-true (c.log Z) size q.1) (sits Z) at.z.from at.z.until in
+    let x = begins_there size (c.log X) i c.lo.x (eqb-true (c.log X) size p.0) (sits X) (at.from X) (at.until X) in
+    let y = begins_there size (c.log Y) j c.lo.y (eqb-true (c.log Y) size q.0) (sits Y) (at.from Y) (at.until Y) in
+    let z = begins_there size (c.log Z) l c.lo.z (eqb-true (c.log Z) size q.1) (sits Z) (at.from Z) (at.until Z) in
     λ t. record { x = x t; y = y t; z = z t }

@@ -8,22 +8,20 @@ use Rattle.ember_model.specs.Meshes.{vector, IsScene}
 use Rattle.ember_expr.specs.Formula.{Formula, IsFit}
 use Rattle.ember_expr.specs.Truth.{truth}
 use Rattle.ember_box.specs.Boxes.{root, left}
-use Rattle.ember_box.specs.Reference.{reference_at, reference}
+use Rattle.ember_box.specs.Reference.{reference_at, vector_at}
 use Rattle.ember_box.proofs.Splits.{left_less}
-use Rattle.ember_ref.proofs.BoxPoints.{has_reference}
-use Rattle.ember_ref.proofs.ClearReferences.{clear_references}
 use Rattle.ember_job.specs.declared.job.Job.{Job}
 use Rattle.ember_job.specs.Works.{Shape, halved, leafed}
 use Rattle.ember_job.specs.Visited.{below_shape, visited_within, if_leafed, leaves_among}
 use Rattle.ember_visit.specs.Jobs.{root_job, left_job, right_job}
 use Rattle.ember_visit.specs.Values.{box_value}
-use Rattle.ember_visit.proofs.Inside.{known_inside}
+use Rattle.ember_visit.proofs.Inside.{known_at_corners}
 use Rattle.ember_voxel.specs.Fills.{fill_of, leaf_fills}
 use Rattle.ember_voxel.specs.Grid.{covers, lights, lit, IsGridText}
 use Rattle.ember_voxel.specs.Lattice.{longest, IsVoxelJob, is_lattice_cell, ends, shape}
 use Rattle.ember_voxel.specs.Laws.{halves_are_jobs, root_is_voxel_job, leaf_by, halved_by, may_halve}
 use Rattle.ember_voxel.specs.Voxels.{least_corner, cell_value, IsVoxelText}
-use Rattle.ember_voxel.proofs.Covering.{in_third, halves_cover, root_covers, has_cell, least_is}
+use Rattle.ember_voxel.proofs.Covering.{in_third, halves_cover, root_covers, own_corner, covered, least_is}
 
 -- ---- the leaves under a job
 module _ (of : Job → Shape) where
@@ -55,11 +53,11 @@ module _ (ts : List Tri) (n : ℕ) (s : IsScene ts n) (f : Formula) (fit : IsFit
   -- a leaf's value is that of each of its cells
   leaf_value : (job : Job) → IsVoxelJob ts size job → ends (box_value ts f job) (is_lattice_cell size job.cell) ≡ true → covers size job.cell i j l ≡ true → truth job.at.counts f ≡ cell_value ts f size i j l
   leaf_value job h e c = ap (λ counts. truth counts f) h.job.at ∙ by (box_value ts f job) refl e where
-    by : (v : Option Bool) → box_value ts f job ≡ v → ends v (is_lattice_cell size job.cell) ≡ true → truth (vector X ts (reference job.cell)) f ≡ cell_value ts f size i j l
+    by : (v : Option Bool) → box_value ts f job ≡ v → ends v (is_lattice_cell size job.cell) ≡ true → truth (vector_at ts job.cell) f ≡ cell_value ts f size i j l
     by None k last = ap (λ v. truth (vector X ts (reference_at v)) f) (least_is size job.cell i j l h.even last c)
     by (Some known) k last =
-        let there = known_inside ts n s f fit job h.job known k X in let r = least_corner size i j l in
-        there (reference job.cell) (has_reference job.cell) (clear_references job.cell.lo ts s.valid) ∙ sym (there (reference_at r) (has_cell size job.cell i j l c) (clear_references r ts s.valid))
+        let at = known_at_corners ts n s f fit job h.job known k in
+        at job.cell.lo (own_corner job.cell) ∙ sym (at (least_corner size i j l) (covered size job.cell i j l c))
 
   -- the cell lies in a box of the value 1, of those of these jobs
   abbrev lit_by : List Job → Bool
