@@ -3,3 +3,4 @@ pub mod Ceilings
 pub mod Written
 pub mod Covering
 pub mod Whole
+pub mod OneText

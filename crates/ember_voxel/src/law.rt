@@ -1,9 +1,9 @@
-// The law of the sampled solid.
-ghost use Rattle.std.specs.Prelude.{◌≡◌, ◌≤◌, ℕ, List};
+// The laws of the sampled solid.
+ghost use Rattle.std.specs.Prelude.{◌≡◌, ◌≤◌, ℕ, Bool, List};
 ghost use Rattle.ember_expr.specs.Formula.{formula_of};
 ghost use Rattle.ember_voxel.specs.declared.fill.Fill.{Fill};
 ghost use Rattle.ember_voxel.specs.Fills.{leaf_fills};
-ghost use Rattle.ember_voxel.specs.Grid.{IsGridText};
+ghost use Rattle.ember_voxel.specs.Grid.{IsGridText, IsTextOfBits};
 ghost use Rattle.ember_voxel.specs.Voxels.{IsVoxelText};
 
 use ember_expr::{Expr, tree};
@@ -17,3 +17,8 @@ pub fn each_cell_has_its_value(_s: &Scene, e: &Expr)
 {
     tree(e);
 }
+
+/// The bits of its cells give a lattice one text.
+pub fn bits_have_one_text()
+    ensures { (size : ℕ) (bit : ℕ → ℕ → ℕ → Bool) (text other : List ℕ) → IsTextOfBits size bit text → IsTextOfBits size bit other → text ≡ other }
+{}
