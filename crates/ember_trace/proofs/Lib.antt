@@ -1,5 +1,17 @@
+pub mod BoxedRegions
+pub mod ClearStops
+pub mod Corners
+pub mod FacetLegs
 pub mod FacetLists
+pub mod FarLegs
+pub mod FilledFaces
+pub mod MeshSums
+pub mod PastLegs
 pub mod Places
+pub mod RegionEnds
 pub mod Slides
 pub mod Tallies
 pub mod Threes
+pub mod TracedSides
+pub mod WayPoints
+pub mod WaySigns
