@@ -5,9 +5,11 @@ pub mod FacetLegs
 pub mod FacetLists
 pub mod FarLegs
 pub mod FilledFaces
+pub mod FlatPlanes
 pub mod MeshSums
 pub mod PastLegs
 pub mod Places
+pub mod RaySides
 pub mod RegionEnds
 pub mod Slides
 pub mod Tallies
