@@ -9,6 +9,7 @@ pub mod SceneVerdicts
 pub mod Reports
 pub mod KeptLists
 pub mod SolidVerdicts
+pub mod Findings
 pub mod ReadBack
 pub mod FaceLists
 pub mod CanonicalWords
