@@ -8,6 +8,7 @@ pub mod SliceVerdict
 pub mod SceneVerdicts
 pub mod Reports
 pub mod KeptLists
+pub mod Counts
 pub mod SolidVerdicts
 pub mod Findings
 pub mod ReadBack
