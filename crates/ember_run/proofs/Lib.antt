@@ -10,6 +10,7 @@ pub mod Reports
 pub mod KeptLists
 pub mod Counts
 pub mod SolidVerdicts
+pub mod Findings
 pub mod ReadBack
 pub mod FaceLists
 pub mod CanonicalWords

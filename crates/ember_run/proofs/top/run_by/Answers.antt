@@ -4,7 +4,7 @@ use Rattle.ember_words.specs.declared.command.Command.{Command}
 use Rattle.ember_run.specs.Reported.{IsErrText}
 use Rattle.ember_run.specs.Serves.{Serves}
 use Rattle.ember_run.proofs.CanonicalWords.{canonical_command}
-use Rattle.ember_run.proofs.top.run_one.Goals as goal
+use Rattle.ember_run.proofs.top.run_by.Goals as goal
 
 pub returns-in-Ok-clause-status : goal.returns-in-Ok-clause-status
 returns-in-Ok-clause-status g c =
