@@ -1,18 +1,17 @@
 // The regions of leaves: their sides, by two ways, and their order.
-ghost use Rattle.std.specs.Prelude.{IfOk};
-ghost use Rattle.ember_expr.specs.Formula.{formula_of};
-ghost use Rattle.ember_job.specs.Works.{Answers};
-ghost use Rattle.ember_leaf.specs.Leaves.{ArePlaced};
-ghost use Rattle.ember_visit.specs.Jobs.{IsJob, near_of};
-ghost use Rattle.ember_visit.specs.Values.{shape};
+ghost use Rattle.std.specs.Prelude.{◌≤◌, All, length};
+ghost use Rattle.ember_model.specs.Meshes.{HasMesh};
+ghost use Rattle.ember_model.specs.Valid.{IsValidTri};
+ghost use Rattle.ember_trace.specs.Facets.{AreBoxCounts};
+ghost use Rattle.ember_visit.specs.Jobs.{IsJob};
 
 use crate::scenes::scene_of_files;
 use crate::texts::{C, D, STAR, WEDGE_A, WEDGE_B};
 use ember_expr::{Expr, parse};
 use ember_gen::scene_of;
 use ember_job::{Job, Outcome};
-use ember_leaf::KeptList;
-use ember_model::{OutOfMemory, Scene};
+use ember_leaf::{Kept, KeptList};
+use ember_model::{OutOfMemory, Scene, Tri};
 use ember_step::{box_step, root_job};
 use ember_trace::{sides_traced, sides_whole};
 use ember_visit::tris_at;
@@ -27,6 +26,31 @@ struct Seen {
     differing: u64,
 }
 
+// Counts these regions of a leaf with these near triangles.
+fn see_regions(
+    alloc: Global,
+    s: &Scene,
+    near: &[Tri],
+    job: &Job,
+    kept: &[Kept],
+    seen: &mut Seen,
+) -> Result<(), OutOfMemory>
+    requires valid { All IsValidTri near.now }
+    requires numbered { All (HasMesh 64) near.now }
+    requires few { length near.now ≤ 262144 }
+    requires counts { AreBoxCounts job.now.at.counts }
+{
+    for region in kept {
+        let traced = sides_traced(alloc, near, &job.cell, &job.at, &region.ring)?;
+        let whole = sides_whole(alloc, s, &region.ring)?;
+        seen.regions = seen.regions.saturating_add(1);
+        if traced != whole {
+            seen.differing = seen.differing.saturating_add(1);
+        }
+    }
+    Ok(())
+}
+
 // Counts the regions of a leaf.
 fn see_leaf(
     alloc: Global,
@@ -38,15 +62,7 @@ fn see_leaf(
     requires { IsJob s.now.tris job.now }
 {
     let near = tris_at(alloc, s.tris.items(), job.list.items())?;
-    for region in kept.items() {
-        let traced = sides_traced(alloc, &near, &job.cell, &job.at, &region.ring)?;
-        let whole = sides_whole(alloc, s, &region.ring)?;
-        seen.regions = seen.regions.saturating_add(1);
-        if traced != whole {
-            seen.differing = seen.differing.saturating_add(1);
-        }
-    }
-    Ok(())
+    see_regions(alloc, s, &near, job, kept.items(), seen)
 }
 
 // Counts the regions of all leaves below a box, down to so many halvings.
