@@ -1,7 +1,7 @@
 -- The regions of a triangle in a box lie in the closed box.
-use Rattle.std.proofs.Common.{◌≡◌, refl, sym, ap, subst, ◌∙◌, arith, ℕ, zero, suc, Bool, true, false, not, ◌&&◌, List, [], ◌∷◌, ◌++◌, map, None, Some, slice_get, ℤ, pos, ◌<ℤ◌, ◌≤ℤ◌}
+use Rattle.std.proofs.Common.{◌≡◌, refl, subst, arith, ℕ, zero, suc, Bool, true, false, not, ◌&&◌, List, [], ◌∷◌, map, None, Some, slice_get, pos, ◌<ℤ◌}
 use Rattle.ember_algebra.specs.Relations.{Each, Chain, none, more, done, step, Every}
-use Rattle.ember_algebra.specs.Sign.{is_negative, is_positive}
+use Rattle.ember_algebra.specs.Sign.{is_positive}
 use Rattle.ember_algebra.proofs.Relations.{every_append}
 use Rattle.ember_algebra.proofs.Laws.{linear}
 use Rattle.ember_algebra.proofs.Order.{by_sign}
@@ -10,17 +10,17 @@ use Rattle.ember_model.specs.declared.point.Spot.{Spot}
 use Rattle.ember_model.specs.declared.face.Face.{Face}
 use Rattle.ember_model.specs.declared.tri.Tri.{Tri}
 use Rattle.ember_model.specs.Planes.{value_at, opposite}
-use Rattle.ember_model.specs.Faces.{is_inside, below, above, is_flat, face_of, Everywhere, Cuts}
+use Rattle.ember_model.specs.Faces.{is_inside, is_flat, face_of, Everywhere, Cuts}
 use Rattle.ember_model.specs.ClearTest.{none_positive}
 use Rattle.ember_model.proofs.SignTests.{negative_out, negative_in, positive_in, not_positive_in}
 use Rattle.ember_box.specs.Boxes.{Cell}
 use Rattle.ember_box.specs.Near.{tri_at}
-use Rattle.ember_box.specs.Regions.{Wall, walls, AtWall, cut, outside, in_high, stays, Blade, AtBlade, splits, whole, IsStart, IsRegions}
+use Rattle.ember_box.specs.Regions.{Wall, walls, AtWall, cut, outside, in_high, stays, Blade, AtBlade, splits, whole, IsRegions}
 use Rattle.ember_trace.specs.Boxed.{LiesIn}
 use Rattle.ember_trace.proofs.FilledFaces.{inside_below, fills}
 
 -- what holds of what each member gives, where the member has a property
-each_every : {X Y : Type 0} {R : X → List Y → Type 0} (P : X → Type 0) (Q : Y → Type 0) → ((x : X) (ys : List Y) → P x → R x ys → Every Q ys) → {xs : List X} {ys : List Y} → Each R xs ys → Every P xs → Every Q ys
+pub each_every : {X Y : Type 0} {R : X → List Y → Type 0} (P : X → Type 0) (Q : Y → Type 0) → ((x : X) (ys : List Y) → P x → R x ys → Every Q ys) → {xs : List X} {ys : List Y} → Each R xs ys → Every P xs → Every Q ys
 each_every P Q f none h = tt
 each_every P Q f (more {x = x} {xs = xs} {ys = ys} {zs = zs} r e) h = every_append Q ys zs (f x ys h.0 r) (each_every P Q f e h.1)
 
@@ -72,7 +72,7 @@ at_blades Q (step {x = b} r c) h =
     at_blades Q c (each_every (λ f. Everywhere f Q) (λ g. Everywhere g Q) (λ f fs e a. at_blade b Q f fs e a) r h)
 
 -- ---- regions
-every_at : {X : Type 0} (P : X → Type 0) (xs : List X) (i : ℕ) (x : X) → Every P xs → slice_get xs i ≡ Some x → P x
+pub every_at : {X : Type 0} (P : X → Type 0) (xs : List X) (i : ℕ) (x : X) → Every P xs → slice_get xs i ≡ Some x → P x
 every_at P [] i x h e = absurd (by e)
   where
     by : None ≡ Some x → ⊥

@@ -1,5 +1,5 @@
 -- The stops of a way are clear of all triangles, and lie in the box.
-use Rattle.std.proofs.Common.{◌≡◌, refl, sym, ap, subst, ◌∙◌, lit<, le_refl, arith, ℕ, ◌^◌, ◌<◌, ◌≤◌, Bool, List, [], ◌∷◌, All, map, ℤ, pos, ◌+ℤ◌, ◌-ℤ◌, ◌*ℤ◌, neg_ℤ, ◌<ℤ◌, ◌≤ℤ◌}
+use Rattle.std.proofs.Common.{◌≡◌, sym, ap, subst, ◌∙◌, lit<, le_refl, arith, ℕ, ◌^◌, ◌≤◌, List, [], ◌∷◌, All, ℤ, pos, ◌+ℤ◌, ◌-ℤ◌, ◌*ℤ◌, ◌<ℤ◌, ◌≤ℤ◌}
 use Rattle.std.specs.List.{AllByRecursion}
 use Rattle.std.proofs.lemmas.List.Elements.{All-head, All-tail}
 use Rattle.std.proofs.lemmas.Nat.{pow_pos}
@@ -7,12 +7,11 @@ use borrow.Author.Differences.{ints}
 use Rattle.ember_algebra.specs.Vector.{Vector}
 use Rattle.ember_algebra.specs.Size.{Small}
 use Rattle.ember_algebra.specs.declared.Sign.{Sign}
-use Rattle.ember_algebra.specs.declared.Sign.TheVariants.{Neg, Zero, Pos}
+use Rattle.ember_algebra.specs.declared.Sign.TheVariants.{Zero}
 use Rattle.ember_algebra.specs.Sign.{sgn, is_nil}
 use Rattle.ember_algebra.proofs.Laws.{linear, one-*ℤ}
 use Rattle.ember_algebra.proofs.Order.{mul_le, pos_mul}
-use Rattle.ember_algebra.proofs.Ring.{◌⊕◌, ◌⊖◌, ◌⊗◌, ◌≈◌, num, solve, cancels}
-use Rattle.ember_algebra.proofs.Size.{small_within}
+use Rattle.ember_algebra.proofs.Ring.{◌⊗◌, ◌≈◌, solve, cancels}
 use Rattle.ember_model.specs.declared.point.Spot.{Spot}
 use Rattle.ember_model.specs.declared.point.Axis.{Axis}
 use Rattle.ember_model.specs.declared.point.Axis.TheVariants.{X, Y, Z}
@@ -31,14 +30,12 @@ use Rattle.ember_law.proofs.Generic.{IsOff}
 use Rattle.ember_law.proofs.GenericClear.{off_clear, clear_faces}
 use Rattle.ember_point.specs.declared.corner.Meet.{Meet}
 use Rattle.ember_box.specs.declared.spans.Span.{Span}
-use Rattle.ember_box.specs.Boxes.{Cell, low, high, side}
-use Rattle.ember_box.specs.Spans.{spans_of, span_between}
+use Rattle.ember_box.specs.Boxes.{Cell, low, high}
+use Rattle.ember_box.specs.Spans.{span_between}
 use Rattle.ember_box.specs.Reference.{reference_at}
-use Rattle.ember_ref.specs.References.{or_sign}
 use Rattle.ember_ref.proofs.ReferenceSigns.{sign_at_reference, level_from}
-use Rattle.ember_ref.proofs.NearPoints.{HasPoint, IsAcross, coordinate as along_point}
-use Rattle.ember_trace.specs.Ways.{coordinate, inside_side, first_of, second_of}
-use Rattle.ember_trace.proofs.WayPoints.{with_along, weight_with, entries, slid_once_to, slid_twice_to}
+use Rattle.ember_ref.proofs.NearPoints.{HasPoint, IsAcross}
+use Rattle.ember_trace.proofs.WayPoints.{with_along}
 use Rattle.ember_trace.proofs.WaySigns.{IsClose, AreStops, both_zero, stop_at_start, stop_after_first, stop_after_second, start_sign, first_sign, second_sign}
 use Rattle.ember_trace.proofs.FacetLegs.{IsEnd, edge_support, start_above, start_weight}
 

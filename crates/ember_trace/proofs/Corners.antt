@@ -1,13 +1,13 @@
 -- The first three corners of an outline don't lie on one line, and inside points lie between them.
-use Rattle.std.proofs.Common.{◌≡◌, ◌≢◌, ◌⊎◌, inl, inr, ⊎_elim, refl, sym, ap, ◌∙◌, arith, ℕ, zero, suc, Bool, true, false, not, ◌&&◌, List, [], ◌∷◌, length, None, Some, slice_get, subst, ℤ, pos, ◌+ℤ◌, ◌-ℤ◌, ◌*ℤ◌, neg_ℤ, ◌<ℤ◌, ◌≤ℤ◌}
-use Rattle.ember_algebra.specs.Vector.{Vector, dot, cross}
-use Rattle.ember_algebra.specs.Sign.{is_zero, is_negative, is_positive}
+use Rattle.std.proofs.Common.{◌≡◌, ◌≢◌, ⊎_elim, refl, sym, ap, ◌∙◌, arith, ℕ, zero, suc, Bool, true, false, not, ◌&&◌, List, [], ◌∷◌, length, None, Some, slice_get, subst, ℤ, pos, ◌+ℤ◌, ◌-ℤ◌, ◌*ℤ◌, neg_ℤ, ◌<ℤ◌, ◌≤ℤ◌}
+use Rattle.ember_algebra.specs.Vector.{cross}
+use Rattle.ember_algebra.specs.Sign.{is_zero, is_positive}
 use Rattle.ember_algebra.proofs.Laws.{linear}
 use Rattle.ember_algebra.specs.Large.{horner}
 use Rattle.ember_algebra.proofs.Order.{by_sign, pos_mul, mul_neg_pos, zero_product}
 use Rattle.ember_algebra.proofs.Identities.{dot_zero}
 use Rattle.ember_algebra.proofs.Ring.{◌⊕◌, ◌⊖◌, ◌⊗◌, ◌≈◌, num, neg, solve, cancels}
-use Rattle.ember_algebra.proofs.Vectors.{tuple, identity, valueE, dotE, crossE}
+use Rattle.ember_algebra.proofs.Vectors.{tuple, identity, dotE, crossE}
 use Rattle.ember_model.specs.declared.plane.Plane.{Plane}
 use Rattle.ember_model.specs.declared.point.Spot.{Spot}
 use Rattle.ember_model.specs.declared.point.Axis.{Axis}
@@ -16,7 +16,7 @@ use Rattle.ember_model.specs.declared.face.Face.{Face}
 use Rattle.ember_model.specs.Planes.{value_at, along, main_axis}
 use Rattle.ember_model.specs.Faces.{is_in_closed, is_inside}
 use Rattle.ember_model.specs.ClearTest.{none_positive, all_negative}
-use Rattle.ember_model.specs.Edges.{normal, reach_along, RingEdge, IsEdge, IsBefore, IsPath, IsAmong, IsOutline, SameEdge, SamePlace, Counts, is_on_edge}
+use Rattle.ember_model.specs.Edges.{normal, reach_along, RingEdge, IsEdge, IsBefore, IsPath, IsAmong, IsOutline, SameEdge, SamePlace, is_on_edge}
 use Rattle.ember_model.proofs.SignTests.{and_parts, zero_out, zero_scaled, zero_times, clash, negative_in, not_positive_out, positive_in}
 use Rattle.ember_model.proofs.Hits.{closed_parts, inside_on}
 use Rattle.ember_model.proofs.SeenCrossings.{main_zero}

@@ -1,17 +1,16 @@
 -- The crossings of the legs of a way with a triangle, as the code counts them: by the sides of its
 -- planes on which the stops lie, and only where the bounding box lets a leg cross it.
-use Rattle.std.proofs.Common.{◌≡◌, refl, sym, ap, ◌∙◌, arith, ◌⊎◌, inl, inr, ℕ, ◌^◌, ◌≤◌, Bool, true, false, ◌&&◌, cond, List, [], ◌∷◌, ℤ, pos, ◌+ℤ◌, ◌-ℤ◌, ◌*ℤ◌, neg_ℤ, ◌<ℤ◌, ◌≤ℤ◌}
+use Rattle.std.proofs.Common.{◌≡◌, refl, sym, ap, ◌∙◌, arith, ℕ, ◌^◌, ◌≤◌, Bool, true, false, ◌&&◌, cond, ℤ, pos, ◌+ℤ◌, ◌-ℤ◌, ◌*ℤ◌, neg_ℤ, ◌<ℤ◌, ◌≤ℤ◌}
 use Rattle.std.specs.Int.{int_div_euclid}
 use borrow.Author.Differences.{ints}
 use Rattle.ember_algebra.specs.Vector.{Vector}
-use Rattle.ember_algebra.specs.Size.{Small}
 use Rattle.ember_algebra.specs.declared.Sign.{Sign}
 use Rattle.ember_algebra.specs.declared.Sign.TheVariants.{Neg, Zero, Pos}
-use Rattle.ember_algebra.specs.Sign.{sign, sgn, flip, times, number, is_neg, is_negative}
+use Rattle.ember_algebra.specs.Sign.{sign, sgn, times, number, is_neg}
 use Rattle.ember_algebra.proofs.Laws.{linear}
 use Rattle.ember_algebra.proofs.Order.{pos_mul, mul_le, mul_pos_neg}
 use Rattle.ember_algebra.proofs.Ring.{◌⊕◌, ◌⊖◌, ◌⊗◌, ◌≈◌, num, solve, cancels}
-use Rattle.ember_algebra.proofs.Signs.{sgn_neg, sgn-mul, neg_from_sgn}
+use Rattle.ember_algebra.proofs.Signs.{sgn_neg, sgn-mul}
 use Rattle.ember_model.specs.declared.point.Spot.{Spot}
 use Rattle.ember_model.specs.declared.point.Axis.{Axis}
 use Rattle.ember_model.specs.declared.point.Axis.TheVariants.{X, Y, Z}
@@ -19,13 +18,13 @@ use Rattle.ember_model.specs.declared.plane.Plane.{Plane}
 use Rattle.ember_model.specs.declared.tri.Tri.{Tri}
 use Rattle.ember_model.specs.declared.point.Corner.{Corner}
 use Rattle.ember_model.specs.Planes.{unit, value_at, along, support_of, edge_through, edge_planes, times_plane}
-use Rattle.ember_model.specs.Points.{shifted, DifferAlong}
-use Rattle.ember_model.specs.Valid.{IsValidTri, IsValidPlane, IsValidCorner}
+use Rattle.ember_model.specs.Points.{DifferAlong}
+use Rattle.ember_model.specs.Valid.{IsValidTri, IsValidCorner}
 use Rattle.ember_model.specs.Sizes.{IsSupportSized, IsEdgeSized}
 use Rattle.ember_model.specs.Faces.{face_of, leg}
 use Rattle.ember_model.specs.ClearTest.{all_negative}
-use Rattle.ember_model.proofs.SignTests.{negative_out, negative_in}
-use Rattle.ember_model.proofs.PlaneValues.{sign-number, along_times}
+use Rattle.ember_model.proofs.SignTests.{negative_out}
+use Rattle.ember_model.proofs.PlaneValues.{sign-number}
 use Rattle.ember_model.proofs.PlaneSizes.{support_sized, support_valid, edge_sized, sign_small}
 use Rattle.ember_model.proofs.LegSigns.{leg_is}
 use Rattle.ember_model.proofs.Scaling.{leg_back}
@@ -33,9 +32,7 @@ use Rattle.ember_algebra.proofs.Size.{small_within}
 use Rattle.ember_point.specs.declared.corner.Meet.{Meet}
 use Rattle.ember_point.specs.Points.{spot_of, slid}
 use Rattle.ember_box.specs.Boxes.{Cell}
-use Rattle.ember_box.specs.Near.{place}
-use Rattle.ember_box.specs.Spans.{bounding}
-use Rattle.ember_box.specs.Reference.{reference_at, reference}
+use Rattle.ember_box.specs.Reference.{reference_at}
 use Rattle.ember_ref.specs.References.{or_sign, corner_of, reference_of}
 use Rattle.ember_ref.proofs.NearPoints.{coordinate as along_point}
 use Rattle.ember_ref.proofs.ReferenceLegs.{reference_is}
@@ -43,10 +40,10 @@ use Rattle.ember_trace.specs.declared.facet.Facet.{Facet}
 use Rattle.ember_trace.specs.declared.way.Way.{Way}
 use Rattle.ember_trace.specs.Facets.{StartsIn}
 use Rattle.ember_trace.specs.Ways.{coordinate, inside_side, first_of, second_of, side_at_start, side_at_end, side_after_first, side_after_second, floor_at_end}
-use Rattle.ember_trace.specs.Crossings.{passage, all_behind, span_along, has_above, may_have, may_end, is_on_first, is_on_second, is_on_last, first_leg, second_leg, legs_in_wall, last_leg}
-use Rattle.ember_trace.proofs.WayPoints.{with_along, entries, weight_with, level_with, differ_with, slid_once_to, slid_twice_to}
+use Rattle.ember_trace.specs.Crossings.{passage, all_behind, span_along, has_above, may_have, may_end, first_leg, second_leg, legs_in_wall, last_leg}
+use Rattle.ember_trace.proofs.WayPoints.{with_along, entries, weight_with, level_with, differ_with}
 use Rattle.ember_trace.proofs.WaySigns.{AreStops, stop_at_start, stop_after_first, stop_after_second, start_sign, first_sign, second_sign}
-use Rattle.ember_trace.proofs.PastLegs.{LiesBefore, leg_behind, across, value_across, across_with, across_sized, IsPast, past_above, past_floor}
+use Rattle.ember_trace.proofs.PastLegs.{leg_behind, across, value_across, across_with, across_sized, IsPast, past_above, past_floor}
 
 -- ---- where the way starts
 record ArePowers (m : ℤ) : Type 0 where
@@ -139,7 +136,7 @@ edges_behind side t k p v f =
         f (times_plane s (edge_through u w (unit k))) (edge_support (edge_sized u w k s iu iw (sign_small (along (support_of t) k)))) (edge_level s u w k)
 
 -- ---- a leg by signs
-exchanged : (m b : Bool) (v : ℤ) → cond (m && b) v (pos 0) ≡ cond b (cond m v (pos 0)) (pos 0)
+pub exchanged : (m b : Bool) (v : ℤ) → cond (m && b) v (pos 0) ≡ cond b (cond m v (pos 0)) (pos 0)
 exchanged true true v = refl
 exchanged true false v = refl
 exchanged false true v = refl

@@ -1,6 +1,6 @@
 -- The last leg of a way doesn't cross the triangles that aren't near the box, though it ends a little
 -- beside the inside point that lies in the box.
-use Rattle.std.proofs.Common.{◌≡◌, ◌≢◌, ◌⊎◌, inl, inr, refl, sym, ap, subst, ◌∙◌, arith, ℕ, Bool, true, false, ◌&&◌, cond, List, [], ◌∷◌, ℤ, pos, ◌+ℤ◌, ◌-ℤ◌, ◌*ℤ◌, neg_ℤ, ◌<ℤ◌, ◌≤ℤ◌}
+use Rattle.std.proofs.Common.{◌≡◌, ◌≢◌, ◌⊎◌, inl, inr, refl, sym, ap, subst, ◌∙◌, arith, ℕ, Bool, true, false, ◌&&◌, cond, pos, ◌*ℤ◌, ◌<ℤ◌}
 use Rattle.ember_algebra.specs.Sign.{sign, sgn, times, is_neg, is_negative}
 use Rattle.ember_algebra.specs.declared.Sign.{Sign}
 use Rattle.ember_algebra.specs.declared.Sign.TheVariants.{Neg, Zero, Pos}
@@ -15,7 +15,7 @@ use Rattle.ember_model.specs.Planes.{value_at, along, support_of, edge_planes}
 use Rattle.ember_model.specs.Points.{scaled, moved, DifferAlong}
 use Rattle.ember_model.specs.Valid.{IsValidTri}
 use Rattle.ember_model.specs.Sizes.{IsSupportSized}
-use Rattle.ember_model.specs.Faces.{size, is_flat, face_of, edges_of, hit, between, is_inside, is_in_closed, leg}
+use Rattle.ember_model.specs.Faces.{size, is_flat, face_of, edges_of, hit, between, is_inside, leg}
 use Rattle.ember_model.specs.ClearTest.{all_negative}
 use Rattle.ember_model.proofs.SignTests.{clash, size_positive, positive_in, zero_scaled, zero_times}
 use Rattle.ember_model.proofs.PlaneValues.{value_hit}
@@ -30,7 +30,7 @@ use Rattle.ember_box.specs.Boxes.{Cell}
 use Rattle.ember_box.specs.Near.{is_near}
 use Rattle.ember_ref.specs.References.{or_sign}
 use Rattle.ember_ref.proofs.NearPoints.{HasPoint, near_point}
-use Rattle.ember_ref.proofs.BoxPoints.{has_between, size_at_least}
+use Rattle.ember_ref.proofs.BoxPoints.{size_at_least}
 use Rattle.ember_ref.proofs.FarTriangles.{inside_closed, misses_far}
 use Rattle.ember_trace.specs.Ways.{inside_side, first_of, second_of}
 use Rattle.ember_trace.proofs.WayPoints.{differ_last}

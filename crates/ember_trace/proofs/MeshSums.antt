@@ -1,5 +1,6 @@
 -- Sums over the faces of each mesh, compared triangle by triangle.
-use Rattle.std.proofs.Common.{◌≡◌, refl, sym, ap, ◌∙◌, arith, ℕ, Bool, true, false, cond, nat_eq, filter, List, [], ◌∷◌, All, map, get_or, ℤ, pos, ◌+ℤ◌, neg_ℤ}
+use Rattle.std.proofs.Common.{◌≡◌, refl, sym, ap, ◌∙◌, arith, ℕ, zero, suc, ◌+◌, Bool, true, false, cond, nat_eq, filter, List, [], ◌∷◌, All, map, get_or, replicate, ℤ, pos, ◌+ℤ◌, neg_ℤ}
+use Rattle.std.specs.List.{range_with_len}
 use Rattle.std.proofs.lemmas.List.Elements.{All-head, All-tail}
 use Rattle.ember_algebra.specs.Sums.{total}
 use Rattle.ember_algebra.proofs.Laws.{linear}
@@ -13,7 +14,7 @@ use Rattle.ember_law.proofs.Flats.{IsFlat}
 use Rattle.ember_law.proofs.Tallies.{tally, map_same, of_one, entry, tally_more, tally_none}
 use Rattle.ember_trace.specs.declared.facet.Facet.{Facet}
 use Rattle.ember_trace.specs.Facets.{tri_of}
-use Rattle.ember_trace.specs.Crossings.{taken}
+use Rattle.ember_trace.specs.Crossings.{taken, counted}
 
 -- flat triangles add nothing
 abbrev pub LeavesFlat : (Face → ℤ) → Type 0
@@ -80,3 +81,18 @@ module _ (g : Face → ℤ) (flat : LeavesFlat g) where
   taken_legs less (f ∷ fs) h old =
       let e = All-head (λ f. g (face_of f.tri) ≡ neg_ℤ (less f)) f fs h in
       taken_legs less fs (All-tail (λ f. g (face_of f.tri) ≡ neg_ℤ (less f)) f fs h) (with_more old f.tri.mesh (neg_ℤ (less f))) ∙ ap (λ (z : ℤ). added (with_more old f.tri.mesh z) (tally g (map tri_of fs))) (sym e) ∙ pushed old f.tri (map tri_of fs) f.mesh
+
+  pub counted_rays : (more : Tri → ℤ) (ts : List Tri) → All (λ t. g (face_of t) ≡ more t) ts → All (HasMesh 64) ts → (old : List ℤ) → counted more ts old ≡ added old (tally g ts)
+  counted_rays more [] h m old = sym (tally_none g old)
+  counted_rays more (t ∷ ts) h m old =
+      let e = All-head (λ t. g (face_of t) ≡ more t) t ts h in
+      counted_rays more ts (All-tail (λ t. g (face_of t) ≡ more t) t ts h) (All-tail (HasMesh 64) t ts m) (with_more old t.mesh (more t)) ∙ ap (λ (z : ℤ). added (with_more old t.mesh z) (tally g ts)) (sym e) ∙ pushed old t ts (All-head (HasMesh 64) t ts m)
+
+-- counts that begin with nothing
+pub added_none : (f : ℕ → ℤ) → added (replicate 64 (pos 0)) (map f meshes) ≡ map f meshes
+unfolding meshes
+added_none f = from 64 1
+  where
+    from : (n a : ℕ) → added (replicate n (pos 0)) (map f (range_with_len a n)) ≡ map f (range_with_len a n)
+    from zero a = refl
+    from (suc n) a = let e : pos 0 +ℤ f a ≡ f a = omega (arith, linear) in let r = from n (a + 1) in λ i. e i ∷ r i

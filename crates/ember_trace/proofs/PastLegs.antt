@@ -1,17 +1,16 @@
 -- A segment that lies past the bounding box of a triangle along an axis doesn't cross its face.
-use Rattle.std.proofs.Common.{◌≡◌, add-mul, refl, sym, ap, ◌∙◌, arith, ◌⊎◌, inl, inr, ◌<◌, ◌*◌, ◌/◌, ℕ, ◌+◌, Bool, true, false, ◌&&◌, cond, ℤ, pos, negsuc, ◌+ℤ◌, ◌-ℤ◌, ◌*ℤ◌, neg_ℤ, ◌<ℤ◌, ◌≤ℤ◌, int_le, int_lt}
+use Rattle.std.proofs.Common.{◌≡◌, add-mul, refl, sym, ap, ◌∙◌, arith, ◌⊎◌, inl, inr, ◌<◌, ◌*◌, ◌/◌, ℕ, ◌+◌, Bool, true, false, ◌&&◌, cond, ℤ, pos, negsuc, ◌+ℤ◌, ◌-ℤ◌, ◌*ℤ◌, ◌<ℤ◌, ◌≤ℤ◌, int_le, int_lt}
 use Rattle.std.specs.Int.{int_min, int_max, int_div_euclid}
 use Rattle.std.proofs.lemmas.Int.{clamps}
 use Rattle.std.proofs.Math.Nat.{div-mul-le_self, mod-lt}
 use Rattle.std.proofs.lemmas.Nat.{div-add-mod'}
 use borrow.Author.Differences.{ints}
 use lib.IntN.{*ℤ_comm}
-use Rattle.ember_algebra.specs.Vector.{Vector}
 use Rattle.ember_algebra.specs.Size.{Small}
-use Rattle.ember_algebra.specs.Sign.{sign, is_negative}
+use Rattle.ember_algebra.specs.Sign.{is_negative}
 use Rattle.ember_algebra.proofs.Laws.{linear}
-use Rattle.ember_algebra.proofs.Order.{mul_le, mul_lt, mul_pos_neg, pos_mul}
-use Rattle.ember_algebra.proofs.Ring.{◌⊕◌, ◌⊖◌, ◌⊗◌, ◌≈◌, num, neg, solve, cancels}
+use Rattle.ember_algebra.proofs.Order.{mul_le, mul_pos_neg}
+use Rattle.ember_algebra.proofs.Ring.{◌⊕◌, ◌⊖◌, ◌⊗◌, ◌≈◌, num, solve, cancels}
 use Rattle.ember_algebra.proofs.Size.{small_within, small_mul}
 use Rattle.ember_model.specs.declared.point.Spot.{Spot}
 use Rattle.ember_model.specs.declared.point.Axis.{Axis}
@@ -20,9 +19,9 @@ use Rattle.ember_model.specs.declared.plane.Plane.{Plane}
 use Rattle.ember_model.specs.declared.tri.Tri.{Tri}
 use Rattle.ember_model.specs.declared.point.Corner.{Corner}
 use Rattle.ember_model.specs.Planes.{vector_of, value_at, along}
-use Rattle.ember_model.specs.Valid.{IsValidTri, IsValidCorner}
+use Rattle.ember_model.specs.Valid.{IsValidTri}
 use Rattle.ember_model.specs.Sizes.{IsSupportSized}
-use Rattle.ember_model.specs.Faces.{size, is_flat, face_of, is_inside, between, leg}
+use Rattle.ember_model.specs.Faces.{is_flat, face_of, between, leg}
 use Rattle.ember_model.specs.Owners.{spot_at}
 use Rattle.ember_model.specs.ClearTest.{all_negative}
 use Rattle.ember_model.proofs.SignTests.{size_positive}
@@ -31,14 +30,11 @@ use Rattle.ember_law.proofs.CornerSides.{above_corners}
 use Rattle.ember_law.proofs.Flats.{flat_case, flat_out, flat_leg}
 use Rattle.ember_box.specs.declared.spans.Span.{Span}
 use Rattle.ember_box.specs.Boxes.{along as along_vector}
-use Rattle.ember_box.specs.Near.{place}
 use Rattle.ember_box.specs.Spans.{span_over, bounding}
 use Rattle.ember_ref.proofs.NearPoints.{coordinate as along_point}
 use Rattle.ember_ref.proofs.FarTriangles.{inside_closed}
-use Rattle.ember_trace.specs.Ways.{coordinate}
 use Rattle.ember_trace.specs.Crossings.{span_along, has_above, may_have}
-use Rattle.ember_trace.proofs.WayPoints.{with_along, value_with, entries}
-use Rattle.ember_trace.proofs.WaySigns.{stop_at_start}
+use Rattle.ember_trace.proofs.WayPoints.{with_along, value_with}
 
 -- ---- a plane on whose front a triangle lies
 pub record LiesBefore (g : Plane) (t : Tri) : Type 0 where

@@ -1,13 +1,10 @@
 -- The counts that the ways to a region give are the winding numbers directly before and after it.
-use Rattle.std.proofs.Common.{◌≡◌, refl, sym, ap, subst, ◌∙◌, arith, ℕ, ◌+◌, ◌*◌, ◌^◌, ◌<◌, ◌≤◌, Bool, true, cond, ◌&&◌, List, [], ◌∷◌, All, map, get_or, Some, slice_get, ℤ, pos, ◌+ℤ◌, ◌-ℤ◌, ◌*ℤ◌, neg_ℤ, ◌<ℤ◌, ◌≤ℤ◌, unsigned_abs}
-use borrow.Author.Differences.{ints}
+use Rattle.std.proofs.Common.{◌≡◌, refl, sym, ap, subst, ◌∙◌, arith, ℕ, true, cond, ◌&&◌, List, map, get_or, Some, slice_get, ℤ, pos, ◌+ℤ◌, ◌-ℤ◌, ◌*ℤ◌, neg_ℤ, ◌≤ℤ◌}
 use Rattle.ember_algebra.specs.Vector.{Vector}
 use Rattle.ember_algebra.specs.Size.{Small}
 use Rattle.ember_algebra.specs.declared.Sign.{Sign}
-use Rattle.ember_algebra.specs.declared.Sign.TheVariants.{Neg, Zero, Pos}
-use Rattle.ember_algebra.specs.Sign.{sign, sgn, flip, times, is_neg, is_nil}
+use Rattle.ember_algebra.specs.Sign.{sign, sgn, flip, times, is_neg}
 use Rattle.ember_algebra.proofs.Laws.{linear}
-use Rattle.ember_algebra.proofs.Order.{pos_mul}
 use Rattle.ember_algebra.proofs.Ring.{◌⊕◌, ◌⊖◌, ◌⊗◌, ◌≈◌, num, neg, solve, cancels}
 use Rattle.ember_algebra.proofs.Signs.{sgn-mul}
 use Rattle.ember_model.specs.declared.point.Spot.{Spot}
@@ -16,19 +13,16 @@ use Rattle.ember_model.specs.declared.point.Axis.TheVariants.{X, Y, Z}
 use Rattle.ember_model.specs.declared.plane.Plane.{Plane}
 use Rattle.ember_model.specs.declared.tri.Tri.{Tri}
 use Rattle.ember_model.specs.declared.face.Face.{Face}
-use Rattle.ember_model.specs.Planes.{value_at, along, main_axis, opposite, support_of, edge_planes}
-use Rattle.ember_model.specs.Points.{scaled, moved, DifferAlong}
-use Rattle.ember_model.specs.Valid.{IsValidTri, IsValidPlane}
-use Rattle.ember_model.specs.Sizes.{IsSupportSized}
+use Rattle.ember_model.specs.Planes.{value_at, along, main_axis, opposite, support_of}
+use Rattle.ember_model.specs.Points.{DifferAlong}
+use Rattle.ember_model.specs.Valid.{IsValidTri}
 use Rattle.ember_model.specs.Faces.{face_of, is_inside, crossing, leg}
-use Rattle.ember_model.specs.ClearTest.{none_positive, all_negative}
 use Rattle.ember_model.specs.Clear.{AreClear}
-use Rattle.ember_model.specs.Meshes.{faces_of, vector, meshes, IsScene}
-use Rattle.ember_model.specs.Sides.{Sees, IsSides}
-use Rattle.ember_model.proofs.SignTests.{ap2, zero_out, and_parts, not_positive_out}
+use Rattle.ember_model.specs.Meshes.{faces_of, vector, IsScene}
+use Rattle.ember_model.specs.Sides.{IsSides}
 use Rattle.ember_model.proofs.FourSigns.{crossing_is}
 use Rattle.ember_model.proofs.Hits.{inside_parts}
-use Rattle.ember_model.proofs.PlaneSizes.{support_sized, support_valid}
+use Rattle.ember_model.proofs.PlaneSizes.{support_sized}
 use Rattle.ember_law.specs.Counts.{added, leg_vector}
 use Rattle.ember_law.proofs.Flats.{flat_crossing, flat_leg}
 use Rattle.ember_law.proofs.Tallies.{tally}
@@ -36,9 +30,9 @@ use Rattle.ember_law.proofs.Vectors.{axes_law, legs_law}
 use Rattle.ember_point.specs.declared.corner.Meet.{Meet}
 use Rattle.ember_point.specs.Points.{spot_of}
 use Rattle.ember_box.specs.Boxes.{Cell, low, high}
-use Rattle.ember_box.specs.Spans.{spans_of, span_between}
-use Rattle.ember_box.specs.Near.{near, is_near}
-use Rattle.ember_box.specs.Reference.{reference_at, reference, vector_at, Fits}
+use Rattle.ember_box.specs.Spans.{span_between}
+use Rattle.ember_box.specs.Near.{is_near}
+use Rattle.ember_box.specs.Reference.{reference_at, Fits}
 use Rattle.ember_box.specs.Regions.{walls, level}
 use Rattle.ember_ref.specs.References.{or_sign}
 use Rattle.ember_ref.proofs.NearPoints.{HasPoint, IsAcross, coordinate as along_point}
@@ -47,14 +41,13 @@ use Rattle.ember_ref.proofs.FarTriangles.{legs_near}
 use Rattle.ember_trace.specs.declared.facet.Facet.{Facet}
 use Rattle.ember_trace.specs.declared.way.Way.{Way}
 use Rattle.ember_trace.specs.declared.pair.Sides.{Sides}
-use Rattle.ember_trace.specs.Facets.{AreFacets, StartsIn, tri_of}
-use Rattle.ember_trace.specs.Ways.{coordinate, inside_side, first_of, second_of, side_at_end, IsWay}
+use Rattle.ember_trace.specs.Facets.{AreFacets, StartsIn}
+use Rattle.ember_trace.specs.Ways.{coordinate, first_of, second_of, side_at_end, IsWay}
 use Rattle.ember_trace.specs.Crossings.{taken, legs_in_wall, last_leg, crossing_before, crossing_after, AreTraced}
 use Rattle.ember_trace.specs.Boxed.{LiesIn, AreSides}
 use Rattle.ember_trace.proofs.Places.{coordinate_small}
-use Rattle.ember_trace.proofs.Slides.{slid_once, slid_twice}
-use Rattle.ember_trace.proofs.WayPoints.{close_to, entries, differ_with, differ_last, moved_weight}
-use Rattle.ember_trace.proofs.WaySigns.{AreStops, both_zero, value_bound, close_sign, stop_at_start, stop_after_first, stop_after_second, start_sign, after_sign, before_sign}
+use Rattle.ember_trace.proofs.WayPoints.{entries, differ_with, differ_last, opposite_value}
+use Rattle.ember_trace.proofs.WaySigns.{AreStops, stop_at_start, stop_after_first, stop_after_second, start_sign}
 use Rattle.ember_trace.proofs.Corners.{AreFirst, first_corners, none_at}
 use Rattle.ember_trace.proofs.FacetLegs.{IsEnd, edges_behind, differ_back, start_weight, first_legs, final_leg}
 use Rattle.ember_trace.proofs.RegionEnds.{find, far_out, stops_from, before_end, after_end}
@@ -63,15 +56,11 @@ use Rattle.ember_trace.proofs.FarLegs.{last_far}
 use Rattle.ember_trace.proofs.MeshSums.{LeavesFlat, tally_same, tally_kept, tally_both, taken_legs}
 
 -- ---- in the box
--- a plane across an axis, and its opposite
+-- a plane across an axis
 level_value : (k : Axis) (h : ℤ) (v : Spot) → value_at (level k h) v ≡ along_point k v -ℤ h *ℤ v.w
 level_value X h v = solve 5 (λ h x y z w. num (pos 1) ⊗ x ⊕ num (pos 0) ⊗ y ⊕ num (pos 0) ⊗ z ⊖ h ⊗ w ≈ x ⊖ h ⊗ w) cancels h v.x v.y v.z v.w
 level_value Y h v = solve 5 (λ h x y z w. num (pos 0) ⊗ x ⊕ num (pos 1) ⊗ y ⊕ num (pos 0) ⊗ z ⊖ h ⊗ w ≈ y ⊖ h ⊗ w) cancels h v.x v.y v.z v.w
 level_value Z h v = solve 5 (λ h x y z w. num (pos 0) ⊗ x ⊕ num (pos 0) ⊗ y ⊕ num (pos 1) ⊗ z ⊖ h ⊗ w ≈ z ⊖ h ⊗ w) cancels h v.x v.y v.z v.w
-
-opposite_value : (p : Plane) (v : Spot) → value_at (opposite p) v ≡ neg_ℤ (value_at p v)
-opposite_value p v =
-    solve 8 (λ a b c d x y z w. neg a ⊗ x ⊕ neg b ⊗ y ⊕ neg c ⊗ z ⊖ neg d ⊗ w ≈ neg (a ⊗ x ⊕ b ⊗ y ⊕ c ⊗ z ⊖ d ⊗ w)) cancels p.a p.b p.c p.d v.x v.y v.z v.w
 
 in_box : (c : Cell) (f : Face) (q : Spot) → LiesIn c f → is_inside f q ≡ true → HasPoint c q
 in_box c f q l i =

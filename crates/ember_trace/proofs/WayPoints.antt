@@ -1,16 +1,15 @@
 -- The stops of a way as points, and the values of planes there.
-use Rattle.std.proofs.Common.{◌≡◌, refl, sym, ap, ◌∙◌, arith, ℤ, pos, ◌+ℤ◌, ◌-ℤ◌, ◌*ℤ◌, ◌<ℤ◌, List, [], ◌∷◌}
-use lib.IntN.{*ℤ_comm}
+use Rattle.std.proofs.Common.{◌≡◌, refl, ap, ◌∙◌, arith, ℤ, pos, ◌+ℤ◌, ◌-ℤ◌, ◌*ℤ◌, neg_ℤ, ◌<ℤ◌, List, [], ◌∷◌}
 use Rattle.ember_algebra.specs.Vector.{Vector}
 use Rattle.ember_algebra.specs.Large.{horner}
 use Rattle.ember_algebra.proofs.Laws.{linear}
 use Rattle.ember_algebra.proofs.Order.{pos_mul}
-use Rattle.ember_algebra.proofs.Ring.{◌⊕◌, ◌⊖◌, ◌⊗◌, ◌≈◌, num, solve, cancels}
+use Rattle.ember_algebra.proofs.Ring.{◌⊕◌, ◌⊖◌, ◌⊗◌, ◌≈◌, num, neg, solve, cancels}
 use Rattle.ember_model.specs.declared.point.Spot.{Spot}
 use Rattle.ember_model.specs.declared.point.Axis.{Axis}
 use Rattle.ember_model.specs.declared.point.Axis.TheVariants.{X, Y, Z}
 use Rattle.ember_model.specs.declared.plane.Plane.{Plane}
-use Rattle.ember_model.specs.Planes.{value_at, along}
+use Rattle.ember_model.specs.Planes.{value_at, along, opposite}
 use Rattle.ember_model.specs.Points.{scaled, moved, plus_s, DifferAlong}
 use Rattle.ember_model.proofs.PlaneValues.{value_scaled, value_moved}
 use Rattle.ember_point.specs.Points.{slid}
@@ -112,3 +111,8 @@ differ_last Z r q m s =
     let y = solve 5 (λ m w v i j. m ⊗ w ⊗ (w ⊗ (w ⊗ i ⊕ (v ⊗ j ⊖ w ⊗ i))) ≈ w ⊗ (w ⊗ v) ⊗ (m ⊗ j)) cancels m q.w r.w in
     let z = solve 5 (λ m w v i j. m ⊗ w ⊗ (w ⊗ (w ⊗ i) ⊕ (w ⊗ v ⊗ j ⊖ w ⊗ (w ⊗ i))) ≈ w ⊗ (w ⊗ v) ⊗ (m ⊗ j)) cancels m q.w r.w in
     (y r.x q.x, z r.y q.y)
+
+-- ---- the opposite plane
+pub opposite_value : (p : Plane) (v : Spot) → value_at (opposite p) v ≡ neg_ℤ (value_at p v)
+opposite_value p v =
+    solve 8 (λ a b c d x y z w. neg a ⊗ x ⊕ neg b ⊗ y ⊕ neg c ⊗ z ⊖ neg d ⊗ w ≈ neg (a ⊗ x ⊕ b ⊗ y ⊕ c ⊗ z ⊖ d ⊗ w)) cancels p.a p.b p.c p.d v.x v.y v.z v.w

@@ -1,16 +1,16 @@
 -- On which side of a plane the stops of a way lie: for points that are close enough to the corner of
 -- the box and to the first corner of the region, as the words on ways say.
-use Rattle.std.proofs.Common.{◌≡◌, ◌≢◌, ℕ, ◌+◌, ◌*◌, ◌^◌, ◌<◌, ◌≤◌, refl, sym, ap, ◌∙◌, arith, ℤ, pos, ◌+ℤ◌, ◌*ℤ◌, neg_ℤ, ◌<ℤ◌, List, [], ◌∷◌, unsigned_abs, le_refl}
+use Rattle.std.proofs.Common.{◌≡◌, ◌≢◌, ℕ, ◌+◌, ◌*◌, ◌^◌, ◌<◌, ◌≤◌, refl, sym, ap, ◌∙◌, arith, ℤ, pos, ◌+ℤ◌, ◌*ℤ◌, neg_ℤ, ◌<ℤ◌, [], ◌∷◌, unsigned_abs, le_refl}
 use borrow.Author.Differences.{ints}
 use lib.IntN.{*ℤ_comm}
 use Rattle.ember_algebra.specs.Vector.{Vector}
 use Rattle.ember_algebra.specs.Size.{Small}
-use Rattle.ember_algebra.specs.Large.{horner, EachSmall}
+use Rattle.ember_algebra.specs.Large.{EachSmall}
 use Rattle.ember_algebra.specs.declared.Sign.{Sign}
 use Rattle.ember_algebra.specs.declared.Sign.TheVariants.{Neg, Zero, Pos}
 use Rattle.ember_algebra.specs.Sign.{sgn, flip}
 use Rattle.ember_algebra.proofs.Laws.{linear}
-use Rattle.ember_algebra.proofs.Order.{by_sign, pos_mul, large_pos, large_neg}
+use Rattle.ember_algebra.proofs.Order.{by_sign, large_pos, large_neg}
 use Rattle.ember_algebra.proofs.Large.{horner_pos, horner_neg}
 use Rattle.ember_algebra.proofs.Ring.{◌⊕◌, ◌⊗◌, ◌≈◌, neg, solve, cancels}
 use Rattle.ember_algebra.proofs.Signs.{sgn_pos, sgn_neg, sgn-neg}
@@ -27,7 +27,7 @@ use Rattle.ember_model.proofs.SignTests.{sgn_scaled, zero_times}
 use Rattle.ember_model.proofs.PlaneValues.{value_scaled, value_moved}
 use Rattle.ember_law.proofs.Shifted.{NoNormal, value_shifted}
 use Rattle.ember_point.specs.declared.corner.Meet.{Meet}
-use Rattle.ember_point.specs.Points.{spot_of, slid}
+use Rattle.ember_point.specs.Points.{slid}
 use Rattle.ember_box.specs.Near.{place}
 use Rattle.ember_box.specs.Reference.{reference_at}
 use Rattle.ember_ref.specs.References.{or_sign}
