@@ -1,6 +1,7 @@
 pub mod BoxedRegions
 pub mod ClearStops
 pub mod Corners
+pub mod CutRegions
 pub mod FacetLegs
 pub mod FacetLists
 pub mod FarLegs
