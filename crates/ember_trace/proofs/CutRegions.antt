@@ -1,5 +1,5 @@
--- What the cuts leave: no inside point of a region lies in the closed face of a triangle near the box,
--- but for those in the region's plane.
+-- What the cuts leave: no inside point of a region lies in the closed face of a triangle near the
+-- box, but for those in the region's plane.
 use Rattle.std.proofs.Common.{◌≡◌, refl, sym, ap, subst, ◌∙◌, arith, ℕ, zero, suc, ◌+◌, ◌<◌, Bool, true, false, nat_eq, List, [], ◌∷◌, map, flat_map, length, Some, slice_get, pos}
 use Rattle.std.specs.List.{AllByRecursion, range_with_len}
 use Rattle.std.proofs.lemmas.Bool.{eqb-true}
