@@ -1,5 +1,6 @@
 -- The written regions of a leaf are one list, and so are those of a scene.
-use Rattle.std.proofs.Common.{◌≡◌, ℕ, zero, suc, refl, sym, ap, ap₂, ◌∙◌, subst, arith, le_refl, ◌+◌, ◌*◌, ◌<◌, ◌≤◌, true, List, [], ◌∷◌, ◌++◌, Some, slice_get, ℤ, pos, neg_ℤ}
+use Rattle.std.proofs.Common.{◌≡◌, ℕ, zero, suc, refl, sym, ap, ap₂, ◌∙◌, subst, arith, le_refl, ◌+◌, ◌*◌, ◌<◌, ◌≤◌, true, List, [], ◌∷◌, ◌++◌, Some, slice_get, length, ℤ, pos, neg_ℤ}
+use Rattle.std.specs.List.{range_with_len}
 use Rattle.ember_algebra.specs.Relations.{Each, none, more, Every}
 use Rattle.ember_algebra.proofs.Relations.{each_unique, each_unique_where}
 use Rattle.ember_model.specs.declared.face.Face.{Face}
@@ -8,20 +9,28 @@ use Rattle.ember_model.specs.declared.point.Spot.{Spot}
 use Rattle.ember_model.specs.declared.tri.Tri.{Tri}
 use Rattle.ember_model.specs.Planes.{main_axis}
 use Rattle.ember_model.specs.Points.{scaled, moved}
-use Rattle.ember_model.specs.Meshes.{vector}
+use Rattle.ember_model.specs.Faces.{is_inside}
 use Rattle.ember_model.specs.Sides.{Sees, IsSides}
 use Rattle.ember_expr.specs.Formula.{Formula}
 use Rattle.ember_expr.specs.Truth.{truth}
 use Rattle.ember_box.specs.Boxes.{Cell}
 use Rattle.ember_box.proofs.OneList.{regions_unique}
+use Rattle.ember_ref.proofs.NearPoints.{HasPoint}
 use Rattle.ember_trace.specs.Boxed.{IsRegion}
 use Rattle.ember_leaf.specs.declared.kept.Kept.{Kept}
 use Rattle.ember_leaf.specs.Written.{front, AtRegion, unowned, even, written, IsWrittenOf, IsWrittenIn}
+use Rattle.ember_leaf.specs.Scenes.{HasOneValue}
 
 -- what holds at each place holds of each member
 every_from : {X : Type 0} (P : X → Type 0) (xs : List X) → ((j : ℕ) (x : X) → slice_get xs j ≡ Some x → P x) → Every P xs
 every_from P [] h = tt
 every_from P (x ∷ xs) h = (h 0 x refl, every_from P xs (λ j y e. h (suc j) y e))
+
+-- where no member gives anything, all give nothing
+each_nothing : {X Y : Type 0} {R : X → List Y → Type 0} (Q : X → Type 0) → ((x : X) (ys : List Y) → Q x → R x ys → ys ≡ []) → {xs : List X} {ys : List Y} → Every Q xs → Each R xs ys → ys ≡ []
+each_nothing Q f h none = refl
+each_nothing Q f h (more {x = x} {ys = ys} {zs = zs} r e) =
+    ap₂ (λ us vs. us ++ vs) (f x ys h.0 r) (each_nothing Q f h.1 e)
 
 -- the regions of a leaf's triangle are regions of the leaf
 each_region : (near : List Tri) (c : Cell) (scene : List Tri) (f : Formula) (i : ℕ) (ks : List Kept) (w : IsWrittenOf scene f c near i ks) → Every (IsRegion near c) w.faces
@@ -59,3 +68,28 @@ module _ (scene : List Tri) (f : Formula) (c : Cell) (near : List Tri) (one : (f
   -- the written regions of a leaf are one list
   pub leaf_unique : (us vs : List Kept) → IsWrittenIn scene f c near us → IsWrittenIn scene f c near vs → us ≡ vs
   leaf_unique us vs u v = each_unique of_unique u v
+
+-- ---- where the expression has one value
+module _ (scene : List Tri) (f : Formula) (c : Cell) (one : HasOneValue scene f c) where
+  both_sides : (g : Face) (before after : List ℤ) (s : IsSides scene g before after) → HasPoint c s.at → (truth before f ≡ one.value) × (truth after f ≡ one.value)
+  both_sides g before after s has =
+      let k = main_axis g.support in let b = (one.beside s.at has).steps k (neg_ℤ (pos 1)) in let a = (one.beside s.at has).steps k (pos 1) in
+      let m = b.from + a.from + s.bound * 1 + 1 in
+      let x = s.sees_before 1 m (le_refl 1) (omega arith) in let y = s.sees_after 1 m (le_refl 1) (omega arith) in (
+        ap (λ (v : List ℤ). truth v f) (sym x.counts_are) ∙ b.holds m (omega arith) x.clear k,
+        ap (λ (v : List ℤ). truth v f) (sym y.counts_are) ∙ a.holds m (omega arith) y.clear k,
+      )
+
+  module _ (near : List Tri) (has : (g : Face) → IsRegion near c g → (v : Spot) → is_inside g v ≡ true → HasPoint c v) where
+    none_at : (i : ℕ) (g : Face) (ks : List Kept) → IsRegion near c g → AtRegion scene f near i g ks → ks ≡ []
+    none_at i g ks r (unowned n) = refl
+    none_at i g ks r (even s e) = refl
+    none_at i g ks r (written {before = b} {after = a} o s e) =
+        let h = both_sides g b a s (has g r s.at s.inside) in absurd (e (h.0 ∙ sym h.1))
+
+    none_of : (i : ℕ) (ks : List Kept) → IsWrittenOf scene f c near i ks → ks ≡ []
+    none_of i ks w = each_nothing (IsRegion near c) (λ g xs r p. none_at i g xs r p) (each_region near c scene f i ks w) w.are_written
+
+    -- no region is written in the box
+    pub none_written : (ks : List Kept) → IsWrittenIn scene f c near ks → ks ≡ []
+    none_written ks w = each_nothing (λ i. Unit {0}) (λ i xs t p. none_of i xs p) (every_from (λ i. Unit {0}) (range_with_len 0 (length near)) (λ j i e. tt)) w
