@@ -1,10 +1,9 @@
--- What the cuts leave: no inside point of a region lies in the closed face of a triangle near the box,
--- but for those in the region's plane.
-use Rattle.std.proofs.Common.{◌≡◌, refl, sym, ap, subst, ◌∙◌, arith, ℕ, zero, suc, ◌+◌, ◌<◌, ◌≤◌, Bool, true, false, not, ◌&&◌, nat_eq, List, [], ◌∷◌, ◌++◌, All, map, flat_map, filter, length, get_or, Some, slice_get, ℤ, pos, neg_ℤ, ◌<ℤ◌}
+-- What the cuts leave: no inside point of a region lies in the closed face of a triangle near the
+-- box, but for those in the region's plane.
+use Rattle.std.proofs.Common.{◌≡◌, refl, sym, ap, subst, ◌∙◌, arith, ℕ, zero, suc, ◌+◌, ◌<◌, Bool, true, false, nat_eq, List, [], ◌∷◌, map, flat_map, length, Some, slice_get, pos}
 use Rattle.std.specs.List.{AllByRecursion, range_with_len}
 use Rattle.std.proofs.lemmas.Bool.{eqb-true}
-use Rattle.ember_algebra.specs.Relations.{Each, Chain, none, more, done, step, Every}
-use Rattle.ember_algebra.specs.Sign.{is_negative, is_positive}
+use Rattle.ember_algebra.specs.Relations.{Each, Chain, done, step, Every}
 use Rattle.ember_algebra.proofs.Laws.{linear}
 use Rattle.ember_algebra.proofs.Order.{by_sign}
 use Rattle.ember_model.specs.declared.plane.Plane.{Plane}
@@ -17,8 +16,8 @@ use Rattle.ember_model.specs.Owners.{is_coplanar}
 use Rattle.ember_model.proofs.SignTests.{clash, negative_in, negative_out, positive_in, positive_out}
 use Rattle.ember_model.proofs.Hits.{closed_parts}
 use Rattle.ember_box.specs.Boxes.{Cell}
-use Rattle.ember_box.specs.Near.{tri_at, is_near, near}
-use Rattle.ember_box.specs.Regions.{Wall, walls, AtWall, cut, outside, in_high, stays, Blade, blades_of, blades_at, blades, AtBlade, splits, whole, IsStart, IsRegions}
+use Rattle.ember_box.specs.Near.{tri_at}
+use Rattle.ember_box.specs.Regions.{Wall, AtWall, cut, outside, in_high, stays, Blade, blades_at, blades, AtBlade, splits, whole, IsRegions}
 use Rattle.ember_poly.proofs.Chains.{each-front, each-back}
 use Rattle.ember_trace.proofs.WayPoints.{opposite_value}
 use Rattle.ember_trace.proofs.FilledFaces.{inside_below, fills}

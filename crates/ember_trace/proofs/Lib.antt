@@ -8,6 +8,7 @@ pub mod FarLegs
 pub mod FilledFaces
 pub mod FlatPlanes
 pub mod MeshSums
+pub mod OneSides
 pub mod PastLegs
 pub mod Places
 pub mod RaySides
