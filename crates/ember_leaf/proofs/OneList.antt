@@ -1,25 +1,28 @@
 -- The written regions of a leaf are one list, and so are those of a scene.
-use Rattle.std.proofs.Common.{◌≡◌, ℕ, zero, suc, refl, sym, ap, ap₂, ◌∙◌, subst, arith, le_refl, ◌+◌, ◌*◌, ◌<◌, ◌≤◌, true, List, [], ◌∷◌, ◌++◌, Some, slice_get, length, ℤ, pos, neg_ℤ}
+use Rattle.std.proofs.Common.{◌≡◌, ℕ, suc, refl, sym, ap, ap₂, ◌∙◌, subst, arith, le_refl, ◌+◌, ◌*◌, true, List, [], ◌∷◌, ◌++◌, Some, slice_get, length, ℤ, pos, neg_ℤ}
 use Rattle.std.specs.List.{range_with_len}
 use Rattle.ember_algebra.specs.Relations.{Each, none, more, Every}
 use Rattle.ember_algebra.proofs.Relations.{each_unique, each_unique_where}
 use Rattle.ember_model.specs.declared.face.Face.{Face}
-use Rattle.ember_model.specs.declared.point.Axis.{Axis}
 use Rattle.ember_model.specs.declared.point.Spot.{Spot}
 use Rattle.ember_model.specs.declared.tri.Tri.{Tri}
 use Rattle.ember_model.specs.Planes.{main_axis}
-use Rattle.ember_model.specs.Points.{scaled, moved}
 use Rattle.ember_model.specs.Faces.{is_inside}
-use Rattle.ember_model.specs.Sides.{Sees, IsSides}
+use Rattle.ember_model.specs.Meshes.{IsScene}
+use Rattle.ember_model.specs.Sides.{IsSides}
 use Rattle.ember_expr.specs.Formula.{Formula}
 use Rattle.ember_expr.specs.Truth.{truth}
 use Rattle.ember_box.specs.Boxes.{Cell}
+use Rattle.ember_box.specs.Near.{near}
 use Rattle.ember_box.proofs.OneList.{regions_unique}
 use Rattle.ember_ref.proofs.NearPoints.{HasPoint}
 use Rattle.ember_trace.specs.Boxed.{IsRegion}
+use Rattle.ember_trace.proofs.BoxedRegions.{regions_lie_in}
+use Rattle.ember_trace.proofs.OneSides.{one_sides}
+use Rattle.ember_trace.proofs.TracedSides.{in_box}
 use Rattle.ember_leaf.specs.declared.kept.Kept.{Kept}
 use Rattle.ember_leaf.specs.Written.{front, AtRegion, unowned, even, written, IsWrittenOf, IsWrittenIn}
-use Rattle.ember_leaf.specs.Scenes.{HasOneValue}
+use Rattle.ember_leaf.specs.Scenes.{HasOneValue, LeafGives, regions, nothing, IsWritten}
 
 -- what holds at each place holds of each member
 every_from : {X : Type 0} (P : X → Type 0) (xs : List X) → ((j : ℕ) (x : X) → slice_get xs j ≡ Some x → P x) → Every P xs
@@ -93,3 +96,26 @@ module _ (scene : List Tri) (f : Formula) (c : Cell) (one : HasOneValue scene f 
     -- no region is written in the box
     pub none_written : (ks : List Kept) → IsWrittenIn scene f c near ks → ks ≡ []
     none_written ks w = each_nothing (λ i. Unit {0}) (λ i xs t p. none_of i xs p) (every_from (λ i. Unit {0}) (range_with_len 0 (length near)) (λ j i e. tt)) w
+
+-- ---- a scene
+module _ (scene : List Tri) (f : Formula) (meshes : ℕ) (is : IsScene scene meshes) where
+  sides_one : (c : Cell) (g : Face) → IsRegion (near scene c) c g → SidesAreOne scene g
+  sides_one c g r b a p q x y = one_sides scene (near scene c) meshes c is refl g r b a p q x y
+
+  has_region : (c : Cell) (g : Face) → IsRegion (near scene c) c g → (v : Spot) → is_inside g v ≡ true → HasPoint c v
+  has_region c g r v h =
+      in_box c g v (regions_lie_in c (near scene c) r.tri r.place r.regions g r.are_regions r.here) h
+
+  -- the written regions of a leaf of a scene are one list
+  pub written_in_unique : (c : Cell) (us vs : List Kept) → IsWrittenIn scene f c (near scene c) us → IsWrittenIn scene f c (near scene c) vs → us ≡ vs
+  written_in_unique c us vs u v = leaf_unique scene f c (near scene c) (sides_one c) us vs u v
+
+  gives_unique : (c : Cell) (us vs : List Kept) → LeafGives scene f c us → LeafGives scene f c vs → us ≡ vs
+  gives_unique c us vs (regions u) (regions v) = written_in_unique c us vs u v
+  gives_unique c us vs (regions u) (nothing h) = none_written scene f c h (near scene c) (has_region c) us u
+  gives_unique c us vs (nothing h) (regions v) = sym (none_written scene f c h (near scene c) (has_region c) vs v)
+  gives_unique c us vs (nothing h) (nothing k) = refl
+
+  -- those of all leaves are one list
+  pub written_unique : (us vs : List Kept) → IsWritten scene f us → IsWritten scene f vs → us ≡ vs
+  written_unique us vs u v = each_unique gives_unique u v
