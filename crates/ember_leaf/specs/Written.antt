@@ -1,5 +1,5 @@
 -- Which regions of a leaf are written
-use Rattle.std.specs.Prelude.{◌≡◌, ◌≢◌, ℕ, Bool, if◌then◌else◌, ℤ, List, [], ◌∷◌, length}
+use Rattle.std.specs.Prelude.{◌≡◌, ◌≢◌, ℕ, if◌then◌else◌, ℤ, List, [], ◌∷◌, length}
 use Rattle.std.specs.List.{range_with_len}
 use Rattle.ember_algebra.specs.Relations.{Each}
 use Rattle.ember_algebra.specs.Sign.{is_positive}
