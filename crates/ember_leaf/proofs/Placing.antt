@@ -1,6 +1,6 @@
 -- Written regions of one triangle after another.
-use Rattle.std.proofs.Common.{◌≡◌, refl, sym, ap, subst, ◌∙◌, arith, ℕ, ◌+◌, ◌<◌, ◌≤◌, Bool, true, Some, List, [], ◌∷◌, ◌++◌, All, length, get_or, append_assoc, None, false, if◌then◌else◌, Option, IfSome}
-use Rattle.std.proofs.lemmas.List.{get_or-map, length-map}
+use Rattle.std.proofs.Common.{◌≡◌, refl, sym, ap, subst, ◌∙◌, arith, ℕ, ◌+◌, ◌<◌, ◌≤◌, Bool, true, Some, List, [], ◌∷◌, ◌++◌, All, length, take, drop, get_or, append_assoc, None, false, if◌then◌else◌, Option, IfSome}
+use Rattle.std.proofs.lemmas.List.{append-nil, get_or-map, length-map, take-append-drop}
 use Rattle.std.proofs.lemmas.List.Elements.{All-nil, All-push, All-pop, All-append}
 use Rattle.std.proofs.lemmas.List.Quantifiers.{all_pairs_push}
 use Rattle.ember_model.specs.declared.tri.Tri.{Tri}
@@ -45,8 +45,8 @@ start_region t {r} {f} e s = by (is_flat t) refl (sym s ∙ e)
         record { normal = q; support = ap (λ (g : Face). g.support) (some_inj h) ∙ face_support t }
 
 -- ---- regions and their parts
-pub stay_none : {new : List Face} → new ≡ [] → StayInPlane [] new
-stay_none e = record { holds = λ t h. subst (λ (fs : List Face). All (IsRegionOf t) fs) (sym e) h }
+pub stay_all : (fs : List Face) → StayInPlane (fs ++ []) fs
+stay_all fs = record { holds = λ t h. subst (λ (l : List Face). All (IsRegionOf t) l) (append-nil fs) h }
 
 pub stay_first : {none new : List Face} {f : Face} → none ≡ [] → new ≡ none ++ f ∷ [] → StayInPlane (f ∷ []) new
 stay_first {none} {new} {f} e q =
@@ -56,13 +56,22 @@ pub stay_then : {a b c : List Face} → StayInPlane a b → StayInPlane b c → 
 stay_then r s = record { holds = λ t h. s.holds t (r.holds t h) }
 
 -- one region more, and what has become of it
-pub grown : (fs : List Face) (f : Face) (out vs new : List Face) → StayInPlane fs out → ((t : Tri) → IsRegionOf t f → All (IsRegionOf t) vs) → new ≡ out ++ vs → StayInPlane (fs ++ f ∷ []) new
+grown : (fs : List Face) (f : Face) (out vs new : List Face) → StayInPlane fs out → ((t : Tri) → IsRegionOf t f → All (IsRegionOf t) vs) → new ≡ out ++ vs → StayInPlane (fs ++ f ∷ []) new
 grown fs f out vs new k r e = record { holds = by }
   where
     by : (t : Tri) → All (IsRegionOf t) (fs ++ f ∷ []) → All (IsRegionOf t) new
     by t h =
         let a = All-pop (IsRegionOf t) (fs ++ f ∷ []) fs (Some f) refl h in
         subst (λ (l : List Face). All (IsRegionOf t) l) (sym e) (All-append (IsRegionOf t) out vs (k.holds t a.0) (r t a.1))
+
+-- behind others
+pub grown_behind : (front fs : List Face) (f : Face) (out vs new : List Face) → StayInPlane (front ++ fs) out → ((t : Tri) → IsRegionOf t f → All (IsRegionOf t) vs) → new ≡ out ++ vs → StayInPlane (front ++ (fs ++ f ∷ [])) new
+grown_behind front fs f out vs new k r e =
+    subst (λ (l : List Face). StayInPlane l new) (append_assoc front fs (f ∷ [])) (grown (front ++ fs) f out vs new k r e)
+
+pub stay_split : (k : ℕ) (old : List Face) {front back new : List Face} → front ≡ take k old → back ≡ drop k old → StayInPlane (front ++ back) new → StayInPlane old new
+stay_split k old {front} {back} {new} e q h =
+    subst (λ (l : List Face). StayInPlane l new) ((λ i. e i ++ q i) ∙ take-append-drop k old) h
 
 pub one : (P : Face → Type 0) (f : Face) → P f → All P (f ∷ [])
 one P f p = All-push P [] f (All-nil P) p

@@ -8,13 +8,13 @@ ghost use Rattle.ember_trace.specs.Facets.{AreBoxCounts, AreSideCounts};
 ghost use Rattle.ember_leaf.specs.Pairs.{IsLower};
 ghost use Rattle.ember_leaf.specs.Leaves.{IsRegionOf, IsKeptOf, ArePlaced, ArePlacedBelow, tris_of};
 
-use crate::blade::Blade;
 use crate::kept::{Kept, KeptList};
+use crate::pairs::is_flat;
 use crate::regions::regions;
-use crate::rivals::{find_blades, find_lower};
-use crate::start::{start, walls};
+use crate::rivals::Rivals;
+use crate::start::{common_spans, is_outside, start, walls};
 use crate::wall::Wall;
-use ember_box::Cell;
+use ember_box::{Cell, Spans, spans_of};
 use ember_coplanar::contains;
 use ember_expr::{Expr, value};
 use ember_model::{Axis, OutOfMemory, Plane, Tri, Vector, main_axis};
@@ -65,6 +65,7 @@ fn turn_of(e: &Expr, sides: &Sides, r: &Ring) -> Option<bool>
 struct Leaf<'a> {
     expr: &'a Expr,
     cell: &'a Cell,
+    spans: &'a Spans,
     near: &'a [Facet],
     at: &'a Vector,
 }
@@ -133,24 +134,19 @@ impl Leaf<'_> {
         ensures { OnOk result (ArePlacedBelow (tris_of self.now.near.now) (i + 1) kept.new.items) }
     {
         let own = &self.near[i];
-        if find_lower(own, &self.near[..i], &mut rivals.lower)? {
+        if is_flat(own) || is_outside(walls, &own.spans) {
+            return Ok(());
+        }
+        let bounds = common_spans(&own.spans, self.spans);
+        if rivals.find(own, &bounds, self.near, i)? {
             return Ok(());
         }
         if let Some(ring) = start(alloc, own, walls)? {
-            find_blades(self.near, i, &mut rivals.blades)?;
             let list = regions(alloc, ring, &rivals.blades)?;
             self.keep(list, i, &rivals.lower, kept)?;
         }
         Ok(())
     }
-}
-
-// What may touch the regions of one triangle: the blades in order, and the triangles before it in
-// its plane.
-#[derive(Drop)]
-struct Rivals {
-    blades: Vec<Blade>,
-    lower: Vec<Tri>,
 }
 
 /// The written regions of a leaf box, by their triangles in order, and for each triangle in the
@@ -169,17 +165,16 @@ pub fn leaf_faces(
     ensures { IfOk result (λ ks. ArePlaced near.now ks) }
 {
     let facets = facets(alloc, near, c)?;
+    let spans = spans_of(c);
     let leaf = Leaf {
         expr: e,
         cell: c,
+        spans: &spans,
         near: &facets,
         at: v,
     };
     let walls = walls(c);
-    let mut rivals = Rivals {
-        blades: Vec::new(alloc),
-        lower: Vec::new(alloc),
-    };
+    let mut rivals = Rivals::new(alloc);
     let mut kept = Vec::new(alloc);
     for i in 0..facets.len() {
         leaf.keep_of(alloc, &walls, i, &mut rivals, &mut kept)?;

@@ -5,7 +5,6 @@ ghost use Rattle.ember_model.specs.Faces.{is_flat};
 ghost use Rattle.ember_model.specs.Owners.{lies_in_plane_of, is_coplanar};
 
 use crate::heights::heights_of;
-use ember_box::overlap;
 use ember_model::{Plane, edge_plane, main_axis};
 use ember_trace::Facet;
 
@@ -87,9 +86,6 @@ fn crossing_pair(f: &Facet, g: &Facet) -> Pair {
 
 /// How a triangle lies to another one. Neither is flat.
 pub fn pair_of(f: &Facet, g: &Facet) -> Pair {
-    if !overlap(&f.spans, &g.spans) {
-        return Pair::Apart;
-    }
     let theirs = heights_of(&f.support, &g.tri);
     if theirs.all_in_front() || theirs.all_behind() {
         Pair::Apart

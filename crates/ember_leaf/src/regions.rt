@@ -1,19 +1,43 @@
 // The regions of a triangle: its start, cut by blade after blade.
-ghost use Rattle.std.specs.Prelude.{[], ◌∷◌, IfOk};
+ghost use Rattle.std.specs.Prelude.{[], ◌∷◌, ◌++◌, ◌≤◌, length, IfOk, OnOk};
 ghost use Rattle.ember_leaf.specs.Leaves.{StayInPlane};
 
 use crate::blade::Blade;
 use ember_model::OutOfMemory;
-use ember_poly::{Cut, Ring, cut, meets};
+use ember_poly::{Cut, Ring, cut, meets_face};
 use std::alloc::Global;
 
-// One blade cuts each region that meets its triangle.
-fn split_all(alloc: Global, list: Vec<Ring>, b: &Blade) -> Result<Vec<Ring>, OutOfMemory>
-    ensures { IfOk result (λ out. StayInPlane list.items out.items) }
+// Some inside point of the region lies in the closed face of the blade's triangle.
+fn is_met(r: &Ring, b: &Blade) -> bool {
+    meets_face(r, &b.support, &b.edges)
+}
+
+// How many regions at the front do not meet the blade's triangle.
+fn apart(list: &[Ring], b: &Blade) -> usize
+    ensures { result ≤ length list.now }
 {
-    let mut out = Vec::new(alloc);
+    for i in 0..list.len() {
+        if is_met(&list[i], b) {
+            return i;
+        }
+    }
+    list.len()
+}
+
+// Adds what a blade leaves of regions, the first of which meets its triangle.
+fn add_parts(
+    alloc: Global,
+    list: Vec<Ring>,
+    b: &Blade,
+    out: &mut Vec<Ring>,
+) -> Result<(), OutOfMemory>
+    ensures { OnOk result (StayInPlane (out.old.items ++ list.items) out.new.items) }
+{
+    let mut is_first = true;
     for r in list {
-        if meets(&r, &b.tri) {
+        let is_cut = is_first || is_met(&r, b);
+        is_first = false;
+        if is_cut {
             match cut(alloc, &r, &b.plane)? {
                 Cut::Both(x, y) => {
                     out.push(x)?;
@@ -26,6 +50,19 @@ fn split_all(alloc: Global, list: Vec<Ring>, b: &Blade) -> Result<Vec<Ring>, Out
         } else {
             out.push(r)?;
         }
+    }
+    Ok(())
+}
+
+// One blade cuts each region that meets its triangle.
+fn split_all(alloc: Global, list: Vec<Ring>, b: &Blade) -> Result<Vec<Ring>, OutOfMemory>
+    ensures { IfOk result (λ out. StayInPlane list.items out.items) }
+{
+    let mut out = list;
+    let place = apart(&out, b);
+    if place < out.len() {
+        let others = out.split_off(place)?;
+        add_parts(alloc, others, b, &mut out)?;
     }
     Ok(out)
 }

@@ -1,70 +1,116 @@
 // The other triangles near a leaf that matter to the regions of one.
-ghost use Rattle.std.specs.Prelude.{◌≡◌, ◌<◌, false, length, All, OnOk};
+ghost use Rattle.std.specs.Prelude.{◌≡◌, false, All, OnOk};
 ghost use Rattle.ember_model.specs.Faces.{is_flat};
 ghost use Rattle.ember_leaf.specs.Pairs.{IsLower};
 
 use crate::blade::Blade;
 use crate::pairs::{Pair, are_coplanar, covers, is_flat, pair_of};
-use ember_model::{OutOfMemory, Tri, edge_plane, main_axis};
+use ember_box::{Spans, overlap};
+use ember_model::{OutOfMemory, Tri};
+use ember_poly::main_edges;
 use ember_trace::Facet;
+use std::alloc::Global;
+
+fn add_support(g: &Facet, blades: &mut Vec<Blade>) -> Result<(), OutOfMemory>
+    requires { is_flat g.now.tri ≡ false }
+{
+    blades.push(Blade {
+        tri: g.tri,
+        support: g.support,
+        edges: main_edges(&g.tri, &g.support),
+        plane: g.support,
+    })?;
+    Ok(())
+}
 
 fn add_edges(g: &Facet, blades: &mut Vec<Blade>) -> Result<(), OutOfMemory>
     requires { is_flat g.now.tri ≡ false }
 {
-    let k = main_axis(&g.support);
+    let edges = main_edges(&g.tri, &g.support);
     for e in 0..3 {
         blades.push(Blade {
             tri: g.tri,
-            plane: edge_plane(&g.tri, e, k),
+            support: g.support,
+            edges,
+            plane: edges[e],
         })?;
     }
     Ok(())
 }
 
-// Adds the blades of a triangle for the regions of another one.
-fn add_blades(own: &Facet, g: &Facet, blades: &mut Vec<Blade>) -> Result<(), OutOfMemory> {
-    if is_flat(g) {
-        return Ok(());
-    }
-    match pair_of(own, g) {
-        Pair::Apart => Ok(()),
-        Pair::Across => {
-            blades.push(Blade {
-                tri: g.tri,
-                plane: g.support,
-            })?;
-            Ok(())
-        }
-        Pair::Coplanar => add_edges(g, blades),
-    }
+/// What may touch the regions of one triangle: the blades in order, and the triangles before it in
+/// its plane.
+#[derive(Drop)]
+pub struct Rivals {
+    pub blades: Vec<Blade>,
+    pub lower: Vec<Tri>,
 }
 
-/// Fills the list with the blades for the regions of triangle `i`, which isn't flat, in order.
-pub fn find_blades(near: &[Facet], i: usize, blades: &mut Vec<Blade>) -> Result<(), OutOfMemory>
-    requires place { i < length near.now }
-{
-    blades.clear();
-    for j in 0..near.len() {
-        if j != i {
-            add_blades(&near[i], &near[j], blades)?;
+impl Rivals {
+    /// None.
+    pub fn new(alloc: Global) -> Rivals {
+        Rivals {
+            blades: Vec::new(alloc),
+            lower: Vec::new(alloc),
         }
     }
-    Ok(())
-}
 
-/// Fills the list with those of these triangles that lie in the plane of another one. `true`,
-/// with a part of them, where one of them covers it, and so owns all its regions.
-pub fn find_lower(own: &Facet, before: &[Facet], lower: &mut Vec<Tri>) -> Result<bool, OutOfMemory>
-    ensures { OnOk result (All (IsLower own.now.tri) lower.new.items) }
-{
-    lower.clear();
-    for g in before.iter().rev() {
-        if are_coplanar(g, own) {
+    // Adds a triangle that may meet another one in its plane. `true` where it comes before that
+    // one and covers it.
+    fn add_coplanar(&mut self, own: &Facet, g: &Facet, is_before: bool) -> Result<bool, OutOfMemory>
+        requires normal { is_flat g.now.tri ≡ false }
+        requires lower { All (IsLower own.now.tri) self.old.lower.items }
+        ensures { OnOk result (All (IsLower own.now.tri) self.new.lower.items) }
+    {
+        add_edges(g, &mut self.blades)?;
+        if is_before && are_coplanar(g, own) {
             if covers(g, own) {
                 return Ok(true);
             }
-            lower.push(g.tri)?;
+            self.lower.push(g.tri)?;
+        }
+        Ok(false)
+    }
+
+    // Adds a triangle whose bounding box the regions of another one may meet. `true` where it
+    // covers that one and comes before it.
+    fn add(&mut self, own: &Facet, g: &Facet, is_before: bool) -> Result<bool, OutOfMemory>
+        requires { All (IsLower own.now.tri) self.old.lower.items }
+        ensures { OnOk result (All (IsLower own.now.tri) self.new.lower.items) }
+    {
+        if is_flat(g) {
+            return Ok(false);
+        }
+        match pair_of(own, g) {
+            Pair::Apart => Ok(false),
+            Pair::Across => {
+                add_support(g, &mut self.blades)?;
+                Ok(false)
+            }
+            Pair::Coplanar => self.add_coplanar(own, g, is_before),
         }
     }
-    Ok(false)
+
+    /// Finds them for triangle `i`, which isn't flat and whose regions lie within the bounds:
+    /// all of them, or `true`, with a part of them, where one before it in its plane covers it,
+    /// and so owns all its regions.
+    pub fn find(
+        &mut self,
+        own: &Facet,
+        bounds: &Spans,
+        near: &[Facet],
+        i: usize,
+    ) -> Result<bool, OutOfMemory>
+        ensures { OnOk result (All (IsLower own.now.tri) self.new.lower.items) }
+    {
+        self.blades.clear();
+        self.lower.clear();
+        for j in 0..near.len() {
+            let g = &near[j];
+            if j != i && overlap(bounds, &g.spans) && self.add(own, g, j < i)? {
+                return Ok(true);
+            }
+        }
+        Ok(false)
+    }
 }

@@ -20,6 +20,22 @@ fn span(b: &Spans, k: Axis) -> Span {
     }
 }
 
+fn common(a: &Span, b: &Span) -> Span {
+    Span {
+        low: a.low.max(b.low),
+        high: a.high.min(b.high),
+    }
+}
+
+/// What two boxes have in common.
+pub fn common_spans(a: &Spans, b: &Spans) -> Spans {
+    Spans {
+        x: common(&a.x, &b.x),
+        y: common(&a.y, &b.y),
+        z: common(&a.z, &b.z),
+    }
+}
+
 fn low_wall(s: &Span, axis: Axis) -> Wall
     requires { IsSpanSized s.now }
 {
@@ -130,8 +146,8 @@ fn stay_at(w: &Wall, bounds: &Spans) -> Stay {
     }
 }
 
-// The first wall that may not leave the whole triangle leaves nothing of it.
-fn is_outside(walls: &[Wall], bounds: &Spans) -> bool {
+/// The first wall that may not leave the whole triangle leaves nothing of it.
+pub fn is_outside(walls: &[Wall], bounds: &Spans) -> bool {
     for w in walls {
         match stay_at(w, bounds) {
             Stay::Whole => {}
@@ -181,9 +197,6 @@ fn within_walls(
 pub fn start(alloc: Global, f: &Facet, walls: &[Wall]) -> Result<Option<Ring>, OutOfMemory>
     ensures { IfOk result (λ out. IfSome out (IsRegionOf f.now.tri)) }
 {
-    if is_outside(walls, &f.spans) {
-        return Ok(None);
-    }
     match of_tri(alloc, &f.tri)? {
         Some(ring) => within_walls(alloc, ring, f, walls),
         None => Ok(None),

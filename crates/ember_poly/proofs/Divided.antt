@@ -21,7 +21,7 @@ use Rattle.ember_point.specs.Points.{spot_of}
 use Rattle.ember_poly.specs.declared.passage.Passage.{Passage}
 use Rattle.ember_poly.specs.Rings.{entered, closing, Side, Under, AtMost, AtLeast, Lone, Meets, Sound, Closed, Listed, Stands}
 use Rattle.ember_poly.specs.Sides.{sides_of, IsBorn, IsSingle, AllCounted, IsRing}
-use Rattle.ember_poly.specs.Rims.{starting, LeastFirst}
+use Rattle.ember_poly.specs.Rims.{begun_at, part_sides, starting, LeastFirst}
 use Rattle.ember_poly.specs.Passages.{Has, Straddles, Leaves, IsPassage}
 use Rattle.ember_poly.proofs.Chains.{each_map, each_both, each-back}
 use Rattle.ember_poly.proofs.Lower.{below_some, below_all}
@@ -56,7 +56,7 @@ straddles_from n p gs es ms bs f e s c = by (subst (λ f. Cuts f p) e c)
           under = λ h. never_under (value_at p k.low.at) (negative_out (value_at p k.low.at) k.low.holds) (least_from_opposite p k.low.at (corners_at_most n (opposite p) k.low.at xs s.sound (each_map (λ r. AtLeast p r.corner) (λ r. AtMost (opposite p) r.corner) xs (λ r q. most_opposite p r.corner q) (each_corner (λ v. AtLeast p v) es ms bs h)) low)).at_least;
         }
 
--- ---- the sides of the part, step by step
+-- ---- the sides of the part
 take_front : {X : Type 0} (xs ys : List X) (k : ℕ) → k ≡ length xs → take k (xs ++ ys) ≡ xs
 take_front xs ys k e = ap (λ j. take j (xs ++ ys)) e ∙ by xs ys
   where
@@ -65,18 +65,13 @@ take_front xs ys k e = ap (λ j. take j (xs ++ ys)) e ∙ by xs ys
     by (x ∷ xs) ys = ap (λ zs. x ∷ zs) (by xs ys)
 
 -- the kept sides
-pub kept_sides : (n p : Plane) (xs : List Side) (at : Passage) (q : IsPassage n p xs at) {s t : List Side} → s ≡ drop at.first xs ++ take at.first xs → t ≡ take (at.kept + 1) s → t ≡ q.head ∷ (q.front ++ q.last ∷ [])
-kept_sides n p xs at q {s} {t} es et =
-    let whole : s ≡ (q.head ∷ (q.front ++ q.last ∷ [])) ++ q.others = es ∙ q.turned in
-    et ∙ ap (λ zs. take (at.kept + 1) zs) whole ∙ take_front (q.head ∷ (q.front ++ q.last ∷ [])) q.others (at.kept + 1) (omega (arith, q.count, length_push q.front q.last))
+kept_sides : (n p : Plane) (xs : List Side) (at : Passage) (q : IsPassage n p xs at) → take (at.kept + 1) (begun_at at.first xs) ≡ q.head ∷ (q.front ++ q.last ∷ [])
+kept_sides n p xs at q =
+    ap (λ zs. take (at.kept + 1) zs) q.turned ∙ take_front (q.head ∷ (q.front ++ q.last ∷ [])) q.others (at.kept + 1) (omega (arith, q.count, length_push q.front q.last))
 
-pub part_sides : (n p : Plane) (xs : List Side) (at : Passage) (q : IsPassage n p xs at) (b : ℕ) {s t u v : List Side} → s ≡ drop at.first xs ++ take at.first xs → t ≡ take (at.kept + 1) s → u ≡ starting (spot_of at.entry) t → v ≡ u ++ closing p (spot_of at.exit) b ∷ [] → v ≡ entered q.head (spot_of at.entry) ∷ (q.front ++ q.last ∷ []) ++ closing p (spot_of at.exit) b ∷ []
-part_sides n p xs at q b es et eu ev =
-    ev ∙ ap (λ zs. zs ++ closing p (spot_of at.exit) b ∷ []) (eu ∙ ap (λ zs. starting (spot_of at.entry) zs) (kept_sides n p xs at q es et))
-
-pub some_edges : (es : List Plane) (ms : List Meet) (bs : List ℕ) (s : Side) (xs : List Side) → sides_of es ms bs ≡ s ∷ xs → 0 < length es
-some_edges [] ms bs s xs e = cc
-some_edges (e ∷ es) ms bs s xs h = omega arith
+part_is : (n p : Plane) (xs : List Side) (at : Passage) (q : IsPassage n p xs at) (b : ℕ) → part_sides xs at p b ≡ entered q.head (spot_of at.entry) ∷ (q.front ++ q.last ∷ []) ++ closing p (spot_of at.exit) b ∷ []
+part_is n p xs at q b =
+    ap (λ zs. starting (spot_of at.entry) zs ++ closing p (spot_of at.exit) b ∷ []) (kept_sides n p xs at q)
 
 -- ---- one place
 pub same_from : (u v : Spot) → ((e : Plane) → u.w *ℤ value_at e v ≡ v.w *ℤ value_at e u) → SamePlace u v
@@ -186,14 +181,14 @@ module _ (n p : Plane) (gs : List Plane) (xs : List Side) (at : Passage) (q : Is
   division =
       divide n p gs q.head q.last q.front (spot_of at.exit) (spot_of at.entry) q.entry q.exit q.under q.enters q.others (subst (λ zs. Stands n gs zs) q.turned (begun_stands n gs at.first xs st)) q.leaves
 
-  pub below_ring : (es : List Plane) (ms : List Meet) (bs cs : List ℕ) (k : ℕ) (hs : List Plane) (zs : List Side) → zs ≡ below_sides → sides_of es ms bs ≡ drop k zs ++ take k zs → bs ≡ drop k cs ++ take k cs → LeastFirst (drop k cs ++ take k cs) → length ms ≡ length es → length bs ≡ length es → hs ≡ gs ++ p ∷ [] → IsValidPlane n → All IsValidPlane gs → IsValidPlane p → IsRing n hs es ms bs
-  below_ring es ms bs cs k hs zs ez et eb least em el eh vn vs vp =
-      let e : sides_of es ms bs ≡ drop k below_sides ++ take k below_sides = et ∙ (λ i. drop k (ez i) ++ take k (ez i)) in
+  pub below_ring : (es : List Plane) (ms : List Meet) (bs : List ℕ) (k : ℕ) (hs : List Plane) → sides_of es ms bs ≡ begun_at k (part_sides xs at p (length gs)) → LeastFirst bs → length ms ≡ length es → length bs ≡ length es → hs ≡ gs ++ p ∷ [] → IsValidPlane n → All IsValidPlane gs → IsValidPlane p → IsRing n hs es ms bs
+  below_ring es ms bs k hs et least em el eh vn vs vp =
+      let e : sides_of es ms bs ≡ begun_at k below_sides = et ∙ ap (λ zs. begun_at k zs) (part_is n p xs at q (length gs)) in
       let s = begun_stands n (gs ++ p ∷ []) k below_sides division.stands in
       let c = begun_counted n (gs ++ p ∷ []) k below_sides (divide_counted n p gs q.head q.last q.front (spot_of at.exit) (spot_of at.entry) q.entry q.exit q.under q.enters q.others (subst (λ zs. AllCounted n gs zs) q.turned (begun_counted n gs at.first xs ct)) division) in
       record {
         stands = subst (λ us. Stands n us (sides_of es ms bs)) (sym eh) (subst (λ us. Stands n (gs ++ p ∷ []) us) (sym e) s);
-        oldest = oldest_first es ms bs (subst (λ us. LeastFirst us) (sym eb) least);
+        oldest = oldest_first es ms bs least;
         counted = subst (λ us. AllCounted n us (sides_of es ms bs)) (sym eh) (subst (λ us. AllCounted n (gs ++ p ∷ []) us) (sym e) c);
         corners = em;
         births = el;

@@ -27,6 +27,7 @@ pub mod Runs
 pub mod Seen
 pub mod Aged
 pub mod Passed
+pub mod Kept
 pub mod Divided
 pub mod Spanned
 pub mod Chorded

@@ -38,7 +38,7 @@ turned_length k xs l =
     less : {a b : ℕ} → a < b → a ≤ b
     less q = omega (arith, q)
 
-same_length : {X Y : Type 0} (k : ℕ) (xs : List X) (ys : List Y) → k < length xs → length ys ≡ length xs → length (drop (k + 1) ys ++ take k ys) ≡ length (drop (k + 1) xs ++ take k xs)
+pub same_length : {X Y : Type 0} (k : ℕ) (xs : List X) (ys : List Y) → k < length xs → length ys ≡ length xs → length (drop (k + 1) ys ++ take k ys) ≡ length (drop (k + 1) xs ++ take k xs)
 same_length k xs ys l e =
     omega (arith, e, turned_length k xs l, turned_length k ys (subst (λ j. k < j) (sym e) l))
 

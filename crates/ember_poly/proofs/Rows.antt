@@ -1,13 +1,12 @@
 -- The sides of three lists: joined, cut, turned.
 use Rattle.std.proofs.Common.{◌≡◌, inl, inr, refl, ap, ◌∙◌, arith, ℕ, zero, suc, ◌≤◌, List, [], ◌∷◌, ◌++◌, length, take, drop, length-drop}
-use lib.ListN.{set}
 use Rattle.std.specs.List.{AllByRecursion}
 use Rattle.ember_model.specs.declared.plane.Plane.{Plane}
 use Rattle.ember_model.specs.declared.point.Spot.{Spot}
 use Rattle.ember_point.specs.declared.corner.Meet.{Meet}
 use Rattle.ember_point.specs.Points.{spot_of}
 use Rattle.ember_poly.specs.Sides.{sides_of, OldestFirst}
-use Rattle.ember_poly.specs.Rims.{starting, LeastFirst}
+use Rattle.ember_poly.specs.Rims.{LeastFirst}
 use Rattle.ember_poly.specs.Passages.{Has}
 
 -- ---- what all corners or one corner has
@@ -65,13 +64,6 @@ dropped k xs ys e = rw (length-drop k ys, length-drop k xs, e) refl
 pub sides-turned : (k : ℕ) (es us : List Plane) (ms ns : List Meet) (bs cs : List ℕ) → length ms ≡ length es → length bs ≡ length es → us ≡ drop k es ++ take k es → ns ≡ drop k ms ++ take k ms → cs ≡ drop k bs ++ take k bs → sides_of us ns cs ≡ drop k (sides_of es ms bs) ++ take k (sides_of es ms bs)
 sides-turned k es us ms ns bs cs p q eu en ec =
     rw (eu, en, ec) (sides-append (drop k es) (take k es) (drop k ms) (take k ms) (drop k bs) (take k bs) (dropped k es ms p) (dropped k es bs q)) ∙ (λ i. sides-drop k es ms bs p q i ++ sides-take k es ms bs i)
-
--- ---- the first corner
-pub sides-starting : (c : Meet) (es : List Plane) (ms : List Meet) (bs : List ℕ) → sides_of es (set ms 0 c) bs ≡ starting (spot_of c) (sides_of es ms bs)
-sides-starting c [] ms bs = refl
-sides-starting c (e ∷ es) [] bs = refl
-sides-starting c (e ∷ es) (m ∷ ms) [] = refl
-sides-starting c (e ∷ es) (m ∷ ms) (b ∷ bs) = refl
 
 -- ---- births
 pub each_birth : (P : ℕ → Type 0) (es : List Plane) (ms : List Meet) (bs : List ℕ) → AllByRecursion P bs → AllByRecursion (λ s. P s.birth) (sides_of es ms bs)

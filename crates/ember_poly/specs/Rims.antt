@@ -1,9 +1,12 @@
 -- The sides of a ring as its three lists hold them
-use Rattle.std.specs.Prelude.{◌≡◌, ℕ, ◌≤◌, List, [], ◌∷◌, length}
+use Rattle.std.specs.Prelude.{◌≡◌, ℕ, ◌+◌, ◌≤◌, List, [], ◌∷◌, ◌++◌, length, take, drop}
 use Rattle.std.specs.List.{AllByRecursion}
 use Rattle.ember_model.specs.declared.point.Spot.{Spot}
+use Rattle.ember_model.specs.declared.plane.Plane.{Plane}
+use Rattle.ember_point.specs.Points.{spot_of}
 use Rattle.ember_poly.specs.declared.rim.Rim.{Rim}
-use Rattle.ember_poly.specs.Rings.{Side, entered}
+use Rattle.ember_poly.specs.declared.passage.Passage.{Passage}
+use Rattle.ember_poly.specs.Rings.{Side, entered, closing}
 use Rattle.ember_poly.specs.Sides.{sides_of}
 
 abbrev pub sides : Rim → List Side
@@ -23,3 +26,23 @@ starting v (s ∷ xs) = entered s v ∷ xs
 abbrev pub LeastFirst : List ℕ → Type 0
 LeastFirst [] = Unit {0}
 LeastFirst (b ∷ bs) = AllByRecursion (λ c. b ≤ c) bs
+
+-- a closed list, begun at another place
+abbrev pub begun_at : {X : Type 0} → ℕ → List X → List X
+begun_at k xs = drop k xs ++ take k xs
+
+-- so many items behind a place, round the list
+abbrev pub kept_behind : {X : Type 0} → ℕ → ℕ → List X → List X
+kept_behind first count xs = take count (drop (first + 1) xs ++ take first xs)
+
+-- the sides that a passage keeps, from the entry to the exit, and the closing side behind them
+abbrev pub part_sides : List Side → Passage → Plane → ℕ → List Side
+part_sides xs at p birth =
+    starting (spot_of at.entry) (take (at.kept + 1) (begun_at at.first xs)) ++ closing p (spot_of at.exit) birth ∷ []
+
+-- these sides, begun at the oldest
+pub record IsPart (old : Rim) (at : Passage) (p : Plane) (birth : ℕ) (new : Rim) : Type 0 where
+  pub place : ℕ
+  pub order : sides new ≡ begun_at place (part_sides (sides old) at p birth)
+  pub paired : IsPaired new
+  pub oldest : LeastFirst new.births.items

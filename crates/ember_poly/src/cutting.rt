@@ -8,7 +8,7 @@ ghost use Rattle.ember_poly.specs.Cuts.{IsCut};
 use crate::answers::{Cut, Reach};
 use crate::passage::find_passage;
 use crate::reaching::reach;
-use crate::rim::{least, with_room};
+use crate::rim::with_last;
 use crate::ring::Ring;
 use ember_model::{OutOfMemory, Plane};
 use std::alloc::Global;
@@ -35,15 +35,8 @@ pub fn below(alloc: Global, r: &Ring, p: &Plane) -> Result<Ring, OutOfMemory>
     ensures { IfOk result (λ part. part ≡ below r.now p.now) }
 {
     let at = find_passage(&r.support, &r.rim, p);
-    let mut planes = with_room(alloc, r.planes.as_slice())?;
-    let mut rim = r.rim.copy(alloc)?;
-    rim.turn(at.first);
-    rim.truncate(at.kept + 1);
-    rim.start_at(at.entry);
-    rim.push(*p, at.exit, planes.len())?;
-    planes.push(*p)?;
-    let oldest = least(rim.births.as_slice());
-    rim.turn(oldest);
+    let planes = with_last(alloc, r.planes.as_slice(), *p)?;
+    let rim = r.rim.part(alloc, &at, *p, r.planes.len())?;
     Ok(Ring {
         support: r.support,
         planes,

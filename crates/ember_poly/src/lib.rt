@@ -12,7 +12,7 @@ mod ring;
 
 pub use answers::{Cut, Reach};
 pub use cutting::{below, cut};
-pub use meeting::{meets, meets_face};
+pub use meeting::{main_edges, meets, meets_face};
 pub use reaching::reach;
 pub use ring::{Ring, copy, corners, edges, of_tri, outline, support};
 

@@ -146,8 +146,8 @@ fn meets_within(r: &Ring, hs: &[Plane]) -> bool
     free
 }
 
-// The edge planes along the main axis.
-fn main_edges(t: &Tri, support: &Plane) -> [Plane; 3]
+/// The edge planes of a triangle with this support plane, along its main axis.
+pub fn main_edges(t: &Tri, support: &Plane) -> [Plane; 3]
     requires tri { IsValidTri t.now }
     requires support { support.now ≡ support_of t.now }
     ensures value { result ≡ edges_of t.now }

@@ -7,7 +7,7 @@ ghost use Rattle.ember_model.specs.Edges.{IsOutline};
 ghost use Rattle.ember_point.specs.Points.{spot_of};
 ghost use Rattle.ember_poly.specs.Sides.{ring_edges, AreEdges, AreCorners};
 
-use crate::rim::{Rim, with_room};
+use crate::rim::Rim;
 use ember_model::{Corner, OutOfMemory, Plane, Tri, face_of};
 use ember_point::Meet;
 use std::alloc::Global;
@@ -80,7 +80,7 @@ pub fn of_tri(alloc: Global, t: &Tri) -> Result<Option<Ring>, OutOfMemory>
 pub fn copy(alloc: Global, r: &Ring) -> Result<Ring, OutOfMemory>
     ensures { IfOk result (λ c. c ≡ r.now) }
 {
-    let planes = with_room(alloc, r.planes.as_slice())?;
+    let planes = Vec::from_slice(alloc, r.planes.as_slice())?;
     let rim = r.rim.copy(alloc)?;
     Ok(Ring {
         support: r.support,

@@ -8,7 +8,9 @@ pub mod SliceVerdict
 pub mod SceneVerdicts
 pub mod Reports
 pub mod KeptLists
+pub mod Counts
 pub mod SolidVerdicts
+pub mod Findings
 pub mod ReadBack
 pub mod FaceLists
 pub mod CanonicalWords

@@ -5,6 +5,7 @@ pub mod PairLists
 pub mod Runs
 pub mod Solids
 pub mod Lattices
+pub mod Tasks
 pub mod Outputs
 pub mod Slices
 pub mod Verdict

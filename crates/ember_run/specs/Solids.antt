@@ -1,6 +1,7 @@
 -- The written regions of a solid, and what is reported of its run
 use Rattle.std.specs.Prelude.{◌≡◌, ℕ, Bool, true, false, List, [], flat_map, length, map}
 use Rattle.ember_expr.specs.Formula.{Formula}
+use Rattle.ember_job.specs.declared.job.Entry.{Entry}
 use Rattle.ember_job.specs.Visited.{leaves}
 use Rattle.ember_leaf.specs.declared.kept.Kept.{Kept}
 use Rattle.ember_leaf.specs.Leaves.{ArePlaced}
@@ -11,12 +12,16 @@ use Rattle.ember_text.specs.Documents.{IsDocumentText, written_face}
 use Rattle.ember_visit.specs.Jobs.{near_of, root_job}
 use Rattle.ember_visit.specs.Values.{shape}
 use Rattle.steal_pool.specs.Merged.{EachAnswers}
-use Rattle.ember_run.specs.Runs.{run_report}
+use Rattle.ember_run.specs.Runs.{HoldEntries, run_report}
 
 -- the written regions of each leaf of the tree of boxes
 abbrev pub AreKept : List Tri → Formula → List (List Kept) → Type 0
 AreKept tris formula items =
     EachAnswers (λ job kept. ArePlaced (near_of tris job) kept) (leaves (shape tris formula) (root_job tris)) items
+
+-- the journals hold the boxes that were visited for them
+abbrev pub HoldRun : List Tri → Formula → List (List Entry) → Type 0
+HoldRun tris formula journals = HoldEntries (shape tris formula) (root_job tris) journals
 
 -- the written regions of all leaves, and the numbers of the run that wrote so many
 pub record IsSolid (tris : List Tri) (formula : Formula) (kept : List Kept) (report : Report) : Type 0 where

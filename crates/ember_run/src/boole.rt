@@ -5,13 +5,14 @@ ghost use Rattle.ember_io.specs.Causes.{Rose};
 ghost use Rattle.ember_run.specs.Reported.{IsReportIf};
 ghost use Rattle.ember_run.specs.Serves.{IsRefusal, IsText, is_refusal};
 ghost use Rattle.ember_run.specs.Solids.{IsReportLine, IsReportText, IsSolidText, report_lines};
+ghost use Rattle.ember_run.specs.Tasks.{IsCrew};
 ghost use Rattle.ember_run.specs.Verdict.{Untold, bool_verdict, demo_verdict, first_told};
 
-use crate::crew::Crew;
 use crate::expression::{parse_bounded, parse_union};
 use crate::scene::read_scene;
 use crate::solid::solid_of;
 use crate::status::Status;
+use crate::task::{Finds, Task};
 use ember_expr::Expr;
 use ember_gen::scene_of;
 use ember_io::Shelf;
@@ -39,7 +40,7 @@ fn put_report(
 
 // The document of the solid; the line of its report goes to `lines`, where it is asked for.
 #[tactic(auto, using(crate::proofs::SolidVerdicts::solid_text, crate::proofs::SolidVerdicts::is_solid_text))]
-fn text_of_solid<C: Crew>(
+fn text_of_solid<C: Fn(&Task) -> Result<Finds, OutOfMemory>>(
     alloc: Global,
     scene: &Scene,
     expr: &Expr,
@@ -47,7 +48,8 @@ fn text_of_solid<C: Crew>(
     crew: &C,
     lines: &mut Vec<u8>,
 ) -> Result<Vec<u8>, OutOfMemory>
-    requires { lines.old.items ≡ [] }
+    requires lines { lines.old.items ≡ [] }
+    requires crew { IsCrew C.pre C.post crew.now }
     ensures text { IfOk result (λ text. IsSolidText scene.now.tris (formula_of expr.now) text.items) }
     ensures report { IfOk result (λ _. IsReportLine reported scene.now.tris (formula_of expr.now) lines.new.items) }
 {
@@ -59,7 +61,7 @@ fn text_of_solid<C: Crew>(
 
 /// The document of `bool`; the line of the report goes to `lines`, where it is asked for. `places`
 /// is at most 3, and there are at most 64 files.
-pub fn boole_output<S: Shelf, C: Crew>(
+pub fn boole_output<S: Shelf, C: Fn(&Task) -> Result<Finds, OutOfMemory>>(
     alloc: Global,
     expr: &Text,
     places: u8,
@@ -72,6 +74,7 @@ pub fn boole_output<S: Shelf, C: Crew>(
     requires places { places ≤ 3 }
     requires few { length files.now ≤ 64 }
     requires lines { lines.old.items ≡ [] }
+    requires crew { IsCrew C.pre C.post crew.now }
     ensures contents { S.contents shelf.new ≡ S.contents shelf.old }
     ensures later { S.faults shelf.old ≤ S.faults shelf.new }
     ensures text { IfOk result (λ text. IsText (bool_verdict expr.now places (map (S.contents shelf.old) files.now)) text.items) }
@@ -95,12 +98,13 @@ pub fn boole_output<S: Shelf, C: Crew>(
 
 // The line of the report of a solid.
 #[tactic(auto, using(crate::proofs::SolidVerdicts::is_report_text))]
-fn text_of_report<C: Crew>(
+fn text_of_report<C: Fn(&Task) -> Result<Finds, OutOfMemory>>(
     alloc: Global,
     scene: &Scene,
     expr: &Expr,
     crew: &C,
 ) -> Result<Vec<u8>, OutOfMemory>
+    requires { IsCrew C.pre C.post crew.now }
     ensures { IfOk result (λ text. IsReportText scene.now.tris (formula_of expr.now) text.items) }
 {
     let solid = solid_of(alloc, scene, expr, crew)?;
@@ -110,8 +114,13 @@ fn text_of_report<C: Crew>(
 
 /// The report of `demo`, of the union of so many generated boxes, 1 to 20000.
 #[tactic(auto, using(crate::proofs::SolidVerdicts::report_written, crate::proofs::SolidVerdicts::report_refused))]
-pub fn demo_output<C: Crew>(alloc: Global, boxes: u32, crew: &C) -> Result<Vec<u8>, Status>
-    requires { boxes ≤ 20000 }
+pub fn demo_output<C: Fn(&Task) -> Result<Finds, OutOfMemory>>(
+    alloc: Global,
+    boxes: u32,
+    crew: &C,
+) -> Result<Vec<u8>, Status>
+    requires boxes { boxes ≤ 20000 }
+    requires crew { IsCrew C.pre C.post crew.now }
     ensures text { IfOk result (λ text. IsText (demo_verdict boxes) text.items) }
     ensures refused { IfErr result (λ status. is_refusal status ≡ true → IsRefusal status (demo_verdict boxes)) }
     ensures only { (i : ℕ) → result ≢ Err (Status.ReadFault i) }

@@ -14,6 +14,7 @@ mod scene;
 mod slice;
 mod solid;
 mod status;
+mod task;
 mod top;
 mod voxels;
 

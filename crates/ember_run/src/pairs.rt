@@ -3,11 +3,12 @@ ghost use Rattle.std.specs.Prelude.{ℕ, ◌≡◌, ◌≢◌, ◌≤◌, ◌-�
 ghost use Rattle.ember_io.specs.Causes.{Rose};
 ghost use Rattle.ember_run.specs.PairLists.{IsPairsText};
 ghost use Rattle.ember_run.specs.Serves.{IsRefusal, IsText, is_refusal};
+ghost use Rattle.ember_run.specs.Tasks.{IsCrew};
 ghost use Rattle.ember_run.specs.Verdict.{Untold, first_told, pairs_verdict};
 
-use crate::crew::Crew;
 use crate::scene::read_scene;
 use crate::status::Status;
+use crate::task::{Finds, Task, pairs_by};
 use ember_io::Shelf;
 use ember_model::{OutOfMemory, Scene};
 use ember_pairs::{gather, gathered_pairs_are_all, pairs_text};
@@ -15,10 +16,15 @@ use ember_words::Texts;
 use std::alloc::Global;
 
 // The text of the scene's pairs.
-fn text_of_pairs<C: Crew>(alloc: Global, scene: &Scene, crew: &C) -> Result<Vec<u8>, OutOfMemory>
+fn text_of_pairs<C: Fn(&Task) -> Result<Finds, OutOfMemory>>(
+    alloc: Global,
+    scene: &Scene,
+    crew: &C,
+) -> Result<Vec<u8>, OutOfMemory>
+    requires { IsCrew C.pre C.post crew.now }
     ensures { IfOk result (λ text. IsPairsText scene.now.tris text.items) }
 {
-    let items = crew.pairs(alloc, scene)?;
+    let items = pairs_by(scene, crew)?;
     let pairs = gather(alloc, items)?;
     gathered_pairs_are_all(scene);
     pairs_text(alloc, pairs.items())
@@ -27,7 +33,7 @@ fn text_of_pairs<C: Crew>(alloc: Global, scene: &Scene, crew: &C) -> Result<Vec<
 /// The text of `pairs`: the triangles that cross or overlap. `places` is at most 3, and there are
 /// at most 64 files.
 #[tactic(auto, using(crate::proofs::SceneVerdicts::pairs_listed))]
-pub fn pairs_output<S: Shelf, C: Crew>(
+pub fn pairs_output<S: Shelf, C: Fn(&Task) -> Result<Finds, OutOfMemory>>(
     alloc: Global,
     places: u8,
     files: &Texts,
@@ -36,6 +42,7 @@ pub fn pairs_output<S: Shelf, C: Crew>(
 ) -> Result<Vec<u8>, Status>
     requires places { places ≤ 3 }
     requires few { length files.now ≤ 64 }
+    requires crew { IsCrew C.pre C.post crew.now }
     ensures contents { S.contents shelf.new ≡ S.contents shelf.old }
     ensures later { S.faults shelf.old ≤ S.faults shelf.new }
     ensures text { IfOk result (λ text. IsText (pairs_verdict places (map (S.contents shelf.old) files.now)) text.items) }

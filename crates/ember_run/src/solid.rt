@@ -2,8 +2,9 @@
 ghost use Rattle.std.specs.Prelude.{◌≡◌, IfOk, flat_map};
 ghost use Rattle.ember_expr.specs.Formula.{formula_of};
 ghost use Rattle.ember_run.specs.Solids.{IsSolid};
+ghost use Rattle.ember_run.specs.Tasks.{IsCrew};
 
-use crate::crew::Crew;
+use crate::task::{Finds, Task, kept_by};
 use ember_expr::Expr;
 use ember_leaf::{Kept, KeptList};
 use ember_model::{OutOfMemory, Scene};
@@ -33,15 +34,16 @@ fn all_kept(alloc: Global, items: Vec<KeptList>) -> Result<Vec<Kept>, OutOfMemor
 
 /// The solid of an expression over a scene.
 #[tactic(auto, using(crate::proofs::SolidVerdicts::is_solid))]
-pub fn solid_of<C: Crew>(
+pub fn solid_of<C: Fn(&Task) -> Result<Finds, OutOfMemory>>(
     alloc: Global,
     scene: &Scene,
     expr: &Expr,
     crew: &C,
 ) -> Result<Solid, OutOfMemory>
+    requires { IsCrew C.pre C.post crew.now }
     ensures { IfOk result (λ solid. IsSolid scene.now.tris (formula_of expr.now) solid.kept.items solid.report) }
 {
-    let found = crew.kept(alloc, scene, expr)?;
+    let found = kept_by(scene, expr, crew)?;
     let journals = found.journals;
     let kept = all_kept(alloc, found.items)?;
     let report = report_of(&journals, kept.len() as u64);

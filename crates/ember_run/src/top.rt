@@ -9,18 +9,21 @@ ghost use Rattle.ember_words.specs.Within.{IsWithinLimits};
 ghost use Rattle.ember_run.specs.Said.{Says};
 ghost use Rattle.ember_run.specs.Reported.{IsErrText, IsReportIf, asks_report};
 ghost use Rattle.ember_run.specs.Serves.{IsBegun, IsRefusal, IsText, IsWritten, Serves, is_refusal};
+ghost use Rattle.ember_run.specs.Tasks.{IsCrew, IsCrewOfAny, IsFound, IsTask};
 ghost use Rattle.ember_run.specs.Verdict.{Untold, told_verdict, verdict_before};
 
 use crate::at::at_output;
 use crate::boole::{boole_output, demo_output};
-use crate::crew::{Alone, Crew};
+use crate::crew::{alone, by_workers};
 use crate::faces::faces_output;
 use crate::lines::{say_out_of_memory, say_status, say_words_refused};
 use crate::pairs::pairs_output;
 use crate::slice::slice_output;
 use crate::status::Status;
+use crate::task::{Finds, Task};
 use crate::voxels::voxels_output;
 use ember_io::{Shelf, Sink, write_all};
+use ember_model::OutOfMemory;
 use ember_words::{Command, WordsFault, read_words};
 use std::alloc::Global;
 use std::sync::Wait;
@@ -29,7 +32,7 @@ use steal_pool::Gate;
 
 // The output of the command, or why there is none. The line of a report goes to `lines`, where one
 // is asked for.
-fn output_of<S: Shelf, C: Crew>(
+fn output_of<S: Shelf, C: Fn(&Task) -> Result<Finds, OutOfMemory>>(
     alloc: Global,
     command: &Command,
     shelf: &mut S,
@@ -38,6 +41,7 @@ fn output_of<S: Shelf, C: Crew>(
 ) -> Result<Vec<u8>, Status>
     requires command { IsWithinLimits command.now }
     requires lines { lines.old.items ≡ [] }
+    requires crew { IsCrew C.pre C.post crew.now }
     ensures contents { S.contents shelf.new ≡ S.contents shelf.old }
     ensures later { S.faults shelf.old ≤ S.faults shelf.new }
     ensures text { IfOk result (λ text. IsText (told_verdict (Some command.now) (S.contents shelf.old)) text.items) }
@@ -99,7 +103,7 @@ fn write_output<O: Sink>(out: &mut O, text: &[u8]) -> Status
 }
 
 // Does what the command asks for.
-fn do_command<S: Shelf, O: Sink, C: Crew>(
+fn do_command<S: Shelf, O: Sink, C: Fn(&Task) -> Result<Finds, OutOfMemory>>(
     alloc: Global,
     command: &Command,
     shelf: &mut S,
@@ -109,6 +113,7 @@ fn do_command<S: Shelf, O: Sink, C: Crew>(
 ) -> Status
     requires command { IsWithinLimits command.now }
     requires lines { lines.old.items ≡ [] }
+    requires crew { IsCrew C.pre C.post crew.now }
     ensures contents { S.contents shelf.new ≡ S.contents shelf.old }
     ensures later { S.faults shelf.old ≤ S.faults shelf.new }
     ensures out_later { O.faults out.old ≤ O.faults out.new }
@@ -126,7 +131,7 @@ fn do_command<S: Shelf, O: Sink, C: Crew>(
 }
 
 // Does what the command asks for, and writes the status's line to err.
-fn serve<S: Shelf, O: Sink, E: Sink, C: Crew>(
+fn serve<S: Shelf, O: Sink, E: Sink, C: Fn(&Task) -> Result<Finds, OutOfMemory>>(
     alloc: Global,
     command: &Command,
     shelf: &mut S,
@@ -134,7 +139,8 @@ fn serve<S: Shelf, O: Sink, E: Sink, C: Crew>(
     err: &mut E,
     crew: &C,
 ) -> Status
-    requires { IsWithinLimits command.now }
+    requires command { IsWithinLimits command.now }
+    requires crew { IsCrew C.pre C.post crew.now }
     ensures contents { S.contents shelf.new ≡ S.contents shelf.old }
     ensures later { S.faults shelf.old ≤ S.faults shelf.new }
     ensures out_later { O.faults out.old ≤ O.faults out.new }
@@ -147,8 +153,66 @@ fn serve<S: Shelf, O: Sink, E: Sink, C: Crew>(
     status
 }
 
-/// Does what the words ask for, with one worker, and writes the status's line to err. It waits for
-/// nobody, and takes all words that `run` takes.
+// How many workers the command asks for, of those that several may do.
+fn workers_of(command: &Command) -> u32
+    requires { IsWithinLimits command.now }
+    ensures { (1 ≤ result) × (result ≤ 64) }
+{
+    match command {
+        Command::Boole { workers, .. }
+        | Command::Demo { workers, .. }
+        | Command::Voxels { workers, .. }
+        | Command::Pairs { workers, .. } => *workers,
+        Command::Faces { .. } | Command::At { .. } | Command::Slice { .. } => 1,
+    }
+}
+
+// Does what the words ask for, by a crew of the workers that they ask for, and writes the status's
+// line to err.
+fn run_by<S: Shelf, O: Sink, E: Sink, C: Fn(u32, &Task) -> Result<Finds, OutOfMemory>>(
+    alloc: Global,
+    words: &[String],
+    shelf: &mut S,
+    out: &mut O,
+    err: &mut E,
+    crew: &C,
+) -> Status
+    requires { IsCrewOfAny C.pre C.post crew.now }
+    ensures contents { S.contents shelf.new ≡ S.contents shelf.old }
+    ensures later { S.faults shelf.old ≤ S.faults shelf.new }
+    ensures out_later { O.faults out.old ≤ O.faults out.new }
+    ensures status { Serves (command_of (map string_bytes words.now)) (S.contents shelf.old) (S.faults shelf.old) (S.faults shelf.new) (S.fault_at shelf.new) (O.faults out.old) (O.faults out.new) (O.flushed out.new) (O.taken out.old) (O.taken out.new) result }
+    ensures canonical { (line : Line) → IsCanonical line → map string_bytes words.now ≡ words_of line → command_of (map string_bytes words.now) ≡ command_with line }
+    ensures err { (text : List ℕ) × IsErrText (command_of (map string_bytes words.now)) (S.contents shelf.old) result text × Says (E.faults err.old) (E.faults err.new) (E.taken err.old) (E.taken err.new) text }
+{
+    match read_words(alloc, words) {
+        Ok(command) => {
+            let workers = workers_of(&command);
+            serve(
+                alloc,
+                &command,
+                shelf,
+                out,
+                err,
+                &|task: &Task| -> Result<Finds, OutOfMemory>
+                    requires { C.pre crew.now workers task }
+                    ensures { C.post crew.entry.now workers task.entry result }
+                { crew(workers, task) },
+            )
+        }
+        Err(WordsFault::Words) => {
+            say_words_refused(err);
+            Status::Words
+        }
+        Err(WordsFault::OutOfMemory) => {
+            say_out_of_memory(err);
+            Status::OutOfMemory
+        }
+    }
+}
+
+/// Does what the words ask for, with one worker whatever they say, and writes the status's line to
+/// err. It waits for nobody, and takes all words that `run` takes.
 pub fn run_one<S: Shelf, O: Sink, E: Sink, G: Gate>(
     alloc: Global,
     words: &[String],
@@ -164,22 +228,23 @@ pub fn run_one<S: Shelf, O: Sink, E: Sink, G: Gate>(
     ensures canonical { (line : Line) → IsCanonical line → map string_bytes words.now ≡ words_of line → command_of (map string_bytes words.now) ≡ command_with line }
     ensures err { (text : List ℕ) × IsErrText (command_of (map string_bytes words.now)) (S.contents shelf.old) result text × Says (E.faults err.old) (E.faults err.new) (E.taken err.old) (E.taken err.new) text }
 {
-    match read_words(alloc, words) {
-        Ok(command) => serve(alloc, &command, shelf, out, err, &Alone { gate }),
-        Err(WordsFault::Words) => {
-            say_words_refused(err);
-            Status::Words
-        }
-        Err(WordsFault::OutOfMemory) => {
-            say_out_of_memory(err);
-            Status::OutOfMemory
-        }
-    }
+    run_by(
+        alloc,
+        words,
+        shelf,
+        out,
+        err,
+        &|_workers: u32, task: &Task| -> Result<Finds, OutOfMemory>
+            requires { IsTask task.now }
+            ensures { IfOk result (IsFound task.entry.now) }
+        { alone(alloc, gate, task) },
+    )
 }
 
-/// Does what the words ask for, and writes the status's line to err.
+/// Does what the words ask for, with as many workers as they say, and writes the status's line to
+/// err. What is written doesn't depend on the number of workers.
 pub fn run<R: Threads + Wait + Sync, S: Shelf, O: Sink, E: Sink, G: Gate + Sync>(
-    _rt: &R,
+    rt: &R,
     alloc: Global,
     words: &[String],
     shelf: &mut S,
@@ -194,5 +259,16 @@ pub fn run<R: Threads + Wait + Sync, S: Shelf, O: Sink, E: Sink, G: Gate + Sync>
     ensures canonical { (line : Line) → IsCanonical line → map string_bytes words.now ≡ words_of line → command_of (map string_bytes words.now) ≡ command_with line }
     ensures err { (text : List ℕ) × IsErrText (command_of (map string_bytes words.now)) (S.contents shelf.old) result text × Says (E.faults err.old) (E.faults err.new) (E.taken err.old) (E.taken err.new) text }
 {
-    run_one(alloc, words, shelf, out, err, gate)
+    run_by(
+        alloc,
+        words,
+        shelf,
+        out,
+        err,
+        &|workers: u32, task: &Task| -> Result<Finds, OutOfMemory>
+            requires workers { (1 ≤ workers) × (workers ≤ 64) }
+            requires task { IsTask task.now }
+            ensures { IfOk result (IsFound task.entry.now) }
+        { by_workers(rt, alloc, workers, gate, task) },
+    )
 }

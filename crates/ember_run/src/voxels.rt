@@ -4,12 +4,13 @@ ghost use Rattle.ember_expr.specs.Formula.{formula_of};
 ghost use Rattle.ember_io.specs.Causes.{Rose};
 ghost use Rattle.ember_run.specs.Lattices.{IsLatticeText};
 ghost use Rattle.ember_run.specs.Serves.{IsRefusal, IsText, is_refusal};
+ghost use Rattle.ember_run.specs.Tasks.{IsCrew};
 ghost use Rattle.ember_run.specs.Verdict.{Untold, first_told, voxels_verdict};
 
-use crate::crew::Crew;
 use crate::expression::parse_text;
 use crate::scene::read_scene;
 use crate::status::Status;
+use crate::task::{Finds, Task, fills_by};
 use ember_expr::Expr;
 use ember_io::Shelf;
 use ember_model::{OutOfMemory, Scene};
@@ -18,7 +19,7 @@ use ember_words::{Text, Texts};
 use std::alloc::Global;
 
 // The text of the scene's lattice.
-fn text_of_voxels<C: Crew>(
+fn text_of_voxels<C: Fn(&Task) -> Result<Finds, OutOfMemory>>(
     alloc: Global,
     scene: &Scene,
     expr: &Expr,
@@ -27,16 +28,17 @@ fn text_of_voxels<C: Crew>(
 ) -> Result<Vec<u8>, OutOfMemory>
     requires least { 4 ≤ size }
     requires most { size ≤ 12 }
+    requires crew { IsCrew C.pre C.post crew.now }
     ensures { IfOk result (λ text. IsLatticeText scene.now.tris (formula_of expr.now) size text.items) }
 {
-    let fills = crew.fills(alloc, scene, expr, size)?;
+    let fills = fills_by(scene, expr, size, crew)?;
     grid_text(alloc, size, &fills)
 }
 
 /// The text of `voxels`: the solid sampled on a lattice whose cells have the side `2 ^ size`, for
 /// a size of 4 to 12. `places` is at most 3, and there are at most 64 files.
 #[tactic(auto, using(crate::proofs::SceneVerdicts::lattice_sampled))]
-pub fn voxels_output<S: Shelf, C: Crew>(
+pub fn voxels_output<S: Shelf, C: Fn(&Task) -> Result<Finds, OutOfMemory>>(
     alloc: Global,
     expr: &Text,
     size: u8,
@@ -49,6 +51,7 @@ pub fn voxels_output<S: Shelf, C: Crew>(
     requires most { size ≤ 12 }
     requires places { places ≤ 3 }
     requires few { length files.now ≤ 64 }
+    requires crew { IsCrew C.pre C.post crew.now }
     ensures contents { S.contents shelf.new ≡ S.contents shelf.old }
     ensures later { S.faults shelf.old ≤ S.faults shelf.new }
     ensures text { IfOk result (λ text. IsText (voxels_verdict expr.now size places (map (S.contents shelf.old) files.now)) text.items) }

@@ -2,9 +2,11 @@
 //! with its written regions, else its two halves.
 #![tactic(auto)]
 
+mod count;
 mod step;
 #[cfg(test)]
 mod tests;
 
+pub use count::{CountWork, count_step};
 pub use ember_visit::{box_value, halve_job, root_job};
 pub use step::{BoolWork, box_step};

@@ -1,5 +1,5 @@
 // The step of the root over one box.
-use crate::{box_step, root_job};
+use crate::{box_step, count_step, root_job};
 use anyhow::Error;
 use ember_expr::parse;
 use ember_gen::scene_of;
@@ -13,6 +13,8 @@ fn one_box_is_written_whole(rt: HostRuntime) -> Result<(), Error> {
     let root = root_job(alloc, &scene)?;
     let outcome = box_step(alloc, &scene, &e, &root)?;
     assert!(rt; matches!(&outcome, Outcome::Leaf(kept) if kept.items().len() == 12));
+    let outcome = count_step(alloc, &scene, &e, &root)?;
+    assert!(rt; matches!(&outcome, Outcome::Leaf(12)));
     Ok(())
 }
 

@@ -1,20 +1,13 @@
-use Rattle.std.proofs.Common.{[], ◌∷◌}
-use Rattle.ember_leaf.specs.Leaves.{IsRegionOf}
-use Rattle.ember_leaf.proofs.Placing.{stay_none, grown, one, parts, two_pushed}
+use Rattle.std.proofs.Common.{sym, subst}
+use Rattle.ember_leaf.specs.Leaves.{StayInPlane}
+use Rattle.ember_leaf.proofs.Placing.{stay_split}
+use Rattle.ember_leaf.proofs.regions.split_all.Goals.{then-place-len+in_ok-others+in_ok-add_parts, else-place-len}
 use Rattle.ember_leaf.proofs.regions.split_all.Goals as goal
 
-pub loop-r-init : goal.loop-r-init
-loop-r-init c = stay_none c.new-out.ensures.items
-
-pub loop-r-preserved-in-Both-1 : goal.loop-r-preserved-in-Both-1
-loop-r-preserved-in-Both-1 c =
-    let k = c.in_ok-x.ensures in
-    grown c.loop-r.yielded c.in-Some.r c.loop-r.out.items (c.in-Both.x ∷ c.in-Both.y ∷ []) _ c.loop-r.invariant (λ t. parts t c.in-Some.r _ c.in-Both.x c.in-Both.y (rw c.in-Both.is at k)) (two_pushed _ _ _ _ _ c.in_ok-push-in-Both.ensures.items c.in_ok-push-in-Both-2.ensures.items)
-
-pub loop-r-preserved-in-Continue-branch-5 : goal.loop-r-preserved-in-Continue-branch-5
-loop-r-preserved-in-Continue-branch-5 c =
-    grown c.loop-r.yielded c.in-Some.r c.loop-r.out.items (c.in-Some.r ∷ []) _ c.loop-r.invariant (λ t. one (IsRegionOf t) c.in-Some.r) c.in_ok-push-in_default.ensures.items
-
-pub loop-r-preserved : goal.loop-r-preserved
-loop-r-preserved c =
-    grown c.loop-r.yielded c.in-Some.r c.loop-r.out.items (c.in-Some.r ∷ []) _ c.loop-r.invariant (λ t. one (IsRegionOf t) c.in-Some.r) c.in_ok-push.ensures.items
+pub returns : goal.returns
+returns c =
+    let fs = c.args.list.items in
+    elim c.if-place-len.branch [
+      | then-place-len+in_ok-others+in_ok-add_parts w ↦ subst (λ o. StayInPlane fs o.items) (sym w.out-is) (stay_split c.apart-place.result fs w.in_ok-others.ensures.items w.in_ok-others.ensures.tail w.in_ok-add_parts.ensures)
+      | else-place-len w ↦ subst (λ o. StayInPlane fs o.items) (sym w.out-is) (record { holds = λ t h. h })
+    ]

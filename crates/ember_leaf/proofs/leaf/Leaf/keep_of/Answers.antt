@@ -10,7 +10,7 @@ pub keep-requires-clause-lower : goal.keep-requires-clause-lower
 keep-requires-clause-lower c =
     let near = c.args.self.now.near.now in let t = tri_at (tris_of near) c.args.i in
     let e = own_is near c.args.i c.index-self-i.result c.requires.place in
-    subst (λ (us : List Tri). All (IsLower t) us) (sym c.deref-in-Some.ensures.value) (subst (λ (u : Tri). All (IsLower u) c.find_lower.new.lower.items) e c.in_ok-find_lower.ensures)
+    subst (λ (us : List Tri). All (IsLower t) us) (sym c.deref-in-Some.ensures.value) (subst (λ (u : Tri). All (IsLower u) c.find.new.self.lower.items) e c.in_ok-find.ensures)
 
 pub keep-requires-clause-regions : goal.keep-requires-clause-regions
 keep-requires-clause-regions c =

@@ -1,0 +1,46 @@
+-- What the leaves below a root give is what a task asks for.
+use Rattle.std.proofs.Common.{◌≡◌, ◌≤◌, ℕ, List, Vec, Global, Bor, sym, subst}
+use Rattle.ember_box.specs.Boxes as boxes
+use Rattle.ember_expr.specs.declared.formula.Tree.{Tree}
+use Rattle.ember_expr.specs.Formula.{formula_of}
+use Rattle.ember_job.specs.declared.job.Job.{Job}
+use Rattle.ember_job.specs.Visited.{leaves}
+use Rattle.ember_leaf.specs.declared.kept.Kept.{Kept}
+use Rattle.ember_leaf.specs.Leaves.{ArePlaced}
+use Rattle.ember_model.specs.declared.scene.Scene.{Scene}
+use Rattle.ember_pairs.specs.declared.pair.Pair.{Pair}
+use Rattle.ember_pairs.specs.Pairs.{AreMeetingPairs}
+use Rattle.ember_pairs.specs.Works.{job_at, pairs_shape}
+use Rattle.ember_visit.specs.Jobs.{near_of, root_job}
+use Rattle.ember_visit.specs.Values as values
+use Rattle.ember_voxel.specs.declared.fill.Fill.{Fill}
+use Rattle.ember_voxel.specs.Fills.{IsFill}
+use Rattle.ember_voxel.specs.Lattice as lattice
+use Rattle.steal_pool.specs.Merged.{EachAnswers}
+use Rattle.ember_run.specs.declared.task.Finds.TheVariants as finds
+use Rattle.ember_run.specs.declared.task.Found.{Found}
+use Rattle.ember_run.specs.declared.task.Task.{Task}
+use Rattle.ember_run.specs.declared.task.Task.TheVariants as task
+use Rattle.ember_run.specs.Runs.{HoldEntries}
+use Rattle.ember_run.specs.Tasks.{IsFound, IsTask}
+use Rattle.ember_run.proofs.SceneVerdicts.{root_is_valid}
+
+pub pairs_found : (asked : Task) (scene : Bor Scene) (root : Job) (items : Vec (List Pair) Global) → asked ≡ task.Pairs scene → root ≡ job_at scene.now.tris boxes.root → EachAnswers (λ job ps. AreMeetingPairs scene.now.tris job.list ps) (leaves (λ job. pairs_shape scene.now.tris job) root) items.items → IsFound asked (finds.Pairs items)
+pairs_found asked scene root items e f are =
+    subst (λ (asked : Task). IsFound asked (finds.Pairs items)) (sym e) (subst (λ (root : Job). EachAnswers (λ job ps. AreMeetingPairs scene.now.tris job.list ps) (leaves (λ job. pairs_shape scene.now.tris job) root) items.items) f are)
+
+pub fills_root : (asked : Task) (scene : Bor Scene) (expr : Bor Tree) (size : ℕ) (root : Job) → IsTask asked → asked ≡ task.Fills scene expr size → root ≡ root_job scene.now.tris → lattice.IsVoxelJob scene.now.tris size root
+fills_root asked scene expr size root may e f =
+    let sized : (4 ≤ size) × (size ≤ 12) = subst IsTask e may in
+    root_is_valid scene.now size root sized.1 f
+
+pub fills_found : (asked : Task) (scene : Bor Scene) (expr : Bor Tree) (size : ℕ) (root : Job) (fills : Vec Fill Global) → asked ≡ task.Fills scene expr size → root ≡ root_job scene.now.tris → EachAnswers (IsFill (formula_of expr.now)) (leaves (lattice.shape scene.now.tris (formula_of expr.now) size) root) fills.items → IsFound asked (finds.Fills fills)
+fills_found asked scene expr size root fills e f are =
+    subst (λ (asked : Task). IsFound asked (finds.Fills fills)) (sym e) (subst (λ (root : Job). EachAnswers (IsFill (formula_of expr.now)) (leaves (lattice.shape scene.now.tris (formula_of expr.now) size) root) fills.items) f are)
+
+pub kept_found : (asked : Task) (scene : Bor Scene) (expr : Bor Tree) (root : Job) (found : Found (List Kept)) → asked ≡ task.Kept scene expr → root ≡ root_job scene.now.tris → EachAnswers (λ job kept. ArePlaced (near_of scene.now.tris job) kept) (leaves (values.shape scene.now.tris (formula_of expr.now)) root) found.items.items → HoldEntries (values.shape scene.now.tris (formula_of expr.now)) root found.journals → IsFound asked (finds.Kept found)
+kept_found asked scene expr root found e f are holds =
+    subst (λ (asked : Task). IsFound asked (finds.Kept found)) (sym e) (
+      subst (λ (root : Job). EachAnswers (λ job kept. ArePlaced (near_of scene.now.tris job) kept) (leaves (values.shape scene.now.tris (formula_of expr.now)) root) found.items.items) f are,
+      subst (λ (root : Job). HoldEntries (values.shape scene.now.tris (formula_of expr.now)) root found.journals) f holds,
+    )

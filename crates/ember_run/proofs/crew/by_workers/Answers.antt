@@ -1,0 +1,18 @@
+use Rattle.ember_run.proofs.Findings.{fills_found, fills_root, kept_found, pairs_found}
+use Rattle.ember_run.proofs.crew.by_workers.Goals as goal
+
+pub found_by_workers-requires-in-Fills-clause-root : goal.found_by_workers-requires-in-Fills-clause-root
+found_by_workers-requires-in-Fills-clause-root g c κs within =
+    fills_root _ _ _ _ _ c.requires.task c.in-Fills.is c.in_ok-root-in-Fills.ensures.value
+
+pub returns-in_ok-found_by_workers-in-Pairs : goal.returns-in_ok-found_by_workers-in-Pairs
+returns-in_ok-found_by_workers-in-Pairs g c =
+    pairs_found _ _ _ _ c.in-Pairs.is c.in_ok-root-in-Pairs.ensures.value c.in_ok-found_by_workers-in-Pairs.ensures.items
+
+pub returns-in_ok-found_by_workers-in-Fills : goal.returns-in_ok-found_by_workers-in-Fills
+returns-in_ok-found_by_workers-in-Fills g c =
+    fills_found _ _ _ _ _ _ c.in-Fills.is c.in_ok-root-in-Fills.ensures.value c.in_ok-found_by_workers-in-Fills.ensures.items
+
+pub returns-in_ok-found_by_workers-in-Kept : goal.returns-in_ok-found_by_workers-in-Kept
+returns-in_ok-found_by_workers-in-Kept g c =
+    kept_found _ _ _ _ _ c.in-Kept.is c.in_ok-root-in-Kept.ensures.value c.in_ok-found_by_workers-in-Kept.ensures.items c.in_ok-found_by_workers-in-Kept.ensures.journals

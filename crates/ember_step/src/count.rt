@@ -1,0 +1,61 @@
+// How many regions a box writes.
+ghost use Rattle.std.specs.Prelude.{IfOk};
+ghost use Rattle.ember_expr.specs.Formula.{formula_of};
+ghost use Rattle.ember_job.specs.Works.{Answers};
+ghost use Rattle.ember_leaf.specs.Leaves.{ArePlaced};
+ghost use Rattle.ember_step.specs.Counts.{IsCount};
+ghost use Rattle.ember_visit.specs.Jobs.{IsJob, near_of};
+ghost use Rattle.ember_visit.specs.Values.{shape};
+
+use crate::step::box_step;
+use ember_expr::Expr;
+use ember_job::{Job, Outcome, Work};
+use ember_model::{OutOfMemory, Scene};
+use std::alloc::Global;
+
+/// The Boolean of an expression over a scene, of which only the numbers of written regions are
+/// kept: the work whose items are how many regions each leaf writes.
+#[derive(Drop)]
+pub struct CountWork<'a> {
+    pub scene: &'a Scene,
+    pub expr: &'a Expr,
+}
+
+impl<'a> Work for CountWork<'a> {
+    ghost use Rattle.ember_expr.specs.Formula.{formula_of};
+    ghost use Rattle.ember_leaf.specs.Leaves.{ArePlaced};
+    ghost use Rattle.ember_step.specs.Counts.{IsCount};
+    ghost use Rattle.ember_visit.specs.Jobs.{IsJob, near_of};
+    ghost use Rattle.ember_visit.specs.Values.{shape as shape_of};
+    ghost use Rattle.ember_visit.proofs.Laws.{halves_are_jobs, halves_are_split};
+
+    type Item = u64;
+
+    ghost valid = { λ w job. IsJob w.scene.now.tris job };
+
+    ghost shape = { λ w job. shape_of w.scene.now.tris (formula_of w.expr.now) job };
+
+    ghost item = { λ w job n. IsCount (ArePlaced (near_of w.scene.now.tris job)) n };
+
+    ghost halves_valid = { λ w job low high is e. halves_are_jobs w.scene.now.tris (formula_of w.expr.now) job low high w.scene.now.meshes w.scene.now.kept is e };
+
+    ghost halves_split = { λ w job low high is e. halves_are_split w.scene.now.tris (formula_of w.expr.now) job low high e };
+}
+
+/// What becomes of a job, as by `box_step`, with the number of written regions in place of the
+/// regions.
+pub fn count_step(
+    alloc: Global,
+    s: &Scene,
+    e: &Expr,
+    job: &Job,
+) -> Result<Outcome<u64>, OutOfMemory>
+    requires { IsJob s.now.tris job.now }
+    ensures { IfOk result (λ o. Answers (shape s.now.tris (formula_of e.now)) (λ j n. IsCount (ArePlaced (near_of s.now.tris j)) n) job.now o) }
+{
+    match box_step(alloc, s, e, job)? {
+        Outcome::Halves(low, high) => Ok(Outcome::Halves(low, high)),
+        Outcome::Leaf(kept) => Ok(Outcome::Leaf(kept.items().len() as u64)),
+        Outcome::Skipped => Ok(Outcome::Skipped),
+    }
+}
