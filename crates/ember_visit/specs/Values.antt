@@ -1,8 +1,11 @@
 -- What is known of an expression in a whole box, and what becomes of a job
-use Rattle.std.specs.Prelude.{ℕ, ◌==◌, ◌||◌, Bool, true, false, List, [], ◌∷◌, Option, None, Some}
+use Rattle.std.specs.Prelude.{ℕ, ◌≤ℤ◌, ◌<ℤ◌, ◌==◌, ◌||◌, Bool, true, false, List, [], ◌∷◌, Option, None, Some}
+use Rattle.ember_algebra.specs.Vector.{Vector}
 use Rattle.ember_model.specs.declared.tri.Tri.{Tri}
+use Rattle.ember_model.specs.declared.point.Axis.{Axis}
 use Rattle.ember_expr.specs.Formula.{Formula}
 use Rattle.ember_known.specs.Known.{known}
+use Rattle.ember_box.specs.Boxes.{Cell, along, low, high}
 use Rattle.ember_box.specs.Halving.{is_leaf, halving_axis}
 use Rattle.ember_job.specs.declared.job.Job.{Job}
 use Rattle.ember_job.specs.Works.{Shape, halved, leafed, passed}
@@ -16,6 +19,11 @@ has_mesh (t ∷ ts) n = n == t.mesh || has_mesh ts n
 -- the value of a box, where it is known: the meshes that have a triangle near the box are undecided, and the others count as at its reference point
 unfoldable pub box_value : List Tri → Formula → Job → Option Bool
 box_value ts f j = known (has_mesh (near_of ts j)) j.at.counts f
+
+-- the corner lies in the half-open box, so the reference point of a box with this least corner does
+pub record HasCorner (c : Cell) (v : Vector) : Type 0 where
+  pub from : (k : Axis) → low c k ≤ℤ along k v
+  pub until : (k : Axis) → along k v <ℤ high c k
 
 abbrev pub unless_known : Option Bool → Shape → Shape
 unless_known (Some b) s = passed

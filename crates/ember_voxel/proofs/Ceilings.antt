@@ -6,7 +6,7 @@ use Rattle.std.proofs.lemmas.Int.{ints}
 use Rattle.std.proofs.Math.Nat.{mul-le-mul_right, div-mul-le_self, pow-le-pow_right}
 use Rattle.ember_box.proofs.Orders.{same_test, le_in, le_out}
 
-times_more : (a b : ℕ) → (a + 1) * b ≡ a * b + b
+pub times_more : (a b : ℕ) → (a + 1) * b ≡ a * b + b
 times_more a b = omega arith
 
 module _ (d : ℕ) (some : 0 < d) (x : ℕ) where

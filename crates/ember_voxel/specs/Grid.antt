@@ -43,11 +43,15 @@ pub record IsGrid (n : ℕ) (bit : ℕ → ℕ → ℕ → Bool) (rows : List �
 abbrev pub header_of : ℕ → ℕ → List ℕ
 header_of size n = codes "voxels " ++ decimal size ++ codes " " ++ decimal n ++ codes "\n"
 
--- the text of the cells of side 2 ^ size, with the number of ones
-pub record IsGridText (size : ℕ) (fills : List Fill) (text : List ℕ) : Type 0 where
+-- the text of the cells of side 2 ^ size with these bits, with the number of ones
+pub record IsTextOfBits (size : ℕ) (bit : ℕ → ℕ → ℕ → Bool) (text : List ℕ) : Type 0 where
   pub rows : List ℕ
-  pub grid : IsGrid (2 ^ (12 - size)) (lit size fills) rows
+  pub grid : IsGrid (2 ^ (12 - size)) bit rows
   pub is : text ≡ header_of size (2 ^ (12 - size)) ++ rows ++ (codes "end " ++ decimal (count_by is_one rows) ++ codes "\n")
+
+-- the text of the cells that these boxes have
+abbrev pub IsGridText : ℕ → List Fill → List ℕ → Type 0
+IsGridText size fills text = IsTextOfBits size (lit size fills) text
 
 -- ---- while it is made
 abbrev pub between : Extent → ℕ → Bool

@@ -55,7 +55,7 @@ module _ (ts : List Tri) (f : Formula) (size : ℕ) (j l r : Job) where
       }
 
 pub one_fill : (f : Formula) (j : Job) (x y : Fill) → IsFill f j x → IsFill f j y → x ≡ y
-one_fill f j x y a b = let c : x.cell ≡ y.cell = a.cell ∙ sym b.cell in let d : x.bit ≡ y.bit = a.bit ∙ sym b.bit in λ i. record { cell = c i; bit = d i }
+one_fill f j x y a b = a ∙ sym b
 
 -- the root's job
 pub root_is_voxel_job : (ts : List Tri) (n size : ℕ) → IsScene ts n → size ≤ 12 → IsVoxelJob ts size (root_job ts)

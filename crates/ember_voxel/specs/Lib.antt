@@ -4,3 +4,4 @@ pub mod Fills
 pub mod Sides
 pub mod Laws
 pub mod Grid
+pub mod Voxels

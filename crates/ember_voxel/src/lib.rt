@@ -3,10 +3,12 @@
 
 mod fill;
 mod grid;
+mod law;
 mod step;
 #[cfg(test)]
 mod tests;
 
 pub use fill::{Fill, FillList};
 pub use grid::grid_text;
+pub use law::{bits_have_one_text, each_cell_has_its_value};
 pub use step::{VoxelWork, voxel_step};

@@ -14,7 +14,7 @@ bit_of-requires-clause-counts c = counts_within c.args.s.now.tris c.args.job.now
 
 pub returns-in-Some : goal.returns-in-Some
 returns-in-Some c =
-    (leaf_by c.args.s.now.tris (formula_of c.args.e.now) c.args.size c.args.job.now c.in-Some.ensures.ends, record { cell = c.copy.ensures; bit = c.in-Some.ensures.bit })
+    (leaf_by c.args.s.now.tris (formula_of c.args.e.now) c.args.size c.args.job.now c.in-Some.ensures.ends, λ i. record { cell = c.copy.ensures i; bit = c.in-Some.ensures.bit i })
 
 pub halve_job-requires-clause-side : goal.halve_job-requires-clause-side
 halve_job-requires-clause-side c =
