@@ -1,5 +1,5 @@
 -- What is known of the expression in the box of a job is its truth directly beside the box too.
-use Rattle.std.proofs.Common.{◌≡◌, ℕ, zero, suc, ◌-◌, ◌<◌, ◌≤◌, ◌==◌, ◌||◌, Bool, true, false, not, cond, nat_eq, List, [], ◌∷◌, map, filter, Some, ℤ, pos, ◌*ℤ◌, ◌+ℤ◌, ◌<ℤ◌, ◌≤ℤ◌, refl, sym, ap, ◌∙◌, subst, arith}
+use Rattle.std.proofs.Common.{◌≡◌, ℕ, ◌-◌, ◌≤◌, ◌==◌, Bool, true, false, cond, nat_eq, List, [], ◌∷◌, Some, ℤ, pos, ◌*ℤ◌, ◌<ℤ◌, refl, sym, ◌∙◌, subst, arith}
 use Rattle.std.specs.List.{AllByRecursion}
 use Rattle.std.proofs.lemmas.Bool.{or_parts, eq-eqb, eqb-true}
 use Rattle.std.proofs.lemmas.List.FromFn.{get_or-map-range_with_len}
@@ -34,7 +34,7 @@ use Rattle.ember_ref.proofs.ClearReferences.{clear_references}
 use Rattle.ember_ref.proofs.FarTriangles.{misses_far}
 use Rattle.ember_trace.proofs.WayPoints.{moved_weight}
 use Rattle.ember_trace.proofs.OneSides.{value_beside, held_misses}
-use Rattle.ember_leaf.specs.Scenes.{IsBeside, HasOneValue}
+use Rattle.ember_leaf.specs.Scenes.{HasOneValue}
 use Rattle.ember_job.specs.declared.job.Job.{Job}
 use Rattle.ember_visit.specs.Jobs.{near_of, IsJob}
 use Rattle.ember_visit.specs.Values.{has_mesh, box_value}
