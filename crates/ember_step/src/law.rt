@@ -5,7 +5,7 @@ ghost use Rattle.ember_model.specs.declared.tri.Tri.{Tri};
 ghost use Rattle.ember_model.specs.declared.face.Face.{Face};
 ghost use Rattle.ember_model.specs.Meshes.{IsScene};
 ghost use Rattle.ember_model.specs.Sides.{IsSides};
-ghost use Rattle.ember_expr.specs.Formula.{Formula, IsFit};
+ghost use Rattle.ember_expr.specs.Formula.{Formula, IsFit, formula_of};
 ghost use Rattle.ember_expr.specs.Truth.{truth};
 ghost use Rattle.ember_box.specs.Boxes.{Cell};
 ghost use Rattle.ember_box.specs.Near.{near};
@@ -18,6 +18,9 @@ ghost use Rattle.ember_leaf.specs.Scenes.{HasOneValue, IsWritten};
 ghost use Rattle.ember_visit.specs.Jobs.{IsJob, root_job};
 ghost use Rattle.ember_visit.specs.Values.{box_value, shape};
 
+use ember_expr::{Expr, tree};
+use ember_model::Scene;
+
 /// Where the value of a box is known, the expression has one value in the box and directly beside
 /// it: on both sides of each region of a leaf in it, so that none is written.
 pub fn known_boxes_write_nothing()
@@ -26,10 +29,13 @@ pub fn known_boxes_write_nothing()
     ensures nothing { (ts : List Tri) (meshes : ℕ) (f : Formula) (c : Cell) (kept : List Kept) → IsScene ts meshes → HasOneValue ts f c → IsWrittenIn ts f c (near ts c) kept → kept ≡ [] }
 {}
 
-/// What the visited leaves write, one after another, is what the leaves of the full tree write.
-pub fn visited_leaves_write_all()
-    ensures { (ts : List Tri) (meshes : ℕ) (f : Formula) (kept : List Kept) → IsScene ts meshes → IsFit 64 f → Each (λ job ks. IsWrittenIn ts f job.cell (near ts job.cell) ks) (leaves (shape ts f) (root_job ts)) kept → IsWritten ts f kept }
-{}
+/// What the visited leaves of a Boolean write, one after another, is what the leaves of the full
+/// tree write.
+pub fn visited_leaves_write_all(_s: &Scene, e: &Expr)
+    ensures { (kept : List Kept) → Each (λ job ks. IsWrittenIn _s.now.tris (formula_of e.now) job.cell (near _s.now.tris job.cell) ks) (leaves (shape _s.now.tris (formula_of e.now)) (root_job _s.now.tris)) kept → IsWritten _s.now.tris (formula_of e.now) kept }
+{
+    tree(e);
+}
 
 /// The written regions of a leaf are one list, and so are those of a scene.
 pub fn written_regions_are_one_list()
