@@ -1,10 +1,11 @@
 // The sides of a region, by the crossings on the way to it.
-ghost use Rattle.std.specs.Prelude.{◌≡◌, ℕ, ◌+◌, ◌≤◌, All, IfOk, length, neg_ℤ};
+ghost use Rattle.std.specs.Prelude.{◌≡◌, ℕ, ◌+◌, ◌≤◌, All, IfOk, length, map, neg_ℤ};
 ghost use Rattle.ember_algebra.specs.Size.{Small};
 ghost use Rattle.ember_model.specs.Valid.{IsValidTri};
 ghost use Rattle.ember_model.specs.Meshes.{HasMesh};
 ghost use Rattle.ember_law.specs.Counts.{with_more};
-ghost use Rattle.ember_trace.specs.Facets.{AreBoxCounts, StayWithin};
+ghost use Rattle.ember_trace.specs.Boxed.{AreSides, AreRegionSides};
+ghost use Rattle.ember_trace.specs.Facets.{AreBoxCounts, StartsIn, StayWithin, tri_of};
 ghost use Rattle.ember_trace.specs.Crossings.{AreTraced, AreTracedBy};
 
 use crate::facet::Facet;
@@ -30,11 +31,13 @@ fn take_from(v: &mut Vector, mesh: u32, less: i32)
 }
 
 /// The sides of a region of a box, from the winding numbers at the reference point of the box and
-/// the crossings of two ways from there to the region with the triangles near the box.
+/// the crossings of two ways from there to the region with the triangles near the box: the winding
+/// numbers directly before and after it, in every scene that fits what is known at the box.
 pub fn sides_beside(near: &[Facet], c: &Cell, v: &Vector, r: &Ring) -> Sides
     requires few { length near.now ≤ 262144 }
     requires counts { AreBoxCounts v.now.counts }
     ensures traced { AreTraced c.now near.now v.now.counts r.now result }
+    ensures sides { All (StartsIn c.now) near.now → AreSides (map tri_of near.now) c.now v.now.counts r.now result }
     ensures before { StayWithin (length near.now) v.now.counts result.before.counts }
     ensures after { StayWithin (length near.now) v.now.counts result.after.counts }
 {
@@ -64,6 +67,8 @@ pub fn sides_traced(
     requires few { length near.now ≤ 262144 }
     requires counts { AreBoxCounts v.now.counts }
     ensures traced { IfOk result (λ s. AreTracedBy near.now c.now v.now.counts r.now s) }
+    ensures sides { IfOk result (λ s. AreSides near.now c.now v.now.counts r.now s) }
+    ensures region { IfOk result (λ s. AreRegionSides near.now c.now v.now.counts r.now s) }
     ensures before { IfOk result (λ s. StayWithin (length near.now) v.now.counts s.before.counts) }
     ensures after { IfOk result (λ s. StayWithin (length near.now) v.now.counts s.after.counts) }
 {

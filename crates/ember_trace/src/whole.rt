@@ -4,6 +4,7 @@ ghost use Rattle.ember_algebra.specs.Size.{Small};
 ghost use Rattle.ember_algebra.specs.Sign.{is_neg};
 ghost use Rattle.ember_model.specs.Valid.{IsValidTri, IsValidPlane};
 ghost use Rattle.ember_model.specs.Meshes.{HasMesh};
+ghost use Rattle.ember_model.specs.Sides.{IsSides};
 ghost use Rattle.ember_trace.specs.Ways.{inside_side};
 ghost use Rattle.ember_trace.specs.Crossings.{is_pierced, ray_before, ray_after, AreRayCounts};
 
@@ -78,13 +79,15 @@ fn ray_after(t: &Tri, k: Axis, at: &Corners) -> i32
     }
 }
 
-/// The sides of a region, from the crossings of whole rays along its main axis with all triangles.
+/// The sides of a region, from the crossings of whole rays along its main axis with all triangles:
+/// the winding numbers directly before and after it.
 /// Meshes are numbered from 1 to 64.
 pub fn sides_by_rays(tris: &[Tri], r: &Ring) -> Sides
     requires valid { All IsValidTri tris.now }
     requires numbered { All (HasMesh 64) tris.now }
     requires few { length tris.now ≤ 262144 }
     ensures counted { AreRayCounts tris.now r.now result }
+    ensures sides { IsSides tris.now r.now result.before.counts result.after.counts }
     ensures before { All (Small (length tris.now)) result.before.counts }
     ensures after { All (Small (length tris.now)) result.after.counts }
 {
@@ -107,6 +110,7 @@ pub fn sides_by_rays(tris: &[Tri], r: &Ring) -> Sides
 /// The sides of a region of a box, as `sides_by_rays` gives them for all triangles of the scene.
 pub fn sides_whole(_alloc: Global, s: &Scene, r: &Ring) -> Result<Sides, OutOfMemory>
     ensures counted { IfOk result (λ x. AreRayCounts s.now.tris r.now x) }
+    ensures sides { IfOk result (λ x. IsSides s.now.tris r.now x.before.counts x.after.counts) }
     ensures before { IfOk result (λ x. All (Small (length s.now.tris)) x.before.counts) }
     ensures after { IfOk result (λ x. All (Small (length s.now.tris)) x.after.counts) }
 {

@@ -1,4 +1,4 @@
-use Rattle.std.proofs.Common.{ap, ◌∙◌, ◌+◌, ◌*◌, arith, List}
+use Rattle.std.proofs.Common.{refl, ap, map, ◌∙◌, ◌+◌, ◌*◌, arith, List}
 use mir.Syntax.{w32}
 use Rattle.std.proofs.lemmas.List.{take_all}
 use Rattle.ember_algebra.proofs.Exact.{input, stored, ◌&◌, done, exact}
@@ -6,6 +6,8 @@ use Rattle.ember_trace.specs.declared.facet.Facet.{Facet}
 use Rattle.ember_law.proofs.Grown.{all_within}
 use Rattle.ember_trace.specs.Crossings.{taken, crossing_before, crossing_after}
 use Rattle.ember_trace.proofs.Tallies.{taken_more}
+use Rattle.ember_trace.specs.Facets.{tri_of}
+use Rattle.ember_trace.proofs.TracedSides.{are_sides}
 use Rattle.ember_trace.proofs.sides.sides_beside.Goals as goal
 
 pub take_from-requires-clause-room : goal.take_from-requires-clause-room
@@ -50,3 +52,8 @@ returns-clause-traced c =
       before = c.loop-f.invariant.traced_before ∙ ap (λ (fs : List Facet). taken (crossing_before w) fs v) all;
       after = c.loop-f.invariant.traced_after ∙ ap (λ (fs : List Facet). taken (crossing_after w) fs v) all;
     }
+
+pub returns-clause-sides : goal.returns-clause-sides
+returns-clause-sides c = λ starts.
+    let near = c.args.near.now in
+    are_sides (map tri_of near) c.args.c.now c.args.v.now.counts c.args.r.now _ near (record { tris = refl; starts = starts }) (returns-clause-traced c)

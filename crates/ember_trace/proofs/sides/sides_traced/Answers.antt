@@ -1,7 +1,10 @@
-use Rattle.std.proofs.Common.{ℕ, List, length, ap, ◌∙◌, subst}
+use Rattle.std.proofs.Common.{ℕ, List, All, map, length, sym, ap, ◌∙◌, subst}
+use Rattle.ember_model.specs.declared.tri.Tri.{Tri}
 use Rattle.ember_trace.specs.declared.facet.Facet.{Facet}
-use Rattle.ember_trace.specs.Facets.{StayWithin}
+use Rattle.ember_trace.specs.Boxed.{AreSides}
+use Rattle.ember_trace.specs.Facets.{StartsIn, StayWithin, tri_of}
 use Rattle.ember_trace.specs.Crossings.{AreTraced}
+use Rattle.ember_trace.proofs.BoxedRegions.{regions_lie_in}
 use Rattle.ember_trace.proofs.FacetLists.{facets_length}
 use Rattle.ember_trace.proofs.sides.sides_traced.Goals as goal
 
@@ -22,3 +25,12 @@ returns-clause-traced c =
       are_facets = c.in_ok-near.ensures;
       traced = subst (λ (fs : List Facet). AreTraced c.args.c.now fs c.args.v.now.counts c.args.r.now c.sides_beside.result) c.as_slice.ensures.value c.sides_beside.ensures.traced;
     }
+
+pub returns-clause-sides : goal.returns-clause-sides
+returns-clause-sides c =
+    let fs = c.in_ok-near.ensures in let s = c.sides_beside.result in
+    let starts = subst (λ (gs : List Facet). All (StartsIn c.args.c.now) gs) (sym c.as_slice.ensures.value) fs.starts in
+    subst (λ (ts : List Tri). AreSides ts c.args.c.now c.args.v.now.counts c.args.r.now s) (ap (λ (gs : List Facet). map tri_of gs) c.as_slice.ensures.value ∙ fs.tris) (c.sides_beside.ensures.sides starts)
+
+pub returns-clause-region : goal.returns-clause-region
+returns-clause-region c = λ r. returns-clause-sides c (regions_lie_in c.args.c.now c.args.near.now r.tri r.place r.regions c.args.r.now r.are_regions r.here)

@@ -8,6 +8,7 @@ use Rattle.ember_model.specs.declared.point.Axis.{Axis}
 use Rattle.ember_model.specs.declared.tri.Tri.{Tri}
 use Rattle.ember_model.specs.Planes.{main_axis}
 use Rattle.ember_trace.specs.Crossings.{counted, ray_before, ray_after}
+use Rattle.ember_trace.proofs.RaySides.{ray_sides}
 use Rattle.ember_trace.proofs.Tallies.{counted_more}
 use Rattle.ember_trace.proofs.whole.sides_by_rays.Goals as goal
 
@@ -44,3 +45,6 @@ returns-clause-counted c =
       before = c.loop-t.invariant.counted_before ∙ ap (λ (k : Axis). counted (λ t. ray_before t k a b d) (take c.loop-t.t-index ts) (replicate 64 (pos 0))) main ∙ ap (λ (us : List Tri). counted (λ t. ray_before t (main_axis c.args.r.now.support) a b d) us (replicate 64 (pos 0))) all;
       after = c.loop-t.invariant.counted_after ∙ ap (λ (k : Axis). counted (λ t. ray_after t k a b d) (take c.loop-t.t-index ts) (replicate 64 (pos 0))) main ∙ ap (λ (us : List Tri). counted (λ t. ray_after t (main_axis c.args.r.now.support) a b d) us (replicate 64 (pos 0))) all;
     }
+
+pub returns-clause-sides : goal.returns-clause-sides
+returns-clause-sides c = ray_sides c.args.tris.now c.args.r.now _ c.requires.valid c.requires.numbered (returns-clause-counted c)

@@ -1,0 +1,96 @@
+-- The regions of a triangle in a box lie in the closed box.
+use Rattle.std.proofs.Common.{◌≡◌, refl, subst, arith, ℕ, zero, suc, Bool, true, false, not, ◌&&◌, List, [], ◌∷◌, map, None, Some, slice_get, pos, ◌<ℤ◌}
+use Rattle.ember_algebra.specs.Relations.{Each, Chain, none, more, done, step, Every}
+use Rattle.ember_algebra.specs.Sign.{is_positive}
+use Rattle.ember_algebra.proofs.Relations.{every_append}
+use Rattle.ember_algebra.proofs.Laws.{linear}
+use Rattle.ember_algebra.proofs.Order.{by_sign}
+use Rattle.ember_model.specs.declared.plane.Plane.{Plane}
+use Rattle.ember_model.specs.declared.point.Spot.{Spot}
+use Rattle.ember_model.specs.declared.face.Face.{Face}
+use Rattle.ember_model.specs.declared.tri.Tri.{Tri}
+use Rattle.ember_model.specs.Planes.{value_at, opposite}
+use Rattle.ember_model.specs.Faces.{is_inside, is_flat, face_of, Everywhere, Cuts}
+use Rattle.ember_model.specs.ClearTest.{none_positive}
+use Rattle.ember_model.proofs.SignTests.{negative_out, negative_in, positive_in, not_positive_in}
+use Rattle.ember_box.specs.Boxes.{Cell}
+use Rattle.ember_box.specs.Near.{tri_at}
+use Rattle.ember_box.specs.Regions.{Wall, walls, AtWall, cut, outside, in_high, stays, Blade, AtBlade, splits, whole, IsRegions}
+use Rattle.ember_trace.specs.Boxed.{LiesIn}
+use Rattle.ember_trace.proofs.FilledFaces.{inside_below, fills}
+
+-- what holds of what each member gives, where the member has a property
+each_every : {X Y : Type 0} {R : X → List Y → Type 0} (P : X → Type 0) (Q : Y → Type 0) → ((x : X) (ys : List Y) → P x → R x ys → Every Q ys) → {xs : List X} {ys : List Y} → Each R xs ys → Every P xs → Every Q ys
+each_every P Q f none h = tt
+each_every P Q f (more {x = x} {xs = xs} {ys = ys} {zs = zs} r e) h = every_append Q ys zs (f x ys h.0 r) (each_every P Q f e h.1)
+
+-- ---- walls
+abbrev NotPast : Wall → Spot → Type 0
+NotPast w v = not (is_positive (value_at w.plane v)) ≡ true
+
+-- what isn't cut and doesn't lie above a plane isn't past it anywhere
+not_past : (f : Face) (p : Plane) → (Cuts f p → ⊥) → (Everywhere f (λ v. is_positive (value_at p v) ≡ true) → ⊥) → (v : Spot) → is_inside f v ≡ true → not (is_positive (value_at p v)) ≡ true
+not_past f p uncut aside v i =
+    by_sign (value_at p v) (λ l. absurd (aside (record { holds = λ u j. all u j l }))) (λ z. not_positive_in (value_at p v) (omega (arith, linear, z))) (λ l. not_positive_in (value_at p v) (omega (arith, linear, l)))
+  where
+    all : (u : Spot) → is_inside f u ≡ true → pos 0 <ℤ value_at p v → is_positive (value_at p u) ≡ true
+    all u j l =
+        by_sign (value_at p u) (λ m. positive_in m) (λ z. absurd (uncut (fills f p v u i j l z))) (λ m. absurd (uncut (record { low = record { at = u; inside = j; holds = negative_in m }; high = record { at = v; inside = i; holds = positive_in l } })))
+
+at_wall : (w : Wall) (Q : Spot → Type 0) (f : Face) (fs : List Face) → Everywhere f Q → AtWall w f fs → Every (λ g. Everywhere g (λ v. Q v × NotPast w v)) fs
+at_wall w Q f fs h (cut c) =
+    (record { holds = λ v i. let j = inside_below f w.plane v i in let n = negative_out (value_at w.plane v) j.1 in (h.holds v j.0, not_positive_in (value_at w.plane v) (omega (arith, linear, n))) }, tt)
+at_wall w Q f fs h (outside a) = tt
+at_wall w Q f fs h (in_high b o) = tt
+at_wall w Q f fs h (stays c a o) = (record { holds = λ v i. (h.holds v i, not_past f w.plane c a v i) }, tt)
+
+every_map : {X : Type 0} (P Q : X → Type 0) → ((x : X) → P x → Q x) → (xs : List X) → Every P xs → Every Q xs
+every_map P Q f [] h = tt
+every_map P Q f (x ∷ xs) h = (f x h.0, every_map P Q f xs h.1)
+
+abbrev PastNone : List Wall → Spot → Type 0
+PastNone ws v = none_positive (map (λ w. w.plane) ws) v ≡ true
+
+at_walls : {ws : List Wall} {fs gs : List Face} (Q : Spot → Type 0) → Chain (λ w. Each (AtWall w)) ws fs gs → Every (λ f. Everywhere f Q) fs → Every (λ g. Everywhere g (λ v. Q v × PastNone ws v)) gs
+at_walls Q (done {a = fs}) h =
+    every_map (λ f. Everywhere f Q) (λ f. Everywhere f (λ v. Q v × PastNone [] v)) (λ f e. record { holds = λ v i. (e.holds v i, refl) }) fs h
+at_walls Q (step {x = w} {xs = ws} {c = gs} r c) h =
+    every_map (λ g. Everywhere g (λ v. (Q v × NotPast w v) × PastNone ws v)) (λ g. Everywhere g (λ v. Q v × PastNone (w ∷ ws) v)) (λ g e. record { holds = λ v i. let a = e.holds v i in (a.0.0, both a.0.1 a.1) }) gs (at_walls (λ v. Q v × NotPast w v) c (each_every (λ f. Everywhere f Q) (λ g. Everywhere g (λ v. Q v × NotPast w v)) (λ f fs e a. at_wall w Q f fs e a) r h))
+  where
+    both : {a b : Bool} → a ≡ true → b ≡ true → a && b ≡ true
+    both x y = λ i. x i && y i
+
+-- ---- blades
+at_blade : (b : Blade) (Q : Spot → Type 0) (f : Face) (fs : List Face) → Everywhere f Q → AtBlade b f fs → Every (λ g. Everywhere g Q) fs
+at_blade b Q f fs h (splits m c) =
+    (record { holds = λ v i. h.holds v (inside_below f b.plane v i).0 }, (record { holds = λ v i. h.holds v (inside_below f (opposite b.plane) v i).0 }, tt))
+at_blade b Q f fs h (whole m) = (h, tt)
+
+at_blades : {bs : List Blade} {fs gs : List Face} (Q : Spot → Type 0) → Chain (λ b. Each (AtBlade b)) bs fs gs → Every (λ f. Everywhere f Q) fs → Every (λ g. Everywhere g Q) gs
+at_blades Q done h = h
+at_blades Q (step {x = b} r c) h =
+    at_blades Q c (each_every (λ f. Everywhere f Q) (λ g. Everywhere g Q) (λ f fs e a. at_blade b Q f fs e a) r h)
+
+-- ---- regions
+every_at : {X : Type 0} (P : X → Type 0) (xs : List X) (i : ℕ) (x : X) → Every P xs → slice_get xs i ≡ Some x → P x
+every_at P [] i x h e = absurd (by e)
+  where
+    by : None ≡ Some x → ⊥
+    by e = cc
+every_at P (y ∷ ys) zero x h e = subst P (by e) h.0
+  where
+    by : Some y ≡ Some x → y ≡ x
+    by e = cc
+every_at P (y ∷ ys) (suc i) x h e = every_at P ys i x h.1 e
+
+pub regions_lie_in : (c : Cell) (ts : List Tri) (i j : ℕ) (fs : List Face) (f : Face) → IsRegions c ts i fs → slice_get fs j ≡ Some f → LiesIn c f
+regions_lie_in c ts i j fs f r e =
+    record { holds = λ v h. ((every_at (λ g. Everywhere g (λ v. Unit {0} × PastNone (walls c) v)) fs j f all e).holds v h).1 }
+  where
+    begun : (b : Bool) (t : Tri) → Every (λ f. Everywhere f (λ v. Unit {0})) (elim b [ true ↦ [] | false ↦ face_of t ∷ [] ])
+    begun true t = tt
+    begun false t = (record { holds = λ v h. tt }, tt)
+
+    all : Every (λ g. Everywhere g (λ v. Unit {0} × PastNone (walls c) v)) fs
+    all =
+        at_blades (λ v. Unit {0} × PastNone (walls c) v) r.cuts (at_walls (λ v. Unit {0}) r.is_start (begun (is_flat (tri_at ts i)) (tri_at ts i)))

@@ -1,0 +1,202 @@
+-- The counts that the ways to a region give are the winding numbers directly before and after it.
+use Rattle.std.proofs.Common.{◌≡◌, refl, sym, ap, subst, ◌∙◌, arith, ℕ, true, cond, ◌&&◌, List, map, get_or, Some, slice_get, ℤ, pos, ◌+ℤ◌, ◌-ℤ◌, ◌*ℤ◌, neg_ℤ, ◌≤ℤ◌}
+use Rattle.ember_algebra.specs.Vector.{Vector}
+use Rattle.ember_algebra.specs.Size.{Small}
+use Rattle.ember_algebra.specs.declared.Sign.{Sign}
+use Rattle.ember_algebra.specs.Sign.{sign, sgn, flip, times, is_neg}
+use Rattle.ember_algebra.proofs.Laws.{linear}
+use Rattle.ember_algebra.proofs.Ring.{◌⊕◌, ◌⊖◌, ◌⊗◌, ◌≈◌, num, neg, solve, cancels}
+use Rattle.ember_algebra.proofs.Signs.{sgn-mul}
+use Rattle.ember_model.specs.declared.point.Spot.{Spot}
+use Rattle.ember_model.specs.declared.point.Axis.{Axis}
+use Rattle.ember_model.specs.declared.point.Axis.TheVariants.{X, Y, Z}
+use Rattle.ember_model.specs.declared.plane.Plane.{Plane}
+use Rattle.ember_model.specs.declared.tri.Tri.{Tri}
+use Rattle.ember_model.specs.declared.face.Face.{Face}
+use Rattle.ember_model.specs.Planes.{value_at, along, main_axis, opposite, support_of}
+use Rattle.ember_model.specs.Points.{DifferAlong}
+use Rattle.ember_model.specs.Valid.{IsValidTri}
+use Rattle.ember_model.specs.Faces.{face_of, is_inside, crossing, leg}
+use Rattle.ember_model.specs.Clear.{AreClear}
+use Rattle.ember_model.specs.Meshes.{faces_of, vector, IsScene}
+use Rattle.ember_model.specs.Sides.{IsSides}
+use Rattle.ember_model.proofs.FourSigns.{crossing_is}
+use Rattle.ember_model.proofs.Hits.{inside_parts}
+use Rattle.ember_model.proofs.PlaneSizes.{support_sized}
+use Rattle.ember_law.specs.Counts.{added, leg_vector}
+use Rattle.ember_law.proofs.Flats.{flat_crossing, flat_leg}
+use Rattle.ember_law.proofs.Tallies.{tally}
+use Rattle.ember_law.proofs.Vectors.{axes_law, legs_law}
+use Rattle.ember_point.specs.declared.corner.Meet.{Meet}
+use Rattle.ember_point.specs.Points.{spot_of}
+use Rattle.ember_box.specs.Boxes.{Cell, low, high}
+use Rattle.ember_box.specs.Spans.{span_between}
+use Rattle.ember_box.specs.Near.{is_near}
+use Rattle.ember_box.specs.Reference.{reference_at, Fits}
+use Rattle.ember_box.specs.Regions.{walls, level}
+use Rattle.ember_ref.specs.References.{or_sign}
+use Rattle.ember_ref.proofs.NearPoints.{HasPoint, IsAcross, coordinate as along_point}
+use Rattle.ember_ref.proofs.ReferenceLegs.{weight_at}
+use Rattle.ember_ref.proofs.FarTriangles.{legs_near}
+use Rattle.ember_trace.specs.declared.facet.Facet.{Facet}
+use Rattle.ember_trace.specs.declared.way.Way.{Way}
+use Rattle.ember_trace.specs.declared.pair.Sides.{Sides}
+use Rattle.ember_trace.specs.Facets.{AreFacets, StartsIn}
+use Rattle.ember_trace.specs.Ways.{coordinate, first_of, second_of, side_at_end, IsWay}
+use Rattle.ember_trace.specs.Crossings.{taken, legs_in_wall, last_leg, crossing_before, crossing_after, AreTraced}
+use Rattle.ember_trace.specs.Boxed.{LiesIn, AreSides}
+use Rattle.ember_trace.proofs.Places.{coordinate_small}
+use Rattle.ember_trace.proofs.WayPoints.{entries, differ_with, differ_last}
+use Rattle.ember_trace.proofs.WaySigns.{AreStops, stop_at_start, stop_after_first, stop_after_second, start_sign}
+use Rattle.ember_trace.proofs.Corners.{AreFirst, first_corners, none_at}
+use Rattle.ember_trace.proofs.FacetLegs.{IsEnd, edges_behind, differ_back, start_weight, first_legs, final_leg}
+use Rattle.ember_trace.proofs.RegionEnds.{find, far_out, stops_from, before_end, after_end}
+use Rattle.ember_trace.proofs.ClearStops.{generic_clear, has_with, has_start, start_generic, first_generic, second_generic, end_generic}
+use Rattle.ember_trace.proofs.FarLegs.{last_far}
+use Rattle.ember_trace.proofs.MeshSums.{LeavesFlat, tally_same, tally_kept, tally_both, taken_legs}
+
+-- ---- in the box
+-- a plane across an axis, and its opposite
+level_value : (k : Axis) (h : ℤ) (v : Spot) → value_at (level k h) v ≡ along_point k v -ℤ h *ℤ v.w
+level_value X h v = solve 5 (λ h x y z w. num (pos 1) ⊗ x ⊕ num (pos 0) ⊗ y ⊕ num (pos 0) ⊗ z ⊖ h ⊗ w ≈ x ⊖ h ⊗ w) cancels h v.x v.y v.z v.w
+level_value Y h v = solve 5 (λ h x y z w. num (pos 0) ⊗ x ⊕ num (pos 1) ⊗ y ⊕ num (pos 0) ⊗ z ⊖ h ⊗ w ≈ y ⊖ h ⊗ w) cancels h v.x v.y v.z v.w
+level_value Z h v = solve 5 (λ h x y z w. num (pos 0) ⊗ x ⊕ num (pos 0) ⊗ y ⊕ num (pos 1) ⊗ z ⊖ h ⊗ w ≈ z ⊖ h ⊗ w) cancels h v.x v.y v.z v.w
+
+opposite_value : (p : Plane) (v : Spot) → value_at (opposite p) v ≡ neg_ℤ (value_at p v)
+opposite_value p v =
+    solve 8 (λ a b c d x y z w. neg a ⊗ x ⊕ neg b ⊗ y ⊕ neg c ⊗ z ⊖ neg d ⊗ w ≈ neg (a ⊗ x ⊕ b ⊗ y ⊕ c ⊗ z ⊖ d ⊗ w)) cancels p.a p.b p.c p.d v.x v.y v.z v.w
+
+in_box : (c : Cell) (f : Face) (q : Spot) → LiesIn c f → is_inside f q ≡ true → HasPoint c q
+in_box c f q l i =
+    record { weight = (inside_parts f q i).0; on_x = across X (wall 0 _ refl) (wall 1 _ refl); on_y = across Y (wall 2 _ refl) (wall 3 _ refl); on_z = across Z (wall 4 _ refl) (wall 5 _ refl) }
+  where
+    wall : (j : ℕ) (p : Plane) → slice_get (map (λ w. w.plane) (walls c)) j ≡ Some p → value_at p q ≤ℤ pos 0
+    wall j p e = none_at (map (λ w. w.plane) (walls c)) q (l.holds q i) j p e
+
+    across : (k : Axis) → value_at (opposite (level k (low c k))) q ≤ℤ pos 0 → value_at (level k (high c k)) q ≤ℤ pos 0 → IsAcross (span_between (low c k) (high c k)) (along_point k q) q.w
+    across k a b =
+        let x = opposite_value (level k (low c k)) q in let y = level_value k (low c k) q in let z = level_value k (high c k) q in
+        record { from = omega (arith, linear, a, x, y); to = omega (arith, linear, b, z) }
+
+-- ---- the vector at the start
+-- is the same at all points that are close enough to the corner
+module _ (k : Axis) (lo : Vector) (a b d : Meet) (q : Spot) (n : ℕ) (s : AreStops k lo a b d q n) where
+  start_crossing : (t : Tri) → IsValidTri t → crossing (face_of t) X (stop_at_start lo n) ≡ crossing (face_of t) X (reference_at lo)
+  start_crossing t v =
+      let p = stop_at_start lo n in let r = reference_at lo in let h = support_of t in
+      let e = start_sign k lo a b d q n s h (support_sized t v) in
+      let m = ap is_neg (sgn-mul (value_at h p) (along h X)) ∙ (λ i. is_neg (times (e i) (sgn (along h X)))) ∙ sym (ap is_neg (sgn-mul (value_at h r) (along h X))) in
+      let g = edges_behind (λ g. sgn (value_at g r)) t X p v (λ g i z. start_sign k lo a b d q n s g i) in
+      crossing_is X p t (start_weight lo n s.large) ∙ (λ i. cond (m i && g i) (sign (along h X)) (pos 0)) ∙ sym (crossing_is X r t (weight_at lo))
+
+  start_vector : (ts : List Tri) → IsScene ts 64 → vector k ts (stop_at_start lo n) ≡ vector X ts (reference_at lo)
+  start_vector ts i =
+      let p = stop_at_start lo n in let r = reference_at lo in
+      axes_law ts 64 i p k X (start_weight lo n s.large) (generic_clear p ts (start_weight lo n s.large) (start_generic k lo a b d q n s) i.valid) ∙ tally_same (λ f. crossing f X p) (λ f. crossing f X r) (flat_crossing X p) (flat_crossing X r) ts (λ i' d' l. start_crossing (get_or ts i' d') (i.valid i' d' l))
+
+-- ---- the vector at the end
+module _ (ts ns : List Tri) (c : Cell) (counts : List ℤ) (fits : Fits ts ns c counts) (k : Axis) (v : Way) (e : v.lo ≡ entries c.lo) (q : Spot) (n : ℕ) (s : AreStops k c.lo v.corner v.next v.last q n) (has : HasPoint c q) (fs : List Facet) (facets : AreFacets ns c fs) (turn : Sign → Sign) (p3 : Spot) (end : IsEnd k v.corner v.next v.last turn p3) (line : DifferAlong k (stop_after_second k c.lo q n) p3) where
+  abbrev w : Way
+  w = record v { first = first_of k; second = second_of k; main = k }
+
+  abbrev p0 : Spot
+  p0 = stop_at_start c.lo n
+
+  abbrev p1 : Spot
+  p1 = stop_after_first k c.lo q n
+
+  abbrev p2 : Spot
+  p2 = stop_after_second k c.lo q n
+
+  h0 : HasPoint c p0
+  h0 = has_start c n s.large
+
+  h1 : HasPoint c p1
+  h1 = has_with c (first_of k) p0 q h0 has
+
+  h2 : HasPoint c p2
+  h2 = has_with c (second_of k) p1 q h1 has
+
+  c0 : AreClear (faces_of ts) p0
+  c0 = generic_clear p0 ts h0.weight (start_generic k c.lo v.corner v.next v.last q n s) fits.scene.valid
+
+  c1 : AreClear (faces_of ts) p1
+  c1 = generic_clear p1 ts h1.weight (first_generic k c.lo v.corner v.next v.last q n s) fits.scene.valid
+
+  c2 : AreClear (faces_of ts) p2
+  c2 = generic_clear p2 ts h2.weight (second_generic k c.lo v.corner v.next v.last q n s) fits.scene.valid
+
+  pub clear_end : AreClear (faces_of ts) p3
+  clear_end = generic_clear p3 ts end.weight (end_generic k v.corner v.next v.last q s.close turn p3 end) fits.scene.valid
+
+  legs_one : leg_vector ts p1 p0 ≡ leg_vector ns p1 p0
+  legs_one = sym (legs_near ts c p1 p0 h1 h0) ∙ ap (λ (us : List Tri). leg_vector us p1 p0) fits.near
+
+  legs_two : leg_vector ts p2 p1 ≡ leg_vector ns p2 p1
+  legs_two = sym (legs_near ts c p2 p1 h2 h1) ∙ ap (λ (us : List Tri). leg_vector us p2 p1) fits.near
+
+  legs_three : leg_vector ts p3 p2 ≡ leg_vector ns p3 p2
+  legs_three =
+      sym (tally_kept (λ h. leg h p3 p2) (flat_leg p3 p2) (λ t. is_near c t) ts (λ i d l far. last_far c k v.corner v.next v.last q n s has turn p3 end line (get_or ts i d) (fits.scene.valid i d l) far)) ∙ ap (λ (us : List Tri). leg_vector us p3 p2) fits.near
+
+  -- what a triangle adds on the three legs together
+  abbrev legs : Face → ℤ
+  legs h = leg h p1 p0 +ℤ leg h p2 p1 +ℤ leg h p3 p2
+
+  legs_flat : LeavesFlat legs
+  legs_flat t f = let x = flat_leg p1 p0 t f in let y = flat_leg p2 p1 t f in let z = flat_leg p3 p2 t f in omega (arith, linear, x, y, z)
+
+  abbrev less : Facet → ℤ
+  less f = legs_in_wall w f +ℤ last_leg w f (or_sign (side_at_end w f.support) (turn (sgn (along f.support k))))
+
+  pub end_vector : vector k ts p3 ≡ taken less fs counts
+  end_vector =
+      let a = legs_law ts 64 fits.scene k k p3 p2 end.weight h2.weight (differ_back k p2 p3 line) clear_end c2 in
+      let b = legs_law ts 64 fits.scene (second_of k) k p2 p1 h2.weight h1.weight (differ_back (second_of k) p1 p2 (differ_with (second_of k) p1 q)) c2 c1 in
+      let d = legs_law ts 64 fits.scene (first_of k) k p1 p0 h1.weight h0.weight (differ_back (first_of k) p0 p1 (differ_with (first_of k) p0 q)) c1 c0 in
+      let start = start_vector k c.lo v.corner v.next v.last q n s ts fits.scene ∙ fits.at in
+      let one : vector k ts p1 ≡ added counts (leg_vector ns p1 p0) = d ∙ (λ i. added (start i) (legs_one i)) in
+      let two : vector k ts p2 ≡ added counts (tally (λ h. leg h p1 p0 +ℤ leg h p2 p1) ns) = b ∙ (λ i. added (one i) (legs_two i)) ∙ tally_both (λ h. leg h p1 p0) (λ h. leg h p2 p1) ns counts in
+      let three : vector k ts p3 ≡ added counts (tally legs ns) = a ∙ (λ i. added (two i) (legs_three i)) ∙ tally_both (λ h. leg h p1 p0 +ℤ leg h p2 p1) (λ h. leg h p3 p2) ns counts in
+      three ∙ ap (λ (us : List Tri). added counts (tally legs us)) (sym facets.tris) ∙ sym (taken_legs legs legs_flat less fs (λ i d l. each (get_or fs i d) (facets.starts i d l)) counts)
+    where
+      each : (f : Facet) → StartsIn c f → legs (face_of f.tri) ≡ neg_ℤ (less f)
+      each f from =
+          let x = first_legs c k v e q n s f from in let y = final_leg c k v e q n s f from turn p3 end line in omega (arith, linear, x, y)
+
+-- ---- the region
+module _ (ns : List Tri) (c : Cell) (counts : List ℤ) (f : Face) (v : Way) (is : IsWay c f v) where
+  abbrev k : Axis
+  k = main_axis f.support
+
+  small : (k : Axis) → Small 2048 (coordinate (entries c.lo) k)
+  small k = subst (λ (lo : List ℤ). Small 2048 (coordinate lo k)) is.lo (coordinate_small 2048 v.lo k v.small)
+
+  first : AreFirst f (spot_of v.corner) (spot_of v.next) (spot_of v.last)
+  first = first_corners f is.corners v.corner v.next v.last is.are_corners is.corner is.next is.last
+
+  -- the way with its axes told by the last
+  told : v ≡ record v { first = first_of k; second = second_of k; main = k }
+  told = λ i. record v { first = is.first i; second = is.second i; main = is.main i }
+
+  -- the traced counts are the sides in each scene that fits
+  pub traced_sides : (fs : List Facet) → AreFacets ns c fs → (before after : List ℤ) → before ≡ taken (crossing_before v) fs counts → after ≡ taken (crossing_after v) fs counts → LiesIn c f → (ts : List Tri) → Fits ts ns c counts → IsSides ts f before after
+  unfolding crossing_before crossing_after
+  traced_sides fs facets before after eb ea l ts fits =
+      let u = find f v.corner v.next v.last first in let has = in_box c f u.q l u.inside in
+      let n = far_out u.q in let stops = stops_from k c.lo v.corner v.next v.last u.q u.close small in
+      let line = λ (m s : ℤ). differ_last k (stop_at_start c.lo n) u.q m s in
+      record {
+        at = u.q;
+        inside = u.inside;
+        bound = 33554431;
+        sees_before = λ s m ls lm.
+            let e = before_end k v.corner v.next v.last u.q u.close s m ls lm in
+            record { clear = clear_end ts ns c counts fits k v is.lo u.q n stops has fs facets flip _ e (line (pos m) (neg_ℤ (pos s))); counts_are = end_vector ts ns c counts fits k v is.lo u.q n stops has fs facets flip _ e (line (pos m) (neg_ℤ (pos s))) ∙ sym (eb ∙ ap (λ (w : Way). taken (crossing_before w) fs counts) told) };
+        sees_after = λ s m ls lm.
+            let e = after_end k v.corner v.next v.last u.q u.close s m ls lm in
+            record { clear = clear_end ts ns c counts fits k v is.lo u.q n stops has fs facets (λ t. t) _ e (line (pos m) (pos s)); counts_are = end_vector ts ns c counts fits k v is.lo u.q n stops has fs facets (λ t. t) _ e (line (pos m) (pos s)) ∙ sym (ea ∙ ap (λ (w : Way). taken (crossing_after w) fs counts) told) };
+      }
+
+pub are_sides : (ns : List Tri) (c : Cell) (counts : List ℤ) (f : Face) (s : Sides) (fs : List Facet) → AreFacets ns c fs → AreTraced c fs counts f s → AreSides ns c counts f s
+are_sides ns c counts f s fs facets t = traced_sides ns c counts f t.way t.is_way fs facets s.before.counts s.after.counts t.before t.after

@@ -1,0 +1,33 @@
+-- What the two vectors of a region of a box are: the winding numbers directly beside it
+use Rattle.std.specs.Prelude.{◌≡◌, ℕ, true, List, Some, slice_get, ℤ, map}
+use Rattle.ember_model.specs.declared.tri.Tri.{Tri}
+use Rattle.ember_model.specs.declared.face.Face.{Face}
+use Rattle.ember_model.specs.Faces.{Everywhere}
+use Rattle.ember_model.specs.ClearTest.{none_positive}
+use Rattle.ember_model.specs.Sides.{IsSides}
+use Rattle.ember_box.specs.Boxes.{Cell}
+use Rattle.ember_box.specs.Reference.{Fits}
+use Rattle.ember_box.specs.Regions.{walls, IsRegions}
+use Rattle.ember_trace.specs.declared.pair.Sides.{Sides}
+
+-- the inside of the face lies in the closed box
+abbrev pub LiesIn : Cell → Face → Type 0
+LiesIn c f = Everywhere f (λ v. none_positive (map (λ w. w.plane) (walls c)) v ≡ true)
+
+-- where the inside of the region lies in the box, they are its sides in each scene that fits what is
+-- known at the box
+abbrev pub AreSides : List Tri → Cell → List ℤ → Face → Sides → Type 0
+AreSides near c counts f s =
+    LiesIn c f → (scene : List Tri) → Fits scene near c counts → IsSides scene f s.before.counts s.after.counts
+
+-- one of the regions of a triangle in a box with these near triangles
+pub record IsRegion (near : List Tri) (c : Cell) (f : Face) : Type 0 where
+  pub tri : ℕ
+  pub regions : List Face
+  pub are_regions : IsRegions c near tri regions
+  pub place : ℕ
+  pub here : slice_get regions place ≡ Some f
+
+abbrev pub AreRegionSides : List Tri → Cell → List ℤ → Face → Sides → Type 0
+AreRegionSides near c counts f s =
+    IsRegion near c f → (scene : List Tri) → Fits scene near c counts → IsSides scene f s.before.counts s.after.counts
