@@ -1,1 +1,5 @@
+pub mod Apart
 pub mod Placing
+pub mod Splitting
+pub mod Starting
+pub mod TriFaces

@@ -1,2 +1,4 @@
+pub mod Blades
 pub mod Leaves
 pub mod Pairs
+pub mod Walls
