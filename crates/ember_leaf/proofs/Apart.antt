@@ -1,5 +1,5 @@
 -- When two triangles have no common point, and when one lies in the other.
-use Rattle.std.proofs.Common.{◌≡◌, ◌⊎◌, inl, inr, refl, ap, subst, ◌∙◌, arith, ℕ, zero, suc, Bool, true, false, not, ◌&&◌, Some, None, slice_get, ℤ, pos, negsuc, neg_ℤ, ◌*ℤ◌, ◌<ℤ◌, ◌≤ℤ◌, int_le}
+use Rattle.std.proofs.Common.{◌≡◌, ◌⊎◌, inl, inr, refl, ap, subst, ◌∙◌, arith, ℕ, zero, suc, Bool, true, false, not, ◌&&◌, Some, None, slice_get, ℤ, pos, negsuc, neg_ℤ, ◌*ℤ◌, ◌<ℤ◌, ◌≤ℤ◌, int_le, sym}
 use Rattle.std.proofs.lemmas.Int.{clamps}
 use Rattle.std.proofs.lemmas.Bool.{and_from}
 use borrow.Author.Differences.{ints}
@@ -28,6 +28,7 @@ use Rattle.ember_poly.proofs.TriangleRing.{tri_sides}
 use Rattle.ember_coplanar.proofs.Containing.{edge_at}
 use Rattle.ember_leaf.specs.declared.heights.Heights.{Heights}
 use Rattle.ember_leaf.specs.Pairs.{heights_of, none_behind, none_in_front, all_behind, all_in_front, all_on, AreApart}
+use Rattle.ember_leaf.specs.Blades.{IsHeld, AreHeld, IsBounded}
 use Rattle.ember_leaf.proofs.TriFaces.{AtCorners, AtCorner, inside_ring, closed_ring, ring_inside, ring_closed, inside_under, inside_over, closed_on, closed_over, closed_at_least}
 
 -- ---- from tests of heights to facts at the corners
@@ -146,12 +147,7 @@ module _ (t u : Tri) (nt : is_flat t ≡ false) (nu : is_flat u ≡ false) where
       apart t u (λ v i k. zero_under k.flat (inside_under t nt s v h (corner_under s t h f) i))
 
 -- ---- bounding boxes
--- a coordinate between those of the corners
-record IsHeld (s : Span) (x w : ℤ) : Type 0 where
-  low : (s.low *ℤ w) ≤ℤ x
-  high : x ≤ℤ (s.high *ℤ w)
-
-reach : (a b : Span) (x w : ℤ) → pos 0 <ℤ w → IsHeld a x w → IsHeld b x w → reaches a b ≡ true
+pub reach : (a b : Span) (x w : ℤ) → pos 0 <ℤ w → IsHeld a x w → IsHeld b x w → reaches a b ≡ true
 reach a b x w p h k =
     and_from (int_le a.low b.high) (int_le b.low a.high) (le_in a.low b.high (order a.low b.high (omega (arith, linear, h.low, k.high)))) (le_in b.low a.high (order b.low a.high (omega (arith, linear, k.low, h.high))))
   where
@@ -181,30 +177,13 @@ spanned X t = (bounding t).x
 spanned Y t = (bounding t).y
 spanned Z t = (bounding t).z
 
-bounds : (k : Axis) (t : Tri) (v : Spot) → is_flat t ≡ false → is_in_closed (face_of t) v ≡ true → IsHeld (spanned k t) (coordinate k v) v.w
+pub bounds : (k : Axis) (t : Tri) (v : Spot) → is_flat t ≡ false → is_in_closed (face_of t) v ≡ true → IsHeld (spanned k t) (coordinate k v) v.w
 bounds X t v n e =
     held X (bounding t).x t v n (omega (arith, ints, clamps), omega (arith, ints, clamps), omega (arith, ints, clamps)) (omega (arith, ints, clamps), omega (arith, ints, clamps), omega (arith, ints, clamps)) e
 bounds Y t v n e =
     held Y (bounding t).y t v n (omega (arith, ints, clamps), omega (arith, ints, clamps), omega (arith, ints, clamps)) (omega (arith, ints, clamps), omega (arith, ints, clamps), omega (arith, ints, clamps)) e
 bounds Z t v n e =
     held Z (bounding t).z t v n (omega (arith, ints, clamps), omega (arith, ints, clamps), omega (arith, ints, clamps)) (omega (arith, ints, clamps), omega (arith, ints, clamps), omega (arith, ints, clamps)) e
-
--- the bounding boxes of triangles with a common point meet
-common_overlap : (t u : Tri) (v : Spot) → is_flat t ≡ false → is_flat u ≡ false → pos 0 <ℤ v.w → is_in_closed (face_of t) v ≡ true → is_in_closed (face_of u) v ≡ true → overlap (bounding t) (bounding u) ≡ true
-common_overlap t u v n m w e f =
-    let b = bounding t in let c = bounding u in
-    let x = reach b.x c.x v.x v.w w (bounds X t v n e) (bounds X u v m f) in
-    let y = reach b.y c.y v.y v.w w (bounds Y t v n e) (bounds Y u v m f) in
-    let z = reach b.z c.z v.z v.w w (bounds Z t v n e) (bounds Z u v m f) in
-    and_from (reaches b.x c.x && reaches b.y c.y) (reaches b.z c.z) (and_from (reaches b.x c.x) (reaches b.y c.y) x y) z
-
-pub apart_spans : (t u : Tri) → is_flat t ≡ false → is_flat u ≡ false → overlap (bounding t) (bounding u) ≡ false → AreApart t u
-apart_spans t u n m e =
-    record { holds = λ v i. off (is_in_closed (face_of u) v) (λ f. clash (common_overlap t u v n m (inside_ring t v i).weight (ring_closed t v (closed_from_inside (support_of t) (tri_sides t) v (inside_ring t v i))) f) e) }
-  where
-    off : (b : Bool) → (b ≡ true → ⊥) → b ≡ false
-    off true g = absurd (g refl)
-    off false g = refl
 
 -- ---- edge planes
 no_some : {p q : Plane} → Some p ≡ Some q → p ≡ q
@@ -236,31 +215,6 @@ parted t u i p n m e f g =
     let h = front_at_least p u f in
     (apart t u (λ v a b. under_least (edge_under t i p v e a) (closed_at_least u m p v h b)), apart u t (λ v a b. most_over (edge_at_most t i p v e b) (inside_over u m p v h (corner_over p u h g) a)))
 
--- ---- one in the other
-pub behind_edge : (u : Tri) (p : Plane) → is_flat u ≡ false → none_in_front (heights_of p u) ≡ true → all_on (heights_of p u) ≡ false → Everywhere (face_of u) (λ v. is_negative (value_at p v) ≡ true)
-behind_edge u p m f g =
-    let h = behind_at_most p u f in
-    record { holds = λ v i. negative_in (inside_under u m p v h (corner_under p u h g) (inside_ring u v i)).under }
-
-pub on_plane : (t u : Tri) (v : Spot) → is_flat u ≡ false → all_on (heights_of (support_of t) u) ≡ true → is_inside (face_of u) v ≡ true → value_at (support_of t) v ≡ pos 0
-on_plane t u v m e i =
-    (closed_on u m (support_of t) v (on_on (support_of t) u e) (closed_from_inside (support_of u) (tri_sides u) v (inside_ring u v i))).on_plane
-
-pub covered : (t u : Tri) → is_flat u ≡ false → all_on (heights_of (support_of t) u) ≡ true → ((i : ℕ) (p : Plane) → slice_get (edges_of t) i ≡ Some p → Everywhere (face_of u) (λ v. is_negative (value_at p v) ≡ true)) → Contains (face_of t) (face_of u)
-covered t u m e f =
-    record { holds = λ v i. ring_inside t v (record { flat = on_plane t u v m e i; weight = (inside_ring u v i).weight; within = (edge 0 _ v refl i, (edge 1 _ v refl i, (edge 2 _ v refl i, tt))) }) }
-  where
-    edge : (k : ℕ) (p : Plane) (v : Spot) → slice_get (edges_of t) k ≡ Some p → is_inside (face_of u) v ≡ true → Under p v
-    edge k p v q i = record { under = negative_out (value_at p v) ((f k p q).holds v i) }
-
--- ---- coplanar triangles
-pub coplanar_flats : (t u : Tri) → is_coplanar t u ≡ true → (is_flat t ≡ false) × (is_flat u ≡ false) × (all_on (heights_of (support_of t) u) ≡ true)
-unfolding is_coplanar
-coplanar_flats t u e =
-    let p = and_parts (not (is_flat t)) (not (is_flat u) && all_on (heights_of (support_of t) u)) e in
-    let q = and_parts (not (is_flat u)) (all_on (heights_of (support_of t) u)) p.1 in
-    (not_true (is_flat t) p.0, not_true (is_flat u) q.0, q.1)
-
 -- ---- the tests of the code
 module _ (f : Heights → Bool) where
   pub tested : (u : Tri) {p q : Plane} {h : Heights} {b v : Bool} → p ≡ q → h ≡ heights_of p u → b ≡ f h → b ≡ v → f (heights_of q u) ≡ v
@@ -268,7 +222,7 @@ module _ (f : Heights → Bool) where
 
 pub parted_by : (t u : Tri) (i : ℕ) {s p : Plane} {k : Axis} {h : Heights} {b : Bool} → is_flat t ≡ false → is_flat u ≡ false → s ≡ support_of t → k ≡ main_axis s → slice_get (edge_planes t k) i ≡ Some p → h ≡ heights_of p u → b ≡ none_behind h && not (all_on h) → b ≡ true → AreApart t u × AreApart u t
 parted_by t u i {s} {p} {k} {h} n m e a g q r z =
-    let x = and_parts (none_behind (heights_of p u)) (not (all_on (heights_of p u))) (tested (λ h. none_behind h && not (all_on h)) u refl q r z) in
+    let x = and_parts (none_behind (heights_of p u)) (not (all_on (heights_of p u))) (tested (λ h. none_behind h && not (all_on h)) u {p = p} refl q r z) in
     parted t u i p n m (edge_at t i e a g) x.0 (not_true (all_on (heights_of p u)) x.1)
 
 module _ (t u : Tri) (n : is_flat t ≡ false) (m : is_flat u ≡ false) where

@@ -1,5 +1,6 @@
 pub mod Apart
 pub mod Placing
+pub mod Shedding
 pub mod Splitting
 pub mod Starting
 pub mod TriFaces
