@@ -1,6 +1,8 @@
 -- A blade that no region meets leaves the list.
-use Rattle.std.proofs.Common.{◌≡◌, Result, Ok, Err, OnOk, refl, sym, ap, subst, ◌∙◌, ℕ, ◌+◌, Bool, true, false, nat_eq, ◌&&◌, List, [], ◌∷◌, ◌++◌, map, append_assoc}
+use Rattle.std.proofs.Common.{◌≡◌, Result, Ok, Err, OnOk, refl, sym, ap, subst, ◌∙◌, arith, ℕ, zero, suc, ◌+◌, flat_map, Bool, true, false, nat_eq, ◌&&◌, List, [], ◌∷◌, ◌++◌, map, append_assoc}
+use Rattle.std.specs.List.{range_with_len}
 use Rattle.std.proofs.lemmas.List.{append-nil}
+use Rattle.std.proofs.lemmas.List.Concat.{flat_map-append}
 use Rattle.ember_algebra.specs.Relations.{Each, Chain, none, more, done, step, Every}
 use Rattle.ember_model.specs.declared.plane.Plane.{Plane}
 use Rattle.ember_model.specs.declared.tri.Tri.{Tri}
@@ -12,7 +14,8 @@ use Rattle.ember_model.proofs.SignTests.{clash, positive_in}
 use Rattle.ember_model.proofs.Hits.{closed_parts}
 use Rattle.ember_box.specs.declared.spans.Spans.{Spans}
 use Rattle.ember_box.specs.Spans.{bounding, overlap, reaches}
-use Rattle.ember_box.specs.Regions.{AtBlade, splits, whole, blades_of}
+use Rattle.ember_box.specs.Regions.{AtBlade, splits, whole, blades_of, blades_at}
+use Rattle.ember_box.specs.Near.{tri_at}
 use Rattle.ember_box.specs.Regions as regions
 use Rattle.ember_model.specs.declared.point.Axis.TheVariants.{X, Y, Z}
 use Rattle.std.proofs.lemmas.Bool.{and_from}
@@ -68,9 +71,6 @@ pub edge_blades : (t u : Tri) → is_flat u ≡ false → is_coplanar t u ≡ tr
 edge_blades t u e q =
     λ j. elim (e j) as (λ x. List regions.Blade) [ true ↦ [] | false ↦ blades_with u (elim (q j) as (λ x. List Plane) [ true ↦ edges_of u | false ↦ support_of u ∷ [] ]) ]
 
-pub adds_flat : {P : Face → Type 0} (t u : Tri) (old : List Blade) → is_flat u ≡ true → Adds P (blades_of t u) old old
-adds_flat {P} t u old e = subst (λ bs. Adds P bs old old) (sym (flat_blades t u e)) (adds_none [] old tt)
-
 every_with : (Q : regions.Blade → Type 0) (u : Tri) (ps : List Plane) → ((p : Plane) → Q (record { face = face_of u; plane = p })) → Every Q (blades_with u ps)
 every_with Q u [] h = tt
 every_with Q u (p ∷ ps) h = (h p, every_with Q u ps h)
@@ -101,6 +101,48 @@ adds_away t u b s old same away =
         and_from (reaches b.x c.x && reaches b.y c.y) (reaches b.z c.z) (and_from (reaches b.x c.x) (reaches b.y c.y) x y) z
 
 -- ---- one triangle after another
+nat_eq-same : {a b : ℕ} → a ≡ b → nat_eq a b ≡ true
+nat_eq-same {a} {b} e = grind arith
+
+nat_eq-other : {a b : ℕ} → (a ≡ b → ⊥) → nat_eq a b ≡ false
+nat_eq-other {a} {b} n = by (nat_eq a b) refl
+  where
+    by : (c : Bool) → nat_eq a b ≡ c → nat_eq a b ≡ false
+    by false e = e
+    by true e = absurd (n (grind arith))
+
 pub on_ok : {V E : Type 0} {A B : Type 0} (r : Result V E) → OnOk r A → (A → B) → OnOk r B
 on_ok (Ok v) a f = f a
 on_ok (Err e) a f = tt
+
+range_push : (a n : ℕ) → range_with_len a (suc n) ≡ range_with_len a n ++ (a + n) ∷ []
+range_push a zero = ap (λ (k : ℕ). k ∷ []) (omega arith)
+range_push a (suc n) =
+    ap (λ (l : List ℕ). a ∷ l) (range_push (a + 1) n) ∙ ap (λ (k : ℕ). a ∷ range_with_len (a + 1) n ++ k ∷ []) (omega arith)
+
+range_more : (n : ℕ) → range_with_len 0 (n + 1) ≡ range_with_len 0 n ++ n ∷ []
+range_more n =
+    let e : n + 1 ≡ suc n = omega arith in let z : 0 + n ≡ n = omega arith in
+    ap (range_with_len 0) e ∙ range_push 0 n ∙ ap (λ (k : ℕ). range_with_len 0 n ++ k ∷ []) z
+
+blades_more : (ts : List Tri) (i j : ℕ) → flat_map (blades_at ts i) (range_with_len 0 (j + 1)) ≡ flat_map (blades_at ts i) (range_with_len 0 j) ++ blades_at ts i j
+blades_more ts i j =
+    ap (flat_map (blades_at ts i)) (range_more j) ∙ flat_map-append (blades_at ts i) (range_with_len 0 j) (j ∷ []) ∙ ap (λ (l : List regions.Blade). flat_map (blades_at ts i) (range_with_len 0 j) ++ l) (append-nil (blades_at ts i j))
+
+-- the triangle itself has no blades
+own_blades : (ts : List Tri) (i j : ℕ) → j ≡ i → blades_at ts i j ≡ []
+own_blades ts i j e =
+    ap (λ (b : Bool). elim b as (λ x. List regions.Blade) [ true ↦ [] | false ↦ blades_of (tri_at ts i) (tri_at ts j) ]) (nat_eq-same e)
+
+other_blades : (ts : List Tri) (i j : ℕ) → (j ≡ i → ⊥) → blades_at ts i j ≡ blades_of (tri_at ts i) (tri_at ts j)
+other_blades ts i j n =
+    ap (λ (b : Bool). elim b as (λ x. List regions.Blade) [ true ↦ [] | false ↦ blades_of (tri_at ts i) (tri_at ts j) ]) (nat_eq-other n)
+
+module _ {P : Face → Type 0} (ts : List Tri) (i j : ℕ) (old : List Blade) (r : Sheds P (flat_map (blades_at ts i) (range_with_len 0 j)) (map blade_of old)) where
+  pub own_next : j ≡ i → Sheds P (flat_map (blades_at ts i) (range_with_len 0 (j + 1))) (map blade_of old)
+  own_next e =
+      subst (λ (l : List regions.Blade). Sheds P l (map blade_of old)) (sym (blades_more ts i j ∙ ap (λ (l : List regions.Blade). flat_map (blades_at ts i) (range_with_len 0 j) ++ l) (own_blades ts i j e) ∙ append-nil (flat_map (blades_at ts i) (range_with_len 0 j)))) r
+
+  pub other_next : (new : List Blade) (t u : Tri) → (j ≡ i → ⊥) → t ≡ tri_at ts i → u ≡ tri_at ts j → Adds P (blades_of t u) old new → Sheds P (flat_map (blades_at ts i) (range_with_len 0 (j + 1))) (map blade_of new)
+  other_next new t u n e q a =
+      subst (λ (l : List regions.Blade). Sheds P l (map blade_of new)) (sym (blades_more ts i j ∙ ap (λ (l : List regions.Blade). flat_map (blades_at ts i) (range_with_len 0 j) ++ l) (other_blades ts i j n ∙ (λ k. blades_of (sym e k) (sym q k))))) (a (flat_map (blades_at ts i) (range_with_len 0 j)) r)

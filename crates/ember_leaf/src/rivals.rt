@@ -1,10 +1,12 @@
 // The other triangles near a leaf that matter to the regions of one.
-ghost use Rattle.std.specs.Prelude.{◌≡◌, false, [], ◌∷◌, ◌++◌, map, All, OnOk};
+ghost use Rattle.std.specs.Prelude.{◌≡◌, false, [], ◌∷◌, ◌++◌, map, All, IfOk, OnOk};
 ghost use Rattle.ember_model.specs.Planes.{support_of};
 ghost use Rattle.ember_model.specs.Faces.{is_flat, edges_of};
 ghost use Rattle.ember_box.specs.declared.spans.Spans.{Spans as Bounds};
-ghost use Rattle.ember_box.specs.Regions.{blades_of};
-ghost use Rattle.ember_leaf.specs.Blades.{blade_of, blades_with, IsBounded, Adds};
+ghost use Rattle.ember_box.specs.Regions.{blades_of, blades};
+ghost use Rattle.ember_box.specs.Near.{tri_at};
+ghost use Rattle.ember_leaf.specs.Blades.{blade_of, blades_with, IsBounded, Sheds, Adds};
+ghost use Rattle.ember_leaf.specs.Leaves.{tris_of};
 ghost use Rattle.ember_leaf.specs.Pairs.{IsLower};
 
 use crate::blade::Blade;
@@ -130,8 +132,10 @@ impl Rivals {
         near: &[Facet],
         i: usize,
     ) -> Result<bool, OutOfMemory>
-        requires { is_flat own.now.tri ≡ false }
-        ensures { OnOk result (All (IsLower own.now.tri) self.new.lower.items) }
+        requires normal { is_flat own.now.tri ≡ false }
+        requires own { own.now.tri ≡ tri_at (tris_of near.now) i }
+        ensures lower { OnOk result (All (IsLower own.now.tri) self.new.lower.items) }
+        ensures blades { IfOk result (λ covered. covered ≡ false → Sheds (IsBounded own.now.tri bounds.now) (blades (tris_of near.now) i) (map blade_of self.new.blades.items)) }
     {
         self.blades.clear();
         self.lower.clear();
