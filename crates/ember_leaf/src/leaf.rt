@@ -134,7 +134,7 @@ impl Leaf<'_> {
         ensures { OnOk result (ArePlacedBelow (tris_of self.now.near.now) (i + 1) kept.new.items) }
     {
         let own = &self.near[i];
-        if is_flat(own) || is_outside(walls, &own.spans) {
+        if is_flat(own) || is_outside(walls, own) {
             return Ok(());
         }
         let bounds = common_spans(&own.spans, self.spans);
