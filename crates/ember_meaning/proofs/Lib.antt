@@ -9,3 +9,5 @@ pub mod Entries
 pub mod OnLine
 pub mod AlongLine
 pub mod Jump
+pub mod Turned
+pub mod Places
