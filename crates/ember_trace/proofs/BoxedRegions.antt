@@ -20,7 +20,7 @@ use Rattle.ember_trace.specs.Boxed.{LiesIn}
 use Rattle.ember_trace.proofs.FilledFaces.{inside_below, fills}
 
 -- what holds of what each member gives, where the member has a property
-each_every : {X Y : Type 0} {R : X → List Y → Type 0} (P : X → Type 0) (Q : Y → Type 0) → ((x : X) (ys : List Y) → P x → R x ys → Every Q ys) → {xs : List X} {ys : List Y} → Each R xs ys → Every P xs → Every Q ys
+pub each_every : {X Y : Type 0} {R : X → List Y → Type 0} (P : X → Type 0) (Q : Y → Type 0) → ((x : X) (ys : List Y) → P x → R x ys → Every Q ys) → {xs : List X} {ys : List Y} → Each R xs ys → Every P xs → Every Q ys
 each_every P Q f none h = tt
 each_every P Q f (more {x = x} {xs = xs} {ys = ys} {zs = zs} r e) h = every_append Q ys zs (f x ys h.0 r) (each_every P Q f e h.1)
 
@@ -72,7 +72,7 @@ at_blades Q (step {x = b} r c) h =
     at_blades Q c (each_every (λ f. Everywhere f Q) (λ g. Everywhere g Q) (λ f fs e a. at_blade b Q f fs e a) r h)
 
 -- ---- regions
-every_at : {X : Type 0} (P : X → Type 0) (xs : List X) (i : ℕ) (x : X) → Every P xs → slice_get xs i ≡ Some x → P x
+pub every_at : {X : Type 0} (P : X → Type 0) (xs : List X) (i : ℕ) (x : X) → Every P xs → slice_get xs i ≡ Some x → P x
 every_at P [] i x h e = absurd (by e)
   where
     by : None ≡ Some x → ⊥

@@ -145,10 +145,10 @@ no_turn f g p u v b a d pu pv =
         let x = reach_value n g u in let y = reach_value n g v in
         not_before n g u v (ap (λ (z : ℤ). v.w *ℤ z) (sym x) ∙ sym e ∙ ap (λ (z : ℤ). u.w *ℤ z) y) b
 
-record Parallel (n p : Plane) : Type 0 where
-  x : n.b *ℤ p.c -ℤ n.c *ℤ p.b ≡ pos 0
-  y : n.c *ℤ p.a -ℤ n.a *ℤ p.c ≡ pos 0
-  z : n.a *ℤ p.b -ℤ n.b *ℤ p.a ≡ pos 0
+pub record Parallel (n p : Plane) : Type 0 where
+  pub x : n.b *ℤ p.c -ℤ n.c *ℤ p.b ≡ pos 0
+  pub y : n.c *ℤ p.a -ℤ n.a *ℤ p.c ≡ pos 0
+  pub z : n.a *ℤ p.b -ℤ n.b *ℤ p.a ≡ pos 0
 
 reach_zero : (n p : Plane) (v : Spot) → Parallel n p → reach_along n p v ≡ pos 0
 reach_zero n p v h =

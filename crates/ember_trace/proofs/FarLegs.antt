@@ -1,5 +1,5 @@
--- The last leg of a way doesn't cross the triangles that aren't near the box, though it ends a little
--- beside the inside point that lies in the box.
+-- The last leg of a way doesn't cross the triangles that aren't near the box, though it ends a
+-- little beside the inside point that lies in the box.
 use Rattle.std.proofs.Common.{◌≡◌, ◌≢◌, ◌⊎◌, inl, inr, refl, sym, ap, subst, ◌∙◌, arith, ℕ, Bool, true, false, ◌&&◌, cond, pos, ◌*ℤ◌, ◌<ℤ◌}
 use Rattle.ember_algebra.specs.Sign.{sign, sgn, times, is_neg, is_negative}
 use Rattle.ember_algebra.specs.declared.Sign.{Sign}

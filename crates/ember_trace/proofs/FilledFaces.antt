@@ -1,4 +1,5 @@
--- Inside points fill a face: where one lies on a plane and another above it, the plane cuts the face.
+-- Inside points fill a face: where one lies on a plane and another above it, the plane cuts the
+-- face.
 use Rattle.std.proofs.Common.{◌≡◌, refl, sym, ◌∙◌, arith, ℕ, le_refl, true, ◌&&◌, List, [], ◌∷◌, pos, ◌+ℤ◌, ◌-ℤ◌, ◌*ℤ◌, neg_ℤ, ◌<ℤ◌}
 use Rattle.std.proofs.lemmas.List.Folds.{list_all-append}
 use Rattle.ember_algebra.specs.Large.{Eventually}

@@ -1,7 +1,7 @@
--- A plane that is 0 at all inside points of a face is parallel to its support plane: so a triangle in
--- it lies in the plane of the face.
-use Rattle.std.proofs.Common.{◌≡◌, ◌≢◌, refl, sym, ap, subst, ◌∙◌, ⊎_elim, arith, ℕ, le_refl, Bool, true, false, not, ◌&&◌, List, [], ◌∷◌, ℤ, pos, ◌+ℤ◌, ◌-ℤ◌, ◌*ℤ◌, neg_ℤ, ◌<ℤ◌, ◌≤ℤ◌}
-use Rattle.ember_algebra.specs.Vector.{Vector, cross, dot}
+-- A plane that is 0 at all inside points of a face is parallel to its support plane: so a triangle
+-- in it lies in the plane of the face.
+use Rattle.std.proofs.Common.{◌≡◌, ◌≢◌, refl, sym, ap, subst, ◌∙◌, ⊎_elim, arith, ℕ, le_refl, true, false, not, ◌&&◌, List, [], ◌∷◌, ℤ, pos, ◌+ℤ◌, ◌-ℤ◌, ◌*ℤ◌, neg_ℤ, ◌<ℤ◌, ◌≤ℤ◌}
+use Rattle.ember_algebra.specs.Vector.{Vector}
 use Rattle.ember_algebra.specs.Large.{Eventually}
 use Rattle.ember_algebra.specs.Sign.{is_negative, is_zero}
 use Rattle.ember_algebra.proofs.Laws.{linear}
@@ -11,7 +11,6 @@ use Rattle.ember_algebra.proofs.Ring.{◌⊕◌, ◌⊖◌, ◌⊗◌, ◌≈◌
 use Rattle.ember_algebra.proofs.Vectors.{vector, identity, dotE, crossE, minusE}
 use Rattle.ember_model.specs.declared.plane.Plane.{Plane}
 use Rattle.ember_model.specs.declared.point.Spot.{Spot}
-use Rattle.ember_model.specs.declared.point.Corner.{Corner}
 use Rattle.ember_model.specs.declared.tri.Tri.{Tri}
 use Rattle.ember_model.specs.declared.face.Face.{Face}
 use Rattle.ember_model.specs.Planes.{vector_of, value_at, opposite, support_of}
@@ -24,6 +23,7 @@ use Rattle.ember_law.proofs.Generic.{cancel_zero}
 use Rattle.ember_law.proofs.Flats.{flat_in}
 use Rattle.ember_law.proofs.CornerSides.{above_corners}
 use Rattle.ember_trace.proofs.WayPoints.{opposite_value}
+use Rattle.ember_trace.proofs.Corners.{Parallel}
 
 -- ---- a little beside a point, along a vector
 abbrev beside : ℕ → Spot → Vector → Spot
@@ -58,11 +58,6 @@ no_slope f p v d h z flat =
     let g = value_beside p n v d in let zp = zero_times (value_at p v) (pos n) (z.holds v h) in omega (arith, linear, o, g, zp)
 
 -- ---- parallel planes
-record Parallel (n p : Plane) : Type 0 where
-  x : n.b *ℤ p.c ≡ n.c *ℤ p.b
-  y : n.c *ℤ p.a ≡ n.a *ℤ p.c
-  z : n.a *ℤ p.b ≡ n.b *ℤ p.a
-
 parallel : (f : Face) (p : Plane) (v : Spot) → is_inside f v ≡ true → Everywhere f (λ u. value_at p u ≡ pos 0) → Parallel f.support p
 parallel f p v h z =
     let n = f.support in
@@ -119,7 +114,8 @@ corner_c : (u : Tri) → value_at (support_of u) (spot_at u.c) ≡ pos 0
 corner_c u =
     identity (vector ∷ vector ∷ vector ∷ []) (λ a b c. dotE (crossE (minusE b a) (minusE c a)) c ⊖ dotE (crossE (minusE b a) (minusE c a)) a ⊗ num (pos 1) ≈ num (pos 0)) cancels (vector_of u.a) (vector_of u.b) (vector_of u.c)
 
--- a triangle whose plane is 0 at all inside points of a face, of which there is one, lies in the plane of the face's triangle
+-- a triangle whose plane is 0 at all inside points of a face, of which there is one, lies in the
+-- plane of the face's triangle
 pub lies_flat : (t u : Tri) (f : Face) (v : Spot) → f.support ≡ support_of t → is_flat t ≡ false → is_flat u ≡ false → is_inside f v ≡ true → Everywhere f (λ x. value_at (support_of u) x ≡ pos 0) → is_coplanar t u ≡ true
 unfolding is_coplanar
 lies_flat t u f v s ft fu h z =

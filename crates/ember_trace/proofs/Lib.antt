@@ -1,12 +1,14 @@
 pub mod BoxedRegions
 pub mod ClearStops
 pub mod Corners
+pub mod CutRegions
 pub mod FacetLegs
 pub mod FacetLists
 pub mod FarLegs
 pub mod FilledFaces
 pub mod FlatPlanes
 pub mod MeshSums
+pub mod OneSides
 pub mod PastLegs
 pub mod Places
 pub mod RaySides

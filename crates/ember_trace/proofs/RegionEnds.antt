@@ -1,5 +1,5 @@
--- The points at which the ways to a region end: directly beside an inside point that is close enough
--- to the first corner.
+-- The points at which the ways to a region end: directly beside an inside point that is close
+-- enough to the first corner.
 use Rattle.std.proofs.Common.{◌≡◌, refl, ap, ◌∙◌, arith, ℕ, ◌+◌, ◌*◌, ◌^◌, ◌<◌, ◌≤◌, true, ℤ, pos, neg_ℤ, ◌<ℤ◌, unsigned_abs}
 use borrow.Author.Differences.{ints}
 use Rattle.ember_algebra.specs.Vector.{Vector}

@@ -5,7 +5,7 @@ use Rattle.ember_algebra.specs.Size.{Small}
 use Rattle.ember_algebra.specs.declared.Sign.{Sign}
 use Rattle.ember_algebra.specs.Sign.{sign, sgn, flip, times, is_neg}
 use Rattle.ember_algebra.proofs.Laws.{linear}
-use Rattle.ember_algebra.proofs.Ring.{◌⊕◌, ◌⊖◌, ◌⊗◌, ◌≈◌, num, neg, solve, cancels}
+use Rattle.ember_algebra.proofs.Ring.{◌⊕◌, ◌⊖◌, ◌⊗◌, ◌≈◌, num, solve, cancels}
 use Rattle.ember_algebra.proofs.Signs.{sgn-mul}
 use Rattle.ember_model.specs.declared.point.Spot.{Spot}
 use Rattle.ember_model.specs.declared.point.Axis.{Axis}
@@ -62,7 +62,7 @@ level_value X h v = solve 5 (λ h x y z w. num (pos 1) ⊗ x ⊕ num (pos 0) ⊗
 level_value Y h v = solve 5 (λ h x y z w. num (pos 0) ⊗ x ⊕ num (pos 1) ⊗ y ⊕ num (pos 0) ⊗ z ⊖ h ⊗ w ≈ y ⊖ h ⊗ w) cancels h v.x v.y v.z v.w
 level_value Z h v = solve 5 (λ h x y z w. num (pos 0) ⊗ x ⊕ num (pos 0) ⊗ y ⊕ num (pos 1) ⊗ z ⊖ h ⊗ w ≈ z ⊖ h ⊗ w) cancels h v.x v.y v.z v.w
 
-in_box : (c : Cell) (f : Face) (q : Spot) → LiesIn c f → is_inside f q ≡ true → HasPoint c q
+pub in_box : (c : Cell) (f : Face) (q : Spot) → LiesIn c f → is_inside f q ≡ true → HasPoint c q
 in_box c f q l i =
     record { weight = (inside_parts f q i).0; on_x = across X (wall 0 _ refl) (wall 1 _ refl); on_y = across Y (wall 2 _ refl) (wall 3 _ refl); on_z = across Z (wall 4 _ refl) (wall 5 _ refl) }
   where

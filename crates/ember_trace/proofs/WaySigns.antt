@@ -1,5 +1,5 @@
--- On which side of a plane the stops of a way lie: for points that are close enough to the corner of
--- the box and to the first corner of the region, as the words on ways say.
+-- On which side of a plane the stops of a way lie: for points that are close enough to the corner
+-- of the box and to the first corner of the region, as the words on ways say.
 use Rattle.std.proofs.Common.{◌≡◌, ◌≢◌, ℕ, ◌+◌, ◌*◌, ◌^◌, ◌<◌, ◌≤◌, refl, sym, ap, ◌∙◌, arith, ℤ, pos, ◌+ℤ◌, ◌*ℤ◌, neg_ℤ, ◌<ℤ◌, [], ◌∷◌, unsigned_abs, le_refl}
 use borrow.Author.Differences.{ints}
 use lib.IntN.{*ℤ_comm}
@@ -96,7 +96,7 @@ pinned_within h Y q s = record { a = small_mul (own q.w) s.a; b = none _; c = sm
 pinned_within h Z q s = record { a = small_mul (own q.w) s.a; b = small_mul (own q.w) s.b; c = none _ }
 
 -- ---- the stops
--- q is a point of the face close enough to the first of its three corners a, b, c; k is its main axis
+-- q is a point of the face close enough to the first of its corners a, b, c; k is its main axis
 pub record IsClose (k : Axis) (a b c : Meet) (q : Spot) : Type 0 where
   pub weight : pos 0 <ℤ q.w
   pub at_end : (h : Plane) → IsValidPlane h → sgn (value_at h q) ≡ inside_side h a b c

@@ -14,11 +14,16 @@ use Rattle.ember_trace.specs.declared.pair.Sides.{Sides}
 abbrev pub LiesIn : Cell → Face → Type 0
 LiesIn c f = Everywhere f (λ v. none_positive (map (λ w. w.plane) (walls c)) v ≡ true)
 
--- where the inside of the region lies in the box, they are its sides in each scene that fits what is
--- known at the box
+-- where the inside of the region lies in the box, they are its sides in each scene that fits what
+-- is known at the box
 abbrev pub AreSides : List Tri → Cell → List ℤ → Face → Sides → Type 0
 AreSides near c counts f s =
     LiesIn c f → (scene : List Tri) → Fits scene near c counts → IsSides scene f s.before.counts s.after.counts
+
+-- no others are sides of the face
+abbrev pub AreAllSides : List Tri → Face → Sides → Type 0
+AreAllSides scene f s =
+    (before after : List ℤ) → IsSides scene f before after → (before ≡ s.before.counts) × (after ≡ s.after.counts)
 
 -- one of the regions of a triangle in a box with these near triangles
 pub record IsRegion (near : List Tri) (c : Cell) (f : Face) : Type 0 where
@@ -31,3 +36,8 @@ pub record IsRegion (near : List Tri) (c : Cell) (f : Face) : Type 0 where
 abbrev pub AreRegionSides : List Tri → Cell → List ℤ → Face → Sides → Type 0
 AreRegionSides near c counts f s =
     IsRegion near c f → (scene : List Tri) → Fits scene near c counts → IsSides scene f s.before.counts s.after.counts
+
+-- and so has each scene that fits no other sides of the region
+abbrev pub AreOnlySides : List Tri → Cell → List ℤ → Face → Sides → Type 0
+AreOnlySides near c counts f s =
+    IsRegion near c f → (scene : List Tri) → Fits scene near c counts → AreAllSides scene f s

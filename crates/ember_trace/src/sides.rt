@@ -4,7 +4,7 @@ ghost use Rattle.ember_algebra.specs.Size.{Small};
 ghost use Rattle.ember_model.specs.Valid.{IsValidTri};
 ghost use Rattle.ember_model.specs.Meshes.{HasMesh};
 ghost use Rattle.ember_law.specs.Counts.{with_more};
-ghost use Rattle.ember_trace.specs.Boxed.{AreSides, AreRegionSides};
+ghost use Rattle.ember_trace.specs.Boxed.{AreSides, AreRegionSides, AreOnlySides};
 ghost use Rattle.ember_trace.specs.Facets.{AreBoxCounts, StartsIn, StayWithin, tri_of};
 ghost use Rattle.ember_trace.specs.Crossings.{AreTraced, AreTracedBy};
 
@@ -69,6 +69,7 @@ pub fn sides_traced(
     ensures traced { IfOk result (λ s. AreTracedBy near.now c.now v.now.counts r.now s) }
     ensures sides { IfOk result (λ s. AreSides near.now c.now v.now.counts r.now s) }
     ensures region { IfOk result (λ s. AreRegionSides near.now c.now v.now.counts r.now s) }
+    ensures only { IfOk result (λ s. AreOnlySides near.now c.now v.now.counts r.now s) }
     ensures before { IfOk result (λ s. StayWithin (length near.now) v.now.counts s.before.counts) }
     ensures after { IfOk result (λ s. StayWithin (length near.now) v.now.counts s.after.counts) }
 {

@@ -5,6 +5,9 @@ ghost use Rattle.ember_algebra.specs.Sign.{is_neg};
 ghost use Rattle.ember_model.specs.Valid.{IsValidTri, IsValidPlane};
 ghost use Rattle.ember_model.specs.Meshes.{HasMesh};
 ghost use Rattle.ember_model.specs.Sides.{IsSides};
+ghost use Rattle.ember_box.specs.Boxes.{Cell};
+ghost use Rattle.ember_box.specs.Near.{near};
+ghost use Rattle.ember_trace.specs.Boxed.{IsRegion, AreAllSides};
 ghost use Rattle.ember_trace.specs.Ways.{inside_side};
 ghost use Rattle.ember_trace.specs.Crossings.{is_pierced, ray_before, ray_after, AreRayCounts};
 
@@ -111,6 +114,7 @@ pub fn sides_by_rays(tris: &[Tri], r: &Ring) -> Sides
 pub fn sides_whole(_alloc: Global, s: &Scene, r: &Ring) -> Result<Sides, OutOfMemory>
     ensures counted { IfOk result (λ x. AreRayCounts s.now.tris r.now x) }
     ensures sides { IfOk result (λ x. IsSides s.now.tris r.now x.before.counts x.after.counts) }
+    ensures only { IfOk result (λ x. (c : Cell) → IsRegion (near s.now.tris c) c r.now → AreAllSides s.now.tris r.now x) }
     ensures before { IfOk result (λ x. All (Small (length s.now.tris)) x.before.counts) }
     ensures after { IfOk result (λ x. All (Small (length s.now.tris)) x.after.counts) }
 {

@@ -5,6 +5,7 @@ use Rattle.ember_trace.specs.Boxed.{AreSides}
 use Rattle.ember_trace.specs.Facets.{StartsIn, StayWithin, tri_of}
 use Rattle.ember_trace.specs.Crossings.{AreTraced}
 use Rattle.ember_trace.proofs.BoxedRegions.{regions_lie_in}
+use Rattle.ember_trace.proofs.OneSides.{one_sides}
 use Rattle.ember_trace.proofs.FacetLists.{facets_length}
 use Rattle.ember_trace.proofs.sides.sides_traced.Goals as goal
 
@@ -34,3 +35,8 @@ returns-clause-sides c =
 
 pub returns-clause-region : goal.returns-clause-region
 returns-clause-region c = λ r. returns-clause-sides c (regions_lie_in c.args.c.now c.args.near.now r.tri r.place r.regions c.args.r.now r.are_regions r.here)
+
+pub returns-clause-only : goal.returns-clause-only
+returns-clause-only c = λ r scene fits before after h.
+    let near = c.args.near.now in let s = c.sides_beside.result in
+    one_sides scene near 64 c.args.c.now fits.scene fits.near c.args.r.now r before after s.before.counts s.after.counts h (returns-clause-region c r scene fits)
