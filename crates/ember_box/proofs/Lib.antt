@@ -1,3 +1,4 @@
+pub mod OneList
 pub mod Splits
 pub mod Orders
 pub mod Crossing

@@ -1,2 +1,4 @@
 pub mod Leaves
 pub mod Pairs
+pub mod Written
+pub mod Scenes

@@ -1,0 +1,121 @@
+-- The written regions of a leaf are one list, and so are those of a scene.
+use Rattle.std.proofs.Common.{◌≡◌, ℕ, suc, refl, sym, ap, ap₂, ◌∙◌, subst, arith, le_refl, ◌+◌, ◌*◌, true, List, [], ◌∷◌, ◌++◌, Some, slice_get, length, ℤ, pos, neg_ℤ}
+use Rattle.std.specs.List.{range_with_len}
+use Rattle.ember_algebra.specs.Relations.{Each, none, more, Every}
+use Rattle.ember_algebra.proofs.Relations.{each_unique, each_unique_where}
+use Rattle.ember_model.specs.declared.face.Face.{Face}
+use Rattle.ember_model.specs.declared.point.Spot.{Spot}
+use Rattle.ember_model.specs.declared.tri.Tri.{Tri}
+use Rattle.ember_model.specs.Planes.{main_axis}
+use Rattle.ember_model.specs.Faces.{is_inside}
+use Rattle.ember_model.specs.Meshes.{IsScene}
+use Rattle.ember_model.specs.Sides.{IsSides}
+use Rattle.ember_expr.specs.Formula.{Formula}
+use Rattle.ember_expr.specs.Truth.{truth}
+use Rattle.ember_box.specs.Boxes.{Cell}
+use Rattle.ember_box.specs.Near.{near}
+use Rattle.ember_box.proofs.OneList.{regions_unique}
+use Rattle.ember_ref.proofs.NearPoints.{HasPoint}
+use Rattle.ember_trace.specs.Boxed.{IsRegion}
+use Rattle.ember_trace.proofs.BoxedRegions.{regions_lie_in}
+use Rattle.ember_trace.proofs.OneSides.{one_sides}
+use Rattle.ember_trace.proofs.TracedSides.{in_box}
+use Rattle.ember_leaf.specs.declared.kept.Kept.{Kept}
+use Rattle.ember_leaf.specs.Written.{front, AtRegion, unowned, even, written, IsWrittenOf, IsWrittenIn}
+use Rattle.ember_leaf.specs.Scenes.{HasOneValue, LeafGives, regions, nothing, IsWritten}
+
+-- what holds at each place holds of each member
+every_from : {X : Type 0} (P : X → Type 0) (xs : List X) → ((j : ℕ) (x : X) → slice_get xs j ≡ Some x → P x) → Every P xs
+every_from P [] h = tt
+every_from P (x ∷ xs) h = (h 0 x refl, every_from P xs (λ j y e. h (suc j) y e))
+
+-- where no member gives anything, all give nothing
+each_nothing : {X Y : Type 0} {R : X → List Y → Type 0} (Q : X → Type 0) → ((x : X) (ys : List Y) → Q x → R x ys → ys ≡ []) → {xs : List X} {ys : List Y} → Every Q xs → Each R xs ys → ys ≡ []
+each_nothing Q f h none = refl
+each_nothing Q f h (more {x = x} {ys = ys} {zs = zs} r e) =
+    ap₂ (λ us vs. us ++ vs) (f x ys h.0 r) (each_nothing Q f h.1 e)
+
+-- the regions of a leaf's triangle are regions of the leaf
+each_region : (near : List Tri) (c : Cell) (scene : List Tri) (f : Formula) (i : ℕ) (ks : List Kept) (w : IsWrittenOf scene f c near i ks) → Every (IsRegion near c) w.faces
+each_region near c scene f i ks w =
+    every_from (IsRegion near c) w.faces (λ j g e. record { tri = i; regions = w.faces; are_regions = w.are_regions; place = j; here = e })
+
+-- ---- one list
+-- all sides of a region are equal
+abbrev pub SidesAreOne : List Tri → Face → Type 0
+SidesAreOne scene face =
+    (before after other_before other_after : List ℤ) → IsSides scene face before after → IsSides scene face other_before other_after → (before ≡ other_before) × (after ≡ other_after)
+
+module _ (scene : List Tri) (f : Formula) (c : Cell) (near : List Tri) (one : (face : Face) → IsRegion near c face → SidesAreOne scene face) where
+  region_unique : (i : ℕ) (g : Face) (us vs : List Kept) → IsRegion near c g → AtRegion scene f near i g us → AtRegion scene f near i g vs → us ≡ vs
+  region_unique i g us vs r (unowned n) (unowned m) = refl
+  region_unique i g us vs r (unowned n) (even x e) = refl
+  region_unique i g us vs r (unowned n) (written o x e) = absurd (n o)
+  region_unique i g us vs r (even x e) (unowned n) = refl
+  region_unique i g us vs r (even x e) (even y d) = refl
+  region_unique i g us vs r (even {before = a} {after = b} x e) (written {before = p} {after = q} o y d) =
+      let s = one g r a b p q x y in
+      absurd (d (ap (λ (v : List ℤ). truth v f) (sym s.0) ∙ e ∙ ap (λ (v : List ℤ). truth v f) s.1))
+  region_unique i g us vs r (written o x e) (unowned n) = absurd (n o)
+  region_unique i g us vs r (written {before = a} {after = b} o x e) (even {before = p} {after = q} y d) =
+      let s = one g r a b p q x y in
+      absurd (e (ap (λ (v : List ℤ). truth v f) s.0 ∙ d ∙ ap (λ (v : List ℤ). truth v f) (sym s.1)))
+  region_unique i g us vs r (written {before = a} {after = b} o x e) (written {before = p} {after = q} l y d) =
+      let s = one g r a b p q x y in
+      ap₂ (λ (v w : List ℤ). let k : Kept = record { tri = i; flipped = truth (front g v w) f; ring = g } in k ∷ []) s.0 s.1
+
+  of_unique : (i : ℕ) (us vs : List Kept) → IsWrittenOf scene f c near i us → IsWrittenOf scene f c near i vs → us ≡ vs
+  of_unique i us vs u v =
+      each_unique_where (IsRegion near c) (λ g xs ys r p q. region_unique i g xs ys r p q) (each_region near c scene f i us u) u.are_written (subst (λ (gs : List Face). Each (AtRegion scene f near i) gs vs) (sym (regions_unique c near i u.faces v.faces u.are_regions v.are_regions)) v.are_written)
+
+  -- the written regions of a leaf are one list
+  pub leaf_unique : (us vs : List Kept) → IsWrittenIn scene f c near us → IsWrittenIn scene f c near vs → us ≡ vs
+  leaf_unique us vs u v = each_unique of_unique u v
+
+-- ---- where the expression has one value
+module _ (scene : List Tri) (f : Formula) (c : Cell) (one : HasOneValue scene f c) where
+  both_sides : (g : Face) (before after : List ℤ) (s : IsSides scene g before after) → HasPoint c s.at → (truth before f ≡ one.value) × (truth after f ≡ one.value)
+  both_sides g before after s has =
+      let k = main_axis g.support in let b = (one.beside s.at has).steps k (neg_ℤ (pos 1)) in let a = (one.beside s.at has).steps k (pos 1) in
+      let m = b.from + a.from + s.bound * 1 + 1 in
+      let x = s.sees_before 1 m (le_refl 1) (omega arith) in let y = s.sees_after 1 m (le_refl 1) (omega arith) in (
+        ap (λ (v : List ℤ). truth v f) (sym x.counts_are) ∙ b.holds m (omega arith) x.clear k,
+        ap (λ (v : List ℤ). truth v f) (sym y.counts_are) ∙ a.holds m (omega arith) y.clear k,
+      )
+
+  module _ (near : List Tri) (has : (g : Face) → IsRegion near c g → (v : Spot) → is_inside g v ≡ true → HasPoint c v) where
+    none_at : (i : ℕ) (g : Face) (ks : List Kept) → IsRegion near c g → AtRegion scene f near i g ks → ks ≡ []
+    none_at i g ks r (unowned n) = refl
+    none_at i g ks r (even s e) = refl
+    none_at i g ks r (written {before = b} {after = a} o s e) =
+        let h = both_sides g b a s (has g r s.at s.inside) in absurd (e (h.0 ∙ sym h.1))
+
+    none_of : (i : ℕ) (ks : List Kept) → IsWrittenOf scene f c near i ks → ks ≡ []
+    none_of i ks w = each_nothing (IsRegion near c) (λ g xs r p. none_at i g xs r p) (each_region near c scene f i ks w) w.are_written
+
+    -- no region is written in the box
+    pub none_written : (ks : List Kept) → IsWrittenIn scene f c near ks → ks ≡ []
+    none_written ks w = each_nothing (λ i. Unit {0}) (λ i xs t p. none_of i xs p) (every_from (λ i. Unit {0}) (range_with_len 0 (length near)) (λ j i e. tt)) w
+
+-- ---- a scene
+module _ (scene : List Tri) (f : Formula) (meshes : ℕ) (is : IsScene scene meshes) where
+  sides_one : (c : Cell) (g : Face) → IsRegion (near scene c) c g → SidesAreOne scene g
+  sides_one c g r b a p q x y = one_sides scene (near scene c) meshes c is refl g r b a p q x y
+
+  has_region : (c : Cell) (g : Face) → IsRegion (near scene c) c g → (v : Spot) → is_inside g v ≡ true → HasPoint c v
+  has_region c g r v h =
+      in_box c g v (regions_lie_in c (near scene c) r.tri r.place r.regions g r.are_regions r.here) h
+
+  -- the written regions of a leaf of a scene are one list
+  pub written_in_unique : (c : Cell) (us vs : List Kept) → IsWrittenIn scene f c (near scene c) us → IsWrittenIn scene f c (near scene c) vs → us ≡ vs
+  written_in_unique c us vs u v = leaf_unique scene f c (near scene c) (sides_one c) us vs u v
+
+  gives_unique : (c : Cell) (us vs : List Kept) → LeafGives scene f c us → LeafGives scene f c vs → us ≡ vs
+  gives_unique c us vs (regions u) (regions v) = written_in_unique c us vs u v
+  gives_unique c us vs (regions u) (nothing h) = none_written scene f c h (near scene c) (has_region c) us u
+  gives_unique c us vs (nothing h) (regions v) = sym (none_written scene f c h (near scene c) (has_region c) vs v)
+  gives_unique c us vs (nothing h) (nothing k) = refl
+
+  -- those of all leaves are one list
+  pub written_unique : (us vs : List Kept) → IsWritten scene f us → IsWritten scene f vs → us ≡ vs
+  written_unique us vs u v = each_unique gives_unique u v

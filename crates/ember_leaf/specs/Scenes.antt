@@ -1,0 +1,37 @@
+-- What is written of a scene, leaf by leaf of the full tree
+use Rattle.std.specs.Prelude.{◌≡◌, ℤ, pos, Bool, List, []}
+use Rattle.ember_algebra.specs.Large.{Eventually}
+use Rattle.ember_algebra.specs.Relations.{Each}
+use Rattle.ember_model.specs.declared.point.Axis.{Axis}
+use Rattle.ember_model.specs.declared.point.Spot.{Spot}
+use Rattle.ember_model.specs.declared.tri.Tri.{Tri}
+use Rattle.ember_model.specs.Points.{scaled, moved}
+use Rattle.ember_model.specs.Clear.{AreClear}
+use Rattle.ember_model.specs.Meshes.{faces_of, vector}
+use Rattle.ember_expr.specs.Formula.{Formula}
+use Rattle.ember_expr.specs.Truth.{truth}
+use Rattle.ember_box.specs.Boxes.{Cell, root}
+use Rattle.ember_box.specs.Near.{near}
+use Rattle.ember_box.specs.Halving.{leaves}
+use Rattle.ember_ref.proofs.NearPoints.{HasPoint}
+use Rattle.ember_leaf.specs.declared.kept.Kept.{Kept}
+use Rattle.ember_leaf.specs.Written.{IsWrittenIn}
+
+-- the expression has this value at all clear points directly beside v: those at which a step along
+-- an axis ends, if it is small
+pub record IsBeside (scene : List Tri) (f : Formula) (v : Spot) (value : Bool) : Type 0 where
+  pub steps : (k : Axis) (by : ℤ) → Eventually (λ m. AreClear (faces_of scene) (moved (scaled (pos m) v) k by) → (a : Axis) → truth (vector a scene (moved (scaled (pos m) v) k by)) f ≡ value)
+
+-- it has one value at all clear points in the closed box and directly beside it
+pub record HasOneValue (scene : List Tri) (f : Formula) (c : Cell) : Type 0 where
+  pub value : Bool
+  pub beside : (v : Spot) → HasPoint c v → IsBeside scene f v value
+
+-- what a leaf gives: its written regions, and nothing where the expression has one value in it
+pub data LeafGives (scene : List Tri) (f : Formula) (c : Cell) : List Kept → Type 0 where
+  regions : {ks : List Kept} → IsWrittenIn scene f c (near scene c) ks → LeafGives scene f c ks
+  nothing : HasOneValue scene f c → LeafGives scene f c []
+
+-- the written regions of all leaves of the full tree, in tree order
+abbrev pub IsWritten : List Tri → Formula → List Kept → Type 0
+IsWritten scene f ks = Each (LeafGives scene f) (leaves scene root) ks
