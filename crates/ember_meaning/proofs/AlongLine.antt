@@ -9,8 +9,8 @@ use Rattle.ember_model.specs.declared.point.Axis.{Axis}
 use Rattle.ember_model.specs.declared.face.Face.{Face}
 use Rattle.ember_model.specs.Faces.{is_flat, face_of, crossing}
 use Rattle.ember_model.specs.Meshes.{wind, faces_of, of_mesh, vector, meshes}
-use Rattle.ember_meaning.specs.Lines.{In, total_of, one_if, Fraction, is_below, on_line, key, is_hit, amount, beyond, onward, is_same_place, is_tri_hit, tri_key, tri_hits, seen}
-use Rattle.ember_meaning.proofs.Telescope.{Placed, telescope}
+use Rattle.ember_meaning.specs.Lines.{In, total_of, one_if, Fraction, is_below, on_line, key, is_hit, amount, beyond, onward, is_same_place, is_tri_hit, tri_key, tri_hits, seen, Placed}
+use Rattle.ember_meaning.proofs.Telescope.{telescope}
 use Rattle.ember_meaning.proofs.Fractions.{fractions_order}
 use Rattle.ember_meaning.proofs.OnLine.{crossing-on_line}
 
@@ -62,7 +62,7 @@ vector-on_line k p y ts =
 -- ws are the written faces; at the key of each triangle that is hit they change by as much as the value
 pub record IsWrittenAlong (ts : List Tri) (holds : List ℤ → Bool) (ws : List Face) (k : Axis) (p : Spot) (ks : List Fraction) : Type 0 where
   pub tris : (t : Tri) → In t (tri_hits k p ts) → In (tri_key k p t) ks
-  pub faces : (w : Face) → In w (filter (is_hit k p) ws) → Placed is_below fractions_order ks (key k p w)
+  pub faces : (w : Face) → In w (filter (is_hit k p) ws) → Placed is_below ks (key k p w)
   pub jumps : (x : Fraction) → In x ks → total_of (amount k) (λ w. is_same_place is_below x (key k p w)) (filter (is_hit k p) ws) ≡ one_if (holds (seen k (onward is_below (tri_key k p) x (tri_hits k p ts)))) -ℤ one_if (holds (seen k (beyond is_below (tri_key k p) x (tri_hits k p ts))))
   pub bounded : holds (seen k []) ≡ false
 

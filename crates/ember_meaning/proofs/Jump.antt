@@ -3,20 +3,14 @@ use Rattle.std.proofs.Common.{◌≡◌, zero, suc, refl, sym, Bool, true, false
 use Rattle.std.proofs.lemmas.Bool.{false≢true}
 use Rattle.ember_algebra.specs.Sign.{sign, is_positive, is_zero}
 use Rattle.ember_meaning.specs.Lines.{one_if}
+use Rattle.ember_meaning.specs.Regular.{before_hit, after_hit}
 
 -- ---- signs: the written face's amount, from the region's support along the ray and the values on its two sides
--- a is the support's entry along the ray; front and behind are the values on the side of the normal and on the other
+-- a is the support's entry along the ray; ahead and back are the values on the side of the normal and on the other
 abbrev pub written_amount : ℤ → Bool → ℤ
 written_amount a is_flipped = cond is_flipped (neg_ℤ (sign a)) (sign a)
 
--- the value at the ray's points just before and just after the hit
-abbrev pub before_hit : ℤ → Bool → Bool → Bool
-before_hit a front behind = cond (is_positive a) behind front
-
-abbrev pub after_hit : ℤ → Bool → Bool → Bool
-after_hit a front behind = cond (is_positive a) front behind
-
-pub written_jump : (a : ℤ) (front behind : Bool) → is_zero a ≡ false → (front ≡ behind → ⊥) → written_amount a front ≡ one_if (before_hit a front behind) -ℤ one_if (after_hit a front behind)
+pub written_jump : (a : ℤ) (ahead back : Bool) → is_zero a ≡ false → (ahead ≡ back → ⊥) → written_amount a ahead ≡ one_if (before_hit a ahead back) -ℤ one_if (after_hit a ahead back)
 written_jump (pos zero) f b z n = absurd (false≢true (sym z))
 written_jump (pos (suc m)) true true z n = absurd (n refl)
 written_jump (pos (suc m)) true false z n = refl
@@ -27,7 +21,7 @@ written_jump (negsuc m) true false z n = refl
 written_jump (negsuc m) false true z n = refl
 written_jump (negsuc m) false false z n = absurd (n refl)
 
-pub even_jump : (a : ℤ) (front behind : Bool) → front ≡ behind → one_if (before_hit a front behind) -ℤ one_if (after_hit a front behind) ≡ pos 0
+pub even_jump : (a : ℤ) (ahead back : Bool) → ahead ≡ back → one_if (before_hit a ahead back) -ℤ one_if (after_hit a ahead back) ≡ pos 0
 even_jump a true true e = by (is_positive a)
   where
     by : (c : Bool) → one_if (cond c true true) -ℤ one_if (cond c true true) ≡ pos 0

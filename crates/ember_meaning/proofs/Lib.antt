@@ -11,3 +11,4 @@ pub mod AlongLine
 pub mod Jump
 pub mod Turned
 pub mod Places
+pub mod Meaning

@@ -5,7 +5,7 @@ use Rattle.std.proofs.lemmas.List.Sums.{sum_by-cons}
 use Rattle.std.proofs.lemmas.Bool.{cases_Bool, false≢true, and_parts, not-true}
 use Rattle.ember_algebra.proofs.Laws.{linear}
 use Rattle.ember_box.specs.Sums.{number}
-use Rattle.ember_meaning.specs.Lines.{In, here, there, IsOrder, total_of, one_if, beyond, onward, is_same_place}
+use Rattle.ember_meaning.specs.Lines.{In, here, there, IsOrder, total_of, one_if, beyond, onward, is_same_place, Placed}
 
 -- ---- lists whose members pass alike
 pub filter_same : {H : Type 0} (p q : H → Bool) (hs : List H) → ((h : H) → In h hs → p h ≡ q h) → filter p hs ≡ filter q hs
@@ -106,11 +106,6 @@ module _ {K : Type 0} (before : K → K → Bool) (order : IsOrder before) where
           omega (arith, sum_by-cons (λ k. cond (before x k) 1 0) k ks', sum_by-cons (λ k. cond (before y k) 1 0) k ks', f, ap number e)
 
   -- ---- keys of one place
-  pub record Placed (ks : List K) (z : K) : Type 0 where
-    pub key : K
-    pub member : In key ks
-    pub same : is_same_place before key z ≡ true
-
   swap_ahead : (a b y : K) → before a b ≡ false → before y a ≡ false → before y b ≡ false
   swap_ahead a b y e h =
       ⊎_elim (λ t. ⊎_elim (λ u. absurd (false≢true (sym h ∙ u))) (λ u. absurd (false≢true (sym e ∙ u))) (order.between y a b t)) (λ t. t) (cases_Bool (before y b))
@@ -143,7 +138,7 @@ module _ {K : Type 0} (before : K → K → Bool) (order : IsOrder before) where
     -- every hit's key and every place is among the keys; at each key the amounts are the value before it less that beyond it; past all hits the value is false
     pub record Telescopes : Type 0 where
       pub hits : (h : H) → In h hs → In (key h) ks
-      pub places : (w : W) → In w ws → Placed ks (place w)
+      pub places : (w : W) → In w ws → Placed before ks (place w)
       pub jumps : (x : K) → In x ks → total_of amount (λ w. is_same_place before x (place w)) ws ≡ one_if (value (onward before key x hs)) -ℤ one_if (value (beyond before key x hs))
       pub past : value [] ≡ false
 
@@ -157,7 +152,7 @@ module _ {K : Type 0} (before : K → K → Bool) (order : IsOrder before) where
           behind e =
               ⊎_elim (λ h. absurd (false≢true (sym e ∙ h))) (λ h. h) (order.between y k n.key n.is_ahead)
 
-      ahead_placed : (y : K) (n : Nearest y ks) (z : K) → Placed ks z → before y z ≡ not (before z n.key)
+      ahead_placed : (y : K) (n : Nearest y ks) (z : K) → Placed before ks z → before y z ≡ not (before z n.key)
       ahead_placed y n z q =
           sym (same_ahead q.key z y q.same) ∙ ahead y n q.key q.member ∙ ap not (same_behind q.key z n.key q.same)
 

@@ -42,6 +42,12 @@ module _ {K : Type 0} (before : K → K → Bool) where
   abbrev pub is_same_place : K → K → Bool
   is_same_place a b = not (before a b) && not (before b a)
 
+  -- z is at the place of some key
+  pub record Placed (ks : List K) (z : K) : Type 0 where
+    pub key : K
+    pub member : In key ks
+    pub same : is_same_place key z ≡ true
+
 -- num / (den + 1)
 pub record Fraction : Type 0 where
   pub num : ℤ
