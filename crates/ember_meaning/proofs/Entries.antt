@@ -4,7 +4,7 @@ use Rattle.std.specs.List.{sum_by, count_by, list_any, range_with_len}
 use Rattle.std.proofs.lemmas.List.Sums.{sum_by-cons}
 use Rattle.std.proofs.lemmas.Bool.{cases_Bool, eq-eqb, ne_eqb, lt-ltb, le-ltb, cases_order, cases_lt}
 use Rattle.ember_algebra.specs.Relations.{Each, none, more, Chain, done, step, Every}
-use Rattle.ember_algebra.proofs.Relations.{each_count}
+use Rattle.ember_algebra.proofs.Relations.{each_count, each_append}
 use Rattle.ember_model.specs.declared.tri.Tri.{Tri}
 use Rattle.ember_model.specs.declared.point.Spot.{Spot}
 use Rattle.ember_model.specs.declared.face.Face.{Face}
@@ -14,8 +14,12 @@ use Rattle.ember_box.specs.Near.{near, tri_at}
 use Rattle.ember_box.specs.Halving.{leaves}
 use Rattle.ember_box.specs.Sums.{number}
 use Rattle.ember_box.specs.Regions.{AtWall, AtBlade, walls, blades, IsRegions}
-use Rattle.ember_meaning.specs.Cover.{hits, is_in_box, IsFair, IsFairAt, IsFairEverywhere}
-use Rattle.ember_meaning.specs.Entries.{Entry, entry, IsEntriesOf, IsEntriesIn, IsEntries, has_inside, is_hit_at}
+use Rattle.ember_expr.specs.Formula.{Formula}
+use Rattle.ember_leaf.specs.declared.kept.Kept.{Kept}
+use Rattle.ember_leaf.specs.Written.{AtRegion, IsWrittenOf}
+use Rattle.ember_leaf.specs.Scenes.{HasOneValue, LeafGives, regions, nothing}
+use Rattle.ember_meaning.specs.Cover.{hits, is_in_box, IsFair, IsFairAt, IsFairInAll}
+use Rattle.ember_meaning.specs.Entries.{Entry, entry, IsEntriesOf, IsEntriesIn, IsEntries, has_inside, is_hit_at, Without, ends, keeps, drops}
 use Rattle.ember_meaning.proofs.Leaf.{leaf_count}
 use Rattle.ember_meaning.proofs.Tree.{leaves_count}
 
@@ -133,10 +137,54 @@ sum_any p q (x ∷ xs) h =
     by false b e f = let l : count_by p xs ≤ 1 = omega arith in omega (arith, f l)
 
 -- of all regions of place t, one holds x where in the leaf of x that triangle's face has x inside, else none
-pub entries_count : (scene : List Tri) (x : Spot) (t : ℕ) (es : List Entry) → pos 0 ≤ℤ x.w → IsFairEverywhere scene x → IsEntries scene es → count_by (is_entry_at x t) es ≡ number (is_hit_at scene x t)
-entries_count scene x t es w fair r =
-    entries_sum scene x t (leaves scene root) es fair r ∙ sum_any (λ c. is_in_box c x) (λ c. has_inside (near scene c) t x) (leaves scene root) (at_most (is_in_box root x) (leaves_count scene (left root) root x w))
+pub entries_count : (scene : List Tri) (cs : List Cell) (x : Spot) (t : ℕ) (es : List Entry) → count_by (λ c. is_in_box c x) cs ≤ 1 → IsFairInAll scene cs x → IsEntries scene cs es → count_by (is_entry_at x t) es ≡ number (is_hit_at scene cs x t)
+entries_count scene cs x t es one fair r =
+    entries_sum scene x t cs es fair r ∙ sum_any (λ c. is_in_box c x) (λ c. has_inside (near scene c) t x) cs one
+
+-- ---- at most one listed leaf holds a point
+fewer_without : {X : Type 0} {P : X → Type 0} (p : X → Bool) {xs ys : List X} → Without P xs ys → count_by p ys ≤ count_by p xs
+fewer_without p ends = omega arith
+fewer_without p (keeps {x = x} {xs = xs} {ys = ys} w) =
+    omega (arith, sum_by-cons (λ z. cond (p z) 1 0) x xs, sum_by-cons (λ z. cond (p z) 1 0) x ys, fewer_without p w)
+fewer_without p (drops {x = x} {xs = xs} {ys = ys} h w) =
+    omega (arith, sum_by-cons (λ z. cond (p z) 1 0) x xs, fewer_without p w)
+
+pub one_holds : {P : Cell → Type 0} (scene : List Tri) (cs : List Cell) (x : Spot) → pos 0 ≤ℤ x.w → Without P (leaves scene root) cs → count_by (λ c. is_in_box c x) cs ≤ 1
+one_holds scene cs x w l =
+    at_most (is_in_box root x) (fewer_without (λ c. is_in_box c x) l) (leaves_count scene (left root) root x w)
   where
-    at_most : (b : Bool) {n : ℕ} → n ≡ number b → n ≤ 1
-    at_most true e = omega arith
-    at_most false e = omega arith
+    at_most : {a n : ℕ} (b : Bool) → a ≤ n → n ≡ number b → a ≤ 1
+    at_most true h e = omega arith
+    at_most false h e = omega arith
+
+-- ---- the written regions, listed
+pub record Listed (scene : List Tri) (x : Formula) (ds : List Cell) (ks : List Kept) : Type 0 where
+  pub cells : List Cell
+  pub entries : List Entry
+  pub listed : Without (HasOneValue scene x) ds cells
+  pub are_entries : IsEntries scene cells entries
+  pub are_written : Each (λ e us. AtRegion scene x (near scene e.cell) e.tri e.face us) entries ks
+
+record OfLeaf (scene : List Tri) (x : Formula) (c : Cell) (is : List ℕ) (ks : List Kept) : Type 0 where
+  entries : List Entry
+  are_entries : Each (IsEntriesOf scene c) is entries
+  are_written : Each (λ e us. AtRegion scene x (near scene e.cell) e.tri e.face us) entries ks
+
+each_map : {X Z Y : Type 0} {R : Z → List Y → Type 0} (h : X → Z) {xs : List X} {ys : List Y} → Each (λ x. R (h x)) xs ys → Each R (map h xs) ys
+each_map h none = none
+each_map h (more r e) = more r (each_map h e)
+
+of_leaf : (scene : List Tri) (x : Formula) (c : Cell) {is : List ℕ} {ks : List Kept} → Each (IsWrittenOf scene x c (near scene c)) is ks → OfLeaf scene x c is ks
+of_leaf scene x c none = record { entries = []; are_entries = none; are_written = none }
+of_leaf scene x c (more {x = i} r e) =
+    let k = of_leaf scene x c e in
+    record { entries = map (entry c i) r.faces ++ k.entries; are_entries = more (record { faces = r.faces; are_regions = r.are_regions; is = refl }) k.are_entries; are_written = each_append (each_map (entry c i) r.are_written) k.are_written }
+
+pub listing : (scene : List Tri) (x : Formula) {ds : List Cell} {ks : List Kept} → Each (LeafGives scene x) ds ks → Listed scene x ds ks
+listing scene x none = record { cells = []; entries = []; listed = ends; are_entries = none; are_written = none }
+listing scene x (more {x = c} (regions w) e) =
+    let k = listing scene x e in let o = of_leaf scene x c w in
+    record { cells = c ∷ k.cells; entries = o.entries ++ k.entries; listed = keeps k.listed; are_entries = more o.are_entries k.are_entries; are_written = each_append o.are_written k.are_written }
+listing scene x (more (nothing h) e) =
+    let k = listing scene x e in
+    record { cells = k.cells; entries = k.entries; listed = drops h k.listed; are_entries = k.are_entries; are_written = k.are_written }

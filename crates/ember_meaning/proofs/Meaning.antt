@@ -1,6 +1,6 @@
 -- The meaning along one line, from what is owed at each hit.
-use Rattle.std.proofs.Common.{◌≡◌, ℕ, zero, suc, ◌+◌, ◌<◌, refl, ap, ◌∙◌, sym, subst, List, [], ◌∷◌, map, Bool, true, false, not, ◌&&◌, cond, ⊎_elim, ◌⊎◌, arith, ℤ, pos, ◌+ℤ◌, ◌-ℤ◌, ◌<ℤ◌, ◌≤ℤ◌, inl, inr}
-use Rattle.std.specs.List.{filter, list_any, range_with_len}
+use Rattle.std.proofs.Common.{◌≡◌, ℕ, zero, suc, ◌+◌, ◌<◌, ◌≤◌, refl, ap, ◌∙◌, sym, subst, List, [], ◌∷◌, map, Bool, true, false, not, ◌&&◌, cond, ⊎_elim, ◌⊎◌, arith, ℤ, pos, ◌+ℤ◌, ◌-ℤ◌, ◌<ℤ◌, ◌≤ℤ◌, inl, inr}
+use Rattle.std.specs.List.{filter, count_by, list_any, range_with_len}
 use Rattle.std.proofs.lemmas.Bool.{cases_Bool, false≢true, and_parts, or_right, not-true}
 use Rattle.ember_algebra.specs.Relations.{Each}
 use Rattle.ember_algebra.specs.Sign.{is_positive, is_zero}
@@ -15,16 +15,20 @@ use Rattle.ember_model.specs.Meshes.{wind, vector}
 use Rattle.ember_model.proofs.Hits.{inside_parts}
 use Rattle.ember_expr.specs.Formula.{Formula}
 use Rattle.ember_expr.specs.Truth.{truth}
+use Rattle.ember_box.specs.Boxes.{Cell, root}
 use Rattle.ember_box.specs.Near.{near}
+use Rattle.ember_box.specs.Halving.{leaves}
 use Rattle.ember_leaf.specs.declared.kept.Kept.{Kept}
 use Rattle.ember_leaf.specs.Written.{AtRegion, unowned, even, written, front}
+use Rattle.ember_leaf.specs.Scenes.{HasOneValue, IsWritten}
 use Rattle.ember_text.specs.Documents.{written_face}
-use Rattle.ember_meaning.specs.Entries.{Entry, IsEntries, is_hit_at}
+use Rattle.ember_meaning.specs.Cover.{is_in_box}
+use Rattle.ember_meaning.specs.Entries.{Entry, IsEntries, is_hit_at, Without}
 use Rattle.ember_meaning.specs.Lines.{In, here, there, total_of, one_if, Fraction, is_below, on_line, key, is_hit, amount, beyond, onward, is_same_place, is_tri_hit, tri_key, tri_hits, seen}
-use Rattle.ember_meaning.specs.Regular.{behind, before_hit, after_hit, place, truth_before, truth_after, truth_ahead, truth_back, IsRegular, IsRegularLine}
+use Rattle.ember_meaning.specs.Regular.{behind, before_hit, after_hit, place, truth_before, truth_after, truth_ahead, truth_back, IsRegular, IsRegularLine, IsRegularFor}
 use Rattle.ember_meaning.proofs.AlongLine.{along_line, total_of-filter}
-use Rattle.ember_meaning.proofs.Entries.{entries_count}
-use Rattle.ember_meaning.proofs.Owned.{IsCovered, jump_at}
+use Rattle.ember_meaning.proofs.Entries.{entries_count, one_holds, listing}
+use Rattle.ember_meaning.proofs.Owned.{IsCovered, jump_at, still_at}
 use Rattle.ember_meaning.proofs.Jump.{written_amount, written_jump, even_jump}
 use Rattle.ember_meaning.proofs.Turned.{key-turned, is_hit-turned, amount-turned}
 use Rattle.ember_meaning.proofs.Places.{same_inside, inside_place}
@@ -55,27 +59,27 @@ weight_of : (f : Face) (v : Spot) → is_inside f v ≡ true → pos 0 ≤ℤ v.
 weight_of f v i =
     let h : pos 0 <ℤ v.w = (inside_parts f v i).0 in omega (arith, linear)
 
-module _ (scene : List Tri) (x : Formula) (k : Axis) (p : Spot) (es : List Entry) (t : Tri) where
+module _ (scene : List Tri) (x : Formula) (k : Axis) (p : Spot) (cs : List Cell) (es : List Entry) (t : Tri) where
   abbrev at : Spot
-  at = place scene x k p es t
+  at = place scene x k p cs es t
 
   abbrev before_here : Bool
-  before_here = truth_before scene x k p es t
+  before_here = truth_before scene x k p cs es t
 
   abbrev after_here : Bool
-  after_here = truth_after scene x k p es t
+  after_here = truth_after scene x k p cs es t
 
   abbrev ahead : Face → List ℤ → List ℤ → Bool
-  ahead f before after = truth_ahead scene x k p es t f before after
+  ahead f before after = truth_ahead scene x k p cs es t f before after
 
   abbrev back : Face → List ℤ → List ℤ → Bool
-  back f before after = truth_back scene x k p es t f before after
+  back f before after = truth_back scene x k p cs es t f before after
 
   abbrev has : Entry → Bool
   has e = is_inside e.face at
 
   abbrev pub owned : Entry → Bool
-  owned e = not (list_any (λ j. is_hit_at scene at j) (range_with_len 0 e.tri))
+  owned e = not (list_any (λ j. is_hit_at scene cs at j) (range_with_len 0 e.tri))
 
   abbrev pub jump : ℤ
   jump = one_if before_here -ℤ one_if after_here
@@ -83,7 +87,7 @@ module _ (scene : List Tri) (x : Formula) (k : Axis) (p : Spot) (es : List Entry
   abbrev pub passes_here : Kept → Bool
   passes_here w = is_hit k p (written_face w) && is_same_place is_below (tri_key k p t) (key k p (written_face w))
 
-  module _ (r : IsRegular scene x k p es t) (hit_t : is_hit k p (face_of t) ≡ true) where
+  module _ (r : IsRegular scene x k p cs es t) (hit_t : is_hit k p (face_of t) ≡ true) where
     t_crosses : is_zero (along (face_of t).support k) ≡ false
     t_crosses = not-true (is_zero (along (face_of t).support k)) (and_parts (not (is_zero (along (face_of t).support k))) (is_inside (face_of t) at) hit_t).0
 
@@ -126,7 +130,7 @@ module _ (scene : List Tri) (x : Formula) (k : Axis) (p : Spot) (es : List Entry
     -- an entry gives the jump where it is owned and holds the place, else nothing
     entry_total : (e : Entry) (us : List Kept) → In e es → AtRegion scene x (near scene e.cell) e.tri e.face us → total_of (λ w. amount k (written_face w)) passes_here us ≡ cond (has e && owned e) jump (pos 0)
     entry_total e us i (unowned n) =
-        by (has e) (list_any (λ j. is_hit_at scene at j) (range_with_len 0 e.tri)) (λ h l. n (r.first_owner e i h (none_below (λ j. is_hit_at scene at j) e.tri l)))
+        by (has e) (list_any (λ j. is_hit_at scene cs at j) (range_with_len 0 e.tri)) (λ h l. n (r.first_owner e i h (none_below (λ j. is_hit_at scene cs at j) e.tri l)))
       where
         by : (h l : Bool) → (h ≡ true → l ≡ false → ⊥) → pos 0 ≡ cond (h && not l) jump (pos 0)
         by true true g = refl
@@ -148,7 +152,7 @@ module _ (scene : List Tri) (x : Formula) (k : Axis) (p : Spot) (es : List Entry
         by true false g = refl
         by false o g = refl
     entry_total e us i (written {before = a} {after = b} o s n) =
-        by (passes_here (record { tri = e.tri; flipped = ahead e.face a b; ring = e.face })) (has e) (owned e) (amount k (written_face (record { tri = e.tri; flipped = ahead e.face a b; ring = e.face }))) (here_is e (ahead e.face a b) i) (λ h. ap not (any_below (λ j. is_hit_at scene at j) 0 e.tri (λ j l. r.owner_first e i h o j (omega arith)))) (λ h. turns h (r.beside e a b i h s))
+        by (passes_here (record { tri = e.tri; flipped = ahead e.face a b; ring = e.face })) (has e) (owned e) (amount k (written_face (record { tri = e.tri; flipped = ahead e.face a b; ring = e.face }))) (here_is e (ahead e.face a b) i) (λ h. ap not (any_below (λ j. is_hit_at scene cs at j) 0 e.tri (λ j l. r.owner_first e i h o j (omega arith)))) (λ h. turns h (r.beside e a b i h s))
       where
         sides : (c : Bool) → truth (cond c b a) x ≡ truth (cond c a b) x → ⊥
         sides true e = n (sym e)
@@ -169,13 +173,16 @@ module _ (scene : List Tri) (x : Formula) (k : Axis) (p : Spot) (es : List Entry
     weight =
         weight_of (face_of t) at (and_parts (not (is_zero (along (face_of t).support k))) (is_inside (face_of t) at) hit_t).1
 
-    covered : IsEntries scene es → IsCovered (λ e. e.tri) has owned (λ j. is_hit_at scene at j) es
-    covered c =
-        record { cover = λ j. entries_count scene at j es weight r.fair c; owned_if = λ e i h f. ap not (any_below (λ j. is_hit_at scene at j) 0 e.tri (λ j l. f j (omega arith))); not_owned_if = λ e j i h l q. ap not (any_at (λ j. is_hit_at scene at j) 0 e.tri j (omega arith) (ap (λ (m : ℕ). is_hit_at scene at m) (omega arith) ∙ q)) }
+    covered : count_by (λ c. is_in_box c at) cs ≤ 1 → IsEntries scene cs es → IsCovered (λ e. e.tri) has owned (λ j. is_hit_at scene cs at j) es
+    covered one c =
+        record { cover = λ j. entries_count scene cs at j es one r.fair c; owned_if = λ e i h f. ap not (any_below (λ j. is_hit_at scene cs at j) 0 e.tri (λ j l. f j (omega arith))); not_owned_if = λ e j i h l q. ap not (any_at (λ j. is_hit_at scene cs at j) 0 e.tri j (omega arith) (ap (λ (m : ℕ). is_hit_at scene cs at m) (omega arith) ∙ q)) }
 
-    pub jump_here : (ws : List Kept) → IsEntries scene es → Each (λ e us. AtRegion scene x (near scene e.cell) e.tri e.face us) es ws → total_of (amount k) (λ w. is_same_place is_below (tri_key k p t) (key k p w)) (filter (is_hit k p) (map written_face ws)) ≡ jump
-    jump_here ws c d =
-        total_of-filter (amount k) (is_hit k p) (λ w. is_same_place is_below (tri_key k p t) (key k p w)) (map written_face ws) ∙ total_of-map (amount k) (λ w. is_hit k p w && is_same_place is_below (tri_key k p t) (key k p w)) written_face ws ∙ jump_at (λ e. e.tri) has owned (λ j. is_hit_at scene at j) (λ w. amount k (written_face w)) passes_here jump es ws (covered c) entry_total d r.some r.some_hit
+    pub jump_here : (ws : List Kept) → Without (HasOneValue scene x) (leaves scene root) cs → IsEntries scene cs es → Each (λ e us. AtRegion scene x (near scene e.cell) e.tri e.face us) es ws → total_of (amount k) (λ w. is_same_place is_below (tri_key k p t) (key k p w)) (filter (is_hit k p) (map written_face ws)) ≡ jump
+    jump_here ws n c d =
+        total_of-filter (amount k) (is_hit k p) (λ w. is_same_place is_below (tri_key k p t) (key k p w)) (map written_face ws) ∙ total_of-map (amount k) (λ w. is_hit k p w && is_same_place is_below (tri_key k p t) (key k p w)) written_face ws ∙ ⊎_elim (λ s. jump_at (λ e. e.tri) has owned (λ j. is_hit_at scene cs at j) (λ w. amount k (written_face w)) passes_here jump es ws (covered (one_holds scene cs at weight n) c) entry_total d s.tri s.is_hit) (λ s. still_at (λ e. e.tri) has owned (λ j. is_hit_at scene cs at j) (λ w. amount k (written_face w)) passes_here jump es ws (covered (one_holds scene cs at weight n) c) entry_total d s.0 ∙ sym (ap (λ b. one_if b -ℤ one_if after_here) s.1 ∙ nought (one_if after_here))) r.some_hit
+      where
+        nought : (z : ℤ) → z -ℤ z ≡ pos 0
+        nought z = omega (arith, linear)
 
 -- ---- members of a map and of a filter
 in_map : {S T : Type 0} (h : S → T) (xs : List S) (x : S) → In x xs → In (h x) (map h xs)
@@ -203,11 +210,17 @@ in_filter q [] x i = elim i [ ]
 in_filter q (a ∷ xs) x i = of_cons q (q a) a (filter q xs) x refl i (λ j. in_filter q xs x j)
 
 -- the meaning on a regular line
-pub meaning_along : (scene : List Tri) (x : Formula) (k : Axis) (p : Spot) (es : List Entry) (ws : List Kept) → IsEntries scene es → Each (λ e us. AtRegion scene x (near scene e.cell) e.tri e.face us) es ws → IsRegularLine scene x k p es ws → (y : Fraction) → wind k (map written_face ws) (on_line k p y) ≡ one_if (truth (vector k scene (on_line k p y)) x)
-meaning_along scene x k p es ws c d r y =
+pub meaning_along : (scene : List Tri) (x : Formula) (k : Axis) (p : Spot) (cs : List Cell) (es : List Entry) (ws : List Kept) → Without (HasOneValue scene x) (leaves scene root) cs → IsEntries scene cs es → Each (λ e us. AtRegion scene x (near scene e.cell) e.tri e.face us) es ws → IsRegularLine scene x k p cs es ws → (y : Fraction) → wind k (map written_face ws) (on_line k p y) ≡ one_if (truth (vector k scene (on_line k p y)) x)
+meaning_along scene x k p cs es ws n c d r y =
     along_line scene (λ v. truth v x) (map written_face ws) k p (map (tri_key k p) (tri_hits k p scene)) (record { tris = λ t i. in_map (tri_key k p) (tri_hits k p scene) t i; faces = r.placed; jumps = λ z i. jumps z (source (tri_key k p) (tri_hits k p scene) z i); bounded = r.bounded }) y
   where
     jumps : (z : Fraction) → Source (tri_key k p) (tri_hits k p scene) z → total_of (amount k) (λ w. is_same_place is_below z (key k p w)) (filter (is_hit k p) (map written_face ws)) ≡ one_if (truth (seen k (onward is_below (tri_key k p) z (tri_hits k p scene))) x) -ℤ one_if (truth (seen k (beyond is_below (tri_key k p) z (tri_hits k p scene))) x)
     jumps z s =
-        let j = jump_here scene x k p es s.at (r.regular s.at s.member) (and_parts (not (is_flat s.at)) (is_hit k p (face_of s.at)) (in_filter (is_tri_hit k p) scene s.at s.member)).1 ws c d in
+        let j = jump_here scene x k p cs es s.at (r.regular s.at s.member) (and_parts (not (is_flat s.at)) (is_hit k p (face_of s.at)) (in_filter (is_tri_hit k p) scene s.at s.member)).1 ws n c d in
         subst (λ u. total_of (amount k) (λ w. is_same_place is_below u (key k p w)) (filter (is_hit k p) (map written_face ws)) ≡ one_if (truth (seen k (onward is_below (tri_key k p) u (tri_hits k p scene))) x) -ℤ one_if (truth (seen k (beyond is_below (tri_key k p) u (tri_hits k p scene))) x)) (sym s.is) j
+
+-- the meaning of the written regions of a scene, on a line that is regular for them
+pub meaning_of_written : (scene : List Tri) (x : Formula) (ks : List Kept) → IsWritten scene x ks → (k : Axis) (p : Spot) → IsRegularFor scene x ks k p → (y : Fraction) → wind k (map written_face ks) (on_line k p y) ≡ one_if (truth (vector k scene (on_line k p y)) x)
+meaning_of_written scene x ks w k p r y =
+    let l = listing scene x w in
+    meaning_along scene x k p l.cells l.entries ks l.listed l.are_entries l.are_written (r l.cells l.entries (record { listed = l.listed; are_entries = l.are_entries; are_written = l.are_written })) y

@@ -131,3 +131,11 @@ jump_at tri has owned hit amount p g es ws c f r t h =
   where
     one_time : (g : ℤ) → pos 1 *ℤ g ≡ g
     one_time g = omega (arith, ints)
+
+-- and nothing where no triangle's face has
+pub still_at : {E W : Type 0} {R : E → List W → Type 0} (tri : E → ℕ) (has owned : E → Bool) (hit : ℕ → Bool) (amount : W → ℤ) (p : W → Bool) (g : ℤ) (es : List E) (ws : List W) → IsCovered tri has owned hit es → ((e : E) (us : List W) → In e es → R e us → total_of amount p us ≡ cond (has e && owned e) g (pos 0)) → Each R es ws → ((t : ℕ) → hit t ≡ false) → total_of amount p ws ≡ pos 0
+still_at tri has owned hit amount p g es ws c f r h =
+    each_total amount p (λ e. has e && owned e) g f r ∙ ap (λ (n : ℕ). pos n *ℤ g) (none_owned tri has owned hit es c h) ∙ zero_times g
+  where
+    zero_times : (g : ℤ) → pos 0 *ℤ g ≡ pos 0
+    zero_times g = omega (arith, ints)

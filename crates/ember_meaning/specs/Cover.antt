@@ -10,9 +10,8 @@ use Rattle.ember_model.specs.declared.point.Axis.TheVariants.{X, Y, Z}
 use Rattle.ember_model.specs.declared.face.Face.{Face}
 use Rattle.ember_model.specs.Planes.{value_at, support_of}
 use Rattle.ember_model.specs.Faces.{is_inside, is_flat}
-use Rattle.ember_box.specs.Boxes.{Cell, low, high, root}
+use Rattle.ember_box.specs.Boxes.{Cell, low, high}
 use Rattle.ember_box.specs.Near.{tri_at, near}
-use Rattle.ember_box.specs.Halving.{leaves}
 use Rattle.ember_box.specs.Regions.{Wall, walls, blades}
 
 -- p is 0 wherever s is
@@ -52,6 +51,6 @@ abbrev pub IsFairAt : List Tri → Spot → Cell → Type 0
 IsFairAt scene x c =
     (i : ℕ) → is_flat (tri_at (near scene c) i) ≡ false → IsFair c (near scene c) i x
 
--- x is off all planes that cut a triangle in a leaf
-abbrev pub IsFairEverywhere : List Tri → Spot → Type 0
-IsFairEverywhere scene x = Every (λ c. IsFairAt scene x c) (leaves scene root)
+-- x is off all planes that cut a triangle in one of the boxes
+abbrev pub IsFairInAll : List Tri → List Cell → Spot → Type 0
+IsFairInAll scene cs x = Every (λ c. IsFairAt scene x c) cs
