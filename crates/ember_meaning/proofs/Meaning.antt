@@ -1,5 +1,6 @@
 -- The meaning along one line, from what is owed at each hit.
-use Rattle.std.proofs.Common.{◌≡◌, ℕ, zero, suc, ◌+◌, ◌<◌, ◌≤◌, refl, ap, ◌∙◌, sym, subst, List, [], ◌∷◌, map, Bool, true, false, not, ◌&&◌, cond, ⊎_elim, ◌⊎◌, arith, ℤ, pos, ◌+ℤ◌, ◌-ℤ◌, ◌<ℤ◌, ◌≤ℤ◌, inl, inr}
+use Rattle.std.proofs.Common.{◌≡◌, ℕ, zero, suc, ◌+◌, ◌<◌, ◌≤◌, refl, ap, ◌∙◌, sym, subst, List, [], ◌∷◌, map, replicate, Bool, true, false, not, ◌&&◌, cond, ⊎_elim, ◌⊎◌, arith, ℤ, pos, ◌+ℤ◌, ◌-ℤ◌, ◌*ℤ◌, ◌<ℤ◌, ◌≤ℤ◌, inl, inr}
+use borrow.Author.Differences.{ints}
 use Rattle.std.specs.List.{filter, count_by, list_any, range_with_len}
 use Rattle.std.proofs.lemmas.Bool.{cases_Bool, false≢true, and_parts, or_right, not-true}
 use Rattle.ember_algebra.specs.Relations.{Each}
@@ -8,11 +9,13 @@ use Rattle.ember_algebra.proofs.Laws.{linear}
 use Rattle.ember_model.specs.declared.tri.Tri.{Tri}
 use Rattle.ember_model.specs.declared.point.Spot.{Spot}
 use Rattle.ember_model.specs.declared.point.Axis.{Axis}
+use Rattle.ember_model.specs.declared.point.Axis.TheVariants.{X, Y, Z}
 use Rattle.ember_model.specs.declared.face.Face.{Face}
 use Rattle.ember_model.specs.Planes.{along, main_axis}
 use Rattle.ember_model.specs.Faces.{is_inside, is_flat, face_of, hit}
-use Rattle.ember_model.specs.Meshes.{wind, vector}
+use Rattle.ember_model.specs.Meshes.{wind, vector, meshes}
 use Rattle.ember_model.proofs.Hits.{inside_parts}
+use Rattle.ember_model.proofs.Tuples.{same_spot}
 use Rattle.ember_expr.specs.Formula.{Formula}
 use Rattle.ember_expr.specs.Truth.{truth}
 use Rattle.ember_box.specs.Boxes.{Cell, root}
@@ -25,7 +28,7 @@ use Rattle.ember_text.specs.Documents.{written_face}
 use Rattle.ember_meaning.specs.Cover.{is_in_box}
 use Rattle.ember_meaning.specs.Entries.{Entry, IsEntries, is_hit_at, Without}
 use Rattle.ember_meaning.specs.Lines.{In, here, there, total_of, one_if, Fraction, is_below, on_line, key, is_hit, amount, beyond, onward, is_same_place, is_tri_hit, tri_key, tri_hits, seen}
-use Rattle.ember_meaning.specs.Regular.{behind, before_hit, after_hit, place, truth_before, truth_after, truth_ahead, truth_back, IsRegular, IsRegularLine, IsRegularFor}
+use Rattle.ember_meaning.specs.Regular.{behind, before_hit, after_hit, place, truth_before, truth_after, truth_ahead, truth_back, IsRegular, IsRegularLine, IsRegularFor, IsFalseOutside, HasMeaning, HaveMeaningOnLines}
 use Rattle.ember_meaning.proofs.AlongLine.{along_line, total_of-filter}
 use Rattle.ember_meaning.proofs.Entries.{entries_count, one_holds, listing}
 use Rattle.ember_meaning.proofs.Owned.{IsCovered, jump_at, still_at}
@@ -209,18 +212,36 @@ in_filter : {T : Type 0} (q : T → Bool) (xs : List T) (x : T) → In x (filter
 in_filter q [] x i = elim i [ ]
 in_filter q (a ∷ xs) x i = of_cons q (q a) a (filter q xs) x refl i (λ j. in_filter q xs x j)
 
+-- where no triangle lies ahead all winding numbers are 0
+none_ahead : map (λ m. pos 0) meshes ≡ replicate 64 (pos 0)
+unfolding meshes
+none_ahead = refl
+
 -- the meaning on a regular line
-pub meaning_along : (scene : List Tri) (x : Formula) (k : Axis) (p : Spot) (cs : List Cell) (es : List Entry) (ws : List Kept) → Without (HasOneValue scene x) (leaves scene root) cs → IsEntries scene cs es → Each (λ e us. AtRegion scene x (near scene e.cell) e.tri e.face us) es ws → IsRegularLine scene x k p cs es ws → (y : Fraction) → wind k (map written_face ws) (on_line k p y) ≡ one_if (truth (vector k scene (on_line k p y)) x)
-meaning_along scene x k p cs es ws n c d r y =
-    along_line scene (λ v. truth v x) (map written_face ws) k p (map (tri_key k p) (tri_hits k p scene)) (record { tris = λ t i. in_map (tri_key k p) (tri_hits k p scene) t i; faces = r.placed; jumps = λ z i. jumps z (source (tri_key k p) (tri_hits k p scene) z i); bounded = r.bounded }) y
+pub meaning_along : (scene : List Tri) (x : Formula) (k : Axis) (p : Spot) (cs : List Cell) (es : List Entry) (ws : List Kept) → Without (HasOneValue scene x) (leaves scene root) cs → IsEntries scene cs es → Each (λ e us. AtRegion scene x (near scene e.cell) e.tri e.face us) es ws → IsFalseOutside x → IsRegularLine scene x k p cs es ws → (y : Fraction) → wind k (map written_face ws) (on_line k p y) ≡ one_if (truth (vector k scene (on_line k p y)) x)
+meaning_along scene x k p cs es ws n c d o r y =
+    along_line scene (λ v. truth v x) (map written_face ws) k p (map (tri_key k p) (tri_hits k p scene)) (record { tris = λ t i. in_map (tri_key k p) (tri_hits k p scene) t i; faces = r.placed; jumps = λ z i. jumps z (source (tri_key k p) (tri_hits k p scene) z i); bounded = ap (λ (v : List ℤ). truth v x) none_ahead ∙ o }) y
   where
     jumps : (z : Fraction) → Source (tri_key k p) (tri_hits k p scene) z → total_of (amount k) (λ w. is_same_place is_below z (key k p w)) (filter (is_hit k p) (map written_face ws)) ≡ one_if (truth (seen k (onward is_below (tri_key k p) z (tri_hits k p scene))) x) -ℤ one_if (truth (seen k (beyond is_below (tri_key k p) z (tri_hits k p scene))) x)
     jumps z s =
         let j = jump_here scene x k p cs es s.at (r.regular s.at s.member) (and_parts (not (is_flat s.at)) (is_hit k p (face_of s.at)) (in_filter (is_tri_hit k p) scene s.at s.member)).1 ws n c d in
         subst (λ u. total_of (amount k) (λ w. is_same_place is_below u (key k p w)) (filter (is_hit k p) (map written_face ws)) ≡ one_if (truth (seen k (onward is_below (tri_key k p) u (tri_hits k p scene))) x) -ℤ one_if (truth (seen k (beyond is_below (tri_key k p) u (tri_hits k p scene))) x)) (sym s.is) j
 
+zero_more : (z : ℤ) → pos 1 *ℤ z +ℤ pos 0 ≡ z
+zero_more z = omega (arith, ints)
+
+one_time : (z : ℤ) → pos 1 *ℤ z ≡ z
+one_time z = omega (arith, ints)
+
+-- the first point of a line
+first : (k : Axis) (p : Spot) → on_line k p (record { num = pos 0; den = 0 }) ≡ p
+first X p = same_spot (zero_more p.x) (one_time p.y) (one_time p.z) (one_time p.w)
+first Y p = same_spot (one_time p.x) (zero_more p.y) (one_time p.z) (one_time p.w)
+first Z p = same_spot (one_time p.x) (one_time p.y) (zero_more p.z) (one_time p.w)
+
 -- the meaning of the written regions of a scene, on a line that is regular for them
-pub meaning_of_written : (scene : List Tri) (x : Formula) (ks : List Kept) → IsWritten scene x ks → (k : Axis) (p : Spot) → IsRegularFor scene x ks k p → (y : Fraction) → wind k (map written_face ks) (on_line k p y) ≡ one_if (truth (vector k scene (on_line k p y)) x)
-meaning_of_written scene x ks w k p r y =
+pub meaning_of_written : (scene : List Tri) (x : Formula) (ks : List Kept) → IsWritten scene x ks → IsFalseOutside x → HaveMeaningOnLines scene x ks
+meaning_of_written scene x ks w o k p r =
     let l = listing scene x w in
-    meaning_along scene x k p l.cells l.entries ks l.listed l.are_entries l.are_written (r l.cells l.entries (record { listed = l.listed; are_entries = l.are_entries; are_written = l.are_written })) y
+    let m = meaning_along scene x k p l.cells l.entries ks l.listed l.are_entries l.are_written o (r l.cells l.entries (record { listed = l.listed; are_entries = l.are_entries; are_written = l.are_written })) (record { num = pos 0; den = 0 }) in
+    subst (λ q. HasMeaning scene x ks k k q) (first k p) m

@@ -1,5 +1,5 @@
 -- What is owed at the hits of a line for the written regions to wind there as the expression says
-use Rattle.std.specs.Prelude.{◌⊎◌, ◌≡◌, ℕ, ◌<◌, Bool, true, false, cond, List, [], map, filter, ℤ}
+use Rattle.std.specs.Prelude.{◌⊎◌, ◌≡◌, ℕ, ◌<◌, Bool, true, false, cond, List, [], map, filter, replicate, ℤ, pos}
 use Rattle.ember_algebra.specs.Relations.{Each}
 use Rattle.ember_algebra.specs.Sign.{is_positive, is_zero}
 use Rattle.ember_model.specs.declared.tri.Tri.{Tri}
@@ -8,6 +8,7 @@ use Rattle.ember_model.specs.declared.point.Axis.{Axis}
 use Rattle.ember_model.specs.declared.face.Face.{Face}
 use Rattle.ember_model.specs.Planes.{along, main_axis}
 use Rattle.ember_model.specs.Faces.{is_inside, face_of, hit}
+use Rattle.ember_model.specs.Meshes.{wind, vector}
 use Rattle.ember_model.specs.Owners.{IsOwner}
 use Rattle.ember_model.specs.Sides.{IsSides}
 use Rattle.ember_expr.specs.Formula.{Formula}
@@ -19,7 +20,7 @@ use Rattle.ember_leaf.specs.Written.{front}
 use Rattle.ember_text.specs.Documents.{written_face}
 use Rattle.ember_meaning.specs.Cover.{IsFairInAll}
 use Rattle.ember_meaning.specs.Entries.{Entry, is_hit_at, IsListing}
-use Rattle.ember_meaning.specs.Lines.{In, Fraction, is_below, key, is_hit, Placed, beyond, onward, tri_key, tri_hits, seen}
+use Rattle.ember_meaning.specs.Lines.{In, Fraction, is_below, key, is_hit, Placed, beyond, onward, tri_key, tri_hits, seen, one_if}
 
 -- the winding numbers behind a region, of those before and after it along its main axis
 abbrev pub behind : Face → List ℤ → List ℤ → List ℤ
@@ -72,13 +73,26 @@ module _ (scene : List Tri) (x : Formula) (k : Axis) (p : Spot) (cs : List Cell)
     -- just before and just after the hit the expression is as on the sides of a region that holds it
     pub beside : (e : Entry) (before after : List ℤ) → In e es → is_inside e.face place ≡ true → IsSides scene e.face before after → (truth_before ≡ before_hit (along e.face.support k) (truth_ahead e.face before after) (truth_back e.face before after)) × (truth_after ≡ after_hit (along e.face.support k) (truth_ahead e.face before after) (truth_back e.face before after))
 
--- along the line through p the entries are regular, a written face is hit only where a triangle is, and the expression is false outside
+-- along the line through p the entries are regular, and a written face is hit only where a triangle is
 pub record IsRegularLine (scene : List Tri) (x : Formula) (k : Axis) (p : Spot) (cs : List Cell) (es : List Entry) (ws : List Kept) : Type 0 where
   pub regular : (t : Tri) → In t (tri_hits k p scene) → IsRegular scene x k p cs es t
   pub placed : (w : Face) → In w (filter (is_hit k p) (map written_face ws)) → Placed is_below (map (tri_key k p) (tri_hits k p scene)) (key k p w)
-  pub bounded : truth (seen k []) x ≡ false
 
 -- the line is regular, however the written regions are listed
 abbrev pub IsRegularFor : List Tri → Formula → List Kept → Axis → Spot → Type 0
 IsRegularFor scene x ks k p =
     (cs : List Cell) (es : List Entry) → IsListing scene x ks cs es → IsRegularLine scene x k p cs es ks
+
+-- the expression is false where all winding numbers are 0
+abbrev pub IsFalseOutside : Formula → Type 0
+IsFalseOutside x = truth (replicate 64 (pos 0)) x ≡ false
+
+-- at p the written regions wind once along the axis where the expression holds, and not at all elsewhere
+abbrev pub HasMeaning : List Tri → Formula → List Kept → Axis → Axis → Spot → Type 0
+HasMeaning scene x ks a b p =
+    wind a (map written_face ks) p ≡ one_if (truth (vector b scene p) x)
+
+-- the written regions have their meaning at each point on a regular line
+abbrev pub HaveMeaningOnLines : List Tri → Formula → List Kept → Type 0
+HaveMeaningOnLines scene x ks =
+    (k : Axis) (p : Spot) → IsRegularFor scene x ks k p → HasMeaning scene x ks k k p
