@@ -15,7 +15,8 @@ use Rattle.ember_box.specs.declared.sums.Halves.{Halves}
 use Rattle.ember_box.specs.declared.sums.Sums.{Sums}
 use Rattle.ember_box.specs.Boxes.{Cell, left_half, right_half}
 use Rattle.ember_box.specs.Near.{is_near, near, no_tri}
-use Rattle.ember_box.specs.Spans.{spans_of, bounding, overlap, crosses}
+use Rattle.ember_box.specs.Spans.{spans_of, bounding, overlap, within, is_level, crosses}
+use Rattle.ember_box.proofs.Level.{level_crossed}
 use Rattle.ember_box.specs.Halving.{half_sum, is_no_better, halving_axis, spreads, is_leaf}
 use Rattle.ember_box.specs.Sums.{number, IsPlaneOf, IsSight, may_cross, sees, AreHalves, halves_seen, IsSumOf, AreSums}
 use Rattle.ember_box.proofs.Orders.{and_implied}
@@ -29,8 +30,12 @@ seen whole c t s sight crossed =
   where
     by : (p : Option Plane) → IsPlaneOf whole t p → overlap (bounding t) (spans_of c) && may_cross (spans_of c) p ≡ overlap (bounding t) (spans_of c) && crosses (support_of t) (spans_of c)
     by None e =
-        always (overlap (bounding t) (spans_of c)) ∙ and_implied (overlap (bounding t) (spans_of c)) (crosses (support_of t) (spans_of c)) (crossed (are_inside whole t e))
+        always (overlap (bounding t) (spans_of c)) ∙ and_implied (overlap (bounding t) (spans_of c)) (crosses (support_of t) (spans_of c)) (λ o. or_either (within whole (bounding t)) (is_level (bounding t)) e (λ i. crossed (are_inside whole t i) o) (λ l. level_crossed c t l o))
       where
+        or_either : {P : Type 0} (p q : Bool) → p || q ≡ true → (p ≡ true → P) → (q ≡ true → P) → P
+        or_either true q e f g = f refl
+        or_either false q e f g = g e
+
         always : (b : Bool) → b && true ≡ b
         always true = refl
         always false = refl

@@ -110,7 +110,7 @@ end_in : (l : ℤ) (n : ℤ) (s : Bool) → pos 0 ≤ℤ n → IsBetween (record
 end_in l n true p = record { from = omega (arith, linear); to = omega (arith, linear) }
 end_in l n false p = record { from = omega (arith, linear); to = omega (arith, linear) }
 
-corner_in : (c : Cell) (s t u : Bool) → IsIn (spans_of c) (if s then high c X else low c X) (if t then high c Y else low c Y) (if u then high c Z else low c Z)
+pub corner_in : (c : Cell) (s t u : Bool) → IsIn (spans_of c) (if s then high c X else low c X) (if t then high c Y else low c Y) (if u then high c Z else low c Z)
 corner_in c s t u =
     record {
       on_x = end_in (low c X) (side c X) s (omega (arith, ints));

@@ -46,7 +46,7 @@ on_plane_c : (t : Tri) → (support_of t).a *ℤ t.c.x +ℤ (support_of t).b *�
 on_plane_c t =
     solve 9 (λ u v w l m n x y z. ((m ⊖ v) ⊗ (z ⊖ w) ⊖ (n ⊖ w) ⊗ (y ⊖ v)) ⊗ x ⊕ ((n ⊖ w) ⊗ (x ⊖ u) ⊖ (l ⊖ u) ⊗ (z ⊖ w)) ⊗ y ⊕ ((l ⊖ u) ⊗ (y ⊖ v) ⊖ (m ⊖ v) ⊗ (x ⊖ u)) ⊗ z ≈ ((m ⊖ v) ⊗ (z ⊖ w) ⊖ (n ⊖ w) ⊗ (y ⊖ v)) ⊗ u ⊕ ((n ⊖ w) ⊗ (x ⊖ u) ⊖ (l ⊖ u) ⊗ (z ⊖ w)) ⊗ v ⊕ ((l ⊖ u) ⊗ (y ⊖ v) ⊖ (m ⊖ v) ⊗ (x ⊖ u)) ⊗ w) cancels t.a.x t.a.y t.a.z t.b.x t.b.y t.b.z t.c.x t.c.y t.c.z
 
-crossed_a : (t : Tri) (b : Spans) → IsInside b t.a → crosses (support_of t) b ≡ true
+pub crossed_a : (t : Tri) (b : Spans) → IsInside b t.a → crosses (support_of t) b ≡ true
 crossed_a t b i = crosses_at (support_of t) b t.a.x t.a.y t.a.z i (on_plane_a t)
 
 crossed_b : (t : Tri) (b : Spans) → IsInside b t.b → crosses (support_of t) b ≡ true

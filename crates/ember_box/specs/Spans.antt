@@ -1,5 +1,5 @@
 -- What boxes and triangles span along the axes, and the tests on it
-use Rattle.std.specs.Prelude.{ℤ, ◌+ℤ◌, ◌*ℤ◌, Bool, ◌&&◌, if◌then◌else◌, int_le}
+use Rattle.std.specs.Prelude.{ℤ, ◌+ℤ◌, ◌*ℤ◌, Bool, ◌&&◌, ◌||◌, if◌then◌else◌, int_le}
 use Rattle.std.specs.Int.{int_min, int_max}
 use Rattle.ember_algebra.specs.Size.{Small}
 use Rattle.ember_algebra.specs.Sign.{is_negative}
@@ -41,6 +41,14 @@ covers b a = int_le b.low a.low && int_le a.high b.high
 -- the second lies in the first
 abbrev pub within : Spans → Spans → Bool
 within b a = covers b.x a.x && covers b.y a.y && covers b.z a.z
+
+-- its ends are one
+abbrev pub is_point : Span → Bool
+is_point s = int_le s.high s.low
+
+-- it lies across an axis
+abbrev pub is_level : Spans → Bool
+is_level b = is_point b.x || is_point b.y || is_point b.z
 
 abbrev pub has : Span → ℤ → Bool
 has b x = int_le b.low x && int_le x b.high

@@ -1,5 +1,5 @@
 -- What the tests of one triangle against a box and its halves look at, and what they count
-use Rattle.std.specs.Prelude.{◌≡◌, ℕ, ◌+◌, ◌*◌, ◌<◌, ◌≤◌, Bool, true, ◌&&◌, if◌then◌else◌, Option, None, Some, List, length}
+use Rattle.std.specs.Prelude.{◌≡◌, ℕ, ◌+◌, ◌*◌, ◌<◌, ◌≤◌, Bool, true, ◌&&◌, ◌||◌, if◌then◌else◌, Option, None, Some, List, length}
 use Rattle.ember_model.specs.declared.tri.Tri.{Tri}
 use Rattle.ember_model.specs.declared.plane.Plane.{Plane}
 use Rattle.ember_model.specs.declared.point.Axis.{Axis}
@@ -11,7 +11,7 @@ use Rattle.ember_box.specs.declared.sums.Sight.{Sight}
 use Rattle.ember_box.specs.declared.sums.Halves.{Halves}
 use Rattle.ember_box.specs.declared.sums.Sums.{Sums}
 use Rattle.ember_box.specs.Boxes.{Cell, left_half, right_half}
-use Rattle.ember_box.specs.Spans.{spans_of, bounding, overlap, within, crosses, AreSpansSized}
+use Rattle.ember_box.specs.Spans.{spans_of, bounding, overlap, within, is_level, crosses, AreSpansSized}
 use Rattle.ember_box.specs.Near.{near}
 use Rattle.ember_box.specs.Halving.{half_sum}
 
@@ -20,10 +20,10 @@ number b = if b then 1 else 0
 
 -- ---- one triangle
 abbrev pub IsPlaneOf : Spans → Tri → Option Plane → Type 0
-IsPlaneOf whole t None = within whole (bounding t) ≡ true
+IsPlaneOf whole t None = within whole (bounding t) || is_level (bounding t) ≡ true
 IsPlaneOf whole t (Some p) = p ≡ support_of t
 
--- how a triangle is seen from a box: without a plane where it lies in the box
+-- how a triangle is seen from a box: without a plane where it lies in the box or across an axis
 pub record IsSight (whole : Spans) (t : Tri) (s : Sight) : Type 0 where
   pub spans : s.spans ≡ bounding t
   pub plane : IsPlaneOf whole t s.plane

@@ -1,10 +1,13 @@
 // Which triangles are near a box.
-ghost use Rattle.std.specs.Prelude.{◌≡◌, ◌<◌, length, All, IfOk};
+ghost use Rattle.std.specs.Prelude.{◌≡◌, ◌<◌, true, length, All, IfOk};
 ghost use Rattle.ember_model.specs.Valid.{IsValidTri};
+ghost use Rattle.ember_model.specs.Planes.{support_of};
+ghost use Rattle.ember_box.specs.Boxes.{Cell as Box};
+ghost use Rattle.ember_box.specs.Spans.{spans_of, bounding, overlap, crosses, AreSpansSized};
 ghost use Rattle.ember_box.specs.Near.{is_near, tri_at, near_places};
 
 use crate::cell::Cell;
-use crate::spans::{bounding, crosses, holds, overlap, spans_of};
+use crate::spans::{Spans, bounding, crosses, holds, is_level, overlap, spans_of};
 use ember_model::{OutOfMemory, Scene, Tri, support_of};
 use std::alloc::Global;
 
@@ -14,8 +17,30 @@ pub fn near_tri(c: &Cell, t: &Tri) -> bool
     requires { IsValidTri t.now }
     ensures { result ≡ is_near c.now t.now }
 {
-    let b = spans_of(c);
-    holds(&b, &t.a) || overlap(&bounding(t), &b) && crosses(&support_of(t), &b)
+    is_near(&spans_of(c), t)
+}
+
+// The same by what the closed box spans.
+fn is_near(b: &Spans, t: &Tri) -> bool
+    requires tri { IsValidTri t.now }
+    requires spans { AreSpansSized b.now }
+    ensures { (c : Box) → b.now ≡ spans_of c → result ≡ is_near c t.now }
+{
+    let spans = bounding(t);
+    overlap(&spans, b) && is_crossed(b, &spans, t)
+}
+
+// The plane of a triangle whose bounding box meets a box crosses the box.
+fn is_crossed(b: &Spans, spans: &Spans, t: &Tri) -> bool
+    requires tri { IsValidTri t.now }
+    requires spans { spans.now ≡ bounding t.now }
+    requires sized { AreSpansSized b.now }
+    ensures { (c : Box) → b.now ≡ spans_of c → overlap (bounding t.now) b.now ≡ true → result ≡ crosses (support_of t.now) b.now }
+{
+    if is_level(spans) || holds(b, &t.a) {
+        return true;
+    }
+    crosses(&support_of(t), b)
 }
 
 /// Triangle `i` of the scene is near the box.
@@ -23,15 +48,16 @@ pub fn near(s: &Scene, c: &Cell, i: u32) -> bool
     requires { i < length s.now.tris }
     ensures { result ≡ is_near c.now (tri_at s.now.tris i) }
 {
-    near_at(s.tris.items(), c, i)
+    near_at(s.tris.items(), &spans_of(c), i)
 }
 
-fn near_at(tris: &[Tri], c: &Cell, i: u32) -> bool
+fn near_at(tris: &[Tri], b: &Spans, i: u32) -> bool
     requires valid { All IsValidTri tris.now }
     requires place { i < length tris.now }
-    ensures { result ≡ is_near c.now (tri_at tris.now i) }
+    requires spans { AreSpansSized b.now }
+    ensures { (c : Box) → b.now ≡ spans_of c → result ≡ is_near c (tri_at tris.now i) }
 {
-    near_tri(c, &tris[i as usize])
+    is_near(b, &tris[i as usize])
 }
 
 /// Those of the listed places of the triangles that are near the box, in order.
@@ -45,9 +71,10 @@ pub fn near_among(
     requires places { All (λ i. i < length tris.now) list.now }
     ensures { IfOk result (λ v. v.items ≡ near_places tris.now c.now list.now) }
 {
+    let b = spans_of(c);
     let mut found = Vec::with_capacity(alloc, list.len())?;
     for i in list {
-        if near_at(tris, c, *i) {
+        if near_at(tris, &b, *i) {
             found.push(*i)?;
         }
     }

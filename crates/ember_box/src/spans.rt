@@ -3,7 +3,7 @@ ghost use Rattle.std.specs.Prelude.{◌≡◌};
 ghost use Rattle.ember_algebra.specs.Size.{Small};
 ghost use Rattle.ember_model.specs.Sizes.{IsSupportSized};
 ghost use Rattle.ember_box.specs.Boxes as boxes;
-ghost use Rattle.ember_box.specs.Spans.{span_between, span_over, spans_of, bounding, reaches, overlap, covers, within, has, holds, least_end, greatest_end, combined, least, greatest, crosses, IsSpanSized, AreSpansSized};
+ghost use Rattle.ember_box.specs.Spans.{span_between, span_over, spans_of, bounding, reaches, overlap, covers, within, is_point, is_level, has, holds, least_end, greatest_end, combined, least, greatest, crosses, IsSpanSized, AreSpansSized};
 
 use crate::cell::Cell;
 use ember_model::{Axis, Corner, Plane, Tri};
@@ -91,6 +91,19 @@ pub fn within(b: &Spans, a: &Spans) -> bool
     ensures { result ≡ within b.now a.now }
 {
     covers(&b.x, &a.x) && covers(&b.y, &a.y) && covers(&b.z, &a.z)
+}
+
+fn is_point(s: &Span) -> bool
+    ensures { result ≡ is_point s.now }
+{
+    s.high <= s.low
+}
+
+/// It lies across an axis: its ends along that axis are one.
+pub fn is_level(b: &Spans) -> bool
+    ensures { result ≡ is_level b.now }
+{
+    is_point(&b.x) || is_point(&b.y) || is_point(&b.z)
 }
 
 fn has(b: &Span, x: i32) -> bool

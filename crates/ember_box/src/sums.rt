@@ -10,14 +10,15 @@ ghost use Rattle.ember_box.specs.Halving as halvings;
 ghost use Rattle.ember_box.specs.Sums.{number, IsSight, IsPlaneOf, IsPlaneSized, may_cross, sees, AreHalves, AreHalvesSized, halves_seen, AreSums};
 
 use crate::cell::{Cell, halves};
-use crate::spans::{Spans, bounding, crosses, overlap, spans_of, within};
+use crate::spans::{Spans, bounding, crosses, is_level, overlap, spans_of, within};
 use ember_model::{Axis, Plane, Scene, Tri, support_of};
 
 // A box with at most so many near triangles is a leaf.
 const FEW: u64 = 16;
 
 // What the tests of one triangle against a box and its halves look at. It has no plane where the
-// triangle lies in the box: there it is near each half that its bounding box meets.
+// triangle lies in the box or across an axis: there it is near each half that its bounding box
+// meets.
 #[derive(Clone, Copy)]
 struct Sight {
     spans: Spans,
@@ -30,7 +31,7 @@ fn plane_of(whole: &Spans, spans: &Spans, t: &Tri) -> Option<Plane>
     ensures value { IsPlaneOf whole.now t.now result }
     ensures sized { IsPlaneSized result }
 {
-    if within(whole, spans) {
+    if within(whole, spans) || is_level(spans) {
         None
     } else {
         Some(support_of(t))

@@ -172,7 +172,11 @@ impl Rim {
         let start = least(order.as_slice());
         let edges = part(alloc, self.edges.as_slice(), at, edge, plane, start)?;
         let corners = part(alloc, self.corners.as_slice(), at, at.entry, at.exit, start)?;
-        let births = part(alloc, self.births.as_slice(), at, first, birth, start)?;
+        let births = if start == 0 {
+            order
+        } else {
+            part(alloc, self.births.as_slice(), at, first, birth, start)?
+        };
         Ok(Rim {
             edges,
             corners,

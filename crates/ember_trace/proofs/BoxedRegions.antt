@@ -83,14 +83,22 @@ every_at P (y ∷ ys) zero x h e = subst P (by e) h.0
     by e = cc
 every_at P (y ∷ ys) (suc i) x h e = every_at P ys i x h.1 e
 
-pub regions_lie_in : (c : Cell) (ts : List Tri) (i j : ℕ) (fs : List Face) (f : Face) → IsRegions c ts i fs → slice_get fs j ≡ Some f → LiesIn c f
-regions_lie_in c ts i j fs f r e =
-    record { holds = λ v h. ((every_at (λ g. Everywhere g (λ v. Unit {0} × PastNone (walls c) v)) fs j f all e).holds v h).1 }
+-- an inside point of a region is inside the face of its triangle, and past no wall
+region_point : (c : Cell) (ts : List Tri) (i j : ℕ) (fs : List Face) (f : Face) → IsRegions c ts i fs → slice_get fs j ≡ Some f → (v : Spot) → is_inside f v ≡ true → (is_inside (face_of (tri_at ts i)) v ≡ true) × PastNone (walls c) v
+region_point c ts i j fs f r e v h = (every_at (λ g. Everywhere g (λ v. Q v × PastNone (walls c) v)) fs j f all e).holds v h
   where
-    begun : (b : Bool) (t : Tri) → Every (λ f. Everywhere f (λ v. Unit {0})) (elim b [ true ↦ [] | false ↦ face_of t ∷ [] ])
-    begun true t = tt
-    begun false t = (record { holds = λ v h. tt }, tt)
+    Q : Spot → Type 0
+    Q v = is_inside (face_of (tri_at ts i)) v ≡ true
 
-    all : Every (λ g. Everywhere g (λ v. Unit {0} × PastNone (walls c) v)) fs
-    all =
-        at_blades (λ v. Unit {0} × PastNone (walls c) v) r.cuts (at_walls (λ v. Unit {0}) r.is_start (begun (is_flat (tri_at ts i)) (tri_at ts i)))
+    begun : (b : Bool) → Every (λ f. Everywhere f Q) (elim b [ true ↦ [] | false ↦ face_of (tri_at ts i) ∷ [] ])
+    begun true = tt
+    begun false = (record { holds = λ v h. h }, tt)
+
+    all : Every (λ g. Everywhere g (λ v. Q v × PastNone (walls c) v)) fs
+    all = at_blades (λ v. Q v × PastNone (walls c) v) r.cuts (at_walls Q r.is_start (begun (is_flat (tri_at ts i))))
+
+pub region_inside : (c : Cell) (ts : List Tri) (i j : ℕ) (fs : List Face) (f : Face) → IsRegions c ts i fs → slice_get fs j ≡ Some f → (v : Spot) → is_inside f v ≡ true → is_inside (face_of (tri_at ts i)) v ≡ true
+region_inside c ts i j fs f r e v h = (region_point c ts i j fs f r e v h).0
+
+pub regions_lie_in : (c : Cell) (ts : List Tri) (i j : ℕ) (fs : List Face) (f : Face) → IsRegions c ts i fs → slice_get fs j ≡ Some f → LiesIn c f
+regions_lie_in c ts i j fs f r e = record { holds = λ v h. (region_point c ts i j fs f r e v h).1 }

@@ -150,6 +150,15 @@ pub record Parallel (n p : Plane) : Type 0 where
   pub y : n.c *ℤ p.a -ℤ n.a *ℤ p.c ≡ pos 0
   pub z : n.a *ℤ p.b -ℤ n.b *ℤ p.a ≡ pos 0
 
+-- a plane that is parallel to one with an entry along k, and has none, has no normal
+pub no_entry : (n p : Plane) (k : Axis) → Parallel n p → along n k ≢ pos 0 → along p k ≡ pos 0 → NoNormal p
+no_entry n p X l s e =
+    (e, other_zero n.a p.b s (let q = zero_scaled n.b p.a e in let r = l.z in omega (arith, linear, q, r)), other_zero n.a p.c s (let q = zero_scaled n.c p.a e in let r = l.y in omega (arith, linear, q, r)))
+no_entry n p Y l s e =
+    (other_zero n.b p.a s (let q = zero_scaled n.a p.b e in let r = l.z in omega (arith, linear, q, r)), e, other_zero n.b p.c s (let q = zero_scaled n.c p.b e in let r = l.x in omega (arith, linear, q, r)))
+no_entry n p Z l s e =
+    (other_zero n.c p.a s (let q = zero_scaled n.a p.c e in let r = l.y in omega (arith, linear, q, r)), other_zero n.c p.b s (let q = zero_scaled n.b p.c e in let r = l.x in omega (arith, linear, q, r)), e)
+
 reach_zero : (n p : Plane) (v : Spot) → Parallel n p → reach_along n p v ≡ pos 0
 reach_zero n p v h =
     let x = zero_times _ v.x h.x in let y = zero_times _ v.y h.y in let z = zero_times _ v.z h.z in omega (arith, linear, x, y, z)
@@ -227,15 +236,7 @@ module _ (f : Face) (g h : Plane) (u v w : Spot) (j : Joins f g h u v w) where
       let l = leads in absurd (omega (arith, linear, l, t, d))
 
   pub no_normal : (p : Plane) → IsZeroAt p u v w → along p (main_axis n) ≡ pos 0 → NoNormal p
-  no_normal p z e = by (main_axis n) slope e
-    where
-      l : Parallel n p
-      l = parallel p z
-
-      by : (k : Axis) → along n k ≢ pos 0 → along p k ≡ pos 0 → NoNormal p
-      by X s e = (e, other_zero n.a p.b s (let q = zero_scaled n.b p.a e in let r = l.z in omega (arith, linear, q, r)), other_zero n.a p.c s (let q = zero_scaled n.c p.a e in let r = l.y in omega (arith, linear, q, r)))
-      by Y s e = (other_zero n.b p.a s (let q = zero_scaled n.a p.b e in let r = l.z in omega (arith, linear, q, r)), e, other_zero n.b p.c s (let q = zero_scaled n.c p.b e in let r = l.x in omega (arith, linear, q, r)))
-      by Z s e = (other_zero n.c p.a s (let q = zero_scaled n.a p.c e in let r = l.y in omega (arith, linear, q, r)), other_zero n.c p.b s (let q = zero_scaled n.b p.c e in let r = l.x in omega (arith, linear, q, r)), e)
+  no_normal p z e = no_entry n p (main_axis n) (parallel p z) slope e
 
   -- it is 0 at the whole face
   flat_out : (p : Plane) → IsZeroAt p u v w → (x : Spot) → is_in_closed f x ≡ true → value_at p x ≡ pos 0

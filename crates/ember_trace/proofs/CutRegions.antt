@@ -1,28 +1,28 @@
 -- What the cuts leave: no inside point of a region lies in the closed face of a triangle near the
 -- box, but for those in the region's plane.
-use Rattle.std.proofs.Common.{◌≡◌, refl, sym, ap, subst, ◌∙◌, arith, ℕ, zero, suc, ◌+◌, ◌<◌, Bool, true, false, nat_eq, List, [], ◌∷◌, map, flat_map, length, Some, slice_get, pos}
+use Rattle.std.proofs.Common.{◌≡◌, refl, sym, ap, subst, ◌∙◌, arith, ℕ, zero, suc, ◌+◌, ◌<◌, Bool, true, false, nat_eq, List, [], ◌∷◌, map, flat_map, length, Some, slice_get}
 use Rattle.std.specs.List.{AllByRecursion, range_with_len}
 use Rattle.std.proofs.lemmas.Bool.{eqb-true}
 use Rattle.ember_algebra.specs.Relations.{Each, Chain, done, step, Every}
 use Rattle.ember_algebra.proofs.Laws.{linear}
-use Rattle.ember_algebra.proofs.Order.{by_sign}
 use Rattle.ember_model.specs.declared.plane.Plane.{Plane}
 use Rattle.ember_model.specs.declared.point.Spot.{Spot}
 use Rattle.ember_model.specs.declared.face.Face.{Face}
 use Rattle.ember_model.specs.declared.tri.Tri.{Tri}
 use Rattle.ember_model.specs.Planes.{value_at, support_of, opposite}
-use Rattle.ember_model.specs.Faces.{is_inside, is_in_closed, below, is_flat, face_of, edges_of, Everywhere, Cuts}
+use Rattle.ember_model.specs.Faces.{is_inside, is_in_closed, below, is_flat, face_of, edges_of, Cuts}
 use Rattle.ember_model.specs.Owners.{is_coplanar}
-use Rattle.ember_model.proofs.SignTests.{clash, negative_in, negative_out, positive_in, positive_out}
+use Rattle.ember_model.proofs.SignTests.{clash, negative_out, positive_out}
 use Rattle.ember_model.proofs.Hits.{closed_parts}
 use Rattle.ember_box.specs.Boxes.{Cell}
 use Rattle.ember_box.specs.Near.{tri_at}
 use Rattle.ember_box.specs.Regions.{Wall, AtWall, cut, outside, in_high, stays, Blade, blades_at, blades, AtBlade, splits, whole, IsRegions}
 use Rattle.ember_poly.proofs.Chains.{each-front, each-back}
 use Rattle.ember_trace.proofs.WayPoints.{opposite_value}
-use Rattle.ember_trace.proofs.FilledFaces.{inside_below, fills}
+use Rattle.ember_trace.proofs.FilledFaces.{inside_below, uncut_flat}
 use Rattle.ember_trace.proofs.FlatPlanes.{lies_flat, self_coplanar}
-use Rattle.ember_trace.proofs.BoxedRegions.{each_every, every_at}
+use Rattle.ember_trace.proofs.SharedPlanes.{on_plane, shared_inside}
+use Rattle.ember_trace.proofs.BoxedRegions.{each_every, every_at, region_inside}
 
 -- ---- what every cut keeps
 abbrev Keeps : (Face → Type 0) → Type 0
@@ -47,38 +47,28 @@ blades_keep P k done h = h
 blades_keep P k (step {x = b} r c) h = blades_keep P k c (each_every P P (λ f fs e a. blade_keeps P k b f fs e a) r h)
 
 -- ---- after the turn of a blade
--- where an inside point of g lies in the closed face of the blade and on its plane, so do all
-abbrev pub IsAfter : Blade → Face → Type 0
-IsAfter b g =
-    (v : Spot) → is_inside g v ≡ true → is_in_closed b.face v ≡ true → value_at b.plane v ≡ pos 0 → Everywhere g (λ u. value_at b.plane u ≡ pos 0)
+-- where an inside point of g lies in the closed face of the blade, its plane doesn't cut g
+abbrev pub IsUncut : Blade → Face → Type 0
+IsUncut b g = (v : Spot) → is_inside g v ≡ true → is_in_closed b.face v ≡ true → Cuts g b.plane → ⊥
 
-after_kept : (b : Blade) → Keeps (IsAfter b)
-after_kept b f p h v i c z =
-    let e = h v (inside_below f p v i).0 c z in record { holds = λ u j. e.holds u (inside_below f p u j).0 }
+uncut_kept : (b : Blade) → Keeps (IsUncut b)
+uncut_kept b f p h v i c k =
+    h v (inside_below f p v i).0 c (record { low = record { at = k.low.at; inside = (inside_below f p k.low.at k.low.inside).0; holds = k.low.holds }; high = record { at = k.high.at; inside = (inside_below f p k.high.at k.high.inside).0; holds = k.high.holds } })
 
--- what a plane doesn't cut lies on it where one inside point does
-uncut_flat : (f : Face) (p : Plane) → (Cuts f p → ⊥) → (v : Spot) → is_inside f v ≡ true → value_at p v ≡ pos 0 → Everywhere f (λ u. value_at p u ≡ pos 0)
-uncut_flat f p uncut v i z =
-    record { holds = λ u j. by_sign (value_at p u) (λ l. absurd (uncut (fills f p u v j i l z))) (λ e. e) (λ l. absurd (uncut (turned (fills f (opposite p) u v j i (let e = opposite_value p u in omega (arith, linear, e, l)) (let e = opposite_value p v in omega (arith, linear, e, z)))))) }
-  where
-    turned : Cuts f (opposite p) → Cuts f p
-    turned c =
-        record { low = record { at = c.high.at; inside = c.high.inside; holds = negative_in (let l = positive_out (value_at (opposite p) c.high.at) c.high.holds in let e = opposite_value p c.high.at in omega (arith, linear, l, e)) }; high = record { at = c.low.at; inside = c.low.inside; holds = positive_in (let l = negative_out (value_at (opposite p) c.low.at) c.low.holds in let e = opposite_value p c.low.at in omega (arith, linear, l, e)) } }
-
-after_turn : (b : Blade) (f : Face) (fs : List Face) → AtBlade b f fs → Every (IsAfter b) fs
+after_turn : (b : Blade) (f : Face) (fs : List Face) → AtBlade b f fs → Every (IsUncut b) fs
 after_turn b f fs (splits m c) =
-    (λ v i c z. let l = negative_out (value_at b.plane v) (inside_below f b.plane v i).1 in absurd (omega (arith, linear, l, z)), (λ v i c z. let l = negative_out (value_at (opposite b.plane) v) (inside_below f (opposite b.plane) v i).1 in let e = opposite_value b.plane v in absurd (omega (arith, linear, l, e, z)), tt))
-after_turn b f fs (whole m) = (λ v i c z. uncut_flat f b.plane (m (record { at = v; inside = i; holds = c })) v i z, tt)
+    (λ v i c k. let l = negative_out (value_at b.plane k.high.at) (inside_below f b.plane k.high.at k.high.inside).1 in let h = positive_out (value_at b.plane k.high.at) k.high.holds in absurd (omega (arith, linear, l, h)), (λ v i c k. let l = negative_out (value_at (opposite b.plane) k.low.at) (inside_below f (opposite b.plane) k.low.at k.low.inside).1 in let h = negative_out (value_at b.plane k.low.at) k.low.holds in let e = opposite_value b.plane k.low.at in absurd (omega (arith, linear, l, h, e)), tt))
+after_turn b f fs (whole m) = (λ v i c k. m (record { at = v; inside = i; holds = c }) k, tt)
 
 -- after all turns
-after_all : {bs : List Blade} {fs gs : List Face} → Chain (λ b. Each (AtBlade b)) bs fs gs → Every (λ g. AllByRecursion (λ b. IsAfter b g) bs) gs
+after_all : {bs : List Blade} {fs gs : List Face} → Chain (λ b. Each (AtBlade b)) bs fs gs → Every (λ g. AllByRecursion (λ b. IsUncut b g) bs) gs
 after_all (done {a = fs}) = none_yet fs
   where
     none_yet : (fs : List Face) → Every (λ g. Unit {0}) fs
     none_yet [] = tt
     none_yet (f ∷ fs) = (tt, none_yet fs)
 after_all (step {x = b} {a = fs} {c = gs} r c) =
-    both (IsAfter b) _ gs (blades_keep (IsAfter b) (after_kept b) c (each_every (λ f. Unit {0}) (IsAfter b) (λ f fs e a. after_turn b f fs a) r (any fs))) (after_all c)
+    both (IsUncut b) _ gs (blades_keep (IsUncut b) (uncut_kept b) c (each_every (λ f. Unit {0}) (IsUncut b) (λ f fs e a. after_turn b f fs a) r (any fs))) (after_all c)
   where
     any : (fs : List Face) → Every (λ g. Unit {0}) fs
     any [] = tt
@@ -118,16 +108,26 @@ own_blade P ts i m fi fm apart h = by (nat_eq m i) (is_flat (tri_at ts m)) (is_c
     by false false true e ef ec h = absurd (clash refl ec)
     by false false false e ef ec h = h.0
 
+-- a triangle in the plane of triangle i has its edge planes
+own_edges : (P : Blade → Type 0) (ts : List Tri) (i m : ℕ) → nat_eq m i ≡ false → is_flat (tri_at ts m) ≡ false → is_coplanar (tri_at ts i) (tri_at ts m) ≡ true → AllByRecursion P (blades_at ts i m) → AllByRecursion P (map (λ p. record { face = face_of (tri_at ts m); plane = p }) (edges_of (tri_at ts m)))
+own_edges P ts i m other fm within h = by (nat_eq m i) (is_flat (tri_at ts m)) (is_coplanar (tri_at ts i) (tri_at ts m)) other fm within h
+  where
+    by : (s f c : Bool) → s ≡ false → f ≡ false → c ≡ true → AllByRecursion P (elim s [ true ↦ [] | false ↦ elim f [ true ↦ [] | false ↦ map (λ p. record { face = face_of (tri_at ts m); plane = p }) (elim c [ true ↦ edges_of (tri_at ts m) | false ↦ support_of (tri_at ts m) ∷ [] ]) ] ]) → AllByRecursion P (map (λ p. record { face = face_of (tri_at ts m); plane = p }) (edges_of (tri_at ts m)))
+    by true f c e ef ec h = absurd (clash refl e)
+    by false true c e ef ec h = absurd (clash refl ef)
+    by false false true e ef ec h = h
+    by false false false e ef ec h = absurd (clash ec refl)
+
 -- ---- a region
 pub record IsCutOut (ts : List Tri) (t : Tri) (f : Face) : Type 0 where
   pub support : f.support ≡ support_of t
   pub normal : is_flat t ≡ false
   pub misses : (m : ℕ) → m < length ts → is_flat (tri_at ts m) ≡ false → is_coplanar t (tri_at ts m) ≡ false → (v : Spot) → is_inside f v ≡ true → is_in_closed (face_of (tri_at ts m)) v ≡ true → ⊥
+  pub shares : (m : ℕ) → m < length ts → is_coplanar t (tri_at ts m) ≡ true → (v w : Spot) → is_inside f v ≡ true → is_in_closed (face_of (tri_at ts m)) v ≡ true → is_inside f w ≡ true → is_inside (face_of (tri_at ts m)) w ≡ true
 
 pub region_cut : (c : Cell) (ts : List Tri) (i j : ℕ) (fs : List Face) (f : Face) → IsRegions c ts i fs → slice_get fs j ≡ Some f → IsCutOut ts (tri_at ts i) f
 unfolding face_of
-region_cut c ts i j fs f r e =
-    record { support = own.0; normal = own.1; misses = λ m l fm apart v h x. let u = tri_at ts m in let b = own_blade (λ b. IsAfter b f) ts i m own.1 fm apart (blades_in (λ b. IsAfter b f) ts i m after l) in clash (lies_flat (tri_at ts i) u f v own.0 own.1 fm h (b v h x (closed_parts (face_of u) v x).1)) apart }
+region_cut c ts i j fs f r e = record { support = own.0; normal = own.1; misses = missed; shares = shared }
   where
     t : Tri
     t = tri_at ts i
@@ -142,5 +142,19 @@ region_cut c ts i j fs f r e =
     own : P f
     own = every_at P fs j f (blades_keep P (λ f p h. h) r.cuts (walls_keep P (λ f p h. h) r.is_start (begun (is_flat t) refl))) e
 
-    after : AllByRecursion (λ b. IsAfter b f) (blades ts i)
-    after = every_at (λ g. AllByRecursion (λ b. IsAfter b g) (blades ts i)) fs j f (after_all r.cuts) e
+    after : AllByRecursion (λ b. IsUncut b f) (blades ts i)
+    after = every_at (λ g. AllByRecursion (λ b. IsUncut b g) (blades ts i)) fs j f (after_all r.cuts) e
+
+    missed : (m : ℕ) → m < length ts → is_flat (tri_at ts m) ≡ false → is_coplanar t (tri_at ts m) ≡ false → (v : Spot) → is_inside f v ≡ true → is_in_closed (face_of (tri_at ts m)) v ≡ true → ⊥
+    missed m l fm apart v h x =
+        let u = tri_at ts m in let b = own_blade (λ b. IsUncut b f) ts i m own.1 fm apart (blades_in (λ b. IsUncut b f) ts i m after l) in
+        clash (lies_flat t u f v own.0 own.1 fm h (uncut_flat f (support_of u) (b v h x) v h (closed_parts (face_of u) v x).1)) apart
+
+    shared : (m : ℕ) → m < length ts → is_coplanar t (tri_at ts m) ≡ true → (v w : Spot) → is_inside f v ≡ true → is_in_closed (face_of (tri_at ts m)) v ≡ true → is_inside f w ≡ true → is_inside (face_of (tri_at ts m)) w ≡ true
+    shared m l within v w h x k = by (nat_eq m i) refl
+      where
+        by : (s : Bool) → nat_eq m i ≡ s → is_inside (face_of (tri_at ts m)) w ≡ true
+        by true o = subst (λ (n : ℕ). is_inside (face_of (tri_at ts n)) w ≡ true) (sym (eqb-true m i o)) (region_inside c ts i j fs f r e w k)
+        by false o =
+            let b = own_edges (λ b. IsUncut b f) ts i m o (on_plane t (tri_at ts m) within).normal_u within (blades_in (λ b. IsUncut b f) ts i m after l) in
+            shared_inside t (tri_at ts m) f v w own.0 within (b.0 v h x) (b.1.0 v h x) (b.1.1.0 v h x) h x k

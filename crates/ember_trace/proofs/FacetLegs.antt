@@ -114,7 +114,7 @@ first_main Y s d = refl
 first_main Z s d = refl
 
 -- ---- the edge planes along an axis
-edge_level : (s : ℤ) (u v : Corner) (k : Axis) → along (times_plane s (edge_through u v (unit k))) k ≡ pos 0
+pub edge_level : (s : ℤ) (u v : Corner) (k : Axis) → along (times_plane s (edge_through u v (unit k))) k ≡ pos 0
 edge_level s u v X = solve 3 (λ s y z. s ⊗ (y ⊗ num (pos 0) ⊖ z ⊗ num (pos 0)) ≈ num (pos 0)) cancels s (v.y -ℤ u.y) (v.z -ℤ u.z)
 edge_level s u v Y = solve 3 (λ s z x. s ⊗ (z ⊗ num (pos 0) ⊖ x ⊗ num (pos 0)) ≈ num (pos 0)) cancels s (v.z -ℤ u.z) (v.x -ℤ u.x)
 edge_level s u v Z = solve 3 (λ s x y. s ⊗ (x ⊗ num (pos 0) ⊖ y ⊗ num (pos 0)) ≈ num (pos 0)) cancels s (v.x -ℤ u.x) (v.y -ℤ u.y)

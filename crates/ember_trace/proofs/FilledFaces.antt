@@ -6,15 +6,17 @@ use Rattle.ember_algebra.specs.Large.{Eventually}
 use Rattle.ember_algebra.specs.Sign.{is_negative}
 use Rattle.ember_algebra.proofs.Laws.{linear}
 use Rattle.ember_algebra.proofs.Large.{eventually_both, eventually_map, eventually_pos}
+use Rattle.ember_algebra.proofs.Order.{by_sign}
 use Rattle.ember_algebra.proofs.Ring.{◌⊕◌, ◌⊖◌, ◌⊗◌, ◌≈◌, neg, solve, cancels}
 use Rattle.ember_model.specs.declared.plane.Plane.{Plane}
 use Rattle.ember_model.specs.declared.point.Spot.{Spot}
 use Rattle.ember_model.specs.declared.face.Face.{Face}
-use Rattle.ember_model.specs.Planes.{value_at}
-use Rattle.ember_model.specs.Faces.{is_inside, below, Cuts}
+use Rattle.ember_model.specs.Planes.{value_at, opposite}
+use Rattle.ember_model.specs.Faces.{is_inside, below, Everywhere, Cuts}
 use Rattle.ember_model.specs.ClearTest.{all_negative}
-use Rattle.ember_model.proofs.SignTests.{and_parts, negative_in, negative_out, positive_in, zero_times}
+use Rattle.ember_model.proofs.SignTests.{and_parts, negative_in, negative_out, positive_in, positive_out, zero_times}
 use Rattle.ember_model.proofs.Hits.{inside_on, inside_parts}
+use Rattle.ember_trace.proofs.WayPoints.{opposite_value}
 
 -- ---- a plane appended
 pub inside_below : (f : Face) (p : Plane) (v : Spot) → is_inside (below f p) v ≡ true → (is_inside f v ≡ true) × (is_negative (value_at p v) ≡ true)
@@ -54,3 +56,12 @@ fills f p x y hx hy px zy =
     let far = inside_past f x y hx hy in let n = far.from in
     let e = value_past p n y x in let z = zero_times (value_at p y) (pos n) zy in
     record { low = record { at = past n y x; inside = far.holds n (le_refl n); holds = negative_in (omega (arith, linear, e, z, px)) }; high = record { at = x; inside = hx; holds = positive_in px } }
+
+-- what a plane doesn't cut lies on it where one inside point does
+pub uncut_flat : (f : Face) (p : Plane) → (Cuts f p → ⊥) → (v : Spot) → is_inside f v ≡ true → value_at p v ≡ pos 0 → Everywhere f (λ u. value_at p u ≡ pos 0)
+uncut_flat f p uncut v i z =
+    record { holds = λ u j. by_sign (value_at p u) (λ l. absurd (uncut (fills f p u v j i l z))) (λ e. e) (λ l. absurd (uncut (turned (fills f (opposite p) u v j i (let e = opposite_value p u in omega (arith, linear, e, l)) (let e = opposite_value p v in omega (arith, linear, e, z)))))) }
+  where
+    turned : Cuts f (opposite p) → Cuts f p
+    turned c =
+        record { low = record { at = c.high.at; inside = c.high.inside; holds = negative_in (let l = positive_out (value_at (opposite p) c.high.at) c.high.holds in let e = opposite_value p c.high.at in omega (arith, linear, l, e)) }; high = record { at = c.low.at; inside = c.low.inside; holds = positive_in (let l = negative_out (value_at (opposite p) c.low.at) c.low.holds in let e = opposite_value p c.low.at in omega (arith, linear, l, e)) } }

@@ -58,7 +58,7 @@ no_slope f p v d h z flat =
     let g = value_beside p n v d in let zp = zero_times (value_at p v) (pos n) (z.holds v h) in omega (arith, linear, o, g, zp)
 
 -- ---- parallel planes
-parallel : (f : Face) (p : Plane) (v : Spot) → is_inside f v ≡ true → Everywhere f (λ u. value_at p u ≡ pos 0) → Parallel f.support p
+pub parallel : (f : Face) (p : Plane) (v : Spot) → is_inside f v ≡ true → Everywhere f (λ u. value_at p u ≡ pos 0) → Parallel f.support p
 parallel f p v h z =
     let n = f.support in
     let a = no_slope f p v (record { x = pos 0; y = n.c; z = neg_ℤ n.b }) h z (solve 3 (λ a b c. a ⊗ num (pos 0) ⊕ b ⊗ c ⊕ c ⊗ neg b ≈ num (pos 0)) cancels n.a n.b n.c) in
@@ -93,7 +93,7 @@ module _ (n p : Plane) (v q : Spot) (l : Parallel n p) (w : pos 0 <ℤ v.w) (nv 
       let x = l.x in let y = l.y in
       by_entry p.c n.c (n.a *ℤ p.c -ℤ n.c *ℤ p.a) (n.b *ℤ p.c -ℤ n.c *ℤ p.b) nz (omega (arith, linear, y)) (omega (arith, linear, x)) (v.w *ℤ q.x -ℤ q.w *ℤ v.x) (v.w *ℤ q.y -ℤ q.w *ℤ v.y) (solve 16 (λ a b c d e f g h x y z w r s t u. g ⊗ (w ⊗ (a ⊗ r ⊕ b ⊗ s ⊕ c ⊗ t ⊖ d ⊗ u) ⊖ u ⊗ (a ⊗ x ⊕ b ⊗ y ⊕ c ⊗ z ⊖ d ⊗ w)) ≈ c ⊗ (w ⊗ (e ⊗ r ⊕ f ⊗ s ⊕ g ⊗ t ⊖ h ⊗ u) ⊖ u ⊗ (e ⊗ x ⊕ f ⊗ y ⊕ g ⊗ z ⊖ h ⊗ w)) ⊕ (a ⊗ g ⊖ c ⊗ e) ⊗ (w ⊗ r ⊖ u ⊗ x) ⊕ (b ⊗ g ⊖ c ⊗ f) ⊗ (w ⊗ s ⊖ u ⊗ y)) cancels n.a n.b n.c n.d p.a p.b p.c p.d v.x v.y v.z v.w q.x q.y q.z q.w)
 
-  shared : ((p.a ≡ pos 0) → (p.b ≡ pos 0) → (p.c ≡ pos 0) → ⊥) → value_at n q ≡ pos 0
+  pub shared : ((p.a ≡ pos 0) → (p.b ≡ pos 0) → (p.c ≡ pos 0) → ⊥) → value_at n q ≡ pos 0
   shared some =
       by_sign p.a (λ o. by_x (λ z. omega (arith, linear, o, z)))
       (λ za. by_sign p.b (λ o. by_y (λ z. omega (arith, linear, o, z)))
@@ -102,7 +102,7 @@ module _ (n p : Plane) (v q : Spot) (l : Parallel n p) (w : pos 0 <ℤ v.w) (nv 
       (λ o. by_x (λ z. omega (arith, linear, o, z)))
 
 -- ---- triangles
-corner_a : (u : Tri) → value_at (support_of u) (spot_at u.a) ≡ pos 0
+pub corner_a : (u : Tri) → value_at (support_of u) (spot_at u.a) ≡ pos 0
 corner_a u =
     identity (vector ∷ vector ∷ vector ∷ []) (λ a b c. dotE (crossE (minusE b a) (minusE c a)) a ⊖ dotE (crossE (minusE b a) (minusE c a)) a ⊗ num (pos 1) ≈ num (pos 0)) cancels (vector_of u.a) (vector_of u.b) (vector_of u.c)
 

@@ -13,6 +13,7 @@ pub mod PastLegs
 pub mod Places
 pub mod RaySides
 pub mod RegionEnds
+pub mod SharedPlanes
 pub mod Slides
 pub mod Tallies
 pub mod Threes

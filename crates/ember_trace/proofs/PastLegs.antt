@@ -104,8 +104,8 @@ across_sized k s d i j = by k
     by Z = record { a = none; b = none; c = one; d = rest }
 
 -- ---- past the bounding box
--- the coordinate y / w lies strictly past the triangle along the axis, below it (s is 1) or above it
--- (s is -1)
+-- the coordinate y / w lies strictly past the triangle along the axis, below it (s is 1) or above
+-- it (s is -1)
 pub record IsPast (t : Tri) (k : Axis) (y w : ℤ) : Type 0 where
   pub s : ℤ
   pub d : ℤ

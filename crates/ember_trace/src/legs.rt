@@ -7,7 +7,7 @@ ghost use Rattle.ember_model.specs.Valid.{IsValidTri, IsValidPlane};
 ghost use Rattle.ember_model.specs.Sizes.{IsSupportSized};
 ghost use Rattle.ember_model.specs.Planes.{edge_planes};
 ghost use Rattle.ember_trace.specs.Ways.{coordinate, side_at_start, side_after_first, side_at_end, floor_at_end};
-ghost use Rattle.ember_trace.specs.Crossings.{all_behind, span_along, has_above, may_have, may_end, is_on_first, is_on_second, is_on_last, first_leg, second_leg, legs_in_wall, last_leg, crossing_before, crossing_after};
+ghost use Rattle.ember_trace.specs.Crossings.{all_behind, span_along, has_above, may_have, may_end, is_on_first, is_on_second, is_on_last, first_leg, second_leg, legs_in_wall, last_leg, side_before, side_after, crossing_before, crossing_after};
 
 use crate::facet::Facet;
 use crate::passing::{passage, side_after, side_before};
@@ -221,15 +221,25 @@ pub struct Crossings {
     pub after: i32,
 }
 
-fn last_leg(f: &Facet, way: &Way, is_on: bool, end: Sign) -> i32
-    requires { is_on ≡ is_on_last way.now f.now }
-    ensures value { result ≡ last_leg way.now f.now end }
-    ensures small { Small 1 result }
+// The crossings of the last legs, one along each way.
+fn last_legs(f: &Facet, way: &Way, at: &Ends) -> Crossings
+    requires first { at.now.first ≡ floor_at_end way.now way.now.first }
+    requires second { at.now.second ≡ floor_at_end way.now way.now.second }
+    ensures before { result.before ≡ last_leg way.now f.now (side_before f.now.support way.now.main (side_at_end way.now f.now.support)) }
+    ensures after { result.after ≡ last_leg way.now f.now (side_after f.now.support way.now.main (side_at_end way.now f.now.support)) }
+    ensures small { Small 1 result.before × Small 1 result.after }
 {
-    if is_on {
-        passage(way.side_after_second(&f.support), end)
-    } else {
-        0
+    if !is_on_last(f, way, at) {
+        return Crossings {
+            before: 0,
+            after: 0,
+        };
+    }
+    let start = way.side_after_second(&f.support);
+    let end = way.side_at_end(&f.support);
+    Crossings {
+        before: passage(start, side_before(&f.support, way.main, end)),
+        after: passage(start, side_after(&f.support, way.main, end)),
     }
 }
 
@@ -242,12 +252,9 @@ pub fn crossings_of(f: &Facet, way: &Way, at: &Ends) -> Crossings
     ensures small { Small 3 result.before × Small 3 result.after }
 {
     let both = legs_in_wall(f, way, at);
-    let is_on = is_on_last(f, way, at);
-    let end = way.side_at_end(&f.support);
-    let before = side_before(&f.support, way.main, end);
-    let after = side_after(&f.support, way.main, end);
+    let last = last_legs(f, way, at);
     Crossings {
-        before: both + last_leg(f, way, is_on, before),
-        after: both + last_leg(f, way, is_on, after),
+        before: both + last.before,
+        after: both + last.after,
     }
 }
