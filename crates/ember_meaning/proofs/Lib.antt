@@ -1,0 +1,14 @@
+pub mod Parts
+pub mod Cover
+pub mod Leaf
+pub mod Tree
+pub mod Telescope
+pub mod Owned
+pub mod Fractions
+pub mod Entries
+pub mod OnLine
+pub mod AlongLine
+pub mod Jump
+pub mod Turned
+pub mod Places
+pub mod Meaning

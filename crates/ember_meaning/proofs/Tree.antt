@@ -1,0 +1,124 @@
+-- The leaves of the full tree part a box: each point of the half-open box is in exactly one leaf's.
+use Rattle.std.proofs.Common.{◌≡◌, ℕ, zero, suc, pred, ◌+◌, ◌^◌, ◌<◌, refl, ap, ◌∙◌, sym, List, [], ◌∷◌, ◌++◌, Bool, true, false, not, ◌&&◌, ◌||◌, cond, ℤ, pos, ◌+ℤ◌, ◌*ℤ◌, ◌≤ℤ◌, ◌⊎◌, inl, inr, arith}
+use borrow.Author.Differences.{ints}
+use Rattle.std.specs.Prelude.{int_le, int_lt}
+use Rattle.std.specs.List.{sum_by, count_by}
+use Rattle.std.proofs.lemmas.List.Sums.{sum_by-append, sum_by-cons}
+use Rattle.std.proofs.lemmas.Bool.{cases_Bool}
+use Rattle.std.proofs.Math.Nat.{pow-suc}
+use Rattle.ember_algebra.specs.Relations.{Each, Every}
+use Rattle.ember_algebra.proofs.Laws.{linear}
+use Rattle.ember_algebra.proofs.Order.{nonneg_mul}
+use Rattle.ember_algebra.proofs.Ring.{◌⊕◌, ◌⊗◌, ◌≈◌, solve, cancels}
+use Rattle.ember_algebra.proofs.Relations.{each_count}
+use Rattle.ember_model.specs.declared.tri.Tri.{Tri}
+use Rattle.ember_model.specs.declared.point.Spot.{Spot}
+use Rattle.ember_model.specs.declared.point.Axis.{Axis}
+use Rattle.ember_model.specs.declared.point.Axis.TheVariants.{X, Y, Z}
+use Rattle.ember_box.specs.Boxes.{Cell, low, high, left_half, right_half}
+use Rattle.ember_box.specs.Halving.{halving_axis, is_leaf, leaves_within}
+use Rattle.ember_box.specs.Sums.{number}
+use Rattle.ember_box.proofs.Halvable.{halvable_unless_leaf}
+use Rattle.ember_meaning.specs.Cover.{is_between, is_in_box}
+
+-- ---- one axis
+three_tests : (a b c x : ℤ) → a ≤ℤ b → b ≤ℤ c → number (int_le a x && int_lt x b) + number (int_le b x && int_lt x c) ≡ number (int_le a x && int_lt x c)
+three_tests a b c x h k = grind (arith, ints)
+
+-- ---- the two halves part a box
+double : (n : ℕ) → 0 < n → 2 ^ pred n + 2 ^ pred n ≡ 2 ^ n
+double zero h = absurd (omega arith)
+double (suc n) h = omega (arith, pow-suc 2 n)
+
+both_left : (p q r a : Bool) → number p + number q ≡ number r → number (p && a) + number (q && a) ≡ number (r && a)
+both_left p q r false h = rw (and-false p, and-false q, and-false r) refl
+  where
+    and-false : (b : Bool) → (b && false) ≡ false
+    and-false true = refl
+    and-false false = refl
+both_left p q r true h = rw (and-true p, and-true q, and-true r) h
+  where
+    and-true : (b : Bool) → (b && true) ≡ b
+    and-true true = refl
+    and-true false = refl
+
+both_right : (a p q r : Bool) → number p + number q ≡ number r → number (a && p) + number (a && q) ≡ number (a && r)
+both_right true p q r h = h
+both_right false p q r h = refl
+
+axis_halves : (l x w : ℤ) (n : ℕ) → 0 < n → pos 0 ≤ℤ w → number (is_between l (l +ℤ pos (2 ^ pred n)) x w) + number (is_between (l +ℤ pos (2 ^ pred n)) (l +ℤ pos (2 ^ pred n) +ℤ pos (2 ^ pred n)) x w) ≡ number (is_between l (l +ℤ pos (2 ^ n)) x w)
+axis_halves l x w n h p =
+    at (2 ^ pred n) (2 ^ n) (double n h)
+  where
+    more_of : (a : ℤ) (k : ℕ) → (a *ℤ w) ≤ℤ ((a +ℤ pos k) *ℤ w)
+    more_of a k =
+        let z : pos 0 ≤ℤ pos k = omega (arith, ints) in
+        omega (arith, linear, nonneg_mul z p, solve 3 (λ a k w. (a ⊕ k) ⊗ w ≈ a ⊗ w ⊕ k ⊗ w) cancels a (pos k) w)
+
+    at : (m k : ℕ) → m + m ≡ k → number (is_between l (l +ℤ pos m) x w) + number (is_between (l +ℤ pos m) (l +ℤ pos m +ℤ pos m) x w) ≡ number (is_between l (l +ℤ pos k) x w)
+    at m k e =
+        let s : l +ℤ pos m +ℤ pos m ≡ l +ℤ pos k = omega (arith, ints) in
+        three_tests (l *ℤ w) ((l +ℤ pos m) *ℤ w) ((l +ℤ pos m +ℤ pos m) *ℤ w) x (more_of l m) (more_of (l +ℤ pos m) m) ∙ ap (λ (h : ℤ). number (is_between l h x w)) s
+
+pub halves_count : (c : Cell) (k : Axis) (v : Spot) → pos 0 ≤ℤ v.w → 0 < c.log k → number (is_in_box (left_half c k) v) + number (is_in_box (right_half c k) v) ≡ number (is_in_box c v)
+halves_count c X v w h =
+    both_left _ _ _ (is_between (low c Y) (high c Y) v.y v.w && is_between (low c Z) (high c Z) v.z v.w) (axis_halves c.lo.x v.x v.w (c.log X) h w)
+halves_count c Y v w h =
+    both_right (is_between (low c X) (high c X) v.x v.w) _ _ _ (both_left _ _ _ (is_between (low c Z) (high c Z) v.z v.w) (axis_halves c.lo.y v.y v.w (c.log Y) h w))
+halves_count c Z v w h =
+    both_right (is_between (low c X) (high c X) v.x v.w) _ _ _ (both_right (is_between (low c Y) (high c Y) v.y v.w) _ _ _ (axis_halves c.lo.z v.z v.w (c.log Z) h w))
+
+of_halves : (ts : List Tri) (n : ℕ) (c : Cell) (v : Spot) → pos 0 ≤ℤ v.w → ((d : Cell) → count_by (λ e. is_in_box e v) (leaves_within ts n d) ≡ number (is_in_box d v)) → (k : Axis) → 0 < c.log k → count_by (λ d. is_in_box d v) (leaves_within ts n (left_half c k) ++ leaves_within ts n (right_half c k)) ≡ number (is_in_box c v)
+of_halves ts n c v w f k h =
+    sum_by-append (λ d. cond (is_in_box d v) 1 0) (leaves_within ts n (left_half c k)) (leaves_within ts n (right_half c k)) ∙ omega (arith, f (left_half c k), f (right_half c k), halves_count c k v w h)
+
+pub leaves_count : (ts : List Tri) (n : ℕ) (c : Cell) (v : Spot) → pos 0 ≤ℤ v.w → count_by (λ d. is_in_box d v) (leaves_within ts n c) ≡ number (is_in_box c v)
+leaves_count ts zero c v w = omega arith
+leaves_count ts (suc n) c v w =
+    by (cases_Bool (is_leaf ts c)) (λ d. leaves_count ts n d v w)
+  where
+    by : (is_leaf ts c ≡ true) ⊎ (is_leaf ts c ≡ false) → ((d : Cell) → count_by (λ e. is_in_box e v) (leaves_within ts n d) ≡ number (is_in_box d v)) → count_by (λ d. is_in_box d v) (leaves_within ts (suc n) c) ≡ number (is_in_box c v)
+    by (inl e) f = rw (e, leaves_within) (omega arith)
+    by (inr e) f = rw (e, leaves_within) (of_halves ts n c v w f (halving_axis ts c) (halvable_unless_leaf ts c e))
+
+-- ---- sums over the leaves: what each leaf counts where x is in its half-open box, all count where x is in the box
+count_tested : (a : Bool) (v : Spot) (cs : List Cell) → sum_by (λ c. number (is_in_box c v && a)) cs ≡ cond a (count_by (λ c. is_in_box c v) cs) 0
+count_tested true v cs = by cs
+  where
+    with_true : (b : Bool) → number (b && true) ≡ number b
+    with_true true = refl
+    with_true false = refl
+
+    by : (cs : List Cell) → sum_by (λ c. number (is_in_box c v && true)) cs ≡ count_by (λ c. is_in_box c v) cs
+    by [] = refl
+    by (c ∷ cs) =
+        omega (arith, sum_by-cons (λ d. number (is_in_box d v && true)) c cs, sum_by-cons (λ d. number (is_in_box d v)) c cs, by cs, with_true (is_in_box c v))
+count_tested false v cs = by cs
+  where
+    with_false : (b : Bool) → number (b && false) ≡ 0
+    with_false true = refl
+    with_false false = refl
+
+    by : (cs : List Cell) → sum_by (λ c. number (is_in_box c v && false)) cs ≡ 0
+    by [] = refl
+    by (c ∷ cs) =
+        omega (arith, sum_by-cons (λ d. number (is_in_box d v && false)) c cs, by cs, with_false (is_in_box c v))
+
+pub tree_count : {Y : Type 0} (R : Cell → List Y → Type 0) (p : Y → Bool) (a : Bool) (v : Spot) → pos 0 ≤ℤ v.w → ((c : Cell) (ys : List Y) → R c ys → count_by p ys ≡ number (is_in_box c v && a)) → (ts : List Tri) (n : ℕ) (c : Cell) (ys : List Y) → Each R (leaves_within ts n c) ys → count_by p ys ≡ number (is_in_box c v && a)
+tree_count {Y} R p a v w f ts n c ys r =
+    let k = each_count p (λ d. number (is_in_box d v && a)) (λ d. Unit {0}) (λ y. Unit {0}) (λ d zs u q. (units zs, f d zs q)) r (all_units (leaves_within ts n c)) in
+    k.1 ∙ count_tested a v (leaves_within ts n c) ∙ ap (λ m. cond a m 0) (leaves_count ts n c v w) ∙ swap a (is_in_box c v)
+  where
+    units : (zs : List Y) → Every (λ y. Unit {0}) zs
+    units [] = tt
+    units (z ∷ zs) = (tt, units zs)
+
+    all_units : (zs : List Cell) → Every (λ y. Unit {0}) zs
+    all_units [] = tt
+    all_units (z ∷ zs) = (tt, all_units zs)
+
+    swap : (a b : Bool) → cond a (number b) 0 ≡ number (b && a)
+    swap true true = refl
+    swap true false = refl
+    swap false true = refl
+    swap false false = refl

@@ -1,0 +1,4 @@
+pub mod Cover
+pub mod Entries
+pub mod Lines
+pub mod Regular

@@ -1,0 +1,98 @@
+-- What is owed at the hits of a line for the written regions to wind there as the expression says
+use Rattle.std.specs.Prelude.{◌⊎◌, ◌≡◌, ℕ, ◌<◌, Bool, true, false, cond, List, [], map, filter, replicate, ℤ, pos}
+use Rattle.ember_algebra.specs.Relations.{Each}
+use Rattle.ember_algebra.specs.Sign.{is_positive, is_zero}
+use Rattle.ember_model.specs.declared.tri.Tri.{Tri}
+use Rattle.ember_model.specs.declared.point.Spot.{Spot}
+use Rattle.ember_model.specs.declared.point.Axis.{Axis}
+use Rattle.ember_model.specs.declared.face.Face.{Face}
+use Rattle.ember_model.specs.Planes.{along, main_axis}
+use Rattle.ember_model.specs.Faces.{is_inside, face_of, hit}
+use Rattle.ember_model.specs.Meshes.{wind, vector}
+use Rattle.ember_model.specs.Owners.{IsOwner}
+use Rattle.ember_model.specs.Sides.{IsSides}
+use Rattle.ember_expr.specs.Formula.{Formula}
+use Rattle.ember_expr.specs.Truth.{truth}
+use Rattle.ember_box.specs.Boxes.{Cell}
+use Rattle.ember_box.specs.Near.{near}
+use Rattle.ember_leaf.specs.declared.kept.Kept.{Kept}
+use Rattle.ember_leaf.specs.Written.{front}
+use Rattle.ember_text.specs.Documents.{written_face}
+use Rattle.ember_meaning.specs.Cover.{IsFairInAll}
+use Rattle.ember_meaning.specs.Entries.{Entry, is_hit_at, IsListing}
+use Rattle.ember_meaning.specs.Lines.{In, Fraction, is_below, key, is_hit, Placed, beyond, onward, tri_key, tri_hits, seen, one_if}
+
+-- the winding numbers behind a region, of those before and after it along its main axis
+abbrev pub behind : Face → List ℤ → List ℤ → List ℤ
+behind f before after =
+    cond (is_positive (along f.support (main_axis f.support))) before after
+
+-- ---- along a line that crosses a face with this entry of its normal: the values just before and
+-- just after, of those in front and behind
+abbrev pub before_hit : ℤ → Bool → Bool → Bool
+before_hit a ahead back = cond (is_positive a) back ahead
+
+abbrev pub after_hit : ℤ → Bool → Bool → Bool
+after_hit a ahead back = cond (is_positive a) ahead back
+
+module _ (scene : List Tri) (x : Formula) (k : Axis) (p : Spot) (cs : List Cell) (es : List Entry) (t : Tri) where
+  -- the place where t is hit, and the truth just before and just after it
+  abbrev pub place : Spot
+  place = hit (face_of t).support k p
+
+  abbrev pub truth_before : Bool
+  truth_before =
+      truth (seen k (onward is_below (tri_key k p) (tri_key k p t) (tri_hits k p scene))) x
+
+  abbrev pub truth_after : Bool
+  truth_after =
+      truth (seen k (beyond is_below (tri_key k p) (tri_key k p t) (tri_hits k p scene))) x
+
+  -- the truth in front of a region, and behind it
+  abbrev pub truth_ahead : Face → List ℤ → List ℤ → Bool
+  truth_ahead f before after = truth (front f before after) x
+
+  abbrev pub truth_back : Face → List ℤ → List ℤ → Bool
+  truth_back f before after = truth (behind f before after) x
+
+  pub record SomeHit : Type 0 where
+    pub tri : ℕ
+    pub is_hit : is_hit_at scene cs place tri ≡ true
+
+  pub record IsRegular : Type 0 where
+    -- the place is off all planes that cut
+    pub fair : IsFairInAll scene cs place
+    -- the leaf that holds the place is listed, and some triangle near it is hit there; or no listed
+    -- leaf holds it, and the expression has one value there
+    pub some_hit : SomeHit ⊎ (((j : ℕ) → is_hit_at scene cs place j ≡ false) × (truth_before ≡ truth_after))
+    -- the line doesn't run in the plane of a region that holds the place
+    pub crosses : (e : Entry) → In e es → is_inside e.face place ≡ true → is_zero (along e.face.support k) ≡ false
+    -- of the regions that hold the place just those of the first triangle are owned
+    pub owner_first : (e : Entry) → In e es → is_inside e.face place ≡ true → IsOwner (near scene e.cell) e.tri e.face → (j : ℕ) → j < e.tri → is_hit_at scene cs place j ≡ false
+    pub first_owner : (e : Entry) → In e es → is_inside e.face place ≡ true → ((j : ℕ) → j < e.tri → is_hit_at scene cs place j ≡ false) → IsOwner (near scene e.cell) e.tri e.face
+    -- just before and just after the hit the expression is as on the sides of a region that holds it
+    pub beside : (e : Entry) (before after : List ℤ) → In e es → is_inside e.face place ≡ true → IsSides scene e.face before after → (truth_before ≡ before_hit (along e.face.support k) (truth_ahead e.face before after) (truth_back e.face before after)) × (truth_after ≡ after_hit (along e.face.support k) (truth_ahead e.face before after) (truth_back e.face before after))
+
+-- along the line through p the entries are regular, and a written face is hit only where a triangle is
+pub record IsRegularLine (scene : List Tri) (x : Formula) (k : Axis) (p : Spot) (cs : List Cell) (es : List Entry) (ws : List Kept) : Type 0 where
+  pub regular : (t : Tri) → In t (tri_hits k p scene) → IsRegular scene x k p cs es t
+  pub placed : (w : Face) → In w (filter (is_hit k p) (map written_face ws)) → Placed is_below (map (tri_key k p) (tri_hits k p scene)) (key k p w)
+
+-- the line is regular, however the written regions are listed
+abbrev pub IsRegularFor : List Tri → Formula → List Kept → Axis → Spot → Type 0
+IsRegularFor scene x ks k p =
+    (cs : List Cell) (es : List Entry) → IsListing scene x ks cs es → IsRegularLine scene x k p cs es ks
+
+-- the expression is false where all winding numbers are 0
+abbrev pub IsFalseOutside : Formula → Type 0
+IsFalseOutside x = truth (replicate 64 (pos 0)) x ≡ false
+
+-- at p the written regions wind once along the axis where the expression holds, and not at all elsewhere
+abbrev pub HasMeaning : List Tri → Formula → List Kept → Axis → Axis → Spot → Type 0
+HasMeaning scene x ks a b p =
+    wind a (map written_face ks) p ≡ one_if (truth (vector b scene p) x)
+
+-- the written regions have their meaning at each point on a regular line
+abbrev pub HaveMeaningOnLines : List Tri → Formula → List Kept → Type 0
+HaveMeaningOnLines scene x ks =
+    (k : Axis) (p : Spot) → IsRegularFor scene x ks k p → HasMeaning scene x ks k k p
