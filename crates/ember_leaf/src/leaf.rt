@@ -1,8 +1,11 @@
 // The written regions of a leaf.
-ghost use Rattle.std.specs.Prelude.{◌≤◌, ◌<◌, ◌+◌, length, All, IfOk, IfSome, OnOk};
+ghost use Rattle.std.specs.Prelude.{◌≡◌, ◌≤◌, ◌<◌, ◌+◌, map, length, All, IfOk, IfSome, OnOk};
 ghost use Rattle.ember_model.specs.Valid.{IsValidTri};
 ghost use Rattle.ember_model.specs.Meshes.{HasMesh};
 ghost use Rattle.ember_box.specs.Near.{tri_at};
+ghost use Rattle.ember_box.specs.Spans.{spans_of};
+ghost use Rattle.ember_box.specs.Regions.{IsRegions, walls as box_walls};
+ghost use Rattle.ember_leaf.specs.Walls.{wall_of};
 ghost use Rattle.ember_coplanar.specs.Lying.{LiesOn};
 ghost use Rattle.ember_trace.specs.Facets.{AreBoxCounts, AreSideCounts};
 ghost use Rattle.ember_leaf.specs.Pairs.{IsLower};
@@ -106,7 +109,8 @@ impl Leaf<'_> {
         requires counts { AreBoxCounts self.now.at.now.counts }
         requires place { i < length self.now.near.now }
         requires lower { All (IsLower (tri_at (tris_of self.now.near.now) i)) lower.now }
-        requires regions { All (IsRegionOf (tri_at (tris_of self.now.near.now) i)) list.items }
+        requires plane { All (IsRegionOf (tri_at (tris_of self.now.near.now) i)) list.items }
+        requires regions { IsRegions self.now.cell.now (tris_of self.now.near.now) i list.items }
         requires kept { ArePlacedBelow (tris_of self.now.near.now) (i + 1) kept.old.items }
         ensures { OnOk result (ArePlacedBelow (tris_of self.now.near.now) (i + 1) kept.new.items) }
     {
@@ -130,6 +134,8 @@ impl Leaf<'_> {
         requires few { length self.now.near.now ≤ 262144 }
         requires counts { AreBoxCounts self.now.at.now.counts }
         requires place { i < length self.now.near.now }
+        requires walls { map wall_of walls.now ≡ box_walls self.now.cell.now }
+        requires spans { self.now.spans.now ≡ spans_of self.now.cell.now }
         requires kept { ArePlacedBelow (tris_of self.now.near.now) (i + 1) kept.old.items }
         ensures { OnOk result (ArePlacedBelow (tris_of self.now.near.now) (i + 1) kept.new.items) }
     {
