@@ -2,3 +2,4 @@ pub mod Blades
 pub mod Leaves
 pub mod Pairs
 pub mod Walls
+pub mod Written

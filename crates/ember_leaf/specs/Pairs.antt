@@ -1,11 +1,12 @@
 -- The values of a plane at the corners of a triangle, and how triangles lie to it by them
-use Rattle.std.specs.Prelude.{◌≡◌, Bool, true, false, not, ◌&&◌}
+use Rattle.std.specs.Prelude.{◌≡◌, ℕ, List, Some, slice_get, Bool, true, false, not, ◌&&◌}
 use Rattle.ember_algebra.specs.Sign.{is_negative, is_zero, is_positive}
 use Rattle.ember_model.specs.declared.plane.Plane.{Plane}
 use Rattle.ember_model.specs.declared.tri.Tri.{Tri}
 use Rattle.ember_model.specs.Valid.{IsValidTri}
 use Rattle.ember_model.specs.Planes.{value_at}
-use Rattle.ember_model.specs.Faces.{face_of, is_in_closed, Everywhere}
+use Rattle.ember_model.specs.Faces.{face_of, is_in_closed, Everywhere, Contains}
+use Rattle.ember_model.specs.declared.face.Face.{Face}
 use Rattle.ember_model.specs.Owners.{spot_at, is_coplanar}
 use Rattle.ember_leaf.specs.declared.heights.Heights.{Heights}
 use Rattle.ember_leaf.specs.declared.pairs.Pair.{Pair}
@@ -45,3 +46,10 @@ IsPair t u Coplanar = is_coplanar t u ≡ true
 pub record IsLower (t u : Tri) : Type 0 where
   pub valid : IsValidTri u
   pub coplanar : is_coplanar u t ≡ true
+
+-- some triangle of the list contains the inside of f
+pub record HasHolder (ts : List Tri) (f : Face) : Type 0 where
+  pub place : ℕ
+  pub tri : Tri
+  pub here : slice_get ts place ≡ Some tri
+  pub holds : Contains (face_of tri) f

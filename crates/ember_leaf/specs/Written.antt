@@ -1,0 +1,46 @@
+-- Which regions of a leaf are written
+use Rattle.std.specs.Prelude.{◌≡◌, ◌≢◌, ℕ, Bool, Option, None, Some, if◌then◌else◌, ℤ, List, [], ◌∷◌, length}
+use Rattle.std.specs.List.{range_with_len}
+use Rattle.ember_algebra.specs.Relations.{Each}
+use Rattle.ember_algebra.specs.Sign.{is_positive}
+use Rattle.ember_model.specs.declared.tri.Tri.{Tri}
+use Rattle.ember_model.specs.declared.face.Face.{Face}
+use Rattle.ember_model.specs.Planes.{along, main_axis}
+use Rattle.ember_model.specs.Owners.{IsOwner}
+use Rattle.ember_model.specs.Sides.{IsSides}
+use Rattle.ember_expr.specs.Formula.{Formula}
+use Rattle.ember_expr.specs.Truth.{truth}
+use Rattle.ember_box.specs.Boxes.{Cell}
+use Rattle.ember_box.specs.Regions.{IsRegions}
+use Rattle.ember_leaf.specs.declared.kept.Kept.{Kept}
+
+-- the winding numbers in front of a region, of those before and after it along its main axis
+abbrev pub front : Face → List ℤ → List ℤ → List ℤ
+front f before after =
+    if is_positive (along f.support (main_axis f.support)) then after else before
+
+-- what is written of a region of triangle i: nothing where another triangle owns it or where the
+-- expression has one value on both sides; else the region, its normal on the side where the
+-- expression is false
+pub data AtRegion (scene : List Tri) (f : Formula) (near : List Tri) (i : ℕ) (face : Face) : List Kept → Type 0 where
+  unowned : (IsOwner near i face → ⊥) → AtRegion scene f near i face []
+  even : {before after : List ℤ} → IsSides scene face before after → truth before f ≡ truth after f → AtRegion scene f near i face []
+  written : {before after : List ℤ} → IsOwner near i face → IsSides scene face before after → truth before f ≢ truth after f → AtRegion scene f near i face (record { tri = i; flipped = truth (front face before after) f; ring = face } ∷ [])
+
+-- the written regions of triangle i of a leaf with these near triangles
+pub record IsWrittenOf (scene : List Tri) (f : Formula) (c : Cell) (near : List Tri) (i : ℕ) (ks : List Kept) : Type 0 where
+  pub faces : List Face
+  pub are_regions : IsRegions c near i faces
+  pub are_written : Each (AtRegion scene f near i) faces ks
+
+-- those of all its triangles, in order
+abbrev pub IsWrittenIn : List Tri → Formula → Cell → List Tri → List Kept → Type 0
+IsWrittenIn scene f c near ks =
+    Each (IsWrittenOf scene f c near) (range_with_len 0 (length near)) ks
+
+-- what the expression says of a region with these winding numbers before and after it: nothing, or
+-- whether it holds in front
+abbrev pub IsTurn : Formula → Face → List ℤ → List ℤ → Option Bool → Type 0
+IsTurn f face before after None = truth before f ≡ truth after f
+IsTurn f face before after (Some flipped) =
+    (truth before f ≢ truth after f) × (flipped ≡ truth (front face before after) f)
