@@ -13,23 +13,23 @@ use Rattle.ember_model.specs.declared.point.Axis.{Axis}
 use Rattle.ember_model.specs.declared.point.Axis.TheVariants.{X, Y, Z}
 use Rattle.ember_model.specs.declared.tri.Tri.{Tri}
 use Rattle.ember_model.specs.Planes.{vector_of, value_at, support_of, opposite, main_axis, edge_planes}
-use Rattle.ember_model.specs.Faces.{is_flat, face_of, edges_of, is_inside, is_in_closed, Everywhere, Contains}
+use Rattle.ember_model.specs.Faces.{is_flat, face_of, edges_of, is_in_closed}
 use Rattle.ember_model.specs.Owners.{is_coplanar}
-use Rattle.ember_model.proofs.SignTests.{negative_out, positive_out, not_positive_out, zero_out, and_parts, not_true, clash, negative_in}
+use Rattle.ember_model.proofs.SignTests.{negative_out, positive_out, not_positive_out, zero_out, and_parts, not_true, clash}
 use Rattle.ember_box.specs.declared.spans.Span.{Span}
 use Rattle.ember_box.specs.Boxes.{along}
-use Rattle.ember_box.specs.Spans.{bounding, overlap, reaches}
+use Rattle.ember_box.specs.Spans.{bounding, reaches}
 use Rattle.ember_box.proofs.Orders.{le_in}
 use Rattle.ember_ref.proofs.NearPoints.{past_corners, coordinate}
 use Rattle.ember_poly.specs.Rings.{Under, Over, AtMost, AtLeast, OnPlane, Inside, Closed}
 use Rattle.ember_poly.proofs.Strict.{opposite_plane}
-use Rattle.ember_poly.proofs.Reached.{under_opposite, closed_from_inside}
+use Rattle.ember_poly.proofs.Reached.{under_opposite}
 use Rattle.ember_poly.proofs.TriangleRing.{tri_sides}
 use Rattle.ember_coplanar.proofs.Containing.{edge_at}
 use Rattle.ember_leaf.specs.declared.heights.Heights.{Heights}
 use Rattle.ember_leaf.specs.Pairs.{heights_of, none_behind, none_in_front, all_behind, all_in_front, all_on, AreApart}
-use Rattle.ember_leaf.specs.Blades.{IsHeld, AreHeld, IsBounded}
-use Rattle.ember_leaf.proofs.TriFaces.{AtCorners, AtCorner, inside_ring, closed_ring, ring_inside, ring_closed, inside_under, inside_over, closed_on, closed_over, closed_at_least}
+use Rattle.ember_leaf.specs.Blades.{IsHeld}
+use Rattle.ember_leaf.proofs.TriFaces.{AtCorners, AtCorner, inside_ring, closed_ring, inside_under, inside_over, closed_over, closed_at_least}
 
 -- ---- from tests of heights to facts at the corners
 not_negative_out : (a : ℤ) → not (is_negative a) ≡ true → pos 0 ≤ℤ a

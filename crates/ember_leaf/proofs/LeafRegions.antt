@@ -1,10 +1,9 @@
 -- The start that the walls leave, cut by the blades that are found: the regions of the triangle.
-use Rattle.std.proofs.Common.{◌≡◌, ◌⊎◌, inl, inr, refl, sym, ap, subst, ◌∙◌, arith, ℕ, true, false, not, List, [], ◌∷◌, map, ℤ, pos, ◌-ℤ◌, ◌*ℤ◌, ◌≤ℤ◌}
+use Rattle.std.proofs.Common.{◌≡◌, ◌⊎◌, inl, inr, refl, sym, subst, arith, ℕ, true, false, List, [], ◌∷◌, map, ℤ, pos, ◌-ℤ◌, ◌*ℤ◌, ◌≤ℤ◌}
 use Rattle.std.specs.Int.{int_min, int_max}
-use Rattle.std.specs.List.{AllByRecursion}
 use Rattle.std.proofs.lemmas.Int.{clamps, by_lt_z}
 use borrow.Author.Differences.{ints}
-use Rattle.ember_algebra.specs.Relations.{Chain, done, Every}
+use Rattle.ember_algebra.specs.Relations.{done, Every}
 use Rattle.ember_algebra.proofs.Laws.{linear}
 use Rattle.ember_algebra.proofs.Ring.{◌⊕◌, ◌⊖◌, ◌⊗◌, ◌≈◌, num, solve, cancels}
 use Rattle.ember_model.specs.declared.point.Axis.{Axis}
