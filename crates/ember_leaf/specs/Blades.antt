@@ -49,7 +49,8 @@ pub record IsBounded (t : Tri) (b : Spans) (f : Face) : Type 0 where
   pub within : Contains (face_of t) f
   pub bounds : Everywhere f (AreHeld b)
 
--- all blades of the first list stand in the second, but for some whose faces no face with the property meets
+-- all blades of the first list stand in the second, but for some whose faces no face with the
+-- property meets
 pub data Sheds (P : Face → Type 0) : List regions.Blade → List regions.Blade → Type 0 where
   all_seen : Sheds P [] []
   stays : {b : regions.Blade} {xs ys : List regions.Blade} → Sheds P xs ys → Sheds P (b ∷ xs) (b ∷ ys)

@@ -5,7 +5,7 @@ use Rattle.ember_model.specs.declared.plane.Plane.{Plane}
 use Rattle.ember_model.specs.declared.tri.Tri.{Tri}
 use Rattle.ember_model.specs.Valid.{IsValidTri}
 use Rattle.ember_model.specs.Planes.{value_at}
-use Rattle.ember_model.specs.Faces.{face_of, is_in_closed, Everywhere, Contains}
+use Rattle.ember_model.specs.Faces.{face_of, is_in_closed, Everywhere, Contains, edges_of}
 use Rattle.ember_model.specs.declared.face.Face.{Face}
 use Rattle.ember_model.specs.Owners.{spot_at, is_coplanar}
 use Rattle.ember_leaf.specs.declared.heights.Heights.{Heights}
@@ -35,6 +35,11 @@ all_on h = is_zero h.a && (is_zero h.b && is_zero h.c)
 -- no inside point of t lies in the closed face of u
 abbrev pub AreApart : Tri → Tri → Type 0
 AreApart t u = Everywhere (face_of t) (λ v. is_in_closed (face_of u) v ≡ false)
+
+-- the inside of u lies behind the edge plane of t at this place
+abbrev pub IsBehindEdge : Tri → Tri → ℕ → Type 0
+IsBehindEdge t u i =
+    (p : Plane) → slice_get (edges_of t) i ≡ Some p → Everywhere (face_of u) (λ v. is_negative (value_at p v) ≡ true)
 
 -- how u lies to t
 abbrev pub IsPair : Tri → Tri → Pair → Type 0
