@@ -13,12 +13,12 @@ use Rattle.ember_model.specs.declared.point.Axis.{Axis}
 use Rattle.ember_model.specs.declared.point.Axis.TheVariants.{X, Y, Z}
 use Rattle.ember_model.specs.declared.tri.Tri.{Tri}
 use Rattle.ember_model.specs.Planes.{vector_of, value_at, support_of, opposite, main_axis, edge_planes}
-use Rattle.ember_model.specs.Faces.{is_flat, face_of, edges_of, is_inside, is_in_closed, Everywhere, Contains}
+use Rattle.ember_model.specs.Faces.{is_flat, face_of, edges_of, is_in_closed, Everywhere, Contains, is_inside}
 use Rattle.ember_model.specs.Owners.{is_coplanar}
 use Rattle.ember_model.proofs.SignTests.{negative_out, positive_out, not_positive_out, zero_out, and_parts, not_true, clash, negative_in}
 use Rattle.ember_box.specs.declared.spans.Span.{Span}
 use Rattle.ember_box.specs.Boxes.{along}
-use Rattle.ember_box.specs.Spans.{bounding, overlap, reaches}
+use Rattle.ember_box.specs.Spans.{bounding, reaches}
 use Rattle.ember_box.proofs.Orders.{le_in}
 use Rattle.ember_ref.proofs.NearPoints.{past_corners, coordinate}
 use Rattle.ember_poly.specs.Rings.{Under, Over, AtMost, AtLeast, OnPlane, Inside, Closed}
@@ -27,9 +27,9 @@ use Rattle.ember_poly.proofs.Reached.{under_opposite, closed_from_inside}
 use Rattle.ember_poly.proofs.TriangleRing.{tri_sides}
 use Rattle.ember_coplanar.proofs.Containing.{edge_at}
 use Rattle.ember_leaf.specs.declared.heights.Heights.{Heights}
-use Rattle.ember_leaf.specs.Pairs.{heights_of, none_behind, none_in_front, all_behind, all_in_front, all_on, AreApart}
-use Rattle.ember_leaf.specs.Blades.{IsHeld, AreHeld, IsBounded}
-use Rattle.ember_leaf.proofs.TriFaces.{AtCorners, AtCorner, inside_ring, closed_ring, ring_inside, ring_closed, inside_under, inside_over, closed_on, closed_over, closed_at_least}
+use Rattle.ember_leaf.specs.Pairs.{IsBehindEdge, heights_of, none_behind, none_in_front, all_behind, all_in_front, all_on, AreApart}
+use Rattle.ember_leaf.specs.Blades.{IsHeld}
+use Rattle.ember_leaf.proofs.TriFaces.{AtCorners, AtCorner, inside_ring, closed_ring, inside_under, inside_over, closed_over, closed_at_least, ring_inside, closed_on}
 
 -- ---- from tests of heights to facts at the corners
 not_negative_out : (a : ℤ) → not (is_negative a) ≡ true → pos 0 ≤ℤ a
@@ -215,6 +215,31 @@ parted t u i p n m e f g =
     let h = front_at_least p u f in
     (apart t u (λ v a b. under_least (edge_under t i p v e a) (closed_at_least u m p v h b)), apart u t (λ v a b. most_over (edge_at_most t i p v e b) (inside_over u m p v h (corner_over p u h g) a)))
 
+-- ---- one in the other
+pub behind_edge : (u : Tri) (p : Plane) → is_flat u ≡ false → none_in_front (heights_of p u) ≡ true → all_on (heights_of p u) ≡ false → Everywhere (face_of u) (λ v. is_negative (value_at p v) ≡ true)
+behind_edge u p m f g =
+    let h = behind_at_most p u f in
+    record { holds = λ v i. negative_in (inside_under u m p v h (corner_under p u h g) (inside_ring u v i)).under }
+
+pub on_plane : (t u : Tri) (v : Spot) → is_flat u ≡ false → all_on (heights_of (support_of t) u) ≡ true → is_inside (face_of u) v ≡ true → value_at (support_of t) v ≡ pos 0
+on_plane t u v m e i =
+    (closed_on u m (support_of t) v (on_on (support_of t) u e) (closed_from_inside (support_of u) (tri_sides u) v (inside_ring u v i))).on_plane
+
+pub covered : (t u : Tri) → is_flat u ≡ false → all_on (heights_of (support_of t) u) ≡ true → ((i : ℕ) (p : Plane) → slice_get (edges_of t) i ≡ Some p → Everywhere (face_of u) (λ v. is_negative (value_at p v) ≡ true)) → Contains (face_of t) (face_of u)
+covered t u m e f =
+    record { holds = λ v i. ring_inside t v (record { flat = on_plane t u v m e i; weight = (inside_ring u v i).weight; within = (edge 0 _ v refl i, (edge 1 _ v refl i, (edge 2 _ v refl i, tt))) }) }
+  where
+    edge : (k : ℕ) (p : Plane) (v : Spot) → slice_get (edges_of t) k ≡ Some p → is_inside (face_of u) v ≡ true → Under p v
+    edge k p v q i = record { under = negative_out (value_at p v) ((f k p q).holds v i) }
+
+-- ---- coplanar triangles
+pub coplanar_flats : (t u : Tri) → is_coplanar t u ≡ true → (is_flat t ≡ false) × (is_flat u ≡ false) × (all_on (heights_of (support_of t) u) ≡ true)
+unfolding is_coplanar
+coplanar_flats t u e =
+    let p = and_parts (not (is_flat t)) (not (is_flat u) && all_on (heights_of (support_of t) u)) e in
+    let q = and_parts (not (is_flat u)) (all_on (heights_of (support_of t) u)) p.1 in
+    (not_true (is_flat t) p.0, not_true (is_flat u) q.0, q.1)
+
 -- ---- the tests of the code
 module _ (f : Heights → Bool) where
   pub tested : (u : Tri) {p q : Plane} {h : Heights} {b v : Bool} → p ≡ q → h ≡ heights_of p u → b ≡ f h → b ≡ v → f (heights_of q u) ≡ v
@@ -239,3 +264,23 @@ module _ (t u : Tri) (n : is_flat t ≡ false) (m : is_flat u ≡ false) where
   pub coplanar_is : is_coplanar t u ≡ all_on (heights_of (support_of t) u)
   unfolding is_coplanar
   coplanar_is = λ i. not (n i) && (not (m i) && all_on (heights_of (support_of t) u))
+
+-- the triangle u lies behind the plane of an edge of t
+pub behind_by : (t u : Tri) (i : ℕ) {s p : Plane} {k : Axis} {h : Heights} {b : Bool} → is_flat u ≡ false → s ≡ support_of t → k ≡ main_axis s → slice_get (edge_planes t k) i ≡ Some p → h ≡ heights_of p u → b ≡ none_in_front h && not (all_on h) → b ≡ true → IsBehindEdge t u i
+behind_by t u i {s} {p} {k} {h} m e a g q r z =
+    let x = and_parts (none_in_front (heights_of p u)) (not (all_on (heights_of p u))) (tested (λ h. none_in_front h && not (all_on h)) u {p = p} refl q r z) in
+    let w = behind_edge u p m x.0 (not_true (all_on (heights_of p u)) x.1) in
+    λ g' h'. subst (λ (q : Plane). Everywhere (face_of u) (λ v. is_negative (value_at q v) ≡ true)) (no_some (sym (edge_at t i e a g) ∙ h')) w
+
+pub covered_by : (t u : Tri) → is_coplanar t u ≡ true → IsBehindEdge t u 0 → IsBehindEdge t u 1 → IsBehindEdge t u 2 → Contains (face_of t) (face_of u)
+covered_by t u e a b c =
+    let n = coplanar_flats t u e in covered t u n.1 n.2 edge
+  where
+    none_here : {p : Plane} → None ≡ Some p → ⊥
+    none_here h = cc
+
+    edge : (i : ℕ) (p : Plane) → slice_get (edges_of t) i ≡ Some p → Everywhere (face_of u) (λ v. is_negative (value_at p v) ≡ true)
+    edge zero p q = a p q
+    edge (suc zero) p q = b p q
+    edge (suc (suc zero)) p q = c p q
+    edge (suc (suc (suc i))) p q = absurd (none_here q)

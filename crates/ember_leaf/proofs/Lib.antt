@@ -1,4 +1,5 @@
 pub mod Apart
+pub mod LeafRegions
 pub mod OneList
 pub mod Placing
 pub mod Shedding

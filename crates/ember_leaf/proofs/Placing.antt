@@ -1,6 +1,6 @@
 -- Written regions of one triangle after another.
-use Rattle.std.proofs.Common.{◌≡◌, refl, sym, ap, subst, ◌∙◌, arith, ℕ, ◌+◌, ◌<◌, ◌≤◌, Bool, Some, List, [], ◌∷◌, ◌++◌, length, get_or, None}
-use Rattle.std.proofs.lemmas.List.{get_or-map, length-map}
+use Rattle.std.proofs.Common.{◌≡◌, refl, sym, ap, subst, ◌∙◌, arith, ℕ, ◌+◌, ◌<◌, ◌≤◌, Bool, Some, List, [], ◌∷◌, ◌++◌, length, get_or, None, take, All}
+use Rattle.std.proofs.lemmas.List.{get_or-map, length-map, take_more}
 use Rattle.std.proofs.lemmas.List.Elements.{All-nil, All-push}
 use Rattle.std.proofs.lemmas.List.Quantifiers.{all_pairs_push}
 use Rattle.ember_model.specs.declared.tri.Tri.{Tri}
@@ -61,3 +61,8 @@ placed_push fs n ks new k l h r e =
 
 pub own_is : (fs : List Facet) (i : ℕ) (d : Facet) → i < length fs → (get_or fs i d).tri ≡ tri_at (tris_of fs) i
 own_is fs i d l = sym (get_or-map tri_of fs i d no_tri l)
+
+-- the first triangles of a list, and one more
+pub first_more : (P : Tri → Type 0) (ts : List Tri) (i : ℕ) (d : Tri) → i < length ts → All P (take i ts) → P (get_or ts i d) → All P (take (i + 1) ts)
+first_more P ts i d l h p =
+    subst (All P) (sym (take_more ts i d l)) (All-push P (take i ts) (get_or ts i d) h p)

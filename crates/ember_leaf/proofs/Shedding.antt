@@ -1,5 +1,5 @@
 -- A blade that no region meets leaves the list.
-use Rattle.std.proofs.Common.{◌≡◌, Result, Ok, Err, OnOk, refl, sym, ap, subst, ◌∙◌, arith, ℕ, zero, suc, ◌+◌, flat_map, Bool, true, false, nat_eq, ◌&&◌, List, [], ◌∷◌, ◌++◌, map, append_assoc}
+use Rattle.std.proofs.Common.{◌≡◌, Result, Ok, Err, OnOk, refl, sym, ap, subst, ◌∙◌, arith, ℕ, zero, suc, ◌+◌, flat_map, Bool, true, false, nat_eq, ◌&&◌, List, [], ◌∷◌, ◌++◌, map}
 use Rattle.std.specs.List.{range_with_len}
 use Rattle.std.proofs.lemmas.List.{append-nil}
 use Rattle.std.proofs.lemmas.List.Concat.{flat_map-append}
@@ -8,9 +8,9 @@ use Rattle.ember_model.specs.declared.plane.Plane.{Plane}
 use Rattle.ember_model.specs.declared.tri.Tri.{Tri}
 use Rattle.ember_model.specs.declared.face.Face.{Face}
 use Rattle.ember_model.specs.Planes.{support_of}
-use Rattle.ember_model.specs.Faces.{is_flat, face_of, edges_of, is_in_closed, Meets}
+use Rattle.ember_model.specs.Faces.{is_flat, face_of, edges_of, Meets}
 use Rattle.ember_model.specs.Owners.{is_coplanar}
-use Rattle.ember_model.proofs.SignTests.{clash, positive_in}
+use Rattle.ember_model.proofs.SignTests.{clash}
 use Rattle.ember_model.proofs.Hits.{closed_parts}
 use Rattle.ember_box.specs.declared.spans.Spans.{Spans}
 use Rattle.ember_box.specs.Spans.{bounding, overlap, reaches}
@@ -21,7 +21,7 @@ use Rattle.ember_model.specs.declared.point.Axis.TheVariants.{X, Y, Z}
 use Rattle.std.proofs.lemmas.Bool.{and_from}
 use Rattle.ember_leaf.specs.declared.blade.Blade.{Blade}
 use Rattle.ember_leaf.specs.Pairs.{AreApart}
-use Rattle.ember_leaf.specs.Blades.{blade_of, blades_with, IsHeld, AreHeld, IsBounded, Sheds, all_seen, stays, goes, Adds}
+use Rattle.ember_leaf.specs.Blades.{blade_of, blades_with, IsBounded, Sheds, all_seen, stays, goes, Adds}
 use Rattle.ember_leaf.proofs.Starting.{each_every}
 use Rattle.ember_leaf.proofs.Apart.{reach, bounds}
 

@@ -34,7 +34,7 @@ two_pushed out mid new x y e h =
     h ∙ ap (λ l. l ++ y ∷ []) e ∙ append_assoc out (x ∷ []) (y ∷ [])
 
 -- ---- one region
-not_met : {b : Bool} {P : Type 0} → IsTrue b ↔ P → b ≡ false → P → ⊥
+pub not_met : {b : Bool} {P : Type 0} → IsTrue b ↔ P → b ≡ false → P → ⊥
 not_met {b} q e p = by (subst (λ (b : Bool). IsTrue b) e (q.1 p))
   where
     by : IsTrue false → ⊥
@@ -91,7 +91,7 @@ pub met_end : (b : Blade) (list : List Face) → MeetsFirst b (drop (length list
 met_end b [] = tt
 met_end b (f ∷ fs) = met_end b fs
 
-take_all : {A : Type 0} (k : ℕ) (xs : List A) → length xs ≤ k → take k xs ≡ xs
+pub take_all : {A : Type 0} (k : ℕ) (xs : List A) → length xs ≤ k → take k xs ≡ xs
 take_all zero [] l = refl
 take_all zero (x ∷ xs) l = absurd (omega (arith, l))
 take_all (suc k) [] l = refl

@@ -71,7 +71,6 @@ pub chain_ended : {X S A : Type 0} (R : X → A → List A → Type 0) (h : S �
 chain_ended R h ys n a r =
     subst (λ l. Chain (λ x. Each (R x)) l a []) (sym (map-append h (take n ys) (drop n ys)) ∙ ap (map h) (take-append-drop n ys)) (chain_append r (nothing_more R h (drop n ys)))
 
-
 -- ---- planes at corners
 up_value : (k : Axis) (h : ℤ) (u : Corner) → value_at (level k h) (spot_at u) ≡ along k (vector_of u) -ℤ h
 up_value X h u =

@@ -1,5 +1,6 @@
 -- What the blades of a list leave of regions
 use Rattle.std.specs.Prelude.{List, [], ◌∷◌, ◌++◌, map, ℤ, ◌*ℤ◌, ◌≤ℤ◌}
+use Rattle.std.specs.Int.{int_min, int_max}
 use Rattle.ember_algebra.specs.Relations.{Each, Chain}
 use Rattle.ember_model.specs.declared.tri.Tri.{Tri}
 use Rattle.ember_model.specs.declared.plane.Plane.{Plane}
@@ -8,6 +9,7 @@ use Rattle.ember_model.specs.declared.face.Face.{Face}
 use Rattle.ember_model.specs.Faces.{face_of, Meets, Contains, Everywhere}
 use Rattle.ember_box.specs.declared.spans.Span.{Span}
 use Rattle.ember_box.specs.declared.spans.Spans.{Spans}
+use Rattle.ember_box.specs.Spans.{span_between}
 use Rattle.ember_box.specs.Regions.{AtBlade}
 use Rattle.ember_box.specs.Regions as regions
 use Rattle.ember_leaf.specs.declared.blade.Blade.{Blade}
@@ -47,7 +49,8 @@ pub record IsBounded (t : Tri) (b : Spans) (f : Face) : Type 0 where
   pub within : Contains (face_of t) f
   pub bounds : Everywhere f (AreHeld b)
 
--- all blades of the first list stand in the second, but for some whose faces no face with the property meets
+-- all blades of the first list stand in the second, but for some whose faces no face with the
+-- property meets
 pub data Sheds (P : Face → Type 0) : List regions.Blade → List regions.Blade → Type 0 where
   all_seen : Sheds P [] []
   stays : {b : regions.Blade} {xs ys : List regions.Blade} → Sheds P xs ys → Sheds P (b ∷ xs) (b ∷ ys)
@@ -57,3 +60,10 @@ pub data Sheds (P : Face → Type 0) : List regions.Blade → List regions.Blade
 abbrev pub Adds : (Face → Type 0) → List regions.Blade → List Blade → List Blade → Type 0
 Adds P bs old new =
     (front : List regions.Blade) → Sheds P front (map blade_of old) → Sheds P (front ++ bs) (map blade_of new)
+
+-- what two boxes have in common
+abbrev pub common : Span → Span → Span
+common a b = span_between (int_max a.low b.low) (int_min a.high b.high)
+
+abbrev pub common_of : Spans → Spans → Spans
+common_of a b = record { x = common a.x b.x; y = common a.y b.y; z = common a.z b.z }

@@ -45,7 +45,8 @@ fn is_behind(height: i64) -> bool
     height < 0
 }
 
-fn is_in_front(height: i64) -> bool
+/// The height of a point in front.
+pub fn is_in_front(height: i64) -> bool
     ensures { result ≡ is_positive height }
 {
     height > 0

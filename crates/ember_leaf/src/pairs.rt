@@ -1,9 +1,9 @@
 // How two triangles lie to each other, by their corners.
 ghost use Rattle.std.specs.Prelude.{◌≡◌, ◌<◌, ◌&&◌, true, false};
 ghost use Rattle.ember_algebra.specs.Sign.{is_zero};
-ghost use Rattle.ember_model.specs.Faces.{is_flat};
+ghost use Rattle.ember_model.specs.Faces.{is_flat, face_of, Contains};
 ghost use Rattle.ember_model.specs.Owners.{lies_in_plane_of, is_coplanar};
-ghost use Rattle.ember_leaf.specs.Pairs.{AreApart, IsPair};
+ghost use Rattle.ember_leaf.specs.Pairs.{AreApart, IsBehindEdge, IsPair};
 
 use crate::heights::heights_of;
 use ember_model::{Plane, edge_plane, main_axis};
@@ -127,7 +127,9 @@ pub fn pair_of(f: &Facet, g: &Facet) -> Pair
 
 // The second triangle lies behind the plane of an edge of the first.
 fn is_behind_edge(f: &Facet, g: &Facet, edge: u8) -> bool
-    requires { edge < 3 }
+    requires edge { edge < 3 }
+    requires second { is_flat g.now.tri ≡ false }
+    ensures { result ≡ true → IsBehindEdge f.now.tri g.now.tri edge }
 {
     let k = main_axis(&f.support);
     let p = edge_plane(&f.tri, edge, k);
@@ -135,6 +137,16 @@ fn is_behind_edge(f: &Facet, g: &Facet, edge: u8) -> bool
 }
 
 /// The second triangle, which lies in the plane of the first, is covered by it.
-pub fn covers(f: &Facet, g: &Facet) -> bool {
-    is_behind_edge(f, g, 0) && (is_behind_edge(f, g, 1) && is_behind_edge(f, g, 2))
+pub fn covers(f: &Facet, g: &Facet) -> bool
+    requires second { is_flat g.now.tri ≡ false }
+    requires plane { is_coplanar f.now.tri g.now.tri ≡ true }
+    ensures { result ≡ true → Contains (face_of f.now.tri) (face_of g.now.tri) }
+{
+    if !is_behind_edge(f, g, 0) {
+        return false;
+    }
+    if !is_behind_edge(f, g, 1) {
+        return false;
+    }
+    is_behind_edge(f, g, 2)
 }

@@ -67,6 +67,7 @@ impl Rivals {
     // one and covers it.
     fn add_coplanar(&mut self, own: &Facet, g: &Facet, is_before: bool) -> Result<bool, OutOfMemory>
         requires normal { is_flat g.now.tri ≡ false }
+        requires own { is_flat own.now.tri ≡ false }
         requires lower { All (IsLower own.now.tri) self.old.lower.items }
         ensures lower { OnOk result (All (IsLower own.now.tri) self.new.lower.items) }
         ensures blades { OnOk result (map blade_of self.new.blades.items ≡ map blade_of self.old.blades.items ++ blades_with g.now.tri (edges_of g.now.tri)) }

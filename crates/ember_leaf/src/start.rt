@@ -7,6 +7,7 @@ ghost use Rattle.ember_model.specs.Planes.{opposite};
 ghost use Rattle.ember_model.specs.Faces.{is_flat, face_of};
 ghost use Rattle.ember_box.specs.Regions.{level, AtWall};
 ghost use Rattle.ember_box.specs.Regions as regions;
+ghost use Rattle.ember_leaf.specs.Blades.{common, common_of};
 ghost use Rattle.ember_leaf.specs.Walls.{wall_of, span_along, level_by, IsLowStay, IsHighStay, IsStay, IsLeft};
 
 use crate::wall::Wall;
@@ -26,7 +27,9 @@ fn span(b: &Spans, k: Axis) -> Span
     }
 }
 
-fn common(a: &Span, b: &Span) -> Span {
+fn common(a: &Span, b: &Span) -> Span
+    ensures { result ≡ common a.now b.now }
+{
     Span {
         low: a.low.max(b.low),
         high: a.high.min(b.high),
@@ -34,7 +37,9 @@ fn common(a: &Span, b: &Span) -> Span {
 }
 
 /// What two boxes have in common.
-pub fn common_spans(a: &Spans, b: &Spans) -> Spans {
+pub fn common_spans(a: &Spans, b: &Spans) -> Spans
+    ensures { result ≡ common_of a.now b.now }
+{
     Spans {
         x: common(&a.x, &b.x),
         y: common(&a.y, &b.y),

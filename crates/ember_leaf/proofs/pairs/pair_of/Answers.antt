@@ -1,5 +1,5 @@
 use Rattle.ember_leaf.proofs.pairs.pair_of.Goals as goal
-use Rattle.std.proofs.Common.{◌∙◌, sym}
+use Rattle.std.proofs.Common.{◌∙◌}
 use Rattle.ember_leaf.specs.Pairs.{all_in_front, all_behind, all_on}
 use Rattle.ember_leaf.proofs.Apart.{tested, apart_in_front, apart_behind, coplanar_is}
 

@@ -1,4 +1,4 @@
-use Rattle.std.proofs.Common.{◌≡◌, ◌+◌, ℕ, arith, sym, subst, List, [], All, length, map, flat_map}
+use Rattle.std.proofs.Common.{◌≡◌, ◌+◌, ℕ, arith, sym, subst, [], All, length, map, flat_map}
 use Rattle.std.specs.List.{range_with_len}
 use Rattle.std.proofs.lemmas.List.{length-map}
 use Rattle.std.proofs.lemmas.List.Elements.{All-nil}
