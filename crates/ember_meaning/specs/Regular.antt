@@ -6,8 +6,8 @@ use Rattle.ember_model.specs.declared.tri.Tri.{Tri}
 use Rattle.ember_model.specs.declared.point.Spot.{Spot}
 use Rattle.ember_model.specs.declared.point.Axis.{Axis}
 use Rattle.ember_model.specs.declared.face.Face.{Face}
-use Rattle.ember_model.specs.Planes.{along, main_axis}
-use Rattle.ember_model.specs.Faces.{is_inside, face_of, hit}
+use Rattle.ember_model.specs.Planes.{value_at, support_of, along, main_axis}
+use Rattle.ember_model.specs.Faces.{is_inside, is_flat, face_of, hit}
 use Rattle.ember_model.specs.Meshes.{wind, vector}
 use Rattle.ember_model.specs.Owners.{IsOwner}
 use Rattle.ember_model.specs.Sides.{IsSides}
@@ -73,15 +73,27 @@ module _ (scene : List Tri) (x : Formula) (k : Axis) (p : Spot) (cs : List Cell)
     -- just before and just after the hit the expression is as on the sides of a region that holds it
     pub beside : (e : Entry) (before after : List ℤ) → In e es → is_inside e.face place ≡ true → IsSides scene e.face before after → (truth_before ≡ before_hit (along e.face.support k) (truth_ahead e.face before after) (truth_back e.face before after)) × (truth_after ≡ after_hit (along e.face.support k) (truth_ahead e.face before after) (truth_back e.face before after))
 
+  -- what is owed at the same hit of a general line
+  pub record IsGeneral : Type 0 where
+    -- the place is off all planes that cut
+    pub fair : IsFairInAll scene cs place
+    -- no triangle's plane that is 0 at the place holds the line
+    pub slopes : (u : Tri) → In u scene → is_flat u ≡ false → value_at (support_of u) place ≡ pos 0 → is_zero (along (support_of u) k) ≡ false
+    -- the leaf that holds the place is listed, and some triangle near it is hit there; or no listed
+    -- leaf holds it, and the expression has one value there
+    pub some_hit : SomeHit ⊎ (((j : ℕ) → is_hit_at scene cs place j ≡ false) × (truth_before ≡ truth_after))
+    -- just before and just after the hit the expression is as on the sides of a region that holds it
+    pub beside : (e : Entry) (before after : List ℤ) → In e es → is_inside e.face place ≡ true → IsSides scene e.face before after → (truth_before ≡ before_hit (along e.face.support k) (truth_ahead e.face before after) (truth_back e.face before after)) × (truth_after ≡ after_hit (along e.face.support k) (truth_ahead e.face before after) (truth_back e.face before after))
+
 -- along the line through p the entries are regular, and a written face is hit only where a triangle is
 pub record IsRegularLine (scene : List Tri) (x : Formula) (k : Axis) (p : Spot) (cs : List Cell) (es : List Entry) (ws : List Kept) : Type 0 where
   pub regular : (t : Tri) → In t (tri_hits k p scene) → IsRegular scene x k p cs es t
   pub placed : (w : Face) → In w (filter (is_hit k p) (map written_face ws)) → Placed is_below (map (tri_key k p) (tri_hits k p scene)) (key k p w)
 
--- the line is regular, however the written regions are listed
-abbrev pub IsRegularFor : List Tri → Formula → List Kept → Axis → Spot → Type 0
-IsRegularFor scene x ks k p =
-    (cs : List Cell) (es : List Entry) → IsListing scene x ks cs es → IsRegularLine scene x k p cs es ks
+-- the line is general, however the written regions are listed
+abbrev pub IsGeneralLine : List Tri → Formula → List Kept → Axis → Spot → Type 0
+IsGeneralLine scene x ks k p =
+    (cs : List Cell) (es : List Entry) → IsListing scene x ks cs es → (t : Tri) → In t (tri_hits k p scene) → IsGeneral scene x k p cs es t
 
 -- the expression is false where all winding numbers are 0
 abbrev pub IsFalseOutside : Formula → Type 0
@@ -92,7 +104,7 @@ abbrev pub HasMeaning : List Tri → Formula → List Kept → Axis → Axis →
 HasMeaning scene x ks a b p =
     wind a (map written_face ks) p ≡ one_if (truth (vector b scene p) x)
 
--- the written regions have their meaning at each point on a regular line
+-- the written regions have their meaning at each point on a general line
 abbrev pub HaveMeaningOnLines : List Tri → Formula → List Kept → Type 0
 HaveMeaningOnLines scene x ks =
-    (k : Axis) (p : Spot) → IsRegularFor scene x ks k p → HasMeaning scene x ks k k p
+    (k : Axis) (p : Spot) → IsGeneralLine scene x ks k p → HasMeaning scene x ks k k p

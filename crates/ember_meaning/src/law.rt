@@ -6,8 +6,8 @@ ghost use Rattle.ember_leaf.specs.Scenes.{IsWritten};
 ghost use Rattle.ember_meaning.specs.Regular.{IsFalseOutside, HaveMeaningOnLines};
 ghost use Rattle.ember_model.specs.declared.tri.Tri.{Tri};
 
-/// Let an expression be false where all winding numbers are 0. On a regular line the written
+/// Let an expression be false where all winding numbers are 0. On a general line the written
 /// regions of a scene wind once where the expression holds, and not at all elsewhere.
-pub fn regular_lines_have_the_meaning()
+pub fn written_regions_have_their_meaning()
     ensures { (scene : List Tri) (f : Formula) (ks : List Kept) → IsWritten scene f ks → IsFalseOutside f → HaveMeaningOnLines scene f ks }
 {}
