@@ -15,3 +15,4 @@ pub mod Places
 pub mod Meaning
 pub mod Owners
 pub mod General
+pub mod Steps
