@@ -14,5 +14,6 @@ pub mod Turned
 pub mod Places
 pub mod Meaning
 pub mod Owners
-pub mod General
 pub mod Steps
+pub mod Beside
+pub mod General
