@@ -1,7 +1,8 @@
 -- The meaning of the written regions of a scene on a general line.
-use Rattle.std.proofs.Common.{◌≡◌, ℕ, zero, suc, pred, ◌<◌, refl, ap, ◌∙◌, sym, subst, List, [], ◌∷◌, map, length, Bool, true, false, not, ◌&&◌, cond, ◌⊎◌, inl, inr, ⊎_elim, arith, ℤ, pos, ◌*ℤ◌, ◌≤ℤ◌, neg_ℤ, unsigned_abs}
-use Rattle.std.specs.List.{filter}
-use Rattle.std.proofs.lemmas.Bool.{false≢true, and_parts, and_from, not-true}
+use Rattle.std.proofs.Common.{◌≡◌, ℕ, zero, suc, pred, ◌<◌, refl, ap, ◌∙◌, sym, subst, List, [], ◌∷◌, map, length, Bool, true, false, not, ◌&&◌, cond, ◌⊎◌, inl, inr, ⊎_elim, arith, ℤ, pos, negsuc, nat_lt, ◌+◌, ◌*ℤ◌, ◌<ℤ◌, ◌≤ℤ◌, neg_ℤ, unsigned_abs}
+use Rattle.std.specs.List.{filter, list_any}
+use Rattle.std.proofs.lemmas.Option.{get_or_from_slice_get}
+use Rattle.std.proofs.lemmas.Bool.{cases_Bool, lt-ltb, false≢true, and_parts, and_from, not-true}
 use Rattle.ember_algebra.specs.Relations.{Every}
 use Rattle.ember_algebra.specs.Sign.{sign, is_zero}
 use Rattle.ember_algebra.proofs.Laws.{linear}
@@ -11,27 +12,43 @@ use Rattle.ember_model.specs.declared.point.Spot.{Spot}
 use Rattle.ember_model.specs.declared.point.Axis.{Axis}
 use Rattle.ember_model.specs.declared.face.Face.{Face}
 use Rattle.ember_model.specs.Planes.{value_at, support_of, along}
-use Rattle.ember_model.specs.Faces.{is_inside, is_flat, face_of, hit}
+use Rattle.ember_model.specs.Faces.{is_inside, is_in_closed, is_flat, face_of, hit}
+use Rattle.ember_model.specs.Points.{scaled, moved}
+use Rattle.ember_model.specs.Clear.{AreClear}
+use Rattle.ember_model.specs.Valid.{IsValidTri}
+use Rattle.ember_model.specs.Meshes.{IsScene, vector, faces_of}
+use Rattle.ember_algebra.specs.Large.{Eventually}
+use Rattle.ember_expr.specs.Truth.{truth}
+use Rattle.ember_box.specs.Boxes.{root, left}
+use Rattle.ember_box.specs.Sums.{number}
+use Rattle.ember_ref.proofs.FarTriangles.{inside_closed}
+use Rattle.ember_ref.proofs.NearPoints.{near_point}
+use Rattle.ember_trace.specs.Boxed.{IsRegion}
 use Rattle.ember_model.proofs.Hits.{inside_parts}
 use Rattle.ember_expr.specs.Formula.{Formula}
 use Rattle.ember_box.specs.Boxes.{Cell}
 use Rattle.ember_box.specs.Near.{near, is_near, tri_at, no_tri}
 use Rattle.ember_leaf.specs.declared.kept.Kept.{Kept}
 use Rattle.ember_leaf.specs.Written.{AtRegion, unowned, even, written}
-use Rattle.ember_leaf.specs.Scenes.{IsWritten}
+use Rattle.ember_leaf.specs.Scenes.{IsWritten, HasOneValue}
 use Rattle.ember_text.specs.Texts.{seen}
+use Rattle.ember_meaning.specs.Lines.{seen as counts_ahead}
 use Rattle.ember_text.specs.Documents.{written_face}
 use Rattle.ember_trace.proofs.CutRegions.{IsCutOut, region_cut}
-use Rattle.ember_meaning.specs.Cover.{IsFairAt}
-use Rattle.ember_meaning.specs.Entries.{Entry, IsListing}
-use Rattle.ember_meaning.specs.Lines.{In, here, there, Fraction, is_below, key, is_hit, is_tri_hit, tri_key, tri_hits, Placed}
-use Rattle.ember_meaning.specs.Regular.{place, IsGeneral, IsGeneralLine, IsRegular, IsRegularLine, IsFalseOutside, HasMeaning, HaveMeaningOnLines}
+use Rattle.ember_meaning.specs.Cover.{IsFairAt, is_in_box}
+use Rattle.ember_meaning.specs.Entries.{Entry, IsListing, has_inside, is_hit_at}
+use Rattle.ember_meaning.specs.Lines.{In, here, there, Fraction, is_below, key, is_hit, is_tri_hit, tri_key, tri_hits, Placed, onward, beyond}
+use Rattle.ember_meaning.specs.Regular.{place, SomeHit, IsGeneral, IsGeneralLine, IsRegular, IsRegularLine, IsFalseOutside, HasMeaning, HaveMeaningOnLines}
 use Rattle.ember_meaning.proofs.Entries.{one_holds, listing}
 use Rattle.ember_meaning.proofs.Fractions.{fractions_order}
 use Rattle.ember_meaning.proofs.Meaning.{meaning_along, first}
-use Rattle.ember_meaning.proofs.Members.{in_map, source, in_filter, giver}
+use Rattle.ember_meaning.proofs.Members.{in_map, source, in_filter, giver, stands, any_in, passing}
 use Rattle.ember_meaning.proofs.Owners.{IsOf, entry_of, support_is, inside_tri, owned}
 use Rattle.ember_meaning.proofs.Owners.{first as first_only}
+use Rattle.ember_meaning.proofs.Tree.{leaves_count}
+use Rattle.ember_meaning.proofs.Steps.{before_place, after_place}
+use Rattle.ember_meaning.proofs.Beside.{before_is, after_is}
+use Rattle.ember_meaning.proofs.Held.{has_point, in_root, all_in, lost, none_both}
 use Rattle.ember_meaning.proofs.Turned.{key-turned, is_hit-turned}
 
 -- ---- members
@@ -122,17 +139,18 @@ module _ (scene : List Tri) (x : Formula) (ks : List Kept) (cs : List Cell) (es 
           subst (λ c. (not (is_below a c) && not (is_below c a)) ≡ true) (sym e) (ap (λ c. not c && not c) (fractions_order.irreflexive a))
 
   -- ---- a general line is regular
-  regular : (t : Tri) → In t (tri_hits k p scene) → IsGeneral scene x k p cs es t → IsRegular scene x k p cs es t
-  regular t i g =
+  regular : (count : ℕ) → IsScene scene count → (t : Tri) → In t (tri_hits k p scene) → IsGeneral scene x k p cs es t → IsRegular scene x k p cs es t
+  regular count valid t i g =
       record {
         fair = g.fair;
-        some_hit = g.some_hit;
-        crosses = λ e j h.
-            let o = of e j in let n = cut_out scene cs e o in
-            ap (λ (s : Plane). is_zero (along s k)) n.support ∙ g.slopes (tri_of scene cs e o) (tri_in scene cs e o) n.normal (sym (ap (λ (s : Plane). value_at s at) n.support) ∙ (inside_parts e.face at h).1);
+        some_hit = by (cases_Bool (list_any (λ c. is_in_box c at) cs));
+        crosses = slope;
         owner_first = λ e j h own m l'. first_only scene cs at e (of e j) h (one_holds scene cs at weight l.listed) (fair_at e j) own m l';
         first_owner = λ e j h least. owned scene cs at e (of e j) h (fair_at e j) least;
-        beside = g.beside;
+        beside = λ e before after j h s.
+            let o = of e j in let n = slope e j h in
+            let r : IsRegion (near scene e.cell) e.cell e.face = record { tri = e.tri; regions = o.faces; are_regions = o.are_regions; place = o.place; here = o.here } in
+            (before_is scene count e.cell valid e.face r x before after s at h k n (onward_seen) seen_before g.clear_before, after_is scene count e.cell valid e.face r x before after s at h k n (beyond_seen) seen_after g.clear_after);
       }
     where
       at : Spot
@@ -144,16 +162,78 @@ module _ (scene : List Tri) (x : Formula) (ks : List Kept) (cs : List Cell) (es 
       fair_at : (e : Entry) → In e es → IsFairAt scene at e.cell
       fair_at e j = every_in (λ c. IsFairAt scene at c) cs e.cell g.fair (let o = of e j in o.listed)
 
+      slope : (e : Entry) → In e es → is_inside e.face at ≡ true → is_zero (along e.face.support k) ≡ false
+      slope e j h =
+          let o = of e j in let n = cut_out scene cs e o in
+          ap (λ (s : Plane). is_zero (along s k)) n.support ∙ g.slopes (tri_of scene cs e o) (tri_in scene cs e o) n.normal (sym (ap (λ (s : Plane). value_at s at) n.support) ∙ (inside_parts e.face at h).1)
+
+      hits : (not (is_flat t) ≡ true) × (is_hit k p (face_of t) ≡ true)
+      hits =
+          and_parts (not (is_flat t)) (is_hit k p (face_of t)) (in_filter (is_tri_hit k p) scene t i)
+
+      flat : is_flat t ≡ false
+      flat = not-true (is_flat t) hits.0
+
+      held : (not (is_zero (along (face_of t).support k)) ≡ true) × (is_inside (face_of t) at ≡ true)
+      held = and_parts (not (is_zero (along (face_of t).support k))) (is_inside (face_of t) at) hits.1
+
+      crossed : is_zero (along (face_of t).support k) ≡ false
+      crossed = not-true (is_zero (along (face_of t).support k)) held.0
+
+      positive : pos 0 <ℤ at.w
+      positive = (inside_parts (face_of t) at held.1).0
+
       weight : pos 0 ≤ℤ at.w
-      weight =
-          let h = and_parts (not (is_flat t)) (is_hit k p (face_of t)) (in_filter (is_tri_hit k p) scene t i) in
-          let q = and_parts (not (is_zero (along (face_of t).support k))) (is_inside (face_of t) at) h.1 in
-          let w = (inside_parts (face_of t) at q.1).0 in omega (arith, linear, w)
+      weight = let w = positive in omega (arith, linear, w)
+
+      closed : is_in_closed (face_of t) at ≡ true
+      closed = inside_closed (face_of t) at held.1
+
+      tri : In t scene
+      tri = of_filter (is_tri_hit k p) scene t i
+
+      onward_seen : List ℤ
+      onward_seen = counts_ahead k (onward is_below (tri_key k p) (tri_key k p t) (tri_hits k p scene))
+
+      seen_before : Eventually (λ m. vector k scene (moved (scaled (pos m) at) k (negsuc 0)) ≡ onward_seen)
+      seen_before = before_place scene k p (face_of t) crossed
+
+      beyond_seen : List ℤ
+      beyond_seen = counts_ahead k (beyond is_below (tri_key k p) (tri_key k p t) (tri_hits k p scene))
+
+      seen_after : Eventually (λ m. vector k scene (moved (scaled (pos m) at) k (pos 1)) ≡ beyond_seen)
+      seen_after = after_place scene k p (face_of t) crossed
+
+      -- where a listed leaf holds the place, t is near it
+      near_hit : (c : Cell) → In c cs → is_in_box c at ≡ true → SomeHit scene x k p cs es t
+      near_hit c j h =
+          let n = near_point c t at flat (has_point c at positive h) closed in
+          let q = stands (near scene c) t (to_filter (λ u. is_near c u) scene t tri n) in
+          let e = get_or_from_slice_get (near scene c) q.place t no_tri q.is in
+          record { tri = q.place; is_hit = any_in (λ d. is_in_box d at && has_inside (near scene d) q.place at) cs c j (and_from (is_in_box c at) (has_inside (near scene c) q.place at) h (and_from (nat_lt q.place (length (near scene c))) (not (is_flat (tri_at (near scene c) q.place)) && is_inside (face_of (tri_at (near scene c) q.place)) at) (lt-ltb q.place (length (near scene c)) q.below) (subst (λ u. (not (is_flat u) && is_inside (face_of u) at) ≡ true) (sym e) (and_from (not (is_flat t)) (is_inside (face_of t) at) (ap not flat) held.1)))) }
+
+      one_value : (c : Cell) → HasOneValue scene x c → is_in_box c at ≡ true → truth onward_seen x ≡ truth beyond_seen x
+      one_value c v h =
+          told (negsuc 0) onward_seen seen_before g.clear_before ∙ sym (told (pos 1) beyond_seen seen_after g.clear_after)
+        where
+          told : (e : ℤ) (w : List ℤ) → Eventually (λ m. vector k scene (moved (scaled (pos m) at) k e) ≡ w) → Eventually (λ m. AreClear (faces_of scene) (moved (scaled (pos m) at) k e)) → truth w x ≡ v.value
+          told e w a b =
+              let s = (v.beside at (has_point c at positive h)).steps k e in let m = a.from + b.from + s.from in
+              ap (λ u. truth u x) (sym (a.holds m (omega arith))) ∙ s.holds m (omega arith) (b.holds m (omega arith)) k
+
+      by : (list_any (λ c. is_in_box c at) cs ≡ true) ⊎ (list_any (λ c. is_in_box c at) cs ≡ false) → SomeHit scene x k p cs es t ⊎ (((j : ℕ) → is_hit_at scene cs at j ≡ false) × (truth onward_seen x ≡ truth beyond_seen x))
+      by (inl h) = let q = passing (λ c. is_in_box c at) cs h in inl (near_hit q.at q.member q.holds)
+      by (inr h) =
+          let q = lost (λ c. is_in_box c at) l.listed (some (leaves_count scene (left root) root at weight) (in_root t at (all_in (λ u. IsValidTri u) scene t valid.valid tri) flat closed positive)) h in
+          inr (λ j. none_both (λ c. is_in_box c at) (λ c. has_inside (near scene c) j at) cs h, one_value q.at q.has q.holds)
+        where
+          some : {n : ℕ} {b : Bool} → n ≡ number b → b ≡ true → 0 < n
+          some e h = let o = ap number h in omega (arith, e, o)
 
 -- ---- the meaning
-pub meaning_of_written : (scene : List Tri) (x : Formula) (ks : List Kept) → IsWritten scene x ks → IsFalseOutside x → HaveMeaningOnLines scene x ks
-meaning_of_written scene x ks w o k p r =
+pub meaning_of_written : (scene : List Tri) (count : ℕ) (x : Formula) (ks : List Kept) → IsScene scene count → IsWritten scene x ks → IsFalseOutside x → HaveMeaningOnLines scene x ks
+meaning_of_written scene count x ks v w o k p r =
     let l = listing scene x w in
     let is : IsListing scene x ks l.cells l.entries = record { listed = l.listed; are_entries = l.are_entries; are_written = l.are_written } in
-    let m = meaning_along scene x k p l.cells l.entries ks l.listed l.are_entries l.are_written o (record { regular = λ t i. regular scene x ks l.cells l.entries is k p t i (r l.cells l.entries is t i); placed = placed scene x ks l.cells l.entries is k p }) (record { num = pos 0; den = 0 }) in
+    let m = meaning_along scene x k p l.cells l.entries ks l.listed l.are_entries l.are_written o (record { regular = λ t i. regular scene x ks l.cells l.entries is k p count v t i (r l.cells l.entries is t i); placed = placed scene x ks l.cells l.entries is k p }) (record { num = pos 0; den = 0 }) in
     subst (λ q. HasMeaning scene x ks k k q) (first k p) m

@@ -16,4 +16,5 @@ pub mod Meaning
 pub mod Owners
 pub mod Steps
 pub mod Beside
+pub mod Held
 pub mod General

@@ -60,12 +60,13 @@ giver {R = R} y (more {x = x} {xs = xs} {ys = us} {zs = vs} r e) i =
 pub record Stands {X : Type 0} (xs : List X) (x : X) : Type 0 where
   pub place : ℕ
   pub is : slice_get xs place ≡ Some x
+  pub below : place < length xs
 
 pub stands : {X : Type 0} (xs : List X) (x : X) → In x xs → Stands xs x
 stands [] x i = elim i [ ]
-stands (a ∷ xs) x here = record { place = 0; is = refl }
+stands (a ∷ xs) x here = record { place = 0; is = refl; below = omega arith }
 stands (a ∷ xs) x (there i) =
-    let s = stands xs x i in record { place = suc s.place; is = s.is }
+    let s = stands xs x i in record { place = suc s.place; is = s.is; below = (let l = s.below in omega (arith, l)) }
 
 in_from : (a n i : ℕ) → In i (range_with_len a n) → i < a + n
 in_from a zero i h = elim h [ ]

@@ -1,5 +1,6 @@
 -- What is owed at the hits of a line for the written regions to wind there as the expression says
-use Rattle.std.specs.Prelude.{◌⊎◌, ◌≡◌, ℕ, ◌<◌, Bool, true, false, cond, List, [], map, filter, replicate, ℤ, pos}
+use Rattle.std.specs.Prelude.{◌⊎◌, ◌≡◌, ℕ, ◌<◌, Bool, true, false, cond, List, [], map, filter, replicate, ℤ, pos, negsuc}
+use Rattle.ember_algebra.specs.Large.{Eventually}
 use Rattle.ember_algebra.specs.Relations.{Each}
 use Rattle.ember_algebra.specs.Sign.{is_positive, is_zero}
 use Rattle.ember_model.specs.declared.tri.Tri.{Tri}
@@ -8,7 +9,9 @@ use Rattle.ember_model.specs.declared.point.Axis.{Axis}
 use Rattle.ember_model.specs.declared.face.Face.{Face}
 use Rattle.ember_model.specs.Planes.{value_at, support_of, along, main_axis}
 use Rattle.ember_model.specs.Faces.{is_inside, is_flat, face_of, hit}
-use Rattle.ember_model.specs.Meshes.{wind, vector}
+use Rattle.ember_model.specs.Meshes.{wind, vector, faces_of}
+use Rattle.ember_model.specs.Points.{scaled, moved}
+use Rattle.ember_model.specs.Clear.{AreClear}
 use Rattle.ember_model.specs.Owners.{IsOwner}
 use Rattle.ember_model.specs.Sides.{IsSides}
 use Rattle.ember_expr.specs.Formula.{Formula}
@@ -79,11 +82,9 @@ module _ (scene : List Tri) (x : Formula) (k : Axis) (p : Spot) (cs : List Cell)
     pub fair : IsFairInAll scene cs place
     -- no triangle's plane that is 0 at the place holds the line
     pub slopes : (u : Tri) → In u scene → is_flat u ≡ false → value_at (support_of u) place ≡ pos 0 → is_zero (along (support_of u) k) ≡ false
-    -- the leaf that holds the place is listed, and some triangle near it is hit there; or no listed
-    -- leaf holds it, and the expression has one value there
-    pub some_hit : SomeHit ⊎ (((j : ℕ) → is_hit_at scene cs place j ≡ false) × (truth_before ≡ truth_after))
-    -- just before and just after the hit the expression is as on the sides of a region that holds it
-    pub beside : (e : Entry) (before after : List ℤ) → In e es → is_inside e.face place ≡ true → IsSides scene e.face before after → (truth_before ≡ before_hit (along e.face.support k) (truth_ahead e.face before after) (truth_back e.face before after)) × (truth_after ≡ after_hit (along e.face.support k) (truth_ahead e.face before after) (truth_back e.face before after))
+    -- the points directly before and directly after the place are clear
+    pub clear_before : Eventually (λ m. AreClear (faces_of scene) (moved (scaled (pos m) place) k (negsuc 0)))
+    pub clear_after : Eventually (λ m. AreClear (faces_of scene) (moved (scaled (pos m) place) k (pos 1)))
 
 -- along the line through p the entries are regular, and a written face is hit only where a triangle is
 pub record IsRegularLine (scene : List Tri) (x : Formula) (k : Axis) (p : Spot) (cs : List Cell) (es : List Entry) (ws : List Kept) : Type 0 where

@@ -2,4 +2,4 @@ use Rattle.ember_meaning.proofs.General.{meaning_of_written}
 use Rattle.ember_meaning.proofs.law.written_regions_have_their_meaning.Goals as goal
 
 pub returns : goal.returns
-returns c = meaning_of_written
+returns c = λ scene. meaning_of_written scene 64
