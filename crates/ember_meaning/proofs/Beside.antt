@@ -9,9 +9,9 @@ use Rattle.ember_model.specs.declared.plane.Plane.{Plane}
 use Rattle.ember_model.specs.declared.point.Spot.{Spot}
 use Rattle.ember_model.specs.declared.point.Axis.{Axis}
 use Rattle.ember_model.specs.declared.face.Face.{Face}
-use Rattle.ember_model.specs.Planes.{support_of, along, main_axis}
+use Rattle.ember_model.specs.Planes.{along, main_axis}
 use Rattle.ember_model.specs.Points.{scaled, moved}
-use Rattle.ember_model.specs.Faces.{is_inside, is_flat}
+use Rattle.ember_model.specs.Faces.{is_inside}
 use Rattle.ember_model.specs.Clear.{AreClear}
 use Rattle.ember_model.specs.Meshes.{faces_of, vector, IsScene}
 use Rattle.ember_model.specs.Sides.{IsSides}

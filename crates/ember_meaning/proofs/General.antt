@@ -1,8 +1,8 @@
 -- The meaning of the written regions of a scene on a general line.
-use Rattle.std.proofs.Common.{◌≡◌, ℕ, zero, suc, pred, ◌<◌, refl, ap, ◌∙◌, sym, subst, List, [], ◌∷◌, map, length, Bool, true, false, not, ◌&&◌, cond, ◌⊎◌, inl, inr, ⊎_elim, arith, ℤ, pos, negsuc, nat_lt, ◌+◌, ◌*ℤ◌, ◌<ℤ◌, ◌≤ℤ◌, neg_ℤ, unsigned_abs}
+use Rattle.std.proofs.Common.{◌≡◌, ℕ, zero, suc, pred, ◌<◌, refl, ap, ◌∙◌, sym, subst, List, [], ◌∷◌, map, length, Bool, true, false, not, ◌&&◌, cond, ◌⊎◌, inl, inr, arith, ℤ, pos, negsuc, nat_lt, ◌+◌, ◌*ℤ◌, ◌<ℤ◌, ◌≤ℤ◌, neg_ℤ, unsigned_abs}
 use Rattle.std.specs.List.{filter, list_any}
 use Rattle.std.proofs.lemmas.Option.{get_or_from_slice_get}
-use Rattle.std.proofs.lemmas.Bool.{cases_Bool, lt-ltb, false≢true, and_parts, and_from, not-true}
+use Rattle.std.proofs.lemmas.Bool.{cases_Bool, lt-ltb, and_parts, and_from, not-true}
 use Rattle.ember_algebra.specs.Relations.{Every}
 use Rattle.ember_algebra.specs.Sign.{sign, is_zero}
 use Rattle.ember_algebra.proofs.Laws.{linear}
@@ -11,7 +11,7 @@ use Rattle.ember_model.specs.declared.plane.Plane.{Plane}
 use Rattle.ember_model.specs.declared.point.Spot.{Spot}
 use Rattle.ember_model.specs.declared.point.Axis.{Axis}
 use Rattle.ember_model.specs.declared.face.Face.{Face}
-use Rattle.ember_model.specs.Planes.{value_at, support_of, along}
+use Rattle.ember_model.specs.Planes.{value_at, along}
 use Rattle.ember_model.specs.Faces.{is_inside, is_in_closed, is_flat, face_of, hit}
 use Rattle.ember_model.specs.Points.{scaled, moved}
 use Rattle.ember_model.specs.Clear.{AreClear}
@@ -38,7 +38,7 @@ use Rattle.ember_trace.proofs.CutRegions.{IsCutOut, region_cut}
 use Rattle.ember_meaning.specs.Cover.{IsFairAt, is_in_box}
 use Rattle.ember_meaning.specs.Entries.{Entry, IsListing, has_inside, is_hit_at}
 use Rattle.ember_meaning.specs.Lines.{In, here, there, Fraction, is_below, key, is_hit, is_tri_hit, tri_key, tri_hits, Placed, onward, beyond}
-use Rattle.ember_meaning.specs.Regular.{place, SomeHit, IsGeneral, IsGeneralLine, IsRegular, IsRegularLine, IsFalseOutside, HasMeaning, HaveMeaningOnLines}
+use Rattle.ember_meaning.specs.Regular.{place, SomeHit, IsGeneral, IsRegular, IsFalseOutside, HasMeaning, HaveMeaningOnLines}
 use Rattle.ember_meaning.proofs.Entries.{one_holds, listing}
 use Rattle.ember_meaning.proofs.Fractions.{fractions_order}
 use Rattle.ember_meaning.proofs.Meaning.{meaning_along, first}

@@ -1,11 +1,10 @@
 -- The leaf that holds the place of a hit is listed, and the triangle is near it; or the expression has one value there.
-use Rattle.std.proofs.Common.{◌≡◌, ℕ, zero, suc, ◌+◌, ◌<◌, ◌≤◌, refl, ap, ◌∙◌, sym, subst, List, [], ◌∷◌, length, Bool, true, false, not, ◌&&◌, ◌||◌, cond, nat_lt, ◌⊎◌, inl, inr, ⊎_elim, arith, ℤ, pos, negsuc, neg_ℤ, All, ◌*ℤ◌, ◌<ℤ◌, ◌≤ℤ◌}
+use Rattle.std.proofs.Common.{◌≡◌, ℕ, ◌+◌, ◌<◌, refl, ap, sym, List, [], ◌∷◌, Bool, true, false, ◌&&◌, ◌||◌, cond, ◌⊎◌, inl, inr, arith, ℤ, pos, negsuc, neg_ℤ, All, ◌*ℤ◌, ◌<ℤ◌, ◌≤ℤ◌}
 use borrow.Author.Differences.{ints}
 use Rattle.std.specs.Prelude.{int_le, int_lt}
-use Rattle.std.specs.List.{filter, count_by, list_any}
-use Rattle.std.proofs.lemmas.Bool.{cases_Bool, false≢true, and_parts, and_from, lt-ltb}
+use Rattle.std.specs.List.{count_by, list_any}
+use Rattle.std.proofs.lemmas.Bool.{cases_Bool, false≢true, and_parts, and_from}
 use Rattle.std.proofs.lemmas.List.Sums.{sum_by-cons}
-use Rattle.ember_algebra.specs.Large.{Eventually}
 use Rattle.ember_algebra.proofs.Laws.{linear}
 use Rattle.ember_model.specs.declared.point.Spot.{Spot}
 use Rattle.ember_model.specs.declared.point.Axis.TheVariants.{X, Y, Z}
@@ -20,7 +19,6 @@ use Rattle.ember_ref.proofs.NearPoints.{HasPoint, past_corners}
 use Rattle.ember_meaning.specs.Cover.{is_between, is_in_box}
 use Rattle.ember_meaning.specs.Entries.{Without, ends, keeps, drops}
 use Rattle.ember_meaning.specs.Lines.{In, here, there}
-use Rattle.ember_meaning.proofs.Members.{Passes}
 
 -- ---- the half-open box lies in the closed one
 le_fact : (a b : ℤ) → int_le a b ≡ true → a ≤ℤ b

@@ -1,15 +1,14 @@
 -- Of the regions that hold a place just those of the first triangle there are owned; the faces of
 -- all of them are hit where their triangles are.
-use Rattle.std.proofs.Common.{◌≡◌, ℕ, zero, suc, ◌+◌, ◌<◌, ◌≤◌, refl, ap, ◌∙◌, sym, subst, List, [], ◌∷◌, map, length, Bool, true, false, not, ◌&&◌, cond, nat_lt, Some, slice_get, ℤ, pos, ◌≤ℤ◌, ◌⊎◌, inl, inr, ⊎_elim, arith}
-use Rattle.std.specs.List.{filter, count_by, list_any, range_with_len}
-use Rattle.std.proofs.lemmas.Bool.{cases_Bool, false≢true, and_parts, and_from, lt-ltb, ltb-true, not-true}
+use Rattle.std.proofs.Common.{◌≡◌, ℕ, ◌<◌, ◌≤◌, refl, ap, ◌∙◌, sym, subst, List, length, Bool, true, false, not, ◌&&◌, nat_lt, Some, slice_get, ⊎_elim, arith}
+use Rattle.std.specs.List.{count_by}
+use Rattle.std.proofs.lemmas.Bool.{cases_Bool, and_parts, and_from, lt-ltb, ltb-true, not-true}
 use Rattle.std.proofs.lemmas.Option.{slice_get-get_or, get_or_from_slice_get}
-use Rattle.ember_algebra.specs.Sign.{is_zero}
 use Rattle.ember_model.specs.declared.tri.Tri.{Tri}
 use Rattle.ember_model.specs.declared.point.Spot.{Spot}
 use Rattle.ember_model.specs.declared.face.Face.{Face}
-use Rattle.ember_model.specs.Planes.{value_at, support_of}
-use Rattle.ember_model.specs.Faces.{is_inside, is_in_closed, is_flat, face_of, Contains}
+use Rattle.ember_model.specs.Planes.{support_of}
+use Rattle.ember_model.specs.Faces.{is_inside, is_flat, face_of}
 use Rattle.ember_model.specs.Owners.{is_coplanar, IsOwner}
 use Rattle.ember_model.proofs.SignTests.{clash}
 use Rattle.ember_box.specs.Boxes.{Cell}
@@ -21,11 +20,11 @@ use Rattle.ember_trace.proofs.BoxedRegions.{region_inside}
 use Rattle.ember_trace.proofs.CutRegions.{IsCutOut, region_cut}
 use Rattle.ember_trace.proofs.FlatPlanes.{lies_flat, shared_face}
 use Rattle.ember_trace.proofs.SharedPlanes.{on_plane}
-use Rattle.ember_meaning.specs.Cover.{is_in_box, IsFairAt, IsFairInAll, hits}
+use Rattle.ember_meaning.specs.Cover.{is_in_box, IsFairAt}
 use Rattle.ember_meaning.specs.Entries.{Entry, entry, IsEntries, has_inside, is_hit_at}
-use Rattle.ember_meaning.specs.Lines.{In, here, there}
+use Rattle.ember_meaning.specs.Lines.{In}
 use Rattle.ember_meaning.proofs.Leaf.{leaf_count}
-use Rattle.ember_meaning.proofs.Members.{in_map, source, giver, stands, in_range, any_in, Passes, passing, only_one}
+use Rattle.ember_meaning.proofs.Members.{source, giver, stands, in_range, any_in, Passes, passing, only_one}
 use Rattle.ember_meaning.proofs.Owned.{count_in}
 
 -- ---- where an entry comes from

@@ -1,15 +1,15 @@
 -- Directly before and directly after a hit the winding numbers are those of the hits from it on, and of the hits beyond it.
-use Rattle.std.proofs.Common.{◌≡◌, ℕ, zero, suc, pred, ◌+◌, ◌*◌, ◌<◌, ◌≤◌, refl, ap, ◌∙◌, sym, subst, List, [], ◌∷◌, Bool, true, false, not, cond, ℤ, pos, negsuc, ◌+ℤ◌, ◌-ℤ◌, ◌*ℤ◌, neg_ℤ, ◌<ℤ◌, ◌≤ℤ◌, unsigned_abs, ◌⊎◌, inl, inr, arith}
+use Rattle.std.proofs.Common.{◌≡◌, ℕ, zero, suc, pred, refl, ap, ◌∙◌, sym, List, [], ◌∷◌, Bool, true, false, not, cond, ℤ, pos, negsuc, ◌+ℤ◌, ◌-ℤ◌, ◌*ℤ◌, ◌<ℤ◌, ◌≤ℤ◌, unsigned_abs, arith}
 use borrow.Author.Differences.{ints}
 use Rattle.std.specs.Prelude.{int_lt}
 use Rattle.std.specs.List.{filter}
 use Rattle.std.proofs.lemmas.Int.{by_lt_z}
 use Rattle.ember_algebra.specs.Large.{Eventually}
-use Rattle.ember_algebra.specs.Sign.{sign, is_zero}
+use Rattle.ember_algebra.specs.Sign.{is_zero}
 use Rattle.ember_algebra.proofs.Laws.{linear}
 use Rattle.ember_algebra.proofs.Large.{eventually_both, eventually_map}
 use Rattle.ember_algebra.proofs.Order.{mul_le, pos_mul}
-use Rattle.ember_algebra.proofs.Ring.{◌⊕◌, ◌⊖◌, ◌⊗◌, ◌≈◌, neg, num, solve, cancels}
+use Rattle.ember_algebra.proofs.Ring.{◌⊕◌, ◌⊖◌, ◌⊗◌, ◌≈◌, num, solve, cancels}
 use Rattle.ember_model.specs.declared.tri.Tri.{Tri}
 use Rattle.ember_model.specs.declared.point.Spot.{Spot}
 use Rattle.ember_model.specs.declared.point.Axis.{Axis}

@@ -1,7 +1,6 @@
 -- What is owed at the hits of a line for the written regions to wind there as the expression says
-use Rattle.std.specs.Prelude.{◌⊎◌, ◌≡◌, ℕ, ◌<◌, Bool, true, false, cond, List, [], map, filter, replicate, ℤ, pos, negsuc}
+use Rattle.std.specs.Prelude.{◌⊎◌, ◌≡◌, ℕ, ◌<◌, Bool, true, false, cond, List, map, filter, replicate, ℤ, pos, negsuc}
 use Rattle.ember_algebra.specs.Large.{Eventually}
-use Rattle.ember_algebra.specs.Relations.{Each}
 use Rattle.ember_algebra.specs.Sign.{is_positive, is_zero}
 use Rattle.ember_model.specs.declared.tri.Tri.{Tri}
 use Rattle.ember_model.specs.declared.point.Spot.{Spot}
@@ -23,7 +22,7 @@ use Rattle.ember_leaf.specs.Written.{front}
 use Rattle.ember_text.specs.Documents.{written_face}
 use Rattle.ember_meaning.specs.Cover.{IsFairInAll}
 use Rattle.ember_meaning.specs.Entries.{Entry, is_hit_at, IsListing}
-use Rattle.ember_meaning.specs.Lines.{In, Fraction, is_below, key, is_hit, Placed, beyond, onward, tri_key, tri_hits, seen, one_if}
+use Rattle.ember_meaning.specs.Lines.{In, is_below, key, is_hit, Placed, beyond, onward, tri_key, tri_hits, seen, one_if}
 
 -- the winding numbers behind a region, of those before and after it along its main axis
 abbrev pub behind : Face → List ℤ → List ℤ → List ℤ
