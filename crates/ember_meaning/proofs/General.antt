@@ -35,11 +35,13 @@ use Rattle.ember_text.specs.Texts.{seen}
 use Rattle.ember_meaning.specs.Lines.{seen as counts_ahead}
 use Rattle.ember_text.specs.Documents.{written_face}
 use Rattle.ember_trace.proofs.CutRegions.{IsCutOut, region_cut}
-use Rattle.ember_meaning.specs.Cover.{IsFairAt, is_in_box}
-use Rattle.ember_meaning.specs.Entries.{Entry, IsListing, has_inside, is_hit_at}
+use Rattle.ember_meaning.specs.Lines.{one_if}
+use Rattle.ember_meaning.specs.Cover.{IsFairAt, IsFairInAll, is_in_box}
+use Rattle.ember_meaning.specs.Entries.{Entry, IsListing, has_inside, is_hit_at, Without, ends, keeps, drops}
 use Rattle.ember_meaning.specs.Lines.{In, here, there, Fraction, is_below, key, is_hit, is_tri_hit, tri_key, tri_hits, Placed, onward, beyond}
-use Rattle.ember_meaning.specs.Regular.{place, SomeHit, IsGeneral, IsRegular, IsFalseOutside, HasMeaning, HaveMeaningOnLines}
+use Rattle.ember_meaning.specs.Regular.{place, SomeHit, IsGeneralAt, IsRegular, IsFalseOutside, HasMeaning, HaveMeaningOnLines}
 use Rattle.ember_meaning.proofs.Entries.{one_holds, listing}
+use Rattle.ember_law.proofs.Vectors.{axes_law}
 use Rattle.ember_meaning.proofs.Fractions.{fractions_order}
 use Rattle.ember_meaning.proofs.Meaning.{meaning_along, first}
 use Rattle.ember_meaning.proofs.Members.{in_map, source, in_filter, giver, stands, any_in, passing}
@@ -74,6 +76,11 @@ to_filter {X} q (a ∷ xs) x (there i) h = by (q a) (to_filter q xs x i h)
     by : (b : Bool) → In x (filter q xs) → In x (cond b (a ∷ filter q xs) (filter q xs))
     by true j = there j
     by false j = j
+
+every_without : {X : Type 0} {P : X → Type 0} (Q : X → Type 0) {xs ys : List X} → Without P xs ys → Every Q xs → Every Q ys
+every_without Q ends h = h
+every_without Q (keeps w) h = (h.0, every_without Q w h.1)
+every_without Q (drops d w) h = every_without Q w h.1
 
 every_in : {X : Type 0} (P : X → Type 0) (xs : List X) (x : X) → Every P xs → In x xs → P x
 every_in P [] x h i = elim i [ ]
@@ -139,10 +146,10 @@ module _ (scene : List Tri) (x : Formula) (ks : List Kept) (cs : List Cell) (es 
           subst (λ c. (not (is_below a c) && not (is_below c a)) ≡ true) (sym e) (ap (λ c. not c && not c) (fractions_order.irreflexive a))
 
   -- ---- a general line is regular
-  regular : (count : ℕ) → IsScene scene count → (t : Tri) → In t (tri_hits k p scene) → IsGeneral scene x k p cs es t → IsRegular scene x k p cs es t
+  regular : (count : ℕ) → IsScene scene count → (t : Tri) → In t (tri_hits k p scene) → IsGeneralAt scene k (hit (face_of t).support k p) → IsRegular scene x k p cs es t
   regular count valid t i g =
       record {
-        fair = g.fair;
+        fair = listed_fair;
         some_hit = by (cases_Bool (list_any (λ c. is_in_box c at) cs));
         crosses = slope;
         owner_first = λ e j h own m l'. first_only scene cs at e (of e j) h (one_holds scene cs at weight l.listed) (fair_at e j) own m l';
@@ -156,11 +163,14 @@ module _ (scene : List Tri) (x : Formula) (ks : List Kept) (cs : List Cell) (es 
       at : Spot
       at = place scene x k p cs es t
 
+      listed_fair : IsFairInAll scene cs at
+      listed_fair = every_without (λ c. IsFairAt scene at c) l.listed g.fair
+
       of : (e : Entry) → In e es → IsOf scene cs e
       of e j = entry_of scene cs es e l.are_entries j
 
       fair_at : (e : Entry) → In e es → IsFairAt scene at e.cell
-      fair_at e j = every_in (λ c. IsFairAt scene at c) cs e.cell g.fair (let o = of e j in o.listed)
+      fair_at e j = every_in (λ c. IsFairAt scene at c) cs e.cell listed_fair (let o = of e j in o.listed)
 
       slope : (e : Entry) → In e es → is_inside e.face at ≡ true → is_zero (along e.face.support k) ≡ false
       slope e j h =
@@ -232,8 +242,8 @@ module _ (scene : List Tri) (x : Formula) (ks : List Kept) (cs : List Cell) (es 
 
 -- ---- the meaning
 pub meaning_of_written : (scene : List Tri) (count : ℕ) (x : Formula) (ks : List Kept) → IsScene scene count → IsWritten scene x ks → IsFalseOutside x → HaveMeaningOnLines scene x ks
-meaning_of_written scene count x ks v w o k p r =
+meaning_of_written scene count x ks v w o a b p positive clear general =
     let l = listing scene x w in
     let is : IsListing scene x ks l.cells l.entries = record { listed = l.listed; are_entries = l.are_entries; are_written = l.are_written } in
-    let m = meaning_along scene x k p l.cells l.entries ks l.listed l.are_entries l.are_written o (record { regular = λ t i. regular scene x ks l.cells l.entries is k p count v t i (r l.cells l.entries is t i); placed = placed scene x ks l.cells l.entries is k p }) (record { num = pos 0; den = 0 }) in
-    subst (λ q. HasMeaning scene x ks k k q) (first k p) m
+    let m = meaning_along scene x a p l.cells l.entries ks l.listed l.are_entries l.are_written o (record { regular = λ t i. regular scene x ks l.cells l.entries is a p count v t i (general t i); placed = placed scene x ks l.cells l.entries is a p }) (record { num = pos 0; den = 0 }) in
+    subst (λ q. HasMeaning scene x ks a a q) (first a p) m ∙ ap (λ (c : List ℤ). one_if (truth c x)) (axes_law scene count v p a b positive clear)
