@@ -1,7 +1,6 @@
 -- The meaning on one line: from each of its points the faces wind as the value says, if at each hit they do.
-use Rattle.std.proofs.Common.{◌≡◌, ℕ, refl, ap, ◌∙◌, sym, List, [], ◌∷◌, map, Bool, true, false, not, ◌&&◌, cond, nat_eq, ℤ, pos, ◌+ℤ◌, ◌-ℤ◌}
+use Rattle.std.proofs.Common.{◌≡◌, ℕ, refl, ap, ◌∙◌, sym, List, [], ◌∷◌, map, Bool, true, false, not, ◌&&◌, cond, nat_eq, ℤ, pos, ◌-ℤ◌}
 use Rattle.std.specs.List.{filter}
-use Rattle.ember_algebra.specs.Sums.{total}
 use Rattle.ember_algebra.proofs.Sums.{total-map, total-filter, total_same}
 use Rattle.ember_model.specs.declared.tri.Tri.{Tri}
 use Rattle.ember_model.specs.declared.point.Spot.{Spot}

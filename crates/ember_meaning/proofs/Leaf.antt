@@ -4,7 +4,7 @@ use borrow.Author.Differences.{ints}
 use Rattle.std.specs.Prelude.{int_le, int_lt}
 use Rattle.std.specs.List.{list_all}
 use Rattle.std.proofs.lemmas.Int.{by_lt_z}
-use Rattle.ember_algebra.specs.Relations.{Each, Chain, Every}
+use Rattle.ember_algebra.specs.Relations.{Each, Chain}
 use Rattle.ember_algebra.specs.Sign.{is_zero, is_negative}
 use Rattle.ember_algebra.proofs.Laws.{linear}
 use Rattle.ember_algebra.proofs.Ring.{◌⊕◌, ◌⊖◌, ◌⊗◌, ◌≈◌, neg, num, solve, cancels}
@@ -18,7 +18,7 @@ use Rattle.ember_model.specs.Faces.{is_inside, is_flat, face_of}
 use Rattle.ember_box.specs.Boxes.{Cell, low, high}
 use Rattle.ember_box.specs.Near.{tri_at}
 use Rattle.ember_box.specs.Sums.{number}
-use Rattle.ember_box.specs.Regions.{AtWall, AtBlade, low_wall, high_wall, walls, IsRegions, blades}
+use Rattle.ember_box.specs.Regions.{AtWall, low_wall, high_wall, walls, IsRegions, blades}
 use Rattle.ember_ref.proofs.NearPoints.{coordinate}
 use Rattle.ember_meaning.specs.Cover.{hits, passes, is_in_box, IsFair}
 use Rattle.ember_meaning.proofs.Cover.{blades_count, start_count}

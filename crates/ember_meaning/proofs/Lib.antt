@@ -4,6 +4,7 @@ pub mod Leaf
 pub mod Tree
 pub mod Telescope
 pub mod Owned
+pub mod Members
 pub mod Fractions
 pub mod Entries
 pub mod OnLine
@@ -12,3 +13,8 @@ pub mod Jump
 pub mod Turned
 pub mod Places
 pub mod Meaning
+pub mod Owners
+pub mod Steps
+pub mod Beside
+pub mod Held
+pub mod General

@@ -22,15 +22,16 @@ use Rattle.ember_box.specs.Boxes.{Cell, root}
 use Rattle.ember_box.specs.Near.{near}
 use Rattle.ember_box.specs.Halving.{leaves}
 use Rattle.ember_leaf.specs.declared.kept.Kept.{Kept}
-use Rattle.ember_leaf.specs.Written.{AtRegion, unowned, even, written, front}
-use Rattle.ember_leaf.specs.Scenes.{HasOneValue, IsWritten}
+use Rattle.ember_leaf.specs.Written.{AtRegion, unowned, even, written}
+use Rattle.ember_leaf.specs.Scenes.{HasOneValue}
 use Rattle.ember_text.specs.Documents.{written_face}
 use Rattle.ember_meaning.specs.Cover.{is_in_box}
 use Rattle.ember_meaning.specs.Entries.{Entry, IsEntries, is_hit_at, Without}
-use Rattle.ember_meaning.specs.Lines.{In, here, there, total_of, one_if, Fraction, is_below, on_line, key, is_hit, amount, beyond, onward, is_same_place, is_tri_hit, tri_key, tri_hits, seen}
-use Rattle.ember_meaning.specs.Regular.{behind, before_hit, after_hit, place, truth_before, truth_after, truth_ahead, truth_back, IsRegular, IsRegularLine, IsRegularFor, IsFalseOutside, HasMeaning, HaveMeaningOnLines}
+use Rattle.ember_meaning.specs.Lines.{In, total_of, one_if, Fraction, is_below, on_line, key, is_hit, amount, beyond, onward, is_same_place, is_tri_hit, tri_key, tri_hits, seen}
+use Rattle.ember_meaning.specs.Regular.{before_hit, after_hit, place, truth_before, truth_after, truth_ahead, truth_back, IsRegular, IsRegularLine, IsFalseOutside}
 use Rattle.ember_meaning.proofs.AlongLine.{along_line, total_of-filter}
-use Rattle.ember_meaning.proofs.Entries.{entries_count, one_holds, listing}
+use Rattle.ember_meaning.proofs.Entries.{entries_count, one_holds}
+use Rattle.ember_meaning.proofs.Members.{in_map, Source, source, in_filter}
 use Rattle.ember_meaning.proofs.Owned.{IsCovered, jump_at, still_at}
 use Rattle.ember_meaning.proofs.Jump.{written_amount, written_jump, even_jump}
 use Rattle.ember_meaning.proofs.Turned.{key-turned, is_hit-turned, amount-turned}
@@ -187,31 +188,6 @@ module _ (scene : List Tri) (x : Formula) (k : Axis) (p : Spot) (cs : List Cell)
         nought : (z : ℤ) → z -ℤ z ≡ pos 0
         nought z = omega (arith, linear)
 
--- ---- members of a map and of a filter
-in_map : {S T : Type 0} (h : S → T) (xs : List S) (x : S) → In x xs → In (h x) (map h xs)
-in_map h xs x here = here
-in_map h xs x (there {xs = ys} i) = there (in_map h ys x i)
-
-record Source {S T : Type 0} (h : S → T) (xs : List S) (y : T) : Type 0 where
-  at : S
-  member : In at xs
-  is : y ≡ h at
-
-source : {S T : Type 0} (h : S → T) (xs : List S) (y : T) → In y (map h xs) → Source h xs y
-source h [] y i = elim i [ ]
-source h (x ∷ xs) y here = record { at = x; member = here; is = refl }
-source h (x ∷ xs) y (there i) =
-    let s = source h xs y i in record { at = s.at; member = there s.member; is = s.is }
-
-of_cons : {T : Type 0} (q : T → Bool) (b : Bool) (a : T) (l : List T) (x : T) → b ≡ q a → In x (cond b (a ∷ l) l) → (In x l → q x ≡ true) → q x ≡ true
-of_cons q true a l x e here f = sym e
-of_cons q true a l x e (there i) f = f i
-of_cons q false a l x e i f = f i
-
-in_filter : {T : Type 0} (q : T → Bool) (xs : List T) (x : T) → In x (filter q xs) → q x ≡ true
-in_filter q [] x i = elim i [ ]
-in_filter q (a ∷ xs) x i = of_cons q (q a) a (filter q xs) x refl i (λ j. in_filter q xs x j)
-
 -- where no triangle lies ahead all winding numbers are 0
 none_ahead : map (λ m. pos 0) meshes ≡ replicate 64 (pos 0)
 unfolding meshes
@@ -234,14 +210,7 @@ one_time : (z : ℤ) → pos 1 *ℤ z ≡ z
 one_time z = omega (arith, ints)
 
 -- the first point of a line
-first : (k : Axis) (p : Spot) → on_line k p (record { num = pos 0; den = 0 }) ≡ p
+pub first : (k : Axis) (p : Spot) → on_line k p (record { num = pos 0; den = 0 }) ≡ p
 first X p = same_spot (zero_more p.x) (one_time p.y) (one_time p.z) (one_time p.w)
 first Y p = same_spot (one_time p.x) (zero_more p.y) (one_time p.z) (one_time p.w)
 first Z p = same_spot (one_time p.x) (one_time p.y) (zero_more p.z) (one_time p.w)
-
--- the meaning of the written regions of a scene, on a line that is regular for them
-pub meaning_of_written : (scene : List Tri) (x : Formula) (ks : List Kept) → IsWritten scene x ks → IsFalseOutside x → HaveMeaningOnLines scene x ks
-meaning_of_written scene x ks w o k p r =
-    let l = listing scene x w in
-    let m = meaning_along scene x k p l.cells l.entries ks l.listed l.are_entries l.are_written o (r l.cells l.entries (record { listed = l.listed; are_entries = l.are_entries; are_written = l.are_written })) (record { num = pos 0; den = 0 }) in
-    subst (λ q. HasMeaning scene x ks k k q) (first k p) m

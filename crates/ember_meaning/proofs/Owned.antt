@@ -10,7 +10,7 @@ use Rattle.ember_box.specs.Sums.{number}
 use Rattle.ember_meaning.specs.Lines.{In, here, there, total_of}
 use Rattle.ember_meaning.proofs.Telescope.{count_same}
 
-count_in : {E : Type 0} (p : E → Bool) (es : List E) (e : E) → In e es → p e ≡ true → 0 < count_by p es
+pub count_in : {E : Type 0} (p : E → Bool) (es : List E) (e : E) → In e es → p e ≡ true → 0 < count_by p es
 count_in p es e (here {xs = xs}) h =
     omega (arith, sum_by-cons (λ x. cond (p x) 1 0) e xs, ap number h)
 count_in p es e (there {y = y} {xs = xs} i) h =

@@ -1,5 +1,5 @@
 -- Tests of a sign, and the insides of the two parts of a face.
-use Rattle.std.proofs.Common.{◌≡◌, zero, suc, refl, ap, ◌∙◌, sym, [], ◌∷◌, Bool, true, false, ◌&&◌, ℤ, pos, negsuc, neg_ℤ}
+use Rattle.std.proofs.Common.{◌≡◌, zero, suc, refl, ap, ◌∙◌, [], ◌∷◌, Bool, true, false, ◌&&◌, ℤ, pos, negsuc, neg_ℤ}
 use Rattle.std.specs.List.{list_all}
 use Rattle.std.proofs.lemmas.List.Folds.{list_all-append}
 use Rattle.std.proofs.lemmas.Bool.{false≢true}

@@ -1,5 +1,5 @@
 -- Two faces with one key on a line are hit at one place.
-use Rattle.std.proofs.Common.{◌≡◌, zero, suc, pred, refl, ap, ◌∙◌, sym, true, false, not, ◌&&◌, ℤ, pos, negsuc, ◌+ℤ◌, ◌-ℤ◌, ◌*ℤ◌, neg_ℤ, ◌<ℤ◌, unsigned_abs, arith}
+use Rattle.std.proofs.Common.{◌≡◌, suc, ap, ◌∙◌, sym, true, false, not, ◌&&◌, ℤ, pos, negsuc, ◌-ℤ◌, ◌*ℤ◌, neg_ℤ, arith}
 use borrow.Author.Differences.{ints}
 use Rattle.std.specs.Prelude.{int_lt}
 use Rattle.ember_algebra.specs.Sign.{sign, is_zero}
@@ -15,7 +15,7 @@ use Rattle.ember_model.specs.Faces.{size, is_inside, hit}
 use Rattle.ember_model.proofs.SignTests.{size_positive, nonzero_out, zero_out}
 use Rattle.ember_model.proofs.PlaneValues.{value_hit, value_scaled, size-is}
 use Rattle.ember_model.proofs.Hits.{Scales, scales, inside_scaled}
-use Rattle.ember_meaning.specs.Lines.{Fraction, is_below, key, is_same_place}
+use Rattle.ember_meaning.specs.Lines.{is_below, key, is_same_place}
 use Rattle.ember_meaning.proofs.OnLine.{size_up}
 use Rattle.ember_meaning.proofs.Parts.{on_support}
 

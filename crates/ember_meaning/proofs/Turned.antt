@@ -1,5 +1,5 @@
 -- A face that is turned: the same inside, key and hits, and the amount with the other sign.
-use Rattle.std.proofs.Common.{◌≡◌, zero, suc, pred, not, refl, ap, ◌∙◌, Bool, ◌&&◌, ℤ, pos, negsuc, ◌*ℤ◌, neg_ℤ, unsigned_abs}
+use Rattle.std.proofs.Common.{◌≡◌, zero, suc, pred, not, refl, ap, ◌∙◌, ◌&&◌, ℤ, pos, negsuc, ◌*ℤ◌, neg_ℤ, unsigned_abs}
 use Rattle.std.specs.List.{list_all}
 use Rattle.ember_algebra.specs.Sign.{sign, is_positive, is_zero, is_negative}
 use Rattle.ember_algebra.proofs.Order.{sign-neg}
@@ -12,7 +12,7 @@ use Rattle.ember_model.specs.declared.face.Face.{Face}
 use Rattle.ember_model.specs.Planes.{value_at, along, opposite}
 use Rattle.ember_model.specs.Points.{scaled, moved}
 use Rattle.ember_model.specs.Faces.{size, is_inside, hit, turned}
-use Rattle.ember_meaning.specs.Lines.{Fraction, key, is_hit, amount}
+use Rattle.ember_meaning.specs.Lines.{key, is_hit, amount}
 use Rattle.ember_meaning.proofs.Parts.{value-opposite}
 
 zero-neg : (z : ℤ) → is_zero (neg_ℤ z) ≡ is_zero z

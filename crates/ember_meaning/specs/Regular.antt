@@ -1,26 +1,29 @@
 -- What is owed at the hits of a line for the written regions to wind there as the expression says
-use Rattle.std.specs.Prelude.{◌⊎◌, ◌≡◌, ℕ, ◌<◌, Bool, true, false, cond, List, [], map, filter, replicate, ℤ, pos}
-use Rattle.ember_algebra.specs.Relations.{Each}
+use Rattle.std.specs.Prelude.{◌⊎◌, ◌≡◌, ℕ, ◌<◌, Bool, true, false, cond, List, map, filter, replicate, ℤ, pos, negsuc, ◌<ℤ◌}
+use Rattle.ember_algebra.specs.Large.{Eventually}
 use Rattle.ember_algebra.specs.Sign.{is_positive, is_zero}
 use Rattle.ember_model.specs.declared.tri.Tri.{Tri}
 use Rattle.ember_model.specs.declared.point.Spot.{Spot}
 use Rattle.ember_model.specs.declared.point.Axis.{Axis}
 use Rattle.ember_model.specs.declared.face.Face.{Face}
-use Rattle.ember_model.specs.Planes.{along, main_axis}
-use Rattle.ember_model.specs.Faces.{is_inside, face_of, hit}
-use Rattle.ember_model.specs.Meshes.{wind, vector}
+use Rattle.ember_model.specs.Planes.{value_at, support_of, along, main_axis}
+use Rattle.ember_model.specs.Faces.{is_inside, is_flat, face_of, hit}
+use Rattle.ember_model.specs.Meshes.{wind, vector, faces_of}
+use Rattle.ember_model.specs.Points.{scaled, moved}
+use Rattle.ember_model.specs.Clear.{AreClear}
 use Rattle.ember_model.specs.Owners.{IsOwner}
 use Rattle.ember_model.specs.Sides.{IsSides}
 use Rattle.ember_expr.specs.Formula.{Formula}
 use Rattle.ember_expr.specs.Truth.{truth}
-use Rattle.ember_box.specs.Boxes.{Cell}
+use Rattle.ember_box.specs.Boxes.{Cell, root}
+use Rattle.ember_box.specs.Halving.{leaves}
 use Rattle.ember_box.specs.Near.{near}
 use Rattle.ember_leaf.specs.declared.kept.Kept.{Kept}
 use Rattle.ember_leaf.specs.Written.{front}
 use Rattle.ember_text.specs.Documents.{written_face}
 use Rattle.ember_meaning.specs.Cover.{IsFairInAll}
-use Rattle.ember_meaning.specs.Entries.{Entry, is_hit_at, IsListing}
-use Rattle.ember_meaning.specs.Lines.{In, Fraction, is_below, key, is_hit, Placed, beyond, onward, tri_key, tri_hits, seen, one_if}
+use Rattle.ember_meaning.specs.Entries.{Entry, is_hit_at}
+use Rattle.ember_meaning.specs.Lines.{In, is_below, key, is_hit, Placed, beyond, onward, tri_key, tri_hits, seen, one_if}
 
 -- the winding numbers behind a region, of those before and after it along its main axis
 abbrev pub behind : Face → List ℤ → List ℤ → List ℤ
@@ -78,10 +81,21 @@ pub record IsRegularLine (scene : List Tri) (x : Formula) (k : Axis) (p : Spot) 
   pub regular : (t : Tri) → In t (tri_hits k p scene) → IsRegular scene x k p cs es t
   pub placed : (w : Face) → In w (filter (is_hit k p) (map written_face ws)) → Placed is_below (map (tri_key k p) (tri_hits k p scene)) (key k p w)
 
--- the line is regular, however the written regions are listed
-abbrev pub IsRegularFor : List Tri → Formula → List Kept → Axis → Spot → Type 0
-IsRegularFor scene x ks k p =
-    (cs : List Cell) (es : List Entry) → IsListing scene x ks cs es → IsRegularLine scene x k p cs es ks
+-- ---- general lines
+-- what is owed at a place v where a line along k meets a triangle
+pub record IsGeneralAt (scene : List Tri) (k : Axis) (v : Spot) : Type 0 where
+  -- the place is off all planes that cut in the leaves
+  pub fair : IsFairInAll scene (leaves scene root) v
+  -- no triangle's plane that is 0 at the place holds the line
+  pub slopes : (u : Tri) → In u scene → is_flat u ≡ false → value_at (support_of u) v ≡ pos 0 → is_zero (along (support_of u) k) ≡ false
+  -- the points directly before and directly after the place are clear
+  pub clear_before : Eventually (λ m. AreClear (faces_of scene) (moved (scaled (pos m) v) k (negsuc 0)))
+  pub clear_after : Eventually (λ m. AreClear (faces_of scene) (moved (scaled (pos m) v) k (pos 1)))
+
+-- the line through p along k is general at each place where it meets a triangle
+abbrev pub IsGeneralLine : List Tri → Axis → Spot → Type 0
+IsGeneralLine scene k p =
+    (t : Tri) → In t (tri_hits k p scene) → IsGeneralAt scene k (hit (face_of t).support k p)
 
 -- the expression is false where all winding numbers are 0
 abbrev pub IsFalseOutside : Formula → Type 0
@@ -92,7 +106,8 @@ abbrev pub HasMeaning : List Tri → Formula → List Kept → Axis → Axis →
 HasMeaning scene x ks a b p =
     wind a (map written_face ks) p ≡ one_if (truth (vector b scene p) x)
 
--- the written regions have their meaning at each point on a regular line
+-- the written regions have their meaning at each clear point on a general line, along the line's axis
+-- as the expression has its value along any
 abbrev pub HaveMeaningOnLines : List Tri → Formula → List Kept → Type 0
 HaveMeaningOnLines scene x ks =
-    (k : Axis) (p : Spot) → IsRegularFor scene x ks k p → HasMeaning scene x ks k k p
+    (a b : Axis) (p : Spot) → pos 0 <ℤ p.w → AreClear (faces_of scene) p → IsGeneralLine scene a p → HasMeaning scene x ks a b p

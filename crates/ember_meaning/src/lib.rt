@@ -4,4 +4,4 @@
 
 mod law;
 
-pub use law::regular_lines_have_the_meaning;
+pub use law::written_regions_have_their_meaning;

@@ -1,0 +1,118 @@
+-- Members of lists, and where they come from.
+use Rattle.std.proofs.Common.{◌≡◌, ℕ, zero, suc, ◌+◌, ◌<◌, ◌≤◌, refl, ap, ◌∙◌, sym, List, [], ◌∷◌, ◌++◌, map, length, Bool, true, false, cond, Some, slice_get, ◌||◌, ◌⊎◌, inl, inr, ⊎_elim, arith}
+use Rattle.std.specs.List.{filter, list_any, count_by, range_with_len}
+use Rattle.std.proofs.lemmas.List.Sums.{sum_by-cons}
+use Rattle.std.proofs.lemmas.Bool.{cases_Bool, false≢true, or_right}
+use Rattle.ember_algebra.specs.Relations.{Each, none, more}
+use Rattle.ember_box.specs.Sums.{number}
+use Rattle.ember_meaning.specs.Lines.{In, here, there}
+use Rattle.ember_meaning.proofs.Owned.{count_in}
+
+-- ---- members of a map and of a filter
+pub in_map : {S T : Type 0} (h : S → T) (xs : List S) (x : S) → In x xs → In (h x) (map h xs)
+in_map h xs x here = here
+in_map h xs x (there {xs = ys} i) = there (in_map h ys x i)
+
+pub record Source {S T : Type 0} (h : S → T) (xs : List S) (y : T) : Type 0 where
+  pub at : S
+  pub member : In at xs
+  pub is : y ≡ h at
+
+pub source : {S T : Type 0} (h : S → T) (xs : List S) (y : T) → In y (map h xs) → Source h xs y
+source h [] y i = elim i [ ]
+source h (x ∷ xs) y here = record { at = x; member = here; is = refl }
+source h (x ∷ xs) y (there i) =
+    let s = source h xs y i in record { at = s.at; member = there s.member; is = s.is }
+
+of_cons : {T : Type 0} (q : T → Bool) (b : Bool) (a : T) (l : List T) (x : T) → b ≡ q a → In x (cond b (a ∷ l) l) → (In x l → q x ≡ true) → q x ≡ true
+of_cons q true a l x e here f = sym e
+of_cons q true a l x e (there i) f = f i
+of_cons q false a l x e i f = f i
+
+pub in_filter : {T : Type 0} (q : T → Bool) (xs : List T) (x : T) → In x (filter q xs) → q x ≡ true
+in_filter q [] x i = elim i [ ]
+in_filter q (a ∷ xs) x i = of_cons q (q a) a (filter q xs) x refl i (λ j. in_filter q xs x j)
+
+-- ---- members of a sum of lists
+in_append : {X : Type 0} (xs ys : List X) (x : X) → In x (xs ++ ys) → In x xs ⊎ In x ys
+in_append [] ys x i = inr i
+in_append (a ∷ xs) ys x here = inl here
+in_append (a ∷ xs) ys x (there i) =
+    ⊎_elim (λ j. inl (there j)) (λ j. inr j) (in_append xs ys x i)
+
+-- the member that gives y
+pub record Giver {X Y : Type 0} (R : X → List Y → Type 0) (xs : List X) (y : Y) : Type 0 where
+  pub from : X
+  pub member : In from xs
+  pub given : List Y
+  pub gives : R from given
+  pub among : In y given
+
+pub giver : {X Y : Type 0} {R : X → List Y → Type 0} {xs : List X} {ys : List Y} (y : Y) → Each R xs ys → In y ys → Giver R xs y
+giver y none i = elim i [ ]
+giver {R = R} y (more {x = x} {xs = xs} {ys = us} {zs = vs} r e) i =
+    ⊎_elim (λ j. record { from = x; member = here; given = us; gives = r; among = j }) (λ j. later (giver y e j)) (in_append us vs y i)
+  where
+    later : Giver R xs y → Giver R (x ∷ xs) y
+    later g = record { from = g.from; member = there g.member; given = g.given; gives = g.gives; among = g.among }
+
+-- ---- places
+pub record Stands {X : Type 0} (xs : List X) (x : X) : Type 0 where
+  pub place : ℕ
+  pub is : slice_get xs place ≡ Some x
+  pub below : place < length xs
+
+pub stands : {X : Type 0} (xs : List X) (x : X) → In x xs → Stands xs x
+stands [] x i = elim i [ ]
+stands (a ∷ xs) x here = record { place = 0; is = refl; below = omega arith }
+stands (a ∷ xs) x (there i) =
+    let s = stands xs x i in record { place = suc s.place; is = s.is; below = (let l = s.below in omega (arith, l)) }
+
+in_from : (a n i : ℕ) → In i (range_with_len a n) → i < a + n
+in_from a zero i h = elim h [ ]
+in_from a (suc n) i here = omega arith
+in_from a (suc n) i (there h) = let l = in_from (a + 1) n i h in omega (arith, l)
+
+pub in_range : (n i : ℕ) → In i (range_with_len 0 n) → i < n
+in_range n i h = let l = in_from 0 n i h in omega (arith, l)
+
+-- ---- some member passes a test
+pub any_in : {X : Type 0} (p : X → Bool) (xs : List X) (x : X) → In x xs → p x ≡ true → list_any p xs ≡ true
+any_in p [] x i h = elim i [ ]
+any_in p (a ∷ xs) x here h = rw h refl
+any_in p (a ∷ xs) x (there i) h = or_right (p a) (list_any p xs) (any_in p xs x i h)
+
+pub record Passes {X : Type 0} (p : X → Bool) (xs : List X) : Type 0 where
+  pub at : X
+  pub member : In at xs
+  pub holds : p at ≡ true
+
+pub passing : {X : Type 0} (p : X → Bool) (xs : List X) → list_any p xs ≡ true → Passes p xs
+passing p [] h = absurd (false≢true h)
+passing p (x ∷ xs) h = by (cases_Bool (p x)) (λ g. passing p xs g)
+  where
+    by : (p x ≡ true) ⊎ (p x ≡ false) → (list_any p xs ≡ true → Passes p xs) → Passes p (x ∷ xs)
+    by (inl e) f = record { at = x; member = here; holds = e }
+    by (inr e) f =
+        let q = f (sym (ap (λ b. b || list_any p xs) e) ∙ h) in
+        record { at = q.at; member = there q.member; holds = q.holds }
+
+-- where at most one passes, two that do are one
+pub only_one : {X : Type 0} (p : X → Bool) (xs : List X) (x y : X) → count_by p xs ≤ 1 → In x xs → In y xs → p x ≡ true → p y ≡ true → x ≡ y
+only_one p [] x y l i j h k = elim i [ ]
+only_one p (a ∷ xs) x y l here here h k = refl
+only_one p (a ∷ xs) x y l here (there j) h k =
+    absurd (two (sum_by-cons (λ z. cond (p z) 1 0) x xs) (count_in p xs y j k) (ap number h) l)
+  where
+    two : {m n q : ℕ} → m ≡ q + n → 0 < n → q ≡ 1 → m ≤ 1 → ⊥
+    two e s q l = omega arith
+only_one p (a ∷ xs) x y l (there i) here h k =
+    absurd (two (sum_by-cons (λ z. cond (p z) 1 0) y xs) (count_in p xs x i h) (ap number k) l)
+  where
+    two : {m n q : ℕ} → m ≡ q + n → 0 < n → q ≡ 1 → m ≤ 1 → ⊥
+    two e s q l = omega arith
+only_one p (a ∷ xs) x y l (there i) (there j) h k =
+    only_one p xs x y (less (number (p a)) (sum_by-cons (λ z. cond (p z) 1 0) a xs) l) i j h k
+  where
+    less : {m n : ℕ} (q : ℕ) → m ≡ q + n → m ≤ 1 → n ≤ 1
+    less q e l = omega arith
