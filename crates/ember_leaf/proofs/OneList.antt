@@ -94,7 +94,7 @@ module _ (scene : List Tri) (f : Formula) (c : Cell) (one : HasOneValue scene f 
     none_of i ks w = each_nothing (IsRegion near c) (λ g xs r p. none_at i g xs r p) (each_region near c scene f i ks w) w.are_written
 
     -- no region is written in the box
-    pub none_written : (ks : List Kept) → IsWrittenIn scene f c near ks → ks ≡ []
+    none_written : (ks : List Kept) → IsWrittenIn scene f c near ks → ks ≡ []
     none_written ks w = each_nothing (λ i. Unit {0}) (λ i xs t p. none_of i xs p) (every_from (λ i. Unit {0}) (range_with_len 0 (length near)) (λ j i e. tt)) w
 
 -- ---- a scene
@@ -110,10 +110,18 @@ module _ (scene : List Tri) (f : Formula) (meshes : ℕ) (is : IsScene scene mes
   pub written_in_unique : (c : Cell) (us vs : List Kept) → IsWrittenIn scene f c (near scene c) us → IsWrittenIn scene f c (near scene c) vs → us ≡ vs
   written_in_unique c us vs u v = leaf_unique scene f c (near scene c) (sides_one c) us vs u v
 
+  -- where the expression has one value, it has that value on both sides of each region
+  pub value_on_sides : (c : Cell) (h : HasOneValue scene f c) (g : Face) (before after : List ℤ) → IsRegion (near scene c) c g → IsSides scene g before after → (truth before f ≡ h.value) × (truth after f ≡ h.value)
+  value_on_sides c h g before after r s = both_sides scene f c h g before after s (has_region c g r s.at s.inside)
+
+  -- so nothing is written there
+  pub nothing_written : (c : Cell) → HasOneValue scene f c → (ks : List Kept) → IsWrittenIn scene f c (near scene c) ks → ks ≡ []
+  nothing_written c h ks w = none_written scene f c h (near scene c) (has_region c) ks w
+
   gives_unique : (c : Cell) (us vs : List Kept) → LeafGives scene f c us → LeafGives scene f c vs → us ≡ vs
   gives_unique c us vs (regions u) (regions v) = written_in_unique c us vs u v
-  gives_unique c us vs (regions u) (nothing h) = none_written scene f c h (near scene c) (has_region c) us u
-  gives_unique c us vs (nothing h) (regions v) = sym (none_written scene f c h (near scene c) (has_region c) vs v)
+  gives_unique c us vs (regions u) (nothing h) = nothing_written c h us u
+  gives_unique c us vs (nothing h) (regions v) = sym (nothing_written c h vs v)
   gives_unique c us vs (nothing h) (nothing k) = refl
 
   -- those of all leaves are one list

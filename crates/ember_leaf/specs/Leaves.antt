@@ -15,10 +15,6 @@ pub record IsRegionOf (t : Tri) (f : Face) : Type 0 where
   pub normal : is_flat t ≡ false
   pub support : f.support ≡ support_of t
 
--- what was in the plane of a triangle has become what is so
-pub record StayInPlane (old new : List Face) : Type 0 where
-  pub holds : (t : Tri) → All (IsRegionOf t) old → All (IsRegionOf t) new
-
 -- a written region of triangle i, which is t
 pub record IsKeptOf (t : Tri) (i : ℕ) (k : Kept) : Type 0 where
   pub number : k.tri ≡ i

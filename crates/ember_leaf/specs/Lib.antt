@@ -1,4 +1,6 @@
+pub mod Blades
 pub mod Leaves
 pub mod Pairs
-pub mod Written
 pub mod Scenes
+pub mod Walls
+pub mod Written

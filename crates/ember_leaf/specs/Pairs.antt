@@ -1,12 +1,16 @@
 -- The values of a plane at the corners of a triangle, and how triangles lie to it by them
-use Rattle.std.specs.Prelude.{◌≡◌, Bool, true, not, ◌&&◌}
+use Rattle.std.specs.Prelude.{◌≡◌, ℕ, List, Some, slice_get, Bool, true, false, not, ◌&&◌}
 use Rattle.ember_algebra.specs.Sign.{is_negative, is_zero, is_positive}
 use Rattle.ember_model.specs.declared.plane.Plane.{Plane}
 use Rattle.ember_model.specs.declared.tri.Tri.{Tri}
 use Rattle.ember_model.specs.Valid.{IsValidTri}
 use Rattle.ember_model.specs.Planes.{value_at}
+use Rattle.ember_model.specs.Faces.{face_of, is_in_closed, Everywhere, Contains, edges_of}
+use Rattle.ember_model.specs.declared.face.Face.{Face}
 use Rattle.ember_model.specs.Owners.{spot_at, is_coplanar}
 use Rattle.ember_leaf.specs.declared.heights.Heights.{Heights}
+use Rattle.ember_leaf.specs.declared.pairs.Pair.{Pair}
+use Rattle.ember_leaf.specs.declared.pairs.Pair.TheVariants.{Apart, Across, Coplanar}
 
 abbrev pub heights_of : Plane → Tri → Heights
 heights_of p t =
@@ -28,7 +32,29 @@ all_in_front h = is_positive h.a && (is_positive h.b && is_positive h.c)
 abbrev pub all_on : Heights → Bool
 all_on h = is_zero h.a && (is_zero h.b && is_zero h.c)
 
+-- no inside point of t lies in the closed face of u
+abbrev pub AreApart : Tri → Tri → Type 0
+AreApart t u = Everywhere (face_of t) (λ v. is_in_closed (face_of u) v ≡ false)
+
+-- the inside of u lies behind the edge plane of t at this place
+abbrev pub IsBehindEdge : Tri → Tri → ℕ → Type 0
+IsBehindEdge t u i =
+    (p : Plane) → slice_get (edges_of t) i ≡ Some p → Everywhere (face_of u) (λ v. is_negative (value_at p v) ≡ true)
+
+-- how u lies to t
+abbrev pub IsPair : Tri → Tri → Pair → Type 0
+IsPair t u Apart = AreApart t u
+IsPair t u Across = is_coplanar t u ≡ false
+IsPair t u Coplanar = is_coplanar t u ≡ true
+
 -- a triangle of lower number in the plane of t
 pub record IsLower (t u : Tri) : Type 0 where
   pub valid : IsValidTri u
   pub coplanar : is_coplanar u t ≡ true
+
+-- some triangle of the list contains the inside of f
+pub record HasHolder (ts : List Tri) (f : Face) : Type 0 where
+  pub place : ℕ
+  pub tri : Tri
+  pub here : slice_get ts place ≡ Some tri
+  pub holds : Contains (face_of tri) f

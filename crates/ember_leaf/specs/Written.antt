@@ -1,5 +1,5 @@
 -- Which regions of a leaf are written
-use Rattle.std.specs.Prelude.{◌≡◌, ◌≢◌, ℕ, if◌then◌else◌, ℤ, List, [], ◌∷◌, length}
+use Rattle.std.specs.Prelude.{◌≡◌, ◌≢◌, ℕ, Bool, Option, None, Some, if◌then◌else◌, ℤ, List, [], ◌∷◌, length}
 use Rattle.std.specs.List.{range_with_len}
 use Rattle.ember_algebra.specs.Relations.{Each}
 use Rattle.ember_algebra.specs.Sign.{is_positive}
@@ -37,3 +37,10 @@ pub record IsWrittenOf (scene : List Tri) (f : Formula) (c : Cell) (near : List 
 abbrev pub IsWrittenIn : List Tri → Formula → Cell → List Tri → List Kept → Type 0
 IsWrittenIn scene f c near ks =
     Each (IsWrittenOf scene f c near) (range_with_len 0 (length near)) ks
+
+-- what the expression says of a region with these winding numbers before and after it: nothing, or
+-- whether it holds in front
+abbrev pub IsTurn : Formula → Face → List ℤ → List ℤ → Option Bool → Type 0
+IsTurn f face before after None = truth before f ≡ truth after f
+IsTurn f face before after (Some flipped) =
+    (truth before f ≢ truth after f) × (flipped ≡ truth (front face before after) f)

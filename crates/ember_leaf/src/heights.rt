@@ -1,5 +1,5 @@
 // The values of a plane at the corners of a triangle.
-ghost use Rattle.std.specs.Prelude.{◌≡◌};
+ghost use Rattle.std.specs.Prelude.{◌≡◌, not, ◌&&◌};
 ghost use Rattle.ember_algebra.specs.Sign.{is_negative, is_zero, is_positive};
 ghost use Rattle.ember_model.specs.Valid.{IsValidCorner, IsValidTri};
 ghost use Rattle.ember_model.specs.Sizes.{IsSupportSized};
@@ -45,7 +45,8 @@ fn is_behind(height: i64) -> bool
     height < 0
 }
 
-fn is_in_front(height: i64) -> bool
+/// The height of a point in front.
+pub fn is_in_front(height: i64) -> bool
     ensures { result ≡ is_positive height }
 {
     height > 0
@@ -91,5 +92,19 @@ impl Heights {
         ensures { result ≡ all_on self.now }
     {
         is_on(self.a) && (is_on(self.b) && is_on(self.c))
+    }
+
+    /// None is behind it, and not all are on it.
+    pub fn lie_in_front(&self) -> bool
+        ensures { result ≡ none_behind self.now && not (all_on self.now) }
+    {
+        self.none_behind() && !self.all_on()
+    }
+
+    /// None is in front of it, and not all are on it.
+    pub fn lie_behind(&self) -> bool
+        ensures { result ≡ none_in_front self.now && not (all_on self.now) }
+    {
+        self.none_in_front() && !self.all_on()
     }
 }

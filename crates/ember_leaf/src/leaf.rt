@@ -1,13 +1,22 @@
 // The written regions of a leaf.
-ghost use Rattle.std.specs.Prelude.{◌≤◌, ◌<◌, ◌+◌, length, All, IfOk, IfSome, OnOk};
+ghost use Rattle.std.specs.Prelude.{◌≡◌, true, false, ◌≤◌, ◌<◌, ◌+◌, map, length, All, IfOk, IfSome, OnOk};
 ghost use Rattle.ember_model.specs.Valid.{IsValidTri};
 ghost use Rattle.ember_model.specs.Meshes.{HasMesh};
 ghost use Rattle.ember_box.specs.Near.{tri_at};
+ghost use Rattle.ember_box.specs.Spans.{spans_of};
+ghost use Rattle.ember_box.specs.Regions.{IsRegions, walls as box_walls};
+ghost use Rattle.ember_leaf.specs.Walls.{wall_of};
 ghost use Rattle.ember_coplanar.specs.Lying.{LiesOn};
 ghost use Rattle.ember_trace.specs.Facets.{AreBoxCounts, AreSideCounts};
-ghost use Rattle.ember_leaf.specs.Pairs.{IsLower};
+ghost use Rattle.ember_algebra.specs.Sign.{is_positive};
+ghost use Rattle.ember_model.specs.Planes.{along, main_axis};
+ghost use Rattle.ember_model.specs.Faces.{face_of, Contains};
+ghost use Rattle.ember_expr.specs.Formula.{formula_of};
+ghost use Rattle.ember_leaf.specs.Written.{IsTurn};
+ghost use Rattle.ember_leaf.specs.Pairs.{IsLower, HasHolder};
 ghost use Rattle.ember_leaf.specs.Leaves.{IsRegionOf, IsKeptOf, ArePlaced, ArePlacedBelow, tris_of};
 
+use crate::heights::is_in_front;
 use crate::kept::{Kept, KeptList};
 use crate::pairs::is_flat;
 use crate::regions::regions;
@@ -26,6 +35,8 @@ use std::alloc::Global;
 fn is_free(lower: &[Tri], r: &Ring) -> bool
     requires valid { All IsValidTri lower.now }
     requires plane { All (λ t. LiesOn t r.now) lower.now }
+    ensures free { result ≡ true → All (λ t. Contains (face_of t) r.now → ⊥) lower.now }
+    ensures held { result ≡ false → HasHolder lower.now r.now }
 {
     for t in lower {
         if contains(t, r) {
@@ -36,11 +47,13 @@ fn is_free(lower: &[Tri], r: &Ring) -> bool
 }
 
 // The plane's front is on the side to which its main axis points.
-fn faces_on(p: &Plane) -> bool {
+fn faces_on(p: &Plane) -> bool
+    ensures { result ≡ is_positive (along p.now (main_axis p.now)) }
+{
     match main_axis(p) {
-        Axis::X => p.a > 0,
-        Axis::Y => p.b > 0,
-        Axis::Z => p.c > 0,
+        Axis::X => is_in_front(p.a),
+        Axis::Y => is_in_front(p.b),
+        Axis::Z => is_in_front(p.c),
     }
 }
 
@@ -48,6 +61,7 @@ fn faces_on(p: &Plane) -> bool {
 fn turn_of(e: &Expr, sides: &Sides, r: &Ring) -> Option<bool>
     requires before { AreSideCounts sides.now.before.counts }
     requires after { AreSideCounts sides.now.after.counts }
+    ensures { IsTurn (formula_of e.now) r.now sides.now.before.counts sides.now.after.counts result }
 {
     let before = value(e, &sides.before);
     let after = value(e, &sides.after);
@@ -106,7 +120,8 @@ impl Leaf<'_> {
         requires counts { AreBoxCounts self.now.at.now.counts }
         requires place { i < length self.now.near.now }
         requires lower { All (IsLower (tri_at (tris_of self.now.near.now) i)) lower.now }
-        requires regions { All (IsRegionOf (tri_at (tris_of self.now.near.now) i)) list.items }
+        requires plane { All (IsRegionOf (tri_at (tris_of self.now.near.now) i)) list.items }
+        requires regions { IsRegions self.now.cell.now (tris_of self.now.near.now) i list.items }
         requires kept { ArePlacedBelow (tris_of self.now.near.now) (i + 1) kept.old.items }
         ensures { OnOk result (ArePlacedBelow (tris_of self.now.near.now) (i + 1) kept.new.items) }
     {
@@ -130,11 +145,13 @@ impl Leaf<'_> {
         requires few { length self.now.near.now ≤ 262144 }
         requires counts { AreBoxCounts self.now.at.now.counts }
         requires place { i < length self.now.near.now }
+        requires walls { map wall_of walls.now ≡ box_walls self.now.cell.now }
+        requires spans { self.now.spans.now ≡ spans_of self.now.cell.now }
         requires kept { ArePlacedBelow (tris_of self.now.near.now) (i + 1) kept.old.items }
         ensures { OnOk result (ArePlacedBelow (tris_of self.now.near.now) (i + 1) kept.new.items) }
     {
         let own = &self.near[i];
-        if is_flat(own) || is_outside(walls, &own.spans) {
+        if is_flat(own) || is_outside(walls, own) {
             return Ok(());
         }
         let bounds = common_spans(&own.spans, self.spans);

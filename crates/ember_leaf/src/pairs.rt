@@ -1,8 +1,9 @@
 // How two triangles lie to each other, by their corners.
-ghost use Rattle.std.specs.Prelude.{◌≡◌, ◌<◌, ◌&&◌};
+ghost use Rattle.std.specs.Prelude.{◌≡◌, ◌<◌, ◌&&◌, true, false};
 ghost use Rattle.ember_algebra.specs.Sign.{is_zero};
-ghost use Rattle.ember_model.specs.Faces.{is_flat};
+ghost use Rattle.ember_model.specs.Faces.{is_flat, face_of, Contains};
 ghost use Rattle.ember_model.specs.Owners.{lies_in_plane_of, is_coplanar};
+ghost use Rattle.ember_leaf.specs.Pairs.{AreApart, IsBehindEdge, IsPair};
 
 use crate::heights::heights_of;
 use ember_model::{Plane, edge_plane, main_axis};
@@ -48,17 +49,27 @@ pub fn are_coplanar(f: &Facet, g: &Facet) -> bool
 
 // The plane of an edge of the first triangle keeps the two apart.
 fn parts(f: &Facet, g: &Facet, edge: u8) -> bool
-    requires { edge < 3 }
+    requires edge { edge < 3 }
+    requires first { is_flat f.now.tri ≡ false }
+    requires second { is_flat g.now.tri ≡ false }
+    ensures { result ≡ true → AreApart f.now.tri g.now.tri × AreApart g.now.tri f.now.tri }
 {
     let k = main_axis(&f.support);
-    let theirs = heights_of(&edge_plane(&f.tri, edge, k), &g.tri);
-    theirs.none_behind() && !theirs.all_on()
+    let p = edge_plane(&f.tri, edge, k);
+    heights_of(&p, &g.tri).lie_in_front()
 }
 
 // The plane of an edge of one of them keeps the two apart.
-fn are_parted(f: &Facet, g: &Facet) -> bool {
+fn are_parted(f: &Facet, g: &Facet) -> bool
+    requires first { is_flat f.now.tri ≡ false }
+    requires second { is_flat g.now.tri ≡ false }
+    ensures { result ≡ true → AreApart f.now.tri g.now.tri }
+{
     for edge in 0..3 {
-        if parts(f, g, edge) || parts(g, f, edge) {
+        if parts(f, g, edge) {
+            return true;
+        }
+        if parts(g, f, edge) {
             return true;
         }
     }
@@ -66,7 +77,12 @@ fn are_parted(f: &Facet, g: &Facet) -> bool {
 }
 
 // How a triangle lies to another one that lies in its plane.
-fn coplanar_pair(f: &Facet, g: &Facet) -> Pair {
+fn coplanar_pair(f: &Facet, g: &Facet) -> Pair
+    requires first { is_flat f.now.tri ≡ false }
+    requires second { is_flat g.now.tri ≡ false }
+    requires plane { is_coplanar f.now.tri g.now.tri ≡ true }
+    ensures { IsPair f.now.tri g.now.tri result }
+{
     if are_parted(f, g) {
         Pair::Apart
     } else {
@@ -75,9 +91,16 @@ fn coplanar_pair(f: &Facet, g: &Facet) -> Pair {
 }
 
 // How it lies to one that is not in its plane.
-fn crossing_pair(f: &Facet, g: &Facet) -> Pair {
+fn crossing_pair(f: &Facet, g: &Facet) -> Pair
+    requires first { is_flat f.now.tri ≡ false }
+    requires second { is_flat g.now.tri ≡ false }
+    requires plane { is_coplanar f.now.tri g.now.tri ≡ false }
+    ensures { IsPair f.now.tri g.now.tri result }
+{
     let own = heights_of(&g.support, &f.tri);
-    if (own.none_behind() || own.none_in_front()) && !own.all_on() {
+    if own.lie_in_front() {
+        Pair::Apart
+    } else if own.lie_behind() {
         Pair::Apart
     } else {
         Pair::Across
@@ -85,9 +108,15 @@ fn crossing_pair(f: &Facet, g: &Facet) -> Pair {
 }
 
 /// How a triangle lies to another one. Neither is flat.
-pub fn pair_of(f: &Facet, g: &Facet) -> Pair {
+pub fn pair_of(f: &Facet, g: &Facet) -> Pair
+    requires first { is_flat f.now.tri ≡ false }
+    requires second { is_flat g.now.tri ≡ false }
+    ensures { IsPair f.now.tri g.now.tri result }
+{
     let theirs = heights_of(&f.support, &g.tri);
-    if theirs.all_in_front() || theirs.all_behind() {
+    if theirs.all_in_front() {
+        Pair::Apart
+    } else if theirs.all_behind() {
         Pair::Apart
     } else if theirs.all_on() {
         coplanar_pair(f, g)
@@ -98,14 +127,26 @@ pub fn pair_of(f: &Facet, g: &Facet) -> Pair {
 
 // The second triangle lies behind the plane of an edge of the first.
 fn is_behind_edge(f: &Facet, g: &Facet, edge: u8) -> bool
-    requires { edge < 3 }
+    requires edge { edge < 3 }
+    requires second { is_flat g.now.tri ≡ false }
+    ensures { result ≡ true → IsBehindEdge f.now.tri g.now.tri edge }
 {
     let k = main_axis(&f.support);
-    let theirs = heights_of(&edge_plane(&f.tri, edge, k), &g.tri);
-    theirs.none_in_front() && !theirs.all_on()
+    let p = edge_plane(&f.tri, edge, k);
+    heights_of(&p, &g.tri).lie_behind()
 }
 
 /// The second triangle, which lies in the plane of the first, is covered by it.
-pub fn covers(f: &Facet, g: &Facet) -> bool {
-    is_behind_edge(f, g, 0) && (is_behind_edge(f, g, 1) && is_behind_edge(f, g, 2))
+pub fn covers(f: &Facet, g: &Facet) -> bool
+    requires second { is_flat g.now.tri ≡ false }
+    requires plane { is_coplanar f.now.tri g.now.tri ≡ true }
+    ensures { result ≡ true → Contains (face_of f.now.tri) (face_of g.now.tri) }
+{
+    if !is_behind_edge(f, g, 0) {
+        return false;
+    }
+    if !is_behind_edge(f, g, 1) {
+        return false;
+    }
+    is_behind_edge(f, g, 2)
 }

@@ -1,9 +1,14 @@
 // The part of a triangle that belongs to a box.
-ghost use Rattle.std.specs.Prelude.{◌≡◌, IfOk, IfSome};
+ghost use Rattle.std.specs.Prelude.{◌≡◌, true, false, [], map, IfOk, option_to_list};
 ghost use Rattle.ember_algebra.specs.Size.{Small};
 ghost use Rattle.ember_model.specs.Valid.{IsValidPlane};
 ghost use Rattle.ember_box.specs.Spans.{IsSpanSized};
-ghost use Rattle.ember_leaf.specs.Leaves.{IsRegionOf};
+ghost use Rattle.ember_model.specs.Planes.{opposite};
+ghost use Rattle.ember_model.specs.Faces.{is_flat, face_of};
+ghost use Rattle.ember_box.specs.Regions.{level, AtWall};
+ghost use Rattle.ember_box.specs.Regions as regions;
+ghost use Rattle.ember_leaf.specs.Blades.{common, common_of};
+ghost use Rattle.ember_leaf.specs.Walls.{wall_of, span_along, level_by, IsLowStay, IsHighStay, IsStay, IsLeft};
 
 use crate::wall::Wall;
 use ember_box::{Cell, Span, Spans, spans_of};
@@ -12,7 +17,9 @@ use ember_poly::{Reach, Ring, below, of_tri, reach};
 use ember_trace::Facet;
 use std::alloc::Global;
 
-fn span(b: &Spans, k: Axis) -> Span {
+fn span(b: &Spans, k: Axis) -> Span
+    ensures { result ≡ span_along b.now k }
+{
     match k {
         Axis::X => b.x,
         Axis::Y => b.y,
@@ -20,7 +27,9 @@ fn span(b: &Spans, k: Axis) -> Span {
     }
 }
 
-fn common(a: &Span, b: &Span) -> Span {
+fn common(a: &Span, b: &Span) -> Span
+    ensures { result ≡ common a.now b.now }
+{
     Span {
         low: a.low.max(b.low),
         high: a.high.min(b.high),
@@ -28,7 +37,9 @@ fn common(a: &Span, b: &Span) -> Span {
 }
 
 /// What two boxes have in common.
-pub fn common_spans(a: &Spans, b: &Spans) -> Spans {
+pub fn common_spans(a: &Spans, b: &Spans) -> Spans
+    ensures { result ≡ common_of a.now b.now }
+{
     Spans {
         x: common(&a.x, &b.x),
         y: common(&a.y, &b.y),
@@ -38,6 +49,7 @@ pub fn common_spans(a: &Spans, b: &Spans) -> Spans {
 
 fn low_wall(s: &Span, axis: Axis) -> Wall
     requires { IsSpanSized s.now }
+    ensures { wall_of result ≡ record { plane = opposite (level axis s.now.low); is_high = false } }
 {
     Wall {
         axis,
@@ -48,6 +60,7 @@ fn low_wall(s: &Span, axis: Axis) -> Wall
 
 fn high_wall(s: &Span, axis: Axis) -> Wall
     requires { IsSpanSized s.now }
+    ensures { wall_of result ≡ record { plane = level axis s.now.high; is_high = true } }
 {
     Wall {
         axis,
@@ -57,7 +70,9 @@ fn high_wall(s: &Span, axis: Axis) -> Wall
 }
 
 /// The walls of a box, in order.
-pub fn walls(c: &Cell) -> [Wall; 6] {
+pub fn walls(c: &Cell) -> [Wall; 6]
+    ensures { map wall_of result ≡ regions.walls c.now }
+{
     let b = spans_of(c);
     [
         low_wall(&b.x, Axis::X),
@@ -73,7 +88,8 @@ pub fn walls(c: &Cell) -> [Wall; 6] {
 fn level(axis: Axis, n: i64, d: i64) -> Plane
     requires n { Small 1 n }
     requires d { Small 2048 d }
-    ensures { IsValidPlane result }
+    ensures value { result ≡ level_by axis n d }
+    ensures valid { IsValidPlane result }
 {
     match axis {
         Axis::X => Plane {
@@ -99,7 +115,8 @@ fn level(axis: Axis, n: i64, d: i64) -> Plane
 
 // The plane of the wall, negative in the box.
 fn plane_of(w: &Wall) -> Plane
-    ensures { IsValidPlane result }
+    ensures value { result ≡ (wall_of w.now).plane }
+    ensures valid { IsValidPlane result }
 {
     let at = i64::from(w.at);
     if w.is_high {
@@ -110,46 +127,55 @@ fn plane_of(w: &Wall) -> Plane
 }
 
 // What a bounding box tells of what the wall leaves of a triangle and of its parts.
-#[derive(Clone, Copy, PartialEq, Eq)]
+#[derive(Clone, Copy)]
 enum Stay {
     Whole,
     Nothing,
     Untold,
 }
 
-fn stay_at_low(s: &Span, at: i32) -> Stay {
-    if s.low >= at {
+fn stay_at_low(s: &Span, w: &Wall) -> Stay
+    ensures { IsLowStay s.now w.now.at result }
+{
+    if s.low >= w.at {
         Stay::Whole
-    } else if s.high <= at {
+    } else if s.high <= w.at {
         Stay::Nothing
     } else {
         Stay::Untold
     }
 }
 
-fn stay_at_high(s: &Span, at: i32) -> Stay {
-    if s.low >= at {
+fn stay_at_high(s: &Span, w: &Wall) -> Stay
+    ensures { IsHighStay s.now w.now.at result }
+{
+    if s.low >= w.at {
         Stay::Nothing
-    } else if s.high <= at {
+    } else if s.high <= w.at {
         Stay::Whole
     } else {
         Stay::Untold
     }
 }
 
-fn stay_at(w: &Wall, bounds: &Spans) -> Stay {
-    let s = span(bounds, w.axis);
+fn stay_at(w: &Wall, f: &Facet) -> Stay
+    ensures { IsStay (wall_of w.now) f.now.tri result }
+{
+    let s = span(&f.spans, w.axis);
     if w.is_high {
-        stay_at_high(&s, w.at)
+        stay_at_high(&s, w)
     } else {
-        stay_at_low(&s, w.at)
+        stay_at_low(&s, w)
     }
 }
 
 /// The first wall that may not leave the whole triangle leaves nothing of it.
-pub fn is_outside(walls: &[Wall], bounds: &Spans) -> bool {
+pub fn is_outside(walls: &[Wall], f: &Facet) -> bool
+    requires { is_flat f.now.tri ≡ false }
+    ensures { result ≡ true → IsLeft (map wall_of walls.now) f.now.tri [] }
+{
     for w in walls {
-        match stay_at(w, bounds) {
+        match stay_at(w, f) {
             Stay::Whole => {}
             Stay::Nothing => return true,
             Stay::Untold => return false,
@@ -160,7 +186,7 @@ pub fn is_outside(walls: &[Wall], bounds: &Spans) -> bool {
 
 // What the wall leaves of a face.
 fn at_wall(alloc: Global, f: Ring, w: &Wall) -> Result<Option<Ring>, OutOfMemory>
-    ensures { IfOk result (λ out. IfSome out (λ r. r.support ≡ f.support)) }
+    ensures { IfOk result (λ out. AtWall (wall_of w.now) f (option_to_list out)) }
 {
     let p = plane_of(w);
     match reach(&f, &p) {
@@ -178,16 +204,19 @@ fn within_walls(
     f: &Facet,
     walls: &[Wall],
 ) -> Result<Option<Ring>, OutOfMemory>
-    requires { IsRegionOf f.now.tri part }
-    ensures { IfOk result (λ out. IfSome out (IsRegionOf f.now.tri)) }
+    requires normal { is_flat f.now.tri ≡ false }
+    requires whole { part ≡ face_of f.now.tri }
+    ensures { IfOk result (λ out. IsLeft (map wall_of walls.now) f.now.tri (option_to_list out)) }
 {
     let mut ring = part;
     for w in walls {
-        if stay_at(w, &f.spans) != Stay::Whole {
-            match at_wall(alloc, ring, w)? {
+        match stay_at(w, f) {
+            Stay::Whole => {}
+            Stay::Nothing => return Ok(None),
+            Stay::Untold => match at_wall(alloc, ring, w)? {
                 Some(left) => ring = left,
                 None => return Ok(None),
-            }
+            },
         }
     }
     Ok(Some(ring))
@@ -195,7 +224,7 @@ fn within_walls(
 
 /// The part of a triangle that belongs to the box with these walls, if there is any.
 pub fn start(alloc: Global, f: &Facet, walls: &[Wall]) -> Result<Option<Ring>, OutOfMemory>
-    ensures { IfOk result (λ out. IfSome out (IsRegionOf f.now.tri)) }
+    ensures { IfOk result (λ out. IsLeft (map wall_of walls.now) f.now.tri (option_to_list out)) }
 {
     match of_tri(alloc, &f.tri)? {
         Some(ring) => within_walls(alloc, ring, f, walls),

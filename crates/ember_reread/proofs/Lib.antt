@@ -7,3 +7,4 @@ pub mod Chains
 pub mod FaceTexts
 pub mod BodyTexts
 pub mod Prefixes
+pub mod OneOutline

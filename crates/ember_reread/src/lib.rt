@@ -5,6 +5,7 @@ mod edges;
 mod faces;
 mod fault;
 mod fields;
+mod law;
 mod list;
 mod number;
 mod parts;
@@ -13,4 +14,5 @@ mod tests;
 
 pub use faces::read_faces;
 pub use fault::RereadFault;
+pub use law::faces_have_one_text;
 pub use list::FaceList;

@@ -16,6 +16,7 @@ use Rattle.ember_visit.specs.Values as values
 use Rattle.ember_voxel.specs.declared.fill.Fill.{Fill}
 use Rattle.ember_voxel.specs.Fills.{IsFill}
 use Rattle.ember_voxel.specs.Lattice as lattice
+use Rattle.ember_step.specs.Counts.{IsCount}
 use Rattle.steal_pool.specs.Merged.{EachAnswers}
 use Rattle.ember_run.specs.declared.task.Finds.TheVariants as finds
 use Rattle.ember_run.specs.declared.task.Found.{Found}
@@ -42,5 +43,12 @@ pub kept_found : (asked : Task) (scene : Bor Scene) (expr : Bor Tree) (root : Jo
 kept_found asked scene expr root found e f are holds =
     subst (λ (asked : Task). IsFound asked (finds.Kept found)) (sym e) (
       subst (λ (root : Job). EachAnswers (λ job kept. ArePlaced (near_of scene.now.tris job) kept) (leaves (values.shape scene.now.tris (formula_of expr.now)) root) found.items.items) f are,
+      subst (λ (root : Job). HoldEntries (values.shape scene.now.tris (formula_of expr.now)) root found.journals) f holds,
+    )
+
+pub counts_found : (asked : Task) (scene : Bor Scene) (expr : Bor Tree) (root : Job) (found : Found ℕ) → asked ≡ task.Counts scene expr → root ≡ root_job scene.now.tris → EachAnswers (λ job n. IsCount (ArePlaced (near_of scene.now.tris job)) n) (leaves (values.shape scene.now.tris (formula_of expr.now)) root) found.items.items → HoldEntries (values.shape scene.now.tris (formula_of expr.now)) root found.journals → IsFound asked (finds.Counts found)
+counts_found asked scene expr root found e f are holds =
+    subst (λ (asked : Task). IsFound asked (finds.Counts found)) (sym e) (
+      subst (λ (root : Job). EachAnswers (λ job n. IsCount (ArePlaced (near_of scene.now.tris job)) n) (leaves (values.shape scene.now.tris (formula_of expr.now)) root) found.items.items) f are,
       subst (λ (root : Job). HoldEntries (values.shape scene.now.tris (formula_of expr.now)) root found.journals) f holds,
     )

@@ -1,7 +1,8 @@
 -- What follows on an expression, and on the scene of the files.
-use Rattle.std.proofs.Common.{◌≡◌, ℕ, ◌-◌, ◌≤◌, zero, suc, List, [], ◌∷◌, length, Result, Ok, Err, IfOk, Vec, Global, refl, sym, ap, subst, ◌∙◌}
+use Rattle.std.proofs.Common.{◌≡◌, ℕ, ◌-◌, ◌≤◌, zero, suc, List, [], ◌∷◌, map, length, Result, Ok, Err, IfOk, Vec, Global, refl, sym, ap, ap₂, subst, ◌∙◌}
 use Rattle.ember_expr.specs.Formula.{Formula}
 use Rattle.ember_job.specs.declared.job.Job.{Job}
+use Rattle.ember_job.specs.Visited.{leaves}
 use Rattle.ember_model.specs.declared.scene.Scene.{Scene}
 use Rattle.ember_model.specs.declared.tri.Tri.{Tri}
 use Rattle.ember_pairs.specs.declared.pair.Pair.{Pair}
@@ -11,10 +12,14 @@ use Rattle.ember_pairs.specs.Texts.{pairs_text}
 use Rattle.ember_pairs.specs.Whole.{AreItems, leaf_jobs}
 use Rattle.steal_pool.specs.Merged.{EachAnswers}
 use Rattle.ember_visit.specs.Jobs.{root_job}
-use Rattle.ember_voxel.specs.Lattice.{IsVoxelJob}
+use Rattle.ember_voxel.specs.declared.fill.Fill.{Fill}
+use Rattle.ember_voxel.specs.Fills.{IsFill, fill_of, leaf_fills}
+use Rattle.ember_voxel.specs.Grid.{IsGridText}
+use Rattle.ember_voxel.specs.Lattice.{IsVoxelJob, shape}
+use Rattle.ember_voxel.specs.Voxels.{IsVoxelText}
 use Rattle.ember_voxel.specs.Laws.{root_is_voxel_job}
 use Rattle.ember_run.specs.declared.status.Status.{Status}
-use Rattle.ember_run.specs.Lattices.{IsLatticeText}
+use Rattle.ember_run.specs.Lattices.{AreFills, IsLatticeText}
 use Rattle.ember_run.specs.Outputs.{Lattice, MeetingPairs}
 use Rattle.ember_run.specs.PairLists.{ArePairsOfLeaves, IsPairsText}
 use Rattle.ember_run.specs.Scenes.{MayRead}
@@ -76,6 +81,19 @@ scene_unread after places m i contents formula next count given unread =
 -- ---- a lattice
 pub root_is_valid : (scene : Scene) (size : ℕ) (job : Job) → size ≤ 12 → job ≡ root_job scene.tris → IsVoxelJob scene.tris size job
 root_is_valid scene size job le e = subst (IsVoxelJob scene.tris size) (sym e) (root_is_voxel_job scene.tris scene.meshes size scene.kept le)
+
+-- the boxes of one value, as the law of the cells takes them
+fills_are : (formula : Formula) (jobs : List Job) (fills : List Fill) → EachAnswers (IsFill formula) jobs fills → fills ≡ map (fill_of formula) jobs
+fills_are formula [] [] h = refl
+fills_are formula [] (fill ∷ fills) h = absurd h
+fills_are formula (job ∷ jobs) [] h = absurd h
+fills_are formula (job ∷ jobs) (fill ∷ fills) h =
+    let is : fill ≡ fill_of formula job = h.0 in ap₂ (λ x xs. x ∷ xs) is (fills_are formula jobs fills h.1)
+
+pub lattice_text_if : {E : Type 0} (tris : List Tri) (formula : Formula) (size : ℕ) (fills given : List Fill) (result : Result (Vec ℕ Global) E) → ((size : ℕ) (fills : List Fill) (text : List ℕ) → size ≤ 12 → fills ≡ leaf_fills tris formula size → IsGridText size fills text → IsVoxelText tris formula size text) → size ≤ 12 → AreFills tris formula size fills → given ≡ fills → IfOk result (λ text. IsGridText size given text.items) → IfOk result (λ text. IsLatticeText tris formula size text.items)
+lattice_text_if tris formula size fills given (Ok text) law le are e is =
+    law size given text.items le (e ∙ fills_are formula (leaves (shape tris formula size) (root_job tris)) fills are) is
+lattice_text_if tris formula size fills given (Err error) law le are e is = tt
 
 pub lattice_sampled : (expr : List ℕ) (size places m : ℕ) (contents : Contents) (formula : Formula) (tris : List Tri) (bytes : List ℕ) → length contents ≡ m → ExprRead (after_expr expr) m formula → SceneRead places contents tris → IsLatticeText tris formula size bytes → IsText (voxels_verdict expr size places contents) bytes
 lattice_sampled expr size places m contents formula tris bytes count given scene is =

@@ -4,11 +4,14 @@ use Rattle.std.specs.Prelude.{codes, map, replicate, if◌then◌else◌}
 use Rattle.ember_expr.specs.Formula.{Formula}
 use Rattle.ember_expr.specs.Truth.{truth}
 use Rattle.ember_job.specs.declared.job.Job.{Job}
+use Rattle.ember_job.specs.Visited.{leaves}
+use Rattle.ember_leaf.specs.Leaves.{ArePlaced}
+use Rattle.ember_run.proofs.Counts.{are_counted, all_counted}
 use Rattle.ember_model.specs.declared.scene.Scene.{Scene}
 use Rattle.ember_model.specs.declared.tri.Tri.{Tri}
 use Rattle.ember_report.specs.declared.report.Report.{Report}
 use Rattle.ember_report.specs.Reports.{line_of}
-use Rattle.ember_visit.specs.Jobs.{IsJob, root_job}
+use Rattle.ember_visit.specs.Jobs.{IsJob, near_of, root_job}
 use Rattle.ember_visit.proofs.Laws.{root_is_job}
 use Rattle.ember_run.specs.declared.status.Status.{Status}
 use Rattle.ember_run.specs.declared.status.Status.TheVariants.{Done, Words, ReadFault, WriteFault, ObjRefused, MeshRefused, ExprRefused, Unbounded, Limit, NotClear, FaceRefused, OutOfMemory}
@@ -21,10 +24,10 @@ use Rattle.ember_run.specs.Serves.{IsRefusal, IsSameIfTold, IsText}
 use Rattle.ember_job.specs.declared.job.Entry.{Entry}
 use Rattle.ember_report.specs.Reports.{report_from}
 use Rattle.ember_visit.specs.Values.{shape}
-use Rattle.std.specs.List.{sum_by}
+use Rattle.std.specs.List.{sum, sum_by}
 use Rattle.ember_run.specs.Runs.{HoldEntries, run_report}
 use Rattle.ember_run.proofs.Reports.{entries_fit, same_report}
-use Rattle.ember_run.specs.Solids.{AreKept, IsReportLine, IsReportText, IsSolid, IsSolidText, report_lines}
+use Rattle.ember_run.specs.Solids.{AreKept, AreKeptCounts, HoldRun, IsReportLine, IsReportText, IsSolid, IsSolidReport, IsSolidText, report_lines}
 use Rattle.ember_gen.specs.Scene.{scene_of}
 use Rattle.ember_leaf.specs.declared.kept.Kept.{Kept}
 use Rattle.ember_text.specs.Documents.{IsDocumentText, written_face}
@@ -41,6 +44,12 @@ journals_fit tris formula journals holds = entries_fit (shape tris formula) (roo
 pub is_solid : (tris : List Tri) (formula : Formula) (items : List (List Kept)) (kept : List Kept) (journals : List (List Entry)) (faces : ℕ) (report : Report) → AreKept tris formula items → HoldEntries (shape tris formula) (root_job tris) journals → kept ≡ flat_map (λ ks. ks) items → report ≡ report_from journals faces → faces ≡ length kept → IsSolid tris formula kept report
 is_solid tris formula items kept journals faces report are holds all e f =
     record { items = items; are = are; all = all; report_is = e ∙ same_report (shape tris formula) (root_job tris) journals faces holds ∙ ap (run_report (shape tris formula) (root_job tris)) f }
+
+pub is_solid_report : (tris : List Tri) (formula : Formula) (counts : List ℕ) (journals : List (List Entry)) (faces : ℕ) (report : Report) → AreKeptCounts tris formula counts → HoldRun tris formula journals → report ≡ report_from journals faces → faces ≡ sum counts → IsSolidReport tris formula report
+is_solid_report tris formula counts journals faces report are holds e f =
+    let lists = are_counted (λ job kept. ArePlaced (near_of tris job) kept) (leaves (shape tris formula) (root_job tris)) counts are in
+    let kept = flat_map (λ ks. ks) lists.items in
+    record { kept = kept; solid = is_solid tris formula lists.items kept journals faces report lists.answer holds refl e (f ∙ all_counted counts lists.items lists.lengths) }
 
 -- ---- bounded expressions
 not_true : (b : Bool) → true ≡ not b → b ≡ false
@@ -70,8 +79,8 @@ solid_text tris formula kept report lines false solid e = e
 pub is_solid_text : (tris : List Tri) (formula : Formula) (kept : List Kept) (report : Report) (bytes : List ℕ) → IsSolid tris formula kept report → IsDocumentText (map written_face kept) bytes → IsSolidText tris formula bytes
 is_solid_text tris formula kept report bytes solid text = record { kept = kept; report = report; solid = solid; text = text }
 
-pub is_report_text : (tris : List Tri) (formula : Formula) (kept : List Kept) (report : Report) (bytes : List ℕ) → IsSolid tris formula kept report → bytes ≡ line_of report → IsReportText tris formula bytes
-is_report_text tris formula kept report bytes solid text = record { kept = kept; report = report; solid = solid; text = text }
+pub is_report_text : (tris : List Tri) (formula : Formula) (report : Report) (bytes : List ℕ) → IsSolidReport tris formula report → bytes ≡ line_of report → IsReportText tris formula bytes
+is_report_text tris formula report bytes solid text = record { kept = solid.kept; report = report; solid = solid.solid; text = text }
 
 -- ---- the generated scene
 pub report_written : (boxes : ℕ) (formula : Formula) (tris : List Tri) (bytes : List ℕ) → ((next : Formula → Verdict) → after_expr (codes "m1|m2") 2 next ≡ next formula) → tris ≡ scene_of boxes → IsReportText tris formula bytes → IsText (demo_verdict boxes) bytes

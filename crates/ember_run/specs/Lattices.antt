@@ -6,8 +6,8 @@ use Rattle.ember_model.specs.declared.tri.Tri.{Tri}
 use Rattle.ember_visit.specs.Jobs.{root_job}
 use Rattle.ember_voxel.specs.declared.fill.Fill.{Fill}
 use Rattle.ember_voxel.specs.Fills.{IsFill}
-use Rattle.ember_voxel.specs.Grid.{IsGridText}
 use Rattle.ember_voxel.specs.Lattice.{shape}
+use Rattle.ember_voxel.specs.Voxels.{IsVoxelText}
 use Rattle.steal_pool.specs.Merged.{EachAnswers}
 
 -- the boxes of one value, one for each leaf of the tree of boxes
@@ -15,7 +15,6 @@ abbrev pub AreFills : List Tri → Formula → ℕ → List Fill → Type 0
 AreFills tris formula size fills =
     EachAnswers (IsFill formula) (leaves (shape tris formula size) (root_job tris)) fills
 
--- the bytes are the text of the lattice whose cells have the values of these boxes
+-- the bytes are the text of the lattice whose cells have the values at their reference points
 abbrev pub IsLatticeText : List Tri → Formula → ℕ → List ℕ → Type 0
-IsLatticeText tris formula size bytes =
-    (fills : List Fill) × AreFills tris formula size fills × IsGridText size fills bytes
+IsLatticeText tris formula size bytes = IsVoxelText tris formula size bytes

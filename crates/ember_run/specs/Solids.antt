@@ -8,6 +8,7 @@ use Rattle.ember_leaf.specs.Leaves.{ArePlaced}
 use Rattle.ember_model.specs.declared.tri.Tri.{Tri}
 use Rattle.ember_report.specs.declared.report.Report.{Report}
 use Rattle.ember_report.specs.Reports.{line_of}
+use Rattle.ember_step.specs.Counts.{IsCount}
 use Rattle.ember_text.specs.Documents.{IsDocumentText, written_face}
 use Rattle.ember_visit.specs.Jobs.{near_of, root_job}
 use Rattle.ember_visit.specs.Values.{shape}
@@ -19,6 +20,11 @@ abbrev pub AreKept : List Tri → Formula → List (List Kept) → Type 0
 AreKept tris formula items =
     EachAnswers (λ job kept. ArePlaced (near_of tris job) kept) (leaves (shape tris formula) (root_job tris)) items
 
+-- the numbers of the written regions of each leaf
+abbrev pub AreKeptCounts : List Tri → Formula → List ℕ → Type 0
+AreKeptCounts tris formula counts =
+    EachAnswers (λ job n. IsCount (ArePlaced (near_of tris job)) n) (leaves (shape tris formula) (root_job tris)) counts
+
 -- the journals hold the boxes that were visited for them
 abbrev pub HoldRun : List Tri → Formula → List (List Entry) → Type 0
 HoldRun tris formula journals = HoldEntries (shape tris formula) (root_job tris) journals
@@ -29,6 +35,11 @@ pub record IsSolid (tris : List Tri) (formula : Formula) (kept : List Kept) (rep
   pub are : AreKept tris formula items
   pub all : kept ≡ flat_map (λ ks. ks) items
   pub report_is : report ≡ run_report (shape tris formula) (root_job tris) (length kept)
+
+-- these are the numbers of the run that gives the solid
+pub record IsSolidReport (tris : List Tri) (formula : Formula) (report : Report) : Type 0 where
+  pub kept : List Kept
+  pub solid : IsSolid tris formula kept report
 
 -- the bytes are the face file of the solid's written regions
 pub record IsSolidText (tris : List Tri) (formula : Formula) (bytes : List ℕ) : Type 0 where

@@ -9,13 +9,14 @@ use Rattle.ember_run.specs.declared.task.Task.{Task}
 use Rattle.ember_run.specs.declared.task.Task.TheVariants as task
 use Rattle.ember_run.specs.Lattices.{AreFills}
 use Rattle.ember_run.specs.PairLists.{ArePairsOfLeaves}
-use Rattle.ember_run.specs.Solids.{AreKept, HoldRun}
+use Rattle.ember_run.specs.Solids.{AreKept, AreKeptCounts, HoldRun}
 
 -- the tasks that may be given: cells have a side of 2 ^ 4 to 2 ^ 12
 abbrev pub IsTask : Task → Type 0
 IsTask (task.Pairs scene) = ⊤
 IsTask (task.Fills scene expr size) = (4 ≤ size) × (size ≤ 12)
 IsTask (task.Kept scene expr) = ⊤
+IsTask (task.Counts scene expr) = ⊤
 
 -- this is what the task asks for
 abbrev pub IsFound : Task → Finds → Type 0
@@ -23,6 +24,8 @@ IsFound (task.Pairs scene) (finds.Pairs items) = ArePairsOfLeaves scene.now.tris
 IsFound (task.Fills scene expr size) (finds.Fills fills) = AreFills scene.now.tris (formula_of expr.now) size fills.items
 IsFound (task.Kept scene expr) (finds.Kept found) =
     AreKept scene.now.tris (formula_of expr.now) found.items.items × HoldRun scene.now.tris (formula_of expr.now) found.journals
+IsFound (task.Counts scene expr) (finds.Counts found) =
+    AreKeptCounts scene.now.tris (formula_of expr.now) found.items.items × HoldRun scene.now.tris (formula_of expr.now) found.journals
 IsFound _ _ = ⊥
 
 -- the call may be made at each task, and each Ok of it is what the task asks for

@@ -10,7 +10,7 @@ ghost use Rattle.ember_run.specs.Verdict.{Untold, bool_verdict, demo_verdict, fi
 
 use crate::expression::{parse_bounded, parse_union};
 use crate::scene::read_scene;
-use crate::solid::solid_of;
+use crate::solid::{report_by, solid_of};
 use crate::status::Status;
 use crate::task::{Finds, Task};
 use ember_expr::Expr;
@@ -107,8 +107,8 @@ fn text_of_report<C: Fn(&Task) -> Result<Finds, OutOfMemory>>(
     requires { IsCrew C.pre C.post crew.now }
     ensures { IfOk result (λ text. IsReportText scene.now.tris (formula_of expr.now) text.items) }
 {
-    let solid = solid_of(alloc, scene, expr, crew)?;
-    let text = report_line(alloc, &solid.report)?;
+    let report = report_by(scene, expr, crew)?;
+    let text = report_line(alloc, &report)?;
     Ok(text)
 }
 

@@ -11,7 +11,7 @@ use crate::task::{Finds, Found, Task};
 use ember_job::{Job, Outcome, Step, Work};
 use ember_model::OutOfMemory;
 use ember_pairs::{PairWork, pair_step, root_pairs};
-use ember_step::{BoolWork, box_step};
+use ember_step::{BoolWork, CountWork, box_step, count_step};
 use ember_tree::merge;
 use ember_visit::root_job;
 use ember_voxel::{VoxelWork, voxel_step};
@@ -99,6 +99,14 @@ macro_rules! finds {
                     call: |job: &Job| box_step($alloc, scene, expr, job),
                 };
                 Ok(Finds::Kept($found?))
+            }
+            Task::Counts(scene, expr) => {
+                let $root = root_job($alloc, scene)?;
+                let $step = Step {
+                    work: CountWork { scene, expr },
+                    call: |job: &Job| count_step($alloc, scene, expr, job),
+                };
+                Ok(Finds::Counts($found?))
             }
         }
     };

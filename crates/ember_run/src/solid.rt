@@ -1,15 +1,16 @@
 // The solid of an expression over a scene: its written regions, and the numbers of the run.
 ghost use Rattle.std.specs.Prelude.{◌≡◌, IfOk, flat_map};
+ghost use Rattle.std.specs.List.{sum};
 ghost use Rattle.ember_expr.specs.Formula.{formula_of};
-ghost use Rattle.ember_run.specs.Solids.{IsSolid};
+ghost use Rattle.ember_run.specs.Solids.{IsSolid, IsSolidReport};
 ghost use Rattle.ember_run.specs.Tasks.{IsCrew};
 
-use crate::task::{Finds, Task, kept_by};
+use crate::task::{Finds, Task, counts_by, kept_by};
 use ember_expr::Expr;
 use ember_leaf::{Kept, KeptList};
 use ember_model::{OutOfMemory, Scene};
 use ember_report::{Report, report_of};
-use std::alloc::Global;
+use std::alloc::{AllocError, Global};
 
 /// The written regions of all leaves, in the order of the tree, and the numbers of the run.
 #[derive(Drop)]
@@ -48,4 +49,35 @@ pub fn solid_of<C: Fn(&Task) -> Result<Finds, OutOfMemory>>(
     let kept = all_kept(alloc, found.items)?;
     let report = report_of(&journals, kept.len() as u64);
     Ok(Solid { kept, report })
+}
+
+// The numbers together. Memory is short where 64 bits are too few.
+fn total(counts: &[u64]) -> Result<u64, OutOfMemory>
+    ensures { IfOk result (λ all. all ≡ sum counts.now) }
+{
+    let mut all = 0u64;
+    let mut rest = counts;
+    while let Some((count, more)) = rest.split_first() {
+        let Some(next) = all.checked_add(*count) else {
+            return Err(AllocError);
+        };
+        all = next;
+        rest = more;
+    }
+    Ok(all)
+}
+
+/// The numbers of the run that gives the solid of an expression over a scene. The written regions
+/// are counted leaf by leaf and not kept.
+pub fn report_by<C: Fn(&Task) -> Result<Finds, OutOfMemory>>(
+    scene: &Scene,
+    expr: &Expr,
+    crew: &C,
+) -> Result<Report, OutOfMemory>
+    requires { IsCrew C.pre C.post crew.now }
+    ensures { IfOk result (λ report. IsSolidReport scene.now.tris (formula_of expr.now) report) }
+{
+    let found = counts_by(scene, expr, crew)?;
+    let faces = total(&found.items)?;
+    Ok(report_of(&found.journals, faces))
 }

@@ -3,7 +3,7 @@ ghost use Rattle.std.specs.Prelude.{◌≤◌, IfOk};
 ghost use Rattle.ember_expr.specs.Formula.{formula_of};
 ghost use Rattle.ember_run.specs.Lattices.{AreFills};
 ghost use Rattle.ember_run.specs.PairLists.{ArePairsOfLeaves};
-ghost use Rattle.ember_run.specs.Solids.{AreKept, HoldRun};
+ghost use Rattle.ember_run.specs.Solids.{AreKept, AreKeptCounts, HoldRun};
 ghost use Rattle.ember_run.specs.Tasks.{IsCrew};
 
 use ember_expr::Expr;
@@ -22,6 +22,8 @@ pub enum Task<'a> {
     Fills(&'a Scene, &'a Expr, u8),
     /// The written regions of each leaf.
     Kept(&'a Scene, &'a Expr),
+    /// The number of written regions of each leaf.
+    Counts(&'a Scene, &'a Expr),
 }
 
 /// What the leaves give, in the order of the tree, and which boxes were ended.
@@ -37,6 +39,7 @@ pub enum Finds {
     Pairs(Vec<PairList>),
     Fills(Vec<Fill>),
     Kept(Found<KeptList>),
+    Counts(Found<u64>),
 }
 
 /// The pairs that meet in each leaf.
@@ -82,6 +85,22 @@ pub fn kept_by<C: Fn(&Task) -> Result<Finds, OutOfMemory>>(
     ensures journals { IfOk result (λ found. HoldRun scene.now.tris (formula_of expr.now) found.journals) }
 {
     let Finds::Kept(found) = crew(&Task::Kept(scene, expr))? else {
+        unreachable!()
+    };
+    Ok(found)
+}
+
+/// The number of written regions of each leaf.
+pub fn counts_by<C: Fn(&Task) -> Result<Finds, OutOfMemory>>(
+    scene: &Scene,
+    expr: &Expr,
+    crew: &C,
+) -> Result<Found<u64>, OutOfMemory>
+    requires { IsCrew C.pre C.post crew.now }
+    ensures items { IfOk result (λ found. AreKeptCounts scene.now.tris (formula_of expr.now) found.items.items) }
+    ensures journals { IfOk result (λ found. HoldRun scene.now.tris (formula_of expr.now) found.journals) }
+{
+    let Finds::Counts(found) = crew(&Task::Counts(scene, expr))? else {
         unreachable!()
     };
     Ok(found)

@@ -14,7 +14,7 @@ use crate::task::{Finds, Task, fills_by};
 use ember_expr::Expr;
 use ember_io::Shelf;
 use ember_model::{OutOfMemory, Scene};
-use ember_voxel::grid_text;
+use ember_voxel::{each_cell_has_its_value, grid_text};
 use ember_words::{Text, Texts};
 use std::alloc::Global;
 
@@ -32,6 +32,7 @@ fn text_of_voxels<C: Fn(&Task) -> Result<Finds, OutOfMemory>>(
     ensures { IfOk result (λ text. IsLatticeText scene.now.tris (formula_of expr.now) size text.items) }
 {
     let fills = fills_by(scene, expr, size, crew)?;
+    each_cell_has_its_value(scene, expr);
     grid_text(alloc, size, &fills)
 }
 

@@ -1,5 +1,5 @@
 -- What becomes of a job, by what is known of its box, whether it is a leaf, and its halving axis.
-use Rattle.std.proofs.Common.{◌≡◌, ℕ, Bool, true, false, if◌then◌else◌, Option, None, Some, is_some, List, refl, sym, ap, ap₂, ◌∙◌, subst}
+use Rattle.std.proofs.Common.{◌≡◌, Bool, true, false, if◌then◌else◌, Option, None, Some, is_some, List, refl, sym, ap, ap₂, ◌∙◌}
 use Rattle.ember_model.specs.declared.tri.Tri.{Tri}
 use Rattle.ember_model.specs.declared.point.Axis.{Axis}
 use Rattle.ember_expr.specs.Formula.{Formula}

@@ -3,10 +3,12 @@
 #![tactic(auto)]
 
 mod count;
+mod law;
 mod step;
 #[cfg(test)]
 mod tests;
 
 pub use count::{CountWork, count_step};
 pub use ember_visit::{box_value, halve_job, root_job};
+pub use law::{known_boxes_write_nothing, visited_leaves_write_all, written_regions_are_one_list};
 pub use step::{BoolWork, box_step};

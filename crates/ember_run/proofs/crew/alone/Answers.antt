@@ -1,4 +1,4 @@
-use Rattle.ember_run.proofs.Findings.{fills_found, fills_root, kept_found, pairs_found}
+use Rattle.ember_run.proofs.Findings.{counts_found, fills_found, fills_root, kept_found, pairs_found}
 use Rattle.ember_run.proofs.crew.alone.Goals as goal
 
 pub found_alone-requires-in-Fills-clause-root : goal.found_alone-requires-in-Fills-clause-root
@@ -16,3 +16,7 @@ returns-in_ok-found_alone-in-Fills g c =
 pub returns-in_ok-found_alone-in-Kept : goal.returns-in_ok-found_alone-in-Kept
 returns-in_ok-found_alone-in-Kept g c =
     kept_found _ _ _ _ _ c.in-Kept.is c.in_ok-root-in-Kept.ensures.value c.in_ok-found_alone-in-Kept.ensures.items c.in_ok-found_alone-in-Kept.ensures.journals
+
+pub returns-in_ok-found_alone-in-Counts : goal.returns-in_ok-found_alone-in-Counts
+returns-in_ok-found_alone-in-Counts g c =
+    counts_found _ _ _ _ _ c.in-Counts.is c.in_ok-root-in-Counts.ensures.value c.in_ok-found_alone-in-Counts.ensures.items c.in_ok-found_alone-in-Counts.ensures.journals

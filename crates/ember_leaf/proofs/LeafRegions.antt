@@ -1,0 +1,102 @@
+-- The start that the walls leave, cut by the blades that are found: the regions of the triangle.
+use Rattle.std.proofs.Common.{◌≡◌, ◌⊎◌, inl, inr, refl, sym, subst, arith, ℕ, true, false, List, [], ◌∷◌, map, ℤ, pos, ◌-ℤ◌, ◌*ℤ◌, ◌≤ℤ◌}
+use Rattle.std.specs.Int.{int_min, int_max}
+use Rattle.std.proofs.lemmas.Int.{clamps, by_lt_z}
+use borrow.Author.Differences.{ints}
+use Rattle.ember_algebra.specs.Relations.{done, Every}
+use Rattle.ember_algebra.proofs.Laws.{linear}
+use Rattle.ember_algebra.proofs.Ring.{◌⊕◌, ◌⊖◌, ◌⊗◌, ◌≈◌, num, solve, cancels}
+use Rattle.ember_model.specs.declared.point.Axis.{Axis}
+use Rattle.ember_model.specs.declared.point.Axis.TheVariants.{X, Y, Z}
+use Rattle.ember_model.specs.declared.point.Spot.{Spot}
+use Rattle.ember_model.specs.declared.tri.Tri.{Tri}
+use Rattle.ember_model.specs.declared.face.Face.{Face}
+use Rattle.ember_model.specs.Planes.{value_at, opposite}
+use Rattle.ember_model.specs.Faces.{is_inside, is_flat, face_of}
+use Rattle.ember_box.specs.declared.spans.Span.{Span}
+use Rattle.ember_box.specs.declared.spans.Spans.{Spans}
+use Rattle.ember_box.specs.Boxes.{Cell, low, high}
+use Rattle.ember_box.specs.Near.{tri_at}
+use Rattle.ember_box.specs.Spans.{spans_of, span_between}
+use Rattle.ember_box.specs.Regions.{level, walls, IsStart, AtBlade, splits, whole, blades, IsRegions}
+use Rattle.ember_box.specs.Regions as regions
+use Rattle.ember_ref.proofs.NearPoints.{coordinate}
+use Rattle.ember_ref.proofs.FarTriangles.{inside_closed}
+use Rattle.ember_poly.specs.Rings.{AtMost}
+use Rattle.ember_poly.proofs.FaceTests.{all_out}
+use Rattle.ember_poly.proofs.Reached.{least_from_opposite}
+use Rattle.ember_trace.specs.declared.facet.Facet.{Facet}
+use Rattle.ember_trace.specs.Boxed.{LiesIn}
+use Rattle.ember_trace.proofs.FilledFaces.{inside_below}
+use Rattle.ember_trace.proofs.BoxedRegions.{regions_lie_in}
+use Rattle.ember_leaf.specs.declared.wall.Wall as leaf
+use Rattle.ember_leaf.specs.declared.blade.Blade.{Blade}
+use Rattle.ember_leaf.specs.Walls.{wall_of, IsLeft}
+use Rattle.ember_leaf.specs.Blades.{blade_of, AreCut, IsHeld, AreHeld, IsBounded, Sheds, common, common_of}
+use Rattle.ember_leaf.proofs.Starting.{left_parts}
+use Rattle.ember_leaf.proofs.Apart.{bounds}
+use Rattle.ember_leaf.proofs.Shedding.{unshed}
+
+-- ---- points of boxes
+max_is : (a b : ℤ) → (int_max a b ≡ a) ⊎ (int_max a b ≡ b)
+max_is a b = by_lt_z a b (λ l. inr (omega (arith, ints, clamps, l))) (λ l. inl (omega (arith, ints, clamps, l)))
+
+min_is : (a b : ℤ) → (int_min a b ≡ a) ⊎ (int_min a b ≡ b)
+min_is a b = by_lt_z a b (λ l. inl (omega (arith, ints, clamps, l))) (λ l. inr (omega (arith, ints, clamps, l)))
+
+one_of : (P : ℤ → Type 0) {a b m : ℤ} → (m ≡ a) ⊎ (m ≡ b) → P a → P b → P m
+one_of P (inl e) p q = subst P (sym e) p
+one_of P (inr e) p q = subst P (sym e) q
+
+held_common : (a b : Span) (x w : ℤ) → IsHeld a x w → IsHeld b x w → IsHeld (common a b) x w
+held_common a b x w p q =
+    record { low = one_of (λ m. (m *ℤ w) ≤ℤ x) (max_is a.low b.low) p.low q.low; high = one_of (λ m. x ≤ℤ (m *ℤ w)) (min_is a.high b.high) p.high q.high }
+
+are_common : (a b : Spans) (v : Spot) → AreHeld a v → AreHeld b v → AreHeld (common_of a b) v
+are_common a b v p q =
+    record { x = held_common a.x b.x v.x v.w p.x q.x; y = held_common a.y b.y v.y v.w p.y q.y; z = held_common a.z b.z v.z v.w p.z q.z }
+
+level_value : (k : Axis) (h : ℤ) (v : Spot) → value_at (level k h) v ≡ coordinate k v -ℤ h *ℤ v.w
+level_value X h v =
+    solve 5 (λ x y z h w. num (pos 1) ⊗ x ⊕ num (pos 0) ⊗ y ⊕ num (pos 0) ⊗ z ⊖ h ⊗ w ≈ x ⊖ h ⊗ w) cancels v.x v.y v.z h v.w
+level_value Y h v =
+    solve 5 (λ x y z h w. num (pos 0) ⊗ x ⊕ num (pos 1) ⊗ y ⊕ num (pos 0) ⊗ z ⊖ h ⊗ w ≈ y ⊖ h ⊗ w) cancels v.x v.y v.z h v.w
+level_value Z h v =
+    solve 5 (λ x y z h w. num (pos 0) ⊗ x ⊕ num (pos 0) ⊗ y ⊕ num (pos 1) ⊗ z ⊖ h ⊗ w ≈ z ⊖ h ⊗ w) cancels v.x v.y v.z h v.w
+
+between : (k : Axis) (l h : ℤ) (v : Spot) → AtMost (opposite (level k l)) v → AtMost (level k h) v → IsHeld (span_between l h) (coordinate k v) v.w
+between k l h v p q =
+    let a = (least_from_opposite (level k l) v p).at_least in let b = q.at_most in let d = level_value k l v in let e = level_value k h v in
+    record { low = omega (arith, linear, a, d); high = omega (arith, linear, b, e) }
+
+in_cell : (c : Cell) (f : Face) (v : Spot) → LiesIn c f → is_inside f v ≡ true → AreHeld (spans_of c) v
+in_cell c f v l i =
+    let h = all_out (map (λ w. w.plane) (walls c)) v (l.holds v i) in
+    record { x = between X (low c X) (high c X) v h.0 h.1.0; y = between Y (low c Y) (high c Y) v h.1.1.0 h.1.1.1.0; z = between Z (low c Z) (high c Z) v h.1.1.1.1.0 h.1.1.1.1.1.0 }
+
+-- a start is the one region of a triangle that is alone
+start_lies_in : (c : Cell) (t : Tri) (f : Face) → IsStart c t (f ∷ []) → LiesIn c f
+start_lies_in c t f s =
+    regions_lie_in c (t ∷ []) 0 0 (f ∷ []) f (record { start = f ∷ []; is_start = s; cuts = done }) refl
+
+-- ---- regions
+bounded_keeps : (t : Tri) (s : Spans) (b : regions.Blade) (f : Face) (fs : List Face) → IsBounded t s f → AtBlade b f fs → Every (IsBounded t s) fs
+bounded_keeps t s b f fs h (splits m c) =
+    (record { within = record { holds = λ v i. h.within.holds v (inside_below f b.plane v i).0 }; bounds = record { holds = λ v i. h.bounds.holds v (inside_below f b.plane v i).0 } }, (record { within = record { holds = λ v i. h.within.holds v (inside_below f (opposite b.plane) v i).0 }; bounds = record { holds = λ v i. h.bounds.holds v (inside_below f (opposite b.plane) v i).0 } }, tt))
+bounded_keeps t s b f fs h (whole n) = (h, tt)
+
+module _ (c : Cell) (f : Facet) (ring : Face) where
+  start_bounded : (s : Spans) → s ≡ common_of f.spans (spans_of c) → IsStart c f.tri (ring ∷ []) → IsBounded f.tri s ring
+  start_bounded s q l =
+      let p = (left_parts f.tri l).0 in
+      record { within = p.within; bounds = record { holds = λ v i. subst (λ (b : Spans). AreHeld b v) (sym q) (are_common f.spans (spans_of c) v (own p.plane.normal v (p.within.holds v i)) (in_cell c ring v (start_lies_in c f.tri ring l) i)) } }
+    where
+      own : is_flat f.tri ≡ false → (v : Spot) → is_inside (face_of f.tri) v ≡ true → AreHeld f.spans v
+      own n v i =
+          let k = inside_closed (face_of f.tri) v i in
+          subst (λ (b : Spans). AreHeld b v) (sym f.bounds) (record { x = bounds X f.tri v n k; y = bounds Y f.tri v n k; z = bounds Z f.tri v n k })
+
+  pub leaf_regions : (ts : List Tri) (i : ℕ) (ws : List leaf.Wall) (bs : List Blade) (s : Spans) (list : List Face) → f.tri ≡ tri_at ts i → map wall_of ws ≡ walls c → s ≡ common_of f.spans (spans_of c) → IsLeft (map wall_of ws) f.tri (ring ∷ []) → Sheds (IsBounded f.tri s) (blades ts i) (map blade_of bs) → AreCut bs (ring ∷ []) list → IsRegions c ts i list
+  leaf_regions ts i ws bs s list e w q l h k =
+      let start : IsStart c f.tri (ring ∷ []) = subst (λ (vs : List regions.Wall). IsLeft vs f.tri (ring ∷ [])) w l in
+      record { start = ring ∷ []; is_start = subst (λ (t : Tri). IsStart c t (ring ∷ [])) e start; cuts = unshed (bounded_keeps f.tri s) h (start_bounded s q start, tt) k }

@@ -1,0 +1,10 @@
+use Rattle.ember_algebra.specs.Relations.{none}
+use Rattle.ember_leaf.proofs.Splitting.{region_unmet, whole_more}
+use Rattle.ember_leaf.proofs.regions.apart.Goals as goal
+
+pub loop-i-init : goal.loop-i-init
+loop-i-init c = none
+
+pub loop-i-preserved : goal.loop-i-preserved
+loop-i-preserved c =
+    whole_more c.args.b.now c.args.list.now c.loop-i.i c.index-list-i.result c.loop-i-test.true c.index-list-i.is c.loop-i.invariant (region_unmet c.args.b.now c.index-list-i.result c.is_met.ensures c.if-is_met.false)

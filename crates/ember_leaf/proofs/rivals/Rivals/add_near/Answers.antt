@@ -1,0 +1,7 @@
+use Rattle.std.proofs.Common.{◌∙◌, sym}
+use Rattle.ember_leaf.proofs.Shedding.{adds_away}
+use Rattle.ember_leaf.proofs.rivals.Rivals.add_near.Goals as goal
+
+pub returns-else-overlap-clause-blades : goal.returns-else-overlap-clause-blades
+returns-else-overlap-clause-blades c =
+    adds_away c.args.own.now.tri c.args.g.now.tri c.args.bounds.now c.args.g.now.spans c.args.self.now.blades.items c.args.g.now.bounds (sym c.overlap.ensures ∙ c.if-overlap.false)
