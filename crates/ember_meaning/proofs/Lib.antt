@@ -18,3 +18,5 @@ pub mod Steps
 pub mod Beside
 pub mod Held
 pub mod General
+pub mod GeneralLines
+pub mod ClearMeaning

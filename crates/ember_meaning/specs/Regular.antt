@@ -115,3 +115,9 @@ HasMeaning scene x ks a b p =
 abbrev pub HaveMeaningOnLines : List Tri → Formula → List Kept → Type 0
 HaveMeaningOnLines scene x ks =
     (a b : Axis) (p : Spot) → pos 0 <ℤ p.w → AreClear (faces_of scene) p → IsGeneralLine scene a p → HasMeaning scene x ks a b p
+
+-- the written regions have their meaning at each point that is clear of the scene's faces and of
+-- theirs: they wind along any axis as the expression has its value along any
+abbrev pub HaveMeaning : List Tri → Formula → List Kept → Type 0
+HaveMeaning scene x ks =
+    (a b : Axis) (p : Spot) → pos 0 <ℤ p.w → AreClear (faces_of scene) p → AreClear (map written_face ks) p → HasMeaning scene x ks a b p
