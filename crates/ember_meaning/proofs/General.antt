@@ -32,14 +32,15 @@ use Rattle.ember_leaf.specs.declared.kept.Kept.{Kept}
 use Rattle.ember_leaf.specs.Written.{AtRegion, unowned, even, written}
 use Rattle.ember_leaf.specs.Scenes.{IsWritten, HasOneValue}
 use Rattle.ember_text.specs.Texts.{seen}
-use Rattle.ember_meaning.specs.Lines.{seen as counts_ahead}
+use Rattle.ember_meaning.proofs.Lines.{seen as counts_ahead}
 use Rattle.ember_text.specs.Documents.{written_face}
 use Rattle.ember_trace.proofs.CutRegions.{IsCutOut, region_cut}
-use Rattle.ember_meaning.specs.Lines.{one_if}
-use Rattle.ember_meaning.specs.Cover.{IsFairAt, IsFairInAll, is_in_box}
-use Rattle.ember_meaning.specs.Entries.{Entry, IsListing, has_inside, is_hit_at, Without, ends, keeps, drops}
-use Rattle.ember_meaning.specs.Lines.{In, here, there, Fraction, is_below, key, is_hit, is_tri_hit, tri_key, tri_hits, Placed, onward, beyond}
-use Rattle.ember_meaning.specs.Regular.{place, SomeHit, IsGeneralAt, IsRegular, IsFalseOutside, HasMeaning, HaveMeaningOnLines}
+use Rattle.ember_meaning.specs.Meaning.{one_if}
+use Rattle.ember_meaning.proofs.Counted.{IsFairAt, IsFairInAll, is_in_box}
+use Rattle.ember_meaning.proofs.Listed.{Entry, IsListing, has_inside, is_hit_at, Without, ends, keeps, drops}
+use Rattle.ember_meaning.proofs.Lines.{In, here, there, Fraction, is_below, key, is_hit, is_tri_hit, tri_key, tri_hits, Placed, onward, beyond}
+use Rattle.ember_meaning.specs.Meaning.{IsFalseOutside, HasMeaning}
+use Rattle.ember_meaning.proofs.Regular.{place, SomeHit, IsGeneralAt, IsRegular, HaveMeaningOnLines}
 use Rattle.ember_meaning.proofs.Entries.{one_holds, listing}
 use Rattle.ember_law.proofs.Vectors.{axes_law}
 use Rattle.ember_meaning.proofs.Fractions.{fractions_order}

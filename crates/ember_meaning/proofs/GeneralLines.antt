@@ -1,5 +1,5 @@
 -- Beside every point there are general lines.
-use Rattle.std.proofs.Common.{◌≡◌, ◌≢◌, ℕ, zero, suc, ◌<◌, refl, ap, ◌∙◌, sym, List, [], ◌∷◌, length, Bool, true, false, not, ◌&&◌, ◌⊎◌, inl, inr, arith, ℤ, pos, negsuc, neg_ℤ, ◌+ℤ◌, ◌-ℤ◌, ◌*ℤ◌, ◌<ℤ◌}
+use Rattle.std.proofs.Common.{◌≡◌, ◌≢◌, ℕ, zero, suc, ◌<◌, refl, ap, ◌∙◌, sym, List, [], ◌∷◌, length, Bool, true, false, not, ◌⊎◌, inl, inr, arith, ℤ, pos, negsuc, neg_ℤ, ◌+ℤ◌, ◌-ℤ◌, ◌*ℤ◌, ◌<ℤ◌}
 use borrow.Author.Differences.{ints}
 use Rattle.std.specs.List.{AllByRecursion}
 use Rattle.std.proofs.lemmas.Bool.{cases_Bool, and_parts, false≢true, not-true}
@@ -20,7 +20,7 @@ use Rattle.ember_model.specs.Points.{scaled, moved, shifted}
 use Rattle.ember_model.specs.Faces.{size, hit, is_inside, is_flat, face_of}
 use Rattle.ember_model.specs.Clear.{AreClear, IsClearOf}
 use Rattle.ember_model.specs.Meshes.{faces_of}
-use Rattle.ember_model.proofs.Hits.{value_ray, ray_weight, inside_parts}
+use Rattle.ember_model.proofs.Hits.{value_ray, ray_weight}
 use Rattle.ember_model.proofs.PlaneValues.{value_hit}
 use lib.IntN.{*ℤ_comm}
 use Rattle.ember_model.proofs.SignTests.{clash, zero_out, nonzero_out, zero_scaled, zero_times, size_positive, positive_out}
@@ -33,9 +33,9 @@ use Rattle.ember_box.specs.Boxes.{Cell, root}
 use Rattle.ember_box.specs.Halving.{leaves}
 use Rattle.ember_box.specs.Near.{near, tri_at}
 use Rattle.ember_box.specs.Regions.{walls, blades}
-use Rattle.ember_meaning.specs.Cover.{Follows, IsOff, IsFair, IsFairAt, IsFairInAll}
-use Rattle.ember_meaning.specs.Lines.{In, is_hit, is_tri_hit, tri_hits}
-use Rattle.ember_meaning.specs.Regular.{IsGeneralAt, IsGeneralLine}
+use Rattle.ember_meaning.proofs.Counted.{IsOff, IsFair, IsFairAt}
+use Rattle.ember_meaning.proofs.Lines.{In, is_hit, is_tri_hit, tri_hits}
+use Rattle.ember_meaning.proofs.Regular.{IsGeneralAt, IsGeneralLine}
 use Rattle.ember_meaning.proofs.Members.{in_filter, of_filter, every_in}
 
 -- ---- what holds for every large number

@@ -1,3 +1,7 @@
+pub mod Lines
+pub mod Counted
+pub mod Listed
+pub mod Regular
 pub mod Parts
 pub mod Cover
 pub mod Leaf

@@ -5,7 +5,7 @@ use Rattle.std.proofs.lemmas.List.Sums.{sum_by-cons}
 use Rattle.std.proofs.lemmas.Bool.{cases_Bool, false≢true, or_right}
 use Rattle.ember_algebra.specs.Relations.{Each, none, more, Every}
 use Rattle.ember_box.specs.Sums.{number}
-use Rattle.ember_meaning.specs.Lines.{In, here, there}
+use Rattle.ember_meaning.proofs.Lines.{In, here, there}
 use Rattle.ember_meaning.proofs.Owned.{count_in}
 
 -- ---- members of a map and of a filter

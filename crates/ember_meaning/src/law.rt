@@ -3,7 +3,7 @@ ghost use Rattle.std.specs.Prelude.{List};
 ghost use Rattle.ember_expr.specs.Formula.{Formula};
 ghost use Rattle.ember_leaf.specs.declared.kept.Kept.{Kept};
 ghost use Rattle.ember_leaf.specs.Scenes.{IsWritten};
-ghost use Rattle.ember_meaning.specs.Regular.{IsFalseOutside, HaveMeaning};
+ghost use Rattle.ember_meaning.specs.Meaning.{IsFalseOutside, HaveMeaning};
 ghost use Rattle.ember_model.specs.Meshes.{IsScene};
 ghost use Rattle.ember_model.specs.declared.tri.Tri.{Tri};
 
