@@ -1,6 +1,8 @@
--- Beside every point there are general lines.
+-- Beside every point there are general lines: a line meets two planes at one place only where one
+-- is a multiple of the other.
 use Rattle.std.proofs.Common.{◌≡◌, ◌≢◌, ℕ, zero, suc, ◌<◌, refl, ap, ◌∙◌, sym, List, [], ◌∷◌, length, Bool, true, false, not, ◌⊎◌, inl, inr, arith, ℤ, pos, negsuc, neg_ℤ, ◌+ℤ◌, ◌-ℤ◌, ◌*ℤ◌, ◌<ℤ◌}
 use borrow.Author.Differences.{ints}
+use lib.IntN.{*ℤ_comm}
 use Rattle.std.specs.List.{AllByRecursion}
 use Rattle.std.proofs.lemmas.Bool.{cases_Bool, and_parts, false≢true, not-true}
 use Rattle.ember_algebra.specs.Large.{Eventually}
@@ -22,7 +24,6 @@ use Rattle.ember_model.specs.Clear.{AreClear, IsClearOf}
 use Rattle.ember_model.specs.Meshes.{faces_of}
 use Rattle.ember_model.proofs.Hits.{value_ray, ray_weight}
 use Rattle.ember_model.proofs.PlaneValues.{value_hit}
-use lib.IntN.{*ℤ_comm}
 use Rattle.ember_model.proofs.SignTests.{clash, zero_out, nonzero_out, zero_scaled, zero_times, size_positive, positive_out}
 use Rattle.ember_law.proofs.Flats.{flat_in}
 use Rattle.ember_law.proofs.Generic.{cancel_zero, at_hit_of}
@@ -113,10 +114,12 @@ all_zero h q w n e v =
     none : (x : ℤ) → neg_ℤ x ≡ pos 0 → x ≡ pos 0
     none x e = omega (arith, linear, e)
 
+-- a value at the hit is that of a plane at the point
 value_at_hit : (g n : Plane) (a : Axis) (p : Spot) → value_at (at_hit_of g n a) p ≡ value_at g (hit n a p)
 value_at_hit g n a p =
     solve 14 (λ m k ga gb gc gd na nb nc nd x y z w. (m ⊗ ga ⊕ k ⊗ na) ⊗ x ⊕ (m ⊗ gb ⊕ k ⊗ nb) ⊗ y ⊕ (m ⊗ gc ⊕ k ⊗ nc) ⊗ z ⊖ (m ⊗ gd ⊕ k ⊗ nd) ⊗ w ≈ m ⊗ (ga ⊗ x ⊕ gb ⊗ y ⊕ gc ⊗ z ⊖ gd ⊗ w) ⊕ k ⊗ (na ⊗ x ⊕ nb ⊗ y ⊕ nc ⊗ z ⊖ nd ⊗ w)) cancels (size (along n a)) (neg_ℤ (sign (along n a)) *ℤ along g a) g.a g.b g.c g.d n.a n.b n.c n.d p.x p.y p.z p.w ∙ solve 5 (λ m s k v u. m ⊗ v ⊕ neg s ⊗ k ⊗ u ≈ m ⊗ v ⊖ s ⊗ u ⊗ k) cancels (size (along n a)) (sign (along n a)) (along g a) (value_at g p) (value_at n p) ∙ sym (value_hit g n a p)
 
+-- the lines through points directly beside p are general to any two planes
 general_to : (a : Axis) (p : Spot) → pos 0 <ℤ p.w → (n g : Plane) → Eventually (λ m. IsGeneralTo a (shifted p (pos m)) n g)
 general_to a p w n g =
     eventually_map (λ m h e. let q = shifted p (pos m) in let z = value_at_hit g n a q ∙ e in record { zero = λ v. sym (value_at_hit g n a v) ∙ all_zero (at_hit_of g n a) q h.0 (h.1 z) z v }) (eventually_both (weight_shifted p w) (off_shifted p (at_hit_of g n a)))
@@ -144,15 +147,18 @@ general_for k p w n u =
     axes m x y z Y = y
     axes m x y z Z = z
 
+-- where the line through q along k meets the plane n
 module _ (k : Axis) (q : Spot) (n : Plane) (crosses : along n k ≢ pos 0) where
   abbrev place : Spot
   place = hit n k q
 
+  -- a triangle's plane that is a multiple of n doesn't hold the line
   slope : (u : Tri) → is_flat u ≡ false → IsMultiple k n (support_of u) → along (support_of u) k ≢ pos 0
   slope u f m z =
       let h = no_normal (support_of u) (level k n (support_of u) m crosses z) in
       clash (flat_in u (record { a = h.0; b = h.1; c = h.2 })) f
 
+  -- a plane that is 0 at the place where a triangle's is, is 0 wherever that is
   off_plane : (u : Tri) (g : Plane) → is_flat u ≡ false → IsGeneralTo k q n (support_of u) → IsGeneralTo k q n g → IsOff place (support_of u) g
   off_plane u g f hs hg =
       by (cases_Bool (is_zero (value_at (support_of u) place))) (cases_Bool (is_zero (value_at g place)))
