@@ -16,7 +16,7 @@ use Rattle.ember_model.proofs.SignTests.{positive_out, zero_out}
 use Rattle.ember_box.specs.Sums.{number}
 use Rattle.ember_box.specs.Regions.{Wall, AtWall, cut, outside, in_high, stays, Blade, AtBlade, splits, whole, IsAbove, LiesOn}
 use Rattle.ember_trace.proofs.FilledFaces.{fills}
-use Rattle.ember_meaning.specs.Cover.{IsOff, hits, passes}
+use Rattle.ember_meaning.proofs.Counted.{IsOff, hits, passes}
 use Rattle.ember_meaning.proofs.Parts.{by_tests, not_zero_negative, is_inside-below, is_inside-above, on_support}
 
 -- a plane that cuts a face is no multiple of its support

@@ -18,8 +18,8 @@ use Rattle.ember_expr.specs.Formula.{Formula}
 use Rattle.ember_leaf.specs.declared.kept.Kept.{Kept}
 use Rattle.ember_leaf.specs.Written.{AtRegion, IsWrittenOf}
 use Rattle.ember_leaf.specs.Scenes.{HasOneValue, LeafGives, regions, nothing}
-use Rattle.ember_meaning.specs.Cover.{hits, is_in_box, IsFair, IsFairAt, IsFairInAll}
-use Rattle.ember_meaning.specs.Entries.{Entry, entry, IsEntriesOf, IsEntriesIn, IsEntries, has_inside, is_hit_at, Without, ends, keeps, drops}
+use Rattle.ember_meaning.proofs.Counted.{hits, is_in_box, IsFair, IsFairAt, IsFairInAll}
+use Rattle.ember_meaning.proofs.Listed.{Entry, entry, IsEntriesOf, IsEntriesIn, IsEntries, has_inside, is_hit_at, Without, ends, keeps, drops}
 use Rattle.ember_meaning.proofs.Leaf.{leaf_count}
 use Rattle.ember_meaning.proofs.Tree.{leaves_count}
 

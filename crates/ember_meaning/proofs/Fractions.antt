@@ -6,7 +6,7 @@ use Rattle.std.proofs.lemmas.Int.{by_lt_z}
 use Rattle.ember_algebra.proofs.Laws.{linear}
 use Rattle.ember_algebra.proofs.Order.{mul_lt, mul_le, cancel_lt, cross_trans}
 use Rattle.ember_algebra.proofs.Ring.{◌⊗◌, ◌≈◌, solve, cancels}
-use Rattle.ember_meaning.specs.Lines.{IsOrder, Fraction, is_below}
+use Rattle.ember_meaning.proofs.Lines.{IsOrder, Fraction, is_below}
 
 lt_yes : (a b : ℤ) → a <ℤ b → int_lt a b ≡ true
 lt_yes a b h = grind (arith, ints)

@@ -32,19 +32,20 @@ use Rattle.ember_leaf.specs.declared.kept.Kept.{Kept}
 use Rattle.ember_leaf.specs.Written.{AtRegion, unowned, even, written}
 use Rattle.ember_leaf.specs.Scenes.{IsWritten, HasOneValue}
 use Rattle.ember_text.specs.Texts.{seen}
-use Rattle.ember_meaning.specs.Lines.{seen as counts_ahead}
+use Rattle.ember_meaning.proofs.Lines.{seen as counts_ahead}
 use Rattle.ember_text.specs.Documents.{written_face}
 use Rattle.ember_trace.proofs.CutRegions.{IsCutOut, region_cut}
-use Rattle.ember_meaning.specs.Lines.{one_if}
-use Rattle.ember_meaning.specs.Cover.{IsFairAt, IsFairInAll, is_in_box}
-use Rattle.ember_meaning.specs.Entries.{Entry, IsListing, has_inside, is_hit_at, Without, ends, keeps, drops}
-use Rattle.ember_meaning.specs.Lines.{In, here, there, Fraction, is_below, key, is_hit, is_tri_hit, tri_key, tri_hits, Placed, onward, beyond}
-use Rattle.ember_meaning.specs.Regular.{place, SomeHit, IsGeneralAt, IsRegular, IsFalseOutside, HasMeaning, HaveMeaningOnLines}
+use Rattle.ember_meaning.specs.Meaning.{one_if}
+use Rattle.ember_meaning.proofs.Counted.{IsFairAt, IsFairInAll, is_in_box}
+use Rattle.ember_meaning.proofs.Listed.{Entry, IsListing, has_inside, is_hit_at, Without, ends, keeps, drops}
+use Rattle.ember_meaning.proofs.Lines.{In, here, there, Fraction, is_below, key, is_hit, is_tri_hit, tri_key, tri_hits, Placed, onward, beyond}
+use Rattle.ember_meaning.specs.Meaning.{IsFalseOutside, HasMeaning}
+use Rattle.ember_meaning.proofs.Regular.{place, SomeHit, IsGeneralAt, IsRegular, HaveMeaningOnLines}
 use Rattle.ember_meaning.proofs.Entries.{one_holds, listing}
 use Rattle.ember_law.proofs.Vectors.{axes_law}
 use Rattle.ember_meaning.proofs.Fractions.{fractions_order}
 use Rattle.ember_meaning.proofs.Meaning.{meaning_along, first}
-use Rattle.ember_meaning.proofs.Members.{in_map, source, in_filter, giver, stands, any_in, passing}
+use Rattle.ember_meaning.proofs.Members.{in_map, source, in_filter, of_filter, every_in, giver, stands, any_in, passing}
 use Rattle.ember_meaning.proofs.Owners.{IsOf, entry_of, support_is, inside_tri, owned}
 use Rattle.ember_meaning.proofs.Owners.{first as first_only}
 use Rattle.ember_meaning.proofs.Tree.{leaves_count}
@@ -59,15 +60,6 @@ in_at [] i l = absurd (omega arith)
 in_at (t ∷ ts) zero l = here
 in_at (t ∷ ts) (suc i) l = there (in_at ts i (omega arith))
 
-of_part : {X : Type 0} (b : Bool) (a : X) (l xs : List X) (x : X) → In x (cond b (a ∷ l) l) → (In x l → In x xs) → In x (a ∷ xs)
-of_part true a l xs x here f = here
-of_part true a l xs x (there j) f = there (f j)
-of_part false a l xs x j f = there (f j)
-
-of_filter : {X : Type 0} (q : X → Bool) (xs : List X) (x : X) → In x (filter q xs) → In x xs
-of_filter q [] x i = elim i [ ]
-of_filter q (a ∷ xs) x i = of_part (q a) a (filter q xs) xs x i (λ j. of_filter q xs x j)
-
 to_filter : {X : Type 0} (q : X → Bool) (xs : List X) (x : X) → In x xs → q x ≡ true → In x (filter q xs)
 to_filter q [] x i h = elim i [ ]
 to_filter q (a ∷ xs) x here h = rw h here
@@ -81,11 +73,6 @@ every_without : {X : Type 0} {P : X → Type 0} (Q : X → Type 0) {xs ys : List
 every_without Q ends h = h
 every_without Q (keeps w) h = (h.0, every_without Q w h.1)
 every_without Q (drops d w) h = every_without Q w h.1
-
-every_in : {X : Type 0} (P : X → Type 0) (xs : List X) (x : X) → Every P xs → In x xs → P x
-every_in P [] x h i = elim i [ ]
-every_in P (a ∷ xs) x h here = h.0
-every_in P (a ∷ xs) x h (there i) = every_in P xs x h.1 i
 
 -- ---- the triangle of an entry
 module _ (scene : List Tri) (cs : List Cell) (e : Entry) (o : IsOf scene cs e) where
@@ -241,8 +228,8 @@ module _ (scene : List Tri) (x : Formula) (ks : List Kept) (cs : List Cell) (es 
           some e h = let o = ap number h in omega (arith, e, o)
 
 -- ---- the meaning
-pub meaning_of_written : (scene : List Tri) (count : ℕ) (x : Formula) (ks : List Kept) → IsScene scene count → IsWritten scene x ks → IsFalseOutside x → HaveMeaningOnLines scene x ks
-meaning_of_written scene count x ks v w o a b p positive clear general =
+pub meaning_on_lines : (scene : List Tri) (count : ℕ) (x : Formula) (ks : List Kept) → IsScene scene count → IsWritten scene x ks → IsFalseOutside x → HaveMeaningOnLines scene x ks
+meaning_on_lines scene count x ks v w o a b p positive clear general =
     let l = listing scene x w in
     let is : IsListing scene x ks l.cells l.entries = record { listed = l.listed; are_entries = l.are_entries; are_written = l.are_written } in
     let m = meaning_along scene x a p l.cells l.entries ks l.listed l.are_entries l.are_written o (record { regular = λ t i. regular scene x ks l.cells l.entries is a p count v t i (general t i); placed = placed scene x ks l.cells l.entries is a p }) (record { num = pos 0; den = 0 }) in

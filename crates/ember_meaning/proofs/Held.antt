@@ -17,9 +17,9 @@ use Rattle.ember_model.specs.Faces.{is_in_closed, is_flat, face_of}
 use Rattle.ember_box.specs.Boxes.{Cell, low, high, root}
 use Rattle.ember_box.specs.Sums.{number}
 use Rattle.ember_ref.proofs.NearPoints.{HasPoint, past_corners}
-use Rattle.ember_meaning.specs.Cover.{is_between, is_in_box}
-use Rattle.ember_meaning.specs.Entries.{Without, ends, keeps, drops}
-use Rattle.ember_meaning.specs.Lines.{In, here, there}
+use Rattle.ember_meaning.proofs.Counted.{is_between, is_in_box}
+use Rattle.ember_meaning.proofs.Listed.{Without, ends, keeps, drops}
+use Rattle.ember_meaning.proofs.Lines.{In, here, there}
 
 -- ---- the half-open box lies in the closed one
 le_fact : (a b : ℤ) → int_le a b ≡ true → a ≤ℤ b

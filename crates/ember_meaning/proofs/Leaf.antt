@@ -21,7 +21,7 @@ use Rattle.ember_box.specs.Near.{tri_at}
 use Rattle.ember_box.specs.Sums.{number}
 use Rattle.ember_box.specs.Regions.{AtWall, low_wall, high_wall, walls, IsRegions, blades}
 use Rattle.ember_ref.proofs.NearPoints.{coordinate}
-use Rattle.ember_meaning.specs.Cover.{hits, passes, is_in_box, IsFair}
+use Rattle.ember_meaning.proofs.Counted.{hits, passes, is_in_box, IsFair}
 use Rattle.ember_meaning.proofs.Cover.{blades_count, start_count}
 
 -- ---- the walls are the half-open box

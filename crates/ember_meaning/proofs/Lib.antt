@@ -1,3 +1,7 @@
+pub mod Lines
+pub mod Counted
+pub mod Listed
+pub mod Regular
 pub mod Parts
 pub mod Cover
 pub mod Leaf
@@ -18,3 +22,5 @@ pub mod Steps
 pub mod Beside
 pub mod Held
 pub mod General
+pub mod GeneralLines
+pub mod ClearMeaning

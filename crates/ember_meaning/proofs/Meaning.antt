@@ -25,10 +25,12 @@ use Rattle.ember_leaf.specs.declared.kept.Kept.{Kept}
 use Rattle.ember_leaf.specs.Written.{AtRegion, unowned, even, written}
 use Rattle.ember_leaf.specs.Scenes.{HasOneValue}
 use Rattle.ember_text.specs.Documents.{written_face}
-use Rattle.ember_meaning.specs.Cover.{is_in_box}
-use Rattle.ember_meaning.specs.Entries.{Entry, IsEntries, is_hit_at, Without}
-use Rattle.ember_meaning.specs.Lines.{In, total_of, one_if, Fraction, is_below, on_line, key, is_hit, amount, beyond, onward, is_same_place, is_tri_hit, tri_key, tri_hits, seen}
-use Rattle.ember_meaning.specs.Regular.{before_hit, after_hit, place, truth_before, truth_after, truth_ahead, truth_back, IsRegular, IsRegularLine, IsFalseOutside}
+use Rattle.ember_meaning.proofs.Counted.{is_in_box}
+use Rattle.ember_meaning.proofs.Listed.{Entry, IsEntries, is_hit_at, Without}
+use Rattle.ember_meaning.specs.Meaning.{one_if}
+use Rattle.ember_meaning.proofs.Lines.{In, total_of, Fraction, is_below, on_line, key, is_hit, amount, beyond, onward, is_same_place, is_tri_hit, tri_key, tri_hits, seen}
+use Rattle.ember_meaning.specs.Meaning.{IsFalseOutside}
+use Rattle.ember_meaning.proofs.Regular.{before_hit, after_hit, place, truth_before, truth_after, truth_ahead, truth_back, IsRegular, IsRegularLine}
 use Rattle.ember_meaning.proofs.AlongLine.{along_line, total_of-filter}
 use Rattle.ember_meaning.proofs.Entries.{entries_count, one_holds}
 use Rattle.ember_meaning.proofs.Members.{in_map, Source, source, in_filter}

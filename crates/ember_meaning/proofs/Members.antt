@@ -3,9 +3,9 @@ use Rattle.std.proofs.Common.{◌≡◌, ℕ, zero, suc, ◌+◌, ◌<◌, ◌�
 use Rattle.std.specs.List.{filter, list_any, count_by, range_with_len}
 use Rattle.std.proofs.lemmas.List.Sums.{sum_by-cons}
 use Rattle.std.proofs.lemmas.Bool.{cases_Bool, false≢true, or_right}
-use Rattle.ember_algebra.specs.Relations.{Each, none, more}
+use Rattle.ember_algebra.specs.Relations.{Each, none, more, Every}
 use Rattle.ember_box.specs.Sums.{number}
-use Rattle.ember_meaning.specs.Lines.{In, here, there}
+use Rattle.ember_meaning.proofs.Lines.{In, here, there}
 use Rattle.ember_meaning.proofs.Owned.{count_in}
 
 -- ---- members of a map and of a filter
@@ -32,6 +32,20 @@ of_cons q false a l x e i f = f i
 pub in_filter : {T : Type 0} (q : T → Bool) (xs : List T) (x : T) → In x (filter q xs) → q x ≡ true
 in_filter q [] x i = elim i [ ]
 in_filter q (a ∷ xs) x i = of_cons q (q a) a (filter q xs) x refl i (λ j. in_filter q xs x j)
+
+of_part : {X : Type 0} (b : Bool) (a : X) (l xs : List X) (x : X) → In x (cond b (a ∷ l) l) → (In x l → In x xs) → In x (a ∷ xs)
+of_part true a l xs x here f = here
+of_part true a l xs x (there j) f = there (f j)
+of_part false a l xs x j f = there (f j)
+
+pub of_filter : {X : Type 0} (q : X → Bool) (xs : List X) (x : X) → In x (filter q xs) → In x xs
+of_filter q [] x i = elim i [ ]
+of_filter q (a ∷ xs) x i = of_part (q a) a (filter q xs) xs x i (λ j. of_filter q xs x j)
+
+pub every_in : {X : Type 0} (P : X → Type 0) (xs : List X) (x : X) → Every P xs → In x xs → P x
+every_in P [] x h i = elim i [ ]
+every_in P (a ∷ xs) x h here = h.0
+every_in P (a ∷ xs) x h (there i) = every_in P xs x h.1 i
 
 -- ---- members of a sum of lists
 in_append : {X : Type 0} (xs ys : List X) (x : X) → In x (xs ++ ys) → In x xs ⊎ In x ys

@@ -19,7 +19,7 @@ use Rattle.ember_model.specs.Faces.{size, is_inside, hit, crossing}
 use Rattle.ember_model.proofs.SignTests.{negative_in, negative_not}
 use Rattle.ember_model.proofs.PlaneValues.{value_hit, size-is}
 use Rattle.ember_model.proofs.Hits.{Scales, inside_scaled, value_ray}
-use Rattle.ember_meaning.specs.Lines.{Fraction, is_below, on_line, key, is_hit, amount}
+use Rattle.ember_meaning.proofs.Lines.{Fraction, is_below, on_line, key, is_hit, amount}
 
 -- from all points of a line a plane is hit at one place
 pub hit_ahead : (n : Plane) (a : Axis) (p : Spot) (m s : ℤ) → Scales m (hit n a p) (hit n a (moved (scaled m p) a s))

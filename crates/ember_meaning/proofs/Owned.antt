@@ -8,7 +8,7 @@ use Rattle.std.proofs.lemmas.Bool.{cases_Bool, false≢true, eq-eqb, ne_eqb, cas
 use Rattle.ember_algebra.specs.Relations.{Each, none, more}
 use Rattle.ember_algebra.proofs.Laws.{linear}
 use Rattle.ember_box.specs.Sums.{number}
-use Rattle.ember_meaning.specs.Lines.{In, here, there, total_of}
+use Rattle.ember_meaning.proofs.Lines.{In, here, there, total_of}
 use Rattle.ember_meaning.proofs.Telescope.{count_same}
 
 pub count_in : {E : Type 0} (p : E → Bool) (es : List E) (e : E) → In e es → p e ≡ true → 0 < count_by p es

@@ -20,9 +20,9 @@ use Rattle.ember_trace.proofs.BoxedRegions.{region_inside}
 use Rattle.ember_trace.proofs.CutRegions.{IsCutOut, region_cut}
 use Rattle.ember_trace.proofs.FlatPlanes.{lies_flat, shared_face}
 use Rattle.ember_trace.proofs.SharedPlanes.{on_plane}
-use Rattle.ember_meaning.specs.Cover.{is_in_box, IsFairAt}
-use Rattle.ember_meaning.specs.Entries.{Entry, entry, IsEntries, has_inside, is_hit_at}
-use Rattle.ember_meaning.specs.Lines.{In}
+use Rattle.ember_meaning.proofs.Counted.{is_in_box, IsFairAt}
+use Rattle.ember_meaning.proofs.Listed.{Entry, entry, IsEntries, has_inside, is_hit_at}
+use Rattle.ember_meaning.proofs.Lines.{In}
 use Rattle.ember_meaning.proofs.Leaf.{leaf_count}
 use Rattle.ember_meaning.proofs.Members.{source, giver, stands, in_range, any_in, Passes, passing, only_one}
 use Rattle.ember_meaning.proofs.Owned.{count_in}

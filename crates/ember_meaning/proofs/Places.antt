@@ -15,7 +15,7 @@ use Rattle.ember_model.specs.Faces.{size, is_inside, hit}
 use Rattle.ember_model.proofs.SignTests.{size_positive, nonzero_out, zero_out}
 use Rattle.ember_model.proofs.PlaneValues.{value_hit, value_scaled, size-is}
 use Rattle.ember_model.proofs.Hits.{Scales, scales, inside_scaled}
-use Rattle.ember_meaning.specs.Lines.{is_below, key, is_same_place}
+use Rattle.ember_meaning.proofs.Lines.{is_below, key, is_same_place}
 use Rattle.ember_meaning.proofs.OnLine.{size_up}
 use Rattle.ember_meaning.proofs.Parts.{on_support}
 

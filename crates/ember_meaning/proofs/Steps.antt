@@ -21,7 +21,7 @@ use Rattle.ember_model.specs.Points.{scaled, moved}
 use Rattle.ember_model.specs.Faces.{size, hit}
 use Rattle.ember_model.specs.Meshes.{vector}
 use Rattle.ember_model.proofs.Tuples.{same_spot}
-use Rattle.ember_meaning.specs.Lines.{Fraction, is_below, on_line, key, beyond, onward, tri_key, tri_hits, seen}
+use Rattle.ember_meaning.proofs.Lines.{Fraction, is_below, on_line, key, beyond, onward, tri_key, tri_hits, seen}
 use Rattle.ember_meaning.proofs.AlongLine.{vector-on_line}
 use Rattle.ember_meaning.proofs.OnLine.{size_up}
 

@@ -5,7 +5,8 @@ use Rattle.std.proofs.lemmas.List.Sums.{sum_by-cons}
 use Rattle.std.proofs.lemmas.Bool.{cases_Bool, false≢true, and_parts, not-true}
 use Rattle.ember_algebra.proofs.Laws.{linear}
 use Rattle.ember_box.specs.Sums.{number}
-use Rattle.ember_meaning.specs.Lines.{In, here, there, IsOrder, total_of, one_if, beyond, onward, is_same_place, Placed}
+use Rattle.ember_meaning.specs.Meaning.{one_if}
+use Rattle.ember_meaning.proofs.Lines.{In, here, there, IsOrder, total_of, beyond, onward, is_same_place, Placed}
 
 -- ---- lists whose members pass alike
 pub filter_same : {H : Type 0} (p q : H → Bool) (hs : List H) → ((h : H) → In h hs → p h ≡ q h) → filter p hs ≡ filter q hs

@@ -12,7 +12,7 @@ use Rattle.ember_model.specs.declared.face.Face.{Face}
 use Rattle.ember_model.specs.Planes.{value_at, along, opposite}
 use Rattle.ember_model.specs.Points.{scaled, moved}
 use Rattle.ember_model.specs.Faces.{size, is_inside, hit, turned}
-use Rattle.ember_meaning.specs.Lines.{key, is_hit, amount}
+use Rattle.ember_meaning.proofs.Lines.{key, is_hit, amount}
 use Rattle.ember_meaning.proofs.Parts.{value-opposite}
 
 zero-neg : (z : ℤ) → is_zero (neg_ℤ z) ≡ is_zero z

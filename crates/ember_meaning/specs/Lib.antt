@@ -1,4 +1,1 @@
-pub mod Cover
-pub mod Entries
-pub mod Lines
-pub mod Regular
+pub mod Meaning

@@ -1,5 +1,5 @@
-//! What the written regions of a scene mean: at a point off all faces they wind once where the
-//! expression holds, and not at all elsewhere.
+//! What the written regions of a scene mean: at each point that is clear of all faces they wind
+//! once where the expression holds, and not at all elsewhere.
 #![tactic(auto)]
 
 mod law;

@@ -1,4 +1,4 @@
-use Rattle.ember_meaning.proofs.General.{meaning_of_written}
+use Rattle.ember_meaning.proofs.ClearMeaning.{meaning_of_written}
 use Rattle.ember_meaning.proofs.law.written_regions_have_their_meaning.Goals as goal
 
 pub returns : goal.returns

@@ -1,5 +1,5 @@
 -- What is owed at the hits of a line for the written regions to wind there as the expression says
-use Rattle.std.specs.Prelude.{◌⊎◌, ◌≡◌, ℕ, ◌<◌, Bool, true, false, cond, List, map, filter, replicate, ℤ, pos, negsuc, ◌<ℤ◌}
+use Rattle.std.specs.Prelude.{◌⊎◌, ◌≡◌, ℕ, ◌<◌, Bool, true, false, cond, List, map, filter, ℤ, pos, negsuc, ◌<ℤ◌}
 use Rattle.ember_algebra.specs.Large.{Eventually}
 use Rattle.ember_algebra.specs.Sign.{is_positive, is_zero}
 use Rattle.ember_model.specs.declared.tri.Tri.{Tri}
@@ -8,7 +8,7 @@ use Rattle.ember_model.specs.declared.point.Axis.{Axis}
 use Rattle.ember_model.specs.declared.face.Face.{Face}
 use Rattle.ember_model.specs.Planes.{value_at, support_of, along, main_axis}
 use Rattle.ember_model.specs.Faces.{is_inside, is_flat, face_of, hit}
-use Rattle.ember_model.specs.Meshes.{wind, vector, faces_of}
+use Rattle.ember_model.specs.Meshes.{faces_of}
 use Rattle.ember_model.specs.Points.{scaled, moved}
 use Rattle.ember_model.specs.Clear.{AreClear}
 use Rattle.ember_model.specs.Owners.{IsOwner}
@@ -21,9 +21,10 @@ use Rattle.ember_box.specs.Near.{near}
 use Rattle.ember_leaf.specs.declared.kept.Kept.{Kept}
 use Rattle.ember_leaf.specs.Written.{front}
 use Rattle.ember_text.specs.Documents.{written_face}
-use Rattle.ember_meaning.specs.Cover.{IsFairInAll}
-use Rattle.ember_meaning.specs.Entries.{Entry, is_hit_at}
-use Rattle.ember_meaning.specs.Lines.{In, is_below, key, is_hit, Placed, beyond, onward, tri_key, tri_hits, seen, one_if}
+use Rattle.ember_meaning.proofs.Counted.{IsFairInAll}
+use Rattle.ember_meaning.proofs.Listed.{Entry, is_hit_at}
+use Rattle.ember_meaning.specs.Meaning.{HasMeaning}
+use Rattle.ember_meaning.proofs.Lines.{In, is_below, key, is_hit, Placed, beyond, onward, tri_key, tri_hits, seen}
 
 -- the winding numbers behind a region, of those before and after it along its main axis
 abbrev pub behind : Face → List ℤ → List ℤ → List ℤ
@@ -99,19 +100,7 @@ abbrev pub IsGeneralLine : List Tri → Axis → Spot → Type 0
 IsGeneralLine scene k p =
     (t : Tri) → In t (tri_hits k p scene) → IsGeneralAt scene k (hit (face_of t).support k p)
 
--- the expression is false where all winding numbers are 0
-abbrev pub IsFalseOutside : Formula → Type 0
-IsFalseOutside x = truth (replicate 64 (pos 0)) x ≡ false
-
--- at p the written regions wind once along the axis where the expression holds, and not at all
--- elsewhere
-abbrev pub HasMeaning : List Tri → Formula → List Kept → Axis → Axis → Spot → Type 0
-HasMeaning scene x ks a b p =
-    wind a (map written_face ks) p ≡ one_if (truth (vector b scene p) x)
-
--- the written regions have their meaning at each clear point on a general line, along the line's
--- axis
--- as the expression has its value along any
+-- the written regions have their meaning at each clear point on a general line along their axis
 abbrev pub HaveMeaningOnLines : List Tri → Formula → List Kept → Type 0
 HaveMeaningOnLines scene x ks =
     (a b : Axis) (p : Spot) → pos 0 <ℤ p.w → AreClear (faces_of scene) p → IsGeneralLine scene a p → HasMeaning scene x ks a b p

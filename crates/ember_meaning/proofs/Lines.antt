@@ -26,10 +26,6 @@ pub record IsOrder {K : Type 0} (before : K → K → Bool) : Type 0 where
 abbrev pub total_of : {W : Type 0} → (W → ℤ) → (W → Bool) → List W → ℤ
 total_of amount p ws = total (λ w. cond (p w) (amount w) (pos 0)) ws
 
--- the number of a truth
-abbrev pub one_if : Bool → ℤ
-one_if b = cond b (pos 1) (pos 0)
-
 module _ {K : Type 0} (before : K → K → Bool) where
   -- those of the list that lie beyond the key, and those not before it
   abbrev pub beyond : {H : Type 0} → (H → K) → K → List H → List H
