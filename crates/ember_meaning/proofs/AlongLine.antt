@@ -1,4 +1,5 @@
--- The meaning on one line: from each of its points the faces wind as the value says, if at each hit they do.
+-- The meaning on one line: from each of its points the faces wind as the value says, if at each hit
+-- they do.
 use Rattle.std.proofs.Common.{◌≡◌, ℕ, refl, ap, ◌∙◌, sym, List, [], ◌∷◌, map, Bool, true, false, not, ◌&&◌, cond, nat_eq, ℤ, pos, ◌-ℤ◌}
 use Rattle.std.specs.List.{filter}
 use Rattle.ember_algebra.proofs.Sums.{total-map, total-filter, total_same}
@@ -58,7 +59,8 @@ vector-on_line k p y ts =
     map_same (λ m. wind k (faces_of (of_mesh m ts)) (on_line k p y)) (λ m. total_of (λ t. amount k (face_of t)) (λ t. nat_eq t.mesh m) (beyond is_below (tri_key k p) y (tri_hits k p ts))) meshes (λ m. wind_mesh k p y m ts ∙ sym (total_of-filter (λ t. amount k (face_of t)) (is_tri_hit k p) (λ t. is_below y (tri_key k p t) && nat_eq t.mesh m) ts) ∙ sym (total_of-filter (λ t. amount k (face_of t)) (λ t. is_below y (tri_key k p t)) (λ t. nat_eq t.mesh m) (tri_hits k p ts)))
 
 -- ---- the line's claim
--- ws are the written faces; at the key of each triangle that is hit they change by as much as the value
+-- ws are the written faces; at the key of each triangle that is hit they change by as much as the
+-- value
 pub record IsWrittenAlong (ts : List Tri) (holds : List ℤ → Bool) (ws : List Face) (k : Axis) (p : Spot) (ks : List Fraction) : Type 0 where
   pub tris : (t : Tri) → In t (tri_hits k p ts) → In (tri_key k p t) ks
   pub faces : (w : Face) → In w (filter (is_hit k p) ws) → Placed is_below ks (key k p w)

@@ -1,4 +1,5 @@
--- Directly before and after a hit the expression is as on the sides of a region that holds the place.
+-- Directly before and after a hit the expression is as on the sides of a region that holds the
+-- place.
 use Rattle.std.proofs.Common.{◌≡◌, ◌≢◌, ℕ, zero, suc, ◌+◌, refl, ap, ◌∙◌, sym, subst, List, Bool, true, false, cond, ℤ, pos, negsuc, ◌*ℤ◌, neg_ℤ, ◌<ℤ◌, inl, inr, arith}
 use borrow.Author.Differences.{ints}
 use Rattle.ember_algebra.specs.Large.{Eventually}
@@ -33,7 +34,8 @@ below_zero (pos zero) z p = absurd (clash refl z)
 below_zero (pos (suc n)) z p = absurd (clash refl p)
 below_zero (negsuc n) z p = omega (arith, ints)
 
--- ---- what is seen before and after, by the signs of the entries along the line and along the main axis
+-- ---- what is seen before and after, by the signs of the entries along the line and along the main
+-- axis
 told_before : (x : Formula) (p q : Bool) (w before after : List ℤ) → (p ≡ true → q ≡ true → w ≡ before) → (p ≡ true → q ≡ false → w ≡ after) → (p ≡ false → q ≡ true → w ≡ after) → (p ≡ false → q ≡ false → w ≡ before) → truth w x ≡ cond p (truth (cond q before after) x) (truth (cond q after before) x)
 told_before x true true w b a f g h k = ap (λ v. truth v x) (f refl refl)
 told_before x true false w b a f g h k = ap (λ v. truth v x) (g refl refl)

@@ -1,4 +1,5 @@
--- Each inside point of a triangle's face that lies off the cutting planes is inside exactly one region.
+-- Each inside point of a triangle's face that lies off the cutting planes is inside exactly one
+-- region.
 use Rattle.std.proofs.Common.{◌≡◌, ℕ, ◌+◌, refl, ap, ◌∙◌, sym, subst, List, [], ◌∷◌, Bool, true, false, not, ◌&&◌, ◌||◌, cond, zero, suc, ℤ, pos, negsuc, ◌⊎◌, inl, inr, ⊎_elim, arith}
 use Rattle.std.specs.List.{list_all, sum_by}
 use Rattle.std.proofs.lemmas.Bool.{cases_Bool, false≢true}

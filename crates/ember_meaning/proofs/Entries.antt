@@ -95,7 +95,8 @@ units : {X : Type 0} (xs : List X) → Every (λ x. Unit {0}) xs
 units [] = tt
 units (x ∷ xs) = (tt, units xs)
 
--- the regions of place t in one leaf that hold x: one where the leaf holds x and the triangle's face has it inside, else none
+-- the regions of place t in one leaf that hold x: one where the leaf holds x and the triangle's
+-- face has it inside, else none
 pub regions_count : (scene : List Tri) (x : Spot) (t : ℕ) (c : Cell) (es : List Entry) → IsFairAt scene x c → IsEntriesIn scene c es → count_by (is_entry_at x t) es ≡ number (is_in_box c x && has_inside (near scene c) t x)
 regions_count scene x t c es fair r =
     let ts = near scene c in
@@ -136,7 +137,8 @@ sum_any p q (x ∷ xs) h =
     by true false e f = let l : count_by p xs ≤ 1 = omega arith in omega (arith, f l)
     by false b e f = let l : count_by p xs ≤ 1 = omega arith in omega (arith, f l)
 
--- of all regions of place t, one holds x where in the leaf of x that triangle's face has x inside, else none
+-- of all regions of place t, one holds x where in the leaf of x that triangle's face has x inside,
+-- else none
 pub entries_count : (scene : List Tri) (cs : List Cell) (x : Spot) (t : ℕ) (es : List Entry) → count_by (λ c. is_in_box c x) cs ≤ 1 → IsFairInAll scene cs x → IsEntries scene cs es → count_by (is_entry_at x t) es ≡ number (is_hit_at scene cs x t)
 entries_count scene cs x t es one fair r =
     entries_sum scene x t cs es fair r ∙ sum_any (λ c. is_in_box c x) (λ c. has_inside (near scene c) t x) cs one

@@ -1,4 +1,5 @@
--- The leaf that holds the place of a hit is listed, and the triangle is near it; or the expression has one value there.
+-- The leaf that holds the place of a hit is listed, and the triangle is near it; or the expression
+-- has one value there.
 use Rattle.std.proofs.Common.{◌≡◌, ℕ, ◌+◌, ◌<◌, refl, ap, sym, List, [], ◌∷◌, Bool, true, false, ◌&&◌, ◌||◌, cond, ◌⊎◌, inl, inr, arith, ℤ, pos, negsuc, neg_ℤ, All, ◌*ℤ◌, ◌<ℤ◌, ◌≤ℤ◌}
 use borrow.Author.Differences.{ints}
 use Rattle.std.specs.Prelude.{int_le, int_lt}

@@ -5,8 +5,10 @@ use Rattle.ember_algebra.specs.Sign.{sign, is_positive, is_zero}
 use Rattle.ember_meaning.specs.Lines.{one_if}
 use Rattle.ember_meaning.specs.Regular.{before_hit, after_hit}
 
--- ---- signs: the written face's amount, from the region's support along the ray and the values on its two sides
--- a is the support's entry along the ray; ahead and back are the values on the side of the normal and on the other
+-- ---- signs: the written face's amount, from the region's support along the ray and the values on
+-- its two sides
+-- a is the support's entry along the ray; ahead and back are the values on the side of the normal
+-- and on the other
 abbrev pub written_amount : ℤ → Bool → ℤ
 written_amount a is_flipped = cond is_flipped (neg_ℤ (sign a)) (sign a)
 

@@ -1,4 +1,5 @@
--- Of the regions that hold one place exactly one is owned, and what is written there is what that one gives.
+-- Of the regions that hold one place exactly one is owned, and what is written there is what that
+-- one gives.
 use Rattle.std.proofs.Common.{◌≡◌, ℕ, zero, suc, ◌+◌, ◌<◌, ◌≤◌, refl, ap, ◌∙◌, sym, List, [], ◌∷◌, ◌++◌, Bool, true, false, ◌&&◌, cond, eqb, ℤ, pos, ◌+ℤ◌, ◌*ℤ◌, ◌⊎◌, inl, inr, ⊎_elim, arith, below_more}
 use borrow.Author.Differences.{ints}
 use Rattle.std.specs.List.{count_by}
@@ -37,7 +38,8 @@ module _ {E : Type 0} (tri : E → ℕ) (has owned : E → Bool) (hit : ℕ → 
             let p = count_in (λ d. eqb (tri d) (tri e) && has d) es e i (both _ _ (eq-eqb (tri e) (tri e) refl) h) in
             omega (arith, p, c.cover (tri e), ap number f)
 
-    -- where t is the lowest triangle whose face has x inside, exactly one region has x inside and is owned
+    -- where t is the lowest triangle whose face has x inside, exactly one region has x inside and
+    -- is owned
     pub one_owned : (t : ℕ) → hit t ≡ true → ((j : ℕ) → j < t → hit j ≡ false) → count_by (λ e. has e && owned e) es ≡ 1
     one_owned t h least =
         count_same (λ e. has e && owned e) (λ e. eqb (tri e) t && has e) es (λ e i. same e i (cases_Bool (has e))) ∙ c.cover t ∙ ap number h
@@ -122,7 +124,8 @@ least hit t h = up t 0 (λ j l. absurd (omega arith)) h (omega arith)
         by (inl e) g = record { at = k; is = e; first = f }
         by (inr e) g = g e
 
--- where some triangle's face has the place inside, what is written there is what the one owned region gives
+-- where some triangle's face has the place inside, what is written there is what the one owned
+-- region gives
 pub jump_at : {E W : Type 0} {R : E → List W → Type 0} (tri : E → ℕ) (has owned : E → Bool) (hit : ℕ → Bool) (amount : W → ℤ) (p : W → Bool) (g : ℤ) (es : List E) (ws : List W) → IsCovered tri has owned hit es → ((e : E) (us : List W) → In e es → R e us → total_of amount p us ≡ cond (has e && owned e) g (pos 0)) → Each R es ws → (t : ℕ) → hit t ≡ true → total_of amount p ws ≡ g
 jump_at tri has owned hit amount p g es ws c f r t h =
     let l = least hit t h in

@@ -1,4 +1,5 @@
--- Directly before and directly after a hit the winding numbers are those of the hits from it on, and of the hits beyond it.
+-- Directly before and directly after a hit the winding numbers are those of the hits from it on,
+-- and of the hits beyond it.
 use Rattle.std.proofs.Common.{◌≡◌, ℕ, zero, suc, pred, refl, ap, ◌∙◌, sym, List, [], ◌∷◌, Bool, true, false, not, cond, ℤ, pos, negsuc, ◌+ℤ◌, ◌-ℤ◌, ◌*ℤ◌, ◌<ℤ◌, ◌≤ℤ◌, unsigned_abs, arith}
 use borrow.Author.Differences.{ints}
 use Rattle.std.specs.Prelude.{int_lt}
@@ -135,7 +136,8 @@ module _ (scene : List Tri) (k : Axis) (p : Spot) (f : Face) (crosses : is_zero 
   vector_at : (m : ℕ) (e : ℤ) → pos 0 <ℤ pos m → vector k scene (at m e) ≡ seen k (beyond is_below (tri_key k p) (step m e z) (tri_hits k p scene))
   vector_at m e l = ap (vector k scene) (at_is m e l) ∙ vector-on_line k p (step m e z) scene
 
-  -- all points directly after the place see the hits beyond it, all directly before it those from it on
+  -- all points directly after the place see the hits beyond it, all directly before it those from
+  -- it on
   pub after_place : Eventually (λ m. vector k scene (at m (pos 1)) ≡ seen k (beyond is_below (tri_key k p) z (tri_hits k p scene)))
   after_place =
       eventually_map (λ m e. vector_at m (pos 1) (large 0 m e.0) ∙ ap (seen k) e.1) (eventually_both (far 0) (filters (λ m t. is_below (step m (pos 1) z) (tri_key k p t)) (λ t. is_below z (tri_key k p t)) (λ t. eventually_map (λ m l. step_beyond m z (tri_key k p t) l) (far (tri_key k p t).den)) (tri_hits k p scene)))

@@ -135,7 +135,8 @@ module _ {K : Type 0} (before : K → K → Bool) (order : IsOrder before) where
 
   -- ---- hits with their keys, and what is written with its places and amounts
   module _ {H W : Type 0} (key : H → K) (place : W → K) (amount : W → ℤ) (value : List H → Bool) (ks : List K) (hs : List H) (ws : List W) where
-    -- every hit's key and every place is among the keys; at each key the amounts are the value before it less that beyond it; past all hits the value is false
+    -- every hit's key and every place is among the keys; at each key the amounts are the value
+    -- before it less that beyond it; past all hits the value is false
     pub record Telescopes : Type 0 where
       pub hits : (h : H) → In h hs → In (key h) ks
       pub places : (w : W) → In w ws → Placed before ks (place w)

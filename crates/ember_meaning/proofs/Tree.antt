@@ -1,16 +1,14 @@
 -- The leaves of the full tree part a box: each point of the half-open box is in exactly one leaf's.
-use Rattle.std.proofs.Common.{◌≡◌, ℕ, zero, suc, pred, ◌+◌, ◌^◌, ◌<◌, refl, ap, ◌∙◌, List, [], ◌∷◌, ◌++◌, Bool, true, false, ◌&&◌, cond, ℤ, pos, ◌+ℤ◌, ◌*ℤ◌, ◌≤ℤ◌, ◌⊎◌, inl, inr, arith}
+use Rattle.std.proofs.Common.{◌≡◌, ℕ, zero, suc, pred, ◌+◌, ◌^◌, ◌<◌, refl, ap, ◌∙◌, List, ◌++◌, Bool, true, false, ◌&&◌, cond, ℤ, pos, ◌+ℤ◌, ◌*ℤ◌, ◌≤ℤ◌, ◌⊎◌, inl, inr, arith}
 use borrow.Author.Differences.{ints}
 use Rattle.std.specs.Prelude.{int_le, int_lt}
-use Rattle.std.specs.List.{sum_by, count_by}
-use Rattle.std.proofs.lemmas.List.Sums.{sum_by-append, sum_by-cons}
+use Rattle.std.specs.List.{count_by}
+use Rattle.std.proofs.lemmas.List.Sums.{sum_by-append}
 use Rattle.std.proofs.lemmas.Bool.{cases_Bool}
 use Rattle.std.proofs.Math.Nat.{pow-suc}
-use Rattle.ember_algebra.specs.Relations.{Each, Every}
 use Rattle.ember_algebra.proofs.Laws.{linear}
 use Rattle.ember_algebra.proofs.Order.{nonneg_mul}
 use Rattle.ember_algebra.proofs.Ring.{◌⊕◌, ◌⊗◌, ◌≈◌, solve, cancels}
-use Rattle.ember_algebra.proofs.Relations.{each_count}
 use Rattle.ember_model.specs.declared.tri.Tri.{Tri}
 use Rattle.ember_model.specs.declared.point.Spot.{Spot}
 use Rattle.ember_model.specs.declared.point.Axis.{Axis}
@@ -80,45 +78,3 @@ leaves_count ts (suc n) c v w =
     by : (is_leaf ts c ≡ true) ⊎ (is_leaf ts c ≡ false) → ((d : Cell) → count_by (λ e. is_in_box e v) (leaves_within ts n d) ≡ number (is_in_box d v)) → count_by (λ d. is_in_box d v) (leaves_within ts (suc n) c) ≡ number (is_in_box c v)
     by (inl e) f = rw (e, leaves_within) (omega arith)
     by (inr e) f = rw (e, leaves_within) (of_halves ts n c v w f (halving_axis ts c) (halvable_unless_leaf ts c e))
-
--- ---- sums over the leaves: what each leaf counts where x is in its half-open box, all count where x is in the box
-count_tested : (a : Bool) (v : Spot) (cs : List Cell) → sum_by (λ c. number (is_in_box c v && a)) cs ≡ cond a (count_by (λ c. is_in_box c v) cs) 0
-count_tested true v cs = by cs
-  where
-    with_true : (b : Bool) → number (b && true) ≡ number b
-    with_true true = refl
-    with_true false = refl
-
-    by : (cs : List Cell) → sum_by (λ c. number (is_in_box c v && true)) cs ≡ count_by (λ c. is_in_box c v) cs
-    by [] = refl
-    by (c ∷ cs) =
-        omega (arith, sum_by-cons (λ d. number (is_in_box d v && true)) c cs, sum_by-cons (λ d. number (is_in_box d v)) c cs, by cs, with_true (is_in_box c v))
-count_tested false v cs = by cs
-  where
-    with_false : (b : Bool) → number (b && false) ≡ 0
-    with_false true = refl
-    with_false false = refl
-
-    by : (cs : List Cell) → sum_by (λ c. number (is_in_box c v && false)) cs ≡ 0
-    by [] = refl
-    by (c ∷ cs) =
-        omega (arith, sum_by-cons (λ d. number (is_in_box d v && false)) c cs, by cs, with_false (is_in_box c v))
-
-pub tree_count : {Y : Type 0} (R : Cell → List Y → Type 0) (p : Y → Bool) (a : Bool) (v : Spot) → pos 0 ≤ℤ v.w → ((c : Cell) (ys : List Y) → R c ys → count_by p ys ≡ number (is_in_box c v && a)) → (ts : List Tri) (n : ℕ) (c : Cell) (ys : List Y) → Each R (leaves_within ts n c) ys → count_by p ys ≡ number (is_in_box c v && a)
-tree_count {Y} R p a v w f ts n c ys r =
-    let k = each_count p (λ d. number (is_in_box d v && a)) (λ d. Unit {0}) (λ y. Unit {0}) (λ d zs u q. (units zs, f d zs q)) r (all_units (leaves_within ts n c)) in
-    k.1 ∙ count_tested a v (leaves_within ts n c) ∙ ap (λ m. cond a m 0) (leaves_count ts n c v w) ∙ swap a (is_in_box c v)
-  where
-    units : (zs : List Y) → Every (λ y. Unit {0}) zs
-    units [] = tt
-    units (z ∷ zs) = (tt, units zs)
-
-    all_units : (zs : List Cell) → Every (λ y. Unit {0}) zs
-    all_units [] = tt
-    all_units (z ∷ zs) = (tt, all_units zs)
-
-    swap : (a b : Bool) → cond a (number b) 0 ≡ number (b && a)
-    swap true true = refl
-    swap true false = refl
-    swap false true = refl
-    swap false false = refl

@@ -54,7 +54,8 @@ pub data Without {X : Type 0} (P : X → Type 0) : List X → List X → Type 0 
   keeps : {x : X} {xs ys : List X} → Without P xs ys → Without P (x ∷ xs) (x ∷ ys)
   drops : {x : X} {xs ys : List X} → P x → Without P xs ys → Without P (x ∷ xs) ys
 
--- the entries of the leaves cs give the written regions ks; in the other leaves the expression has one value
+-- the entries of the leaves cs give the written regions ks; in the other leaves the expression has
+-- one value
 pub record IsListing (scene : List Tri) (x : Formula) (ks : List Kept) (cs : List Cell) (es : List Entry) : Type 0 where
   pub listed : Without (HasOneValue scene x) (leaves scene root) cs
   pub are_entries : IsEntries scene cs es

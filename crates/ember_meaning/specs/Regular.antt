@@ -73,10 +73,12 @@ module _ (scene : List Tri) (x : Formula) (k : Axis) (p : Spot) (cs : List Cell)
     -- of the regions that hold the place just those of the first triangle are owned
     pub owner_first : (e : Entry) → In e es → is_inside e.face place ≡ true → IsOwner (near scene e.cell) e.tri e.face → (j : ℕ) → j < e.tri → is_hit_at scene cs place j ≡ false
     pub first_owner : (e : Entry) → In e es → is_inside e.face place ≡ true → ((j : ℕ) → j < e.tri → is_hit_at scene cs place j ≡ false) → IsOwner (near scene e.cell) e.tri e.face
-    -- just before and just after the hit the expression is as on the sides of a region that holds it
+    -- just before and just after the hit the expression is as on the sides of a region that holds
+    -- it
     pub beside : (e : Entry) (before after : List ℤ) → In e es → is_inside e.face place ≡ true → IsSides scene e.face before after → (truth_before ≡ before_hit (along e.face.support k) (truth_ahead e.face before after) (truth_back e.face before after)) × (truth_after ≡ after_hit (along e.face.support k) (truth_ahead e.face before after) (truth_back e.face before after))
 
--- along the line through p the entries are regular, and a written face is hit only where a triangle is
+-- along the line through p the entries are regular, and a written face is hit only where a triangle
+-- is
 pub record IsRegularLine (scene : List Tri) (x : Formula) (k : Axis) (p : Spot) (cs : List Cell) (es : List Entry) (ws : List Kept) : Type 0 where
   pub regular : (t : Tri) → In t (tri_hits k p scene) → IsRegular scene x k p cs es t
   pub placed : (w : Face) → In w (filter (is_hit k p) (map written_face ws)) → Placed is_below (map (tri_key k p) (tri_hits k p scene)) (key k p w)
@@ -101,12 +103,14 @@ IsGeneralLine scene k p =
 abbrev pub IsFalseOutside : Formula → Type 0
 IsFalseOutside x = truth (replicate 64 (pos 0)) x ≡ false
 
--- at p the written regions wind once along the axis where the expression holds, and not at all elsewhere
+-- at p the written regions wind once along the axis where the expression holds, and not at all
+-- elsewhere
 abbrev pub HasMeaning : List Tri → Formula → List Kept → Axis → Axis → Spot → Type 0
 HasMeaning scene x ks a b p =
     wind a (map written_face ks) p ≡ one_if (truth (vector b scene p) x)
 
--- the written regions have their meaning at each clear point on a general line, along the line's axis
+-- the written regions have their meaning at each clear point on a general line, along the line's
+-- axis
 -- as the expression has its value along any
 abbrev pub HaveMeaningOnLines : List Tri → Formula → List Kept → Type 0
 HaveMeaningOnLines scene x ks =
