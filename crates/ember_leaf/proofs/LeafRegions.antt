@@ -1,7 +1,8 @@
 -- The start that the walls leave, cut by the blades that are found: the regions of the triangle.
-use Rattle.std.proofs.Common.{◌≡◌, ◌⊎◌, inl, inr, refl, sym, subst, arith, ℕ, true, false, List, [], ◌∷◌, map, ℤ, pos, ◌-ℤ◌, ◌*ℤ◌, ◌≤ℤ◌}
+use Rattle.std.proofs.Common.{◌≡◌, ◌⊎◌, inl, inr, refl, sym, subst, arith, ℕ, true, false, List, [], ◌∷◌, map, length, get_or, All, ◌<◌, ℤ, pos, ◌-ℤ◌, ◌*ℤ◌, ◌≤ℤ◌}
 use Rattle.std.specs.Int.{int_min, int_max}
 use Rattle.std.proofs.lemmas.Int.{clamps, by_lt_z}
+use Rattle.std.proofs.lemmas.Option.{slice_get-get_or}
 use borrow.Author.Differences.{ints}
 use Rattle.ember_algebra.specs.Relations.{done, Every}
 use Rattle.ember_algebra.proofs.Laws.{linear}
@@ -28,14 +29,17 @@ use Rattle.ember_poly.proofs.Reached.{least_from_opposite}
 use Rattle.ember_trace.specs.declared.facet.Facet.{Facet}
 use Rattle.ember_trace.specs.Boxed.{LiesIn}
 use Rattle.ember_trace.proofs.FilledFaces.{inside_below}
-use Rattle.ember_trace.proofs.BoxedRegions.{regions_lie_in}
+use Rattle.ember_trace.proofs.BoxedRegions.{every_at, regions_lie_in}
 use Rattle.ember_leaf.specs.declared.wall.Wall as leaf
 use Rattle.ember_leaf.specs.declared.blade.Blade.{Blade}
-use Rattle.ember_leaf.specs.Walls.{wall_of, IsLeft}
+use Rattle.ember_leaf.specs.Walls.{wall_of, IsPartOf, IsLeft}
+use Rattle.ember_leaf.specs.Pairs.{IsLower}
+use Rattle.ember_leaf.specs.Lower.{AreLower, TellsOwner}
 use Rattle.ember_leaf.specs.Blades.{blade_of, AreCut, IsHeld, AreHeld, IsBounded, Sheds, common, common_of}
 use Rattle.ember_leaf.proofs.Starting.{left_parts}
 use Rattle.ember_leaf.proofs.Apart.{bounds}
 use Rattle.ember_leaf.proofs.Shedding.{unshed}
+use Rattle.ember_leaf.proofs.Lower.{tells_owner}
 
 -- ---- points of boxes
 max_is : (a b : ℤ) → (int_max a b ≡ a) ⊎ (int_max a b ≡ b)
@@ -86,10 +90,9 @@ bounded_keeps t s b f fs h (splits m c) =
 bounded_keeps t s b f fs h (whole n) = (h, tt)
 
 module _ (c : Cell) (f : Facet) (ring : Face) where
-  start_bounded : (s : Spans) → s ≡ common_of f.spans (spans_of c) → IsStart c f.tri (ring ∷ []) → IsBounded f.tri s ring
-  start_bounded s q l =
-      let p = (left_parts f.tri l).0 in
-      record { within = p.within; bounds = record { holds = λ v i. subst (λ (b : Spans). AreHeld b v) (sym q) (are_common f.spans (spans_of c) v (own p.plane.normal v (p.within.holds v i)) (in_cell c ring v (start_lies_in c f.tri ring l) i)) } }
+  part_bounded : (s : Spans) → s ≡ common_of f.spans (spans_of c) → IsPartOf f.tri ring → LiesIn c ring → IsBounded f.tri s ring
+  part_bounded s q p l =
+      record { within = p.within; bounds = record { holds = λ v i. subst (λ (b : Spans). AreHeld b v) (sym q) (are_common f.spans (spans_of c) v (own p.plane.normal v (p.within.holds v i)) (in_cell c ring v l i)) } }
     where
       own : is_flat f.tri ≡ false → (v : Spot) → is_inside (face_of f.tri) v ≡ true → AreHeld f.spans v
       own n v i =
@@ -99,4 +102,10 @@ module _ (c : Cell) (f : Facet) (ring : Face) where
   pub leaf_regions : (ts : List Tri) (i : ℕ) (ws : List leaf.Wall) (bs : List Blade) (s : Spans) (list : List Face) → f.tri ≡ tri_at ts i → map wall_of ws ≡ walls c → s ≡ common_of f.spans (spans_of c) → IsLeft (map wall_of ws) f.tri (ring ∷ []) → Sheds (IsBounded f.tri s) (blades ts i) (map blade_of bs) → AreCut bs (ring ∷ []) list → IsRegions c ts i list
   leaf_regions ts i ws bs s list e w q l h k =
       let start : IsStart c f.tri (ring ∷ []) = subst (λ (vs : List regions.Wall). IsLeft vs f.tri (ring ∷ [])) w l in
-      record { start = ring ∷ []; is_start = subst (λ (t : Tri). IsStart c t (ring ∷ [])) e start; cuts = unshed (bounded_keeps f.tri s) h (start_bounded s q start, tt) k }
+      record { start = ring ∷ []; is_start = subst (λ (t : Tri). IsStart c t (ring ∷ [])) e start; cuts = unshed (bounded_keeps f.tri s) h (part_bounded s q (left_parts f.tri start).0 (start_lies_in c f.tri ring start), tt) k }
+
+-- the list of triangles before it tells the owner of each region
+pub owners_told : (c : Cell) (f : Facet) (ts : List Tri) (i : ℕ) (lower : List Tri) (s : Spans) (list : List Face) → f.tri ≡ tri_at ts i → i < length ts → s ≡ common_of f.spans (spans_of c) → IsRegions c ts i list → Every (IsPartOf f.tri) list → All (IsLower f.tri) lower → AreLower ts i f.tri s (length ts) lower → All (TellsOwner lower ts i) list
+owners_told c f ts i lower s list e w q r p k a j d l =
+    let g = get_or list j d in let at = slice_get-get_or list j d l in let part = every_at (IsPartOf f.tri) list j g p at in
+    tells_owner ts i f.tri s e w lower g k a (part_bounded c f g s q part (regions_lie_in c ts i j list g r at)) part.somewhere

@@ -1,5 +1,7 @@
 pub mod Apart
+pub mod Keeping
 pub mod LeafRegions
+pub mod Lower
 pub mod OneList
 pub mod Placing
 pub mod Shedding

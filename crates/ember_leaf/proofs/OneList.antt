@@ -1,27 +1,30 @@
 -- The written regions of a leaf are one list, and so are those of a scene.
 use Rattle.std.proofs.Common.{◌≡◌, ℕ, suc, refl, sym, ap, ap₂, ◌∙◌, subst, arith, le_refl, ◌+◌, ◌*◌, true, List, [], ◌∷◌, ◌++◌, Some, slice_get, length, ℤ, pos, neg_ℤ}
 use Rattle.std.specs.List.{range_with_len}
+use Rattle.std.proofs.lemmas.Option.{get_or_from_slice_get}
 use Rattle.ember_algebra.specs.Relations.{Each, none, more, Every}
 use Rattle.ember_algebra.proofs.Relations.{each_unique, each_unique_where}
 use Rattle.ember_model.specs.declared.face.Face.{Face}
 use Rattle.ember_model.specs.declared.point.Spot.{Spot}
 use Rattle.ember_model.specs.declared.tri.Tri.{Tri}
 use Rattle.ember_model.specs.Planes.{main_axis}
-use Rattle.ember_model.specs.Faces.{is_inside}
+use Rattle.ember_model.specs.Faces.{is_inside, face_of}
+use Rattle.ember_model.specs.Owners.{IsOwner}
 use Rattle.ember_model.specs.Meshes.{IsScene}
 use Rattle.ember_model.specs.Sides.{IsSides}
 use Rattle.ember_expr.specs.Formula.{Formula}
 use Rattle.ember_expr.specs.Truth.{truth}
 use Rattle.ember_box.specs.Boxes.{Cell}
-use Rattle.ember_box.specs.Near.{near}
+use Rattle.ember_box.specs.Near.{near, no_tri}
+use Rattle.ember_box.specs.Regions.{IsRegions}
 use Rattle.ember_box.proofs.OneList.{regions_unique}
 use Rattle.ember_ref.proofs.NearPoints.{HasPoint}
 use Rattle.ember_trace.specs.Boxed.{IsRegion}
-use Rattle.ember_trace.proofs.BoxedRegions.{regions_lie_in}
+use Rattle.ember_trace.proofs.BoxedRegions.{regions_lie_in, region_inside}
 use Rattle.ember_trace.proofs.OneSides.{one_sides}
 use Rattle.ember_trace.proofs.TracedSides.{in_box}
 use Rattle.ember_leaf.specs.declared.kept.Kept.{Kept}
-use Rattle.ember_leaf.specs.Written.{front, AtRegion, unowned, even, written, IsWrittenOf, IsWrittenIn}
+use Rattle.ember_leaf.specs.Written.{front, AtRegion, unowned, even, written, AreRegionsWritten, IsCovered, IsWrittenOf, regional, hidden, IsWrittenIn}
 use Rattle.ember_leaf.specs.Scenes.{HasOneValue, LeafGives, regions, nothing, IsWritten}
 
 -- what holds at each place holds of each member
@@ -36,9 +39,14 @@ each_nothing Q f h (more {x = x} {ys = ys} {zs = zs} r e) =
     ap₂ (λ us vs. us ++ vs) (f x ys h.0 r) (each_nothing Q f h.1 e)
 
 -- the regions of a leaf's triangle are regions of the leaf
-each_region : (near : List Tri) (c : Cell) (scene : List Tri) (f : Formula) (i : ℕ) (ks : List Kept) (w : IsWrittenOf scene f c near i ks) → Every (IsRegion near c) w.faces
-each_region near c scene f i ks w =
-    every_from (IsRegion near c) w.faces (λ j g e. record { tri = i; regions = w.faces; are_regions = w.are_regions; place = j; here = e })
+each_region : (near : List Tri) (c : Cell) (i : ℕ) (faces : List Face) → IsRegions c near i faces → Every (IsRegion near c) faces
+each_region near c i faces r =
+    every_from (IsRegion near c) faces (λ j g e. record { tri = i; regions = faces; are_regions = r; place = j; here = e })
+
+-- a covered triangle owns no region
+hidden_owns_none : (near : List Tri) (c : Cell) (i : ℕ) (faces : List Face) → IsRegions c near i faces → IsCovered near i → Every (λ g. IsOwner near i g → ⊥) faces
+hidden_owns_none near c i faces r h =
+    every_from (λ g. IsOwner near i g → ⊥) faces (λ j g e o. o.first h.place h.own h.cover h.before h.here h.there h.coplanar (record { holds = λ v w. h.contains.holds v (subst (λ (t : Tri). is_inside (face_of t) v ≡ true) (get_or_from_slice_get near i h.own no_tri h.there) (region_inside c near i j faces g r e v w)) }))
 
 -- ---- one list
 -- all sides of a region are equal
@@ -64,9 +72,21 @@ module _ (scene : List Tri) (f : Formula) (c : Cell) (near : List Tri) (one : (f
       let s = one g r a b p q x y in
       ap₂ (λ (v w : List ℤ). let k : Kept = record { tri = i; flipped = truth (front g v w) f; ring = g } in k ∷ []) s.0 s.1
 
+  none_owned : (i : ℕ) (g : Face) (ks : List Kept) → (IsOwner near i g → ⊥) → AtRegion scene f near i g ks → ks ≡ []
+  none_owned i g ks n (unowned m) = refl
+  none_owned i g ks n (even s e) = refl
+  none_owned i g ks n (written o s e) = absurd (n o)
+
+  none_hidden : (i : ℕ) (ks : List Kept) → IsCovered near i → AreRegionsWritten scene f c near i ks → ks ≡ []
+  none_hidden i ks h r =
+      each_nothing (λ g. IsOwner near i g → ⊥) (λ g xs n p. none_owned i g xs n p) (hidden_owns_none near c i r.faces r.are_regions h) r.are_written
+
   of_unique : (i : ℕ) (us vs : List Kept) → IsWrittenOf scene f c near i us → IsWrittenOf scene f c near i vs → us ≡ vs
-  of_unique i us vs u v =
-      each_unique_where (IsRegion near c) (λ g xs ys r p q. region_unique i g xs ys r p q) (each_region near c scene f i us u) u.are_written (subst (λ (gs : List Face). Each (AtRegion scene f near i) gs vs) (sym (regions_unique c near i u.faces v.faces u.are_regions v.are_regions)) v.are_written)
+  of_unique i us vs (regional u) (regional v) =
+      each_unique_where (IsRegion near c) (λ g xs ys r p q. region_unique i g xs ys r p q) (each_region near c i u.faces u.are_regions) u.are_written (subst (λ (gs : List Face). Each (AtRegion scene f near i) gs vs) (sym (regions_unique c near i u.faces v.faces u.are_regions v.are_regions)) v.are_written)
+  of_unique i us vs (regional u) (hidden h) = none_hidden i us h u
+  of_unique i us vs (hidden h) (regional v) = sym (none_hidden i vs h v)
+  of_unique i us vs (hidden h) (hidden k) = refl
 
   -- the written regions of a leaf are one list
   pub leaf_unique : (us vs : List Kept) → IsWrittenIn scene f c near us → IsWrittenIn scene f c near vs → us ≡ vs
@@ -91,7 +111,9 @@ module _ (scene : List Tri) (f : Formula) (c : Cell) (one : HasOneValue scene f 
         let h = both_sides g b a s (has g r s.at s.inside) in absurd (e (h.0 ∙ sym h.1))
 
     none_of : (i : ℕ) (ks : List Kept) → IsWrittenOf scene f c near i ks → ks ≡ []
-    none_of i ks w = each_nothing (IsRegion near c) (λ g xs r p. none_at i g xs r p) (each_region near c scene f i ks w) w.are_written
+    none_of i ks (regional w) =
+        each_nothing (IsRegion near c) (λ g xs r p. none_at i g xs r p) (each_region near c i w.faces w.are_regions) w.are_written
+    none_of i ks (hidden h) = refl
 
     -- no region is written in the box
     none_written : (ks : List Kept) → IsWrittenIn scene f c near ks → ks ≡ []

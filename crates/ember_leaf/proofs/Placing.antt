@@ -62,6 +62,12 @@ placed_push fs n ks new k l h r e =
 pub own_is : (fs : List Facet) (i : ℕ) (d : Facet) → i < length fs → (get_or fs i d).tri ≡ tri_at (tris_of fs) i
 own_is fs i d l = sym (get_or-map tri_of fs i d no_tri l)
 
+pub listed_too : (fs : List Facet) (i : ℕ) → i < length fs → i < length (tris_of fs)
+listed_too fs i l = let q = length-map fs tri_of in omega (arith, l, q)
+
+pub all_listed : (fs : List Facet) (i : ℕ) → length fs ≤ i → i ≤ length fs → i ≡ length (tris_of fs)
+all_listed fs i l m = let q = length-map fs tri_of in omega (arith, l, m, q)
+
 -- the first triangles of a list, and one more
 pub first_more : (P : Tri → Type 0) (ts : List Tri) (i : ℕ) (d : Tri) → i < length ts → All P (take i ts) → P (get_or ts i d) → All P (take (i + 1) ts)
 first_more P ts i d l h p =

@@ -88,17 +88,20 @@ adds_apart t u b old a =
     adds_none (blades_of t u) old (every_blade (λ c. (f : Face) → IsBounded t b f → Meets f c.face → ⊥) t u (λ n p f k m. clash m.holds (a.holds m.at (k.within.holds m.at m.inside))))
 
 -- within bounds that the bounding box of u doesn't meet
-pub adds_away : (t u : Tri) (b s : Spans) (old : List Blade) → s ≡ bounding u → overlap b s ≡ false → Adds (IsBounded t b) (blades_of t u) old old
-adds_away t u b s old same away =
-    adds_none (blades_of t u) old (every_blade (λ c. (f : Face) → IsBounded t b f → Meets f c.face → ⊥) t u (λ n p f k m. clash (met n f k m) (sym (ap (overlap b) same) ∙ away)))
+pub away_unmet : (t u : Tri) (b s : Spans) → s ≡ bounding u → overlap b s ≡ false → is_flat u ≡ false → (f : Face) → IsBounded t b f → Meets f (face_of u) → ⊥
+away_unmet t u b s same away n f k m = clash met (sym (ap (overlap b) same) ∙ away)
   where
-    met : is_flat u ≡ false → (f : Face) → IsBounded t b f → Meets f (face_of u) → overlap b (bounding u) ≡ true
-    met n f k m =
+    met : overlap b (bounding u) ≡ true
+    met =
         let v = m.at in let h = k.bounds.holds v m.inside in let w = (closed_parts (face_of u) v m.holds).0 in let c = bounding u in
         let x = reach b.x c.x v.x v.w w h.x (bounds X u v n m.holds) in
         let y = reach b.y c.y v.y v.w w h.y (bounds Y u v n m.holds) in
         let z = reach b.z c.z v.z v.w w h.z (bounds Z u v n m.holds) in
         and_from (reaches b.x c.x && reaches b.y c.y) (reaches b.z c.z) (and_from (reaches b.x c.x) (reaches b.y c.y) x y) z
+
+pub adds_away : (t u : Tri) (b s : Spans) (old : List Blade) → s ≡ bounding u → overlap b s ≡ false → Adds (IsBounded t b) (blades_of t u) old old
+adds_away t u b s old same away =
+    adds_none (blades_of t u) old (every_blade (λ c. (f : Face) → IsBounded t b f → Meets f c.face → ⊥) t u (λ n p f k m. away_unmet t u b s same away n f k m))
 
 -- ---- one triangle after another
 nat_eq-same : {a b : ℕ} → a ≡ b → nat_eq a b ≡ true
@@ -120,7 +123,7 @@ range_push a zero = ap (λ (k : ℕ). k ∷ []) (omega arith)
 range_push a (suc n) =
     ap (λ (l : List ℕ). a ∷ l) (range_push (a + 1) n) ∙ ap (λ (k : ℕ). a ∷ range_with_len (a + 1) n ++ k ∷ []) (omega arith)
 
-range_more : (n : ℕ) → range_with_len 0 (n + 1) ≡ range_with_len 0 n ++ n ∷ []
+pub range_more : (n : ℕ) → range_with_len 0 (n + 1) ≡ range_with_len 0 n ++ n ∷ []
 range_more n =
     let e : n + 1 ≡ suc n = omega arith in let z : 0 + n ≡ n = omega arith in
     ap (range_with_len 0) e ∙ range_push 0 n ∙ ap (λ (k : ℕ). range_with_len 0 n ++ k ∷ []) z

@@ -1,5 +1,6 @@
 pub mod Blades
 pub mod Leaves
+pub mod Lower
 pub mod Pairs
 pub mod Scenes
 pub mod Walls

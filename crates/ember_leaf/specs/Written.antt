@@ -1,16 +1,18 @@
 -- Which regions of a leaf are written
-use Rattle.std.specs.Prelude.{◌≡◌, ◌≢◌, ℕ, Bool, Option, None, Some, if◌then◌else◌, ℤ, List, [], ◌∷◌, length}
+use Rattle.std.specs.Prelude.{◌≡◌, ◌≢◌, ℕ, ◌<◌, Bool, true, Option, None, Some, slice_get, if◌then◌else◌, ℤ, List, [], ◌∷◌, ◌++◌, length}
 use Rattle.std.specs.List.{range_with_len}
 use Rattle.ember_algebra.specs.Relations.{Each}
 use Rattle.ember_algebra.specs.Sign.{is_positive}
 use Rattle.ember_model.specs.declared.tri.Tri.{Tri}
 use Rattle.ember_model.specs.declared.face.Face.{Face}
 use Rattle.ember_model.specs.Planes.{along, main_axis}
-use Rattle.ember_model.specs.Owners.{IsOwner}
+use Rattle.ember_model.specs.Faces.{face_of, Contains}
+use Rattle.ember_model.specs.Owners.{is_coplanar, IsOwner}
 use Rattle.ember_model.specs.Sides.{IsSides}
 use Rattle.ember_expr.specs.Formula.{Formula}
 use Rattle.ember_expr.specs.Truth.{truth}
 use Rattle.ember_box.specs.Boxes.{Cell}
+use Rattle.ember_box.specs.Reference.{Fits}
 use Rattle.ember_box.specs.Regions.{IsRegions}
 use Rattle.ember_leaf.specs.declared.kept.Kept.{Kept}
 
@@ -27,11 +29,27 @@ pub data AtRegion (scene : List Tri) (f : Formula) (near : List Tri) (i : ℕ) (
   even : {before after : List ℤ} → IsSides scene face before after → truth before f ≡ truth after f → AtRegion scene f near i face []
   written : {before after : List ℤ} → IsOwner near i face → IsSides scene face before after → truth before f ≢ truth after f → AtRegion scene f near i face (record { tri = i; flipped = truth (front face before after) f; ring = face } ∷ [])
 
--- the written regions of triangle i of a leaf with these near triangles
-pub record IsWrittenOf (scene : List Tri) (f : Formula) (c : Cell) (near : List Tri) (i : ℕ) (ks : List Kept) : Type 0 where
+-- the regions of triangle i of a leaf with these near triangles, and what is written of each
+pub record AreRegionsWritten (scene : List Tri) (f : Formula) (c : Cell) (near : List Tri) (i : ℕ) (ks : List Kept) : Type 0 where
   pub faces : List Face
   pub are_regions : IsRegions c near i faces
   pub are_written : Each (AtRegion scene f near i) faces ks
+
+-- a triangle before triangle i, in its plane, contains its face, and so owns all its regions
+pub record IsCovered (near : List Tri) (i : ℕ) : Type 0 where
+  pub place : ℕ
+  pub cover : Tri
+  pub own : Tri
+  pub before : place < i
+  pub here : slice_get near place ≡ Some cover
+  pub there : slice_get near i ≡ Some own
+  pub coplanar : is_coplanar cover own ≡ true
+  pub contains : Contains (face_of cover) (face_of own)
+
+-- the written regions of triangle i
+pub data IsWrittenOf (scene : List Tri) (f : Formula) (c : Cell) (near : List Tri) (i : ℕ) : List Kept → Type 0 where
+  regional : {ks : List Kept} → AreRegionsWritten scene f c near i ks → IsWrittenOf scene f c near i ks
+  hidden : IsCovered near i → IsWrittenOf scene f c near i []
 
 -- those of all its triangles, in order
 abbrev pub IsWrittenIn : List Tri → Formula → Cell → List Tri → List Kept → Type 0
@@ -44,3 +62,13 @@ abbrev pub IsTurn : Formula → Face → List ℤ → List ℤ → Option Bool �
 IsTurn f face before after None = truth before f ≡ truth after f
 IsTurn f face before after (Some flipped) =
     (truth before f ≢ truth after f) × (flipped ≡ truth (front face before after) f)
+
+-- in each scene that fits what is known at the box
+abbrev pub WhereFits : List Tri → Cell → List ℤ → (List Tri → List Kept → Type 0) → List Kept → Type 0
+WhereFits near c counts R ks = (scene : List Tri) → Fits scene near c counts → R scene ks
+
+-- the list has grown by regions with the property
+pub record HasGrown (P : List Kept → Type 0) (old new : List Kept) : Type 0 where
+  pub more : List Kept
+  pub is : new ≡ old ++ more
+  pub holds : P more

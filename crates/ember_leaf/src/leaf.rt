@@ -1,18 +1,22 @@
 // The written regions of a leaf.
-ghost use Rattle.std.specs.Prelude.{◌≡◌, true, false, ◌≤◌, ◌<◌, ◌+◌, map, length, All, IfOk, IfSome, OnOk};
+ghost use Rattle.std.specs.Prelude.{◌≡◌, List, true, false, ◌≤◌, ◌<◌, ◌+◌, map, length, All, IfOk, IfSome, OnOk, option_to_list};
 ghost use Rattle.ember_model.specs.Valid.{IsValidTri};
 ghost use Rattle.ember_model.specs.Meshes.{HasMesh};
 ghost use Rattle.ember_box.specs.Near.{tri_at};
+ghost use Rattle.ember_model.specs.declared.tri.Tri.{Tri as Corners};
+ghost use Rattle.ember_box.specs.Reference.{Fits};
 ghost use Rattle.ember_box.specs.Spans.{spans_of};
 ghost use Rattle.ember_box.specs.Regions.{IsRegions, walls as box_walls};
 ghost use Rattle.ember_leaf.specs.Walls.{wall_of};
 ghost use Rattle.ember_coplanar.specs.Lying.{LiesOn};
-ghost use Rattle.ember_trace.specs.Facets.{AreBoxCounts, AreSideCounts};
+ghost use Rattle.ember_trace.specs.Facets.{StartsIn, AreBoxCounts, AreSideCounts};
+ghost use Rattle.ember_trace.specs.Boxed.{LiesIn};
 ghost use Rattle.ember_algebra.specs.Sign.{is_positive};
 ghost use Rattle.ember_model.specs.Planes.{along, main_axis};
 ghost use Rattle.ember_model.specs.Faces.{face_of, Contains};
 ghost use Rattle.ember_expr.specs.Formula.{formula_of};
-ghost use Rattle.ember_leaf.specs.Written.{IsTurn};
+ghost use Rattle.ember_leaf.specs.Written.{IsTurn, AtRegion, IsWrittenOf, IsWrittenIn, WhereFits, HasGrown};
+ghost use Rattle.ember_leaf.specs.Lower.{TellsOwner};
 ghost use Rattle.ember_leaf.specs.Pairs.{IsLower, HasHolder};
 ghost use Rattle.ember_leaf.specs.Leaves.{IsRegionOf, IsKeptOf, ArePlaced, ArePlacedBelow, tris_of};
 
@@ -92,7 +96,11 @@ impl Leaf<'_> {
         requires place { i < length self.now.near.now }
         requires lower { All (IsLower (tri_at (tris_of self.now.near.now) i)) lower.now }
         requires region { IsRegionOf (tri_at (tris_of self.now.near.now) i) ring }
-        ensures { IfSome result (IsKeptOf (tri_at (tris_of self.now.near.now) i) i) }
+        requires starts { All (StartsIn self.now.cell.now) self.now.near.now }
+        requires inside { LiesIn self.now.cell.now ring }
+        requires owner { TellsOwner lower.now (tris_of self.now.near.now) i ring }
+        ensures placed { IfSome result (IsKeptOf (tri_at (tris_of self.now.near.now) i) i) }
+        ensures written { WhereFits (tris_of self.now.near.now) self.now.cell.now self.now.at.now.counts (λ scene. AtRegion scene (formula_of self.now.expr.now) (tris_of self.now.near.now) i ring) (option_to_list result) }
     {
         if !is_free(lower, &ring) {
             return None;
@@ -122,8 +130,12 @@ impl Leaf<'_> {
         requires lower { All (IsLower (tri_at (tris_of self.now.near.now) i)) lower.now }
         requires plane { All (IsRegionOf (tri_at (tris_of self.now.near.now) i)) list.items }
         requires regions { IsRegions self.now.cell.now (tris_of self.now.near.now) i list.items }
+        requires starts { All (StartsIn self.now.cell.now) self.now.near.now }
+        requires inside { All (LiesIn self.now.cell.now) list.items }
+        requires owners { All (TellsOwner lower.now (tris_of self.now.near.now) i) list.items }
         requires kept { ArePlacedBelow (tris_of self.now.near.now) (i + 1) kept.old.items }
-        ensures { OnOk result (ArePlacedBelow (tris_of self.now.near.now) (i + 1) kept.new.items) }
+        ensures placed { OnOk result (ArePlacedBelow (tris_of self.now.near.now) (i + 1) kept.new.items) }
+        ensures written { OnOk result (HasGrown (WhereFits (tris_of self.now.near.now) self.now.cell.now self.now.at.now.counts (λ scene. IsWrittenOf scene (formula_of self.now.expr.now) self.now.cell.now (tris_of self.now.near.now) i)) kept.old.items kept.new.items) }
     {
         for ring in list {
             if let Some(k) = self.kept(i, lower, ring) {
@@ -147,8 +159,10 @@ impl Leaf<'_> {
         requires place { i < length self.now.near.now }
         requires walls { map wall_of walls.now ≡ box_walls self.now.cell.now }
         requires spans { self.now.spans.now ≡ spans_of self.now.cell.now }
+        requires starts { All (StartsIn self.now.cell.now) self.now.near.now }
         requires kept { ArePlacedBelow (tris_of self.now.near.now) (i + 1) kept.old.items }
-        ensures { OnOk result (ArePlacedBelow (tris_of self.now.near.now) (i + 1) kept.new.items) }
+        ensures placed { OnOk result (ArePlacedBelow (tris_of self.now.near.now) (i + 1) kept.new.items) }
+        ensures written { OnOk result (HasGrown (WhereFits (tris_of self.now.near.now) self.now.cell.now self.now.at.now.counts (λ scene. IsWrittenOf scene (formula_of self.now.expr.now) self.now.cell.now (tris_of self.now.near.now) i)) kept.old.items kept.new.items) }
     {
         let own = &self.near[i];
         if is_flat(own) || is_outside(walls, own) {
@@ -179,7 +193,8 @@ pub fn leaf_faces(
     requires numbered { All (HasMesh 64) near.now }
     requires few { length near.now ≤ 262144 }
     requires counts { AreBoxCounts v.now.counts }
-    ensures { IfOk result (λ ks. ArePlaced near.now ks) }
+    ensures placed { IfOk result (λ ks. ArePlaced near.now ks) }
+    ensures written { IfOk result (λ ks. (scene : List Corners) → Fits scene near.now c.now v.now.counts → IsWrittenIn scene (formula_of e.now) c.now near.now ks) }
 {
     let facets = facets(alloc, near, c)?;
     let spans = spans_of(c);

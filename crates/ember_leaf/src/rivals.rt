@@ -1,5 +1,5 @@
 // The other triangles near a leaf that matter to the regions of one.
-ghost use Rattle.std.specs.Prelude.{◌≡◌, false, [], ◌∷◌, ◌++◌, map, All, IfOk, OnOk};
+ghost use Rattle.std.specs.Prelude.{◌≡◌, ◌<◌, length, false, [], ◌∷◌, ◌++◌, map, All, IfOk, OnOk};
 ghost use Rattle.ember_model.specs.Planes.{support_of};
 ghost use Rattle.ember_model.specs.Faces.{is_flat, edges_of};
 ghost use Rattle.ember_box.specs.declared.spans.Spans.{Spans as Bounds};
@@ -8,6 +8,7 @@ ghost use Rattle.ember_box.specs.Near.{tri_at};
 ghost use Rattle.ember_leaf.specs.Blades.{blade_of, blades_with, IsBounded, Sheds, Adds};
 ghost use Rattle.ember_leaf.specs.Leaves.{tris_of};
 ghost use Rattle.ember_leaf.specs.Pairs.{IsLower};
+ghost use Rattle.ember_leaf.specs.Lower.{AddsLower, AreFound};
 
 use crate::blade::Blade;
 use crate::pairs::{Pair, are_coplanar, covers, is_flat, pair_of};
@@ -71,6 +72,7 @@ impl Rivals {
         requires lower { All (IsLower own.now.tri) self.old.lower.items }
         ensures lower { OnOk result (All (IsLower own.now.tri) self.new.lower.items) }
         ensures blades { OnOk result (map blade_of self.new.blades.items ≡ map blade_of self.old.blades.items ++ blades_with g.now.tri (edges_of g.now.tri)) }
+        ensures owners { IfOk result (λ covered. (b : Bounds) → AddsLower own.now.tri g.now.tri b is_before self.old.lower.items covered self.new.lower.items) }
     {
         add_edges(g, &mut self.blades)?;
         if is_before && are_coplanar(g, own) {
@@ -89,6 +91,7 @@ impl Rivals {
         requires lower { All (IsLower own.now.tri) self.old.lower.items }
         ensures lower { OnOk result (All (IsLower own.now.tri) self.new.lower.items) }
         ensures blades { OnOk result ((b : Bounds) → Adds (IsBounded own.now.tri b) (blades_of own.now.tri g.now.tri) self.old.blades.items self.new.blades.items) }
+        ensures owners { IfOk result (λ covered. (b : Bounds) → AddsLower own.now.tri g.now.tri b is_before self.old.lower.items covered self.new.lower.items) }
     {
         if is_flat(g) {
             return Ok(false);
@@ -115,6 +118,7 @@ impl Rivals {
         requires lower { All (IsLower own.now.tri) self.old.lower.items }
         ensures lower { OnOk result (All (IsLower own.now.tri) self.new.lower.items) }
         ensures blades { OnOk result (Adds (IsBounded own.now.tri bounds.now) (blades_of own.now.tri g.now.tri) self.old.blades.items self.new.blades.items) }
+        ensures owners { IfOk result (λ covered. AddsLower own.now.tri g.now.tri bounds.now is_before self.old.lower.items covered self.new.lower.items) }
     {
         if overlap(bounds, &g.spans) {
             self.add(own, g, is_before)
@@ -137,6 +141,7 @@ impl Rivals {
         requires own { own.now.tri ≡ tri_at (tris_of near.now) i }
         ensures lower { OnOk result (All (IsLower own.now.tri) self.new.lower.items) }
         ensures blades { IfOk result (λ covered. covered ≡ false → Sheds (IsBounded own.now.tri bounds.now) (blades (tris_of near.now) i) (map blade_of self.new.blades.items)) }
+        ensures owners { IfOk result (λ covered. AreFound (tris_of near.now) i own.now.tri bounds.now self.new.lower.items covered) }
     {
         self.blades.clear();
         self.lower.clear();

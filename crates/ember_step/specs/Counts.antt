@@ -1,8 +1,12 @@
 -- Numbers of written regions
-use Rattle.std.specs.Prelude.{◌≡◌, ℕ, List, length}
+use Rattle.std.proofs.Common.{◌≡◌, ◌∙◌, ℕ, List, length, ap, sym}
 
 -- so many items are in some list with the property
 pub record IsCount {X : Type 0} (Has : List X → Type 0) (n : ℕ) : Type 0 where
   pub items : List X
   pub has : Has items
   pub count : n ≡ length items
+
+-- lists with a property that one list has are counted alike
+pub one_count : {X : Type 0} {Has : List X → Type 0} {m n : ℕ} → ((xs ys : List X) → Has xs → Has ys → xs ≡ ys) → IsCount Has m → IsCount Has n → m ≡ n
+one_count one a b = a.count ∙ ap length (one a.items b.items a.has b.has) ∙ sym b.count

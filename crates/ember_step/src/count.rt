@@ -2,14 +2,15 @@
 ghost use Rattle.std.specs.Prelude.{IfOk};
 ghost use Rattle.ember_expr.specs.Formula.{formula_of};
 ghost use Rattle.ember_job.specs.Works.{Answers};
-ghost use Rattle.ember_leaf.specs.Leaves.{ArePlaced};
+ghost use Rattle.ember_box.specs.Near.{near};
+ghost use Rattle.ember_leaf.specs.Written.{IsWrittenIn};
 ghost use Rattle.ember_step.specs.Counts.{IsCount};
-ghost use Rattle.ember_visit.specs.Jobs.{IsJob, near_of};
+ghost use Rattle.ember_visit.specs.Jobs.{IsJob};
 ghost use Rattle.ember_visit.specs.Values.{shape};
 
 use crate::step::box_step;
 use ember_expr::Expr;
-use ember_job::{Job, Outcome, Work};
+use ember_job::{Job, OneItem, Outcome, Work};
 use ember_model::{OutOfMemory, Scene};
 use std::alloc::Global;
 
@@ -23,9 +24,10 @@ pub struct CountWork<'a> {
 
 impl<'a> Work for CountWork<'a> {
     ghost use Rattle.ember_expr.specs.Formula.{formula_of};
-    ghost use Rattle.ember_leaf.specs.Leaves.{ArePlaced};
+    ghost use Rattle.ember_box.specs.Near.{near};
+    ghost use Rattle.ember_leaf.specs.Written.{IsWrittenIn};
     ghost use Rattle.ember_step.specs.Counts.{IsCount};
-    ghost use Rattle.ember_visit.specs.Jobs.{IsJob, near_of};
+    ghost use Rattle.ember_visit.specs.Jobs.{IsJob};
     ghost use Rattle.ember_visit.specs.Values.{shape as shape_of};
     ghost use Rattle.ember_visit.proofs.Laws.{halves_are_jobs, halves_are_split};
 
@@ -35,11 +37,19 @@ impl<'a> Work for CountWork<'a> {
 
     ghost shape = { λ w job. shape_of w.scene.now.tris (formula_of w.expr.now) job };
 
-    ghost item = { λ w job n. IsCount (ArePlaced (near_of w.scene.now.tris job)) n };
+    ghost item = { λ w job n. IsCount (IsWrittenIn w.scene.now.tris (formula_of w.expr.now) job.cell (near w.scene.now.tris job.cell)) n };
 
     ghost halves_valid = { λ w job low high is e. halves_are_jobs w.scene.now.tris (formula_of w.expr.now) job low high w.scene.now.meshes w.scene.now.kept is e };
 
     ghost halves_split = { λ w job low high is e. halves_are_split w.scene.now.tris (formula_of w.expr.now) job low high e };
+}
+
+impl<'a> OneItem for CountWork<'a> {
+    ghost use Rattle.ember_expr.specs.Formula.{formula_of};
+    ghost use Rattle.ember_leaf.proofs.OneList.{written_in_unique};
+    ghost use Rattle.ember_step.specs.Counts.{one_count};
+
+    ghost one_item = { λ w job one other a b. one_count (λ us vs. written_in_unique w.scene.now.tris (formula_of w.expr.now) w.scene.now.meshes w.scene.now.kept job.cell us vs) a b };
 }
 
 /// What becomes of a job, as by `box_step`, with the number of written regions in place of the
@@ -51,7 +61,7 @@ pub fn count_step(
     job: &Job,
 ) -> Result<Outcome<u64>, OutOfMemory>
     requires { IsJob s.now.tris job.now }
-    ensures { IfOk result (λ o. Answers (shape s.now.tris (formula_of e.now)) (λ j n. IsCount (ArePlaced (near_of s.now.tris j)) n) job.now o) }
+    ensures { IfOk result (λ o. Answers (shape s.now.tris (formula_of e.now)) (λ j n. IsCount (IsWrittenIn s.now.tris (formula_of e.now) j.cell (near s.now.tris j.cell)) n) job.now o) }
 {
     match box_step(alloc, s, e, job)? {
         Outcome::Halves(low, high) => Ok(Outcome::Halves(low, high)),

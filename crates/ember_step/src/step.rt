@@ -2,13 +2,14 @@
 ghost use Rattle.std.specs.Prelude.{IfOk};
 ghost use Rattle.ember_expr.specs.Formula.{formula_of};
 ghost use Rattle.ember_job.specs.Works.{Answers};
-ghost use Rattle.ember_leaf.specs.Leaves.{ArePlaced};
-ghost use Rattle.ember_visit.specs.Jobs.{IsJob, near_of};
+ghost use Rattle.ember_box.specs.Near.{near};
+ghost use Rattle.ember_leaf.specs.Written.{IsWrittenIn};
+ghost use Rattle.ember_visit.specs.Jobs.{IsJob};
 ghost use Rattle.ember_visit.specs.Values.{shape};
 
 use ember_box::halving;
 use ember_expr::Expr;
-use ember_job::{Job, Outcome, Work};
+use ember_job::{Job, OneItem, Outcome, Work};
 use ember_leaf::{KeptList, leaf_faces};
 use ember_model::{OutOfMemory, Scene};
 use ember_visit::{box_value, halve_job, tris_at};
@@ -24,8 +25,9 @@ pub struct BoolWork<'a> {
 
 impl<'a> Work for BoolWork<'a> {
     ghost use Rattle.ember_expr.specs.Formula.{formula_of};
-    ghost use Rattle.ember_leaf.specs.Leaves.{ArePlaced};
-    ghost use Rattle.ember_visit.specs.Jobs.{IsJob, near_of};
+    ghost use Rattle.ember_box.specs.Near.{near};
+    ghost use Rattle.ember_leaf.specs.Written.{IsWrittenIn};
+    ghost use Rattle.ember_visit.specs.Jobs.{IsJob};
     ghost use Rattle.ember_visit.specs.Values.{shape as shape_of};
     ghost use Rattle.ember_visit.proofs.Laws.{halves_are_jobs, halves_are_split};
 
@@ -35,17 +37,24 @@ impl<'a> Work for BoolWork<'a> {
 
     ghost shape = { λ w job. shape_of w.scene.now.tris (formula_of w.expr.now) job };
 
-    ghost item = { λ w job kept. ArePlaced (near_of w.scene.now.tris job) kept };
+    ghost item = { λ w job kept. IsWrittenIn w.scene.now.tris (formula_of w.expr.now) job.cell (near w.scene.now.tris job.cell) kept };
 
     ghost halves_valid = { λ w job low high is e. halves_are_jobs w.scene.now.tris (formula_of w.expr.now) job low high w.scene.now.meshes w.scene.now.kept is e };
 
     ghost halves_split = { λ w job low high is e. halves_are_split w.scene.now.tris (formula_of w.expr.now) job low high e };
 }
 
+impl<'a> OneItem for BoolWork<'a> {
+    ghost use Rattle.ember_expr.specs.Formula.{formula_of};
+    ghost use Rattle.ember_leaf.proofs.OneList.{written_in_unique};
+
+    ghost one_item = { λ w job one other a b. written_in_unique w.scene.now.tris (formula_of w.expr.now) w.scene.now.meshes w.scene.now.kept job.cell one other a b };
+}
+
 // The written regions of a leaf.
 fn kept_in(alloc: Global, s: &Scene, e: &Expr, job: &Job) -> Result<KeptList, OutOfMemory>
     requires { IsJob s.now.tris job.now }
-    ensures { IfOk result (λ kept. ArePlaced (near_of s.now.tris job.now) kept) }
+    ensures { IfOk result (λ kept. IsWrittenIn s.now.tris (formula_of e.now) job.now.cell (near s.now.tris job.now.cell) kept) }
 {
     let near = tris_at(alloc, s.tris.items(), job.list.items())?;
     leaf_faces(alloc, e, &job.cell, &near, &job.at)
@@ -60,7 +69,7 @@ pub fn box_step(
     job: &Job,
 ) -> Result<Outcome<KeptList>, OutOfMemory>
     requires { IsJob s.now.tris job.now }
-    ensures { IfOk result (λ o. Answers (shape s.now.tris (formula_of e.now)) (λ j kept. ArePlaced (near_of s.now.tris j) kept) job.now o) }
+    ensures { IfOk result (λ o. Answers (shape s.now.tris (formula_of e.now)) (λ j kept. IsWrittenIn s.now.tris (formula_of e.now) j.cell (near s.now.tris j.cell) kept) job.now o) }
 {
     if box_value(e, s, job).is_some() {
         return Ok(Outcome::Skipped);

@@ -1,9 +1,15 @@
-use Rattle.std.proofs.Common.{◌≡◌, ◌<◌, All, subst, sym, ◌∙◌, ap, arith, length, IfOk}
+use Rattle.std.proofs.Common.{◌≡◌, ◌<◌, All, subst, sym, ◌∙◌, ap, arith, List, length, IfOk}
 use Rattle.std.proofs.lemmas.List.{length-map}
+use Rattle.std.proofs.lemmas.Result.{IfOk-weaker}
+use Rattle.ember_model.specs.declared.tri.Tri.{Tri}
 use Rattle.ember_model.specs.Valid.{IsValidTri}
 use Rattle.ember_model.specs.Meshes.{HasMesh}
-use Rattle.ember_box.specs.Near.{listed, tri_at}
-use Rattle.ember_leaf.specs.Leaves.{ArePlaced}
+use Rattle.ember_box.specs.Near.{near, listed, tri_at}
+use Rattle.ember_box.specs.Reference.{Fits}
+use Rattle.ember_expr.specs.Formula.{formula_of}
+use Rattle.ember_leaf.specs.Written.{IsWrittenIn}
+use Rattle.ember_visit.specs.Jobs.{near_of}
+use Rattle.ember_step.proofs.Outcomes.{written_by}
 use Rattle.ember_visit.proofs.Among.{all_listed, numbered_less, job_places, few_listed, counts_within}
 use Rattle.ember_step.proofs.step.kept_in.Goals as goal
 
@@ -33,4 +39,6 @@ pub leaf_faces-requires-clause-counts : goal.leaf_faces-requires-clause-counts
 leaf_faces-requires-clause-counts c = counts_within c.args.s.now.tris c.args.job.now c.requires 9437184 (omega arith) c.args.s.now.kept.few
 
 pub returns : goal.returns
-returns c = subst (λ near. IfOk c.leaf_faces.result (λ kept. ArePlaced near kept)) (c.deref.ensures.value ∙ c.in_ok-near.ensures ∙ (λ i. listed (c.items.ensures i) (c.items-2.ensures i))) c.leaf_faces.ensures
+returns c =
+    let ts = c.args.s.now.tris in let j = c.args.job.now in let f = formula_of c.args.e.now in
+    IfOk-weaker c.leaf_faces.result (λ ks. (scene : List Tri) → Fits scene (near_of ts j) j.cell j.at.counts → IsWrittenIn scene f j.cell (near_of ts j) ks) (λ ks. IsWrittenIn ts f j.cell (near ts j.cell) ks) (λ ks h. written_by ts c.args.s.now.meshes c.args.s.now.kept j c.requires f ks h) (subst (λ us. IfOk c.leaf_faces.result (λ ks. (scene : List Tri) → Fits scene us j.cell j.at.counts → IsWrittenIn scene f j.cell us ks)) (c.deref.ensures.value ∙ c.in_ok-near.ensures ∙ (λ i. listed (c.items.ensures i) (c.items-2.ensures i))) c.leaf_faces.ensures.written)

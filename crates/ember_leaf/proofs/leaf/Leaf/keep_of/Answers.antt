@@ -1,15 +1,48 @@
-use Rattle.std.proofs.Common.{◌∙◌, ap, [], ◌∷◌, sym, subst, List, All, get_or, map, option_to_list}
+use Rattle.std.proofs.Common.{◌≡◌, ◌∙◌, ap, [], ◌∷◌, sym, subst, ℕ, Option, Some, List, All, get_or, map, option_to_list}
+use Rattle.ember_algebra.specs.Relations.{Every}
+use Rattle.ember_model.specs.declared.face.Face.{Face}
+use Rattle.ember_model.specs.Faces.{is_flat}
+use Rattle.ember_expr.specs.Formula.{formula_of}
+use Rattle.ember_box.specs.Boxes.{Cell}
+use Rattle.ember_box.specs.Regions.{walls, IsStart}
+use Rattle.ember_box.specs.Regions as regions
+use Rattle.ember_leaf.specs.declared.wall.Wall.{Wall}
+use Rattle.ember_leaf.specs.declared.blade.Blade.{Blade}
+use Rattle.ember_leaf.specs.Lower.{AreFound, TellsOwner}
+use Rattle.ember_leaf.specs.Written.{hidden}
+use Rattle.ember_leaf.proofs.Lower.{is_covered}
+use Rattle.ember_leaf.proofs.Keeping.{grown_none, none_started, none_flat, all_lie_in}
 use Rattle.ember_model.specs.declared.tri.Tri.{Tri}
 use Rattle.ember_box.specs.Near.{tri_at}
 use Rattle.ember_leaf.specs.Pairs.{IsLower}
 use Rattle.ember_leaf.specs.Leaves.{tris_of}
-use Rattle.ember_leaf.proofs.Placing.{own_is}
+use Rattle.ember_leaf.proofs.Placing.{own_is, listed_too}
 use Rattle.ember_leaf.specs.Walls.{wall_of, IsLeft, IsPartOf}
 use Rattle.ember_leaf.proofs.Starting.{left_parts}
 use Rattle.ember_leaf.proofs.Splitting.{cuts_keep, parts_regions}
 use Rattle.ember_leaf.specs.Blades.{common_of, AreCut}
-use Rattle.ember_leaf.proofs.LeafRegions.{leaf_regions}
+use Rattle.ember_leaf.proofs.LeafRegions.{leaf_regions, owners_told}
+use Rattle.ember_leaf.proofs.leaf.Leaf.keep_of.Goals.{then-is_flat-via-then-is_flat, then-is_flat-via-else-is_flat+then-is_outside}
 use Rattle.ember_leaf.proofs.leaf.Leaf.keep_of.Goals as goal
+
+to_start : (c : Cell) (ns : List Tri) (i : ℕ) (ws : List Wall) {t : Tri} {fs : List Face} → t ≡ tri_at ns i → map wall_of ws ≡ walls c → IsLeft (map wall_of ws) t fs → IsStart c (tri_at ns i) fs
+to_start c ns i ws {t} {fs} e w l =
+    subst (λ (u : Tri). IsStart c u fs) e (subst (λ (vs : List regions.Wall). IsLeft vs t fs) w l)
+
+pub returns-then-is_flat-clause-written : goal.returns-then-is_flat-clause-written
+returns-then-is_flat-clause-written c =
+    let s = c.args.self.now in let near = s.near.now in let ns = tris_of near in let i = c.args.i in
+    let e = own_is near i c.index-self-i.result c.requires.place in
+    grown_none _ c.args.kept.now.items (λ scene h. elim c.then-is_flat.branch [
+      | then-is_flat-via-then-is_flat w ↦ none_flat scene (formula_of s.expr.now) s.cell.now ns i (sym (ap is_flat e) ∙ sym c.is_flat.ensures ∙ w.if-is_flat.true)
+      | then-is_flat-via-else-is_flat+then-is_outside w ↦ none_started scene (formula_of s.expr.now) s.cell.now ns i (to_start s.cell.now ns i c.args.walls.now e c.requires.walls (w.is_outside.ensures w.if-is_outside.true))
+    ])
+
+pub returns-then-branch-clause-written : goal.returns-then-branch-clause-written
+returns-then-branch-clause-written c =
+    let near = c.args.self.now.near.now in let ns = tris_of near in let i = c.args.i in let t = (get_or near i c.index-self-i.result).tri in
+    let h = subst (AreFound ns i t c.common_spans-bounds.result c.find.new.self.lower.items) c.if-branch.true c.in_ok-find.ensures.owners in
+    grown_none _ c.args.kept.now.items (λ scene f. hidden (is_covered ns i t c.common_spans-bounds.result (own_is near i c.index-self-i.result c.requires.place) (listed_too near i c.requires.place) h))
 
 pub keep-requires-clause-lower : goal.keep-requires-clause-lower
 keep-requires-clause-lower c =
@@ -32,3 +65,23 @@ pub keep-requires-clause-regions : goal.keep-requires-clause-regions
 keep-requires-clause-regions c =
     let near = c.args.self.now.near.now in let i = c.args.i in let f = get_or near i c.index-self-i.result in let ring = c.in-Some.ring in
     leaf_regions c.args.self.now.cell.now f ring (tris_of near) i c.args.walls.now c.find.new.self.blades.items c.common_spans-bounds.result c.in_ok-list.list.items (own_is near i c.index-self-i.result c.requires.place) c.requires.walls (c.common_spans-bounds.ensures ∙ ap (common_of f.spans) c.requires.spans) (subst (λ o. IsLeft (map wall_of c.args.walls.now) f.tri (option_to_list o)) c.in-Some.is c.in_ok-ring.ensures) (c.in_ok-find.ensures.blades c.if-branch.false) (subst (λ bs. AreCut bs (ring ∷ []) c.in_ok-list.list.items) c.deref.ensures.value c.in_ok-list.ensures)
+
+parts : (t : Tri) {ws : List regions.Wall} (bs : List Blade) {o : Option Face} (ring : Face) {fs : List Face} → IsLeft ws t (option_to_list o) → o ≡ Some ring → AreCut bs (ring ∷ []) fs → Every (IsPartOf t) fs
+parts t {ws} bs ring l e k =
+    cuts_keep t k ((left_parts t (subst (λ o. IsLeft ws t (option_to_list o)) e l)).0, tt)
+
+pub keep-requires-clause-inside : goal.keep-requires-clause-inside
+keep-requires-clause-inside c =
+    let s = c.args.self.now in all_lie_in s.cell.now (tris_of s.near.now) c.args.i c.in_ok-list.list.items (keep-requires-clause-regions c)
+
+pub keep-requires-clause-owners : goal.keep-requires-clause-owners
+keep-requires-clause-owners c =
+    let s = c.args.self.now in let near = s.near.now in let ns = tris_of near in let i = c.args.i in let f = get_or near i c.index-self-i.result in
+    let list = c.in_ok-list.list.items in let b = c.common_spans-bounds.result in let lower = c.find.new.self.lower.items in
+    subst (λ (us : List Tri). All (TellsOwner us ns i) list) (sym c.deref-in-Some.ensures.value) (owners_told s.cell.now f ns i lower b list (own_is near i c.index-self-i.result c.requires.place) (listed_too near i c.requires.place) (c.common_spans-bounds.ensures ∙ ap (common_of f.spans) c.requires.spans) (keep-requires-clause-regions c) (parts f.tri _ c.in-Some.ring c.in_ok-ring.ensures c.in-Some.is c.in_ok-list.ensures) c.in_ok-find.ensures.lower (subst (AreFound ns i f.tri b lower) c.if-branch.false c.in_ok-find.ensures.owners))
+
+pub returns-in_default-clause-written : goal.returns-in_default-clause-written
+returns-in_default-clause-written c =
+    let s = c.args.self.now in let near = s.near.now in let ns = tris_of near in let i = c.args.i in let walls = c.args.walls.now in
+    let l = subst (λ o. IsLeft (map wall_of walls) (get_or near i c.index-self-i.result).tri (option_to_list o)) c.in_default.is c.in_ok-ring.ensures in
+    grown_none _ c.args.kept.now.items (λ scene h. none_started scene (formula_of s.expr.now) s.cell.now ns i (to_start s.cell.now ns i walls (own_is near i c.index-self-i.result c.requires.place) c.requires.walls l))
