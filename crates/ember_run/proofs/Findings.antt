@@ -6,12 +6,11 @@ use Rattle.ember_expr.specs.Formula.{formula_of}
 use Rattle.ember_job.specs.declared.job.Job.{Job}
 use Rattle.ember_job.specs.Visited.{leaves}
 use Rattle.ember_leaf.specs.declared.kept.Kept.{Kept}
-use Rattle.ember_leaf.specs.Leaves.{ArePlaced}
 use Rattle.ember_model.specs.declared.scene.Scene.{Scene}
 use Rattle.ember_pairs.specs.declared.pair.Pair.{Pair}
 use Rattle.ember_pairs.specs.Pairs.{AreMeetingPairs}
 use Rattle.ember_pairs.specs.Works.{job_at, pairs_shape}
-use Rattle.ember_visit.specs.Jobs.{near_of, root_job}
+use Rattle.ember_visit.specs.Jobs.{root_job}
 use Rattle.ember_visit.specs.Values as values
 use Rattle.ember_voxel.specs.declared.fill.Fill.{Fill}
 use Rattle.ember_voxel.specs.Fills.{IsFill}
@@ -23,6 +22,7 @@ use Rattle.ember_run.specs.declared.task.Found.{Found}
 use Rattle.ember_run.specs.declared.task.Task.{Task}
 use Rattle.ember_run.specs.declared.task.Task.TheVariants as task
 use Rattle.ember_run.specs.Runs.{HoldEntries}
+use Rattle.ember_run.specs.Solids.{IsWrittenAt}
 use Rattle.ember_run.specs.Tasks.{IsFound, IsTask}
 use Rattle.ember_run.proofs.SceneVerdicts.{root_is_valid}
 
@@ -39,16 +39,16 @@ pub fills_found : (asked : Task) (scene : Bor Scene) (expr : Bor Tree) (size : �
 fills_found asked scene expr size root fills e f are =
     subst (λ (asked : Task). IsFound asked (finds.Fills fills)) (sym e) (subst (λ (root : Job). EachAnswers (IsFill (formula_of expr.now)) (leaves (lattice.shape scene.now.tris (formula_of expr.now) size) root) fills.items) f are)
 
-pub kept_found : (asked : Task) (scene : Bor Scene) (expr : Bor Tree) (root : Job) (found : Found (List Kept)) → asked ≡ task.Kept scene expr → root ≡ root_job scene.now.tris → EachAnswers (λ job kept. ArePlaced (near_of scene.now.tris job) kept) (leaves (values.shape scene.now.tris (formula_of expr.now)) root) found.items.items → HoldEntries (values.shape scene.now.tris (formula_of expr.now)) root found.journals → IsFound asked (finds.Kept found)
+pub kept_found : (asked : Task) (scene : Bor Scene) (expr : Bor Tree) (root : Job) (found : Found (List Kept)) → asked ≡ task.Kept scene expr → root ≡ root_job scene.now.tris → EachAnswers (IsWrittenAt scene.now.tris (formula_of expr.now)) (leaves (values.shape scene.now.tris (formula_of expr.now)) root) found.items.items → HoldEntries (values.shape scene.now.tris (formula_of expr.now)) root found.journals → IsFound asked (finds.Kept found)
 kept_found asked scene expr root found e f are holds =
     subst (λ (asked : Task). IsFound asked (finds.Kept found)) (sym e) (
-      subst (λ (root : Job). EachAnswers (λ job kept. ArePlaced (near_of scene.now.tris job) kept) (leaves (values.shape scene.now.tris (formula_of expr.now)) root) found.items.items) f are,
+      subst (λ (root : Job). EachAnswers (IsWrittenAt scene.now.tris (formula_of expr.now)) (leaves (values.shape scene.now.tris (formula_of expr.now)) root) found.items.items) f are,
       subst (λ (root : Job). HoldEntries (values.shape scene.now.tris (formula_of expr.now)) root found.journals) f holds,
     )
 
-pub counts_found : (asked : Task) (scene : Bor Scene) (expr : Bor Tree) (root : Job) (found : Found ℕ) → asked ≡ task.Counts scene expr → root ≡ root_job scene.now.tris → EachAnswers (λ job n. IsCount (ArePlaced (near_of scene.now.tris job)) n) (leaves (values.shape scene.now.tris (formula_of expr.now)) root) found.items.items → HoldEntries (values.shape scene.now.tris (formula_of expr.now)) root found.journals → IsFound asked (finds.Counts found)
+pub counts_found : (asked : Task) (scene : Bor Scene) (expr : Bor Tree) (root : Job) (found : Found ℕ) → asked ≡ task.Counts scene expr → root ≡ root_job scene.now.tris → EachAnswers (λ job n. IsCount (IsWrittenAt scene.now.tris (formula_of expr.now) job) n) (leaves (values.shape scene.now.tris (formula_of expr.now)) root) found.items.items → HoldEntries (values.shape scene.now.tris (formula_of expr.now)) root found.journals → IsFound asked (finds.Counts found)
 counts_found asked scene expr root found e f are holds =
     subst (λ (asked : Task). IsFound asked (finds.Counts found)) (sym e) (
-      subst (λ (root : Job). EachAnswers (λ job n. IsCount (ArePlaced (near_of scene.now.tris job)) n) (leaves (values.shape scene.now.tris (formula_of expr.now)) root) found.items.items) f are,
+      subst (λ (root : Job). EachAnswers (λ job n. IsCount (IsWrittenAt scene.now.tris (formula_of expr.now) job) n) (leaves (values.shape scene.now.tris (formula_of expr.now)) root) found.items.items) f are,
       subst (λ (root : Job). HoldEntries (values.shape scene.now.tris (formula_of expr.now)) root found.journals) f holds,
     )

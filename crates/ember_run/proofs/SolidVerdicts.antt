@@ -5,13 +5,15 @@ use Rattle.ember_expr.specs.Formula.{Formula}
 use Rattle.ember_expr.specs.Truth.{truth}
 use Rattle.ember_job.specs.declared.job.Job.{Job}
 use Rattle.ember_job.specs.Visited.{leaves}
-use Rattle.ember_leaf.specs.Leaves.{ArePlaced}
+use Rattle.ember_leaf.specs.Scenes.{IsWritten}
+use Rattle.ember_algebra.specs.Relations.{Each}
 use Rattle.ember_run.proofs.Counts.{are_counted, all_counted}
+use Rattle.ember_run.proofs.KeptLists.{all_given}
 use Rattle.ember_model.specs.declared.scene.Scene.{Scene}
 use Rattle.ember_model.specs.declared.tri.Tri.{Tri}
 use Rattle.ember_report.specs.declared.report.Report.{Report}
 use Rattle.ember_report.specs.Reports.{line_of}
-use Rattle.ember_visit.specs.Jobs.{IsJob, near_of, root_job}
+use Rattle.ember_visit.specs.Jobs.{IsJob, root_job}
 use Rattle.ember_visit.proofs.Laws.{root_is_job}
 use Rattle.ember_run.specs.declared.status.Status.{Status}
 use Rattle.ember_run.specs.declared.status.Status.TheVariants.{Done, Words, ReadFault, WriteFault, ObjRefused, MeshRefused, ExprRefused, Unbounded, Limit, NotClear, FaceRefused, OutOfMemory}
@@ -27,7 +29,7 @@ use Rattle.ember_visit.specs.Values.{shape}
 use Rattle.std.specs.List.{sum, sum_by}
 use Rattle.ember_run.specs.Runs.{HoldEntries, run_report}
 use Rattle.ember_run.proofs.Reports.{entries_fit, same_report}
-use Rattle.ember_run.specs.Solids.{AreKept, AreKeptCounts, HoldRun, IsReportLine, IsReportText, IsSolid, IsSolidReport, IsSolidText, report_lines}
+use Rattle.ember_run.specs.Solids.{AreKept, AreKeptCounts, HoldRun, IsReportLine, IsReportText, IsSolid, IsSolidReport, IsSolidText, IsWrittenAt, report_lines}
 use Rattle.ember_gen.specs.Scene.{scene_of}
 use Rattle.ember_leaf.specs.declared.kept.Kept.{Kept}
 use Rattle.ember_text.specs.Documents.{IsDocumentText, written_face}
@@ -41,15 +43,22 @@ root_is_valid scene job e = subst (IsJob scene.tris) (sym e) (root_is_job scene.
 pub journals_fit : (tris : List Tri) (formula : Formula) (journals : List (List Entry)) → HoldEntries (shape tris formula) (root_job tris) journals → sum_by length journals < 2 ^ 64
 journals_fit tris formula journals holds = entries_fit (shape tris formula) (root_job tris) journals refl holds
 
-pub is_solid : (tris : List Tri) (formula : Formula) (items : List (List Kept)) (kept : List Kept) (journals : List (List Entry)) (faces : ℕ) (report : Report) → AreKept tris formula items → HoldEntries (shape tris formula) (root_job tris) journals → kept ≡ flat_map (λ ks. ks) items → report ≡ report_from journals faces → faces ≡ length kept → IsSolid tris formula kept report
-is_solid tris formula items kept journals faces report are holds all e f =
-    record { items = items; are = are; all = all; report_is = e ∙ same_report (shape tris formula) (root_job tris) journals faces holds ∙ ap (run_report (shape tris formula) (root_job tris)) f }
+-- the visited leaves write what the scene does
+abbrev pub VisitedWriteAll : List Tri → Formula → Type 0
+VisitedWriteAll tris formula =
+    (kept : List Kept) → Each (IsWrittenAt tris formula) (leaves (shape tris formula) (root_job tris)) kept → IsWritten tris formula kept
 
-pub is_solid_report : (tris : List Tri) (formula : Formula) (counts : List ℕ) (journals : List (List Entry)) (faces : ℕ) (report : Report) → AreKeptCounts tris formula counts → HoldRun tris formula journals → report ≡ report_from journals faces → faces ≡ sum counts → IsSolidReport tris formula report
-is_solid_report tris formula counts journals faces report are holds e f =
-    let lists = are_counted (λ job kept. ArePlaced (near_of tris job) kept) (leaves (shape tris formula) (root_job tris)) counts are in
+pub is_solid : (tris : List Tri) (formula : Formula) (items : List (List Kept)) (kept : List Kept) (journals : List (List Entry)) (faces : ℕ) (report : Report) → VisitedWriteAll tris formula → AreKept tris formula items → HoldRun tris formula journals → kept ≡ flat_map (λ ks. ks) items → report ≡ report_from journals faces → faces ≡ length kept → IsSolid tris formula kept report
+is_solid tris formula items kept journals faces report law are holds all e f = record {
+  written = law kept (subst (λ (kept : List Kept). Each (IsWrittenAt tris formula) (leaves (shape tris formula) (root_job tris)) kept) (sym all) (all_given (IsWrittenAt tris formula) (leaves (shape tris formula) (root_job tris)) items are));
+  report_is = e ∙ same_report (shape tris formula) (root_job tris) journals faces holds ∙ ap (run_report (shape tris formula) (root_job tris)) f;
+}
+
+pub is_solid_report : (tris : List Tri) (formula : Formula) (counts : List ℕ) (journals : List (List Entry)) (faces : ℕ) (report : Report) → VisitedWriteAll tris formula → AreKeptCounts tris formula counts → HoldRun tris formula journals → report ≡ report_from journals faces → faces ≡ sum counts → IsSolidReport tris formula report
+is_solid_report tris formula counts journals faces report law are holds e f =
+    let lists = are_counted (IsWrittenAt tris formula) (leaves (shape tris formula) (root_job tris)) counts are in
     let kept = flat_map (λ ks. ks) lists.items in
-    record { kept = kept; solid = is_solid tris formula lists.items kept journals faces report lists.answer holds refl e (f ∙ all_counted counts lists.items lists.lengths) }
+    record { kept = kept; solid = is_solid tris formula lists.items kept journals faces report law lists.answer holds refl e (f ∙ all_counted counts lists.items lists.lengths) }
 
 -- ---- bounded expressions
 not_true : (b : Bool) → true ≡ not b → b ≡ false

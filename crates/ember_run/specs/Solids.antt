@@ -1,39 +1,44 @@
 -- The written regions of a solid, and what is reported of its run
-use Rattle.std.specs.Prelude.{◌≡◌, ℕ, Bool, true, false, List, [], flat_map, length, map}
+use Rattle.std.specs.Prelude.{◌≡◌, ℕ, Bool, true, false, List, [], length, map}
 use Rattle.ember_expr.specs.Formula.{Formula}
+use Rattle.ember_box.specs.Near.{near}
 use Rattle.ember_job.specs.declared.job.Entry.{Entry}
+use Rattle.ember_job.specs.declared.job.Job.{Job}
 use Rattle.ember_job.specs.Visited.{leaves}
 use Rattle.ember_leaf.specs.declared.kept.Kept.{Kept}
-use Rattle.ember_leaf.specs.Leaves.{ArePlaced}
+use Rattle.ember_leaf.specs.Scenes.{IsWritten}
+use Rattle.ember_leaf.specs.Written.{IsWrittenIn}
 use Rattle.ember_model.specs.declared.tri.Tri.{Tri}
 use Rattle.ember_report.specs.declared.report.Report.{Report}
 use Rattle.ember_report.specs.Reports.{line_of}
 use Rattle.ember_step.specs.Counts.{IsCount}
 use Rattle.ember_text.specs.Documents.{IsDocumentText, written_face}
-use Rattle.ember_visit.specs.Jobs.{near_of, root_job}
+use Rattle.ember_visit.specs.Jobs.{root_job}
 use Rattle.ember_visit.specs.Values.{shape}
 use Rattle.steal_pool.specs.Merged.{EachAnswers}
 use Rattle.ember_run.specs.Runs.{HoldEntries, run_report}
 
+-- these are written of the box of a job
+abbrev pub IsWrittenAt : List Tri → Formula → Job → List Kept → Type 0
+IsWrittenAt tris formula job kept = IsWrittenIn tris formula job.cell (near tris job.cell) kept
+
 -- the written regions of each leaf of the tree of boxes
 abbrev pub AreKept : List Tri → Formula → List (List Kept) → Type 0
 AreKept tris formula items =
-    EachAnswers (λ job kept. ArePlaced (near_of tris job) kept) (leaves (shape tris formula) (root_job tris)) items
+    EachAnswers (IsWrittenAt tris formula) (leaves (shape tris formula) (root_job tris)) items
 
 -- the numbers of the written regions of each leaf
 abbrev pub AreKeptCounts : List Tri → Formula → List ℕ → Type 0
 AreKeptCounts tris formula counts =
-    EachAnswers (λ job n. IsCount (ArePlaced (near_of tris job)) n) (leaves (shape tris formula) (root_job tris)) counts
+    EachAnswers (λ job n. IsCount (IsWrittenAt tris formula job) n) (leaves (shape tris formula) (root_job tris)) counts
 
 -- the journals hold the boxes that were visited for them
 abbrev pub HoldRun : List Tri → Formula → List (List Entry) → Type 0
 HoldRun tris formula journals = HoldEntries (shape tris formula) (root_job tris) journals
 
--- the written regions of all leaves, and the numbers of the run that wrote so many
+-- the written regions of the scene, and the numbers of the run that wrote so many
 pub record IsSolid (tris : List Tri) (formula : Formula) (kept : List Kept) (report : Report) : Type 0 where
-  pub items : List (List Kept)
-  pub are : AreKept tris formula items
-  pub all : kept ≡ flat_map (λ ks. ks) items
+  pub written : IsWritten tris formula kept
   pub report_is : report ≡ run_report (shape tris formula) (root_job tris) (length kept)
 
 -- these are the numbers of the run that gives the solid

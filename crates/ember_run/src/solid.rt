@@ -10,6 +10,7 @@ use ember_expr::Expr;
 use ember_leaf::{Kept, KeptList};
 use ember_model::{OutOfMemory, Scene};
 use ember_report::{Report, report_of};
+use ember_step::visited_leaves_write_all;
 use std::alloc::{AllocError, Global};
 
 /// The written regions of all leaves, in the order of the tree, and the numbers of the run.
@@ -34,7 +35,6 @@ fn all_kept(alloc: Global, items: Vec<KeptList>) -> Result<Vec<Kept>, OutOfMemor
 }
 
 /// The solid of an expression over a scene.
-#[tactic(auto, using(crate::proofs::SolidVerdicts::is_solid))]
 pub fn solid_of<C: Fn(&Task) -> Result<Finds, OutOfMemory>>(
     alloc: Global,
     scene: &Scene,
@@ -47,6 +47,7 @@ pub fn solid_of<C: Fn(&Task) -> Result<Finds, OutOfMemory>>(
     let found = kept_by(scene, expr, crew)?;
     let journals = found.journals;
     let kept = all_kept(alloc, found.items)?;
+    visited_leaves_write_all(scene, expr);
     let report = report_of(&journals, kept.len() as u64);
     Ok(Solid { kept, report })
 }
@@ -79,5 +80,6 @@ pub fn report_by<C: Fn(&Task) -> Result<Finds, OutOfMemory>>(
 {
     let found = counts_by(scene, expr, crew)?;
     let faces = total(&found.items)?;
+    visited_leaves_write_all(scene, expr);
     Ok(report_of(&found.journals, faces))
 }
