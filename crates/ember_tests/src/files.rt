@@ -5,9 +5,6 @@ use std::alloc::Global;
 use std::test::Fail;
 use steal_pool::OpenGate;
 
-pub const TETRA: &[u8] =
-    b"v 0 0 0\nv 1 0 0\nv 0 1 0\nv 0 0 1\nf 1 3 2\nf 1 2 4\nf 1 4 3\nf 2 3 4\n";
-
 /// A tetrahedron without its last face.
 pub const OPEN: &[u8] = b"v 0 0 0\nv 1 0 0\nv 0 1 0\nv 0 0 1\nf 1 3 2\nf 1 2 4\nf 1 4 3\n";
 

@@ -1,5 +1,6 @@
 // Every prefix of a file.
-use crate::files::{AT, FACES, TETRA, answer, failing_sink, safe_shelf};
+use crate::files::{AT, FACES, answer, failing_sink, safe_shelf};
+use crate::texts::TETRA;
 use ember_obj::ObjFault;
 use ember_run::Status;
 use std::test::Fail;
