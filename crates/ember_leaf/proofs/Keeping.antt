@@ -1,9 +1,9 @@
 -- What is written of the regions of one triangle after another.
-use Rattle.std.proofs.Common.{◌≡◌, refl, sym, ap, subst, ◌∙◌, arith, ℕ, ◌+◌, ◌<◌, Bool, true, false, Option, None, Some, List, [], ◌∷◌, ◌++◌, length, append_assoc, get_or, ℤ, All}
+use Rattle.std.proofs.Common.{◌≡◌, sym, ap, subst, ◌∙◌, arith, ℕ, ◌+◌, Bool, true, false, Option, None, Some, List, [], ◌∷◌, ◌++◌, length, append_assoc, get_or, ℤ, All}
 use Rattle.std.specs.List.{range_with_len}
 use Rattle.std.proofs.lemmas.List.{append-nil}
 use Rattle.std.proofs.lemmas.Option.{slice_get-get_or}
-use Rattle.ember_algebra.specs.Relations.{Each, Chain, none, more, done, step, Every}
+use Rattle.ember_algebra.specs.Relations.{Each, Chain, none, done, step}
 use Rattle.ember_algebra.proofs.Relations.{each_push}
 use Rattle.ember_model.specs.declared.tri.Tri.{Tri}
 use Rattle.ember_model.specs.declared.face.Face.{Face}
@@ -18,7 +18,7 @@ use Rattle.ember_box.specs.Regions as regions
 use Rattle.ember_trace.specs.Boxed.{LiesIn}
 use Rattle.ember_trace.proofs.BoxedRegions.{regions_lie_in}
 use Rattle.ember_leaf.specs.declared.kept.Kept.{Kept}
-use Rattle.ember_leaf.specs.Written.{AtRegion, even, written, AreRegionsWritten, IsWrittenOf, regional, IsWrittenIn, IsTurn, WhereFits, HasGrown}
+use Rattle.ember_leaf.specs.Written.{AtRegion, even, written, IsWrittenOf, regional, IsWrittenIn, IsTurn, WhereFits, HasGrown}
 use Rattle.ember_leaf.proofs.Shedding.{range_more}
 
 -- ---- one region

@@ -5,6 +5,7 @@ pub mod Lower
 pub mod OneList
 pub mod Placing
 pub mod Shedding
+pub mod SomeRegions
 pub mod Splitting
 pub mod Starting
 pub mod TriFaces

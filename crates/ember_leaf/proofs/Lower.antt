@@ -5,7 +5,7 @@ use Rattle.std.proofs.lemmas.List.Elements.{All-nil, All-push, All-get_or}
 use Rattle.ember_model.specs.declared.tri.Tri.{Tri}
 use Rattle.ember_model.specs.declared.face.Face.{Face}
 use Rattle.ember_model.specs.Faces.{is_inside, is_flat, face_of, Meets, Contains}
-use Rattle.ember_model.specs.Owners.{is_coplanar, IsOwner}
+use Rattle.ember_model.specs.Owners.{is_coplanar}
 use Rattle.ember_model.proofs.SignTests.{clash}
 use Rattle.ember_box.specs.declared.spans.Spans.{Spans}
 use Rattle.ember_box.specs.Near.{tri_at, no_tri}
@@ -18,7 +18,7 @@ use Rattle.ember_leaf.specs.Pairs.{AreApart, IsLower, HasHolder}
 use Rattle.ember_leaf.specs.Lower.{StandsBefore, Holds, AddsLower, covers, joins, misses, follows, AreLower, HasCover, TellsOwner}
 use Rattle.ember_leaf.specs.Written.{IsCovered}
 use Rattle.ember_leaf.proofs.Apart.{coplanar_flats}
-use Rattle.ember_leaf.proofs.Placing.{face_support, none_some}
+use Rattle.ember_leaf.proofs.Placing.{face_support}
 use Rattle.ember_leaf.proofs.Shedding.{away_unmet}
 
 -- ---- one triangle

@@ -44,7 +44,7 @@ each_region near c i faces r =
     every_from (IsRegion near c) faces (λ j g e. record { tri = i; regions = faces; are_regions = r; place = j; here = e })
 
 -- a covered triangle owns no region
-hidden_owns_none : (near : List Tri) (c : Cell) (i : ℕ) (faces : List Face) → IsRegions c near i faces → IsCovered near i → Every (λ g. IsOwner near i g → ⊥) faces
+pub hidden_owns_none : (near : List Tri) (c : Cell) (i : ℕ) (faces : List Face) → IsRegions c near i faces → IsCovered near i → Every (λ g. IsOwner near i g → ⊥) faces
 hidden_owns_none near c i faces r h =
     every_from (λ g. IsOwner near i g → ⊥) faces (λ j g e o. o.first h.place h.own h.cover h.before h.here h.there h.coplanar (record { holds = λ v w. h.contains.holds v (subst (λ (t : Tri). is_inside (face_of t) v ≡ true) (get_or_from_slice_get near i h.own no_tri h.there) (region_inside c near i j faces g r e v w)) }))
 

@@ -17,6 +17,7 @@ use Rattle.ember_box.specs.Regions.{AtWall, AtBlade, walls, blades, IsRegions}
 use Rattle.ember_expr.specs.Formula.{Formula}
 use Rattle.ember_leaf.specs.declared.kept.Kept.{Kept}
 use Rattle.ember_leaf.specs.Written.{AtRegion, IsWrittenOf}
+use Rattle.ember_leaf.proofs.SomeRegions.{written_by_regions}
 use Rattle.ember_leaf.specs.Scenes.{HasOneValue, LeafGives, regions, nothing}
 use Rattle.ember_meaning.proofs.Counted.{hits, is_in_box, IsFair, IsFairAt, IsFairInAll}
 use Rattle.ember_meaning.proofs.Listed.{Entry, entry, IsEntriesOf, IsEntriesIn, IsEntries, has_inside, is_hit_at, Without, ends, keeps, drops}
@@ -176,17 +177,16 @@ each_map : {X Z Y : Type 0} {R : Z → List Y → Type 0} (h : X → Z) {xs : Li
 each_map h none = none
 each_map h (more r e) = more r (each_map h e)
 
-of_leaf : (scene : List Tri) (x : Formula) (c : Cell) {is : List ℕ} {ks : List Kept} → Each (IsWrittenOf scene x c (near scene c)) is ks → OfLeaf scene x c is ks
-of_leaf scene x c none = record { entries = []; are_entries = none; are_written = none }
-of_leaf scene x c (more {x = i} r e) =
-    let k = of_leaf scene x c e in
-    record { entries = map (entry c i) r.faces ++ k.entries; are_entries = more (record { faces = r.faces; are_regions = r.are_regions; is = refl }) k.are_entries; are_written = each_append (each_map (entry c i) r.are_written) k.are_written }
+of_leaf : (scene : List Tri) (x : Formula) (c : Cell) {is : List ℕ} {ks : List Kept} → Each (IsWrittenOf scene x c (near scene c)) is ks → (OfLeaf scene x c is ks → ⊥) → ⊥
+of_leaf scene x c none n = n (record { entries = []; are_entries = none; are_written = none })
+of_leaf scene x c (more {x = i} {zs = zs} w e) n =
+    of_leaf scene x c e (λ k. written_by_regions scene x c (near scene c) i w (λ r. n (record { entries = map (entry c i) r.faces ++ k.entries; are_entries = more (record { faces = r.faces; are_regions = r.are_regions; is = refl }) k.are_entries; are_written = each_append (each_map (entry c i) r.are_written) k.are_written })))
 
-pub listing : (scene : List Tri) (x : Formula) {ds : List Cell} {ks : List Kept} → Each (LeafGives scene x) ds ks → Listed scene x ds ks
-listing scene x none = record { cells = []; entries = []; listed = ends; are_entries = none; are_written = none }
-listing scene x (more {x = c} (regions w) e) =
-    let k = listing scene x e in let o = of_leaf scene x c w in
-    record { cells = c ∷ k.cells; entries = o.entries ++ k.entries; listed = keeps k.listed; are_entries = more o.are_entries k.are_entries; are_written = each_append o.are_written k.are_written }
-listing scene x (more (nothing h) e) =
-    let k = listing scene x e in
-    record { cells = k.cells; entries = k.entries; listed = drops h k.listed; are_entries = k.are_entries; are_written = k.are_written }
+-- it can't be that there is no such list
+pub listing : (scene : List Tri) (x : Formula) {ds : List Cell} {ks : List Kept} → Each (LeafGives scene x) ds ks → (Listed scene x ds ks → ⊥) → ⊥
+listing scene x none n =
+    n (record { cells = []; entries = []; listed = ends; are_entries = none; are_written = none })
+listing scene x (more {x = c} (regions w) e) n =
+    listing scene x e (λ k. of_leaf scene x c w (λ o. n (record { cells = c ∷ k.cells; entries = o.entries ++ k.entries; listed = keeps k.listed; are_entries = more o.are_entries k.are_entries; are_written = each_append o.are_written k.are_written })))
+listing scene x (more (nothing h) e) n =
+    listing scene x e (λ k. n (record { cells = k.cells; entries = k.entries; listed = drops h k.listed; are_entries = k.are_entries; are_written = k.are_written }))

@@ -1,11 +1,12 @@
 -- The meaning of the written regions of a scene on a general line.
-use Rattle.std.proofs.Common.{◌≡◌, ℕ, zero, suc, pred, ◌<◌, refl, ap, ◌∙◌, sym, subst, List, [], ◌∷◌, map, length, Bool, true, false, not, ◌&&◌, cond, ◌⊎◌, inl, inr, arith, ℤ, pos, negsuc, nat_lt, ◌+◌, ◌*ℤ◌, ◌<ℤ◌, ◌≤ℤ◌, neg_ℤ, unsigned_abs}
+use Rattle.std.proofs.Common.{◌≡◌, ℕ, zero, suc, pred, ◌<◌, refl, ap, ◌∙◌, sym, subst, List, [], ◌∷◌, map, length, Bool, true, false, not, ◌&&◌, cond, ◌⊎◌, inl, inr, arith, ℤ, pos, negsuc, nat_lt, ◌+◌, ◌*ℤ◌, ◌-ℤ◌, ◌<ℤ◌, ◌≤ℤ◌, neg_ℤ, unsigned_abs}
 use Rattle.std.specs.List.{filter, list_any}
 use Rattle.std.proofs.lemmas.Option.{get_or_from_slice_get}
 use Rattle.std.proofs.lemmas.Bool.{cases_Bool, lt-ltb, and_parts, and_from, not-true}
 use Rattle.ember_algebra.specs.Relations.{Every}
 use Rattle.ember_algebra.specs.Sign.{sign, is_zero}
 use Rattle.ember_algebra.proofs.Laws.{linear}
+use Rattle.ember_algebra.proofs.Order.{by_sign}
 use Rattle.ember_model.specs.declared.tri.Tri.{Tri}
 use Rattle.ember_model.specs.declared.plane.Plane.{Plane}
 use Rattle.ember_model.specs.declared.point.Spot.{Spot}
@@ -20,6 +21,7 @@ use Rattle.ember_model.specs.Meshes.{IsScene, vector, faces_of}
 use Rattle.ember_algebra.specs.Large.{Eventually}
 use Rattle.ember_expr.specs.Truth.{truth}
 use Rattle.ember_box.specs.Boxes.{root, left}
+use Rattle.ember_box.specs.Halving.{leaves}
 use Rattle.ember_box.specs.Sums.{number}
 use Rattle.ember_ref.proofs.FarTriangles.{inside_closed}
 use Rattle.ember_ref.proofs.NearPoints.{near_point}
@@ -41,7 +43,7 @@ use Rattle.ember_meaning.proofs.Listed.{Entry, IsListing, has_inside, is_hit_at,
 use Rattle.ember_meaning.proofs.Lines.{In, here, there, Fraction, is_below, key, is_hit, is_tri_hit, tri_key, tri_hits, Placed, onward, beyond}
 use Rattle.ember_meaning.specs.Meaning.{IsFalseOutside, HasMeaning}
 use Rattle.ember_meaning.proofs.Regular.{place, SomeHit, IsGeneralAt, IsRegular, HaveMeaningOnLines}
-use Rattle.ember_meaning.proofs.Entries.{one_holds, listing}
+use Rattle.ember_meaning.proofs.Entries.{one_holds, Listed, listing}
 use Rattle.ember_law.proofs.Vectors.{axes_law}
 use Rattle.ember_meaning.proofs.Fractions.{fractions_order}
 use Rattle.ember_meaning.proofs.Meaning.{meaning_along, first}
@@ -228,9 +230,17 @@ module _ (scene : List Tri) (x : Formula) (ks : List Kept) (cs : List Cell) (es 
           some e h = let o = ap number h in omega (arith, e, o)
 
 -- ---- the meaning
+-- numbers that can't differ are equal
+stays_equal : (a b : ℤ) → ((a ≡ b → ⊥) → ⊥) → a ≡ b
+stays_equal a b n =
+    by_sign (a -ℤ b) (λ l. absurd (n (λ e. omega (arith, linear, l, e)))) (λ z. omega (arith, linear, z)) (λ l. absurd (n (λ e. omega (arith, linear, l, e))))
+
 pub meaning_on_lines : (scene : List Tri) (count : ℕ) (x : Formula) (ks : List Kept) → IsScene scene count → IsWritten scene x ks → IsFalseOutside x → HaveMeaningOnLines scene x ks
 meaning_on_lines scene count x ks v w o a b p positive clear general =
-    let l = listing scene x w in
-    let is : IsListing scene x ks l.cells l.entries = record { listed = l.listed; are_entries = l.are_entries; are_written = l.are_written } in
-    let m = meaning_along scene x a p l.cells l.entries ks l.listed l.are_entries l.are_written o (record { regular = λ t i. regular scene x ks l.cells l.entries is a p count v t i (general t i); placed = placed scene x ks l.cells l.entries is a p }) (record { num = pos 0; den = 0 }) in
-    subst (λ q. HasMeaning scene x ks a a q) (first a p) m ∙ ap (λ (c : List ℤ). one_if (truth c x)) (axes_law scene count v p a b positive clear)
+    stays_equal _ _ (λ n. listing scene x w (λ l. n (by l)))
+  where
+    by : Listed scene x (leaves scene root) ks → HasMeaning scene x ks a b p
+    by l =
+        let is : IsListing scene x ks l.cells l.entries = record { listed = l.listed; are_entries = l.are_entries; are_written = l.are_written } in
+        let m = meaning_along scene x a p l.cells l.entries ks l.listed l.are_entries l.are_written o (record { regular = λ t i. regular scene x ks l.cells l.entries is a p count v t i (general t i); placed = placed scene x ks l.cells l.entries is a p }) (record { num = pos 0; den = 0 }) in
+        subst (λ q. HasMeaning scene x ks a a q) (first a p) m ∙ ap (λ (c : List ℤ). one_if (truth c x)) (axes_law scene count v p a b positive clear)

@@ -1,4 +1,4 @@
-use Rattle.std.proofs.Common.{◌∙◌, ap, sym, subst, arith, ◌≡◌, ℕ, [], length}
+use Rattle.std.proofs.Common.{◌∙◌, ap, sym, subst, arith, ◌≡◌, [], length}
 use Rattle.std.proofs.lemmas.List.{length-map}
 use Rattle.ember_algebra.specs.Relations.{Each, none}
 use Rattle.ember_expr.specs.Formula.{formula_of}

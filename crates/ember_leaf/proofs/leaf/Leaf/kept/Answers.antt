@@ -1,4 +1,4 @@
-use Rattle.std.proofs.Common.{arith, not, ◌≡◌, true, false, Bool}
+use Rattle.std.proofs.Common.{arith}
 use Rattle.ember_expr.specs.Formula.{formula_of}
 use Rattle.std.proofs.lemmas.List.Elements.{All-weaker}
 use Rattle.ember_model.specs.Valid.{IsValidTri}

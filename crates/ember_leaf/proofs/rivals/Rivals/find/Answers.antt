@@ -1,11 +1,9 @@
-use Rattle.std.proofs.Common.{◌≡◌, ◌+◌, ◌<◌, ◌≤◌, List, ℕ, arith, sym, subst, [], All, length, map, flat_map}
+use Rattle.std.proofs.Common.{◌≡◌, ◌+◌, List, ℕ, sym, subst, [], All, map, flat_map}
 use Rattle.std.specs.List.{range_with_len}
-use Rattle.std.proofs.lemmas.List.{length-map}
 use Rattle.std.proofs.lemmas.List.Elements.{All-nil}
 use Rattle.ember_box.specs.Near.{tri_at}
 use Rattle.ember_box.specs.Regions.{blades_at}
 use Rattle.ember_trace.specs.declared.facet.Facet.{Facet}
-use Rattle.ember_trace.specs.Facets.{tri_of}
 use Rattle.ember_leaf.specs.declared.rivals.Rivals.{Rivals}
 use Rattle.ember_leaf.specs.Pairs.{IsLower}
 use Rattle.ember_leaf.specs.Leaves.{tris_of}
