@@ -35,13 +35,21 @@ fn meets_and_lowest_terms(rt: HostRuntime) {
         }
         None => assert!(&rt; false),
     }
+    let unit = Plane {
+        a: 1,
+        b: 0,
+        c: 0,
+        d: 0,
+    };
     let parallel = Plane {
-        a: 2 * size,
+        a: 2,
         b: 0,
         c: 0,
         d: 5,
     };
-    assert!(&rt; meet(&x, &parallel, &y).is_none());
+    for third in [x, y, z] {
+        assert!(&rt; meet(&unit, &parallel, &third).is_none());
+    }
 }
 
 #[test]

@@ -1,7 +1,6 @@
 // Devices that fail, and files that are never begun.
-use crate::files::{
-    AT, FACES, OPEN, TETRA, TETRA_LINES, answer, failing_shelf, failing_sink, safe_shelf,
-};
+use crate::files::{AT, FACES, TETRA_LINES, answer, failing_shelf, failing_sink, safe_shelf};
+use crate::texts::{OPEN, TETRA};
 use ember_run::Status;
 use std::alloc::Global;
 use std::process::Abort;

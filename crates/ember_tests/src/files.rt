@@ -1,15 +1,10 @@
-// Files of the tests, and the devices that hold them.
+// Devices that fail, and one worker's answers over them.
+use crate::cases::file_set;
 use ember_io::{Calls, FileSet, MemoryShelf, MemorySink, SafeShelf, Shelf};
 use ember_run::{Status, run_one};
 use std::alloc::Global;
 use std::test::Fail;
 use steal_pool::OpenGate;
-
-pub const TETRA: &[u8] =
-    b"v 0 0 0\nv 1 0 0\nv 0 1 0\nv 0 0 1\nf 1 3 2\nf 1 2 4\nf 1 4 3\nf 2 3 4\n";
-
-/// A tetrahedron without its last face.
-pub const OPEN: &[u8] = b"v 0 0 0\nv 1 0 0\nv 0 1 0\nv 0 0 1\nf 1 3 2\nf 1 2 4\nf 1 4 3\n";
 
 /// The first three lines of what `faces` writes of the tetrahedron.
 pub const TETRA_LINES: &[u8] = b"ember 1\nf 0 0 -1 0 3\ne -1 0 0 0 0 0 0 1\n";
@@ -21,14 +16,7 @@ pub const AT: &[&str] = &["at", "--point", "1,2,3,16"];
 
 /// One file of that name.
 pub fn file(alloc: Global, name: &str, bytes: &[u8]) -> Result<FileSet, Fail> {
-    let mut files = Vec::new(alloc);
-    let Ok(()) = files.push((
-        String::from_str(alloc, name)?,
-        Vec::from_slice(alloc, bytes)?,
-    )) else {
-        return Err(Fail::from("memory"));
-    };
-    Ok(FileSet::of(files))
+    file_set(alloc, &[(name, bytes)])
 }
 
 pub fn safe_shelf(alloc: Global, bytes: &[u8]) -> Result<SafeShelf, Fail> {
