@@ -24,6 +24,8 @@ mod prefixes;
 #[cfg(test)]
 mod refusals;
 #[cfg(test)]
+mod regions;
+#[cfg(test)]
 mod scenes;
 #[cfg(test)]
 mod sizes;
@@ -35,6 +37,8 @@ mod sliced;
 mod solid_cases;
 #[cfg(test)]
 mod statuses;
+#[cfg(test)]
+mod tetrahedron;
 #[cfg(test)]
 mod texts;
 #[cfg(test)]
