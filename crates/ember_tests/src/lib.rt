@@ -18,6 +18,10 @@ mod point_cases;
 #[cfg(test)]
 mod prefixes;
 #[cfg(test)]
+mod refusals;
+#[cfg(test)]
+mod sizes;
+#[cfg(test)]
 mod slice_cases;
 #[cfg(test)]
 mod solid_cases;
