@@ -5,56 +5,28 @@ use Rattle.std.proofs.lemmas.List.Filters.{length-filter_more}
 use Rattle.std.proofs.lemmas.List.Sums.{length-filter, count_by-le-length}
 use Rattle.std.proofs.lemmas.Bool.{le-leb, or_left}
 use Rattle.ember_model.specs.declared.tri.Tri.{Tri}
-use Rattle.ember_model.specs.declared.plane.Plane.{Plane}
 use Rattle.ember_model.specs.declared.point.Axis.{Axis}
 use Rattle.ember_model.specs.declared.point.Axis.TheVariants.{X, Y, Z}
-use Rattle.ember_model.specs.Planes.{support_of}
-use Rattle.ember_box.specs.declared.spans.Spans.{Spans}
-use Rattle.ember_box.specs.declared.sums.Sight.{Sight}
-use Rattle.ember_box.specs.declared.sums.Halves.{Halves}
+use Rattle.ember_box.specs.declared.sight.Sight.{Sight}
+use Rattle.ember_box.specs.declared.sight.Halves.{Halves}
 use Rattle.ember_box.specs.declared.sums.Sums.{Sums}
 use Rattle.ember_box.specs.Boxes.{Cell, left_half, right_half}
 use Rattle.ember_box.specs.Near.{is_near, near, no_tri}
-use Rattle.ember_box.specs.Spans.{spans_of, bounding, overlap, within, is_level, crosses}
-use Rattle.ember_box.proofs.Level.{level_crossed}
+use Rattle.ember_box.specs.Spans.{span_on, spans_of}
 use Rattle.ember_box.specs.Halving.{half_sum, is_no_better, halving_axis, spreads, is_leaf}
-use Rattle.ember_box.specs.Sums.{number, IsPlaneOf, IsSight, may_cross, sees, AreHalves, halves_seen, IsSumOf, AreSums}
-use Rattle.ember_box.proofs.Orders.{and_implied}
-use Rattle.ember_box.proofs.Nearby.{near_is, AreInside, are_inside, inside_crossed, left_crossed, right_crossed}
+use Rattle.ember_box.specs.Sums.{number, IsSight, AreHalves, halves_seen, IsSumOf, AreSums}
+use Rattle.ember_box.proofs.Sights.{seen_low, seen_high}
 
 -- ---- one triangle
--- where a triangle without a plane is crossed by what its bounding box meets, the sight of it is right
-seen : (whole : Spans) (c : Cell) (t : Tri) (s : Sight) → IsSight whole t s → (AreInside whole t → overlap (bounding t) (spans_of c) ≡ true → crosses (support_of t) (spans_of c) ≡ true) → sees (spans_of c) s ≡ is_near c t
-seen whole c t s sight crossed =
-    ap (λ b. overlap b (spans_of c) && may_cross (spans_of c) s.plane) sight.spans ∙ by s.plane sight.plane ∙ sym (near_is c t)
-  where
-    by : (p : Option Plane) → IsPlaneOf whole t p → overlap (bounding t) (spans_of c) && may_cross (spans_of c) p ≡ overlap (bounding t) (spans_of c) && crosses (support_of t) (spans_of c)
-    by None e =
-        always (overlap (bounding t) (spans_of c)) ∙ and_implied (overlap (bounding t) (spans_of c)) (crosses (support_of t) (spans_of c)) (λ o. or_either (within whole (bounding t)) (is_level (bounding t)) e (λ i. crossed (are_inside whole t i) o) (λ l. level_crossed c t l o))
-      where
-        or_either : {P : Type 0} (p q : Bool) → p || q ≡ true → (p ≡ true → P) → (q ≡ true → P) → P
-        or_either true q e f g = f refl
-        or_either false q e f g = g e
-
-        always : (b : Bool) → b && true ≡ b
-        always true = refl
-        always false = refl
-    by (Some p) e = ap (λ q. overlap (bounding t) (spans_of c) && crosses q (spans_of c)) e
-
-pub seen_whole : (c : Cell) (t : Tri) (s : Sight) → IsSight (spans_of c) t s → sees (spans_of c) s ≡ is_near c t
-seen_whole c t s sight = seen (spans_of c) c t s sight (λ i _. inside_crossed t (spans_of c) i)
-
 -- the number of halves along an axis that a triangle is near
 pub near_halves : Cell → Axis → Tri → ℕ
 near_halves c k t = number (is_near (left_half c k) t) + number (is_near (right_half c k) t)
 
-pub seen_halves : (c : Cell) (k : Axis) (h : Option Halves) (t : Tri) (s : Sight) → AreHalves c k h → IsSight (spans_of c) t s → 0 < c.log k → halves_seen h s ≡ near_halves c k t
+pub seen_halves : (c : Cell) (k : Axis) (h : Option Halves) (t : Tri) (s : Sight) → AreHalves c k h → IsSight (spans_of c) t s → 0 < c.log k → halves_seen h (span_on k s.spans) s ≡ near_halves c k t
 unfolding near_halves
 seen_halves c k None t s are sight p = absurd (omega (arith, are))
 seen_halves c k (Some h) t s are sight p =
-    let l = seen (spans_of c) (left_half c k) t s sight (left_crossed c k t) in
-    let r = seen (spans_of c) (right_half c k) t s sight (right_crossed c k t p) in
-    (λ i. number (sees (are.1 i) s) + number (sees (are.2 i) s)) ∙ (λ i. number (l i) + number (r i))
+    λ i. number (seen_low c k h t s are sight i) + number (seen_high c k h t s are sight i)
 
 -- ---- a list
 half_sum_more : (ts : List Tri) (c : Cell) (k : Axis) (i : ℕ) → i < length ts → half_sum (take (i + 1) ts) c k ≡ half_sum (take i ts) c k + near_halves c k (get_or ts i no_tri)

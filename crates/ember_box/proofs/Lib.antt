@@ -4,6 +4,8 @@ pub mod Orders
 pub mod Crossing
 pub mod Level
 pub mod Nearby
+pub mod Meeting
+pub mod Sights
 pub mod Counting
 pub mod Lists
 pub mod Halvable

@@ -6,6 +6,7 @@ use Rattle.ember_algebra.specs.Sign.{is_negative}
 use Rattle.ember_model.specs.declared.tri.Tri.{Tri}
 use Rattle.ember_model.specs.declared.plane.Plane.{Plane}
 use Rattle.ember_model.specs.declared.point.Corner.{Corner}
+use Rattle.ember_model.specs.declared.point.Axis.{Axis}
 use Rattle.ember_model.specs.declared.point.Axis.TheVariants.{X, Y, Z}
 use Rattle.ember_box.specs.declared.spans.Span.{Span}
 use Rattle.ember_box.specs.declared.spans.Spans.{Spans}
@@ -27,6 +28,11 @@ span_over a b c = span_between (int_min (int_min a b) c) (int_max (int_max a b) 
 abbrev pub bounding : Tri → Spans
 bounding t =
     record { x = span_over t.a.x t.b.x t.c.x; y = span_over t.a.y t.b.y t.c.y; z = span_over t.a.z t.b.z t.c.z }
+
+abbrev pub span_on : Axis → Spans → Span
+span_on X b = b.x
+span_on Y b = b.y
+span_on Z b = b.z
 
 abbrev pub reaches : Span → Span → Bool
 reaches a b = int_le a.low b.high && int_le b.low a.high

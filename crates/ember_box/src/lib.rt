@@ -4,12 +4,13 @@
 
 mod cell;
 mod nearness;
+mod sight;
 mod spans;
 mod sums;
 #[cfg(test)]
 mod tests;
 
 pub use cell::{Cell, halves, root};
-pub use nearness::{near, near_list, near_tri};
+pub use nearness::{near, near_halves, near_list, near_tri};
 pub use spans::{Span, Spans, bounding, overlap, spans_of};
 pub use sums::{halving, is_leaf, split_axis};

@@ -1,14 +1,15 @@
 // Which triangles are near a box.
-ghost use Rattle.std.specs.Prelude.{◌≡◌, ◌<◌, true, length, All, IfOk};
+ghost use Rattle.std.specs.Prelude.{◌≡◌, ◌<◌, ◌++◌, [], ◌∷◌, true, length, All, IfOk, OnOk, if◌then◌else◌};
 ghost use Rattle.ember_model.specs.Valid.{IsValidTri};
 ghost use Rattle.ember_model.specs.Planes.{support_of};
-ghost use Rattle.ember_box.specs.Boxes.{Cell as Box};
+ghost use Rattle.ember_box.specs.Boxes.{Cell as Box, left_half, right_half};
 ghost use Rattle.ember_box.specs.Spans.{spans_of, bounding, overlap, crosses, AreSpansSized};
 ghost use Rattle.ember_box.specs.Near.{is_near, tri_at, near_places};
 
 use crate::cell::Cell;
-use crate::spans::{Spans, bounding, crosses, holds, is_level, overlap, spans_of};
-use ember_model::{OutOfMemory, Scene, Tri, support_of};
+use crate::sight::{halves_of, sees_high, sees_low, sight_of};
+use crate::spans::{Spans, bounding, crosses, holds, is_level, overlap, span_on, spans_of};
+use ember_model::{Axis, OutOfMemory, Scene, Tri, support_of};
 use std::alloc::Global;
 
 /// The triangle is near the box: its bounding box meets the closed box, and the corners of the box
@@ -87,4 +88,57 @@ pub fn near_list(alloc: Global, s: &Scene, list: &[u32], c: &Cell) -> Result<Vec
     ensures { IfOk result (λ v. v.items ≡ near_places s.now.tris c.now list.now) }
 {
     near_among(alloc, s.tris.items(), list, c)
+}
+
+// A place more, if it belongs to the list.
+fn push_if(belongs: bool, i: u32, list: &mut Vec<u32>) -> Result<(), OutOfMemory>
+    ensures { OnOk result (list.new.items ≡ (if belongs then list.old.items ++ i ∷ [] else list.old.items)) }
+{
+    if belongs {
+        list.push(i)?;
+    }
+    Ok(())
+}
+
+/// Those of the listed places of the triangles that are near the lower half of the box along the
+/// axis, and those that are near the upper half, in order.
+pub fn near_halves_among(
+    alloc: Global,
+    tris: &[Tri],
+    list: &[u32],
+    c: &Cell,
+    k: Axis,
+) -> Result<(Vec<u32>, Vec<u32>), OutOfMemory>
+    requires valid { All IsValidTri tris.now }
+    requires places { All (λ i. i < length tris.now) list.now }
+    requires side { 0 < c.now.log k }
+    ensures { IfOk result (λ v. (v.0.items ≡ near_places tris.now (left_half c.now k) list.now) × (v.1.items ≡ near_places tris.now (right_half c.now k) list.now)) }
+{
+    let whole = spans_of(c);
+    let halves = halves_of(c, k);
+    let mut low = Vec::with_capacity(alloc, list.len())?;
+    let mut high = Vec::with_capacity(alloc, list.len())?;
+    for i in list {
+        let t = sight_of(&whole, &tris[*i as usize]);
+        let span = span_on(&t.spans, k);
+        push_if(sees_low(&halves, &span, &t), *i, &mut low)?;
+        push_if(sees_high(&halves, &span, &t), *i, &mut high)?;
+    }
+    Ok((low, high))
+}
+
+/// Those of the listed triangles that are near the lower half of the box along the axis, and those
+/// that are near the upper half, in order. The side along the axis is above 1.
+pub fn near_halves(
+    alloc: Global,
+    s: &Scene,
+    list: &[u32],
+    c: &Cell,
+    k: Axis,
+) -> Result<(Vec<u32>, Vec<u32>), OutOfMemory>
+    requires places { All (λ i. i < length s.now.tris) list.now }
+    requires side { 0 < c.now.log k }
+    ensures { IfOk result (λ v. (v.0.items ≡ near_places s.now.tris (left_half c.now k) list.now) × (v.1.items ≡ near_places s.now.tris (right_half c.now k) list.now)) }
+{
+    near_halves_among(alloc, s.tris.items(), list, c, k)
 }

@@ -3,7 +3,7 @@ ghost use Rattle.std.specs.Prelude.{◌≡◌};
 ghost use Rattle.ember_algebra.specs.Size.{Small};
 ghost use Rattle.ember_model.specs.Sizes.{IsSupportSized};
 ghost use Rattle.ember_box.specs.Boxes as boxes;
-ghost use Rattle.ember_box.specs.Spans.{span_between, span_over, spans_of, bounding, reaches, overlap, covers, within, is_point, is_level, has, holds, least_end, greatest_end, combined, least, greatest, crosses, IsSpanSized, AreSpansSized};
+ghost use Rattle.ember_box.specs.Spans.{span_between, span_over, span_on, spans_of, bounding, reaches, overlap, covers, within, is_point, is_level, has, holds, least_end, greatest_end, combined, least, greatest, crosses, IsSpanSized, AreSpansSized};
 
 use crate::cell::Cell;
 use ember_model::{Axis, Corner, Plane, Tri};
@@ -64,6 +64,17 @@ pub fn bounding(t: &Tri) -> Spans
         x: span_over(t.a.x, t.b.x, t.c.x),
         y: span_over(t.a.y, t.b.y, t.c.y),
         z: span_over(t.a.z, t.b.z, t.c.z),
+    }
+}
+
+// What it spans along an axis.
+pub fn span_on(b: &Spans, k: Axis) -> Span
+    ensures { result ≡ span_on k b.now }
+{
+    match k {
+        Axis::X => b.x,
+        Axis::Y => b.y,
+        Axis::Z => b.z,
     }
 }
 

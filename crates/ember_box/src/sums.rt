@@ -4,92 +4,17 @@ ghost use Rattle.ember_model.specs.Valid.{IsValidTri};
 ghost use Rattle.ember_model.specs.declared.tri.Tri.{Tri};
 ghost use Rattle.ember_model.specs.declared.point.Axis.{Axis};
 ghost use Rattle.ember_model.specs.declared.point.Axis.TheVariants.{X, Y, Z};
-ghost use Rattle.ember_box.specs.Spans.{bounding, AreSpansSized};
 ghost use Rattle.ember_box.specs.Near.{listed};
 ghost use Rattle.ember_box.specs.Halving as halvings;
-ghost use Rattle.ember_box.specs.Sums.{number, IsSight, IsPlaneOf, IsPlaneSized, may_cross, sees, AreHalves, AreHalvesSized, halves_seen, AreSums};
+ghost use Rattle.ember_box.specs.Sums.{number, IsPlaneSized, AreHalvesSized, halves_seen, AreSums};
 
-use crate::cell::{Cell, halves};
-use crate::spans::{Spans, bounding, crosses, is_level, overlap, spans_of, within};
-use ember_model::{Axis, Plane, Scene, Tri, support_of};
+use crate::cell::Cell;
+use crate::sight::{Halves, Sight, halves_along, sees, sees_high, sees_low, sight_of};
+use crate::spans::{Span, spans_of};
+use ember_model::{Axis, Scene, Tri};
 
 // A box with at most so many near triangles is a leaf.
 const FEW: u64 = 16;
-
-// What the tests of one triangle against a box and its halves look at. It has no plane where the
-// triangle lies in the box or across an axis: there it is near each half that its bounding box
-// meets.
-#[derive(Clone, Copy)]
-struct Sight {
-    spans: Spans,
-    plane: Option<Plane>,
-}
-
-fn plane_of(whole: &Spans, spans: &Spans, t: &Tri) -> Option<Plane>
-    requires valid { IsValidTri t.now }
-    requires spans { spans.now ≡ bounding t.now }
-    ensures value { IsPlaneOf whole.now t.now result }
-    ensures sized { IsPlaneSized result }
-{
-    if within(whole, spans) || is_level(spans) {
-        None
-    } else {
-        Some(support_of(t))
-    }
-}
-
-fn sight_of(whole: &Spans, t: &Tri) -> Sight
-    requires { IsValidTri t.now }
-    ensures value { IsSight whole.now t.now result }
-    ensures sized { IsPlaneSized result.plane }
-{
-    let spans = bounding(t);
-    Sight {
-        spans,
-        plane: plane_of(whole, &spans, t),
-    }
-}
-
-fn may_cross(b: &Spans, plane: &Option<Plane>) -> bool
-    requires spans { AreSpansSized b.now }
-    requires plane { IsPlaneSized plane.now }
-    ensures { result ≡ may_cross b.now plane.now }
-{
-    match plane {
-        None => true,
-        Some(p) => crosses(p, b),
-    }
-}
-
-fn sees(b: &Spans, t: &Sight) -> bool
-    requires spans { AreSpansSized b.now }
-    requires plane { IsPlaneSized t.now.plane }
-    ensures { result ≡ sees b.now t.now }
-{
-    overlap(&t.spans, b) && may_cross(b, &t.plane)
-}
-
-// The halves of a box along an axis, the lower one first.
-#[derive(Clone, Copy)]
-struct Halves {
-    low: Spans,
-    high: Spans,
-}
-
-// None where the side is 1.
-fn halves_along(c: &Cell, k: Axis) -> Option<Halves>
-    ensures value { AreHalves c.now k result }
-    ensures sized { AreHalvesSized result }
-{
-    if c.log(k) == 0 {
-        return None;
-    }
-    let (low, high) = halves(c, k);
-    Some(Halves {
-        low: spans_of(&low),
-        high: spans_of(&high),
-    })
-}
 
 fn number(b: bool) -> u64
     ensures value { result ≡ number b }
@@ -98,16 +23,16 @@ fn number(b: bool) -> u64
     if b { 1 } else { 0 }
 }
 
-// The number of halves that a triangle is near.
-fn halves_seen(h: &Option<Halves>, t: &Sight) -> u64
+// The number of halves that a triangle with this span along their axis is near.
+fn halves_seen(h: &Option<Halves>, span: &Span, t: &Sight) -> u64
     requires halves { AreHalvesSized h.now }
     requires plane { IsPlaneSized t.now.plane }
-    ensures value { result ≡ halves_seen h.now t.now }
+    ensures value { result ≡ halves_seen h.now span.now t.now }
     ensures bound { result ≤ 2 }
 {
     match h {
         None => 0,
-        Some(h) => number(sees(&h.low, t)) + number(sees(&h.high, t)),
+        Some(h) => number(sees_low(h, span, t)) + number(sees_high(h, span, t)),
     }
 }
 
@@ -137,9 +62,9 @@ fn half_sums(tris: &[Tri], list: &[u32], c: &Cell) -> Sums
     for i in list {
         let t = sight_of(&whole, &tris[*i as usize]);
         near += number(sees(&whole, &t));
-        x_sum += halves_seen(&x, &t);
-        y_sum += halves_seen(&y, &t);
-        z_sum += halves_seen(&z, &t);
+        x_sum += halves_seen(&x, &t.spans.x, &t);
+        y_sum += halves_seen(&y, &t.spans.y, &t);
+        z_sum += halves_seen(&z, &t.spans.z, &t);
     }
     Sums {
         near,

@@ -2,7 +2,7 @@
 ghost use Rattle.std.specs.Prelude.{◌≡◌, ◌<◌, length, All, IfOk};
 ghost use Rattle.ember_model.specs.Valid.{IsValidCorner, IsValidTri};
 
-use crate::nearness::near_among;
+use crate::nearness::{near_among, near_halves_among};
 use crate::sums::halving_of;
 use crate::{Cell, halves, near_tri, root};
 use ember_model::{Axis, Corner, Tri};
@@ -127,5 +127,17 @@ fn triangles_apart_are_parted_along_the_first_best_axis(rt: HostRuntime) -> Resu
     let there = tri(corner(9, -9, -9), corner(-8, -9, -9), corner(9, -8, -9));
     let list = numbers(alloc, 2, 18)?;
     assert!(rt; halving_of(&[here, there], &list, &root()) == Some(Axis::Y));
+    Ok(())
+}
+
+#[test]
+fn each_half_keeps_the_triangles_that_reach_it(rt: HostRuntime) -> Result<(), Fail> {
+    let alloc = rt.alloc();
+    let here = tri(corner(9, 9, 9), corner(-8, 9, 9), corner(9, 8, 9));
+    let there = tri(corner(9, 0, -9), corner(-8, -9, -9), corner(9, -8, -9));
+    let list = numbers(alloc, 2, 2)?;
+    let (low, high) = near_halves_among(alloc, &[here, there], &list, &root(), Axis::Y)?;
+    assert!(rt; low.as_slice() == [1].as_slice());
+    assert!(rt; high.as_slice() == [0, 1].as_slice());
     Ok(())
 }

@@ -46,7 +46,7 @@ leg_outside f p q e =
     none true = refl
     none false = refl
 
-leg_far : (c : Cell) (t : Tri) (p q : Spot) → HasPoint c p → HasPoint c q → is_near c t ≡ false → leg (face_of t) p q ≡ pos 0
+pub leg_far : (c : Cell) (t : Tri) (p q : Spot) → HasPoint c p → HasPoint c q → is_near c t ≡ false → leg (face_of t) p q ≡ pos 0
 leg_far c t p q f g far = by (flat_case t)
   where
     outside : is_flat t ≡ false → (b : Bool) → is_inside (face_of t) (between (face_of t).support p q) ≡ b → is_inside (face_of t) (between (face_of t).support p q) ≡ false

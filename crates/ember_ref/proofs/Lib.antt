@@ -5,5 +5,6 @@ pub mod ClearReferences
 pub mod NearPoints
 pub mod BoxPoints
 pub mod FarTriangles
+pub mod Ways
 pub mod ShiftLaw
 pub mod RootOutside

@@ -8,5 +8,5 @@ mod signs;
 #[cfg(test)]
 mod tests;
 
-pub use shifting::shift;
+pub use shifting::{shift, shift_listed};
 pub use signs::lex_side;

@@ -1,17 +1,22 @@
 // Winding numbers carried from the reference point of a box to that of its half.
-ghost use Rattle.std.specs.Prelude.{◌≡◌, ℕ, ◌+◌, ◌≤◌, ◌<◌, pos, All, length, if◌then◌else◌};
+ghost use Rattle.std.specs.Prelude.{◌≡◌, ℕ, ◌+◌, ◌≤◌, ◌<◌, pos, ◌+ℤ◌, All, length, if◌then◌else◌};
 ghost use Rattle.ember_algebra.specs.Size.{Small};
 ghost use Rattle.ember_algebra.specs.Sign.{number, times, is_neg};
 ghost use Rattle.ember_model.specs.Valid.{IsValidTri};
 ghost use Rattle.ember_model.specs.Points.{DifferAlong};
 ghost use Rattle.ember_model.specs.Faces.{face_of, leg};
 ghost use Rattle.ember_model.specs.Meshes.{HasMesh};
-ghost use Rattle.ember_law.specs.Counts.{HasRoom};
+ghost use Rattle.ember_law.specs.Counts.{HasRoom, with_more};
+ghost use Rattle.ember_box.specs.Boxes.{Cell as Box, right_half};
+ghost use Rattle.ember_box.specs.Near.{listed};
+ghost use Rattle.ember_box.specs.Reference.{reference};
+ghost use Rattle.ember_box.specs.Spans.{span_between, spans_of};
 ghost use Rattle.ember_ref.specs.References.{corner_of, reference_of, IsBoxCorner, carried, ShiftsAll};
+ghost use Rattle.ember_ref.specs.Ways.{column, IsStraight, IsWayBack};
 
 use crate::signs::{is_behind, lex_side};
 use ember_algebra::Sign;
-use ember_box::{Cell, halves};
+use ember_box::{Cell, Span, Spans, bounding, halves, overlap, spans_of};
 use ember_law::add_to;
 use ember_model::{Axis, Tri, Vector, support_of};
 
@@ -52,6 +57,89 @@ fn leg_between(t: &Tri, p: [i32; 3], q: [i32; 3], k: Axis) -> i32
     }
 }
 
+// The way from one reference point along an axis to another, and what holds it.
+#[derive(Clone, Copy)]
+struct Way {
+    from: [i32; 3],
+    to: [i32; 3],
+    axis: Axis,
+    spans: Spans,
+}
+
+// The box that has the side 1 along all axes but this one.
+fn column(c: &Cell, k: Axis) -> Spans
+    ensures { result ≡ spans_of (column c.now k) }
+{
+    let whole = spans_of(c);
+    match k {
+        Axis::X => Spans {
+            x: whole.x,
+            y: unit(whole.y.low),
+            z: unit(whole.z.low),
+        },
+        Axis::Y => Spans {
+            x: unit(whole.x.low),
+            y: whole.y,
+            z: unit(whole.z.low),
+        },
+        Axis::Z => Spans {
+            x: unit(whole.x.low),
+            y: unit(whole.y.low),
+            z: whole.z,
+        },
+    }
+}
+
+fn unit(low: i32) -> Span
+    requires { Small 2048 low }
+    ensures { result ≡ span_between low (low +ℤ pos 1) }
+{
+    Span { low, high: low + 1 }
+}
+
+// The way from the reference point of a box's right half to that of the box.
+fn way_back(c: &Cell, k: Axis) -> Way
+    requires { 0 < c.now.log k }
+    ensures way { IsWayBack c.now k result }
+    ensures straight { IsStraight result }
+{
+    let to = c.lo();
+    let from = halves(c, k).1.lo();
+    Way {
+        from,
+        to,
+        axis: k,
+        spans: column(c, k),
+    }
+}
+
+// The signed crossing of the way with the inside of the triangle's face. There is none where the
+// triangle's bounding box misses the way.
+fn leg_on(t: &Tri, w: &Way) -> i32
+    requires tri { IsValidTri t.now }
+    requires straight { IsStraight w.now }
+    ensures value { (c : Box) (k : Axis) → 0 < c.log k → IsWayBack c k w.now → result ≡ leg (face_of t.now) (reference (right_half c k)) (reference c) }
+    ensures small { Small 1 result }
+{
+    if overlap(&bounding(t), &w.spans) {
+        leg_between(t, w.from, w.to, w.axis)
+    } else {
+        0
+    }
+}
+
+// Adds the crossing of one triangle to the count of its mesh.
+fn carry(t: &Tri, w: &Way, v: &mut Vector)
+    requires tri { IsValidTri t.now }
+    requires numbered { HasMesh 64 t.now }
+    requires straight { IsStraight w.now }
+    requires room { All (Small 1073741823) v.old.counts }
+    ensures value { (c : Box) (k : Axis) → 0 < c.log k → IsWayBack c k w.now → v.new.counts ≡ with_more v.old.counts t.now.mesh (leg (face_of t.now) (reference (right_half c k)) (reference c)) }
+    ensures within { (m : ℕ) → All (Small m) v.old.counts → All (Small (m + 1)) v.new.counts }
+{
+    add_to(v, t.mesh, leg_on(t, w));
+}
+
 /// Carries the winding numbers from the reference point of a box to that of its right half along
 /// an axis, by the triangles near the box: adds to the count of each mesh the signed crossings of
 /// the segment from the second point to the first. Its side along that axis is above 1.
@@ -65,9 +153,26 @@ pub fn shift(near: &[Tri], c: &Cell, k: Axis, v: &mut Vector)
     ensures law { ShiftsAll near.now c.now k v.old.counts v.new.counts }
     ensures within { (m : ℕ) → All (Small m) v.old.counts → All (Small (m + length near.now)) v.new.counts }
 {
-    let start = c.lo();
-    let end = halves(c, k).1.lo();
+    let way = way_back(c, k);
     for t in near {
-        add_to(v, t.mesh, leg_between(t, end, start, k));
+        carry(t, &way, v);
+    }
+}
+
+/// The same by the places of those triangles in a list of all.
+pub fn shift_listed(tris: &[Tri], list: &[u32], c: &Cell, k: Axis, v: &mut Vector)
+    requires valid { All IsValidTri tris.now }
+    requires numbered { All (HasMesh 64) tris.now }
+    requires places { All (λ i. i < length tris.now) list.now }
+    requires few { length list.now ≤ 262144 }
+    requires side { 0 < c.now.log k }
+    requires room { HasRoom v.old.counts }
+    ensures value { v.new.counts ≡ carried (listed tris.now list.now) c.now k v.old.counts }
+    ensures law { ShiftsAll (listed tris.now list.now) c.now k v.old.counts v.new.counts }
+    ensures within { (m : ℕ) → All (Small m) v.old.counts → All (Small (m + length list.now)) v.new.counts }
+{
+    let way = way_back(c, k);
+    for i in list {
+        carry(&tris[*i as usize], &way, v);
     }
 }

@@ -3,7 +3,7 @@ ghost use Rattle.std.specs.Prelude.{◌≡◌, ◌<◌, All, length};
 ghost use Rattle.ember_model.specs.Meshes.{HasMesh};
 ghost use Rattle.ember_model.specs.Valid.{IsValidCorner, IsValidTri};
 
-use crate::{lex_side, shift};
+use crate::{lex_side, shift, shift_listed};
 use ember_algebra::Sign;
 use ember_box::{Cell, halves, root};
 use ember_model::{Axis, Corner, Plane, Tri, Vector};
@@ -94,5 +94,12 @@ fn into_a_cube_along_z(rt: HostRuntime) -> Result<(), Fail> {
     let mut v = Vector { counts: [0; 64] };
     shift(&cube(), &c, Axis::Z, &mut v);
     assert_eq!(rt; (v.counts[0], v.counts[1]), (1, 0));
+    // The bottom alone is passed.
+    let mut below = Vector { counts: [0; 64] };
+    shift_listed(&cube(), &[0, 1], &c, Axis::Z, &mut below);
+    assert_eq!(rt; below.counts[0], 1);
+    let mut above = Vector { counts: [0; 64] };
+    shift_listed(&cube(), &[2, 3], &c, Axis::Z, &mut above);
+    assert_eq!(rt; above.counts[0], 0);
     Ok(())
 }

@@ -4,10 +4,10 @@ ghost use Rattle.ember_box.specs.Near.{listed};
 ghost use Rattle.ember_law.specs.Counts.{HasRoom};
 ghost use Rattle.ember_visit.specs.Jobs.{AreHalves};
 
-use ember_box::{halves, near_list};
+use ember_box::{halves, near_halves};
 use ember_job::{Job, Numbers};
-use ember_model::{Axis, OutOfMemory, Scene, Tri, Vector};
-use ember_ref::shift;
+use ember_model::{Axis, OutOfMemory, Scene, Tri};
+use ember_ref::shift_listed;
 use std::alloc::Global;
 
 /// The listed triangles, in the order of the list.
@@ -35,24 +35,17 @@ pub fn halve_job(alloc: Global, s: &Scene, job: &Job, k: Axis) -> Result<(Job, J
 {
     let list = job.list.items();
     let (left, right) = halves(&job.cell, k);
-    let left_list = near_list(alloc, s, list, &left)?;
-    let right_list = near_list(alloc, s, list, &right)?;
-    let mut at = job.at;
-    shift(
-        &tris_at(alloc, s.tris.items(), list)?,
-        &job.cell,
-        k,
-        &mut at,
-    );
+    let (left_list, right_list) = near_halves(alloc, s, list, &job.cell, k)?;
     let low = Job {
         cell: left,
         list: Numbers::of(left_list),
         at: job.at,
     };
-    let high = Job {
+    let mut high = Job {
         cell: right,
         list: Numbers::of(right_list),
-        at,
+        at: job.at,
     };
+    shift_listed(s.tris.items(), list, &job.cell, k, &mut high.at);
     Ok((low, high))
 }

@@ -4,7 +4,8 @@ use Rattle.ember_model.specs.declared.point.Axis.TheVariants.{X, Y, Z}
 use Rattle.ember_box.specs.Spans.{spans_of}
 use Rattle.ember_box.specs.Near.{listed, tri_at, no_tri, is_near}
 use Rattle.ember_box.specs.Sums.{number, sees, IsSight}
-use Rattle.ember_box.proofs.Counting.{sums_of, sums_none, sums_more, sums_all, seen_whole, seen_halves, near_halves}
+use Rattle.ember_box.proofs.Counting.{sums_of, sums_none, sums_more, sums_all, seen_halves, near_halves}
+use Rattle.ember_box.proofs.Sights.{seen_whole}
 use Rattle.ember_box.proofs.sums.half_sums.Goals as goal
 
 pub loop-i-init : goal.loop-i-init

@@ -1,0 +1,31 @@
+-- A triangle whose bounding box misses the way between the reference points of a box and its right
+-- half isn't crossed there.
+use Rattle.std.proofs.Common.{◌≡◌, ◌<◌, ap, ◌∙◌, false, ◌&&◌, pos}
+use Rattle.ember_model.specs.declared.tri.Tri.{Tri}
+use Rattle.ember_model.specs.declared.point.Axis.{Axis}
+use Rattle.ember_model.specs.declared.point.Axis.TheVariants.{X, Y, Z}
+use Rattle.ember_model.specs.Faces.{face_of, leg}
+use Rattle.ember_model.specs.Planes.{support_of}
+use Rattle.ember_box.specs.Boxes.{Cell, right_half}
+use Rattle.ember_box.specs.Near.{is_near}
+use Rattle.ember_box.specs.Reference.{reference}
+use Rattle.ember_box.specs.Spans.{spans_of, bounding, overlap, crosses}
+use Rattle.ember_box.proofs.Nearby.{near_is}
+use Rattle.ember_ref.specs.Ways.{column}
+use Rattle.ember_ref.proofs.NearPoints.{HasPoint}
+use Rattle.ember_ref.proofs.BoxPoints.{has_reference, has_half_reference}
+use Rattle.ember_ref.proofs.FarTriangles.{leg_far}
+
+-- both reference points lie in the column
+has_start : (c : Cell) (k : Axis) → HasPoint (column c k) (reference c)
+has_start c k = has_reference (column c k)
+
+has_end : (c : Cell) (k : Axis) → 0 < c.log k → HasPoint (column c k) (reference (right_half c k))
+has_end c X l = has_half_reference (column c X) X l
+has_end c Y l = has_half_reference (column c Y) Y l
+has_end c Z l = has_half_reference (column c Z) Z l
+
+pub leg_missed : (c : Cell) (k : Axis) (t : Tri) → 0 < c.log k → overlap (bounding t) (spans_of (column c k)) ≡ false → leg (face_of t) (reference (right_half c k)) (reference c) ≡ pos 0
+leg_missed c k t l e =
+    let far : is_near (column c k) t ≡ false = near_is (column c k) t ∙ ap (λ b. b && crosses (support_of t) (spans_of (column c k))) e in
+    leg_far (column c k) t (reference (right_half c k)) (reference c) (has_end c k l) (has_start c k) far
