@@ -11,7 +11,7 @@ mod rim;
 mod ring;
 
 pub use answers::{Cut, Reach};
-pub use cutting::{below, cut, parts};
+pub use cutting::{clip, cut, parts};
 pub use meeting::{meets, meets_face};
 pub use reaching::reach;
 pub use ring::{Ring, copy, corners, edges, main_edges, of_tri, outline, support};
