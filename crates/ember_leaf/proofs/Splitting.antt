@@ -15,9 +15,9 @@ use Rattle.ember_model.specs.ClearTest.{face_with}
 use Rattle.ember_model.proofs.SignTests.{negative_in, negative_out, positive_out, zero_out}
 use Rattle.ember_box.specs.Regions.{AtBlade, splits, whole}
 use Rattle.ember_box.specs.Regions as regions
-use Rattle.ember_poly.specs.Cuts.{AreParts, IsCut}
-use Rattle.ember_poly.specs.declared.answers.Cut.{Cut}
-use Rattle.ember_poly.specs.declared.answers.Cut.TheVariants.{Below, Above, On, Both}
+use Rattle.ember_poly.specs.Cuts.{AreParts, IsReach}
+use Rattle.ember_poly.specs.declared.answers.Reach.{Reach}
+use Rattle.ember_poly.specs.declared.answers.Reach.TheVariants.{Below, Above, On, Both}
 use Rattle.ember_poly.proofs.Reached.{over_opposite}
 use Rattle.ember_leaf.specs.declared.blade.Blade.{Blade}
 use Rattle.ember_leaf.specs.Leaves.{IsRegionOf}
@@ -53,7 +53,7 @@ pub region_parts : (b : Blade) (f x y : Face) → Meets f (face_of b.tri) → Ar
 region_parts b f x y m p =
     subst (λ (l : List Face). AtBlade (blade_of b) f l) (sym (λ i. p.is_low i ∷ p.is_high i ∷ [])) (splits m p.cuts)
 
-pub region_whole : (b : Blade) (f : Face) (k : Cut) → IsCut f b.plane k → ((x y : Face) → k ≡ Both x y → ⊥) → AtBlade (blade_of b) f (f ∷ [])
+pub region_whole : (b : Blade) (f : Face) (k : Reach) → IsReach f b.plane k → (k ≡ Both → ⊥) → AtBlade (blade_of b) f (f ∷ [])
 region_whole b f k h n = whole (λ m. no_cut f b.plane k h n)
   where
     negative_positive : (z : ℤ) → is_negative z ≡ true → is_positive z ≡ true → ⊥
@@ -63,12 +63,12 @@ region_whole b f k h n = whole (λ m. no_cut f b.plane k h n)
     zero_negative : (z : ℤ) → is_zero z ≡ true → is_negative z ≡ true → ⊥
     zero_negative z e q = let a = zero_out z e in let b = negative_out z q in omega (arith, linear, a, b)
 
-    no_cut : (f : Face) (p : Plane) (k : Cut) → IsCut f p k → ((x y : Face) → k ≡ Both x y → ⊥) → Cuts f p → ⊥
+    no_cut : (f : Face) (p : Plane) (k : Reach) → IsReach f p k → (k ≡ Both → ⊥) → Cuts f p → ⊥
     no_cut f p Below k n c =
         negative_positive _ (k.everywhere.holds c.high.at c.high.inside) c.high.holds
     no_cut f p Above k n c = negative_positive _ c.low.holds (k.everywhere.holds c.low.at c.low.inside)
     no_cut f p On k n c = zero_negative _ (k.everywhere.holds c.low.at c.low.inside) c.low.holds
-    no_cut f p (Both x y) k n c = n x y refl
+    no_cut f p Both k n c = n refl
 
 -- ---- regions one after another
 pub first_met : (b : Blade) (rest : List Face) {f : Face} {list yielded : List Face} → MeetsFirst b list → yielded ++ f ∷ rest ≡ list → yielded ≡ [] → Meets f (face_of b.tri)

@@ -6,7 +6,7 @@ ghost use Rattle.ember_leaf.specs.Blades.{AreSplit, AreCut, MeetsFirst};
 
 use crate::blade::Blade;
 use ember_model::OutOfMemory;
-use ember_poly::{Cut, Ring, cut, meets_face};
+use ember_poly::{Reach, Ring, meets_face, parts, reach};
 use std::alloc::Global;
 
 // Some inside point of the region lies in the closed face of the blade's triangle.
@@ -45,8 +45,9 @@ fn add_parts(
         let is_cut = is_first || is_met(&r, b);
         is_first = false;
         if is_cut {
-            match cut(alloc, &r, &b.plane)? {
-                Cut::Both(x, y) => {
+            match reach(&r, &b.plane) {
+                Reach::Both => {
+                    let (x, y) = parts(alloc, r, &b.plane)?;
                     out.push(x)?;
                     out.push(y)?;
                 }

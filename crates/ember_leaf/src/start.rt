@@ -185,7 +185,7 @@ pub fn is_outside(walls: &[Wall], f: &Facet) -> bool
 }
 
 // What the wall leaves of a face.
-fn at_wall(alloc: Global, f: Ring, w: &Wall) -> Result<Option<Ring>, OutOfMemory>
+fn at_wall(f: Ring, w: &Wall) -> Result<Option<Ring>, OutOfMemory>
     ensures { IfOk result (λ out. AtWall (wall_of w.now) f (option_to_list out)) }
 {
     let p = plane_of(w);
@@ -193,17 +193,12 @@ fn at_wall(alloc: Global, f: Ring, w: &Wall) -> Result<Option<Ring>, OutOfMemory
         Reach::Below => Ok(Some(f)),
         Reach::Above => Ok(None),
         Reach::On => Ok(if w.is_high { None } else { Some(f) }),
-        Reach::Both => Ok(Some(below(alloc, &f, &p)?)),
+        Reach::Both => Ok(Some(below(f, &p)?)),
     }
 }
 
 // What the walls leave of a part of the triangle.
-fn within_walls(
-    alloc: Global,
-    part: Ring,
-    f: &Facet,
-    walls: &[Wall],
-) -> Result<Option<Ring>, OutOfMemory>
+fn within_walls(part: Ring, f: &Facet, walls: &[Wall]) -> Result<Option<Ring>, OutOfMemory>
     requires normal { is_flat f.now.tri ≡ false }
     requires whole { part ≡ face_of f.now.tri }
     ensures { IfOk result (λ out. IsLeft (map wall_of walls.now) f.now.tri (option_to_list out)) }
@@ -213,7 +208,7 @@ fn within_walls(
         match stay_at(w, f) {
             Stay::Whole => {}
             Stay::Nothing => return Ok(None),
-            Stay::Untold => match at_wall(alloc, ring, w)? {
+            Stay::Untold => match at_wall(ring, w)? {
                 Some(left) => ring = left,
                 None => return Ok(None),
             },
@@ -227,7 +222,7 @@ pub fn start(alloc: Global, f: &Facet, walls: &[Wall]) -> Result<Option<Ring>, O
     ensures { IfOk result (λ out. IsLeft (map wall_of walls.now) f.now.tri (option_to_list out)) }
 {
     match of_tri(alloc, &f.tri)? {
-        Some(ring) => within_walls(alloc, ring, f, walls),
+        Some(ring) => within_walls(ring, f, walls),
         None => Ok(None),
     }
 }

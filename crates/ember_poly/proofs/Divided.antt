@@ -181,11 +181,11 @@ module _ (n p : Plane) (gs : List Plane) (xs : List Side) (at : Passage) (q : Is
   division =
       divide n p gs q.head q.last q.front (spot_of at.exit) (spot_of at.entry) q.entry q.exit q.under q.enters q.others (subst (λ zs. Stands n gs zs) q.turned (begun_stands n gs at.first xs st)) q.leaves
 
-  pub below_ring : (es : List Plane) (ms : List Meet) (bs : List ℕ) (k : ℕ) (hs : List Plane) → sides_of es ms bs ≡ begun_at k (part_sides xs at p (length gs)) → LeastFirst bs → length ms ≡ length es → length bs ≡ length es → hs ≡ gs ++ p ∷ [] → IsValidPlane n → All IsValidPlane gs → IsValidPlane p → IsRing n hs es ms bs
-  below_ring es ms bs k hs et least em el eh vn vs vp =
-      let e : sides_of es ms bs ≡ begun_at k below_sides = et ∙ ap (λ zs. begun_at k zs) (part_is n p xs at q (length gs)) in
-      let s = begun_stands n (gs ++ p ∷ []) k below_sides division.stands in
-      let c = begun_counted n (gs ++ p ∷ []) k below_sides (divide_counted n p gs q.head q.last q.front (spot_of at.exit) (spot_of at.entry) q.entry q.exit q.under q.enters q.others (subst (λ zs. AllCounted n gs zs) q.turned (begun_counted n gs at.first xs ct)) division) in
+  pub below_ring : (es : List Plane) (ms : List Meet) (bs : List ℕ) (k j : ℕ) (hs : List Plane) → sides_of es ms bs ≡ begun_at j (begun_at k (part_sides xs at p (length gs))) → LeastFirst bs → length ms ≡ length es → length bs ≡ length es → hs ≡ gs ++ p ∷ [] → IsValidPlane n → All IsValidPlane gs → IsValidPlane p → IsRing n hs es ms bs
+  below_ring es ms bs k j hs et least em el eh vn vs vp =
+      let e : sides_of es ms bs ≡ begun_at j (begun_at k below_sides) = et ∙ ap (λ zs. begun_at j (begun_at k zs)) (part_is n p xs at q (length gs)) in
+      let s = begun_stands n (gs ++ p ∷ []) j (begun_at k below_sides) (begun_stands n (gs ++ p ∷ []) k below_sides division.stands) in
+      let c = begun_counted n (gs ++ p ∷ []) j (begun_at k below_sides) (begun_counted n (gs ++ p ∷ []) k below_sides (divide_counted n p gs q.head q.last q.front (spot_of at.exit) (spot_of at.entry) q.entry q.exit q.under q.enters q.others (subst (λ zs. AllCounted n gs zs) q.turned (begun_counted n gs at.first xs ct)) division)) in
       record {
         stands = subst (λ us. Stands n us (sides_of es ms bs)) (sym eh) (subst (λ us. Stands n (gs ++ p ∷ []) us) (sym e) s);
         oldest = oldest_first es ms bs least;

@@ -1,95 +1,144 @@
--- Lists that close, begun at another place, and what a passage keeps of them.
-use Rattle.std.proofs.Common.{◌≡◌, refl, sym, ap, ◌∙◌, arith, ℕ, suc, ◌<◌, ◌≤◌, ◌+◌, List, [], ◌∷◌, ◌++◌, length, take, drop, append_assoc, length-append, length-take-le}
-use lib.ListN.{get_or}
-use Rattle.std.proofs.Math.Seq.{take-append-add}
-use Rattle.std.proofs.lemmas.List.{drop_more, length-take, length_push, take-append-drop, take-append-le, take-take}
+-- The lists of a ring's sides, changed in place, and what a passage keeps of the sides.
+use Rattle.std.proofs.Common.{◌≡◌, refl, sym, ap, ◌∙◌, arith, ℕ, zero, suc, ◌<◌, ◌≤◌, ◌+◌, ◌-◌, List, [], ◌∷◌, ◌++◌, length, take, drop, append_assoc, length-append, length-drop}
+use lib.ListN.{set}
+use Rattle.std.proofs.Math.Seq.{take-append-add, drop-append_seam}
+use Rattle.std.proofs.lemmas.List.{drop_more, drop_all, length-take, length-take-le, take-append-drop, take-append-le, append-nil, set_split}
 use Rattle.ember_model.specs.declared.plane.Plane.{Plane}
+use Rattle.ember_model.specs.declared.point.Spot.{Spot}
 use Rattle.ember_point.specs.declared.corner.Meet.{Meet}
 use Rattle.ember_point.specs.Points.{spot_of}
 use Rattle.ember_poly.specs.declared.passage.Passage.{Passage}
-use Rattle.ember_poly.specs.Rings.{closing}
+use Rattle.ember_poly.specs.Rings.{Side, closing}
 use Rattle.ember_poly.specs.Sides.{sides_of}
-use Rattle.ember_poly.specs.Rims.{begun_at, kept_behind, part_sides, starting}
-use Rattle.ember_poly.proofs.Passed.{Opened, open_at, same_length}
-use Rattle.ember_poly.proofs.Rows.{sides-append, sides-take, sides-turned}
+use Rattle.ember_poly.specs.Rims.{begun_at, put_between, entered_at, part_sides, starting}
+use Rattle.ember_poly.proofs.Rows.{sides-append, sides-take, sides-drop, dropped}
 use Rattle.ember_poly.proofs.Runs.{turn_split}
 
--- ---- the items that are kept
--- up to the list's end
-pub kept_ahead : {X : Type 0} (first count : ℕ) (xs : List X) → count ≤ length (drop (first + 1) xs) → kept_behind first count xs ≡ take count (drop (first + 1) xs)
-kept_ahead first count xs l = take-append-le count (drop (first + 1) xs) (take first xs) l
+one : (n : ℕ) → n + 1 ≡ suc n
+one n = omega arith
 
--- and from its start on
-pub kept_round : {X : Type 0} (first rest : ℕ) (xs : List X) → rest ≤ first → kept_behind first (length (drop (first + 1) xs) + rest) xs ≡ drop (first + 1) xs ++ take rest xs
-kept_round first rest xs l =
-    take-append-add (drop (first + 1) xs) (take first xs) rest ∙ ap (λ ys. drop (first + 1) xs ++ ys) (take-take rest first xs l)
+-- ---- an item in the place of others
+-- of one of them
+pub put_first : {X : Type 0} (from : ℕ) (x : X) (xs : List X) → from < length xs → set xs from x ≡ put_between from (from + 1) x xs
+put_first from x xs l =
+    set_split xs from x l ∙ ap (λ k. take from xs ++ x ∷ drop k xs) (sym (one from))
 
--- ---- a closed list begun at another place
+-- of one more
+pub put_more : {X : Type 0} (from to : ℕ) (x : X) (xs : List X) → from ≤ length xs → to < length xs → take (from + 1) (put_between from to x xs) ++ drop (suc (from + 1)) (put_between from to x xs) ≡ put_between from (to + 1) x xs
+put_more from to x xs lf lt =
+    (λ i. take (count i) (put_between from to x xs) ++ drop (suc (count i)) (put_between from to x xs)) ∙ seam x (take from xs) (drop to xs) ∙ ap (λ ys. take from xs ++ x ∷ drop 1 ys) (drop_more xs to x lt)
+  where
+    count : from + 1 ≡ suc (length (take from xs))
+    count = omega (arith, length-take-le from xs lf)
+
+    seam : {X : Type 0} (x : X) (us ys : List X) → take (suc (length us)) (us ++ x ∷ ys) ++ drop (suc (suc (length us))) (us ++ x ∷ ys) ≡ us ++ x ∷ drop 1 ys
+    seam x [] ys = refl
+    seam x (u ∷ us) ys = ap (λ zs. u ∷ zs) (seam x us ys)
+
+pub put_count : {X : Type 0} (from to : ℕ) (x : X) (xs : List X) → from ≤ length xs → to ≤ length xs → length (put_between from to x xs) + to ≡ suc (from + length xs)
+put_count from to x xs lf lt =
+    omega (arith, lt, length-append (take from xs) (x ∷ drop to xs), length-take-le from xs lf, length-drop to xs)
+
+pub put_some : {X : Type 0} (from to : ℕ) (x : X) (xs : List X) → 0 < length (put_between from to x xs)
+put_some from to x xs = omega (arith, length-append (take from xs) (x ∷ drop to xs))
+
+taken : {X Y : Type 0} (k : ℕ) (xs : List X) (ys : List Y) → length ys ≡ length xs → length (take k ys) ≡ length (take k xs)
+taken k xs ys e = rw (length-take k ys, length-take k xs, e) refl
+
+-- in lists that are equally long
+pub put_length : {X Y : Type 0} (from to : ℕ) (x : X) (xs : List X) (y : Y) (ys : List Y) → length ys ≡ length xs → length (put_between from to y ys) ≡ length (put_between from to x xs)
+put_length from to x xs y ys e =
+    omega (arith, length-append (take from ys) (y ∷ drop to ys), length-append (take from xs) (x ∷ drop to xs), taken from xs ys e, dropped to xs ys e)
+
+-- ---- begun at another place
 begun_length : {X : Type 0} (k : ℕ) (xs : List X) → length (begun_at k xs) ≡ length xs
 begun_length k xs =
     omega (arith, length-append (drop k xs) (take k xs), length-append (take k xs) (drop k xs), ap length (take-append-drop k xs))
 
-module _ {X : Type 0} (head last : X) (front back : List X) where
-  abbrev pub closed : List X
-  closed = head ∷ (front ++ back) ++ last ∷ []
+pub begun_same : {X Y : Type 0} (k : ℕ) (xs : List X) (ys : List Y) → length ys ≡ length xs → length (begun_at k ys) ≡ length (begun_at k xs)
+begun_same k xs ys e = begun_length k ys ∙ e ∙ sym (begun_length k xs)
 
-  pub begun_front : (k : ℕ) → k ≤ length front → begun_at (k + 1) closed ≡ (drop k front ++ back) ++ last ∷ head ∷ take k front
-  begun_front k l =
-      ap (λ xs. begun_at (k + 1) xs) whole ∙ turn_split (head ∷ take k front) ((drop k front ++ back) ++ last ∷ []) (k + 1) count ∙ append_assoc (drop k front ++ back) (last ∷ []) (head ∷ take k front)
+-- ---- the sides of three lists
+pub sides_put : (es : List Plane) (ms : List Meet) (bs : List ℕ) → length ms ≡ length es → length bs ≡ length es → (from to : ℕ) (p : Plane) (m : Meet) (b : ℕ) {us : List Plane} {ns : List Meet} {cs : List ℕ} → us ≡ put_between from to p es → ns ≡ put_between from to m ms → cs ≡ put_between from to b bs → sides_of us ns cs ≡ put_between from to (closing p (spot_of m) b) (sides_of es ms bs)
+sides_put es ms bs pm pb from to p m b {us} {ns} {cs} eu en ec =
+    (λ i. sides_of (eu i) (en i) (ec i)) ∙ sides-append (take from es) (p ∷ drop to es) (take from ms) (m ∷ drop to ms) (take from bs) (b ∷ drop to bs) (taken from es ms pm) (taken from es bs pb) ∙ (λ i. sides-take from es ms bs i ++ closing p (spot_of m) b ∷ sides-drop to es ms bs pm pb i)
+
+pub sides_set : (k : ℕ) (es : List Plane) (ms : List Meet) (bs : List ℕ) (m : Meet) → sides_of es (set ms k m) bs ≡ entered_at k (spot_of m) (sides_of es ms bs)
+sides_set zero [] ms bs m = refl
+sides_set (suc k) [] ms bs m = refl
+sides_set zero (e ∷ es) [] bs m = refl
+sides_set (suc k) (e ∷ es) [] bs m = refl
+sides_set zero (e ∷ es) (n ∷ ms) [] m = refl
+sides_set (suc k) (e ∷ es) (n ∷ ms) [] m = refl
+sides_set zero (e ∷ es) (n ∷ ms) (b ∷ bs) m = refl
+sides_set (suc k) (e ∷ es) (n ∷ ms) (b ∷ bs) m =
+    ap (λ zs. record { plane = e; corner = spot_of n; birth = b } ∷ zs) (sides_set k es ms bs m)
+
+-- ---- the first edge starts elsewhere
+starting_length : (v : Spot) (xs : List Side) → length (starting v xs) ≡ length xs
+starting_length v [] = refl
+starting_length v (s ∷ xs) = refl
+
+starting_take : (v : Spot) (k : ℕ) (xs : List Side) → take (k + 1) (starting v xs) ≡ starting v (take (k + 1) xs)
+starting_take v k xs =
+    ap (λ n. take n (starting v xs)) (one k) ∙ by xs ∙ ap (λ n. starting v (take n xs)) (sym (one k))
+  where
+    by : (xs : List Side) → take (suc k) (starting v xs) ≡ starting v (take (suc k) xs)
+    by [] = refl
+    by (s ∷ xs) = refl
+
+starting_append : (v : Spot) (xs ys : List Side) → 0 < length xs → starting v (xs ++ ys) ≡ starting v xs ++ ys
+starting_append v [] ys l = absurd (omega (arith, l))
+starting_append v (s ∷ xs) ys l = refl
+
+-- ---- what a passage keeps
+module _ (xs : List Side) (at : Passage) (p : Plane) (birth : ℕ) where
+  abbrev first : Spot
+  first = spot_of at.entry
+
+  abbrev last : Side
+  last = closing p (spot_of at.exit) birth
+
+  abbrev head : List Side
+  head = take at.first xs
+
+  abbrev tail : List Side
+  tail = drop at.first xs
+
+  -- in the ring begun at the entry
+  pub kept_turned : (n : ℕ) → n ≡ length xs → {ys zs : List Side} → ys ≡ begun_at at.first xs → zs ≡ entered_at 0 first ys → put_between (at.kept + 1) n last zs ≡ begun_at 0 (part_sides xs at p birth)
+  kept_turned n e {ys} {zs} ey ez =
+      ap (λ us. put_between (at.kept + 1) n last us) (ez ∙ ap (λ us. starting first us) ey) ∙ (λ i. starting_take first at.kept (begun_at at.first xs) i ++ last ∷ none i) ∙ sym (append-nil (part_sides xs at p birth))
     where
-      whole : closed ≡ (head ∷ take k front) ++ ((drop k front ++ back) ++ last ∷ [])
-      whole =
-          ap (λ xs. head ∷ (xs ++ back) ++ last ∷ []) (sym (take-append-drop k front)) ∙ ap (λ xs. head ∷ xs ++ last ∷ []) (append_assoc (take k front) (drop k front) back) ∙ ap (λ xs. head ∷ xs) (append_assoc (take k front) (drop k front ++ back) (last ∷ []))
+      none : drop n (starting first (begun_at at.first xs)) ≡ []
+      none =
+          drop_all n (starting first (begun_at at.first xs)) (omega (arith, e, starting_length first (begun_at at.first xs), begun_length at.first xs))
 
-      count : k + 1 ≡ length (head ∷ take k front)
-      count = omega (arith, length-take-le k front l)
-
-  pub begun_back : (k : ℕ) → k ≤ length back → begun_at (length front + k + 1) closed ≡ drop k back ++ last ∷ head ∷ (front ++ take k back)
-  begun_back k l =
-      ap (λ xs. begun_at (length front + k + 1) xs) whole ∙ turn_split (head ∷ (front ++ take k back)) (drop k back ++ last ∷ []) (length front + k + 1) count ∙ append_assoc (drop k back) (last ∷ []) (head ∷ (front ++ take k back))
+  -- in the ring as it is, where the kept sides go on at its start
+  pub kept_around : (ahead : ℕ) → ahead + at.first ≡ length xs → 0 < ahead → at.kept < length xs → ahead ≤ at.kept → {zs : List Side} → zs ≡ entered_at at.first first xs → put_between (at.kept + 1 - ahead) at.first last zs ≡ begun_at ahead (part_sides xs at p birth)
+  kept_around ahead e some within long {zs} ez =
+      ap (λ us. put_between (at.kept + 1 - ahead) at.first last us) ez ∙ (λ i. front i ++ last ∷ back i) ∙ sym (append_assoc (take (at.kept + 1 - ahead) head) (last ∷ []) (starting first tail)) ∙ sym (turn_split (starting first tail) (take (at.kept + 1 - ahead) head ++ last ∷ []) ahead count) ∙ sym (ap (λ us. begun_at ahead us) part)
     where
-      whole : closed ≡ (head ∷ (front ++ take k back)) ++ (drop k back ++ last ∷ [])
-      whole =
-          ap (λ xs. head ∷ (front ++ xs) ++ last ∷ []) (sym (take-append-drop k back)) ∙ ap (λ xs. head ∷ xs ++ last ∷ []) (sym (append_assoc front (take k back) (drop k back))) ∙ ap (λ xs. head ∷ xs) (append_assoc (front ++ take k back) (drop k back) (last ∷ []))
+      long_head : length head ≡ at.first
+      long_head = length-take-le at.first xs (omega arith)
 
-      count : length front + k + 1 ≡ length (head ∷ (front ++ take k back))
-      count = omega (arith, length-append front (take k back), length-take-le k back l)
+      long_tail : length tail ≡ ahead
+      long_tail = omega (arith, e, length-drop at.first xs)
 
--- ---- the sides of a part
-module _ (es : List Plane) (ms : List Meet) (bs : List ℕ) (at : Passage) (p : Plane) (birth : ℕ) (pm : length ms ≡ length es) (pb : length bs ≡ length es) (l : at.first < length es) where
-  abbrev behind : {X : Type 0} → List X → List X
-  behind xs = drop (at.first + 1) xs ++ take at.first xs
+      count : ahead ≡ length (starting first tail)
+      count = sym (starting_length first tail ∙ long_tail)
 
-  abbrev kept : {X : Type 0} → List X → List X
-  kept xs = kept_behind at.first at.kept xs
+      front : take (at.kept + 1 - ahead) (head ++ starting first tail) ≡ take (at.kept + 1 - ahead) head
+      front = take-append-le (at.kept + 1 - ahead) head (starting first tail) (omega (arith, long_head, e, within, long))
 
-  kept_length : {X : Type 0} (xs : List X) → length xs ≡ length es → length (kept xs) ≡ length (kept es)
-  kept_length xs e =
-      rw (length-take at.kept (behind xs), length-take at.kept (behind es), same_length at.first es xs l e) refl
+      back : drop at.first (head ++ starting first tail) ≡ starting first tail
+      back =
+          ap (λ k. drop k (head ++ starting first tail)) (sym long_head) ∙ drop-append_seam head (starting first tail)
 
-  longer : {X : Type 0} (xs : List X) (x : X) → length xs ≡ length es → suc (length (kept xs ++ x ∷ [])) ≡ suc (length (kept es ++ p ∷ []))
-  longer xs x q = omega (arith, length_push (kept xs) x, length_push (kept es) p, kept_length xs q)
+      kept : take (at.kept + 1) (tail ++ head) ≡ tail ++ take (at.kept + 1 - ahead) head
+      kept =
+          ap (λ k. take k (tail ++ head)) (omega (arith, long_tail, long)) ∙ take-append-add tail head (at.kept + 1 - ahead)
 
-  -- the sides begun at the passage's first
-  turned_sides : (e : Plane) (b : ℕ) → get_or es at.first e ≡ e → get_or bs at.first b ≡ b → (o : Opened at.first ms) → begun_at at.first (sides_of es ms bs) ≡ sides_of (e ∷ behind es) (o.at ∷ behind ms) (b ∷ behind bs)
-  turned_sides e b qe qb o =
-      sym (sides-turned at.first es _ ms _ bs _ pm pb refl refl refl) ∙ (λ i. sides_of (opened es e l qe i) (o.here i ++ take at.first ms) (opened bs b (omega (arith, l, pb)) qb i))
-    where
-      opened : {X : Type 0} (xs : List X) (x : X) → at.first < length xs → get_or xs at.first x ≡ x → begun_at at.first xs ≡ x ∷ behind xs
-      opened xs x l e = ap (λ ys. ys ++ take at.first xs) (drop_more xs at.first x l ∙ ap (λ y. y ∷ drop (at.first + 1) xs) e)
-
-  whole : (e : Plane) (b : ℕ) → get_or es at.first e ≡ e → get_or bs at.first b ≡ b → part_sides (sides_of es ms bs) at p birth ≡ sides_of (e ∷ kept es ++ p ∷ []) (at.entry ∷ kept ms ++ at.exit ∷ []) (b ∷ kept bs ++ birth ∷ [])
-  whole e b qe qb =
-      let o = open_at at.first ms (omega (arith, l, pm)) in
-      ap (λ xs. starting (spot_of at.entry) (take (at.kept + 1) xs) ++ closing p (spot_of at.exit) birth ∷ []) (turned_sides e b qe qb o) ∙ ap (λ n. starting (spot_of at.entry) (take n (sides_of (e ∷ behind es) (o.at ∷ behind ms) (b ∷ behind bs))) ++ closing p (spot_of at.exit) birth ∷ []) (one at.kept) ∙ ap (λ xs. record { plane = e; corner = spot_of at.entry; birth = b } ∷ xs) (ap (λ xs. xs ++ closing p (spot_of at.exit) birth ∷ []) (sym (sides-take at.kept (behind es) (behind ms) (behind bs))) ∙ sym (sides-append (kept es) (p ∷ []) (kept ms) (at.exit ∷ []) (kept bs) (birth ∷ []) (kept_length ms pm) (kept_length bs pb)))
-    where
-      one : (n : ℕ) → n + 1 ≡ suc n
-      one n = omega arith
-
-  pub sides_part : (k : ℕ) (e : Plane) (b : ℕ) {us : List Plane} {ns : List Meet} {cs : List ℕ} → get_or es at.first e ≡ e → get_or bs at.first b ≡ b → us ≡ begun_at k (e ∷ kept es ++ p ∷ []) → ns ≡ begun_at k (at.entry ∷ kept ms ++ at.exit ∷ []) → cs ≡ begun_at k (b ∷ kept bs ++ birth ∷ []) → sides_of us ns cs ≡ begun_at k (part_sides (sides_of es ms bs) at p birth)
-  sides_part k e b {us} {ns} {cs} qe qb eu en ec =
-      sides-turned k (e ∷ kept es ++ p ∷ []) us (at.entry ∷ kept ms ++ at.exit ∷ []) ns (b ∷ kept bs ++ birth ∷ []) cs (longer ms at.exit pm) (longer bs birth pb) eu en ec ∙ ap (λ xs. begun_at k xs) (sym (whole e b qe qb))
-
-  pub lengths_part : {X : Type 0} (k : ℕ) (e : Plane) (xs : List X) (y z : X) {us : List Plane} {ns : List X} → length xs ≡ length es → us ≡ begun_at k (e ∷ kept es ++ p ∷ []) → ns ≡ begun_at k (y ∷ kept xs ++ z ∷ []) → length ns ≡ length us
-  lengths_part k e xs y z {us} {ns} q eu en =
-      ap length en ∙ begun_length k (y ∷ kept xs ++ z ∷ []) ∙ longer xs z q ∙ sym (begun_length k (e ∷ kept es ++ p ∷ [])) ∙ sym (ap length eu)
+      part : part_sides xs at p birth ≡ starting first tail ++ (take (at.kept + 1 - ahead) head ++ last ∷ [])
+      part =
+          ap (λ us. starting first us ++ last ∷ []) kept ∙ ap (λ us. us ++ last ∷ []) (starting_append first tail (take (at.kept + 1 - ahead) head) (omega (arith, long_tail, some))) ∙ append_assoc (starting first tail) (take (at.kept + 1 - ahead) head) (last ∷ [])

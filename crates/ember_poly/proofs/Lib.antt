@@ -26,9 +26,11 @@ pub mod Reached
 pub mod Runs
 pub mod Seen
 pub mod Aged
+pub mod Entered
 pub mod Passed
 pub mod Kept
 pub mod Divided
+pub mod Clipped
 pub mod Spanned
 pub mod Chorded
 pub mod Touching

@@ -58,7 +58,7 @@ sides-drop (suc k) (e ∷ es) (m ∷ ms) [] p q = absurd (omega (arith, q))
 sides-drop (suc k) (e ∷ es) (m ∷ ms) (b ∷ bs) p q =
     sides-drop k es ms bs (omega (arith, p)) (omega (arith, q))
 
-dropped : {X Y : Type 0} (k : ℕ) (xs : List X) (ys : List Y) → length ys ≡ length xs → length (drop k ys) ≡ length (drop k xs)
+pub dropped : {X Y : Type 0} (k : ℕ) (xs : List X) (ys : List Y) → length ys ≡ length xs → length (drop k ys) ≡ length (drop k xs)
 dropped k xs ys e = rw (length-drop k ys, length-drop k xs, e) refl
 
 pub sides-turned : (k : ℕ) (es us : List Plane) (ms ns : List Meet) (bs cs : List ℕ) → length ms ≡ length es → length bs ≡ length es → us ≡ drop k es ++ take k es → ns ≡ drop k ms ++ take k ms → cs ≡ drop k bs ++ take k bs → sides_of us ns cs ≡ drop k (sides_of es ms bs) ++ take k (sides_of es ms bs)

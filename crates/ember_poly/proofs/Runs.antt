@@ -41,10 +41,10 @@ stops_at p b ms i d l e = subst (λ ys. Stops p b ys) (sym (drop_more ms i d l))
 pub stops_end : (p : Plane) (b : Bool) (ms : List Meet) (i : ℕ) → length ms ≤ i → Stops p b (drop i ms)
 stops_end p b ms i l = subst (λ ys. Stops p b ys) (sym (drop_all i ms l)) tt
 
-run_rest : (p : Plane) (b : Bool) (m : Meet) (ms : List Meet) (k : ℕ) → IsRun p b (m ∷ ms) (suc k) → IsRun p b ms k
+pub run_rest : (p : Plane) (b : Bool) (m : Meet) (ms : List Meet) (k : ℕ) → IsRun p b (m ∷ ms) (suc k) → IsRun p b ms k
 run_rest p b m ms k r = record { fits = omega (arith, r.fits); all = r.all.1; stops = r.stops }
 
-run_more : (p : Plane) (b : Bool) (m : Meet) (ms : List Meet) (k : ℕ) → is_under p m ≡ b → IsRun p b ms k → IsRun p b (m ∷ ms) (suc k)
+pub run_more : (p : Plane) (b : Bool) (m : Meet) (ms : List Meet) (k : ℕ) → is_under p m ≡ b → IsRun p b ms k → IsRun p b (m ∷ ms) (suc k)
 run_more p b m ms k e r = record { fits = omega (arith, r.fits); all = (e, r.all); stops = r.stops }
 
 -- a run that ends before the list does
@@ -113,10 +113,10 @@ module _ (p : Plane) where
   abbrev IsHigh : Meet → Type 0
   IsHigh m = is_under p m ≡ false
 
-  lows : (us : List Meet) → AllByRecursion IsLow us → AllByRecursion (λ m. AtMost p (spot_of m)) us
+  pub lows : (us : List Meet) → AllByRecursion IsLow us → AllByRecursion (λ m. AtMost p (spot_of m)) us
   lows us h = each_map IsLow (λ m. AtMost p (spot_of m)) us (λ m e. weak (under_out p m e)) h
 
-  highs : (us : List Meet) → AllByRecursion IsHigh us → AllByRecursion (λ m. AtLeast p (spot_of m)) us
+  pub highs : (us : List Meet) → AllByRecursion IsHigh us → AllByRecursion (λ m. AtLeast p (spot_of m)) us
   highs us h = each_map IsHigh (λ m. AtLeast p (spot_of m)) us (λ m e. least_out p m e) h
 
   enters_at : (us bs : List Meet) (y : Meet) (cs : List Meet) → AllByRecursion IsLow us → AllByRecursion IsHigh bs → IsHigh y → Stops p false cs → Straddles p (us ++ (bs ++ y ∷ cs)) → Enters p ((y ∷ cs) ++ (us ++ bs))

@@ -1,5 +1,5 @@
 -- The edges of a triangle's face, with its corners, are a ring.
-use Rattle.std.proofs.Common.{◌≡◌, ◌≢◌, inl, refl, sym, ap, subst, ◌∙◌, ℕ, zero, suc, ◌≤◌, Bool, true, false, cond, ◌&&◌, leb, Option, None, Some, List, [], ◌∷◌, arith, ℤ, pos, ◌*ℤ◌, ◌<ℤ◌, unsigned_abs}
+use Rattle.std.proofs.Common.{◌≡◌, ◌≢◌, inl, refl, sym, ap, subst, ◌∙◌, ℕ, zero, suc, ◌≤◌, Bool, true, false, cond, ◌&&◌, leb, None, Some, List, All, [], ◌∷◌, arith, ℤ, pos, ◌*ℤ◌, ◌<ℤ◌, unsigned_abs}
 use Rattle.std.proofs.lemmas.Int.{ints}
 use Rattle.std.proofs.lemmas.Bool.{leb-true}
 use Rattle.std.proofs.Math.Dec.{leb-zero}
@@ -12,12 +12,11 @@ use Rattle.ember_algebra.proofs.Order.{by_sign, sign_pos, sign_neg}
 use Rattle.ember_model.specs.declared.point.Axis.{Axis}
 use Rattle.ember_model.specs.declared.point.Axis.TheVariants.{X, Y, Z}
 use Rattle.ember_model.specs.declared.plane.Plane.{Plane}
-use Rattle.ember_model.specs.declared.face.Face.{Face}
 use Rattle.ember_model.specs.declared.tri.Tri.{Tri}
 use Rattle.ember_model.specs.Planes.{along, unit, main_axis, support_of, edge_planes}
 use Rattle.ember_model.specs.Faces.{is_flat, face_of}
 use Rattle.ember_model.specs.Owners.{spot_at}
-use Rattle.ember_model.specs.Valid.{IsValidFace}
+use Rattle.ember_model.specs.Valid.{IsValidPlane}
 use Rattle.ember_point.specs.declared.corner.Meet.{Meet}
 use Rattle.ember_point.specs.Points.{spot_of}
 use Rattle.ember_poly.specs.Rings.{Side, Stands}
@@ -107,27 +106,24 @@ same_sides t u v w eu ev ew =
     let k = main_axis (support_of t) in let s = sign (along (support_of t) k) in
     λ i. record { plane = (side_along s (unit k) t.a t.b 0).plane; corner = eu i; birth = 0 } ∷ record { plane = (side_along s (unit k) t.b t.c 1).plane; corner = ev i; birth = 1 } ∷ record { plane = (side_along s (unit k) t.c t.a 2).plane; corner = ew i; birth = 2 } ∷ []
 
-ring_of : (t : Tri) (u v w : Meet) → is_flat t ≡ false → spot_of u ≡ spot_at t.a → spot_of v ≡ spot_at t.b → spot_of w ≡ spot_at t.c → IsValidFace (face_of t) → IsRing (support_of t) (tri_planes t) (tri_planes t) (places u v w) (0 ∷ 1 ∷ 2 ∷ [])
-unfolding face_of
-ring_of t u v w e eu ev ew valid =
+ring_of : (t : Tri) (u v w : Meet) → is_flat t ≡ false → spot_of u ≡ spot_at t.a → spot_of v ≡ spot_at t.b → spot_of w ≡ spot_at t.c → IsValidPlane (support_of t) → All IsValidPlane (tri_planes t) → IsRing (support_of t) (tri_planes t) (tri_planes t) (places u v w) (0 ∷ 1 ∷ 2 ∷ [])
+ring_of t u v w e eu ev ew vn vs =
     let q = sym (same_sides t u v w eu ev ew) in
-    record { stands = subst (λ xs. Stands (support_of t) (tri_planes t) xs) q (stands t e); oldest = subst (λ xs. OldestFirst xs) q (omega arith, (omega arith, tt)); counted = subst (λ xs. AllCounted (support_of t) (tri_planes t) xs) q (counted t); corners = refl; births = refl; support = valid.support; planes = valid.edges }
+    record { stands = subst (λ xs. Stands (support_of t) (tri_planes t) xs) q (stands t e); oldest = subst (λ xs. OldestFirst xs) q (omega arith, (omega arith, tt)); counted = subst (λ xs. AllCounted (support_of t) (tri_planes t) xs) q (counted t); corners = refl; births = refl; support = vn; planes = vs }
 
 -- from what the code holds
-pub tri_ring : (t : Tri) (f : Face) (u v w : Meet) {es gs : List Plane} {ms : List Meet} {bs : List ℕ} → is_flat t ≡ false → f ≡ face_of t → IsValidFace f → gs ≡ f.edges → es ≡ gs → ms ≡ places u v w → bs ≡ 0 ∷ 1 ∷ 2 ∷ [] → spot_of u ≡ spot_at t.a → spot_of v ≡ spot_at t.b → spot_of w ≡ spot_at t.c → IsRing f.support gs es ms bs
-unfolding face_of
-tri_ring t f u v w {es} {gs} {ms} {bs} e ef valid eg ee em eb eu ev ew =
-    let r = ring_of t u v w e eu ev ew (subst (λ g. IsValidFace g) ef valid) in
-    let planes : gs ≡ tri_planes t = eg ∙ ap (λ (g : Face). g.edges) ef in
-    rw (ap (λ (g : Face). g.support) ef, ee, planes, em, eb) r
+pub tri_ring : (t : Tri) (n : Plane) (u v w : Meet) {fs gs es : List Plane} {ms : List Meet} {bs : List ℕ} → is_flat t ≡ false → n ≡ support_of t → IsValidPlane n → fs ≡ tri_planes t → All IsValidPlane fs → gs ≡ fs → es ≡ fs → ms ≡ places u v w → bs ≡ 0 ∷ 1 ∷ 2 ∷ [] → spot_of u ≡ spot_at t.a → spot_of v ≡ spot_at t.b → spot_of w ≡ spot_at t.c → IsRing n gs es ms bs
+tri_ring t n u v w {fs} {gs} {es} {ms} {bs} e en vn ef vs eg ee em eb eu ev ew =
+    let r = ring_of t u v w e eu ev ew (subst (λ p. IsValidPlane p) en vn) (subst (λ ps. All IsValidPlane ps) ef vs) in
+    rw (en, eg, ee, ef, em, eb) r
 
--- ---- the outcome of `face_of`
-pub some_face : (b : Bool) (f g : Face) {r : Option Face} → r ≡ cond b None (Some g) → r ≡ Some f → (b ≡ false) × (f ≡ g)
-some_face true f g e h = absurd (none (sym e ∙ h))
-  where
-    none : None ≡ Some f → ⊥
-    none e = cc
-some_face false f g e h = (refl, same (sym h ∙ e))
-  where
-    same : Some f ≡ Some g → f ≡ g
-    same e = cc
+-- ---- the test of the normal
+pub flat_is : (t : Tri) (n : Plane) (b : Bool) → n ≡ support_of t → b ≡ (is_zero n.a && (is_zero n.b && is_zero n.c)) → is_flat t ≡ b
+unfolding is_flat
+flat_is t n b en e =
+    ap (λ (p : Plane). is_zero p.a && (is_zero p.b && is_zero p.c)) (sym en) ∙ sym e
+
+pub face_is : (t : Tri) (n : Plane) (gs : List Plane) → is_flat t ≡ false → n ≡ support_of t → gs ≡ tri_planes t → Some (record { support = n; edges = gs }) ≡ cond (is_flat t) None (Some (face_of t))
+unfolding face_of
+face_is t n gs e en eg =
+    (λ i. Some (record { support = en i; edges = eg i })) ∙ sym (ap (λ b. cond b None (Some (face_of t))) e)

@@ -1,5 +1,5 @@
 -- Where a plane passes a ring
-use Rattle.std.specs.Prelude.{◌≡◌, ◌⊎◌, ℕ, ◌<◌, ◌≤◌, suc, Bool, true, false, not, List, [], ◌∷◌, ◌++◌, length, take, drop}
+use Rattle.std.specs.Prelude.{◌≡◌, ◌⊎◌, ℕ, ◌+◌, ◌<◌, ◌≤◌, suc, Bool, true, false, not, List, [], ◌∷◌, ◌++◌, length, take, drop}
 use Rattle.std.specs.List.{AllByRecursion}
 use Rattle.ember_algebra.specs.Sign.{is_negative}
 use Rattle.ember_model.specs.declared.plane.Plane.{Plane}
@@ -26,6 +26,13 @@ AreSigns p ms Above =
 AreSigns p ms On = AllByRecursion (λ m. OnPlane p (spot_of m)) ms
 AreSigns p ms Both = Has (λ m. Under p (spot_of m)) ms × Has (λ m. Over p (spot_of m)) ms
 
+-- the same by the number of corners below the plane that are known, and by whether some are above
+pub record AreSeen (p : Plane) (low : ℕ) (high : Bool) (ms : List Meet) : Type 0 where
+  pub under : 0 < low → Has (λ m. Under p (spot_of m)) ms
+  pub least : low ≡ 0 → AllByRecursion (λ m. AtLeast p (spot_of m)) ms
+  pub over : high ≡ true → Has (λ m. Over p (spot_of m)) ms
+  pub most : high ≡ false → AllByRecursion (λ m. AtMost p (spot_of m)) ms
+
 -- some corner is above the plane, and some is below
 pub record Straddles (p : Plane) (ms : List Meet) : Type 0 where
   pub above : AllByRecursion (λ m. AtMost p (spot_of m)) ms → ⊥
@@ -46,11 +53,28 @@ pub record IsRun (p : Plane) (below : Bool) (ms : List Meet) (k : ℕ) : Type 0 
   pub all : AllByRecursion (λ m. is_under p m ≡ below) (take k ms)
   pub stops : Stops p below (drop k ms)
 
+-- whether one of corners that do not lie below the plane is above it
+pub record AreRisen (p : Plane) (high : Bool) (ms : List Meet) : Type 0 where
+  pub all : AllByRecursion (λ m. is_under p m ≡ false) ms
+  pub some : high ≡ true → Has (λ m. Over p (spot_of m)) ms
+  pub none : high ≡ false → AllByRecursion (λ m. AtMost p (spot_of m)) ms
+
+-- the first k corners do not lie below the plane, and the next one does
+pub record IsRise (p : Plane) (ms : List Meet) (k : ℕ) (high : Bool) : Type 0 where
+  pub run : IsRun p false ms k
+  pub risen : AreRisen p high (take k ms)
+
 -- the first corner is not below the plane, the second is
 abbrev pub Enters : Plane → List Meet → Type 0
 Enters p [] = ⊥
 Enters p (m ∷ []) = ⊥
 Enters p (m ∷ c ∷ ms) = (is_under p m ≡ false) × (is_under p c ≡ true)
+
+-- begun at this place, the corners enter the plane's negative side, and so many are below it
+pub record IsEntry (p : Plane) (ms : List Meet) (first kept : ℕ) : Type 0 where
+  pub within : first < length ms
+  pub enters : Enters p (drop first ms ++ take first ms)
+  pub run : IsRun p true (drop (first + 1) ms ++ take first ms) kept
 
 -- ---- the passage
 -- behind the kept sides: the next corner is not below the plane, and not all that is left lies on it

@@ -31,18 +31,26 @@ LeastFirst (b ∷ bs) = AllByRecursion (λ c. b ≤ c) bs
 abbrev pub begun_at : {X : Type 0} → ℕ → List X → List X
 begun_at k xs = drop k xs ++ take k xs
 
--- so many items behind a place, round the list
-abbrev pub kept_behind : {X : Type 0} → ℕ → ℕ → List X → List X
-kept_behind first count xs = take count (drop (first + 1) xs ++ take first xs)
+-- a list with an item in the place of those from one place to another
+abbrev pub put_between : {X : Type 0} → ℕ → ℕ → X → List X → List X
+put_between from to x xs = take from xs ++ x ∷ drop to xs
+
+-- the edge at this place starts at v
+abbrev pub entered_at : ℕ → Spot → List Side → List Side
+entered_at k v xs = take k xs ++ starting v (drop k xs)
 
 -- the sides that a passage keeps, from the entry to the exit, and the closing side behind them
 abbrev pub part_sides : List Side → Passage → Plane → ℕ → List Side
 part_sides xs at p birth =
     starting (spot_of at.entry) (take (at.kept + 1) (begun_at at.first xs)) ++ closing p (spot_of at.exit) birth ∷ []
 
--- these sides, begun at the oldest
+-- these sides, begun at some place
 pub record IsPart (old : Rim) (at : Passage) (p : Plane) (birth : ℕ) (new : Rim) : Type 0 where
   pub place : ℕ
   pub order : sides new ≡ begun_at place (part_sides (sides old) at p birth)
   pub paired : IsPaired new
-  pub oldest : LeastFirst new.births.items
+
+-- the same sides, begun at some place
+pub record IsBegun (old new : Rim) : Type 0 where
+  pub place : ℕ
+  pub order : sides new ≡ begun_at place (sides old)

@@ -1,15 +1,18 @@
 // Rings cut by planes.
-ghost use Rattle.std.specs.Prelude.{◌≡◌, IfOk};
+ghost use Rattle.std.specs.Prelude.{◌≡◌, ◌<◌, ◌++◌, ◌∷◌, [], length, IfOk};
 ghost use Rattle.ember_model.specs.Valid.{IsValidPlane};
 ghost use Rattle.ember_model.specs.Planes.{opposite};
 ghost use Rattle.ember_model.specs.Faces.{Cuts, below};
-ghost use Rattle.ember_poly.specs.Cuts.{IsCut};
+ghost use Rattle.ember_poly.specs.Sides.{IsRing};
+ghost use Rattle.ember_poly.specs.Rims.{sides};
+ghost use Rattle.ember_poly.specs.Passages.{IsPassage};
+ghost use Rattle.ember_poly.specs.Cuts.{AreParts, IsClip, IsCut};
 
 use crate::answers::{Cut, Reach};
-use crate::passage::find_passage;
+use crate::passage::{Passage, find_entry, find_passage};
 use crate::reaching::reach;
-use crate::rim::with_last;
-use crate::ring::Ring;
+use crate::rim::Rim;
+use crate::ring::{Ring, copy};
 use ember_model::{OutOfMemory, Plane};
 use std::alloc::Global;
 
@@ -27,21 +30,72 @@ fn opposite(p: &Plane) -> Plane
     }
 }
 
-/// The part below a plane that has inside points of the ring on both sides: the ring with the
-/// plane as one more edge plane.
-pub fn below(alloc: Global, r: &Ring, p: &Plane) -> Result<Ring, OutOfMemory>
+// The part of a ring's lists below a plane that passes it.
+fn part(
+    support: Plane,
+    mut planes: Vec<Plane>,
+    mut rim: Rim,
+    p: &Plane,
+    at: &Passage,
+) -> Result<Ring, OutOfMemory>
     requires plane { IsValidPlane p.now }
-    requires cuts { Cuts r.now p.now }
-    ensures { IfOk result (λ part. part ≡ below r.now p.now) }
+    requires ring { IsRing support planes.items rim.edges.items rim.corners.items rim.births.items }
+    requires passage { IsPassage support p.now (sides rim) at.now }
+    requires kept { at.now.kept < length rim.edges.items }
+    ensures { IfOk result (λ part. part ≡ record { support = support; edges = planes.items ++ p.now ∷ [] }) }
 {
-    let at = find_passage(&r.support, &r.rim, p);
-    let planes = with_last(alloc, r.planes.as_slice(), *p)?;
-    let rim = r.rim.part(alloc, &at, *p, r.planes.len())?;
+    let birth = planes.len();
+    planes.push(*p)?;
+    rim.close(at, *p, birth)?;
+    rim.begin_at_oldest();
     Ok(Ring {
-        support: r.support,
+        support,
         planes,
         rim,
     })
+}
+
+/// What a plane leaves of a ring: the part below it where inside points are on both sides, the
+/// ring itself where they are on one side or on the plane, and which of these it is.
+pub fn clip(r: Ring, p: &Plane) -> Result<(Reach, Ring), OutOfMemory>
+    requires { IsValidPlane p.now }
+    ensures { IfOk result (λ left. IsClip r p.now left.0 left.1) }
+{
+    let at = find_entry(p, r.rim.corners.as_slice());
+    match at.reach {
+        Reach::Both => {
+            let at = find_passage(&r.support, &r.rim, p, &at);
+            let Ring {
+                support,
+                planes,
+                rim,
+            } = r;
+            Ok((Reach::Both, part(support, planes, rim, p, &at)?))
+        }
+        other => Ok((other, r)),
+    }
+}
+
+// The part below a plane that has inside points of the ring on both sides.
+fn below(r: Ring, p: &Plane) -> Result<Ring, OutOfMemory>
+    requires plane { IsValidPlane p.now }
+    requires cuts { Cuts r p.now }
+    ensures { IfOk result (λ part. part ≡ below r p.now) }
+{
+    let (_, low) = clip(r, p)?;
+    Ok(low)
+}
+
+/// The parts below and above a plane that has inside points of the ring on both sides: the part
+/// above has the opposite plane.
+pub fn parts(alloc: Global, r: Ring, p: &Plane) -> Result<(Ring, Ring), OutOfMemory>
+    requires plane { IsValidPlane p.now }
+    requires cuts { Cuts r p.now }
+    ensures { IfOk result (λ both. AreParts r p.now both.0 both.1) }
+{
+    let high = below(copy(alloc, &r)?, &opposite(p))?;
+    let low = below(r, p)?;
+    Ok((low, high))
 }
 
 /// Cuts a ring by a plane: the part below has the plane as one more edge plane, the part above
@@ -55,8 +109,7 @@ pub fn cut(alloc: Global, r: &Ring, p: &Plane) -> Result<Cut, OutOfMemory>
         Reach::Above => Ok(Cut::Above),
         Reach::On => Ok(Cut::On),
         Reach::Both => {
-            let low = below(alloc, r, p)?;
-            let high = below(alloc, r, &opposite(p))?;
+            let (low, high) = parts(alloc, copy(alloc, r)?, p)?;
             Ok(Cut::Both(low, high))
         }
     }

@@ -11,10 +11,10 @@ mod rim;
 mod ring;
 
 pub use answers::{Cut, Reach};
-pub use cutting::{below, cut};
-pub use meeting::{main_edges, meets, meets_face};
+pub use cutting::{clip, cut, parts};
+pub use meeting::{meets, meets_face};
 pub use reaching::reach;
-pub use ring::{Ring, copy, corners, edges, of_tri, outline, support};
+pub use ring::{Ring, copy, corners, edges, main_edges, of_tri, outline, support};
 
 #[cfg(test)]
 mod tests;

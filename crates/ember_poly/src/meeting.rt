@@ -1,10 +1,10 @@
 // Rings and triangles that meet.
 ghost use Rattle.std.specs.Prelude.{◌≡◌, ◌↔◌, ◌^◌, IsTrue, true, false, All, ℤ, pos, ◌<ℤ◌};
 ghost use Rattle.ember_algebra.specs.Size.{Small};
-ghost use Rattle.ember_algebra.specs.Sign.{sgn, is_positive};
+ghost use Rattle.ember_algebra.specs.Sign.{sgn};
 ghost use Rattle.ember_model.specs.Valid.{IsValidCorner, IsValidTri, IsValidPlane};
-ghost use Rattle.ember_model.specs.Planes.{value_at, support_of};
-ghost use Rattle.ember_model.specs.Faces.{Cuts, Meets, Somewhere, is_flat, face_of, edges_of};
+ghost use Rattle.ember_model.specs.Planes.{value_at};
+ghost use Rattle.ember_model.specs.Faces.{Cuts, Meets, Somewhere, is_flat, face_of};
 ghost use Rattle.ember_model.specs.ClearTest.{face_with, none_positive};
 ghost use Rattle.ember_point.specs.Points.{spot_of};
 ghost use Rattle.ember_poly.specs.Cuts.{HasInside};
@@ -12,11 +12,11 @@ ghost use Rattle.ember_model.specs.Owners.{spot_at};
 ghost use Rattle.ember_poly.specs.Spans.{IsAside, IsSpan, IsLine, IsOpen, Fits};
 
 use crate::answers::Reach;
-use crate::passage::find_passage;
+use crate::passage::{find_entry, find_passage, is_above};
 use crate::reaching::reach;
-use crate::ring::Ring;
+use crate::ring::{Ring, main_edges};
 use ember_algebra::Sign;
-use ember_model::{Corner, Plane, Tri, edge_plane, main_axis, support_of};
+use ember_model::{Corner, Plane, Tri, support_of};
 use ember_point::{Meet, meet, side};
 
 // What a plane leaves of the chord between two points.
@@ -48,13 +48,6 @@ fn span_of(y: Sign, z: Sign) -> Span
             _ => Span::Free,
         },
     }
-}
-
-fn is_above(h: &Plane, m: &Meet) -> bool
-    requires { IsValidPlane h.now }
-    ensures { result ≡ is_positive (value_at h.now (spot_of m.now)) }
-{
-    side(h, m) == Sign::Pos
 }
 
 fn none_above(hs: &[Plane], m: &Meet) -> bool
@@ -117,7 +110,8 @@ fn meets_along(r: &Ring, p: &Plane, hs: &[Plane]) -> bool
     requires cuts { Cuts r.now p.now }
     ensures { IsTrue result ↔ Meets r.now (face_with p.now hs.now) }
 {
-    let at = find_passage(&r.support, &r.rim, p);
+    let entry = find_entry(p, r.rim.corners.as_slice());
+    let at = find_passage(&r.support, &r.rim, p, &entry);
     meets_chord(&r.support, p, &at.exit, &at.entry, hs)
 }
 
@@ -144,21 +138,6 @@ fn meets_within(r: &Ring, hs: &[Plane]) -> bool
         }
     }
     free
-}
-
-/// The edge planes of a triangle with this support plane, along its main axis.
-pub fn main_edges(t: &Tri, support: &Plane) -> [Plane; 3]
-    requires tri { IsValidTri t.now }
-    requires support { support.now ≡ support_of t.now }
-    ensures value { result ≡ edges_of t.now }
-    ensures valid { All IsValidPlane result }
-{
-    let k = main_axis(support);
-    [
-        edge_plane(t, 0, k),
-        edge_plane(t, 1, k),
-        edge_plane(t, 2, k),
-    ]
 }
 
 /// Some inside point of the ring lies in the closed face of a support plane and edge planes.

@@ -1,6 +1,8 @@
 // The sides of a ring.
-ghost use Rattle.std.specs.Prelude.{◌≡◌, ◌≤◌, ◌<◌, ◌+◌, ◌++◌, ◌∷◌, [], length, drop, take, IfOk};
-ghost use Rattle.ember_poly.specs.Rims.{begun_at, kept_behind, IsPaired, IsPart, LeastFirst};
+ghost use Rattle.std.specs.Prelude.{◌≡◌, ◌≤◌, ◌<◌, length, IfOk, OnOk};
+ghost use Rattle.ember_point.specs.Points.{spot_of};
+ghost use Rattle.ember_poly.specs.Rings.{closing};
+ghost use Rattle.ember_poly.specs.Rims.{sides, begun_at, put_between, entered_at, IsPaired, IsPart, IsBegun, LeastFirst};
 
 use crate::passage::Passage;
 use ember_model::{OutOfMemory, Plane};
@@ -16,123 +18,46 @@ pub struct Rim {
     pub births: Vec<usize>,
 }
 
-// The list with one more item.
-pub fn with_last<T: Copy>(alloc: Global, items: &[T], last: T) -> Result<Vec<T>, AllocError>
-    ensures { IfOk result (λ list. list.items ≡ items.now ++ last ∷ []) }
+// The side that a plane adds to a ring.
+#[derive(Clone, Copy)]
+struct Closing {
+    plane: Plane,
+    corner: Meet,
+    birth: usize,
+}
+
+// Puts an item into a list, in the place of the items from one place to another.
+fn put_between<T: Copy>(
+    items: &mut Vec<T>,
+    from: usize,
+    to: usize,
+    item: T,
+) -> Result<(), AllocError>
+    requires order { from ≤ to }
+    requires within { to ≤ length items.old.items }
+    ensures { OnOk result (items.new.items ≡ put_between from to item items.old.items) }
 {
-    let mut list = Vec::with_capacity(alloc, items.len().saturating_add(1))?;
+    if from == to {
+        items.insert(from, item)?;
+        return Ok(());
+    }
+    items[from] = item;
+    for _ in from + 1..to {
+        items.remove(from + 1);
+    }
+    Ok(())
+}
+
+// For how many cuts a list has room at first.
+const ROOM: usize = 6;
+
+// The list, with room for more items.
+pub fn with_room<T: Copy>(alloc: Global, items: &[T]) -> Result<Vec<T>, AllocError>
+    ensures { IfOk result (λ list. list.items ≡ items.now) }
+{
+    let mut list = Vec::with_capacity(alloc, items.len().saturating_add(ROOM))?;
     list.extend_from_slice(items)?;
-    list.push(last)?;
     Ok(list)
-}
-
-// A closed list: its head, two lists behind that, and its last item.
-fn closed<T: Copy>(
-    alloc: Global,
-    head: T,
-    front: &[T],
-    back: &[T],
-    last: T,
-) -> Result<Vec<T>, AllocError>
-    ensures { IfOk result (λ list. list.items ≡ head ∷ front.now ++ back.now ++ last ∷ []) }
-{
-    let room = front.len().saturating_add(back.len()).saturating_add(2);
-    let mut list = Vec::with_capacity(alloc, room)?;
-    list.push(head)?;
-    list.extend_from_slice(front)?;
-    list.extend_from_slice(back)?;
-    list.push(last)?;
-    Ok(list)
-}
-
-// A closed list that is begun between its ends: two lists, its last item and its head, and two
-// more lists.
-fn turned<T: Copy>(
-    alloc: Global,
-    first: &[T],
-    second: &[T],
-    ends: (T, T),
-    third: &[T],
-    fourth: &[T],
-) -> Result<Vec<T>, AllocError>
-    ensures { IfOk result (λ list. list.items ≡ (first.now ++ second.now) ++ ends.0 ∷ ends.1 ∷ (third.now ++ fourth.now)) }
-{
-    let front = first.len().saturating_add(second.len());
-    let back = third.len().saturating_add(fourth.len());
-    let room = front.saturating_add(back).saturating_add(2);
-    let mut list = Vec::with_capacity(alloc, room)?;
-    list.extend_from_slice(first)?;
-    list.extend_from_slice(second)?;
-    list.push(ends.0)?;
-    list.push(ends.1)?;
-    list.extend_from_slice(third)?;
-    list.extend_from_slice(fourth)?;
-    Ok(list)
-}
-
-// So many items behind a place, round a list: those up to its end, and those from its start.
-fn split_behind<T>(items: &[T], first: usize, count: usize) -> (&[T], &[T])
-    requires first { first < length items.now }
-    requires count { count < length items.now }
-    ensures items { result.0.now ++ result.1.now ≡ kept_behind first count items.now }
-    ensures count { length result.0.now + length result.1.now ≡ count }
-{
-    let ahead = &items[first + 1..];
-    if count <= ahead.len() {
-        (&ahead[..count], &ahead[..0])
-    } else {
-        (ahead, &items[..count - ahead.len()])
-    }
-}
-
-// A closed list, begun at one of its items: its head, two lists behind that, and its last item.
-fn begun<T: Copy>(
-    alloc: Global,
-    head: T,
-    front: &[T],
-    back: &[T],
-    last: T,
-    start: usize,
-) -> Result<Vec<T>, AllocError>
-    requires { start ≤ length front.now + length back.now + 1 }
-    ensures { IfOk result (λ list. list.items ≡ begun_at start (head ∷ (front.now ++ back.now) ++ last ∷ [])) }
-{
-    if start == 0 {
-        return closed(alloc, head, front, back, last);
-    }
-    let at = start - 1;
-    if at <= front.len() {
-        turned(alloc, &front[at..], back, (last, head), &front[..at], &[])
-    } else {
-        let rest = at - front.len();
-        turned(
-            alloc,
-            &back[rest..],
-            &[],
-            (last, head),
-            front,
-            &back[..rest],
-        )
-    }
-}
-
-// What a passage keeps of one of a ring's lists, behind the head, with a last item, begun at one
-// of them.
-fn part<T: Copy>(
-    alloc: Global,
-    items: &[T],
-    at: &Passage,
-    head: T,
-    last: T,
-    start: usize,
-) -> Result<Vec<T>, AllocError>
-    requires first { at.now.first < length items.now }
-    requires kept { at.now.kept < length items.now }
-    requires start { start ≤ at.now.kept + 1 }
-    ensures { IfOk result (λ list. list.items ≡ begun_at start (head ∷ kept_behind at.now.first at.now.kept items.now ++ last ∷ [])) }
-{
-    let (front, back) = split_behind(items, at.first, at.kept);
-    begun(alloc, head, front, back, last, start)
 }
 
 impl Rim {
@@ -142,9 +67,9 @@ impl Rim {
         ensures corners { IfOk result (λ r. r.corners.items ≡ self.now.corners.items) }
         ensures births { IfOk result (λ r. r.births.items ≡ self.now.births.items) }
     {
-        let edges = Vec::from_slice(alloc, self.edges.as_slice())?;
-        let corners = Vec::from_slice(alloc, self.corners.as_slice())?;
-        let births = Vec::from_slice(alloc, self.births.as_slice())?;
+        let edges = with_room(alloc, self.edges.as_slice())?;
+        let corners = with_room(alloc, self.corners.as_slice())?;
+        let births = with_room(alloc, self.births.as_slice())?;
         Ok(Rim {
             edges,
             corners,
@@ -152,41 +77,89 @@ impl Rim {
         })
     }
 
-    // The sides that a passage keeps, from the entry to the exit, and the closing side behind
-    // them, begun at the oldest.
-    pub fn part(
-        &self,
-        alloc: Global,
-        at: &Passage,
-        plane: Plane,
-        birth: usize,
-    ) -> Result<Rim, OutOfMemory>
-        requires first { at.now.first < length self.now.edges.items }
-        requires kept { at.now.kept < length self.now.edges.items }
-        requires paired { IsPaired self.now }
-        ensures { IfOk result (IsPart self.now at.now plane birth) }
+    // Begins the sides at another place.
+    fn turn(&mut self, place: usize)
+        requires place { place ≤ length self.old.edges.items }
+        requires paired { IsPaired self.old }
+        ensures order { sides self.new ≡ begun_at place (sides self.old) }
+        ensures births { self.new.births.items ≡ begun_at place self.old.births.items }
+        ensures count { length self.new.edges.items ≡ length self.old.edges.items }
+        ensures paired { IsPaired self.new }
     {
-        let edge = self.edges[at.first];
-        let first = self.births[at.first];
-        let order = part(alloc, self.births.as_slice(), at, first, birth, 0)?;
-        let start = least(order.as_slice());
-        let edges = part(alloc, self.edges.as_slice(), at, edge, plane, start)?;
-        let corners = part(alloc, self.corners.as_slice(), at, at.entry, at.exit, start)?;
-        let births = if start == 0 {
-            order
-        } else {
-            part(alloc, self.births.as_slice(), at, first, birth, start)?
+        self.edges.rotate_left(place);
+        self.corners.rotate_left(place);
+        self.births.rotate_left(place);
+    }
+
+    // Lets an edge start at another corner.
+    fn enter(&mut self, place: usize, corner: Meet)
+        requires place { place < length self.old.edges.items }
+        requires paired { IsPaired self.old }
+        ensures order { sides self.new ≡ entered_at place (spot_of corner) (sides self.old) }
+        ensures edges { self.new.edges ≡ self.old.edges }
+        ensures paired { IsPaired self.new }
+    {
+        self.corners[place] = corner;
+    }
+
+    // Puts a side in the place of the sides from one place to another.
+    fn put(&mut self, from: usize, to: usize, side: Closing) -> Result<(), OutOfMemory>
+        requires order { from ≤ to }
+        requires within { to ≤ length self.old.edges.items }
+        requires paired { IsPaired self.old }
+        ensures order { OnOk result (sides self.new ≡ put_between from to (closing side.plane (spot_of side.corner) side.birth) (sides self.old)) }
+        ensures some { OnOk result (0 < length self.new.edges.items) }
+        ensures paired { OnOk result (IsPaired self.new) }
+    {
+        put_between(&mut self.edges, from, to, side.plane)?;
+        put_between(&mut self.corners, from, to, side.corner)?;
+        put_between(&mut self.births, from, to, side.birth)?;
+        Ok(())
+    }
+
+    // Leaves the sides that a passage keeps, from the entry to the exit, and puts the closing
+    // side behind them.
+    pub fn close(&mut self, at: &Passage, plane: Plane, birth: usize) -> Result<(), OutOfMemory>
+        requires first { at.now.first < length self.old.edges.items }
+        requires kept { at.now.kept < length self.old.edges.items }
+        requires paired { IsPaired self.old }
+        ensures part { OnOk result (IsPart self.old at.now plane birth self.new) }
+        ensures some { OnOk result (0 < length self.new.edges.items) }
+    {
+        let side = Closing {
+            plane,
+            corner: at.exit,
+            birth,
         };
-        Ok(Rim {
-            edges,
-            corners,
-            births,
-        })
+        let len = self.edges.len();
+        let ahead = len - at.first;
+        if at.kept < ahead {
+            self.turn(at.first);
+            self.enter(0, at.entry);
+            self.put(at.kept + 1, len, side)?;
+            Ok(())
+        } else {
+            self.enter(at.first, at.entry);
+            self.put(at.kept + 1 - ahead, at.first, side)?;
+            Ok(())
+        }
+    }
+
+    // Begins the sides at the oldest.
+    pub fn begin_at_oldest(&mut self)
+        requires some { 0 < length self.old.edges.items }
+        requires paired { IsPaired self.old }
+        ensures order { IsBegun self.old self.new }
+        ensures paired { IsPaired self.new }
+        ensures oldest { LeastFirst self.new.births.items }
+    {
+        let place = least(self.births.as_slice());
+        self.turn(place);
     }
 }
 
 // The place of the least number.
-pub fn least(numbers: &[usize]) -> usize
+fn least(numbers: &[usize]) -> usize
     requires { 0 < length numbers.now }
     ensures within { result < length numbers.now }
     ensures least { LeastFirst (begun_at result numbers.now) }

@@ -1,14 +1,16 @@
 // Rings: faces that keep their corners beside their edges.
-ghost use Rattle.std.specs.Prelude.{◌≡◌, ◌≤◌, None, Some, IfOk, length, All, if◌then◌else◌};
+ghost use Rattle.std.specs.Prelude.{◌≡◌, ◌≤◌, ◌&&◌, None, Some, IfOk, length, All, if◌then◌else◌};
+ghost use Rattle.ember_algebra.specs.Sign.{is_zero};
 ghost use Rattle.ember_model.specs.Valid.{IsValidCorner, IsValidTri, IsValidPlane};
-ghost use Rattle.ember_model.specs.Faces.{is_flat, face_of};
+ghost use Rattle.ember_model.specs.Planes.{support_of};
+ghost use Rattle.ember_model.specs.Faces.{is_flat, face_of, edges_of};
 ghost use Rattle.ember_model.specs.Owners.{spot_at};
 ghost use Rattle.ember_model.specs.Edges.{IsOutline};
 ghost use Rattle.ember_point.specs.Points.{spot_of};
 ghost use Rattle.ember_poly.specs.Sides.{ring_edges, AreEdges, AreCorners};
 
-use crate::rim::Rim;
-use ember_model::{Corner, OutOfMemory, Plane, Tri, face_of};
+use crate::rim::{Rim, with_room};
+use ember_model::{Corner, OutOfMemory, Plane, Tri, edge_plane, main_axis, support_of};
 use ember_point::Meet;
 use std::alloc::Global;
 use std::marker::Model;
@@ -47,40 +49,58 @@ fn at_corner(c: &Corner) -> Meet
     }
 }
 
+fn has_no_normal(p: &Plane) -> bool
+    ensures { result ≡ is_zero p.now.a && (is_zero p.now.b && is_zero p.now.c) }
+{
+    p.a == 0 && (p.b == 0 && p.c == 0)
+}
+
+/// The edge planes of a triangle with this support plane, along its main axis.
+pub fn main_edges(t: &Tri, support: &Plane) -> [Plane; 3]
+    requires tri { IsValidTri t.now }
+    requires support { support.now ≡ support_of t.now }
+    ensures value { result ≡ edges_of t.now }
+    ensures valid { All IsValidPlane result }
+{
+    let k = main_axis(support);
+    [
+        edge_plane(t, 0, k),
+        edge_plane(t, 1, k),
+        edge_plane(t, 2, k),
+    ]
+}
+
 /// The triangle's face, and `None` exactly where the triangle's normal is zero.
 pub fn of_tri(alloc: Global, t: &Tri) -> Result<Option<Ring>, OutOfMemory>
     requires { IsValidTri t.now }
     ensures { IfOk result (λ r. r ≡ (if is_flat t.now then None else Some (face_of t.now))) }
 {
-    match face_of(alloc, t)? {
-        None => Ok(None),
-        Some(face) => {
-            let support = face.support;
-            let planes = face.edges.into_vec();
-            let edges = Vec::from_slice(alloc, planes.as_slice())?;
-            let corners = Vec::from_array(
-                alloc,
-                [at_corner(&t.a), at_corner(&t.b), at_corner(&t.c)],
-            )?;
-            let births = Vec::from_array(alloc, [0, 1, 2])?;
-            Ok(Some(Ring {
-                support,
-                planes,
-                rim: Rim {
-                    edges,
-                    corners,
-                    births,
-                },
-            }))
-        }
+    let support = support_of(t);
+    if has_no_normal(&support) {
+        return Ok(None);
     }
+    let sides = main_edges(t, &support);
+    let starts = [at_corner(&t.a), at_corner(&t.b), at_corner(&t.c)];
+    let planes = with_room(alloc, &sides)?;
+    let edges = with_room(alloc, &sides)?;
+    let corners = with_room(alloc, &starts)?;
+    let births = with_room(alloc, &[0, 1, 2])?;
+    Ok(Some(Ring {
+        support,
+        planes,
+        rim: Rim {
+            edges,
+            corners,
+            births,
+        },
+    }))
 }
 
 /// The same ring.
 pub fn copy(alloc: Global, r: &Ring) -> Result<Ring, OutOfMemory>
     ensures { IfOk result (λ c. c ≡ r.now) }
 {
-    let planes = Vec::from_slice(alloc, r.planes.as_slice())?;
+    let planes = with_room(alloc, r.planes.as_slice())?;
     let rim = r.rim.copy(alloc)?;
     Ok(Ring {
         support: r.support,

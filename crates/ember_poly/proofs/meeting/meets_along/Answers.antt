@@ -2,7 +2,9 @@ use Rattle.std.proofs.Common.{sym, subst}
 use Rattle.ember_model.specs.Faces.{Meets}
 use Rattle.ember_model.specs.ClearTest.{face_with}
 use Rattle.ember_poly.specs.Rims.{sides}
+use Rattle.ember_poly.specs.Passages.{Straddles, IsEntry}
 use Rattle.ember_poly.proofs.Lent.{lent_valid}
+use Rattle.ember_poly.proofs.Entered.{both_from}
 use Rattle.ember_poly.proofs.Divided.{straddles_from}
 use Rattle.ember_poly.proofs.Chorded.{chord_line, chord_meets, meets_chord}
 use Rattle.ember_poly.proofs.meeting.meets_along.Goals as goal
@@ -16,6 +18,12 @@ pub find_passage-at-requires-clause-straddles : goal.find_passage-at-requires-cl
 find_passage-at-requires-clause-straddles c =
     let r = c.r.inside in
     straddles_from r.support c.args.p.now r.planes.items r.rim.edges.items r.rim.corners.items r.rim.births.items c.args.r.now (sym c.r.view_is) c.r.invariant.stands c.requires.cuts
+
+pub find_passage-at-requires-clause-entry : goal.find_passage-at-requires-clause-entry
+find_passage-at-requires-clause-entry c =
+    let r = c.r.inside in let p = c.args.p.now in let e = c.find_entry-entry in let v = c.as_slice.ensures.value in
+    let t = straddles_from r.support p r.planes.items r.rim.edges.items r.rim.corners.items r.rim.births.items c.args.r.now (sym c.r.view_is) c.r.invariant.stands c.requires.cuts in
+    subst (λ ms. IsEntry p ms e.result.first e.result.kept) v (e.ensures.entry (both_from p c.as_slice.result.now e.result.reach e.ensures.signs (subst (λ ms. Straddles p ms) (sym v) t)))
 
 pub meets_chord-requires-clause-line : goal.meets_chord-requires-clause-line
 meets_chord-requires-clause-line c =

@@ -1,0 +1,13 @@
+use Rattle.std.proofs.Common.{inr, sym, ◌∙◌}
+use Rattle.ember_poly.proofs.Entered.{some_raised, level_next}
+use Rattle.ember_poly.proofs.passage.is_some_above.Goals as goal
+
+pub returns-then-is_above-clause-some : goal.returns-then-is_above-clause-some
+returns-then-is_above-clause-some c =
+    let m = c.index-corners-i in
+    λ e. inr (some_raised c.args.p.now c.args.corners.now c.loop-i.i m.result c.loop-i-test.true m.is (sym c.is_above.ensures ∙ c.if-is_above.true))
+
+pub loop-i-preserved : goal.loop-i-preserved
+loop-i-preserved c =
+    let m = c.index-corners-i in
+    level_next c.args.p.now c.args.corners.now c.loop-i.i m.result c.loop-i-test.true m.is (sym c.is_above.ensures ∙ c.if-is_above.false) c.loop-i.invariant
