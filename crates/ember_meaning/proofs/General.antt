@@ -239,8 +239,8 @@ pub meaning_on_lines : (scene : List Tri) (count : ℕ) (x : Formula) (ks : List
 meaning_on_lines scene count x ks v w o a b p positive clear general =
     stays_equal _ _ (λ n. listing scene x w (λ l. n (by l)))
   where
-    by : Listed scene x (leaves scene root) ks → HasMeaning scene x ks a b p
+    by : Listed scene x (leaves scene root) ks → HasMeaning scene x (map written_face ks) a b p
     by l =
         let is : IsListing scene x ks l.cells l.entries = record { listed = l.listed; are_entries = l.are_entries; are_written = l.are_written } in
         let m = meaning_along scene x a p l.cells l.entries ks l.listed l.are_entries l.are_written o (record { regular = λ t i. regular scene x ks l.cells l.entries is a p count v t i (general t i); placed = placed scene x ks l.cells l.entries is a p }) (record { num = pos 0; den = 0 }) in
-        subst (λ q. HasMeaning scene x ks a a q) (first a p) m ∙ ap (λ (c : List ℤ). one_if (truth c x)) (axes_law scene count v p a b positive clear)
+        subst (λ q. HasMeaning scene x (map written_face ks) a a q) (first a p) m ∙ ap (λ (c : List ℤ). one_if (truth c x)) (axes_law scene count v p a b positive clear)

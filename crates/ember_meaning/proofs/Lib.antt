@@ -24,3 +24,5 @@ pub mod Held
 pub mod General
 pub mod GeneralLines
 pub mod ClearMeaning
+pub mod SameFaces
+pub mod ReadFaces

@@ -103,4 +103,4 @@ IsGeneralLine scene k p =
 -- the written regions have their meaning at each clear point on a general line along their axis
 abbrev pub HaveMeaningOnLines : List Tri → Formula → List Kept → Type 0
 HaveMeaningOnLines scene x ks =
-    (a b : Axis) (p : Spot) → pos 0 <ℤ p.w → AreClear (faces_of scene) p → IsGeneralLine scene a p → HasMeaning scene x ks a b p
+    (a b : Axis) (p : Spot) → pos 0 <ℤ p.w → AreClear (faces_of scene) p → IsGeneralLine scene a p → HasMeaning scene x (map written_face ks) a b p

@@ -1,14 +1,14 @@
 -- What the written regions of a scene mean
-use Rattle.std.specs.Prelude.{◌≡◌, Bool, false, cond, List, map, replicate, ℤ, pos, ◌<ℤ◌}
+use Rattle.std.specs.Prelude.{◌≡◌, ℕ, Bool, false, cond, List, replicate, ℤ, pos, ◌<ℤ◌}
 use Rattle.ember_model.specs.declared.tri.Tri.{Tri}
+use Rattle.ember_model.specs.declared.face.Face.{Face}
 use Rattle.ember_model.specs.declared.point.Spot.{Spot}
 use Rattle.ember_model.specs.declared.point.Axis.{Axis}
 use Rattle.ember_model.specs.Clear.{AreClear}
+use Rattle.ember_model.specs.FaceFiles.{IsFaceFile}
 use Rattle.ember_model.specs.Meshes.{wind, vector, faces_of}
 use Rattle.ember_expr.specs.Formula.{Formula}
 use Rattle.ember_expr.specs.Truth.{truth}
-use Rattle.ember_leaf.specs.declared.kept.Kept.{Kept}
-use Rattle.ember_text.specs.Documents.{written_face}
 
 -- the number of a truth
 abbrev pub one_if : Bool → ℤ
@@ -18,13 +18,18 @@ one_if b = cond b (pos 1) (pos 0)
 abbrev pub IsFalseOutside : Formula → Type 0
 IsFalseOutside x = truth (replicate 64 (pos 0)) x ≡ false
 
--- at p the written regions wind once along a where the expression holds of the winding numbers
--- along b, and not at all elsewhere
-abbrev pub HasMeaning : List Tri → Formula → List Kept → Axis → Axis → Spot → Type 0
-HasMeaning scene x ks a b p =
-    wind a (map written_face ks) p ≡ one_if (truth (vector b scene p) x)
+-- at p the faces wind once along a where the expression holds of the winding numbers along b, and
+-- not at all elsewhere
+abbrev pub HasMeaning : List Tri → Formula → List Face → Axis → Axis → Spot → Type 0
+HasMeaning scene x faces a b p = wind a faces p ≡ one_if (truth (vector b scene p) x)
 
--- the same at each point that is clear of the scene's faces and of the written ones, for all axes
-abbrev pub HaveMeaning : List Tri → Formula → List Kept → Type 0
-HaveMeaning scene x ks =
-    (a b : Axis) (p : Spot) → pos 0 <ℤ p.w → AreClear (faces_of scene) p → AreClear (map written_face ks) p → HasMeaning scene x ks a b p
+-- the same at each point that is clear of the scene's faces and of these faces, for all axes
+abbrev pub HaveMeaning : List Tri → Formula → List Face → Type 0
+HaveMeaning scene x faces =
+    (a b : Axis) (p : Spot) → pos 0 <ℤ p.w → AreClear (faces_of scene) p → AreClear faces p → HasMeaning scene x faces a b p
+
+-- the bytes are a face file, and its faces have the meaning
+pub record ReadsWithMeaning (scene : List Tri) (x : Formula) (bytes : List ℕ) : Type 0 where
+  pub faces : List Face
+  pub read : IsFaceFile bytes faces
+  pub meaning : HaveMeaning scene x faces

@@ -1,7 +1,8 @@
 //! What the written regions of a scene mean: at each point that is clear of all faces they wind
-//! once where the expression holds, and not at all elsewhere.
+//! once where the expression holds, and not at all elsewhere. The faces that are read back from
+//! their document mean the same.
 #![tactic(auto)]
 
 mod law;
 
-pub use law::written_regions_have_their_meaning;
+pub use law::{documents_read_with_their_meaning, written_regions_have_their_meaning};

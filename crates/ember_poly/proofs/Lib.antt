@@ -35,3 +35,6 @@ pub mod Spanned
 pub mod Chorded
 pub mod Touching
 pub mod Aside
+pub mod Needless
+pub mod OutlinePoints
+pub mod SameSide

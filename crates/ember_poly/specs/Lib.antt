@@ -1,4 +1,5 @@
 pub mod Cuts
+pub mod Outlines
 pub mod Passages
 pub mod Rims
 pub mod Rings

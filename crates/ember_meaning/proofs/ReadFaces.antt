@@ -1,0 +1,97 @@
+-- The faces that are read back from the document of the written regions have their meaning.
+use Rattle.std.proofs.Common.{◌≡◌, ℕ, suc, ap, ◌∙◌, refl, sym, Bool, true, false, List, [], ◌∷◌, ◌++◌, length, map, flat_map}
+use Rattle.std.specs.List.{All, range_with_len}
+use Rattle.std.proofs.lemmas.List.Concat.{flat_map-cons}
+use Rattle.std.proofs.lemmas.List.Elements.{All-cons, All-nil}
+use Rattle.ember_algebra.specs.Relations.{Each, none, more, Every}
+use Rattle.ember_model.specs.declared.tri.Tri.{Tri}
+use Rattle.ember_model.specs.declared.face.Face.{Face}
+use Rattle.ember_model.specs.Edges.{RingEdge}
+use Rattle.ember_model.specs.FaceFiles.{WrittenFace, IsWrittenFace, face_lines, header, ending}
+use Rattle.ember_model.specs.Meshes.{IsScene}
+use Rattle.ember_poly.specs.Cuts.{HasInside}
+use Rattle.ember_poly.proofs.OutlinePoints.{outline_has_its_points}
+use Rattle.ember_expr.specs.Formula.{Formula}
+use Rattle.ember_expr.specs.Truth.{truth}
+use Rattle.ember_box.specs.Boxes.{Cell, root}
+use Rattle.ember_box.specs.Near.{near}
+use Rattle.ember_box.specs.Halving.{leaves}
+use Rattle.ember_leaf.specs.declared.kept.Kept.{Kept}
+use Rattle.ember_leaf.specs.Written.{AtRegion, unowned, even, written, IsWrittenOf, regional, hidden, front}
+use Rattle.ember_leaf.specs.Scenes.{LeafGives, regions, nothing, IsWritten}
+use Rattle.ember_leaf.proofs.Starting.{each_every}
+use Rattle.ember_text.specs.Texts.{IsGoodText, seen}
+use Rattle.ember_text.specs.Documents.{IsDocumentText, written_face}
+use Rattle.ember_meaning.specs.Meaning.{IsFalseOutside, ReadsWithMeaning}
+use Rattle.ember_meaning.proofs.Turned.{inside-turned}
+use Rattle.ember_meaning.proofs.ClearMeaning.{meaning_of_written}
+use Rattle.ember_meaning.proofs.SameFaces.{HaveSamePoints, same_meaning}
+
+-- ---- each written region has an inside point
+abbrev pub IsFilled : Kept → Type 0
+IsFilled k = HasInside (written_face k)
+
+every_one : {X : Type 0} (xs : List X) → Every (λ x. Unit {0}) xs
+every_one [] = tt
+every_one (x ∷ xs) = (tt, every_one xs)
+
+of_region : (scene : List Tri) (x : Formula) (near : List Tri) (i : ℕ) (face : Face) (ks : List Kept) → AtRegion scene x near i face ks → Every IsFilled ks
+of_region scene x near i face ks (unowned n) = tt
+of_region scene x near i face ks (even s e) = tt
+of_region scene x near i face ks (written {before = a} {after = b} o s n) =
+    (filled (truth (front face a b) x), tt)
+  where
+    filled : (b : Bool) → HasInside (seen face b)
+    filled true = record { at = s.at; inside = inside-turned face s.at ∙ s.inside; holds = tt }
+    filled false = record { at = s.at; inside = s.inside; holds = tt }
+
+of_place : (scene : List Tri) (x : Formula) (c : Cell) (near : List Tri) (i : ℕ) (ks : List Kept) → IsWrittenOf scene x c near i ks → Every IsFilled ks
+of_place scene x c near i ks (regional r) =
+    each_every (λ f. Unit {0}) IsFilled (λ f us t w. of_region scene x near i f us w) r.are_written (every_one r.faces)
+of_place scene x c near i ks (hidden h) = tt
+
+of_leaf : (scene : List Tri) (x : Formula) (c : Cell) (ks : List Kept) → LeafGives scene x c ks → Every IsFilled ks
+of_leaf scene x c ks (regions w) =
+    each_every (λ i. Unit {0}) IsFilled (λ i us t w. of_place scene x c (near scene c) i us w) w (every_one (range_with_len 0 (length (near scene c))))
+of_leaf scene x c ks (nothing v) = tt
+
+pub written_regions_are_filled : (scene : List Tri) (x : Formula) (ks : List Kept) → IsWritten scene x ks → Every IsFilled ks
+written_regions_are_filled scene x ks w =
+    each_every (λ c. Unit {0}) IsFilled (λ c us t g. of_leaf scene x c us g) w (every_one (leaves scene root))
+
+-- ---- the faces of texts
+abbrev lines_of : WrittenFace → List ℕ
+lines_of w = face_lines w.support w.edges
+
+abbrev face_from : WrittenFace → Face
+face_from w = record { support = w.support; edges = map (λ (e : RingEdge). e.plane) w.edges }
+
+-- the texts are the lines of written faces, whose points are those of these faces
+record ReadAs (fs : List Face) (texts : List ℕ) : Type 0 where
+  written : List WrittenFace
+  well_formed : All IsWrittenFace written
+  is : texts ≡ flat_map lines_of written
+  count : length fs ≡ length written
+  same : HaveSamePoints fs (map face_from written)
+
+texts_read : (ks : List Kept) {texts : List ℕ} → Every IsFilled ks → Each IsGoodText (map written_face ks) texts → ReadAs (map written_face ks) texts
+texts_read [] h none = record { written = []; well_formed = All-nil IsWrittenFace; is = refl; count = refl; same = tt }
+texts_read (k ∷ ks) h (more {ys = ys} {zs = zs} t ts) =
+    let f = written_face k in let s = texts_read ks h.1 ts in
+    let w : WrittenFace = record { support = f.support; edges = t.text_is.outline } in
+    record {
+      written = w ∷ s.written;
+      well_formed = All-cons IsWrittenFace w s.written t.written s.well_formed;
+      is = (λ i. t.text_is.is i ++ s.is i) ∙ sym (flat_map-cons lines_of w s.written);
+      count = ap (λ n. suc n) s.count;
+      same = (outline_has_its_points f t.text_is.outline h.0 t.text_is.is_outline, s.same);
+    }
+
+pub document_reads : (scene : List Tri) (count : ℕ) (x : Formula) (ks : List Kept) (bytes : List ℕ) → IsScene scene count → IsWritten scene x ks → IsFalseOutside x → IsDocumentText (map written_face ks) bytes → ReadsWithMeaning scene x bytes
+document_reads scene count x ks bytes v w o d =
+    let s = texts_read ks (written_regions_are_filled scene x ks w) d.are_texts in
+    record {
+      faces = map face_from s.written;
+      read = record { written = s.written; well_formed = s.well_formed; is = d.is ∙ (λ i. header ++ (s.is i ++ ending (s.count i))); faces = refl };
+      meaning = same_meaning scene x (map written_face ks) (map face_from s.written) s.same (meaning_of_written scene count x ks v w o);
+    }
