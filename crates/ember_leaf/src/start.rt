@@ -13,7 +13,7 @@ ghost use Rattle.ember_leaf.specs.Walls.{wall_of, span_along, level_by, IsLowSta
 use crate::wall::Wall;
 use ember_box::{Cell, Span, Spans, spans_of};
 use ember_model::{Axis, OutOfMemory, Plane};
-use ember_poly::{Reach, Ring, below, of_tri, reach};
+use ember_poly::{Reach, Ring, clip, of_tri};
 use ember_trace::Facet;
 use std::alloc::Global;
 
@@ -188,12 +188,12 @@ pub fn is_outside(walls: &[Wall], f: &Facet) -> bool
 fn at_wall(f: Ring, w: &Wall) -> Result<Option<Ring>, OutOfMemory>
     ensures { IfOk result (λ out. AtWall (wall_of w.now) f (option_to_list out)) }
 {
-    let p = plane_of(w);
-    match reach(&f, &p) {
-        Reach::Below => Ok(Some(f)),
+    let (side, left) = clip(f, &plane_of(w))?;
+    match side {
+        Reach::Below => Ok(Some(left)),
         Reach::Above => Ok(None),
-        Reach::On => Ok(if w.is_high { None } else { Some(f) }),
-        Reach::Both => Ok(Some(below(f, &p)?)),
+        Reach::On => Ok(if w.is_high { None } else { Some(left) }),
+        Reach::Both => Ok(Some(left)),
     }
 }
 
