@@ -1,5 +1,5 @@
 -- Triangles near a box and its halves, counted one triangle after another.
-use Rattle.std.proofs.Common.{◌≡◌, ℕ, ◌+◌, ◌*◌, ◌<◌, ◌≤◌, refl, sym, ap, ◌∙◌, subst, arith, Bool, true, false, not, ◌&&◌, ◌||◌, if◌then◌else◌, nat_lt, nat_le, List, length, take, get_or, None, Some, Option}
+use Rattle.std.proofs.Common.{◌≡◌, ℕ, ◌+◌, ◌*◌, ◌<◌, ◌≤◌, refl, sym, ap, ◌∙◌, subst, arith, Bool, true, false, not, ◌&&◌, ◌||◌, if◌then◌else◌, nat_lt, nat_le, List, length, take, get_or}
 use Rattle.std.proofs.lemmas.List.{length-take, take_all}
 use Rattle.std.proofs.lemmas.List.Filters.{length-filter_more}
 use Rattle.std.proofs.lemmas.List.Sums.{length-filter, count_by-le-length}
@@ -7,26 +7,11 @@ use Rattle.std.proofs.lemmas.Bool.{le-leb, or_left}
 use Rattle.ember_model.specs.declared.tri.Tri.{Tri}
 use Rattle.ember_model.specs.declared.point.Axis.{Axis}
 use Rattle.ember_model.specs.declared.point.Axis.TheVariants.{X, Y, Z}
-use Rattle.ember_box.specs.declared.sight.Sight.{Sight}
-use Rattle.ember_box.specs.declared.sight.Halves.{Halves}
 use Rattle.ember_box.specs.declared.sums.Sums.{Sums}
 use Rattle.ember_box.specs.Boxes.{Cell, left_half, right_half}
 use Rattle.ember_box.specs.Near.{is_near, near, no_tri}
-use Rattle.ember_box.specs.Spans.{span_on, spans_of}
 use Rattle.ember_box.specs.Halving.{half_sum, is_no_better, halving_axis, spreads, is_leaf}
-use Rattle.ember_box.specs.Sums.{number, IsSight, AreHalves, halves_seen, IsSumOf, AreSums}
-use Rattle.ember_box.proofs.Sights.{seen_low, seen_high}
-
--- ---- one triangle
--- the number of halves along an axis that a triangle is near
-pub near_halves : Cell → Axis → Tri → ℕ
-near_halves c k t = number (is_near (left_half c k) t) + number (is_near (right_half c k) t)
-
-pub seen_halves : (c : Cell) (k : Axis) (h : Option Halves) (t : Tri) (s : Sight) → AreHalves c k h → IsSight (spans_of c) t s → 0 < c.log k → halves_seen h (span_on k s.spans) s ≡ near_halves c k t
-unfolding near_halves
-seen_halves c k None t s are sight p = absurd (omega (arith, are))
-seen_halves c k (Some h) t s are sight p =
-    λ i. number (seen_low c k h t s are sight i) + number (seen_high c k h t s are sight i)
+use Rattle.ember_box.specs.Sums.{number, near_halves, IsSumOf, AreSums}
 
 -- ---- a list
 half_sum_more : (ts : List Tri) (c : Cell) (k : Axis) (i : ℕ) → i < length ts → half_sum (take (i + 1) ts) c k ≡ half_sum (take i ts) c k + near_halves c k (get_or ts i no_tri)

@@ -29,6 +29,7 @@ abbrev pub bounding : Tri → Spans
 bounding t =
     record { x = span_over t.a.x t.b.x t.c.x; y = span_over t.a.y t.b.y t.c.y; z = span_over t.a.z t.b.z t.c.z }
 
+-- what it spans along an axis
 abbrev pub span_on : Axis → Spans → Span
 span_on X b = b.x
 span_on Y b = b.y
@@ -40,6 +41,12 @@ reaches a b = int_le a.low b.high && int_le b.low a.high
 -- the two have a common point
 abbrev pub overlap : Spans → Spans → Bool
 overlap a b = reaches a.x b.x && reaches a.y b.y && reaches a.z b.z
+
+-- they reach each other along the axes other than this one
+abbrev pub reach_beside : Axis → Spans → Spans → Bool
+reach_beside X a b = reaches a.y b.y && reaches a.z b.z
+reach_beside Y a b = reaches a.x b.x && reaches a.z b.z
+reach_beside Z a b = reaches a.x b.x && reaches a.y b.y
 
 abbrev pub covers : Span → Span → Bool
 covers b a = int_le b.low a.low && int_le a.high b.high

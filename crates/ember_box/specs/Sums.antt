@@ -1,4 +1,4 @@
--- What the tests of one triangle against a box and its halves look at, and what they count
+-- What is looked at of a triangle to tell whether it is near a box and near its halves, and what is counted
 use Rattle.std.specs.Prelude.{◌≡◌, ℕ, ◌+◌, ◌*◌, ◌<◌, ◌≤◌, Bool, true, ◌&&◌, ◌||◌, if◌then◌else◌, Option, None, Some, int_le, List, length}
 use Rattle.ember_model.specs.declared.tri.Tri.{Tri}
 use Rattle.ember_model.specs.declared.plane.Plane.{Plane}
@@ -8,27 +8,22 @@ use Rattle.ember_model.specs.Planes.{support_of}
 use Rattle.ember_model.specs.Sizes.{IsSupportSized}
 use Rattle.ember_box.specs.declared.spans.Span.{Span}
 use Rattle.ember_box.specs.declared.spans.Spans.{Spans}
-use Rattle.ember_box.specs.declared.sight.Sight.{Sight}
 use Rattle.ember_box.specs.declared.sight.Halves.{Halves}
+use Rattle.ember_box.specs.declared.sums.Parts.{Parts}
 use Rattle.ember_box.specs.declared.sums.Sums.{Sums}
 use Rattle.ember_box.specs.Boxes.{Cell, low, left_half, right_half}
-use Rattle.ember_box.specs.Spans.{spans_of, bounding, overlap, within, is_level, crosses, AreSpansSized}
-use Rattle.ember_box.specs.Near.{near}
+use Rattle.ember_box.specs.Spans.{spans_of, bounding, within, is_level, crosses, AreSpansSized}
+use Rattle.ember_box.specs.Near.{is_near, near}
 use Rattle.ember_box.specs.Halving.{half_sum}
 
 abbrev pub number : Bool → ℕ
 number b = if b then 1 else 0
 
 -- ---- one triangle
+-- the plane that is looked at: none where the triangle lies in the box or across an axis
 abbrev pub IsPlaneOf : Spans → Tri → Option Plane → Type 0
 IsPlaneOf whole t None = is_level (bounding t) || within whole (bounding t) ≡ true
 IsPlaneOf whole t (Some p) = p ≡ support_of t
-
--- how a triangle is seen from a box: without a plane where it lies in the box or across an axis
-pub record IsSight (whole : Spans) (t : Tri) (s : Sight) : Type 0 where
-  pub spans : s.spans ≡ bounding t
-  pub meets : s.meets ≡ overlap (bounding t) whole
-  pub plane : IsPlaneOf whole t s.plane
 
 abbrev pub IsPlaneSized : Option Plane → Type 0
 IsPlaneSized None = Unit {0}
@@ -38,30 +33,56 @@ abbrev pub may_cross : Spans → Option Plane → Bool
 may_cross b None = true
 may_cross b (Some p) = crosses p b
 
--- from the whole box
-abbrev pub sees : Spans → Sight → Bool
-sees b s = s.meets && may_cross b s.plane
-
 -- ---- the halves along an axis
-abbrev pub AreHalves : Cell → Axis → Option Halves → Type 0
-AreHalves c k None = c.log k ≡ 0
-AreHalves c k (Some h) =
-    (0 < c.log k) × (h.low ≡ spans_of (left_half c k)) × (h.high ≡ spans_of (right_half c k)) × (h.middle ≡ low (right_half c k) k)
+pub record AreHalves (c : Cell) (k : Axis) (h : Halves) : Type 0 where
+  pub is_low : h.low ≡ spans_of (left_half c k)
+  pub is_high : h.high ≡ spans_of (right_half c k)
+  pub is_middle : h.middle ≡ low (right_half c k) k
 
-abbrev pub AreHalvesSized : Option Halves → Type 0
-AreHalvesSized None = Unit {0}
-AreHalvesSized (Some h) = AreSpansSized h.low × AreSpansSized h.high
+pub record AreHalvesSized (h : Halves) : Type 0 where
+  pub sized_low : AreSpansSized h.low
+  pub sized_high : AreSpansSized h.high
 
 -- what meets the box meets a half where its span along the axis reaches the middle
-abbrev pub sees_low : Halves → Span → Sight → Bool
-sees_low h a s = s.meets && int_le a.low h.middle && may_cross h.low s.plane
+abbrev pub sees_low : Halves → Span → Option Plane → Bool
+sees_low h a None = int_le a.low h.middle
+sees_low h a (Some p) = int_le a.low h.middle && crosses p h.low
 
-abbrev pub sees_high : Halves → Span → Sight → Bool
-sees_high h a s = s.meets && int_le h.middle a.high && may_cross h.high s.plane
+abbrev pub sees_high : Halves → Span → Option Plane → Bool
+sees_high h a None = int_le h.middle a.high
+sees_high h a (Some p) = int_le h.middle a.high && crosses p h.high
 
-abbrev pub halves_seen : Option Halves → Span → Sight → ℕ
-halves_seen None a s = 0
-halves_seen (Some h) a s = number (sees_low h a s) + number (sees_high h a s)
+abbrev pub halves_seen : Halves → Span → Option Plane → ℕ
+halves_seen h a p = number (sees_low h a p) + number (sees_high h a p)
+
+-- the number of halves along an axis that a triangle is near
+unfoldable pub near_halves : Cell → Axis → Tri → ℕ
+near_halves c k t = number (is_near (left_half c k) t) + number (is_near (right_half c k) t)
+
+-- ---- the halves along all axes
+pub record AreParts (c : Cell) (b : Parts) : Type 0 where
+  pub whole : b.whole ≡ spans_of c
+  pub x : 0 < c.log X → AreHalves c X b.x
+  pub y : 0 < c.log Y → AreHalves c Y b.y
+  pub z : 0 < c.log Z → AreHalves c Z b.z
+
+pub record ArePartsSized (b : Parts) : Type 0 where
+  pub whole : AreSpansSized b.whole
+  pub x : AreHalvesSized b.x
+  pub y : AreHalvesSized b.y
+  pub z : AreHalvesSized b.z
+
+pub record AreSumsOfOne (c : Cell) (t : Tri) (s : Sums) : Type 0 where
+  pub near : s.near ≡ number (is_near c t)
+  pub x : 0 < c.log X → s.x ≡ near_halves c X t
+  pub y : 0 < c.log Y → s.y ≡ near_halves c Y t
+  pub z : 0 < c.log Z → s.z ≡ near_halves c Z t
+
+pub record AreFew (s : Sums) : Type 0 where
+  pub near : s.near ≤ 1
+  pub x : s.x ≤ 2
+  pub y : s.y ≤ 2
+  pub z : s.z ≤ 2
 
 -- ---- a list of triangles
 pub record IsSumOf (ts : List Tri) (c : Cell) (k : Axis) (sum : ℕ) : Type 0 where

@@ -12,5 +12,5 @@ mod tests;
 
 pub use cell::{Cell, halves, root};
 pub use nearness::{near, near_halves, near_list, near_tri};
-pub use spans::{Span, Spans, bounding, overlap, spans_of};
+pub use spans::{Span, Spans, bounding, overlap, reach_beside, spans_of};
 pub use sums::{halving, is_leaf, split_axis};

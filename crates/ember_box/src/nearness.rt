@@ -5,9 +5,10 @@ ghost use Rattle.ember_model.specs.Planes.{support_of};
 ghost use Rattle.ember_box.specs.Boxes.{Cell as Box, left_half, right_half};
 ghost use Rattle.ember_box.specs.Spans.{spans_of, bounding, overlap, crosses, AreSpansSized};
 ghost use Rattle.ember_box.specs.Near.{is_near, tri_at, near_places};
+ghost use Rattle.ember_box.specs.Sums.{AreHalves, AreHalvesSized};
 
 use crate::cell::Cell;
-use crate::sight::{halves_of, sees_high, sees_low, sight_of};
+use crate::sight::{Halves, halves_of, plane_of, sees_high, sees_low};
 use crate::spans::{Spans, bounding, crosses, holds, is_level, overlap, span_on, spans_of};
 use ember_model::{Axis, OutOfMemory, Scene, Tri, support_of};
 use std::alloc::Global;
@@ -100,6 +101,22 @@ fn push_if(belongs: bool, i: u32, list: &mut Vec<u32>) -> Result<(), OutOfMemory
     Ok(())
 }
 
+// The triangle is near the lower half of a box along an axis, and it is near the upper one.
+fn near_each(whole: &Spans, h: &Halves, k: Axis, t: &Tri) -> (bool, bool)
+    requires valid { IsValidTri t.now }
+    requires sized { AreHalvesSized h.now }
+    ensures { (c : Box) → 0 < c.log k → whole.now ≡ spans_of c → AreHalves c k h.now → (result.0 ≡ is_near (left_half c k) t.now) × (result.1 ≡ is_near (right_half c k) t.now) }
+{
+    let spans = bounding(t);
+    if overlap(&spans, whole) {
+        let plane = plane_of(whole, &spans, t);
+        let span = span_on(&spans, k);
+        (sees_low(h, &span, &plane), sees_high(h, &span, &plane))
+    } else {
+        (false, false)
+    }
+}
+
 /// Those of the listed places of the triangles that are near the lower half of the box along the
 /// axis, and those that are near the upper half, in order.
 pub fn near_halves_among(
@@ -119,10 +136,9 @@ pub fn near_halves_among(
     let mut low = Vec::with_capacity(alloc, list.len())?;
     let mut high = Vec::with_capacity(alloc, list.len())?;
     for i in list {
-        let t = sight_of(&whole, &tris[*i as usize]);
-        let span = span_on(&t.spans, k);
-        push_if(sees_low(&halves, &span, &t), *i, &mut low)?;
-        push_if(sees_high(&halves, &span, &t), *i, &mut high)?;
+        let (in_low, in_high) = near_each(&whole, &halves, k, &tris[*i as usize]);
+        push_if(in_low, *i, &mut low)?;
+        push_if(in_high, *i, &mut high)?;
     }
     Ok((low, high))
 }

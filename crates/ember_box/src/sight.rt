@@ -1,24 +1,16 @@
-// How a triangle is seen from a box and from its halves.
-ghost use Rattle.std.specs.Prelude.{◌≡◌, ◌<◌, Some};
+// What is looked at of a triangle to tell whether it is near a box and near its halves.
+ghost use Rattle.std.specs.Prelude.{◌≡◌, ◌<◌};
 ghost use Rattle.ember_model.specs.Valid.{IsValidTri};
 ghost use Rattle.ember_box.specs.Spans.{bounding, AreSpansSized};
-ghost use Rattle.ember_box.specs.Sums.{IsSight, IsPlaneOf, IsPlaneSized, may_cross, sees, sees_low, sees_high, AreHalves, AreHalvesSized};
+ghost use Rattle.ember_box.specs.Sums.{IsPlaneOf, IsPlaneSized, may_cross, sees_low, sees_high, AreHalves, AreHalvesSized};
 
 use crate::cell::{Cell, halves};
-use crate::spans::{Span, Spans, bounding, crosses, is_level, overlap, spans_of, within};
+use crate::spans::{Span, Spans, crosses, is_level, spans_of, within};
 use ember_model::{Axis, Plane, Tri, support_of};
 
-// What the tests of one triangle against a box and its halves look at: its bounding box, whether
-// that meets the box, and its plane. It has no plane where the triangle lies in the box or across
-// an axis: there it is near each half that its bounding box meets.
-#[derive(Clone, Copy)]
-pub struct Sight {
-    pub spans: Spans,
-    pub meets: bool,
-    pub plane: Option<Plane>,
-}
-
-fn plane_of(whole: &Spans, spans: &Spans, t: &Tri) -> Option<Plane>
+// The plane of a triangle with this bounding box. There is none where the triangle lies in the box
+// or across an axis: there it is near each half that its bounding box meets.
+pub fn plane_of(whole: &Spans, spans: &Spans, t: &Tri) -> Option<Plane>
     requires valid { IsValidTri t.now }
     requires spans { spans.now ≡ bounding t.now }
     ensures value { IsPlaneOf whole.now t.now result }
@@ -31,20 +23,7 @@ fn plane_of(whole: &Spans, spans: &Spans, t: &Tri) -> Option<Plane>
     }
 }
 
-pub fn sight_of(whole: &Spans, t: &Tri) -> Sight
-    requires { IsValidTri t.now }
-    ensures value { IsSight whole.now t.now result }
-    ensures sized { IsPlaneSized result.plane }
-{
-    let spans = bounding(t);
-    Sight {
-        spans,
-        meets: overlap(&spans, whole),
-        plane: plane_of(whole, &spans, t),
-    }
-}
-
-fn may_cross(b: &Spans, plane: &Option<Plane>) -> bool
+pub fn may_cross(b: &Spans, plane: &Option<Plane>) -> bool
     requires spans { AreSpansSized b.now }
     requires plane { IsPlaneSized plane.now }
     ensures { result ≡ may_cross b.now plane.now }
@@ -53,15 +32,6 @@ fn may_cross(b: &Spans, plane: &Option<Plane>) -> bool
         None => true,
         Some(p) => crosses(p, b),
     }
-}
-
-// The triangle is near the box from which it is seen.
-pub fn sees(b: &Spans, t: &Sight) -> bool
-    requires spans { AreSpansSized b.now }
-    requires plane { IsPlaneSized t.now.plane }
-    ensures { result ≡ sees b.now t.now }
-{
-    t.meets && may_cross(b, &t.plane)
 }
 
 // The halves of a box along an axis, the lower one first, and the coordinate where they touch.
@@ -74,8 +44,8 @@ pub struct Halves {
 
 pub fn halves_of(c: &Cell, k: Axis) -> Halves
     requires { 0 < c.now.log k }
-    ensures value { AreHalves c.now k (Some result) }
-    ensures sized { AreHalvesSized (Some result) }
+    ensures value { AreHalves c.now k result }
+    ensures sized { AreHalvesSized result }
 {
     let (low, high) = halves(c, k);
     Halves {
@@ -85,33 +55,44 @@ pub fn halves_of(c: &Cell, k: Axis) -> Halves
     }
 }
 
-// None where the side is 1.
-pub fn halves_along(c: &Cell, k: Axis) -> Option<Halves>
-    ensures value { AreHalves c.now k result }
+// The same, and anything where the side is 1.
+pub fn halves_along(c: &Cell, k: Axis) -> Halves
+    ensures value { 0 < c.now.log k → AreHalves c.now k result }
     ensures sized { AreHalvesSized result }
 {
     if c.log(k) == 0 {
-        None
+        Halves {
+            low: spans_of(c),
+            high: spans_of(c),
+            middle: c.low(k),
+        }
     } else {
-        Some(halves_of(c, k))
+        halves_of(c, k)
     }
 }
 
-// The triangle, with this span along the axis of the halves, is near the lower one: it meets the
-// box, and begins no later than that half ends.
-pub fn sees_low(h: &Halves, span: &Span, t: &Sight) -> bool
-    requires halves { AreHalvesSized (Some h.now) }
-    requires plane { IsPlaneSized t.now.plane }
-    ensures { result ≡ sees_low h.now span.now t.now }
+// A triangle whose bounding box meets the box, and has this span along the axis of the halves, is
+// near the lower one: it begins no later than that half ends, and its plane crosses the half.
+pub fn sees_low(h: &Halves, span: &Span, plane: &Option<Plane>) -> bool
+    requires halves { AreHalvesSized h.now }
+    requires plane { IsPlaneSized plane.now }
+    ensures { result ≡ sees_low h.now span.now plane.now }
 {
-    t.meets && span.low <= h.middle && may_cross(&h.low, &t.plane)
+    match plane {
+        None => span.low <= h.middle,
+        Some(p) => span.low <= h.middle && crosses(p, &h.low),
+    }
 }
 
-// It is near the upper one: it meets the box, and ends no earlier than that half begins.
-pub fn sees_high(h: &Halves, span: &Span, t: &Sight) -> bool
-    requires halves { AreHalvesSized (Some h.now) }
-    requires plane { IsPlaneSized t.now.plane }
-    ensures { result ≡ sees_high h.now span.now t.now }
+// It is near the upper one: it ends no earlier than that half begins, and its plane crosses the
+// half.
+pub fn sees_high(h: &Halves, span: &Span, plane: &Option<Plane>) -> bool
+    requires halves { AreHalvesSized h.now }
+    requires plane { IsPlaneSized plane.now }
+    ensures { result ≡ sees_high h.now span.now plane.now }
 {
-    t.meets && h.middle <= span.high && may_cross(&h.high, &t.plane)
+    match plane {
+        None => h.middle <= span.high,
+        Some(p) => h.middle <= span.high && crosses(p, &h.high),
+    }
 }

@@ -3,7 +3,7 @@ ghost use Rattle.std.specs.Prelude.{◌≡◌};
 ghost use Rattle.ember_algebra.specs.Size.{Small};
 ghost use Rattle.ember_model.specs.Sizes.{IsSupportSized};
 ghost use Rattle.ember_box.specs.Boxes as boxes;
-ghost use Rattle.ember_box.specs.Spans.{span_between, span_over, span_on, spans_of, bounding, reaches, overlap, covers, within, is_point, is_level, has, holds, least_end, greatest_end, combined, least, greatest, crosses, IsSpanSized, AreSpansSized};
+ghost use Rattle.ember_box.specs.Spans.{span_between, span_over, span_on, spans_of, bounding, reaches, overlap, reach_beside, covers, within, is_point, is_level, has, holds, least_end, greatest_end, combined, least, greatest, crosses, IsSpanSized, AreSpansSized};
 
 use crate::cell::Cell;
 use ember_model::{Axis, Corner, Plane, Tri};
@@ -89,6 +89,17 @@ pub fn overlap(a: &Spans, b: &Spans) -> bool
     ensures { result ≡ overlap a.now b.now }
 {
     reaches(&a.x, &b.x) && reaches(&a.y, &b.y) && reaches(&a.z, &b.z)
+}
+
+/// They reach each other along the axes other than this one.
+pub fn reach_beside(a: &Spans, b: &Spans, k: Axis) -> bool
+    ensures { result ≡ reach_beside k a.now b.now }
+{
+    match k {
+        Axis::X => reaches(&a.y, &b.y) && reaches(&a.z, &b.z),
+        Axis::Y => reaches(&a.x, &b.x) && reaches(&a.z, &b.z),
+        Axis::Z => reaches(&a.x, &b.x) && reaches(&a.y, &b.y),
+    }
 }
 
 fn covers(b: &Span, a: &Span) -> bool

@@ -4,14 +4,15 @@ ghost use Rattle.ember_model.specs.Valid.{IsValidTri};
 ghost use Rattle.ember_model.specs.declared.tri.Tri.{Tri};
 ghost use Rattle.ember_model.specs.declared.point.Axis.{Axis};
 ghost use Rattle.ember_model.specs.declared.point.Axis.TheVariants.{X, Y, Z};
+ghost use Rattle.ember_box.specs.Boxes.{Cell as Box};
 ghost use Rattle.ember_box.specs.Near.{listed};
 ghost use Rattle.ember_box.specs.Halving as halvings;
-ghost use Rattle.ember_box.specs.Sums.{number, IsPlaneSized, AreHalvesSized, halves_seen, AreSums};
+ghost use Rattle.ember_box.specs.Sums.{number, IsPlaneSized, AreHalvesSized, halves_seen, AreParts, ArePartsSized, AreSumsOfOne, AreFew, AreSums};
 
 use crate::cell::Cell;
-use crate::sight::{Halves, Sight, halves_along, sees, sees_high, sees_low, sight_of};
-use crate::spans::{Span, spans_of};
-use ember_model::{Axis, Scene, Tri};
+use crate::sight::{Halves, halves_along, may_cross, plane_of, sees_high, sees_low};
+use crate::spans::{Span, Spans, bounding, overlap, spans_of};
+use ember_model::{Axis, Plane, Scene, Tri};
 
 // A box with at most so many near triangles is a leaf.
 const FEW: u64 = 16;
@@ -23,21 +24,41 @@ fn number(b: bool) -> u64
     if b { 1 } else { 0 }
 }
 
-// The number of halves that a triangle with this span along their axis is near.
-fn halves_seen(h: &Option<Halves>, span: &Span, t: &Sight) -> u64
+// The number of halves that a triangle is near whose bounding box meets the box, and has this span
+// along their axis.
+fn halves_seen(h: &Halves, span: &Span, plane: &Option<Plane>) -> u64
     requires halves { AreHalvesSized h.now }
-    requires plane { IsPlaneSized t.now.plane }
-    ensures value { result ≡ halves_seen h.now span.now t.now }
+    requires plane { IsPlaneSized plane.now }
+    ensures value { result ≡ halves_seen h.now span.now plane.now }
     ensures bound { result ≤ 2 }
 {
-    match h {
-        None => 0,
-        Some(h) => number(sees_low(h, span, t)) + number(sees_high(h, span, t)),
+    number(sees_low(h, span, plane)) + number(sees_high(h, span, plane))
+}
+
+// A box, and its halves along each axis.
+#[derive(Clone, Copy)]
+struct Parts {
+    whole: Spans,
+    x: Halves,
+    y: Halves,
+    z: Halves,
+}
+
+fn parts_of(c: &Cell) -> Parts
+    ensures value { AreParts c.now result }
+    ensures sized { ArePartsSized result }
+{
+    Parts {
+        whole: spans_of(c),
+        x: halves_along(c, Axis::X),
+        y: halves_along(c, Axis::Y),
+        z: halves_along(c, Axis::Z),
     }
 }
 
 // How many triangles of a list are near a box, and the sum of each axis: how many are near its
-// halves, those near both counted twice. The sum is 0 where the side is 1.
+// halves, those near both counted twice. The sum of an axis along which the side is 1 tells
+// nothing.
 #[derive(Clone, Copy)]
 struct Sums {
     near: u64,
@@ -46,25 +67,47 @@ struct Sums {
     z: u64,
 }
 
+// The sums of one triangle.
+fn sums_of(b: &Parts, t: &Tri) -> Sums
+    requires valid { IsValidTri t.now }
+    requires sized { ArePartsSized b.now }
+    ensures sums { (c : Box) → AreParts c b.now → AreSumsOfOne c t.now result }
+    ensures few { AreFew result }
+{
+    let spans = bounding(t);
+    if overlap(&spans, &b.whole) {
+        let plane = plane_of(&b.whole, &spans, t);
+        let near = number(may_cross(&b.whole, &plane));
+        let x = halves_seen(&b.x, &spans.x, &plane);
+        let y = halves_seen(&b.y, &spans.y, &plane);
+        let z = halves_seen(&b.z, &spans.z, &plane);
+        Sums { near, x, y, z }
+    } else {
+        Sums {
+            near: 0,
+            x: 0,
+            y: 0,
+            z: 0,
+        }
+    }
+}
+
 fn half_sums(tris: &[Tri], list: &[u32], c: &Cell) -> Sums
     requires valid { All IsValidTri tris.now }
     requires places { All (λ i. i < length tris.now) list.now }
     ensures { AreSums (listed tris.now list.now) c.now result }
 {
-    let whole = spans_of(c);
-    let x = halves_along(c, Axis::X);
-    let y = halves_along(c, Axis::Y);
-    let z = halves_along(c, Axis::Z);
+    let parts = parts_of(c);
     let mut near = 0;
     let mut x_sum = 0;
     let mut y_sum = 0;
     let mut z_sum = 0;
     for i in list {
-        let t = sight_of(&whole, &tris[*i as usize]);
-        near += number(sees(&whole, &t));
-        x_sum += halves_seen(&x, &t.spans.x, &t);
-        y_sum += halves_seen(&y, &t.spans.y, &t);
-        z_sum += halves_seen(&z, &t.spans.z, &t);
+        let more = sums_of(&parts, &tris[*i as usize]);
+        near += more.near;
+        x_sum += more.x;
+        y_sum += more.y;
+        z_sum += more.z;
     }
     Sums {
         near,

@@ -1,15 +1,16 @@
--- A triangle whose bounding box misses the way between the reference points of a box and its right
+-- A triangle whose bounding box lies beside the way between the reference points of a box and its right
 -- half isn't crossed there.
-use Rattle.std.proofs.Common.{◌≡◌, ◌<◌, ap, ◌∙◌, false, ◌&&◌, pos}
+use Rattle.std.proofs.Common.{◌≡◌, ◌<◌, refl, ap, ◌∙◌, Bool, true, false, ◌&&◌, pos}
 use Rattle.ember_model.specs.declared.tri.Tri.{Tri}
 use Rattle.ember_model.specs.declared.point.Axis.{Axis}
 use Rattle.ember_model.specs.declared.point.Axis.TheVariants.{X, Y, Z}
 use Rattle.ember_model.specs.Faces.{face_of, leg}
 use Rattle.ember_model.specs.Planes.{support_of}
+use Rattle.ember_box.specs.declared.spans.Spans.{Spans}
 use Rattle.ember_box.specs.Boxes.{Cell, right_half}
 use Rattle.ember_box.specs.Near.{is_near}
 use Rattle.ember_box.specs.Reference.{reference}
-use Rattle.ember_box.specs.Spans.{spans_of, bounding, overlap, crosses}
+use Rattle.ember_box.specs.Spans.{spans_of, bounding, reaches, overlap, reach_beside, crosses}
 use Rattle.ember_box.proofs.Nearby.{near_is}
 use Rattle.ember_ref.specs.Ways.{column}
 use Rattle.ember_ref.proofs.NearPoints.{HasPoint}
@@ -25,7 +26,22 @@ has_end c X l = has_half_reference (column c X) X l
 has_end c Y l = has_half_reference (column c Y) Y l
 has_end c Z l = has_half_reference (column c Z) Z l
 
-pub leg_missed : (c : Cell) (k : Axis) (t : Tri) → 0 < c.log k → overlap (bounding t) (spans_of (column c k)) ≡ false → leg (face_of t) (reference (right_half c k)) (reference c) ≡ pos 0
-leg_missed c k t l e =
-    let far : is_near (column c k) t ≡ false = near_is (column c k) t ∙ ap (λ b. b && crosses (support_of t) (spans_of (column c k))) e in
+-- what lies beside something has no point in common with it
+apart : (k : Axis) (a b : Spans) → reach_beside k a b ≡ false → overlap a b ≡ false
+apart X a b e = last (reaches a.x b.x) (reaches a.y b.y) (reaches a.z b.z) e
+  where
+    last : (x y z : Bool) → y && z ≡ false → x && y && z ≡ false
+    last false y z e = refl
+    last true y z e = e
+apart Y a b e = outer (reaches a.x b.x) (reaches a.y b.y) (reaches a.z b.z) e
+  where
+    outer : (x y z : Bool) → x && z ≡ false → x && y && z ≡ false
+    outer false y z e = refl
+    outer true false z e = refl
+    outer true true z e = e
+apart Z a b e = ap (λ c. c && reaches a.z b.z) e
+
+pub leg_missed : (c : Cell) (k : Axis) (along : Axis) (t : Tri) → 0 < c.log k → reach_beside along (bounding t) (spans_of (column c k)) ≡ false → leg (face_of t) (reference (right_half c k)) (reference c) ≡ pos 0
+leg_missed c k along t l e =
+    let far : is_near (column c k) t ≡ false = near_is (column c k) t ∙ ap (λ b. b && crosses (support_of t) (spans_of (column c k))) (apart along (bounding t) (spans_of (column c k)) e) in
     leg_far (column c k) t (reference (right_half c k)) (reference c) (has_end c k l) (has_start c k) far

@@ -16,7 +16,7 @@ ghost use Rattle.ember_ref.specs.Ways.{column, IsStraight, IsWayBack};
 
 use crate::signs::{is_behind, lex_side};
 use ember_algebra::Sign;
-use ember_box::{Cell, Span, Spans, bounding, halves, overlap, spans_of};
+use ember_box::{Cell, Span, Spans, bounding, halves, reach_beside, spans_of};
 use ember_law::add_to;
 use ember_model::{Axis, Tri, Vector, support_of};
 
@@ -114,14 +114,14 @@ fn way_back(c: &Cell, k: Axis) -> Way
 }
 
 // The signed crossing of the way with the inside of the triangle's face. There is none where the
-// triangle's bounding box misses the way.
+// triangle's bounding box lies beside the way.
 fn leg_on(t: &Tri, w: &Way) -> i32
     requires tri { IsValidTri t.now }
     requires straight { IsStraight w.now }
     ensures value { (c : Box) (k : Axis) → 0 < c.log k → IsWayBack c k w.now → result ≡ leg (face_of t.now) (reference (right_half c k)) (reference c) }
     ensures small { Small 1 result }
 {
-    if overlap(&bounding(t), &w.spans) {
+    if reach_beside(&bounding(t), &w.spans, w.axis) {
         leg_between(t, w.from, w.to, w.axis)
     } else {
         0
