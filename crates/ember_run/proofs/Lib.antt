@@ -15,5 +15,6 @@ pub mod ReadBack
 pub mod FaceLists
 pub mod CanonicalWords
 pub mod OneReading
+pub mod SolidFiles
 pub mod SliceFaults
 pub mod Complete

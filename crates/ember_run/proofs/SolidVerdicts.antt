@@ -29,7 +29,7 @@ use Rattle.ember_visit.specs.Values.{shape}
 use Rattle.std.specs.List.{sum, sum_by}
 use Rattle.ember_run.specs.Runs.{HoldEntries, run_report}
 use Rattle.ember_run.proofs.Reports.{entries_fit, same_report}
-use Rattle.ember_run.specs.Solids.{AreKept, AreKeptCounts, HoldRun, IsReportLine, IsReportText, IsSolid, IsSolidReport, IsSolidText, IsWrittenAt, report_lines}
+use Rattle.ember_run.specs.Solids.{AreKept, AreKeptCounts, HoldRun, IsReportLine, IsReportText, IsSolid, IsSolidFile, IsSolidReport, IsSolidText, IsWrittenAt, report_lines}
 use Rattle.ember_gen.specs.Scene.{scene_of}
 use Rattle.ember_leaf.specs.declared.kept.Kept.{Kept}
 use Rattle.ember_text.specs.Documents.{IsDocumentText, written_face}
@@ -100,7 +100,7 @@ pub report_refused : (boxes : ℕ) (status : Status) → ((next : Formula → Ve
 report_refused boxes status refused = refused (λ formula. Writes (SolidReport (scene_of boxes) formula))
 
 -- ---- the document
-pub solid_written : (expr : List ℕ) (places m : ℕ) (contents : Contents) (formula : Formula) (tris : List Tri) (bytes : List ℕ) → length contents ≡ m → ExprRead (after_solid expr) m formula → SceneRead places contents tris → IsSolidText tris formula bytes → IsText (bool_verdict expr places contents) bytes
+pub solid_written : (expr : List ℕ) (places m : ℕ) (contents : Contents) (formula : Formula) (tris : List Tri) (bytes : List ℕ) → length contents ≡ m → ExprRead (after_solid expr) m formula → SceneRead places contents tris → IsSolidFile tris formula bytes → IsText (bool_verdict expr places contents) bytes
 solid_written expr places m contents formula tris bytes count given scene is =
     scene_text (after_solid expr) places m contents count formula tris bytes (λ formula tris. Writes (SolidFaces tris formula)) given scene is
 

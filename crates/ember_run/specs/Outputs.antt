@@ -11,7 +11,7 @@ use Rattle.ember_model.specs.Meshes.{vector}
 use Rattle.ember_run.specs.FaceTexts.{IsFaceFileOf}
 use Rattle.ember_run.specs.Lattices.{IsLatticeText}
 use Rattle.ember_run.specs.PairLists.{IsPairsText}
-use Rattle.ember_run.specs.Solids.{IsReportText, IsSolidText}
+use Rattle.ember_run.specs.Solids.{IsReportText, IsSolidFile}
 
 pub data Output : Type 0 where
   -- the faces of these triangles, in order
@@ -20,7 +20,7 @@ pub data Output : Type 0 where
   Counts : (point : Spot) (meshes : ℕ) (tris : List Tri) (expr : Option Formula) → Output
   -- the list of the pairs of these triangles that meet
   MeetingPairs : List Tri → Output
-  -- the faces of the solid of these triangles
+  -- the faces of the solid of these triangles, with their meaning
   SolidFaces : (tris : List Tri) (formula : Formula) → Output
   -- the report of the run that gives that solid
   SolidReport : (tris : List Tri) (formula : Formula) → Output
@@ -52,5 +52,5 @@ IsOutput (FaceTexts tris) bytes = IsFaceFileOf tris bytes
 IsOutput (Counts point meshes tris expr) bytes = bytes ≡ counts_text meshes (vector X tris point) expr
 IsOutput (MeetingPairs tris) bytes = IsPairsText tris bytes
 IsOutput (Lattice tris formula size) bytes = IsLatticeText tris formula size bytes
-IsOutput (SolidFaces tris formula) bytes = IsSolidText tris formula bytes
+IsOutput (SolidFaces tris formula) bytes = IsSolidFile tris formula bytes
 IsOutput (SolidReport tris formula) bytes = IsReportText tris formula bytes

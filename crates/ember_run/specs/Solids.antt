@@ -8,7 +8,10 @@ use Rattle.ember_job.specs.Visited.{leaves}
 use Rattle.ember_leaf.specs.declared.kept.Kept.{Kept}
 use Rattle.ember_leaf.specs.Scenes.{IsWritten}
 use Rattle.ember_leaf.specs.Written.{IsWrittenIn}
+use Rattle.ember_meaning.specs.Meaning.{HaveMeaning, ReadsWithMeaning}
 use Rattle.ember_model.specs.declared.tri.Tri.{Tri}
+use Rattle.ember_model.specs.declared.face.Face.{Face}
+use Rattle.ember_model.specs.FaceFiles.{IsFaceFile}
 use Rattle.ember_report.specs.declared.report.Report.{Report}
 use Rattle.ember_report.specs.Reports.{line_of}
 use Rattle.ember_step.specs.Counts.{IsCount}
@@ -52,6 +55,13 @@ pub record IsSolidText (tris : List Tri) (formula : Formula) (bytes : List ℕ) 
   pub report : Report
   pub solid : IsSolid tris formula kept report
   pub text : IsDocumentText (map written_face kept) bytes
+
+-- they are the face file of these regions, and the faces that are read back from it have the meaning
+-- of the expression over the triangles
+pub record IsSolidFile (tris : List Tri) (formula : Formula) (bytes : List ℕ) : Type 0 where
+  pub text : IsSolidText tris formula bytes
+  pub reads : ReadsWithMeaning tris formula bytes
+  pub means : (faces : List Face) → IsFaceFile bytes faces → HaveMeaning tris formula faces
 
 -- the bytes are the line of the solid's report
 pub record IsReportText (tris : List Tri) (formula : Formula) (bytes : List ℕ) : Type 0 where

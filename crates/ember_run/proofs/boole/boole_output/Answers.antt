@@ -5,6 +5,7 @@ use Rattle.ember_run.specs.Reported.{IsReportIf}
 use Rattle.ember_run.specs.Serves.{IsText}
 use Rattle.ember_run.specs.Verdict.{Untold, Writes, after_solid, bool_verdict, first_told}
 use Rattle.ember_run.proofs.SceneVerdicts.{scene_unread}
+use Rattle.ember_run.proofs.SolidFiles.{solid_file}
 use Rattle.ember_run.proofs.SolidVerdicts.{solid_reported, solid_written}
 use Rattle.ember_run.proofs.Verdicts.{same_error}
 use Rattle.ember_run.proofs.boole.boole_output.Goals as goal
@@ -23,7 +24,7 @@ pub returns-clause-text : goal.returns-clause-text
 returns-clause-text g c =
     let a = c.args in let told = g.S.Shelf.contents a.shelf.now in let names = c.items-files.result.now in
     subst (λ (names : List (List ℕ)). IsText (bool_verdict a.expr.now a.places (map told names)) c.in_ok-text.text.items) c.items-files.ensures
-    (solid_written a.expr.now a.places _ (map told names) _ _ _ (length-map names told) c.in-Ok.ensures.expr c.in-Ok-read_scene.ensures.read c.in_ok-text.ensures.text)
+    (solid_written a.expr.now a.places _ (map told names) _ _ _ (length-map names told) c.in-Ok.ensures.expr c.in-Ok-read_scene.ensures.read (solid_file a.expr.now _ _ c.in-Ok-read_scene.scene _ c.in-Ok.ensures.expr c.in_ok-text.ensures.text))
 
 pub returns-clause-report : goal.returns-clause-report
 returns-clause-report g c =
