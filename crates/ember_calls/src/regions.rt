@@ -85,13 +85,7 @@ fn see_below(
 
 // The sides of all regions where the expression changes are the same by both ways, and there are
 // at least so many of them.
-fn check(
-    rt: &impl Abort,
-    alloc: Global,
-    s: &Scene,
-    text: &[u8],
-    least: u64,
-) -> Result<(), Fail> {
+fn check(rt: &impl Abort, alloc: Global, s: &Scene, text: &[u8], least: u64) -> Result<(), Fail> {
     let mut seen = Seen {
         regions: 0,
         differing: 0,

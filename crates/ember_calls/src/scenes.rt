@@ -44,7 +44,9 @@ pub fn scene_of_files(alloc: Global, files: &[&[u8]]) -> Result<Scene, Fail>
 }
 
 /// The expression of this text over so many meshes.
-pub fn expression(alloc: Global, text: &[u8], meshes: u32) -> Result<Expr, Fail> {
+pub fn expression(alloc: Global, text: &[u8], meshes: u32) -> Result<Expr, Fail>
+    requires { meshes ≤ 64 }
+{
     match parse(alloc, text, meshes) {
         Ok(e) => Ok(e),
         Err(_) => Err(Fail::from("refused expression")),

@@ -6,6 +6,7 @@ use crate::regions::both_sides;
 use crate::scenes::{expression, scene_of_files};
 use crate::texts::{TETRA, TETRA_TEXT};
 use ember_box::{near_list, root};
+use ember_expr::Expr;
 use ember_job::Outcome;
 use ember_law::{axis_count, leg_count};
 use ember_leaf::Kept;
@@ -110,16 +111,22 @@ fn its_leaf(rt: HostRuntime) -> Result<(), Fail> {
     Ok(())
 }
 
+// The root is the one sample, and it isn't lit.
+fn is_dark(alloc: Global, s: &Scene, e: &Expr) -> Result<bool, OutOfMemory> {
+    let job = root_job(alloc, s)?;
+    let outcome = voxel_step(alloc, s, e, 12, &job)?;
+    Ok(matches!(&outcome, Outcome::Leaf(fill) if !fill.bit))
+}
+
 #[test]
-fn its_number_of_regions_and_its_voxel(rt: HostRuntime) -> Result<(), Fail> {
+fn its_number_of_regions_and_its_sample(rt: HostRuntime) -> Result<(), Fail> {
     let alloc = rt.alloc();
     let scene = scene_of_files(alloc, &[TETRA])?;
     let e = expression(alloc, b"m1", 1)?;
     let job = root_job(alloc, &scene)?;
     let outcome = count_step(alloc, &scene, &e, &job)?;
     assert!(rt; matches!(&outcome, Outcome::Leaf(4)));
-    let outcome = voxel_step(alloc, &scene, &e, 12, &job)?;
-    assert!(rt; matches!(&outcome, Outcome::Leaf(fill) if !fill.bit));
+    assert!(rt; is_dark(alloc, &scene, &e)?);
     Ok(())
 }
 
@@ -138,26 +145,29 @@ fn spot(x: u8) -> Spot
     }
 }
 
-#[test]
-fn its_winding_number_at_a_point(rt: HostRuntime) -> Result<(), Fail> {
-    let scene = scene_of_files(rt.alloc(), &[TETRA])?;
-    for a in [Axis::X, Axis::Y, Axis::Z] {
-        let mut v = Vector { counts: [0; 64] };
-        axis_count(&scene, &spot(1), a, &mut v);
-        assert_eq!(rt; (v.counts[0], v.counts[1]), (1, 0));
-    }
-    Ok(())
+// The counts along an axis from the point with this x.
+fn counts_along(s: &Scene, a: Axis, x: u8) -> Vector {
+    let mut v = Vector { counts: [0; 64] };
+    axis_count(s, &spot(x), a, &mut v);
+    v
+}
+
+// The crossings of the way between the points with these x.
+fn crossings(s: &Scene, from: u8, to: u8) -> Vector {
+    let mut v = Vector { counts: [0; 64] };
+    leg_count(s, &spot(from), &spot(to), Axis::X, &mut v);
+    v
 }
 
 #[test]
-fn its_crossings_on_a_way_and_back(rt: HostRuntime) -> Result<(), Fail> {
+fn its_counts_from_a_point_and_on_a_way(rt: HostRuntime) -> Result<(), Fail> {
     let scene = scene_of_files(rt.alloc(), &[TETRA])?;
-    let mut out = Vector { counts: [0; 64] };
-    leg_count(&scene, &spot(1), &spot(17), Axis::X, &mut out);
-    assert_eq!(rt; out.counts[0], 1);
-    let mut back = Vector { counts: [0; 64] };
-    leg_count(&scene, &spot(17), &spot(1), Axis::X, &mut back);
-    assert_eq!(rt; back.counts[0], -1);
+    for a in [Axis::X, Axis::Y, Axis::Z] {
+        let v = counts_along(&scene, a, 1);
+        assert_eq!(rt; (v.counts[0], v.counts[1]), (1, 0));
+    }
+    assert_eq!(rt; crossings(&scene, 1, 17).counts[0], 1);
+    assert_eq!(rt; crossings(&scene, 17, 1).counts[0], -1);
     Ok(())
 }
 
