@@ -10,6 +10,8 @@ mod devices;
 #[cfg(test)]
 mod face_cases;
 #[cfg(test)]
+mod faults;
+#[cfg(test)]
 mod files;
 #[cfg(test)]
 mod lattice_cases;
@@ -24,6 +26,8 @@ mod sizes;
 #[cfg(test)]
 mod slice_cases;
 #[cfg(test)]
+mod sliced;
+#[cfg(test)]
 mod solid_cases;
 #[cfg(test)]
 mod statuses;
@@ -31,3 +35,5 @@ mod statuses;
 mod texts;
 #[cfg(test)]
 mod threads;
+#[cfg(test)]
+mod windings;

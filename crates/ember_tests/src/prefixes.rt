@@ -18,6 +18,18 @@ fn reading_of(bytes: u32) -> Status {
     }
 }
 
+// The end of what is written of so many bytes: the file has the faces of its whole lines, the last
+// of them with or without its line feed.
+fn ending_of(bytes: u32) -> &'static [u8] {
+    match bytes.saturating_add(1) / 8 {
+        5 => b"\nend 1\n",
+        6 => b"\nend 2\n",
+        7 => b"\nend 3\n",
+        8 => b"\nend 4\n",
+        _ => b"\nend 0\n",
+    }
+}
+
 #[test]
 fn every_prefix_is_read_or_refused(rt: HostRuntime) -> Result<(), Fail> {
     let alloc = rt.alloc();
@@ -28,6 +40,8 @@ fn every_prefix_is_read_or_refused(rt: HostRuntime) -> Result<(), Fail> {
         let status = answer(alloc, FACES, &["a.obj"], &mut shelf, &mut out, &mut err)?;
         assert_eq!(rt; status, reading_of(bytes as u32));
         let wanted = reading_of(bytes as u32);
+        let is_written = out.bytes().ends_with(ending_of(bytes as u32));
+        assert_eq!(rt; is_written, wanted == Status::Done);
         let status = answer(alloc, AT, &["a.obj"], &mut shelf, &mut out, &mut err)?;
         let is_open = bytes > 38 && bytes < 63;
         if wanted == Status::Done && is_open {

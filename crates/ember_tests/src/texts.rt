@@ -31,6 +31,22 @@ pub const C: &[u8] = b"\
 v 0 0 0\nv 4 0 0\nv 4 4 0\nv 0 4 0\nv 0 0 4\nv 4 0 4\nv 4 4 4\nv 0 4 4\nf 1 4 3 2\n\
 f 5 6 7 8\nf 1 2 6 5\nf 2 3 7 6\nf 3 4 8 7\nf 4 1 5 8\n";
 
+/// A cube within a cube, both outward.
+pub const N: &[u8] = b"\
+v 0 0 0\nv 8 0 0\nv 8 8 0\nv 0 8 0\nv 0 0 8\nv 8 0 8\nv 8 8 8\nv 0 8 8\nf 1 4 3 2\n\
+f 5 6 7 8\nf 1 2 6 5\nf 2 3 7 6\nf 3 4 8 7\nf 4 1 5 8\nv 2 2 2\nv 6 2 2\nv 6 6 2\nv 2 6 2\n\
+v 2 2 6\nv 6 2 6\nv 6 6 6\nv 2 6 6\nf 9 12 11 10\nf 13 14 15 16\nf 9 10 14 13\n\
+f 10 11 15 14\nf 11 12 16 15\nf 12 9 13 16\n";
+
+/// Two boxes that touch in the plane x = 0.
+pub const WALL_A: &[u8] = b"\
+v -4 0 0\nv 0 0 0\nv 0 4 0\nv -4 4 0\nv -4 0 4\nv 0 0 4\nv 0 4 4\nv -4 4 4\nf 1 4 3 2\n\
+f 5 6 7 8\nf 1 2 6 5\nf 2 3 7 6\nf 3 4 8 7\nf 4 1 5 8\n";
+
+pub const WALL_B: &[u8] = b"\
+v 0 2 0\nv 4 2 0\nv 4 6 0\nv 0 6 0\nv 0 2 4\nv 4 2 4\nv 4 6 4\nv 0 6 4\nf 1 4 3 2\n\
+f 5 6 7 8\nf 1 2 6 5\nf 2 3 7 6\nf 3 4 8 7\nf 4 1 5 8\n";
+
 pub const D: &[u8] = b"\
 v 2 2 2\nv 6 2 2\nv 6 6 2\nv 2 6 2\nv 2 2 6\nv 6 2 6\nv 6 6 6\nv 2 6 6\nf 1 4 3 2\n\
 f 5 6 7 8\nf 1 2 6 5\nf 2 3 7 6\nf 3 4 8 7\nf 4 1 5 8\n";
