@@ -1,3 +1,4 @@
 pub mod Weights
 pub mod Works
 pub mod Visited
+pub mod Items

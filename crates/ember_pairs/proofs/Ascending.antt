@@ -3,9 +3,10 @@ use Rattle.std.proofs.Common.{◌≡◌, ◌⊎◌, ⊎_elim, inl, inr, ℕ, zer
 use Rattle.std.specs.List.{range_with_len}
 use Rattle.std.proofs.lemmas.Bool.{cases_lt}
 use Rattle.ember_model.proofs.SignTests.{In}
+use Rattle.ember_job.proofs.Members.{in_append_left, in_append_right, in_append_out}
 use Rattle.ember_pairs.specs.declared.pair.Pair.{Pair}
 use Rattle.ember_pairs.specs.Pairs.{pair, row, pairs_of}
-use Rattle.ember_pairs.proofs.Members.{in_append_left, in_append_right, in_append_out, in_map, Image, in_map_out, in_filter_out}
+use Rattle.ember_pairs.proofs.Members.{in_map, Image, in_map_out, in_filter_out}
 
 -- each number is below all later ones
 abbrev pub Ascending : List ℕ → Type 0

@@ -1,5 +1,5 @@
 -- Two triangles that meet share a leaf: in each box that holds the point at which they meet both are near.
-use Rattle.std.proofs.Common.{◌≡◌, ◌⊎◌, ⊎_elim, inl, inr, ℕ, zero, suc, pred, ◌^◌, ◌<◌, ◌≤◌, refl, sym, ap, ◌∙◌, subst, arith, Bool, true, false, if◌then◌else◌, List, [], ◌∷◌, ◌++◌, length, ℤ, pos, negsuc, ◌+ℤ◌, ◌*ℤ◌, neg_ℤ, ◌≤ℤ◌, ◌<ℤ◌}
+use Rattle.std.proofs.Common.{◌≡◌, ◌⊎◌, ⊎_elim, inl, inr, ℕ, zero, suc, pred, ◌^◌, ◌<◌, ◌≤◌, refl, sym, ap, ◌∙◌, subst, arith, Bool, true, false, if◌then◌else◌, List, [], ◌∷◌, length, ℤ, pos, negsuc, ◌+ℤ◌, ◌*ℤ◌, neg_ℤ, ◌≤ℤ◌, ◌<ℤ◌}
 use borrow.Author.Differences.{ints}
 use Rattle.std.proofs.lemmas.Int.{by_lt_z}
 use Rattle.std.proofs.lemmas.Bool.{le-ltb}
@@ -23,10 +23,11 @@ use Rattle.ember_box.proofs.Halvable.{halvable_unless_leaf}
 use Rattle.ember_ref.proofs.NearPoints.{IsAcross, HasPoint, near_point, past_corners}
 use Rattle.ember_job.specs.declared.job.Job.{Job}
 use Rattle.ember_job.specs.Works.{Shape, halved, leafed, passed}
-use Rattle.ember_job.specs.Visited.{below_shape, visited_within, if_leafed, leaves_among}
+use Rattle.ember_job.proofs.Leaves.{under, under_leaf, under_halved}
+use Rattle.ember_job.proofs.Members.{in_append_left, in_append_right}
 use Rattle.ember_pairs.specs.Works.{job_at, pairs_shape}
 use Rattle.ember_pairs.specs.Whole.{leaf_jobs}
-use Rattle.ember_pairs.proofs.Members.{in_append_left, in_append_right, in_append_out, in_filter}
+use Rattle.ember_pairs.proofs.Members.{in_filter}
 use Rattle.ember_pairs.proofs.Ascending.{in_range}
 
 -- ---- points of halves
@@ -62,16 +63,6 @@ greatest_corner (pos n) s = omega (arith, ints, s.small)
 greatest_corner (negsuc n) s = omega (arith, ints)
 
 -- ---- the leaves under a box
-leaves_left : (shape : Job → Shape) (xs ys : List Job) (j : Job) → In j (leaves_among shape xs) → In j (leaves_among shape (xs ++ ys))
-leaves_left shape [] ys j m = absurd m
-leaves_left shape (x ∷ xs) ys j m =
-    ⊎_elim (λ a. in_append_left j (if_leafed x (shape x)) (leaves_among shape (xs ++ ys)) a) (λ b. in_append_right j (if_leafed x (shape x)) (leaves_among shape (xs ++ ys)) (leaves_left shape xs ys j b)) (in_append_out j (if_leafed x (shape x)) (leaves_among shape xs) m)
-
-leaves_right : (shape : Job → Shape) (xs ys : List Job) (j : Job) → In j (leaves_among shape ys) → In j (leaves_among shape (xs ++ ys))
-leaves_right shape [] ys j m = m
-leaves_right shape (x ∷ xs) ys j m =
-    in_append_right j (if_leafed x (shape x)) (leaves_among shape (xs ++ ys)) (leaves_right shape xs ys j m)
-
 abbrev shapes : List Tri → Job → Shape
 shapes ts job = pairs_shape ts job
 
@@ -87,25 +78,17 @@ pub record LeafAt (ts : List Tri) (jobs : List Job) (v : Spot) : Type 0 where
   pub member : In (job_at ts cell) jobs
   pub has : HasPoint cell v
 
-leaf_here : (ts : List Tri) (n : ℕ) (c : Cell) (v : Spot) → HasPoint c v → pairs_shape ts (job_at ts c) ≡ leafed → LeafAt ts (leaves_among (shapes ts) (visited_within (shapes ts) n (job_at ts c))) v
-leaf_here ts n c v h e = record { cell = c; member = by n; has = h }
-  where
-    job : Job
-    job = job_at ts c
+leaf_here : (ts : List Tri) (n : ℕ) (c : Cell) (v : Spot) → HasPoint c v → pairs_shape ts (job_at ts c) ≡ leafed → LeafAt ts (under (shapes ts) n (job_at ts c)) v
+leaf_here ts n c v h e = record {
+  cell = c;
+  member = subst (λ (jobs : List Job). In (job_at ts c) jobs) (sym (under_leaf (shapes ts) n (job_at ts c) e)) (inl refl);
+  has = h;
+}
 
-    alone : In (job_at ts c) (leaves_among (shapes ts) (job_at ts c ∷ []))
-    alone =
-        in_append_left (job_at ts c) (if_leafed (job_at ts c) (shapes ts (job_at ts c))) [] (subst (λ (s : Shape). In (job_at ts c) (if_leafed (job_at ts c) s)) (sym e) (inl refl))
-
-    by : (n : ℕ) → In (job_at ts c) (leaves_among (shapes ts) (visited_within (shapes ts) n (job_at ts c)))
-    by zero = alone
-    by (suc n) =
-        subst (λ (s : Shape). In (job_at ts c) (leaves_among (shapes ts) (below_shape (visited_within (shapes ts) n) (job_at ts c) s))) (sym e) alone
-
-leaf_under : (ts : List Tri) (v : Spot) → ((c : Cell) → HasPoint c v → 2 ≤ length (near_places ts c (places ts))) → (n : ℕ) (c : Cell) → left c ≤ n → HasPoint c v → LeafAt ts (leaves_among (shapes ts) (visited_within (shapes ts) n (job_at ts c))) v
+leaf_under : (ts : List Tri) (v : Spot) → ((c : Cell) → HasPoint c v → 2 ≤ length (near_places ts c (places ts))) → (n : ℕ) (c : Cell) → left c ≤ n → HasPoint c v → LeafAt ts (under (shapes ts) n (job_at ts c)) v
 leaf_under ts v many zero c few h = by (is_leaf ts c) refl
   where
-    by : (b : Bool) → is_leaf ts c ≡ b → LeafAt ts (leaves_among (shapes ts) (visited_within (shapes ts) zero (job_at ts c))) v
+    by : (b : Bool) → is_leaf ts c ≡ b → LeafAt ts (under (shapes ts) zero (job_at ts c)) v
     by true e =
         leaf_here ts zero c v h (shape_of ts c (many c h) ∙ ap (λ b. if b then leafed else halved (job_at ts (left_half c (halving_axis ts c))) (job_at ts (right_half c (halving_axis ts c)))) e)
     by false e =
@@ -113,10 +96,7 @@ leaf_under ts v many zero c few h = by (is_leaf ts c) refl
 leaf_under ts v many (suc n) c few h =
     by (is_leaf ts c) refl (λ d. leaf_under ts v many n d)
   where
-    k : Axis
-    k = halving_axis ts c
-
-    by : (b : Bool) → is_leaf ts c ≡ b → ((d : Cell) → left d ≤ n → HasPoint d v → LeafAt ts (leaves_among (shapes ts) (visited_within (shapes ts) n (job_at ts d))) v) → LeafAt ts (leaves_among (shapes ts) (visited_within (shapes ts) (suc n) (job_at ts c))) v
+    by : (b : Bool) → is_leaf ts c ≡ b → ((d : Cell) → left d ≤ n → HasPoint d v → LeafAt ts (under (shapes ts) n (job_at ts d)) v) → LeafAt ts (under (shapes ts) (suc n) (job_at ts c)) v
     by true e f =
         leaf_here ts (suc n) c v h (shape_of ts c (many c h) ∙ ap (λ b. if b then leafed else halved (job_at ts (left_half c (halving_axis ts c))) (job_at ts (right_half c (halving_axis ts c)))) e)
     by false e f =
@@ -124,8 +104,8 @@ leaf_under ts v many (suc n) c few h =
         let low = job_at ts (left_half c (halving_axis ts c)) in let high = job_at ts (right_half c (halving_axis ts c)) in
         let s : pairs_shape ts (job_at ts c) ≡ halved low high = shape_of ts c (many c h) ∙ ap (λ b. if b then leafed else halved low high) e in
         let le = left_less c (halving_axis ts c) p in
-        let first = visited_within (shapes ts) n low in let second = visited_within (shapes ts) n high in
-        subst (λ (t : Shape). LeafAt ts (leaves_among (shapes ts) (below_shape (visited_within (shapes ts) n) (job_at ts c) t)) v) (sym s) (⊎_elim (λ a. let r = f (left_half c (halving_axis ts c)) (omega (arith, few, le)) a in record { cell = r.cell; member = in_append_right (job_at ts r.cell) (if_leafed (job_at ts c) (shapes ts (job_at ts c))) (leaves_among (shapes ts) (first ++ second)) (leaves_left (shapes ts) first second (job_at ts r.cell) r.member); has = r.has }) (λ a. let r = f (right_half c (halving_axis ts c)) (omega (arith, few, le)) a in record { cell = r.cell; member = in_append_right (job_at ts r.cell) (if_leafed (job_at ts c) (shapes ts (job_at ts c))) (leaves_among (shapes ts) (first ++ second)) (leaves_right (shapes ts) first second (job_at ts r.cell) r.member); has = r.has }) (half_has c (halving_axis ts c) v p h))
+        let first = under (shapes ts) n low in let second = under (shapes ts) n high in
+        subst (λ (jobs : List Job). LeafAt ts jobs v) (sym (under_halved (shapes ts) n (job_at ts c) low high s)) (⊎_elim (λ a. let r = f (left_half c (halving_axis ts c)) (omega (arith, few, le)) a in record { cell = r.cell; member = in_append_left (job_at ts r.cell) first second r.member; has = r.has }) (λ a. let r = f (right_half c (halving_axis ts c)) (omega (arith, few, le)) a in record { cell = r.cell; member = in_append_right (job_at ts r.cell) first second r.member; has = r.has }) (half_has c (halving_axis ts c) v p h))
 
 root_has : (t : Tri) (v : Spot) → IsValidTri t → is_flat t ≡ false → is_in_closed (face_of t) v ≡ true → HasPoint root v
 root_has t v valid nf h =

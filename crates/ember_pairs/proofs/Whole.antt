@@ -20,12 +20,13 @@ use Rattle.ember_ref.proofs.FarTriangles.{inside_closed}
 use Rattle.ember_job.specs.declared.job.Job.{Job}
 use Rattle.ember_job.specs.Works.{Shape, halved, leafed, passed}
 use Rattle.ember_job.specs.Visited.{below_shape, visited_within, if_leafed, leaves_among}
+use Rattle.ember_job.proofs.Members.{in_append_left, in_append_right, in_append_out}
 use Rattle.ember_pairs.specs.declared.pair.Pair.{Pair}
 use Rattle.ember_pairs.specs.Pairs.{AreMeeting, AtPair, meeting, apart, pairs_of, AreMeetingPairs, ArePairs}
 use Rattle.ember_pairs.specs.Works.{job_at, pairs_shape}
 use Rattle.ember_pairs.specs.Gathering.{pair_order, together, AreGathered}
 use Rattle.ember_pairs.specs.Whole.{AreItems, leaf_jobs}
-use Rattle.ember_pairs.proofs.Members.{in_append_left, in_append_right, in_append_out, in_filter_out, in_from_contains, contains_from_in}
+use Rattle.ember_pairs.proofs.Members.{in_filter_out, in_from_contains, contains_from_in}
 use Rattle.ember_pairs.proofs.Ascending.{Ascending, in_range_out, range_ascending, filter_ascending, pair_in, pair_out, Precedes, precedes_not, precedes_itself, Sorted, pairs_sorted}
 use Rattle.ember_pairs.proofs.Leaves.{Share, listed_at, shared_leaf}
 

@@ -1,19 +1,17 @@
 -- The items of the leaves of a run
-use Rattle.std.specs.Prelude.{List, [], ◌∷◌}
+use Rattle.std.specs.Prelude.{List}
 use Rattle.ember_model.specs.declared.tri.Tri.{Tri}
 use Rattle.ember_box.specs.Boxes.{root}
 use Rattle.ember_job.specs.declared.job.Job.{Job}
 use Rattle.ember_job.specs.Visited.{leaves}
+use Rattle.ember_job.specs.Items.{EachAnswers}
 use Rattle.ember_pairs.specs.declared.pair.Pair.{Pair}
 use Rattle.ember_pairs.specs.Pairs.{AreMeetingPairs}
 use Rattle.ember_pairs.specs.Works.{job_at, pairs_shape}
 
 -- each item has the meeting pairs of the job at its place
 abbrev pub AreItems : List Tri → List Job → List (List Pair) → Type 0
-AreItems ts [] [] = Unit {0}
-AreItems ts [] (ps ∷ items) = ⊥
-AreItems ts (job ∷ jobs) [] = ⊥
-AreItems ts (job ∷ jobs) (ps ∷ items) = AreMeetingPairs ts job.list ps × AreItems ts jobs items
+AreItems ts jobs items = EachAnswers (λ job ps. AreMeetingPairs ts job.list ps) jobs items
 
 -- the leaves of the tree of boxes under the root
 abbrev pub leaf_jobs : List Tri → List Job

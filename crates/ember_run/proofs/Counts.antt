@@ -5,7 +5,7 @@ use Rattle.std.proofs.lemmas.List.Sums.{sum-map}
 use Rattle.std.proofs.lemmas.List.Concat.{length-flat_map}
 use Rattle.ember_job.specs.declared.job.Job.{Job}
 use Rattle.ember_step.specs.Counts.{IsCount}
-use Rattle.steal_pool.specs.Merged.{EachAnswers}
+use Rattle.ember_job.specs.Items.{EachAnswers}
 
 -- lists that answer the jobs, and have so many items each
 pub record AreCounted {X : Type 0} (item : Job → List X → Type 0) (jobs : List Job) (counts : List ℕ) : Type 0 where

@@ -16,7 +16,7 @@ use Rattle.ember_voxel.specs.declared.fill.Fill.{Fill}
 use Rattle.ember_voxel.specs.Fills.{IsFill}
 use Rattle.ember_voxel.specs.Lattice as lattice
 use Rattle.ember_step.specs.Counts.{IsCount}
-use Rattle.steal_pool.specs.Merged.{EachAnswers}
+use Rattle.ember_job.specs.Items.{EachAnswers}
 use Rattle.ember_run.specs.declared.task.Finds.TheVariants as finds
 use Rattle.ember_run.specs.declared.task.Found.{Found}
 use Rattle.ember_run.specs.declared.task.Task.{Task}

@@ -3,7 +3,7 @@ use Rattle.std.proofs.Common.{◌≡◌, List, [], ◌∷◌, ◌++◌, flat_map
 use Rattle.std.proofs.lemmas.List.{reverse-append}
 use Rattle.ember_algebra.specs.Relations.{Each, none, more}
 use Rattle.ember_job.specs.declared.job.Job.{Job}
-use Rattle.steal_pool.specs.Merged.{EachAnswers}
+use Rattle.ember_job.specs.Items.{EachAnswers}
 
 pub kept_more : {X : Type 0} (kept list new target : List X) (rest old : List (List X)) → kept ++ flat_map (λ ks. ks) (reverse old) ≡ target → old ≡ rest ++ list ∷ [] → new ≡ kept ++ list → new ++ flat_map (λ ks. ks) (reverse rest) ≡ target
 kept_more kept list new target rest old inv e f =

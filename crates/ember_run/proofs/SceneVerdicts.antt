@@ -10,7 +10,7 @@ use Rattle.ember_pairs.specs.Gathering.{AreGathered}
 use Rattle.ember_pairs.specs.Pairs.{AreMeetingPairs, ArePairs}
 use Rattle.ember_pairs.specs.Texts.{pairs_text}
 use Rattle.ember_pairs.specs.Whole.{AreItems, leaf_jobs}
-use Rattle.steal_pool.specs.Merged.{EachAnswers}
+use Rattle.ember_job.specs.Items.{EachAnswers}
 use Rattle.ember_visit.specs.Jobs.{root_job}
 use Rattle.ember_voxel.specs.declared.fill.Fill.{Fill}
 use Rattle.ember_voxel.specs.Fills.{IsFill, fill_of, leaf_fills}

@@ -8,7 +8,7 @@ use Rattle.ember_voxel.specs.declared.fill.Fill.{Fill}
 use Rattle.ember_voxel.specs.Fills.{IsFill}
 use Rattle.ember_voxel.specs.Lattice.{shape}
 use Rattle.ember_voxel.specs.Voxels.{IsVoxelText}
-use Rattle.steal_pool.specs.Merged.{EachAnswers}
+use Rattle.ember_job.specs.Items.{EachAnswers}
 
 -- the boxes of one value, one for each leaf of the tree of boxes
 abbrev pub AreFills : List Tri → Formula → ℕ → List Fill → Type 0

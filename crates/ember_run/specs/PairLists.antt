@@ -5,7 +5,7 @@ use Rattle.ember_pairs.specs.declared.pair.Pair.{Pair}
 use Rattle.ember_pairs.specs.Pairs.{AreMeetingPairs, ArePairs}
 use Rattle.ember_pairs.specs.Texts.{pairs_text}
 use Rattle.ember_pairs.specs.Whole.{leaf_jobs}
-use Rattle.steal_pool.specs.Merged.{EachAnswers}
+use Rattle.ember_job.specs.Items.{EachAnswers}
 
 -- the pairs that meet in each leaf of the tree of boxes
 abbrev pub ArePairsOfLeaves : List Tri → List (List Pair) → Type 0

@@ -18,7 +18,7 @@ use Rattle.ember_step.specs.Counts.{IsCount}
 use Rattle.ember_text.specs.Documents.{IsDocumentText, written_face}
 use Rattle.ember_visit.specs.Jobs.{root_job}
 use Rattle.ember_visit.specs.Values.{shape}
-use Rattle.steal_pool.specs.Merged.{EachAnswers}
+use Rattle.ember_job.specs.Items.{EachAnswers}
 use Rattle.ember_run.specs.Runs.{HoldEntries, run_report}
 
 -- these are written of the box of a job

@@ -5,7 +5,7 @@ ghost use Rattle.ember_job.specs.Visited.{leaves};
 ghost use Rattle.ember_job.specs.Works.{AnswersAll};
 ghost use Rattle.ember_run.specs.Runs.{HoldEntries};
 ghost use Rattle.ember_run.specs.Tasks.{IsFound, IsTask};
-ghost use Rattle.steal_pool.specs.Merged.{EachAnswers};
+ghost use Rattle.ember_job.specs.Items.{EachAnswers};
 
 use crate::task::{Finds, Found, Task};
 use ember_job::{Job, Outcome, Step, Work};

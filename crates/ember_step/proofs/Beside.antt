@@ -23,6 +23,7 @@ use Rattle.ember_expr.specs.Truth.{count_of, truth}
 use Rattle.ember_known.specs.Law.{AgreeOutside}
 use Rattle.ember_known.proofs.Decided.{decided_tells}
 use Rattle.ember_law.specs.Laws.{Misses}
+use Rattle.ember_law.proofs.Shifted.{eventually_true}
 use Rattle.ember_law.proofs.Segments.{segment_law}
 use Rattle.ember_law.proofs.Separation.{separate}
 use Rattle.ember_law.proofs.Vectors.{of_mesh_all}
@@ -39,9 +40,6 @@ use Rattle.ember_job.specs.declared.job.Job.{Job}
 use Rattle.ember_visit.specs.Jobs.{near_of, IsJob}
 use Rattle.ember_visit.specs.Values.{has_mesh, box_value}
 use Rattle.ember_visit.proofs.Among.{near_listed}
-
-always : {P : ℕ → Type 0} → ((m : ℕ) → P m) → Eventually P
-always f = record { from = 0; holds = λ m l. f m }
 
 -- the count of a mesh is its winding number
 count_is : (a : Axis) (ts : List Tri) (p : Spot) (m : ℕ) → IsMeshNumber 64 m → count_of (vector a ts p) m ≡ wind a (faces_of (of_mesh m ts)) p
@@ -82,14 +80,14 @@ module _ (ts : List Tri) (count : ℕ) (scene : IsScene ts count) (j : Job) (is 
   one_missed u = pick (is_near j.cell u) (is_flat u) refl refl
     where
       pick : (b d : Bool) → is_near j.cell u ≡ b → is_flat u ≡ d → Eventually (λ m. MissesFar j (at m) origin u)
-      pick true d x y = always (λ m f nf. absurd (clash x f))
-      pick false true x y = always (λ m f nf. absurd (clash y nf))
+      pick true d x y = eventually_true (λ m f nf. absurd (clash x f))
+      pick false true x y = eventually_true (λ m f nf. absurd (clash y nf))
       pick false false x y =
           let o = has_reference j.cell in let s = separate (face_of u) v origin has.weight o.weight (misses_far j.cell u v origin y x has o) in
           eventually_map (λ m l f nf. let e = value_beside s.plane m v k by in held_misses u (at m) origin s.plane s.low (omega (arith, linear, l, e)) s.far) (eventually_pos (by *ℤ along s.plane k) s.near)
 
   all_missed : (us : List Tri) → Eventually (λ m. AllByRecursion (MissesFar j (at m) origin) us)
-  all_missed [] = always (λ m. tt)
+  all_missed [] = eventually_true (λ m. tt)
   all_missed (u ∷ us) = eventually_both (one_missed u) (all_missed us)
 
   -- the meshes with no triangle near the box count alike there and at the reference point

@@ -26,7 +26,8 @@ use Rattle.ember_leaf.specs.Written.{IsWrittenIn}
 use Rattle.ember_leaf.specs.Scenes.{HasOneValue, LeafGives, regions, nothing, IsWritten}
 use Rattle.ember_job.specs.declared.job.Job.{Job}
 use Rattle.ember_job.specs.Works.{Shape, halved, leafed, passed}
-use Rattle.ember_job.specs.Visited.{below_shape, if_leafed, leaves, leaves_among, visited_within}
+use Rattle.ember_job.specs.Visited.{leaves}
+use Rattle.ember_job.proofs.Leaves.{under, under_leaf, under_passed, under_halved}
 use Rattle.ember_visit.specs.Jobs.{near_of, IsJob, root_job, left_job, right_job}
 use Rattle.ember_visit.specs.Values.{box_value, unless_known, leaf_or, shape}
 use Rattle.ember_visit.proofs.Among.{near_listed}
@@ -76,31 +77,6 @@ module _ (ts : List Tri) (f : Formula) where
       by false e below =
           let k = halving_axis ts c in let may = halvable_unless_leaf ts c e in
           each_append (below (left_half c k) (record { value = h.value; beside = λ v p. h.beside v (has_left c k v may p) })) (below (right_half c k) (record { value = h.value; beside = λ v p. h.beside v (has_right c k v may p) }))
-
--- ---- the leaves of the visited tree
-module _ (of : Job → Shape) where
-  leaves_append : (xs ys : List Job) → leaves_among of (xs ++ ys) ≡ leaves_among of xs ++ leaves_among of ys
-  leaves_append [] ys = refl
-  leaves_append (x ∷ xs) ys =
-      ap (λ zs. if_leafed x (of x) ++ zs) (leaves_append xs ys) ∙ sym (append_assoc (if_leafed x (of x)) (leaves_among of xs) (leaves_among of ys))
-
-  abbrev under : ℕ → Job → List Job
-  under depth job = leaves_among of (visited_within of depth job)
-
-  under_leaf : (depth : ℕ) (job : Job) → of job ≡ leafed → under depth job ≡ job ∷ []
-  under_leaf zero job e = ap (λ s. if_leafed job s ++ []) e
-  under_leaf (suc depth) job e =
-      ap (λ s. leaves_among of (below_shape (visited_within of depth) job s)) e ∙ ap (λ s. if_leafed job s ++ []) e
-
-  under_passed : (depth : ℕ) (job : Job) → of job ≡ passed → under depth job ≡ []
-  under_passed zero job e = ap (λ s. if_leafed job s ++ []) e
-  under_passed (suc depth) job e =
-      ap (λ s. leaves_among of (below_shape (visited_within of depth) job s)) e ∙ ap (λ s. if_leafed job s ++ []) e
-
-  under_halved : (depth : ℕ) (job low high : Job) → of job ≡ halved low high → under (suc depth) job ≡ under depth low ++ under depth high
-  under_halved depth job low high e =
-      let below = visited_within of depth in
-      ap (λ s. leaves_among of (below_shape below job s)) e ∙ ap (λ s. if_leafed job s ++ leaves_among of (below low ++ below high)) e ∙ leaves_append (below low) (below high)
 
 -- ---- what two lists give together
 record Parted {A B : Type 0} (R : A → List B → Type 0) (us vs : List A) (ys : List B) : Type 0 where

@@ -2,6 +2,7 @@
 use Rattle.std.proofs.Common.{◌≡◌, refl, sym, ap, subst, ◌∙◌, arith, suc, ◌≤◌, List, [], ◌∷◌, ◌++◌, length, take, drop, reverse, All}
 use Rattle.std.specs.List.{AllByRecursion}
 use Rattle.std.proofs.lemmas.List.{reverse-append, length-reverse}
+use Rattle.std.proofs.lemmas.List.Elements.{All-from_recursion, recursion_from_All}
 use Rattle.std.proofs.lemmas.Grind.{reverse_onto}
 use Rattle.ember_model.specs.declared.plane.Plane.{Plane}
 use Rattle.ember_model.specs.declared.face.Face.{Face}
@@ -15,19 +16,14 @@ use Rattle.ember_point.specs.Points.{spot_of}
 use Rattle.ember_poly.specs.Sides.{ring_edges}
 use Rattle.ember_poly.proofs.Chains.{each-push, each_map}
 use Rattle.ember_poly.proofs.Turns.{each-join}
-use Rattle.ember_poly.proofs.Face.{each_at}
 use Rattle.ember_poly.proofs.MovedOutline.{AreMoved, outline_moved}
 use Rattle.ember_poly.proofs.TurnedOutline.{turn_back, turned_outline, outline_turned}
 use Rattle.ember_text.specs.Texts.{AreReduced, IsGoodText}
 use Rattle.ember_text.proofs.Pairs.{edge_with, length-ring_edges}
 
 -- ---- all of a list
-pub all_of : {X : Type 0} (P : X → Type 0) (xs : List X) → AllByRecursion P xs → All P xs
-all_of P xs h = λ k d l. each_at P xs k d l h
-
 pub each_of : {X : Type 0} (P : X → Type 0) (xs : List X) → All P xs → AllByRecursion P xs
-each_of P [] h = tt
-each_of P (x ∷ xs) h = (h 0 x (omega arith), each_of P xs (λ k d l. h (suc k) d (omega (arith, l))))
+each_of P xs h = recursion_from_All P xs h
 
 each_reverse : {X : Type 0} (P : X → Type 0) (xs : List X) → AllByRecursion P xs → AllByRecursion P (reverse xs)
 each_reverse P [] h = tt
@@ -62,8 +58,8 @@ good : (f : Face) (n : Plane) (es : List Plane) (vs : List Meet) → n ≡ f.sup
 good f n es vs en vn o p t ve vl =
     let w = each_written es vs ve vl in
     record {
-      text_is = record { outline = ring_edges es vs; is_outline = o; lowest = all_of (λ (e : RingEdge). IsLowest e.start) (ring_edges es vs) (each_map IsWrittenEdge (λ (e : RingEdge). IsLowest e.start) (ring_edges es vs) (λ e h. h.start.lowest) w); is = ap (λ m. face_lines m (ring_edges es vs)) en };
-      written = record { support = subst IsValidPlane en vn; edges = all_of IsWrittenEdge (ring_edges es vs) w; at_least_three = subst (λ k. 3 ≤ k) (sym (length-ring_edges es vs p)) t };
+      text_is = record { outline = ring_edges es vs; is_outline = o; lowest = All-from_recursion (λ (e : RingEdge). IsLowest e.start) (ring_edges es vs) (each_map IsWrittenEdge (λ (e : RingEdge). IsLowest e.start) (ring_edges es vs) (λ e h. h.start.lowest) w); is = ap (λ m. face_lines m (ring_edges es vs)) en };
+      written = record { support = subst IsValidPlane en vn; edges = All-from_recursion IsWrittenEdge (ring_edges es vs) w; at_least_three = subst (λ k. 3 ≤ k) (sym (length-ring_edges es vs p)) t };
     }
 
 -- ---- as it is

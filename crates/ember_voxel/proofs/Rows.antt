@@ -1,7 +1,7 @@
 -- Rows of cells in which some are set: one more cell, row, layer, box.
 use Rattle.std.proofs.Common.{◌≡◌, ℕ, ◌+◌, ◌*◌, ◌/◌, ◌%◌, ◌<◌, ◌≤◌, ◌==◌, ◌&&◌, ◌||◌, Bool, true, false, nat_le, nat_lt, if◌then◌else◌, ◌⊎◌, inl, inr, List, [], ◌∷◌, ◌++◌, length, get_or, set, take, replicate, append_assoc, refl, sym, ap, ◌∙◌, subst, arith}
 use Rattle.std.proofs.lemmas.Bool.Decides.{eqb_tells}
-use Rattle.std.proofs.lemmas.Bool.{lt-ltb, le-ltb, ltb-true, ltb-false, le-leb, leb-true}
+use Rattle.std.proofs.lemmas.Bool.{and_parts, eq-eqb, eqb-true, lt-ltb, le-ltb, ltb-true, ltb-false, le-leb, leb-true}
 use Rattle.std.proofs.lemmas.Nat.{div-mul-add, mod-mul-add}
 use Rattle.std.proofs.lemmas.List.{append-nil, get_or-set_same, get_or-set_other, length-append, length-replicate, get_or-replicate, get_or-append-add, get_or_append_left}
 use Rattle.std.proofs.lemmas.List.Folds.{list_any_more}
@@ -10,28 +10,11 @@ use Rattle.ember_box.proofs.Orders.{same_test}
 use Rattle.ember_voxel.specs.declared.fill.Fill.{Fill}
 use Rattle.ember_voxel.specs.declared.grid.Extent.{Extent}
 use Rattle.ember_voxel.specs.Grid.{char_at, between, lights, lit, KeepsFeeds, AddsRows}
+use Rattle.ember_voxel.proofs.Ceilings.{times_more}
 
 -- ---- tests
-clash : (b : Bool) → b ≡ true → b ≡ false → ⊥
-clash true e f = cc
-clash false e f = cc
-
-pub equal_test : (m n : ℕ) → m ≡ n → (m == n) ≡ true
-equal_test m n e = elim (eqb_tells m n) [ inl h ↦ h.0 | inr h ↦ absurd (h.1 e) ]
-
 pub other_test : (m n : ℕ) → (m ≡ n → ⊥) → (m == n) ≡ false
 other_test m n e = elim (eqb_tells m n) [ inl h ↦ absurd (e h.1) | inr h ↦ h.0 ]
-
-of_test : (m n : ℕ) → (m == n) ≡ true → m ≡ n
-of_test m n e = elim (eqb_tells m n) [ inl h ↦ h.1 | inr h ↦ absurd (clash (m == n) e h.0) ]
-
-first_true : (s t : Bool) → (s && t) ≡ true → s ≡ true
-first_true true t e = refl
-first_true false t e = e
-
-second_true : (s t : Bool) → (s && t) ≡ true → t ≡ true
-second_true true t e = e
-second_true false t e = absurd (cc)
 
 -- a number more in an interval
 lt_same : (k i : ℕ) → (k ≡ i → ⊥) → nat_lt k (i + 1) ≡ nat_lt k i
@@ -69,16 +52,16 @@ pub same_place : (w q r i k : ℕ) → i < w → k < w → (q * w + k == r * w +
 same_place w q r i k l m = same_test (q * w + k == r * w + i) (q == r && k == i) forth back where
   forth : (q * w + k == r * w + i) ≡ true → (q == r && k == i) ≡ true
   forth e =
-      let p : q * w + k ≡ r * w + i = of_test (q * w + k) (r * w + i) e in
+      let p : q * w + k ≡ r * w + i = eqb-true (q * w + k) (r * w + i) e in
       let a : q ≡ r = sym (div-mul-add q w k m) ∙ ap (λ x. x / w) p ∙ div-mul-add r w i l in
       let b : k ≡ i = sym (mod-mul-add q w k m) ∙ ap (λ x. x % w) p ∙ mod-mul-add r w i l in
-      let s = equal_test q r a in let t = equal_test k i b in λ x. s x && t x
+      let s = eq-eqb q r a in let t = eq-eqb k i b in λ x. s x && t x
 
   back : (q == r && k == i) ≡ true → (q * w + k == r * w + i) ≡ true
   back e =
-      let a : q ≡ r = of_test q r (first_true (q == r) (k == i) e) in
-      let b : k ≡ i = of_test k i (second_true (q == r) (k == i) e) in
-      equal_test (q * w + k) (r * w + i) (λ x. a x * w + b x)
+      let a : q ≡ r = eqb-true q r (and_parts (q == r) (k == i) e).0 in
+      let b : k ≡ i = eqb-true k i (and_parts (q == r) (k == i) e).1 in
+      eq-eqb (q * w + k) (r * w + i) (λ x. a x * w + b x)
 
 pub write_at : (n r i q k v : ℕ) (xs : List ℕ) → i < n + 1 → k < n + 1 → r * (n + 1) + i < length xs → char_at n (set xs (r * (n + 1) + i) v) q k ≡ (if q == r && k == i then v else char_at n xs q k)
 write_at n r i q k v xs l m within = by (eqb_tells (q * (n + 1) + k) (r * (n + 1) + i)) where
@@ -233,9 +216,7 @@ adds_more n count old now new row s is e = record {
   };
 } where
   before : (r i : ℕ) → r < count → i < n + 1 → r * (n + 1) + i < length s.rows
-  before r i l m = let h : (r + 1) * (n + 1) ≤ count * (n + 1) = mul-le-mul_right (n + 1) (let g : r + 1 ≤ count = omega (arith, l) in g) in omega (arith, h, m, s.blank.size, one_row r (n + 1)) where
-    one_row : (a b : ℕ) → (a + 1) * b ≡ a * b + b
-    one_row a b = omega arith
+  before r i l m = let h : (r + 1) * (n + 1) ≤ count * (n + 1) = mul-le-mul_right (n + 1) (let g : r + 1 ≤ count = omega (arith, l) in g) in omega (arith, h, m, s.blank.size, times_more r (n + 1))
 
   by_row : (r i : ℕ) {c : ℕ} → r < count + 1 → i < n + 1 → (r < count → char_at n s.rows r i ≡ c) → (r ≡ count → get_or row i 0 ≡ c) → char_at n (s.rows ++ row) r i ≡ c
   by_row r i {c} l m old' new' = elim (eqb_tells r count) [

@@ -1,5 +1,5 @@
 -- The boxes of one value of the leaves give each cell of the lattice its own value.
-use Rattle.std.proofs.Common.{◌≡◌, ℕ, zero, suc, ◌-◌, ◌^◌, ◌<◌, ◌≤◌, Bool, true, false, ◌&&◌, ◌||◌, if◌then◌else◌, Option, None, Some, List, [], ◌∷◌, ◌++◌, map, append_assoc, refl, sym, ap, ◌∙◌, arith}
+use Rattle.std.proofs.Common.{◌≡◌, ℕ, zero, suc, ◌-◌, ◌^◌, ◌<◌, ◌≤◌, Bool, true, false, ◌&&◌, ◌||◌, if◌then◌else◌, Option, None, Some, List, ◌++◌, map, refl, sym, ap, ◌∙◌, arith}
 use Rattle.std.proofs.lemmas.List.{map-append}
 use Rattle.std.proofs.lemmas.List.Folds.{list_any-append}
 use Rattle.ember_model.specs.declared.tri.Tri.{Tri}
@@ -11,8 +11,8 @@ use Rattle.ember_box.specs.Boxes.{root, left}
 use Rattle.ember_box.specs.Reference.{reference_at, vector_at}
 use Rattle.ember_box.proofs.Splits.{left_less}
 use Rattle.ember_job.specs.declared.job.Job.{Job}
-use Rattle.ember_job.specs.Works.{Shape, halved, leafed}
-use Rattle.ember_job.specs.Visited.{below_shape, visited_within, if_leafed, leaves_among}
+use Rattle.ember_job.specs.Works.{Shape, halved}
+use Rattle.ember_job.proofs.Leaves.{under, under_leaf, under_halved}
 use Rattle.ember_visit.specs.Jobs.{root_job, left_job, right_job}
 use Rattle.ember_visit.specs.Values.{box_value}
 use Rattle.ember_visit.proofs.Inside.{known_at_corners}
@@ -22,26 +22,6 @@ use Rattle.ember_voxel.specs.Lattice.{longest, IsVoxelJob, is_lattice_cell, ends
 use Rattle.ember_voxel.specs.Laws.{halves_are_jobs, root_is_voxel_job, leaf_by, halved_by, may_halve}
 use Rattle.ember_voxel.specs.Voxels.{least_corner, cell_value, IsVoxelText}
 use Rattle.ember_voxel.proofs.Covering.{in_third, halves_cover, root_covers, own_corner, covered, least_is}
-
--- ---- the leaves under a job
-module _ (of : Job → Shape) where
-  leaves_append : (xs ys : List Job) → leaves_among of (xs ++ ys) ≡ leaves_among of xs ++ leaves_among of ys
-  leaves_append [] ys = refl
-  leaves_append (x ∷ xs) ys =
-      ap (λ zs. if_leafed x (of x) ++ zs) (leaves_append xs ys) ∙ sym (append_assoc (if_leafed x (of x)) (leaves_among of xs) (leaves_among of ys))
-
-  abbrev under : ℕ → Job → List Job
-  under depth job = leaves_among of (visited_within of depth job)
-
-  under_leaf : (depth : ℕ) (job : Job) → of job ≡ leafed → under depth job ≡ job ∷ []
-  under_leaf zero job e = ap (λ s. if_leafed job s ++ []) e
-  under_leaf (suc depth) job e =
-      ap (λ s. leaves_among of (below_shape (visited_within of depth) job s)) e ∙ ap (λ s. if_leafed job s ++ []) e
-
-  under_halved : (depth : ℕ) (job low high : Job) → of job ≡ halved low high → under (suc depth) job ≡ under depth low ++ under depth high
-  under_halved depth job low high e =
-      let below = visited_within of depth in
-      ap (λ s. leaves_among of (below_shape below job s)) e ∙ ap (λ s. if_leafed job s ++ leaves_among of (below low ++ below high)) e ∙ leaves_append (below low) (below high)
 
 leaf_bit : (covered bit value : Bool) → (covered ≡ true → bit ≡ value) → ((bit && covered) || false) ≡ (covered && value)
 leaf_bit true true value same = same refl

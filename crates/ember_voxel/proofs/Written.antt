@@ -4,6 +4,7 @@ use Rattle.std.proofs.lemmas.List.{drop_all, drop_at, take_all, append-nil, leng
 use Rattle.std.proofs.Math.Nat.{mul-le-mul_right}
 use Rattle.ember_voxel.specs.declared.fill.Fill.{Fill}
 use Rattle.ember_voxel.specs.Grid.{char_at, lit, is_one, header_of, IsGrid, IsGridText, KeepsFeeds, AddsRows}
+use Rattle.ember_voxel.proofs.Ceilings.{times_more}
 
 -- the list after its part from b on was written through
 abbrev pub after_write : ℕ → ℕ → List ℕ → List ℕ → List ℕ → List ℕ
@@ -35,9 +36,7 @@ front [] r b e = ap (λ n. take n r) e
 front (x ∷ h) r b e = ap (λ n. take n (x ∷ (h ++ r))) e ∙ ap (λ xs. x ∷ xs) (front h r (length h) refl)
 
 row_within : (n j l : ℕ) → j < n → l < n → l * n + j < n * n
-row_within n j l p q = let h : (l + 1) * n ≤ n * n = mul-le-mul_right n (let g : l + 1 ≤ n = omega (arith, q) in g) in omega (arith, h, p, one_row l n) where
-  one_row : (a b : ℕ) → (a + 1) * b ≡ a * b + b
-  one_row a b = omega arith
+row_within n j l p q = let h : (l + 1) * n ≤ n * n = mul-le-mul_right n (let g : l + 1 ≤ n = omega (arith, q) in g) in omega (arith, h, p, times_more l n)
 
 -- the whole text, of the parts that the steps tell of
 pub made : (size n b l ones : ℕ) (fills : List Fill) (h t d r c text : List ℕ) → n ≡ 2 ^ (12 - size) → h ≡ header_of size n → AddsRows n (n * n) h t → d ≡ t → b ≡ length h → l ≡ length t → length r ≡ length (take (length d - b) (drop b d)) → ((i j m : ℕ) → i < n → j < n → m < n → char_at n r (m * n + j) i ≡ (if lit size fills i j m then 49 else char_at n (take (length d - b) (drop b d)) (m * n + j) i)) → KeepsFeeds n (take (length d - b) (drop b d)) r → c ≡ after_write l b t d r → ones ≡ count_by is_one (take (length c - b) (drop b c)) → text ≡ after_write l b t d r ++ (codes "end " ++ decimal ones ++ codes "\n") → IsGridText size fills text

@@ -1,8 +1,10 @@
 -- The longest side of a box, and the sides of its halves.
-use Rattle.std.proofs.Common.{◌≡◌, ℕ, zero, suc, pred, ◌<◌, ◌≤◌, ◌==◌, ◌&&◌, Bool, true, false, nat_le, if◌then◌else◌, inl, inr, refl, arith}
-use Rattle.std.proofs.lemmas.Bool.Decides.{nat_tests, eqb_tells}
+use Rattle.std.proofs.Common.{◌≡◌, ℕ, zero, suc, pred, ◌<◌, ◌≤◌, ◌==◌, ◌&&◌, Bool, true, false, nat_le, if◌then◌else◌, refl, arith}
+use Rattle.std.proofs.lemmas.Bool.{eq-eqb}
+use Rattle.std.proofs.lemmas.Bool.Decides.{nat_tests}
 use Rattle.ember_model.specs.declared.point.Axis.{Axis}
 use Rattle.ember_model.specs.declared.point.Axis.TheVariants.{X, Y, Z}
+use Rattle.ember_model.proofs.SignTests.{clash}
 use Rattle.ember_box.specs.Boxes.{Cell, put}
 use Rattle.ember_voxel.specs.Lattice.{longest, is_lattice_cell}
 
@@ -26,13 +28,6 @@ most f false b false p q r = (omega (arith, below (f Y) (f X) p, below (f Z) (f 
 longest_most : (c : Cell) → Most c.log (longest c)
 longest_most c = most c.log (nat_le (c.log Y) (c.log X)) (nat_le (c.log Z) (c.log X)) (nat_le (c.log Z) (c.log Y)) refl refl refl
 
-equal_test : (m n : ℕ) → m ≡ n → (m == n) ≡ true
-equal_test m n e = elim (eqb_tells m n) [ inl h ↦ h.0 | inr h ↦ absurd (h.1 e) ]
-
-clash : (b : Bool) → b ≡ true → b ≡ false → ⊥
-clash true e f = cc
-clash false e f = cc
-
 -- where no side is below 2 ^ size and some is above, the longest is
 pub longest_above : (c : Cell) (size : ℕ) → ((k : Axis) → size ≤ c.log k) → is_lattice_cell size c ≡ false → size < c.log (longest c)
 longest_above c size sides e = at (nat_le (c.log (longest c)) size) refl where
@@ -41,10 +36,10 @@ longest_above c size sides e = at (nat_le (c.log (longest c)) size) refl where
   at true p =
       let l = above (c.log (longest c)) size p in
       let m = longest_most c in
-      let x : (c.log X == size) ≡ true = equal_test (c.log X) size (omega (arith, l, m.0, sides X)) in
-      let y : (c.log Y == size) ≡ true = equal_test (c.log Y) size (omega (arith, l, m.1, sides Y)) in
-      let z : (c.log Z == size) ≡ true = equal_test (c.log Z) size (omega (arith, l, m.2, sides Z)) in
-      absurd (clash (is_lattice_cell size c) (λ i. x i && (y i && z i)) e)
+      let x : (c.log X == size) ≡ true = eq-eqb (c.log X) size (omega (arith, l, m.0, sides X)) in
+      let y : (c.log Y == size) ≡ true = eq-eqb (c.log Y) size (omega (arith, l, m.1, sides Y)) in
+      let z : (c.log Z == size) ≡ true = eq-eqb (c.log Z) size (omega (arith, l, m.2, sides Z)) in
+      absurd (clash (λ i. x i && (y i && z i)) e)
 
 put_above : (m : Axis) (n size : ℕ) (f : Axis → ℕ) → size ≤ n → ((k : Axis) → size ≤ f k) → (k : Axis) → size ≤ put m n f k
 put_above X n size f l s X = l

@@ -6,18 +6,19 @@ use Rattle.steal_core.specs.Runs.{Tree, rests, halved as node, Rules, halved_in,
 use Rattle.steal_core.proofs.Journals.{is_run}
 use Rattle.ember_box.specs.Boxes.{Cell, left}
 use Rattle.ember_job.specs.Weights.{weigh, one}
-use Rattle.ember_job.proofs.Weights.{weigh_map, more_weight}
+use Rattle.ember_job.proofs.Weights.{weigh_map, more_weight, one_same}
 use Rattle.ember_job.specs.declared.job.Job.{Job}
 use Rattle.ember_job.specs.declared.job.Entry.{Entry}
 use Rattle.ember_job.specs.declared.job.Kind.{Kind}
 use Rattle.ember_job.specs.declared.job.Kind.TheVariants.{Halved, Leafed, Passed}
 use Rattle.ember_job.specs.Works.{Shape, halved, leafed, passed, Splits}
 use Rattle.ember_job.specs.Visited.{kind_of, entry_of, visited}
+use Rattle.ember_job.proofs.Leaves.{halved_visits, leaf_visits, passed_visits}
 use Rattle.steal_pool.specs.Seats.{at_entry, if_halved}
 use Rattle.steal_pool.specs.Journals.{times, times_halved, if_halved_at, journal_of, KeepRules}
 use Rattle.steal_pool.specs.CoreRuns.{unless_halved, IsCoreRun}
 use Rattle.steal_pool.proofs.Rules.{weigh_append}
-use Rattle.steal_pool.proofs.Trees.{one_same, halved_visits, leaf_visits, passed_visits, low_less, high_less}
+use Rattle.steal_pool.proofs.Trees.{low_less, high_less}
 use Rattle.steal_pool.proofs.Places.{base, Fits, low_base, high_base, fits_low, fits_high}
 use Rattle.steal_pool.proofs.Owned.{turn_of, turn_is, Up, up_append, up_from, once, top, owner, owner_has, some_journal, owner_is, only, keep_weighs, by_owner, outer}
 
@@ -35,6 +36,10 @@ half_less : (κ : Kind) (n : ℕ) → if_halved κ n ≤ n
 half_less Halved n = omega arith
 half_less Leafed n = omega arith
 half_less Passed n = omega arith
+
+-- a turn lies before the end of its box
+room : (b x : ℕ) → 0 < x → b * 2 ^ 27 * 64 + 36 + 1 ≤ (b + x) * 2 ^ 27 * 64
+room b x above = omega (arith, above)
 
 module _ (shape : Job → Shape) (valid : Job → Type 0) where
   abbrev tree_shape : (Job → Tree) → Shape → Tree
@@ -68,12 +73,8 @@ module _ (shape : Job → Shape) (valid : Job → Type 0) where
 
   -- the visited boxes stand in the order of their turns
   ups : (d : ℕ) (j : Job) → left j.cell ≡ d → Splits shape valid → valid j → Fits j → (s : Shape) → shape j ≡ s → Up (turn_of j.cell.path) (top j) (visited shape j)
-  ups d j at h v f leafed is = subst (Up (turn_of j.cell.path) (top j)) (sym (leaf_visits shape (left j.cell) j is)) (omega arith, omega (arith, turn_is j f, room (base j) (2 ^ left j.cell) (pow_pos (left j.cell)))) where
-    room : (b x : ℕ) → 0 < x → b * 2 ^ 27 * 64 + 36 + 1 ≤ (b + x) * 2 ^ 27 * 64
-    room b x above = omega (arith, above)
-  ups d j at h v f passed is = subst (Up (turn_of j.cell.path) (top j)) (sym (passed_visits shape (left j.cell) j is)) (omega arith, omega (arith, turn_is j f, room (base j) (2 ^ left j.cell) (pow_pos (left j.cell)))) where
-    room : (b x : ℕ) → 0 < x → b * 2 ^ 27 * 64 + 36 + 1 ≤ (b + x) * 2 ^ 27 * 64
-    room b x above = omega (arith, above)
+  ups d j at h v f leafed is = subst (Up (turn_of j.cell.path) (top j)) (sym (leaf_visits shape (left j.cell) j is)) (omega arith, omega (arith, turn_is j f, room (base j) (2 ^ left j.cell) (pow_pos (left j.cell))))
+  ups d j at h v f passed is = subst (Up (turn_of j.cell.path) (top j)) (sym (passed_visits shape (left j.cell) j is)) (omega arith, omega (arith, turn_is j f, room (base j) (2 ^ left j.cell) (pow_pos (left j.cell))))
   ups zero j at h v f (halved l r) is = absurd (omega (arith, at, low_less j.cell l.cell r.cell (h j l r v is).1))
   ups (suc d) j at h v f (halved l r) is =
       let k = h j l r v is in

@@ -1,41 +1,26 @@
 -- The items of a run's parts, merged, answer the leaves of the visited tree in order.
-use Rattle.std.proofs.Common.{◌≡◌, ◌≢◌, ◌⊎◌, ℕ, zero, suc, ◌+◌, ◌*◌, ◌^◌, ◌<◌, ◌≤◌, All, List, [], ◌∷◌, ◌++◌, length, map, slice_index_or, refl, sym, ap, ap₂, ◌∙◌, subst, inl, inr, arith}
+use Rattle.std.proofs.Common.{◌≡◌, ◌⊎◌, ℕ, zero, suc, ◌+◌, ◌*◌, ◌^◌, ◌<◌, ◌≤◌, All, List, [], ◌∷◌, ◌++◌, length, map, slice_index_or, refl, sym, ap, ap₂, ◌∙◌, subst, inl, inr, arith}
 use Rattle.std.proofs.lemmas.Bool.Decides.{eqb_tells}
 use Rattle.std.proofs.lemmas.Nat.{pow_pos}
 use Rattle.std.specs.List.{sum_by, fold}
 use Rattle.std.specs.List.Sorted.{IsNonDecreasingBy}
 use Rattle.std.proofs.lemmas.List.Sorted.{sum_by-IsPermutation, All-permutation}
+use Rattle.ember_model.proofs.SignTests.{In}
 use Rattle.ember_box.specs.Boxes.{left}
 use Rattle.ember_job.specs.Weights.{weigh, one}
 use Rattle.ember_job.specs.declared.job.Job.{Job}
 use Rattle.ember_job.specs.Works.{Shape, halved, leafed, passed, Splits}
 use Rattle.ember_job.specs.Visited.{IsVisited, root_visited, left_visited, right_visited, visited, visited_within, below_shape, if_leafed, leaves_among, leaves}
+use Rattle.ember_job.proofs.Weights.{one_same, one_other}
+use Rattle.ember_job.proofs.Leaves.{halved_visits, leaf_visits, passed_visits}
+use Rattle.ember_job.proofs.Members.{in_append_left, in_append_right, in_append_out}
+use Rattle.ember_job.specs.Items.{EachAnswers}
 use Rattle.ember_tree.specs.declared.part.Part.{Part}
 use Rattle.ember_tree.specs.Order.{tree_place, IsMerged}
 use Rattle.steal_pool.specs.Seats.{IsPart, by_path, at_job}
 use Rattle.steal_pool.specs.Journals.{AnswersLeaf, AreParts}
-use Rattle.steal_pool.specs.Merged.{EachAnswers}
-use Rattle.steal_pool.proofs.Trees.{one_same, halved_visits, leaf_visits, passed_visits, low_less, high_less}
-use Rattle.steal_pool.proofs.Places.{base, Fits, Within, place_is, leaves_within}
-
--- a job stands in a list
-abbrev pub Inside : Job → List Job → Type 0
-Inside x [] = ⊥
-Inside x (j ∷ js) = (x ≡ j) ⊎ Inside x js
-
-inside_left : (x : Job) (js ks : List Job) → Inside x js → Inside x (js ++ ks)
-inside_left x [] ks i = absurd i
-inside_left x (j ∷ js) ks (inl e) = inl e
-inside_left x (j ∷ js) ks (inr i) = inr (inside_left x js ks i)
-
-inside_right : (x : Job) (js ks : List Job) → Inside x ks → Inside x (js ++ ks)
-inside_right x [] ks i = i
-inside_right x (j ∷ js) ks i = inr (inside_right x js ks i)
-
-inside_one : (x : Job) (js ks : List Job) → Inside x (js ++ ks) → Inside x js ⊎ Inside x ks
-inside_one x [] ks i = inr i
-inside_one x (j ∷ js) ks (inl e) = inl (inl e)
-inside_one x (j ∷ js) ks (inr i) = elim (inside_one x js ks i) [ inl a ↦ inl (inr a) | inr b ↦ inr b ]
+use Rattle.steal_pool.proofs.Trees.{low_less, high_less}
+use Rattle.steal_pool.proofs.Places.{base, Fits, Within, place_is, leaves_within, one_more}
 
 abbrev low_in : Job → Shape → Job
 low_in j (halved l r) = l
@@ -59,60 +44,60 @@ no_passed : (s : Shape) (a b : Job) → s ≡ passed → s ≡ halved a b → �
 no_passed s a b e u = subst IsHalved (sym (sym e ∙ u)) tt
 
 module _ (shape : Job → Shape) (valid : Job → Type 0) where
-  first_visit : (d : ℕ) (j : Job) → Inside j (visited_within shape d j)
+  first_visit : (d : ℕ) (j : Job) → In j (visited_within shape d j)
   first_visit zero j = inl refl
   first_visit (suc d) j = at (shape j) where
-    at : (s : Shape) → Inside j (below_shape (visited_within shape d) j s)
+    at : (s : Shape) → In j (below_shape (visited_within shape d) j s)
     at (halved l r) = inl refl
     at leafed = inl refl
     at passed = inl refl
 
   -- the halves of what stands in the tree stand there
-  closed : (d : ℕ) (j : Job) → left j.cell ≡ d → Splits shape valid → valid j → (s : Shape) → shape j ≡ s → (x a b : Job) → Inside x (visited shape j) → shape x ≡ halved a b → Inside a (visited shape j) × Inside b (visited shape j)
-  closed d j at h v leafed is x a b i e = elim (subst (Inside x) (leaf_visits shape (left j.cell) j is) i) [ inl same ↦ absurd (no_leaf (shape x) a b (ap shape same ∙ is) e) | inr none ↦ absurd none ]
-  closed d j at h v passed is x a b i e = elim (subst (Inside x) (passed_visits shape (left j.cell) j is) i) [ inl same ↦ absurd (no_passed (shape x) a b (ap shape same ∙ is) e) | inr none ↦ absurd none ]
+  closed : (d : ℕ) (j : Job) → left j.cell ≡ d → Splits shape valid → valid j → (s : Shape) → shape j ≡ s → (x a b : Job) → In x (visited shape j) → shape x ≡ halved a b → In a (visited shape j) × In b (visited shape j)
+  closed d j at h v leafed is x a b i e = elim (subst (In x) (leaf_visits shape (left j.cell) j is) i) [ inl same ↦ absurd (no_leaf (shape x) a b (ap shape same ∙ is) e) | inr none ↦ absurd none ]
+  closed d j at h v passed is x a b i e = elim (subst (In x) (passed_visits shape (left j.cell) j is) i) [ inl same ↦ absurd (no_passed (shape x) a b (ap shape same ∙ is) e) | inr none ↦ absurd none ]
   closed zero j at h v (halved l r) is x a b i e = absurd (omega (arith, at, low_less j.cell l.cell r.cell (h j l r v is).1))
   closed (suc d) j at h v (halved l r) is x a b i e =
       let k = h j l r v is in
       let low = low_less j.cell l.cell r.cell k.1 in
       let high = high_less j.cell l.cell r.cell k.1 in
       let all = halved_visits shape (left j.cell) j l r refl is low high in
-      let both = found low high (λ one'. closed d l (omega (arith, at, low)) h k.0.0 (shape l) refl x a b one' e) (λ two. closed d r (omega (arith, at, high)) h k.0.1 (shape r) refl x a b two e) (subst (Inside x) all i) in (subst (Inside a) (sym all) (inr both.0), subst (Inside b) (sym all) (inr both.1))
+      let both = found low high (λ one'. closed d l (omega (arith, at, low)) h k.0.0 (shape l) refl x a b one' e) (λ two. closed d r (omega (arith, at, high)) h k.0.1 (shape r) refl x a b two e) (subst (In x) all i) in (subst (In a) (sym all) (inr both.0), subst (In b) (sym all) (inr both.1))
     where
-      found : left l.cell + 1 ≡ left j.cell → left r.cell + 1 ≡ left j.cell → (Inside x (visited shape l) → Inside a (visited shape l) × Inside b (visited shape l)) → (Inside x (visited shape r) → Inside a (visited shape r) × Inside b (visited shape r)) → (x ≡ j) ⊎ Inside x (visited shape l ++ visited shape r) → Inside a (visited shape l ++ visited shape r) × Inside b (visited shape l ++ visited shape r)
+      found : left l.cell + 1 ≡ left j.cell → left r.cell + 1 ≡ left j.cell → (In x (visited shape l) → In a (visited shape l) × In b (visited shape l)) → (In x (visited shape r) → In a (visited shape r) × In b (visited shape r)) → (x ≡ j) ⊎ In x (visited shape l ++ visited shape r) → In a (visited shape l ++ visited shape r) × In b (visited shape l ++ visited shape r)
       found low high in_low in_high (inl same) =
           let same_low : a ≡ l = ap (low_in j) (sym e ∙ ap shape same ∙ is) in
           let same_high : b ≡ r = ap (high_in j) (sym e ∙ ap shape same ∙ is) in (
-            subst (λ y. Inside y (visited shape l ++ visited shape r)) (sym same_low) (inside_left l (visited shape l) (visited shape r) (first_visit (left l.cell) l)),
-            subst (λ y. Inside y (visited shape l ++ visited shape r)) (sym same_high) (inside_right r (visited shape l) (visited shape r) (first_visit (left r.cell) r)),
+            subst (λ y. In y (visited shape l ++ visited shape r)) (sym same_low) (in_append_left l (visited shape l) (visited shape r) (first_visit (left l.cell) l)),
+            subst (λ y. In y (visited shape l ++ visited shape r)) (sym same_high) (in_append_right r (visited shape l) (visited shape r) (first_visit (left r.cell) r)),
           )
-      found low high in_low in_high (inr more) = elim (inside_one x (visited shape l) (visited shape r) more) [
-        | inl one' ↦ let r' = in_low one' in (inside_left a (visited shape l) (visited shape r) r'.0, inside_left b (visited shape l) (visited shape r) r'.1)
-        | inr two ↦ let r' = in_high two in (inside_right a (visited shape l) (visited shape r) r'.0, inside_right b (visited shape l) (visited shape r) r'.1)
+      found low high in_low in_high (inr more) = elim (in_append_out x (visited shape l) (visited shape r) more) [
+        | inl one' ↦ let r' = in_low one' in (in_append_left a (visited shape l) (visited shape r) r'.0, in_append_left b (visited shape l) (visited shape r) r'.1)
+        | inr two ↦ let r' = in_high two in (in_append_right a (visited shape l) (visited shape r) r'.0, in_append_right b (visited shape l) (visited shape r) r'.1)
       ]
 
-  stands : (root : Job) → Splits shape valid → valid root → (x : Job) → IsVisited shape root x → Inside x (visited shape root)
+  stands : (root : Job) → Splits shape valid → valid root → (x : Job) → IsVisited shape root x → In x (visited shape root)
   stands root h v x root_visited = first_visit (left root.cell) root
   stands root h v x (left_visited j l r w is) = (closed (left root.cell) root refl h v (shape root) refl j l r (stands root h v j w) is).0
   stands root h v x (right_visited j l r w is) = (closed (left root.cell) root refl h v (shape root) refl j l r (stands root h v j w) is).1
 
-  leaf_stands : (x : Job) (js : List Job) → Inside x js → shape x ≡ leafed → Inside x (leaves_among shape js)
+  leaf_stands : (x : Job) (js : List Job) → In x js → shape x ≡ leafed → In x (leaves_among shape js)
   leaf_stands x [] i e = absurd i
-  leaf_stands x (j ∷ js) (inl same) e = subst (λ s. Inside x (if_leafed j s ++ leaves_among shape js)) (sym (ap shape (sym same) ∙ e)) (inl same)
-  leaf_stands x (j ∷ js) (inr i) e = inside_right x (if_leafed j (shape j)) (leaves_among shape js) (leaf_stands x js i e)
+  leaf_stands x (j ∷ js) (inl same) e = subst (λ s. In x (if_leafed j s ++ leaves_among shape js)) (sym (ap shape (sym same) ∙ e)) (inl same)
+  leaf_stands x (j ∷ js) (inr i) e = in_append_right x (if_leafed j (shape j)) (leaves_among shape js) (leaf_stands x js i e)
 
 -- what stands in ascending places
-inside_from : (lo hi : ℕ) (x : Job) (js : List Job) → Within lo hi js → Inside x js → lo ≤ base x
+inside_from : (lo hi : ℕ) (x : Job) (js : List Job) → Within lo hi js → In x js → lo ≤ base x
 inside_from lo hi x [] w i = absurd i
 inside_from lo hi x (j ∷ js) w (inl e) = omega (arith, w.0, ap base e)
 inside_from lo hi x (j ∷ js) w (inr i) = omega (arith, w.0, inside_from (base j + 1) hi x js w.2 i)
 
-inside_fits : (lo hi : ℕ) (x : Job) (js : List Job) → Within lo hi js → Inside x js → Fits x
+inside_fits : (lo hi : ℕ) (x : Job) (js : List Job) → Within lo hi js → In x js → Fits x
 inside_fits lo hi x [] w i = absurd i
 inside_fits lo hi x (j ∷ js) w (inl e) = subst Fits (sym e) w.1
 inside_fits lo hi x (j ∷ js) w (inr i) = inside_fits (base j + 1) hi x js w.2 i
 
-unique : (lo hi : ℕ) (x y : Job) (js : List Job) → Within lo hi js → Inside x js → Inside y js → base x ≡ base y → x ≡ y
+unique : (lo hi : ℕ) (x y : Job) (js : List Job) → Within lo hi js → In x js → In y js → base x ≡ base y → x ≡ y
 unique lo hi x y [] w i k e = absurd i
 unique lo hi x y (j ∷ js) w (inl i) (inl k) e = i ∙ sym k
 unique lo hi x y (j ∷ js) w (inl i) (inr k) e = absurd (omega (arith, e, ap base i, inside_from (base j + 1) hi y js w.2 k))
@@ -122,12 +107,6 @@ unique lo hi x y (j ∷ js) w (inr i) (inr k) e = unique (base j + 1) hi x y js 
 times_mono : (a b x : ℕ) → a ≤ b → a * x ≤ b * x
 times_mono a b zero less = omega arith
 times_mono a b (suc x) less = omega (arith, times_mono a b x less)
-
-one_more : (a x : ℕ) → (a + 1) * x ≡ a * x + x
-one_more a x = omega arith
-
-one_other : (x y : ℕ) → y ≢ x → one x y ≡ 0
-one_other x y n = elim (eqb_tells y x) [ inl h ↦ absurd (n h.1) | inr h ↦ rw h.0 refl ]
 
 -- a path among jobs in ascending places has a place from the bound on
 job_place : (lo hi q : ℕ) (js : List Job) → Within lo hi js → 0 < weigh (at_job (one q)) js → lo * 2 ^ 27 ≤ tree_place q
@@ -174,14 +153,14 @@ module _ {I : Type 0} where
           )
     ]
 
-  answered : (shape : Job → Shape) (root : Job) (item : Job → I → Type 0) (lo hi : ℕ) (all : List Job) → Within lo hi all → ((x : Job) → IsVisited shape root x → shape x ≡ leafed → Inside x all) → (ps : List (Part I)) (js : List Job) → ((x : Job) → Inside x js → Inside x all) → All (IsPart (IsVisited shape root) (AnswersLeaf shape item)) ps → SamePaths ps js → EachAnswers item js (map (λ (p : Part I). p.item) ps)
+  answered : (shape : Job → Shape) (root : Job) (item : Job → I → Type 0) (lo hi : ℕ) (all : List Job) → Within lo hi all → ((x : Job) → IsVisited shape root x → shape x ≡ leafed → In x all) → (ps : List (Part I)) (js : List Job) → ((x : Job) → In x js → In x all) → All (IsPart (IsVisited shape root) (AnswersLeaf shape item)) ps → SamePaths ps js → EachAnswers item js (map (λ (p : Part I). p.item) ps)
   answered shape root item lo hi all w found [] [] sub are e = tt
   answered shape root item lo hi all w found [] (j ∷ js) sub are e = absurd e
   answered shape root item lo hi all w found (p ∷ ps) [] sub are e = absurd e
   answered shape root item lo hi all w found (p ∷ ps) (j ∷ js) sub are e =
       let part = are 0 p (omega arith) in
-      let here : Inside part.job all = found part.job part.is_visited part.item.0 in
-      let there : Inside j all = sub j (inl refl) in
+      let here : In part.job all = found part.job part.is_visited part.item.0 in
+      let there : In j all = sub j (inl refl) in
       let path : part.job.cell.path ≡ j.cell.path = sym part.path ∙ e.0 in
       let place : base part.job * 2 ^ 27 ≡ base j * 2 ^ 27 = sym (place_is part.job (inside_fits lo hi part.job all w here)) ∙ ap tree_place path ∙ place_is j (inside_fits lo hi j all w there) in
       let same : part.job ≡ j = unique lo hi part.job j all w here there (cancel (base part.job) (base j) place) in (

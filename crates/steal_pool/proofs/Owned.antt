@@ -8,14 +8,11 @@ use Rattle.ember_job.specs.Weights.{weigh, one}
 use Rattle.ember_job.specs.declared.job.Job.{Job}
 use Rattle.ember_job.specs.declared.job.Entry.{Entry}
 use Rattle.ember_job.specs.declared.job.Kind.{Kind}
+use Rattle.ember_job.proofs.Weights.{one_same, one_other}
 use Rattle.ember_tree.specs.Order.{tree_place}
 use Rattle.steal_pool.specs.Seats.{at_job}
 use Rattle.steal_pool.specs.Journals.{times, journal_of}
-use Rattle.steal_pool.proofs.Trees.{one_same}
 use Rattle.steal_pool.proofs.Places.{base, Fits, place_is, zeros_are}
-
-one_other : (x y : ℕ) → y ≢ x → one x y ≡ 0
-one_other x y n = elim (eqb_tells y x) [ inl h ↦ absurd (n h.1) | inr h ↦ rw h.0 refl ]
 
 -- by its path alone, a box has a place in the order of the visits
 abbrev pub turn_of : ℕ → ℕ

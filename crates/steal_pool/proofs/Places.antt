@@ -1,5 +1,5 @@
 -- The leaves of a tree stand in ascending places, and two visited jobs with one path are one.
-use Rattle.std.proofs.Common.{◌≡◌, ℕ, zero, suc, ◌+◌, ◌-◌, ◌*◌, ◌^◌, ◌<◌, ◌≤◌, List, [], ◌∷◌, ◌++◌, refl, sym, ap, ◌∙◌, subst, append_assoc, arith}
+use Rattle.std.proofs.Common.{◌≡◌, ℕ, zero, suc, ◌+◌, ◌-◌, ◌*◌, ◌^◌, ◌<◌, ◌≤◌, List, [], ◌∷◌, ◌++◌, refl, sym, ap, ◌∙◌, subst, arith}
 use Rattle.std.proofs.Math.Nat.{lt_of_mul-lt-mul_right, pow-succ'}
 use Rattle.std.proofs.lemmas.Nat.{pow-add, pow_pos}
 use Rattle.std.specs.Int.{leading_zeros, w64}
@@ -8,8 +8,9 @@ use Rattle.ember_box.specs.Boxes.{Cell, left, root}
 use Rattle.ember_job.specs.declared.job.Job.{Job}
 use Rattle.ember_job.specs.Works.{Shape, halved, leafed, passed, IsSplit, Splits}
 use Rattle.ember_job.specs.Visited.{visited, if_leafed, leaves_among}
+use Rattle.ember_job.proofs.Leaves.{halved_visits, leaf_visits, passed_visits, leaves_append}
 use Rattle.ember_tree.specs.Order.{tree_place}
-use Rattle.steal_pool.proofs.Trees.{halved_visits, leaf_visits, passed_visits, low_less, high_less}
+use Rattle.steal_pool.proofs.Trees.{low_less, high_less}
 
 -- the place of a box among 2^36 smallest ones, and a bound on what is below it
 abbrev pub base : Job → ℕ
@@ -60,6 +61,9 @@ fits_high j l r s f =
       below = omega (arith, f.below, at, size);
     }
 
+pub one_more : (a x : ℕ) → (a + 1) * x ≡ a * x + x
+one_more a x = omega arith
+
 -- a path's digits tell how deep its box lies
 pub zeros_are : (j : Job) → Fits j → left j.cell + 27 ≡ leading_zeros w64 j.cell.path
 zeros_are j f = leading_unique 64 j.cell.path (left j.cell + 27) (37 - left j.cell) (omega (arith, f.few)) small (omega (arith, twice, large)) where
@@ -82,9 +86,7 @@ zeros_are j f = leading_unique 64 j.cell.path (left j.cell + 27) (37 - left j.ce
   small = lt_of_mul-lt-mul_right (2 ^ left j.cell) (omega (arith, whole, f.below, pow_pos (left j.cell)))
 
   large : 2 ^ (36 - left j.cell) < j.cell.path + 1
-  large = lt_of_mul-lt-mul_right (2 ^ left j.cell) (omega (arith, half, f.from, spread j.cell.path (2 ^ left j.cell), pow_pos (left j.cell))) where
-    spread : (a x : ℕ) → (a + 1) * x ≡ a * x + x
-    spread a x = omega arith
+  large = lt_of_mul-lt-mul_right (2 ^ left j.cell) (omega (arith, half, f.from, one_more j.cell.path (2 ^ left j.cell), pow_pos (left j.cell)))
 
 -- the place by the path alone
 pub place_is : (j : Job) → Fits j → tree_place j.cell.path ≡ base j * 2 ^ 27
@@ -106,10 +108,6 @@ within_append lo mid hi [] ys a b = within_from mid lo hi ys a b
 within_append lo mid hi (x ∷ xs) ys a b = (a.0, a.1, within_append (base x + 1) mid hi xs ys a.2 b)
 
 module _ (shape : Job → Shape) (valid : Job → Type 0) where
-  leaves_append : (xs ys : List Job) → leaves_among shape (xs ++ ys) ≡ leaves_among shape xs ++ leaves_among shape ys
-  leaves_append [] ys = refl
-  leaves_append (x ∷ xs) ys = ap (λ zs. if_leafed x (shape x) ++ zs) (leaves_append xs ys) ∙ sym (append_assoc (if_leafed x (shape x)) (leaves_among shape xs) (leaves_among shape ys))
-
   -- the leaves of a job stand within its place
   pub leaves_within : (d : ℕ) (j : Job) → left j.cell ≡ d → Splits shape valid → valid j → Fits j → (s : Shape) → shape j ≡ s → Within (base j) (base j + 2 ^ left j.cell) (leaves_among shape (visited shape j))
   leaves_within d j at h v f leafed is = subst (λ js. Within (base j) (base j + 2 ^ left j.cell) (leaves_among shape js)) (sym (leaf_visits shape (left j.cell) j is)) (subst (λ s. Within (base j) (base j + 2 ^ left j.cell) (if_leafed j s ++ [])) (sym is) (omega arith, f, omega (arith, pow_pos (left j.cell))))
@@ -124,4 +122,4 @@ module _ (shape : Job → Shape) (valid : Job → Type 0) where
       let sr = (low_base j.cell.path (2 * j.cell.path) (left j.cell) (left r.cell) high refl).1 in
       let wl = leaves_within d l (omega (arith, at, low)) h k.0.0 (fits_low j l r k.1 f) (shape l) refl in
       let wr = leaves_within d r (omega (arith, at, high)) h k.0.1 (fits_high j l r k.1 f) (shape r) refl in
-      subst (λ js. Within (base j) (base j + 2 ^ left j.cell) (leaves_among shape js)) (sym (halved_visits shape (left j.cell) j l r refl is low high)) (subst (λ s. Within (base j) (base j + 2 ^ left j.cell) (if_leafed j s ++ leaves_among shape (visited shape l ++ visited shape r))) (sym is) (subst (λ js. Within (base j) (base j + 2 ^ left j.cell) js) (sym (leaves_append (visited shape l) (visited shape r))) (within_append (base j) (base r) (base j + 2 ^ left j.cell) (leaves_among shape (visited shape l)) (leaves_among shape (visited shape r)) (subst (λ n. Within n (base r) (leaves_among shape (visited shape l))) bl.0 (subst (λ n. Within (base l) n (leaves_among shape (visited shape l))) (omega (arith, bl.0, bl.1, br, sr)) wl)) (subst (λ n. Within (base r) n (leaves_among shape (visited shape r))) (omega (arith, br, sr)) wr))))
+      subst (λ js. Within (base j) (base j + 2 ^ left j.cell) (leaves_among shape js)) (sym (halved_visits shape (left j.cell) j l r refl is low high)) (subst (λ s. Within (base j) (base j + 2 ^ left j.cell) (if_leafed j s ++ leaves_among shape (visited shape l ++ visited shape r))) (sym is) (subst (λ js. Within (base j) (base j + 2 ^ left j.cell) js) (sym (leaves_append shape (visited shape l) (visited shape r))) (within_append (base j) (base r) (base j + 2 ^ left j.cell) (leaves_among shape (visited shape l)) (leaves_among shape (visited shape r)) (subst (λ n. Within n (base r) (leaves_among shape (visited shape l))) bl.0 (subst (λ n. Within (base l) n (leaves_among shape (visited shape l))) (omega (arith, bl.0, bl.1, br, sr)) wl)) (subst (λ n. Within (base r) n (leaves_among shape (visited shape r))) (omega (arith, br, sr)) wr))))

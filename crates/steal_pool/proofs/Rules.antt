@@ -3,7 +3,7 @@ use Rattle.std.proofs.Common.{◌≡◌, ◌≢◌, ◌≤◌, ◌<◌, ℕ, zer
 use mathlib.Core.Option.{some, some-ne-none, some-injective}
 use lib.ListN.{get_elem?}
 use lib.Seq.{take-append_seam, drop-append_seam}
-use Rattle.std.proofs.lemmas.List.Elements.{All-append, All-take, All-drop}
+use Rattle.std.proofs.lemmas.List.Elements.{All-append, All-take, All-drop, All-nil, All-push}
 use Rattle.crossbeam_deque.specs.Tasks.{Pushes, Takes, Pops, Forks, Merges, Finds}
 use Rattle.crossbeam_deque.proofs.Lists.{at_set, at_snoc}
 use Rattle.ember_job.specs.declared.job.Job.{Job}
@@ -41,6 +41,26 @@ fits_set owner views port w all mine j u at =
       | inl x ↦ subst (λ (y : ℕ × Hand). Fits owner y.0 y.1) (λ i. (sym x.0 i, x.1 i)) mine
       | inr x ↦ all j u x.1
     ]
+
+-- what an owner and a guest have lent
+owner_all : (b : Bool) → b ≡ true → (n : ℕ) → owner_lent b n ≡ n
+owner_all b e n = rw e refl
+
+owner_none : (b : Bool) → b ≡ true → (n : ℕ) → guest_lent b n ≡ 0
+owner_none b e n = rw e refl
+
+guest_all : (b : Bool) → b ≡ false → (n : ℕ) → guest_lent b n ≡ n
+guest_all b e n = rw e refl
+
+guest_none : (b : Bool) → b ≡ false → (n : ℕ) → owner_lent b n ≡ 0
+guest_none b e n = rw e refl
+
+-- beside the owner no hand has lent as one
+owns_alone : (views : List Hand) (port owner : ℕ) → port ≡ owner → ((i : ℕ) (x : Hand) → get_elem? views i ≡ some x → Fits owner i x) → (j : ℕ) (w : Hand) → get_elem? views j ≡ some w → j ≢ port → owner_lent w.owns w.lent ≡ 0
+owns_alone views port owner here fits j w there far = by w.owns refl where
+  by : (b : Bool) → w.owns ≡ b → owner_lent w.owns w.lent ≡ 0
+  by true e = absurd (far ((fits j w there).0 e ∙ sym here))
+  by false e = guest_none w.owns e w.lent
 
 module _ (P : Job → Type 0) where
   left : (xs ys : List Job) → All P (xs ++ ys) → All P xs
@@ -106,14 +126,8 @@ module _ (P : Job → Type 0) where
           | inr x ↦ ((λ p. absurd (true≢false (sym (ap (λ (y : Hand). y.owns) x ∙ p)))), λ other. (ap (λ (y : Hand). y.pushed) (sym x), λ _. ap (λ (y : Hand). y.taken) (sym x)))
         ];
         same = λ h. omega (arith, k.same h, total_set (λ u. weigh h u.pushed) views port v w at, total_set (λ u. weigh h u.taken) views port v w at, weigh_append (λ u. weigh h u.pushed) vs (new ∷ []), weigh_append (λ u. weigh h u.taken) vs (new ∷ []));
-        lent = omega (arith, k.lent, total_set (λ u. guest_lent u.owns u.lent) views port v w at, total_set (λ u. owner_lent u.owns u.lent) views port v w at, weigh_append (λ u. guest_lent u.owns u.lent) vs (new ∷ []), weigh_append (λ u. owner_lent u.owns u.lent) vs (new ∷ []), owners v.lent, guests v.lent, owners (v.lent + 1), guests (v.lent + 1));
+        lent = omega (arith, k.lent, total_set (λ u. guest_lent u.owns u.lent) views port v w at, total_set (λ u. owner_lent u.owns u.lent) views port v w at, weigh_append (λ u. guest_lent u.owns u.lent) vs (new ∷ []), weigh_append (λ u. owner_lent u.owns u.lent) vs (new ∷ []), owner_all v.owns own v.lent, owner_none v.owns own v.lent, owner_all v.owns own (v.lent + 1), owner_none v.owns own (v.lent + 1));
       }
-    where
-      owners : (n : ℕ) → (owner_lent v.owns n ≡ n)
-      owners n = rw own refl
-
-      guests : (n : ℕ) → (guest_lent v.owns n ≡ 0)
-      guests n = rw own refl
 
   -- a pass comes back
   pub merges : (port : ℕ) (v : Hand) (other : ℕ) (u : Hand) → v.owns ≡ true → Merges (Kept P) port v other u (hand v.owns (v.lent - u.lent) v.pushed (v.taken ++ u.taken)) (hand false 0 [] [])
@@ -146,37 +160,19 @@ module _ (P : Job → Type 0) where
           total_set (λ w. guest_lent w.owns w.lent) vs other u spent there,
           total_set (λ w. owner_lent w.owns w.lent) vs other u spent there,
           total_at (λ w. guest_lent w.owns w.lent) vs other u there,
-          total_one (λ w. owner_lent w.owns w.lent) views port v at (λ j w away far. owned j w away far k.owner here k.fits),
-          owners v.lent,
-          owners (v.lent - u.lent),
-          guests v.lent,
-          guests (v.lent - u.lent),
+          total_one (λ w. owner_lent w.owns w.lent) views port v at (owns_alone views port k.owner here k.fits),
+          owner_all v.owns own v.lent,
+          owner_all v.owns own (v.lent - u.lent),
+          owner_none v.owns own v.lent,
+          owner_none v.owns own (v.lent - u.lent),
           guest_all u.owns guest u.lent,
           guest_none u.owns guest u.lent,
         );
       }
     where
-      owners : (n : ℕ) → (owner_lent v.owns n ≡ n)
-      owners n = rw own refl
-
-      guests : (n : ℕ) → (guest_lent v.owns n ≡ 0)
-      guests n = rw own refl
-
       is_guest : (b : Bool) → u.owns ≡ b → (u.owns ≡ true → ⊥) → u.owns ≡ false
       is_guest true e far = absurd (far e)
       is_guest false e far = e
-
-      guest_all : (b : Bool) → b ≡ false → (n : ℕ) → guest_lent b n ≡ n
-      guest_all b e n = rw e refl
-
-      guest_none : (b : Bool) → b ≡ false → (n : ℕ) → owner_lent b n ≡ 0
-      guest_none b e n = rw e refl
-
-      owned : (j : ℕ) (w : Hand) → get_elem? views j ≡ some w → j ≢ port → (owner : ℕ) → port ≡ owner → ((i : ℕ) (x : Hand) → get_elem? views i ≡ some x → Fits owner i x) → owner_lent w.owns w.lent ≡ 0
-      owned j w there far owner here fits = case w.owns refl where
-        case : (b : Bool) → w.owns ≡ b → owner_lent w.owns w.lent ≡ 0
-        case true e = absurd (far ((fits j w there).0 e ∙ sym here))
-        case false e = rw e refl
 
   -- all passes are back, and the deque is empty
   pub settles : (port : ℕ) (v : Hand) → v.owns ≡ true → Finds (Kept P) port v (Settles v)
@@ -195,30 +191,15 @@ module _ (P : Job → Type 0) where
         case true e = absurd (far e)
         case false e = rw e refl
 
-      zero_owned : (j : ℕ) (w : Hand) → get_elem? views j ≡ some w → j ≢ port → (owner : ℕ) → port ≡ owner → ((i : ℕ) (x : Hand) → get_elem? views i ≡ some x → Fits owner i x) → owner_lent w.owns w.lent ≡ 0
-      zero_owned j w there far owner here fits = case w.owns refl where
-        case : (b : Bool) → w.owns ≡ b → owner_lent w.owns w.lent ≡ 0
-        case true e = absurd (far ((fits j w there).0 e ∙ sym here))
-        case false e = rw e refl
-
       own_zero : owner_lent v.owns v.lent ≡ 0
       own_zero = rw (own, back) refl
 
       away : (j : ℕ) (u : Hand) → get_elem? views j ≡ some u → (owner : ℕ) → port ≡ owner → ((i : ℕ) (x : Hand) → get_elem? views i ≡ some x → Fits owner i x) → weigh (λ w. guest_lent w.owns w.lent) views ≡ weigh (λ w. owner_lent w.owns w.lent) views → guest_lent u.owns u.lent ≡ 0
-      away j u there owner here fits lent = omega (arith, lent, own_zero, total_at (λ w. guest_lent w.owns w.lent) views j u there, total_one (λ w. owner_lent w.owns w.lent) views port v at (λ i w at' far. zero_owned i w at' far owner here fits))
+      away j u there owner here fits lent = omega (arith, lent, own_zero, total_at (λ w. guest_lent w.owns w.lent) views j u there, total_one (λ w. owner_lent w.owns w.lent) views port v at (owns_alone views port owner here fits))
 
       none : (j : ℕ) (u : Hand) → get_elem? views j ≡ some u → (u.owns ≡ true → ⊥) → guest_lent u.owns u.lent ≡ 0 → u.lent ≡ 0
       none j u there far e = omega (arith, guest u far, e)
 
--- one element, and one more
-pub All_snoc : {X : Type 0} (P : X → Type 0) (xs : List X) (x : X) → All P xs → P x → All P (xs ++ x ∷ [])
-All_snoc P [] x h p zero d l = p
-All_snoc P [] x h p (suc k) d l = absurd (omega arith)
-All_snoc P (y ∷ ys) x h p zero d l = h 0 d (omega arith)
-All_snoc P (y ∷ ys) x h p (suc k) d l = All_snoc P ys x (λ j e m. h (suc j) e (omega arith)) p k d (omega arith)
-
-pub All_none : {X : Type 0} (P : X → Type 0) → All P []
-All_none P i d l = absurd (omega arith)
-
+-- one element
 pub All_one : {X : Type 0} (P : X → Type 0) (x : X) → P x → All P (x ∷ [])
-All_one P x p = All_snoc P [] x (All_none P) p
+All_one P x p = All-push P [] x (All-nil P) p

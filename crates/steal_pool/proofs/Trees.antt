@@ -1,12 +1,11 @@
 -- A stored step tells of each visited job, and what is gathered over the tree keeps the rules of journals.
-use Rattle.std.proofs.Common.{Result, Ok, Err, IfOk, ◌≡◌, ℕ, zero, suc, pred, ◌+◌, ◌*◌, ◌<◌, ◌≤◌, List, [], ◌∷◌, ◌++◌, length, map, All, refl, sym, ap, ap₂, ◌∙◌, subst, inl, inr, arith}
+use Rattle.std.proofs.Common.{Result, Ok, Err, IfOk, ◌≡◌, ℕ, zero, suc, ◌+◌, ◌*◌, ◌<◌, ◌≤◌, List, [], ◌∷◌, ◌++◌, length, map, All, refl, sym, ap, ap₂, ◌∙◌, subst, inl, inr, arith}
 use Rattle.std.proofs.lemmas.Bool.Decides.{eqb_tells}
 use Rattle.std.specs.declared.alloc.AllocError.{AllocError}
-use Rattle.ember_model.specs.declared.point.Axis.{Axis}
-use Rattle.ember_model.specs.declared.point.Axis.TheVariants.{X, Y, Z}
-use Rattle.ember_box.specs.Boxes.{Cell, left, left_half, right_half}
+use Rattle.ember_box.specs.Boxes.{Cell, left}
+use Rattle.ember_box.proofs.Splits.{left_less}
 use Rattle.ember_job.specs.Weights.{weigh, one}
-use Rattle.ember_job.proofs.Weights.{more_weight}
+use Rattle.ember_job.proofs.Weights.{more_weight, one_same}
 use Rattle.ember_job.specs.declared.job.Job.{Job}
 use Rattle.ember_job.specs.declared.job.Entry.{Entry}
 use Rattle.ember_job.specs.declared.job.Kind.{Kind}
@@ -14,7 +13,8 @@ use Rattle.ember_job.specs.declared.job.Kind.TheVariants.{Halved, Leafed, Passed
 use Rattle.ember_job.specs.declared.job.Outcome.{Outcome}
 use Rattle.ember_job.specs.declared.job.Outcome.TheVariants.{Halves, Leaf, Skipped}
 use Rattle.ember_job.specs.Works.{Shape, halved, leafed, passed, IsSplit, Splits, Answers}
-use Rattle.ember_job.specs.Visited.{IsVisited, root_visited, left_visited, right_visited, entry, kind_of, entry_of, visited, visited_within, below_shape, if_leafed, leaves_among}
+use Rattle.ember_job.specs.Visited.{IsVisited, root_visited, left_visited, right_visited, entry, kind_of, entry_of, visited, if_leafed, leaves_among}
+use Rattle.ember_job.proofs.Leaves.{halved_visits, leaf_visits, passed_visits}
 use Rattle.ember_tree.specs.declared.part.Part.{Part}
 use Rattle.steal_pool.specs.Seats.{Told, IsPart, by_path, at_job, at_entry, at_left, at_halves, if_halved}
 use Rattle.steal_pool.specs.Gathers.{KeepsLeft, KeepsBoth, Begins, EachKeeps, Gathers}
@@ -22,45 +22,13 @@ use Rattle.steal_pool.specs.Journals.{times, times_halved, if_halved_at, journal
 use Rattle.steal_pool.proofs.Rules.{weigh_append}
 
 -- each half may be halved once less
-less_one : (n : ℕ) → 0 < n → pred n + 1 ≡ n
-less_one zero above = absurd (omega arith)
-less_one (suc n) above = omega arith
-
-left_less : (c : Cell) (k : Axis) → 0 < c.log k → left (left_half c k) + 1 ≡ left c
-left_less c X above = omega (arith, less_one (c.log X) above)
-left_less c Y above = omega (arith, less_one (c.log Y) above)
-left_less c Z above = omega (arith, less_one (c.log Z) above)
-
-right_less : (c : Cell) (k : Axis) → 0 < c.log k → left (right_half c k) + 1 ≡ left c
-right_less c X above = omega (arith, less_one (c.log X) above)
-right_less c Y above = omega (arith, less_one (c.log Y) above)
-right_less c Z above = omega (arith, less_one (c.log Z) above)
-
 pub low_less : (c l r : Cell) → IsSplit c l r → left l + 1 ≡ left c
 low_less c l r s = ap (λ x. left x + 1) s.is_low ∙ left_less c s.axis s.may_halve
 
 pub high_less : (c l r : Cell) → IsSplit c l r → left r + 1 ≡ left c
-high_less c l r s = ap (λ x. left x + 1) s.is_high ∙ right_less c s.axis s.may_halve
+high_less c l r s = ap (λ x. left x + 1) s.is_high ∙ left_less c s.axis s.may_halve
 
 module _ (shape : Job → Shape) where
-  pub halved_visits : (d : ℕ) (j l r : Job) → left j.cell ≡ d → shape j ≡ halved l r → left l.cell + 1 ≡ left j.cell → left r.cell + 1 ≡ left j.cell → visited shape j ≡ j ∷ visited shape l ++ visited shape r
-  halved_visits zero j l r at is low high = absurd (omega (arith, at, low))
-  halved_visits (suc d) j l r at is low high = ap (λ n. visited_within shape n j) at ∙ ap (below_shape (visited_within shape d) j) is ∙ ap₂ (λ m n. j ∷ visited_within shape m l ++ visited_within shape n r) one' two
-    where
-      one' : d ≡ left l.cell
-      one' = omega (arith, at, low)
-
-      two : d ≡ left r.cell
-      two = omega (arith, at, high)
-
-  pub leaf_visits : (d : ℕ) (j : Job) → shape j ≡ leafed → visited_within shape d j ≡ j ∷ []
-  leaf_visits zero j is = refl
-  leaf_visits (suc d) j is = ap (below_shape (visited_within shape d) j) is
-
-  pub passed_visits : (d : ℕ) (j : Job) → shape j ≡ passed → visited_within shape d j ≡ j ∷ []
-  passed_visits zero j is = refl
-  passed_visits (suc d) j is = ap (below_shape (visited_within shape d) j) is
-
   box_weighs : (h : Entry → ℕ) (g : ℕ → ℕ) (j : Job) (s : Shape) → shape j ≡ s → box_weight shape h g j ≡ h (entry j.cell.path (kind_of s)) + leaf_weight s (g j.cell.path)
   box_weighs h g j s is = ap (λ t. h (entry j.cell.path (kind_of t)) + leaf_weight t (g j.cell.path)) is
 
@@ -100,10 +68,10 @@ module _ (shape : Job → Shape) where
           ap (λ (c : Cell). c.path) cut.is_high,
           low,
           high,
-          λ h g. omega (arith, ap (weigh (box_weight shape h g)) (halved_visits (left j.cell) j l r refl e low high), weigh_append (box_weight shape h g) (visited shape l) (visited shape r), box_weighs h g j (halved l r) e),
+          λ h g. omega (arith, ap (weigh (box_weight shape h g)) (halved_visits shape (left j.cell) j l r refl e low high), weigh_append (box_weight shape h g) (visited shape l) (visited shape r), box_weighs h g j (halved l r) e),
         )
-    told s j (Leaf it) w v e = ((e.0, e.1), λ h g. omega (arith, ap (weigh (box_weight shape h g)) (leaf_visits (left j.cell) j e.0), box_weighs h g j leafed e.0))
-    told s j Skipped w v e = λ h g. omega (arith, ap (weigh (box_weight shape h g)) (passed_visits (left j.cell) j e), box_weighs h g j passed e)
+    told s j (Leaf it) w v e = ((e.0, e.1), λ h g. omega (arith, ap (weigh (box_weight shape h g)) (leaf_visits shape (left j.cell) j e.0), box_weighs h g j leafed e.0))
+    told s j Skipped w v e = λ h g. omega (arith, ap (weigh (box_weight shape h g)) (passed_visits shape (left j.cell) j e), box_weighs h g j passed e)
 
     pub told_all : Splits shape valid → (j : Job) (r : Result (Outcome I) AllocError) → IsVisited shape root j → valid j → IfOk r (λ o. Answers shape item j o) → IfOk r (λ o. Told (IsVisited shape root) (AnswersLeaf shape item) (tree_weight shape) j o)
     told_all s j (Ok o) w v e = told s j o w v e
@@ -113,9 +81,6 @@ module _ (shape : Job → Shape) where
 no_weight : {X : Type 0} (h : X → ℕ) → ((x : X) → h x ≡ 0) → (xs : List X) → weigh h xs ≡ 0
 no_weight h none [] = refl
 no_weight h none (x ∷ xs) = omega (arith, none x, no_weight h none xs)
-
-pub one_same : (x y : ℕ) → y ≡ x → one x y ≡ 1
-one_same x y e = elim (eqb_tells y x) [ inl h ↦ rw h.0 refl | inr h ↦ absurd (h.1 e) ]
 
 one_double : (p q : ℕ) → one p q ≤ one (2 * p) (2 * q)
 one_double p q = elim (eqb_tells q p) [

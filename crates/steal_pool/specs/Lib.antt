@@ -6,5 +6,4 @@ pub mod Tables
 pub mod Gathers
 pub mod Journals
 pub mod Halving
-pub mod Merged
 pub mod CoreRuns

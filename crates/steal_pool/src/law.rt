@@ -3,12 +3,12 @@ ghost use Rattle.std.specs.Prelude.{◌≡◌, ◌+◌, ℕ, List, length};
 ghost use Rattle.ember_box.specs.Boxes as boxes;
 ghost use Rattle.ember_job.specs.declared.job.Job.{Job};
 ghost use Rattle.ember_job.specs.Visited.{leaves};
+ghost use Rattle.ember_job.specs.Items.{EachAnswers};
 ghost use Rattle.ember_tree.specs.declared.part.Part.{Part};
 ghost use Rattle.ember_tree.specs.Order.{IsMerged};
 ghost use Rattle.ember_job.specs.declared.job.Entry.{Entry};
 ghost use Rattle.steal_pool.specs.Journals.{AreParts, KeepRules};
 ghost use Rattle.steal_pool.specs.CoreRuns.{IsCoreRun};
-ghost use Rattle.steal_pool.specs.Merged.{EachAnswers};
 
 use ember_job::{OneItem, Work};
 

@@ -1,11 +1,12 @@
 use Rattle.std.proofs.Common.{◌≡◌, inr, sym, ap, subst, ◌∙◌, arith, length, OnOk, OnErr, if◌then◌else◌}
 use Rattle.std.proofs.lemmas.Result.{on_err_weaker}
+use Rattle.std.proofs.lemmas.List.Elements.{All-from_recursion}
 use Rattle.ember_model.specs.Faces.{turned}
 use Rattle.ember_model.specs.Valid.{IsValidPlane}
 use Rattle.ember_text.specs.Texts.{AreReduced, Writes, WritesPart}
 use Rattle.ember_text.proofs.Parts.{on_ok_weaker}
 use Rattle.ember_text.proofs.Pairs.{length-reduced}
-use Rattle.ember_text.proofs.Written.{all_of, each_of, turn_planes, turn_corners, length-turn_planes, length-turn_corners, each_turn_planes, good_plain, good_flipped}
+use Rattle.ember_text.proofs.Written.{each_of, turn_planes, turn_corners, length-turn_planes, length-turn_corners, each_turn_planes, good_plain, good_flipped}
 use Rattle.ember_text.proofs.face.face_text.Goals as goal
 
 pub turned_corners-requires : goal.turned_corners-requires
@@ -27,7 +28,7 @@ put_face-requires-clause-paired c =
 pub put_face-requires-clause-valid : goal.put_face-requires-clause-valid
 put_face-requires-clause-valid c =
     let es = c.outline.result.0.now in
-    rw (c.as_slice-then-flipped.ensures.value ∙ c.in_ok-edges.ensures) (all_of IsValidPlane (turn_planes es) (each_turn_planes IsValidPlane es (each_of IsValidPlane es c.outline.ensures.valid)))
+    rw (c.as_slice-then-flipped.ensures.value ∙ c.in_ok-edges.ensures) (All-from_recursion IsValidPlane (turn_planes es) (each_turn_planes IsValidPlane es (each_of IsValidPlane es c.outline.ensures.valid)))
 
 pub returns-then-flipped-clause-ok : goal.returns-then-flipped-clause-ok
 returns-then-flipped-clause-ok c =

@@ -1,10 +1,10 @@
 use Rattle.std.proofs.Common.{◌≡◌, ℕ, [], ◌∷◌, arith}
+use Rattle.std.proofs.lemmas.List.Elements.{All-push}
 use Rattle.ember_job.specs.declared.job.Job.{Job}
 use Rattle.steal_pool.specs.Owners.{Fresh}
 use Rattle.steal_pool.specs.Seats.{EachPass, all_taken, IsPart}
 use Rattle.steal_pool.specs.Tables.{Idle}
 use Rattle.steal_pool.specs.Turns.{Ready}
-use Rattle.steal_pool.proofs.Rules.{All_snoc}
 use Rattle.steal_pool.proofs.Tables.{seating_next, All_front}
 use Rattle.steal_pool.proofs.pool.make_seats.Goals as goal
 
@@ -14,5 +14,5 @@ loop-owner-preserved g c = record {
   rows = All_front (λ r. EachPass c.args.thieves.now.items r.items × ((h : Job → ℕ) → all_taken h r.items ≡ 0)) c.loop-owner.rows.items c.pop.new.self.items (c.in-Some-pop.row ∷ []) c.loop-owner.invariant.rows c.in-Some-pop.ensures.items;
   len = omega (arith, c.loop-owner.invariant.len, c.in-Some.ensures.1, c.in-Some-pop.ensures.len);
   count = omega (arith, c.loop-owner.invariant.count, c.in-Some.ensures.1, c.in-Ok.ensures.len);
-  ready = rw c.in-Ok.ensures.items (All_snoc (λ s. Ready g.K.Naming.is_visited (IsPart g.K.Naming.is_visited g.K.Weighing.answers) c.args.thieves.now.items s × Idle g.K.Weighing.weight s) c.loop-owner.seats.items c.make_seat-seat.result c.loop-owner.invariant.ready (c.make_seat-seat.ensures.ready, c.make_seat-seat.ensures.idle));
+  ready = rw c.in-Ok.ensures.items (All-push (λ s. Ready g.K.Naming.is_visited (IsPart g.K.Naming.is_visited g.K.Weighing.answers) c.args.thieves.now.items s × Idle g.K.Weighing.weight s) c.loop-owner.seats.items c.make_seat-seat.result c.loop-owner.invariant.ready (c.make_seat-seat.ensures.ready, c.make_seat-seat.ensures.idle));
 }

@@ -1,13 +1,14 @@
 use Rattle.std.proofs.Common.{[], ◌∷◌, ◌*◌, ap, arith}
+use Rattle.std.proofs.lemmas.List.Elements.{All-push}
 use Rattle.ember_job.specs.declared.job.Kind.TheVariants.{Halved}
 use Rattle.ember_job.specs.Visited.{entry}
 use Rattle.ember_job.specs.Weights.{weigh}
 use Rattle.steal_pool.specs.Seats.{at_job, at_entry, at_left}
-use Rattle.steal_pool.proofs.Rules.{weigh_append, All_snoc}
+use Rattle.steal_pool.proofs.Rules.{weigh_append}
 use Rattle.steal_pool.proofs.seat.run_box.Goals as goal
 
 pub returns-clause-visited : goal.returns-clause-visited
-returns-clause-visited g c = rw c.in-Ok-push-4.ensures.ok (All_snoc g.K.Naming.is_visited c.share.new.boxes.items c.in-Halves.left c.in-Ok-share.ensures.visited (rw c.in-Halves.is at c.in_ok-item.ensures).0)
+returns-clause-visited g c = rw c.in-Ok-push-4.ensures.ok (All-push g.K.Naming.is_visited c.share.new.boxes.items c.in-Halves.left c.in-Ok-share.ensures.visited (rw c.in-Halves.is at c.in_ok-item.ensures).0)
 
 pub returns-clause-goes : goal.returns-clause-goes
 returns-clause-goes g c =

@@ -1,4 +1,4 @@
--- What a merge of a run's parts gives.
+-- What answers a list of jobs.
 use Rattle.std.specs.Prelude.{List, [], ◌∷◌}
 use Rattle.ember_job.specs.declared.job.Job.{Job}
 
