@@ -16,7 +16,7 @@ use Rattle.ember_poly.specs.Rings.{Under, Over, OnPlane, AtMost, AtLeast}
 use Rattle.ember_poly.specs.Passages.{Has, AreSigns, AreSeen, is_under, Stops, IsRun, AreRisen, IsRise, Enters, Straddles, IsEntry}
 use Rattle.ember_poly.proofs.Chains.{each-push, each_map, each_both}
 use Rattle.ember_poly.proofs.Turns.{each-join}
-use Rattle.ember_poly.proofs.Members.{has-push, has-front, has-back, Found, has_pick}
+use Rattle.ember_poly.proofs.Members.{has-push, has-front, has-back, has_pick}
 use Rattle.ember_poly.proofs.Runs.{clash, under_out, stops_at, stops_end, rest_of, lows, highs, run_rest, run_more, run_short, run_long, up_positive, entry_within, entry_enters}
 
 -- ---- signs

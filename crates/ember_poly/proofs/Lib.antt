@@ -26,6 +26,7 @@ pub mod Reached
 pub mod Runs
 pub mod Seen
 pub mod Aged
+pub mod Along
 pub mod Entered
 pub mod Passed
 pub mod Kept

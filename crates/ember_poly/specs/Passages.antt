@@ -1,7 +1,9 @@
 -- Where a plane passes a ring
-use Rattle.std.specs.Prelude.{◌≡◌, ◌⊎◌, ℕ, ◌+◌, ◌<◌, ◌≤◌, suc, Bool, true, false, not, List, [], ◌∷◌, ◌++◌, length, take, drop}
+use Rattle.std.specs.Prelude.{◌≡◌, ◌⊎◌, ℕ, ◌+◌, ◌<◌, ◌≤◌, suc, Bool, true, false, not, List, [], ◌∷◌, ◌++◌, length, take, drop, pos}
 use Rattle.std.specs.List.{AllByRecursion}
 use Rattle.ember_algebra.specs.Sign.{is_negative}
+use Rattle.ember_model.specs.declared.point.Axis.{Axis}
+use Rattle.ember_model.specs.declared.point.Axis.TheVariants.{X, Y, Z}
 use Rattle.ember_model.specs.declared.plane.Plane.{Plane}
 use Rattle.ember_model.specs.Planes.{value_at}
 use Rattle.ember_point.specs.declared.corner.Meet.{Meet}
@@ -10,6 +12,12 @@ use Rattle.ember_poly.specs.declared.passage.Passage.{Passage}
 use Rattle.ember_poly.specs.declared.answers.Reach.{Reach}
 use Rattle.ember_poly.specs.declared.answers.Reach.TheVariants.{Below, Above, On, Both}
 use Rattle.ember_poly.specs.Rings.{Side, Under, Over, OnPlane, AtMost, AtLeast, Long, Meets}
+
+-- the plane's normal lies along the axis
+abbrev pub IsAlong : Axis → Plane → Type 0
+IsAlong X p = (p.b ≡ pos 0) × (p.c ≡ pos 0)
+IsAlong Y p = (p.a ≡ pos 0) × (p.c ≡ pos 0)
+IsAlong Z p = (p.a ≡ pos 0) × (p.b ≡ pos 0)
 
 -- ---- the signs at the corners
 -- some member has the property

@@ -1,7 +1,7 @@
 // Rings and triangles that meet.
 ghost use Rattle.std.specs.Prelude.{◌≡◌, ◌↔◌, ◌^◌, IsTrue, true, false, All, ℤ, pos, ◌<ℤ◌};
 ghost use Rattle.ember_algebra.specs.Size.{Small};
-ghost use Rattle.ember_algebra.specs.Sign.{sgn};
+ghost use Rattle.ember_algebra.specs.Sign.{sgn, is_positive};
 ghost use Rattle.ember_model.specs.Valid.{IsValidCorner, IsValidTri, IsValidPlane};
 ghost use Rattle.ember_model.specs.Planes.{value_at};
 ghost use Rattle.ember_model.specs.Faces.{Cuts, Meets, Somewhere, is_flat, face_of};
@@ -12,7 +12,7 @@ ghost use Rattle.ember_model.specs.Owners.{spot_at};
 ghost use Rattle.ember_poly.specs.Spans.{IsAside, IsSpan, IsLine, IsOpen, Fits};
 
 use crate::answers::Reach;
-use crate::passage::{find_entry, find_passage, is_above};
+use crate::passage::{find_entry, find_passage};
 use crate::reaching::reach;
 use crate::ring::{Ring, main_edges};
 use ember_algebra::Sign;
@@ -48,6 +48,13 @@ fn span_of(y: Sign, z: Sign) -> Span
             _ => Span::Free,
         },
     }
+}
+
+fn is_above(h: &Plane, m: &Meet) -> bool
+    requires { IsValidPlane h.now }
+    ensures { result ≡ is_positive (value_at h.now (spot_of m.now)) }
+{
+    side(h, m) == Sign::Pos
 }
 
 fn none_above(hs: &[Plane], m: &Meet) -> bool

@@ -1,19 +1,20 @@
 // Where a plane passes a ring.
-ghost use Rattle.std.specs.Prelude.{◌≡◌, ◌⊎◌, ◌+◌, ◌<◌, List, length, true, false, All, pos, ◌<ℤ◌};
+ghost use Rattle.std.specs.Prelude.{◌≡◌, ◌⊎◌, ◌+◌, ◌<◌, List, length, true, false, All, IfSome, pos, ◌<ℤ◌, ◌*ℤ◌, ◌-ℤ◌};
 ghost use Rattle.std.specs.List.{AllByRecursion};
-ghost use Rattle.ember_algebra.specs.Sign.{is_positive};
+ghost use Rattle.ember_algebra.specs.Size.{Small};
+ghost use Rattle.ember_algebra.specs.Sign.{sgn, is_positive};
 ghost use Rattle.ember_model.specs.Planes.{value_at};
 ghost use Rattle.ember_model.specs.Valid.{IsValidPlane};
 ghost use Rattle.ember_point.specs.Points.{spot_of};
 ghost use Rattle.ember_poly.specs.Rings.{Sound, Meets, Over, AtMost, turn};
 ghost use Rattle.ember_poly.specs.Rims.{sides, IsPaired};
 ghost use Rattle.ember_poly.specs.declared.answers.Reach.TheVariants as reach;
-ghost use Rattle.ember_poly.specs.Passages.{Has, AreSigns, AreSeen, is_under, Straddles, IsRun, IsRise, IsEntry, IsPassage};
+ghost use Rattle.ember_poly.specs.Passages.{IsAlong, Has, AreSigns, AreSeen, is_under, Straddles, IsRun, IsRise, IsEntry, IsPassage};
 
 use crate::answers::Reach;
 use crate::rim::Rim;
-use ember_algebra::Sign;
-use ember_model::Plane;
+use ember_algebra::{Sign, sign_of};
+use ember_model::{Axis, Plane};
 use ember_point::{Meet, meet, side};
 
 // How a ring's corners lie to a plane and, where they lie on both sides of it, how its negative
@@ -37,27 +38,80 @@ pub struct Passage {
     pub exit: Meet,
 }
 
-fn is_below(p: &Plane, m: &Meet) -> bool
-    requires { IsValidPlane p.now }
-    ensures { result ≡ is_under p.now m.now }
+// The axis along which the plane's normal lies, if it lies along one.
+fn axis_of(p: &Plane) -> Option<Axis>
+    ensures { IfSome result (λ k. IsAlong k p.now) }
 {
-    side(p, m) == Sign::Neg
+    if p.b == 0 && p.c == 0 {
+        Some(Axis::X)
+    } else if p.a == 0 && p.c == 0 {
+        Some(Axis::Y)
+    } else if p.a == 0 && p.b == 0 {
+        Some(Axis::Z)
+    } else {
+        None
+    }
 }
 
-pub fn is_above(p: &Plane, m: &Meet) -> bool
-    requires { IsValidPlane p.now }
+// The side of a plane along an axis, by its entry there and its constant, on which a point lies.
+fn side_by(a: i64, d: i64, x: i128, w: i128) -> Sign
+    requires a { Small 33554431 a }
+    requires d { Small 549755813887 d }
+    requires x { Small 4951760157141521099596496895 x }
+    requires w { Small 302231454903657293676543 w }
+    ensures { result ≡ sgn (a *ℤ x -ℤ d *ℤ w) }
+{
+    sign_of(a as i128 * x - d as i128 * w)
+}
+
+fn side_on(p: &Plane, axis: Axis, m: &Meet) -> Sign
+    requires plane { IsValidPlane p.now }
+    requires axis { IsAlong axis p.now }
+    ensures { result ≡ sgn (value_at p.now (spot_of m.now)) }
+{
+    match axis {
+        Axis::X => side_by(p.a, p.d, m.x, m.w),
+        Axis::Y => side_by(p.b, p.d, m.y, m.w),
+        Axis::Z => side_by(p.c, p.d, m.z, m.w),
+    }
+}
+
+// The side of the plane on which the point lies.
+fn side_along(p: &Plane, axis: Option<Axis>, m: &Meet) -> Sign
+    requires plane { IsValidPlane p.now }
+    requires axis { IfSome axis (λ k. IsAlong k p.now) }
+    ensures { result ≡ sgn (value_at p.now (spot_of m.now)) }
+{
+    match axis {
+        Some(k) => side_on(p, k, m),
+        None => side(p, m),
+    }
+}
+
+fn is_below(p: &Plane, axis: Option<Axis>, m: &Meet) -> bool
+    requires plane { IsValidPlane p.now }
+    requires axis { IfSome axis (λ k. IsAlong k p.now) }
+    ensures { result ≡ is_under p.now m.now }
+{
+    side_along(p, axis, m) == Sign::Neg
+}
+
+fn is_above(p: &Plane, axis: Option<Axis>, m: &Meet) -> bool
+    requires plane { IsValidPlane p.now }
+    requires axis { IfSome axis (λ k. IsAlong k p.now) }
     ensures { result ≡ is_positive (value_at p.now (spot_of m.now)) }
 {
-    side(p, m) == Sign::Pos
+    side_along(p, axis, m) == Sign::Pos
 }
 
 // How many corners at the front lie below the plane.
-fn run(p: &Plane, corners: &[Meet]) -> usize
-    requires { IsValidPlane p.now }
+fn run(p: &Plane, axis: Option<Axis>, corners: &[Meet]) -> usize
+    requires plane { IsValidPlane p.now }
+    requires axis { IfSome axis (λ k. IsAlong k p.now) }
     ensures { IsRun p.now true corners.now result }
 {
     for i in 0..corners.len() {
-        if !is_below(p, &corners[i]) {
+        if !is_below(p, axis, &corners[i]) {
             return i;
         }
     }
@@ -65,13 +119,14 @@ fn run(p: &Plane, corners: &[Meet]) -> usize
 }
 
 // How many corners at the front do not lie below the plane, and whether one of them is above it.
-fn rise(p: &Plane, corners: &[Meet]) -> (usize, bool)
-    requires { IsValidPlane p.now }
+fn rise(p: &Plane, axis: Option<Axis>, corners: &[Meet]) -> (usize, bool)
+    requires plane { IsValidPlane p.now }
+    requires axis { IfSome axis (λ k. IsAlong k p.now) }
     ensures { IsRise p.now corners.now result.0 result.1 }
 {
     let mut high = false;
     for i in 0..corners.len() {
-        match side(p, &corners[i]) {
+        match side_along(p, axis, &corners[i]) {
             Sign::Neg => return (i, high),
             Sign::Zero => {}
             Sign::Pos => high = true,
@@ -81,8 +136,9 @@ fn rise(p: &Plane, corners: &[Meet]) -> (usize, bool)
 }
 
 // One of these corners is above the plane, where no other is known to be.
-fn is_some_above(p: &Plane, corners: &[Meet], known: bool) -> bool
-    requires { IsValidPlane p.now }
+fn is_some_above(p: &Plane, axis: Option<Axis>, corners: &[Meet], known: bool) -> bool
+    requires plane { IsValidPlane p.now }
+    requires axis { IfSome axis (λ k. IsAlong k p.now) }
     ensures some { result ≡ true → (known ≡ true) ⊎ Has (λ m. Over p.now (spot_of m)) corners.now }
     ensures none { result ≡ false → (known ≡ false) × AllByRecursion (λ m. AtMost p.now (spot_of m)) corners.now }
 {
@@ -90,7 +146,7 @@ fn is_some_above(p: &Plane, corners: &[Meet], known: bool) -> bool
         return true;
     }
     for i in 0..corners.len() {
-        if is_above(p, &corners[i]) {
+        if is_above(p, axis, &corners[i]) {
             return true;
         }
     }
@@ -116,11 +172,12 @@ pub fn find_entry(p: &Plane, corners: &[Meet]) -> Entry
     ensures signs { AreSigns p.now corners.now result.reach }
     ensures entry { result.reach ≡ reach.Both → IsEntry p.now corners.now result.first result.kept }
 {
-    let down = run(p, corners);
-    let (up, some_high) = rise(p, &corners[down..]);
+    let axis = axis_of(p);
+    let down = run(p, axis, corners);
+    let (up, some_high) = rise(p, axis, &corners[down..]);
     let end = down + up;
-    let count = run(p, &corners[end..]);
-    let high = is_some_above(p, &corners[end + count..], some_high);
+    let count = run(p, axis, &corners[end..]);
+    let high = is_some_above(p, axis, &corners[end + count..], some_high);
     let reach = reach_by(down + count, high);
     let first = end.saturating_sub(1);
     if end + count < corners.len() {

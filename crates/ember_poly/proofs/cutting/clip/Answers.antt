@@ -1,6 +1,5 @@
-use Rattle.std.proofs.Common.{subst, ap, ◌∙◌, sym}
+use Rattle.std.proofs.Common.{subst, ap, ◌∙◌}
 use Rattle.ember_model.specs.Faces.{below}
-use Rattle.ember_poly.specs.declared.answers.Reach.TheVariants.{Both}
 use Rattle.ember_poly.specs.Cuts.{IsReach}
 use Rattle.ember_poly.specs.Passages.{AreSigns}
 use Rattle.ember_poly.proofs.Lent.{lent_valid}

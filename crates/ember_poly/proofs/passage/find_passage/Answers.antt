@@ -1,6 +1,5 @@
 use Rattle.std.proofs.Common.{◌≡◌, ◌⊎◌, ◌+◌, ◌<◌, ◌∙◌, subst, sym, pos, ◌<ℤ◌, length}
 use Rattle.ember_point.specs.Points.{spot_of}
-use Rattle.ember_poly.specs.declared.passage.Passage.{Passage}
 use Rattle.ember_poly.specs.Rings.{Meets, turn}
 use Rattle.ember_poly.proofs.Passed.{entry_turns, exit_turns, passage_is}
 use Rattle.ember_poly.proofs.passage.find_passage.Goals as goal
