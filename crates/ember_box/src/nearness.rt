@@ -1,5 +1,5 @@
 // Which triangles are near a box.
-ghost use Rattle.std.specs.Prelude.{◌≡◌, ◌<◌, ◌++◌, [], ◌∷◌, true, length, All, IfOk, OnOk, if◌then◌else◌};
+ghost use Rattle.std.specs.Prelude.{◌≡◌, ◌+◌, ◌<◌, ◌≤◌, ◌++◌, [], ◌∷◌, true, length, All, IfOk, if◌then◌else◌, vec_len, vec_capacity};
 ghost use Rattle.ember_model.specs.Valid.{IsValidTri};
 ghost use Rattle.ember_model.specs.Planes.{support_of};
 ghost use Rattle.ember_box.specs.Boxes.{Cell as Box, left_half, right_half};
@@ -91,14 +91,16 @@ pub fn near_list(alloc: Global, s: &Scene, list: &[u32], c: &Cell) -> Result<Vec
     near_among(alloc, s.tris.items(), list, c)
 }
 
-// A place more, if it belongs to the list.
-fn push_if(belongs: bool, i: u32, list: &mut Vec<u32>) -> Result<(), OutOfMemory>
-    ensures { OnOk result (list.new.items ≡ (if belongs then list.old.items ++ i ∷ [] else list.old.items)) }
+// A place more, if it belongs to the list, which has room for it.
+fn push_if(belongs: bool, i: u32, list: &mut Vec<u32>)
+    requires { vec_len list.old < vec_capacity list.old }
+    ensures items { list.new.items ≡ (if belongs then list.old.items ++ i ∷ [] else list.old.items) }
+    ensures len { vec_len list.new ≤ vec_len list.old + 1 }
+    ensures capacity { vec_capacity list.new ≡ vec_capacity list.old }
 {
     if belongs {
-        list.push(i)?;
+        list.push_reserved(i);
     }
-    Ok(())
 }
 
 // The triangle is near the lower half of a box along an axis, and it is near the upper one.
@@ -137,8 +139,8 @@ pub fn near_halves_among(
     let mut high = Vec::with_capacity(alloc, list.len())?;
     for i in list {
         let (in_low, in_high) = near_each(&whole, &halves, k, &tris[*i as usize]);
-        push_if(in_low, *i, &mut low)?;
-        push_if(in_high, *i, &mut high)?;
+        push_if(in_low, *i, &mut low);
+        push_if(in_high, *i, &mut high);
     }
     Ok((low, high))
 }

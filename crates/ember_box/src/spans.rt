@@ -56,14 +56,32 @@ fn span_over(a: i32, b: i32, c: i32) -> Span
     }
 }
 
+fn along_x(t: &Tri) -> Span
+    ensures { result ≡ span_over t.now.a.x t.now.b.x t.now.c.x }
+{
+    span_over(t.a.x, t.b.x, t.c.x)
+}
+
+fn along_y(t: &Tri) -> Span
+    ensures { result ≡ span_over t.now.a.y t.now.b.y t.now.c.y }
+{
+    span_over(t.a.y, t.b.y, t.c.y)
+}
+
+fn along_z(t: &Tri) -> Span
+    ensures { result ≡ span_over t.now.a.z t.now.b.z t.now.c.z }
+{
+    span_over(t.a.z, t.b.z, t.c.z)
+}
+
 /// The bounding box of a triangle.
 pub fn bounding(t: &Tri) -> Spans
     ensures { result ≡ bounding t.now }
 {
     Spans {
-        x: span_over(t.a.x, t.b.x, t.c.x),
-        y: span_over(t.a.y, t.b.y, t.c.y),
-        z: span_over(t.a.z, t.b.z, t.c.z),
+        x: along_x(t),
+        y: along_y(t),
+        z: along_z(t),
     }
 }
 
@@ -91,14 +109,14 @@ pub fn overlap(a: &Spans, b: &Spans) -> bool
     reaches(&a.x, &b.x) && reaches(&a.y, &b.y) && reaches(&a.z, &b.z)
 }
 
-/// They reach each other along the axes other than this one.
-pub fn reach_beside(a: &Spans, b: &Spans, k: Axis) -> bool
-    ensures { result ≡ reach_beside k a.now b.now }
+/// The bounding box of the triangle reaches the box along the axes other than this one.
+pub fn reach_beside(t: &Tri, b: &Spans, k: Axis) -> bool
+    ensures { result ≡ reach_beside k (bounding t.now) b.now }
 {
     match k {
-        Axis::X => reaches(&a.y, &b.y) && reaches(&a.z, &b.z),
-        Axis::Y => reaches(&a.x, &b.x) && reaches(&a.z, &b.z),
-        Axis::Z => reaches(&a.x, &b.x) && reaches(&a.y, &b.y),
+        Axis::X => reaches(&along_y(t), &b.y) && reaches(&along_z(t), &b.z),
+        Axis::Y => reaches(&along_x(t), &b.x) && reaches(&along_z(t), &b.z),
+        Axis::Z => reaches(&along_x(t), &b.x) && reaches(&along_y(t), &b.y),
     }
 }
 

@@ -16,7 +16,7 @@ ghost use Rattle.ember_ref.specs.Ways.{column, IsStraight, IsWayBack};
 
 use crate::signs::{is_behind, lex_side};
 use ember_algebra::Sign;
-use ember_box::{Cell, Span, Spans, bounding, halves, reach_beside, spans_of};
+use ember_box::{Cell, Span, Spans, halves, reach_beside, spans_of};
 use ember_law::add_to;
 use ember_model::{Axis, Tri, Vector, support_of};
 
@@ -121,7 +121,7 @@ fn leg_on(t: &Tri, w: &Way) -> i32
     ensures value { (c : Box) (k : Axis) → 0 < c.log k → IsWayBack c k w.now → result ≡ leg (face_of t.now) (reference (right_half c k)) (reference c) }
     ensures small { Small 1 result }
 {
-    if reach_beside(&bounding(t), &w.spans, w.axis) {
+    if reach_beside(t, &w.spans, w.axis) {
         leg_between(t, w.from, w.to, w.axis)
     } else {
         0

@@ -1,4 +1,4 @@
-use Rattle.std.proofs.Common.{◌<◌, arith, length}
+use Rattle.std.proofs.Common.{◌<◌, ◌∙◌, arith, length}
 use Rattle.ember_box.specs.Boxes.{left_half, right_half}
 use Rattle.ember_box.specs.Near.{is_near, tri_at}
 use Rattle.ember_box.proofs.Sights.{kept_more}
@@ -11,6 +11,10 @@ loop-i-preserved c =
     let below : i < length list = omega arith in
     let each = c.near_each-in_low.ensures cell c.requires.side c.spans_of-whole.ensures.value c.halves_of-halves.ensures.value in
     record {
-      low = kept_more (λ j. is_near (left_half cell k) (tri_at tris j)) list i c.loop-i.low.items c.push_if.new.list.items c.near_each-in_low.result.0 below c.loop-i.invariant.low each.0 c.in_ok-push_if.ensures;
-      high = kept_more (λ j. is_near (right_half cell k) (tri_at tris j)) list i c.loop-i.high.items c.push_if-in-loop-i.new.list.items c.near_each-in_low.result.1 below c.loop-i.invariant.high each.1 c.in_ok-push_if-2.ensures;
+      low = kept_more (λ j. is_near (left_half cell k) (tri_at tris j)) list i c.loop-i.low.items c.push_if.new.list.items c.near_each-in_low.result.0 below c.loop-i.invariant.low each.0 c.push_if.ensures.items;
+      high = kept_more (λ j. is_near (right_half cell k) (tri_at tris j)) list i c.loop-i.high.items c.push_if-in-loop-i.new.list.items c.near_each-in_low.result.1 below c.loop-i.invariant.high each.1 c.push_if-in-loop-i.ensures.items;
+      low_len = omega (arith, c.push_if.ensures.len, c.loop-i.invariant.low_len);
+      high_len = omega (arith, c.push_if-in-loop-i.ensures.len, c.loop-i.invariant.high_len);
+      low_room = c.push_if.ensures.capacity ∙ c.loop-i.invariant.low_room;
+      high_room = c.push_if-in-loop-i.ensures.capacity ∙ c.loop-i.invariant.high_room;
     }

@@ -14,5 +14,5 @@ returns-then-reach_beside-clause-value c = λ b k above way.
 pub returns-else-reach_beside-clause-value : goal.returns-else-reach_beside-clause-value
 returns-else-reach_beside-clause-value c = λ b k above way.
     let t = c.args.t.now in let along = c.args.w.now.axis in
-    let missed : reach_beside along (bounding t) (spans_of (column b k)) ≡ false = (λ i. reach_beside along (sym c.bounding.ensures i) (sym way.spans i)) ∙ sym c.reach_beside.ensures ∙ c.if-reach_beside.false in
+    let missed : reach_beside along (bounding t) (spans_of (column b k)) ≡ false = (λ i. reach_beside along (bounding t) (sym way.spans i)) ∙ sym c.reach_beside.ensures ∙ c.if-reach_beside.false in
     sym (leg_missed b k along t above missed)
