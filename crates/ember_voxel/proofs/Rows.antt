@@ -1,7 +1,7 @@
 -- Rows of cells in which some are set: one more cell, row, layer, box.
 use Rattle.std.proofs.Common.{◌≡◌, ℕ, ◌+◌, ◌*◌, ◌/◌, ◌%◌, ◌<◌, ◌≤◌, ◌==◌, ◌&&◌, ◌||◌, Bool, true, false, nat_le, nat_lt, if◌then◌else◌, ◌⊎◌, inl, inr, List, [], ◌∷◌, ◌++◌, length, get_or, set, take, replicate, append_assoc, refl, sym, ap, ◌∙◌, subst, arith}
 use Rattle.std.proofs.lemmas.Bool.Decides.{eqb_tells}
-use Rattle.std.proofs.lemmas.Bool.{and_parts, eq-eqb, eqb-true, lt-ltb, le-ltb, ltb-true, ltb-false, le-leb, leb-true}
+use Rattle.std.proofs.lemmas.Bool.{and_parts, eq-eqb, eqb-true, ne_eqb, lt-ltb, le-ltb, ltb-true, ltb-false, le-leb, leb-true}
 use Rattle.std.proofs.lemmas.Nat.{div-mul-add, mod-mul-add}
 use Rattle.std.proofs.lemmas.List.{append-nil, get_or-set_same, get_or-set_other, length-append, length-replicate, get_or-replicate, get_or-append-add, get_or_append_left}
 use Rattle.std.proofs.lemmas.List.Folds.{list_any_more}
@@ -13,9 +13,6 @@ use Rattle.ember_voxel.specs.Grid.{char_at, between, lights, lit, KeepsFeeds, Ad
 use Rattle.ember_voxel.proofs.Ceilings.{times_more}
 
 -- ---- tests
-pub other_test : (m n : ℕ) → (m ≡ n → ⊥) → (m == n) ≡ false
-other_test m n e = elim (eqb_tells m n) [ inl h ↦ absurd (e h.1) | inr h ↦ h.0 ]
-
 -- a number more in an interval
 lt_same : (k i : ℕ) → (k ≡ i → ⊥) → nat_lt k (i + 1) ≡ nat_lt k i
 lt_same k i apart = by (nat_lt k i) refl where
@@ -127,7 +124,7 @@ row_more n r from i start old now e le l within s =
       feeds' : (q : ℕ) → char_at n (set now (r * (n + 1) + i) 49) q n ≡ char_at n old q n
       feeds' q =
           write_at n r i q n 49 now (omega arith) (omega arith) within'
-          ∙ ap (λ b. if q == r && b then 49 else char_at n now q n) (other_test n i (λ f. omega (arith, f)))
+          ∙ ap (λ b. if q == r && b then 49 else char_at n now q n) (ne_eqb n i (λ f. omega (arith, f)))
           ∙ nothing (q == r) 49 (char_at n now q n)
           ∙ s.feeds.kept q
 

@@ -1,29 +1,22 @@
 -- The longest side of a box, and the sides of its halves.
 use Rattle.std.proofs.Common.{◌≡◌, ℕ, zero, suc, pred, ◌<◌, ◌≤◌, ◌==◌, ◌&&◌, Bool, true, false, nat_le, if◌then◌else◌, refl, arith}
-use Rattle.std.proofs.lemmas.Bool.{eq-eqb}
-use Rattle.std.proofs.lemmas.Bool.Decides.{nat_tests}
+use Rattle.std.proofs.lemmas.Bool.{eq-eqb, leb-true, leb-false}
 use Rattle.ember_model.specs.declared.point.Axis.{Axis}
 use Rattle.ember_model.specs.declared.point.Axis.TheVariants.{X, Y, Z}
 use Rattle.ember_model.proofs.SignTests.{clash}
 use Rattle.ember_box.specs.Boxes.{Cell, put}
 use Rattle.ember_voxel.specs.Lattice.{longest, is_lattice_cell}
 
-above : (m n : ℕ) → nat_le m n ≡ true → m ≤ n
-above m n e = grind (arith, nat_tests)
-
-below : (m n : ℕ) → nat_le m n ≡ false → n < m
-below m n e = grind (arith, nat_tests)
-
 -- a longest one of three
 abbrev Most : (Axis → ℕ) → Axis → Type 0
 Most f m = (f X ≤ f m) × (f Y ≤ f m) × (f Z ≤ f m)
 
 most : (f : Axis → ℕ) (a b c : Bool) → nat_le (f Y) (f X) ≡ a → nat_le (f Z) (f X) ≡ b → nat_le (f Z) (f Y) ≡ c → Most f (if a && b then X else (if c then Y else Z))
-most f true true c p q r = (omega arith, above (f Y) (f X) p, above (f Z) (f X) q)
-most f true false true p q r = absurd (omega (arith, above (f Y) (f X) p, below (f Z) (f X) q, above (f Z) (f Y) r))
-most f true false false p q r = (omega (arith, below (f Z) (f X) q), omega (arith, below (f Z) (f Y) r), omega arith)
-most f false b true p q r = (omega (arith, below (f Y) (f X) p), omega arith, above (f Z) (f Y) r)
-most f false b false p q r = (omega (arith, below (f Y) (f X) p, below (f Z) (f Y) r), omega (arith, below (f Z) (f Y) r), omega arith)
+most f true true c p q r = (omega arith, leb-true (f Y) (f X) p, leb-true (f Z) (f X) q)
+most f true false true p q r = absurd (omega (arith, leb-true (f Y) (f X) p, leb-false (f Z) (f X) q, leb-true (f Z) (f Y) r))
+most f true false false p q r = (omega (arith, leb-false (f Z) (f X) q), omega (arith, leb-false (f Z) (f Y) r), omega arith)
+most f false b true p q r = (omega (arith, leb-false (f Y) (f X) p), omega arith, leb-true (f Z) (f Y) r)
+most f false b false p q r = (omega (arith, leb-false (f Y) (f X) p, leb-false (f Z) (f Y) r), omega (arith, leb-false (f Z) (f Y) r), omega arith)
 
 longest_most : (c : Cell) → Most c.log (longest c)
 longest_most c = most c.log (nat_le (c.log Y) (c.log X)) (nat_le (c.log Z) (c.log X)) (nat_le (c.log Z) (c.log Y)) refl refl refl
@@ -32,9 +25,9 @@ longest_most c = most c.log (nat_le (c.log Y) (c.log X)) (nat_le (c.log Z) (c.lo
 pub longest_above : (c : Cell) (size : ℕ) → ((k : Axis) → size ≤ c.log k) → is_lattice_cell size c ≡ false → size < c.log (longest c)
 longest_above c size sides e = at (nat_le (c.log (longest c)) size) refl where
   at : (b : Bool) → nat_le (c.log (longest c)) size ≡ b → size < c.log (longest c)
-  at false p = below (c.log (longest c)) size p
+  at false p = leb-false (c.log (longest c)) size p
   at true p =
-      let l = above (c.log (longest c)) size p in
+      let l = leb-true (c.log (longest c)) size p in
       let m = longest_most c in
       let x : (c.log X == size) ≡ true = eq-eqb (c.log X) size (omega (arith, l, m.0, sides X)) in
       let y : (c.log Y == size) ≡ true = eq-eqb (c.log Y) size (omega (arith, l, m.1, sides Y)) in

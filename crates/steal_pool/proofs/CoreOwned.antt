@@ -19,7 +19,7 @@ use Rattle.steal_pool.specs.Journals.{times, times_halved, if_halved_at, journal
 use Rattle.steal_pool.specs.CoreRuns.{unless_halved, IsCoreRun}
 use Rattle.steal_pool.proofs.Rules.{weigh_append}
 use Rattle.steal_pool.proofs.Trees.{low_less, high_less}
-use Rattle.steal_pool.proofs.Places.{base, Fits, low_base, high_base, fits_low, fits_high}
+use Rattle.steal_pool.proofs.Places.{base, Fits, are_halves, fits_low, fits_high}
 use Rattle.steal_pool.proofs.Owned.{turn_of, turn_is, Up, up_append, up_from, once, top, owner, owner_has, some_journal, owner_is, only, keep_weighs, by_owner, outer}
 
 halved_nil : (κ : Kind) → if_halved κ 0 ≡ 0
@@ -78,19 +78,15 @@ module _ (shape : Job → Shape) (valid : Job → Type 0) where
   ups zero j at h v f (halved l r) is = absurd (omega (arith, at, low_less j.cell l.cell r.cell (h j l r v is).1))
   ups (suc d) j at h v f (halved l r) is =
       let k = h j l r v is in
-      let low = low_less j.cell l.cell r.cell k.1 in
-      let high = high_less j.cell l.cell r.cell k.1 in
-      let bl = low_base j.cell.path l.cell.path (left j.cell) (left l.cell) low (ap (λ (c : Cell). c.path) k.1.is_low) in
-      let br = high_base j.cell.path r.cell.path (left j.cell) (left r.cell) high (ap (λ (c : Cell). c.path) k.1.is_high) in
-      let sr = (low_base j.cell.path (2 * j.cell.path) (left j.cell) (left r.cell) high refl).1 in
+      let both = are_halves j l r k.1 in
       let fl = fits_low j l r k.1 f in
       let fr = fits_high j l r k.1 f in
-      let wl = ups d l (omega (arith, at, low)) h k.0.0 fl (shape l) refl in
-      let wr = ups d r (omega (arith, at, high)) h k.0.1 fr (shape r) refl in
-      let next : turn_of l.cell.path ≡ turn_of j.cell.path + 1 = omega (arith, turn_is l fl, turn_is j f, bl.0, low, f.few) in
-      let mid : top l ≤ turn_of r.cell.path = omega (arith, turn_is r fr, bl.0, bl.1, br, sr) in
-      let end : top r ≡ top j = omega (arith, br, sr) in
-      subst (Up (turn_of j.cell.path) (top j)) (sym (halved_visits shape (left j.cell) j l r refl is low high)) (omega arith, up_append (turn_of j.cell.path + 1) (top l) (top j) (visited shape l) (visited shape r) (subst (λ n. Up n (top l) (visited shape l)) next wl) (up_from (turn_of r.cell.path) (top l) (top j) (visited shape r) mid (subst (λ n. Up (turn_of r.cell.path) n (visited shape r)) end wr)))
+      let wl = ups d l (omega (arith, at, both.low_less)) h k.0.0 fl (shape l) refl in
+      let wr = ups d r (omega (arith, at, both.high_less)) h k.0.1 fr (shape r) refl in
+      let next : turn_of l.cell.path ≡ turn_of j.cell.path + 1 = omega (arith, turn_is l fl, turn_is j f, both.low_base, both.low_less, f.few) in
+      let mid : top l ≤ turn_of r.cell.path = omega (arith, turn_is r fr, both.low_base, both.low_size, both.high_base, both.high_size) in
+      let end : top r ≡ top j = omega (arith, both.high_base, both.high_size) in
+      subst (Up (turn_of j.cell.path) (top j)) (sym (halved_visits shape (left j.cell) j l r refl is both.low_less both.high_less)) (omega arith, up_append (turn_of j.cell.path + 1) (top l) (top j) (visited shape l) (visited shape r) (subst (λ n. Up n (top l) (visited shape l)) next wl) (up_from (turn_of r.cell.path) (top l) (top j) (visited shape r) mid (subst (λ n. Up (turn_of r.cell.path) n (visited shape r)) end wr)))
 
   module _ (root : Job) (n : ℕ) (js : List (List Entry)) (h : Splits shape valid) (v : valid root) (f : Fits root) (rules : KeepRules shape root n js) (many : length js ≡ n + 1) where
     abbrev own : ℕ → ℕ

@@ -32,33 +32,52 @@ double : (p m : ℕ) → p * 2 ^ suc m ≡ 2 * (p * 2 ^ m)
 double p m = ap (λ x. p * x) (pow-succ' 2 m) ∙ omega arith
 
 -- the halves share their box's place
-pub low_base : (p q l m : ℕ) → m + 1 ≡ l → q ≡ 2 * p → (q * 2 ^ m ≡ p * 2 ^ l) × (2 * 2 ^ m ≡ 2 ^ l)
+low_base : (p q l m : ℕ) → m + 1 ≡ l → q ≡ 2 * p → (q * 2 ^ m ≡ p * 2 ^ l) × (2 * 2 ^ m ≡ 2 ^ l)
 low_base p q l m e is = (ap (λ x. x * 2 ^ m) is ∙ (omega arith) ∙ sym (double p m) ∙ ap (λ n. p * 2 ^ n) same, sym (pow-succ' 2 m) ∙ ap (λ n. 2 ^ n) same) where
   same : suc m ≡ l
   same = omega (arith, e)
 
-pub high_base : (p q l m : ℕ) → m + 1 ≡ l → q ≡ 2 * p + 1 → q * 2 ^ m ≡ p * 2 ^ l + 2 ^ m
+high_base : (p q l m : ℕ) → m + 1 ≡ l → q ≡ 2 * p + 1 → q * 2 ^ m ≡ p * 2 ^ l + 2 ^ m
 high_base p q l m e is = ap (λ x. x * 2 ^ m) is ∙ spread p (2 ^ m) ∙ ap (λ x. x + 2 ^ m) (low_base p (2 * p) l m e refl).0 where
   spread : (p x : ℕ) → (2 * p + 1) * x ≡ 2 * p * x + x
   spread p x = omega arith
 
+-- how deep the halves lie, and where, against their box
+pub record AreHalves (j l r : Job) : Type 0 where
+  pub low_less : left l.cell + 1 ≡ left j.cell
+  pub high_less : left r.cell + 1 ≡ left j.cell
+  pub low_base : base l ≡ base j
+  pub high_base : base r ≡ base j + 2 ^ left r.cell
+  pub low_size : 2 * 2 ^ left l.cell ≡ 2 ^ left j.cell
+  pub high_size : 2 * 2 ^ left r.cell ≡ 2 ^ left j.cell
+
+pub are_halves : (j l r : Job) → IsSplit j.cell l.cell r.cell → AreHalves j l r
+are_halves j l r s =
+    let low = low_less j.cell l.cell r.cell s in
+    let high = high_less j.cell l.cell r.cell s in
+    let first = low_base j.cell.path l.cell.path (left j.cell) (left l.cell) low (ap (λ (c : Cell). c.path) s.is_low) in record {
+      low_less = low;
+      high_less = high;
+      low_base = first.0;
+      high_base = high_base j.cell.path r.cell.path (left j.cell) (left r.cell) high (ap (λ (c : Cell). c.path) s.is_high);
+      low_size = first.1;
+      high_size = (low_base j.cell.path (2 * j.cell.path) (left j.cell) (left r.cell) high refl).1;
+    }
+
 pub fits_low : (j l r : Job) → IsSplit j.cell l.cell r.cell → Fits j → Fits l
 fits_low j l r s f =
-    let one = low_less j.cell l.cell r.cell s in
-    let at = low_base j.cell.path l.cell.path (left j.cell) (left l.cell) one (ap (λ (c : Cell). c.path) s.is_low) in record {
-      few = omega (arith, f.few, one);
-      from = omega (arith, f.from, at.0);
-      below = omega (arith, f.below, at.0, at.1);
+    let h = are_halves j l r s in record {
+      few = omega (arith, f.few, h.low_less);
+      from = omega (arith, f.from, h.low_base);
+      below = omega (arith, f.below, h.low_base, h.low_size);
     }
 
 pub fits_high : (j l r : Job) → IsSplit j.cell l.cell r.cell → Fits j → Fits r
 fits_high j l r s f =
-    let one = high_less j.cell l.cell r.cell s in
-    let at = high_base j.cell.path r.cell.path (left j.cell) (left r.cell) one (ap (λ (c : Cell). c.path) s.is_high) in
-    let size = (low_base j.cell.path (2 * j.cell.path) (left j.cell) (left r.cell) one refl).1 in record {
-      few = omega (arith, f.few, one);
-      from = omega (arith, f.from, at);
-      below = omega (arith, f.below, at, size);
+    let h = are_halves j l r s in record {
+      few = omega (arith, f.few, h.high_less);
+      from = omega (arith, f.from, h.high_base);
+      below = omega (arith, f.below, h.high_base, h.high_size);
     }
 
 pub one_more : (a x : ℕ) → (a + 1) * x ≡ a * x + x
@@ -115,11 +134,7 @@ module _ (shape : Job → Shape) (valid : Job → Type 0) where
   leaves_within zero j at h v f (halved l r) is = absurd (omega (arith, at, low_less j.cell l.cell r.cell (h j l r v is).1))
   leaves_within (suc d) j at h v f (halved l r) is =
       let k = h j l r v is in
-      let low = low_less j.cell l.cell r.cell k.1 in
-      let high = high_less j.cell l.cell r.cell k.1 in
-      let bl = low_base j.cell.path l.cell.path (left j.cell) (left l.cell) low (ap (λ (c : Cell). c.path) k.1.is_low) in
-      let br = high_base j.cell.path r.cell.path (left j.cell) (left r.cell) high (ap (λ (c : Cell). c.path) k.1.is_high) in
-      let sr = (low_base j.cell.path (2 * j.cell.path) (left j.cell) (left r.cell) high refl).1 in
-      let wl = leaves_within d l (omega (arith, at, low)) h k.0.0 (fits_low j l r k.1 f) (shape l) refl in
-      let wr = leaves_within d r (omega (arith, at, high)) h k.0.1 (fits_high j l r k.1 f) (shape r) refl in
-      subst (λ js. Within (base j) (base j + 2 ^ left j.cell) (leaves_among shape js)) (sym (halved_visits shape (left j.cell) j l r refl is low high)) (subst (λ s. Within (base j) (base j + 2 ^ left j.cell) (if_leafed j s ++ leaves_among shape (visited shape l ++ visited shape r))) (sym is) (subst (λ js. Within (base j) (base j + 2 ^ left j.cell) js) (sym (leaves_append shape (visited shape l) (visited shape r))) (within_append (base j) (base r) (base j + 2 ^ left j.cell) (leaves_among shape (visited shape l)) (leaves_among shape (visited shape r)) (subst (λ n. Within n (base r) (leaves_among shape (visited shape l))) bl.0 (subst (λ n. Within (base l) n (leaves_among shape (visited shape l))) (omega (arith, bl.0, bl.1, br, sr)) wl)) (subst (λ n. Within (base r) n (leaves_among shape (visited shape r))) (omega (arith, br, sr)) wr))))
+      let both = are_halves j l r k.1 in
+      let wl = leaves_within d l (omega (arith, at, both.low_less)) h k.0.0 (fits_low j l r k.1 f) (shape l) refl in
+      let wr = leaves_within d r (omega (arith, at, both.high_less)) h k.0.1 (fits_high j l r k.1 f) (shape r) refl in
+      subst (λ js. Within (base j) (base j + 2 ^ left j.cell) (leaves_among shape js)) (sym (halved_visits shape (left j.cell) j l r refl is both.low_less both.high_less)) (subst (λ s. Within (base j) (base j + 2 ^ left j.cell) (if_leafed j s ++ leaves_among shape (visited shape l ++ visited shape r))) (sym is) (subst (λ js. Within (base j) (base j + 2 ^ left j.cell) js) (sym (leaves_append shape (visited shape l) (visited shape r))) (within_append (base j) (base r) (base j + 2 ^ left j.cell) (leaves_among shape (visited shape l)) (leaves_among shape (visited shape r)) (subst (λ n. Within n (base r) (leaves_among shape (visited shape l))) both.low_base (subst (λ n. Within (base l) n (leaves_among shape (visited shape l))) (omega (arith, both.low_base, both.low_size, both.high_base, both.high_size)) wl)) (subst (λ n. Within (base r) n (leaves_among shape (visited shape r))) (omega (arith, both.high_base, both.high_size)) wr))))
