@@ -18,3 +18,4 @@ pub mod OneReading
 pub mod SolidFiles
 pub mod SliceFaults
 pub mod Complete
+pub mod OneTexts

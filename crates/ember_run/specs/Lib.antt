@@ -7,6 +7,7 @@ pub mod Solids
 pub mod Lattices
 pub mod Tasks
 pub mod Outputs
+pub mod OfScenes
 pub mod Slices
 pub mod Verdict
 pub mod Serves

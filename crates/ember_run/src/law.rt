@@ -1,6 +1,7 @@
-// The laws of what `faces` and `at` write.
-ghost use Rattle.std.specs.Prelude.{◌≡◌, ◌↔◌, ℕ, pos, ◌<ℤ◌, true, List};
+// The laws of what is written: each output has one text, and what `faces` and `at` write has its meaning.
+ghost use Rattle.std.specs.Prelude.{◌≡◌, ◌↔◌, ℕ, ℤ, pos, ◌<ℤ◌, true, List};
 ghost use Rattle.std.specs.List.{list_all};
+ghost use Rattle.ember_expr.specs.Formula.{Formula};
 ghost use Rattle.ember_model.specs.declared.face.Face.{Face};
 ghost use Rattle.ember_model.specs.declared.point.Axis.{Axis};
 ghost use Rattle.ember_model.specs.declared.point.Spot.{Spot};
@@ -9,7 +10,25 @@ ghost use Rattle.ember_model.specs.FaceFiles.{IsFaceFile};
 ghost use Rattle.ember_model.specs.Clear.{IsClearOf};
 ghost use Rattle.ember_model.specs.ClearTest.{is_clear_of};
 ghost use Rattle.ember_model.specs.Meshes.{IsScene, faces_of, vector, wind};
-ghost use Rattle.ember_run.specs.Outputs.{FaceTexts, IsOutput};
+ghost use Rattle.ember_run.specs.OfScenes.{IsOfScene};
+ghost use Rattle.ember_run.specs.Outputs.{FaceTexts, IsOutput, Output, SolidFaces};
+ghost use Rattle.ember_run.specs.Slices.{IsSlice};
+
+/// The solid of an expression over the triangles of a scene has one document: its written regions
+/// are one list, and faces have one text.
+pub fn solids_have_one_document()
+    ensures { (tris : List Tri) (meshes : ℕ) (formula : Formula) (one other : List ℕ) → IsScene tris meshes → IsOutput (SolidFaces tris formula) one → IsOutput (SolidFaces tris formula) other → one ≡ other }
+{}
+
+/// Each output has one text: what its definition says of the bytes tells all of them.
+pub fn outputs_have_one_text()
+    ensures { (output : Output) (one other : List ℕ) → IsOfScene output → IsOutput output one → IsOutput output other → one ≡ other }
+{}
+
+/// The slice of a file at a level has one text.
+pub fn slices_of_files_have_one_text()
+    ensures { (at : ℤ) (bytes one other : List ℕ) → IsSlice at bytes one → IsSlice at bytes other → one ≡ other }
+{}
 
 /// What `faces` writes for the triangles holds their faces and no other list of faces, so each
 /// winding number of the faces read back is that of the triangles.

@@ -20,7 +20,8 @@ mod voxels;
 
 pub use law::{
     clear_points_are_found, counts_along_all_axes_agree, face_files_have_one_reading,
-    faces_wind_as_read,
+    faces_wind_as_read, outputs_have_one_text, slices_of_files_have_one_text,
+    solids_have_one_document,
 };
 pub use status::{FaceFault, LimitKind, Status};
 pub use top::{run, run_one};
