@@ -10,12 +10,13 @@ use Rattle.ember_model.specs.declared.plane.Plane.{Plane}
 use Rattle.ember_model.specs.declared.point.Spot.{Spot}
 use Rattle.ember_model.specs.Planes.{value_at}
 use Rattle.ember_model.specs.ClearTest.{none_positive, face_with}
-use Rattle.ember_model.specs.Faces.{Meets as MeetsFace}
+use Rattle.ember_model.specs.declared.face.Face.{Face}
+use Rattle.ember_model.specs.Faces.{Cuts, Meets as MeetsFace}
 use Rattle.ember_point.specs.Points.{spot_of}
 use Rattle.ember_poly.specs.declared.passage.Passage.{Passage}
 use Rattle.ember_poly.specs.Rings.{entered, closing, Side, Under, AtMost, AtLeast, Inside, Meets, Sound, Stands}
 use Rattle.ember_poly.specs.Passages.{Leaves, IsPassage}
-use Rattle.ember_poly.specs.Spans.{mixed2, IsOpen, IsLine}
+use Rattle.ember_poly.specs.Spans.{mixed2, IsOpen, IsLine, IsChord}
 use Rattle.ember_poly.proofs.Chains.{each_map, each_both, each-back, each-front}
 use Rattle.ember_poly.proofs.Turns.{turned_by, each-turned}
 use Rattle.ember_poly.proofs.Planar.{same_place}
@@ -195,3 +196,13 @@ module _ (n p : Plane) (gs : List Plane) (xs : List Side) (at : Passage) (q : Is
       let k = into m.at (inside_seen n p gs xs st m.at m.inside) in
       let c = closed_out (face_with p hs) m.at m.holds in
       chord_open n p q.head q.last q.front q.others y z q.entry q.exit sound q.under q.enters q.leaves m.at k c.flat hs (all_in hs m.at c.within)
+
+-- the chord of the face that the ring stands for
+pub chord_of : (f : Face) (n p : Plane) (gs : List Plane) (xs : List Side) (at : Passage) → IsPassage n p xs at → Stands n gs xs → record { support = n; edges = gs } ≡ f → Cuts f p → IsChord f p (spot_of at.exit) (spot_of at.entry)
+chord_of f n p gs xs at q s e k =
+    record {
+      cuts = k;
+      line = subst (λ g. IsLine g.support p (spot_of at.exit) (spot_of at.entry)) e (chord_line n p gs xs at q s);
+      meets = λ hs o. subst (λ g. MeetsFace g (face_with p hs)) e (chord_meets n p gs xs at q s hs o);
+      opens = λ hs m. meets_chord n p gs xs at q s hs (subst (λ g. MeetsFace g (face_with p hs)) (sym e) m);
+    }

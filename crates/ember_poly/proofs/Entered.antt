@@ -2,7 +2,7 @@
 use Rattle.std.proofs.Common.{◌≡◌, ◌⊎◌, ⊎_elim, inl, inr, refl, sym, ap, subst, ◌∙◌, arith, ℕ, zero, suc, ◌<◌, ◌≤◌, ◌+◌, ◌-◌, Bool, true, false, not, List, [], ◌∷◌, ◌++◌, length, take, drop, length-drop, ℤ, pos, ◌<ℤ◌, ◌≤ℤ◌}
 use lib.ListN.{get_or}
 use Rattle.std.specs.List.{AllByRecursion}
-use Rattle.std.proofs.lemmas.List.{take-append-drop, drop-drop, take_more, drop_more}
+use Rattle.std.proofs.lemmas.List.{take-append-drop, drop-drop, take_more, drop_more, take_all, drop_all}
 use Rattle.ember_algebra.specs.Sign.{is_positive}
 use Rattle.ember_algebra.proofs.Laws.{linear}
 use Rattle.ember_model.specs.declared.plane.Plane.{Plane}
@@ -52,6 +52,9 @@ both_from p ms On s t =
 both_from p ms Both s t = refl
 
 -- ---- a rise, corner by corner
+whole : (ms : List Meet) (i : ℕ) → length ms ≤ i → take i ms ≡ take (length ms) ms
+whole ms i l = take_all i ms l ∙ sym (take_all (length ms) ms (omega arith))
+
 has-drop : {X : Type 0} (P : X → Type 0) (k : ℕ) (xs : List X) → Has P (drop k xs) → Has P xs
 has-drop P k xs h = subst (λ ys. Has P ys) (take-append-drop k xs) (has-back P (take k xs) (drop k xs) h)
 
@@ -94,11 +97,54 @@ module _ (p : Plane) where
   rise_stops high ms i m l e v r =
       record { run = record { fits = omega (arith, l); all = r.all; stops = stops_at p false ms i m l (subst (λ n. is_under p n ≡ true) e (negative_in v)) }; risen = r }
 
-  pub rise_ends : (high : Bool) (ms : List Meet) (i : ℕ) → length ms ≤ i → i ≤ length ms → AreRisen p high (take i ms) → IsRise p ms (length ms) high
-  rise_ends high ms i l k r =
-      let e : i ≡ length ms = omega (arith, l, k) in
-      let q = subst (λ n. AreRisen p high (take n ms)) e r in
+  pub rise_ends : (high : Bool) (ms : List Meet) (i : ℕ) → length ms ≤ i → AreRisen p high (take i ms) → IsRise p ms (length ms) high
+  rise_ends high ms i l r =
+      let q = subst (λ ns. AreRisen p high ns) (whole ms i l) r in
       record { run = record { fits = omega arith; all = q.all; stops = stops_end p false ms (length ms) (omega arith) }; risen = q }
+
+  -- ---- a run, corner by corner
+  abbrev Lower : Meet → Type 0
+  Lower m = is_under p m ≡ true
+
+  pub run_next : (ms : List Meet) (i : ℕ) (m : Meet) → i < length ms → m ≡ get_or ms i m → value_at p (spot_of m) <ℤ pos 0 → AllByRecursion Lower (take i ms) → AllByRecursion Lower (take (i + 1) ms)
+  run_next ms i m l e v h =
+      subst (λ ns. AllByRecursion Lower ns) (sym (take_more ms i m l ∙ ap (λ n. take i ms ++ n ∷ []) (sym e))) (each-push Lower (take i ms) m h (negative_in v))
+
+  pub run_stops : (ms : List Meet) (i : ℕ) (m : Meet) → i < length ms → m ≡ get_or ms i m → pos 0 ≤ℤ value_at p (spot_of m) → AllByRecursion Lower (take i ms) → IsRun p true ms i
+  run_stops ms i m l e v h =
+      record { fits = omega (arith, l); all = h; stops = stops_at p true ms i m l (subst (λ n. is_under p n ≡ false) e (negative_not (value_at p (spot_of m)) v)) }
+
+  pub run_ends : (ms : List Meet) (i : ℕ) → length ms ≤ i → AllByRecursion Lower (take i ms) → IsRun p true ms (length ms)
+  run_ends ms i l h =
+      record { fits = omega arith; all = subst (λ ns. AllByRecursion Lower ns) (whole ms i l) h; stops = stops_end p true ms (length ms) (omega arith) }
+
+  -- the corner behind a run
+  next_is : (high : Bool) (ms : List Meet) (i : ℕ) (m : Meet) → i < length ms → m ≡ get_or ms i m → AreRisen p high (m ∷ []) → AreRisen p high (take 1 (drop i ms))
+  next_is high ms i m l e r =
+      subst (λ ns. AreRisen p high ns) (sym (ap (λ ns. take 1 ns) (drop_more ms i m l) ∙ ap (λ n. n ∷ []) (sym e))) r
+
+  pub next_zero : (ms : List Meet) (i : ℕ) (m : Meet) → i < length ms → m ≡ get_or ms i m → value_at p (spot_of m) ≡ pos 0 → AreRisen p false (take 1 (drop i ms))
+  next_zero ms i m l e v = next_is false ms i m l e (risen_zero false [] m v risen_none)
+
+  pub next_over : (ms : List Meet) (i : ℕ) (m : Meet) → i < length ms → m ≡ get_or ms i m → pos 0 <ℤ value_at p (spot_of m) → AreRisen p true (take 1 (drop i ms))
+  next_over ms i m l e v = next_is true ms i m l e (risen_over false [] m v risen_none)
+
+  pub next_none : (ms : List Meet) → AreRisen p false (take 1 (drop (length ms) ms))
+  next_none ms =
+      subst (λ ns. AreRisen p false (take 1 ns)) (sym (drop_all (length ms) ms (omega arith))) risen_none
+
+  -- in the list as code has it
+  pub next_first : (high : Bool) (ms : List Meet) (d : ℕ) → AreRisen p high (take 1 (drop d ms)) → AreRisen p high (take 1 (take (length ms - d) (drop d ms)))
+  next_first high ms d r = subst (λ ns. AreRisen p high (take 1 ns)) (sym (rest_of d ms)) r
+
+  -- the corner behind a rise
+  pub known_low : (ms : List Meet) (d u : ℕ) (high : Bool) → IsRise p (take (length ms - d) (drop d ms)) u high → AllByRecursion Lower (take 1 (take (length ms - (d + u)) (drop (d + u) ms)))
+  known_low ms d u high r =
+      subst (λ ns. AllByRecursion Lower (take 1 ns)) (ap (λ ns. drop u ns) (rest_of d ms) ∙ drop-drop u d ms ∙ sym (rest_of (d + u) ms)) (by (drop u (take (length ms - d) (drop d ms))) r.run.stops)
+    where
+      by : (ns : List Meet) → Stops p false ns → AllByRecursion (λ m. is_under p m ≡ true) (take 1 ns)
+      by [] s = tt
+      by (n ∷ ns) s = (s, tt)
 
   pub some_raised : (ms : List Meet) (i : ℕ) (m : Meet) → i < length ms → m ≡ get_or ms i m → is_positive (value_at p (spot_of m)) ≡ true → Has Raised ms
   some_raised ms i m l e v =

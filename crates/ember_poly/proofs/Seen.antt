@@ -32,13 +32,13 @@ pos_out a e f = pos_from_sgn a (rw (← e, f) tt)
 below_most : {a : ℤ} → a <ℤ pos 0 → a ≤ℤ pos 0
 below_most p = omega (arith, linear, p)
 
-above_least : {a : ℤ} → pos 0 <ℤ a → pos 0 ≤ℤ a
+pub above_least : {a : ℤ} → pos 0 <ℤ a → pos 0 ≤ℤ a
 above_least p = omega (arith, linear, p)
 
 zero_most : {a : ℤ} → a ≡ pos 0 → a ≤ℤ pos 0
 zero_most p = omega (arith, linear, p)
 
-zero_least : {a : ℤ} → a ≡ pos 0 → pos 0 ≤ℤ a
+pub zero_least : {a : ℤ} → a ≡ pos 0 → pos 0 ≤ℤ a
 zero_least p = omega (arith, linear, p)
 
 module _ (p : Plane) (ms : List Meet) (m : Meet) where

@@ -4,10 +4,17 @@ use Rattle.ember_model.specs.declared.plane.Plane.{Plane}
 use Rattle.ember_model.specs.declared.point.Spot.{Spot}
 use Rattle.ember_model.specs.declared.tri.Tri.{Tri}
 use Rattle.ember_model.specs.Planes.{value_at}
+use Rattle.ember_model.specs.declared.face.Face.{Face}
+use Rattle.ember_model.specs.Faces.{Cuts, Meets as MeetsFace}
 use Rattle.ember_model.specs.Owners.{spot_at}
-use Rattle.ember_model.specs.ClearTest.{none_positive}
+use Rattle.ember_model.specs.ClearTest.{face_with, none_positive}
+use Rattle.ember_point.specs.Points.{spot_of}
+use Rattle.ember_poly.specs.declared.answers.Reach.TheVariants as reach
+use Rattle.ember_poly.specs.declared.meeting.Crossing.{Crossing}
+use Rattle.ember_poly.specs.declared.meeting.Crossing.TheVariants as crossing
 use Rattle.ember_poly.specs.declared.meeting.Span.{Span}
 use Rattle.ember_poly.specs.declared.meeting.Span.TheVariants.{Free, Split, Shut}
+use Rattle.ember_poly.specs.Cuts.{IsReach}
 use Rattle.ember_poly.specs.Rings.{Under, Over, turn, Meets}
 
 -- of a plane with these values at the two points: it is positive at no point between them, at some, or at all
@@ -51,3 +58,17 @@ pub record IsLine (n p : Plane) (y z : Spot) : Type 0 where
 abbrev pub IsAside : Plane → Tri → Type 0
 IsAside p t =
     (Over p (spot_at t.a) × Over p (spot_at t.b) × Over p (spot_at t.c)) ⊎ (Under p (spot_at t.a) × Under p (spot_at t.b) × Under p (spot_at t.c))
+
+-- the plane cuts f, and y and z are the ends of what it has in f
+pub record IsChord (f : Face) (p : Plane) (y z : Spot) : Type 0 where
+  pub cuts : Cuts f p
+  pub line : IsLine f.support p y z
+  pub meets : (hs : List Plane) → IsOpen hs y z → MeetsFace f (face_with p hs)
+  pub opens : (hs : List Plane) → MeetsFace f (face_with p hs) → IsOpen hs y z
+
+-- on which sides of the plane f lies, and the chord where the plane cuts it
+abbrev pub IsCrossing : Face → Plane → Crossing → Type 0
+IsCrossing f p crossing.Below = IsReach f p reach.Below
+IsCrossing f p crossing.Above = IsReach f p reach.Above
+IsCrossing f p crossing.On = IsReach f p reach.On
+IsCrossing f p (crossing.Along y z) = IsChord f p (spot_of y) (spot_of z)

@@ -4,16 +4,16 @@ ghost use Rattle.ember_algebra.specs.Size.{Small};
 ghost use Rattle.ember_algebra.specs.Sign.{sgn, is_positive};
 ghost use Rattle.ember_model.specs.Valid.{IsValidCorner, IsValidTri, IsValidPlane};
 ghost use Rattle.ember_model.specs.Planes.{value_at};
-ghost use Rattle.ember_model.specs.Faces.{Cuts, Meets, Somewhere, is_flat, face_of};
+ghost use Rattle.ember_model.specs.Faces.{Meets, Somewhere, is_flat, face_of};
 ghost use Rattle.ember_model.specs.ClearTest.{face_with, none_positive};
 ghost use Rattle.ember_point.specs.Points.{spot_of};
 ghost use Rattle.ember_poly.specs.Cuts.{HasInside};
 ghost use Rattle.ember_model.specs.Owners.{spot_at};
-ghost use Rattle.ember_poly.specs.Spans.{IsAside, IsSpan, IsLine, IsOpen, Fits};
+ghost use Rattle.ember_poly.specs.Spans.{IsAside, IsCrossing, IsSpan, IsLine, IsOpen, Fits};
 
 use crate::answers::Reach;
 use crate::passage::{find_entry, find_passage};
-use crate::reaching::reach;
+use crate::ring;
 use crate::ring::{Ring, main_edges};
 use ember_algebra::Sign;
 use ember_model::{Corner, Plane, Tri, support_of};
@@ -109,17 +109,29 @@ fn meets_chord(n: &Plane, p: &Plane, y: &Meet, z: &Meet, hs: &[Plane]) -> bool
     free
 }
 
-// Some inside point on the plane, which has inside points on both sides, is above no plane of
-// the list.
-fn meets_along(r: &Ring, p: &Plane, hs: &[Plane]) -> bool
-    requires plane { IsValidPlane p.now }
-    requires planes { All IsValidPlane hs.now }
-    requires cuts { Cuts r.now p.now }
-    ensures { IsTrue result ↔ Meets r.now (face_with p.now hs.now) }
+// How a ring lies to a plane: on one side, on it, or along a chord between two points.
+#[derive(Clone, Copy)]
+enum Crossing {
+    Below,
+    Above,
+    On,
+    Along(Meet, Meet),
+}
+
+fn cross(r: &Ring, p: &Plane) -> Crossing
+    requires { IsValidPlane p.now }
+    ensures { IsCrossing r.now p.now result }
 {
     let entry = find_entry(p, r.rim.corners.as_slice());
-    let at = find_passage(&r.support, &r.rim, p, &entry);
-    meets_chord(&r.support, p, &at.exit, &at.entry, hs)
+    match entry.reach {
+        Reach::Below => Crossing::Below,
+        Reach::Above => Crossing::Above,
+        Reach::On => Crossing::On,
+        Reach::Both => {
+            let at = find_passage(&r.support, &r.rim, p, &entry);
+            Crossing::Along(at.exit, at.entry)
+        }
+    }
 }
 
 // Some inside point is above no plane of the list.
@@ -128,16 +140,17 @@ fn meets_within(r: &Ring, hs: &[Plane]) -> bool
     requires inside { HasInside r.now }
     ensures { IsTrue result ↔ Somewhere r.now (λ v. none_positive hs.now v ≡ true) }
 {
+    let n = ring::support(r);
     let mut free = true;
     for h in hs {
-        match reach(r, h) {
-            Reach::Below => {}
-            Reach::On => {}
-            Reach::Above => {
+        match cross(r, h) {
+            Crossing::Below => {}
+            Crossing::On => {}
+            Crossing::Above => {
                 return false;
             }
-            Reach::Both => {
-                if meets_along(r, h, hs) {
+            Crossing::Along(y, z) => {
+                if meets_chord(&n, h, &y, &z, hs) {
                     return true;
                 }
                 free = false;
@@ -153,10 +166,11 @@ pub fn meets_face(r: &Ring, support: &Plane, edges: &[Plane]) -> bool
     requires edges { All IsValidPlane edges.now }
     ensures { IsTrue result ↔ Meets r.now (face_with support.now edges.now) }
 {
-    match reach(r, support) {
-        Reach::Below | Reach::Above => false,
-        Reach::On => meets_within(r, edges),
-        Reach::Both => meets_along(r, support, edges),
+    let n = ring::support(r);
+    match cross(r, support) {
+        Crossing::Below | Crossing::Above => false,
+        Crossing::On => meets_within(r, edges),
+        Crossing::Along(y, z) => meets_chord(&n, support, &y, &z, edges),
     }
 }
 

@@ -1,5 +1,5 @@
 // Where a plane passes a ring.
-ghost use Rattle.std.specs.Prelude.{◌≡◌, ◌⊎◌, ◌+◌, ◌<◌, List, length, true, false, All, IfSome, pos, ◌<ℤ◌, ◌*ℤ◌, ◌-ℤ◌};
+ghost use Rattle.std.specs.Prelude.{◌≡◌, ◌⊎◌, ◌+◌, ◌<◌, List, length, take, drop, true, false, All, IfSome, pos, ◌<ℤ◌, ◌*ℤ◌, ◌-ℤ◌};
 ghost use Rattle.std.specs.List.{AllByRecursion};
 ghost use Rattle.ember_algebra.specs.Size.{Small};
 ghost use Rattle.ember_algebra.specs.Sign.{sgn, is_positive};
@@ -9,7 +9,7 @@ ghost use Rattle.ember_point.specs.Points.{spot_of};
 ghost use Rattle.ember_poly.specs.Rings.{Sound, Meets, Over, AtMost, turn};
 ghost use Rattle.ember_poly.specs.Rims.{sides, IsPaired};
 ghost use Rattle.ember_poly.specs.declared.answers.Reach.TheVariants as reach;
-ghost use Rattle.ember_poly.specs.Passages.{IsAlong, Has, AreSigns, AreSeen, is_under, Straddles, IsRun, IsRise, IsEntry, IsPassage};
+ghost use Rattle.ember_poly.specs.Passages.{IsAlong, Has, AreSigns, AreSeen, is_under, Straddles, IsRun, AreRisen, IsRise, IsEntry, IsPassage};
 
 use crate::answers::Reach;
 use crate::rim::Rim;
@@ -88,14 +88,6 @@ fn side_along(p: &Plane, axis: Option<Axis>, m: &Meet) -> Sign
     }
 }
 
-fn is_below(p: &Plane, axis: Option<Axis>, m: &Meet) -> bool
-    requires plane { IsValidPlane p.now }
-    requires axis { IfSome axis (λ k. IsAlong k p.now) }
-    ensures { result ≡ is_under p.now m.now }
-{
-    side_along(p, axis, m) == Sign::Neg
-}
-
 fn is_above(p: &Plane, axis: Option<Axis>, m: &Meet) -> bool
     requires plane { IsValidPlane p.now }
     requires axis { IfSome axis (λ k. IsAlong k p.now) }
@@ -104,28 +96,35 @@ fn is_above(p: &Plane, axis: Option<Axis>, m: &Meet) -> bool
     side_along(p, axis, m) == Sign::Pos
 }
 
-// How many corners at the front lie below the plane.
-fn run(p: &Plane, axis: Option<Axis>, corners: &[Meet]) -> usize
+// How many corners at the front lie below the plane, where some at the front are known to, and
+// whether the next one is above it.
+fn run(p: &Plane, axis: Option<Axis>, corners: &[Meet], known: usize) -> (usize, bool)
     requires plane { IsValidPlane p.now }
     requires axis { IfSome axis (λ k. IsAlong k p.now) }
-    ensures { IsRun p.now true corners.now result }
+    requires known { AllByRecursion (λ m. is_under p.now m ≡ true) (take known corners.now) }
+    ensures run { IsRun p.now true corners.now result.0 }
+    ensures next { AreRisen p.now result.1 (take 1 (drop result.0 corners.now)) }
 {
-    for i in 0..corners.len() {
-        if !is_below(p, axis, &corners[i]) {
-            return i;
+    for i in known..corners.len() {
+        match side_along(p, axis, &corners[i]) {
+            Sign::Neg => {}
+            Sign::Zero => return (i, false),
+            Sign::Pos => return (i, true),
         }
     }
-    corners.len()
+    (corners.len(), false)
 }
 
-// How many corners at the front do not lie below the plane, and whether one of them is above it.
-fn rise(p: &Plane, axis: Option<Axis>, corners: &[Meet]) -> (usize, bool)
+// How many corners at the front do not lie below the plane, as the first of them does not, and
+// whether one of them is above it.
+fn rise(p: &Plane, axis: Option<Axis>, corners: &[Meet], first: bool) -> (usize, bool)
     requires plane { IsValidPlane p.now }
     requires axis { IfSome axis (λ k. IsAlong k p.now) }
+    requires first { AreRisen p.now first (take 1 corners.now) }
     ensures { IsRise p.now corners.now result.0 result.1 }
 {
-    let mut high = false;
-    for i in 0..corners.len() {
+    let mut high = first;
+    for i in 1..corners.len() {
         match side_along(p, axis, &corners[i]) {
             Sign::Neg => return (i, high),
             Sign::Zero => {}
@@ -173,10 +172,10 @@ pub fn find_entry(p: &Plane, corners: &[Meet]) -> Entry
     ensures entry { result.reach ≡ reach.Both → IsEntry p.now corners.now result.first result.kept }
 {
     let axis = axis_of(p);
-    let down = run(p, axis, corners);
-    let (up, some_high) = rise(p, axis, &corners[down..]);
+    let (down, next) = run(p, axis, corners, 0);
+    let (up, some_high) = rise(p, axis, &corners[down..], next);
     let end = down + up;
-    let count = run(p, axis, &corners[end..]);
+    let (count, _) = run(p, axis, &corners[end..], 1);
     let high = is_some_above(p, axis, &corners[end + count..], some_high);
     let reach = reach_by(down + count, high);
     let first = end.saturating_sub(1);

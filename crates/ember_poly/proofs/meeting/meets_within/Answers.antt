@@ -1,9 +1,10 @@
 use Rattle.std.proofs.Common.{◌≡◌, sym, subst, ◌∙◌, refl, true, false, take, ◌+◌, pos}
 use lib.ListN.{get_or}
 use Rattle.ember_model.specs.declared.plane.Plane.{Plane}
-use Rattle.ember_poly.specs.Cuts.{IsReach}
+use Rattle.ember_point.specs.Points.{spot_of}
+use Rattle.ember_poly.specs.Spans.{IsLine, IsCrossing}
 use Rattle.ember_poly.proofs.Touching.{Tested, low_below, low_on, low_at, cut_at, above_at, met_free, tested_end}
-use Rattle.ember_poly.proofs.meeting.meets_within.Goals.{in-Below, in-On, in-Both+else-meets_along}
+use Rattle.ember_poly.proofs.meeting.meets_within.Goals.{in-Below, in-On, in-Along+else-meets_chord}
 use Rattle.ember_poly.proofs.meeting.meets_within.Goals as goal
 
 differ : true ≡ false → ⊥
@@ -15,21 +16,28 @@ none = record { a = pos 0; b = pos 0; c = pos 0; d = pos 0 }
 pub returns-in-Above : goal.returns-in-Above
 returns-in-Above c =
     let f = c.args.r.now in let hs = c.args.hs.now in let i = c.loop-h.h-index in let h = get_or hs i none in
-    (λ e. absurd (differ (sym e)), λ s. absurd (above_at f hs i none c.loop-h-test.true (subst (λ r. IsReach f h r) c.in-Above.is c.reach.ensures) s))
+    (λ e. absurd (differ (sym e)), λ s. absurd (above_at f hs i none c.loop-h-test.true (subst (λ r. IsCrossing f h r) c.in-Above.is c.cross.ensures) s))
 
-pub returns-then-meets_along : goal.returns-then-meets_along
-returns-then-meets_along c =
+pub meets_chord-requires-clause-line : goal.meets_chord-requires-clause-line
+meets_chord-requires-clause-line c =
+    let f = c.args.r.now in let h = get_or c.args.hs.now c.loop-h.h-index none in
+    let k = subst (λ r. IsCrossing f h r) c.in-Along.is c.cross.ensures in
+    subst (λ n. IsLine n h (spot_of c.in-Along.y) (spot_of c.in-Along.z)) (sym c.support-n.ensures.value) k.line
+
+pub returns-then-meets_chord : goal.returns-then-meets_chord
+returns-then-meets_chord c =
     let f = c.args.r.now in let hs = c.args.hs.now in let h = get_or hs c.loop-h.h-index none in
-    (λ e. met_free f hs h (c.meets_along.ensures.0 c.if-meets_along.true), λ s. refl)
+    let k = subst (λ r. IsCrossing f h r) c.in-Along.is c.cross.ensures in
+    (λ e. met_free f hs h (k.meets hs (c.meets_chord.ensures.0 c.if-meets_chord.true)), λ s. refl)
 
 pub loop-h-preserved : goal.loop-h-preserved
 loop-h-preserved c =
     let f = c.args.r.now in let hs = c.args.hs.now in let i = c.loop-h.h-index in let h = get_or hs i none in
     let l = c.loop-h-test.true in let v = c.loop-h.invariant in let b = c.loop-h.free in
-    elim c.match-reach.branch [
-      | in-Below w ↦ subst (λ b. Tested f hs b (take (i + 1) hs)) (sym w.free-is) (low_at f hs b i none l (low_below f h (subst (λ r. IsReach f h r) w.in-Below.is c.reach.ensures)) v)
-      | in-On w ↦ subst (λ b. Tested f hs b (take (i + 1) hs)) (sym w.free-is) (low_at f hs b i none l (low_on f h (subst (λ r. IsReach f h r) w.in-On.is c.reach.ensures)) v)
-      | in-Both+else-meets_along w ↦ subst (λ b. Tested f hs b (take (i + 1) hs)) (sym w.free-is) (cut_at f hs b i none l (subst (λ r. IsReach f h r) w.in-Both.is c.reach.ensures) (λ m. differ (sym (w.meets_along.ensures.1 m) ∙ w.if-meets_along.false)) v)
+    elim c.match-cross.branch [
+      | in-Below w ↦ subst (λ b. Tested f hs b (take (i + 1) hs)) (sym w.free-is) (low_at f hs b i none l (low_below f h (subst (λ r. IsCrossing f h r) w.in-Below.is c.cross.ensures)) v)
+      | in-On w ↦ subst (λ b. Tested f hs b (take (i + 1) hs)) (sym w.free-is) (low_at f hs b i none l (low_on f h (subst (λ r. IsCrossing f h r) w.in-On.is c.cross.ensures)) v)
+      | in-Along+else-meets_chord w ↦ let k = subst (λ r. IsCrossing f h r) w.in-Along.is c.cross.ensures in subst (λ b. Tested f hs b (take (i + 1) hs)) (sym w.free-is) (cut_at f hs b i none l k.cuts (λ m. differ (sym (w.meets_chord.ensures.1 (k.opens hs m)) ∙ w.if-meets_chord.false)) v)
     ]
 
 pub returns : goal.returns

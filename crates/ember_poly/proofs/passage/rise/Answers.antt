@@ -3,12 +3,9 @@ use Rattle.ember_model.specs.Planes.{value_at}
 use Rattle.ember_point.specs.Points.{spot_of}
 use Rattle.ember_poly.specs.Passages.{AreRisen}
 use Rattle.ember_poly.proofs.Seen.{neg_out, zero_out, pos_out}
-use Rattle.ember_poly.proofs.Entered.{risen_none, risen_zero, risen_over, risen_next, rise_stops, rise_ends}
+use Rattle.ember_poly.proofs.Entered.{risen_zero, risen_over, risen_next, rise_stops, rise_ends}
 use Rattle.ember_poly.proofs.passage.rise.Goals.{in-Zero, in-Pos}
 use Rattle.ember_poly.proofs.passage.rise.Goals as goal
-
-pub loop-i-init : goal.loop-i-init
-loop-i-init c = risen_none c.args.p.now
 
 pub loop-i-preserved : goal.loop-i-preserved
 loop-i-preserved c =
@@ -25,4 +22,4 @@ returns-in-Neg c =
 
 pub returns : goal.returns
 returns c =
-    rise_ends c.args.p.now c.loop-i.high c.args.corners.now c.loop-i.i c.loop-i-test.false c.loop-i.auto.i-end c.loop-i.invariant
+    rise_ends c.args.p.now c.loop-i.high c.args.corners.now c.loop-i.i c.loop-i-test.false c.loop-i.invariant

@@ -1,0 +1,37 @@
+use Rattle.ember_model.specs.Planes.{value_at}
+use Rattle.ember_point.specs.Points.{spot_of}
+use Rattle.ember_poly.proofs.Seen.{neg_out, zero_out, pos_out, zero_least, above_least}
+use Rattle.ember_poly.proofs.Entered.{run_next, run_stops, run_ends, next_zero, next_over, next_none}
+use Rattle.ember_poly.proofs.passage.run.Goals as goal
+
+pub loop-i-preserved : goal.loop-i-preserved
+loop-i-preserved c =
+    let p = c.args.p.now in let m = c.index-corners-i in
+    run_next p c.args.corners.now c.loop-i.i m.result c.loop-i-test.true m.is (neg_out (value_at p (spot_of m.result)) c.side_along.ensures c.in-Neg.is) c.loop-i.invariant
+
+pub returns-in-Zero-clause-run : goal.returns-in-Zero-clause-run
+returns-in-Zero-clause-run c =
+    let p = c.args.p.now in let m = c.index-corners-i in
+    run_stops p c.args.corners.now c.loop-i.i m.result c.loop-i-test.true m.is (zero_least (zero_out (value_at p (spot_of m.result)) c.side_along.ensures c.in-Zero.is)) c.loop-i.invariant
+
+pub returns-in-Zero-clause-next : goal.returns-in-Zero-clause-next
+returns-in-Zero-clause-next c =
+    let p = c.args.p.now in let m = c.index-corners-i in
+    next_zero p c.args.corners.now c.loop-i.i m.result c.loop-i-test.true m.is (zero_out (value_at p (spot_of m.result)) c.side_along.ensures c.in-Zero.is)
+
+pub returns-in-Pos-clause-run : goal.returns-in-Pos-clause-run
+returns-in-Pos-clause-run c =
+    let p = c.args.p.now in let m = c.index-corners-i in
+    run_stops p c.args.corners.now c.loop-i.i m.result c.loop-i-test.true m.is (above_least (pos_out (value_at p (spot_of m.result)) c.side_along.ensures c.in-Pos.is)) c.loop-i.invariant
+
+pub returns-in-Pos-clause-next : goal.returns-in-Pos-clause-next
+returns-in-Pos-clause-next c =
+    let p = c.args.p.now in let m = c.index-corners-i in
+    next_over p c.args.corners.now c.loop-i.i m.result c.loop-i-test.true m.is (pos_out (value_at p (spot_of m.result)) c.side_along.ensures c.in-Pos.is)
+
+pub returns-clause-run : goal.returns-clause-run
+returns-clause-run c =
+    run_ends c.args.p.now c.args.corners.now c.loop-i.i c.loop-i-test.false c.loop-i.invariant
+
+pub returns-clause-next : goal.returns-clause-next
+returns-clause-next c = next_none c.args.p.now c.args.corners.now
