@@ -1,6 +1,7 @@
 // The laws of what is written: each output has one text, and what `faces` and `at` write has its meaning.
 ghost use Rattle.std.specs.Prelude.{◌≡◌, ◌↔◌, ℕ, ℤ, pos, ◌<ℤ◌, true, List};
 ghost use Rattle.std.specs.List.{list_all};
+ghost use Rattle.std.specs.declared.option.Option.{Option};
 ghost use Rattle.ember_expr.specs.Formula.{Formula};
 ghost use Rattle.ember_model.specs.declared.face.Face.{Face};
 ghost use Rattle.ember_model.specs.declared.point.Axis.{Axis};
@@ -10,14 +11,23 @@ ghost use Rattle.ember_model.specs.FaceFiles.{IsFaceFile};
 ghost use Rattle.ember_model.specs.Clear.{IsClearOf};
 ghost use Rattle.ember_model.specs.ClearTest.{is_clear_of};
 ghost use Rattle.ember_model.specs.Meshes.{IsScene, faces_of, vector, wind};
+ghost use Rattle.ember_words.specs.Meaning.{command_of};
 ghost use Rattle.ember_run.specs.OfScenes.{IsOfScene};
 ghost use Rattle.ember_run.specs.Outputs.{FaceTexts, IsOutput, Output, SolidFaces};
+ghost use Rattle.ember_run.specs.Serves.{AsksOutput, IsText};
 ghost use Rattle.ember_run.specs.Slices.{IsSlice};
+ghost use Rattle.ember_run.specs.Verdict.{told_verdict};
 
 /// The solid of an expression over the triangles of a scene has one document: its written regions
 /// are one list, and faces have one text.
 pub fn solids_have_one_document()
     ensures { (tris : List Tri) (meshes : ℕ) (formula : Formula) (one other : List ℕ) → IsScene tris meshes → IsOutput (SolidFaces tris formula) one → IsOutput (SolidFaces tris formula) other → one ≡ other }
+{}
+
+/// Each accepted input has one text, by whichever workers and in whichever order it was made: the
+/// words and the contents of their files tell all of its bytes.
+pub fn accepted_inputs_have_one_text()
+    ensures { (words : List (List ℕ)) (told : List ℕ → Option (List ℕ)) (one other : List ℕ) → AsksOutput (told_verdict (command_of words) told) → IsText (told_verdict (command_of words) told) one → IsText (told_verdict (command_of words) told) other → one ≡ other }
 {}
 
 /// Each output has one text: what its definition says of the bytes tells all of them.
