@@ -1,6 +1,6 @@
 -- The triangles of the output that an accepted input asks for are a scene, so the input has one text.
-use Rattle.std.proofs.Common.{◌≡◌, ◌⊎◌, inl, inr, ℕ, ℤ, zero, suc, ◌+◌, ◌<◌, ◌≤◌, Bool, true, false, cond, List, [], ◌∷◌, ◌++◌, length, map, Option, Some, None, Result, Ok, Err, All, codes, refl, sym, ap, subst, arith, eqb, nat_le}
-use Rattle.std.specs.Prelude.{⊤, if◌then◌else◌, pos, replicate}
+use Rattle.std.proofs.Common.{◌≡◌, ◌≢◌, ◌⊎◌, inl, inr, ℕ, suc, ◌+◌, ◌≤◌, Bool, true, false, cond, List, [], ◌∷◌, ◌++◌, length, map, Option, Some, None, Result, Ok, Err, All, codes, refl, sym, ap, subst, ◌∙◌, arith, eqb, nat_le}
+use Rattle.std.specs.Prelude.{⊤, pos, replicate}
 use Rattle.std.specs.List.{filter, list_all}
 use Rattle.std.proofs.lemmas.Bool.{ltb-true, ltb-false, leb-true}
 use Rattle.std.proofs.lemmas.List.Elements.{All-nil, All-append, filter-append}
@@ -30,12 +30,14 @@ use Rattle.ember_words.specs.Meaning.{command_of}
 use Rattle.ember_words.specs.Within.{IsWithinLimits}
 use Rattle.ember_words.proofs.Limited.{read_limits}
 use Rattle.ember_run.specs.OfScenes.{IsOfScene}
-use Rattle.ember_run.specs.Outputs.{Counts, SolidFaces, SolidReport}
-use Rattle.ember_run.specs.Serves.{AsksOutput, IsText}
-use Rattle.ember_run.specs.declared.status.Status.TheVariants.{Unbounded, NotClear, Limit}
+use Rattle.ember_run.specs.Outputs.{Output, FaceTexts, Counts, MeetingPairs, Lattice, SolidFaces, SolidReport}
+use Rattle.ember_run.specs.Reported.{IsErrText, IsReportIf, IsReportOf, asks_report}
+use Rattle.ember_run.specs.Serves.{IsText}
+use Rattle.ember_run.specs.declared.status.Status.{Status}
+use Rattle.ember_run.specs.declared.status.Status.TheVariants.{Done, Unbounded, NotClear, Limit}
 use Rattle.ember_run.specs.declared.status.LimitKind.TheVariants.{Bytes, Triangles}
-use Rattle.ember_run.specs.Verdict.{Contents, Verdict, Untold, Refused, Writes, Slices, after_bytes, after_triangles, after_file, after_balance, after_total, after_files, after_scene, after_parse, after_expr, after_given, after_bounded, after_solid, after_clear, verdict_of, told_verdict, file_at}
-use Rattle.ember_run.proofs.OneTexts.{output_one, slice_one}
+use Rattle.ember_run.specs.Verdict.{Contents, Verdict, Untold, Refused, Writes, Slices, after_bytes, after_triangles, after_file, after_balance, after_files, after_scene, after_parse, after_given, after_bounded, after_solid, after_clear, told_verdict}
+use Rattle.ember_run.proofs.OneTexts.{output_one, report_one, slice_one}
 
 -- ---- triangles of which no edge is loose
 some_pass : (p : Edge → Bool) (e : Edge) (es : List Edge) → p e ≡ true → In e es → filter p es ≡ [] → ⊥
@@ -167,17 +169,46 @@ command_scene (command.Pairs workers places files) told l =
     scene_given places _ (λ tris meshes is. tt) (map told files) (few_told told files l.2.0)
 command_scene (command.Slice at file) told l = bytes_scene 1 (told file) _ (λ bytes. tt)
 
--- ---- one text
-verdict_one : (verdict : Verdict) (one other : List ℕ) → HasScene verdict → AsksOutput verdict → IsText verdict one → IsText verdict other → one ≡ other
-verdict_one Untold one other s asks a b = absurd asks
-verdict_one (Refused status) one other s asks a b = absurd asks
-verdict_one (Writes output) one other s asks a b = output_one output one other s a b
-verdict_one (Slices at bytes) one other s asks a b = slice_one at bytes one other a b
-
-pub input_one : (words : List (List ℕ)) (told : List ℕ → Option (List ℕ)) (one other : List ℕ) → AsksOutput (told_verdict (command_of words) told) → IsText (told_verdict (command_of words) told) one → IsText (told_verdict (command_of words) told) other → one ≡ other
-input_one words told one other asks a b =
-    verdict_one (told_verdict (command_of words) told) one other (by (command_of words) refl) asks a b
+words_scene : (words : List (List ℕ)) (told : List ℕ → Option (List ℕ)) → HasScene (told_verdict (command_of words) told)
+words_scene words told = by (command_of words) refl
   where
     by : (given : Option Command) → command_of words ≡ given → HasScene (told_verdict given told)
     by None e = tt
     by (Some given) e = command_scene given told (read_limits words (Ok given) e)
+
+-- ---- one text
+text_one : (verdict : Verdict) (one other : List ℕ) → HasScene verdict → verdict ≢ Untold → IsText verdict one → IsText verdict other → one ≡ other
+text_one Untold one other s n a b = absurd (n refl)
+text_one (Refused status) one other s n a b = absurd a
+text_one (Writes output) one other s n a b = output_one output one other s a b
+text_one (Slices at bytes) one other s n a b = slice_one at bytes one other a b
+
+pub input_one : (words : List (List ℕ)) (told : List ℕ → Option (List ℕ)) (one other : List ℕ) → told_verdict (command_of words) told ≢ Untold → IsText (told_verdict (command_of words) told) one → IsText (told_verdict (command_of words) told) other → one ≡ other
+input_one words told one other n a b =
+    text_one (told_verdict (command_of words) told) one other (words_scene words told) n a b
+
+-- ---- one text on err
+line_one : (output : Output) (one other : List ℕ) → IsOfScene output → IsReportOf output one → IsReportOf output other → one ≡ other
+line_one (FaceTexts tris) one other s a b = absurd a
+line_one (Counts point meshes tris expr) one other s a b = absurd a
+line_one (MeetingPairs tris) one other s a b = absurd a
+line_one (SolidFaces tris formula) one other s a b =
+    report_one tris s.0 s.1 formula one other a b
+line_one (SolidReport tris formula) one other s a b = absurd a
+line_one (Lattice tris formula size) one other s a b = absurd a
+
+report_if_one : (asked : Bool) (verdict : Verdict) (one other : List ℕ) → HasScene verdict → verdict ≢ Untold → IsReportIf asked verdict one → IsReportIf asked verdict other → one ≡ other
+report_if_one false verdict one other s n a b = a ∙ sym b
+report_if_one true Untold one other s n a b = absurd (n refl)
+report_if_one true (Refused status) one other s n a b = absurd a
+report_if_one true (Writes output) one other s n a b = line_one output one other s a b
+report_if_one true (Slices at bytes) one other s n a b = absurd a
+
+err_text_one : (given : Option Command) (told : List ℕ → Option (List ℕ)) (status : Status) (one other : List ℕ) → HasScene (told_verdict given told) → told_verdict given told ≢ Untold → IsErrText given told status one → IsErrText given told status other → one ≡ other
+err_text_one given told Done one other s n a b =
+    report_if_one (asks_report given) (told_verdict given told) one other s n a b
+err_text_one given told status one other s n a b = a ∙ sym b
+
+pub err_one : (words : List (List ℕ)) (told : List ℕ → Option (List ℕ)) (status : Status) (one other : List ℕ) → told_verdict (command_of words) told ≢ Untold → IsErrText (command_of words) told status one → IsErrText (command_of words) told status other → one ≡ other
+err_one words told status one other n a b =
+    err_text_one (command_of words) told status one other (words_scene words told) n a b
