@@ -19,3 +19,4 @@ pub mod SolidFiles
 pub mod SliceFaults
 pub mod Complete
 pub mod OneTexts
+pub mod AcceptedScenes

@@ -43,7 +43,7 @@ module _ (tris : List Tri) (meshes : ℕ) (scene : IsScene tris meshes) (formula
       let same = kept_one a.kept b.kept a.solid.written b.solid.written in
       document_one (map written_face b.kept) one other (subst (λ (kept : List Kept). IsDocumentText (map written_face kept) one) same a.text) b.text
 
-  report_one : (one other : List ℕ) → IsReportText tris formula one → IsReportText tris formula other → one ≡ other
+  pub report_one : (one other : List ℕ) → IsReportText tris formula one → IsReportText tris formula other → one ≡ other
   report_one one other a b =
       let same = kept_one a.kept b.kept a.solid.written b.solid.written in
       a.text ∙ ap line_of (a.solid.report_is ∙ ap (λ (kept : List Kept). run_report (shape tris formula) (root_job tris) (length kept)) same ∙ sym b.solid.report_is) ∙ sym b.text

@@ -1,6 +1,7 @@
 // The laws of what is written: each output has one text, and what `faces` and `at` write has its meaning.
-ghost use Rattle.std.specs.Prelude.{◌≡◌, ◌↔◌, ℕ, ℤ, pos, ◌<ℤ◌, true, List};
+ghost use Rattle.std.specs.Prelude.{◌≡◌, ◌≢◌, ◌↔◌, ℕ, ℤ, pos, ◌<ℤ◌, Bool, true, List, Some};
 ghost use Rattle.std.specs.List.{list_all};
+ghost use Rattle.std.specs.declared.option.Option.{Option};
 ghost use Rattle.ember_expr.specs.Formula.{Formula};
 ghost use Rattle.ember_model.specs.declared.face.Face.{Face};
 ghost use Rattle.ember_model.specs.declared.point.Axis.{Axis};
@@ -10,14 +11,35 @@ ghost use Rattle.ember_model.specs.FaceFiles.{IsFaceFile};
 ghost use Rattle.ember_model.specs.Clear.{IsClearOf};
 ghost use Rattle.ember_model.specs.ClearTest.{is_clear_of};
 ghost use Rattle.ember_model.specs.Meshes.{IsScene, faces_of, vector, wind};
+ghost use Rattle.ember_words.specs.declared.command.Command.TheVariants.{Boole, Demo, Pairs, Voxels};
+ghost use Rattle.ember_words.specs.Meaning.{command_of};
 ghost use Rattle.ember_run.specs.OfScenes.{IsOfScene};
 ghost use Rattle.ember_run.specs.Outputs.{FaceTexts, IsOutput, Output, SolidFaces};
+ghost use Rattle.ember_run.specs.Reported.{IsErrText};
+ghost use Rattle.ember_run.specs.Serves.{IsText};
 ghost use Rattle.ember_run.specs.Slices.{IsSlice};
+ghost use Rattle.ember_run.specs.Verdict.{Untold, told_verdict};
+ghost use Rattle.ember_run.specs.declared.status.Status.{Status};
 
 /// The solid of an expression over the triangles of a scene has one document: its written regions
 /// are one list, and faces have one text.
 pub fn solids_have_one_document()
     ensures { (tris : List Tri) (meshes : ℕ) (formula : Formula) (one other : List ℕ) → IsScene tris meshes → IsOutput (SolidFaces tris formula) one → IsOutput (SolidFaces tris formula) other → one ≡ other }
+{}
+
+/// Each accepted input has one text, and one text on err for each status: the words and the
+/// contents of their files tell all of its bytes.
+pub fn accepted_inputs_have_one_text()
+    ensures out { (words : List (List ℕ)) (told : List ℕ → Option (List ℕ)) (one other : List ℕ) → told_verdict (command_of words) told ≢ Untold → IsText (told_verdict (command_of words) told) one → IsText (told_verdict (command_of words) told) other → one ≡ other }
+    ensures err { (words : List (List ℕ)) (told : List ℕ → Option (List ℕ)) (status : Status) (one other : List ℕ) → told_verdict (command_of words) told ≢ Untold → IsErrText (command_of words) told status one → IsErrText (command_of words) told status other → one ≡ other }
+{}
+
+/// The number of workers changes no verdict, so the text is one for every number of them.
+pub fn workers_change_no_verdict()
+    ensures boole { (expr : List ℕ) (workers others places : ℕ) (report : Bool) (files : List (List ℕ)) (told : List ℕ → Option (List ℕ)) → told_verdict (Some (Boole expr workers places report files)) told ≡ told_verdict (Some (Boole expr others places report files)) told }
+    ensures demo { (boxes workers others : ℕ) (told : List ℕ → Option (List ℕ)) → told_verdict (Some (Demo boxes workers)) told ≡ told_verdict (Some (Demo boxes others)) told }
+    ensures voxels { (expr : List ℕ) (size workers others places : ℕ) (files : List (List ℕ)) (told : List ℕ → Option (List ℕ)) → told_verdict (Some (Voxels expr size workers places files)) told ≡ told_verdict (Some (Voxels expr size others places files)) told }
+    ensures pairs { (workers others places : ℕ) (files : List (List ℕ)) (told : List ℕ → Option (List ℕ)) → told_verdict (Some (Pairs workers places files)) told ≡ told_verdict (Some (Pairs others places files)) told }
 {}
 
 /// Each output has one text: what its definition says of the bytes tells all of them.

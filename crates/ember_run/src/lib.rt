@@ -19,9 +19,9 @@ mod top;
 mod voxels;
 
 pub use law::{
-    clear_points_are_found, counts_along_all_axes_agree, face_files_have_one_reading,
-    faces_wind_as_read, outputs_have_one_text, slices_of_files_have_one_text,
-    solids_have_one_document,
+    accepted_inputs_have_one_text, clear_points_are_found, counts_along_all_axes_agree,
+    face_files_have_one_reading, faces_wind_as_read, outputs_have_one_text,
+    slices_of_files_have_one_text, solids_have_one_document, workers_change_no_verdict,
 };
 pub use status::{FaceFault, LimitKind, Status};
 pub use top::{run, run_one};
