@@ -8,6 +8,8 @@ mod regions;
 #[cfg(test)]
 mod scenes;
 #[cfg(test)]
+mod stars;
+#[cfg(test)]
 mod tetrahedron;
 #[cfg(test)]
 mod texts;
