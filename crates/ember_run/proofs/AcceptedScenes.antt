@@ -1,13 +1,13 @@
 -- The triangles of the output that an accepted input asks for are a scene, so the input has one text.
-use Rattle.std.proofs.Common.{◌≡◌, ◌≢◌, ◌⊎◌, inl, inr, ℕ, suc, ◌+◌, ◌≤◌, Bool, true, false, cond, List, [], ◌∷◌, ◌++◌, length, map, Option, Some, None, Result, Ok, Err, All, codes, refl, sym, ap, subst, ◌∙◌, arith, eqb, nat_le}
+use Rattle.std.proofs.Common.{◌≡◌, ◌≢◌, ℕ, ◌+◌, ◌≤◌, Bool, true, false, cond, List, [], ◌∷◌, ◌++◌, length, map, Option, Some, None, Result, Ok, Err, All, codes, refl, sym, subst, ◌∙◌, arith, eqb, nat_le}
 use Rattle.std.specs.Prelude.{⊤, pos, replicate}
-use Rattle.std.specs.List.{filter, list_all}
-use Rattle.std.proofs.lemmas.Bool.{ltb-true, ltb-false, leb-true}
+use Rattle.std.specs.List.{list_all}
+use Rattle.std.proofs.lemmas.Bool.{leb-true}
+use Rattle.std.proofs.lemmas.List.{length-map}
 use Rattle.std.proofs.lemmas.List.Elements.{All-nil, All-append, filter-append}
 use Rattle.ember_balance.specs.declared.loose.Loose.{Loose}
-use Rattle.ember_balance.specs.Loose.{is_loose, least_of, loose_of}
+use Rattle.ember_balance.specs.Loose.{loose_of}
 use Rattle.ember_balance.proofs.Balanced.{balanced-nil, balanced-append, balanced_of_mesh}
-use Rattle.ember_balance.proofs.Edges.{member_from_times}
 use Rattle.ember_expr.specs.declared.fault.ExprFault.{ExprFault}
 use Rattle.ember_expr.specs.Formula.{Formula}
 use Rattle.ember_expr.specs.Grammar.{expr_of}
@@ -17,9 +17,8 @@ use Rattle.ember_gen.proofs.Scenes.{is_scene}
 use Rattle.ember_model.specs.declared.point.Spot.{Spot}
 use Rattle.ember_model.specs.declared.tri.Tri.{Tri}
 use Rattle.ember_model.specs.ClearTest.{is_clear_of}
-use Rattle.ember_model.specs.Meshes.{Edge, reversed, edges_in, times, of_mesh, IsBalanced, HasMesh, IsScene}
+use Rattle.ember_model.specs.Meshes.{of_mesh, IsBalanced, HasMesh, IsScene}
 use Rattle.ember_model.specs.Valid.{IsValidTri}
-use Rattle.ember_model.proofs.SignTests.{clash, In}
 use Rattle.ember_obj.specs.declared.fault.ObjFault.{ObjFault}
 use Rattle.ember_obj.specs.Table.{Table}
 use Rattle.ember_obj.specs.ReadObj as obj
@@ -37,38 +36,8 @@ use Rattle.ember_run.specs.declared.status.Status.{Status}
 use Rattle.ember_run.specs.declared.status.Status.TheVariants.{Done, Unbounded, NotClear, Limit}
 use Rattle.ember_run.specs.declared.status.LimitKind.TheVariants.{Bytes, Triangles}
 use Rattle.ember_run.specs.Verdict.{Contents, Verdict, Untold, Refused, Writes, Slices, after_bytes, after_triangles, after_file, after_balance, after_files, after_scene, after_parse, after_given, after_bounded, after_solid, after_clear, told_verdict}
+use Rattle.ember_run.proofs.NoneLoose.{balanced_if_none}
 use Rattle.ember_run.proofs.OneTexts.{output_one, report_one, slice_one}
-
--- ---- triangles of which no edge is loose
-some_pass : (p : Edge → Bool) (e : Edge) (es : List Edge) → p e ≡ true → In e es → filter p es ≡ [] → ⊥
-some_pass p e [] h m none = absurd m
-some_pass p e (f ∷ es) h m none = by (p f) refl none m (some_pass p e es h)
-  where
-    by : (b : Bool) → p f ≡ b → cond b (f ∷ filter p es) (filter p es) ≡ [] → (e ≡ f) ⊎ In e es → (In e es → filter p es ≡ [] → ⊥) → ⊥
-    by true q n m later = cc
-    by false q n (inl same) later = clash (subst (λ (g : Edge). p g ≡ true) same h) q
-    by false q n (inr m) later = later m n
-
-none_least : (es fs : List Edge) → least_of es fs ≡ None → fs ≡ []
-none_least es [] h = refl
-none_least es (f ∷ fs) h = cc
-
-module _ (ts : List Tri) (none : least_of (edges_in ts) (filter (is_loose (edges_in ts)) (edges_in ts)) ≡ None) where
-  at_most : (e : Edge) → times e (edges_in ts) ≤ times (reversed e) (edges_in ts)
-  at_most e = by (is_loose (edges_in ts) e) refl
-    where
-      by : (b : Bool) → is_loose (edges_in ts) e ≡ b → times e (edges_in ts) ≤ times (reversed e) (edges_in ts)
-      by true q =
-          let less = ltb-true (times (reversed e) (edges_in ts)) (times e (edges_in ts)) q in
-          absurd (some_pass (is_loose (edges_in ts)) e (edges_in ts) q (member_from_times e (edges_in ts) (omega (arith, less))) (none_least (edges_in ts) (filter (is_loose (edges_in ts)) (edges_in ts)) none))
-      by false q = ltb-false (times (reversed e) (edges_in ts)) (times e (edges_in ts)) q
-
-  none_loose : IsBalanced ts
-  none_loose e = let there = at_most e in let back = at_most (reversed e) in omega (arith, there, back)
-
-closed : (ts : List Tri) → loose_of ts ≡ None → IsBalanced ts
-unfolding loose_of
-closed ts h = none_loose ts h
 
 -- ---- the meshes of a scene, one after another
 -- the triangles of so many closed meshes
@@ -126,7 +95,7 @@ module _ (places : ℕ) (next : List Tri → Verdict) (h : (tris : List Tri) (me
       by : (mesh : List Tri) → All IsValidTri mesh → All (λ t. t.mesh ≡ count + 1) mesh → (loose : Option Loose) → loose_of mesh ≡ loose → (AreMeshes (tris ++ mesh) (count + 1) → HasScene (rest mesh)) → HasScene (after_balance (count + 1) loose (rest mesh))
       by mesh valid of (Some loose) e go_on = tt
       by mesh valid of None e go_on =
-          go_on (mesh_more tris mesh count are valid of (closed mesh e))
+          go_on (mesh_more tris mesh count are valid of (balanced_if_none mesh e))
 
   scene_given : (contents : Contents) → length contents ≤ 64 → HasScene (after_scene places contents next)
   scene_given contents l = files_scene 0 [] contents no_meshes (omega (arith, l))
@@ -150,11 +119,7 @@ counts_scene point meshes expr tris =
 
 -- ---- commands
 few_told : (told : List ℕ → Option (List ℕ)) (names : List (List ℕ)) → length names ≤ 64 → length (map told names) ≤ 64
-few_told told names l = subst (λ n. n ≤ 64) (sym (same names)) l
-  where
-    same : (names : List (List ℕ)) → length (map told names) ≡ length names
-    same [] = refl
-    same (name ∷ names) = ap suc (same names)
+few_told told names l = let e = length-map names told in omega (arith, l, e)
 
 command_scene : (given : Command) (told : List ℕ → Option (List ℕ)) → IsWithinLimits given → HasScene (told_verdict (Some given) told)
 command_scene (command.Faces places file) told l = file_scene places 1 (told file) _ (λ tris valid of. tt)

@@ -19,4 +19,5 @@ pub mod SolidFiles
 pub mod SliceFaults
 pub mod Complete
 pub mod OneTexts
+pub mod NoneLoose
 pub mod AcceptedScenes
