@@ -36,7 +36,7 @@ fn give_alone(alloc: Global, line: &str) -> Result<Given, Fail> {
 }
 
 // The worker that comes to one half of the root waits there until another has come to the other
-// half. One thread alone would wait until the gate is tired.
+// half. One thread alone would wait until the gate is tired. What is written is the same.
 #[test]
 fn two_workers_share_the_halves_of_the_root(rt: HostRuntime) -> Result<(), Fail> {
     let alloc = rt.alloc();
@@ -49,6 +49,8 @@ fn two_workers_share_the_halves_of_the_root(rt: HostRuntime) -> Result<(), Fail>
         let given = give_at(&rt, alloc, line, &gate)?;
         assert_eq!(rt; given.status, Status::Done, "{line}");
         assert!(rt; !gate.was_tired(), "{line}");
+        let alone = give_alone(alloc, line)?;
+        assert_eq!(rt; given.out.bytes(), alone.out.bytes(), "{line}");
     }
     Ok(())
 }
