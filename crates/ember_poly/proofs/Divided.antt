@@ -1,60 +1,35 @@
 -- The part of a ring below a plane: its sides, and what it keeps.
-use Rattle.std.proofs.Common.{◌≡◌, ◌⊎◌, ⊎_elim, inl, inr, refl, sym, ap, subst, ◌∙◌, arith, ℕ, ◌<◌, ◌≤◌, ◌+◌, Some, List, [], ◌∷◌, ◌++◌, length, take, drop, slice_get, All, ℤ, pos, ◌*ℤ◌, ◌<ℤ◌, ◌≤ℤ◌}
+use Rattle.std.proofs.Common.{◌≡◌, ◌⊎◌, ⊎_elim, inl, inr, refl, sym, ap, subst, ◌∙◌, arith, ℕ, ◌<◌, ◌≤◌, ◌+◌, Some, List, [], ◌∷◌, ◌++◌, length, take, drop, slice_get, All, ℤ, pos, ◌*ℤ◌}
 use lib.ListN.{get_or}
 use Rattle.std.proofs.lemmas.List.{take-append-drop, append-nil, length_push, get_or_append_left}
 use Rattle.std.proofs.lemmas.Bool.{cases_lt}
 use Rattle.std.proofs.lemmas.List.Elements.{All-push}
 use Rattle.std.proofs.lemmas.Option.{slice_get_within, get_or_from_slice_get, slice_get-get_or}
 use Rattle.std.specs.List.{AllByRecursion}
-use Rattle.ember_algebra.proofs.Laws.{linear}
 use Rattle.ember_algebra.proofs.Ring.{◌⊕◌, ◌⊖◌, ◌⊗◌, ◌≈◌, num, solve, cancels}
 use Rattle.ember_model.specs.declared.plane.Plane.{Plane}
 use Rattle.ember_model.specs.declared.point.Spot.{Spot}
-use Rattle.ember_model.specs.declared.face.Face.{Face}
 use Rattle.ember_model.specs.Valid.{IsValidPlane}
-use Rattle.ember_model.specs.Planes.{value_at, opposite}
-use Rattle.ember_model.specs.Faces.{Cuts}
+use Rattle.ember_model.specs.Planes.{value_at}
 use Rattle.ember_model.specs.Edges.{SamePlace}
-use Rattle.ember_model.proofs.SignTests.{negative_out, positive_out}
 use Rattle.ember_point.specs.declared.corner.Meet.{Meet}
 use Rattle.ember_point.specs.Points.{spot_of}
 use Rattle.ember_poly.specs.declared.passage.Passage.{Passage}
 use Rattle.ember_poly.specs.Rings.{entered, closing, Side, Under, AtMost, AtLeast, Lone, Meets, Sound, Closed, Listed, Stands}
 use Rattle.ember_poly.specs.Sides.{sides_of, IsBorn, IsSingle, AllCounted, IsRing}
 use Rattle.ember_poly.specs.Rims.{begun_at, part_sides, starting, LeastFirst}
-use Rattle.ember_poly.specs.Passages.{Has, Straddles, Leaves, IsPassage}
+use Rattle.ember_poly.specs.Passages.{Has, Leaves, IsPassage}
 use Rattle.ember_poly.proofs.Chains.{each_map, each_both, each-back}
 use Rattle.ember_poly.proofs.Lower.{below_some, below_all}
-use Rattle.ember_poly.proofs.Hull.{corners_at_most, closed_turned}
+use Rattle.ember_poly.proofs.Hull.{closed_turned}
 use Rattle.ember_poly.proofs.Inner.{head_closed, corner_closed}
 use Rattle.ember_poly.proofs.Parted.{part_of, each_swap, ring-closed}
 use Rattle.ember_poly.proofs.Face.{stands_turned, cut_some, cut_all}
 use Rattle.ember_poly.proofs.Single.{one_place}
 use Rattle.ember_poly.proofs.Dropped.{dropped_lone}
 use Rattle.ember_poly.proofs.Members.{has-front, has-back, has-split, has-turned, born_has, has_born, Found, has_pick}
-use Rattle.ember_poly.proofs.Rows.{each_corner, oldest_first}
+use Rattle.ember_poly.proofs.Rows.{oldest_first}
 use Rattle.ember_poly.proofs.Passed.{passes}
-use Rattle.ember_poly.proofs.Reached.{most_opposite, least_from_opposite, closed_from_inside, inside_seen}
-
--- ---- a plane that cuts the face has corners on both sides
-never_over : (a : ℤ) → pos 0 <ℤ a → a ≤ℤ pos 0 → ⊥
-never_over a p q = absurd (omega (arith, linear, p, q))
-
-never_under : (a : ℤ) → a <ℤ pos 0 → pos 0 ≤ℤ a → ⊥
-never_under a p q = absurd (omega (arith, linear, p, q))
-
-pub straddles_from : (n p : Plane) (gs es : List Plane) (ms : List Meet) (bs : List ℕ) (f : Face) → f ≡ record { support = n; edges = gs } → Stands n gs (sides_of es ms bs) → Cuts f p → Straddles p ms
-straddles_from n p gs es ms bs f e s c = by (subst (λ f. Cuts f p) e c)
-  where
-    by : Cuts (record { support = n; edges = gs }) p → Straddles p ms
-    by k =
-        let xs = sides_of es ms bs in
-        let low = closed_from_inside n xs k.low.at (inside_seen n p gs xs s k.low.at k.low.inside) in
-        let high = closed_from_inside n xs k.high.at (inside_seen n p gs xs s k.high.at k.high.inside) in
-        record {
-          above = λ h. never_over (value_at p k.high.at) (positive_out (value_at p k.high.at) k.high.holds) (corners_at_most n p k.high.at xs s.sound (each_corner (λ v. AtMost p v) es ms bs h) high).at_most;
-          under = λ h. never_under (value_at p k.low.at) (negative_out (value_at p k.low.at) k.low.holds) (least_from_opposite p k.low.at (corners_at_most n (opposite p) k.low.at xs s.sound (each_map (λ r. AtLeast p r.corner) (λ r. AtMost (opposite p) r.corner) xs (λ r q. most_opposite p r.corner q) (each_corner (λ v. AtLeast p v) es ms bs h)) low)).at_least;
-        }
 
 -- ---- the sides of the part
 take_front : {X : Type 0} (xs ys : List X) (k : ℕ) → k ≡ length xs → take k (xs ++ ys) ≡ xs

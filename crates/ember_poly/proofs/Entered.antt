@@ -11,10 +11,10 @@ use Rattle.ember_model.proofs.SignTests.{negative_in, negative_not, positive_out
 use Rattle.ember_point.specs.declared.corner.Meet.{Meet}
 use Rattle.ember_point.specs.Points.{spot_of}
 use Rattle.ember_poly.specs.declared.answers.Reach.{Reach}
-use Rattle.ember_poly.specs.declared.answers.Reach.TheVariants.{Below, Above, On, Both}
+use Rattle.ember_poly.specs.declared.answers.Reach.TheVariants.{Both}
 use Rattle.ember_poly.specs.Rings.{Under, Over, OnPlane, AtMost, AtLeast}
 use Rattle.ember_poly.specs.Passages.{Has, AreSigns, AreSeen, is_under, Stops, IsRun, AreRisen, IsRise, Enters, Straddles, IsEntry}
-use Rattle.ember_poly.proofs.Chains.{each-push, each_map, each_both}
+use Rattle.ember_poly.proofs.Chains.{each-push, each_both}
 use Rattle.ember_poly.proofs.Turns.{each-join}
 use Rattle.ember_poly.proofs.Members.{has-push, has-front, has-back, has_pick}
 use Rattle.ember_poly.proofs.Runs.{clash, under_out, stops_at, stops_end, rest_of, lows, highs, run_rest, run_more, run_short, run_long, up_positive, entry_within, entry_enters}
@@ -39,17 +39,6 @@ straddles_both p ms s =
 
 pub straddles_by : (p : Plane) (ms : List Meet) (r : Reach) → AreSigns p ms r → r ≡ Both → Straddles p ms
 straddles_by p ms r s e = straddles_both p ms (subst (λ t. AreSigns p ms t) e s)
-
--- corners on both sides are seen as such
-pub both_from : (p : Plane) (ms : List Meet) (r : Reach) → AreSigns p ms r → Straddles p ms → r ≡ Both
-both_from p ms Below s t = absurd (t.above s.0)
-both_from p ms Above s t = absurd (t.under s.0)
-both_from p ms On s t =
-    absurd (t.above (each_map (λ m. OnPlane p (spot_of m)) (λ m. AtMost p (spot_of m)) ms (λ m o. record { at_most = most o.on_plane }) s))
-  where
-    most : {a : ℤ} → a ≡ pos 0 → a ≤ℤ pos 0
-    most p = omega (arith, linear, p)
-both_from p ms Both s t = refl
 
 -- ---- a rise, corner by corner
 whole : (ms : List Meet) (i : ℕ) → length ms ≤ i → take i ms ≡ take (length ms) ms

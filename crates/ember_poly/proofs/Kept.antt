@@ -11,7 +11,7 @@ use Rattle.ember_poly.specs.declared.passage.Passage.{Passage}
 use Rattle.ember_poly.specs.Rings.{Side, closing}
 use Rattle.ember_poly.specs.Sides.{sides_of}
 use Rattle.ember_poly.specs.Rims.{begun_at, put_between, entered_at, part_sides, starting}
-use Rattle.ember_poly.proofs.Rows.{sides-append, sides-take, sides-drop, dropped}
+use Rattle.ember_poly.proofs.Rows.{sides-append, sides-take, sides-drop}
 use Rattle.ember_poly.proofs.Runs.{turn_split}
 
 one : (n : ℕ) → n + 1 ≡ suc n
@@ -45,18 +45,10 @@ put_some from to x xs = omega (arith, length-append (take from xs) (x ∷ drop t
 taken : {X Y : Type 0} (k : ℕ) (xs : List X) (ys : List Y) → length ys ≡ length xs → length (take k ys) ≡ length (take k xs)
 taken k xs ys e = rw (length-take k ys, length-take k xs, e) refl
 
--- in lists that are equally long
-pub put_length : {X Y : Type 0} (from to : ℕ) (x : X) (xs : List X) (y : Y) (ys : List Y) → length ys ≡ length xs → length (put_between from to y ys) ≡ length (put_between from to x xs)
-put_length from to x xs y ys e =
-    omega (arith, length-append (take from ys) (y ∷ drop to ys), length-append (take from xs) (x ∷ drop to xs), taken from xs ys e, dropped to xs ys e)
-
 -- ---- begun at another place
 begun_length : {X : Type 0} (k : ℕ) (xs : List X) → length (begun_at k xs) ≡ length xs
 begun_length k xs =
     omega (arith, length-append (drop k xs) (take k xs), length-append (take k xs) (drop k xs), ap length (take-append-drop k xs))
-
-pub begun_same : {X Y : Type 0} (k : ℕ) (xs : List X) (ys : List Y) → length ys ≡ length xs → length (begun_at k ys) ≡ length (begun_at k xs)
-begun_same k xs ys e = begun_length k ys ∙ e ∙ sym (begun_length k xs)
 
 -- ---- the sides of three lists
 pub sides_put : (es : List Plane) (ms : List Meet) (bs : List ℕ) → length ms ≡ length es → length bs ≡ length es → (from to : ℕ) (p : Plane) (m : Meet) (b : ℕ) {us : List Plane} {ns : List Meet} {cs : List ℕ} → us ≡ put_between from to p es → ns ≡ put_between from to m ms → cs ≡ put_between from to b bs → sides_of us ns cs ≡ put_between from to (closing p (spot_of m) b) (sides_of es ms bs)
