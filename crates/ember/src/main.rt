@@ -12,8 +12,12 @@ const NO_WORDS: u8 = 13;
 const NO_MEMORY: u8 = 12;
 
 fn main(rt: HostRuntime) -> ExitCode {
-    let Ok(words) = env::args(&rt) else {
-        return ExitCode::from(NO_WORDS);
+    let words = match env::args(&rt) {
+        Ok(words) => words,
+        Err(fault) if matches!(fault.kind(), io::ErrorKind::OutOfMemory) => {
+            return ExitCode::from(NO_MEMORY);
+        }
+        Err(_) => return ExitCode::from(NO_WORDS),
     };
     let Ok(words) = words.skip(1).collect::<Vec<String>>(rt.alloc()) else {
         return ExitCode::from(NO_MEMORY);
