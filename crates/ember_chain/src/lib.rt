@@ -1,0 +1,3 @@
+//! Closed surfaces: where the winding numbers of faces agree along all axes, the edges of their
+//! outlines are closed.
+#![tactic(auto)]
