@@ -1,3 +1,4 @@
 pub mod Setting
 pub mod Rectangle
 pub mod Ahead
+pub mod ClearCorners
