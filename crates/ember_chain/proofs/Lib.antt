@@ -5,3 +5,4 @@ pub mod ClearCorners
 pub mod Pending
 pub mod Ready
 pub mod Loops
+pub mod Closed

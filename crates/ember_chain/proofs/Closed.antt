@@ -1,0 +1,17 @@
+-- Faces that wind alike along all axes are closed.
+use Rattle.std.proofs.Common.{List, [], ◌∷◌, ◌++◌, map, ℤ, pos, ◌<ℤ◌}
+use Rattle.std.specs.List.{AllByRecursion, flat_map}
+use Rattle.ember_model.specs.declared.tri.Tri.{Tri}
+use Rattle.ember_model.specs.FaceFiles.{WrittenFace}
+use Rattle.ember_poly.proofs.Chains.{each-front}
+use Rattle.ember_chain.specs.Chains.{DirectedEdge, IsClosed, directed_edges, face_from, IsOutlined, AxesAgreeOffScene}
+use Rattle.ember_chain.proofs.Loops.{agreeing_faces_cover_evenly}
+use Rattle.ember_chain.proofs.Pending.{outline_weights, starts_are_ends}
+
+pub closed_faces : (ts : List Tri) (ws : List WrittenFace) → AllByRecursion IsOutlined ws → AxesAgreeOffScene ts (map face_from ws) → IsClosed (flat_map (λ w. directed_edges w.edges) ws)
+closed_faces ts ws lines agree =
+    starts_are_ends (flat_map (λ w. directed_edges w.edges) ws) (weights ws lines) (agreeing_faces_cover_evenly ts ws lines agree)
+  where
+    weights : (ws : List WrittenFace) → AllByRecursion IsOutlined ws → AllByRecursion (λ e. (pos 0 <ℤ e.from.w) × (pos 0 <ℤ e.to.w)) (flat_map (λ w. directed_edges w.edges) ws)
+    weights [] lines = tt
+    weights (w ∷ ws) lines = ?
