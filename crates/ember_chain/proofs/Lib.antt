@@ -1,1 +1,3 @@
 pub mod Setting
+pub mod Quad
+pub mod Displacements
