@@ -1,3 +1,4 @@
 pub mod Setting
 pub mod Quad
 pub mod Displacements
+pub mod EdgeForm
