@@ -1,5 +1,5 @@
 -- Displacements between points, and parallel vectors.
-use Rattle.std.proofs.Common.{◌≡◌, ◌≢◌, ⊎_elim, refl, sym, ap, ◌∙◌, arith, Bool, true, ◌&&◌, List, [], ◌∷◌, ℤ, pos, ◌+ℤ◌, ◌-ℤ◌, ◌*ℤ◌, neg_ℤ, ◌<ℤ◌}
+use Rattle.std.proofs.Common.{◌≡◌, ◌≢◌, ⊎_elim, refl, sym, ap, ◌∙◌, arith, Bool, true, false, ◌&&◌, List, [], ◌∷◌, ℤ, pos, ◌+ℤ◌, ◌-ℤ◌, ◌*ℤ◌, neg_ℤ, ◌<ℤ◌}
 use lib.IntN.{*ℤ-zero}
 use Rattle.ember_algebra.specs.Vector.{Vector, zero_v, plus_v, minus_v, scale_v, dot, cross}
 use Rattle.ember_algebra.specs.Sign.{is_zero}
@@ -7,12 +7,12 @@ use Rattle.ember_algebra.proofs.Laws.{linear}
 use Rattle.ember_algebra.proofs.Order.{by_sign, square_nonneg, square_pos, cancel_eq, zero_product}
 use Rattle.ember_algebra.proofs.Ring.{◌⊕◌, ◌⊖◌, ◌⊗◌, ◌≈◌, num, cancels}
 use Rattle.ember_algebra.proofs.Vectors.{vector, tuple, scalar, identity, vector_identity, same_v, TupleE, VectorE, dotE, crossE, valueE, scaleE, plusE, minusE, ◌≈v◌, cancels_v}
-use Rattle.ember_algebra.proofs.Identities.{parallel_products, orthogonal_parallel}
+use Rattle.ember_algebra.proofs.Identities.{dot_zero, parallel_products}
 use Rattle.ember_model.specs.declared.plane.Plane.{Plane}
 use Rattle.ember_model.specs.declared.point.Spot.{Spot}
 use Rattle.ember_model.specs.Planes.{value_at}
 use Rattle.ember_model.specs.Edges.{normal}
-use Rattle.ember_model.proofs.SignTests.{and_parts, zero_out, positive_nonzero, negative_nonzero, zero_scaled, zero_times}
+use Rattle.ember_model.proofs.SignTests.{and_parts, clash, zero_out, positive_nonzero, negative_nonzero, zero_scaled, zero_times}
 use Rattle.ember_model.proofs.Tuples.{plane_tuple, spot_tuple, normalE}
 use Rattle.ember_law.proofs.Generic.{cancel_zero}
 use Rattle.ember_chain.specs.Chains.{displacement, is_zero_vector}
@@ -25,6 +25,13 @@ zero_vector_out {v} e =
 
 pub zero_vector_in : {v : Vector} → v ≡ zero_v → is_zero_vector v ≡ true
 zero_vector_in e = ap is_zero_vector e
+
+pub zero_not : {v : Vector} → is_zero_vector v ≡ false → v ≢ zero_v
+zero_not h z = clash (zero_vector_in z) h
+
+pub orthogonal_to_none : (h : Vector) {v : Vector} → v ≡ zero_v → dot h v ≡ pos 0
+orthogonal_to_none h {v} e =
+    dot_zero h v (ap (λ (v : Vector). v.x) e) (ap (λ (v : Vector). v.y) e) (ap (λ (v : Vector). v.z) e)
 
 -- ---- displacements on expressions
 abbrev pub displacementE : TupleE → TupleE → VectorE
@@ -42,6 +49,10 @@ zeroE = record { x = num (pos 0); y = num (pos 0); z = num (pos 0) }
 -- ---- parallel vectors
 abbrev pub Parallel : Vector → Vector → Type 0
 Parallel u v = cross u v ≡ zero_v
+
+pub none_parallel : {v : Vector} (d : Vector) → v ≡ zero_v → Parallel v d
+none_parallel d e =
+    ap (λ (v : Vector). cross v d) e ∙ vector_identity (vector ∷ []) (λ d. crossE zeroE d ≈v zeroE) cancels_v d
 
 pub dot_swap : (u v : Vector) → dot u v ≡ dot v u
 dot_swap = identity (vector ∷ vector ∷ []) (λ u v. dotE u v ≈ dotE v u) cancels
@@ -72,6 +83,15 @@ pub parallel_orthogonal : (h x d : Vector) → d ≢ zero_v → Parallel x d →
 parallel_orthogonal h x d n p o =
     ⊎_elim (λ z. z) (λ z. absurd (positive_nonzero (square_positive d n) z)) (zero_product (parallel_products h d x d p ∙ zero_times (dot h d) (dot d x) o))
 
+-- a vector along d and orthogonal to it is 0
+pub parallel_none : (x d : Vector) → d ≢ zero_v → Parallel x d → dot x d ≡ pos 0 → x ≡ zero_v
+parallel_none x d n p o = by (is_zero_vector x) refl
+  where
+    by : (b : Bool) → is_zero_vector x ≡ b → x ≡ zero_v
+    by true h = zero_vector_out h
+    by false h =
+        absurd (positive_nonzero (square_positive x (zero_not h)) (parallel_orthogonal x x d n p o))
+
 -- two parallels of one vector are parallel
 pub parallel_both : (u v k : Vector) → k ≢ zero_v → Parallel u k → Parallel v k → Parallel u v
 parallel_both u v k n p q =
@@ -95,3 +115,7 @@ parallel_onward u v r d w p q =
 
     entry : {a : ℤ} → u.w *ℤ a ≡ pos 0 → a ≡ pos 0
     entry {a} e = cancel_zero u.w a w e
+
+pub parallel_back : (u v : Spot) (d : Vector) → Parallel (displacement u v) d → Parallel (displacement v u) d
+parallel_back u v d p =
+    vector_identity (tuple ∷ tuple ∷ vector ∷ []) (λ u v d. crossE (displacementE v u) d ≈v minusE (minusE (crossE (displacementE u v) d) (crossE (displacementE u v) d)) (crossE (displacementE u v) d)) cancels_v (spot_tuple u) (spot_tuple v) d ∙ ap (λ (k : Vector). minus_v (minus_v k k) k) p

@@ -10,7 +10,7 @@ use Rattle.ember_algebra.proofs.Laws.{linear, neg-*ℤ, *ℤ-neg}
 use Rattle.ember_algebra.proofs.Order.{by_sign, pos_mul, nonneg_mul, mul_pos_neg, mul_neg_pos, mul_neg_neg, sign_pos, sign_neg, cancel_eq}
 use Rattle.ember_algebra.proofs.Ring.{◌⊖◌, ◌⊗◌, ◌≈◌, solve, cancels}
 use Rattle.ember_algebra.proofs.Vectors.{vector, tuple, identity, dotE}
-use Rattle.ember_algebra.proofs.Identities.{dot_zero, parallel_products, orthogonal_parallel}
+use Rattle.ember_algebra.proofs.Identities.{parallel_products, orthogonal_parallel}
 use Rattle.ember_model.specs.declared.plane.Plane.{Plane}
 use Rattle.ember_model.specs.declared.point.Spot.{Spot}
 use Rattle.ember_model.specs.declared.face.Face.{Face}
@@ -27,7 +27,7 @@ use Rattle.ember_poly.proofs.Chains.{each_both}
 use Rattle.ember_law.proofs.Generic.{cancel_zero}
 use Rattle.ember_chain.specs.Chains.{DirectedEdge, displacement, is_zero_vector, is_parallel, is_on_line, is_reached, coverage, edges_to, directed_edges, face_from, IsOutlined}
 use Rattle.ember_chain.proofs.Setting.{IsGeneral, IsGeneralFace, IsOffEnds, edge_turn}
-use Rattle.ember_chain.proofs.Displacements.{displacementE, displacement_value, parallel_onward, Parallel, parallel_swap, parallel_orthogonal, parallel_both, square_positive, dot_swap, zero_vector_in, zero_vector_out}
+use Rattle.ember_chain.proofs.Displacements.{displacementE, displacement_value, parallel_onward, Parallel, parallel_swap, parallel_orthogonal, parallel_both, square_positive, dot_swap, zero_vector_in, zero_vector_out, zero_not, orthogonal_to_none}
 
 -- ---- numbers
 -- 1 where a number isn't negative
@@ -109,10 +109,6 @@ crossed k a b h p q n ep eq =
 reach_gap : (k : Vector) (u v : Spot) → u.w *ℤ dot k (record { x = v.x; y = v.y; z = v.z }) -ℤ v.w *ℤ dot k (record { x = u.x; y = u.y; z = u.z }) ≡ dot k (displacement u v)
 reach_gap k u v =
     identity (vector ∷ tuple ∷ tuple ∷ []) (λ k u v. u.w ⊗ dotE k (normalE v) ⊖ v.w ⊗ dotE k (normalE u) ≈ dotE k (displacementE u v)) cancels k (spot_tuple u) (spot_tuple v)
-
-orthogonal_to_none : (h : Vector) {v : Vector} → v ≡ zero_v → dot h v ≡ pos 0
-orthogonal_to_none h {v} e =
-    dot_zero h v (ap (λ (v : Vector). v.x) e) (ap (λ (v : Vector). v.y) e) (ap (λ (v : Vector). v.z) e)
 
 -- a displacement in a plane
 flat_displacement : (h : Plane) (u v : Spot) → value_at h u ≡ pos 0 → value_at h v ≡ pos 0 → dot (normal h) (displacement u v) ≡ pos 0
@@ -210,9 +206,6 @@ module _ (f : Face) (e : RingEdge) (end : Spot) (edge : IsEdge f e end) where
             ⊎_elim (λ s. (λ i. cond (z i) (is_reached d e.start t -ℤ is_reached d end t) (pos 0)) ∙ (let r : is_reached d e.start t ≡ is_reached d end t = s in omega (arith, linear, r))) (λ a. absurd (clash (missed p q a) h)) (same_or_apart (dot (displacement e.start t) d) (dot (displacement end t) d))
 
 -- ---- the edges of an outline
-zero_not : {v : Vector} → is_zero_vector v ≡ false → v ≢ zero_v
-zero_not h z = clash (zero_vector_in z) h
-
 -- an edge covers the points just after t by the turn of its plane where t lies on it, and none elsewhere
 pub edge_form : (d : Vector) (t : Spot) (f : Face) (e : RingEdge) (end : Spot) → pos 0 <ℤ t.w → is_zero_vector d ≡ false → IsGeneralFace d t f → IsEdge f e end → IsOffEnds d t (record { from = e.start; to = end }) → coverage t d (record { from = e.start; to = end }) ≡ edge_turn d t f e
 edge_form d t f e end wt nd general edge off = by (is_on_edge f e.plane t) refl
