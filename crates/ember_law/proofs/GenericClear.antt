@@ -48,7 +48,8 @@ pub record OffEdges (a : Axis) (p : Spot) (t : Tri) : Type 0 where
   pub second : value_at (edge_through t.b t.c (unit a)) p ≢ pos 0
   pub third : value_at (edge_through t.c t.a (unit a)) p ≢ pos 0
 
-strict : (z : ℤ) → z ≢ pos 0 → not (is_positive z) ≡ true → is_negative z ≡ true
+-- a number that is neither positive nor 0 is negative
+pub strict : (z : ℤ) → z ≢ pos 0 → not (is_positive z) ≡ true → is_negative z ≡ true
 strict (pos zero) n e = absurd (n refl)
 strict (pos (suc k)) n e = cc
 strict (negsuc k) n e = refl

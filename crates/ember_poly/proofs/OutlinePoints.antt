@@ -54,11 +54,13 @@ parts P Q (g ∷ gs) a = by a.0 (parts P Q gs a.1)
         record { one = s.one; other = g ∷ s.other; are_other = (q, s.are_other); are_one = s.are_one; join = λ R x y. (y.0, s.join R x y.1); of_one = λ R x. s.of_one R x.1; of_other = λ R x. (x.0, s.of_other R x.1) }
 
 -- ---- the edges of an outline
-record Ended (f : Face) (e : RingEdge) : Type 0 where
-  end : Spot
-  is : IsEdge f e end
+-- the edge with some end
+pub record Ended (f : Face) (e : RingEdge) : Type 0 where
+  pub end : Spot
+  pub is : IsEdge f e end
 
-ended : (f : Face) (end : Spot) (es : List RingEdge) → IsPath f end es → AllByRecursion (λ e. Ended f e) es
+-- each edge of a path has one
+pub ended : (f : Face) (end : Spot) (es : List RingEdge) → IsPath f end es → AllByRecursion (λ e. Ended f e) es
 ended f end [] p = tt
 ended f end (e ∷ []) p = (record { end = end; is = p }, tt)
 ended f end (e ∷ d ∷ es) p = (record { end = d.start; is = p.0 }, ended f end (d ∷ es) p.1)
