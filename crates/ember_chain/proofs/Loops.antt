@@ -23,7 +23,8 @@ use Rattle.ember_chain.specs.Chains.{DirectedEdge, is_zero_vector, coverage, IsE
 use Rattle.ember_chain.proofs.Setting.{ahead, IsOffEnds, component, next, corner, loop, edge_turn}
 use Rattle.ember_chain.proofs.Ahead.{has_component}
 use Rattle.ember_chain.proofs.Ready.{IsReadyFace, IsReady, ready_ahead, IsClearCorner, clear_corner}
-use Rattle.ember_chain.proofs.Pending.{face_loop, outline_form}
+use Rattle.ember_chain.proofs.EdgeForm.{outline_form}
+use Rattle.ember_chain.proofs.Pending.{face_loop}
 
 -- ---- the corners of a side
 side_second : (c : Axis) (t : Spot) (m sa sb sc : ℤ) → DifferAlong (next (next c)) (corner c t m sa sb) (corner c t m sa sc)

@@ -9,16 +9,7 @@ use Rattle.ember_model.specs.declared.point.Spot.{Spot}
 use Rattle.ember_model.specs.declared.point.Axis.{Axis}
 use Rattle.ember_model.specs.FaceFiles.{WrittenFace}
 use Rattle.ember_chain.specs.Chains.{DirectedEdge, is_zero_vector, coverage, IsClosed, IsEvenlyCovered, directed_edges, face_from, IsOutlined}
-use Rattle.ember_chain.proofs.Setting.{IsGeneralFace, IsOffEnds, component, loop, edge_turn}
+use Rattle.ember_chain.proofs.Setting.{IsGeneralFace, component, loop, edge_turn}
 
 pub face_loop : (c : Axis) (d : Vector) (t : Spot) (w : WrittenFace) → pos 0 <ℤ t.w → component d c ≢ pos 0 → IsGeneralFace d t (face_from w) → IsOutlined w → Eventually (λ m. loop c t (pos m) (face_from w) ≡ sign (component d c) *ℤ total (edge_turn d t (face_from w)) w.edges)
 face_loop = ?
-
-pub outline_form : (d : Vector) (t : Spot) (w : WrittenFace) → pos 0 <ℤ t.w → is_zero_vector d ≡ false → IsGeneralFace d t (face_from w) → IsOutlined w → AllByRecursion (λ e. IsOffEnds d t e) (directed_edges w.edges) → total (coverage t d) (directed_edges w.edges) ≡ total (edge_turn d t (face_from w)) w.edges
-outline_form = ?
-
-pub outline_weights : (w : WrittenFace) → IsOutlined w → AllByRecursion (λ e. (pos 0 <ℤ e.from.w) × (pos 0 <ℤ e.to.w)) (directed_edges w.edges)
-outline_weights = ?
-
-pub starts_are_ends : (es : List DirectedEdge) → AllByRecursion (λ e. (pos 0 <ℤ e.from.w) × (pos 0 <ℤ e.to.w)) es → IsEvenlyCovered es → IsClosed es
-starts_are_ends = ?

@@ -25,7 +25,7 @@ use Rattle.ember_chain.proofs.Setting.{ahead, IsGeneral, IsGeneralFace, IsOffEnd
 use Rattle.ember_chain.proofs.Ahead.{general_ahead, coverage_ahead}
 use Rattle.ember_chain.proofs.Rectangle.{off_corner, weight_corner}
 use Rattle.ember_chain.proofs.ClearCorners.{IsOffFace, off_face_is_clear}
-use Rattle.ember_chain.proofs.Pending.{outline_weights}
+use Rattle.ember_chain.proofs.EdgeForm.{outline_weights}
 
 -- ---- lists and axes
 all_of : {X : Type 0} (P : X → Type 0) (xs : List X) → ((x : X) → P x) → AllByRecursion P xs
