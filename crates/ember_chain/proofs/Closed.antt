@@ -5,12 +5,12 @@ use Rattle.std.proofs.lemmas.List.Concat.{flat_map-cons}
 use Rattle.ember_model.specs.declared.tri.Tri.{Tri}
 use Rattle.ember_model.specs.FaceFiles.{WrittenFace}
 use Rattle.ember_poly.proofs.Turns.{each-join}
-use Rattle.ember_chain.specs.Chains.{DirectedEdge, IsClosed, directed_edges, face_from, IsOutlined, AxesAgreeOffScene}
+use Rattle.ember_chain.specs.Chains.{IsClosedSurface, directed_edges, face_from, IsOutlined, AxesAgreeOffScene}
 use Rattle.ember_chain.proofs.Loops.{agreeing_faces_cover_evenly}
 use Rattle.ember_chain.proofs.EdgeForm.{outline_weights}
 use Rattle.ember_chain.proofs.Starts.{starts_are_ends}
 
-pub closed_faces : (ts : List Tri) (ws : List WrittenFace) → AllByRecursion IsOutlined ws → AxesAgreeOffScene ts (map face_from ws) → IsClosed (flat_map (λ w. directed_edges w.edges) ws)
+pub closed_faces : (ts : List Tri) (ws : List WrittenFace) → AllByRecursion IsOutlined ws → AxesAgreeOffScene ts (map face_from ws) → IsClosedSurface ws
 closed_faces ts ws lines agree =
     starts_are_ends (flat_map (λ w. directed_edges w.edges) ws) (weights ws lines) (agreeing_faces_cover_evenly ts ws lines agree)
   where

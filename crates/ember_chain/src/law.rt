@@ -1,7 +1,7 @@
 // The law of closed surfaces.
-ghost use Rattle.std.specs.Prelude.{List, map, flat_map};
+ghost use Rattle.std.specs.Prelude.{List, map};
 ghost use Rattle.std.specs.List.{AllByRecursion};
-ghost use Rattle.ember_chain.specs.Chains.{IsClosed, directed_edges, face_from, IsOutlined, AxesAgreeOffScene};
+ghost use Rattle.ember_chain.specs.Chains.{face_from, AxesAgreeOffScene, IsClosedSurface, IsOutlined};
 ghost use Rattle.ember_model.specs.FaceFiles.{WrittenFace};
 ghost use Rattle.ember_model.specs.declared.tri.Tri.{Tri};
 
@@ -9,5 +9,5 @@ ghost use Rattle.ember_model.specs.declared.tri.Tri.{Tri};
 /// at each point that is clear of them and of some triangles. Then the surface is closed: on each
 /// line, each point is as often the start of a written edge as the end of one.
 pub fn agreeing_faces_are_closed()
-    ensures { (ts : List Tri) (ws : List WrittenFace) → AllByRecursion IsOutlined ws → AxesAgreeOffScene ts (map face_from ws) → IsClosed (flat_map (λ w. directed_edges w.edges) ws) }
+    ensures { (ts : List Tri) (ws : List WrittenFace) → AllByRecursion IsOutlined ws → AxesAgreeOffScene ts (map face_from ws) → IsClosedSurface ws }
 {}
