@@ -9,6 +9,7 @@ use Rattle.ember_model.specs.FaceFiles.{IsFaceFile}
 use Rattle.ember_model.specs.Meshes.{wind, vector, faces_of}
 use Rattle.ember_expr.specs.Formula.{Formula}
 use Rattle.ember_expr.specs.Truth.{truth}
+use Rattle.ember_chain.specs.Chains.{IsClosedSurface}
 
 -- the number of a truth
 abbrev pub one_if : Bool → ℤ
@@ -28,8 +29,9 @@ abbrev pub HaveMeaning : List Tri → Formula → List Face → Type 0
 HaveMeaning scene x faces =
     (a b : Axis) (p : Spot) → pos 0 <ℤ p.w → AreClear (faces_of scene) p → AreClear faces p → HasMeaning scene x faces a b p
 
--- the bytes are a face file, and its faces have the meaning
+-- the bytes are a face file, its faces have the meaning, and they are a closed surface
 pub record ReadsWithMeaning (scene : List Tri) (x : Formula) (bytes : List ℕ) : Type 0 where
   pub faces : List Face
   pub read : IsFaceFile bytes faces
   pub meaning : HaveMeaning scene x faces
+  pub closed : IsClosedSurface read.written

@@ -15,8 +15,9 @@ pub fn written_regions_have_their_meaning()
     ensures { (scene : List Tri) (f : Formula) (ks : List Kept) → IsScene scene 64 → IsWritten scene f ks → IsFalseOutside f → HaveMeaning scene f (map written_face ks) }
 {}
 
-/// The document of the written regions is a face file, and the faces that are read back from it
-/// have the same meaning, though each has only the planes of a region's outline.
+/// The document of the written regions is a face file. The faces that are read back from it have
+/// the same meaning, though each has only the planes of a region's outline, and they are a closed
+/// surface: on each line, each point is as often the start of a written edge as the end of one.
 pub fn documents_read_with_their_meaning()
     ensures { (scene : List Tri) (f : Formula) (ks : List Kept) (bytes : List ℕ) → IsScene scene 64 → IsWritten scene f ks → IsFalseOutside f → IsDocumentText (map written_face ks) bytes → ReadsWithMeaning scene f bytes }
 {}
