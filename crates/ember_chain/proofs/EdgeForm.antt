@@ -145,7 +145,7 @@ module _ (f : Face) (e : RingEdge) (end : Spot) (edge : IsEdge f e end) where
   -- what lies on both planes lies on the line through the ends, and back
   module _ (d : Vector) (t : Spot) (wt : pos 0 <ℤ t.w) (nd : d ≢ zero_v) where
     -- the plane of a point of the closed edge contains d
-    on_line : dot (normal f.support) d ≡ pos 0 → dot (normal e.plane) d ≡ pos 0 → (u : Spot) → OnEdge f e.plane u → (v : Spot) → value_at f.support v ≡ pos 0 → value_at e.plane v ≡ pos 0 → Parallel (displacement u v) d
+    pub on_line : dot (normal f.support) d ≡ pos 0 → dot (normal e.plane) d ≡ pos 0 → (u : Spot) → OnEdge f e.plane u → (v : Spot) → value_at f.support v ≡ pos 0 → value_at e.plane v ≡ pos 0 → Parallel (displacement u v) d
     on_line a b u on v nv gv =
         parallel_both (displacement u v) d course course_nonzero (line_displacement f.support e.plane u v on.closed.flat nv on.zero gv) (orthogonal_parallel d (normal f.support) (normal e.plane) (dot_swap d (normal f.support) ∙ a) (dot_swap d (normal e.plane) ∙ b))
 

@@ -5,4 +5,6 @@ pub mod ClearCorners
 pub mod Quad
 pub mod Displacements
 pub mod EdgeForm
+pub mod OneEdge
+pub mod NearLegs
 pub mod Starts
