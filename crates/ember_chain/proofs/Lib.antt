@@ -7,4 +7,5 @@ pub mod Displacements
 pub mod EdgeForm
 pub mod OneEdge
 pub mod NearLegs
+pub mod EdgeSums
 pub mod Starts

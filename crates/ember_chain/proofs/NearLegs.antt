@@ -12,8 +12,8 @@ use Rattle.ember_model.specs.Planes.{value_at}
 use Rattle.ember_model.specs.Faces.{size, between, leg}
 use Rattle.ember_model.specs.ClearTest.{none_positive, all_negative}
 use Rattle.ember_model.specs.Edges.{RingEdge}
-use Rattle.ember_model.proofs.SignTests.{negative_in, negative_not, size_positive}
-use Rattle.ember_model.proofs.Following.{Follows, FollowsEach, ups, not_below}
+use Rattle.ember_model.proofs.SignTests.{negative_in, negative_not, size_positive, and_true}
+use Rattle.ember_model.proofs.Following.{Follows, FollowsEach, ups, not_below, all_below}
 use Rattle.ember_model.proofs.Legs.{value_between, leg_off, leg_on}
 use Rattle.ember_poly.specs.Rings.{Under}
 use Rattle.ember_chain.proofs.Quad.{cut, passed}
@@ -77,3 +77,29 @@ module _ (f : Face) (t p q : Spot) (bp : IsBeside f t p) (bq : IsBeside f t q) w
       none : (b : Bool) → cond (b && false) (sign (value_at f.support q)) (pos 0) ≡ pos 0
       none true = refl
       none false = refl
+
+  -- below all edges
+  pub leg_below : all_negative f.edges t ≡ true → leg f p q ≡ passed (value_at f.support p) (value_at f.support q)
+  leg_below h =
+      leg_by true (all_below t middle f.edges middle_follows h) ∙ ap (λ (b : Bool). cond b (sign (value_at f.support q)) (pos 0)) (and_true crosses)
+
+  -- on one
+  pub leg_on_edge : (g : Plane) → all_negative f.edges middle ≡ is_negative (value_at g middle) → leg f p q ≡ cut (value_at f.support p) (value_at f.support q) (value_at g p) (value_at g q)
+  leg_on_edge g e =
+      leg_by (is_negative (value_at g middle)) e ∙ ap (λ (v : ℤ). cond (crosses && is_negative v) (sign (value_at f.support q)) (pos 0)) (value_between g f.support p q)
+
+-- ---- the planes of edges at a point that follows t
+pub under_negative : (t : Spot) (es : List RingEdge) → AllByRecursion (λ e. Under e.plane t) es → all_negative (map (λ e. e.plane) es) t ≡ true
+under_negative t [] us = refl
+under_negative t (e ∷ es) us =
+    let x = negative_in us.0.under in let y = under_negative t es us.1 in λ i. x i && y i
+
+-- where one plane is met it decides
+pub only_met_decides : (t x : Spot) (g : Plane) (es : List RingEdge) → IsOnlyMet t g es → FollowsEach t x (map (λ e. e.plane) es) → all_negative (map (λ e. e.plane) es) x ≡ is_negative (value_at g x)
+only_met_decides t x g [] o fs = absurd o
+only_met_decides t x g (e ∷ es) (inl o) fs =
+    let y = ap (λ (h : Plane). is_negative (value_at h x)) o.0 in
+    let z = all_below t x (map (λ e. e.plane) es) fs.1 (under_negative t es o.2) in
+    (λ i. y i && z i) ∙ and_true (is_negative (value_at g x))
+only_met_decides t x g (e ∷ es) (inr o) fs =
+    let y = negative_in (fs.0.down o.0.under) in let z = only_met_decides t x g es o.1 fs.1 in λ i. y i && z i
