@@ -8,4 +8,5 @@ pub mod EdgeForm
 pub mod OneEdge
 pub mod NearLegs
 pub mod EdgeSums
+pub mod FaceLoop
 pub mod Starts
