@@ -7,7 +7,7 @@ use Rattle.ember_algebra.specs.Vector.{Vector, zero_v, dot, cross}
 use Rattle.ember_algebra.specs.Sign.{sign, is_negative}
 use Rattle.ember_algebra.specs.Sums.{total}
 use Rattle.ember_algebra.proofs.Laws.{linear, neg-*ℤ, *ℤ-neg}
-use Rattle.ember_algebra.proofs.Order.{by_sign, pos_mul, nonneg_mul, mul_pos_neg, mul_neg_pos, mul_neg_neg, sign_pos, sign_neg, cancel_eq}
+use Rattle.ember_algebra.proofs.Order.{by_sign, pos_mul, nonneg_mul, mul_pos_neg, mul_neg_pos, sign_pos, sign_neg, cancel_eq}
 use Rattle.ember_algebra.proofs.Ring.{◌⊖◌, ◌⊗◌, ◌≈◌, solve, cancels}
 use Rattle.ember_algebra.proofs.Vectors.{vector, tuple, identity, dotE}
 use Rattle.ember_algebra.proofs.Identities.{parallel_products, orthogonal_parallel}
@@ -19,7 +19,7 @@ use Rattle.ember_model.specs.Edges.{RingEdge, IsEdge, normal, is_on_edge, IsPath
 use Rattle.ember_model.specs.FaceFiles.{WrittenFace}
 use Rattle.ember_model.proofs.SignTests.{and_parts, clash, negative_in, negative_not, positive_nonzero, zero_scaled, zero_times}
 use Rattle.ember_model.proofs.Tuples.{spot_tuple, normalE}
-use Rattle.ember_poly.specs.Rings.{AtMost, InClosedFace}
+use Rattle.ember_poly.specs.Rings.{AtMost}
 use Rattle.ember_poly.proofs.Planar.{both_zero}
 use Rattle.ember_poly.proofs.FaceTests.{OnEdge, edge_in, edge_out}
 use Rattle.ember_poly.proofs.RingOutline.{each_get}

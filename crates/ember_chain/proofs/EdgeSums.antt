@@ -1,5 +1,5 @@
 -- The turns of a face's edges at a point, added up.
-use Rattle.std.proofs.Common.{◌≡◌, ◌≢◌, inl, inr, refl, sym, ap, ◌∙◌, arith, Bool, true, false, cond, ◌&&◌, List, [], ◌∷◌, ℤ, pos, ◌+ℤ◌, ◌<ℤ◌}
+use Rattle.std.proofs.Common.{◌≡◌, inl, inr, refl, ap, ◌∙◌, arith, Bool, true, false, cond, ◌&&◌, List, [], ◌∷◌, ℤ, pos, ◌<ℤ◌}
 use Rattle.std.specs.List.{AllByRecursion}
 use Rattle.ember_algebra.specs.Vector.{Vector, dot, cross}
 use Rattle.ember_algebra.specs.Sign.{sign, is_zero, is_nil}

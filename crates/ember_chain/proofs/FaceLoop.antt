@@ -1,11 +1,11 @@
 -- One face: the legs over the four sides of the rectangle, by the turns of its edges at the middle.
-use Rattle.std.proofs.Common.{◌≡◌, ◌≢◌, inl, inr, ⊎_elim, refl, sym, ap, subst, ◌∙◌, arith, Bool, true, false, ◌&&◌, List, [], ◌∷◌, map, ℤ, pos, negsuc, ◌+ℤ◌, ◌-ℤ◌, ◌*ℤ◌, neg_ℤ, ◌<ℤ◌}
+use Rattle.std.proofs.Common.{◌≡◌, ◌≢◌, inl, inr, ⊎_elim, refl, sym, ap, subst, ◌∙◌, arith, Bool, true, false, List, [], ◌∷◌, map, ℤ, pos, negsuc, ◌+ℤ◌, ◌-ℤ◌, ◌*ℤ◌, neg_ℤ, ◌<ℤ◌}
 use Rattle.std.specs.List.{AllByRecursion}
 use borrow.Author.Differences.{ints}
 use lib.IntN.{*ℤ_comm, *ℤ-zero}
 use Rattle.ember_algebra.specs.Vector.{Vector, zero_v, dot, cross}
 use Rattle.ember_algebra.specs.Large.{Eventually}
-use Rattle.ember_algebra.specs.Sign.{sign, is_zero, is_positive}
+use Rattle.ember_algebra.specs.Sign.{sign, is_zero}
 use Rattle.ember_algebra.specs.Sums.{total}
 use Rattle.ember_algebra.proofs.Laws.{linear}
 use Rattle.ember_algebra.proofs.Order.{pos_mul, sign-mul, sign_scaled}
@@ -20,11 +20,11 @@ use Rattle.ember_model.specs.declared.point.Axis.TheVariants.{X, Y, Z}
 use Rattle.ember_model.specs.declared.face.Face.{Face}
 use Rattle.ember_model.specs.Planes.{value_at, along, unit}
 use Rattle.ember_model.specs.Faces.{is_in_closed, between, leg}
-use Rattle.ember_model.specs.ClearTest.{none_positive, all_negative}
+use Rattle.ember_model.specs.ClearTest.{none_positive}
 use Rattle.ember_model.specs.Edges.{RingEdge, normal}
 use Rattle.ember_model.specs.FaceFiles.{WrittenFace}
-use Rattle.ember_model.proofs.SignTests.{positive_in, zero_out, nonzero_out, clash}
-use Rattle.ember_model.proofs.Following.{Follows, FollowsEach}
+use Rattle.ember_model.proofs.SignTests.{positive_in, zero_out, nonzero_out}
+use Rattle.ember_model.proofs.Following.{FollowsEach}
 use Rattle.ember_model.proofs.Hits.{closed_on}
 use Rattle.ember_law.proofs.Shifted.{NoNormal, eventually_true}
 use Rattle.ember_poly.specs.Rings.{Under, AtMost, InClosedFace}
@@ -33,7 +33,7 @@ use Rattle.ember_poly.proofs.OutlinePoints.{Ended, ended}
 use Rattle.ember_chain.specs.Chains.{face_from, IsOutlined}
 use Rattle.ember_chain.proofs.Setting.{IsGeneral, IsGeneralFace, component, next, corner, loop, edge_turn}
 use Rattle.ember_chain.proofs.Rectangle.{value_corner, follows_corner, off_corner, weight_corner}
-use Rattle.ember_chain.proofs.Quad.{cut, passed, cuts_round, passed_round, quad_turns, quad_passes}
+use Rattle.ember_chain.proofs.Quad.{cut, passed, quad_turns, quad_passes}
 use Rattle.ember_chain.proofs.Displacements.{Parallel, dot_swap, square_positive, none_parallel}
 use Rattle.ember_chain.proofs.EdgeForm.{course_nonzero}
 use Rattle.ember_chain.proofs.OneEdge.{EdgeAt, IsOnlyMet, OneMet, edges_met}

@@ -1,7 +1,6 @@
 -- Legs between points near t: by the planes of the face at t.
-use Rattle.std.proofs.Common.{◌≡◌, ◌≢◌, ◌⊎◌, inl, inr, ⊎_elim, refl, sym, ap, ◌∙◌, arith, Bool, true, false, cond, ◌&&◌, List, [], ◌∷◌, map, ℤ, pos, ◌+ℤ◌, ◌*ℤ◌, ◌<ℤ◌, ◌≤ℤ◌}
+use Rattle.std.proofs.Common.{◌≡◌, ◌≢◌, inl, inr, refl, sym, ap, ◌∙◌, arith, Bool, true, false, cond, ◌&&◌, List, [], ◌∷◌, map, ℤ, pos, ◌+ℤ◌, ◌*ℤ◌, ◌<ℤ◌, ◌≤ℤ◌}
 use Rattle.std.specs.List.{AllByRecursion}
-use lib.IntN.{*ℤ-zero}
 use Rattle.ember_algebra.specs.Sign.{sign, is_negative}
 use Rattle.ember_algebra.proofs.Laws.{linear}
 use Rattle.ember_algebra.proofs.Order.{by_sign, pos_mul, mul_pos_neg, mul_neg_neg}
@@ -9,7 +8,7 @@ use Rattle.ember_model.specs.declared.plane.Plane.{Plane}
 use Rattle.ember_model.specs.declared.point.Spot.{Spot}
 use Rattle.ember_model.specs.declared.face.Face.{Face}
 use Rattle.ember_model.specs.Planes.{value_at}
-use Rattle.ember_model.specs.Faces.{size, between, leg}
+use Rattle.ember_model.specs.Faces.{between, leg}
 use Rattle.ember_model.specs.ClearTest.{none_positive, all_negative}
 use Rattle.ember_model.specs.Edges.{RingEdge}
 use Rattle.ember_model.proofs.SignTests.{negative_in, negative_not, size_positive, and_true}

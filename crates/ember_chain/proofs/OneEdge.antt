@@ -1,18 +1,18 @@
 -- At a point whose planes contain a line at most one edge of a face is met.
-use Rattle.std.proofs.Common.{◌≡◌, ◌≢◌, ◌⊎◌, inl, inr, ⊎_elim, refl, sym, ap, subst, ◌∙◌, arith, Bool, true, false, List, [], ◌∷◌, map, ℤ, pos, ◌-ℤ◌, ◌*ℤ◌, ◌<ℤ◌, ◌≤ℤ◌}
+use Rattle.std.proofs.Common.{◌≡◌, ◌≢◌, ◌⊎◌, inl, inr, ⊎_elim, refl, sym, ◌∙◌, arith, Bool, true, false, List, [], ◌∷◌, ℤ, pos, ◌-ℤ◌}
 use Rattle.std.specs.List.{AllByRecursion}
-use Rattle.ember_algebra.specs.Vector.{Vector, zero_v, dot}
+use Rattle.ember_algebra.specs.Vector.{Vector, zero_v}
 use Rattle.ember_algebra.proofs.Laws.{linear}
 use Rattle.ember_algebra.proofs.Order.{by_sign}
 use Rattle.ember_model.specs.declared.plane.Plane.{Plane}
 use Rattle.ember_model.specs.declared.point.Spot.{Spot}
 use Rattle.ember_model.specs.declared.face.Face.{Face}
 use Rattle.ember_model.specs.Planes.{value_at}
-use Rattle.ember_model.specs.Edges.{RingEdge, IsEdge, SameEdge, AreApart, normal, is_on_edge}
+use Rattle.ember_model.specs.Edges.{RingEdge, SameEdge, AreApart, normal, is_on_edge}
 use Rattle.ember_model.proofs.SignTests.{zero_scaled}
 use Rattle.ember_poly.specs.Rings.{Under, AtMost, InClosedFace}
 use Rattle.ember_poly.proofs.Chains.{each_both}
-use Rattle.ember_poly.proofs.FaceTests.{OnEdge, edge_in, edge_out}
+use Rattle.ember_poly.proofs.FaceTests.{edge_in, edge_out}
 use Rattle.ember_poly.proofs.OutlinePoints.{Ended}
 use Rattle.ember_law.proofs.Generic.{cancel_zero}
 use Rattle.ember_chain.specs.Chains.{displacement}
