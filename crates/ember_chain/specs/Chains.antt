@@ -1,6 +1,6 @@
 -- Directed edges, and closed lists of them
 use Rattle.std.specs.Prelude.{◌≡◌, ℕ, ℤ, pos, neg_ℤ, ◌+ℤ◌, ◌-ℤ◌, ◌*ℤ◌, ◌<ℤ◌, Bool, false, not, ◌&&◌, cond, if◌then◌else◌, List, [], ◌∷◌}
-use Rattle.std.specs.List.{count_by}
+use Rattle.std.specs.List.{count_by, flat_map}
 use Rattle.ember_algebra.specs.Vector.{Vector, dot, cross}
 use Rattle.ember_algebra.specs.Sign.{is_negative, is_zero}
 use Rattle.ember_algebra.specs.Sums.{total}
@@ -79,6 +79,10 @@ edges_to end (e ∷ d ∷ es) = record { from = e.start; to = d.start } ∷ edge
 abbrev pub directed_edges : List RingEdge → List DirectedEdge
 directed_edges [] = []
 directed_edges (e ∷ es) = edges_to e.start (e ∷ es)
+
+-- the edges of all faces are closed
+abbrev pub IsClosedSurface : List WrittenFace → Type 0
+IsClosedSurface ws = IsClosed (flat_map (λ w. directed_edges w.edges) ws)
 
 -- the face with the edge planes of its written edges
 abbrev pub face_from : WrittenFace → Face

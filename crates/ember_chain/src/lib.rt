@@ -1,3 +1,7 @@
 //! Closed surfaces: where the winding numbers of faces agree along all axes, the edges of their
 //! outlines are closed.
 #![tactic(auto)]
+
+mod law;
+
+pub use law::agreeing_faces_are_closed;

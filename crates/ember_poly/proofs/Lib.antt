@@ -39,3 +39,4 @@ pub mod Aside
 pub mod Needless
 pub mod OutlinePoints
 pub mod SameSide
+pub mod OwnOutline
