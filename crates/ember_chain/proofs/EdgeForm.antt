@@ -7,7 +7,7 @@ use Rattle.ember_algebra.specs.Vector.{Vector, zero_v, dot, cross}
 use Rattle.ember_algebra.specs.Sign.{sign, is_negative}
 use Rattle.ember_algebra.specs.Sums.{total}
 use Rattle.ember_algebra.proofs.Laws.{linear, neg-*ℤ, *ℤ-neg}
-use Rattle.ember_algebra.proofs.Order.{by_sign, pos_mul, nonneg_mul, mul_pos_neg, mul_neg_pos, mul_neg_neg, sign_pos, sign_neg, cancel_eq}
+use Rattle.ember_algebra.proofs.Order.{by_sign, pos_mul, nonneg_mul, mul_pos_neg, mul_neg_pos, sign_pos, sign_neg, cancel_eq}
 use Rattle.ember_algebra.proofs.Ring.{◌⊖◌, ◌⊗◌, ◌≈◌, solve, cancels}
 use Rattle.ember_algebra.proofs.Vectors.{vector, tuple, identity, dotE}
 use Rattle.ember_algebra.proofs.Identities.{parallel_products, orthogonal_parallel}
@@ -19,7 +19,7 @@ use Rattle.ember_model.specs.Edges.{RingEdge, IsEdge, normal, is_on_edge, IsPath
 use Rattle.ember_model.specs.FaceFiles.{WrittenFace}
 use Rattle.ember_model.proofs.SignTests.{and_parts, clash, negative_in, negative_not, positive_nonzero, zero_scaled, zero_times}
 use Rattle.ember_model.proofs.Tuples.{spot_tuple, normalE}
-use Rattle.ember_poly.specs.Rings.{AtMost, InClosedFace}
+use Rattle.ember_poly.specs.Rings.{AtMost}
 use Rattle.ember_poly.proofs.Planar.{both_zero}
 use Rattle.ember_poly.proofs.FaceTests.{OnEdge, edge_in, edge_out}
 use Rattle.ember_poly.proofs.RingOutline.{each_get}
@@ -145,7 +145,7 @@ module _ (f : Face) (e : RingEdge) (end : Spot) (edge : IsEdge f e end) where
   -- what lies on both planes lies on the line through the ends, and back
   module _ (d : Vector) (t : Spot) (wt : pos 0 <ℤ t.w) (nd : d ≢ zero_v) where
     -- the plane of a point of the closed edge contains d
-    on_line : dot (normal f.support) d ≡ pos 0 → dot (normal e.plane) d ≡ pos 0 → (u : Spot) → OnEdge f e.plane u → (v : Spot) → value_at f.support v ≡ pos 0 → value_at e.plane v ≡ pos 0 → Parallel (displacement u v) d
+    pub on_line : dot (normal f.support) d ≡ pos 0 → dot (normal e.plane) d ≡ pos 0 → (u : Spot) → OnEdge f e.plane u → (v : Spot) → value_at f.support v ≡ pos 0 → value_at e.plane v ≡ pos 0 → Parallel (displacement u v) d
     on_line a b u on v nv gv =
         parallel_both (displacement u v) d course course_nonzero (line_displacement f.support e.plane u v on.closed.flat nv on.zero gv) (orthogonal_parallel d (normal f.support) (normal e.plane) (dot_swap d (normal f.support) ∙ a) (dot_swap d (normal e.plane) ∙ b))
 

@@ -5,6 +5,10 @@ pub mod ClearCorners
 pub mod Quad
 pub mod Displacements
 pub mod EdgeForm
+pub mod OneEdge
+pub mod NearLegs
+pub mod EdgeSums
+pub mod FaceLoop
 pub mod Starts
 pub mod Pending
 pub mod Ready

@@ -1,5 +1,5 @@
 -- Where the points just after each point are covered evenly, as many edges start at each point as end there.
-use Rattle.std.proofs.Common.{◌≡◌, ◌≢◌, ⊎_elim, refl, sym, ap, ◌∙◌, arith, ℕ, zero, suc, Bool, true, false, cond, ◌&&◌, List, [], ◌∷◌, ℤ, pos, negsuc, ◌+ℤ◌, ◌-ℤ◌, ◌*ℤ◌, neg_ℤ, ◌<ℤ◌}
+use Rattle.std.proofs.Common.{◌≡◌, ◌≢◌, refl, sym, ap, ◌∙◌, arith, ℕ, zero, suc, Bool, true, false, cond, ◌&&◌, List, [], ◌∷◌, ℤ, pos, negsuc, ◌+ℤ◌, ◌-ℤ◌, neg_ℤ, ◌<ℤ◌}
 use Rattle.std.specs.List.{AllByRecursion}
 use borrow.Author.Differences.{ints}
 use Rattle.ember_algebra.specs.Vector.{Vector, zero_v, dot, cross}
@@ -11,7 +11,7 @@ use Rattle.ember_algebra.proofs.Sums.{total-count_by}
 use Rattle.ember_algebra.proofs.Vectors.{VectorE, vector, identity, vector_identity, dotE, crossE, ◌≈v◌, cancels_v}
 use Rattle.ember_model.specs.declared.point.Spot.{Spot}
 use Rattle.ember_model.proofs.SignTests.{and_parts, clash, zero_out, and_true}
-use Rattle.ember_chain.specs.Chains.{DirectedEdge, displacement, is_zero_vector, is_same_point, is_parallel, is_on_line, is_reached, coverage, starts_at, ends_at, IsEvenlyCovered, IsClosed}
+use Rattle.ember_chain.specs.Chains.{DirectedEdge, displacement, is_zero_vector, is_same_point, is_parallel, is_on_line, is_reached, coverage, IsEvenlyCovered, IsClosed}
 use Rattle.ember_chain.proofs.Displacements.{Parallel, parallel_none, none_parallel, parallel_back, parallel_onward, orthogonal_to_none, dot_swap, zero_vector_in, zero_vector_out, zero_not}
 
 -- ---- the other direction
