@@ -10,7 +10,6 @@ pub mod NearLegs
 pub mod EdgeSums
 pub mod FaceLoop
 pub mod Starts
-pub mod Pending
 pub mod Ready
 pub mod Loops
 pub mod Closed

@@ -24,7 +24,7 @@ use Rattle.ember_chain.proofs.Setting.{ahead, IsOffEnds, component, next, corner
 use Rattle.ember_chain.proofs.Ahead.{has_component}
 use Rattle.ember_chain.proofs.Ready.{IsReadyFace, IsReady, ready_ahead, IsClearCorner, clear_corner}
 use Rattle.ember_chain.proofs.EdgeForm.{outline_form}
-use Rattle.ember_chain.proofs.Pending.{face_loop}
+use Rattle.ember_chain.proofs.FaceLoop.{face_loop}
 
 -- ---- the corners of a side
 side_second : (c : Axis) (t : Spot) (m sa sb sc : ℤ) → DifferAlong (next (next c)) (corner c t m sa sb) (corner c t m sa sc)
