@@ -1,5 +1,5 @@
 -- Faces that wind alike along all axes are closed.
-use Rattle.std.proofs.Common.{sym, subst, List, [], ◌∷◌, ◌++◌, map, ℤ, pos, ◌<ℤ◌}
+use Rattle.std.proofs.Common.{sym, subst, List, [], ◌∷◌, map, pos, ◌<ℤ◌}
 use Rattle.std.specs.List.{AllByRecursion, flat_map}
 use Rattle.std.proofs.lemmas.List.Concat.{flat_map-cons}
 use Rattle.ember_model.specs.declared.tri.Tri.{Tri}
