@@ -1,29 +1,24 @@
 -- A point that misses some planes of a face is clear of it: corners of the rectangle do.
-use Rattle.std.proofs.Common.{◌≡◌, ◌≢◌, ⊎_elim, refl, sym, ap, subst, ◌∙◌, arith, Bool, true, false, not, ◌&&◌, List, [], ◌∷◌, map, ℤ, pos, ◌+ℤ◌, ◌*ℤ◌, neg_ℤ, ◌<ℤ◌, ◌≤ℤ◌}
+use Rattle.std.proofs.Common.{◌≡◌, ◌≢◌, ⊎_elim, refl, sym, subst, ◌∙◌, arith, Bool, true, false, not, ◌&&◌, List, [], ◌∷◌, map, ℤ, pos, ◌+ℤ◌, ◌*ℤ◌, neg_ℤ, ◌<ℤ◌, ◌≤ℤ◌}
 use Rattle.std.specs.List.{AllByRecursion}
 use borrow.Author.Differences.{ints}
 use lib.IntN.{*ℤ_comm}
-use Rattle.ember_algebra.specs.Vector.{Vector, dot, cross}
-use Rattle.ember_algebra.specs.Large.{Eventually}
-use Rattle.ember_algebra.specs.Sign.{is_negative, is_positive, sign}
+use Rattle.ember_algebra.specs.Vector.{dot, cross}
+use Rattle.ember_algebra.specs.Sign.{is_positive, sign}
 use Rattle.ember_algebra.proofs.Laws.{linear}
 use Rattle.ember_algebra.proofs.Order.{zero_product}
-use Rattle.ember_algebra.proofs.Large.{eventually_both, eventually_map}
 use Rattle.ember_algebra.proofs.Identities.{dot_zero}
-use Rattle.ember_algebra.proofs.Ring.{Expr, ◌⊕◌, ◌⊗◌, ◌≈◌, num, cancels}
-use Rattle.ember_algebra.proofs.Vectors.{scalar, tuple, identity, TupleE, dotE, crossE}
+use Rattle.ember_algebra.proofs.Ring.{◌⊕◌, ◌⊗◌, ◌≈◌, num, cancels}
+use Rattle.ember_algebra.proofs.Vectors.{scalar, tuple, identity, dotE, crossE}
 use Rattle.ember_model.specs.declared.plane.Plane.{Plane}
 use Rattle.ember_model.specs.declared.point.Spot.{Spot}
 use Rattle.ember_model.specs.declared.point.Axis.{Axis}
-use Rattle.ember_model.specs.declared.point.Axis.TheVariants.{X, Y, Z}
-use Rattle.ember_model.specs.declared.tri.Tri.{Tri}
 use Rattle.ember_model.specs.declared.face.Face.{Face}
-use Rattle.ember_model.specs.Planes.{value_at, along, unit, support_of, edge_through}
+use Rattle.ember_model.specs.Planes.{value_at, along}
 use Rattle.ember_model.specs.Points.{scaled, moved}
 use Rattle.ember_model.specs.Faces.{size, hit, is_in_closed, is_inside}
-use Rattle.ember_model.specs.Clear.{IsClear, IsClearOf, AreClear}
+use Rattle.ember_model.specs.Clear.{IsClear}
 use Rattle.ember_model.specs.ClearTest.{none_positive, all_negative}
-use Rattle.ember_model.specs.Meshes.{faces_of}
 use Rattle.ember_model.specs.Edges.{normal, reach_along, IsBefore, RingEdge}
 use Rattle.ember_model.specs.FaceFiles.{WrittenFace}
 use Rattle.ember_model.proofs.SignTests.{and_parts, zero_scaled, size_positive, positive_nonzero}
@@ -32,8 +27,8 @@ use Rattle.ember_model.proofs.Hits.{same_all_negative, same_none_positive, value
 use Rattle.ember_model.proofs.ClearPoints.{hit_place, nonzero_product}
 use Rattle.ember_model.proofs.Tuples.{plane_tuple, spot_tuple, normalE}
 use Rattle.ember_law.proofs.Shifted.{NoNormal}
-use Rattle.ember_law.proofs.Generic.{IsOff, at_hit_of, value_at_hit}
-use Rattle.ember_law.proofs.GenericClear.{strict, off_clear, clear_faces}
+use Rattle.ember_law.proofs.Generic.{at_hit_of, value_at_hit}
+use Rattle.ember_law.proofs.GenericClear.{strict}
 use Rattle.ember_poly.proofs.OutlinePoints.{Ended, ended}
 use Rattle.ember_chain.specs.Chains.{face_from, IsOutlined}
 

@@ -1,5 +1,5 @@
 -- Round the rectangle the legs over its sides add up to 0, so just after each point edges run on as often as back.
-use Rattle.std.proofs.Common.{◌≡◌, ◌≢◌, ⊎_elim, refl, sym, ap, ◌∙◌, arith, false, List, [], ◌∷◌, map, ℕ, ℤ, pos, negsuc, ◌+ℤ◌, ◌-ℤ◌, ◌*ℤ◌, ◌<ℤ◌, le_refl}
+use Rattle.std.proofs.Common.{◌≡◌, ◌≢◌, ⊎_elim, refl, sym, ap, ◌∙◌, arith, false, List, [], ◌∷◌, map, ℤ, pos, negsuc, ◌+ℤ◌, ◌*ℤ◌, ◌<ℤ◌, le_refl}
 use borrow.Author.Differences.{ints}
 use Rattle.std.specs.List.{AllByRecursion, flat_map}
 use Rattle.ember_algebra.specs.Vector.{Vector}
@@ -20,7 +20,7 @@ use Rattle.ember_model.specs.FaceFiles.{WrittenFace}
 use Rattle.ember_law.specs.Counts.{leg_wind}
 use Rattle.ember_law.proofs.Paths.{along_itself}
 use Rattle.ember_chain.specs.Chains.{DirectedEdge, is_zero_vector, coverage, IsEvenlyCovered, directed_edges, face_from, IsOutlined, AxesAgreeOffScene}
-use Rattle.ember_chain.proofs.Setting.{ahead, IsOffEnds, component, next, corner, loop, edge_turn}
+use Rattle.ember_chain.proofs.Setting.{ahead, IsOffEnds, component, next, corner, loop}
 use Rattle.ember_chain.proofs.Ahead.{has_component}
 use Rattle.ember_chain.proofs.Ready.{IsReadyFace, IsReady, ready_ahead, IsClearCorner, clear_corner}
 use Rattle.ember_chain.proofs.EdgeForm.{outline_form}
