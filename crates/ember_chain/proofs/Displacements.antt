@@ -42,7 +42,7 @@ pub displacement_value : (h : Plane) (u v : Spot) → u.w *ℤ value_at h v -ℤ
 displacement_value h u v =
     identity (tuple ∷ tuple ∷ tuple ∷ []) (λ h u v. u.w ⊗ valueE h v ⊖ v.w ⊗ valueE h u ≈ dotE (normalE h) (displacementE u v)) cancels (plane_tuple h) (spot_tuple u) (spot_tuple v)
 
-abbrev zeroE : VectorE
+abbrev pub zeroE : VectorE
 zeroE = record { x = num (pos 0); y = num (pos 0); z = num (pos 0) }
 
 -- ---- parallel vectors

@@ -10,6 +10,7 @@ pub mod NearLegs
 pub mod EdgeSums
 pub mod FaceLoop
 pub mod Starts
+pub mod Pieces
 pub mod Ready
 pub mod Loops
 pub mod Closed

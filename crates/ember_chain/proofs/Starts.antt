@@ -18,7 +18,7 @@ use Rattle.ember_chain.proofs.Displacements.{Parallel, parallel_none, none_paral
 abbrev pub against : Vector → Vector
 against d = record { x = neg_ℤ d.x; y = neg_ℤ d.y; z = neg_ℤ d.z }
 
-abbrev againstE : VectorE → VectorE
+abbrev pub againstE : VectorE → VectorE
 againstE d = record { x = neg d.x; y = neg d.y; z = neg d.z }
 
 zero_against : (v : Vector) → is_zero_vector (against v) ≡ is_zero_vector v
@@ -29,7 +29,7 @@ zero_against v = let x = one v.x in let y = one v.y in let z = one v.z in λ i. 
     one (pos (suc n)) = refl
     one (negsuc n) = refl
 
-parallel_against : (v d : Vector) → is_zero_vector (cross v (against d)) ≡ is_zero_vector (cross v d)
+pub parallel_against : (v d : Vector) → is_zero_vector (cross v (against d)) ≡ is_zero_vector (cross v d)
 parallel_against v d =
     ap is_zero_vector (vector_identity (vector ∷ vector ∷ []) (λ v d. crossE v (againstE d) ≈v againstE (crossE v d)) cancels_v v d) ∙ zero_against (cross v d)
 

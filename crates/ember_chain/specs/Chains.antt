@@ -1,8 +1,8 @@
 -- Directed edges, and closed lists of them
-use Rattle.std.specs.Prelude.{◌≡◌, ℕ, ℤ, pos, ◌-ℤ◌, ◌*ℤ◌, ◌<ℤ◌, Bool, false, ◌&&◌, cond, if◌then◌else◌, List, [], ◌∷◌}
-use Rattle.std.specs.List.{count_by, flat_map}
+use Rattle.std.specs.Prelude.{◌≡◌, ℕ, ℤ, pos, ◌-ℤ◌, ◌*ℤ◌, ◌<ℤ◌, Bool, false, not, ◌&&◌, cond, if◌then◌else◌, List, [], ◌∷◌}
+use Rattle.std.specs.List.{AllByRecursion, count_by, flat_map}
 use Rattle.ember_algebra.specs.Vector.{Vector, dot, cross}
-use Rattle.ember_algebra.specs.Sign.{is_negative, is_zero}
+use Rattle.ember_algebra.specs.Sign.{is_negative, is_zero, is_positive}
 use Rattle.ember_algebra.specs.Sums.{total}
 use Rattle.ember_model.specs.declared.point.Spot.{Spot}
 use Rattle.ember_model.specs.declared.point.Axis.{Axis}
@@ -67,6 +67,31 @@ coverage x d e =
 abbrev pub IsEvenlyCovered : List DirectedEdge → Type 0
 IsEvenlyCovered es =
     (x : Spot) (d : Vector) → pos 0 <ℤ x.w → is_zero_vector d ≡ false → total (coverage x d) es ≡ pos 0
+
+-- ---- pieces of lines
+-- v lies ahead of u along d
+abbrev pub is_ahead : Spot → Vector → Spot → Bool
+is_ahead u d v = is_positive (dot (displacement u v) d)
+
+-- u lies strictly between x and y, on their line
+abbrev pub is_between : Spot → Spot → Spot → Bool
+is_between x y u =
+    is_on_line x (displacement x y) u && (is_ahead x (displacement x y) u && is_ahead u (displacement x y) y)
+
+-- neither end of the edge lies strictly between x and y
+pub record IsUnbroken (x y : Spot) (e : DirectedEdge) : Type 0 where
+  pub from : is_between x y e.from ≡ false
+  pub to : is_between x y e.to ≡ false
+
+-- the edge runs on their line in the direction from x to y, starts at x or before it, and ends at y or after it
+abbrev pub leads_over : Spot → Spot → DirectedEdge → Bool
+leads_over x y e =
+    is_parallel (displacement x y) e && is_on_line x (displacement x y) e.from && (not (is_ahead x (displacement x y) e.from) && not (is_ahead e.to (displacement x y) y))
+
+-- each piece of a line that no edge starts or ends within is led over as often one way as the other
+abbrev pub ArePiecesPaired : List DirectedEdge → Type 0
+ArePiecesPaired es =
+    (x y : Spot) → pos 0 <ℤ x.w → pos 0 <ℤ y.w → is_same_point x y ≡ false → AllByRecursion (IsUnbroken x y) es → count_by (leads_over x y) es ≡ count_by (leads_over y x) es
 
 -- ---- written faces
 -- the edges of an outline, each from its start corner to that of the next, the last to the corner `end`

@@ -1,7 +1,7 @@
-// The law of closed surfaces.
+// The laws of closed surfaces.
 ghost use Rattle.std.specs.Prelude.{List, map};
-ghost use Rattle.std.specs.List.{AllByRecursion};
-ghost use Rattle.ember_chain.specs.Chains.{face_from, AxesAgreeOffScene, IsClosedSurface, IsOutlined};
+ghost use Rattle.std.specs.List.{AllByRecursion, flat_map};
+ghost use Rattle.ember_chain.specs.Chains.{directed_edges, face_from, AxesAgreeOffScene, IsClosedSurface, ArePiecesPaired, IsOutlined};
 ghost use Rattle.ember_model.specs.FaceFiles.{WrittenFace};
 ghost use Rattle.ember_model.specs.declared.tri.Tri.{Tri};
 
@@ -10,4 +10,11 @@ ghost use Rattle.ember_model.specs.declared.tri.Tri.{Tri};
 /// line, each point is as often the start of a written edge as the end of one.
 pub fn agreeing_faces_are_closed()
     ensures { (ts : List Tri) (ws : List WrittenFace) → AllByRecursion IsOutlined ws → AxesAgreeOffScene ts (map face_from ws) → IsClosedSurface ws }
+{}
+
+/// The same surface piece by piece: take two points with no end of a written edge strictly between
+/// them on their line. Then as many written edges lead over both from the first to the second as
+/// from the second to the first.
+pub fn agreeing_faces_have_paired_pieces()
+    ensures { (ts : List Tri) (ws : List WrittenFace) → AllByRecursion IsOutlined ws → AxesAgreeOffScene ts (map face_from ws) → ArePiecesPaired (flat_map (λ w. directed_edges w.edges) ws) }
 {}

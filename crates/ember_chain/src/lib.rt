@@ -4,4 +4,4 @@
 
 mod law;
 
-pub use law::agreeing_faces_are_closed;
+pub use law::{agreeing_faces_are_closed, agreeing_faces_have_paired_pieces};
