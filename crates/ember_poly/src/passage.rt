@@ -54,6 +54,7 @@ fn axis_of(p: &Plane) -> Option<Axis>
 }
 
 // The side of a plane along an axis, by its entry there and its constant, on which a point lies.
+#[inline]
 fn side_by(a: i64, d: i64, x: i128, w: i128) -> Sign
     requires a { Small 33554431 a }
     requires d { Small 549755813887 d }
@@ -64,6 +65,7 @@ fn side_by(a: i64, d: i64, x: i128, w: i128) -> Sign
     sign_of(a as i128 * x - d as i128 * w)
 }
 
+#[inline]
 fn side_on(p: &Plane, axis: Axis, m: &Meet) -> Sign
     requires plane { IsValidPlane p.now }
     requires axis { IsAlong axis p.now }
@@ -77,6 +79,7 @@ fn side_on(p: &Plane, axis: Axis, m: &Meet) -> Sign
 }
 
 // The side of the plane on which the point lies.
+#[inline]
 fn side_along(p: &Plane, axis: Option<Axis>, m: &Meet) -> Sign
     requires plane { IsValidPlane p.now }
     requires axis { IfSome axis (λ k. IsAlong k p.now) }

@@ -48,6 +48,22 @@ fn put_between<T: Copy>(
     Ok(())
 }
 
+// Begins a closed list at another place. The library's rotation by several places clears a room on
+// the stack, which takes longer than three reversals of a list as short as these.
+fn begin_at<T>(items: &mut Vec<T>, place: usize)
+    requires { place ≤ length items.old.items }
+    ensures { items.new.items ≡ begun_at place items.old.items }
+{
+    if place < 2 || items.len() - place == 1 {
+        items.rotate_left(place);
+        return;
+    }
+    let (front, back) = items.split_at_mut(place);
+    front.reverse();
+    back.reverse();
+    items.reverse();
+}
+
 // For how many cuts a list has room at first.
 const ROOM: usize = 6;
 
@@ -86,9 +102,9 @@ impl Rim {
         ensures count { length self.new.edges.items ≡ length self.old.edges.items }
         ensures paired { IsPaired self.new }
     {
-        self.edges.rotate_left(place);
-        self.corners.rotate_left(place);
-        self.births.rotate_left(place);
+        begin_at(&mut self.edges, place);
+        begin_at(&mut self.corners, place);
+        begin_at(&mut self.births, place);
     }
 
     // Lets an edge start at another corner.
