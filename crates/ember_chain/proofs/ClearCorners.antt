@@ -1,14 +1,13 @@
 -- A point that misses some planes of a face is clear of it: corners of the rectangle do.
 use Rattle.std.proofs.Common.{◌≡◌, ◌≢◌, ⊎_elim, refl, sym, subst, ◌∙◌, arith, Bool, true, false, not, ◌&&◌, List, [], ◌∷◌, map, ℤ, pos, ◌+ℤ◌, ◌*ℤ◌, neg_ℤ, ◌<ℤ◌, ◌≤ℤ◌}
 use Rattle.std.specs.List.{AllByRecursion}
-use borrow.Author.Differences.{ints}
 use lib.IntN.{*ℤ_comm}
 use Rattle.ember_algebra.specs.Vector.{dot, cross}
 use Rattle.ember_algebra.specs.Sign.{is_positive, sign}
 use Rattle.ember_algebra.proofs.Laws.{linear}
 use Rattle.ember_algebra.proofs.Order.{zero_product}
 use Rattle.ember_algebra.proofs.Identities.{dot_zero}
-use Rattle.ember_algebra.proofs.Ring.{◌⊕◌, ◌⊗◌, ◌≈◌, num, cancels}
+use Rattle.ember_algebra.proofs.Ring.{◌⊕◌, ◌⊗◌, ◌≈◌, cancels}
 use Rattle.ember_algebra.proofs.Vectors.{scalar, tuple, identity, dotE, crossE}
 use Rattle.ember_model.specs.declared.plane.Plane.{Plane}
 use Rattle.ember_model.specs.declared.point.Spot.{Spot}
@@ -31,6 +30,7 @@ use Rattle.ember_law.proofs.Generic.{at_hit_of, value_at_hit}
 use Rattle.ember_law.proofs.GenericClear.{strict}
 use Rattle.ember_poly.proofs.OutlinePoints.{Ended, ended}
 use Rattle.ember_chain.specs.Chains.{face_from, IsOutlined}
+use Rattle.ember_chain.proofs.EdgeForm.{has_normal}
 
 -- ---- clear of a face
 all_strict : (x : Spot) (es : List Plane) → AllByRecursion (λ g. value_at g x ≢ pos 0) es → none_positive es x ≡ true → all_negative es x ≡ true
@@ -60,7 +60,7 @@ missed_face_is_clear f p w off o =
         inside_on f r (ray_weight a p m s lm w) x.1 ∙ l
 
 -- ---- of outlined faces
--- along an edge there is a way, so its plane's normal isn't along the support plane's
+-- an edge has two ends, so its plane's normal isn't parallel to that of the support plane
 no_reach : (n g : Plane) (u v : Spot) (k : ℤ) → pos 0 <ℤ k → k *ℤ reach_along n g u ≡ pos 0 → k *ℤ reach_along n g v ≡ pos 0 → IsBefore n g u v → ⊥
 no_reach n g u v k l eu ev b =
     let p = zero_times_factor (reach_along n g u) eu in let q = zero_times_factor (reach_along n g v) ev in
@@ -69,22 +69,10 @@ no_reach n g u v k l eu ev b =
     zero_times_factor : (r : ℤ) → k *ℤ r ≡ pos 0 → r ≡ pos 0
     zero_times_factor r e = ⊎_elim (λ z. absurd (positive_nonzero l z)) (λ z. z) (zero_product e)
 
--- the edge plane and what it is at a hit
+-- the reach by the plane that tells the edge plane's value at the hit
 hit_reach : (n g : Plane) (a : Axis) (v : Spot) → size (along n a) *ℤ reach_along n g v ≡ dot (cross (record { x = v.x; y = v.y; z = v.z }) (normal n)) (normal (at_hit_of g n a))
 hit_reach n g a v =
     identity (tuple ∷ tuple ∷ tuple ∷ scalar ∷ scalar ∷ []) (λ n g v m k. m ⊗ dotE (crossE (normalE n) (normalE g)) (normalE v) ≈ dotE (crossE (normalE v) (normalE n)) (record { x = m ⊗ g.x ⊕ k ⊗ n.x; y = m ⊗ g.y ⊕ k ⊗ n.y; z = m ⊗ g.z ⊕ k ⊗ n.z })) cancels (plane_tuple n) (plane_tuple g) (spot_tuple v) (size (along n a)) (neg_ℤ (sign (along n a)) *ℤ along g a)
-
-normal_reach : (n g : Plane) (v : Spot) → pos 1 *ℤ reach_along n g v ≡ dot (cross (normal g) (record { x = v.x; y = v.y; z = v.z })) (normal n)
-normal_reach n g v =
-    identity (tuple ∷ tuple ∷ tuple ∷ []) (λ n g v. num (pos 1) ⊗ dotE (crossE (normalE n) (normalE g)) (normalE v) ≈ dotE (crossE (normalE g) (normalE v)) (normalE n)) cancels (plane_tuple n) (plane_tuple g) (spot_tuple v)
-
--- so the support plane has a normal
-has_normal : (f : Face) (e : RingEdge) → Ended f e → NoNormal f.support → ⊥
-has_normal f e d n =
-    no_reach f.support e.plane e.start d.end (pos 1) (omega (arith, ints)) (at e.start) (at d.end) d.is.leads
-  where
-    at : (v : Spot) → pos 1 *ℤ reach_along f.support e.plane v ≡ pos 0
-    at v = normal_reach f.support e.plane v ∙ dot_zero (cross (normal e.plane) (record { x = v.x; y = v.y; z = v.z })) (normal f.support) n.0 n.1 n.2
 
 hit_has_normal : (f : Face) (a : Axis) → along f.support a ≢ pos 0 → (e : RingEdge) → Ended f e → NoNormal (at_hit_of e.plane f.support a) → ⊥
 hit_has_normal f a nz e d n =
@@ -99,6 +87,7 @@ pub record IsOffFace (f : Face) (p : Spot) : Type 0 where
   pub support : value_at f.support p ≡ pos 0 → NoNormal f.support
   pub hits : (a : Axis) → AllByRecursion (λ g. value_at (at_hit_of g f.support a) p ≡ pos 0 → NoNormal (at_hit_of g f.support a)) f.edges
 
+-- a point off the planes of an outlined face is clear of it
 pub off_face_is_clear : (w : WrittenFace) (p : Spot) → IsOutlined w → IsOffFace (face_from w) p → IsClear (face_from w) p
 off_face_is_clear w p line o =
     missed_face_is_clear (face_from w) p o.weight (λ z. has_normal (face_from w) line.first ends_first (o.support z)) (λ a nz. missed a nz w.edges ends (o.hits a))
