@@ -18,8 +18,8 @@ use Rattle.ember_model.specs.Planes.{value_at}
 use Rattle.ember_model.specs.Edges.{normal}
 use Rattle.ember_model.proofs.SignTests.{negative_in, negative_not, nonzero_out, positive_nonzero, negative_nonzero, sgn_scaled}
 use Rattle.ember_model.proofs.Tuples.{plane_tuple, spot_tuple, normalE}
+use Rattle.ember_chain.specs.Chains.{DirectedEdge, displacement, is_zero_vector, is_on_line, is_parallel, reached, coverage}
 use Rattle.ember_chain.proofs.Displacements.{displacementE, square_positive, zero_not}
-use Rattle.ember_chain.specs.Chains.{DirectedEdge, displacement, is_zero_vector, is_on_line, is_parallel, is_reached, coverage}
 use Rattle.ember_chain.proofs.Setting.{ahead, IsGeneral, IsOffEnds, component}
 
 -- ---- directions
@@ -82,7 +82,7 @@ ahead_of u x d m =
     identity (tuple ∷ tuple ∷ vector ∷ scalar ∷ []) (λ u x d m. dotE (displacementE u (aheadE x d m)) d ≈ m ⊗ dotE (displacementE u x) d ⊕ u.w ⊗ dotE d d) cancels (spot_tuple u) (spot_tuple x) d m
 
 -- ahead, what was reached still is, and nothing else; and no end is beside
-reached_ahead : (x : Spot) (d : Vector) (u : Spot) → pos 0 <ℤ u.w → is_zero_vector d ≡ false → Eventually (λ m. (is_reached d u x ≡ is_reached d u (ahead x d (pos m))) × (dot (displacement u (ahead x d (pos m))) d ≢ pos 0))
+reached_ahead : (x : Spot) (d : Vector) (u : Spot) → pos 0 <ℤ u.w → is_zero_vector d ≡ false → Eventually (λ m. (reached d u x ≡ reached d u (ahead x d (pos m))) × (dot (displacement u (ahead x d (pos m))) d ≢ pos 0))
 reached_ahead x d u w n =
     let v = dot (displacement u x) d in let k = u.w *ℤ dot d d in
     eventually_map (λ m o. let e = ahead_of u x d (pos m) in let r = signs m o in (ap (λ (b : Bool). cond b (pos 0) (pos 1)) (r.0 ∙ ap is_negative (sym e)), λ z. r.1 (sym e ∙ z))) (outweighs v k)

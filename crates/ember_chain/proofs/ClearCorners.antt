@@ -27,9 +27,9 @@ use Rattle.ember_law.proofs.Shifted.{NoNormal}
 use Rattle.ember_law.proofs.Generic.{at_hit_of, value_at_hit, cancel_zero}
 use Rattle.ember_law.proofs.GenericClear.{strict}
 use Rattle.ember_poly.proofs.OutlinePoints.{Ended, ended}
-use Rattle.ember_chain.proofs.EdgeForm.{course_nonzero, edge_has_normal}
-use Rattle.ember_chain.proofs.Displacements.{none_parallel, parallel_swap}
 use Rattle.ember_chain.specs.Chains.{face_from, IsOutlined}
+use Rattle.ember_chain.proofs.EdgeForm.{course_nonzero, has_normal}
+use Rattle.ember_chain.proofs.Displacements.{none_parallel, parallel_swap}
 
 -- ---- clear of a face
 all_strict : (x : Spot) (es : List Plane) → AllByRecursion (λ g. value_at g x ≢ pos 0) es → none_positive es x ≡ true → all_negative es x ≡ true
@@ -59,7 +59,7 @@ missed_face_is_clear f p w off o =
         inside_on f r (ray_weight a p m s lm w) x.1 ∙ l
 
 -- ---- of outlined faces
--- what an edge plane is at the hits has a normal, since the edge has a course
+-- the plane that tells an edge plane's value at the hit has a normal, since the edge has a course
 hit_course : (n g : Plane) (a : Axis) → cross (normal n) (normal (at_hit_of g n a)) ≡ scale_v (size (along n a)) (cross (normal n) (normal g))
 hit_course n g a =
     vector_identity (tuple ∷ tuple ∷ scalar ∷ scalar ∷ []) (λ n g m k. crossE (normalE n) (record { x = m ⊗ g.x ⊕ k ⊗ n.x; y = m ⊗ g.y ⊕ k ⊗ n.y; z = m ⊗ g.z ⊕ k ⊗ n.z }) ≈v scaleE m (crossE (normalE n) (normalE g))) cancels_v (plane_tuple n) (plane_tuple g) (size (along n a)) (neg_ℤ (sign (along n a)) *ℤ along g a)
@@ -81,9 +81,10 @@ pub record IsOffFace (f : Face) (p : Spot) : Type 0 where
   pub support : value_at f.support p ≡ pos 0 → NoNormal f.support
   pub hits : (a : Axis) → AllByRecursion (λ g. value_at (at_hit_of g f.support a) p ≡ pos 0 → NoNormal (at_hit_of g f.support a)) f.edges
 
+-- a point off the planes of an outlined face is clear of it
 pub off_face_is_clear : (w : WrittenFace) (p : Spot) → IsOutlined w → IsOffFace (face_from w) p → IsClear (face_from w) p
 off_face_is_clear w p line o =
-    missed_face_is_clear (face_from w) p o.weight (λ z. edge_has_normal (face_from w) line.first ends_first.end ends_first.is (o.support z)) (λ a nz. missed a nz w.edges ends (o.hits a))
+    missed_face_is_clear (face_from w) p o.weight (λ z. has_normal (face_from w) line.first ends_first (o.support z)) (λ a nz. missed a nz w.edges ends (o.hits a))
   where
     ends : AllByRecursion (λ e. Ended (face_from w) e) w.edges
     ends = ended (face_from w) line.first.start w.edges line.round

@@ -34,7 +34,7 @@ use Rattle.ember_chain.proofs.Setting.{IsGeneral, IsGeneralFace, component, next
 use Rattle.ember_chain.proofs.Rectangle.{value_corner, follows_corner, off_corner, weight_corner}
 use Rattle.ember_chain.proofs.Quad.{cut, passed, quad_turns, quad_passes}
 use Rattle.ember_chain.proofs.Displacements.{Parallel, dot_swap, square_positive}
-use Rattle.ember_chain.proofs.EdgeForm.{edge_has_normal}
+use Rattle.ember_chain.proofs.EdgeForm.{has_normal}
 use Rattle.ember_chain.proofs.OneEdge.{EdgeAt, IsOnlyMet, OneMet, edges_met}
 use Rattle.ember_chain.proofs.NearLegs.{IsBeside, middle_follows, leg_off_plane, leg_beyond, leg_below, leg_on_edge, under_negative, only_met_decides}
 use Rattle.ember_chain.proofs.EdgeSums.{turns_off_face, turns_under, turns_only_met}
@@ -232,4 +232,4 @@ face_loop c d t w wt nc general line =
 
     beside : (sa sb : ℤ) → sa ≢ pos 0 → sb ≢ pos 0 → Eventually (λ m. IsBeside (face_from w) t (corner c t (pos m) sa sb))
     beside sa sb na nb =
-        beside_corner c d t (face_from w) sa sb wt nc na nb general.support (edge_has_normal (face_from w) line.first first_end.end first_end.is)
+        beside_corner c d t (face_from w) sa sb wt nc na nb general.support (has_normal (face_from w) line.first first_end)
