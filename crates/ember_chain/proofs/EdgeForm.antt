@@ -26,10 +26,9 @@ use Rattle.ember_poly.proofs.RingOutline.{each_get}
 use Rattle.ember_poly.proofs.Chains.{each_both}
 use Rattle.ember_poly.proofs.OutlinePoints.{Ended}
 use Rattle.ember_law.proofs.Shifted.{NoNormal}
-use Rattle.ember_law.proofs.Generic.{cancel_zero}
 use Rattle.ember_chain.specs.Chains.{DirectedEdge, displacement, is_zero_vector, is_parallel, is_on_line, reached, coverage, edges_to, directed_edges, face_from, IsOutlined}
 use Rattle.ember_chain.proofs.Setting.{IsGeneral, IsGeneralFace, IsOffEnds, edge_turn}
-use Rattle.ember_chain.proofs.Displacements.{displacementE, none_parallel, displacement_value, parallel_onward, Parallel, parallel_swap, parallel_orthogonal, parallel_both, square_positive, dot_swap, zero_vector_in, zero_vector_out, zero_not, orthogonal_to_none}
+use Rattle.ember_chain.proofs.Displacements.{displacementE, none_parallel, displacement_value, zero_carried, parallel_onward, Parallel, parallel_swap, parallel_orthogonal, parallel_both, square_positive, dot_swap, zero_vector_in, zero_vector_out, zero_not, orthogonal_to_none}
 
 -- ---- numbers
 -- 1 where a number isn't negative
@@ -155,11 +154,7 @@ module _ (f : Face) (e : RingEdge) (end : Spot) (edge : IsEdge f e end) where
     through : (h : Plane) → value_at h e.start ≡ pos 0 → value_at h end ≡ pos 0 → Parallel (displacement e.start end) d → Parallel (displacement e.start t) d → value_at h t ≡ pos 0
     through h hu hv p q =
         let o = parallel_orthogonal (normal h) d (displacement e.start end) runs_nonzero (parallel_swap (displacement e.start end) d p) (flat_displacement h e.start end hu hv) in
-        let z = displacement_value h e.start t ∙ parallel_orthogonal (normal h) (displacement e.start t) d nd q o in
-        cancel_zero e.start.w (value_at h t) start_on.closed.weight (drop z (zero_scaled t.w (value_at h e.start) hu))
-      where
-        drop : {x y : ℤ} → x -ℤ y ≡ pos 0 → y ≡ pos 0 → x ≡ pos 0
-        drop p q = omega (arith, linear, p, q)
+        zero_carried h e.start t start_on.closed.weight hu (parallel_orthogonal (normal h) (displacement e.start t) d nd q o)
 
     -- where t is on the edge, the edge leads over it
     on_edge : is_on_edge f e.plane t ≡ true → IsGeneral d t f.support → IsGeneral d t e.plane → IsOffEnds d t whole → coverage t d whole ≡ sign (dot course d)

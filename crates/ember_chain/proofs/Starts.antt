@@ -11,6 +11,7 @@ use Rattle.ember_algebra.proofs.Sums.{total-count_by}
 use Rattle.ember_algebra.proofs.Vectors.{VectorE, vector, identity, vector_identity, dotE, crossE, ◌≈v◌, cancels_v}
 use Rattle.ember_model.specs.declared.point.Spot.{Spot}
 use Rattle.ember_model.proofs.SignTests.{and_parts, clash, zero_out, and_true}
+use Rattle.ember_poly.proofs.FaceTests.{same_test}
 use Rattle.ember_chain.specs.Chains.{DirectedEdge, displacement, is_zero_vector, is_same_point, is_parallel, is_on_line, reached, coverage, IsEvenlyCovered, IsClosed}
 use Rattle.ember_chain.proofs.Displacements.{Parallel, parallel_none, none_parallel, parallel_back, parallel_onward, orthogonal_to_none, dot_swap, zero_vector_in, zero_vector_out, zero_not}
 
@@ -53,12 +54,7 @@ both_ways d u x =
 -- on the line through x the end is x where it isn't beside x along d
 same_where_zero : (d : Vector) (u x : Spot) → d ≢ zero_v → Parallel (displacement u x) d → is_zero (dot (displacement u x) d) ≡ is_same_point u x
 same_where_zero d u x nd p =
-    same (is_zero (dot (displacement u x) d)) (is_same_point u x) (λ e. zero_vector_in (parallel_none (displacement u x) d nd p (zero_out (dot (displacement u x) d) e))) (λ e. ap is_zero (dot_swap (displacement u x) d ∙ orthogonal_to_none d (zero_vector_out e)))
-  where
-    same : (a b : Bool) → (a ≡ true → b ≡ true) → (b ≡ true → a ≡ true) → a ≡ b
-    same true b p q = sym (p refl)
-    same false true p q = q refl
-    same false false p q = refl
+    same_test (is_zero (dot (displacement u x) d)) (is_same_point u x) (λ e. zero_vector_in (parallel_none (displacement u x) d nd p (zero_out (dot (displacement u x) d) e))) (λ e. ap is_zero (dot_swap (displacement u x) d ∙ orthogonal_to_none d (zero_vector_out e)))
 
 -- ---- one edge
 module _ (x : Spot) (d : Vector) (nd : d ≢ zero_v) (e : DirectedEdge) (wf : pos 0 <ℤ e.from.w) (wt : pos 0 <ℤ e.to.w) where
