@@ -6,9 +6,9 @@ use Rattle.ember_algebra.specs.Vector.{Vector, dot, cross}
 use Rattle.ember_algebra.specs.Large.{Eventually, EachSmall}
 use Rattle.ember_algebra.specs.Sign.{is_negative, is_zero, is_nil}
 use Rattle.ember_algebra.proofs.Laws.{linear}
-use Rattle.ember_algebra.proofs.Order.{by_sign, pos_mul, square_nonneg, square_pos}
+use Rattle.ember_algebra.proofs.Order.{by_sign, pos_mul}
 use Rattle.ember_algebra.proofs.Large.{eventually_both, eventually_map, horner_pos, horner_neg}
-use Rattle.ember_algebra.proofs.Ring.{Expr, ◌⊕◌, ◌⊖◌, ◌⊗◌, ◌≈◌, solve, cancels}
+use Rattle.ember_algebra.proofs.Ring.{Expr, ◌⊕◌, ◌⊗◌, ◌≈◌, solve, cancels}
 use Rattle.ember_algebra.proofs.Vectors.{scalar, vector, tuple, identity, vector_identity, ◌≈v◌, cancels_v, VectorE, TupleE, dotE, crossE, scaleE, valueE}
 use Rattle.ember_model.specs.declared.plane.Plane.{Plane}
 use Rattle.ember_model.specs.declared.point.Spot.{Spot}
@@ -18,7 +18,8 @@ use Rattle.ember_model.specs.Planes.{value_at}
 use Rattle.ember_model.specs.Edges.{normal}
 use Rattle.ember_model.proofs.SignTests.{negative_in, negative_not, nonzero_out, positive_nonzero, negative_nonzero, sgn_scaled}
 use Rattle.ember_model.proofs.Tuples.{plane_tuple, spot_tuple, normalE}
-use Rattle.ember_chain.specs.Chains.{DirectedEdge, displacement, is_zero_vector, is_on_line, is_parallel, is_reached, coverage}
+use Rattle.ember_chain.specs.Chains.{DirectedEdge, displacement, is_zero_vector, is_on_line, is_parallel, reached, coverage}
+use Rattle.ember_chain.proofs.Displacements.{displacementE, square_positive, zero_not}
 use Rattle.ember_chain.proofs.Setting.{ahead, IsGeneral, IsOffEnds, component}
 
 -- ---- directions
@@ -34,15 +35,6 @@ has_component d e = by (is_zero d.x) (is_zero d.y) refl refl e
     by false b p q e = record { axis = X; nonzero = nonzero_out d.x p }
     by true false p q e = record { axis = Y; nonzero = nonzero_out d.y q }
     by true true p q e = record { axis = Z; nonzero = nonzero_out d.z e }
-
--- and a positive square
-pub square_of_direction : (d : Vector) → is_zero_vector d ≡ false → pos 0 <ℤ dot d d
-square_of_direction d e = let h = has_component d e in by h.axis h.nonzero
-  where
-    by : (c : Axis) → component d c ≢ pos 0 → pos 0 <ℤ dot d d
-    by X n = omega (arith, linear, square_pos n, square_nonneg d.y, square_nonneg d.z)
-    by Y n = omega (arith, linear, square_pos n, square_nonneg d.x, square_nonneg d.z)
-    by Z n = omega (arith, linear, square_pos n, square_nonneg d.x, square_nonneg d.y)
 
 -- ---- planes
 abbrev aheadE : TupleE → VectorE → Expr → TupleE
@@ -77,9 +69,6 @@ general_ahead h x d =
         by_sign (value_at h x) (λ p. absurd (positive_nonzero (o.0 p) e)) (λ z. let q = ap (λ (v : ℤ). pos m *ℤ v) z ∙ *ℤ-zero (pos m) in omega (arith, linear, e, q)) (λ p. absurd (negative_nonzero (o.1 p) e))
 
 -- ---- edges
-abbrev displacementE : TupleE → TupleE → VectorE
-displacementE u v = record { x = u.w ⊗ v.x ⊖ v.w ⊗ u.x; y = u.w ⊗ v.y ⊖ v.w ⊗ u.y; z = u.w ⊗ v.z ⊖ v.w ⊗ u.z }
-
 -- the line is the same
 same_line : (u x : Spot) (d : Vector) (m : ℤ) → pos 0 <ℤ m → is_on_line (ahead x d m) d u ≡ is_on_line x d u
 same_line u x d m l =
@@ -93,14 +82,14 @@ ahead_of u x d m =
     identity (tuple ∷ tuple ∷ vector ∷ scalar ∷ []) (λ u x d m. dotE (displacementE u (aheadE x d m)) d ≈ m ⊗ dotE (displacementE u x) d ⊕ u.w ⊗ dotE d d) cancels (spot_tuple u) (spot_tuple x) d m
 
 -- ahead, what was reached still is, and nothing else; and no end is beside
-reached_ahead : (x : Spot) (d : Vector) (u : Spot) → pos 0 <ℤ u.w → is_zero_vector d ≡ false → Eventually (λ m. (is_reached d u x ≡ is_reached d u (ahead x d (pos m))) × (dot (displacement u (ahead x d (pos m))) d ≢ pos 0))
+reached_ahead : (x : Spot) (d : Vector) (u : Spot) → pos 0 <ℤ u.w → is_zero_vector d ≡ false → Eventually (λ m. (reached d u x ≡ reached d u (ahead x d (pos m))) × (dot (displacement u (ahead x d (pos m))) d ≢ pos 0))
 reached_ahead x d u w n =
     let v = dot (displacement u x) d in let k = u.w *ℤ dot d d in
     eventually_map (λ m o. let e = ahead_of u x d (pos m) in let r = signs m o in (ap (λ (b : Bool). cond b (pos 0) (pos 1)) (r.0 ∙ ap is_negative (sym e)), λ z. r.1 (sym e ∙ z))) (outweighs v k)
   where
     signs : (m : ℕ) → (pos 0 <ℤ dot (displacement u x) d → pos 0 <ℤ (pos m *ℤ dot (displacement u x) d +ℤ u.w *ℤ dot d d)) × (dot (displacement u x) d <ℤ pos 0 → (pos m *ℤ dot (displacement u x) d +ℤ u.w *ℤ dot d d) <ℤ pos 0) → (is_negative (dot (displacement u x) d) ≡ is_negative (pos m *ℤ dot (displacement u x) d +ℤ u.w *ℤ dot d d)) × (pos m *ℤ dot (displacement u x) d +ℤ u.w *ℤ dot d d ≢ pos 0)
     signs m o =
-        let v = dot (displacement u x) d in let k = u.w *ℤ dot d d in let kp : pos 0 <ℤ k = pos_mul w (square_of_direction d n) in
+        let v = dot (displacement u x) d in let k = u.w *ℤ dot d d in let kp : pos 0 <ℤ k = pos_mul w (square_positive d (zero_not n)) in
         by_sign v (λ p. up (omega (arith, linear)) (o.0 p)) (λ z. up (omega (arith, linear)) (let q = ap (λ (v : ℤ). pos m *ℤ v) z ∙ *ℤ-zero (pos m) in omega (arith, linear, kp, q))) (λ p. (negative_in p ∙ sym (negative_in (o.1 p)), negative_nonzero (o.1 p)))
       where
         up : {v k : ℤ} → pos 0 ≤ℤ v → pos 0 <ℤ k → (is_negative v ≡ is_negative k) × (k ≢ pos 0)

@@ -1,15 +1,12 @@
 -- A point that misses some planes of a face is clear of it: corners of the rectangle do.
-use Rattle.std.proofs.Common.{◌≡◌, ◌≢◌, ⊎_elim, refl, sym, subst, ◌∙◌, arith, Bool, true, false, not, ◌&&◌, List, [], ◌∷◌, map, ℤ, pos, ◌+ℤ◌, ◌*ℤ◌, neg_ℤ, ◌<ℤ◌, ◌≤ℤ◌}
+use Rattle.std.proofs.Common.{◌≡◌, ◌≢◌, refl, sym, ap, subst, ◌∙◌, arith, Bool, true, false, not, ◌&&◌, List, [], ◌∷◌, map, ℤ, pos, ◌+ℤ◌, ◌*ℤ◌, neg_ℤ, ◌<ℤ◌, ◌≤ℤ◌}
 use Rattle.std.specs.List.{AllByRecursion}
-use borrow.Author.Differences.{ints}
 use lib.IntN.{*ℤ_comm}
-use Rattle.ember_algebra.specs.Vector.{dot, cross}
+use Rattle.ember_algebra.specs.Vector.{Vector, zero_v, scale_v, cross}
 use Rattle.ember_algebra.specs.Sign.{is_positive, sign}
 use Rattle.ember_algebra.proofs.Laws.{linear}
-use Rattle.ember_algebra.proofs.Order.{zero_product}
-use Rattle.ember_algebra.proofs.Identities.{dot_zero}
-use Rattle.ember_algebra.proofs.Ring.{◌⊕◌, ◌⊗◌, ◌≈◌, num, cancels}
-use Rattle.ember_algebra.proofs.Vectors.{scalar, tuple, identity, dotE, crossE}
+use Rattle.ember_algebra.proofs.Ring.{◌⊕◌, ◌⊗◌}
+use Rattle.ember_algebra.proofs.Vectors.{scalar, tuple, vector_identity, scaleE, crossE, same_v, ◌≈v◌, cancels_v}
 use Rattle.ember_model.specs.declared.plane.Plane.{Plane}
 use Rattle.ember_model.specs.declared.point.Spot.{Spot}
 use Rattle.ember_model.specs.declared.point.Axis.{Axis}
@@ -19,18 +16,20 @@ use Rattle.ember_model.specs.Points.{scaled, moved}
 use Rattle.ember_model.specs.Faces.{size, hit, is_in_closed, is_inside}
 use Rattle.ember_model.specs.Clear.{IsClear}
 use Rattle.ember_model.specs.ClearTest.{none_positive, all_negative}
-use Rattle.ember_model.specs.Edges.{normal, reach_along, IsBefore, RingEdge}
+use Rattle.ember_model.specs.Edges.{normal, RingEdge}
 use Rattle.ember_model.specs.FaceFiles.{WrittenFace}
-use Rattle.ember_model.proofs.SignTests.{and_parts, zero_scaled, size_positive, positive_nonzero}
+use Rattle.ember_model.proofs.SignTests.{and_parts, zero_scaled, size_positive}
 use Rattle.ember_model.proofs.PlaneValues.{value_scaled}
 use Rattle.ember_model.proofs.Hits.{same_all_negative, same_none_positive, value_ray, ray_weight, inside_on, closed_parts}
 use Rattle.ember_model.proofs.ClearPoints.{hit_place, nonzero_product}
-use Rattle.ember_model.proofs.Tuples.{plane_tuple, spot_tuple, normalE}
+use Rattle.ember_model.proofs.Tuples.{plane_tuple, normalE}
 use Rattle.ember_law.proofs.Shifted.{NoNormal}
-use Rattle.ember_law.proofs.Generic.{at_hit_of, value_at_hit}
+use Rattle.ember_law.proofs.Generic.{at_hit_of, value_at_hit, cancel_zero}
 use Rattle.ember_law.proofs.GenericClear.{strict}
 use Rattle.ember_poly.proofs.OutlinePoints.{Ended, ended}
 use Rattle.ember_chain.specs.Chains.{face_from, IsOutlined}
+use Rattle.ember_chain.proofs.EdgeForm.{course_nonzero, has_normal}
+use Rattle.ember_chain.proofs.Displacements.{none_parallel, parallel_swap}
 
 -- ---- clear of a face
 all_strict : (x : Spot) (es : List Plane) → AllByRecursion (λ g. value_at g x ≢ pos 0) es → none_positive es x ≡ true → all_negative es x ≡ true
@@ -60,38 +59,21 @@ missed_face_is_clear f p w off o =
         inside_on f r (ray_weight a p m s lm w) x.1 ∙ l
 
 -- ---- of outlined faces
--- along an edge there is a way, so its plane's normal isn't along the support plane's
-no_reach : (n g : Plane) (u v : Spot) (k : ℤ) → pos 0 <ℤ k → k *ℤ reach_along n g u ≡ pos 0 → k *ℤ reach_along n g v ≡ pos 0 → IsBefore n g u v → ⊥
-no_reach n g u v k l eu ev b =
-    let p = zero_times_factor (reach_along n g u) eu in let q = zero_times_factor (reach_along n g v) ev in
-    let x = zero_scaled v.w (reach_along n g u) p in let y = zero_scaled u.w (reach_along n g v) q in let c = b.before in omega (arith, linear, x, y, c)
-  where
-    zero_times_factor : (r : ℤ) → k *ℤ r ≡ pos 0 → r ≡ pos 0
-    zero_times_factor r e = ⊎_elim (λ z. absurd (positive_nonzero l z)) (λ z. z) (zero_product e)
-
--- the edge plane and what it is at a hit
-hit_reach : (n g : Plane) (a : Axis) (v : Spot) → size (along n a) *ℤ reach_along n g v ≡ dot (cross (record { x = v.x; y = v.y; z = v.z }) (normal n)) (normal (at_hit_of g n a))
-hit_reach n g a v =
-    identity (tuple ∷ tuple ∷ tuple ∷ scalar ∷ scalar ∷ []) (λ n g v m k. m ⊗ dotE (crossE (normalE n) (normalE g)) (normalE v) ≈ dotE (crossE (normalE v) (normalE n)) (record { x = m ⊗ g.x ⊕ k ⊗ n.x; y = m ⊗ g.y ⊕ k ⊗ n.y; z = m ⊗ g.z ⊕ k ⊗ n.z })) cancels (plane_tuple n) (plane_tuple g) (spot_tuple v) (size (along n a)) (neg_ℤ (sign (along n a)) *ℤ along g a)
-
-normal_reach : (n g : Plane) (v : Spot) → pos 1 *ℤ reach_along n g v ≡ dot (cross (normal g) (record { x = v.x; y = v.y; z = v.z })) (normal n)
-normal_reach n g v =
-    identity (tuple ∷ tuple ∷ tuple ∷ []) (λ n g v. num (pos 1) ⊗ dotE (crossE (normalE n) (normalE g)) (normalE v) ≈ dotE (crossE (normalE g) (normalE v)) (normalE n)) cancels (plane_tuple n) (plane_tuple g) (spot_tuple v)
-
--- so the support plane has a normal
-has_normal : (f : Face) (e : RingEdge) → Ended f e → NoNormal f.support → ⊥
-has_normal f e d n =
-    no_reach f.support e.plane e.start d.end (pos 1) (omega (arith, ints)) (at e.start) (at d.end) d.is.leads
-  where
-    at : (v : Spot) → pos 1 *ℤ reach_along f.support e.plane v ≡ pos 0
-    at v = normal_reach f.support e.plane v ∙ dot_zero (cross (normal e.plane) (record { x = v.x; y = v.y; z = v.z })) (normal f.support) n.0 n.1 n.2
+-- the plane that tells an edge plane's value at the hit has a normal, since the edge has a course
+hit_course : (n g : Plane) (a : Axis) → cross (normal n) (normal (at_hit_of g n a)) ≡ scale_v (size (along n a)) (cross (normal n) (normal g))
+hit_course n g a =
+    vector_identity (tuple ∷ tuple ∷ scalar ∷ scalar ∷ []) (λ n g m k. crossE (normalE n) (record { x = m ⊗ g.x ⊕ k ⊗ n.x; y = m ⊗ g.y ⊕ k ⊗ n.y; z = m ⊗ g.z ⊕ k ⊗ n.z }) ≈v scaleE m (crossE (normalE n) (normalE g))) cancels_v (plane_tuple n) (plane_tuple g) (size (along n a)) (neg_ℤ (sign (along n a)) *ℤ along g a)
 
 hit_has_normal : (f : Face) (a : Axis) → along f.support a ≢ pos 0 → (e : RingEdge) → Ended f e → NoNormal (at_hit_of e.plane f.support a) → ⊥
 hit_has_normal f a nz e d n =
-    no_reach f.support e.plane e.start d.end (size (along f.support a)) (size_positive (along f.support a) nz) (at e.start) (at d.end) d.is.leads
+    course_nonzero f e d.end d.is (same_v (entry (ap (λ (v : Vector). v.x) whole)) (entry (ap (λ (v : Vector). v.y) whole)) (entry (ap (λ (v : Vector). v.z) whole)))
   where
-    at : (v : Spot) → size (along f.support a) *ℤ reach_along f.support e.plane v ≡ pos 0
-    at v = hit_reach f.support e.plane a v ∙ dot_zero (cross (record { x = v.x; y = v.y; z = v.z }) (normal f.support)) (normal (at_hit_of e.plane f.support a)) n.0 n.1 n.2
+    whole : scale_v (size (along f.support a)) (cross (normal f.support) (normal e.plane)) ≡ zero_v
+    whole =
+        sym (hit_course f.support e.plane a) ∙ parallel_swap (normal (at_hit_of e.plane f.support a)) (normal f.support) (none_parallel (normal f.support) (same_v n.0 n.1 n.2))
+
+    entry : {v : ℤ} → size (along f.support a) *ℤ v ≡ pos 0 → v ≡ pos 0
+    entry {v} z = cancel_zero (size (along f.support a)) v (size_positive (along f.support a) nz) z
 
 -- p isn't on the planes of f, as its rays meet them, that have a normal
 pub record IsOffFace (f : Face) (p : Spot) : Type 0 where
@@ -99,6 +81,7 @@ pub record IsOffFace (f : Face) (p : Spot) : Type 0 where
   pub support : value_at f.support p ≡ pos 0 → NoNormal f.support
   pub hits : (a : Axis) → AllByRecursion (λ g. value_at (at_hit_of g f.support a) p ≡ pos 0 → NoNormal (at_hit_of g f.support a)) f.edges
 
+-- a point off the planes of an outlined face is clear of it
 pub off_face_is_clear : (w : WrittenFace) (p : Spot) → IsOutlined w → IsOffFace (face_from w) p → IsClear (face_from w) p
 off_face_is_clear w p line o =
     missed_face_is_clear (face_from w) p o.weight (λ z. has_normal (face_from w) line.first ends_first (o.support z)) (λ a nz. missed a nz w.edges ends (o.hits a))

@@ -11,7 +11,7 @@ use Rattle.ember_model.specs.declared.plane.Plane.{Plane}
 use Rattle.ember_model.specs.declared.point.Spot.{Spot}
 use Rattle.ember_model.specs.Planes.{value_at}
 use Rattle.ember_model.specs.Edges.{normal}
-use Rattle.ember_model.proofs.SignTests.{and_parts, clash, zero_out, positive_nonzero, negative_nonzero, zero_times}
+use Rattle.ember_model.proofs.SignTests.{and_parts, clash, zero_out, positive_nonzero, negative_nonzero, zero_scaled, zero_times}
 use Rattle.ember_model.proofs.Tuples.{plane_tuple, spot_tuple, normalE}
 use Rattle.ember_law.proofs.Generic.{cancel_zero}
 use Rattle.ember_chain.specs.Chains.{displacement, is_zero_vector}
@@ -41,6 +41,14 @@ displacementE u v =
 pub displacement_value : (h : Plane) (u v : Spot) → u.w *ℤ value_at h v -ℤ v.w *ℤ value_at h u ≡ dot (normal h) (displacement u v)
 displacement_value h u v =
     identity (tuple ∷ tuple ∷ tuple ∷ []) (λ h u v. u.w ⊗ valueE h v ⊖ v.w ⊗ valueE h u ≈ dotE (normalE h) (displacementE u v)) cancels (plane_tuple h) (spot_tuple u) (spot_tuple v)
+
+-- a plane that is 0 at u is 0 where its normal has no product with the way
+pub zero_carried : (h : Plane) (u v : Spot) → pos 0 <ℤ u.w → value_at h u ≡ pos 0 → dot (normal h) (displacement u v) ≡ pos 0 → value_at h v ≡ pos 0
+zero_carried h u v w zu o =
+    cancel_zero u.w (value_at h v) w (drop (displacement_value h u v ∙ o) (zero_scaled v.w (value_at h u) zu))
+  where
+    drop : {x y : ℤ} → x -ℤ y ≡ pos 0 → y ≡ pos 0 → x ≡ pos 0
+    drop p q = omega (arith, linear, p, q)
 
 abbrev pub zeroE : VectorE
 zeroE = record { x = num (pos 0); y = num (pos 0); z = num (pos 0) }

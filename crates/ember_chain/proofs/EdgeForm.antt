@@ -9,7 +9,7 @@ use Rattle.ember_algebra.specs.Sums.{total}
 use Rattle.ember_algebra.proofs.Laws.{linear, neg-*ℤ, *ℤ-neg}
 use Rattle.ember_algebra.proofs.Order.{by_sign, pos_mul, nonneg_mul, mul_pos_neg, mul_neg_pos, sign_pos, sign_neg, cancel_eq}
 use Rattle.ember_algebra.proofs.Ring.{◌⊖◌, ◌⊗◌, ◌≈◌, solve, cancels}
-use Rattle.ember_algebra.proofs.Vectors.{vector, tuple, identity, dotE}
+use Rattle.ember_algebra.proofs.Vectors.{vector, tuple, identity, dotE, same_v}
 use Rattle.ember_algebra.proofs.Identities.{parallel_products, orthogonal_parallel}
 use Rattle.ember_model.specs.declared.plane.Plane.{Plane}
 use Rattle.ember_model.specs.declared.point.Spot.{Spot}
@@ -24,10 +24,11 @@ use Rattle.ember_poly.proofs.Planar.{both_zero}
 use Rattle.ember_poly.proofs.FaceTests.{OnEdge, edge_in, edge_out}
 use Rattle.ember_poly.proofs.RingOutline.{each_get}
 use Rattle.ember_poly.proofs.Chains.{each_both}
-use Rattle.ember_law.proofs.Generic.{cancel_zero}
-use Rattle.ember_chain.specs.Chains.{DirectedEdge, displacement, is_zero_vector, is_parallel, is_on_line, is_reached, coverage, edges_to, directed_edges, face_from, IsOutlined}
+use Rattle.ember_poly.proofs.OutlinePoints.{Ended}
+use Rattle.ember_law.proofs.Shifted.{NoNormal}
+use Rattle.ember_chain.specs.Chains.{DirectedEdge, displacement, is_zero_vector, is_parallel, is_on_line, reached, coverage, edges_to, directed_edges, face_from, IsOutlined}
 use Rattle.ember_chain.proofs.Setting.{IsGeneral, IsGeneralFace, IsOffEnds, edge_turn}
-use Rattle.ember_chain.proofs.Displacements.{displacementE, displacement_value, parallel_onward, Parallel, parallel_swap, parallel_orthogonal, parallel_both, square_positive, dot_swap, zero_vector_in, zero_vector_out, zero_not, orthogonal_to_none}
+use Rattle.ember_chain.proofs.Displacements.{displacementE, none_parallel, displacement_value, zero_carried, parallel_onward, Parallel, parallel_swap, parallel_orthogonal, parallel_both, square_positive, dot_swap, zero_vector_in, zero_vector_out, zero_not, orthogonal_to_none}
 
 -- ---- numbers
 -- 1 where a number isn't negative
@@ -153,11 +154,7 @@ module _ (f : Face) (e : RingEdge) (end : Spot) (edge : IsEdge f e end) where
     through : (h : Plane) → value_at h e.start ≡ pos 0 → value_at h end ≡ pos 0 → Parallel (displacement e.start end) d → Parallel (displacement e.start t) d → value_at h t ≡ pos 0
     through h hu hv p q =
         let o = parallel_orthogonal (normal h) d (displacement e.start end) runs_nonzero (parallel_swap (displacement e.start end) d p) (flat_displacement h e.start end hu hv) in
-        let z = displacement_value h e.start t ∙ parallel_orthogonal (normal h) (displacement e.start t) d nd q o in
-        cancel_zero e.start.w (value_at h t) start_on.closed.weight (drop z (zero_scaled t.w (value_at h e.start) hu))
-      where
-        drop : {x y : ℤ} → x -ℤ y ≡ pos 0 → y ≡ pos 0 → x ≡ pos 0
-        drop p q = omega (arith, linear, p, q)
+        zero_carried h e.start t start_on.closed.weight hu (parallel_orthogonal (normal h) (displacement e.start t) d nd q o)
 
     -- where t is on the edge, the edge leads over it
     on_edge : is_on_edge f e.plane t ≡ true → IsGeneral d t f.support → IsGeneral d t e.plane → IsOffEnds d t whole → coverage t d whole ≡ sign (dot course d)
@@ -167,7 +164,7 @@ module _ (f : Face) (e : RingEdge) (end : Spot) (edge : IsEdge f e end) where
         let p = on_line a b e.start start_on end end_on.closed.flat end_on.zero in
         let q = on_line a b e.start start_on t on.closed.flat on.zero in
         let x = zero_vector_in p in let y = zero_vector_in q in
-        (λ i. cond (x i && y i) (is_reached d e.start t -ℤ is_reached d end t) (pos 0)) ∙ past_between (dot course course) (dot course d) (dot course (displacement e.start t)) (dot course (displacement end t)) (square_positive course course_nonzero) (proportion e.start start_on on) (proportion end end_on on) (not_before on) (not_behind on) off.from off.to
+        (λ i. cond (x i && y i) (reached d e.start t -ℤ reached d end t) (pos 0)) ∙ past_between (dot course course) (dot course d) (dot course (displacement e.start t)) (dot course (displacement end t)) (square_positive course course_nonzero) (proportion e.start start_on on) (proportion end end_on on) (not_before on) (not_behind on) off.from off.to
       where
         proportion : (u : Spot) → OnEdge f e.plane u → OnEdge f e.plane t → dot course course *ℤ dot (displacement u t) d ≡ dot course d *ℤ dot course (displacement u t)
         proportion u on at =
@@ -199,11 +196,11 @@ module _ (f : Face) (e : RingEdge) (end : Spot) (edge : IsEdge f e end) where
             edge_in f e.plane t (record { flat = through f.support start_on.closed.flat end_on.closed.flat p q; weight = wt; within = each_both (λ g. AtMost g e.start) (λ g. AtMost g end) (λ g. AtMost g t) f.edges (λ g hu hv. at_most_on_line g p q c hu hv) start_on.closed.within end_on.closed.within }) (through e.plane start_on.zero end_on.zero p q)
 
         by : (b : Bool) → is_parallel d whole && is_on_line t d e.start ≡ b → coverage t d whole ≡ pos 0
-        by false z = ap (λ (b : Bool). cond b (is_reached d e.start t -ℤ is_reached d end t) (pos 0)) z
+        by false z = ap (λ (b : Bool). cond b (reached d e.start t -ℤ reached d end t) (pos 0)) z
         by true z =
             let c = and_parts (is_parallel d whole) (is_on_line t d e.start) z in
             let p = zero_vector_out c.0 in let q = zero_vector_out c.1 in
-            ⊎_elim (λ s. (λ i. cond (z i) (is_reached d e.start t -ℤ is_reached d end t) (pos 0)) ∙ (let r : is_reached d e.start t ≡ is_reached d end t = s in omega (arith, linear, r))) (λ a. absurd (clash (missed p q a) h)) (same_or_apart (dot (displacement e.start t) d) (dot (displacement end t) d))
+            ⊎_elim (λ s. (λ i. cond (z i) (reached d e.start t -ℤ reached d end t) (pos 0)) ∙ (let r : reached d e.start t ≡ reached d end t = s in omega (arith, linear, r))) (λ a. absurd (clash (missed p q a) h)) (same_or_apart (dot (displacement e.start t) d) (dot (displacement end t) d))
 
 -- ---- the edges of an outline
 -- an edge covers the points just after t by the turn of its plane where t lies on it, and none elsewhere
@@ -215,6 +212,10 @@ edge_form d t f e end wt nd general edge off = by (is_on_edge f e.plane t) refl
         on_edge f e end edge d t wt (zero_not nd) h general.support (each_get (λ g. IsGeneral d t g) f.edges edge.stands.place e.plane general.edges edge.stands.here) off ∙ sym (ap (λ (b : Bool). cond b (sign (dot (cross (normal f.support) (normal e.plane)) d)) (pos 0)) h)
     by false h =
         off_edge f e end edge d t wt (zero_not nd) h ∙ sym (ap (λ (b : Bool). cond b (sign (dot (cross (normal f.support) (normal e.plane)) d)) (pos 0)) h)
+
+-- a face with an edge has a support plane with a normal
+pub has_normal : (f : Face) (e : RingEdge) → Ended f e → NoNormal f.support → ⊥
+has_normal f e p n = course_nonzero f e p.end p.is (none_parallel (normal e.plane) (same_v n.0 n.1 n.2))
 
 path_form : (d : Vector) (t : Spot) (f : Face) (end : Spot) (es : List RingEdge) → pos 0 <ℤ t.w → is_zero_vector d ≡ false → IsGeneralFace d t f → IsPath f end es → AllByRecursion (λ e. IsOffEnds d t e) (edges_to end es) → total (coverage t d) (edges_to end es) ≡ total (edge_turn d t f) es
 path_form d t f end [] wt nd g p o = refl

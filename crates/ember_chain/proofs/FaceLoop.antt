@@ -12,7 +12,6 @@ use Rattle.ember_algebra.proofs.Order.{pos_mul, sign-mul, sign_scaled}
 use Rattle.ember_algebra.proofs.Large.{eventually_both, eventually_map}
 use Rattle.ember_algebra.proofs.Ring.{◌⊕◌, ◌⊖◌, ◌⊗◌, ◌≈◌, neg, num, solve, cancels}
 use Rattle.ember_algebra.proofs.Identities.{parallel_products, orthogonal_parallel}
-use Rattle.ember_algebra.proofs.Vectors.{same_v}
 use Rattle.ember_model.specs.declared.plane.Plane.{Plane}
 use Rattle.ember_model.specs.declared.point.Spot.{Spot}
 use Rattle.ember_model.specs.declared.point.Axis.{Axis}
@@ -34,8 +33,8 @@ use Rattle.ember_chain.specs.Chains.{face_from, IsOutlined}
 use Rattle.ember_chain.proofs.Setting.{IsGeneral, IsGeneralFace, component, next, corner, loop, edge_turn}
 use Rattle.ember_chain.proofs.Rectangle.{value_corner, follows_corner, off_corner, weight_corner}
 use Rattle.ember_chain.proofs.Quad.{cut, passed, quad_turns, quad_passes}
-use Rattle.ember_chain.proofs.Displacements.{Parallel, dot_swap, square_positive, none_parallel}
-use Rattle.ember_chain.proofs.EdgeForm.{course_nonzero}
+use Rattle.ember_chain.proofs.Displacements.{Parallel, dot_swap, square_positive}
+use Rattle.ember_chain.proofs.EdgeForm.{has_normal}
 use Rattle.ember_chain.proofs.OneEdge.{EdgeAt, IsOnlyMet, OneMet, edges_met}
 use Rattle.ember_chain.proofs.NearLegs.{IsBeside, middle_follows, leg_off_plane, leg_beyond, leg_below, leg_on_edge, under_negative, only_met_decides}
 use Rattle.ember_chain.proofs.EdgeSums.{turns_off_face, turns_under, turns_only_met}
@@ -206,9 +205,6 @@ module _ (c : Axis) (d : Vector) (t : Spot) (w : WrittenFace) (m : ℤ) (wt : po
       by false h = off_face h
 
 -- ---- for large m
-has_normal : (f : Face) (e : RingEdge) → Ended f e → NoNormal f.support → ⊥
-has_normal f e p n = course_nonzero f e p.end p.is (none_parallel (normal e.plane) (same_v n.0 n.1 n.2))
-
 follow_corner : (c : Axis) (t : Spot) (sa sb : ℤ) (hs : List Plane) → Eventually (λ m. FollowsEach t (corner c t (pos m) sa sb) hs)
 follow_corner c t sa sb [] = eventually_true (λ m. tt)
 follow_corner c t sa sb (h ∷ hs) = eventually_both (follows_corner h c t sa sb) (follow_corner c t sa sb hs)

@@ -1,5 +1,5 @@
 -- At a point whose planes contain a line at most one edge of a face is met.
-use Rattle.std.proofs.Common.{◌≡◌, ◌≢◌, ◌⊎◌, inl, inr, ⊎_elim, refl, sym, ◌∙◌, arith, Bool, true, false, List, [], ◌∷◌, ℤ, pos, ◌-ℤ◌}
+use Rattle.std.proofs.Common.{◌≡◌, ◌≢◌, ◌⊎◌, inl, inr, ⊎_elim, refl, arith, true, List, [], ◌∷◌, pos}
 use Rattle.std.specs.List.{AllByRecursion}
 use Rattle.ember_algebra.specs.Vector.{Vector, zero_v}
 use Rattle.ember_algebra.proofs.Laws.{linear}
@@ -9,15 +9,13 @@ use Rattle.ember_model.specs.declared.point.Spot.{Spot}
 use Rattle.ember_model.specs.declared.face.Face.{Face}
 use Rattle.ember_model.specs.Planes.{value_at}
 use Rattle.ember_model.specs.Edges.{RingEdge, SameEdge, AreApart, normal, is_on_edge}
-use Rattle.ember_model.proofs.SignTests.{zero_scaled}
 use Rattle.ember_poly.specs.Rings.{Under, AtMost, InClosedFace}
 use Rattle.ember_poly.proofs.Chains.{each_both}
-use Rattle.ember_poly.proofs.FaceTests.{edge_in, edge_out}
+use Rattle.ember_poly.proofs.FaceTests.{edge_in, edge_out, same_test}
 use Rattle.ember_poly.proofs.OutlinePoints.{Ended}
-use Rattle.ember_law.proofs.Generic.{cancel_zero}
 use Rattle.ember_chain.specs.Chains.{displacement}
 use Rattle.ember_chain.proofs.Setting.{IsGeneral}
-use Rattle.ember_chain.proofs.Displacements.{displacement_value, parallel_orthogonal}
+use Rattle.ember_chain.proofs.Displacements.{zero_carried, parallel_orthogonal}
 use Rattle.ember_chain.proofs.EdgeForm.{on_line}
 
 -- ---- two edges that are met at t are one
@@ -27,21 +25,12 @@ module _ (f : Face) (d : Vector) (t : Spot) (nd : d ≢ zero_v) (support : IsGen
   carried e p ge ze h gh zh v on =
       let o = edge_out f e.plane v on in
       let l = on_line f e p.end p.is d t closed.weight nd (support.contains closed.flat) (ge.contains ze) t (record { closed = closed; zero = ze }) v o.closed.flat o.zero in
-      let z = displacement_value h t v ∙ parallel_orthogonal (normal h) (displacement t v) d nd l (gh.contains zh) in
-      edge_in f h v o.closed (cancel_zero t.w (value_at h v) closed.weight (drop z (zero_scaled v.w (value_at h t) zh)))
-    where
-      drop : {x y : ℤ} → x -ℤ y ≡ pos 0 → y ≡ pos 0 → x ≡ pos 0
-      drop p q = omega (arith, linear, p, q)
+      edge_in f h v o.closed (zero_carried h t v closed.weight zh (parallel_orthogonal (normal h) (displacement t v) d nd l (gh.contains zh)))
 
   -- edges that are met at t are one
   met_edges_are_one : (e b : RingEdge) → Ended f e → Ended f b → IsGeneral d t e.plane → IsGeneral d t b.plane → value_at e.plane t ≡ pos 0 → value_at b.plane t ≡ pos 0 → SameEdge f e.plane b.plane
   met_edges_are_one e b p q ge gb ze zb v =
-      same (is_on_edge f e.plane v) (is_on_edge f b.plane v) (carried e p ge ze b.plane gb zb v) (carried b q gb zb e.plane ge ze v)
-    where
-      same : (a b : Bool) → (a ≡ true → b ≡ true) → (b ≡ true → a ≡ true) → a ≡ b
-      same true b p q = sym (p refl)
-      same false true p q = q refl
-      same false false p q = refl
+      same_test (is_on_edge f e.plane v) (is_on_edge f b.plane v) (carried e p ge ze b.plane gb zb v) (carried b q gb zb e.plane ge ze v)
 
 -- an edge of f that t isn't beyond, whose plane contains the line where it is met
 pub record EdgeAt (f : Face) (d : Vector) (t : Spot) (e : RingEdge) : Type 0 where

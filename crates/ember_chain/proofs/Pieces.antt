@@ -15,7 +15,8 @@ use Rattle.ember_algebra.proofs.Vectors.{tuple, identity, vector_identity, dotE,
 use Rattle.ember_model.specs.declared.point.Spot.{Spot}
 use Rattle.ember_model.proofs.SignTests.{negative_in, negative_not, positive_in, and_parts, clash}
 use Rattle.ember_model.proofs.Tuples.{spot_tuple}
-use Rattle.ember_chain.specs.Chains.{DirectedEdge, displacement, is_zero_vector, is_same_point, is_parallel, is_on_line, is_reached, coverage, IsEvenlyCovered, is_ahead, is_between, IsUnbroken, leads_over, ArePiecesPaired}
+use Rattle.ember_poly.proofs.FaceTests.{same_test}
+use Rattle.ember_chain.specs.Chains.{DirectedEdge, displacement, is_zero_vector, is_same_point, is_parallel, is_on_line, reached, coverage, IsEvenlyCovered, is_ahead, is_between, IsUnbroken, leads_over, ArePiecesPaired}
 use Rattle.ember_chain.proofs.Displacements.{zeroE, displacementE, Parallel, square_positive, parallel_onward, parallel_back, zero_vector_in, zero_vector_out, zero_not}
 use Rattle.ember_chain.proofs.Starts.{one_if, againstE, parallel_against}
 
@@ -56,16 +57,11 @@ module _ (x y : Spot) where
 
   on_line_same : pos 0 <ℤ x.w → pos 0 <ℤ y.w → (u : Spot) → is_on_line y (displacement y x) u ≡ is_on_line x d u
   on_line_same wx wy u =
-      back (displacement u y) ∙ same (is_zero_vector (cross (displacement u y) d)) (is_on_line x d u) (λ h. zero_vector_in (parallel_onward y u x d wy (parallel_back u y d (zero_vector_out h)) (parallel_back x y d own))) (λ h. zero_vector_in (parallel_onward x u y d wx (parallel_back u x d (zero_vector_out h)) own))
+      back (displacement u y) ∙ same_test (is_zero_vector (cross (displacement u y) d)) (is_on_line x d u) (λ h. zero_vector_in (parallel_onward y u x d wy (parallel_back u y d (zero_vector_out h)) (parallel_back x y d own))) (λ h. zero_vector_in (parallel_onward x u y d wx (parallel_back u x d (zero_vector_out h)) own))
     where
       own : Parallel d d
       own =
           vector_identity (tuple ∷ tuple ∷ []) (λ x y. crossE (displacementE x y) (displacementE x y) ≈v zeroE) cancels_v (spot_tuple x) (spot_tuple y)
-
-      same : (a b : Bool) → (a ≡ true → b ≡ true) → (b ≡ true → a ≡ true) → a ≡ b
-      same true b p q = sym (p refl)
-      same false true p q = q refl
-      same false false p q = refl
 
   -- ---- an end that isn't strictly between is behind y only where it is at x or behind it
   module _ (wx : pos 0 <ℤ x.w) (wy : pos 0 <ℤ y.w) (apart : is_same_point x y ≡ false) where
@@ -104,7 +100,7 @@ module _ (x y : Spot) where
           let on = zero_vector_in (parallel_onward e.from e.to x d wf (zero_vector_out c.0) (zero_vector_out c.1)) in
           let from = beyond e.from wf free.from c.1 in let to = beyond e.to wt free.to on in
           let fx = ahead_of_x e.from in let fy = ap not (ahead_back e.from) ∙ from in let tx = x_ahead_back e.to in let k = runs_back ∙ h in
-          (λ i. cond (h i) (is_reached d e.from x -ℤ is_reached d e.to x) (pos 0)) ∙ tests (is_negative (behind e.from)) (is_negative (behind e.to)) ∙ sym (λ i. one_if (h i && (not (fx i) && to i)) -ℤ one_if (k i && (fy i && not (tx i))))
+          (λ i. cond (h i) (reached d e.from x -ℤ reached d e.to x) (pos 0)) ∙ tests (is_negative (behind e.from)) (is_negative (behind e.to)) ∙ sym (λ i. one_if (h i && (not (fx i) && to i)) -ℤ one_if (k i && (fy i && not (tx i))))
         where
           tests : (a b : Bool) → cond a (pos 0) (pos 1) -ℤ cond b (pos 0) (pos 1) ≡ one_if (not a && b) -ℤ one_if (a && not b)
           tests true true = refl
@@ -115,7 +111,7 @@ module _ (x y : Spot) where
       elsewhere : runs ≡ false → coverage x d e ≡ one_if (leads_over x y e) -ℤ one_if (leads_over y x e)
       elsewhere h =
           let k = runs_back ∙ h in
-          (λ i. cond (h i) (is_reached d e.from x -ℤ is_reached d e.to x) (pos 0)) ∙ sym (λ i. one_if (h i && (not (is_ahead x d e.from) && not (is_ahead e.to d y))) -ℤ one_if (k i && (not (is_ahead y (displacement y x) e.from) && not (is_ahead e.to (displacement y x) x))))
+          (λ i. cond (h i) (reached d e.from x -ℤ reached d e.to x) (pos 0)) ∙ sym (λ i. one_if (h i && (not (is_ahead x d e.from) && not (is_ahead e.to d y))) -ℤ one_if (k i && (not (is_ahead y (displacement y x) e.from) && not (is_ahead e.to (displacement y x) x))))
 
       coverage_leads : coverage x d e ≡ one_if (leads_over x y e) -ℤ one_if (leads_over y x e)
       coverage_leads = by runs refl

@@ -46,16 +46,17 @@ abbrev pub planes_along : Tri → Vector → List Plane
 planes_along u f =
     support_of u ∷ edge_through u.a u.b f ∷ edge_through u.b u.c f ∷ edge_through u.c u.a f ∷ []
 
--- t ahead of x has what is asked for a triangle
+-- these planes contain the line through t along d, or miss t
 pub record IsReadyTri (d : Vector) (t : Spot) (u : Tri) : Type 0 where
   pub planes : (a : Axis) → AllByRecursion (λ h. IsGeneral d t h) (planes_along u (unit a))
 
--- and for a face
+-- so do the planes of a face, as rays meet them, and t is covered by its edges as x is
 pub record IsReadyFace (x : Spot) (d : Vector) (t : Spot) (w : WrittenFace) : Type 0 where
   pub planes : IsGeneralFace d t (face_from w)
   pub hits : (a : Axis) → AllByRecursion (λ g. IsGeneral d t (at_hit_of g w.support a)) (map (λ e. e.plane) w.edges)
   pub edges : AllByRecursion (λ e. (coverage x d e ≡ coverage t d e) × IsOffEnds d t e) (directed_edges w.edges)
 
+-- t is a point on all of them
 pub record IsReady (x : Spot) (d : Vector) (ts : List Tri) (ws : List WrittenFace) (t : Spot) : Type 0 where
   pub weight : pos 0 <ℤ t.w
   pub tris : AllByRecursion (λ u. IsReadyTri d t u) ts
@@ -92,6 +93,7 @@ module _ (x : Spot) (d : Vector) (weight : pos 0 <ℤ x.w) (direction : is_zero_
       heavy = record { from = 1; holds = λ m l. let p : pos 0 <ℤ pos m = omega (arith, ints) in pos_mul p weight }
 
 -- ---- the corners
+-- p is a point clear of the triangles and of the faces
 pub record IsClearCorner (ts : List Tri) (ws : List WrittenFace) (p : Spot) : Type 0 where
   pub weight : pos 0 <ℤ p.w
   pub scene : AreClear (faces_of ts) p

@@ -11,7 +11,8 @@ use Rattle.ember_algebra.proofs.Sums.{total-count_by}
 use Rattle.ember_algebra.proofs.Vectors.{VectorE, vector, identity, vector_identity, dotE, crossE, ◌≈v◌, cancels_v}
 use Rattle.ember_model.specs.declared.point.Spot.{Spot}
 use Rattle.ember_model.proofs.SignTests.{and_parts, clash, zero_out, and_true}
-use Rattle.ember_chain.specs.Chains.{DirectedEdge, displacement, is_zero_vector, is_same_point, is_parallel, is_on_line, is_reached, coverage, IsEvenlyCovered, IsClosed}
+use Rattle.ember_poly.proofs.FaceTests.{same_test}
+use Rattle.ember_chain.specs.Chains.{DirectedEdge, displacement, is_zero_vector, is_same_point, is_parallel, is_on_line, reached, coverage, IsEvenlyCovered, IsClosed}
 use Rattle.ember_chain.proofs.Displacements.{Parallel, parallel_none, none_parallel, parallel_back, parallel_onward, orthogonal_to_none, dot_swap, zero_vector_in, zero_vector_out, zero_not}
 
 -- ---- the other direction
@@ -41,9 +42,9 @@ abbrev pub one_if : Bool → ℤ
 one_if b = cond b (pos 1) (pos 0)
 
 -- reached both ways, where the end is at x
-both_ways : (d : Vector) (u x : Spot) → is_reached d u x +ℤ is_reached (against d) u x ≡ pos 1 +ℤ one_if (is_zero (dot (displacement u x) d))
+both_ways : (d : Vector) (u x : Spot) → reached d u x +ℤ reached (against d) u x ≡ pos 1 +ℤ one_if (is_zero (dot (displacement u x) d))
 both_ways d u x =
-    ap (λ (a : ℤ). is_reached d u x +ℤ cond (is_negative a) (pos 0) (pos 1)) (dot_against (displacement u x) d) ∙ by (dot (displacement u x) d)
+    ap (λ (a : ℤ). reached d u x +ℤ cond (is_negative a) (pos 0) (pos 1)) (dot_against (displacement u x) d) ∙ by (dot (displacement u x) d)
   where
     by : (a : ℤ) → cond (is_negative a) (pos 0) (pos 1) +ℤ cond (is_negative (neg_ℤ a)) (pos 0) (pos 1) ≡ pos 1 +ℤ one_if (is_zero a)
     by (pos zero) = refl
@@ -53,12 +54,7 @@ both_ways d u x =
 -- on the line through x the end is x where it isn't beside x along d
 same_where_zero : (d : Vector) (u x : Spot) → d ≢ zero_v → Parallel (displacement u x) d → is_zero (dot (displacement u x) d) ≡ is_same_point u x
 same_where_zero d u x nd p =
-    same (is_zero (dot (displacement u x) d)) (is_same_point u x) (λ e. zero_vector_in (parallel_none (displacement u x) d nd p (zero_out (dot (displacement u x) d) e))) (λ e. ap is_zero (dot_swap (displacement u x) d ∙ orthogonal_to_none d (zero_vector_out e)))
-  where
-    same : (a b : Bool) → (a ≡ true → b ≡ true) → (b ≡ true → a ≡ true) → a ≡ b
-    same true b p q = sym (p refl)
-    same false true p q = q refl
-    same false false p q = refl
+    same_test (is_zero (dot (displacement u x) d)) (is_same_point u x) (λ e. zero_vector_in (parallel_none (displacement u x) d nd p (zero_out (dot (displacement u x) d) e))) (λ e. ap is_zero (dot_swap (displacement u x) d ∙ orthogonal_to_none d (zero_vector_out e)))
 
 -- ---- one edge
 module _ (x : Spot) (d : Vector) (nd : d ≢ zero_v) (e : DirectedEdge) (wf : pos 0 <ℤ e.from.w) (wt : pos 0 <ℤ e.to.w) where
@@ -79,8 +75,8 @@ module _ (x : Spot) (d : Vector) (nd : d ≢ zero_v) (e : DirectedEdge) (wf : po
   covering h =
       let c = and_parts (is_parallel d e) (is_on_line x d e.from) h in
       let p = zero_vector_out c.0 in let q = zero_vector_out c.1 in let k = covers_against ∙ h in
-      let r : coverage x d e ≡ is_reached d e.from x -ℤ is_reached d e.to x = λ i. cond (h i) (is_reached d e.from x -ℤ is_reached d e.to x) (pos 0) in
-      let s : coverage x (against d) e ≡ is_reached (against d) e.from x -ℤ is_reached (against d) e.to x = λ i. cond (k i) (is_reached (against d) e.from x -ℤ is_reached (against d) e.to x) (pos 0) in
+      let r : coverage x d e ≡ reached d e.from x -ℤ reached d e.to x = λ i. cond (h i) (reached d e.from x -ℤ reached d e.to x) (pos 0) in
+      let s : coverage x (against d) e ≡ reached (against d) e.from x -ℤ reached (against d) e.to x = λ i. cond (k i) (reached (against d) e.from x -ℤ reached (against d) e.to x) (pos 0) in
       let a = both_ways d e.from x ∙ (let z = same_where_zero d e.from x nd q in λ i. pos 1 +ℤ one_if (one c.0 z i)) in
       let b = both_ways d e.to x ∙ (let z = same_where_zero d e.to x nd (parallel_onward e.from e.to x d wf p q) in λ i. pos 1 +ℤ one_if (one c.0 z i)) in
       omega (arith, linear, r, s, a, b)
@@ -91,8 +87,8 @@ module _ (x : Spot) (d : Vector) (nd : d ≢ zero_v) (e : DirectedEdge) (wf : po
   apart : covers ≡ false → coverage x d e +ℤ coverage x (against d) e ≡ one_if starts -ℤ one_if stops
   apart h =
       let k = covers_against ∙ h in
-      let r : coverage x d e ≡ pos 0 = λ i. cond (h i) (is_reached d e.from x -ℤ is_reached d e.to x) (pos 0) in
-      let s : coverage x (against d) e ≡ pos 0 = λ i. cond (k i) (is_reached (against d) e.from x -ℤ is_reached (against d) e.to x) (pos 0) in
+      let r : coverage x d e ≡ pos 0 = λ i. cond (h i) (reached d e.from x -ℤ reached d e.to x) (pos 0) in
+      let s : coverage x (against d) e ≡ pos 0 = λ i. cond (k i) (reached (against d) e.from x -ℤ reached (against d) e.to x) (pos 0) in
       let a = none starts (λ t. let c = and_parts (is_same_point e.from x) (is_parallel d e) t in refuted (zero_vector_out c.1) (none_parallel d (zero_vector_out c.0))) in
       let b = none stops (λ t. let c = and_parts (is_same_point e.to x) (is_parallel d e) t in let p = zero_vector_out c.1 in refuted p (parallel_onward e.to e.from x d wt (parallel_back e.from e.to d p) (none_parallel d (zero_vector_out c.0)))) in
       omega (arith, linear, r, s, a, b)

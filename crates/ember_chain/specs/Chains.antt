@@ -55,13 +55,13 @@ IsClosed es =
 
 -- ---- coverage
 -- 1 where x doesn't lie before u along d
-abbrev pub is_reached : Vector → Spot → Spot → ℤ
-is_reached d u x = cond (is_negative (dot (displacement u x) d)) (pos 0) (pos 1)
+abbrev pub reached : Vector → Spot → Spot → ℤ
+reached d u x = cond (is_negative (dot (displacement u x) d)) (pos 0) (pos 1)
 
 -- 1 where the edge runs along d over the points just after x on the line through x, -1 where it runs against d, 0 elsewhere
 abbrev pub coverage : Spot → Vector → DirectedEdge → ℤ
 coverage x d e =
-    if is_parallel d e && is_on_line x d e.from then is_reached d e.from x -ℤ is_reached d e.to x else pos 0
+    if is_parallel d e && is_on_line x d e.from then reached d e.from x -ℤ reached d e.to x else pos 0
 
 -- just after each point in each direction as many edges run on as run back
 abbrev pub IsEvenlyCovered : List DirectedEdge → Type 0

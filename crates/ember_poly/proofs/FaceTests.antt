@@ -1,5 +1,5 @@
 -- The tests of a face's points, and the same as facts on each plane.
-use Rattle.std.proofs.Common.{◌≡◌, refl, ap, Bool, true, not, ◌&&◌, List, [], ◌∷◌, ℤ, pos}
+use Rattle.std.proofs.Common.{◌≡◌, refl, sym, ap, Bool, true, false, not, ◌&&◌, List, [], ◌∷◌, ℤ, pos}
 use Rattle.std.specs.List.{list_all, AllByRecursion}
 use Rattle.ember_algebra.specs.Sign.{is_negative, is_zero, is_positive}
 use Rattle.ember_model.specs.declared.plane.Plane.{Plane}
@@ -13,6 +13,12 @@ use Rattle.ember_poly.specs.Rings.{Under, AtMost, InFace, InClosedFace}
 
 pub and_in : {a b : Bool} → a ≡ true → b ≡ true → (a && b) ≡ true
 and_in p q = rw (p, q) refl
+
+-- two tests of which each passes where the other does
+pub same_test : (a b : Bool) → (a ≡ true → b ≡ true) → (b ≡ true → a ≡ true) → a ≡ b
+same_test true b p q = sym (p refl)
+same_test false true p q = q refl
+same_test false false p q = refl
 
 pub zero_in : {a : ℤ} → a ≡ pos 0 → is_zero a ≡ true
 zero_in e = ap is_zero e

@@ -1,5 +1,5 @@
 -- The planes of an outline give the points of the face.
-use Rattle.std.proofs.Common.{◌≡◌, ◌≢◌, ◌⊎◌, inl, inr, refl, sym, subst, ◌∙◌, arith, ℕ, zero, suc, Bool, true, false, Some, slice_get, List, [], ◌∷◌, map, ℤ, pos, ◌<ℤ◌, ◌≤ℤ◌}
+use Rattle.std.proofs.Common.{◌≡◌, ◌≢◌, ◌⊎◌, inl, inr, refl, subst, ◌∙◌, arith, ℕ, zero, suc, Some, slice_get, List, [], ◌∷◌, map, ℤ, pos, ◌<ℤ◌, ◌≤ℤ◌}
 use Rattle.std.proofs.lemmas.Int.{by_lt_z}
 use Rattle.std.specs.List.{AllByRecursion}
 use Rattle.ember_algebra.proofs.Laws.{linear}
@@ -14,7 +14,7 @@ use Rattle.ember_poly.specs.Cuts.{HasInside}
 use Rattle.ember_poly.specs.Outlines.{SamePoints, face_of_edges}
 use Rattle.ember_poly.specs.Rings.{Under, AtMost, InFace, InClosedFace, turn}
 use Rattle.ember_poly.proofs.Chains.{each_map}
-use Rattle.ember_poly.proofs.FaceTests.{closed_in, closed_out, inside_in, inside_out, edge_out}
+use Rattle.ember_poly.proofs.FaceTests.{closed_in, closed_out, inside_in, inside_out, edge_out, same_test}
 use Rattle.ember_poly.proofs.RingOutline.{each_get}
 use Rattle.ember_poly.proofs.Needless.{closed_follows, needless}
 use Rattle.ember_poly.proofs.SameSide.{toward, turns_toward, same_side}
@@ -131,14 +131,9 @@ outline_has_its_points f es h line =
     let g = face_of_edges f.support es in
     record {
       support = refl;
-      inside = λ v. same (is_inside f v) (is_inside g v) (λ e. inside_in g v (to_outline f es h.at io line v (inside_out f v e))) (λ e. inside_in f v (from_outline f es h.at io line v (inside_out g v e)));
-      closed = λ v. same (is_in_closed f v) (is_in_closed g v) (λ e. closed_in g v (to_closed f es h.at io line v (closed_out f v e))) (λ e. closed_in f v (from_closed f es h.at io line v (closed_out g v e)));
+      inside = λ v. same_test (is_inside f v) (is_inside g v) (λ e. inside_in g v (to_outline f es h.at io line v (inside_out f v e))) (λ e. inside_in f v (from_outline f es h.at io line v (inside_out g v e)));
+      closed = λ v. same_test (is_in_closed f v) (is_in_closed g v) (λ e. closed_in g v (to_closed f es h.at io line v (closed_out f v e))) (λ e. closed_in f v (from_closed f es h.at io line v (closed_out g v e)));
     }
   where
     io : InFace f.support f.edges h.at
     io = inside_out f h.at h.inside
-
-    same : (a b : Bool) → (a ≡ true → b ≡ true) → (b ≡ true → a ≡ true) → a ≡ b
-    same true b p q = sym (p refl)
-    same false true p q = q refl
-    same false false p q = refl

@@ -1,12 +1,12 @@
 -- An outline of a face is one of the face that has the outline's planes alone.
-use Rattle.std.proofs.Common.{◌≡◌, ◌⊎◌, inl, inr, refl, sym, ap, subst, ◌∙◌, arith, ℕ, zero, suc, ◌<◌, Bool, true, ◌&&◌, Some, slice_get, List, [], ◌∷◌, ◌++◌, map, length, append_assoc}
+use Rattle.std.proofs.Common.{◌≡◌, inl, inr, refl, sym, ap, subst, ◌∙◌, arith, ℕ, zero, suc, ◌<◌, Bool, ◌&&◌, Some, slice_get, List, [], ◌∷◌, ◌++◌, map, length, append_assoc}
 use Rattle.std.specs.List.{AllByRecursion}
 use Rattle.ember_algebra.specs.Sign.{is_zero}
 use Rattle.ember_model.specs.declared.plane.Plane.{Plane}
 use Rattle.ember_model.specs.declared.point.Spot.{Spot}
 use Rattle.ember_model.specs.declared.face.Face.{Face}
 use Rattle.ember_model.specs.Planes.{value_at}
-use Rattle.ember_model.specs.Edges.{is_on_edge, Counts, SameEdge, IsEarliest, RingEdge, IsEdge, IsPath, IsAmong, AreApart, IsOutline}
+use Rattle.ember_model.specs.Edges.{is_on_edge, Counts, SameEdge, RingEdge, IsEdge, IsPath, IsAmong, AreApart, IsOutline}
 use Rattle.ember_poly.specs.Cuts.{HasInside}
 use Rattle.ember_poly.specs.Outlines.{face_of_edges}
 use Rattle.ember_poly.proofs.OutlinePoints.{outline_has_its_points}
