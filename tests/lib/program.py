@@ -67,13 +67,13 @@ class Tally:
     def __init__(self):
         self.passed = self.failed = 0
 
-    def check(self, what, fault):
-        """Notes one try: `fault` says what was wrong with it, or is empty."""
+    def check(self, what, fault, count=1):
+        """Notes one try, or several alike: `fault` says what was wrong, or is empty."""
         if fault:
-            self.failed += 1
+            self.failed += count
             print(f"{what}: {fault}")
         else:
-            self.passed += 1
+            self.passed += count
 
     def end(self):
         """Prints the last line, and ends the script with its status."""
