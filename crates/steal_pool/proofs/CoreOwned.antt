@@ -14,10 +14,10 @@ use Rattle.ember_job.specs.declared.job.Kind.TheVariants.{Halved, Leafed, Passed
 use Rattle.ember_job.specs.Works.{Shape, halved, leafed, passed, Splits}
 use Rattle.ember_job.specs.Visited.{kind_of, entry_of, visited}
 use Rattle.ember_job.proofs.Leaves.{halved_visits, leaf_visits, passed_visits}
-use Rattle.steal_pool.specs.Seats.{at_entry, if_halved}
+use Rattle.steal_pool.specs.Steps.{at_entry, if_halved}
 use Rattle.steal_pool.specs.Journals.{times, times_halved, if_halved_at, journal_of, KeepRules}
 use Rattle.steal_pool.specs.CoreRuns.{unless_halved, IsCoreRun}
-use Rattle.steal_pool.proofs.Rules.{weigh_append}
+use Rattle.steal_pool.proofs.DequeSteps.{weigh_append}
 use Rattle.steal_pool.proofs.Trees.{low_less, high_less}
 use Rattle.steal_pool.proofs.Places.{base, Fits, are_halves, fits_low, fits_high}
 use Rattle.steal_pool.proofs.Owned.{turn_of, turn_is, Up, up_append, up_from, once, top, owner, owner_has, some_journal, owner_is, only, keep_weighs, by_owner, outer}

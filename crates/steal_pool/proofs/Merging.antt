@@ -17,7 +17,7 @@ use Rattle.ember_job.proofs.Members.{in_append_left, in_append_right, in_append_
 use Rattle.ember_job.specs.Items.{EachAnswers}
 use Rattle.ember_tree.specs.declared.part.Part.{Part}
 use Rattle.ember_tree.specs.Order.{tree_place, IsMerged}
-use Rattle.steal_pool.specs.Seats.{IsPart, by_path, at_job}
+use Rattle.steal_pool.specs.Steps.{IsPart, by_path, at_job}
 use Rattle.steal_pool.specs.Journals.{AnswersLeaf, AreParts}
 use Rattle.steal_pool.proofs.Trees.{low_less, high_less}
 use Rattle.steal_pool.proofs.Places.{base, Fits, Within, place_is, leaves_within, one_more}

@@ -10,7 +10,7 @@ use Rattle.ember_job.specs.declared.job.Entry.{Entry}
 use Rattle.ember_job.specs.declared.job.Kind.{Kind}
 use Rattle.ember_job.proofs.Weights.{one_same, one_other}
 use Rattle.ember_tree.specs.Order.{tree_place}
-use Rattle.steal_pool.specs.Seats.{at_job}
+use Rattle.steal_pool.specs.Steps.{at_job}
 use Rattle.steal_pool.specs.Journals.{times, journal_of}
 use Rattle.steal_pool.proofs.Places.{base, Fits, place_is, zeros_are}
 

@@ -16,10 +16,10 @@ use Rattle.ember_job.specs.Works.{Shape, halved, leafed, passed, IsSplit, Splits
 use Rattle.ember_job.specs.Visited.{IsVisited, root_visited, left_visited, right_visited, entry, kind_of, entry_of, visited, if_leafed, leaves_among}
 use Rattle.ember_job.proofs.Leaves.{halved_visits, leaf_visits, passed_visits}
 use Rattle.ember_tree.specs.declared.part.Part.{Part}
-use Rattle.steal_pool.specs.Seats.{Told, IsPart, by_path, at_job, at_entry, at_left, at_halves, if_halved}
-use Rattle.steal_pool.specs.Gathers.{KeepsLeft, KeepsBoth, Begins, EachKeeps, Gathers}
+use Rattle.steal_pool.specs.Steps.{OutcomeFits, IsPart, by_path, at_job, at_entry, at_left, at_halves, if_halved}
+use Rattle.steal_pool.specs.RunJournals.{KeepsLeft, KeepsBoth, Begins, EachKeeps, RunJournals}
 use Rattle.steal_pool.specs.Journals.{times, times_halved, if_halved_at, journal_of, KeepRules, AnswersLeaf, AreParts, leaf_weight, box_weight, tree_weight}
-use Rattle.steal_pool.proofs.Rules.{weigh_append}
+use Rattle.steal_pool.proofs.DequeSteps.{weigh_append}
 
 -- each half may be halved once less
 pub low_less : (c l r : Cell) → IsSplit c l r → left l + 1 ≡ left c
@@ -57,8 +57,8 @@ module _ (shape : Job → Shape) where
     visited_valid s v j (left_visited p l r w is) = (s p l r (visited_valid s v p w) is).0.0
     visited_valid s v j (right_visited p l r w is) = (s p l r (visited_valid s v p w) is).0.1
 
-    pub told : Splits shape valid → (j : Job) (o : Outcome I) → IsVisited shape root j → valid j → Answers shape item j o → Told (IsVisited shape root) (AnswersLeaf shape item) (tree_weight shape) j o
-    told s j (Halves l r) w v e =
+    pub outcome_fits : Splits shape valid → (j : Job) (o : Outcome I) → IsVisited shape root j → valid j → Answers shape item j o → OutcomeFits (IsVisited shape root) (AnswersLeaf shape item) (tree_weight shape) j o
+    outcome_fits s j (Halves l r) w v e =
         let cut = (s j l r v e).1 in
         let low = low_less j.cell l.cell r.cell cut in
         let high = high_less j.cell l.cell r.cell cut in (
@@ -70,12 +70,12 @@ module _ (shape : Job → Shape) where
           high,
           λ h g. omega (arith, ap (weigh (box_weight shape h g)) (halved_visits shape (left j.cell) j l r refl e low high), weigh_append (box_weight shape h g) (visited shape l) (visited shape r), box_weighs h g j (halved l r) e),
         )
-    told s j (Leaf it) w v e = ((e.0, e.1), λ h g. omega (arith, ap (weigh (box_weight shape h g)) (leaf_visits shape (left j.cell) j e.0), box_weighs h g j leafed e.0))
-    told s j Skipped w v e = λ h g. omega (arith, ap (weigh (box_weight shape h g)) (passed_visits shape (left j.cell) j e), box_weighs h g j passed e)
+    outcome_fits s j (Leaf it) w v e = ((e.0, e.1), λ h g. omega (arith, ap (weigh (box_weight shape h g)) (leaf_visits shape (left j.cell) j e.0), box_weighs h g j leafed e.0))
+    outcome_fits s j Skipped w v e = λ h g. omega (arith, ap (weigh (box_weight shape h g)) (passed_visits shape (left j.cell) j e), box_weighs h g j passed e)
 
-    pub told_all : Splits shape valid → (j : Job) (r : Result (Outcome I) AllocError) → IsVisited shape root j → valid j → IfOk r (λ o. Answers shape item j o) → IfOk r (λ o. Told (IsVisited shape root) (AnswersLeaf shape item) (tree_weight shape) j o)
-    told_all s j (Ok o) w v e = told s j o w v e
-    told_all s j (Err x) w v e = e
+    pub outcome_fits_if_ok : Splits shape valid → (j : Job) (r : Result (Outcome I) AllocError) → IsVisited shape root j → valid j → IfOk r (λ o. Answers shape item j o) → IfOk r (λ o. OutcomeFits (IsVisited shape root) (AnswersLeaf shape item) (tree_weight shape) j o)
+    outcome_fits_if_ok s j (Ok o) w v e = outcome_fits s j o w v e
+    outcome_fits_if_ok s j (Err x) w v e = e
 
 -- a sum of nothing
 no_weight : {X : Type 0} (h : X → ℕ) → ((x : X) → h x ≡ 0) → (xs : List X) → weigh h xs ≡ 0
@@ -129,10 +129,10 @@ pub begins_both : (path : ℕ) (none journal : List Entry) → none ≡ [] → (
 begins_both path none journal is stays h = omega (arith, stays h, ap (weigh (at_entry h)) is, ap (weigh (at_halves h)) is, more_weight (at_left h) (at_halves h) (λ e. halved_more e.kind (h (2 * e.path)) (h (2 * e.path) + h (2 * e.path + 1)) (omega arith)) journal)
 
 -- the journal of the caller
-pub caller_is : (path n : ℕ) (js : List (List Entry)) (left : ℕ) → (r : Gathers path n js left) → journal_of n js ≡ r.caller
+pub caller_is : (path n : ℕ) (js : List (List Entry)) (left : ℕ) → (r : RunJournals path n js left) → journal_of n js ≡ r.caller
 caller_is path n js left r = ap₂ (λ k xs. journal_of k xs) (sym r.count) r.is ∙ last_journal (r.first ∷ r.others) r.caller
 
-pub many : (path n : ℕ) (js : List (List Entry)) (left : ℕ) → Gathers path n js left → length js ≡ n + 1
+pub many : (path n : ℕ) (js : List (List Entry)) (left : ℕ) → RunJournals path n js left → length js ≡ n + 1
 many path n js left r = ap length r.is ∙ snoc (r.first ∷ r.others) r.caller ∙ ap (λ k. k + 1) r.count where
   snoc : (xs : List (List Entry)) (x : List Entry) → length (xs ++ x ∷ []) ≡ length xs + 1
   snoc [] x = refl
@@ -142,7 +142,7 @@ module _ (shape : Job → Shape) (root : Job) {I : Type 0} (parts : List (Part I
   abbrev pub Sums : Type 0
   Sums = (h : Entry → ℕ) (g : ℕ → ℕ) → weigh (weigh h) js + weigh (by_path g) parts ≡ tree_weight shape h g root
 
-  pub keep_rules : (n left : ℕ) → root.cell.path ≡ 1 → Sums → Gathers root.cell.path n js left → KeepRules shape root n js
+  pub keep_rules : (n left : ℕ) → root.cell.path ≡ 1 → Sums → RunJournals root.cell.path n js left → KeepRules shape root n js
   keep_rules n left at sums r =
       let keeps : EachKeeps js = subst EachKeeps (sym r.is) (keeps_snoc (r.first ∷ r.others) r.caller (begins_left root.cell.path r.first r.begun, r.lefts) (both_left r.caller r.both)) in record {
         once = λ h. omega (arith, sums h (λ _. 0), no_weight (by_path (λ _. 0)) (λ p. refl) parts, entries_weigh shape h (visited shape root));
