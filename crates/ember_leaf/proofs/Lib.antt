@@ -1,4 +1,5 @@
 pub mod Apart
+pub mod Deciding
 pub mod Keeping
 pub mod LeafRegions
 pub mod Lower
@@ -8,4 +9,5 @@ pub mod Shedding
 pub mod SomeRegions
 pub mod Splitting
 pub mod Starting
+pub mod Systems
 pub mod TriFaces
