@@ -28,7 +28,7 @@ use Rattle.ember_poly.proofs.TriangleRing.{tri_sides}
 use Rattle.ember_coplanar.proofs.Containing.{edge_at}
 use Rattle.ember_leaf.specs.declared.heights.Heights.{Heights}
 use Rattle.ember_leaf.specs.Pairs.{IsBehindEdge, heights_of, none_behind, none_in_front, all_behind, all_in_front, all_on, AreApart}
-use Rattle.ember_leaf.specs.Blades.{IsHeld}
+use Rattle.ember_leaf.specs.Cutters.{IsHeld}
 use Rattle.ember_leaf.proofs.TriFaces.{AtCorners, AtCorner, inside_ring, closed_ring, inside_under, inside_over, closed_over, closed_at_least, ring_inside, closed_on}
 
 -- ---- from tests of heights to facts at the corners

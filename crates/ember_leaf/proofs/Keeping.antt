@@ -3,7 +3,7 @@ use Rattle.std.proofs.Common.{◌≡◌, sym, ap, subst, ◌∙◌, arith, ℕ, 
 use Rattle.std.specs.List.{range_with_len}
 use Rattle.std.proofs.lemmas.List.{append-nil}
 use Rattle.std.proofs.lemmas.Option.{slice_get-get_or}
-use Rattle.ember_algebra.specs.Relations.{Each, Chain, none, done, step}
+use Rattle.ember_algebra.specs.Relations.{Each, Chain, none, more, done, step}
 use Rattle.ember_algebra.proofs.Relations.{each_push}
 use Rattle.ember_model.specs.declared.tri.Tri.{Tri}
 use Rattle.ember_model.specs.declared.face.Face.{Face}
@@ -18,7 +18,8 @@ use Rattle.ember_box.specs.Regions as regions
 use Rattle.ember_trace.specs.Boxed.{LiesIn}
 use Rattle.ember_trace.proofs.BoxedRegions.{regions_lie_in}
 use Rattle.ember_leaf.specs.declared.kept.Kept.{Kept}
-use Rattle.ember_leaf.specs.Written.{AtRegion, even, written, IsWrittenOf, regional, IsWrittenIn, IsTurn, WhereFits, HasGrown}
+use Rattle.ember_leaf.specs.Cutters.{Without, ended, left, dropped}
+use Rattle.ember_leaf.specs.Written.{AtRegion, unowned, even, written, AreOwned, IsWrittenOf, regional, IsWrittenIn, IsTurn, WhereFits, HasGrown}
 use Rattle.ember_leaf.proofs.Shedding.{range_more}
 
 -- ---- one region
@@ -39,9 +40,15 @@ pub grown_more : (ns : List Tri) (c : Cell) (counts : List ℤ) (R : List Tri �
 grown_more ns c counts R fs f old mid new ks g r e =
     record { more = g.more ++ ks; is = e ∙ ap (λ (l : List Kept). l ++ ks) g.is ∙ append_assoc old g.more ks; holds = λ scene h. each_push (g.holds scene h) (r scene h) }
 
-pub grown_whole : (ns : List Tri) (c : Cell) (counts : List ℤ) (f : Formula) (i : ℕ) (fs gs : List Face) (old new : List Kept) → HasGrown (WhereFits ns c counts (λ scene. Each (AtRegion scene f ns i) fs)) old new → fs ≡ gs → IsRegions c ns i gs → HasGrown (WhereFits ns c counts (λ scene. IsWrittenOf scene f c ns i)) old new
-grown_whole ns c counts f i fs gs old new g e r =
-    record { more = g.more; is = g.is; holds = λ scene h. regional (record { faces = gs; are_regions = r; are_written = subst (λ (l : List Face). Each (AtRegion scene f ns i) l g.more) e (g.holds scene h) }) }
+-- nothing is written of the regions that the triangle doesn't own
+all_written_of : (scene ns : List Tri) (f : Formula) (i : ℕ) {all fs : List Face} {ks : List Kept} → Without (λ g. IsOwner ns i g → ⊥) (IsOwner ns i) all fs → Each (AtRegion scene f ns i) fs ks → Each (AtRegion scene f ns i) all ks
+all_written_of scene ns f i ended none = none
+all_written_of scene ns f i (left o w) (more r e) = more r (all_written_of scene ns f i w e)
+all_written_of scene ns f i (dropped n w) e = more (unowned n) (all_written_of scene ns f i w e)
+
+pub grown_owned : (ns : List Tri) (c : Cell) (counts : List ℤ) (f : Formula) (i : ℕ) (fs gs : List Face) (old new : List Kept) → HasGrown (WhereFits ns c counts (λ scene. Each (AtRegion scene f ns i) fs)) old new → fs ≡ gs → AreOwned c ns i gs → HasGrown (WhereFits ns c counts (λ scene. IsWrittenOf scene f c ns i)) old new
+grown_owned ns c counts f i fs gs old new g e o =
+    record { more = g.more; is = g.is; holds = λ scene h. regional (record { faces = o.all; are_regions = o.are_regions; are_written = all_written_of scene ns f i o.owned (subst (λ (l : List Face). Each (AtRegion scene f ns i) l g.more) e (g.holds scene h)) }) }
 
 pub all_yielded : (ys rest : List Face) {all list : List Face} → ys ++ rest ≡ all → length rest ≡ 0 → all ≡ list → ys ≡ list
 all_yielded ys [] e l q = sym (append-nil ys) ∙ e ∙ q

@@ -4,7 +4,9 @@ use Rattle.std.specs.Int.{int_min, int_max}
 use Rattle.std.proofs.lemmas.Int.{clamps, by_lt_z}
 use Rattle.std.proofs.lemmas.Option.{slice_get-get_or}
 use borrow.Author.Differences.{ints}
-use Rattle.ember_algebra.specs.Relations.{done, Every}
+use Rattle.std.specs.List.{AllByRecursion}
+use Rattle.std.proofs.lemmas.List.Elements.{All-nil, All-cons}
+use Rattle.ember_algebra.specs.Relations.{Each, Chain, done, Every}
 use Rattle.ember_algebra.proofs.Laws.{linear}
 use Rattle.ember_algebra.proofs.Ring.{◌⊕◌, ◌⊖◌, ◌⊗◌, ◌≈◌, num, solve, cancels}
 use Rattle.ember_model.specs.declared.point.Axis.{Axis}
@@ -13,7 +15,9 @@ use Rattle.ember_model.specs.declared.point.Spot.{Spot}
 use Rattle.ember_model.specs.declared.tri.Tri.{Tri}
 use Rattle.ember_model.specs.declared.face.Face.{Face}
 use Rattle.ember_model.specs.Planes.{value_at, opposite}
-use Rattle.ember_model.specs.Faces.{is_inside, is_flat, face_of}
+use Rattle.ember_model.specs.Faces.{is_inside, is_flat, face_of, Contains}
+use Rattle.ember_model.specs.Owners.{is_coplanar, IsOwner}
+use Rattle.ember_model.proofs.SignTests.{clash}
 use Rattle.ember_box.specs.declared.spans.Span.{Span}
 use Rattle.ember_box.specs.declared.spans.Spans.{Spans}
 use Rattle.ember_box.specs.Boxes.{Cell, low, high}
@@ -31,15 +35,25 @@ use Rattle.ember_trace.specs.Boxed.{LiesIn}
 use Rattle.ember_trace.proofs.FilledFaces.{inside_below}
 use Rattle.ember_trace.proofs.BoxedRegions.{every_at, regions_lie_in}
 use Rattle.ember_leaf.specs.declared.wall.Wall as leaf
-use Rattle.ember_leaf.specs.declared.blade.Blade.{Blade}
+use Rattle.ember_leaf.specs.declared.cutter.Cutter.{Cutter}
 use Rattle.ember_leaf.specs.Walls.{wall_of, IsPartOf, IsLeft}
-use Rattle.ember_leaf.specs.Pairs.{IsLower}
+use Rattle.ember_leaf.specs.Pairs.{IsLower, HasHolder}
+use Rattle.ember_leaf.specs.declared.cutter.Role.{Role}
+use Rattle.ember_leaf.specs.declared.cutter.Role.TheVariants.{Across, Coplanar, Owner}
+use Rattle.ember_leaf.specs.Leaves.{IsRegionOf}
 use Rattle.ember_leaf.specs.Lower.{AreLower, TellsOwner}
-use Rattle.ember_leaf.specs.Blades.{blade_of, AreCut, IsHeld, AreHeld, IsBounded, Sheds, common, common_of}
+use Rattle.ember_leaf.specs.Written.{AreOwned}
+use Rattle.ember_poly.specs.Cuts.{HasInside}
+use Rattle.ember_leaf.specs.Cutters.{blades_in, owners_in, IsCutterOf, AreDisjoint, IsFree, Without, AreCut, CanCut, LiesAs, SharesAs, IsHeld, AreHeld, IsBounded, Sheds, common, common_of}
 use Rattle.ember_leaf.proofs.Starting.{left_parts}
 use Rattle.ember_leaf.proofs.Apart.{bounds}
 use Rattle.ember_leaf.proofs.Shedding.{unshed}
-use Rattle.ember_leaf.proofs.Lower.{tells_owner}
+use Rattle.ember_leaf.proofs.Lower.{tells_owner, owners_lower}
+use Rattle.ember_leaf.proofs.Leaving.{without_map, left_every, left_have, every_all, regions_left}
+use Rattle.ember_leaf.proofs.Cutting.{all_every}
+use Rattle.ember_leaf.proofs.Splitting.{cuts_keep, parts_regions}
+use Rattle.ember_leaf.proofs.Sharing.{share_a_plane}
+use Rattle.ember_leaf.proofs.Keeping.{all_lie_in}
 
 -- ---- points of boxes
 max_is : (a b : ℤ) → (int_max a b ≡ a) ⊎ (int_max a b ≡ b)
@@ -99,7 +113,7 @@ module _ (c : Cell) (f : Facet) (ring : Face) where
           let k = inside_closed (face_of f.tri) v i in
           subst (λ (b : Spans). AreHeld b v) (sym f.bounds) (record { x = bounds X f.tri v n k; y = bounds Y f.tri v n k; z = bounds Z f.tri v n k })
 
-  pub leaf_regions : (ts : List Tri) (i : ℕ) (ws : List leaf.Wall) (bs : List Blade) (s : Spans) (list : List Face) → f.tri ≡ tri_at ts i → map wall_of ws ≡ walls c → s ≡ common_of f.spans (spans_of c) → IsLeft (map wall_of ws) f.tri (ring ∷ []) → Sheds (IsBounded f.tri s) (blades ts i) (map blade_of bs) → AreCut bs (ring ∷ []) list → IsRegions c ts i list
+  pub leaf_regions : (ts : List Tri) (i : ℕ) (ws : List leaf.Wall) (bs : List regions.Blade) (s : Spans) (list : List Face) → f.tri ≡ tri_at ts i → map wall_of ws ≡ walls c → s ≡ common_of f.spans (spans_of c) → IsLeft (map wall_of ws) f.tri (ring ∷ []) → Sheds (IsBounded f.tri s) (blades ts i) bs → Chain (λ b. Each (AtBlade b)) bs (ring ∷ []) list → IsRegions c ts i list
   leaf_regions ts i ws bs s list e w q l h k =
       let start : IsStart c f.tri (ring ∷ []) = subst (λ (vs : List regions.Wall). IsLeft vs f.tri (ring ∷ [])) w l in
       record { start = ring ∷ []; is_start = subst (λ (t : Tri). IsStart c t (ring ∷ [])) e start; cuts = unshed (bounded_keeps f.tri s) h (part_bounded s q (left_parts f.tri start).0 (start_lies_in c f.tri ring start), tt) k }
@@ -109,3 +123,52 @@ pub owners_told : (c : Cell) (f : Facet) (ts : List Tri) (i : ℕ) (lower : List
 owners_told c f ts i lower s list e w q r p k a j d l =
     let g = get_or list j d in let at = slice_get-get_or list j d l in let part = every_at (IsPartOf f.tri) list j g p at in
     tells_owner ts i f.tri s e w lower g k a (part_bounded c f g s q part (regions_lie_in c ts i j list g r at)) part.somewhere
+
+-- ---- the regions that the triangle owns
+-- none of the triangles contains a face that is free of them
+free_uncontained : (ts : List Tri) (f : Face) → HasInside f → IsFree ts f → All (λ u. Contains (face_of u) f → ⊥) ts
+free_uncontained ts f s h = by ts h.free
+  where
+    by : (ts : List Tri) → AllByRecursion (λ u. AreDisjoint (face_of u) f) ts → All (λ u. Contains (face_of u) f → ⊥) ts
+    by [] a = All-nil (λ u. Contains (face_of u) f → ⊥)
+    by (t ∷ ts) a =
+        All-cons (λ u. Contains (face_of u) f → ⊥) t ts (λ k. clash (k.holds s.at s.inside) (a.0.holds s.at s.inside)) (by ts a.1)
+
+record IsTold (lower ts : List Tri) (i : ℕ) (f : Face) : Type 0 where
+  tells : TellsOwner lower ts i f
+  somewhere : HasInside f
+
+all_told : (lower ts : List Tri) (i : ℕ) (t : Tri) (fs : List Face) → Every (TellsOwner lower ts i) fs → Every (IsPartOf t) fs → Every (IsTold lower ts i) fs
+all_told lower ts i t [] h k = tt
+all_told lower ts i t (f ∷ fs) h k =
+    (record { tells = h.0; somewhere = k.0.somewhere }, all_told lower ts i t fs h.1 k.1)
+
+-- what the triangles leave of the start are the regions that the triangle owns
+pub leaf_owned : (c : Cell) (f : Facet) (ring : Face) (ts : List Tri) (i : ℕ) (ws : List leaf.Wall) (cs : List Cutter) (s : Spans) (list : List Face) → f.tri ≡ tri_at ts i → i < length ts → map wall_of ws ≡ walls c → s ≡ common_of f.spans (spans_of c) → IsLeft (map wall_of ws) f.tri (ring ∷ []) → Sheds (IsBounded f.tri s) (blades ts i) (blades_in cs) → All (IsCutterOf f.tri) cs → AreLower ts i f.tri s (length ts) (owners_in cs) → AreCut cs (ring ∷ []) list → AreOwned c ts i list
+leaf_owned c f ring ts i ws cs s list e l w q h sheds lies lower k =
+    let r = regions_left cs ring list k in let are = leaf_regions c f ring ts i ws (blades_in cs) s r.all e w q h sheds r.cuts in
+    let parts = cuts_keep f.tri r.cuts ((left_parts f.tri h).0, tt) in let us = owners_in cs in
+    let told = all_every (TellsOwner us ts i) r.all (owners_told c f ts i us s r.all e l q are parts (owners_lower f.tri cs lies) lower) in
+    record { all = r.all; are_regions = are; owned = without_map (IsTold us ts i) (λ g t p. t.tells.held p) (λ g t p. t.tells.free (free_uncontained us g t.somewhere p)) (all_told us ts i f.tri r.all told parts) r.without }
+
+module _ (c : Cell) (ts : List Tri) (i : ℕ) (list : List Face) (o : AreOwned c ts i list) where
+  pub owned_planes : All (IsRegionOf (tri_at ts i)) list
+  owned_planes =
+      let t = tri_at ts i in let r = o.are_regions in
+      parts_regions t list (left_every (IsPartOf t) o.owned (cuts_keep t r.cuts (left_parts t r.is_start)))
+
+  pub owned_inside : All (LiesIn c) list
+  owned_inside =
+      every_all (LiesIn c) list (left_every (LiesIn c) o.owned (all_every (LiesIn c) o.all (all_lie_in c ts i o.all o.are_regions)))
+
+  pub owned_each : All (IsOwner ts i) list
+  owned_each = every_all (IsOwner ts i) list (left_have o.owned)
+
+-- each of the triangles can cut the start
+pub all_can : (t : Tri) (ring : Face) (cs : List Cutter) → IsRegionOf t ring → All (IsCutterOf t) cs → All (λ u. CanCut u ring) cs
+all_can t ring cs r h = λ k d l. record { shares = by (get_or cs k d).tri (get_or cs k d).role (h k d l).lies }
+  where
+    by : (u : Tri) (k : Role) → LiesAs k t u → SharesAs k u ring
+    by u Across l = tt
+    by u Coplanar l = share_a_plane t u ring r l
+    by u Owner l = share_a_plane t u ring r l

@@ -1,11 +1,17 @@
 pub mod Apart
+pub mod Cutting
+pub mod Deciding
 pub mod Keeping
 pub mod LeafRegions
+pub mod Leaving
 pub mod Lower
 pub mod OneList
+pub mod Pieces
 pub mod Placing
+pub mod Sharing
 pub mod Shedding
 pub mod SomeRegions
 pub mod Splitting
 pub mod Starting
+pub mod Systems
 pub mod TriFaces

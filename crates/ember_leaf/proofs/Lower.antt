@@ -8,18 +8,28 @@ use Rattle.ember_model.specs.Faces.{is_inside, is_flat, face_of, Meets, Contains
 use Rattle.ember_model.specs.Owners.{is_coplanar}
 use Rattle.ember_model.proofs.SignTests.{clash}
 use Rattle.ember_box.specs.declared.spans.Spans.{Spans}
+use Rattle.ember_algebra.specs.Relations.{Every}
+use Rattle.ember_algebra.proofs.Relations.{every_append}
+use Rattle.std.proofs.lemmas.List.{append-nil}
+use Rattle.ember_box.specs.Regions.{blades_of}
 use Rattle.ember_box.specs.Near.{tri_at, no_tri}
 use Rattle.ember_box.specs.Spans.{bounding, overlap}
 use Rattle.ember_ref.proofs.FarTriangles.{inside_closed}
 use Rattle.ember_poly.specs.Cuts.{HasInside}
 use Rattle.ember_trace.proofs.FlatPlanes.{lies_flat, shared_face}
-use Rattle.ember_leaf.specs.Blades.{IsBounded}
+use Rattle.ember_leaf.specs.declared.cutter.Cutter.{Cutter}
+use Rattle.ember_leaf.specs.declared.cutter.Role.{Role}
+use Rattle.ember_leaf.specs.declared.cutter.Role.TheVariants.{Across, Coplanar, Owner}
+use Rattle.ember_leaf.specs.Cutters.{role_if, owner_as, owners_by, owners_in, LiesAs, IsCutterOf, IsAdded, Adds, IsBounded}
 use Rattle.ember_leaf.specs.Pairs.{AreApart, IsLower, HasHolder}
 use Rattle.ember_leaf.specs.Lower.{StandsBefore, Holds, AddsLower, covers, joins, misses, follows, AreLower, HasCover, TellsOwner}
 use Rattle.ember_leaf.specs.Written.{IsCovered}
 use Rattle.ember_leaf.proofs.Apart.{coplanar_flats}
 use Rattle.ember_leaf.proofs.Placing.{face_support}
-use Rattle.ember_leaf.proofs.Shedding.{away_unmet}
+use Rattle.ember_leaf.proofs.Cutting.{all_every}
+use Rattle.ember_leaf.proofs.Leaving.{every_all}
+use Rattle.ember_leaf.proofs.Sharing.{coplanar_turned}
+use Rattle.ember_leaf.proofs.Shedding.{away_unmet, added_blades, added_owners, adds_all, edge_blades}
 
 -- ---- one triangle
 module _ (t u : Tri) (b : Spans) (f : Face) (h : Holds t b u f) where
@@ -50,6 +60,42 @@ across_misses t u b e f h = clash (coplanar_too t u b f h) e
 pub away_misses : (t u : Tri) (b s : Spans) → s ≡ bounding u → overlap b s ≡ false → (f : Face) → Holds t b u f → ⊥
 away_misses t u b s e q f h =
     away_unmet t u b s e q (coplanar_flats u t h.coplanar).0 f h.bounded (meets t u b f h)
+
+-- ---- what a triangle of one plane adds
+pub coplanar_added : (t u : Tri) (is_before : Bool) {old new : List Cutter} → is_coplanar t u ≡ true → IsAdded u (role_if is_before) old new → (b : Spans) → AddsLower t u b is_before (owners_in old) false (owners_in new)
+coplanar_added t u true {old} {new} e a b =
+    subst (λ (l : List Tri). AddsLower t u b true (owners_in old) false l) (sym (added_owners a)) (joins refl (coplanar_turned u t e))
+coplanar_added t u false {old} {new} e a b =
+    subst (λ (l : List Tri). AddsLower t u b false (owners_in old) false l) (sym (added_owners a ∙ append-nil (owners_in old))) (follows refl)
+
+pub across_added : (t u : Tri) (is_before : Bool) {old new : List Cutter} → is_coplanar t u ≡ false → IsAdded u Across old new → (b : Spans) → AddsLower t u b is_before (owners_in old) false (owners_in new)
+across_added t u is_before {old} {new} e a b =
+    subst (λ (l : List Tri). AddsLower t u b is_before (owners_in old) false l) (sym (added_owners a ∙ append-nil (owners_in old))) (misses (across_misses t u b e))
+
+pub coplanar_lies : (is_before : Bool) (t u : Tri) → is_coplanar t u ≡ true → LiesAs (role_if is_before) t u
+coplanar_lies true t u e = e
+coplanar_lies false t u e = e
+
+pub coplanar_blades : (t u : Tri) (is_before : Bool) {old new : List Cutter} (b : Spans) → is_flat u ≡ false → is_coplanar t u ≡ true → IsAdded u (role_if is_before) old new → Adds (IsBounded t b) (blades_of t u) old new
+coplanar_blades t u true {old} {new} b n e a = adds_all old new (edge_blades t u n e) (added_blades a)
+coplanar_blades t u false {old} {new} b n e a = adds_all old new (edge_blades t u n e) (added_blades a)
+
+-- those that own are of lower number and in the plane of t
+owner_lower : (t : Tri) (c : Cutter) → IsCutterOf t c → Every (IsLower t) (owners_by c)
+owner_lower t c h = by c.role h.lies
+  where
+    by : (k : Role) → LiesAs k t c.tri → Every (IsLower t) (owner_as k c.tri)
+    by Across l = tt
+    by Coplanar l = tt
+    by Owner l = (record { valid = c.valid; coplanar = coplanar_turned c.tri t l }, tt)
+
+pub owners_lower : (t : Tri) (cs : List Cutter) → All (IsCutterOf t) cs → All (IsLower t) (owners_in cs)
+owners_lower t cs h = every_all (IsLower t) (owners_in cs) (by cs (all_every (IsCutterOf t) cs h))
+  where
+    by : (cs : List Cutter) → Every (IsCutterOf t) cs → Every (IsLower t) (owners_in cs)
+    by [] e = tt
+    by (c ∷ cs) e =
+        every_append (IsLower t) (owners_by c) (owners_in cs) (owner_lower t c e.0) (by cs e.1)
 
 -- ---- lists
 all_at : {X : Type 0} (P : X → Type 0) (xs : List X) (i : ℕ) (x : X) → All P xs → slice_get xs i ≡ Some x → P x

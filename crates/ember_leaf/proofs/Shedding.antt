@@ -1,8 +1,9 @@
--- A blade that no region meets leaves the list.
-use Rattle.std.proofs.Common.{◌≡◌, Result, Ok, Err, OnOk, refl, sym, ap, subst, ◌∙◌, arith, ℕ, zero, suc, ◌+◌, flat_map, Bool, true, false, nat_eq, ◌&&◌, List, [], ◌∷◌, ◌++◌, map}
+-- A blade that no region meets leaves the list, and so does its triangle.
+use Rattle.std.proofs.Common.{◌≡◌, Result, Ok, Err, OnOk, refl, sym, ap, subst, ◌∙◌, arith, ℕ, zero, suc, ◌+◌, flat_map, Bool, true, false, nat_eq, ◌&&◌, List, [], ◌∷◌, ◌++◌, map, All}
 use Rattle.std.specs.List.{range_with_len}
 use Rattle.std.proofs.lemmas.List.{append-nil}
 use Rattle.std.proofs.lemmas.List.Concat.{flat_map-append}
+use Rattle.std.proofs.lemmas.List.Elements.{All-push}
 use Rattle.ember_algebra.specs.Relations.{Each, Chain, none, more, done, step, Every}
 use Rattle.ember_model.specs.declared.plane.Plane.{Plane}
 use Rattle.ember_model.specs.declared.tri.Tri.{Tri}
@@ -19,9 +20,11 @@ use Rattle.ember_box.specs.Near.{tri_at}
 use Rattle.ember_box.specs.Regions as regions
 use Rattle.ember_model.specs.declared.point.Axis.TheVariants.{X, Y, Z}
 use Rattle.std.proofs.lemmas.Bool.{and_from}
-use Rattle.ember_leaf.specs.declared.blade.Blade.{Blade}
+use Rattle.ember_leaf.specs.declared.cutter.Cutter.{Cutter}
+use Rattle.ember_leaf.specs.declared.cutter.Role.{Role}
+use Rattle.ember_leaf.specs.declared.cutter.Role.TheVariants.{Across, Coplanar, Owner}
 use Rattle.ember_leaf.specs.Pairs.{AreApart}
-use Rattle.ember_leaf.specs.Blades.{blade_of, blades_with, IsBounded, Sheds, all_seen, stays, goes, Adds}
+use Rattle.ember_leaf.specs.Cutters.{planes_as, owner_as, LiesAs, IsCutterOf, IsAdded, blades_with, blades_by, blades_in, owners_by, owners_in, IsBounded, Sheds, all_seen, stays, goes, Adds}
 use Rattle.ember_leaf.proofs.Starting.{each_every}
 use Rattle.ember_leaf.proofs.Apart.{reach, bounds}
 
@@ -40,13 +43,13 @@ module _ {P : Face → Type 0} where
   none_kept [] h = all_seen
   none_kept (b ∷ bs) h = goes h.0 (none_kept bs h.1)
 
-  pub adds_none : (bs : List regions.Blade) (old : List Blade) → Every (λ b. (f : Face) → P f → Meets f b.face → ⊥) bs → Adds P bs old old
+  pub adds_none : (bs : List regions.Blade) (old : List Cutter) → Every (λ b. (f : Face) → P f → Meets f b.face → ⊥) bs → Adds P bs old old
   adds_none bs old h front r =
-      subst (λ l. Sheds P (front ++ bs) l) (append-nil (map blade_of old)) (sheds_append r (none_kept bs h))
+      subst (λ l. Sheds P (front ++ bs) l) (append-nil (blades_in old)) (sheds_append r (none_kept bs h))
 
-  pub adds_all : {bs more : List regions.Blade} (old new : List Blade) → bs ≡ more → map blade_of new ≡ map blade_of old ++ more → Adds P bs old new
+  pub adds_all : {bs more : List regions.Blade} (old new : List Cutter) → bs ≡ more → blades_in new ≡ blades_in old ++ more → Adds P bs old new
   adds_all {bs} {more} old new e q front r =
-      subst (λ l. Sheds P (front ++ bs) l) (ap (λ l. map blade_of old ++ l) e ∙ sym q) (sheds_append r (same bs))
+      subst (λ l. Sheds P (front ++ bs) l) (ap (λ l. blades_in old ++ l) e ∙ sym q) (sheds_append r (same bs))
 
 -- what is shed changes nothing
 pub unshed : {P : Face → Type 0} → ((b : regions.Blade) (f : Face) (fs : List Face) → P f → AtBlade b f fs → Every P fs) → {xs ys : List regions.Blade} {fs gs : List Face} → Sheds P xs ys → Every P fs → Chain (λ b. Each (AtBlade b)) ys fs gs → Chain (λ b. Each (AtBlade b)) xs fs gs
@@ -83,7 +86,11 @@ every_blade Q t u h = by (is_flat u) (is_coplanar t u) refl refl
     by false false e q = subst (Every Q) (sym (support_blades t u e q)) (every_with Q u (support_of u ∷ []) (h e))
     by false true e q = subst (Every Q) (sym (edge_blades t u e q)) (every_with Q u (edges_of u) (h e))
 
-pub adds_apart : (t u : Tri) (b : Spans) (old : List Blade) → AreApart t u → Adds (IsBounded t b) (blades_of t u) old old
+pub adds_flat : (t u : Tri) (b : Spans) (old : List Cutter) → is_flat u ≡ true → Adds (IsBounded t b) (blades_of t u) old old
+adds_flat t u b old e =
+    adds_none (blades_of t u) old (subst (Every (λ c. (f : Face) → IsBounded t b f → Meets f c.face → ⊥)) (sym (flat_blades t u e)) tt)
+
+pub adds_apart : (t u : Tri) (b : Spans) (old : List Cutter) → AreApart t u → Adds (IsBounded t b) (blades_of t u) old old
 adds_apart t u b old a =
     adds_none (blades_of t u) old (every_blade (λ c. (f : Face) → IsBounded t b f → Meets f c.face → ⊥) t u (λ n p f k m. clash m.holds (a.holds m.at (k.within.holds m.at m.inside))))
 
@@ -99,9 +106,26 @@ away_unmet t u b s same away n f k m = clash met (sym (ap (overlap b) same) ∙ 
         let z = reach b.z c.z v.z v.w w h.z (bounds Z u v n m.holds) in
         and_from (reaches b.x c.x && reaches b.y c.y) (reaches b.z c.z) (and_from (reaches b.x c.x) (reaches b.y c.y) x y) z
 
-pub adds_away : (t u : Tri) (b s : Spans) (old : List Blade) → s ≡ bounding u → overlap b s ≡ false → Adds (IsBounded t b) (blades_of t u) old old
+pub adds_away : (t u : Tri) (b s : Spans) (old : List Cutter) → s ≡ bounding u → overlap b s ≡ false → Adds (IsBounded t b) (blades_of t u) old old
 adds_away t u b s old same away =
     adds_none (blades_of t u) old (every_blade (λ c. (f : Face) → IsBounded t b f → Meets f c.face → ⊥) t u (λ n p f k m. away_unmet t u b s same away n f k m))
+
+-- ---- a triangle that joins the list
+module _ {u : Tri} {k : Role} {old new : List Cutter} (a : IsAdded u k old new) where
+  pub added_blades : blades_in new ≡ blades_in old ++ blades_with u (planes_as k u)
+  added_blades =
+      ap blades_in a.is ∙ flat_map-append blades_by old (a.cutter ∷ []) ∙ ap (λ (l : List regions.Blade). blades_in old ++ l) (append-nil (blades_by a.cutter) ∙ (λ i. blades_with (a.tri i) (planes_as (a.role i) (a.tri i))))
+
+  pub added_owners : owners_in new ≡ owners_in old ++ owner_as k u
+  added_owners =
+      ap owners_in a.is ∙ flat_map-append owners_by old (a.cutter ∷ []) ∙ ap (λ (l : List Tri). owners_in old ++ l) (append-nil (owners_by a.cutter) ∙ (λ i. owner_as (a.role i) (a.tri i)))
+
+  pub added_cutters : (t : Tri) → LiesAs k t u → All (IsCutterOf t) old → All (IsCutterOf t) new
+  added_cutters t l h =
+      subst (All (IsCutterOf t)) (sym a.is) (All-push (IsCutterOf t) old a.cutter h (record { lies = lies a.role a.tri }))
+    where
+      lies : a.cutter.role ≡ k → a.cutter.tri ≡ u → LiesAs a.cutter.role t a.cutter.tri
+      lies e q = subst (λ (v : Tri). LiesAs a.cutter.role t v) (sym q) (subst (λ (r : Role). LiesAs r t u) (sym e) l)
 
 -- ---- one triangle after another
 nat_eq-same : {a b : ℕ} → a ≡ b → nat_eq a b ≡ true
@@ -141,11 +165,11 @@ other_blades : (ts : List Tri) (i j : ℕ) → (j ≡ i → ⊥) → blades_at t
 other_blades ts i j n =
     ap (λ (b : Bool). elim b as (λ x. List regions.Blade) [ true ↦ [] | false ↦ blades_of (tri_at ts i) (tri_at ts j) ]) (nat_eq-other n)
 
-module _ {P : Face → Type 0} (ts : List Tri) (i j : ℕ) (old : List Blade) (r : Sheds P (flat_map (blades_at ts i) (range_with_len 0 j)) (map blade_of old)) where
-  pub own_next : j ≡ i → Sheds P (flat_map (blades_at ts i) (range_with_len 0 (j + 1))) (map blade_of old)
+module _ {P : Face → Type 0} (ts : List Tri) (i j : ℕ) (old : List Cutter) (r : Sheds P (flat_map (blades_at ts i) (range_with_len 0 j)) (blades_in old)) where
+  pub own_next : j ≡ i → Sheds P (flat_map (blades_at ts i) (range_with_len 0 (j + 1))) (blades_in old)
   own_next e =
-      subst (λ (l : List regions.Blade). Sheds P l (map blade_of old)) (sym (blades_more ts i j ∙ ap (λ (l : List regions.Blade). flat_map (blades_at ts i) (range_with_len 0 j) ++ l) (own_blades ts i j e) ∙ append-nil (flat_map (blades_at ts i) (range_with_len 0 j)))) r
+      subst (λ (l : List regions.Blade). Sheds P l (blades_in old)) (sym (blades_more ts i j ∙ ap (λ (l : List regions.Blade). flat_map (blades_at ts i) (range_with_len 0 j) ++ l) (own_blades ts i j e) ∙ append-nil (flat_map (blades_at ts i) (range_with_len 0 j)))) r
 
-  pub other_next : (new : List Blade) (t u : Tri) → (j ≡ i → ⊥) → t ≡ tri_at ts i → u ≡ tri_at ts j → Adds P (blades_of t u) old new → Sheds P (flat_map (blades_at ts i) (range_with_len 0 (j + 1))) (map blade_of new)
+  pub other_next : (new : List Cutter) (t u : Tri) → (j ≡ i → ⊥) → t ≡ tri_at ts i → u ≡ tri_at ts j → Adds P (blades_of t u) old new → Sheds P (flat_map (blades_at ts i) (range_with_len 0 (j + 1))) (blades_in new)
   other_next new t u n e q a =
-      subst (λ (l : List regions.Blade). Sheds P l (map blade_of new)) (sym (blades_more ts i j ∙ ap (λ (l : List regions.Blade). flat_map (blades_at ts i) (range_with_len 0 j) ++ l) (other_blades ts i j n ∙ (λ k. blades_of (sym e k) (sym q k))))) (a (flat_map (blades_at ts i) (range_with_len 0 j)) r)
+      subst (λ (l : List regions.Blade). Sheds P l (blades_in new)) (sym (blades_more ts i j ∙ ap (λ (l : List regions.Blade). flat_map (blades_at ts i) (range_with_len 0 j) ++ l) (other_blades ts i j n ∙ (λ k. blades_of (sym e k) (sym q k))))) (a (flat_map (blades_at ts i) (range_with_len 0 j)) r)

@@ -1,4 +1,4 @@
--- Regions and a blade more.
+-- Regions and a triangle more.
 use Rattle.std.proofs.Common.{◌≡◌, refl, sym, ap, subst, ◌∙◌, arith, ℤ, ℕ, zero, suc, ◌+◌, ◌<◌, ◌≤◌, ◌↔◌, IsTrue, rules, Bool, true, false, List, [], ◌∷◌, ◌++◌, length, take, drop, get_or, append_assoc, All}
 use Rattle.std.proofs.lemmas.List.{take_more, take-append-drop}
 use Rattle.std.proofs.lemmas.List.Elements.{All-nil, All-cons}
@@ -13,16 +13,16 @@ use Rattle.ember_model.specs.Planes.{support_of, opposite, value_at}
 use Rattle.ember_model.specs.Faces.{face_of, edges_of, Meets, Cuts}
 use Rattle.ember_model.specs.ClearTest.{face_with}
 use Rattle.ember_model.proofs.SignTests.{negative_in, negative_out, positive_out, zero_out}
-use Rattle.ember_box.specs.Regions.{AtBlade, splits, whole}
-use Rattle.ember_box.specs.Regions as regions
+use Rattle.ember_box.specs.Regions.{Blade, AtBlade, splits, whole}
 use Rattle.ember_poly.specs.Cuts.{AreParts, IsReach}
 use Rattle.ember_poly.specs.declared.answers.Reach.{Reach}
 use Rattle.ember_poly.specs.declared.answers.Reach.TheVariants.{Below, Above, On, Both}
 use Rattle.ember_poly.proofs.Reached.{over_opposite}
-use Rattle.ember_leaf.specs.declared.blade.Blade.{Blade}
+use Rattle.ember_leaf.specs.declared.cutter.Cutter.{Cutter}
 use Rattle.ember_leaf.specs.Leaves.{IsRegionOf}
 use Rattle.ember_leaf.specs.Walls.{IsPartOf}
-use Rattle.ember_leaf.specs.Blades.{blade_of, AreSplit, AreCut, MeetsFirst}
+use Rattle.ember_leaf.specs.Written.{HasGrown}
+use Rattle.ember_leaf.specs.Cutters.{AtCutter, AreSplit, AreCut, MeetsFirst}
 use Rattle.ember_leaf.proofs.Starting.{part_below, each_every}
 
 pub blade_face : (t : Tri) {p : Plane} {es : List Plane} → p ≡ support_of t → es ≡ edges_of t → face_with p es ≡ face_of t
@@ -46,14 +46,11 @@ met {b} q e h = q.0 (subst IsTrue (sym h ∙ e) truth)
     truth : IsTrue true
     truth = search rules
 
-pub region_unmet : (b : Blade) (f : Face) {t : Bool} → IsTrue t ↔ Meets f (face_of b.tri) → t ≡ false → AtBlade (blade_of b) f (f ∷ [])
-region_unmet b f q e = whole (λ m c. not_met q e m)
-
-pub region_parts : (b : Blade) (f x y : Face) → Meets f (face_of b.tri) → AreParts f b.plane x y → AtBlade (blade_of b) f (x ∷ y ∷ [])
+pub region_parts : (b : Blade) (f x y : Face) → Meets f b.face → AreParts f b.plane x y → AtBlade b f (x ∷ y ∷ [])
 region_parts b f x y m p =
-    subst (λ (l : List Face). AtBlade (blade_of b) f l) (sym (λ i. p.is_low i ∷ p.is_high i ∷ [])) (splits m p.cuts)
+    subst (λ (l : List Face). AtBlade b f l) (sym (λ i. p.is_low i ∷ p.is_high i ∷ [])) (splits m p.cuts)
 
-pub region_whole : (b : Blade) (f : Face) (k : Reach) → IsReach f b.plane k → (k ≡ Both → ⊥) → AtBlade (blade_of b) f (f ∷ [])
+pub region_whole : (b : Blade) (f : Face) (k : Reach) → IsReach f b.plane k → (k ≡ Both → ⊥) → AtBlade b f (f ∷ [])
 region_whole b f k h n = whole (λ m. no_cut f b.plane k h n)
   where
     negative_positive : (z : ℤ) → is_negative z ≡ true → is_positive z ≡ true → ⊥
@@ -71,23 +68,26 @@ region_whole b f k h n = whole (λ m. no_cut f b.plane k h n)
     no_cut f p Both k n c = n refl
 
 -- ---- regions one after another
-pub first_met : (b : Blade) (rest : List Face) {f : Face} {list yielded : List Face} → MeetsFirst b list → yielded ++ f ∷ rest ≡ list → yielded ≡ [] → Meets f (face_of b.tri)
+pub first_met : (b : Cutter) (rest : List Face) {f : Face} {list yielded : List Face} → MeetsFirst b list → yielded ++ f ∷ rest ≡ list → yielded ≡ [] → Meets f (face_of b.tri)
 first_met b rest {f} {list} {yielded} h e q =
     subst (MeetsFirst b) (sym e ∙ ap (λ (l : List Face). l ++ f ∷ rest) q) h
 
-pub grown : (b : Blade) (old fs : List Face) (f : Face) (out vs new : List Face) → ((front : List Face) → AreSplit b front old → AreSplit b (front ++ fs) out) → AtBlade (blade_of b) f vs → new ≡ out ++ vs → (front : List Face) → AreSplit b front old → AreSplit b (front ++ (fs ++ f ∷ [])) new
-grown b old fs f out vs new k r e front h =
-    subst (λ (l : List Face). AreSplit b l new) (append_assoc front fs (f ∷ [])) (subst (λ (l : List Face). AreSplit b ((front ++ fs) ++ f ∷ []) l) (sym e) (each_push (k front h) r))
+pub grown : (b : Cutter) (old fs : List Face) (f : Face) (out new : List Face) → ((front : List Face) → AreSplit b front old → AreSplit b (front ++ fs) out) → HasGrown (AtCutter b f) out new → (front : List Face) → AreSplit b front old → AreSplit b (front ++ (fs ++ f ∷ [])) new
+grown b old fs f out new k g front h =
+    subst (λ (l : List Face). AreSplit b l new) (append_assoc front fs (f ∷ [])) (subst (λ (l : List Face). AreSplit b ((front ++ fs) ++ f ∷ []) l) (sym g.is) (each_push (k front h) g.holds))
 
-pub whole_more : (b : Blade) (list : List Face) (i : ℕ) (d : Face) → i < length list → d ≡ get_or list i d → AreSplit b (take i list) (take i list) → AtBlade (blade_of b) d (d ∷ []) → AreSplit b (take (i + 1) list) (take (i + 1) list)
+pub grown_by_one : (P : List Face → Type 0) (f : Face) (old new : List Face) → P (f ∷ []) → new ≡ old ++ f ∷ [] → HasGrown P old new
+grown_by_one P f old new p e = record { more = f ∷ []; is = e; holds = p }
+
+pub whole_more : (b : Cutter) (list : List Face) (i : ℕ) (d : Face) → i < length list → d ≡ get_or list i d → AreSplit b (take i list) (take i list) → AtCutter b d (d ∷ []) → AreSplit b (take (i + 1) list) (take (i + 1) list)
 whole_more b list i d l e h r = rw (take_more list i d l, ← e) (each_push h r)
 
-pub met_at : (b : Blade) (list : List Face) (i : ℕ) (d : Face) → i < length list → d ≡ get_or list i d → Meets d (face_of b.tri) → MeetsFirst b (drop i list)
+pub met_at : (b : Cutter) (list : List Face) (i : ℕ) (d : Face) → i < length list → d ≡ get_or list i d → Meets d (face_of b.tri) → MeetsFirst b (drop i list)
 met_at b [] i d l e m = absurd (omega (arith, l))
 met_at b (f ∷ fs) zero d l e m = subst (λ (g : Face). Meets g (face_of b.tri)) e m
 met_at b (f ∷ fs) (suc i) d l e m = met_at b fs i d (omega (arith, l)) e m
 
-pub met_end : (b : Blade) (list : List Face) → MeetsFirst b (drop (length list) list)
+pub met_end : (b : Cutter) (list : List Face) → MeetsFirst b (drop (length list) list)
 met_end b [] = tt
 met_end b (f ∷ fs) = met_end b fs
 
@@ -97,11 +97,11 @@ take_all zero (x ∷ xs) l = absurd (omega (arith, l))
 take_all (suc k) [] l = refl
 take_all (suc k) (x ∷ xs) l = ap (λ ys. x ∷ ys) (take_all k xs (omega (arith, l)))
 
-pub split_front : (b : Blade) (k : ℕ) (old : List Face) {front back new : List Face} → front ≡ take k old → back ≡ drop k old → AreSplit b (take k old) (take k old) → ((start : List Face) → AreSplit b start front → AreSplit b (start ++ back) new) → AreSplit b old new
+pub split_front : (b : Cutter) (k : ℕ) (old : List Face) {front back new : List Face} → front ≡ take k old → back ≡ drop k old → AreSplit b (take k old) (take k old) → ((start : List Face) → AreSplit b start front → AreSplit b (start ++ back) new) → AreSplit b old new
 split_front b k old {front} {back} {new} e q h f =
     subst (λ (l : List Face). AreSplit b l new) (ap (λ (l : List Face). take k old ++ l) q ∙ take-append-drop k old) (f (take k old) (subst (AreSplit b (take k old)) (sym e) h))
 
-pub split_none : (b : Blade) (k : ℕ) (old : List Face) → length old ≤ k → AreSplit b (take k old) (take k old) → AreSplit b old old
+pub split_none : (b : Cutter) (k : ℕ) (old : List Face) → length old ≤ k → AreSplit b (take k old) (take k old) → AreSplit b old old
 split_none b k old l h = subst (λ (fs : List Face). AreSplit b fs fs) (take_all k old l) h
 
 pub cut_begun : (f : Face) {none new : List Face} → none ≡ [] → new ≡ none ++ f ∷ [] → AreCut [] (f ∷ []) new
@@ -109,12 +109,12 @@ cut_begun f {none} {new} e q =
     subst (AreCut [] (f ∷ [])) (sym (q ∙ ap (λ (fs : List Face). fs ++ f ∷ []) e)) done
 
 -- ---- what is left is a part of the triangle
-blade_keeps : (t : Tri) (b : regions.Blade) (f : Face) (fs : List Face) → IsPartOf t f → AtBlade b f fs → Every (IsPartOf t) fs
+blade_keeps : (t : Tri) (b : Blade) (f : Face) (fs : List Face) → IsPartOf t f → AtBlade b f fs → Every (IsPartOf t) fs
 blade_keeps t b f fs h (splits m c) =
     (part_below t f b.plane h c.low, (part_below t f (opposite b.plane) h (record { at = c.high.at; inside = c.high.inside; holds = negative_in (over_opposite b.plane c.high.at (record { over = positive_out (value_at b.plane c.high.at) c.high.holds })).under }), tt))
 blade_keeps t b f fs h (whole n) = (h, tt)
 
-pub cuts_keep : (t : Tri) {bs : List regions.Blade} {fs gs : List Face} → Chain (λ b. Each (AtBlade b)) bs fs gs → Every (IsPartOf t) fs → Every (IsPartOf t) gs
+pub cuts_keep : (t : Tri) {bs : List Blade} {fs gs : List Face} → Chain (λ b. Each (AtBlade b)) bs fs gs → Every (IsPartOf t) fs → Every (IsPartOf t) gs
 cuts_keep t done h = h
 cuts_keep t (step {x = b} r c) h =
     cuts_keep t c (each_every (IsPartOf t) (IsPartOf t) (blade_keeps t b) r h)

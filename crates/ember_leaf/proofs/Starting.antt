@@ -242,7 +242,7 @@ module _ (w : Wall) (f : Face) (p : Plane) (same : p ≡ w.plane) where
       subst (λ (g : Face). AtWall w f (g ∷ [])) (sym (e ∙ ap (below f) same)) (cut (subst (λ (q : Plane). IsReach f q Both) same h))
 
 -- ---- what is left is a part of t
-inside_in_below : (f : Face) (p : Plane) (v : Spot) → is_inside f v ≡ true → is_negative (value_at p v) ≡ true → is_inside (below f p) v ≡ true
+pub inside_in_below : (f : Face) (p : Plane) (v : Spot) → is_inside f v ≡ true → is_negative (value_at p v) ≡ true → is_inside (below f p) v ≡ true
 inside_in_below f p v i n =
     let k = inside_parts f v i in
     inside_on (below f p) v (positive_in k.0) k.1 ∙ list_all-append (λ e. is_negative (value_at e v)) f.edges (p ∷ []) ∙ (λ j. k.2 j && (n j && true))

@@ -1,4 +1,4 @@
-pub mod Blades
+pub mod Cutters
 pub mod Leaves
 pub mod Lower
 pub mod Pairs

@@ -7,7 +7,7 @@ use Rattle.ember_model.specs.Owners.{is_coplanar, IsOwner}
 use Rattle.ember_box.specs.declared.spans.Spans.{Spans}
 use Rattle.ember_box.specs.Near.{tri_at}
 use Rattle.ember_poly.specs.Cuts.{HasInside}
-use Rattle.ember_leaf.specs.Blades.{IsBounded}
+use Rattle.ember_leaf.specs.Cutters.{IsBounded}
 use Rattle.ember_leaf.specs.Pairs.{HasHolder}
 
 -- it stands in the list before place i

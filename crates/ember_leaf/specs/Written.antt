@@ -14,6 +14,7 @@ use Rattle.ember_expr.specs.Truth.{truth}
 use Rattle.ember_box.specs.Boxes.{Cell}
 use Rattle.ember_box.specs.Reference.{Fits}
 use Rattle.ember_box.specs.Regions.{IsRegions}
+use Rattle.ember_leaf.specs.Cutters.{Without}
 use Rattle.ember_leaf.specs.declared.kept.Kept.{Kept}
 
 -- the winding numbers in front of a region, of those before and after it along its main axis
@@ -67,8 +68,14 @@ IsTurn f face before after (Some flipped) =
 abbrev pub WhereFits : List Tri → Cell → List ℤ → (List Tri → List Kept → Type 0) → List Kept → Type 0
 WhereFits near c counts R ks = (scene : List Tri) → Fits scene near c counts → R scene ks
 
--- the list has grown by regions with the property
-pub record HasGrown (P : List Kept → Type 0) (old new : List Kept) : Type 0 where
-  pub more : List Kept
+-- the list has grown by members that have the property together
+pub record HasGrown {X : Type 0} (P : List X → Type 0) (old new : List X) : Type 0 where
+  pub more : List X
   pub is : new ≡ old ++ more
   pub holds : P more
+
+-- the regions of triangle i that it owns
+pub record AreOwned (c : Cell) (near : List Tri) (i : ℕ) (fs : List Face) : Type 0 where
+  pub all : List Face
+  pub are_regions : IsRegions c near i all
+  pub owned : Without (λ f. IsOwner near i f → ⊥) (IsOwner near i) all fs

@@ -1,54 +1,36 @@
 // The written regions of a leaf.
 ghost use Rattle.std.specs.Prelude.{◌≡◌, List, true, false, ◌≤◌, ◌<◌, ◌+◌, map, length, All, IfOk, IfSome, OnOk, option_to_list};
 ghost use Rattle.ember_model.specs.Valid.{IsValidTri};
+ghost use Rattle.ember_model.specs.Owners.{IsOwner};
 ghost use Rattle.ember_model.specs.Meshes.{HasMesh};
 ghost use Rattle.ember_box.specs.Near.{tri_at};
 ghost use Rattle.ember_model.specs.declared.tri.Tri.{Tri as Corners};
 ghost use Rattle.ember_box.specs.Reference.{Fits};
 ghost use Rattle.ember_box.specs.Spans.{spans_of};
-ghost use Rattle.ember_box.specs.Regions.{IsRegions, walls as box_walls};
+ghost use Rattle.ember_box.specs.Regions.{walls as box_walls};
 ghost use Rattle.ember_leaf.specs.Walls.{wall_of};
-ghost use Rattle.ember_coplanar.specs.Lying.{LiesOn};
 ghost use Rattle.ember_trace.specs.Facets.{StartsIn, AreBoxCounts, AreSideCounts};
 ghost use Rattle.ember_trace.specs.Boxed.{LiesIn};
 ghost use Rattle.ember_algebra.specs.Sign.{is_positive};
 ghost use Rattle.ember_model.specs.Planes.{along, main_axis};
-ghost use Rattle.ember_model.specs.Faces.{face_of, Contains};
 ghost use Rattle.ember_expr.specs.Formula.{formula_of};
-ghost use Rattle.ember_leaf.specs.Written.{IsTurn, AtRegion, IsWrittenOf, IsWrittenIn, WhereFits, HasGrown};
-ghost use Rattle.ember_leaf.specs.Lower.{TellsOwner};
-ghost use Rattle.ember_leaf.specs.Pairs.{IsLower, HasHolder};
+ghost use Rattle.ember_leaf.specs.Written.{IsTurn, AtRegion, IsWrittenOf, IsWrittenIn, WhereFits, HasGrown, AreOwned};
 ghost use Rattle.ember_leaf.specs.Leaves.{IsRegionOf, IsKeptOf, ArePlaced, ArePlacedBelow, tris_of};
 
+use crate::cutter::Cutter;
+use crate::cutters::find_cutters;
 use crate::heights::is_in_front;
 use crate::kept::{Kept, KeptList};
 use crate::pairs::is_flat;
 use crate::regions::regions;
-use crate::rivals::Rivals;
 use crate::start::{common_spans, is_outside, start, walls};
 use crate::wall::Wall;
 use ember_box::{Cell, Spans, spans_of};
-use ember_coplanar::contains;
 use ember_expr::{Expr, value};
 use ember_model::{Axis, OutOfMemory, Plane, Tri, Vector, main_axis};
 use ember_poly::{Ring, support};
 use ember_trace::{Facet, Sides, facets, sides_beside};
 use std::alloc::Global;
-
-// None of the triangles contains the region.
-fn is_free(lower: &[Tri], r: &Ring) -> bool
-    requires valid { All IsValidTri lower.now }
-    requires plane { All (λ t. LiesOn t r.now) lower.now }
-    ensures free { result ≡ true → All (λ t. Contains (face_of t) r.now → ⊥) lower.now }
-    ensures held { result ≡ false → HasHolder lower.now r.now }
-{
-    for t in lower {
-        if contains(t, r) {
-            return false;
-        }
-    }
-    true
-}
 
 // The plane's front is on the side to which its main axis points.
 fn faces_on(p: &Plane) -> bool
@@ -90,21 +72,17 @@ struct Leaf<'a> {
 
 impl Leaf<'_> {
     // The region as it is written, if it is.
-    fn kept(&self, i: usize, lower: &[Tri], ring: Ring) -> Option<Kept>
+    fn kept(&self, i: usize, ring: Ring) -> Option<Kept>
         requires few { length self.now.near.now ≤ 262144 }
         requires counts { AreBoxCounts self.now.at.now.counts }
         requires place { i < length self.now.near.now }
-        requires lower { All (IsLower (tri_at (tris_of self.now.near.now) i)) lower.now }
         requires region { IsRegionOf (tri_at (tris_of self.now.near.now) i) ring }
         requires starts { All (StartsIn self.now.cell.now) self.now.near.now }
         requires inside { LiesIn self.now.cell.now ring }
-        requires owner { TellsOwner lower.now (tris_of self.now.near.now) i ring }
+        requires owner { IsOwner (tris_of self.now.near.now) i ring }
         ensures placed { IfSome result (IsKeptOf (tri_at (tris_of self.now.near.now) i) i) }
         ensures written { WhereFits (tris_of self.now.near.now) self.now.cell.now self.now.at.now.counts (λ scene. AtRegion scene (formula_of self.now.expr.now) (tris_of self.now.near.now) i ring) (option_to_list result) }
     {
-        if !is_free(lower, &ring) {
-            return None;
-        }
         let sides = sides_beside(self.near, self.cell, self.at, &ring);
         match turn_of(self.expr, &sides, &ring) {
             Some(flipped) => Some(Kept {
@@ -116,29 +94,27 @@ impl Leaf<'_> {
         }
     }
 
-    // Adds the written ones of the regions of triangle `i`.
+    // Adds the written ones of the regions that triangle `i` owns.
     fn keep(
         &self,
         list: Vec<Ring>,
         i: usize,
-        lower: &[Tri],
         kept: &mut Vec<Kept>,
     ) -> Result<(), OutOfMemory>
         requires few { length self.now.near.now ≤ 262144 }
         requires counts { AreBoxCounts self.now.at.now.counts }
         requires place { i < length self.now.near.now }
-        requires lower { All (IsLower (tri_at (tris_of self.now.near.now) i)) lower.now }
         requires plane { All (IsRegionOf (tri_at (tris_of self.now.near.now) i)) list.items }
-        requires regions { IsRegions self.now.cell.now (tris_of self.now.near.now) i list.items }
+        requires regions { AreOwned self.now.cell.now (tris_of self.now.near.now) i list.items }
         requires starts { All (StartsIn self.now.cell.now) self.now.near.now }
         requires inside { All (LiesIn self.now.cell.now) list.items }
-        requires owners { All (TellsOwner lower.now (tris_of self.now.near.now) i) list.items }
+        requires owners { All (IsOwner (tris_of self.now.near.now) i) list.items }
         requires kept { ArePlacedBelow (tris_of self.now.near.now) (i + 1) kept.old.items }
         ensures placed { OnOk result (ArePlacedBelow (tris_of self.now.near.now) (i + 1) kept.new.items) }
         ensures written { OnOk result (HasGrown (WhereFits (tris_of self.now.near.now) self.now.cell.now self.now.at.now.counts (λ scene. IsWrittenOf scene (formula_of self.now.expr.now) self.now.cell.now (tris_of self.now.near.now) i)) kept.old.items kept.new.items) }
     {
         for ring in list {
-            if let Some(k) = self.kept(i, lower, ring) {
+            if let Some(k) = self.kept(i, ring) {
                 kept.push(k)?;
             }
         }
@@ -151,7 +127,7 @@ impl Leaf<'_> {
         alloc: Global,
         walls: &[Wall],
         i: usize,
-        rivals: &mut Rivals,
+        cutters: &mut Vec<Cutter>,
         kept: &mut Vec<Kept>,
     ) -> Result<(), OutOfMemory>
         requires few { length self.now.near.now ≤ 262144 }
@@ -169,12 +145,12 @@ impl Leaf<'_> {
             return Ok(());
         }
         let bounds = common_spans(&own.spans, self.spans);
-        if rivals.find(own, &bounds, self.near, i)? {
+        if find_cutters(cutters, own, &bounds, self.near, i)? {
             return Ok(());
         }
         if let Some(ring) = start(alloc, own, walls)? {
-            let list = regions(alloc, ring, &rivals.blades)?;
-            self.keep(list, i, &rivals.lower, kept)?;
+            let list = regions(alloc, ring, cutters)?;
+            self.keep(list, i, kept)?;
         }
         Ok(())
     }
@@ -206,10 +182,10 @@ pub fn leaf_faces(
         at: v,
     };
     let walls = walls(c);
-    let mut rivals = Rivals::new(alloc);
+    let mut cutters = Vec::new(alloc);
     let mut kept = Vec::new(alloc);
     for i in 0..facets.len() {
-        leaf.keep_of(alloc, &walls, i, &mut rivals, &mut kept)?;
+        leaf.keep_of(alloc, &walls, i, &mut cutters, &mut kept)?;
     }
     Ok(KeptList::of(kept))
 }

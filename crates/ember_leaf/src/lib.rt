@@ -2,13 +2,13 @@
 //! another, where a Boolean's value changes.
 #![tactic(auto)]
 
-mod blade;
+mod cutter;
+mod cutters;
 mod heights;
 mod kept;
 mod leaf;
 mod pairs;
 mod regions;
-mod rivals;
 mod start;
 mod wall;
 

@@ -2,7 +2,7 @@
 ghost use Rattle.std.specs.Prelude.{◌≡◌, ◌<◌, ◌&&◌, true, false};
 ghost use Rattle.ember_algebra.specs.Sign.{is_zero};
 ghost use Rattle.ember_model.specs.Faces.{is_flat, face_of, Contains};
-ghost use Rattle.ember_model.specs.Owners.{lies_in_plane_of, is_coplanar};
+ghost use Rattle.ember_model.specs.Owners.{is_coplanar};
 ghost use Rattle.ember_leaf.specs.Pairs.{AreApart, IsBehindEdge, IsPair};
 
 use crate::heights::heights_of;
@@ -31,20 +31,6 @@ pub fn is_flat(f: &Facet) -> bool
     ensures { result ≡ is_flat f.now.tri }
 {
     has_no_normal(&f.support)
-}
-
-// All corners of the second lie in the plane of the first.
-fn holds_corners(f: &Facet, g: &Facet) -> bool
-    ensures { result ≡ lies_in_plane_of f.now.tri g.now.tri }
-{
-    heights_of(&f.support, &g.tri).all_on()
-}
-
-/// The two lie in one plane, and neither is flat.
-pub fn are_coplanar(f: &Facet, g: &Facet) -> bool
-    ensures { result ≡ is_coplanar f.now.tri g.now.tri }
-{
-    !is_flat(f) && (holds_corners(f, g) && !is_flat(g))
 }
 
 // The plane of an edge of the first triangle keeps the two apart.

@@ -7,7 +7,7 @@ ghost use Rattle.ember_model.specs.Planes.{opposite};
 ghost use Rattle.ember_model.specs.Faces.{is_flat, face_of};
 ghost use Rattle.ember_box.specs.Regions.{level, AtWall};
 ghost use Rattle.ember_box.specs.Regions as regions;
-ghost use Rattle.ember_leaf.specs.Blades.{common, common_of};
+ghost use Rattle.ember_leaf.specs.Cutters.{common, common_of};
 ghost use Rattle.ember_leaf.specs.Walls.{wall_of, span_along, level_by, IsLowStay, IsHighStay, IsStay, IsLeft};
 
 use crate::wall::Wall;

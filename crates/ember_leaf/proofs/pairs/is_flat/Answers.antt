@@ -2,6 +2,7 @@ use Rattle.std.proofs.Common.{◌∙◌, ap, ◌&&◌}
 use Rattle.ember_algebra.specs.Sign.{is_zero}
 use Rattle.ember_model.specs.declared.plane.Plane.{Plane}
 use Rattle.ember_model.specs.Faces.{is_flat}
+use Rattle.ember_leaf.proofs.Deciding.{at_blade}
 use Rattle.ember_leaf.proofs.pairs.is_flat.Goals as goal
 
 pub returns : goal.returns

@@ -5,4 +5,4 @@ use Rattle.ember_leaf.proofs.regions.is_met.Goals as goal
 
 pub returns : goal.returns
 returns c =
-    subst (λ f. IsTrue c.meets_face.result ↔ Meets c.args.r.now f) (blade_face c.args.b.now.tri c.args.b.now.face c.args.b.now.sides) c.meets_face.ensures
+    subst (λ f. IsTrue c.meets_face.result ↔ Meets c.args.r.now f) (blade_face c.args.c.now.tri c.args.c.now.face c.args.c.now.sides) c.meets_face.ensures

@@ -6,7 +6,7 @@ use Rattle.ember_expr.specs.Formula.{formula_of}
 use Rattle.ember_leaf.specs.Leaves.{tris_of}
 use Rattle.ember_leaf.specs.Written.{AtRegion}
 use Rattle.ember_leaf.proofs.Placing.{placed_push}
-use Rattle.ember_leaf.proofs.Keeping.{grown_none, grown_more, grown_whole, all_yielded}
+use Rattle.ember_leaf.proofs.Keeping.{grown_none, grown_more, grown_owned, all_yielded}
 use Rattle.ember_leaf.proofs.leaf.Leaf.keep.Goals as goal
 
 pub loop-ring-init : goal.loop-ring-init
@@ -25,4 +25,4 @@ loop-ring-preserved c =
 pub returns-clause-written : goal.returns-clause-written
 returns-clause-written c =
     let s = c.args.self.now in let at = c.loop-ring in
-    grown_whole (tris_of s.near.now) s.cell.now s.at.now.counts (formula_of s.expr.now) c.args.i at.yielded c.args.list.items c.args.kept.now.items at.kept.items at.invariant.1 (all_yielded at.yielded (into_iter_items at.ring-iterator) at.invariant.2 (sym at.ring-iterator.rest.ok.0 ∙ c.in-None.ensures.steps.0) c.into_iter-ring-iterator.ensures.into_iter_gives.0) c.requires.regions
+    grown_owned (tris_of s.near.now) s.cell.now s.at.now.counts (formula_of s.expr.now) c.args.i at.yielded c.args.list.items c.args.kept.now.items at.kept.items at.invariant.1 (all_yielded at.yielded (into_iter_items at.ring-iterator) at.invariant.2 (sym at.ring-iterator.rest.ok.0 ∙ c.in-None.ensures.steps.0) c.into_iter-ring-iterator.ensures.into_iter_gives.0) c.requires.regions

@@ -1,5 +1,4 @@
-use Rattle.std.proofs.Common.{◌≡◌, ◌∙◌, ap, [], ◌∷◌, sym, subst, ℕ, Option, Some, List, All, get_or, map, option_to_list}
-use Rattle.ember_algebra.specs.Relations.{Every}
+use Rattle.std.proofs.Common.{◌≡◌, ◌∙◌, ap, [], ◌∷◌, sym, subst, ℕ, List, All, get_or, map, option_to_list}
 use Rattle.ember_model.specs.declared.face.Face.{Face}
 use Rattle.ember_model.specs.Faces.{is_flat}
 use Rattle.ember_expr.specs.Formula.{formula_of}
@@ -7,21 +6,18 @@ use Rattle.ember_box.specs.Boxes.{Cell}
 use Rattle.ember_box.specs.Regions.{walls, IsStart}
 use Rattle.ember_box.specs.Regions as regions
 use Rattle.ember_leaf.specs.declared.wall.Wall.{Wall}
-use Rattle.ember_leaf.specs.declared.blade.Blade.{Blade}
-use Rattle.ember_leaf.specs.Lower.{AreFound, TellsOwner}
+use Rattle.ember_leaf.specs.Lower.{AreFound}
 use Rattle.ember_leaf.specs.Written.{hidden}
 use Rattle.ember_leaf.proofs.Lower.{is_covered}
-use Rattle.ember_leaf.proofs.Keeping.{grown_none, none_started, none_flat, all_lie_in}
+use Rattle.ember_leaf.proofs.Keeping.{grown_none, none_started, none_flat}
 use Rattle.ember_model.specs.declared.tri.Tri.{Tri}
 use Rattle.ember_box.specs.Near.{tri_at}
-use Rattle.ember_leaf.specs.Pairs.{IsLower}
 use Rattle.ember_leaf.specs.Leaves.{tris_of}
 use Rattle.ember_leaf.proofs.Placing.{own_is, listed_too}
-use Rattle.ember_leaf.specs.Walls.{wall_of, IsLeft, IsPartOf}
+use Rattle.ember_leaf.specs.Walls.{wall_of, IsLeft}
 use Rattle.ember_leaf.proofs.Starting.{left_parts}
-use Rattle.ember_leaf.proofs.Splitting.{cuts_keep, parts_regions}
-use Rattle.ember_leaf.specs.Blades.{common_of, AreCut}
-use Rattle.ember_leaf.proofs.LeafRegions.{leaf_regions, owners_told}
+use Rattle.ember_leaf.specs.Cutters.{owners_in, CanCut, common_of, AreCut}
+use Rattle.ember_leaf.proofs.LeafRegions.{leaf_owned, owned_planes, owned_inside, owned_each, all_can}
 use Rattle.ember_leaf.proofs.leaf.Leaf.keep_of.Goals.{then-is_flat-via-then-is_flat, then-is_flat-via-else-is_flat+then-is_outside}
 use Rattle.ember_leaf.proofs.leaf.Leaf.keep_of.Goals as goal
 
@@ -41,44 +37,35 @@ returns-then-is_flat-clause-written c =
 pub returns-then-branch-clause-written : goal.returns-then-branch-clause-written
 returns-then-branch-clause-written c =
     let near = c.args.self.now.near.now in let ns = tris_of near in let i = c.args.i in let t = (get_or near i c.index-self-i.result).tri in
-    let h = subst (AreFound ns i t c.common_spans-bounds.result c.find.new.self.lower.items) c.if-branch.true c.in_ok-find.ensures.owners in
+    let h = subst (AreFound ns i t c.common_spans-bounds.result (owners_in c.find_cutters.new.list.items)) c.if-branch.true c.in_ok-find_cutters.ensures.owners in
     grown_none _ c.args.kept.now.items (λ scene f. hidden (is_covered ns i t c.common_spans-bounds.result (own_is near i c.index-self-i.result c.requires.place) (listed_too near i c.requires.place) h))
 
-pub keep-requires-clause-lower : goal.keep-requires-clause-lower
-keep-requires-clause-lower c =
-    let near = c.args.self.now.near.now in let t = tri_at (tris_of near) c.args.i in
-    let e = own_is near c.args.i c.index-self-i.result c.requires.place in
-    subst (λ (us : List Tri). All (IsLower t) us) (sym c.deref-in-Some.ensures.value) (subst (λ (u : Tri). All (IsLower u) c.find.new.self.lower.items) e c.in_ok-find.ensures.lower)
+pub find_cutters-requires-clause-own : goal.find_cutters-requires-clause-own
+find_cutters-requires-clause-own c = own_is c.args.self.now.near.now c.args.i c.index-self-i.result c.requires.place
 
-pub keep-requires-clause-plane : goal.keep-requires-clause-plane
-keep-requires-clause-plane c =
-    let near = c.args.self.now.near.now in let t = tri_at (tris_of near) c.args.i in
-    let e = own_is near c.args.i c.index-self-i.result c.requires.place in
-    let u = (get_or near c.args.i c.index-self-i.result).tri in
-    let r = (left_parts u (subst (λ o. IsLeft (map wall_of c.args.walls.now) u (option_to_list o)) c.in-Some.is c.in_ok-ring.ensures)).0 in
-    parts_regions t c.in_ok-list.list.items (cuts_keep t c.in_ok-list.ensures (subst (λ (u : Tri). IsPartOf u c.in-Some.ring) e r, tt))
-
-pub find-requires-clause-own : goal.find-requires-clause-own
-find-requires-clause-own c = own_is c.args.self.now.near.now c.args.i c.index-self-i.result c.requires.place
+pub regions-requires : goal.regions-requires
+regions-requires c =
+    let near = c.args.self.now.near.now in let u = (get_or near c.args.i c.index-self-i.result).tri in let cs = c.find_cutters.new.list.items in
+    let l = left_parts u (subst (λ o. IsLeft (map wall_of c.args.walls.now) u (option_to_list o)) c.in-Some.is c.in_ok-ring.ensures) in
+    subst (All (λ v. CanCut v c.in-Some.ring)) (sym c.deref.ensures.value) (all_can u c.in-Some.ring cs l.0.plane c.in_ok-find_cutters.ensures.cutters)
 
 pub keep-requires-clause-regions : goal.keep-requires-clause-regions
 keep-requires-clause-regions c =
-    let near = c.args.self.now.near.now in let i = c.args.i in let f = get_or near i c.index-self-i.result in let ring = c.in-Some.ring in
-    leaf_regions c.args.self.now.cell.now f ring (tris_of near) i c.args.walls.now c.find.new.self.blades.items c.common_spans-bounds.result c.in_ok-list.list.items (own_is near i c.index-self-i.result c.requires.place) c.requires.walls (c.common_spans-bounds.ensures ∙ ap (common_of f.spans) c.requires.spans) (subst (λ o. IsLeft (map wall_of c.args.walls.now) f.tri (option_to_list o)) c.in-Some.is c.in_ok-ring.ensures) (c.in_ok-find.ensures.blades c.if-branch.false) (subst (λ bs. AreCut bs (ring ∷ []) c.in_ok-list.list.items) c.deref.ensures.value c.in_ok-list.ensures)
+    let s = c.args.self.now in let near = s.near.now in let ns = tris_of near in let i = c.args.i in let f = get_or near i c.index-self-i.result in
+    let ring = c.in-Some.ring in let b = c.common_spans-bounds.result in let cs = c.find_cutters.new.list.items in let k = c.in_ok-find_cutters.ensures in
+    leaf_owned s.cell.now f ring ns i c.args.walls.now cs b c.in_ok-list.list.items (own_is near i c.index-self-i.result c.requires.place) (listed_too near i c.requires.place) c.requires.walls (c.common_spans-bounds.ensures ∙ ap (common_of f.spans) c.requires.spans) (subst (λ o. IsLeft (map wall_of c.args.walls.now) f.tri (option_to_list o)) c.in-Some.is c.in_ok-ring.ensures) (k.blades c.if-branch.false) k.cutters (subst (AreFound ns i f.tri b (owners_in cs)) c.if-branch.false k.owners) (subst (λ us. AreCut us (ring ∷ []) c.in_ok-list.list.items) c.deref.ensures.value c.in_ok-list.ensures)
 
-parts : (t : Tri) {ws : List regions.Wall} (bs : List Blade) {o : Option Face} (ring : Face) {fs : List Face} → IsLeft ws t (option_to_list o) → o ≡ Some ring → AreCut bs (ring ∷ []) fs → Every (IsPartOf t) fs
-parts t {ws} bs ring l e k =
-    cuts_keep t k ((left_parts t (subst (λ o. IsLeft ws t (option_to_list o)) e l)).0, tt)
+pub keep-requires-clause-plane : goal.keep-requires-clause-plane
+keep-requires-clause-plane c =
+    let s = c.args.self.now in owned_planes s.cell.now (tris_of s.near.now) c.args.i c.in_ok-list.list.items (keep-requires-clause-regions c)
 
 pub keep-requires-clause-inside : goal.keep-requires-clause-inside
 keep-requires-clause-inside c =
-    let s = c.args.self.now in all_lie_in s.cell.now (tris_of s.near.now) c.args.i c.in_ok-list.list.items (keep-requires-clause-regions c)
+    let s = c.args.self.now in owned_inside s.cell.now (tris_of s.near.now) c.args.i c.in_ok-list.list.items (keep-requires-clause-regions c)
 
 pub keep-requires-clause-owners : goal.keep-requires-clause-owners
 keep-requires-clause-owners c =
-    let s = c.args.self.now in let near = s.near.now in let ns = tris_of near in let i = c.args.i in let f = get_or near i c.index-self-i.result in
-    let list = c.in_ok-list.list.items in let b = c.common_spans-bounds.result in let lower = c.find.new.self.lower.items in
-    subst (λ (us : List Tri). All (TellsOwner us ns i) list) (sym c.deref-in-Some.ensures.value) (owners_told s.cell.now f ns i lower b list (own_is near i c.index-self-i.result c.requires.place) (listed_too near i c.requires.place) (c.common_spans-bounds.ensures ∙ ap (common_of f.spans) c.requires.spans) (keep-requires-clause-regions c) (parts f.tri _ c.in-Some.ring c.in_ok-ring.ensures c.in-Some.is c.in_ok-list.ensures) c.in_ok-find.ensures.lower (subst (AreFound ns i f.tri b lower) c.if-branch.false c.in_ok-find.ensures.owners))
+    let s = c.args.self.now in owned_each s.cell.now (tris_of s.near.now) c.args.i c.in_ok-list.list.items (keep-requires-clause-regions c)
 
 pub returns-in_default-clause-written : goal.returns-in_default-clause-written
 returns-in_default-clause-written c =

@@ -1,4 +1,4 @@
-// What cuts regions.
+// Triangles that cut the regions of another one.
 ghost use Rattle.std.specs.Prelude.{◌≡◌, false, All};
 ghost use Rattle.ember_model.specs.Valid.{IsValidTri, IsValidPlane};
 ghost use Rattle.ember_model.specs.Planes.{support_of};
@@ -6,18 +6,28 @@ ghost use Rattle.ember_model.specs.Faces.{is_flat, edges_of};
 
 use ember_model::{Plane, Tri};
 
-/// A plane of a triangle, which cuts what meets that triangle's closed face.
+/// How a triangle cuts the regions of another one that its closed face touches.
 #[derive(Clone, Copy)]
-pub struct Blade {
+pub enum Role {
+    /// In another plane: by its support plane.
+    Across,
+    /// In the same plane, with a higher number: by its edge planes.
+    Coplanar,
+    /// In the same plane, with a lower number: by its edge planes, and what it contains is its own.
+    Owner,
+}
+
+/// A triangle that cuts the regions of another one.
+#[derive(Clone, Copy)]
+pub struct Cutter {
     pub tri: Tri,
     pub support: Plane,
     pub edges: [Plane; 3],
-    pub plane: Plane,
+    pub role: Role,
     ghost valid: { IsValidTri tri },
     ghost normal: { is_flat tri ≡ false },
     ghost face: { support ≡ support_of tri },
     ghost sides: { edges ≡ edges_of tri },
     ghost sized: { IsValidPlane support },
     ghost sides_sized: { All IsValidPlane edges },
-    ghost plane_sized: { IsValidPlane plane },
 }

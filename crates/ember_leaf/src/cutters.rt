@@ -1,0 +1,138 @@
+// The other triangles near a leaf that may cut the regions of one.
+ghost use Rattle.std.specs.Prelude.{◌≡◌, false, true, All, IfOk, OnOk};
+ghost use Rattle.ember_model.specs.Faces.{is_flat};
+ghost use Rattle.ember_model.specs.Owners.{is_coplanar};
+ghost use Rattle.ember_box.specs.declared.spans.Spans.{Spans as Bounds};
+ghost use Rattle.ember_box.specs.Regions.{blades_of, blades};
+ghost use Rattle.ember_box.specs.Near.{tri_at};
+ghost use Rattle.ember_leaf.specs.Cutters.{role_if, blades_in, owners_in, IsAdded, IsBounded, IsCutterOf, Sheds, Adds};
+ghost use Rattle.ember_leaf.specs.Leaves.{tris_of};
+ghost use Rattle.ember_leaf.specs.Lower.{AddsLower, AreFound};
+
+use crate::cutter::{Cutter, Role};
+use crate::pairs::{Pair, covers, is_flat, pair_of};
+use ember_box::{Spans, overlap};
+use ember_model::OutOfMemory;
+use ember_poly::main_edges;
+use ember_trace::Facet;
+
+fn add_cutter(list: &mut Vec<Cutter>, g: &Facet, role: Role) -> Result<(), OutOfMemory>
+    requires { is_flat g.now.tri ≡ false }
+    ensures { OnOk result (IsAdded g.now.tri role list.old.items list.new.items) }
+{
+    list.push(Cutter {
+        tri: g.tri,
+        support: g.support,
+        edges: main_edges(&g.tri, &g.support),
+        role,
+    })?;
+    Ok(())
+}
+
+// The role of a triangle in the plane of another one.
+fn role_of(is_before: bool) -> Role
+    ensures { result ≡ role_if is_before }
+{
+    if is_before {
+        Role::Owner
+    } else {
+        Role::Coplanar
+    }
+}
+
+// Adds a triangle in the plane of another one that may meet it. `true` where it comes before that one and
+// covers it.
+fn add_coplanar(
+    list: &mut Vec<Cutter>,
+    own: &Facet,
+    g: &Facet,
+    is_before: bool,
+) -> Result<bool, OutOfMemory>
+    requires normal { is_flat g.now.tri ≡ false }
+    requires plane { is_coplanar own.now.tri g.now.tri ≡ true }
+    requires own { is_flat own.now.tri ≡ false }
+    requires cutters { All (IsCutterOf own.now.tri) list.old.items }
+    ensures cutters { OnOk result (All (IsCutterOf own.now.tri) list.new.items) }
+    ensures blades { IfOk result (λ covered. covered ≡ false → (b : Bounds) → Adds (IsBounded own.now.tri b) (blades_of own.now.tri g.now.tri) list.old.items list.new.items) }
+    ensures owners { IfOk result (λ covered. (b : Bounds) → AddsLower own.now.tri g.now.tri b is_before (owners_in list.old.items) covered (owners_in list.new.items)) }
+{
+    if is_before && covers(g, own) {
+        return Ok(true);
+    }
+    add_cutter(list, g, role_of(is_before))?;
+    Ok(false)
+}
+
+// Adds a triangle whose bounding box the regions of another one may meet. `true` where it covers
+// that one and comes before it.
+fn add(
+    list: &mut Vec<Cutter>,
+    own: &Facet,
+    g: &Facet,
+    is_before: bool,
+) -> Result<bool, OutOfMemory>
+    requires own { is_flat own.now.tri ≡ false }
+    requires cutters { All (IsCutterOf own.now.tri) list.old.items }
+    ensures cutters { OnOk result (All (IsCutterOf own.now.tri) list.new.items) }
+    ensures blades { IfOk result (λ covered. covered ≡ false → (b : Bounds) → Adds (IsBounded own.now.tri b) (blades_of own.now.tri g.now.tri) list.old.items list.new.items) }
+    ensures owners { IfOk result (λ covered. (b : Bounds) → AddsLower own.now.tri g.now.tri b is_before (owners_in list.old.items) covered (owners_in list.new.items)) }
+{
+    if is_flat(g) {
+        return Ok(false);
+    }
+    match pair_of(own, g) {
+        Pair::Apart => Ok(false),
+        Pair::Across => {
+            add_cutter(list, g, Role::Across)?;
+            Ok(false)
+        }
+        Pair::Coplanar => add_coplanar(list, own, g, is_before),
+    }
+}
+
+// The same, if its bounding box meets the bounds.
+fn add_near(
+    list: &mut Vec<Cutter>,
+    own: &Facet,
+    bounds: &Spans,
+    g: &Facet,
+    is_before: bool,
+) -> Result<bool, OutOfMemory>
+    requires own { is_flat own.now.tri ≡ false }
+    requires cutters { All (IsCutterOf own.now.tri) list.old.items }
+    ensures cutters { OnOk result (All (IsCutterOf own.now.tri) list.new.items) }
+    ensures blades { IfOk result (λ covered. covered ≡ false → Adds (IsBounded own.now.tri bounds.now) (blades_of own.now.tri g.now.tri) list.old.items list.new.items) }
+    ensures owners { IfOk result (λ covered. AddsLower own.now.tri g.now.tri bounds.now is_before (owners_in list.old.items) covered (owners_in list.new.items)) }
+{
+    if overlap(bounds, &g.spans) {
+        add(list, own, g, is_before)
+    } else {
+        Ok(false)
+    }
+}
+
+/// Collects what cuts the regions of triangle `i`, which isn't flat and whose regions lie within the bounds,
+/// in order. Returns `true`, with a part of the list, if an earlier triangle in its plane covers it, and so owns all
+/// its regions.
+pub fn find_cutters(
+    list: &mut Vec<Cutter>,
+    own: &Facet,
+    bounds: &Spans,
+    near: &[Facet],
+    i: usize,
+) -> Result<bool, OutOfMemory>
+    requires normal { is_flat own.now.tri ≡ false }
+    requires own { own.now.tri ≡ tri_at (tris_of near.now) i }
+    ensures cutters { OnOk result (All (IsCutterOf own.now.tri) list.new.items) }
+    ensures blades { IfOk result (λ covered. covered ≡ false → Sheds (IsBounded own.now.tri bounds.now) (blades (tris_of near.now) i) (blades_in list.new.items)) }
+    ensures owners { IfOk result (λ covered. AreFound (tris_of near.now) i own.now.tri bounds.now (owners_in list.new.items) covered) }
+{
+    list.clear();
+    for j in 0..near.len() {
+        let g = &near[j];
+        if j != i && add_near(list, own, bounds, g, j < i)? {
+            return Ok(true);
+        }
+    }
+    Ok(false)
+}
