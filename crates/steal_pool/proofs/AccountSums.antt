@@ -1,6 +1,6 @@
 -- Sums of workers' accounts.
 use lib.Seq.{take-append_seam}
-use Rattle.std.proofs.Common.{map, take, subst, sym, ◌≡◌, ℕ, zero, suc, ◌+◌, ◌<◌, All, true, List, [], ◌∷◌, ◌++◌, length, slice_index_or, ◌∙◌, refl, ap, arith, Option, Some, None}
+use Rattle.std.proofs.Common.{map, take, subst, sym, ◌≡◌, ℕ, suc, ◌+◌, ◌<◌, All, true, List, [], ◌∷◌, ◌++◌, length, slice_index_or, ◌∙◌, refl, ap, arith, Some, None}
 use Rattle.ember_job.specs.declared.job.Job.{Job}
 use Rattle.ember_job.specs.declared.job.Entry.{Entry}
 use Rattle.std.specs.declared.alloc.Global.{Global}
@@ -11,9 +11,9 @@ use Rattle.ember_job.specs.Weights.{weigh}
 use Rattle.steal_pool.specs.declared.protocol.HandleView.{HandleView}
 use Rattle.steal_pool.specs.declared.state.WorkerState.{WorkerState}
 use Rattle.steal_pool.specs.Protocol.{with_taken}
-use Rattle.steal_pool.specs.Steps.{Weight, ended, at_job, at_entry, at_left}
+use Rattle.steal_pool.specs.Steps.{Weight, at_entry, at_left}
 use Rattle.steal_pool.specs.Owners.{all_pushed, all_popped}
-use Rattle.steal_pool.specs.Workers.{Account, account, held, received, Balances, Releases, IsIdle, HasFinished, FinishesIfDone, EachFinished, all_held, all_received}
+use Rattle.steal_pool.specs.Workers.{Account, account, held, received, Balances, Releases, IsIdle, FinishesIfDone, EachFinished, all_held, all_received}
 use Rattle.steal_pool.proofs.DequeSteps.{weigh_append}
 
 -- what a worker does balances, one thing after the other

@@ -1,5 +1,5 @@
 -- Passes are made and taken in one after the other.
-use Rattle.std.proofs.Common.{◌≡◌, ℕ, zero, suc, ◌+◌, ◌-◌, ◌<◌, false, List, [], ◌∷◌, ◌++◌, length, set, get_or, refl, sym, ap, ◌∙◌, subst, arith}
+use Rattle.std.proofs.Common.{◌≡◌, ℕ, zero, suc, ◌+◌, ◌<◌, List, [], ◌∷◌, ◌++◌, length, set, get_or, refl, sym, ap, ◌∙◌, subst, arith}
 use Rattle.std.specs.declared.alloc.Global.{Global}
 use Rattle.crossbeam_deque.specs.Handles.{Pass, view, IsPassOf, worker_deque, worker_view}
 use Rattle.crossbeam_deque.specs.declared.handles.Stealer.{Stealer}
@@ -8,7 +8,7 @@ use Rattle.ember_job.specs.declared.job.Job.{Job}
 use Rattle.steal_pool.specs.declared.protocol.HandleView.{HandleView}
 use Rattle.ember_job.specs.Weights.{weigh}
 use Rattle.steal_pool.specs.Protocol.{with_one_lent, with_returned, new_pass}
-use Rattle.steal_pool.specs.Steps.{EachPass, all_taken}
+use Rattle.steal_pool.specs.Steps.{all_taken}
 use Rattle.steal_pool.specs.Owners.{EachOwner, Fresh, Lent, Lends, NewRow, all_pushed, all_popped, Lending, Absorbing}
 use Rattle.steal_pool.proofs.DequeSteps.{weigh_append}
 

@@ -1,12 +1,11 @@
 -- The last of new workers is given the root.
-use Rattle.std.proofs.Common.{◌≡◌, ℕ, ◌+◌, All, true, List, [], ◌∷◌, ◌++◌, sym, ap, ◌∙◌, subst, arith}
+use Rattle.std.proofs.Common.{◌≡◌, All, true, List, [], ◌∷◌, ◌++◌, sym, ap, ◌∙◌, subst, arith}
 use Rattle.std.proofs.lemmas.List.Elements.{All-push}
 use Rattle.std.specs.declared.alloc.Global.{Global}
 use Rattle.crossbeam_deque.specs.Handles.{worker_view}
 use Rattle.crossbeam_deque.specs.declared.handles.Stealer.{Stealer}
 use Rattle.crossbeam_deque.specs.declared.handles.Worker.{Worker}
 use Rattle.ember_job.specs.declared.job.Job.{Job}
-use Rattle.ember_job.specs.declared.job.Entry.{Entry}
 use Rattle.ember_job.specs.Weights.{weigh}
 use Rattle.steal_pool.specs.declared.protocol.HandleView.{HandleView}
 use Rattle.steal_pool.specs.declared.protocol.JobProtocol.{JobProtocol}

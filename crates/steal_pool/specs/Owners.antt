@@ -9,7 +9,7 @@ use Rattle.steal_pool.specs.declared.protocol.HandleView.{HandleView}
 use Rattle.ember_job.specs.Weights.{weigh}
 use Rattle.steal_pool.specs.declared.output.Output.{Output}
 use Rattle.ember_job.specs.declared.job.Entry.{Entry}
-use Rattle.steal_pool.specs.Protocol.{handle, new_pass, with_one_lent, with_returned}
+use Rattle.steal_pool.specs.Protocol.{handle, new_pass, with_one_lent}
 use Rattle.steal_pool.specs.Steps.{Weight, EachPass, all_taken, ended}
 
 -- each owner's end is of the deque at its place, and its view is like this

@@ -69,8 +69,9 @@ where
     ensures parts { IfOk result (λ v. AreParts (W.shape step.now.work) (W.item step.now.work) root v.parts) }
     ensures journals { IfOk result (λ v. KeepRules (W.shape step.now.work) root 1 (v.journals ++ [] ∷ [])) }
 {
-    let harvest =
-        run_alone_named::<Brand, W, W::Item, F, G>(alloc, root, &step.work, &step.call, gate)?;
+    let harvest = run_alone_named::<Brand, W, W::Item, F, G>(
+        alloc, root, &step.work, &step.call, gate,
+    )?;
     Ok(harvest)
 }
 

@@ -1,4 +1,4 @@
-use Rattle.std.proofs.Common.{◌+◌, ◌≤◌, [], ◌∷◌, ◌++◌, ap, ◌∙◌, refl, subst, length, map, arith}
+use Rattle.std.proofs.Common.{[], ◌∷◌, ◌++◌, ap, ◌∙◌, refl, subst, length, map, arith}
 use Rattle.ember_job.specs.Weights.{weigh}
 use Rattle.ember_job.specs.declared.job.Job.{Job}
 use Rattle.steal_pool.specs.Steps.{by_path}
