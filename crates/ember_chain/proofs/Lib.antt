@@ -12,5 +12,6 @@ pub mod FaceLoop
 pub mod Starts
 pub mod Pieces
 pub mod Ready
+pub mod Missed
 pub mod Loops
 pub mod Closed

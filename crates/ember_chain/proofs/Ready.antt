@@ -28,11 +28,13 @@ use Rattle.ember_chain.proofs.ClearCorners.{off_face_is_clear}
 use Rattle.ember_chain.proofs.EdgeForm.{outline_weights}
 
 -- ---- lists and axes
-all_of : {X : Type 0} (P : X → Type 0) (xs : List X) → ((x : X) → P x) → AllByRecursion P xs
+-- what holds of everything holds of each member
+pub all_of : {X : Type 0} (P : X → Type 0) (xs : List X) → ((x : X) → P x) → AllByRecursion P xs
 all_of P [] f = tt
 all_of P (x ∷ xs) f = (f x, all_of P xs f)
 
-each_axis : {P : Axis → ℕ → Type 0} → ((a : Axis) → Eventually (P a)) → Eventually (λ m. (a : Axis) → P a m)
+-- what holds eventually for each axis holds eventually for all of them at once
+pub each_axis : {P : Axis → ℕ → Type 0} → ((a : Axis) → Eventually (P a)) → Eventually (λ m. (a : Axis) → P a m)
 each_axis {P} f = eventually_map (λ m h. by m h.0 h.1.0 h.1.1) (eventually_both (f X) (eventually_both (f Y) (f Z)))
   where
     by : (m : ℕ) → P X m → P Y m → P Z m → (a : Axis) → P a m

@@ -4,4 +4,6 @@
 
 mod law;
 
-pub use law::{agreeing_faces_are_closed, agreeing_faces_have_paired_pieces};
+pub use law::{
+    agreeing_faces_are_closed, agreeing_faces_have_paired_pieces, outlined_faces_are_missed_nearby,
+};

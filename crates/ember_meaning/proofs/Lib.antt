@@ -26,3 +26,5 @@ pub mod GeneralLines
 pub mod ClearMeaning
 pub mod SameFaces
 pub mod ReadFaces
+pub mod Nearby
+pub mod SameWritten

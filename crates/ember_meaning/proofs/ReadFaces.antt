@@ -100,6 +100,7 @@ document_reads scene count x ks bytes v w o d =
     record {
       faces = map face_from s.written;
       read = record { written = s.written; well_formed = s.well_formed; is = d.is ∙ (λ i. header ++ (s.is i ++ ending (s.count i))); faces = refl };
+      outlined = s.outlined;
       meaning = m;
       closed = closed_faces scene s.written s.outlined (axes_agree scene x (map face_from s.written) m);
     }
