@@ -7,8 +7,6 @@ mod nearness;
 mod sight;
 mod spans;
 mod sums;
-#[cfg(test)]
-mod tests;
 
 pub use cell::{Cell, halves, root};
 pub use nearness::{near, near_halves, near_list, near_tri};

@@ -27,6 +27,3 @@ pub type OutOfMemory = AllocError;
 /// A call to the outside failed.
 #[derive(Clone, Copy, Debug, PartialEq, Eq)]
 pub struct Failed;
-
-#[cfg(test)]
-mod tests;

@@ -14,6 +14,3 @@ mod wall;
 
 pub use kept::{Kept, KeptList};
 pub use leaf::leaf_faces;
-
-#[cfg(test)]
-mod tests;

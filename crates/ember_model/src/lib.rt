@@ -11,8 +11,6 @@ mod rays;
 mod scene;
 mod sides;
 mod steps;
-#[cfg(test)]
-mod tests;
 mod tri;
 mod values;
 mod vector;

@@ -11,6 +11,3 @@ pub use corner::Meet;
 pub use lowest::reduce;
 pub use meeting::meet;
 pub use value::{side, slide};
-
-#[cfg(test)]
-mod tests;

@@ -15,6 +15,3 @@ pub use cutting::{clip, cut, parts};
 pub use meeting::{meets, meets_face};
 pub use reaching::reach;
 pub use ring::{Ring, copy, corners, edges, main_edges, of_tri, outline, support};
-
-#[cfg(test)]
-mod tests;

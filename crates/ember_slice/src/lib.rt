@@ -8,8 +8,6 @@ mod law;
 mod line;
 mod narrow;
 mod span;
-#[cfg(test)]
-mod tests;
 mod text;
 
 pub use ends::Segment;

@@ -16,6 +16,3 @@ pub use near::facets;
 pub use pair::Sides;
 pub use sides::{sides_beside, sides_traced};
 pub use whole::{sides_by_rays, sides_whole};
-
-#[cfg(test)]
-mod tests;

@@ -9,8 +9,6 @@ mod owners;
 mod pool;
 mod rule;
 mod seat;
-#[cfg(test)]
-mod tests;
 mod tree;
 mod turns;
 

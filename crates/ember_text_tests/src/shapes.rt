@@ -1,0 +1,48 @@
+// Triangles and planes of the tests.
+use ember_model::{Corner, Plane, Tri};
+
+pub const O: Corner = Corner { x: 0, y: 0, z: 0 };
+
+pub const X: Corner = Corner { x: 1, y: 0, z: 0 };
+
+pub const Y: Corner = Corner { x: 0, y: 1, z: 0 };
+
+pub const Z: Corner = Corner { x: 0, y: 0, z: 1 };
+
+/// The triangles of the tetrahedron with the corners 0 and the unit points, outward.
+pub const TETRA: [Tri; 4] = [
+    Tri {
+        a: O,
+        b: Y,
+        c: X,
+        mesh: 1,
+    },
+    Tri {
+        a: O,
+        b: X,
+        c: Z,
+        mesh: 1,
+    },
+    Tri {
+        a: O,
+        b: Z,
+        c: Y,
+        mesh: 1,
+    },
+    Tri {
+        a: X,
+        b: Y,
+        c: Z,
+        mesh: 1,
+    },
+];
+
+/// The plane with this normal and constant.
+pub fn plane(numbers: [i64; 4]) -> Plane {
+    Plane {
+        a: numbers[0],
+        b: numbers[1],
+        c: numbers[2],
+        d: numbers[3],
+    }
+}
