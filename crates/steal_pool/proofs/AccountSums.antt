@@ -55,7 +55,8 @@ each_finished_back visited answers w ts n ss vs rest count len each done =
     subst (EachFinished visited answers w ts ss) (sym back) (each_finished visited answers w ts ss vs len each (subst (All (λ s. s.done ≡ true)) back done))
 
 -- the accounts of all workers
-pub each_sums : {P K I : Type 0} (visited : Job → Type 0) (answers : Job → I → Type 0) (w : Weight) (ts : List (Stealer Job Global HandleView P)) (ss vs : List (WorkerState K I)) (h : Entry → ℕ) (g : ℕ → ℕ) → EachFinished visited answers w ts ss vs → all_held w h g vs + all_received w h g ss ≡ all_held w h g ss + all_received w h g vs
+pub each_sums : {P K I : Type 0} (visited : Job → Type 0) (answers : Job → I → Type 0) (w : Weight) (ts : List (Stealer Job Global HandleView P)) (ss vs : List (WorkerState K I)) (h : Entry → ℕ) (g : ℕ → ℕ) → EachFinished visited answers w ts ss vs
+    → all_held w h g vs + all_received w h g ss ≡ all_held w h g ss + all_received w h g vs
 each_sums visited answers w ts [] [] h g e = refl
 each_sums visited answers w ts [] (v ∷ vs) h g e = absurd e
 each_sums visited answers w ts (s ∷ ss) [] h g e = absurd e

@@ -91,7 +91,8 @@ module _ (P : Job → Type 0) where
       )
 
   -- a pass has taken xs
-  took : (port : ℕ) (v : HandleView) (xs items rest : List Job) (views : List HandleView) → (k : JobsConserved P items views) → get_elem? views port ≡ some v → All P rest → ((h : Job → ℕ) → weigh h items ≡ weigh h xs + weigh h rest) → (v.owns ≡ false → 0 < v.lent) → JobsConserved P rest (set views port (handle v.owns v.lent v.pushed (v.taken ++ xs)))
+  took : (port : ℕ) (v : HandleView) (xs items rest : List Job) (views : List HandleView) → (k : JobsConserved P items views) → get_elem? views port ≡ some v → All P rest → ((h : Job → ℕ) → weigh h items ≡ weigh h xs + weigh h rest)
+      → (v.owns ≡ false → 0 < v.lent) → JobsConserved P rest (set views port (handle v.owns v.lent v.pushed (v.taken ++ xs)))
   took port v xs items rest views k at all split out =
       let w : HandleView = handle v.owns v.lent v.pushed (v.taken ++ xs) in record {
         owner = k.owner;

@@ -28,7 +28,8 @@ module _ {P : Type 0} where
   lending_at m (suc i) (t ∷ ts) [] ps o e l = absurd e
   lending_at m (suc i) (t ∷ ts) (x ∷ os) [] o e l = absurd e
 
-  pub lending_step : (m i : ℕ) (ts : List (Stealer Job Global HandleView P)) (os : List (Worker Job Global HandleView P)) (ps : List (Pass Job HandleView Global)) (d o : Worker Job Global HandleView P) (p : Pass Job HandleView Global) → Lending m i ts os ps → i < length os → worker_deque o ≡ worker_deque (get_or os i d) → Fresh (m + 1) (worker_view o) → IsPassOf (worker_deque (get_or os i d)) p → view p ≡ new_pass → Lending m (suc i) ts (set os i o) (ps ++ p ∷ [])
+  pub lending_step : (m i : ℕ) (ts : List (Stealer Job Global HandleView P)) (os : List (Worker Job Global HandleView P)) (ps : List (Pass Job HandleView Global)) (d o : Worker Job Global HandleView P) (p : Pass Job HandleView Global) → Lending m i ts os ps
+      → i < length os → worker_deque o ≡ worker_deque (get_or os i d) → Fresh (m + 1) (worker_view o) → IsPassOf (worker_deque (get_or os i d)) p → view p ≡ new_pass → Lending m (suc i) ts (set os i o) (ps ++ p ∷ [])
   lending_step m zero [] [] [] d o p e l same now pass new = absurd (omega arith)
   lending_step m zero [] (x ∷ os) [] d o p e l same now pass new = absurd e
   lending_step m zero (t ∷ ts) [] [] d o p e l same now pass new = absurd e
@@ -60,7 +61,8 @@ module _ {P : Type 0} where
   abbrev Next : ℕ → Worker Job Global HandleView P → Pass Job HandleView Global → Type 0
   Next m o p = IsPassOf (worker_deque o) p × ((view p).lent ≡ 1) × Lent (m + 1) (worker_view o)
 
-  pub absorbing_at : (m i : ℕ) (ts : List (Stealer Job Global HandleView P)) (os : List (Worker Job Global HandleView P)) (p : Pass Job HandleView Global) (ps : List (Pass Job HandleView Global)) (d : Worker Job Global HandleView P) → Absorbing m i ts os (p ∷ ps) → i < length os → Next m (get_or os i d) p
+  pub absorbing_at : (m i : ℕ) (ts : List (Stealer Job Global HandleView P)) (os : List (Worker Job Global HandleView P)) (p : Pass Job HandleView Global) (ps : List (Pass Job HandleView Global)) (d : Worker Job Global HandleView P)
+      → Absorbing m i ts os (p ∷ ps) → i < length os → Next m (get_or os i d) p
   absorbing_at m zero [] [] p ps d e l = absurd (omega arith)
   absorbing_at m zero [] (x ∷ os) p ps d e l = absurd e.0
   absorbing_at m zero (t ∷ ts) [] p ps d e l = absurd e.0
@@ -69,7 +71,8 @@ module _ {P : Type 0} where
   absorbing_at m (suc i) [] os p ps d e l = absurd e
   absorbing_at m (suc i) (t ∷ ts) [] p ps d e l = absurd e
 
-  pub absorbing_step : (m i : ℕ) (ts : List (Stealer Job Global HandleView P)) (os : List (Worker Job Global HandleView P)) (p : Pass Job HandleView Global) (ps : List (Pass Job HandleView Global)) (d o : Worker Job Global HandleView P) → Absorbing m i ts os (p ∷ ps) → i < length os → worker_deque o ≡ worker_deque (get_or os i d) → Lent m (worker_view o) → Absorbing m (suc i) ts (set os i o) ps
+  pub absorbing_step : (m i : ℕ) (ts : List (Stealer Job Global HandleView P)) (os : List (Worker Job Global HandleView P)) (p : Pass Job HandleView Global) (ps : List (Pass Job HandleView Global)) (d o : Worker Job Global HandleView P)
+      → Absorbing m i ts os (p ∷ ps) → i < length os → worker_deque o ≡ worker_deque (get_or os i d) → Lent m (worker_view o) → Absorbing m (suc i) ts (set os i o) ps
   absorbing_step m zero [] [] p ps d o e l same now = absurd (omega arith)
   absorbing_step m zero [] (x ∷ os) p ps d o e l same now = absurd e.0
   absorbing_step m zero (t ∷ ts) [] p ps d o e l same now = absurd e.0
@@ -112,7 +115,8 @@ set_length (y ∷ xs) zero x = refl
 set_length (y ∷ xs) (suc i) x = ap suc (set_length xs i x)
 
 -- one owner more has made a pass
-pub lending_next : {P : Type 0} (m i : ℕ) (ts : List (Stealer Job Global HandleView P)) (os : List (Worker Job Global HandleView P)) (ps qs : List (Pass Job HandleView Global)) (d o : Worker Job Global HandleView P) (p : Pass Job HandleView Global) → Lending m i ts os ps → i < length os → Lends (get_or os i d) o p → qs ≡ ps ++ p ∷ [] → Lending m (i + 1) ts (set os i o) qs
+pub lending_next : {P : Type 0} (m i : ℕ) (ts : List (Stealer Job Global HandleView P)) (os : List (Worker Job Global HandleView P)) (ps qs : List (Pass Job HandleView Global)) (d o : Worker Job Global HandleView P) (p : Pass Job HandleView Global)
+    → Lending m i ts os ps → i < length os → Lends (get_or os i d) o p → qs ≡ ps ++ p ∷ [] → Lending m (i + 1) ts (set os i o) qs
 lending_next m i ts os ps qs d o p e l new is =
     subst (λ k. Lending m k ts (set os i o) qs) next (subst (λ rs. Lending m (suc i) ts (set os i o) rs) (sym is) (lending_step m i ts os ps d o p e l new.deque now new.of_deque new.pass_is))
   where
@@ -123,7 +127,8 @@ lending_next m i ts os ps qs d o p e l new is =
     now = new.view_is ∙ ap with_one_lent (lending_at m i ts os ps d e l)
 
 -- one owner more has taken in a pass
-pub absorbing_next : {P : Type 0} (m i : ℕ) (ts : List (Stealer Job Global HandleView P)) (os : List (Worker Job Global HandleView P)) (p : Pass Job HandleView Global) (qs ps : List (Pass Job HandleView Global)) (d o : Worker Job Global HandleView P) → Absorbing m i ts os qs → qs ≡ p ∷ ps → i < length os → worker_deque o ≡ worker_deque (get_or os i d) → worker_view o ≡ with_returned (worker_view (get_or os i d)) (view p) → Absorbing m (i + 1) ts (set os i o) ps
+pub absorbing_next : {P : Type 0} (m i : ℕ) (ts : List (Stealer Job Global HandleView P)) (os : List (Worker Job Global HandleView P)) (p : Pass Job HandleView Global) (qs ps : List (Pass Job HandleView Global)) (d o : Worker Job Global HandleView P)
+    → Absorbing m i ts os qs → qs ≡ p ∷ ps → i < length os → worker_deque o ≡ worker_deque (get_or os i d) → worker_view o ≡ with_returned (worker_view (get_or os i d)) (view p) → Absorbing m (i + 1) ts (set os i o) ps
 absorbing_next m i ts os p qs ps d o e is l same now =
     subst (λ k. Absorbing m k ts (set os i o) ps) next (absorbing_step m i ts os p ps d o here l same (ap (λ (v : HandleView). v.owns) now ∙ at.2.0, omega (arith, ap (λ (v : HandleView). v.lent) now, at.1, at.2.1)))
   where
@@ -136,11 +141,14 @@ absorbing_next m i ts os p qs ps d o e is l same now =
     at : Next m (get_or os i d) p
     at = absorbing_at m i ts os p ps d here l
 
-pub absorbing_now : {P : Type 0} (m i : ℕ) (ts : List (Stealer Job Global HandleView P)) (os : List (Worker Job Global HandleView P)) (p : Pass Job HandleView Global) (qs ps : List (Pass Job HandleView Global)) (d : Worker Job Global HandleView P) → Absorbing m i ts os qs → qs ≡ p ∷ ps → i < length os → Next m (get_or os i d) p
+pub absorbing_now : {P : Type 0} (m i : ℕ) (ts : List (Stealer Job Global HandleView P)) (os : List (Worker Job Global HandleView P)) (p : Pass Job HandleView Global) (qs ps : List (Pass Job HandleView Global)) (d : Worker Job Global HandleView P)
+    → Absorbing m i ts os qs → qs ≡ p ∷ ps → i < length os → Next m (get_or os i d) p
 absorbing_now m i ts os p qs ps d e is l = absorbing_at m i ts os p ps d (subst (λ rs. Absorbing m i ts os rs) is e) l
 
-pub absorbed_pushed : {P : Type 0} (h : Job → ℕ) (os : List (Worker Job Global HandleView P)) (i n : ℕ) (p : Pass Job HandleView Global) (d o : Worker Job Global HandleView P) → i < length os → worker_view o ≡ with_returned (worker_view (get_or os i d)) (view p) → all_pushed h os ≡ n → all_pushed h (set os i o) ≡ n
+pub absorbed_pushed : {P : Type 0} (h : Job → ℕ) (os : List (Worker Job Global HandleView P)) (i n : ℕ) (p : Pass Job HandleView Global) (d o : Worker Job Global HandleView P) → i < length os
+    → worker_view o ≡ with_returned (worker_view (get_or os i d)) (view p) → all_pushed h os ≡ n → all_pushed h (set os i o) ≡ n
 absorbed_pushed h os i n p d o l now e = omega (arith, e, pushed_set h os i d o l, ap (λ (v : HandleView). weigh h v.pushed) now)
 
-pub absorbed_popped : {P : Type 0} (h : Job → ℕ) (os : List (Worker Job Global HandleView P)) (i n : ℕ) (p : Pass Job HandleView Global) (qs ps : List (Pass Job HandleView Global)) (d o : Worker Job Global HandleView P) → i < length os → worker_view o ≡ with_returned (worker_view (get_or os i d)) (view p) → qs ≡ p ∷ ps → all_popped h os + all_taken h qs ≡ n → all_popped h (set os i o) + all_taken h ps ≡ n
+pub absorbed_popped : {P : Type 0} (h : Job → ℕ) (os : List (Worker Job Global HandleView P)) (i n : ℕ) (p : Pass Job HandleView Global) (qs ps : List (Pass Job HandleView Global)) (d o : Worker Job Global HandleView P) → i < length os
+    → worker_view o ≡ with_returned (worker_view (get_or os i d)) (view p) → qs ≡ p ∷ ps → all_popped h os + all_taken h qs ≡ n → all_popped h (set os i o) + all_taken h ps ≡ n
 absorbed_popped h os i n p qs ps d o l now is e = omega (arith, e, popped_set h os i d o l, ap (λ (v : HandleView). weigh h v.taken) now, weigh_append h (worker_view (get_or os i d)).taken (view p).taken, ap (all_taken h) is)

@@ -17,7 +17,8 @@ module _ {P : Type 0} where
   each_length (t ∷ ts) [] e = absurd e
   each_length (t ∷ ts) (p ∷ ps) e = ap suc (each_length ts ps e.1)
 
-  pub each_at : (ts : List (Stealer Job Global HandleView P)) (ps : List (Pass Job HandleView Global)) (i : ℕ) (t : Stealer Job Global HandleView P) (p : Pass Job HandleView Global) → EachPass ts ps → i < length ps → IsPassOf (stealer_deque (get_or ts i t)) (get_or ps i p) × ((view (get_or ps i p)).lent ≡ 1)
+  pub each_at : (ts : List (Stealer Job Global HandleView P)) (ps : List (Pass Job HandleView Global)) (i : ℕ) (t : Stealer Job Global HandleView P) (p : Pass Job HandleView Global) → EachPass ts ps → i < length ps
+      → IsPassOf (stealer_deque (get_or ts i t)) (get_or ps i p) × ((view (get_or ps i p)).lent ≡ 1)
   each_at [] [] i t p e h = absurd (omega arith)
   each_at [] (q ∷ ps) i t p e h = absurd e
   each_at (u ∷ ts) [] i t p e h = absurd e

@@ -129,7 +129,9 @@ within_append lo mid hi (x ∷ xs) ys a b = (a.0, a.1, within_append (base x + 1
 module _ (shape : Job → Shape) (valid : Job → Type 0) where
   -- the leaves of a job stand within its place
   pub leaves_within : (d : ℕ) (j : Job) → left j.cell ≡ d → Splits shape valid → valid j → Fits j → (s : Shape) → shape j ≡ s → Within (base j) (base j + 2 ^ left j.cell) (leaves_among shape (visited shape j))
-  leaves_within d j at h v f leafed is = subst (λ js. Within (base j) (base j + 2 ^ left j.cell) (leaves_among shape js)) (sym (leaf_visits shape (left j.cell) j is)) (subst (λ s. Within (base j) (base j + 2 ^ left j.cell) (if_leafed j s ++ [])) (sym is) (omega arith, f, omega (arith, pow_pos (left j.cell))))
+  leaves_within d j at h v f leafed is =
+      subst (λ js. Within (base j) (base j + 2 ^ left j.cell) (leaves_among shape js)) (sym (leaf_visits shape (left j.cell) j is))
+      (subst (λ s. Within (base j) (base j + 2 ^ left j.cell) (if_leafed j s ++ [])) (sym is) (omega arith, f, omega (arith, pow_pos (left j.cell))))
   leaves_within d j at h v f passed is = subst (λ js. Within (base j) (base j + 2 ^ left j.cell) (leaves_among shape js)) (sym (passed_visits shape (left j.cell) j is)) (subst (λ s. Within (base j) (base j + 2 ^ left j.cell) (if_leafed j s ++ [])) (sym is) (omega arith))
   leaves_within zero j at h v f (halved l r) is = absurd (omega (arith, at, low_less j.cell l.cell r.cell (h j l r v is).1))
   leaves_within (suc d) j at h v f (halved l r) is =

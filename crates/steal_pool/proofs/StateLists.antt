@@ -15,7 +15,8 @@ use Rattle.steal_pool.specs.Steps.{Weight}
 use Rattle.steal_pool.specs.Workers.{EachFinished}
 use Rattle.steal_pool.specs.States.{EachState, MakingStates, TakingStates, MayLeave}
 
-pub each_owner_snoc : {P : Type 0} (Q : HandleView → Type 0) (ts : List (Stealer Job Global HandleView P)) (os : List (Worker Job Global HandleView P)) (t : Stealer Job Global HandleView P) (o : Worker Job Global HandleView P) → EachOwner Q ts os → stealer_deque t ≡ worker_deque o → Q (worker_view o) → EachOwner Q (ts ++ t ∷ []) (os ++ o ∷ [])
+pub each_owner_snoc : {P : Type 0} (Q : HandleView → Type 0) (ts : List (Stealer Job Global HandleView P)) (os : List (Worker Job Global HandleView P)) (t : Stealer Job Global HandleView P) (o : Worker Job Global HandleView P) → EachOwner Q ts os
+    → stealer_deque t ≡ worker_deque o → Q (worker_view o) → EachOwner Q (ts ++ t ∷ []) (os ++ o ∷ [])
 each_owner_snoc Q [] [] t o e same now = ((sym same, now), tt)
 each_owner_snoc Q [] (x ∷ os) t o e same now = absurd e
 each_owner_snoc Q (y ∷ ts) [] t o e same now = absurd e
@@ -30,7 +31,8 @@ module _ {K I : Type 0} (Q : HandleView → Type 0) where
   making_at [] (s ∷ ss) qs os o e is = absurd e
   making_at (t ∷ ts) (s ∷ ss) qs os o e is = making_at ts ss qs os o e.1 is
 
-  pub making_next : (ts : List (Stealer Job Global HandleView (JobProtocol K))) (ss : List (WorkerState K I)) (qs os : List (Worker Job Global HandleView (JobProtocol K))) (o : Worker Job Global HandleView (JobProtocol K)) (s : WorkerState K I) → MakingStates Q ts ss qs → qs ≡ o ∷ os → worker_deque s.owner ≡ worker_deque o → Q (worker_view s.owner) → MakingStates Q ts (ss ++ s ∷ []) os
+  pub making_next : (ts : List (Stealer Job Global HandleView (JobProtocol K))) (ss : List (WorkerState K I)) (qs os : List (Worker Job Global HandleView (JobProtocol K))) (o : Worker Job Global HandleView (JobProtocol K)) (s : WorkerState K I)
+      → MakingStates Q ts ss qs → qs ≡ o ∷ os → worker_deque s.owner ≡ worker_deque o → Q (worker_view s.owner) → MakingStates Q ts (ss ++ s ∷ []) os
   making_next ts [] qs os o s e is same now = here ts (subst (λ rs. EachOwner Q ts rs) is e) where
     here : (ts : List (Stealer Job Global HandleView (JobProtocol K))) → EachOwner Q ts (o ∷ os) → MakingStates Q ts (s ∷ []) os
     here [] e = absurd e
@@ -99,7 +101,8 @@ root_given Q ts qs ss vs s v e is same there = subst (λ xs. EachState Q ts xs) 
 fresh_lent : (m : ℕ) (v w : HandleView) → Fresh m v → w.owns ≡ true → w.lent ≡ v.lent → Lent m w
 fresh_lent m v w e owns lent = (owns, lent ∙ ap (λ (u : HandleView). u.lent) e)
 
-pub finished_states : {K I : Type 0} (visited : Job → Type 0) (answers : Job → I → Type 0) (w : Weight) (m : ℕ) (all ts : List (Stealer Job Global HandleView (JobProtocol K))) (ss vs : List (WorkerState K I)) → EachState (Fresh m) ts ss → EachFinished visited answers w all ss vs → EachState (Lent m) ts vs
+pub finished_states : {K I : Type 0} (visited : Job → Type 0) (answers : Job → I → Type 0) (w : Weight) (m : ℕ) (all ts : List (Stealer Job Global HandleView (JobProtocol K))) (ss vs : List (WorkerState K I)) → EachState (Fresh m) ts ss
+    → EachFinished visited answers w all ss vs → EachState (Lent m) ts vs
 finished_states visited answers w m all [] [] [] e r = tt
 finished_states visited answers w m all [] [] (v ∷ vs) e r = absurd r
 finished_states visited answers w m all [] (s ∷ ss) vs e r = absurd e
@@ -124,5 +127,6 @@ finished_length visited answers w all (s ∷ ss) [] r = absurd r
 finished_length visited answers w all (s ∷ ss) (v ∷ vs) r = ap suc (finished_length visited answers w all ss vs r.1)
 
 -- the first of states that may be taken apart
-pub may_leave_first : {P K I : Type 0} (visited : Job → Type 0) (answers : Job → I → Type 0) (ts : List (Stealer Job Global HandleView P)) (zs xs : List (WorkerState K I)) (x : WorkerState K I) → All (MayLeave visited answers ts) zs → zs ≡ x ∷ xs → MayLeave visited answers ts x × All (MayLeave visited answers ts) xs
+pub may_leave_first : {P K I : Type 0} (visited : Job → Type 0) (answers : Job → I → Type 0) (ts : List (Stealer Job Global HandleView P)) (zs xs : List (WorkerState K I)) (x : WorkerState K I) → All (MayLeave visited answers ts) zs → zs ≡ x ∷ xs
+    → MayLeave visited answers ts x × All (MayLeave visited answers ts) xs
 may_leave_first visited answers ts zs xs x a e = (All_head (MayLeave visited answers ts) zs xs x a e, All_tail (MayLeave visited answers ts) zs xs x a e)

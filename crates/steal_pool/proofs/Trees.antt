@@ -1,6 +1,7 @@
--- A stored step tells of each visited job, and what is gathered over the tree keeps the rules of journals.
+-- A stored step runs at each visited job, and what is gathered over the tree keeps the rules of journals.
 use Rattle.std.proofs.Common.{Result, Ok, Err, IfOk, ◌≡◌, ℕ, zero, suc, ◌+◌, ◌*◌, ◌<◌, ◌≤◌, List, [], ◌∷◌, ◌++◌, length, map, All, refl, sym, ap, ap₂, ◌∙◌, subst, inl, inr, arith}
 use Rattle.std.proofs.lemmas.Bool.Decides.{eqb_tells}
+use Rattle.std.specs.Borrow.{Bor}
 use Rattle.std.specs.declared.alloc.AllocError.{AllocError}
 use Rattle.ember_box.specs.Boxes.{Cell, left}
 use Rattle.ember_box.proofs.Splits.{left_less}
@@ -12,11 +13,11 @@ use Rattle.ember_job.specs.declared.job.Kind.{Kind}
 use Rattle.ember_job.specs.declared.job.Kind.TheVariants.{Halved, Leafed, Passed}
 use Rattle.ember_job.specs.declared.job.Outcome.{Outcome}
 use Rattle.ember_job.specs.declared.job.Outcome.TheVariants.{Halves, Leaf, Skipped}
-use Rattle.ember_job.specs.Works.{Shape, halved, leafed, passed, IsSplit, Splits, Answers}
+use Rattle.ember_job.specs.Works.{Shape, halved, leafed, passed, IsSplit, Splits, Answers, AnswersAll}
 use Rattle.ember_job.specs.Visited.{IsVisited, root_visited, left_visited, right_visited, entry, kind_of, entry_of, visited, if_leafed, leaves_among}
 use Rattle.ember_job.proofs.Leaves.{halved_visits, leaf_visits, passed_visits}
 use Rattle.ember_tree.specs.declared.part.Part.{Part}
-use Rattle.steal_pool.specs.Steps.{OutcomeFits, IsPart, by_path, at_job, at_entry, at_left, at_halves, if_halved}
+use Rattle.steal_pool.specs.Steps.{RunsVisited, OutcomeFits, IsPart, by_path, at_job, at_entry, at_left, at_halves, if_halved}
 use Rattle.steal_pool.specs.RunJournals.{KeepsLeft, KeepsBoth, Begins, EachKeeps, RunJournals}
 use Rattle.steal_pool.specs.Journals.{times, times_halved, if_halved_at, journal_of, KeepRules, AnswersLeaf, AreParts, leaf_weight, box_weight, tree_weight}
 use Rattle.steal_pool.proofs.DequeSteps.{weigh_append}
@@ -73,9 +74,19 @@ module _ (shape : Job → Shape) where
     outcome_fits s j (Leaf it) w v e = ((e.0, e.1), λ h g. omega (arith, ap (weigh (box_weight shape h g)) (leaf_visits shape (left j.cell) j e.0), box_weighs h g j leafed e.0))
     outcome_fits s j Skipped w v e = λ h g. omega (arith, ap (weigh (box_weight shape h g)) (passed_visits shape (left j.cell) j e), box_weighs h g j passed e)
 
-    pub outcome_fits_if_ok : Splits shape valid → (j : Job) (r : Result (Outcome I) AllocError) → IsVisited shape root j → valid j → IfOk r (λ o. Answers shape item j o) → IfOk r (λ o. OutcomeFits (IsVisited shape root) (AnswersLeaf shape item) (tree_weight shape) j o)
+    outcome_fits_if_ok : Splits shape valid → (j : Job) (r : Result (Outcome I) AllocError) → IsVisited shape root j → valid j → IfOk r (λ o. Answers shape item j o) → IfOk r (λ o. OutcomeFits (IsVisited shape root) (AnswersLeaf shape item) (tree_weight shape) j o)
     outcome_fits_if_ok s j (Ok o) w v e = outcome_fits s j o w v e
     outcome_fits_if_ok s j (Err x) w v e = e
+
+-- a stored step may run at each visited box, and its outcome fits it
+pub runs_visited : {W I F : Type 0} (valid : W → Job → Type 0) (shape : W → Job → Shape) (item : W → Job → I → Type 0) (pre : F → Bor Job → Type 0) (post : F → Bor Job → Result (Outcome I) AllocError → Type 0) (work : W) (call : F) (root : Job)
+    → Splits (shape work) (valid work) → valid work root → AnswersAll valid shape item pre post work call → RunsVisited (IsVisited (shape work) root) (AnswersLeaf (shape work) (item work)) (tree_weight (shape work)) pre post call
+runs_visited valid shape item pre post work call root s v step = record {
+  may_run = λ p w. step.runs p (visited_valid (shape work) (item work) (valid work) root s v p.now w);
+  fits = λ p r w done.
+      let at = visited_valid (shape work) (item work) (valid work) root s v p.now w in
+      outcome_fits_if_ok (shape work) (item work) (valid work) root s p.now r w at (step.tells p r at done);
+}
 
 -- a sum of nothing
 no_weight : {X : Type 0} (h : X → ℕ) → ((x : X) → h x ≡ 0) → (xs : List X) → weigh h xs ≡ 0
@@ -103,7 +114,8 @@ keeps_left : (path : ℕ) (j : List Entry) → KeepsLeft j → 0 < times_halved 
 keeps_left path j keeps some = omega (arith, keeps (one (2 * path)), some, more_weight (if_halved_at path) (at_left (one (2 * path))) (λ e. halved_more e.kind (one path e.path) (one (2 * path) (2 * e.path)) (one_double path e.path)) j)
 
 keeps_right : (path : ℕ) (j : List Entry) → KeepsBoth j → 0 < times_halved path j → 0 < times (2 * path + 1) j
-keeps_right path j keeps some = omega (arith, keeps (one (2 * path + 1)), some, more_weight (if_halved_at path) (at_halves (one (2 * path + 1))) (λ e. halved_more e.kind (one path e.path) (one (2 * path + 1) (2 * e.path) + one (2 * path + 1) (2 * e.path + 1)) (omega (arith, one_next path e.path))) j)
+keeps_right path j keeps some =
+    omega (arith, keeps (one (2 * path + 1)), some, more_weight (if_halved_at path) (at_halves (one (2 * path + 1))) (λ e. halved_more e.kind (one path e.path) (one (2 * path + 1) (2 * e.path) + one (2 * path + 1) (2 * e.path + 1)) (omega (arith, one_next path e.path))) j)
 
 both_left : (j : List Entry) → KeepsBoth j → KeepsLeft j
 both_left j both h = omega (arith, both h, more_weight (at_left h) (at_halves h) (λ e. halved_more e.kind (h (2 * e.path)) (h (2 * e.path) + h (2 * e.path + 1)) (omega arith)) j)

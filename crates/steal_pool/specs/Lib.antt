@@ -8,3 +8,4 @@ pub mod RunJournals
 pub mod Journals
 pub mod Halving
 pub mod CoreRuns
+pub mod Laws

@@ -1,5 +1,5 @@
 -- What a worker has ended and holds, against what it was given and has taken.
-use Rattle.std.specs.Prelude.{◌≡◌, ℕ, ◌+◌, ◌*◌, ◌≤◌, List, [], ◌∷◌, Result, IfOk, Option, Some, None, MatchOption}
+use Rattle.std.specs.Prelude.{◌≡◌, ℕ, ◌+◌, ◌*◌, ◌≤◌, List, [], ◌∷◌, Result, IfOk, Option, Some, None, MatchOption, Vec}
 use Rattle.std.specs.Borrow.{Bor}
 use Rattle.std.specs.declared.alloc.Global.{Global}
 use Rattle.std.specs.declared.alloc.AllocError.{AllocError}
@@ -116,9 +116,9 @@ abbrev pub StealsOne : (Job → Type 0) → Option Job → List (Pass Job Handle
 StealsOne visited r old new = MatchOption r ((h : Job → ℕ) → all_taken h new ≡ all_taken h old) (λ x. visited x × ((h : Job → ℕ) → all_taken h new ≡ all_taken h old + h x))
 
 -- a job went to the deque or to the hand
-pub record Shares (job : Job) (old new : HandleView) (hand new_hand : List Job) : Type 0 where
+pub record Shares (job : Job) (old new : HandleView) (hand new_hand : Vec Job Global) : Type 0 where
   pub owns : new.owns ≡ old.owns
   pub lent : new.lent ≡ old.lent
   pub taken : new.taken ≡ old.taken
-  pub stays : (h : Job → ℕ) → weigh h hand ≤ weigh h new_hand
-  pub sums : (h : Job → ℕ) → weigh h new_hand + weigh h new.pushed ≡ weigh h hand + weigh h old.pushed + h job
+  pub stays : (h : Job → ℕ) → weigh h hand.items ≤ weigh h new_hand.items
+  pub sums : (h : Job → ℕ) → weigh h new_hand.items + weigh h new.pushed ≡ weigh h hand.items + weigh h old.pushed + h job

@@ -1,5 +1,5 @@
 -- What one worker, and all workers together, hold and have done.
-use Rattle.std.specs.Prelude.{◌≡◌, ℕ, ◌+◌, ◌≤◌, true, List, [], ◌∷◌, All, Option, Some, None, option_to_list}
+use Rattle.std.specs.Prelude.{◌≡◌, ℕ, ◌+◌, ◌<◌, ◌≤◌, true, List, [], ◌∷◌, All, Option, Some, None, Vec, length, slice_index_or, option_to_list}
 use Rattle.std.specs.declared.alloc.Global.{Global}
 use Rattle.crossbeam_deque.specs.Handles.{Pass, worker_deque, worker_view}
 use Rattle.crossbeam_deque.specs.declared.handles.Stealer.{Stealer}
@@ -84,12 +84,19 @@ pub record HasFinished {P K I : Type 0} (visited : Job → Type 0) (answers : Jo
 pub record FinishesIfDone {P K I : Type 0} (visited : Job → Type 0) (answers : Job → I → Type 0) (weight : Weight) (stealers : List (Stealer Job Global HandleView P)) (old new : WorkerState K I) : Type 0 where
   pub finished : new.done ≡ true → HasFinished visited answers weight stealers old new
 
+-- each worker, before and after its run
+abbrev pub EachFinishesIfDone : {P K I : Type 0} → (Job → Type 0) → (Job → I → Type 0) → Weight → List (Stealer Job Global HandleView P) → List (WorkerState K I) → List (WorkerState K I) → Type 0
+EachFinishesIfDone visited answers weight stealers ss vs = (i : ℕ) (d : WorkerState _ _) → i < length ss → FinishesIfDone visited answers weight stealers (slice_index_or ss i d) (slice_index_or vs i d)
+
 -- all workers have finished, one by one
 abbrev pub EachFinished : {P K I : Type 0} → (Job → Type 0) → (Job → I → Type 0) → Weight → List (Stealer Job Global HandleView P) → List (WorkerState K I) → List (WorkerState K I) → Type 0
 EachFinished visited answers weight stealers [] [] = Unit {0}
 EachFinished visited answers weight stealers [] (v ∷ vs) = ⊥
 EachFinished visited answers weight stealers (s ∷ ss) [] = ⊥
 EachFinished visited answers weight stealers (s ∷ ss) (v ∷ vs) = HasFinished visited answers weight stealers s v × EachFinished visited answers weight stealers ss vs
+
+abbrev pub AllFinish : {P K I : Type 0} → (Job → Type 0) → (Job → I → Type 0) → Weight → List (Stealer Job Global HandleView P) → Vec (WorkerState K I) Global → Vec (WorkerState K I) Global → Type 0
+AllFinish visited answers weight stealers old new = EachFinished visited answers weight stealers old.items new.items
 
 -- what all workers together hold, and have received
 abbrev pub all_held : {K I : Type 0} → Weight → (Entry → ℕ) → (ℕ → ℕ) → List (WorkerState K I) → ℕ

@@ -73,7 +73,7 @@ pub fn absorb_each<K: VisitedJobs>(
     requires passes { EachPass stealers.now.items passes.items }
     ensures owners { EachOwner (Lent lent) stealers.now.items owners.new.items }
     ensures pushed { (h : Job → ℕ) → all_pushed h owners.new.items ≡ all_pushed h owners.old.items }
-    ensures popped { (h : _) → all_popped h owners.new.items ≡ all_popped h owners.old.items + all_taken h passes.items }
+    ensures taken { (h : _) → all_popped h owners.new.items ≡ all_popped h owners.old.items + all_taken h passes.items }
 {
     for i in 0..owners.len() {
         let Some(pass) = first_pass(&mut passes) else {

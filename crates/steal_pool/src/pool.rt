@@ -321,7 +321,8 @@ fn run_states<
     })
 }
 
-// The run of a root by 1 or more workers. The work stands among the arguments, since the names of a run are picked from them.
+// The run of a root by 1 or more workers. The work stands among the arguments, since the names of a run are picked
+// from them.
 pub fn run_named<
     R: Threads + Wait + Sync,
     K: VisitedJobs + BoxWeight<I> + Send + Sync,

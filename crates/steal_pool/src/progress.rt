@@ -11,7 +11,8 @@ const WHOLE: u64 = 1 << 36;
 // How often an idle worker looks at all deques before it sleeps.
 const ROUNDS: u32 = 64;
 
-// The first sleep of an idle worker in microseconds. Each is twice as long as the one before, for at most `DOUBLINGS` times.
+// The first sleep of an idle worker in microseconds. Each is twice as long as the one before, for at most `DOUBLINGS`
+// times.
 const FIRST_SLEEP: u64 = 62;
 
 const DOUBLINGS: u32 = 4;

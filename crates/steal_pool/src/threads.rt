@@ -1,7 +1,7 @@
 // All workers at once.
-ghost use Rattle.std.specs.Prelude.{◌≡◌, ◌<◌, ◌≤◌, ℕ, true, OnOk, All, length, slice_index_or};
+ghost use Rattle.std.specs.Prelude.{◌≡◌, true, OnOk, All, length};
 ghost use Rattle.steal_pool.specs.Steps.{RunsVisited};
-ghost use Rattle.steal_pool.specs.Workers.{IsReady, FinishesIfDone, EachFinished};
+ghost use Rattle.steal_pool.specs.Workers.{IsReady, FinishesIfDone, EachFinishesIfDone, AllFinish};
 
 use crate::gate::Gate;
 use crate::names::{BoxWeight, VisitedJobs};
@@ -44,8 +44,8 @@ fn run_worker<
     }
 }
 
-// Runs all workers at once, half of them in a new thread at each step, so that the stack grows as the logarithm of their
-// number. The last one runs in this thread, and first where no thread can be made.
+// Runs all workers at once, half of them in a new thread at each step, so that the stack grows as the logarithm of
+// their number. The last one runs in this thread, and first where no thread can be made.
 fn run_each<
     R: Threads + Wait + Sync,
     K: VisitedJobs + BoxWeight<I> + Send + Sync,
@@ -64,12 +64,13 @@ fn run_each<
     requires call { RunsVisited K.is_visited K.answers K.weight F.pre F.post call.now }
     requires ready { All (IsReady K.is_visited K.answers stealers.now.items) workers.old }
     ensures len { length workers.new ≡ length workers.old }
-    ensures each { (i : ℕ) (d : _) → i < length workers.old → FinishesIfDone K.is_visited K.answers K.weight stealers.now.items (slice_index_or workers.old i d) (slice_index_or workers.new i d) }
+    ensures each { EachFinishesIfDone K.is_visited K.answers K.weight stealers.now.items workers.old workers.new }
 {
-    let one = move |_: usize, worker: &mut WorkerState<K, I>|
-        requires { RunsVisited K.is_visited K.answers K.weight F.pre F.post call.now × IsReady K.is_visited K.answers stealers.now.items worker.now }
-        ensures { FinishesIfDone K.is_visited K.answers K.weight stealers.entry.now.items worker.entry.now worker.exit.now }
-    { run_worker(rt, alloc, call, gate, stealers, progress, worker) };
+    let one = move |_: usize, state: &mut WorkerState<K, I>|
+        requires call { RunsVisited K.is_visited K.answers K.weight F.pre F.post call.now }
+        requires ready { IsReady K.is_visited K.answers stealers.now.items state.now }
+        ensures { FinishesIfDone K.is_visited K.answers K.weight stealers.entry.now.items state.entry.now state.exit.now }
+    { run_worker(rt, alloc, call, gate, stealers, progress, state) };
     thread::for_each_mut(rt, workers, workers.len().max(1), &one);
 }
 
@@ -102,7 +103,7 @@ pub fn run_workers<
 ) -> Result<(), OutOfMemory>
     requires call { RunsVisited K.is_visited K.answers K.weight F.pre F.post call.now }
     requires ready { All (IsReady K.is_visited K.answers stealers.now.items) workers.old.items }
-    ensures { OnOk result (EachFinished K.is_visited K.answers K.weight stealers.now.items workers.old.items workers.new.items) }
+    ensures { OnOk result (AllFinish K.is_visited K.answers K.weight stealers.now.items workers.old workers.new) }
 {
     let progress = Progress::new();
     run_each(rt, alloc, call, gate, stealers, &progress, workers);

@@ -83,7 +83,7 @@ fn share<K: VisitedJobs>(
     requires visited { K.is_visited job × All K.is_visited hand.old.items }
     ensures deque { worker_deque owner.new ≡ worker_deque owner.old }
     ensures visited { OnOk result (All K.is_visited hand.new.items) }
-    ensures shares { OnOk result (Shares job (worker_view owner.old) (worker_view owner.new) hand.old.items hand.new.items) }
+    ensures shares { OnOk result (Shares job (worker_view owner.old) (worker_view owner.new) hand.old hand.new) }
 {
     let Err(job) = push(owner, job) else {
         return Ok(());

@@ -8,7 +8,9 @@ lend-pass-requires g c = rw c.index_mut-owner.ensures.value (ap (λ (v : HandleV
 
 pub loop-i-preserved : goal.loop-i-preserved
 loop-i-preserved g c = record {
-  lending = lending_next c.args.lent c.loop-i.i c.args.stealers.now.items c.loop-i.owners.items c.loop-i.passes.items c.push.new.self.items c.index_mut-owner.result.now c.lend-pass.new.owner c.lend-pass.result c.loop-i.invariant.lending (omega arith) (rw c.index_mut-owner.ensures.value at c.lend-pass.ensures) c.in_ok-push.ensures.items;
+  lending =
+      lending_next c.args.lent c.loop-i.i c.args.stealers.now.items c.loop-i.owners.items c.loop-i.passes.items c.push.new.self.items c.index_mut-owner.result.now
+      c.lend-pass.new.owner c.lend-pass.result c.loop-i.invariant.lending (omega arith) (rw c.index_mut-owner.ensures.value at c.lend-pass.ensures) c.in_ok-push.ensures.items;
   len = set_length c.loop-i.owners.items c.loop-i.i c.lend-pass.new.owner ∙ c.loop-i.invariant.len;
   same = set_length c.loop-i.owners.items c.loop-i.i c.lend-pass.new.owner ∙ c.loop-i.invariant.same;
 }

@@ -14,7 +14,10 @@ pub returns-clause-journals : goal.returns-clause-journals
 returns-clause-journals g c = record {
   ended = journals_of c.run_workers.new.workers.items;
   caller = c.drain_all.new.output.journal.items;
-  is = c.of-2.ensures ∙ journals_are (λ v. v.items) c.in_ok-outputs.outputs.journals.items c.reverse.new.self.items c.push.new.self.items c.drain_all.new.output.journal (journals_of c.run_workers.new.workers.items) c.reverse.ensures.items c.in_ok-push.ensures.items c.in_ok-outputs.ensures.sums.journals;
+  is =
+      c.of-2.ensures ∙
+      journals_are (λ v. v.items) c.in_ok-outputs.outputs.journals.items c.reverse.new.self.items c.push.new.self.items c.drain_all.new.output.journal (journals_of c.run_workers.new.workers.items)
+      c.reverse.ensures.items c.in_ok-push.ensures.items c.in_ok-outputs.ensures.sums.journals;
   stays = each_stays g.K.VisitedJobs.is_visited g.K.BoxWeight.answers g.K.BoxWeight.weight c.args.stealers.now.items c.args.states.items c.run_workers.new.workers.items c.requires.ready c.in_ok-run_workers.ensures;
   both = λ h. omega (arith, c.in_ok-drain_all.ensures.stays h, ap (weigh (at_entry h)) c.new-journal.ensures.items, ap (weigh (at_halves h)) c.new-journal.ensures.items);
   last = omega (arith, c.len-left.ensures);

@@ -1,15 +1,13 @@
 use Rattle.std.proofs.Common.{ap, [], ◌∷◌, ◌++◌}
 use Rattle.ember_box.specs.Boxes.{Cell}
 use Rattle.ember_job.specs.Visited.{root_visited}
-use Rattle.steal_pool.proofs.Trees.{outcome_fits_if_ok, visited_valid, keep_rules, are_parts}
+use Rattle.steal_pool.proofs.Trees.{runs_visited, keep_rules, are_parts}
 use Rattle.steal_pool.proofs.tree.run_alone.Goals as goal
 
 pub run_alone_named-requires-clause-call : goal.run_alone_named-requires-clause-call
 run_alone_named-requires-clause-call g c =
-    let valid = visited_valid (g.W.Work.shape c.args.step.now.work) (g.W.Work.item c.args.step.now.work) (g.W.Work.valid c.args.step.now.work) c.args.root (λ j l r v is. (g.W.Work.halves_valid c.args.step.now.work j l r v is, g.W.Work.halves_split c.args.step.now.work j l r v is)) c.requires.root in record {
-      may_run = λ p w. c.requires.step.runs p (valid p.now w);
-      fits = λ p r w done. outcome_fits_if_ok (g.W.Work.shape c.args.step.now.work) (g.W.Work.item c.args.step.now.work) (g.W.Work.valid c.args.step.now.work) c.args.root (λ j l r v is. (g.W.Work.halves_valid c.args.step.now.work j l r v is, g.W.Work.halves_split c.args.step.now.work j l r v is)) p.now r w (valid p.now w) (c.requires.step.tells p r (valid p.now w) done);
-    }
+    let w = c.args.step.now.work in
+    runs_visited g.W.Work.valid g.W.Work.shape g.W.Work.item _ _ w c.args.step.now.call c.args.root (λ j l r v is. (g.W.Work.halves_valid w j l r v is, g.W.Work.halves_split w j l r v is)) c.requires.root c.requires.step
 
 pub run_alone_named-requires-clause-root : goal.run_alone_named-requires-clause-root
 run_alone_named-requires-clause-root g c = root_visited
