@@ -21,3 +21,4 @@ pub mod Complete
 pub mod OneTexts
 pub mod NoneLoose
 pub mod AcceptedScenes
+pub mod OneSolid

@@ -14,3 +14,4 @@ pub mod Serves
 pub mod Reported
 pub mod Scenes
 pub mod Given
+pub mod OneSolid
