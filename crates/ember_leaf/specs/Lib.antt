@@ -1,3 +1,4 @@
+pub mod Contact
 pub mod Cutters
 pub mod Leaves
 pub mod Lower

@@ -95,12 +95,7 @@ impl Leaf<'_> {
     }
 
     // Adds the written ones of the regions that triangle `i` owns.
-    fn keep(
-        &self,
-        list: Vec<Ring>,
-        i: usize,
-        kept: &mut Vec<Kept>,
-    ) -> Result<(), OutOfMemory>
+    fn keep(&self, list: Vec<Ring>, i: usize, kept: &mut Vec<Kept>) -> Result<(), OutOfMemory>
         requires few { length self.now.near.now ≤ 262144 }
         requires counts { AreBoxCounts self.now.at.now.counts }
         requires place { i < length self.now.near.now }
