@@ -204,7 +204,7 @@ edge_at_most t (suc zero) p v e k = subst (λ (q : Plane). AtMost q v) (no_some 
 edge_at_most t (suc (suc zero)) p v e k = subst (λ (q : Plane). AtMost q v) (no_some e) k.within.1.1.0
 edge_at_most t (suc (suc (suc i))) p v e k = absurd (none_some e)
 
-under_least : {p : Plane} {v : Spot} → Under p v → AtLeast p v → ⊥
+pub under_least : {p : Plane} {v : Spot} → Under p v → AtLeast p v → ⊥
 under_least u l = omega (arith, linear, u.under, l.at_least)
 
 most_over : {p : Plane} {v : Spot} → AtMost p v → Over p v → ⊥

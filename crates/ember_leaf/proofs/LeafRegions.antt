@@ -165,10 +165,11 @@ module _ (c : Cell) (ts : List Tri) (i : ℕ) (list : List Face) (o : AreOwned c
   owned_each = every_all (IsOwner ts i) list (left_have o.owned)
 
 -- each of the triangles can cut the start
-pub all_can : (t : Tri) (ring : Face) (cs : List Cutter) → IsRegionOf t ring → All (IsCutterOf t) cs → All (λ u. CanCut u ring) cs
-all_can t ring cs r h = λ k d l. record { shares = by (get_or cs k d).tri (get_or cs k d).role (h k d l).lies }
+pub all_can : (t : Tri) (ring : Face) (cs : List Cutter) → IsPartOf t ring → All (IsCutterOf t) cs → All (λ u. CanCut u ring) cs
+all_can t ring cs r h =
+    λ k d l. record { shares = by (get_or cs k d).tri (get_or cs k d).role (h k d l).lies; somewhere = r.somewhere }
   where
     by : (u : Tri) (k : Role) → LiesAs k t u → SharesAs k u ring
     by u Across l = tt
-    by u Coplanar l = share_a_plane t u ring r l
-    by u Owner l = share_a_plane t u ring r l
+    by u Coplanar l = share_a_plane t u ring r.plane l
+    by u Owner l = share_a_plane t u ring r.plane l

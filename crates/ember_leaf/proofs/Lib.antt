@@ -1,4 +1,5 @@
 pub mod Apart
+pub mod Contacts
 pub mod Cutting
 pub mod Deciding
 pub mod Keeping

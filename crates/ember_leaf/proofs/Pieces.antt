@@ -155,7 +155,7 @@ pub all_last : (t : Tri) (f : Face) → is_flat t ≡ false → ShareAPlane t f 
 all_last t f n s m =
     record { around = around t; shared = meets_inside t f n s m; within = λ v i us. inside_all t v (s.face v i) (inside_out f v i).weight us }
 
-shares : (c : Cutter) (f : Face) → CanCut c f → c.role ≢ Across → ShareAPlane c.tri f
+pub shares : (c : Cutter) (f : Face) → CanCut c f → c.role ≢ Across → ShareAPlane c.tri f
 shares c f h n = by c.role n h.shares
   where
     by : (k : Role) → (k ≡ Across → ⊥) → SharesAs k c.tri f → ShareAPlane c.tri f

@@ -40,9 +40,8 @@ coplanar_turned t u e =
 pub share_a_plane : (t u : Tri) (f : Face) → IsRegionOf t f → is_coplanar t u ≡ true → ShareAPlane u f
 share_a_plane t u f r e = record { face = on_triangle; triangle = on_face }
   where
-    on_face : (v : Spot) → is_inside (face_of u) v ≡ true → value_at f.support v ≡ pos 0
-    on_face v i =
-        ap (λ (p : Plane). value_at p v) r.support ∙ shared_face t u v e (inside_closed (face_of u) v i)
+    on_face : (v : Spot) → is_in_closed (face_of u) v ≡ true → value_at f.support v ≡ pos 0
+    on_face v i = ap (λ (p : Plane). value_at p v) r.support ∙ shared_face t u v e i
 
     on_triangle : (v : Spot) → is_inside f v ≡ true → value_at (support_of u) v ≡ pos 0
     on_triangle v i =
@@ -96,4 +95,4 @@ module _ (t : Tri) (f : Face) (v u : Spot) (iv : InFace f.support f.edges v) (iu
 pub meets_inside : (t : Tri) (f : Face) → is_flat t ≡ false → ShareAPlane t f → Meets f (face_of t) → Somewhere f (λ v. is_inside (face_of t) v ≡ true)
 meets_inside t f n s m =
     let u = has_inside t n in
-    some_shared t f m.at u.at (inside_out f m.at m.inside) u.inside (s.triangle u.at u.inside) m.holds
+    some_shared t f m.at u.at (inside_out f m.at m.inside) u.inside (s.triangle u.at (inside_closed (face_of t) u.at u.inside)) m.holds

@@ -40,6 +40,18 @@ not_met {b} q e p = by (subst (λ (b : Bool). IsTrue b) e (q.1 p))
     by : IsTrue false → ⊥
     by h = grind arith
 
+pub never : {P : Type 0} → (P → ⊥) → IsTrue false ↔ P
+never n = (λ t. absurd (untrue t), λ p. absurd (n p))
+  where
+    untrue : IsTrue false → ⊥
+    untrue h = grind arith
+
+pub always : {P : Type 0} → P → IsTrue true ↔ P
+always p = (λ t. p, λ q. truth)
+  where
+    truth : IsTrue true
+    truth = search rules
+
 pub met : {b c : Bool} {P : Type 0} → IsTrue b ↔ P → c ≡ b → c ≡ true → P
 met {b} q e h = q.0 (subst IsTrue (sym h ∙ e) truth)
   where

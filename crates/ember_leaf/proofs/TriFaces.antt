@@ -12,7 +12,7 @@ use Rattle.ember_poly.specs.Rings.{Under, Over, AtMost, AtLeast, OnPlane, Inside
 use Rattle.ember_poly.proofs.Hull.{corners_at_most}
 use Rattle.ember_poly.proofs.Reached.{all_below, all_above, all_on, most_opposite, least_from_opposite, some_inside}
 use Rattle.ember_poly.proofs.TriangleRing.{tri_sides, stands}
-use Rattle.ember_poly.proofs.FaceTests.{inside_in, inside_out, closed_out}
+use Rattle.ember_poly.proofs.FaceTests.{inside_in, inside_out, closed_in, closed_out}
 
 -- what holds at the three corners, and what at one of them
 abbrev pub AtCorners : (Spot → Type 0) → Tri → Type 0
@@ -35,6 +35,10 @@ closed_ring t v e =
 pub ring_inside : (t : Tri) (v : Spot) → Inside (support_of t) (tri_sides t) v → is_inside (face_of t) v ≡ true
 unfolding face_of
 ring_inside t v k = inside_in (face_of t) v (record { flat = k.flat; weight = k.weight; within = k.within })
+
+pub ring_closed : (t : Tri) (v : Spot) → Closed (support_of t) (tri_sides t) v → is_in_closed (face_of t) v ≡ true
+unfolding face_of
+ring_closed t v k = closed_in (face_of t) v (record { flat = k.flat; weight = k.weight; within = k.within })
 
 pub has_inside : (t : Tri) → is_flat t ≡ false → Somewhere (face_of t) (λ v. Unit {0})
 has_inside t n =

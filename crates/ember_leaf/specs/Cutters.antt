@@ -15,6 +15,7 @@ use Rattle.ember_box.specs.declared.spans.Spans.{Spans}
 use Rattle.ember_box.specs.Spans.{span_between}
 use Rattle.ember_box.specs.Regions.{Blade, AtBlade}
 use Rattle.ember_poly.specs.Rings.{Under, AtMost}
+use Rattle.ember_poly.specs.Cuts.{HasInside}
 use Rattle.ember_leaf.specs.declared.cutter.Role.{Role}
 use Rattle.ember_leaf.specs.declared.cutter.Role.TheVariants.{Across, Coplanar, Owner}
 use Rattle.ember_leaf.specs.declared.cutter.Cutter.{Cutter}
@@ -97,6 +98,10 @@ AtCutter c f gs = AreLeft (blades_by c) (owners_by c) (f ∷ []) gs
 abbrev pub AreSplit : Cutter → List Face → List Face → Type 0
 AreSplit c fs gs = Each (AtCutter c) fs gs
 
+-- the list has grown by what the triangle leaves of fs
+abbrev pub IsSplitBehind : Cutter → List Face → List Face → List Face → Type 0
+IsSplitBehind c fs old new = (front : List Face) → AreSplit c front old → AreSplit c (front ++ fs) new
+
 -- the triangles, one after another
 abbrev pub AreCut : List Cutter → List Face → List Face → Type 0
 AreCut cs fs gs = Chain AreSplit cs fs gs
@@ -128,7 +133,7 @@ AtEdges c ps f gs = AreLeft (blades_with c.tri ps) (owners_by c) (f ∷ []) gs
 -- the triangle and the face lie in one plane, if the triangle cuts by its edge planes
 pub record ShareAPlane (t : Tri) (f : Face) : Type 0 where
   pub face : (v : Spot) → is_inside f v ≡ true → value_at (support_of t) v ≡ pos 0
-  pub triangle : (v : Spot) → is_inside (face_of t) v ≡ true → value_at f.support v ≡ pos 0
+  pub triangle : (v : Spot) → is_in_closed (face_of t) v ≡ true → value_at f.support v ≡ pos 0
 
 abbrev pub SharesAs : Role → Tri → Face → Type 0
 SharesAs Across t f = Unit {0}
@@ -137,6 +142,7 @@ SharesAs Owner t f = ShareAPlane t f
 
 pub record CanCut (c : Cutter) (f : Face) : Type 0 where
   pub shares : SharesAs c.role c.tri f
+  pub somewhere : HasInside f
 
 -- ---- bounds
 -- x / w lies in the span, and a point in the box

@@ -1,4 +1,6 @@
+pub mod Contact
 pub mod Cutters
+pub mod LeafBoxes
 pub mod Leaves
 pub mod Lower
 pub mod Pairs

@@ -6,8 +6,10 @@ use Rattle.ember_model.specs.Faces.{face_of, Contains}
 use Rattle.ember_model.specs.Owners.{is_coplanar, IsOwner}
 use Rattle.ember_box.specs.declared.spans.Spans.{Spans}
 use Rattle.ember_box.specs.Near.{tri_at}
+use Rattle.ember_box.specs.Regions.{blades_of, blades}
 use Rattle.ember_poly.specs.Cuts.{HasInside}
-use Rattle.ember_leaf.specs.Cutters.{IsBounded}
+use Rattle.ember_leaf.specs.declared.cutter.Cutter.{Cutter}
+use Rattle.ember_leaf.specs.Cutters.{blades_in, owners_in, IsBounded, Sheds, Adds}
 use Rattle.ember_leaf.specs.Pairs.{HasHolder}
 
 -- it stands in the list before place i
@@ -51,3 +53,22 @@ AreFound ts i t b lower false = AreLower ts i t b (length ts) lower
 pub record TellsOwner (lower : List Tri) (ts : List Tri) (i : ℕ) (f : Face) : Type 0 where
   pub free : All (λ u. Contains (face_of u) f → ⊥) lower → IsOwner ts i f
   pub held : HasHolder lower f → IsOwner ts i f → ⊥
+
+-- ---- what is known of the list of triangles that may cut the regions of t, after one more or all
+abbrev pub AddsBladesWithin : Spans → Tri → Tri → List Cutter → List Cutter → Bool → Type 0
+AddsBladesWithin b t u old new covered = covered ≡ false → Adds (IsBounded t b) (blades_of t u) old new
+
+abbrev pub AddsBlades : Tri → Tri → List Cutter → List Cutter → Bool → Type 0
+AddsBlades t u old new covered = covered ≡ false → (b : Spans) → Adds (IsBounded t b) (blades_of t u) old new
+
+abbrev pub AddsOwnersWithin : Spans → Tri → Tri → Bool → List Cutter → List Cutter → Bool → Type 0
+AddsOwnersWithin b t u is_before old new covered = AddsLower t u b is_before (owners_in old) covered (owners_in new)
+
+abbrev pub AddsOwners : Tri → Tri → Bool → List Cutter → List Cutter → Bool → Type 0
+AddsOwners t u is_before old new covered = (b : Spans) → AddsLower t u b is_before (owners_in old) covered (owners_in new)
+
+abbrev pub AreBladesFound : List Tri → ℕ → Tri → Spans → List Cutter → Bool → Type 0
+AreBladesFound ts i t b cs covered = covered ≡ false → Sheds (IsBounded t b) (blades ts i) (blades_in cs)
+
+abbrev pub AreOwnersFound : List Tri → ℕ → Tri → Spans → List Cutter → Bool → Type 0
+AreOwnersFound ts i t b cs covered = AreFound ts i t b (owners_in cs) covered

@@ -2,12 +2,11 @@
 ghost use Rattle.std.specs.Prelude.{◌≡◌, false, true, All, IfOk, OnOk};
 ghost use Rattle.ember_model.specs.Faces.{is_flat};
 ghost use Rattle.ember_model.specs.Owners.{is_coplanar};
-ghost use Rattle.ember_box.specs.declared.spans.Spans.{Spans as Bounds};
-ghost use Rattle.ember_box.specs.Regions.{blades_of, blades};
 ghost use Rattle.ember_box.specs.Near.{tri_at};
-ghost use Rattle.ember_leaf.specs.Cutters.{role_if, blades_in, owners_in, IsAdded, IsBounded, IsCutterOf, Sheds, Adds};
 ghost use Rattle.ember_leaf.specs.Leaves.{tris_of};
-ghost use Rattle.ember_leaf.specs.Lower.{AddsLower, AreFound};
+ghost use Rattle.ember_leaf.specs.Cutters.{role_if, IsAdded, IsCutterOf};
+ghost use Rattle.ember_leaf.specs.Lower.{AddsBlades, AddsOwners};
+ghost use Rattle.ember_leaf.specs.Lower.{AddsBladesWithin, AddsOwnersWithin, AreBladesFound, AreOwnersFound};
 
 use crate::cutter::{Cutter, Role};
 use crate::pairs::{Pair, covers, is_flat, pair_of};
@@ -40,8 +39,8 @@ fn role_of(is_before: bool) -> Role
     }
 }
 
-// Adds a triangle in the plane of another one that may meet it. `true` where it comes before that one and
-// covers it.
+// Adds a triangle in the plane of another one that it may meet. Returns `true`, and adds nothing, if it
+// comes before that one and covers it.
 fn add_coplanar(
     list: &mut Vec<Cutter>,
     own: &Facet,
@@ -53,8 +52,8 @@ fn add_coplanar(
     requires own { is_flat own.now.tri ≡ false }
     requires cutters { All (IsCutterOf own.now.tri) list.old.items }
     ensures cutters { OnOk result (All (IsCutterOf own.now.tri) list.new.items) }
-    ensures blades { IfOk result (λ covered. covered ≡ false → (b : Bounds) → Adds (IsBounded own.now.tri b) (blades_of own.now.tri g.now.tri) list.old.items list.new.items) }
-    ensures owners { IfOk result (λ covered. (b : Bounds) → AddsLower own.now.tri g.now.tri b is_before (owners_in list.old.items) covered (owners_in list.new.items)) }
+    ensures blades { IfOk result (AddsBlades own.now.tri g.now.tri list.old.items list.new.items) }
+    ensures owners { IfOk result (AddsOwners own.now.tri g.now.tri is_before list.old.items list.new.items) }
 {
     if is_before && covers(g, own) {
         return Ok(true);
@@ -63,19 +62,14 @@ fn add_coplanar(
     Ok(false)
 }
 
-// Adds a triangle whose bounding box the regions of another one may meet. `true` where it covers
-// that one and comes before it.
-fn add(
-    list: &mut Vec<Cutter>,
-    own: &Facet,
-    g: &Facet,
-    is_before: bool,
-) -> Result<bool, OutOfMemory>
+// Adds a triangle if it may meet the regions of another one. Returns `true`, and adds nothing, if it comes
+// before that one and covers it.
+fn add(list: &mut Vec<Cutter>, own: &Facet, g: &Facet, is_before: bool) -> Result<bool, OutOfMemory>
     requires own { is_flat own.now.tri ≡ false }
     requires cutters { All (IsCutterOf own.now.tri) list.old.items }
     ensures cutters { OnOk result (All (IsCutterOf own.now.tri) list.new.items) }
-    ensures blades { IfOk result (λ covered. covered ≡ false → (b : Bounds) → Adds (IsBounded own.now.tri b) (blades_of own.now.tri g.now.tri) list.old.items list.new.items) }
-    ensures owners { IfOk result (λ covered. (b : Bounds) → AddsLower own.now.tri g.now.tri b is_before (owners_in list.old.items) covered (owners_in list.new.items)) }
+    ensures blades { IfOk result (AddsBlades own.now.tri g.now.tri list.old.items list.new.items) }
+    ensures owners { IfOk result (AddsOwners own.now.tri g.now.tri is_before list.old.items list.new.items) }
 {
     if is_flat(g) {
         return Ok(false);
@@ -101,8 +95,8 @@ fn add_near(
     requires own { is_flat own.now.tri ≡ false }
     requires cutters { All (IsCutterOf own.now.tri) list.old.items }
     ensures cutters { OnOk result (All (IsCutterOf own.now.tri) list.new.items) }
-    ensures blades { IfOk result (λ covered. covered ≡ false → Adds (IsBounded own.now.tri bounds.now) (blades_of own.now.tri g.now.tri) list.old.items list.new.items) }
-    ensures owners { IfOk result (λ covered. AddsLower own.now.tri g.now.tri bounds.now is_before (owners_in list.old.items) covered (owners_in list.new.items)) }
+    ensures blades { IfOk result (AddsBladesWithin bounds.now own.now.tri g.now.tri list.old.items list.new.items) }
+    ensures owners { IfOk result (AddsOwnersWithin bounds.now own.now.tri g.now.tri is_before list.old.items list.new.items) }
 {
     if overlap(bounds, &g.spans) {
         add(list, own, g, is_before)
@@ -111,9 +105,9 @@ fn add_near(
     }
 }
 
-/// Collects what cuts the regions of triangle `i`, which isn't flat and whose regions lie within the bounds,
-/// in order. Returns `true`, with a part of the list, if an earlier triangle in its plane covers it, and so owns all
-/// its regions.
+/// Collects in order what may cut the regions of triangle `i`, which isn't flat and whose regions lie within
+/// the bounds. Returns `true`, with an incomplete list, if an earlier triangle in its plane covers it and so
+/// owns all its regions.
 pub fn find_cutters(
     list: &mut Vec<Cutter>,
     own: &Facet,
@@ -124,8 +118,8 @@ pub fn find_cutters(
     requires normal { is_flat own.now.tri ≡ false }
     requires own { own.now.tri ≡ tri_at (tris_of near.now) i }
     ensures cutters { OnOk result (All (IsCutterOf own.now.tri) list.new.items) }
-    ensures blades { IfOk result (λ covered. covered ≡ false → Sheds (IsBounded own.now.tri bounds.now) (blades (tris_of near.now) i) (blades_in list.new.items)) }
-    ensures owners { IfOk result (λ covered. AreFound (tris_of near.now) i own.now.tri bounds.now (owners_in list.new.items) covered) }
+    ensures blades { IfOk result (AreBladesFound (tris_of near.now) i own.now.tri bounds.now list.new.items) }
+    ensures owners { IfOk result (AreOwnersFound (tris_of near.now) i own.now.tri bounds.now list.new.items) }
 {
     list.clear();
     for j in 0..near.len() {

@@ -1,5 +1,6 @@
 // The written regions of a leaf.
-ghost use Rattle.std.specs.Prelude.{◌≡◌, List, true, false, ◌≤◌, ◌<◌, ◌+◌, map, length, All, IfOk, IfSome, OnOk, option_to_list};
+ghost use Rattle.std.specs.Prelude.{◌≡◌, List, ◌≤◌, ◌<◌, ◌+◌, map, length, All};
+ghost use Rattle.std.specs.Prelude.{IfOk, IfSome, OnOk, option_to_list};
 ghost use Rattle.ember_model.specs.Valid.{IsValidTri};
 ghost use Rattle.ember_model.specs.Owners.{IsOwner};
 ghost use Rattle.ember_model.specs.Meshes.{HasMesh};
@@ -14,7 +15,8 @@ ghost use Rattle.ember_trace.specs.Boxed.{LiesIn};
 ghost use Rattle.ember_algebra.specs.Sign.{is_positive};
 ghost use Rattle.ember_model.specs.Planes.{along, main_axis};
 ghost use Rattle.ember_expr.specs.Formula.{formula_of};
-ghost use Rattle.ember_leaf.specs.Written.{IsTurn, AtRegion, IsWrittenOf, IsWrittenIn, WhereFits, HasGrown, AreOwned};
+ghost use Rattle.ember_leaf.specs.Written.{IsTurn, IsWrittenIn, AreOwned};
+ghost use Rattle.ember_leaf.specs.LeafBoxes.{WritesRegion, AddsWritten};
 ghost use Rattle.ember_leaf.specs.Leaves.{IsRegionOf, IsKeptOf, ArePlaced, ArePlacedBelow, tris_of};
 
 use crate::cutter::Cutter;
@@ -81,7 +83,7 @@ impl Leaf<'_> {
         requires inside { LiesIn self.now.cell.now ring }
         requires owner { IsOwner (tris_of self.now.near.now) i ring }
         ensures placed { IfSome result (IsKeptOf (tri_at (tris_of self.now.near.now) i) i) }
-        ensures written { WhereFits (tris_of self.now.near.now) self.now.cell.now self.now.at.now.counts (λ scene. AtRegion scene (formula_of self.now.expr.now) (tris_of self.now.near.now) i ring) (option_to_list result) }
+        ensures written { WritesRegion self.now i ring (option_to_list result) }
     {
         let sides = sides_beside(self.near, self.cell, self.at, &ring);
         match turn_of(self.expr, &sides, &ring) {
@@ -95,12 +97,7 @@ impl Leaf<'_> {
     }
 
     // Adds the written ones of the regions that triangle `i` owns.
-    fn keep(
-        &self,
-        list: Vec<Ring>,
-        i: usize,
-        kept: &mut Vec<Kept>,
-    ) -> Result<(), OutOfMemory>
+    fn keep(&self, list: Vec<Ring>, i: usize, kept: &mut Vec<Kept>) -> Result<(), OutOfMemory>
         requires few { length self.now.near.now ≤ 262144 }
         requires counts { AreBoxCounts self.now.at.now.counts }
         requires place { i < length self.now.near.now }
@@ -111,7 +108,7 @@ impl Leaf<'_> {
         requires owners { All (IsOwner (tris_of self.now.near.now) i) list.items }
         requires kept { ArePlacedBelow (tris_of self.now.near.now) (i + 1) kept.old.items }
         ensures placed { OnOk result (ArePlacedBelow (tris_of self.now.near.now) (i + 1) kept.new.items) }
-        ensures written { OnOk result (HasGrown (WhereFits (tris_of self.now.near.now) self.now.cell.now self.now.at.now.counts (λ scene. IsWrittenOf scene (formula_of self.now.expr.now) self.now.cell.now (tris_of self.now.near.now) i)) kept.old.items kept.new.items) }
+        ensures written { OnOk result (AddsWritten self.now i kept.old.items kept.new.items) }
     {
         for ring in list {
             if let Some(k) = self.kept(i, ring) {
@@ -138,7 +135,7 @@ impl Leaf<'_> {
         requires starts { All (StartsIn self.now.cell.now) self.now.near.now }
         requires kept { ArePlacedBelow (tris_of self.now.near.now) (i + 1) kept.old.items }
         ensures placed { OnOk result (ArePlacedBelow (tris_of self.now.near.now) (i + 1) kept.new.items) }
-        ensures written { OnOk result (HasGrown (WhereFits (tris_of self.now.near.now) self.now.cell.now self.now.at.now.counts (λ scene. IsWrittenOf scene (formula_of self.now.expr.now) self.now.cell.now (tris_of self.now.near.now) i)) kept.old.items kept.new.items) }
+        ensures written { OnOk result (AddsWritten self.now i kept.old.items kept.new.items) }
     {
         let own = &self.near[i];
         if is_flat(own) || is_outside(walls, own) {

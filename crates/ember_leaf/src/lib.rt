@@ -2,6 +2,7 @@
 //! another, where a Boolean's value changes.
 #![tactic(auto)]
 
+mod contact;
 mod cutter;
 mod cutters;
 mod heights;

@@ -1,25 +1,48 @@
-// The regions of a triangle that are left: its start, cut by triangle after triangle.
-ghost use Rattle.std.specs.Prelude.{◌↔◌, IsTrue, List, [], ◌∷◌, ◌++◌, ◌≤◌, length, take, drop, All, IfOk, OnOk};
-ghost use Rattle.ember_model.specs.declared.face.Face.{Face};
+// The regions of a triangle: its start, cut by one triangle after another. A region that a triangle of
+// lower number contains is dropped as soon as that triangle has cut, so it costs nothing further.
+ghost use Rattle.std.specs.Prelude.{◌↔◌, IsTrue, [], ◌∷◌, ◌≤◌, length, take, drop};
+ghost use Rattle.std.specs.Prelude.{All, IfOk, OnOk};
 ghost use Rattle.ember_model.specs.Valid.{IsValidPlane};
 ghost use Rattle.ember_model.specs.Faces.{face_of, Meets};
-ghost use Rattle.ember_leaf.specs.Cutters.{AtCutter, AtEdges, AtPlane, AreSplit, AreCut, MeetsFirst, AreLast, CanCut};
+ghost use Rattle.ember_leaf.specs.Cutters.{AtCutter, AtEdges, AtPlane, AreSplit, AreCut, IsSplitBehind};
+ghost use Rattle.ember_leaf.specs.Cutters.{MeetsFirst, AreLast, ShareAPlane, CanCut};
+ghost use Rattle.ember_poly.specs.Cuts.{HasInside};
 ghost use Rattle.ember_leaf.specs.Written.{HasGrown};
 
+use crate::contact::{Contact, contact_of};
 use crate::cutter::{Cutter, Role};
 use ember_model::{OutOfMemory, Plane};
-use ember_poly::{Reach, Ring, meets_face, parts, reach};
+use ember_poly::{Reach, Ring, meets_face, outline, parts, reach};
 use std::alloc::Global;
+
+// Some inside point of the region lies in the closed face of a triangle of its plane. The triangle's
+// corners decide most pairs, in 64 bits and without computing a meet.
+fn is_met_flat(r: &Ring, c: &Cutter) -> bool
+    requires plane { ShareAPlane c.now.tri r.now }
+    requires somewhere { HasInside r.now }
+    ensures { IsTrue result ↔ Meets r.now (face_of c.now.tri) }
+{
+    match contact_of(outline(r).0, &c.tri) {
+        Contact::Apart => false,
+        Contact::Met => true,
+        Contact::Unknown => meets_face(r, &c.support, &c.edges),
+    }
+}
 
 // Some inside point of the region lies in the closed face of the triangle.
 fn is_met(r: &Ring, c: &Cutter) -> bool
+    requires { CanCut c.now r.now }
     ensures { IsTrue result ↔ Meets r.now (face_of c.now.tri) }
 {
-    meets_face(r, &c.support, &c.edges)
+    match c.role {
+        Role::Across => meets_face(r, &c.support, &c.edges),
+        _ => is_met_flat(r, c),
+    }
 }
 
-// How many regions at the front do not meet the triangle.
+// Length of the leading run of regions that don't meet the triangle.
 fn apart(list: &[Ring], c: &Cutter) -> usize
+    requires { All (CanCut c.now) list.now }
     ensures fits { result ≤ length list.now }
     ensures whole { AreSplit c.now (take result list.now) (take result list.now) }
     ensures met { MeetsFirst c.now (drop result list.now) }
@@ -32,7 +55,7 @@ fn apart(list: &[Ring], c: &Cutter) -> usize
     list.len()
 }
 
-// Adds the parts of a region that a plane makes, or the region where it makes none.
+// Adds the two parts of a region that a plane cuts, or the region itself.
 fn add_sides(alloc: Global, r: Ring, p: &Plane, out: &mut Vec<Ring>) -> Result<(), OutOfMemory>
     requires { IsValidPlane p.now }
     ensures { OnOk result (HasGrown (AtPlane p.now r) out.old.items out.new.items) }
@@ -48,8 +71,8 @@ fn add_sides(alloc: Global, r: Ring, p: &Plane, out: &mut Vec<Ring>) -> Result<(
     Ok(())
 }
 
-// Adds what the rest of the edge planes leave of a part of a region that has points inside the triangle: the part in it,
-// unless the triangle owns that, and the parts above the planes, the last first.
+// Cuts a region that overlaps the triangle by the rest of its edge planes. Adds the part inside the
+// triangle, unless the triangle owns it, and then the parts outside, the last one cut off first.
 fn add_pieces(
     alloc: Global,
     r: Ring,
@@ -99,7 +122,7 @@ fn add_all(
 ) -> Result<(), OutOfMemory>
     requires met { MeetsFirst c.now list.items }
     requires plane { All (CanCut c.now) list.items }
-    ensures { OnOk result ((front : List Face) → AreSplit c.now front out.old.items → AreSplit c.now (front ++ list.items) out.new.items) }
+    ensures { OnOk result (IsSplitBehind c.now list.items out.old.items out.new.items) }
 {
     let mut is_first = true;
     for r in list {
@@ -128,7 +151,8 @@ fn split_all(alloc: Global, list: Vec<Ring>, c: &Cutter) -> Result<Vec<Ring>, Ou
     Ok(out)
 }
 
-/// The regions that the triangles leave of a start, in order, without those that one of them owns.
+/// Cuts a start by one triangle after another. Returns the regions in order, without those that one of
+/// the triangles owns.
 pub fn regions(alloc: Global, start: Ring, cutters: &[Cutter]) -> Result<Vec<Ring>, OutOfMemory>
     requires { All (λ c. CanCut c start) cutters.now }
     ensures { IfOk result (λ out. AreCut cutters.now (start ∷ []) out.items) }

@@ -47,7 +47,7 @@ pub regions-requires : goal.regions-requires
 regions-requires c =
     let near = c.args.self.now.near.now in let u = (get_or near c.args.i c.index-self-i.result).tri in let cs = c.find_cutters.new.list.items in
     let l = left_parts u (subst (λ o. IsLeft (map wall_of c.args.walls.now) u (option_to_list o)) c.in-Some.is c.in_ok-ring.ensures) in
-    subst (All (λ v. CanCut v c.in-Some.ring)) (sym c.deref.ensures.value) (all_can u c.in-Some.ring cs l.0.plane c.in_ok-find_cutters.ensures.cutters)
+    subst (All (λ v. CanCut v c.in-Some.ring)) (sym c.deref.ensures.value) (all_can u c.in-Some.ring cs l.0 c.in_ok-find_cutters.ensures.cutters)
 
 pub keep-requires-clause-regions : goal.keep-requires-clause-regions
 keep-requires-clause-regions c =
