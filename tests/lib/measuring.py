@@ -14,12 +14,16 @@ Cost = collections.namedtuple("Cost", "status user clock peak output err")
 
 
 def cost(program, words, folder, seconds=600):
-    """Runs the program once; its output goes to a file of the folder and not through a pipe."""
+    """Runs the program once; its output goes to a file of the folder and not through a pipe.
+
+    It may take so many seconds of processor time, and twenty times that by the clock where the machine is busy.
+    """
     place = folder / "cost.out"
     with open(place, "wb") as out, open(folder / "cost.err", "wb") as err:
         begun = time.perf_counter()
         started = subprocess.Popen([program, *words], cwd=folder, stdin=subprocess.DEVNULL, stdout=out, stderr=err)
-        watch = Watch(started, begun + seconds)
+        resource.prlimit(started.pid, resource.RLIMIT_CPU, (seconds, seconds + 1))
+        watch = Watch(started, begun + 20 * seconds)
         watch.start()
         os.waitid(os.P_PID, started.pid, os.WEXITED | os.WNOWAIT)
         clock = time.perf_counter() - begun
@@ -33,7 +37,8 @@ def cost(program, words, folder, seconds=600):
         while piece := out.read(1 << 20):
             digest.update(piece)
     err = (folder / "cost.err").read_text(errors="replace")
-    return Cost(None if watch.late else started.returncode, usage.ru_utime, clock, peak, digest.hexdigest(), err)
+    late = watch.late or started.returncode == -signal.SIGXCPU
+    return Cost(None if late else started.returncode, usage.ru_utime, clock, peak, digest.hexdigest(), err)
 
 
 def own_peak():
