@@ -15,6 +15,7 @@ pub mod ReadBack
 pub mod FaceLists
 pub mod CanonicalWords
 pub mod OneReading
+pub mod ClosedMeshes
 pub mod SolidFiles
 pub mod SliceFaults
 pub mod Complete

@@ -1,6 +1,7 @@
--- The file of a solid: the faces that are read back from it have the meaning.
+-- The file of a solid: the faces that are read back from it have the meaning, and are closed.
 use Rattle.std.proofs.Common.{◌≡◌, ℕ, Bool, true, false, List, [], pos, Result, Ok, Err, refl, subst}
 use Rattle.std.specs.Prelude.{if◌then◌else◌, replicate}
+use Rattle.ember_chain.specs.Chains.{IsClosedSurface}
 use Rattle.ember_expr.specs.declared.fault.ExprFault.{ExprFault}
 use Rattle.ember_expr.specs.Formula.{Formula}
 use Rattle.ember_expr.specs.Grammar.{expr_of}
@@ -9,6 +10,8 @@ use Rattle.ember_meaning.specs.Meaning.{HaveMeaning, IsFalseOutside}
 use Rattle.ember_meaning.proofs.ReadFaces.{document_reads}
 use Rattle.ember_model.specs.declared.face.Face.{Face}
 use Rattle.ember_model.specs.declared.scene.Scene.{Scene}
+use Rattle.ember_model.specs.FaceFiles.{WrittenFace}
+use Rattle.ember_reread.proofs.OneReading.{face_file_is_read_once}
 use Rattle.ember_run.specs.declared.status.Status.TheVariants.{ExprRefused, Unbounded}
 use Rattle.ember_run.specs.Outputs.{SolidFaces}
 use Rattle.ember_run.specs.Solids.{IsSolidFile, IsSolidText}
@@ -42,4 +45,9 @@ false_outside text m formula read = by (expr_of text m) read
 pub solid_file : (text : List ℕ) (m : ℕ) (formula : Formula) (scene : Scene) (bytes : List ℕ) → ExprRead (after_solid text) m formula → IsSolidText scene.tris formula bytes → IsSolidFile scene.tris formula bytes
 solid_file text m formula scene bytes read is =
     let r = document_reads scene.tris scene.meshes formula is.kept bytes scene.kept is.solid.written (false_outside text m formula read) is.text in
-    record { text = is; reads = r; means = λ faces f. subst (λ (faces : List Face). HaveMeaning scene.tris formula faces) (one_reading bytes r.faces faces r.read f) r.meaning }
+    record {
+      text = is;
+      reads = r;
+      means = λ faces f. subst (λ (faces : List Face). HaveMeaning scene.tris formula faces) (one_reading bytes r.faces faces r.read f) r.meaning;
+      closed = λ faces f. subst (λ (written : List WrittenFace). IsClosedSurface written) (face_file_is_read_once bytes r.faces faces r.read f) r.closed;
+    }

@@ -21,8 +21,9 @@ mod voxels;
 
 pub use law::{
     accepted_inputs_have_one_text, clear_points_are_found, counts_along_all_axes_agree,
-    face_files_have_one_reading, faces_wind_as_read, outputs_have_one_text,
-    slices_of_files_have_one_text, solids_have_one_document, workers_change_no_verdict,
+    face_files_have_one_reading, faces_of_closed_meshes_are_closed, faces_wind_as_read,
+    outputs_have_one_text, slices_of_files_have_one_text, solids_are_closed,
+    solids_have_one_document, workers_change_no_verdict,
 };
 pub use one_solid::{
     lattices_sample_the_solid, slices_of_solids_mean_the_expression,
