@@ -21,7 +21,7 @@ use Rattle.ember_model.specs.FaceFiles.{WrittenFace}
 use Rattle.ember_model.proofs.SignTests.{and_parts, zero_scaled, size_positive}
 use Rattle.ember_model.proofs.PlaneValues.{value_scaled}
 use Rattle.ember_model.proofs.Hits.{same_all_negative, same_none_positive, value_ray, ray_weight, inside_on, closed_parts}
-use Rattle.ember_model.proofs.ClearPoints.{hit_place, nonzero_product}
+use Rattle.ember_model.proofs.ClearPoints.{hit_is_one_point, nonzero_product}
 use Rattle.ember_model.proofs.Tuples.{plane_tuple, normalE}
 use Rattle.ember_law.proofs.Shifted.{NoNormal}
 use Rattle.ember_law.proofs.Generic.{at_hit_of, value_at_hit, cancel_zero}
@@ -53,9 +53,9 @@ missed_face_is_clear f p w off o =
         let z : m *ℤ value_at n p +ℤ s *ℤ along n a ≡ pos 0 = sym (value_ray n a p m s) ∙ x.1 in
         let nz : along n a ≢ pos 0 = λ e. off (nonzero_product (value_at n p) m (λ q. omega (arith, linear, lm, q)) (let v = zero_scaled s (along n a) e in *ℤ_comm (value_at n p) m ∙ omega (arith, linear, v, z))) in
         let k = size (along n a) in
-        let most : none_positive es (hit n a p) ≡ true = sym (same_none_positive m (hit n a p) (scaled k r) es lm (hit_place n a p m s z)) ∙ same_none_positive k r (scaled k r) es (size_positive (along n a) nz) (λ g. value_scaled k g r) ∙ x.2 in
+        let most : none_positive es (hit n a p) ≡ true = sym (same_none_positive m (hit n a p) (scaled k r) es lm (hit_is_one_point n a p m s z)) ∙ same_none_positive k r (scaled k r) es (size_positive (along n a) nz) (λ g. value_scaled k g r) ∙ x.2 in
         let low : all_negative es (hit n a p) ≡ true = all_strict (hit n a p) es (o a nz) most in
-        let l = sym (same_all_negative k r (scaled k r) es (size_positive (along n a) nz) (λ g. value_scaled k g r)) ∙ same_all_negative m (hit n a p) (scaled k r) es lm (hit_place n a p m s z) ∙ low in
+        let l = sym (same_all_negative k r (scaled k r) es (size_positive (along n a) nz) (λ g. value_scaled k g r)) ∙ same_all_negative m (hit n a p) (scaled k r) es lm (hit_is_one_point n a p m s z) ∙ low in
         inside_on f r (ray_weight a p m s lm w) x.1 ∙ l
 
 -- ---- of outlined faces

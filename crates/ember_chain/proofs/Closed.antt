@@ -4,7 +4,7 @@ use Rattle.std.specs.List.{AllByRecursion, flat_map}
 use Rattle.std.proofs.lemmas.List.Concat.{flat_map-cons}
 use Rattle.ember_model.specs.declared.tri.Tri.{Tri}
 use Rattle.ember_model.specs.FaceFiles.{WrittenFace}
-use Rattle.ember_poly.proofs.Turns.{each-join}
+use Rattle.ember_poly.proofs.Rotations.{each-join}
 use Rattle.ember_chain.specs.Chains.{IsClosedSurface, ArePiecesPaired, directed_edges, face_from, IsOutlined, AxesAgreeOffScene}
 use Rattle.ember_chain.proofs.Loops.{agreeing_faces_cover_evenly}
 use Rattle.ember_chain.proofs.EdgeForm.{outline_weights}

@@ -15,11 +15,11 @@ use Rattle.ember_model.specs.declared.plane.Plane.{Plane}
 use Rattle.ember_model.specs.declared.point.Spot.{Spot}
 use Rattle.ember_model.specs.declared.face.Face.{Face}
 use Rattle.ember_model.specs.Planes.{value_at}
-use Rattle.ember_model.specs.Edges.{RingEdge, IsEdge, normal, is_on_edge, IsPath, IsOutline}
+use Rattle.ember_model.specs.Edges.{RingEdge, IsEdge, normal, is_on_edge, IsEdgeChain, IsOutline}
 use Rattle.ember_model.specs.FaceFiles.{WrittenFace}
 use Rattle.ember_model.proofs.SignTests.{and_parts, clash, negative_in, negative_not, positive_nonzero, zero_scaled, zero_times}
 use Rattle.ember_model.proofs.Tuples.{spot_tuple, normalE}
-use Rattle.ember_poly.specs.Rings.{AtMost}
+use Rattle.ember_poly.specs.Rings.{IsNotAbove}
 use Rattle.ember_poly.proofs.Planar.{both_zero}
 use Rattle.ember_poly.proofs.FaceTests.{OnEdge, edge_in, edge_out}
 use Rattle.ember_poly.proofs.RingOutline.{each_get}
@@ -178,7 +178,7 @@ module _ (f : Face) (e : RingEdge) (end : Spot) (edge : IsEdge f e end) where
         not_behind on = let l = (edge.to_end t h).not_after in omega (arith, linear, l, reach_gap course end t)
 
     -- a plane that isn't positive at the ends isn't between them
-    at_most_on_line : (h : Plane) → Parallel (displacement e.start end) d → Parallel (displacement e.start t) d → Apart (dot (displacement e.start t) d) (dot (displacement end t) d) → AtMost h e.start → AtMost h end → AtMost h t
+    at_most_on_line : (h : Plane) → Parallel (displacement e.start end) d → Parallel (displacement e.start t) d → Apart (dot (displacement e.start t) d) (dot (displacement end t) d) → IsNotAbove h e.start → IsNotAbove h end → IsNotAbove h t
     at_most_on_line h p q c hu hv =
         record { at_most = at_most_between (dot (displacement e.start t) d) (dot (displacement end t) d) e.start.w end.w t.w (value_at h e.start) (value_at h end) (value_at h t) start_on.closed.weight end_on.closed.weight wt hu.at_most hv.at_most (crossed (dot d d) (dot (displacement e.start t) d) (dot (displacement end t) d) (dot (normal h) d) (e.start.w *ℤ value_at h t -ℤ t.w *ℤ value_at h e.start) (end.w *ℤ value_at h t -ℤ t.w *ℤ value_at h end) (positive_nonzero (square_positive d nd)) (gap e.start q) (gap end (parallel_onward e.start end t d start_on.closed.weight p q))) c }
       where
@@ -193,7 +193,7 @@ module _ (f : Face) (e : RingEdge) (end : Spot) (edge : IsEdge f e end) where
       where
         missed : Parallel (displacement e.start end) d → Parallel (displacement e.start t) d → Apart (dot (displacement e.start t) d) (dot (displacement end t) d) → is_on_edge f e.plane t ≡ true
         missed p q c =
-            edge_in f e.plane t (record { flat = through f.support start_on.closed.flat end_on.closed.flat p q; weight = wt; within = each_both (λ g. AtMost g e.start) (λ g. AtMost g end) (λ g. AtMost g t) f.edges (λ g hu hv. at_most_on_line g p q c hu hv) start_on.closed.within end_on.closed.within }) (through e.plane start_on.zero end_on.zero p q)
+            edge_in f e.plane t (record { flat = through f.support start_on.closed.flat end_on.closed.flat p q; weight = wt; within = each_both (λ g. IsNotAbove g e.start) (λ g. IsNotAbove g end) (λ g. IsNotAbove g t) f.edges (λ g hu hv. at_most_on_line g p q c hu hv) start_on.closed.within end_on.closed.within }) (through e.plane start_on.zero end_on.zero p q)
 
         by : (b : Bool) → is_parallel d whole && is_on_line t d e.start ≡ b → coverage t d whole ≡ pos 0
         by false z = ap (λ (b : Bool). cond b (reached d e.start t -ℤ reached d end t) (pos 0)) z
@@ -209,7 +209,7 @@ edge_form d t f e end wt nd general edge off = by (is_on_edge f e.plane t) refl
   where
     by : (b : Bool) → is_on_edge f e.plane t ≡ b → coverage t d (record { from = e.start; to = end }) ≡ edge_turn d t f e
     by true h =
-        on_edge f e end edge d t wt (zero_not nd) h general.support (each_get (λ g. IsGeneral d t g) f.edges edge.stands.place e.plane general.edges edge.stands.here) off ∙ sym (ap (λ (b : Bool). cond b (sign (dot (cross (normal f.support) (normal e.plane)) d)) (pos 0)) h)
+        on_edge f e end edge d t wt (zero_not nd) h general.support (each_get (λ g. IsGeneral d t g) f.edges edge.stands.index e.plane general.edges edge.stands.here) off ∙ sym (ap (λ (b : Bool). cond b (sign (dot (cross (normal f.support) (normal e.plane)) d)) (pos 0)) h)
     by false h =
         off_edge f e end edge d t wt (zero_not nd) h ∙ sym (ap (λ (b : Bool). cond b (sign (dot (cross (normal f.support) (normal e.plane)) d)) (pos 0)) h)
 
@@ -217,7 +217,7 @@ edge_form d t f e end wt nd general edge off = by (is_on_edge f e.plane t) refl
 pub has_normal : (f : Face) (e : RingEdge) → Ended f e → NoNormal f.support → ⊥
 has_normal f e p n = course_nonzero f e p.end p.is (none_parallel (normal e.plane) (same_v n.0 n.1 n.2))
 
-path_form : (d : Vector) (t : Spot) (f : Face) (end : Spot) (es : List RingEdge) → pos 0 <ℤ t.w → is_zero_vector d ≡ false → IsGeneralFace d t f → IsPath f end es → AllByRecursion (λ e. IsOffEnds d t e) (edges_to end es) → total (coverage t d) (edges_to end es) ≡ total (edge_turn d t f) es
+path_form : (d : Vector) (t : Spot) (f : Face) (end : Spot) (es : List RingEdge) → pos 0 <ℤ t.w → is_zero_vector d ≡ false → IsGeneralFace d t f → IsEdgeChain f end es → AllByRecursion (λ e. IsOffEnds d t e) (edges_to end es) → total (coverage t d) (edges_to end es) ≡ total (edge_turn d t f) es
 path_form d t f end [] wt nd g p o = refl
 path_form d t f end (e ∷ []) wt nd g p o = ap (λ (z : ℤ). z +ℤ pos 0) (edge_form d t f e end wt nd g p o.0)
 path_form d t f end (e ∷ b ∷ es) wt nd g p o =
@@ -240,7 +240,7 @@ outline_weights w o =
     one : (f : Face) (e : RingEdge) (end : Spot) → IsEdge f e end → (pos 0 <ℤ e.start.w) × (pos 0 <ℤ end.w)
     one f e end p = ((start_on f e end p).closed.weight, (end_on f e end p).closed.weight)
 
-    path : (f : Face) (end : Spot) (es : List RingEdge) → IsPath f end es → AllByRecursion (λ e. (pos 0 <ℤ e.from.w) × (pos 0 <ℤ e.to.w)) (edges_to end es)
+    path : (f : Face) (end : Spot) (es : List RingEdge) → IsEdgeChain f end es → AllByRecursion (λ e. (pos 0 <ℤ e.from.w) × (pos 0 <ℤ e.to.w)) (edges_to end es)
     path f end [] p = tt
     path f end (e ∷ []) p = (one f e end p, tt)
     path f end (e ∷ b ∷ es) p = (one f e b.start p.0, path f end (b ∷ es) p.1)

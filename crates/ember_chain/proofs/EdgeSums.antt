@@ -14,7 +14,7 @@ use Rattle.ember_model.specs.Planes.{value_at}
 use Rattle.ember_model.specs.Faces.{is_in_closed}
 use Rattle.ember_model.specs.Edges.{RingEdge, normal, is_on_edge}
 use Rattle.ember_model.proofs.SignTests.{and_false}
-use Rattle.ember_poly.specs.Rings.{Under}
+use Rattle.ember_poly.specs.Rings.{IsBelow}
 use Rattle.ember_chain.proofs.Setting.{edge_turn}
 use Rattle.ember_chain.proofs.OneEdge.{IsOnlyMet}
 
@@ -27,13 +27,13 @@ turns_off_face d t f es h =
     total_zero (edge_turn d t f) (λ e. turn_off d t f e (ap (λ (b : Bool). b && is_zero (value_at e.plane t)) h)) es
 
 -- nor below the edges
-turn_under : (d : Vector) (t : Spot) (f : Face) (e : RingEdge) → Under e.plane t → edge_turn d t f e ≡ pos 0
+turn_under : (d : Vector) (t : Spot) (f : Face) (e : RingEdge) → IsBelow e.plane t → edge_turn d t f e ≡ pos 0
 turn_under d t f e u = turn_off d t f e (and_false (is_in_closed f t) (is_zero (value_at e.plane t)) (nonzero u.under))
   where
     nonzero : {a : ℤ} → a <ℤ pos 0 → is_zero a ≡ false
     nonzero {a} l = ap is_nil (sgn_neg l)
 
-pub turns_under : (d : Vector) (t : Spot) (f : Face) (es : List RingEdge) → AllByRecursion (λ e. Under e.plane t) es → total (edge_turn d t f) es ≡ pos 0
+pub turns_under : (d : Vector) (t : Spot) (f : Face) (es : List RingEdge) → AllByRecursion (λ e. IsBelow e.plane t) es → total (edge_turn d t f) es ≡ pos 0
 turns_under d t f [] us = refl
 turns_under d t f (e ∷ es) us =
     let x = turn_under d t f e us.0 in let y = turns_under d t f es us.1 in omega (arith, linear, x, y)

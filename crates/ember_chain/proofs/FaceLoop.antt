@@ -23,10 +23,10 @@ use Rattle.ember_model.specs.ClearTest.{none_positive}
 use Rattle.ember_model.specs.Edges.{RingEdge, normal}
 use Rattle.ember_model.specs.FaceFiles.{WrittenFace}
 use Rattle.ember_model.proofs.SignTests.{positive_in, zero_out, nonzero_out}
-use Rattle.ember_model.proofs.Following.{FollowsEach}
+use Rattle.ember_model.proofs.NearClearPoints.{FollowsEach}
 use Rattle.ember_model.proofs.Hits.{closed_on}
 use Rattle.ember_law.proofs.Shifted.{NoNormal, eventually_true}
-use Rattle.ember_poly.specs.Rings.{Under, AtMost, InClosedFace}
+use Rattle.ember_poly.specs.Rings.{IsBelow, IsNotAbove, InClosedFace}
 use Rattle.ember_poly.proofs.FaceTests.{closed_in, closed_out}
 use Rattle.ember_poly.proofs.OutlinePoints.{Ended, ended}
 use Rattle.ember_chain.specs.Chains.{face_from, IsOutlined}
@@ -78,7 +78,7 @@ sign_component d k c nd p =
     sym (sign_scaled (component k c) (square_positive d nd)) ∙ ap sign e ∙ sign-mul (component d c) (dot k d)
 
 -- ---- what is known of the edges at t
-edges_at : (f : Face) (d : Vector) (t : Spot) (es : List RingEdge) → AllByRecursion (λ e. Ended f e) es → AllByRecursion (λ h. IsGeneral d t h) (map (λ e. e.plane) es) → AllByRecursion (λ h. AtMost h t) (map (λ e. e.plane) es) → AllByRecursion (λ e. EdgeAt f d t e) es
+edges_at : (f : Face) (d : Vector) (t : Spot) (es : List RingEdge) → AllByRecursion (λ e. Ended f e) es → AllByRecursion (λ h. IsGeneral d t h) (map (λ e. e.plane) es) → AllByRecursion (λ h. IsNotAbove h t) (map (λ e. e.plane) es) → AllByRecursion (λ e. EdgeAt f d t e) es
 edges_at f d t [] ends gs ms = tt
 edges_at f d t (e ∷ es) ends gs ms =
     (record { end = ends.0; general = gs.0; at_most = ms.0 }, edges_at f d t es ends.1 gs.1 ms.1)
@@ -160,7 +160,7 @@ module _ (c : Axis) (d : Vector) (t : Spot) (w : WrittenFace) (m : ℤ) (wt : po
     fourth_across : (h : Plane) → value_at h t ≡ pos 0 → value_at h p4 ≡ neg_ℤ (value_at h p2)
     fourth_across h z = value_across h c t m (pos 1) (pos 1) z
 
-    below_all : AllByRecursion (λ e. Under e.plane t) w.edges → loop c t m f ≡ sign (component d c) *ℤ sum
+    below_all : AllByRecursion (λ e. IsBelow e.plane t) w.edges → loop c t m f ≡ sign (component d c) *ℤ sum
     below_all us =
         let n = under_negative t w.edges us in
         let s1 = first_across f.support closed.flat in let s4 = fourth_across f.support closed.flat in

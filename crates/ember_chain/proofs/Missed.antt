@@ -11,7 +11,7 @@ use Rattle.ember_model.specs.Clear.{IsClear, AreClear}
 use Rattle.ember_model.specs.FaceFiles.{WrittenFace}
 use Rattle.ember_law.proofs.Shifted.{NoNormal, off_shifted, weight_shifted, eventually_true}
 use Rattle.ember_law.proofs.Generic.{at_hit_of}
-use Rattle.ember_poly.proofs.Strict.{eventually_each}
+use Rattle.ember_poly.proofs.InsideSigns.{eventually_each}
 use Rattle.ember_chain.specs.Chains.{face_from, IsOutlined}
 use Rattle.ember_chain.proofs.ClearCorners.{off_face_is_clear}
 use Rattle.ember_chain.proofs.Ready.{all_of, each_axis}

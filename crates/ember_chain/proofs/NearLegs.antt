@@ -12,9 +12,9 @@ use Rattle.ember_model.specs.Faces.{between, leg}
 use Rattle.ember_model.specs.ClearTest.{none_positive, all_negative}
 use Rattle.ember_model.specs.Edges.{RingEdge}
 use Rattle.ember_model.proofs.SignTests.{negative_in, negative_not, size_positive, and_true}
-use Rattle.ember_model.proofs.Following.{Follows, FollowsEach, ups, not_below, all_below}
+use Rattle.ember_model.proofs.NearClearPoints.{Follows, FollowsEach, ups, not_below, all_below}
 use Rattle.ember_model.proofs.Legs.{value_between, leg_off, leg_on}
-use Rattle.ember_poly.specs.Rings.{Under}
+use Rattle.ember_poly.specs.Rings.{IsBelow}
 use Rattle.ember_chain.proofs.Quad.{cut, passed}
 use Rattle.ember_chain.proofs.OneEdge.{IsOnlyMet}
 
@@ -88,7 +88,7 @@ module _ (f : Face) (t p q : Spot) (bp : IsBeside f t p) (bq : IsBeside f t q) w
       leg_by (is_negative (value_at g middle)) e ∙ ap (λ (v : ℤ). cond (crosses && is_negative v) (sign (value_at f.support q)) (pos 0)) (value_between g f.support p q)
 
 -- ---- the planes of edges at a point that follows t
-pub under_negative : (t : Spot) (es : List RingEdge) → AllByRecursion (λ e. Under e.plane t) es → all_negative (map (λ e. e.plane) es) t ≡ true
+pub under_negative : (t : Spot) (es : List RingEdge) → AllByRecursion (λ e. IsBelow e.plane t) es → all_negative (map (λ e. e.plane) es) t ≡ true
 under_negative t [] us = refl
 under_negative t (e ∷ es) us =
     let x = negative_in us.0.under in let y = under_negative t es us.1 in λ i. x i && y i

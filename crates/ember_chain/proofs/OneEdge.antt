@@ -8,8 +8,8 @@ use Rattle.ember_model.specs.declared.plane.Plane.{Plane}
 use Rattle.ember_model.specs.declared.point.Spot.{Spot}
 use Rattle.ember_model.specs.declared.face.Face.{Face}
 use Rattle.ember_model.specs.Planes.{value_at}
-use Rattle.ember_model.specs.Edges.{RingEdge, SameEdge, AreApart, normal, is_on_edge}
-use Rattle.ember_poly.specs.Rings.{Under, AtMost, InClosedFace}
+use Rattle.ember_model.specs.Edges.{RingEdge, SameEdge, HaveDistinctEdges, normal, is_on_edge}
+use Rattle.ember_poly.specs.Rings.{IsBelow, IsNotAbove, InClosedFace}
 use Rattle.ember_poly.proofs.Chains.{each_both}
 use Rattle.ember_poly.proofs.FaceTests.{edge_in, edge_out, same_test}
 use Rattle.ember_poly.proofs.OutlinePoints.{Ended}
@@ -36,28 +36,28 @@ module _ (f : Face) (d : Vector) (t : Spot) (nd : d ≢ zero_v) (support : IsGen
 pub record EdgeAt (f : Face) (d : Vector) (t : Spot) (e : RingEdge) : Type 0 where
   pub end : Ended f e
   pub general : IsGeneral d t e.plane
-  pub at_most : AtMost e.plane t
+  pub at_most : IsNotAbove e.plane t
 
 -- t is on the plane g, which is that of one edge, and below those of all others
 abbrev pub IsOnlyMet : Spot → Plane → List RingEdge → Type 0
 IsOnlyMet t g [] = ⊥
 IsOnlyMet t g (e ∷ es) =
-    ((e.plane ≡ g) × (value_at g t ≡ pos 0) × AllByRecursion (λ b. Under b.plane t) es) ⊎ (Under e.plane t × IsOnlyMet t g es)
+    ((e.plane ≡ g) × (value_at g t ≡ pos 0) × AllByRecursion (λ b. IsBelow b.plane t) es) ⊎ (IsBelow e.plane t × IsOnlyMet t g es)
 
 pub record OneMet (t : Spot) (es : List RingEdge) : Type 0 where
   pub plane : Plane
   pub only : IsOnlyMet t plane es
 
 -- in the closed face t is below all edge planes, or on one
-pub edges_met : (f : Face) (d : Vector) (t : Spot) → d ≢ zero_v → IsGeneral d t f.support → InClosedFace f.support f.edges t → (es : List RingEdge) → AllByRecursion (λ e. EdgeAt f d t e) es → AreApart f es → AllByRecursion (λ e. Under e.plane t) es ⊎ OneMet t es
+pub edges_met : (f : Face) (d : Vector) (t : Spot) → d ≢ zero_v → IsGeneral d t f.support → InClosedFace f.support f.edges t → (es : List RingEdge) → AllByRecursion (λ e. EdgeAt f d t e) es → HaveDistinctEdges f es → AllByRecursion (λ e. IsBelow e.plane t) es ⊎ OneMet t es
 edges_met f d t nd support closed [] known apart = inl tt
 edges_met f d t nd support closed (e ∷ es) known apart =
     by_sign (value_at e.plane t)
     (λ l. absurd (let m = known.0.at_most.at_most in omega (arith, linear, l, m)))
-    (λ z. inr (record { plane = e.plane; only = inl (refl, z, each_both (λ b. EdgeAt f d t b) (λ b. SameEdge f e.plane b.plane → ⊥) (λ b. Under b.plane t) es (other z) known.1 apart.0) }))
+    (λ z. inr (record { plane = e.plane; only = inl (refl, z, each_both (λ b. EdgeAt f d t b) (λ b. SameEdge f e.plane b.plane → ⊥) (λ b. IsBelow b.plane t) es (other z) known.1 apart.0) }))
     (λ l. ⊎_elim (λ us. inl (record { under = l }, us)) (λ o. inr (record { plane = o.plane; only = inr (record { under = l }, o.only) })) (edges_met f d t nd support closed es known.1 apart.1))
   where
-    other : value_at e.plane t ≡ pos 0 → (b : RingEdge) → EdgeAt f d t b → (SameEdge f e.plane b.plane → ⊥) → Under b.plane t
+    other : value_at e.plane t ≡ pos 0 → (b : RingEdge) → EdgeAt f d t b → (SameEdge f e.plane b.plane → ⊥) → IsBelow b.plane t
     other z b k different =
         by_sign (value_at b.plane t)
         (λ l. absurd (let m = k.at_most.at_most in omega (arith, linear, l, m)))

@@ -19,7 +19,7 @@ use Rattle.ember_law.proofs.Shifted.{NoNormal}
 use Rattle.ember_law.proofs.Generic.{IsOff, at_hit_of}
 use Rattle.ember_law.proofs.GenericClear.{off_clear, clear_faces}
 use Rattle.ember_poly.proofs.Chains.{each_map}
-use Rattle.ember_poly.proofs.Strict.{eventually_each}
+use Rattle.ember_poly.proofs.InsideSigns.{eventually_each}
 use Rattle.ember_chain.specs.Chains.{is_zero_vector, coverage, directed_edges, face_from, IsOutlined}
 use Rattle.ember_chain.proofs.Setting.{ahead, IsGeneral, IsGeneralFace, IsOffEnds, component, corner}
 use Rattle.ember_chain.proofs.Ahead.{general_ahead, coverage_ahead}

@@ -15,7 +15,7 @@ use Rattle.ember_model.specs.declared.point.Axis.TheVariants.{X, Y, Z}
 use Rattle.ember_model.specs.Planes.{value_at, along}
 use Rattle.ember_model.specs.Points.{scaled, moved}
 use Rattle.ember_model.specs.Edges.{normal}
-use Rattle.ember_model.proofs.Following.{Follows}
+use Rattle.ember_model.proofs.NearClearPoints.{Follows}
 use Rattle.ember_model.proofs.PlaneValues.{value_scaled, value_moved}
 use Rattle.ember_law.proofs.Shifted.{NoNormal}
 use Rattle.ember_chain.proofs.Setting.{IsGeneral, component, next, corner}

@@ -1,7 +1,7 @@
 // Coplanar triangles, and which of them owns a region of their plane.
 ghost use Rattle.std.specs.Prelude.{◌<◌, All, length};
 ghost use Rattle.ember_model.specs.Valid.{IsValidTri};
-ghost use Rattle.ember_coplanar.specs.Lying.{LiesOn};
+ghost use Rattle.ember_coplanar.specs.TrianglePlane.{LiesOn};
 
 use crate::scenes::soup_of;
 use crate::shapes::triangle;

@@ -2,7 +2,7 @@
 ghost use Rattle.std.specs.Prelude.{◌<◌, ◌≤◌, All, length};
 ghost use Rattle.ember_model.specs.Meshes.{HasMesh};
 ghost use Rattle.ember_model.specs.Valid.{IsValidTri};
-ghost use Rattle.ember_trace.specs.Facets.{AreBoxCounts};
+ghost use Rattle.ember_trace.specs.NearTriangles.{AreBoxCounts};
 ghost use Rattle.ember_visit.specs.Jobs.{IsJob};
 
 use crate::scenes::{expression, scene_of_files};
@@ -15,7 +15,7 @@ use ember_leaf::Kept;
 use ember_model::{Axis, OutOfMemory, Scene, Tri, Vector};
 use ember_poly::{Ring, of_tri};
 use ember_step::{box_step, root_job};
-use ember_trace::{Sides, facets, sides_beside, sides_traced, sides_whole};
+use ember_trace::{Sides, near_triangles, sides_beside, sides_traced, sides_whole};
 use ember_visit::tris_at;
 use std::alloc::Global;
 use std::process::Abort;
@@ -35,7 +35,7 @@ fn sides_near(
     requires counts { AreBoxCounts v.now.counts }
 {
     let traced = sides_traced(alloc, near, c, v, ring)?;
-    let found = facets(alloc, near, c)?;
+    let found = near_triangles(alloc, near, c)?;
     Ok((traced, sides_beside(found.as_slice(), c, v, ring)))
 }
 

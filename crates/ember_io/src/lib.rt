@@ -3,10 +3,10 @@
 #![tactic(auto)]
 
 mod failing;
+mod file_index;
 mod lists;
 mod memory_shelf;
 mod memory_sink;
-mod places;
 mod real;
 mod safe_shelf;
 mod shelf;

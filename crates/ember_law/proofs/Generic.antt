@@ -23,9 +23,9 @@ use Rattle.ember_model.specs.Clear.{IsClear, AreClear}
 use Rattle.ember_model.specs.Meshes.{wind}
 use Rattle.ember_model.proofs.SignTests.{zero_scaled}
 use Rattle.ember_model.proofs.PlaneValues.{value_hit, edge_value, support_value, seen, seenE, tuple_of}
-use Rattle.ember_model.proofs.Following.{Follows, FollowsEach, same_crossing}
+use Rattle.ember_model.proofs.NearClearPoints.{Follows, FollowsEach, same_crossing}
 use Rattle.ember_law.proofs.Shifted.{NoNormal, follows_shifted, off_shifted, weight_shifted, eventually_true}
-use Rattle.ember_law.proofs.Flats.{IsFlat}
+use Rattle.ember_law.proofs.FlatTriangles.{IsFlat}
 use Rattle.ember_law.proofs.Directions.{IsGeneric, AreGeneric}
 
 -- ---- generic points

@@ -14,7 +14,7 @@ use Rattle.ember_model.specs.Meshes.{wind, faces_of, IsBalanced}
 use Rattle.ember_model.proofs.SignTests.{negative_not}
 use Rattle.ember_model.proofs.Legs.{leg_off, face_leg}
 use Rattle.ember_model.proofs.LegSigns.{moved_zero, moved_back, gap_along, is_moved}
-use Rattle.ember_model.proofs.Scaling.{crossing_scaled, clear_scaled, leg_scaled, leg_back}
+use Rattle.ember_model.proofs.ScaledPoints.{crossing_scaled, clear_scaled, leg_scaled, leg_back}
 use Rattle.ember_law.specs.Counts.{leg_wind}
 use Rattle.ember_law.proofs.Axes.{axes_agree}
 

@@ -4,4 +4,4 @@
 
 mod count;
 
-pub use count::{add_to, axis_count, leg_count};
+pub use count::{add_count, axis_count, leg_count};

@@ -11,15 +11,15 @@ use Rattle.ember_model.specs.declared.face.Face.{Face}
 use Rattle.ember_model.specs.Planes.{value_at, opposite}
 use Rattle.ember_model.specs.Faces.{Contains, Somewhere, Cuts, below}
 use Rattle.ember_model.proofs.SignTests.{negative_in, positive_out}
-use Rattle.ember_box.specs.Regions.{Blade, AtBlade, splits, whole}
+use Rattle.ember_box.specs.Regions.{CuttingPlane, AtCuttingPlane, splits, whole}
 use Rattle.ember_poly.specs.Cuts.{HasInside}
-use Rattle.ember_poly.proofs.Reached.{over_opposite}
+use Rattle.ember_poly.proofs.ReachBySigns.{over_opposite}
 use Rattle.ember_trace.proofs.FilledFaces.{inside_below}
 use Rattle.ember_leaf.specs.declared.cutter.Cutter.{Cutter}
 use Rattle.ember_leaf.specs.declared.cutter.Role.{Role}
 use Rattle.ember_leaf.specs.declared.cutter.Role.TheVariants.{Across, Coplanar, Owner}
 use Rattle.ember_leaf.specs.Cutters.{ShareAPlane, SharesAs, CanCut, AreSplit, AreCut}
-use Rattle.ember_leaf.proofs.Starting.{each_every, inside_in_below}
+use Rattle.ember_leaf.proofs.WallClips.{each_every, inside_in_below}
 use Rattle.ember_leaf.proofs.Leaving.{left_every, every_all, regions_left}
 
 -- ---- lists
@@ -61,12 +61,12 @@ piece_below : (f g : Face) (p : Plane) → IsPieceOf f g → Somewhere g (λ v. 
 piece_below f g p h s =
     record { support = h.support; within = record { holds = λ v i. h.within.holds v (inside_below g p v i).0 }; somewhere = record { at = s.at; inside = inside_in_below g p s.at s.inside s.holds; holds = tt } }
 
-piece_kept : (f : Face) (b : Blade) (g : Face) (gs : List Face) → IsPieceOf f g → AtBlade b g gs → Every (IsPieceOf f) gs
+piece_kept : (f : Face) (b : CuttingPlane) (g : Face) (gs : List Face) → IsPieceOf f g → AtCuttingPlane b g gs → Every (IsPieceOf f) gs
 piece_kept f b g gs h (splits m c) =
     (piece_below f g b.plane h c.low, (piece_below f g (opposite b.plane) h (record { at = c.high.at; inside = c.high.inside; holds = negative_in (over_opposite b.plane c.high.at (record { over = positive_out (value_at b.plane c.high.at) c.high.holds })).under }), tt))
 piece_kept f b g gs h (whole n) = (h, tt)
 
-pieces_kept : (f : Face) {bs : List Blade} {gs hs : List Face} → Chain (λ b. Each (AtBlade b)) bs gs hs → Every (IsPieceOf f) gs → Every (IsPieceOf f) hs
+pieces_kept : (f : Face) {bs : List CuttingPlane} {gs hs : List Face} → Chain (λ b. Each (AtCuttingPlane b)) bs gs hs → Every (IsPieceOf f) gs → Every (IsPieceOf f) hs
 pieces_kept f done h = h
 pieces_kept f (step {x = b} r c) h =
     pieces_kept f c (each_every (IsPieceOf f) (IsPieceOf f) (piece_kept f b) r h)

@@ -1,4 +1,4 @@
--- A plane cuts a face or it doesn't, and a face meets another one or it doesn't. So what a blade
+-- A plane cuts a face or it doesn't, and a face meets another one or it doesn't. So what a cutting plane
 -- leaves of a face is a list of faces, whatever the face.
 use Rattle.std.proofs.Common.{◌≡◌, ◌⊎◌, inl, inr, sym, arith, true, List, [], ◌∷◌, ◌++◌, map, ℤ, pos, neg_ℤ, ◌<ℤ◌, ◌≤ℤ◌, ◌+ℤ◌}
 use Rattle.std.specs.List.{AllByRecursion}
@@ -13,13 +13,13 @@ use Rattle.ember_model.specs.declared.face.Face.{Face}
 use Rattle.ember_model.specs.Planes.{value_at, opposite}
 use Rattle.ember_model.specs.Faces.{Somewhere, Cuts, Meets, is_inside, is_in_closed, below, above}
 use Rattle.ember_model.proofs.SignTests.{positive_in, positive_out, negative_in, negative_out}
-use Rattle.ember_box.specs.Regions.{Blade, AtBlade, splits, whole}
-use Rattle.ember_poly.specs.Rings.{Under, AtMost, InFace, InClosedFace}
+use Rattle.ember_box.specs.Regions.{CuttingPlane, AtCuttingPlane, splits, whole}
+use Rattle.ember_poly.specs.Rings.{IsBelow, IsNotAbove, InFace, InClosedFace}
 use Rattle.ember_poly.proofs.FaceTests.{inside_in, inside_out, closed_in, closed_out}
-use Rattle.ember_poly.proofs.Strict.{opposite_plane}
-use Rattle.ember_poly.proofs.Reached.{over_opposite, over_from_opposite, most_opposite, least_from_opposite}
+use Rattle.ember_poly.proofs.InsideSigns.{opposite_plane}
+use Rattle.ember_poly.proofs.ReachBySigns.{over_opposite, over_from_opposite, most_opposite, least_from_opposite}
 use Rattle.ember_trace.proofs.FilledFaces.{inside_below}
-use Rattle.ember_leaf.proofs.Starting.{inside_in_below}
+use Rattle.ember_leaf.proofs.WallClips.{inside_in_below}
 use Rattle.ember_leaf.proofs.Systems.{Row, dot, Inequality, Solves, IsDecided, every_parts, decide}
 
 -- ---- planes as inequalities of the four coordinates of a point
@@ -42,35 +42,35 @@ under p = record { row = row p; slack = pos 1; least = omega (arith, linear) }
 at_most : Plane → Inequality 4
 at_most p = record { row = row p; slack = pos 0; least = omega (arith, linear) }
 
-under_in : (p : Plane) (v : Spot) → Under p v → Solves 4 (under p) (point v)
+under_in : (p : Plane) (v : Spot) → IsBelow p v → Solves 4 (under p) (point v)
 unfolding under
 under_in p v h = let a = h.under in let e = row_value p v in record { at_most = omega (arith, linear, a, e) }
 
-under_out : (p : Plane) (v : Spot) → Solves 4 (under p) (point v) → Under p v
+under_out : (p : Plane) (v : Spot) → Solves 4 (under p) (point v) → IsBelow p v
 unfolding under
 under_out p v h = let a = h.at_most in let e = row_value p v in record { under = omega (arith, linear, a, e) }
 
-most_in : (p : Plane) (v : Spot) → AtMost p v → Solves 4 (at_most p) (point v)
+most_in : (p : Plane) (v : Spot) → IsNotAbove p v → Solves 4 (at_most p) (point v)
 unfolding at_most
 most_in p v h = let a = h.at_most in let e = row_value p v in record { at_most = omega (arith, linear, a, e) }
 
-most_out : (p : Plane) (v : Spot) → Solves 4 (at_most p) (point v) → AtMost p v
+most_out : (p : Plane) (v : Spot) → Solves 4 (at_most p) (point v) → IsNotAbove p v
 unfolding at_most
 most_out p v h = let a = h.at_most in let e = row_value p v in record { at_most = omega (arith, linear, a, e) }
 
-unders_in : (gs : List Plane) (v : Spot) → AllByRecursion (λ g. Under g v) gs → Every (λ b. Solves 4 b (point v)) (map under gs)
+unders_in : (gs : List Plane) (v : Spot) → AllByRecursion (λ g. IsBelow g v) gs → Every (λ b. Solves 4 b (point v)) (map under gs)
 unders_in [] v h = tt
 unders_in (g ∷ gs) v h = (under_in g v h.0, unders_in gs v h.1)
 
-unders_out : (gs : List Plane) (v : Spot) → Every (λ b. Solves 4 b (point v)) (map under gs) → AllByRecursion (λ g. Under g v) gs
+unders_out : (gs : List Plane) (v : Spot) → Every (λ b. Solves 4 b (point v)) (map under gs) → AllByRecursion (λ g. IsBelow g v) gs
 unders_out [] v h = tt
 unders_out (g ∷ gs) v h = (under_out g v h.0, unders_out gs v h.1)
 
-mosts_in : (gs : List Plane) (v : Spot) → AllByRecursion (λ g. AtMost g v) gs → Every (λ b. Solves 4 b (point v)) (map at_most gs)
+mosts_in : (gs : List Plane) (v : Spot) → AllByRecursion (λ g. IsNotAbove g v) gs → Every (λ b. Solves 4 b (point v)) (map at_most gs)
 mosts_in [] v h = tt
 mosts_in (g ∷ gs) v h = (most_in g v h.0, mosts_in gs v h.1)
 
-mosts_out : (gs : List Plane) (v : Spot) → Every (λ b. Solves 4 b (point v)) (map at_most gs) → AllByRecursion (λ g. AtMost g v) gs
+mosts_out : (gs : List Plane) (v : Spot) → Every (λ b. Solves 4 b (point v)) (map at_most gs) → AllByRecursion (λ g. IsNotAbove g v) gs
 mosts_out [] v h = tt
 mosts_out (g ∷ gs) v h = (most_out g v h.0, mosts_out gs v h.1)
 
@@ -86,7 +86,7 @@ weight_value v =
 module _ (n : Plane) (gs hs : List Plane) where
   record Fits (v : Spot) : Type 0 where
     inside : InFace n gs v
-    loose : AllByRecursion (λ h. AtMost h v) hs
+    loose : AllByRecursion (λ h. IsNotAbove h v) hs
 
   abbrev system : List (Inequality 4)
   system = map under (weight ∷ gs) ++ map at_most (n ∷ opposite n ∷ hs)
@@ -161,11 +161,11 @@ cuts_decided f p = by (under_decided f p) (under_decided f (opposite p))
     by (inl a) (inr n) = inr (λ c. n (turned c.high))
     by (inr n) b = inr (λ c. n c.low)
 
--- what a blade leaves of a face
-pub at_blade : (b : Blade) (f : Face) → (fs : List Face) × AtBlade b f fs
+-- what a cutting plane leaves of a face
+pub at_blade : (b : CuttingPlane) (f : Face) → (fs : List Face) × AtCuttingPlane b f fs
 at_blade b f = by (meets_decided f b.face) (cuts_decided f b.plane)
   where
-    by : Decided (Meets f b.face) → Decided (Cuts f b.plane) → (fs : List Face) × AtBlade b f fs
+    by : Decided (Meets f b.face) → Decided (Cuts f b.plane) → (fs : List Face) × AtCuttingPlane b f fs
     by (inl m) (inl c) = (below f b.plane ∷ above f b.plane ∷ [], splits m c)
     by (inl m) (inr n) = (f ∷ [], whole (λ x c. n c))
     by (inr n) c = (f ∷ [], whole (λ m x. n m))

@@ -10,46 +10,46 @@ use Rattle.ember_model.specs.declared.plane.Plane.{Plane}
 use Rattle.ember_model.specs.declared.face.Face.{Face}
 use Rattle.ember_model.specs.Planes.{opposite}
 use Rattle.ember_model.specs.Faces.{face_of, Everywhere, Contains, Meets}
-use Rattle.ember_box.specs.Regions.{Blade, AtBlade, splits, whole}
+use Rattle.ember_box.specs.Regions.{CuttingPlane, AtCuttingPlane, splits, whole}
 use Rattle.ember_trace.proofs.FilledFaces.{inside_below}
 use Rattle.ember_leaf.specs.declared.cutter.Cutter.{Cutter}
-use Rattle.ember_leaf.specs.Pairs.{HasHolder}
-use Rattle.ember_leaf.specs.Cutters.{blades_with, blades_by, blades_in, owners_by, owners_in, Without, ended, left, dropped, AreDisjoint, IsFree, AreLeft, AreSplit}
-use Rattle.ember_leaf.proofs.Starting.{each_every}
+use Rattle.ember_leaf.specs.TriRelations.{HasContaining}
+use Rattle.ember_leaf.specs.Cutters.{cutting_planes_with, blades_by, blades_in, owners_by, owners_in, Without, ended, left, dropped, AreDisjoint, IsFree, AreLeft, AreSplit}
+use Rattle.ember_leaf.proofs.WallClips.{each_every}
 use Rattle.ember_leaf.proofs.Deciding.{at_blade}
 
--- ---- blades, one after another
-abbrev AreCutBy : List Blade → List Face → List Face → Type 0
-AreCutBy bs fs gs = Chain (λ b. Each (AtBlade b)) bs fs gs
+-- ---- cutting planes, one after another
+abbrev AreCutBy : List CuttingPlane → List Face → List Face → Type 0
+AreCutBy bs fs gs = Chain (λ b. Each (AtCuttingPlane b)) bs fs gs
 
-pub cuts_both : {bs : List Blade} {fs gs us vs : List Face} → AreCutBy bs fs gs → AreCutBy bs us vs → AreCutBy bs (fs ++ us) (gs ++ vs)
+pub cuts_both : {bs : List CuttingPlane} {fs gs us vs : List Face} → AreCutBy bs fs gs → AreCutBy bs us vs → AreCutBy bs (fs ++ us) (gs ++ vs)
 cuts_both done done = done
 cuts_both (step r c) (step q d) = step (each_append r q) (cuts_both c d)
 
-pub cuts_none : (bs : List Blade) → AreCutBy bs [] []
+pub cuts_none : (bs : List CuttingPlane) → AreCutBy bs [] []
 cuts_none [] = done
 cuts_none (b ∷ bs) = step none (cuts_none bs)
 
 -- what a face doesn't meet leaves it whole
-pub cuts_unmet : (t : Tri) (ps : List Plane) (f : Face) → (Meets f (face_of t) → ⊥) → AreCutBy (blades_with t ps) (f ∷ []) (f ∷ [])
+pub cuts_unmet : (t : Tri) (ps : List Plane) (f : Face) → (Meets f (face_of t) → ⊥) → AreCutBy (cutting_planes_with t ps) (f ∷ []) (f ∷ [])
 cuts_unmet t [] f n = done
 cuts_unmet t (p ∷ ps) f n = step (more (whole (λ m c. n m)) none) (cuts_unmet t ps f n)
 
--- some list of faces is what blades leave
-each_left : (b : Blade) (fs : List Face) → (gs : List Face) × Each (AtBlade b) fs gs
+-- some list of faces is what cutting planes leave
+each_left : (b : CuttingPlane) (fs : List Face) → (gs : List Face) × Each (AtCuttingPlane b) fs gs
 each_left b [] = ([], none)
 each_left b (f ∷ fs) = let h = at_blade b f in let k = each_left b fs in (h.0 ++ k.0, more h.1 k.1)
 
-all_left : (bs : List Blade) (fs : List Face) → (gs : List Face) × AreCutBy bs fs gs
+all_left : (bs : List CuttingPlane) (fs : List Face) → (gs : List Face) × AreCutBy bs fs gs
 all_left [] fs = (fs, done)
 all_left (b ∷ bs) fs = let h = each_left b fs in let k = all_left bs h.0 in (k.0, step h.1 k.1)
 
--- what parts keep, blades keep
-pub cuts_every : (P : Face → Type 0) → ((f : Face) (p : Plane) → P f → P (record { support = f.support; edges = f.edges ++ p ∷ [] })) → {bs : List Blade} {fs gs : List Face} → AreCutBy bs fs gs → Every P fs → Every P gs
+-- what parts keep, cutting planes keep
+pub cuts_every : (P : Face → Type 0) → ((f : Face) (p : Plane) → P f → P (record { support = f.support; edges = f.edges ++ p ∷ [] })) → {bs : List CuttingPlane} {fs gs : List Face} → AreCutBy bs fs gs → Every P fs → Every P gs
 cuts_every P k done h = h
 cuts_every P k (step {x = b} r c) h = cuts_every P k c (each_every P P by r h)
   where
-    by : (f : Face) (gs : List Face) → P f → AtBlade b f gs → Every P gs
+    by : (f : Face) (gs : List Face) → P f → AtCuttingPlane b f gs → Every P gs
     by f gs p (splits m c) = (k f b.plane p, (k f (opposite b.plane) p, tt))
     by f gs p (whole n) = (p, tt)
 
@@ -89,9 +89,9 @@ every_all P [] h = All-nil P
 every_all P (x ∷ xs) h = All-cons P x xs h.0 (every_all P xs h.1)
 
 -- ---- triangles that own
-pub held_before : (ts us : List Tri) (f : Face) → HasHolder ts f → HasHolder (ts ++ us) f
+pub held_before : (ts us : List Tri) (f : Face) → HasContaining ts f → HasContaining (ts ++ us) f
 held_before ts us f h =
-    record { place = h.place; tri = h.tri; here = by ts h.place h.here; holds = h.holds }
+    record { index = h.index; tri = h.tri; here = by ts h.index h.here; holds = h.holds }
   where
     none_some : None ≡ Some h.tri → ⊥
     none_some e = cc
@@ -101,10 +101,10 @@ held_before ts us f h =
     by (t ∷ ts) zero e = e
     by (t ∷ ts) (suc i) e = by ts i e
 
-pub held_after : (ts us : List Tri) (f : Face) → HasHolder us f → HasHolder (ts ++ us) f
+pub held_after : (ts us : List Tri) (f : Face) → HasContaining us f → HasContaining (ts ++ us) f
 held_after [] us f h = h
 held_after (t ∷ ts) us f h =
-    let r = held_after ts us f h in record { place = suc r.place; tri = r.tri; here = r.here; holds = r.holds }
+    let r = held_after ts us f h in record { index = suc r.index; tri = r.tri; here = r.here; holds = r.holds }
 
 pub free_both : (ts us : List Tri) (f : Face) → IsFree ts f → IsFree us f → IsFree (ts ++ us) f
 free_both ts us f h k = record { free = by ts h.free }
@@ -113,9 +113,9 @@ free_both ts us f h k = record { free = by ts h.free }
     by [] a = k.free
     by (t ∷ ts) a = (a.0, by ts a.1)
 
-part_held : (ts : List Tri) (f : Face) (p : Plane) → HasHolder ts f → HasHolder ts (record { support = f.support; edges = f.edges ++ p ∷ [] })
+part_held : (ts : List Tri) (f : Face) (p : Plane) → HasContaining ts f → HasContaining ts (record { support = f.support; edges = f.edges ++ p ∷ [] })
 part_held ts f p h =
-    record { place = h.place; tri = h.tri; here = h.here; holds = record { holds = λ v i. h.holds.holds v (inside_below f p v i).0 } }
+    record { index = h.index; tri = h.tri; here = h.here; holds = record { holds = λ v i. h.holds.holds v (inside_below f p v i).0 } }
 
 part_free : (ts : List Tri) (f : Face) (p : Plane) → IsFree ts f → IsFree ts (record { support = f.support; edges = f.edges ++ p ∷ [] })
 part_free ts f p h = record { free = by ts h.free }
@@ -125,25 +125,25 @@ part_free ts f p h = record { free = by ts h.free }
     by (t ∷ ts) a = (record { holds = λ v i. a.0.holds v (inside_below f p v i).0 }, by ts a.1)
 
 -- ---- one triangle more
-module _ (old new : List Tri) (bs : List Blade) where
-  pub next_left : {all gs hs : List Face} → Without (HasHolder old) (IsFree old) all gs → Each (λ g. AreLeft bs new (g ∷ [])) gs hs → AreLeft bs (old ++ new) all hs
+module _ (old new : List Tri) (bs : List CuttingPlane) where
+  pub next_left : {all gs hs : List Face} → Without (HasContaining old) (IsFree old) all gs → Each (λ g. AreLeft bs new (g ∷ [])) gs hs → AreLeft bs (old ++ new) all hs
   next_left ended none = record { all = []; cuts = cuts_none bs; without = ended }
   next_left (left {x = f} q w) (more r e) =
       let t = next_left w e in let k = cuts_every (IsFree old) (part_free old) r.cuts (q, tt) in
       record { all = r.all ++ t.all; cuts = cuts_both r.cuts t.cuts; without = without_append (without_map (IsFree old) (λ g a h. held_after old new g h) (λ g a h. free_both old new g a h) k r.without) t.without }
   next_left (dropped {x = f} p w) e =
       let t = next_left w e in let s = all_left bs (f ∷ []) in
-      let k = cuts_every (HasHolder (old ++ new)) (part_held (old ++ new)) s.1 (held_before old new f p, tt) in
+      let k = cuts_every (HasContaining (old ++ new)) (part_held (old ++ new)) s.1 (held_before old new f p, tt) in
       record { all = s.0 ++ t.all; cuts = cuts_both s.1 t.cuts; without = without_append (all_dropped s.0 k) t.without }
 
 -- ---- all triangles, one after another
-left_from : (bs : List Blade) (ts : List Tri) (f : Face) {cs : List Cutter} {fs gs : List Face} → AreLeft bs ts (f ∷ []) fs → Chain AreSplit cs fs gs → AreLeft (bs ++ blades_in cs) (ts ++ owners_in cs) (f ∷ []) gs
+left_from : (bs : List CuttingPlane) (ts : List Tri) (f : Face) {cs : List Cutter} {fs gs : List Face} → AreLeft bs ts (f ∷ []) fs → Chain AreSplit cs fs gs → AreLeft (bs ++ blades_in cs) (ts ++ owners_in cs) (f ∷ []) gs
 left_from bs ts f {gs = gs} l done =
-    subst (λ (us : List Tri). AreLeft (bs ++ []) us (f ∷ []) gs) (sym (append-nil ts)) (subst (λ (cs : List Blade). AreLeft cs ts (f ∷ []) gs) (sym (append-nil bs)) l)
+    subst (λ (us : List Tri). AreLeft (bs ++ []) us (f ∷ []) gs) (sym (append-nil ts)) (subst (λ (cs : List CuttingPlane). AreLeft cs ts (f ∷ []) gs) (sym (append-nil bs)) l)
 left_from bs ts f {gs = gs} l (step {x = c} {xs = cs} r d) =
     let n = next_left ts (owners_by c) (blades_by c) l.without r in
     let h = left_from (bs ++ blades_by c) (ts ++ owners_by c) f (record { all = n.all; cuts = chain_append l.cuts n.cuts; without = n.without }) d in
-    subst (λ (us : List Tri). AreLeft (bs ++ (blades_by c ++ blades_in cs)) us (f ∷ []) gs) (append_assoc ts (owners_by c) (owners_in cs)) (subst (λ (ds : List Blade). AreLeft ds ((ts ++ owners_by c) ++ owners_in cs) (f ∷ []) gs) (append_assoc bs (blades_by c) (blades_in cs)) h)
+    subst (λ (us : List Tri). AreLeft (bs ++ (blades_by c ++ blades_in cs)) us (f ∷ []) gs) (append_assoc ts (owners_by c) (owners_in cs)) (subst (λ (ds : List CuttingPlane). AreLeft ds ((ts ++ owners_by c) ++ owners_in cs) (f ∷ []) gs) (append_assoc bs (blades_by c) (blades_in cs)) h)
 
 -- what is left of a start, and how it comes from all its regions
 pub regions_left : (cs : List Cutter) (f : Face) (gs : List Face) → Chain AreSplit cs (f ∷ []) gs → AreLeft (blades_in cs) (owners_in cs) (f ∷ []) gs

@@ -12,23 +12,23 @@ use Rattle.ember_model.specs.declared.face.Face.{Face}
 use Rattle.ember_model.specs.Planes.{value_at, support_of, opposite}
 use Rattle.ember_model.specs.Faces.{face_of, edges_of, is_flat, is_inside, is_in_closed, Somewhere, Everywhere, Meets, Contains, Cuts, below, above}
 use Rattle.ember_model.proofs.SignTests.{negative_in, negative_out, positive_out, zero_out, clash}
-use Rattle.ember_box.specs.Regions.{Blade, AtBlade, splits, whole}
-use Rattle.ember_poly.specs.Rings.{Under, AtMost}
+use Rattle.ember_box.specs.Regions.{CuttingPlane, AtCuttingPlane, splits, whole}
+use Rattle.ember_poly.specs.Rings.{IsBelow, IsNotAbove}
 use Rattle.ember_poly.specs.Cuts.{AreParts, IsReach}
-use Rattle.ember_poly.specs.declared.answers.Reach.{Reach}
-use Rattle.ember_poly.specs.declared.answers.Reach.TheVariants.{Below, Above, On, Both}
+use Rattle.ember_poly.specs.declared.reach_cut.Reach.{Reach}
+use Rattle.ember_poly.specs.declared.reach_cut.Reach.TheVariants.{Below, Above, On, Both}
 use Rattle.ember_poly.proofs.FaceTests.{inside_in, inside_out, closed_out}
-use Rattle.ember_poly.proofs.Reached.{over_from_opposite}
+use Rattle.ember_poly.proofs.ReachBySigns.{over_from_opposite}
 use Rattle.ember_ref.proofs.FarTriangles.{inside_closed}
 use Rattle.ember_trace.proofs.FilledFaces.{inside_below}
 use Rattle.ember_leaf.specs.declared.cutter.Cutter.{Cutter}
 use Rattle.ember_leaf.specs.declared.cutter.Role.{Role}
 use Rattle.ember_leaf.specs.declared.cutter.Role.TheVariants.{Across, Coplanar, Owner}
-use Rattle.ember_leaf.specs.Pairs.{HasHolder}
+use Rattle.ember_leaf.specs.TriRelations.{HasContaining}
 use Rattle.ember_leaf.specs.Written.{HasGrown}
-use Rattle.ember_leaf.specs.Cutters.{planes_as, owner_as, blades_with, blades_by, owners_by, Without, ended, left, dropped, AreDisjoint, IsFree, AreLeft, AtCutter, AtPlane, AtEdges, AreAround, AreLast, ShareAPlane, SharesAs, CanCut}
-use Rattle.ember_leaf.proofs.Starting.{inside_in_below}
-use Rattle.ember_leaf.proofs.Splitting.{take_all, region_parts, region_whole}
+use Rattle.ember_leaf.specs.Cutters.{planes_as, owner_as, cutting_planes_with, blades_by, owners_by, Without, ended, left, dropped, AreDisjoint, IsFree, AreLeft, AtCutter, AtPlane, AtEdges, AreAround, AreLast, ShareAPlane, SharesAs, CanCut}
+use Rattle.ember_leaf.proofs.WallClips.{inside_in_below}
+use Rattle.ember_leaf.proofs.RegionCuts.{take_all, region_parts, region_whole}
 use Rattle.ember_leaf.proofs.Leaving.{cuts_both, cuts_unmet, without_append, none_dropped}
 use Rattle.ember_leaf.proofs.Sharing.{unmet_disjoint, meets_inside}
 
@@ -43,13 +43,13 @@ unmet_left c f n =
     record { all = f ∷ []; cuts = cuts_unmet c.tri (planes_as c.role c.tri) f n; without = left (free_as c.role c.tri f (unmet_disjoint c.tri f n)) ended }
 
 -- ---- a triangle in another plane
-plane_left : (t : Tri) (p : Plane) (f : Face) {gs : List Face} → Meets f (face_of t) → AtPlane p f gs → AreLeft (blades_with t (p ∷ [])) [] (f ∷ []) gs
+plane_left : (t : Tri) (p : Plane) (f : Face) {gs : List Face} → Meets f (face_of t) → AtPlane p f gs → AreLeft (cutting_planes_with t (p ∷ [])) [] (f ∷ []) gs
 plane_left t p f {gs} m h =
-    record { all = gs; cuts = step (subst (λ (l : List Face). Each (AtBlade (record { face = face_of t; plane = p })) (f ∷ []) l) (append-nil gs) (more (h (face_of t) m) none)) done; without = none_dropped gs (λ g. record { free = tt }) }
+    record { all = gs; cuts = step (subst (λ (l : List Face). Each (AtCuttingPlane (record { face = face_of t; plane = p })) (f ∷ []) l) (append-nil gs) (more (h (face_of t) m) none)) done; without = none_dropped gs (λ g. record { free = tt }) }
 
 pub across_left : (c : Cutter) (p : Plane) (f : Face) {old new : List Face} → c.role ≡ Across → p ≡ support_of c.tri → Meets f (face_of c.tri) → HasGrown (AtPlane p f) old new → HasGrown (AtCutter c f) old new
 across_left c p f {old} {new} e q m g =
-    record { more = g.more; is = g.is; holds = subst (λ (k : Role). AreLeft (blades_with c.tri (planes_as k c.tri)) (owner_as k c.tri) (f ∷ []) g.more) (sym e) (plane_left c.tri (support_of c.tri) f m (subst (λ (p : Plane). AtPlane p f g.more) q g.holds)) }
+    record { more = g.more; is = g.is; holds = subst (λ (k : Role). AreLeft (cutting_planes_with c.tri (planes_as k c.tri)) (owner_as k c.tri) (f ∷ []) g.more) (sym e) (plane_left c.tri (support_of c.tri) f m (subst (λ (p : Plane). AtPlane p f g.more) q g.holds)) }
 
 pub plane_parts : (p : Plane) (f low high : Face) (old mid new : List Face) → AreParts f p low high → mid ≡ old ++ low ∷ [] → new ≡ mid ++ high ∷ [] → HasGrown (AtPlane p f) old new
 plane_parts p f low high old mid new a e q =
@@ -65,7 +65,7 @@ module _ (t : Tri) (p : Plane) (ps : List Plane) (f : Face) (h : AreLast t (p �
   rest_around =
       record { inside = λ v i. (h.around.inside v i).1; closed = λ v i. (h.around.closed v i).1 }
 
-  shared_under : Under p h.shared.at
+  shared_under : IsBelow p h.shared.at
   shared_under = (h.around.inside h.shared.at h.shared.holds).0
 
   meets_too : Meets f (face_of t)
@@ -100,11 +100,11 @@ module _ (t : Tri) (p : Plane) (ps : List Plane) (f : Face) (h : AreLast t (p �
       absurd (omega (arith, linear, u, o))
   all_under Both r n = absurd (n refl)
 
-  pub whole_left : (ts : List Tri) (k : Reach) {gs : List Face} → IsReach f p k → (k ≡ Both → ⊥) → AreLeft (blades_with t ps) ts (f ∷ []) gs → AreLeft (blades_with t (p ∷ ps)) ts (f ∷ []) gs
+  pub whole_left : (ts : List Tri) (k : Reach) {gs : List Face} → IsReach f p k → (k ≡ Both → ⊥) → AreLeft (cutting_planes_with t ps) ts (f ∷ []) gs → AreLeft (cutting_planes_with t (p ∷ ps)) ts (f ∷ []) gs
   whole_left ts k r n l =
       record { all = l.all; cuts = step (more (region_whole (record { face = face_of t; plane = p }) f k r n) none) l.cuts; without = l.without }
 
-  pub parts_left : (k : Role) (low high : Face) {gs : List Face} → AreParts f p low high → AreLeft (blades_with t ps) (owner_as k t) (low ∷ []) gs → AreLeft (blades_with t (p ∷ ps)) (owner_as k t) (f ∷ []) (gs ++ high ∷ [])
+  pub parts_left : (k : Role) (low high : Face) {gs : List Face} → AreParts f p low high → AreLeft (cutting_planes_with t ps) (owner_as k t) (low ∷ []) gs → AreLeft (cutting_planes_with t (p ∷ ps)) (owner_as k t) (f ∷ []) (gs ++ high ∷ [])
   parts_left k low high a l =
       let n : Meets high (face_of t) → ⊥ = subst (λ (g : Face). Meets g (face_of t) → ⊥) (sym a.is_high) high_unmet in
       record {
@@ -117,8 +117,8 @@ pub low_is_last : (t : Tri) (p : Plane) (ps : List Plane) (f low high : Face) �
 low_is_last t p ps f low high h a = subst (AreLast t ps) (sym a.is_low) (low_last t p ps f h)
 
 -- ---- after the last edge plane
-pub none_held : (t : Tri) (f : Face) → AreLast t [] f → HasHolder (t ∷ []) f
-none_held t f h = record { place = 0; tri = t; here = refl; holds = record { holds = λ v i. h.within v i tt } }
+pub none_held : (t : Tri) (f : Face) → AreLast t [] f → HasContaining (t ∷ []) f
+none_held t f h = record { index = 0; tri = t; here = refl; holds = record { holds = λ v i. h.within v i tt } }
 
 pub last_dropped : (c : Cutter) (f : Face) (old : List Face) → c.role ≡ Owner → AreLast c.tri [] f → HasGrown (AtEdges c [] f) old old
 last_dropped c f old e h =
@@ -147,7 +147,7 @@ unfolding face_of
 around t =
     record { inside = λ v i. (inside_out (face_of t) v i).within; closed = λ v i. (closed_out (face_of t) v i).within }
 
-inside_all : (t : Tri) (v : Spot) → value_at (support_of t) v ≡ pos 0 → pos 0 <ℤ v.w → AllByRecursion (λ p. Under p v) (edges_of t) → is_inside (face_of t) v ≡ true
+inside_all : (t : Tri) (v : Spot) → value_at (support_of t) v ≡ pos 0 → pos 0 <ℤ v.w → AllByRecursion (λ p. IsBelow p v) (edges_of t) → is_inside (face_of t) v ≡ true
 unfolding face_of
 inside_all t v e w us = inside_in (face_of t) v (record { flat = e; weight = w; within = us })
 
@@ -169,7 +169,7 @@ edges_last c es f h n e m =
 
 pub edges_left : (c : Cutter) (es : List Plane) (f : Face) (old new : List Face) → c.role ≢ Across → es ≡ edges_of c.tri → HasGrown (AtEdges c es f) old new → HasGrown (AtCutter c f) old new
 edges_left c es f old new n e g =
-    record { more = g.more; is = g.is; holds = subst (λ (ps : List Plane). AreLeft (blades_with c.tri ps) (owners_by c) (f ∷ []) g.more) (e ∙ sym (by c.role n)) g.holds }
+    record { more = g.more; is = g.is; holds = subst (λ (ps : List Plane). AreLeft (cutting_planes_with c.tri ps) (owners_by c) (f ∷ []) g.more) (e ∙ sym (by c.role n)) g.holds }
   where
     by : (k : Role) → (k ≡ Across → ⊥) → planes_as k c.tri ≡ edges_of c.tri
     by Across n = absurd (n refl)

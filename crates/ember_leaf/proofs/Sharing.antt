@@ -14,12 +14,12 @@ use Rattle.ember_model.specs.Planes.{value_at, support_of}
 use Rattle.ember_model.specs.Faces.{is_flat, face_of, edges_of, is_inside, is_in_closed, Somewhere, Everywhere, Meets, Contains, Cuts, below, above}
 use Rattle.ember_model.specs.Owners.{is_coplanar}
 use Rattle.ember_model.proofs.SignTests.{clash}
-use Rattle.ember_poly.specs.Rings.{Under, AtMost, InFace, InClosedFace}
-use Rattle.ember_poly.specs.Spans.{mixed2}
+use Rattle.ember_poly.specs.Rings.{IsBelow, IsNotAbove, InFace, InClosedFace}
+use Rattle.ember_poly.specs.Chords.{mixed2}
 use Rattle.ember_poly.proofs.Chains.{each_map}
 use Rattle.ember_poly.proofs.FaceTests.{inside_in, inside_out, closed_out}
-use Rattle.ember_poly.proofs.Inner.{inside_sum}
-use Rattle.ember_poly.proofs.Strict.{mixed2_value, eventually_each}
+use Rattle.ember_poly.proofs.InsidePoints.{inside_sum}
+use Rattle.ember_poly.proofs.InsideSigns.{mixed2_value, eventually_each}
 use Rattle.ember_poly.proofs.TriangleRing.{tri_sides}
 use Rattle.ember_coplanar.proofs.Coplanar.{lies_on_both}
 use Rattle.ember_coplanar.proofs.Owning.{lies_by_support}
@@ -27,8 +27,8 @@ use Rattle.ember_ref.proofs.FarTriangles.{inside_closed}
 use Rattle.ember_trace.proofs.FlatPlanes.{lies_flat, shared_face}
 use Rattle.ember_leaf.specs.Leaves.{IsRegionOf}
 use Rattle.ember_leaf.specs.Cutters.{AreDisjoint, ShareAPlane}
-use Rattle.ember_leaf.proofs.Apart.{coplanar_flats}
-use Rattle.ember_leaf.proofs.Placing.{face_support}
+use Rattle.ember_leaf.proofs.TriRelations.{coplanar_flats}
+use Rattle.ember_leaf.proofs.RegionOrder.{face_support}
 use Rattle.ember_leaf.proofs.TriFaces.{has_inside, inside_ring, closed_ring, ring_inside}
 
 -- ---- the other way round
@@ -61,7 +61,7 @@ module _ (t : Tri) (f : Face) (v u : Spot) (iv : InFace f.support f.edges v) (iu
   abbrev moved : ℕ → Spot
   moved m = mixed2 (pos m) (pos 1) v u
 
-  moved_under : (e : Plane) → Under e v → Eventually (λ m. Under e (moved m))
+  moved_under : (e : Plane) → IsBelow e v → Eventually (λ m. IsBelow e (moved m))
   moved_under e h =
       eventually_map (λ m p. record { under = rw (mixed2_value (pos m) (pos 1) v u e) (flip (value_at e v) (pos m) (value_at e u) p) }) (eventually_pos {a = neg_ℤ (value_at e v)} (neg_ℤ (value_at e u)) (positive h.under))
     where
@@ -74,7 +74,7 @@ module _ (t : Tri) (f : Face) (v u : Spot) (iv : InFace f.support f.edges v) (iu
 
   moved_inside : Eventually (λ m. InFace f.support f.edges (moved m))
   moved_inside =
-      eventually_map (λ m p. record { flat = mixed2_value (pos m) (pos 1) v u f.support ∙ both (pos m) iv.flat flat; weight = weight v.w u.w (pos m) p.0; within = p.1 }) (eventually_both (eventually_pos u.w iv.weight) (eventually_each (λ e m. Under e (moved m)) f.edges (each_map (λ e. Under e v) (λ e. Eventually (λ m. Under e (moved m))) f.edges (λ e h. moved_under e h) iv.within)))
+      eventually_map (λ m p. record { flat = mixed2_value (pos m) (pos 1) v u f.support ∙ both (pos m) iv.flat flat; weight = weight v.w u.w (pos m) p.0; within = p.1 }) (eventually_both (eventually_pos u.w iv.weight) (eventually_each (λ e m. IsBelow e (moved m)) f.edges (each_map (λ e. IsBelow e v) (λ e. Eventually (λ m. IsBelow e (moved m))) f.edges (λ e h. moved_under e h) iv.within)))
     where
       weight : (w z m : ℤ) → pos 0 <ℤ (w *ℤ m +ℤ z) → pos 0 <ℤ (m *ℤ w +ℤ pos 1 *ℤ z)
       weight w z m p =

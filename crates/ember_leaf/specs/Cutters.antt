@@ -10,16 +10,16 @@ use Rattle.ember_model.specs.declared.face.Face.{Face}
 use Rattle.ember_model.specs.Planes.{support_of, value_at}
 use Rattle.ember_model.specs.Faces.{edges_of, face_of, is_inside, is_in_closed, Somewhere, Everywhere, Meets, Contains}
 use Rattle.ember_model.specs.Owners.{is_coplanar}
-use Rattle.ember_box.specs.declared.spans.Span.{Span}
-use Rattle.ember_box.specs.declared.spans.Spans.{Spans}
-use Rattle.ember_box.specs.Spans.{span_between}
-use Rattle.ember_box.specs.Regions.{Blade, AtBlade}
-use Rattle.ember_poly.specs.Rings.{Under, AtMost}
+use Rattle.ember_box.specs.declared.aabb.Interval.{Interval}
+use Rattle.ember_box.specs.declared.aabb.Aabb.{Aabb}
+use Rattle.ember_box.specs.Aabbs.{interval_between}
+use Rattle.ember_box.specs.Regions.{CuttingPlane, AtCuttingPlane}
+use Rattle.ember_poly.specs.Rings.{IsBelow, IsNotAbove}
 use Rattle.ember_poly.specs.Cuts.{HasInside}
 use Rattle.ember_leaf.specs.declared.cutter.Role.{Role}
 use Rattle.ember_leaf.specs.declared.cutter.Role.TheVariants.{Across, Coplanar, Owner}
 use Rattle.ember_leaf.specs.declared.cutter.Cutter.{Cutter}
-use Rattle.ember_leaf.specs.Pairs.{HasHolder}
+use Rattle.ember_leaf.specs.TriRelations.{HasContaining}
 
 -- ---- what a triangle cuts by, and whether it owns what it contains
 abbrev pub planes_as : Role → Tri → List Plane
@@ -53,14 +53,14 @@ pub record IsAdded (u : Tri) (k : Role) (old new : List Cutter) : Type 0 where
   pub tri : cutter.tri ≡ u
   pub role : cutter.role ≡ k
 
--- the blades of a triangle's face with these planes
-abbrev pub blades_with : Tri → List Plane → List Blade
-blades_with t ps = map (λ p. record { face = face_of t; plane = p }) ps
+-- the cutting planes of a triangle's face with these planes
+abbrev pub cutting_planes_with : Tri → List Plane → List CuttingPlane
+cutting_planes_with t ps = map (λ p. record { face = face_of t; plane = p }) ps
 
-abbrev pub blades_by : Cutter → List Blade
-blades_by c = blades_with c.tri (planes_as c.role c.tri)
+abbrev pub blades_by : Cutter → List CuttingPlane
+blades_by c = cutting_planes_with c.tri (planes_as c.role c.tri)
 
-abbrev pub blades_in : List Cutter → List Blade
+abbrev pub blades_in : List Cutter → List CuttingPlane
 blades_in cs = flat_map blades_by cs
 
 abbrev pub owners_by : Cutter → List Tri
@@ -84,11 +84,11 @@ AreDisjoint g f = Everywhere f (λ v. is_inside g v ≡ false)
 pub record IsFree (ts : List Tri) (f : Face) : Type 0 where
   pub free : AllByRecursion (λ t. AreDisjoint (face_of t) f) ts
 
--- the blades leave these faces, but for some that the triangles contain
-pub record AreLeft (bs : List Blade) (ts : List Tri) (fs gs : List Face) : Type 0 where
+-- the cutting planes leave these faces, but for some that the triangles contain
+pub record AreLeft (bs : List CuttingPlane) (ts : List Tri) (fs gs : List Face) : Type 0 where
   pub all : List Face
-  pub cuts : Chain (λ b. Each (AtBlade b)) bs fs all
-  pub without : Without (HasHolder ts) (IsFree ts) all gs
+  pub cuts : Chain (λ b. Each (AtCuttingPlane b)) bs fs all
+  pub without : Without (HasContaining ts) (IsFree ts) all gs
 
 -- what a triangle leaves of a region
 abbrev pub AtCutter : Cutter → Face → List Face → Type 0
@@ -113,22 +113,22 @@ MeetsFirst c (f ∷ fs) = Meets f (face_of c.tri)
 
 -- planes that are negative inside the triangle, and nowhere positive in its closed face
 pub record AreAround (t : Tri) (ps : List Plane) : Type 0 where
-  pub inside : (v : Spot) → is_inside (face_of t) v ≡ true → AllByRecursion (λ p. Under p v) ps
-  pub closed : (v : Spot) → is_in_closed (face_of t) v ≡ true → AllByRecursion (λ p. AtMost p v) ps
+  pub inside : (v : Spot) → is_inside (face_of t) v ≡ true → AllByRecursion (λ p. IsBelow p v) ps
+  pub closed : (v : Spot) → is_in_closed (face_of t) v ≡ true → AllByRecursion (λ p. IsNotAbove p v) ps
 
 -- the planes cut out of f what lies in the triangle
 pub record AreLast (t : Tri) (ps : List Plane) (f : Face) : Type 0 where
   pub around : AreAround t ps
   pub shared : Somewhere f (λ v. is_inside (face_of t) v ≡ true)
-  pub within : (v : Spot) → is_inside f v ≡ true → AllByRecursion (λ p. Under p v) ps → is_inside (face_of t) v ≡ true
+  pub within : (v : Spot) → is_inside f v ≡ true → AllByRecursion (λ p. IsBelow p v) ps → is_inside (face_of t) v ≡ true
 
 -- what a plane leaves of a region that meets the face of its triangle
 abbrev pub AtPlane : Plane → Face → List Face → Type 0
-AtPlane p f gs = (g : Face) → Meets f g → AtBlade (record { face = g; plane = p }) f gs
+AtPlane p f gs = (g : Face) → Meets f g → AtCuttingPlane (record { face = g; plane = p }) f gs
 
 -- what the planes leave of a region
 abbrev pub AtEdges : Cutter → List Plane → Face → List Face → Type 0
-AtEdges c ps f gs = AreLeft (blades_with c.tri ps) (owners_by c) (f ∷ []) gs
+AtEdges c ps f gs = AreLeft (cutting_planes_with c.tri ps) (owners_by c) (f ∷ []) gs
 
 -- the triangle and the face lie in one plane, if the triangle cuts by its edge planes
 pub record ShareAPlane (t : Tri) (f : Face) : Type 0 where
@@ -145,36 +145,36 @@ pub record CanCut (c : Cutter) (f : Face) : Type 0 where
   pub somewhere : HasInside f
 
 -- ---- bounds
--- x / w lies in the span, and a point in the box
-pub record IsHeld (s : Span) (x w : ℤ) : Type 0 where
+-- x / w lies in the interval, and a point in the box
+pub record IsWithinInterval (s : Interval) (x w : ℤ) : Type 0 where
   pub low : (s.low *ℤ w) ≤ℤ x
   pub high : x ≤ℤ (s.high *ℤ w)
 
-pub record AreHeld (b : Spans) (v : Spot) : Type 0 where
-  pub x : IsHeld b.x v.x v.w
-  pub y : IsHeld b.y v.y v.w
-  pub z : IsHeld b.z v.z v.w
+pub record IsWithinAabb (b : Aabb) (v : Spot) : Type 0 where
+  pub x : IsWithinInterval b.x v.x v.w
+  pub y : IsWithinInterval b.y v.y v.w
+  pub z : IsWithinInterval b.z v.z v.w
 
 -- the inside of f lies in that of t, and within the bounds
-pub record IsBounded (t : Tri) (b : Spans) (f : Face) : Type 0 where
+pub record IsBounded (t : Tri) (b : Aabb) (f : Face) : Type 0 where
   pub within : Contains (face_of t) f
-  pub bounds : Everywhere f (AreHeld b)
+  pub bounds : Everywhere f (IsWithinAabb b)
 
--- all blades of the first list stand in the second, but for some whose faces no face with the
+-- all cutting planes of the first list stand in the second, but for some whose faces no face with the
 -- property meets
-pub data Sheds (P : Face → Type 0) : List Blade → List Blade → Type 0 where
-  all_seen : Sheds P [] []
-  stays : {b : Blade} {xs ys : List Blade} → Sheds P xs ys → Sheds P (b ∷ xs) (b ∷ ys)
-  goes : {b : Blade} {xs ys : List Blade} → ((f : Face) → P f → Meets f b.face → ⊥) → Sheds P xs ys → Sheds P (b ∷ xs) ys
+pub data OmitsUnmet (P : Face → Type 0) : List CuttingPlane → List CuttingPlane → Type 0 where
+  all_seen : OmitsUnmet P [] []
+  stays : {b : CuttingPlane} {xs ys : List CuttingPlane} → OmitsUnmet P xs ys → OmitsUnmet P (b ∷ xs) (b ∷ ys)
+  goes : {b : CuttingPlane} {xs ys : List CuttingPlane} → ((f : Face) → P f → Meets f b.face → ⊥) → OmitsUnmet P xs ys → OmitsUnmet P (b ∷ xs) ys
 
--- a list has grown by these blades, but for such
-abbrev pub Adds : (Face → Type 0) → List Blade → List Cutter → List Cutter → Type 0
-Adds P bs old new =
-    (front : List Blade) → Sheds P front (blades_in old) → Sheds P (front ++ bs) (blades_in new)
+-- a list has grown by these cutting planes, but for such
+abbrev pub AddsCuttingPlanes : (Face → Type 0) → List CuttingPlane → List Cutter → List Cutter → Type 0
+AddsCuttingPlanes P bs old new =
+    (front : List CuttingPlane) → OmitsUnmet P front (blades_in old) → OmitsUnmet P (front ++ bs) (blades_in new)
 
 -- what two boxes have in common
-abbrev pub common : Span → Span → Span
-common a b = span_between (int_max a.low b.low) (int_min a.high b.high)
+abbrev pub common : Interval → Interval → Interval
+common a b = interval_between (int_max a.low b.low) (int_min a.high b.high)
 
-abbrev pub common_of : Spans → Spans → Spans
+abbrev pub common_of : Aabb → Aabb → Aabb
 common_of a b = record { x = common a.x b.x; y = common a.y b.y; z = common a.z b.z }

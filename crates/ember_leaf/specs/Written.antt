@@ -38,11 +38,11 @@ pub record AreRegionsWritten (scene : List Tri) (f : Formula) (c : Cell) (near :
 
 -- a triangle before triangle i, in its plane, contains its face, and so owns all its regions
 pub record IsCovered (near : List Tri) (i : ℕ) : Type 0 where
-  pub place : ℕ
+  pub index : ℕ
   pub cover : Tri
   pub own : Tri
-  pub before : place < i
-  pub here : slice_get near place ≡ Some cover
+  pub before : index < i
+  pub here : slice_get near index ≡ Some cover
   pub there : slice_get near i ≡ Some own
   pub coplanar : is_coplanar cover own ≡ true
   pub contains : Contains (face_of cover) (face_of own)
@@ -59,9 +59,9 @@ IsWrittenIn scene f c near ks =
 
 -- what the expression says of a region with these winding numbers before and after it: nothing, or
 -- whether it holds in front
-abbrev pub IsTurn : Formula → Face → List ℤ → List ℤ → Option Bool → Type 0
-IsTurn f face before after None = truth before f ≡ truth after f
-IsTurn f face before after (Some flipped) =
+abbrev pub IsFlip : Formula → Face → List ℤ → List ℤ → Option Bool → Type 0
+IsFlip f face before after None = truth before f ≡ truth after f
+IsFlip f face before after (Some flipped) =
     (truth before f ≢ truth after f) × (flipped ≡ truth (front face before after) f)
 
 -- in each scene that fits what is known at the box

@@ -9,13 +9,13 @@ ghost use Rattle.ember_leaf.specs.Lower.{AddsBlades, AddsOwners};
 ghost use Rattle.ember_leaf.specs.Lower.{AddsBladesWithin, AddsOwnersWithin, AreBladesFound, AreOwnersFound};
 
 use crate::cutter::{Cutter, Role};
-use crate::pairs::{Pair, covers, is_flat, pair_of};
-use ember_box::{Spans, overlap};
+use crate::relation::{Relation, covers, is_flat, relation_of};
+use ember_box::{Aabb, aabbs_meet};
 use ember_model::OutOfMemory;
 use ember_poly::main_edges;
-use ember_trace::Facet;
+use ember_trace::NearTriangle;
 
-fn add_cutter(list: &mut Vec<Cutter>, g: &Facet, role: Role) -> Result<(), OutOfMemory>
+fn add_cutter(list: &mut Vec<Cutter>, g: &NearTriangle, role: Role) -> Result<(), OutOfMemory>
     requires { is_flat g.now.tri ≡ false }
     ensures { OnOk result (IsAdded g.now.tri role list.old.items list.new.items) }
 {
@@ -43,8 +43,8 @@ fn role_of(is_before: bool) -> Role
 // comes before that one and covers it.
 fn add_coplanar(
     list: &mut Vec<Cutter>,
-    own: &Facet,
-    g: &Facet,
+    own: &NearTriangle,
+    g: &NearTriangle,
     is_before: bool,
 ) -> Result<bool, OutOfMemory>
     requires normal { is_flat g.now.tri ≡ false }
@@ -52,7 +52,7 @@ fn add_coplanar(
     requires own { is_flat own.now.tri ≡ false }
     requires cutters { All (IsCutterOf own.now.tri) list.old.items }
     ensures cutters { OnOk result (All (IsCutterOf own.now.tri) list.new.items) }
-    ensures blades { IfOk result (AddsBlades own.now.tri g.now.tri list.old.items list.new.items) }
+    ensures cutting_planes { IfOk result (AddsBlades own.now.tri g.now.tri list.old.items list.new.items) }
     ensures owners { IfOk result (AddsOwners own.now.tri g.now.tri is_before list.old.items list.new.items) }
 {
     if is_before && covers(g, own) {
@@ -64,41 +64,46 @@ fn add_coplanar(
 
 // Adds a triangle if it may meet the regions of another one. Returns `true`, and adds nothing, if it comes
 // before that one and covers it.
-fn add(list: &mut Vec<Cutter>, own: &Facet, g: &Facet, is_before: bool) -> Result<bool, OutOfMemory>
+fn add(
+    list: &mut Vec<Cutter>,
+    own: &NearTriangle,
+    g: &NearTriangle,
+    is_before: bool,
+) -> Result<bool, OutOfMemory>
     requires own { is_flat own.now.tri ≡ false }
     requires cutters { All (IsCutterOf own.now.tri) list.old.items }
     ensures cutters { OnOk result (All (IsCutterOf own.now.tri) list.new.items) }
-    ensures blades { IfOk result (AddsBlades own.now.tri g.now.tri list.old.items list.new.items) }
+    ensures cutting_planes { IfOk result (AddsBlades own.now.tri g.now.tri list.old.items list.new.items) }
     ensures owners { IfOk result (AddsOwners own.now.tri g.now.tri is_before list.old.items list.new.items) }
 {
     if is_flat(g) {
         return Ok(false);
     }
-    match pair_of(own, g) {
-        Pair::Apart => Ok(false),
-        Pair::Across => {
+    match relation_of(own, g) {
+        Relation::Apart => Ok(false),
+        Relation::Across => {
             add_cutter(list, g, Role::Across)?;
             Ok(false)
         }
-        Pair::Coplanar => add_coplanar(list, own, g, is_before),
+        Relation::Coplanar => add_coplanar(list, own, g, is_before),
     }
 }
 
 // The same, if its bounding box meets the bounds.
 fn add_near(
     list: &mut Vec<Cutter>,
-    own: &Facet,
-    bounds: &Spans,
-    g: &Facet,
+    own: &NearTriangle,
+    bounds: &Aabb,
+    g: &NearTriangle,
     is_before: bool,
 ) -> Result<bool, OutOfMemory>
     requires own { is_flat own.now.tri ≡ false }
     requires cutters { All (IsCutterOf own.now.tri) list.old.items }
     ensures cutters { OnOk result (All (IsCutterOf own.now.tri) list.new.items) }
-    ensures blades { IfOk result (AddsBladesWithin bounds.now own.now.tri g.now.tri list.old.items list.new.items) }
+    ensures cutting_planes { IfOk result (AddsBladesWithin bounds.now own.now.tri g.now.tri list.old.items list.new.items) }
     ensures owners { IfOk result (AddsOwnersWithin bounds.now own.now.tri g.now.tri is_before list.old.items list.new.items) }
 {
-    if overlap(bounds, &g.spans) {
+    if aabbs_meet(bounds, &g.aabb) {
         add(list, own, g, is_before)
     } else {
         Ok(false)
@@ -110,15 +115,15 @@ fn add_near(
 /// owns all its regions.
 pub fn find_cutters(
     list: &mut Vec<Cutter>,
-    own: &Facet,
-    bounds: &Spans,
-    near: &[Facet],
+    own: &NearTriangle,
+    bounds: &Aabb,
+    near: &[NearTriangle],
     i: usize,
 ) -> Result<bool, OutOfMemory>
     requires normal { is_flat own.now.tri ≡ false }
     requires own { own.now.tri ≡ tri_at (tris_of near.now) i }
     ensures cutters { OnOk result (All (IsCutterOf own.now.tri) list.new.items) }
-    ensures blades { IfOk result (AreBladesFound (tris_of near.now) i own.now.tri bounds.now list.new.items) }
+    ensures cutting_planes { IfOk result (AreBladesFound (tris_of near.now) i own.now.tri bounds.now list.new.items) }
     ensures owners { IfOk result (AreOwnersFound (tris_of near.now) i own.now.tri bounds.now list.new.items) }
 {
     list.clear();

@@ -3,8 +3,8 @@ ghost use Rattle.std.specs.Prelude.{◌≡◌, not, ◌&&◌};
 ghost use Rattle.ember_algebra.specs.Sign.{is_negative, is_zero, is_positive};
 ghost use Rattle.ember_model.specs.Valid.{IsValidCorner, IsValidPlane, IsValidTri};
 ghost use Rattle.ember_model.specs.Planes.{value_at};
-ghost use Rattle.ember_model.specs.Owners.{spot_at};
-ghost use Rattle.ember_leaf.specs.Pairs.{heights_of, none_behind, none_in_front, all_behind, all_in_front, all_on};
+ghost use Rattle.ember_model.specs.Owners.{spot_of_corner};
+ghost use Rattle.ember_leaf.specs.TriRelations.{heights_of, none_behind, none_in_front, all_behind, all_in_front, all_on};
 
 use ember_model::{Corner, Plane, Tri};
 
@@ -20,7 +20,7 @@ pub struct Heights {
 fn height(p: &Plane, u: &Corner) -> i64
     requires plane { IsValidPlane p.now }
     requires corner { IsValidCorner u.now }
-    ensures { result ≡ value_at p.now (spot_at u.now) }
+    ensures { result ≡ value_at p.now (spot_of_corner u.now) }
 {
     p.a * u.x as i64 + p.b * u.y as i64 + p.c * u.z as i64 - p.d
 }

@@ -2,15 +2,15 @@
 //! another, where a Boolean's value changes.
 #![tactic(auto)]
 
+mod clip;
 mod contact;
 mod cutter;
 mod cutters;
 mod heights;
 mod kept;
 mod leaf;
-mod pairs;
 mod regions;
-mod start;
+mod relation;
 mod wall;
 
 pub use kept::{Kept, KeptList};

@@ -143,9 +143,9 @@ fn split_all(alloc: Global, list: Vec<Ring>, c: &Cutter) -> Result<Vec<Ring>, Ou
     ensures { IfOk result (λ out. AreSplit c.now list.items out.items) }
 {
     let mut out = list;
-    let place = apart(&out, c);
-    if place < out.len() {
-        let others = out.split_off(place)?;
+    let index = apart(&out, c);
+    if index < out.len() {
+        let others = out.split_off(index)?;
         add_all(alloc, others, c, &mut out)?;
     }
     Ok(out)

@@ -21,7 +21,7 @@ use Rattle.ember_box.specs.Halving.{leaves}
 use Rattle.ember_leaf.specs.declared.kept.Kept.{Kept}
 use Rattle.ember_leaf.specs.Written.{AtRegion, unowned, even, written, IsWrittenOf, regional, hidden, front}
 use Rattle.ember_leaf.specs.Scenes.{LeafGives, regions, nothing, IsWritten}
-use Rattle.ember_leaf.proofs.Starting.{each_every}
+use Rattle.ember_leaf.proofs.WallClips.{each_every}
 use Rattle.ember_text.specs.Texts.{IsGoodText, seen}
 use Rattle.ember_text.specs.Documents.{IsDocumentText, written_face}
 use Rattle.ember_meaning.specs.Meaning.{IsFalseOutside, HaveMeaning, ReadsWithMeaning}

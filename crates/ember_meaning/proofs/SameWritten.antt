@@ -12,7 +12,7 @@ use Rattle.ember_model.specs.declared.point.Spot.{Spot}
 use Rattle.ember_model.specs.declared.point.Axis.{Axis}
 use Rattle.ember_model.specs.Planes.{along, main_axis}
 use Rattle.ember_model.specs.Points.{scaled, moved}
-use Rattle.ember_model.specs.Sides.{Sees, IsSides}
+use Rattle.ember_model.specs.Sides.{HasWindings, IsSides}
 use Rattle.ember_model.proofs.Hits.{moved_weight, inside_parts}
 use Rattle.ember_expr.specs.Formula.{Formula}
 use Rattle.ember_expr.specs.Truth.{truth}
@@ -35,7 +35,7 @@ module _ (scene : List Tri) (x y : Formula) (agree : AgreeOver scene x y) where
       let p : pos 0 <ℤ pos m = omega (arith, ints) in subst (λ (z : ℤ). pos 0 <ℤ z) (sym (moved_weight (scaled (pos m) v) k by)) (pos_mul p w)
 
   -- ---- beside a region
-  agree_seen : (k : Axis) (v : Spot) (counts : List ℤ) → pos 0 <ℤ v.w → Sees scene k v counts → truth counts x ≡ truth counts y
+  agree_seen : (k : Axis) (v : Spot) (counts : List ℤ) → pos 0 <ℤ v.w → HasWindings scene k v counts → truth counts x ≡ truth counts y
   agree_seen k v counts w s =
       subst (λ (c : List ℤ). truth c x ≡ truth c y) s.counts_are (agree k v w s.clear)
 

@@ -6,7 +6,7 @@ use Rattle.ember_model.specs.declared.plane.Plane.{Plane}
 use Rattle.ember_model.specs.declared.point.Spot.{Spot}
 use Rattle.ember_model.specs.declared.face.Face.{Face}
 use Rattle.ember_model.specs.Planes.{value_at}
-use Rattle.ember_model.specs.Edges.{is_on_edge, Counts, SameEdge, RingEdge, IsEdge, IsPath, IsAmong, AreApart, IsOutline}
+use Rattle.ember_model.specs.Edges.{is_on_edge, HasEdge, SameEdge, RingEdge, IsEdge, IsEdgeChain, HasEdgeOf, HaveDistinctEdges, IsOutline}
 use Rattle.ember_poly.specs.Cuts.{HasInside}
 use Rattle.ember_poly.specs.Outlines.{face_of_edges}
 use Rattle.ember_poly.proofs.OutlinePoints.{outline_has_its_points}
@@ -23,7 +23,7 @@ same_some : {g h : Plane} → Some g ≡ Some h → g ≡ h
 same_some e = cc
 
 -- no earlier plane gives its edge
-none_earlier : (f : Face) (us : List RingEdge) (e : RingEdge) (ws : List RingEdge) → AreApart f (us ++ e ∷ ws) → (i : ℕ) (h : Plane) → i < length us → slice_get (planes_of (us ++ e ∷ ws)) i ≡ Some h → SameEdge f h e.plane → ⊥
+none_earlier : (f : Face) (us : List RingEdge) (e : RingEdge) (ws : List RingEdge) → HaveDistinctEdges f (us ++ e ∷ ws) → (i : ℕ) (h : Plane) → i < length us → slice_get (planes_of (us ++ e ∷ ws)) i ≡ Some h → SameEdge f h e.plane → ⊥
 none_earlier f [] e ws a i h l g s = absurd (omega arith)
 none_earlier f (u ∷ us) e ws a zero h l g s =
     apart us a.0 (subst (λ (h : Plane). SameEdge f h e.plane) (sym (same_some g)) s)
@@ -35,7 +35,7 @@ none_earlier f (u ∷ us) e ws a (suc i) h l g s =
     none_earlier f us e ws a.1 i h (omega arith) g s
 
 -- each plane of the list is that of a member
-among : (f : Face) (es : List RingEdge) (i : ℕ) (h : Plane) → slice_get (planes_of es) i ≡ Some h → IsAmong f h es
+among : (f : Face) (es : List RingEdge) (i : ℕ) (h : Plane) → slice_get (planes_of es) i ≡ Some h → HasEdgeOf f h es
 among f [] i h g = absurd (absent g)
   where
     absent : slice_get [] i ≡ Some h → ⊥
@@ -48,7 +48,7 @@ module _ (f : Face) (es : List RingEdge) (line : IsOutline f es) (on : (g : Plan
   abbrev own : Face
   own = face_of_edges f.support es
 
-  apart : (ds : List RingEdge) → AreApart f ds → AreApart own ds
+  apart : (ds : List RingEdge) → HaveDistinctEdges f ds → HaveDistinctEdges own ds
   apart [] a = tt
   apart (e ∷ ds) a = (each ds a.0, apart ds a.1)
     where
@@ -56,17 +56,17 @@ module _ (f : Face) (es : List RingEdge) (line : IsOutline f es) (on : (g : Plan
       each [] b = tt
       each (d ∷ cs) b = (λ s. b.0 (λ v. on e.plane v ∙ s v ∙ sym (on d.plane v)), each cs b.1)
 
-  own_apart : AreApart own es
+  own_apart : HaveDistinctEdges own es
   own_apart = apart es line.once
 
   own_edge : (us : List RingEdge) (e : RingEdge) (ws : List RingEdge) (end : Spot) → es ≡ us ++ e ∷ ws → IsEdge f e end → IsEdge own e end
   own_edge us e ws end q h =
       record {
         stands = record {
-          place = length us;
+          index = length us;
           here = ap (λ (cs : List RingEdge). slice_get (planes_of cs) (length us)) q ∙ at_its_place us e ws;
           holds = λ v. refl;
-          earliest = λ i h l g s. none_earlier own us e ws (subst (λ (cs : List RingEdge). AreApart own cs) q own_apart) i h l (sym (ap (λ (cs : List RingEdge). slice_get (planes_of cs) i) q) ∙ g) s;
+          earliest = λ i h l g s. none_earlier own us e ws (subst (λ (cs : List RingEdge). HaveDistinctEdges own cs) q own_apart) i h l (sym (ap (λ (cs : List RingEdge). slice_get (planes_of cs) i) q) ∙ g) s;
         };
         starts = sym (on e.plane e.start) ∙ h.starts;
         ends = sym (on e.plane end) ∙ h.ends;
@@ -75,13 +75,13 @@ module _ (f : Face) (es : List RingEdge) (line : IsOutline f es) (on : (g : Plan
         to_end = λ v o. h.to_end v (on e.plane v ∙ o);
       }
 
-  own_path : (us ds : List RingEdge) (end : Spot) → es ≡ us ++ ds → IsPath f end ds → IsPath own end ds
+  own_path : (us ds : List RingEdge) (end : Spot) → es ≡ us ++ ds → IsEdgeChain f end ds → IsEdgeChain own end ds
   own_path us [] end q p = tt
   own_path us (e ∷ []) end q p = own_edge us e [] end q p
   own_path us (e ∷ d ∷ ds) end q p =
       (own_edge us e (d ∷ ds) d.start q p.0, own_path (us ++ e ∷ []) (d ∷ ds) end (q ∙ sym (append_assoc us (e ∷ []) (d ∷ ds))) p.1)
 
-  counts : (g : Plane) → Counts f g → Counts own g
+  counts : (g : Plane) → HasEdge f g → HasEdge own g
   counts g c =
       record { one = c.one; other = c.other; holds_one = sym (on g c.one) ∙ c.holds_one; holds_other = sym (on g c.other) ∙ c.holds_other; different = c.different }
 
@@ -91,7 +91,7 @@ module _ (f : Face) (es : List RingEdge) (line : IsOutline f es) (on : (g : Plan
         first = line.first;
         rest = line.rest;
         begins = line.begins;
-        earliest = record { place = 0; here = ap (λ (cs : List RingEdge). slice_get (planes_of cs) 0) line.begins; holds = counts line.first.plane line.earliest.holds; earliest = λ i h l. absurd (omega arith) };
+        earliest = record { index = 0; here = ap (λ (cs : List RingEdge). slice_get (planes_of cs) 0) line.begins; holds = counts line.first.plane line.earliest.holds; earliest = λ i h l. absurd (omega arith) };
         round = own_path [] es line.first.start refl line.round;
         all = λ i h g c. among own es i h g;
         once = own_apart;

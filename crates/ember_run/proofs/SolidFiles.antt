@@ -15,15 +15,15 @@ use Rattle.ember_reread.proofs.OneReading.{face_file_is_read_once}
 use Rattle.ember_run.specs.declared.status.Status.TheVariants.{ExprRefused, Unbounded}
 use Rattle.ember_run.specs.Outputs.{SolidFaces}
 use Rattle.ember_run.specs.Solids.{IsSolidFile, IsSolidText}
-use Rattle.ember_run.specs.Verdict.{Verdict, Untold, Refused, Writes, after_bounded, after_parse, after_solid}
+use Rattle.ember_run.specs.Verdict.{Verdict, Unknown, Refused, Writes, after_bounded, after_parse, after_solid}
 use Rattle.ember_run.proofs.OneReading.{one_reading}
 use Rattle.ember_run.proofs.SceneVerdicts.{ExprRead}
 
 -- ---- an expression that is given is false outside
 given_bounded : (formula given : Formula) (b : Bool) → truth (replicate 64 (pos 0)) given ≡ b → ((next : Formula → Verdict) → (if b then Refused Unbounded else next given) ≡ next formula) → IsFalseOutside formula
-given_bounded formula given true e read = absurd (clash (read (λ f. Untold)))
+given_bounded formula given true e read = absurd (clash (read (λ f. Unknown)))
   where
-    clash : Refused Unbounded ≡ Untold → ⊥
+    clash : Refused Unbounded ≡ Unknown → ⊥
     clash q = cc
 given_bounded formula given false e read =
     subst (λ (f : Formula). truth (replicate 64 (pos 0)) f ≡ false) (same (read (λ f. Writes (SolidFaces [] f)))) e
@@ -35,9 +35,9 @@ false_outside : (text : List ℕ) (m : ℕ) (formula : Formula) → ExprRead (af
 false_outside text m formula read = by (expr_of text m) read
   where
     by : (parsed : Result Formula ExprFault) → ((next : Formula → Verdict) → after_parse parsed (λ f. after_bounded f (next f)) ≡ next formula) → IsFalseOutside formula
-    by (Err fault) read = absurd (clash (read (λ f. Untold)))
+    by (Err fault) read = absurd (clash (read (λ f. Unknown)))
       where
-        clash : Refused (ExprRefused fault) ≡ Untold → ⊥
+        clash : Refused (ExprRefused fault) ≡ Unknown → ⊥
         clash q = cc
     by (Ok given) read = given_bounded formula given (truth (replicate 64 (pos 0)) given) refl read
 

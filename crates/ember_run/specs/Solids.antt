@@ -27,13 +27,13 @@ abbrev pub IsWrittenAt : List Tri → Formula → Job → List Kept → Type 0
 IsWrittenAt tris formula job kept = IsWrittenIn tris formula job.cell (near tris job.cell) kept
 
 -- the written regions of each leaf of the tree of boxes
-abbrev pub AreKept : List Tri → Formula → List (List Kept) → Type 0
-AreKept tris formula items =
+abbrev pub AreWrittenRegions : List Tri → Formula → List (List Kept) → Type 0
+AreWrittenRegions tris formula items =
     EachAnswers (IsWrittenAt tris formula) (leaves (shape tris formula) (root_job tris)) items
 
 -- the numbers of the written regions of each leaf
-abbrev pub AreKeptCounts : List Tri → Formula → List ℕ → Type 0
-AreKeptCounts tris formula counts =
+abbrev pub AreRegionCounts : List Tri → Formula → List ℕ → Type 0
+AreRegionCounts tris formula counts =
     EachAnswers (λ job n. IsCount (IsWrittenAt tris formula job) n) (leaves (shape tris formula) (root_job tris)) counts
 
 -- the journals hold the boxes that were visited for them

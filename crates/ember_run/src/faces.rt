@@ -3,7 +3,7 @@ ghost use Rattle.std.specs.Prelude.{ℕ, ◌≡◌, ◌≢◌, ◌≤◌, length
 ghost use Rattle.ember_io.specs.Causes.{Rose};
 ghost use Rattle.ember_model.specs.Valid.{IsValidTri};
 ghost use Rattle.ember_run.specs.FaceTexts.{AddsFace, IsFaceFileOf};
-ghost use Rattle.ember_run.specs.Serves.{IsRefusal, IsText, is_refusal};
+ghost use Rattle.ember_run.specs.CallOutcome.{IsRefusal, IsText, is_refusal};
 ghost use Rattle.ember_run.specs.Verdict.{faces_verdict};
 
 use crate::reading::read_file;

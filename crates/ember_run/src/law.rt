@@ -17,10 +17,10 @@ ghost use Rattle.ember_words.specs.Meaning.{command_of};
 ghost use Rattle.ember_run.specs.OfScenes.{IsOfScene};
 ghost use Rattle.ember_run.specs.Outputs.{FaceTexts, IsOutput, Output, SolidFaces};
 ghost use Rattle.ember_run.specs.Reported.{IsErrText};
-ghost use Rattle.ember_run.specs.Serves.{IsText};
+ghost use Rattle.ember_run.specs.CallOutcome.{IsText};
 ghost use Rattle.ember_run.specs.Slices.{IsSlice};
 ghost use Rattle.ember_run.specs.Solids.{IsClosedFile};
-ghost use Rattle.ember_run.specs.Verdict.{Untold, told_verdict};
+ghost use Rattle.ember_run.specs.Verdict.{Unknown, told_verdict};
 ghost use Rattle.ember_run.specs.declared.status.Status.{Status};
 
 /// The solid of an expression over the triangles of a scene has one document: its written regions
@@ -32,8 +32,8 @@ pub fn solids_have_one_document()
 /// Each accepted input has one text, and one text on err for each status: the words and the
 /// contents of their files tell all of its bytes.
 pub fn accepted_inputs_have_one_text()
-    ensures out { (words : List (List ℕ)) (told : List ℕ → Option (List ℕ)) (one other : List ℕ) → told_verdict (command_of words) told ≢ Untold → IsText (told_verdict (command_of words) told) one → IsText (told_verdict (command_of words) told) other → one ≡ other }
-    ensures err { (words : List (List ℕ)) (told : List ℕ → Option (List ℕ)) (status : Status) (one other : List ℕ) → told_verdict (command_of words) told ≢ Untold → IsErrText (command_of words) told status one → IsErrText (command_of words) told status other → one ≡ other }
+    ensures out { (words : List (List ℕ)) (told : List ℕ → Option (List ℕ)) (one other : List ℕ) → told_verdict (command_of words) told ≢ Unknown → IsText (told_verdict (command_of words) told) one → IsText (told_verdict (command_of words) told) other → one ≡ other }
+    ensures err { (words : List (List ℕ)) (told : List ℕ → Option (List ℕ)) (status : Status) (one other : List ℕ) → told_verdict (command_of words) told ≢ Unknown → IsErrText (command_of words) told status one → IsErrText (command_of words) told status other → one ≡ other }
 {}
 
 /// The number of workers changes no verdict, so the text is one for every number of them.

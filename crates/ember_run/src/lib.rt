@@ -3,19 +3,19 @@
 
 mod at;
 mod boole;
-mod crew;
+mod executor;
 mod expression;
 mod faces;
 mod law;
 mod lines;
 mod one_solid;
 mod pairs;
+mod query;
 mod reading;
 mod scene;
 mod slice;
 mod solid;
 mod status;
-mod task;
 mod top;
 mod voxels;
 

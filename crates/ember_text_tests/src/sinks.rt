@@ -32,10 +32,7 @@ const LINES: &[u8] = b"one line..two lines.three linefour line.five line.six lin
 fn a_sink_takes_whole_pieces_up_to_its_fault(rt: HostRuntime) -> Result<(), Fail> {
     let alloc = rt.alloc();
     // Its seventh call is the flush.
-    let rows: [(u64, &[u8]); 2] = [
-        (5, b"one line..two lines.three linefour line."),
-        (7, LINES),
-    ];
+    let rows: [(u64, &[u8]); 2] = [(5, b"one line..two lines.three linefour line."), (7, LINES)];
     for (failing, taken) in rows {
         let mut sink = sink(alloc, 100, 10, failing)?;
         check(&rt, &mut sink, LINES, Err(WriteFault), taken);

@@ -5,7 +5,7 @@ use Rattle.std.specs.declared.alloc.Global.{Global}
 use Rattle.std.specs.declared.alloc.AllocError.{AllocError}
 use Rattle.crossbeam_deque.specs.Handles.{Pass, view, IsPassOf, stealer_deque}
 use Rattle.crossbeam_deque.specs.declared.handles.Stealer.{Stealer}
-use Rattle.ember_box.specs.Boxes.{left}
+use Rattle.ember_box.specs.Boxes.{halvings_left}
 use Rattle.ember_job.specs.declared.job.Job.{Job}
 use Rattle.ember_job.specs.declared.job.Kind.{Kind}
 use Rattle.ember_job.specs.declared.job.Kind.TheVariants.{Halved, Leafed, Passed}
@@ -29,7 +29,7 @@ Weight = (Entry → ℕ) → (ℕ → ℕ) → Job → ℕ
 
 -- what the outcome of a visited box is
 abbrev pub OutcomeFits : {I : Type 0} → (Job → Type 0) → (Job → I → Type 0) → Weight → Job → Outcome I → Type 0
-OutcomeFits visited answers weight j (Halves l r) = visited l × visited r × (l.cell.path ≡ 2 * j.cell.path) × (r.cell.path ≡ 2 * j.cell.path + 1) × (left l.cell + 1 ≡ left j.cell) × (left r.cell + 1 ≡ left j.cell) × ((h : Entry → ℕ) (g : ℕ → ℕ) → weight h g j ≡ h (entry j.cell.path Halved) + weight h g l + weight h g r)
+OutcomeFits visited answers weight j (Halves l r) = visited l × visited r × (l.cell.path ≡ 2 * j.cell.path) × (r.cell.path ≡ 2 * j.cell.path + 1) × (halvings_left l.cell + 1 ≡ halvings_left j.cell) × (halvings_left r.cell + 1 ≡ halvings_left j.cell) × ((h : Entry → ℕ) (g : ℕ → ℕ) → weight h g j ≡ h (entry j.cell.path Halved) + weight h g l + weight h g r)
 OutcomeFits visited answers weight j (Leaf item) = answers j item × ((h : Entry → ℕ) (g : ℕ → ℕ) → weight h g j ≡ h (entry j.cell.path Leafed) + g j.cell.path)
 OutcomeFits visited answers weight j Skipped = (h : Entry → ℕ) (g : ℕ → ℕ) → weight h g j ≡ h (entry j.cell.path Passed)
 
@@ -82,7 +82,7 @@ ended h g o = weigh h o.journal.items + weigh (by_path g) o.parts.items
 -- the halves of a visited box are those of visited boxes, and may be halved once less
 abbrev pub AreHalves : (Job → Type 0) → Job → Option BoxHalves → Type 0
 AreHalves visited j None = Unit {0}
-AreHalves visited j (Some b) = visited b.low × visited b.high × (left b.low.cell + 1 ≡ left j.cell) × (left b.high.cell + 1 ≡ left j.cell)
+AreHalves visited j (Some b) = visited b.low × visited b.high × (halvings_left b.low.cell + 1 ≡ halvings_left j.cell) × (halvings_left b.high.cell + 1 ≡ halvings_left j.cell)
 
 abbrev pub low_job : Option BoxHalves → List Job
 low_job None = []

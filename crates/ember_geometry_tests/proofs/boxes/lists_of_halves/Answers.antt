@@ -1,5 +1,5 @@
 use Rattle.std.proofs.Common.{◌<◌, All, length, subst, sym}
-use Rattle.ember_visit.proofs.Among.{job_places}
+use Rattle.ember_visit.proofs.IndexLists.{job_places}
 use Rattle.ember_geometry_tests.proofs.boxes.lists_of_halves.Goals as goal
 
 pub near_halves-requires-clause-places : goal.near_halves-requires-clause-places

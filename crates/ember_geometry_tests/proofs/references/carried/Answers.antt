@@ -2,7 +2,7 @@ use Rattle.std.proofs.Common.{pos, All, subst, sym, arith}
 use Rattle.std.proofs.lemmas.List.Elements.{All-replicate}
 use Rattle.ember_algebra.specs.Size.{Small}
 use Rattle.ember_model.specs.Meshes.{HasMesh}
-use Rattle.ember_visit.proofs.Among.{numbered_less}
+use Rattle.ember_visit.proofs.IndexLists.{numbered_less}
 use Rattle.ember_geometry_tests.proofs.references.carried.Goals as goal
 
 pub shift-requires-clause-numbered : goal.shift-requires-clause-numbered

@@ -3,7 +3,7 @@ use Rattle.std.proofs.lemmas.List.{length-map}
 use Rattle.ember_model.specs.Valid.{IsValidTri}
 use Rattle.ember_model.specs.Meshes.{HasMesh}
 use Rattle.ember_box.specs.Near.{listed, tri_at}
-use Rattle.ember_visit.proofs.Among.{all_listed, numbered_less, job_places, few_listed, counts_within}
+use Rattle.ember_visit.proofs.IndexLists.{all_listed, numbered_less, job_places, few_listed, counts_within}
 use Rattle.ember_geometry_tests.proofs.sides.sides_by_each_way.Goals as goal
 
 copied : (c : goal.After-deref) → c.deref.result.now ≡ listed c.args.s.now.tris c.args.job.now.list

@@ -1,5 +1,5 @@
 use Rattle.std.proofs.Common.{ap, arith, length}
-use Rattle.ember_trace.proofs.FacetLists.{facets_length}
+use Rattle.ember_trace.proofs.NearTriangleLists.{facets_length}
 use Rattle.ember_geometry_tests.proofs.sides.sides_near.Goals as goal
 
 pub sides_beside-requires-clause-few : goal.sides_beside-requires-clause-few

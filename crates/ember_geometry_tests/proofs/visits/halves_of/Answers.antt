@@ -1,5 +1,5 @@
 use Rattle.std.proofs.Common.{arith}
-use Rattle.ember_visit.proofs.Among.{job_places, few_listed, counts_within}
+use Rattle.ember_visit.proofs.IndexLists.{job_places, few_listed, counts_within}
 use Rattle.ember_geometry_tests.proofs.visits.halves_of.Goals as goal
 
 pub halve_job-requires-clause-places : goal.halve_job-requires-clause-places

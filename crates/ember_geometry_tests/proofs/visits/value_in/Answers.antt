@@ -1,5 +1,5 @@
 use Rattle.std.proofs.Common.{arith}
-use Rattle.ember_visit.proofs.Among.{job_places, counts_within}
+use Rattle.ember_visit.proofs.IndexLists.{job_places, counts_within}
 use Rattle.ember_geometry_tests.proofs.visits.value_in.Goals as goal
 
 pub box_value-requires-clause-places : goal.box_value-requires-clause-places

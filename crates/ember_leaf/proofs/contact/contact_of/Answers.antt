@@ -1,7 +1,7 @@
 use Rattle.std.proofs.Common.{◌∙◌, ap, sym, subst, arith, get_or, take}
 use Rattle.ember_leaf.specs.declared.heights.Heights.{Heights}
 use Rattle.ember_leaf.specs.Contact.{no_plane, HasParting, IsBehind}
-use Rattle.ember_leaf.specs.Pairs.{none_behind}
+use Rattle.ember_leaf.specs.TriRelations.{none_behind}
 use Rattle.ember_leaf.proofs.Contacts.{behind_more, whole_behind}
 use Rattle.ember_leaf.proofs.contact.contact_of.Goals as goal
 
@@ -12,4 +12,4 @@ loop-i-preserved c =
 
 pub returns-then-none_behind : goal.returns-then-none_behind
 returns-then-none_behind c =
-    record { place = c.loop-i.i; before = c.loop-i-test.true; parts = ap none_behind (sym c.heights_of-h.ensures) ∙ sym c.none_behind.ensures ∙ c.if-none_behind.true }
+    record { index = c.loop-i.i; before = c.loop-i-test.true; parts = ap none_behind (sym c.heights_of-h.ensures) ∙ sym c.none_behind.ensures ∙ c.if-none_behind.true }

@@ -3,7 +3,7 @@ use Rattle.ember_leaf.specs.Cutters.{role_if, IsAdded}
 use Rattle.ember_leaf.specs.Lower.{covers}
 use Rattle.ember_leaf.proofs.Lower.{coplanar_added, coplanar_lies, coplanar_blades}
 use Rattle.ember_leaf.proofs.Sharing.{coplanar_turned}
-use Rattle.ember_leaf.proofs.Shedding.{added_cutters}
+use Rattle.ember_leaf.proofs.UnmetPlanes.{added_cutters}
 use Rattle.ember_leaf.proofs.cutters.add_coplanar.Goals as goal
 
 pub covers-requires-clause-plane : goal.covers-requires-clause-plane
@@ -19,8 +19,8 @@ returns-clause-cutters c =
     let a = subst (λ k. IsAdded u k c.args.list.now.items c.add_cutter.new.list.items) c.role_of.ensures c.in_ok-add_cutter.ensures in
     added_cutters a t (coplanar_lies c.args.is_before t u c.requires.plane) c.requires.cutters
 
-pub returns-clause-blades : goal.returns-clause-blades
-returns-clause-blades c =
+pub returns-clause-cutting_planes : goal.returns-clause-cutting_planes
+returns-clause-cutting_planes c =
     let t = c.args.own.now.tri in let u = c.args.g.now.tri in
     let a = subst (λ k. IsAdded u k c.args.list.now.items c.add_cutter.new.list.items) c.role_of.ensures c.in_ok-add_cutter.ensures in
     λ e b. coplanar_blades t u c.args.is_before b c.requires.normal c.requires.plane a

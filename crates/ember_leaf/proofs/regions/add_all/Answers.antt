@@ -3,7 +3,7 @@ use Rattle.std.proofs.lemmas.Bool.{false≢true}
 use Rattle.std.specs.Vec.Iter.{into_iter_items}
 use Rattle.ember_model.proofs.SignTests.{clash}
 use Rattle.ember_leaf.specs.Cutters.{AtCutter}
-use Rattle.ember_leaf.proofs.Splitting.{met, not_met, first_met, grown, grown_by_one}
+use Rattle.ember_leaf.proofs.RegionCuts.{met, not_met, first_met, grown, grown_by_one}
 use Rattle.ember_leaf.proofs.Pieces.{unmet_left}
 use Rattle.ember_leaf.proofs.regions.add_all.Goals.{then-is_first, else-is_first}
 use Rattle.ember_leaf.proofs.regions.add_all.Goals as goal

@@ -1,5 +1,5 @@
 use Rattle.ember_leaf.proofs.Pieces.{across_left, edges_last}
-use Rattle.ember_leaf.proofs.Shedding.{on_ok}
+use Rattle.ember_leaf.proofs.UnmetPlanes.{on_ok}
 use Rattle.ember_leaf.proofs.regions.add_cut.Goals as goal
 
 pub add_pieces-requires : goal.add_pieces-requires

@@ -1,5 +1,5 @@
 use Rattle.ember_algebra.specs.Relations.{none}
-use Rattle.ember_leaf.proofs.Splitting.{not_met, whole_more}
+use Rattle.ember_leaf.proofs.RegionCuts.{not_met, whole_more}
 use Rattle.ember_leaf.proofs.Pieces.{unmet_left}
 use Rattle.ember_leaf.proofs.regions.apart.Goals as goal
 

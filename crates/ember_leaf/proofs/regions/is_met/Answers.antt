@@ -1,7 +1,7 @@
 use Rattle.std.proofs.Common.{◌↔◌, IsTrue, subst}
 use Rattle.ember_model.specs.Faces.{Meets}
 use Rattle.ember_leaf.proofs.Pieces.{shares}
-use Rattle.ember_leaf.proofs.Splitting.{blade_face}
+use Rattle.ember_leaf.proofs.RegionCuts.{blade_face}
 use Rattle.ember_leaf.proofs.regions.is_met.Goals as goal
 
 pub is_met_flat-requires : goal.is_met_flat-requires

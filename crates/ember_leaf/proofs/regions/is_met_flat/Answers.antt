@@ -2,7 +2,7 @@ use Rattle.std.proofs.Common.{◌↔◌, IsTrue, subst}
 use Rattle.ember_model.specs.Faces.{Meets}
 use Rattle.ember_leaf.specs.Contact.{IsContact}
 use Rattle.ember_leaf.proofs.Contacts.{parting_unmet, contact_met}
-use Rattle.ember_leaf.proofs.Splitting.{blade_face, never, always}
+use Rattle.ember_leaf.proofs.RegionCuts.{blade_face, never, always}
 use Rattle.ember_leaf.proofs.regions.is_met_flat.Goals as goal
 
 pub returns-in-Apart : goal.returns-in-Apart

@@ -1,5 +1,5 @@
 use Rattle.ember_leaf.specs.Cutters.{AreSplit}
-use Rattle.ember_leaf.proofs.Splitting.{cut_begun}
+use Rattle.ember_leaf.proofs.RegionCuts.{cut_begun}
 use Rattle.ember_leaf.proofs.Cutting.{chain_next, all_can_cut, can_cut_at}
 use Rattle.ember_leaf.proofs.regions.regions.Goals as goal
 
