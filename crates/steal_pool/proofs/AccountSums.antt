@@ -90,7 +90,7 @@ pub idle_received : {K I : Type 0} (w : Weight) (h : Entry → ℕ) (g : ℕ →
 idle_received w h g [] a = refl
 idle_received w h g (s ∷ ss) a = omega (arith, (a 0 s (omega arith)).received_none h g, idle_received w h g ss (λ k d l. a (suc k) d (omega arith)))
 
--- the journals of the seats that were left, and of those that were not
+-- the journals of the states that were taken apart, and of those that were not
 map_snoc : {A C : Type 0} (f : A → C) (xs : List A) (x : A) (ys : List C) → map f (xs ++ x ∷ []) ++ ys ≡ map f xs ++ f x ∷ ys
 map_snoc f [] x ys = refl
 map_snoc f (y ∷ xs) x ys = ap (λ r. f y ∷ r) (map_snoc f xs x ys)

@@ -55,7 +55,7 @@ guest_all b e n = rw e refl
 guest_none : (b : Bool) → b ≡ false → (n : ℕ) → owner_lent b n ≡ 0
 guest_none b e n = rw e refl
 
--- beside the owner no hand has lent as one
+-- no handle but the owner's counts passes that are out
 owns_alone : (views : List HandleView) (port owner : ℕ) → port ≡ owner → ((i : ℕ) (x : HandleView) → get_elem? views i ≡ some x → Fits owner i x) → (j : ℕ) (w : HandleView) → get_elem? views j ≡ some w → j ≢ port → owner_lent w.owns w.lent ≡ 0
 owns_alone views port owner here fits j w there far = by w.owns refl where
   by : (b : Bool) → w.owns ≡ b → owner_lent w.owns w.lent ≡ 0
@@ -112,7 +112,7 @@ module _ (P : Job → Type 0) where
   pub pops : (port : ℕ) (v : HandleView) → (v.owns ≡ false → 0 < v.lent) → Pops (JobsConserved P) port v (λ xs w. (w ≡ handle v.owns v.lent v.pushed (v.taken ++ xs)) × All P xs)
   pops port v out x items views k at = (handle v.owns v.lent v.pushed (v.taken ++ x ∷ []), took port v (x ∷ []) (items ++ x ∷ []) items views k at (left items (x ∷ []) k.visited_all) (λ h. omega (arith, weigh_append h items (x ∷ []))) out, (refl, right items (x ∷ []) k.visited_all))
 
-  -- a pass is made for a thief
+  -- a pass is made for a stealer
   pub forks : (port : ℕ) (v : HandleView) → v.owns ≡ true → Forks (JobsConserved P) port v (handle v.owns (v.lent + 1) v.pushed v.taken) (handle false 1 [] [])
   forks port v own items views k at =
       let w : HandleView = handle v.owns (v.lent + 1) v.pushed v.taken in

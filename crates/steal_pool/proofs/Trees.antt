@@ -85,7 +85,7 @@ runs_visited valid shape item pre post work call root s v step = record {
   may_run = λ p w. step.runs p (visited_valid (shape work) (item work) (valid work) root s v p.now w);
   fits = λ p r w done.
       let at = visited_valid (shape work) (item work) (valid work) root s v p.now w in
-      outcome_fits_if_ok (shape work) (item work) (valid work) root s p.now r w at (step.tells p r at done);
+      outcome_fits_if_ok (shape work) (item work) (valid work) root s p.now r w at (step.answers_each p r at done);
 }
 
 -- a sum of nothing
