@@ -17,7 +17,7 @@ use Rattle.ember_chain.proofs.Missed.{clear_shifted_faces}
 use Rattle.ember_expr.specs.Formula.{Formula}
 use Rattle.ember_expr.specs.Truth.{truth}
 use Rattle.ember_meaning.specs.Meaning.{one_if, HaveMeaning}
-use Rattle.ember_meaning.specs.Nearby.{HaveMeaningNearby, SurroundScenePoints, WindAsNearby, WindOnceAtMost, AgreeOver}
+use Rattle.ember_meaning.specs.Nearby.{HaveMeaningNearby, WindNearbyAsHere, WindHereAsNearby, WindOnceAtMost, AgreeOver}
 use Rattle.ember_meaning.proofs.ClearMeaning.{vector_shifted}
 
 module _ (scene : List Tri) (x : Formula) (ws : List WrittenFace) (lines : AllByRecursion IsOutlined ws) (meaning : HaveMeaning scene x (map face_from ws)) where
@@ -26,17 +26,20 @@ module _ (scene : List Tri) (x : Formula) (ws : List WrittenFace) (lines : AllBy
   meaning_nearby p weight =
       eventually_map (λ k h. λ a b. meaning a b (shifted p (pos k)) h.0 (clear_faces (shifted p (pos k)) scene h.1.0) h.1.1) (eventually_both (weight_shifted p weight) (eventually_both (clear_shifted p scene weight) (clear_shifted_faces p weight ws lines)))
 
-  pub surround_scene_points : SurroundScenePoints scene x (map face_from ws)
-  surround_scene_points p weight clear =
+  -- a clear point of the scene has its winding numbers at the shifted point too
+  pub wind_nearby_as_here : WindNearbyAsHere scene x (map face_from ws)
+  wind_nearby_as_here p weight clear =
       eventually_map (λ k h. λ a b. h.1 a b ∙ ap (λ (c : List ℤ). one_if (truth c x)) (sym (h.0 b))) (eventually_both (each_axis (λ b. vector_shifted b scene p weight clear)) (meaning_nearby p weight))
 
-  pub wind_as_nearby : WindAsNearby scene x (map face_from ws)
-  wind_as_nearby p weight clear =
+  -- a clear point of the faces has their winding numbers there too
+  pub wind_here_as_nearby : WindHereAsNearby scene x (map face_from ws)
+  wind_here_as_nearby p weight clear =
       eventually_map (λ k h. λ a b. h.0 a ∙ h.1 a b) (eventually_both (each_axis (λ a. wind_shifted a p (map face_from ws) weight clear)) (meaning_nearby p weight))
 
+  -- so they are 0 or 1, and alike along all axes
   pub wind_once_at_most : WindOnceAtMost (map face_from ws)
   wind_once_at_most p weight clear =
-      let s = wind_as_nearby p weight clear in (truth (vector X scene (shifted p (pos s.from))) x, λ a. s.holds s.from (le_refl s.from) a X)
+      let s = wind_here_as_nearby p weight clear in (truth (vector X scene (shifted p (pos s.from))) x, λ a. s.holds s.from (le_refl s.from) a X)
 
 -- ---- one list of faces
 one_if_injective : (b c : Bool) → one_if b ≡ one_if c → b ≡ c
@@ -48,6 +51,6 @@ one_if_injective false false e = refl
 -- faces that mean two expressions make them agree
 pub meanings_agree : (scene : List Tri) (x y : Formula) (ws : List WrittenFace) → AllByRecursion IsOutlined ws → HaveMeaning scene x (map face_from ws) → HaveMeaning scene y (map face_from ws) → AgreeOver scene x y
 meanings_agree scene x y ws lines mx my a p weight clear =
-    let s = eventually_both (surround_scene_points scene x ws lines mx p weight clear) (surround_scene_points scene y ws lines my p weight clear) in
+    let s = eventually_both (wind_nearby_as_here scene x ws lines mx p weight clear) (wind_nearby_as_here scene y ws lines my p weight clear) in
     let h = s.holds s.from (le_refl s.from) in
     one_if_injective (truth (vector a scene p) x) (truth (vector a scene p) y) (sym (h.0 X a) ∙ h.1 X a)

@@ -23,14 +23,14 @@ HaveMeaningNearby scene x faces =
     (p : Spot) → pos 0 <ℤ p.w → WhereShifted p (λ q. (a b : Axis) → HasMeaning scene x faces a b q)
 
 -- the same of a point that is clear of the scene's faces, whose own winding numbers are meant
-abbrev pub SurroundScenePoints : List Tri → Formula → List Face → Type 0
-SurroundScenePoints scene x faces =
+abbrev pub WindNearbyAsHere : List Tri → Formula → List Face → Type 0
+WindNearbyAsHere scene x faces =
     (p : Spot) → pos 0 <ℤ p.w → AreClear (faces_of scene) p → WhereShifted p (λ q. (a b : Axis) → wind a faces q ≡ one_if (truth (vector b scene p) x))
 
 -- ---- a point that is clear of the faces alone
 -- there they wind once where the expression holds at the shifted point, and not at all elsewhere
-abbrev pub WindAsNearby : List Tri → Formula → List Face → Type 0
-WindAsNearby scene x faces =
+abbrev pub WindHereAsNearby : List Tri → Formula → List Face → Type 0
+WindHereAsNearby scene x faces =
     (p : Spot) → pos 0 <ℤ p.w → AreClear faces p → WhereShifted p (λ q. (a b : Axis) → wind a faces p ≡ one_if (truth (vector b scene q) x))
 
 -- there they wind once along all axes, or along none

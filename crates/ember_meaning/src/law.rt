@@ -6,7 +6,7 @@ ghost use Rattle.ember_expr.specs.Formula.{Formula};
 ghost use Rattle.ember_leaf.specs.declared.kept.Kept.{Kept};
 ghost use Rattle.ember_leaf.specs.Scenes.{IsWritten};
 ghost use Rattle.ember_meaning.specs.Meaning.{IsFalseOutside, HaveMeaning, ReadsWithMeaning};
-ghost use Rattle.ember_meaning.specs.Nearby.{AgreeOver, HaveMeaningNearby, SurroundScenePoints, WindAsNearby, WindOnceAtMost};
+ghost use Rattle.ember_meaning.specs.Nearby.{AgreeOver, HaveMeaningNearby, WindNearbyAsHere, WindHereAsNearby, WindOnceAtMost};
 ghost use Rattle.ember_model.specs.FaceFiles.{WrittenFace};
 ghost use Rattle.ember_model.specs.Meshes.{IsScene};
 ghost use Rattle.ember_model.specs.declared.tri.Tri.{Tri};
@@ -33,9 +33,9 @@ pub fn documents_read_with_their_meaning()
 /// its winding numbers is what the faces wind beside it. Where a point is clear of these faces
 /// alone, they wind along all axes alike, once or not at all, as the expression says beside it.
 pub fn outlined_faces_have_their_meaning_nearby()
-    ensures near { (scene : List Tri) (f : Formula) (ws : List WrittenFace) → AllByRecursion IsOutlined ws → HaveMeaning scene f (map face_from ws) → HaveMeaningNearby scene f (map face_from ws) }
-    ensures scene { (scene : List Tri) (f : Formula) (ws : List WrittenFace) → AllByRecursion IsOutlined ws → HaveMeaning scene f (map face_from ws) → SurroundScenePoints scene f (map face_from ws) }
-    ensures beside { (scene : List Tri) (f : Formula) (ws : List WrittenFace) → AllByRecursion IsOutlined ws → HaveMeaning scene f (map face_from ws) → WindAsNearby scene f (map face_from ws) }
+    ensures nearby { (scene : List Tri) (f : Formula) (ws : List WrittenFace) → AllByRecursion IsOutlined ws → HaveMeaning scene f (map face_from ws) → HaveMeaningNearby scene f (map face_from ws) }
+    ensures scene { (scene : List Tri) (f : Formula) (ws : List WrittenFace) → AllByRecursion IsOutlined ws → HaveMeaning scene f (map face_from ws) → WindNearbyAsHere scene f (map face_from ws) }
+    ensures alone { (scene : List Tri) (f : Formula) (ws : List WrittenFace) → AllByRecursion IsOutlined ws → HaveMeaning scene f (map face_from ws) → WindHereAsNearby scene f (map face_from ws) }
     ensures once { (scene : List Tri) (f : Formula) (ws : List WrittenFace) → AllByRecursion IsOutlined ws → HaveMeaning scene f (map face_from ws) → WindOnceAtMost (map face_from ws) }
 {}
 

@@ -8,8 +8,8 @@ use Rattle.ember_chain.specs.Chains.{face_from}
 use Rattle.ember_expr.specs.Formula.{Formula}
 use Rattle.ember_expr.specs.Truth.{truth}
 use Rattle.ember_meaning.specs.Meaning.{HaveMeaning, one_if}
-use Rattle.ember_meaning.specs.Nearby.{AgreeOver, SurroundScenePoints, WindAsNearby, WindOnceAtMost}
-use Rattle.ember_meaning.proofs.Nearby.{surround_scene_points, wind_as_nearby, wind_once_at_most, meanings_agree}
+use Rattle.ember_meaning.specs.Nearby.{AgreeOver, WindNearbyAsHere, WindHereAsNearby, WindOnceAtMost}
+use Rattle.ember_meaning.proofs.Nearby.{wind_nearby_as_here, wind_here_as_nearby, wind_once_at_most, meanings_agree}
 use Rattle.ember_meaning.proofs.SameWritten.{same_written}
 use Rattle.ember_model.specs.ClearTest.{is_clear_of}
 use Rattle.ember_model.specs.FaceFiles.{IsFaceFile}
@@ -44,19 +44,23 @@ module _ (tris : List Tri) (formula : Formula) (file : List ℕ) (is : IsSolidFi
   written_mean : HaveMeaning tris formula (map face_from is.reads.read.written)
   written_mean = subst (HaveMeaning tris formula) is.reads.read.faces is.reads.meaning
 
+  -- the document's faces wind once at most where they are clear
   pub solid_once_at_most : (faces : List Face) → IsFaceFile file faces → WindOnceAtMost faces
   solid_once_at_most =
       each_reading WindOnceAtMost (wind_once_at_most tris formula is.reads.read.written is.reads.outlined written_mean)
 
-  pub solid_as_nearby : (faces : List Face) → IsFaceFile file faces → WindAsNearby tris formula faces
-  solid_as_nearby =
-      each_reading (WindAsNearby tris formula) (wind_as_nearby tris formula is.reads.read.written is.reads.outlined written_mean)
+  -- there they wind as the expression says nearby
+  pub solid_here_as_nearby : (faces : List Face) → IsFaceFile file faces → WindHereAsNearby tris formula faces
+  solid_here_as_nearby =
+      each_reading (WindHereAsNearby tris formula) (wind_here_as_nearby tris formula is.reads.read.written is.reads.outlined written_mean)
 
-  pub solid_surrounds : (faces : List Face) → IsFaceFile file faces → SurroundScenePoints tris formula faces
-  solid_surrounds =
-      each_reading (SurroundScenePoints tris formula) (surround_scene_points tris formula is.reads.read.written is.reads.outlined written_mean)
+  -- near a clear point of the scene they wind as the expression says at the point
+  pub solid_nearby_as_here : (faces : List Face) → IsFaceFile file faces → WindNearbyAsHere tris formula faces
+  solid_nearby_as_here =
+      each_reading (WindNearbyAsHere tris formula) (wind_nearby_as_here tris formula is.reads.read.written is.reads.outlined written_mean)
 
   -- ---- slices
+  -- the crossings of the segments are the winding numbers of the faces, and these have the meaning
   pub slices_mean : (at : ℤ) (text : List ℕ) (slice : IsSlice at file text) → SegmentsHaveMeaning tris formula at slice.0 slice.2.segments
   slices_mean at text slice axis p here clear clear_faces =
       let m = is.means slice.0 slice.1 in record {
@@ -64,6 +68,7 @@ module _ (tris : List Tri) (formula : Formula) (file : List ℕ) (is : IsSolidFi
         along_y = crossed_along_y p at here.weight here.on slice.2.are_segments ∙ m Y axis p here.weight clear clear_faces;
       }
 
+  -- the segments are crossed once at most where the faces are clear
   pub slices_once_at_most : (at : ℤ) (text : List ℕ) (slice : IsSlice at file text) → SegmentsCrossOnceAtMost at slice.0 slice.2.segments
   slices_once_at_most at text slice p here clear_faces =
       let w = solid_once_at_most slice.0 slice.1 p here.weight clear_faces in (
@@ -75,13 +80,14 @@ module _ (tris : List Tri) (formula : Formula) (file : List ℕ) (is : IsSolidFi
       )
 
   -- ---- points
+  -- the value that is written for a point is how often the faces wind there
   pub value_of_faces : (faces : List Face) → IsFaceFile file faces → (p : Spot) (meshes : ℕ) (told : List ℕ) → pos 0 <ℤ p.w → list_all (λ t. is_clear_of t p) tris ≡ true → IsOutput (Counts p meshes tris (Some formula)) told → ValueIsOfFaces told faces p
   value_of_faces faces read p meshes told weight taken output =
       let clear = clear_faces tris p weight taken in record {
         value = truth (vector X tris p) formula;
         shown = record { counts = count_lines 1 (take meshes (vector X tris p)); is = output };
         clear = λ c axis. is.means faces read axis X p weight clear c;
-        beside = eventually_map (λ k h. λ axis. h axis X) (solid_surrounds faces read p weight clear);
+        nearby = eventually_map (λ k h. λ axis. h axis X) (solid_nearby_as_here faces read p weight clear);
       }
 
   -- ---- lattices
@@ -95,22 +101,26 @@ module _ (tris : List Tri) (formula : Formula) (file : List ℕ) (is : IsSolidFi
         by true = refl
         by false = refl
 
+    -- the bit is how often the faces wind at the reference point
     pub bits_of_faces : (faces : List Face) → IsFaceFile file faces → BitsAreOfFaces size lattice.rows faces
     bits_of_faces faces read i j l c clear axis =
         let lo = least_corner size i j l in
         is.means faces read axis X (reference_at lo) (weight_at lo) (clear_references lo tris scene.valid) clear ∙ ap one_if (bit_is i j l c)
 
+    -- and near it, wherever it lies
     pub bits_of_faces_nearby : (faces : List Face) → IsFaceFile file faces → BitsAreOfFacesNearby size lattice.rows faces
     bits_of_faces_nearby faces read i j l c =
         let lo = least_corner size i j l in
-        eventually_map (λ k h. λ axis. h axis X ∙ ap one_if (bit_is i j l c)) (solid_surrounds faces read (reference_at lo) (weight_at lo) (clear_references lo tris scene.valid))
+        eventually_map (λ k h. λ axis. h axis X ∙ ap one_if (bit_is i j l c)) (solid_nearby_as_here faces read (reference_at lo) (weight_at lo) (clear_references lo tris scene.valid))
 
 -- ---- expressions
 module _ (tris : List Tri) (meshes : ℕ) (f g : Formula) (one other : List ℕ) (scene : IsScene tris meshes) (a : IsSolidFile tris f one) (b : IsSolidFile tris g other) where
+  -- expressions that agree have one document
   pub agreeing_solids_are_one : AgreeOver tris f g → one ≡ other
   agreeing_solids_are_one agree =
       solid_one tris meshes scene g one other (record { kept = a.text.kept; report = run_report (shape tris g) (root_job tris) (length a.text.kept); solid = record { written = same_written tris f g agree a.text.kept a.text.solid.written; report_is = refl }; text = a.text.text }) b.text
 
+  -- expressions with one document agree
   pub one_solid_agrees : one ≡ other → AgreeOver tris f g
   one_solid_agrees same =
       meanings_agree tris f g a.reads.read.written a.reads.outlined (written_mean tris f one a) (subst (HaveMeaning tris g) a.reads.read.faces (b.means a.reads.faces (subst (λ (bytes : List ℕ). IsFaceFile bytes a.reads.faces) same a.reads.read)))

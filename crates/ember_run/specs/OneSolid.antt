@@ -58,7 +58,7 @@ pub record ValueIsOfFaces (told : List ℕ) (faces : List Face) (p : Spot) : Typ
   pub value : Bool
   pub shown : ShowsValue told value
   pub clear : AreClear faces p → WindOnceIf value faces p
-  pub beside : WhereShifted p (λ q. WindOnceIf value faces q)
+  pub nearby : WhereShifted p (λ q. WindOnceIf value faces q)
 
 -- ---- lattices
 -- the cell (i, j, l) of a lattice of cells of the side 2 ^ size

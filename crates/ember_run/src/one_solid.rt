@@ -2,7 +2,7 @@
 ghost use Rattle.std.specs.Prelude.{◌≡◌, ◌↔◌, ℕ, ℤ, pos, ◌<ℤ◌, true, List, Some};
 ghost use Rattle.std.specs.List.{list_all};
 ghost use Rattle.ember_expr.specs.Formula.{Formula};
-ghost use Rattle.ember_meaning.specs.Nearby.{AgreeOver, SurroundScenePoints, WindAsNearby, WindOnceAtMost};
+ghost use Rattle.ember_meaning.specs.Nearby.{AgreeOver, WindNearbyAsHere, WindHereAsNearby, WindOnceAtMost};
 ghost use Rattle.ember_model.specs.declared.face.Face.{Face};
 ghost use Rattle.ember_model.specs.declared.point.Spot.{Spot};
 ghost use Rattle.ember_model.specs.declared.tri.Tri.{Tri};
@@ -21,8 +21,8 @@ ghost use Rattle.ember_run.specs.Slices.{IsSlice};
 /// they wind so at the shifted point as the expression says at the point itself.
 pub fn solids_wind_once_at_most()
     ensures once { (tris : List Tri) (formula : Formula) (file : List ℕ) → IsOutput (SolidFaces tris formula) file → (faces : List Face) → IsFaceFile file faces → WindOnceAtMost faces }
-    ensures beside { (tris : List Tri) (formula : Formula) (file : List ℕ) → IsOutput (SolidFaces tris formula) file → (faces : List Face) → IsFaceFile file faces → WindAsNearby tris formula faces }
-    ensures scene { (tris : List Tri) (formula : Formula) (file : List ℕ) → IsOutput (SolidFaces tris formula) file → (faces : List Face) → IsFaceFile file faces → SurroundScenePoints tris formula faces }
+    ensures alone { (tris : List Tri) (formula : Formula) (file : List ℕ) → IsOutput (SolidFaces tris formula) file → (faces : List Face) → IsFaceFile file faces → WindHereAsNearby tris formula faces }
+    ensures scene { (tris : List Tri) (formula : Formula) (file : List ℕ) → IsOutput (SolidFaces tris formula) file → (faces : List Face) → IsFaceFile file faces → WindNearbyAsHere tris formula faces }
 {}
 
 /// Two expressions have the same document over a scene exactly where they have one value at the

@@ -1,4 +1,7 @@
 // The numbers of journals, and their line.
+ghost use Rattle.std.specs.Prelude.{◌<◌, ◌^◌, length};
+ghost use Rattle.std.specs.List.{sum_by};
+
 use ember_job::{Entry, Journals, Kind};
 use ember_report::{report_line, report_of};
 use std::alloc::Global;
@@ -16,7 +19,9 @@ fn check(
     journals: &Journals,
     faces: u64,
     want: &[u8],
-) -> Result<(), Fail> {
+) -> Result<(), Fail>
+    requires { sum_by length journals.now < 2 ^ 64 }
+{
     let report = report_of(journals, faces);
     assert_eq!(rt; report_line(alloc, &report)?.as_slice(), want);
     Ok(())

@@ -1,4 +1,6 @@
 // Triangles and planes of the tests.
+ghost use Rattle.ember_model.specs.Valid.{IsValidPlane};
+
 use ember_model::{Corner, Plane, Tri};
 
 pub const O: Corner = Corner { x: 0, y: 0, z: 0 };
@@ -38,11 +40,13 @@ pub const TETRA: [Tri; 4] = [
 ];
 
 /// The plane with this normal and constant.
-pub fn plane(numbers: [i64; 4]) -> Plane {
+pub fn plane(numbers: [i16; 4]) -> Plane
+    ensures { IsValidPlane result }
+{
     Plane {
-        a: numbers[0],
-        b: numbers[1],
-        c: numbers[2],
-        d: numbers[3],
+        a: i64::from(numbers[0]),
+        b: i64::from(numbers[1]),
+        c: i64::from(numbers[2]),
+        d: i64::from(numbers[3]),
     }
 }
