@@ -44,16 +44,3 @@ pub fn product_sign(s: Sign, t: Sign) -> Sign
         Sign::Pos => t,
     }
 }
-
-#[cfg(test)]
-mod tests {
-    use super::*;
-
-    #[test]
-    fn signs_at_the_ends_of_the_type(rt: HostRuntime) {
-        assert_eq!(rt; sign_of(i128::MIN), Sign::Neg);
-        assert_eq!(rt; sign_of(0), Sign::Zero);
-        assert_eq!(rt; sign_of(i128::MAX), Sign::Pos);
-        assert_eq!(rt; product_sign(Sign::Neg, Sign::Neg), Sign::Pos);
-    }
-}

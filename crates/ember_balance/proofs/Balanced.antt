@@ -5,7 +5,7 @@ use Rattle.std.proofs.lemmas.Bool.{cases_eq, eq-eqb, ne_eqb}
 use Rattle.std.proofs.lemmas.List.Elements.{All-head, All-tail}
 use Rattle.ember_algebra.proofs.Sums.{occurrences-append}
 use Rattle.ember_model.specs.declared.tri.Tri.{Tri}
-use Rattle.ember_model.specs.Meshes.{reversed, edges_in, same_edge, times, of_mesh, IsBalanced}
+use Rattle.ember_model.specs.Meshes.{reversed, edges_in, same_edge, edge_count, of_mesh, IsBalanced}
 use Rattle.ember_balance.proofs.Edges.{edges_in-append}
 
 pub balanced-nil : IsBalanced []
@@ -13,7 +13,7 @@ balanced-nil e = refl
 
 pub balanced-append : (ts us : List Tri) → IsBalanced ts → IsBalanced us → IsBalanced (ts ++ us)
 balanced-append ts us p q e =
-    ap (times e) (edges_in-append ts us) ∙ occurrences-append same_edge e (edges_in ts) (edges_in us) ∙ (λ i. p e i + q e i) ∙ sym (occurrences-append same_edge (reversed e) (edges_in ts) (edges_in us)) ∙ sym (ap (times (reversed e)) (edges_in-append ts us))
+    ap (edge_count e) (edges_in-append ts us) ∙ occurrences-append same_edge e (edges_in ts) (edges_in us) ∙ (λ i. p e i + q e i) ∙ sym (occurrences-append same_edge (reversed e) (edges_in ts) (edges_in us)) ∙ sym (ap (edge_count (reversed e)) (edges_in-append ts us))
 
 -- ---- triangles of one mesh
 all_of_mesh : (m : ℕ) (ts : List Tri) → All (λ t. t.mesh ≡ m) ts → of_mesh m ts ≡ ts

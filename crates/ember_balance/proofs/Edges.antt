@@ -10,7 +10,7 @@ use Rattle.ember_algebra.proofs.Sums.{IsEquality, occurrences-map}
 use Rattle.ember_model.specs.declared.point.Corner.{Corner}
 use Rattle.ember_model.specs.declared.tri.Tri.{Tri}
 use Rattle.ember_model.specs.Valid.{IsValidTri}
-use Rattle.ember_model.specs.Meshes.{Edge, reversed, edges_in, same_corner, same_edge, times}
+use Rattle.ember_model.specs.Meshes.{Edge, reversed, edges_in, same_corner, same_edge, edge_count}
 use Rattle.ember_model.proofs.SignTests.{zero_out, clash, In}
 use Rattle.ember_balance.specs.Counts.{count}
 use Rattle.ember_balance.specs.Numbers.{edge_number, IsValidEdge}
@@ -55,7 +55,7 @@ and_swapped false false = refl
 same_reversed : (e f : Edge) → same_edge e (reversed f) ≡ same_edge (reversed e) f
 same_reversed e f = and_swapped (same_corner e.from f.to) (same_corner e.to f.from)
 
-pub times_reversed : (e : Edge) (es : List Edge) → times e (map reversed es) ≡ times (reversed e) es
+pub times_reversed : (e : Edge) (es : List Edge) → edge_count e (map reversed es) ≡ edge_count (reversed e) es
 times_reversed = occurrences-map same_edge reversed reversed same_reversed
 
 -- ---- by their numbers
@@ -67,7 +67,7 @@ same_by_number e f v w = by (same_edge e f) refl
     by false h =
         sym (ne_eqb _ _ (λ n. clash (subst (λ (g : Edge). same_edge e g ≡ true) (same_edges v w n) (same_edge-refl e)) h))
 
-pub times_is_count : (e : Edge) → IsValidEdge e → (es : List Edge) → AllByRecursion IsValidEdge es → times e es ≡ count (edge_number e) (map edge_number es)
+pub times_is_count : (e : Edge) → IsValidEdge e → (es : List Edge) → AllByRecursion IsValidEdge es → edge_count e es ≡ count (edge_number e) (map edge_number es)
 times_is_count e v [] a = refl
 times_is_count e v (f ∷ es) a =
     let t = times_is_count e v es a.1 in
@@ -110,11 +110,11 @@ back_more =
     more (λ es. map edge_number (map reversed es)) (λ es gs. ap (map edge_number) (map-append reversed es gs) ∙ map-append edge_number (map reversed es) (map reversed gs))
 
 -- ---- members
-pub member_from_times : (e : Edge) (es : List Edge) → 0 < times e es → In e es
+pub member_from_times : (e : Edge) (es : List Edge) → 0 < edge_count e es → In e es
 member_from_times e [] l = absurd (omega (arith, l))
 member_from_times e (f ∷ es) l = by (same_edge e f) refl l (member_from_times e es)
   where
-    by : (b : Bool) → same_edge e f ≡ b → 0 < cond b 1 0 + times e es → (0 < times e es → In e es) → (e ≡ f) ⊎ In e es
+    by : (b : Bool) → same_edge e f ≡ b → 0 < cond b 1 0 + edge_count e es → (0 < edge_count e es → In e es) → (e ≡ f) ⊎ In e es
     by true h l k = inl (same_edge_out e f h)
     by false h l k = inr (k (omega (arith, l)))
 

@@ -4,7 +4,7 @@ use Rattle.std.specs.Option.{MatchOption}
 use Rattle.std.specs.List.{filter}
 use Rattle.std.proofs.lemmas.Bool.{ltb-true, lt-ltb, le-ltb, false_from_ne_true}
 use Rattle.ember_model.specs.declared.tri.Tri.{Tri}
-use Rattle.ember_model.specs.Meshes.{Edge, reversed, edges_in, times, IsBalanced}
+use Rattle.ember_model.specs.Meshes.{Edge, reversed, edges_in, edge_count, IsBalanced}
 use Rattle.ember_model.proofs.SignTests.{clash, In}
 use Rattle.ember_balance.specs.declared.loose.Loose.{Loose}
 use Rattle.ember_balance.specs.Loose.{comes_before, is_loose, least_from, with_counts, least_of, loose_of, edge_of, IsLeastLoose}
@@ -80,10 +80,10 @@ module _ (ts : List Tri) (l : Loose) (h : IsLeastLoose ts l) where
   abbrev e : Edge
   e = edge_of l
 
-  there : l.there ≡ times e es
+  there : l.there ≡ edge_count e es
   there = h.there
 
-  back : l.back ≡ times (reversed e) es
+  back : l.back ≡ edge_count (reversed e) es
   back = h.back
 
   counts : with_counts es e ≡ l
@@ -97,7 +97,7 @@ module _ (ts : List Tri) (l : Loose) (h : IsLeastLoose ts l) where
 
   first : NoneBefore e (filter (is_loose es) es)
   first f m =
-      false_from_ne_true _ (λ b. let more = ltb-true (times (reversed f) es) (times f es) (passes_member (is_loose es) f es m) in let most = h.least f b in omega (arith, more, most))
+      false_from_ne_true _ (λ b. let more = ltb-true (edge_count (reversed f) es) (edge_count f es) (passes_member (is_loose es) f es m) in let most = h.least f b in omega (arith, more, most))
 
   pub loose_of_least : loose_of ts ≡ Some l
   unfolding loose_of

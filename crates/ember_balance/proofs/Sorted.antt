@@ -6,7 +6,7 @@ use Rattle.std.proofs.lemmas.List.{length-map}
 use Rattle.std.proofs.lemmas.List.Sorted.{length_permutation}
 use Rattle.ember_model.specs.declared.tri.Tri.{Tri}
 use Rattle.ember_model.specs.Valid.{IsValidTri}
-use Rattle.ember_model.specs.Meshes.{Edge, reversed, edges_in, times, IsBalanced}
+use Rattle.ember_model.specs.Meshes.{Edge, reversed, edges_in, edge_count, IsBalanced}
 use Rattle.ember_balance.specs.declared.loose.Loose.{Loose}
 use Rattle.ember_balance.specs.Counts.{count, HasNoSurplus, IsFirstSurplus}
 use Rattle.ember_balance.specs.Loose.{comes_before, with_counts, edge_of, IsLeastLoose}
@@ -24,30 +24,30 @@ few_back ts there back s =
     length_permutation _ _ s.back ∙ length-map (map reversed (edges_in ts)) edge_number ∙ length-map (edges_in ts) reversed ∙ length-edges_in ts
 
 module _ (ts : List Tri) (valid : All IsValidTri ts) (there back : List ℕ) (s : AreNumbers ts there back) where
-  pub count_there : (e : Edge) → IsValidEdge e → count (edge_number e) there ≡ times e (edges_in ts)
+  pub count_there : (e : Edge) → IsValidEdge e → count (edge_number e) there ≡ edge_count e (edges_in ts)
   count_there e v =
       count_permutation _ _ _ s.there ∙ sym (times_is_count e v (edges_in ts) (valid_edges ts valid))
 
-  pub count_back : (e : Edge) → IsValidEdge e → count (edge_number e) back ≡ times (reversed e) (edges_in ts)
+  pub count_back : (e : Edge) → IsValidEdge e → count (edge_number e) back ≡ edge_count (reversed e) (edges_in ts)
   count_back e v =
       count_permutation _ _ _ s.back ∙ sym (times_is_count e v (map reversed (edges_in ts)) (valid_reversed (edges_in ts) (valid_edges ts valid))) ∙ times_reversed e (edges_in ts)
 
   -- an edge that stands somewhere is valid
-  by_standing : (e : Edge) → (IsValidEdge e → times e (edges_in ts) ≤ times (reversed e) (edges_in ts)) → times e (edges_in ts) ≤ times (reversed e) (edges_in ts)
-  by_standing e k = by (cases_lt 0 (times e (edges_in ts)))
+  by_standing : (e : Edge) → (IsValidEdge e → edge_count e (edges_in ts) ≤ edge_count (reversed e) (edges_in ts)) → edge_count e (edges_in ts) ≤ edge_count (reversed e) (edges_in ts)
+  by_standing e k = by (cases_lt 0 (edge_count e (edges_in ts)))
     where
-      by : (0 < times e (edges_in ts)) ⊎ (times e (edges_in ts) ≤ 0) → times e (edges_in ts) ≤ times (reversed e) (edges_in ts)
+      by : (0 < edge_count e (edges_in ts)) ⊎ (edge_count e (edges_in ts) ≤ 0) → edge_count e (edges_in ts) ≤ edge_count (reversed e) (edges_in ts)
       by (inl l) = k (valid_member e (edges_in ts) (member_from_times e (edges_in ts) l) (valid_edges ts valid))
       by (inr z) = omega (arith, z)
 
-  at_most : HasNoSurplus there back → (e : Edge) → times e (edges_in ts) ≤ times (reversed e) (edges_in ts)
+  at_most : HasNoSurplus there back → (e : Edge) → edge_count e (edges_in ts) ≤ edge_count (reversed e) (edges_in ts)
   at_most h e =
       by_standing e (λ v. let a = count_there e v in let b = count_back e v in let c = h.none (edge_number e) in omega (arith, a, b, c))
 
   pub balanced_from : HasNoSurplus there back → IsBalanced ts
   balanced_from h e =
       let a = at_most h e in
-      let b : times (reversed e) (edges_in ts) ≤ times e (edges_in ts) = at_most h (reversed e) in
+      let b : edge_count (reversed e) (edges_in ts) ≤ edge_count e (edges_in ts) = at_most h (reversed e) in
       omega (arith, a, b)
 
   pub found_from : (k : ℕ) → IsFirstSurplus k there back → Numbered k (edges_in ts)
@@ -62,10 +62,10 @@ module _ (ts : List Tri) (valid : All IsValidTri ts) (there back : List ℕ) (s 
   least_from_first e v h =
       record { there = refl; back = refl; more = more; least = least }
     where
-      more : times (reversed e) (edges_in ts) < times e (edges_in ts)
+      more : edge_count (reversed e) (edges_in ts) < edge_count e (edges_in ts)
       more = let a = count_there e v in let b = count_back e v in omega (arith, a, b, h.more)
 
-      least : (f : Edge) → comes_before f e ≡ true → times f (edges_in ts) ≤ times (reversed f) (edges_in ts)
+      least : (f : Edge) → comes_before f e ≡ true → edge_count f (edges_in ts) ≤ edge_count (reversed f) (edges_in ts)
       least f l =
           by_standing f (λ w. let a = count_there f w in let b = count_back f w in let c = h.first (edge_number f) (edges_rise f e w v l) in omega (arith, a, b, c))
 

@@ -2,7 +2,7 @@
 use Rattle.std.specs.Prelude.{◌≡◌, ◌<◌, ◌≤◌, nat_lt, Bool, true, false, ◌&&◌, ◌||◌, if◌then◌else◌, Option, Some, None, List, [], ◌∷◌, filter, ℤ, ◌-ℤ◌}
 use Rattle.ember_algebra.specs.Sign.{is_negative, is_zero}
 use Rattle.ember_model.specs.declared.tri.Tri.{Tri}
-use Rattle.ember_model.specs.Meshes.{Edge, reversed, edges_in, times}
+use Rattle.ember_model.specs.Meshes.{Edge, reversed, edges_in, edge_count}
 use Rattle.ember_balance.specs.declared.loose.Loose.{Loose}
 
 -- the order of lists by their first difference
@@ -21,7 +21,7 @@ comes_before e f = precedes (coordinates e) (coordinates f)
 -- ---- as a function
 -- the edge stands more often than its reverse
 abbrev pub is_loose : List Edge → Edge → Bool
-is_loose es e = nat_lt (times (reversed e) es) (times e es)
+is_loose es e = nat_lt (edge_count (reversed e) es) (edge_count e es)
 
 abbrev pub least_from : Edge → List Edge → Edge
 least_from e [] = e
@@ -29,7 +29,7 @@ least_from e (f ∷ fs) = least_from (if comes_before f e then f else e) fs
 
 abbrev pub with_counts : List Edge → Edge → Loose
 with_counts es e =
-    record { from = e.from; to = e.to; there = times e es; back = times (reversed e) es }
+    record { from = e.from; to = e.to; there = edge_count e es; back = edge_count (reversed e) es }
 
 abbrev pub least_of : List Edge → List Edge → Option Loose
 least_of es [] = None
@@ -45,7 +45,7 @@ edge_of l = record { from = l.from; to = l.to }
 
 -- the edge stands more often than its reverse, and none before it does
 pub record IsLeastLoose (ts : List Tri) (l : Loose) : Type 0 where
-  pub there : l.there ≡ times (edge_of l) (edges_in ts)
-  pub back : l.back ≡ times (reversed (edge_of l)) (edges_in ts)
+  pub there : l.there ≡ edge_count (edge_of l) (edges_in ts)
+  pub back : l.back ≡ edge_count (reversed (edge_of l)) (edges_in ts)
   pub more : l.back < l.there
-  pub least : (e : Edge) → comes_before e (edge_of l) ≡ true → times e (edges_in ts) ≤ times (reversed e) (edges_in ts)
+  pub least : (e : Edge) → comes_before e (edge_of l) ≡ true → edge_count e (edges_in ts) ≤ edge_count (reversed e) (edges_in ts)

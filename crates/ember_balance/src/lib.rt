@@ -4,7 +4,5 @@
 mod loose;
 mod numbers;
 mod surplus;
-#[cfg(test)]
-mod tests;
 
 pub use loose::{Loose, balance};

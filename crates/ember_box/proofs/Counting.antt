@@ -10,7 +10,7 @@ use Rattle.ember_model.specs.declared.point.Axis.TheVariants.{X, Y, Z}
 use Rattle.ember_box.specs.declared.sums.Sums.{Sums}
 use Rattle.ember_box.specs.Boxes.{Cell, left_half, right_half}
 use Rattle.ember_box.specs.Near.{is_near, near, no_tri}
-use Rattle.ember_box.specs.Halving.{half_sum, is_no_better, halving_axis, spreads, is_leaf}
+use Rattle.ember_box.specs.Halving.{half_sum, is_no_better, halving_axis, is_unprofitable, is_leaf}
 use Rattle.ember_box.specs.Sums.{number, near_halves, IsSumOf, AreSums}
 
 -- ---- a list
@@ -65,7 +65,7 @@ no_better ts c j k a b s t =
     by true false f g = refl
     by true true f g = λ i. nat_le (g refl i) (f refl i)
 
-pub spread : (ts : List Tri) (c : Cell) (k : Axis) (n a : ℕ) → n ≡ length (near ts c) → IsSumOf ts c k a → (not (nat_lt 0 (c.log k)) || nat_le (7 * n) (4 * a)) ≡ spreads ts c k
+pub spread : (ts : List Tri) (c : Cell) (k : Axis) (n a : ℕ) → n ≡ length (near ts c) → IsSumOf ts c k a → (not (nat_lt 0 (c.log k)) || nat_le (7 * n) (4 * a)) ≡ is_unprofitable ts c k
 spread ts c k n a e s = by (nat_lt 0 (c.log k)) (λ p. s.value (positive (c.log k) p))
   where
     positive : (n : ℕ) → nat_lt 0 n ≡ true → 0 < n
@@ -95,4 +95,4 @@ pub few_end : (ts : List Tri) (c : Cell) → length ts ≤ 16 → is_leaf ts c �
 unfolding is_leaf
 few_end ts c few =
     let n : nat_le (length (near ts c)) 16 ≡ true = le-leb (length (near ts c)) 16 (omega (arith, few, length-filter (λ t. is_near c t) ts, count_by-le-length (λ t. is_near c t) ts)) in
-    or_left (nat_le (length (near ts c)) 16) (spreads ts c X && spreads ts c Y && spreads ts c Z) n
+    or_left (nat_le (length (near ts c)) 16) (is_unprofitable ts c X && is_unprofitable ts c Y && is_unprofitable ts c Z) n

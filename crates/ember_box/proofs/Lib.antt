@@ -1,11 +1,11 @@
 pub mod OneList
-pub mod Splits
+pub mod HalfCells
 pub mod Orders
 pub mod Crossing
-pub mod Level
-pub mod Nearby
-pub mod Meeting
-pub mod Sights
+pub mod FlatAlongAxis
+pub mod NearByAabbs
+pub mod HalvesMet
+pub mod HalfNearness
 pub mod Counting
 pub mod Lists
 pub mod Halvable

@@ -8,9 +8,9 @@ use Rattle.ember_model.specs.declared.point.Axis.{Axis}
 use Rattle.ember_model.specs.declared.point.Axis.TheVariants.{X, Y, Z}
 use Rattle.ember_model.specs.Valid.{IsValidTri}
 use Rattle.ember_box.specs.Boxes.{Cell, root, left_half, right_half}
-use Rattle.ember_box.specs.Near.{is_near, near, no_tri, tri_at, listed, near_places, places}
-use Rattle.ember_box.specs.Halving.{half_sum, is_no_better, halving_axis, spreads, is_leaf}
-use Rattle.ember_box.proofs.Nearby.{left_near, right_near, near_root}
+use Rattle.ember_box.specs.Near.{is_near, near, no_tri, tri_at, listed, near_indices, all_indices}
+use Rattle.ember_box.specs.Halving.{half_sum, is_no_better, halving_axis, is_unprofitable, is_leaf}
+use Rattle.ember_box.proofs.NearByAabbs.{left_near, right_near, near_root}
 
 -- ---- filters
 false_by : (s t : Bool) → (s ≡ true → t ≡ true) → t ≡ false → s ≡ false
@@ -43,11 +43,11 @@ pub right_list : (ts : List Tri) (c : Cell) (k : Axis) → 0 < c.log k → near 
 right_list ts c k p =
     filter_within (λ t. is_near (right_half c k) t) (λ t. is_near c t) (λ t. right_near c k t p) ts
 
-pub left_places : (ts : List Tri) (c : Cell) (k : Axis) (is : List ℕ) → 0 < c.log k → near_places ts (left_half c k) (near_places ts c is) ≡ near_places ts (left_half c k) is
+pub left_places : (ts : List Tri) (c : Cell) (k : Axis) (is : List ℕ) → 0 < c.log k → near_indices ts (left_half c k) (near_indices ts c is) ≡ near_indices ts (left_half c k) is
 left_places ts c k is p =
     filter_within (λ i. is_near (left_half c k) (tri_at ts i)) (λ i. is_near c (tri_at ts i)) (λ i. left_near c k (tri_at ts i) p) is
 
-pub right_places : (ts : List Tri) (c : Cell) (k : Axis) (is : List ℕ) → 0 < c.log k → near_places ts (right_half c k) (near_places ts c is) ≡ near_places ts (right_half c k) is
+pub right_places : (ts : List Tri) (c : Cell) (k : Axis) (is : List ℕ) → 0 < c.log k → near_indices ts (right_half c k) (near_indices ts c is) ≡ near_indices ts (right_half c k) is
 right_places ts c k is p =
     filter_within (λ i. is_near (right_half c k) (tri_at ts i)) (λ i. is_near c (tri_at ts i)) (λ i. right_near c k (tri_at ts i) p) is
 
@@ -71,7 +71,7 @@ no_better_near ts c j k =
     by true false f g = refl
     by true true f g = λ i. nat_le (g refl i) (f refl i)
 
-spreads_near : (ts : List Tri) (c : Cell) (k : Axis) → spreads (near ts c) c k ≡ spreads ts c k
+spreads_near : (ts : List Tri) (c : Cell) (k : Axis) → is_unprofitable (near ts c) c k ≡ is_unprofitable ts c k
 spreads_near ts c k = by (nat_lt 0 (c.log k)) (λ e. half_sum_near ts c k (positive (c.log k) e))
   where
     by : (p : Bool) → (p ≡ true → half_sum (near ts c) c k ≡ half_sum ts c k) → (not p || nat_le (7 * length (near (near ts c) c)) (4 * half_sum (near ts c) c k)) ≡ (not p || nat_le (7 * length (near ts c)) (4 * half_sum ts c k))
@@ -89,7 +89,7 @@ is_leaf_near ts c =
     λ i. nat_le (length (near_again ts c i)) 16 || spreads_near ts c X i && spreads_near ts c Y i && spreads_near ts c Z i
 
 -- ---- by places
-pub listed_near : (ts : List Tri) (c : Cell) (is : List ℕ) → listed ts (near_places ts c is) ≡ near (listed ts is) c
+pub listed_near : (ts : List Tri) (c : Cell) (is : List ℕ) → listed ts (near_indices ts c is) ≡ near (listed ts is) c
 listed_near ts c is = map-filter (λ i. tri_at ts i) (λ t. is_near c t) is
 
 from_place : (ts : List Tri) (ks : List Tri) (n : ℕ) → ((i : ℕ) → tri_at ks (n + i) ≡ tri_at ts i) → map (λ i. tri_at ks i) (range_with_len n (length ts)) ≡ ts
@@ -104,19 +104,19 @@ from_place (t ∷ ts) ks n h =
     onward i = omega arith
 
 -- all places list all triangles
-pub listed_all : (ts : List Tri) → listed ts (places ts) ≡ ts
+pub listed_all : (ts : List Tri) → listed ts (all_indices ts) ≡ ts
 listed_all ts = from_place ts ts 0 (λ i. let e : 0 + i ≡ i = omega arith in ap (λ m. tri_at ts m) e)
 
-pub listed_near_all : (ts : List Tri) (c : Cell) → listed ts (near_places ts c (places ts)) ≡ near ts c
-listed_near_all ts c = listed_near ts c (places ts) ∙ ap (λ us. near us c) (listed_all ts)
+pub listed_near_all : (ts : List Tri) (c : Cell) → listed ts (near_indices ts c (all_indices ts)) ≡ near ts c
+listed_near_all ts c = listed_near ts c (all_indices ts) ∙ ap (λ us. near us c) (listed_all ts)
 
-pub halving_axis_listed : (ts : List Tri) (c : Cell) → halving_axis (listed ts (near_places ts c (places ts))) c ≡ halving_axis ts c
+pub halving_axis_listed : (ts : List Tri) (c : Cell) → halving_axis (listed ts (near_indices ts c (all_indices ts))) c ≡ halving_axis ts c
 halving_axis_listed ts c = ap (λ us. halving_axis us c) (listed_near_all ts c) ∙ halving_axis_near ts c
 
-pub is_leaf_listed : (ts : List Tri) (c : Cell) → is_leaf (listed ts (near_places ts c (places ts))) c ≡ is_leaf ts c
+pub is_leaf_listed : (ts : List Tri) (c : Cell) → is_leaf (listed ts (near_indices ts c (all_indices ts))) c ≡ is_leaf ts c
 is_leaf_listed ts c = ap (λ us. is_leaf us c) (listed_near_all ts c) ∙ is_leaf_near ts c
 
-pub near_in_range : (ts : List Tri) (c : Cell) (is : List ℕ) → All (λ i. i < length ts) is → All (λ i. i < length ts) (near_places ts c is)
+pub near_in_range : (ts : List Tri) (c : Cell) (is : List ℕ) → All (λ i. i < length ts) is → All (λ i. i < length ts) (near_indices ts c is)
 near_in_range ts c is a = All-filter (λ i. is_near c (tri_at ts i)) (λ i. i < length ts) is a
 
 -- ---- the root
@@ -130,6 +130,6 @@ pub root_list : (ts : List Tri) → All IsValidTri ts → near ts root ≡ ts
 root_list ts a =
     filter_all (λ t. is_near root t) ts (All-weaker IsValidTri (λ t. is_near root t ≡ true) (λ t v. near_root t v) ts a)
 
-pub root_places : (ts : List Tri) (is : List ℕ) → All IsValidTri ts → All (λ i. i < length ts) is → near_places ts root is ≡ is
+pub root_places : (ts : List Tri) (is : List ℕ) → All IsValidTri ts → All (λ i. i < length ts) is → near_indices ts root is ≡ is
 root_places ts is a b =
     filter_all (λ i. is_near root (tri_at ts i)) is (All-weaker (λ i. i < length ts) (λ i. is_near root (tri_at ts i) ≡ true) (λ i l. near_root (tri_at ts i) (All-get_or IsValidTri ts i no_tri l a)) is b)

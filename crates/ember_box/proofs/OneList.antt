@@ -10,15 +10,15 @@ use Rattle.ember_model.specs.Faces.{Cuts}
 use Rattle.ember_model.proofs.SignTests.{negative_out, positive_out, zero_out}
 use Rattle.ember_box.specs.Boxes.{Cell}
 use Rattle.ember_box.specs.Near.{tri_at}
-use Rattle.ember_box.specs.Regions.{Wall, IsAbove, LiesOn, AtWall, cut, outside, in_high, stays, IsStart, Blade, AtBlade, splits, whole, blades, IsRegions}
+use Rattle.ember_box.specs.Regions.{Wall, FaceIsAbove, FaceLiesOn, AtWall, cut, outside, in_high, stays, IsStart, CuttingPlane, AtCuttingPlane, splits, whole, cutting_planes, IsRegions}
 
 -- a face that a plane cuts doesn't lie above it, nor on it
-cut_not_above : (f : Face) (w : Wall) → Cuts f w.plane → IsAbove f w.plane → ⊥
+cut_not_above : (f : Face) (w : Wall) → Cuts f w.plane → FaceIsAbove f w.plane → ⊥
 cut_not_above f w c a =
     let v = value_at w.plane c.low.at in let n : v <ℤ pos 0 = negative_out v c.low.holds in
     let p : pos 0 <ℤ v = positive_out v (a.holds c.low.at c.low.inside) in absurd (omega (arith, linear, n, p))
 
-cut_not_on : (f : Face) (w : Wall) → Cuts f w.plane → LiesOn f w.plane → ⊥
+cut_not_on : (f : Face) (w : Wall) → Cuts f w.plane → FaceLiesOn f w.plane → ⊥
 cut_not_on f w c o =
     let v = value_at w.plane c.low.at in let n : v <ℤ pos 0 = negative_out v c.low.holds in
     let z : v ≡ pos 0 = zero_out v (o.holds c.low.at c.low.inside) in absurd (omega (arith, linear, n, z))
@@ -41,7 +41,7 @@ wall_unique w f ys zs (stays n a o) (outside b) = absurd (a b)
 wall_unique w f ys zs (stays n a o) (in_high h p) = absurd (o h p)
 wall_unique w f ys zs (stays n a o) (stays m b p) = refl
 
-blade_unique : (b : Blade) (f : Face) (ys zs : List Face) → AtBlade b f ys → AtBlade b f zs → ys ≡ zs
+blade_unique : (b : CuttingPlane) (f : Face) (ys zs : List Face) → AtCuttingPlane b f ys → AtCuttingPlane b f zs → ys ≡ zs
 blade_unique b f ys zs (splits m c) (splits n d) = refl
 blade_unique b f ys zs (splits m c) (whole n) = absurd (n m c)
 blade_unique b f ys zs (whole n) (splits m c) = absurd (n m c)
@@ -54,4 +54,4 @@ start_unique c t fs gs r q =
 -- the regions of a triangle in a box are one list
 pub regions_unique : (c : Cell) (ts : List Tri) (i : ℕ) (fs gs : List Face) → IsRegions c ts i fs → IsRegions c ts i gs → fs ≡ gs
 regions_unique c ts i fs gs r q =
-    chain_unique (λ b x y z. each_unique (blade_unique b)) r.cuts (subst (λ s. Chain (λ b. Each (AtBlade b)) (blades ts i) s gs) (sym (start_unique c (tri_at ts i) r.start q.start r.is_start q.is_start)) q.cuts)
+    chain_unique (λ b x y z. each_unique (blade_unique b)) r.cuts (subst (λ s. Chain (λ b. Each (AtCuttingPlane b)) (cutting_planes ts i) s gs) (sym (start_unique c (tri_at ts i) r.start q.start r.is_start q.is_start)) q.cuts)

@@ -3,8 +3,8 @@ use Rattle.std.proofs.Common.{◌≡◌, ◌⊎◌, inl, inr, refl, sym, ap, ◌
 use Rattle.std.specs.Int.{int_min, int_max}
 use Rattle.std.proofs.lemmas.Bool.{and_parts, and_from}
 use borrow.Author.Differences.{ints}
-use Rattle.ember_box.specs.declared.spans.Span.{Span}
-use Rattle.ember_box.specs.Spans.{span_over, reaches}
+use Rattle.ember_box.specs.declared.aabb.Interval.{Interval}
+use Rattle.ember_box.specs.Aabbs.{interval_over, intervals_meet}
 
 pub le_in : (a b : ℤ) → a ≤ℤ b → int_le a b ≡ true
 le_in a b h = grind (arith, ints)
@@ -78,7 +78,7 @@ pub greatest_of : (a b c l : ℤ) → int_le l (int_max (int_max a b) c) ≡ int
 greatest_of a b c l =
     at_least_one (int_max a b) c l ∙ ap (λ t. t || int_le l c) (at_least_one a b l) ∙ or_assoc (int_le l a) (int_le l b) (int_le l c)
 
-pub reaches_is : (a b c : ℤ) (s : Span) → reaches (span_over a b c) s ≡ (int_le a s.high || (int_le b s.high || int_le c s.high)) && (int_le s.low a || (int_le s.low b || int_le s.low c))
+pub reaches_is : (a b c : ℤ) (s : Interval) → intervals_meet (interval_over a b c) s ≡ (int_le a s.high || (int_le b s.high || int_le c s.high)) && (int_le s.low a || (int_le s.low b || int_le s.low c))
 reaches_is a b c s = λ i. least_of a b c s.high i && greatest_of a b c s.low i
 
 -- ---- tests of several

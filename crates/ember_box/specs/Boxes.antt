@@ -37,8 +37,8 @@ abbrev pub root : Cell
 root = record { lo = record { x = neg_ℤ (pos 2048); y = neg_ℤ (pos 2048); z = neg_ℤ (pos 2048) }; log = λ k. 12; path = 1 }
 
 -- how many halvings a box may still have
-abbrev pub left : Cell → ℕ
-left c = c.log X + c.log Y + c.log Z
+abbrev pub halvings_left : Cell → ℕ
+halvings_left c = c.log X + c.log Y + c.log Z
 
 -- f with n in place of its value at k
 abbrev pub put : Axis → ℕ → (Axis → ℕ) → Axis → ℕ
@@ -61,17 +61,17 @@ right_half c k =
     record { lo = shifted_by k (pos (2 ^ pred (c.log k))) c.lo; log = put k (pred (c.log k)) c.log; path = 2 * c.path + 1 }
 
 -- along an axis a box has one of the places of its side in the root's
-pub record Sits (low : ℤ) (log : ℕ) : Type 0 where
+pub record IsOnGrid (low : ℤ) (log : ℕ) : Type 0 where
   pub small : log ≤ 12
-  pub place : ℕ
-  pub at : low +ℤ pos 2048 ≡ pos (place * 2 ^ log)
-  pub within : (place + 1) * 2 ^ log ≤ 4096
+  pub index : ℕ
+  pub at : low +ℤ pos 2048 ≡ pos (index * 2 ^ log)
+  pub within : (index + 1) * 2 ^ log ≤ 4096
 
 -- what every box keeps
 pub record IsCell (c : Cell) : Type 0 where
-  pub sits : (k : Axis) → Sits (low c k) (c.log k)
-  pub from : 2 ^ 36 ≤ c.path * 2 ^ left c
-  pub below : (c.path + 1) * 2 ^ left c ≤ 2 ^ 37
+  pub sits : (k : Axis) → IsOnGrid (low c k) (c.log k)
+  pub from : 2 ^ 36 ≤ c.path * 2 ^ halvings_left c
+  pub below : (c.path + 1) * 2 ^ halvings_left c ≤ 2 ^ 37
 
 abbrev pub three : {T : Type 0} → T → T → T → Axis → T
 three x y z X = x
@@ -101,7 +101,7 @@ cell_of from log path =
     cell_with (coordinate (slice_index_or from 0 0)) (coordinate (slice_index_or from 1 0)) (coordinate (slice_index_or from 2 0)) (slice_index_or log 0 0) (slice_index_or log 1 0) (slice_index_or log 2 0) path
 
 -- the place of an axis in that order
-abbrev pub place_of : Axis → ℕ
-place_of X = 0
-place_of Y = 1
-place_of Z = 2
+abbrev pub axis_index : Axis → ℕ
+axis_index X = 0
+axis_index Y = 1
+axis_index Z = 2

@@ -3,7 +3,7 @@ use Rattle.std.specs.Prelude.{ℕ, zero, suc, ◌+◌, ◌*◌, Bool, true, fals
 use Rattle.ember_model.specs.declared.tri.Tri.{Tri}
 use Rattle.ember_model.specs.declared.point.Axis.{Axis}
 use Rattle.ember_model.specs.declared.point.Axis.TheVariants.{X, Y, Z}
-use Rattle.ember_box.specs.Boxes.{Cell, left, left_half, right_half}
+use Rattle.ember_box.specs.Boxes.{Cell, halvings_left, left_half, right_half}
 use Rattle.ember_box.specs.Near.{near}
 
 -- the side along the axis is above 1
@@ -25,13 +25,13 @@ halving_axis ts c =
     if is_no_better ts c X Y && is_no_better ts c X Z then X else (if is_no_better ts c Y Z then Y else Z)
 
 -- halving along the axis isn't possible, or isn't worth it
-abbrev pub spreads : List Tri → Cell → Axis → Bool
-spreads ts c k = not (is_halvable c k) || nat_le (7 * length (near ts c)) (4 * half_sum ts c k)
+abbrev pub is_unprofitable : List Tri → Cell → Axis → Bool
+is_unprofitable ts c k = not (is_halvable c k) || nat_le (7 * length (near ts c)) (4 * half_sum ts c k)
 
 -- at most 16 triangles are near the box, or no axis is worth a halving
 unfoldable pub is_leaf : List Tri → Cell → Bool
 is_leaf ts c =
-    nat_le (length (near ts c)) 16 || spreads ts c X && spreads ts c Y && spreads ts c Z
+    nat_le (length (near ts c)) 16 || is_unprofitable ts c X && is_unprofitable ts c Y && is_unprofitable ts c Z
 
 -- ---- the full tree
 -- the leaves under a box, the lower half's first; at most this many halvings deep
@@ -41,4 +41,4 @@ leaves_within ts (suc n) c =
     elim (is_leaf ts c) [ true ↦ c ∷ [] | false ↦ leaves_within ts n (left_half c (halving_axis ts c)) ++ leaves_within ts n (right_half c (halving_axis ts c)) ]
 
 abbrev pub leaves : List Tri → Cell → List Cell
-leaves ts c = leaves_within ts (left c) c
+leaves ts c = leaves_within ts (halvings_left c) c

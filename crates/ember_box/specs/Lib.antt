@@ -1,5 +1,5 @@
 pub mod Boxes
-pub mod Spans
+pub mod Aabbs
 pub mod Near
 pub mod Halving
 pub mod Sums

@@ -20,13 +20,13 @@ spans_meet c t k =
 abbrev pub boxes_meet : Cell → Tri → Bool
 boxes_meet c t = spans_meet c t X && (spans_meet c t Y && spans_meet c t Z)
 
-abbrev pub place : Vector → Spot
-place v = record { x = v.x; y = v.y; z = v.z; w = pos 1 }
+abbrev pub spot_of_vector : Vector → Spot
+spot_of_vector v = record { x = v.x; y = v.y; z = v.z; w = pos 1 }
 
 -- the eight corners of a box
 abbrev pub corners : Cell → List Spot
 corners c =
-    let x = side c X in let y = side c Y in let z = side c Z in let o = place c.lo in
+    let x = side c X in let y = side c Y in let z = side c Z in let o = spot_of_vector c.lo in
     o ∷ moved o X x ∷ moved o Y y ∷ moved (moved o Y y) X x ∷ moved o Z z ∷ moved (moved o Z z) X x ∷ moved (moved o Z z) Y y ∷ moved (moved (moved o Z z) Y y) X x ∷ []
 
 -- the bounding box meets the closed box, and the corners of the box aren't all strictly on one side of the support plane
@@ -51,8 +51,8 @@ abbrev pub listed : List Tri → List ℕ → List Tri
 listed ts is = map (λ i. tri_at ts i) is
 
 -- the places of a list at which a triangle near the box stands
-abbrev pub near_places : List Tri → Cell → List ℕ → List ℕ
-near_places ts c is = filter (λ i. is_near c (tri_at ts i)) is
+abbrev pub near_indices : List Tri → Cell → List ℕ → List ℕ
+near_indices ts c is = filter (λ i. is_near c (tri_at ts i)) is
 
-abbrev pub places : List Tri → List ℕ
-places ts = range_with_len 0 (length ts)
+abbrev pub all_indices : List Tri → List ℕ
+all_indices ts = range_with_len 0 (length ts)

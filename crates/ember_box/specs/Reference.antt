@@ -7,11 +7,11 @@ use Rattle.ember_model.specs.declared.point.Axis.TheVariants.{X}
 use Rattle.ember_model.specs.Points.{shifted}
 use Rattle.ember_model.specs.Meshes.{vector, IsScene}
 use Rattle.ember_box.specs.Boxes.{Cell}
-use Rattle.ember_box.specs.Near.{place, near}
+use Rattle.ember_box.specs.Near.{spot_of_vector, near}
 
 -- lo + (2^-27, 2^-54, 2^-81), with the weight 2^81
 abbrev pub reference_at : Vector → Spot
-reference_at lo = shifted (place lo) (pos (2 ^ 27))
+reference_at lo = shifted (spot_of_vector lo) (pos (2 ^ 27))
 
 abbrev pub reference : Cell → Spot
 reference c = reference_at c.lo

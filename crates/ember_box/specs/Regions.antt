@@ -33,18 +33,18 @@ high_wall c k = record { plane = level k (high c k); is_high = true }
 abbrev pub walls : Cell → List Wall
 walls c = flat_map (λ k. low_wall c k ∷ high_wall c k ∷ []) (X ∷ Y ∷ Z ∷ [])
 
-abbrev pub IsAbove : Face → Plane → Type 0
-IsAbove f p = Everywhere f (λ v. is_positive (value_at p v) ≡ true)
+abbrev pub FaceIsAbove : Face → Plane → Type 0
+FaceIsAbove f p = Everywhere f (λ v. is_positive (value_at p v) ≡ true)
 
-abbrev pub LiesOn : Face → Plane → Type 0
-LiesOn f p = Everywhere f (λ v. is_zero (value_at p v) ≡ true)
+abbrev pub FaceLiesOn : Face → Plane → Type 0
+FaceLiesOn f p = Everywhere f (λ v. is_zero (value_at p v) ≡ true)
 
 -- what a wall leaves of a face
 pub data AtWall (w : Wall) (f : Face) : List Face → Type 0 where
   cut : Cuts f w.plane → AtWall w f (below f w.plane ∷ [])
-  outside : IsAbove f w.plane → AtWall w f []
-  in_high : w.is_high ≡ true → LiesOn f w.plane → AtWall w f []
-  stays : (Cuts f w.plane → ⊥) → (IsAbove f w.plane → ⊥) → (w.is_high ≡ true → LiesOn f w.plane → ⊥) → AtWall w f (f ∷ [])
+  outside : FaceIsAbove f w.plane → AtWall w f []
+  in_high : w.is_high ≡ true → FaceLiesOn f w.plane → AtWall w f []
+  stays : (Cuts f w.plane → ⊥) → (FaceIsAbove f w.plane → ⊥) → (w.is_high ≡ true → FaceLiesOn f w.plane → ⊥) → AtWall w f (f ∷ [])
 
 -- the start of a triangle in a box: one face, or none
 abbrev pub IsStart : Cell → Tri → List Face → Type 0
@@ -53,29 +53,29 @@ IsStart c t fs =
 
 -- ---- regions
 -- a plane that cuts what meets the face
-pub record Blade : Type 0 where
+pub record CuttingPlane : Type 0 where
   pub face : Face
   pub plane : Plane
 
--- the blades that u has for the regions of t
-abbrev pub blades_of : Tri → Tri → List Blade
-blades_of t u =
+-- the cutting planes that u has for the regions of t
+abbrev pub cutting_planes_of : Tri → Tri → List CuttingPlane
+cutting_planes_of t u =
     elim (is_flat u) [ true ↦ [] | false ↦ map (λ p. record { face = face_of u; plane = p }) (elim (is_coplanar t u) [ true ↦ edges_of u | false ↦ support_of u ∷ [] ]) ]
 
--- what a blade leaves of a face
-pub data AtBlade (b : Blade) (f : Face) : List Face → Type 0 where
-  splits : Meets f b.face → Cuts f b.plane → AtBlade b f (below f b.plane ∷ above f b.plane ∷ [])
-  whole : (Meets f b.face → Cuts f b.plane → ⊥) → AtBlade b f (f ∷ [])
+-- what a cutting plane leaves of a face
+pub data AtCuttingPlane (b : CuttingPlane) (f : Face) : List Face → Type 0 where
+  splits : Meets f b.face → Cuts f b.plane → AtCuttingPlane b f (below f b.plane ∷ above f b.plane ∷ [])
+  whole : (Meets f b.face → Cuts f b.plane → ⊥) → AtCuttingPlane b f (f ∷ [])
 
--- the blades for triangle i of a leaf whose near triangles are these: those of each other triangle, in order
-abbrev pub blades_at : List Tri → ℕ → ℕ → List Blade
-blades_at ts i j = elim (nat_eq j i) [ true ↦ [] | false ↦ blades_of (tri_at ts i) (tri_at ts j) ]
+-- the cutting planes for triangle i of a leaf whose near triangles are these: those of each other triangle, in order
+abbrev pub cutting_planes_at : List Tri → ℕ → ℕ → List CuttingPlane
+cutting_planes_at ts i j = elim (nat_eq j i) [ true ↦ [] | false ↦ cutting_planes_of (tri_at ts i) (tri_at ts j) ]
 
-abbrev pub blades : List Tri → ℕ → List Blade
-blades ts i = flat_map (λ j. blades_at ts i j) (range_with_len 0 (length ts))
+abbrev pub cutting_planes : List Tri → ℕ → List CuttingPlane
+cutting_planes ts i = flat_map (λ j. cutting_planes_at ts i j) (range_with_len 0 (length ts))
 
 -- the regions of triangle i in a box whose near triangles are these
 pub record IsRegions (c : Cell) (ts : List Tri) (i : ℕ) (fs : List Face) : Type 0 where
   pub start : List Face
   pub is_start : IsStart c (tri_at ts i) start
-  pub cuts : Chain (λ b. Each (AtBlade b)) (blades ts i) start fs
+  pub cuts : Chain (λ b. Each (AtCuttingPlane b)) (cutting_planes ts i) start fs

@@ -6,13 +6,13 @@ use Rattle.ember_model.specs.declared.point.Axis.{Axis}
 use Rattle.ember_model.specs.declared.point.Axis.TheVariants.{X, Y, Z}
 use Rattle.ember_model.specs.Planes.{support_of}
 use Rattle.ember_model.specs.Sizes.{IsSupportSized}
-use Rattle.ember_box.specs.declared.spans.Span.{Span}
-use Rattle.ember_box.specs.declared.spans.Spans.{Spans}
-use Rattle.ember_box.specs.declared.sight.Halves.{Halves}
-use Rattle.ember_box.specs.declared.sums.Parts.{Parts}
+use Rattle.ember_box.specs.declared.aabb.Interval.{Interval}
+use Rattle.ember_box.specs.declared.aabb.Aabb.{Aabb}
+use Rattle.ember_box.specs.declared.half_boxes.HalfBoxes.{HalfBoxes}
+use Rattle.ember_box.specs.declared.sums.HalvesByAxis.{HalvesByAxis}
 use Rattle.ember_box.specs.declared.sums.Sums.{Sums}
 use Rattle.ember_box.specs.Boxes.{Cell, low, left_half, right_half}
-use Rattle.ember_box.specs.Spans.{spans_of, bounding, within, is_level, crosses, AreSpansSized}
+use Rattle.ember_box.specs.Aabbs.{aabb_of_cell, aabb_of_tri, within, is_level, crosses, IsAabbSized}
 use Rattle.ember_box.specs.Near.{is_near, near}
 use Rattle.ember_box.specs.Halving.{half_sum}
 
@@ -21,53 +21,53 @@ number b = if b then 1 else 0
 
 -- ---- one triangle
 -- the plane that is looked at: none where the triangle lies in the box or across an axis
-abbrev pub IsPlaneOf : Spans → Tri → Option Plane → Type 0
-IsPlaneOf whole t None = is_level (bounding t) || within whole (bounding t) ≡ true
+abbrev pub IsPlaneOf : Aabb → Tri → Option Plane → Type 0
+IsPlaneOf whole t None = is_level (aabb_of_tri t) || within whole (aabb_of_tri t) ≡ true
 IsPlaneOf whole t (Some p) = p ≡ support_of t
 
 abbrev pub IsPlaneSized : Option Plane → Type 0
 IsPlaneSized None = Unit {0}
 IsPlaneSized (Some p) = IsSupportSized p
 
-abbrev pub may_cross : Spans → Option Plane → Bool
+abbrev pub may_cross : Aabb → Option Plane → Bool
 may_cross b None = true
 may_cross b (Some p) = crosses p b
 
 -- ---- the halves along an axis
-pub record AreHalves (c : Cell) (k : Axis) (h : Halves) : Type 0 where
-  pub is_low : h.low ≡ spans_of (left_half c k)
-  pub is_high : h.high ≡ spans_of (right_half c k)
+pub record AreHalves (c : Cell) (k : Axis) (h : HalfBoxes) : Type 0 where
+  pub is_low : h.low ≡ aabb_of_cell (left_half c k)
+  pub is_high : h.high ≡ aabb_of_cell (right_half c k)
   pub is_middle : h.middle ≡ low (right_half c k) k
 
-pub record AreHalvesSized (h : Halves) : Type 0 where
-  pub sized_low : AreSpansSized h.low
-  pub sized_high : AreSpansSized h.high
+pub record AreHalvesSized (h : HalfBoxes) : Type 0 where
+  pub sized_low : IsAabbSized h.low
+  pub sized_high : IsAabbSized h.high
 
--- what meets the box meets a half where its span along the axis reaches the middle
-abbrev pub sees_low : Halves → Span → Option Plane → Bool
-sees_low h a None = int_le a.low h.middle
-sees_low h a (Some p) = int_le a.low h.middle && crosses p h.low
+-- what meets the box meets a half where its interval along the axis reaches the middle
+abbrev pub meets_left : HalfBoxes → Interval → Option Plane → Bool
+meets_left h a None = int_le a.low h.middle
+meets_left h a (Some p) = int_le a.low h.middle && crosses p h.low
 
-abbrev pub sees_high : Halves → Span → Option Plane → Bool
-sees_high h a None = int_le h.middle a.high
-sees_high h a (Some p) = int_le h.middle a.high && crosses p h.high
+abbrev pub meets_right : HalfBoxes → Interval → Option Plane → Bool
+meets_right h a None = int_le h.middle a.high
+meets_right h a (Some p) = int_le h.middle a.high && crosses p h.high
 
-abbrev pub halves_seen : Halves → Span → Option Plane → ℕ
-halves_seen h a p = number (sees_low h a p) + number (sees_high h a p)
+abbrev pub halves_met : HalfBoxes → Interval → Option Plane → ℕ
+halves_met h a p = number (meets_left h a p) + number (meets_right h a p)
 
 -- the number of halves along an axis that a triangle is near
 unfoldable pub near_halves : Cell → Axis → Tri → ℕ
 near_halves c k t = number (is_near (left_half c k) t) + number (is_near (right_half c k) t)
 
 -- ---- the halves along all axes
-pub record AreParts (c : Cell) (b : Parts) : Type 0 where
-  pub whole : b.whole ≡ spans_of c
+pub record AreHalvesByAxis (c : Cell) (b : HalvesByAxis) : Type 0 where
+  pub whole : b.whole ≡ aabb_of_cell c
   pub x : 0 < c.log X → AreHalves c X b.x
   pub y : 0 < c.log Y → AreHalves c Y b.y
   pub z : 0 < c.log Z → AreHalves c Z b.z
 
-pub record ArePartsSized (b : Parts) : Type 0 where
-  pub whole : AreSpansSized b.whole
+pub record AreHalvesByAxisSized (b : HalvesByAxis) : Type 0 where
+  pub whole : IsAabbSized b.whole
   pub x : AreHalvesSized b.x
   pub y : AreHalvesSized b.y
   pub z : AreHalvesSized b.z

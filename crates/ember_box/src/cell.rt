@@ -67,26 +67,26 @@ impl Cell {
     }
 
     /// The coordinate of its least corner along an axis.
-    pub fn low(&self, k: Axis) -> i32
-        ensures value { result ≡ boxes.low self.now k }
+    pub fn low(&self, axis: Axis) -> i32
+        ensures value { result ≡ boxes.low self.now axis }
         ensures small { Small 2048 result }
         ensures kept { IsCell self.now }
     {
-        coordinate_of(self.from[place(k)])
+        coordinate_of(self.from[axis_index(axis)])
     }
 
     /// Its side along an axis, a power of two up to 4096.
-    pub fn side(&self, k: Axis) -> i32
-        ensures { result ≡ boxes.side self.now k }
+    pub fn side(&self, axis: Axis) -> i32
+        ensures { result ≡ boxes.side self.now axis }
     {
-        side_of(self.log[place(k)]) as i32
+        side_of(self.log[axis_index(axis)]) as i32
     }
 
     /// The logarithm of its side along an axis.
-    pub fn log(&self, k: Axis) -> u8
-        ensures { result ≡ self.now.log k }
+    pub fn log(&self, axis: Axis) -> u8
+        ensures { result ≡ self.now.log axis }
     {
-        match k {
+        match axis {
             Axis::X => self.log[0],
             Axis::Y => self.log[1],
             Axis::Z => self.log[2],
@@ -104,8 +104,8 @@ fn coordinate_of(from: u32) -> i32
 }
 
 // The place of an axis in the order x, y, z.
-fn place(k: Axis) -> usize
-    ensures place { result ≡ boxes.place_of k }
+fn axis_index(k: Axis) -> usize
+    ensures axis_index { result ≡ boxes.axis_index k }
     ensures below { result < 3 }
 {
     match k {
@@ -125,11 +125,11 @@ fn side_of(log: u8) -> u32
 }
 
 // The half of a box with the smaller coordinates.
-fn lower(c: &Cell, k: Axis) -> Cell
+fn left_half(c: &Cell, k: Axis) -> Cell
     requires { 0 < c.now.log k }
     ensures { result ≡ boxes.left_half c.now k }
 {
-    let i = place(k);
+    let i = axis_index(k);
     let mut log = c.log;
     log[i] -= 1;
     Cell {
@@ -140,11 +140,11 @@ fn lower(c: &Cell, k: Axis) -> Cell
 }
 
 // The half with the larger coordinates.
-fn upper(c: &Cell, k: Axis) -> Cell
+fn right_half(c: &Cell, k: Axis) -> Cell
     requires { 0 < c.now.log k }
     ensures { result ≡ boxes.right_half c.now k }
 {
-    let i = place(k);
+    let i = axis_index(k);
     let half = c.log[i] - 1;
     let at = c.from[i] + side_of(half);
     let mut log = c.log;
@@ -163,5 +163,5 @@ pub fn halves(c: &Cell, k: Axis) -> (Cell, Cell)
     requires { 0 < c.now.log k }
     ensures { (result.0 ≡ boxes.left_half c.now k) × (result.1 ≡ boxes.right_half c.now k) }
 {
-    (lower(c, k), upper(c, k))
+    (left_half(c, k), right_half(c, k))
 }

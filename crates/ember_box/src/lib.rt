@@ -2,15 +2,13 @@
 //! a box, along which axis it is halved, and where halving ends.
 #![tactic(auto)]
 
+mod aabb;
 mod cell;
+mod half_boxes;
 mod nearness;
-mod sight;
-mod spans;
 mod sums;
-#[cfg(test)]
-mod tests;
 
+pub use aabb::{Aabb, Interval, aabb_of_cell, aabb_of_tri, aabbs_meet, aabbs_meet_beside};
 pub use cell::{Cell, halves, root};
 pub use nearness::{near, near_halves, near_list, near_tri};
-pub use spans::{Span, Spans, bounding, overlap, reach_beside, spans_of};
 pub use sums::{halving, is_leaf, split_axis};

@@ -3,13 +3,15 @@ ghost use Rattle.std.specs.Prelude.{◌≡◌, ◌+◌, ◌<◌, ◌≤◌, ◌+
 ghost use Rattle.ember_model.specs.Valid.{IsValidTri};
 ghost use Rattle.ember_model.specs.Planes.{support_of};
 ghost use Rattle.ember_box.specs.Boxes.{Cell as Box, left_half, right_half};
-ghost use Rattle.ember_box.specs.Spans.{spans_of, bounding, overlap, crosses, AreSpansSized};
-ghost use Rattle.ember_box.specs.Near.{is_near, tri_at, near_places};
+ghost use Rattle.ember_box.specs.Aabbs.{aabb_of_cell, aabb_of_tri, aabbs_meet, crosses, IsAabbSized};
+ghost use Rattle.ember_box.specs.Near.{is_near, tri_at, near_indices};
 ghost use Rattle.ember_box.specs.Sums.{AreHalves, AreHalvesSized};
 
+use crate::aabb::{
+    Aabb, aabb_of_cell, aabb_of_tri, aabbs_meet, crosses, holds, interval_on, is_level,
+};
 use crate::cell::Cell;
-use crate::sight::{Halves, halves_of, plane_of, sees_high, sees_low};
-use crate::spans::{Spans, bounding, crosses, holds, is_level, overlap, span_on, spans_of};
+use crate::half_boxes::{HalfBoxes, halves_of, meets_left, meets_right, plane_of};
 use ember_model::{Axis, OutOfMemory, Scene, Tri, support_of};
 use std::alloc::Global;
 
@@ -19,25 +21,25 @@ pub fn near_tri(c: &Cell, t: &Tri) -> bool
     requires { IsValidTri t.now }
     ensures { result ≡ is_near c.now t.now }
 {
-    is_near(&spans_of(c), t)
+    is_near(&aabb_of_cell(c), t)
 }
 
-// The same by what the closed box spans.
-fn is_near(b: &Spans, t: &Tri) -> bool
+// The same by the bounding box of the closed box.
+fn is_near(b: &Aabb, t: &Tri) -> bool
     requires tri { IsValidTri t.now }
-    requires spans { AreSpansSized b.now }
-    ensures { (c : Box) → b.now ≡ spans_of c → result ≡ is_near c t.now }
+    requires spans { IsAabbSized b.now }
+    ensures { (c : Box) → b.now ≡ aabb_of_cell c → result ≡ is_near c t.now }
 {
-    let spans = bounding(t);
-    overlap(&spans, b) && is_crossed(b, &spans, t)
+    let spans = aabb_of_tri(t);
+    aabbs_meet(&spans, b) && is_crossed(b, &spans, t)
 }
 
 // The plane of a triangle whose bounding box meets a box crosses the box.
-fn is_crossed(b: &Spans, spans: &Spans, t: &Tri) -> bool
+fn is_crossed(b: &Aabb, spans: &Aabb, t: &Tri) -> bool
     requires tri { IsValidTri t.now }
-    requires spans { spans.now ≡ bounding t.now }
-    requires sized { AreSpansSized b.now }
-    ensures { (c : Box) → b.now ≡ spans_of c → overlap (bounding t.now) b.now ≡ true → result ≡ crosses (support_of t.now) b.now }
+    requires spans { spans.now ≡ aabb_of_tri t.now }
+    requires sized { IsAabbSized b.now }
+    ensures { (c : Box) → b.now ≡ aabb_of_cell c → aabbs_meet (aabb_of_tri t.now) b.now ≡ true → result ≡ crosses (support_of t.now) b.now }
 {
     if is_level(spans) || holds(b, &t.a) {
         return true;
@@ -50,14 +52,14 @@ pub fn near(s: &Scene, c: &Cell, i: u32) -> bool
     requires { i < length s.now.tris }
     ensures { result ≡ is_near c.now (tri_at s.now.tris i) }
 {
-    near_at(s.tris.items(), &spans_of(c), i)
+    near_at(s.tris.items(), &aabb_of_cell(c), i)
 }
 
-fn near_at(tris: &[Tri], b: &Spans, i: u32) -> bool
+fn near_at(tris: &[Tri], b: &Aabb, i: u32) -> bool
     requires valid { All IsValidTri tris.now }
-    requires place { i < length tris.now }
-    requires spans { AreSpansSized b.now }
-    ensures { (c : Box) → b.now ≡ spans_of c → result ≡ is_near c (tri_at tris.now i) }
+    requires index { i < length tris.now }
+    requires spans { IsAabbSized b.now }
+    ensures { (c : Box) → b.now ≡ aabb_of_cell c → result ≡ is_near c (tri_at tris.now i) }
 {
     is_near(b, &tris[i as usize])
 }
@@ -71,9 +73,9 @@ pub fn near_among(
 ) -> Result<Vec<u32>, OutOfMemory>
     requires valid { All IsValidTri tris.now }
     requires places { All (λ i. i < length tris.now) list.now }
-    ensures { IfOk result (λ v. v.items ≡ near_places tris.now c.now list.now) }
+    ensures { IfOk result (λ v. v.items ≡ near_indices tris.now c.now list.now) }
 {
-    let b = spans_of(c);
+    let b = aabb_of_cell(c);
     let mut found = Vec::with_capacity(alloc, list.len())?;
     for i in list {
         if near_at(tris, &b, *i) {
@@ -86,7 +88,7 @@ pub fn near_among(
 /// Those of the listed triangles that are near the box, in order.
 pub fn near_list(alloc: Global, s: &Scene, list: &[u32], c: &Cell) -> Result<Vec<u32>, OutOfMemory>
     requires { All (λ i. i < length s.now.tris) list.now }
-    ensures { IfOk result (λ v. v.items ≡ near_places s.now.tris c.now list.now) }
+    ensures { IfOk result (λ v. v.items ≡ near_indices s.now.tris c.now list.now) }
 {
     near_among(alloc, s.tris.items(), list, c)
 }
@@ -104,16 +106,16 @@ fn push_if(belongs: bool, i: u32, list: &mut Vec<u32>)
 }
 
 // The triangle is near the lower half of a box along an axis, and it is near the upper one.
-fn near_each(whole: &Spans, h: &Halves, k: Axis, t: &Tri) -> (bool, bool)
+fn near_each(whole: &Aabb, h: &HalfBoxes, k: Axis, t: &Tri) -> (bool, bool)
     requires valid { IsValidTri t.now }
     requires sized { AreHalvesSized h.now }
-    ensures { (c : Box) → 0 < c.log k → whole.now ≡ spans_of c → AreHalves c k h.now → (result.0 ≡ is_near (left_half c k) t.now) × (result.1 ≡ is_near (right_half c k) t.now) }
+    ensures { (c : Box) → 0 < c.log k → whole.now ≡ aabb_of_cell c → AreHalves c k h.now → (result.0 ≡ is_near (left_half c k) t.now) × (result.1 ≡ is_near (right_half c k) t.now) }
 {
-    let spans = bounding(t);
-    if overlap(&spans, whole) {
+    let spans = aabb_of_tri(t);
+    if aabbs_meet(&spans, whole) {
         let plane = plane_of(whole, &spans, t);
-        let span = span_on(&spans, k);
-        (sees_low(h, &span, &plane), sees_high(h, &span, &plane))
+        let span = interval_on(&spans, k);
+        (meets_left(h, &span, &plane), meets_right(h, &span, &plane))
     } else {
         (false, false)
     }
@@ -126,19 +128,19 @@ pub fn near_halves_among(
     tris: &[Tri],
     list: &[u32],
     c: &Cell,
-    k: Axis,
+    axis: Axis,
 ) -> Result<(Vec<u32>, Vec<u32>), OutOfMemory>
     requires valid { All IsValidTri tris.now }
     requires places { All (λ i. i < length tris.now) list.now }
-    requires side { 0 < c.now.log k }
-    ensures { IfOk result (λ v. (v.0.items ≡ near_places tris.now (left_half c.now k) list.now) × (v.1.items ≡ near_places tris.now (right_half c.now k) list.now)) }
+    requires side { 0 < c.now.log axis }
+    ensures { IfOk result (λ v. (v.0.items ≡ near_indices tris.now (left_half c.now axis) list.now) × (v.1.items ≡ near_indices tris.now (right_half c.now axis) list.now)) }
 {
-    let whole = spans_of(c);
-    let halves = halves_of(c, k);
+    let whole = aabb_of_cell(c);
+    let halves = halves_of(c, axis);
     let mut low = Vec::with_capacity(alloc, list.len())?;
     let mut high = Vec::with_capacity(alloc, list.len())?;
     for i in list {
-        let (in_low, in_high) = near_each(&whole, &halves, k, &tris[*i as usize]);
+        let (in_low, in_high) = near_each(&whole, &halves, axis, &tris[*i as usize]);
         push_if(in_low, *i, &mut low);
         push_if(in_high, *i, &mut high);
     }
@@ -152,11 +154,11 @@ pub fn near_halves(
     s: &Scene,
     list: &[u32],
     c: &Cell,
-    k: Axis,
+    axis: Axis,
 ) -> Result<(Vec<u32>, Vec<u32>), OutOfMemory>
     requires places { All (λ i. i < length s.now.tris) list.now }
-    requires side { 0 < c.now.log k }
-    ensures { IfOk result (λ v. (v.0.items ≡ near_places s.now.tris (left_half c.now k) list.now) × (v.1.items ≡ near_places s.now.tris (right_half c.now k) list.now)) }
+    requires side { 0 < c.now.log axis }
+    ensures { IfOk result (λ v. (v.0.items ≡ near_indices s.now.tris (left_half c.now axis) list.now) × (v.1.items ≡ near_indices s.now.tris (right_half c.now axis) list.now)) }
 {
-    near_halves_among(alloc, s.tris.items(), list, c, k)
+    near_halves_among(alloc, s.tris.items(), list, c, axis)
 }

@@ -7,11 +7,11 @@ ghost use Rattle.ember_model.specs.declared.point.Axis.TheVariants.{X, Y, Z};
 ghost use Rattle.ember_box.specs.Boxes.{Cell as Box};
 ghost use Rattle.ember_box.specs.Near.{listed};
 ghost use Rattle.ember_box.specs.Halving as halvings;
-ghost use Rattle.ember_box.specs.Sums.{number, IsPlaneSized, AreHalvesSized, halves_seen, AreParts, ArePartsSized, AreSumsOfOne, AreFew, AreSums};
+ghost use Rattle.ember_box.specs.Sums.{number, IsPlaneSized, AreHalvesSized, halves_met, AreHalvesByAxis, AreHalvesByAxisSized, AreSumsOfOne, AreFew, AreSums};
 
+use crate::aabb::{Aabb, Interval, aabb_of_cell, aabb_of_tri, aabbs_meet};
 use crate::cell::Cell;
-use crate::sight::{Halves, halves_along, may_cross, plane_of, sees_high, sees_low};
-use crate::spans::{Span, Spans, bounding, overlap, spans_of};
+use crate::half_boxes::{HalfBoxes, halves_along, may_cross, meets_left, meets_right, plane_of};
 use ember_model::{Axis, Plane, Scene, Tri};
 
 // A box with at most so many near triangles is a leaf.
@@ -24,32 +24,32 @@ fn number(b: bool) -> u64
     if b { 1 } else { 0 }
 }
 
-// The number of halves that a triangle is near whose bounding box meets the box, and has this span
+// The number of halves that a triangle is near whose bounding box meets the box, and has this interval
 // along their axis.
-fn halves_seen(h: &Halves, span: &Span, plane: &Option<Plane>) -> u64
+fn halves_met(h: &HalfBoxes, span: &Interval, plane: &Option<Plane>) -> u64
     requires halves { AreHalvesSized h.now }
     requires plane { IsPlaneSized plane.now }
-    ensures value { result ≡ halves_seen h.now span.now plane.now }
+    ensures value { result ≡ halves_met h.now span.now plane.now }
     ensures bound { result ≤ 2 }
 {
-    number(sees_low(h, span, plane)) + number(sees_high(h, span, plane))
+    number(meets_left(h, span, plane)) + number(meets_right(h, span, plane))
 }
 
 // A box, and its halves along each axis.
 #[derive(Clone, Copy)]
-struct Parts {
-    whole: Spans,
-    x: Halves,
-    y: Halves,
-    z: Halves,
+struct HalvesByAxis {
+    whole: Aabb,
+    x: HalfBoxes,
+    y: HalfBoxes,
+    z: HalfBoxes,
 }
 
-fn parts_of(c: &Cell) -> Parts
-    ensures value { AreParts c.now result }
-    ensures sized { ArePartsSized result }
+fn parts_of(c: &Cell) -> HalvesByAxis
+    ensures value { AreHalvesByAxis c.now result }
+    ensures sized { AreHalvesByAxisSized result }
 {
-    Parts {
-        whole: spans_of(c),
+    HalvesByAxis {
+        whole: aabb_of_cell(c),
         x: halves_along(c, Axis::X),
         y: halves_along(c, Axis::Y),
         z: halves_along(c, Axis::Z),
@@ -68,19 +68,19 @@ struct Sums {
 }
 
 // The sums of one triangle.
-fn sums_of(b: &Parts, t: &Tri) -> Sums
+fn sums_of(b: &HalvesByAxis, t: &Tri) -> Sums
     requires valid { IsValidTri t.now }
-    requires sized { ArePartsSized b.now }
-    ensures sums { (c : Box) → AreParts c b.now → AreSumsOfOne c t.now result }
+    requires sized { AreHalvesByAxisSized b.now }
+    ensures sums { (c : Box) → AreHalvesByAxis c b.now → AreSumsOfOne c t.now result }
     ensures few { AreFew result }
 {
-    let spans = bounding(t);
-    if overlap(&spans, &b.whole) {
+    let spans = aabb_of_tri(t);
+    if aabbs_meet(&spans, &b.whole) {
         let plane = plane_of(&b.whole, &spans, t);
         let near = number(may_cross(&b.whole, &plane));
-        let x = halves_seen(&b.x, &spans.x, &plane);
-        let y = halves_seen(&b.y, &spans.y, &plane);
-        let z = halves_seen(&b.z, &spans.z, &plane);
+        let x = halves_met(&b.x, &spans.x, &plane);
+        let y = halves_met(&b.y, &spans.y, &plane);
+        let z = halves_met(&b.z, &spans.z, &plane);
         Sums { near, x, y, z }
     } else {
         Sums {
@@ -152,7 +152,7 @@ fn least_axis(c: &Cell, sums: &Sums) -> Axis
 }
 
 // Halving along the axis isn't possible, or isn't worth it.
-fn spreads(log: u8, near: u64, sum: u64) -> bool
+fn is_unprofitable(log: u8, near: u64, sum: u64) -> bool
     ensures { result ≡ (not (nat_lt 0 log) || nat_le (7 * near) (4 * sum)) }
 {
     log == 0 || 7 * near as u128 <= 4 * sum as u128
@@ -176,9 +176,9 @@ fn is_leaf_by(c: &Cell, sums: &Sums) -> bool
 {
     ends(
         is_few(sums.near),
-        spreads(c.log(Axis::X), sums.near, sums.x),
-        spreads(c.log(Axis::Y), sums.near, sums.y),
-        spreads(c.log(Axis::Z), sums.near, sums.z),
+        is_unprofitable(c.log(Axis::X), sums.near, sums.x),
+        is_unprofitable(c.log(Axis::Y), sums.near, sums.y),
+        is_unprofitable(c.log(Axis::Z), sums.near, sums.z),
     )
 }
 

@@ -11,7 +11,7 @@ use Rattle.ember_model.specs.Planes.{value_at, support_of, main_axis, edge_plane
 use Rattle.ember_model.specs.Faces.{Everywhere, Cuts, face_of, edges_of, Contains}
 use Rattle.ember_model.proofs.SignTests.{clash}
 use Rattle.ember_poly.specs.Cuts.{IsWhole}
-use Rattle.ember_coplanar.specs.Lying.{LiesOn}
+use Rattle.ember_coplanar.specs.TrianglePlane.{LiesOn}
 
 abbrev pub IsBelow : Face → Plane → Type 0
 IsBelow f p = Everywhere f (λ v. is_negative (value_at p v) ≡ true)

@@ -12,7 +12,7 @@ use Rattle.ember_model.specs.Planes.{value_at, support_of}
 use Rattle.ember_model.specs.Faces.{is_inside, is_flat, face_of}
 use Rattle.ember_model.proofs.SignTests.{zero_out}
 use Rattle.ember_model.specs.declared.face.Face.{Face}
-use Rattle.ember_coplanar.specs.Lying.{LiesOn}
+use Rattle.ember_coplanar.specs.TrianglePlane.{LiesOn}
 use Rattle.ember_coplanar.proofs.Containing.{none_some, some_inj}
 
 -- ---- faces of a triangle's own plane

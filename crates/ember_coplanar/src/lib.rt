@@ -6,6 +6,3 @@ mod plane;
 
 pub use owner::{contains, is_owner};
 pub use plane::same_plane;
-
-#[cfg(test)]
-mod tests;

@@ -5,7 +5,7 @@ ghost use Rattle.ember_model.specs.Valid.{IsValidPlane, IsValidTri};
 ghost use Rattle.ember_model.specs.Planes.{value_at};
 ghost use Rattle.ember_model.specs.Faces.{face_of, Everywhere, Contains};
 ghost use Rattle.ember_model.specs.Owners.{IsOwner};
-ghost use Rattle.ember_coplanar.specs.Lying.{LiesOn};
+ghost use Rattle.ember_coplanar.specs.TrianglePlane.{LiesOn};
 
 use crate::plane::same_plane;
 use ember_model::{Plane, Tri, edge_plane, main_axis, support_of};
@@ -38,7 +38,7 @@ pub fn contains(t: &Tri, r: &Ring) -> bool
 /// that is coplanar with it contains `r`.
 pub fn is_owner(near: &[Tri], i: u32, r: &Ring) -> bool
     requires valid { All IsValidTri near.now }
-    requires place { i < length near.now }
+    requires index { i < length near.now }
     requires plane { IfSome (slice_get near.now i) (λ t. LiesOn t r.now) }
     ensures { IsTrue result ↔ IsOwner near.now i r.now }
 {

@@ -4,7 +4,7 @@ ghost use Rattle.ember_algebra.specs.Sign.{is_zero};
 ghost use Rattle.ember_model.specs.Valid.{IsValidCorner, IsValidTri};
 ghost use Rattle.ember_model.specs.Sizes.{IsSupportSized};
 ghost use Rattle.ember_model.specs.Planes.{value_at};
-ghost use Rattle.ember_model.specs.Owners.{spot_at, is_coplanar};
+ghost use Rattle.ember_model.specs.Owners.{spot_of_corner, is_coplanar};
 
 use ember_model::{Corner, Plane, Tri, support_of};
 
@@ -13,7 +13,7 @@ use ember_model::{Corner, Plane, Tri, support_of};
 fn value_at_corner(p: &Plane, c: &Corner) -> i64
     requires plane { IsSupportSized p.now }
     requires corner { IsValidCorner c.now }
-    ensures { result ≡ value_at p.now (spot_at c.now) }
+    ensures { result ≡ value_at p.now (spot_of_corner c.now) }
 {
     p.a * c.x as i64 + p.b * c.y as i64 + p.c * c.z as i64 - p.d
 }
@@ -35,7 +35,7 @@ fn has_normal(p: &Plane) -> bool
 fn lies_on(p: &Plane, t: &Tri) -> bool
     requires plane { IsSupportSized p.now }
     requires tri { IsValidTri t.now }
-    ensures { result ≡ is_zero (value_at p.now (spot_at t.now.a)) && (is_zero (value_at p.now (spot_at t.now.b)) && is_zero (value_at p.now (spot_at t.now.c))) }
+    ensures { result ≡ is_zero (value_at p.now (spot_of_corner t.now.a)) && (is_zero (value_at p.now (spot_of_corner t.now.b)) && is_zero (value_at p.now (spot_of_corner t.now.c))) }
 {
     is_on(value_at_corner(p, &t.a))
         && (is_on(value_at_corner(p, &t.b)) && is_on(value_at_corner(p, &t.c)))

@@ -1,3 +1,3 @@
 pub mod Scanning
 pub mod Rules
-pub mod Fit
+pub mod TreeLimits

@@ -6,8 +6,6 @@ mod expression;
 mod fault;
 mod formula;
 mod grammar;
-#[cfg(test)]
-mod tests;
 mod token;
 mod truth;
 

@@ -4,7 +4,5 @@
 mod block;
 mod numbers;
 mod scene;
-#[cfg(test)]
-mod tests;
 
 pub use scene::scene_of;

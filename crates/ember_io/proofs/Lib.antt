@@ -1,2 +1,2 @@
-pub mod Known
-pub mod PlacesLemmas
+pub mod ToldBytes
+pub mod FileIndices

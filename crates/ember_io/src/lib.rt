@@ -3,10 +3,10 @@
 #![tactic(auto)]
 
 mod failing;
+mod file_index;
 mod lists;
 mod memory_shelf;
 mod memory_sink;
-mod places;
 mod real;
 mod safe_shelf;
 mod shelf;
@@ -27,6 +27,3 @@ pub type OutOfMemory = AllocError;
 /// A call to the outside failed.
 #[derive(Clone, Copy, Debug, PartialEq, Eq)]
 pub struct Failed;
-
-#[cfg(test)]
-mod tests;

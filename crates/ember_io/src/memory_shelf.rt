@@ -8,7 +8,7 @@ ghost use Rattle.ember_io.specs.Memory.{IsSameShelf, FailsToBegin};
 ghost use Rattle.ember_io.specs.Shelves.{MarksFault};
 
 use crate::failing::is_failing;
-use crate::places::{bytes_of, give, no_place, place_of};
+use crate::file_index::{bytes_of, file_index_of, give, past_files};
 use crate::shelf::Shelf;
 use crate::{Calls, Failed, FileSet, OutOfMemory};
 use std::alloc::Global;
@@ -22,7 +22,7 @@ pub struct MemoryShelf {
     piece: usize,
     failing: Calls,
     calls: u64,
-    place: usize,
+    file_index: usize,
     at: usize,
     begun: u32,
     fault_at: u32,
@@ -36,7 +36,7 @@ impl Model for MemoryShelf {
 
     ghost Value = { ShelfState };
 
-    ghost view = { λ s. record { files = s.files; piece = s.piece; failing = s.failing; calls = s.calls; unread = drop s.at (bytes_at s.files s.place); begun = s.begun; fault_at = s.fault_at; faults = s.faults } };
+    ghost view = { λ s. record { files = s.files; piece = s.piece; failing = s.failing; calls = s.calls; unread = drop s.at (bytes_at s.files s.file_index); begun = s.begun; fault_at = s.fault_at; faults = s.faults } };
 
     ghost invariant = { λ s. 0 < s.piece };
 }
@@ -53,13 +53,13 @@ impl MemoryShelf {
         requires { 0 < piece }
         ensures { IfOk result (λ s. s ≡ record { files = files; piece = piece; failing = failing; calls = 0; unread = []; begun = 0; fault_at = 0; faults = 0 }) }
     {
-        let place = no_place(files.items());
+        let file_index = past_files(files.items());
         Ok(MemoryShelf {
             files,
             piece,
             failing,
             calls: 0,
-            place,
+            file_index,
             at: 0,
             begun: 0,
             fault_at: 0,
@@ -96,10 +96,10 @@ impl Shelf for MemoryShelf {
         self.calls = self.calls.saturating_add(1);
         self.begun = number;
         self.at = 0;
-        self.place = no_place(self.files.items());
+        self.file_index = past_files(self.files.items());
         if !is_failing(&self.failing, self.calls) {
-            if let Some(place) = place_of(self.files.items(), name) {
-                self.place = place;
+            if let Some(file_index) = file_index_of(self.files.items(), name) {
+                self.file_index = file_index;
                 return Ok(());
             }
         }
@@ -129,7 +129,7 @@ impl Shelf for MemoryShelf {
             self.faults = self.faults.saturating_add(1);
             return Err(Failed);
         }
-        let rest = bytes_of(self.files.items(), self.place);
+        let rest = bytes_of(self.files.items(), self.file_index);
         let count = give(rest, self.at, self.piece, buf);
         self.at += count;
         Ok(count)

@@ -5,11 +5,17 @@ ghost use Rattle.std.specs.Option.{option_map_or};
 use crate::Failed;
 use crate::shelf::Shelf;
 use crate::sink::Sink;
-use std::fs;
-use std::io::{Read, Write};
+use std::io::{Error, ErrorKind, Read, Write};
 use std::rt::Files;
+use std::{fs, thread};
 
-/// The files of the system. Every error of the system is a fault.
+// Whether a call that ended with this error is tried again: a signal broke it off, or the device isn't ready yet.
+fn is_passing(error: &Error) -> bool {
+    matches!(error.kind(), ErrorKind::Interrupted | ErrorKind::WouldBlock)
+}
+
+/// The files of the system. Every error of the system is a fault, except that a call which a signal broke off, or
+/// for which the device isn't ready yet, is tried again.
 #[derive(Drop)]
 pub struct FileShelf<'a, R: Files> {
     rt: &'a R,
@@ -69,19 +75,22 @@ impl<'a, R: Files> Shelf for FileShelf<'a, R> {
         let Some(file) = &mut self.file else {
             return Ok(0);
         };
-        match file.read(buf) {
-            Ok(count) => Ok(count),
-            Err(_) => {
-                self.fault_at = self.begun;
-                self.faults = self.faults.saturating_add(1);
-                Err(Failed)
+        for _ in 0..u64::MAX {
+            match file.read(buf) {
+                Ok(count) => return Ok(count),
+                Err(error) if is_passing(&error) => thread::yield_now(),
+                Err(_) => break,
             }
         }
+        self.fault_at = self.begun;
+        self.faults = self.faults.saturating_add(1);
+        Err(Failed)
     }
 }
 
 /// Standard output or standard error. Every error of the system is a fault, and so is a write that
-/// takes nothing of a piece.
+/// takes nothing of a piece. But a write that a signal broke off, or for which the device isn't ready
+/// yet, is tried again.
 #[derive(Drop)]
 pub struct StdSink<W: Write + Drop> {
     to: W,
@@ -105,13 +114,15 @@ impl<W: Write + Drop> Sink for StdSink<W> {
     ghost faults = { λ s. s.faults };
 
     fn write(&mut self, piece: &[u8]) -> Result<usize, Failed> {
-        match self.to.write(piece) {
-            Ok(count) if count > 0 || piece.is_empty() => Ok(count),
-            _ => {
-                self.faults = self.faults.saturating_add(1);
-                Err(Failed)
+        for _ in 0..u64::MAX {
+            match self.to.write(piece) {
+                Ok(count) if count > 0 || piece.is_empty() => return Ok(count),
+                Err(error) if is_passing(&error) => thread::yield_now(),
+                _ => break,
             }
         }
+        self.faults = self.faults.saturating_add(1);
+        Err(Failed)
     }
 
     fn flush(&mut self) -> Result<(), Failed> {

@@ -6,7 +6,7 @@ ghost use Rattle.ember_io.specs.Causes.{HasCause};
 ghost use Rattle.ember_io.specs.Files.{first_or_empty};
 ghost use Rattle.ember_io.specs.Shelves.{MarksFault};
 
-use crate::places::{bytes_of, give, no_place, place_or_end};
+use crate::file_index::{bytes_of, file_index_or_end, give, past_files};
 use crate::shelf::Shelf;
 use crate::{Failed, FileSet, OutOfMemory};
 use std::alloc::Global;
@@ -16,7 +16,7 @@ use std::marker::Model;
 #[derive(Drop)]
 pub struct SafeShelf {
     files: FileSet,
-    place: usize,
+    file_index: usize,
     at: usize,
     begun: u32,
 }
@@ -28,7 +28,7 @@ impl Model for SafeShelf {
 
     ghost Value = { SafeState };
 
-    ghost view = { λ s. record { files = s.files; unread = drop s.at (bytes_at s.files s.place); begun = s.begun } };
+    ghost view = { λ s. record { files = s.files; unread = drop s.at (bytes_at s.files s.file_index); begun = s.begun } };
 }
 
 impl SafeShelf {
@@ -36,10 +36,10 @@ impl SafeShelf {
     pub fn new(_alloc: Global, files: FileSet) -> Result<SafeShelf, OutOfMemory>
         ensures { IfOk result (λ s. s ≡ record { files = files; unread = []; begun = 0 }) }
     {
-        let place = no_place(files.items());
+        let file_index = past_files(files.items());
         Ok(SafeShelf {
             files,
-            place,
+            file_index,
             at: 0,
             begun: 0,
         })
@@ -70,7 +70,7 @@ impl Shelf for SafeShelf {
     {
         self.begun = number;
         self.at = 0;
-        self.place = place_or_end(self.files.items(), name);
+        self.file_index = file_index_or_end(self.files.items(), name);
         Ok(())
     }
 
@@ -86,7 +86,7 @@ impl Shelf for SafeShelf {
         ensures count { IfOk result (λ n. n ≡ min (length buf.old) (length self.old.unread)) }
         ensures same { self.new.files ≡ self.old.files }
     {
-        let rest = bytes_of(self.files.items(), self.place);
+        let rest = bytes_of(self.files.items(), self.file_index);
         let count = give(rest, self.at, usize::MAX, buf);
         self.at += count;
         Ok(count)

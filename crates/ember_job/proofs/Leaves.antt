@@ -1,6 +1,6 @@
 -- The visited jobs and the leaves under a job, by the job's shape.
 use Rattle.std.proofs.Common.{◌≡◌, ℕ, zero, suc, ◌+◌, List, [], ◌∷◌, ◌++◌, append_assoc, refl, sym, ap, ap₂, ◌∙◌, arith}
-use Rattle.ember_box.specs.Boxes.{left}
+use Rattle.ember_box.specs.Boxes.{halvings_left}
 use Rattle.ember_job.specs.declared.job.Job.{Job}
 use Rattle.ember_job.specs.Works.{Shape, halved, leafed, passed}
 use Rattle.ember_job.specs.Visited.{below_shape, visited_within, visited, if_leafed, leaves_among}
@@ -15,15 +15,15 @@ module _ (shape : Job → Shape) where
   passed_visits zero job is = refl
   passed_visits (suc depth) job is = ap (below_shape (visited_within shape depth) job) is
 
-  pub halved_visits : (depth : ℕ) (job low high : Job) → left job.cell ≡ depth → shape job ≡ halved low high → left low.cell + 1 ≡ left job.cell → left high.cell + 1 ≡ left job.cell → visited shape job ≡ job ∷ visited shape low ++ visited shape high
+  pub halved_visits : (depth : ℕ) (job low high : Job) → halvings_left job.cell ≡ depth → shape job ≡ halved low high → halvings_left low.cell + 1 ≡ halvings_left job.cell → halvings_left high.cell + 1 ≡ halvings_left job.cell → visited shape job ≡ job ∷ visited shape low ++ visited shape high
   halved_visits zero job low high at is first second = absurd (omega (arith, at, first))
   halved_visits (suc depth) job low high at is first second =
       ap (λ n. visited_within shape n job) at ∙ ap (below_shape (visited_within shape depth) job) is ∙ ap₂ (λ m n. job ∷ visited_within shape m low ++ visited_within shape n high) fewer fewer_too
     where
-      fewer : depth ≡ left low.cell
+      fewer : depth ≡ halvings_left low.cell
       fewer = omega (arith, at, first)
 
-      fewer_too : depth ≡ left high.cell
+      fewer_too : depth ≡ halvings_left high.cell
       fewer_too = omega (arith, at, second)
 
   -- ---- the leaves among them

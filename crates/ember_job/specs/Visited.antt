@@ -1,6 +1,6 @@
 -- The boxes that are visited from a root.
 use Rattle.std.specs.Prelude.{◌≡◌, ℕ, zero, suc, List, [], ◌∷◌, ◌++◌}
-use Rattle.ember_box.specs.Boxes.{left}
+use Rattle.ember_box.specs.Boxes.{halvings_left}
 use Rattle.ember_job.specs.declared.job.Job.{Job}
 use Rattle.ember_job.specs.declared.job.Kind.{Kind}
 use Rattle.ember_job.specs.declared.job.Kind.TheVariants.{Halved, Leafed, Passed}
@@ -36,7 +36,7 @@ visited_within shape zero job = job ∷ []
 visited_within shape (suc n) job = below_shape (visited_within shape n) job (shape job)
 
 abbrev pub visited : (Job → Shape) → Job → List Job
-visited shape job = visited_within shape (left job.cell) job
+visited shape job = visited_within shape (halvings_left job.cell) job
 
 -- the leaves among them, in tree order
 abbrev pub if_leafed : Job → Shape → List Job

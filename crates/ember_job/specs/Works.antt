@@ -39,4 +39,4 @@ Answers shape item job Skipped = shape job ≡ passed
 -- the call may be made at each valid job, and each Ok of it answers that job
 pub record AnswersAll {W I F : Type 0} (valid : W → Job → Type 0) (shape : W → Job → Shape) (item : W → Job → I → Type 0) (pre : F → Bor Job → Type 0) (post : F → Bor Job → Result (Outcome I) AllocError → Type 0) (work : W) (call : F) : Type 0 where
   pub runs : (p : Bor Job) → valid work p.now → pre call p
-  pub tells : (p : Bor Job) (r : Result (Outcome I) AllocError) → valid work p.now → post call p r → IfOk r (λ o. Answers (shape work) (item work) p.now o)
+  pub answers_each : (p : Bor Job) (r : Result (Outcome I) AllocError) → valid work p.now → post call p r → IfOk r (λ o. Answers (shape work) (item work) p.now o)

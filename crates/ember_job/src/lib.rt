@@ -4,8 +4,6 @@
 mod job;
 mod lists;
 mod step;
-#[cfg(test)]
-mod tests;
 
 pub use job::{Entry, Job, Kind, OutOfMemory, Outcome};
 pub use lists::{Journals, Numbers};

@@ -3,8 +3,6 @@
 #![tactic(auto)]
 
 mod mask;
-#[cfg(test)]
-mod tests;
 mod truth;
 
 pub use mask::Mask;

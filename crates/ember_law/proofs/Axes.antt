@@ -15,7 +15,7 @@ use Rattle.ember_model.specs.Clear.{AreClear}
 use Rattle.ember_model.specs.Meshes.{wind, faces_of, IsBalanced}
 use Rattle.ember_model.proofs.SeenCrossings.{seen_crossing, crossing_seen}
 use Rattle.ember_law.proofs.Shifted.{weight_shifted}
-use Rattle.ember_law.proofs.Flats.{flat_crossing, total_faces}
+use Rattle.ember_law.proofs.FlatTriangles.{flat_crossing, total_faces}
 use Rattle.ember_law.proofs.Directions.{IsAcross, directions_agree}
 use Rattle.ember_law.proofs.Generic.{generic_shifted, wind_shifted}
 

@@ -17,7 +17,7 @@ use Rattle.ember_model.specs.Meshes.{Edge, reversed, edges_in, IsBalanced}
 use Rattle.ember_model.proofs.PlaneValues.{seen}
 use Rattle.ember_model.proofs.SeenCrossings.{seen_crossing}
 use Rattle.ember_law.proofs.Balance.{balanced_zero}
-use Rattle.ember_law.proofs.Flats.{IsFlat, flat_seen, flat_seen_crossing}
+use Rattle.ember_law.proofs.FlatTriangles.{IsFlat, flat_seen, flat_seen_crossing}
 
 -- ---- the edge terms
 abbrev seen_term : Vector → Vector → Spot → Edge → ℤ

@@ -23,9 +23,9 @@ use Rattle.ember_model.specs.Clear.{IsClear, AreClear}
 use Rattle.ember_model.specs.Meshes.{wind}
 use Rattle.ember_model.proofs.SignTests.{zero_scaled}
 use Rattle.ember_model.proofs.PlaneValues.{value_hit, edge_value, support_value, seen, seenE, tuple_of}
-use Rattle.ember_model.proofs.Following.{Follows, FollowsEach, same_crossing}
+use Rattle.ember_model.proofs.NearClearPoints.{Follows, FollowsEach, same_crossing}
 use Rattle.ember_law.proofs.Shifted.{NoNormal, follows_shifted, off_shifted, weight_shifted, eventually_true}
-use Rattle.ember_law.proofs.Flats.{IsFlat}
+use Rattle.ember_law.proofs.FlatTriangles.{IsFlat}
 use Rattle.ember_law.proofs.Directions.{IsGeneric, AreGeneric}
 
 -- ---- generic points
@@ -78,7 +78,8 @@ at_hit_of g n a =
     let m = size (along n a) in let k = neg_ℤ (sign (along n a)) *ℤ along g a in
     record { a = m *ℤ g.a +ℤ k *ℤ n.a; b = m *ℤ g.b +ℤ k *ℤ n.b; c = m *ℤ g.c +ℤ k *ℤ n.c; d = m *ℤ g.d +ℤ k *ℤ n.d }
 
-value_at_hit : (g n : Plane) (a : Axis) (p : Spot) → value_at (at_hit_of g n a) p ≡ value_at g (hit n a p)
+-- its value at p is that of g at the hit
+pub value_at_hit : (g n : Plane) (a : Axis) (p : Spot) → value_at (at_hit_of g n a) p ≡ value_at g (hit n a p)
 value_at_hit g n a p =
     solve 14 (λ m k ga gb gc gd na nb nc nd x y z w. (m ⊗ ga ⊕ k ⊗ na) ⊗ x ⊕ (m ⊗ gb ⊕ k ⊗ nb) ⊗ y ⊕ (m ⊗ gc ⊕ k ⊗ nc) ⊗ z ⊖ (m ⊗ gd ⊕ k ⊗ nd) ⊗ w ≈ m ⊗ (ga ⊗ x ⊕ gb ⊗ y ⊕ gc ⊗ z ⊖ gd ⊗ w) ⊕ k ⊗ (na ⊗ x ⊕ nb ⊗ y ⊕ nc ⊗ z ⊖ nd ⊗ w)) cancels (size (along n a)) (neg_ℤ (sign (along n a)) *ℤ along g a) g.a g.b g.c g.d n.a n.b n.c n.d p.x p.y p.z p.w ∙ solve 5 (λ m s k v u. m ⊗ v ⊕ neg s ⊗ k ⊗ u ≈ m ⊗ v ⊖ s ⊗ u ⊗ k) cancels (size (along n a)) (sign (along n a)) (along g a) (value_at g p) (value_at n p) ∙ sym (value_hit g n a p)
 

@@ -27,10 +27,10 @@ use Rattle.ember_model.proofs.SignTests.{clash, and_parts, zero_scaled, size_pos
 use Rattle.ember_model.proofs.PlaneValues.{along_dot, value_scaled, value_times, seen}
 use Rattle.ember_model.proofs.SeenCrossings.{edge_sign, first_edge, second_edge, third_edge, main_zero}
 use Rattle.ember_model.proofs.Hits.{same_all_negative, same_none_positive, value_ray, ray_weight, inside_on, closed_parts}
-use Rattle.ember_model.proofs.ClearPoints.{hit_place, nonzero_product}
+use Rattle.ember_model.proofs.ClearPoints.{hit_is_one_point, nonzero_product}
 use Rattle.ember_model.proofs.FourSigns.{at_point, hit_edges}
 use Rattle.ember_law.proofs.Shifted.{eventually_true}
-use Rattle.ember_law.proofs.Flats.{flat_in}
+use Rattle.ember_law.proofs.FlatTriangles.{flat_in}
 use Rattle.ember_law.proofs.Generic.{IsOff, off_all}
 
 -- as `hit_edges`, for the weak signs
@@ -48,7 +48,8 @@ pub record OffEdges (a : Axis) (p : Spot) (t : Tri) : Type 0 where
   pub second : value_at (edge_through t.b t.c (unit a)) p ≢ pos 0
   pub third : value_at (edge_through t.c t.a (unit a)) p ≢ pos 0
 
-strict : (z : ℤ) → z ≢ pos 0 → not (is_positive z) ≡ true → is_negative z ≡ true
+-- a number that is neither positive nor 0 is negative
+pub strict : (z : ℤ) → z ≢ pos 0 → not (is_positive z) ≡ true → is_negative z ≡ true
 strict (pos zero) n e = absurd (n refl)
 strict (pos (suc k)) n e = cc
 strict (negsuc k) n e = refl
@@ -93,9 +94,9 @@ generic_clear p t w off o =
         let z : m *ℤ value_at n p +ℤ s *ℤ along n a ≡ pos 0 = sym (value_ray n a p m s) ∙ x.1 in
         let nz : along n a ≢ pos 0 = λ e. off (nonzero_product (value_at n p) m (λ q. omega (arith, linear, lm, q)) (let v = zero_scaled s (along n a) e in *ℤ_comm (value_at n p) m ∙ omega (arith, linear, v, z))) in
         let k = size (along n a) in
-        let most : none_positive es (hit n a p) ≡ true = sym (same_none_positive m (hit n a p) (scaled k r) es lm (hit_place n a p m s z)) ∙ same_none_positive k r (scaled k r) es (size_positive (along n a) nz) (λ g. value_scaled k g r) ∙ x.2 in
+        let most : none_positive es (hit n a p) ≡ true = sym (same_none_positive m (hit n a p) (scaled k r) es lm (hit_is_one_point n a p m s z)) ∙ same_none_positive k r (scaled k r) es (size_positive (along n a) nz) (λ g. value_scaled k g r) ∙ x.2 in
         let low : all_negative es (hit n a p) ≡ true = hit_edges t a p w nz ∙ all_strict t a p nz (o a nz) (sym (hit_weak t a p w nz) ∙ most) in
-        let l = sym (same_all_negative k r (scaled k r) es (size_positive (along n a) nz) (λ g. value_scaled k g r)) ∙ same_all_negative m (hit n a p) (scaled k r) es lm (hit_place n a p m s z) ∙ low in
+        let l = sym (same_all_negative k r (scaled k r) es (size_positive (along n a) nz) (λ g. value_scaled k g r)) ∙ same_all_negative m (hit n a p) (scaled k r) es lm (hit_is_one_point n a p m s z) ∙ low in
         inside_on (face_of t) r (ray_weight a p m s lm w) x.1 ∙ l
 
 -- ---- near every point there are clear points

@@ -1,13 +1,13 @@
 pub mod Balance
 pub mod Shifted
-pub mod Flats
+pub mod FlatTriangles
 pub mod Directions
 pub mod Generic
 pub mod Axes
 pub mod Paths
 pub mod Tallies
 pub mod Vectors
-pub mod Grown
+pub mod CountBounds
 pub mod Separation
 pub mod GenericClear
 pub mod Segments

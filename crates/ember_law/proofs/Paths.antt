@@ -14,7 +14,7 @@ use Rattle.ember_model.specs.Meshes.{wind, faces_of, IsBalanced}
 use Rattle.ember_model.proofs.SignTests.{negative_not}
 use Rattle.ember_model.proofs.Legs.{leg_off, face_leg}
 use Rattle.ember_model.proofs.LegSigns.{moved_zero, moved_back, gap_along, is_moved}
-use Rattle.ember_model.proofs.Scaling.{crossing_scaled, clear_scaled, leg_scaled, leg_back}
+use Rattle.ember_model.proofs.ScaledPoints.{crossing_scaled, clear_scaled, leg_scaled, leg_back}
 use Rattle.ember_law.specs.Counts.{leg_wind}
 use Rattle.ember_law.proofs.Axes.{axes_agree}
 
@@ -63,7 +63,8 @@ one_weight a p q c fs wp wq e kp kq =
     let b = leg_wind_back p q fs wp wq in omega (arith, linear, r, b))
 
 -- ---- any weights
-along_itself : (a : Axis) (p q : Spot) (fs : List Face) → pos 0 <ℤ p.w → pos 0 <ℤ q.w → DifferAlong a p q → AreClear fs p → AreClear fs q → wind a fs p -ℤ wind a fs q ≡ leg_wind fs p q
+-- of any faces, where the axis is the one along which the points differ
+pub along_itself : (a : Axis) (p q : Spot) (fs : List Face) → pos 0 <ℤ p.w → pos 0 <ℤ q.w → DifferAlong a p q → AreClear fs p → AreClear fs q → wind a fs p -ℤ wind a fs q ≡ leg_wind fs p q
 along_itself a p q fs lp lq d kp kq =
     let r = one_weight a (scaled q.w p) (scaled p.w q) (gap_along a (scaled q.w p) (scaled p.w q)) fs (pos_mul lq lp) (pos_mul lp lq) (is_moved a p q d) (are_clear_scaled q.w p fs lq kp) (are_clear_scaled p.w q fs lp kq) in
     let x = wind_scaled a q.w p fs lq in let y = wind_scaled a p.w q fs lp in let z = leg_wind_scaled q.w p.w p q fs lq lp in omega (arith, linear, r, x, y, z)

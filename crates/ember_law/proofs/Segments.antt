@@ -30,14 +30,14 @@ use Rattle.ember_model.specs.Faces.{size, between, is_in_closed, is_flat, face_o
 use Rattle.ember_model.specs.Clear.{AreClear}
 use Rattle.ember_model.specs.Meshes.{wind, faces_of, IsBalanced}
 use Rattle.ember_model.proofs.SignTests.{sgn_scaled, zero_scaled, not_positive_in, size_positive, positive_nonzero, negative_nonzero, negative_in}
-use Rattle.ember_model.proofs.PlaneValues.{value_times, size-is, seen, seenE, tuple_of, normal_of, along_dot, support_value, normal_value}
+use Rattle.ember_model.proofs.PlaneValues.{value_times, size-is, seen, seenE, tuple_of, cross_product, along_dot, support_value, normal_value}
 use Rattle.ember_model.proofs.SeenCrossings.{seen_crossing, first_edge, second_edge, third_edge, sum_of}
 use Rattle.ember_model.proofs.Legs.{value_between, between_weight, size_is_pos, size_is_neg}
 use Rattle.ember_model.proofs.Hits.{closed_on}
-use Rattle.ember_law.specs.Laws.{Misses}
+use Rattle.ember_law.specs.Laws.{MissesFace}
 use Rattle.ember_law.proofs.Directions.{IsGeneric, AreGeneric, IsAcross, directions_agree}
 use Rattle.ember_law.proofs.Shifted.{NoNormal, follows_shifted, off_shifted, weight_shifted, eventually_true}
-use Rattle.ember_law.proofs.Flats.{IsFlat, flat_out, flat_seen_crossing}
+use Rattle.ember_law.proofs.FlatTriangles.{IsFlat, flat_out, flat_seen_crossing}
 use Rattle.ember_law.proofs.Generic.{cancel_zero, wind_shifted, generic_shifted}
 use Rattle.ember_law.proofs.Axes.{wind_seen, axes_agree}
 use Rattle.ember_law.proofs.Separation.{Separates, separate}
@@ -49,7 +49,7 @@ toward p q = record { x = p.w *ℤ q.x -ℤ q.w *ℤ p.x; y = p.w *ℤ q.y -ℤ 
 abbrev towardE : TupleE → TupleE → VectorE
 towardE p q = record { x = p.w ⊗ q.x ⊖ q.w ⊗ p.x; y = p.w ⊗ q.y ⊖ q.w ⊗ p.y; z = p.w ⊗ q.z ⊖ q.w ⊗ p.z }
 
-value_toward : (g : Plane) (p q : Spot) → p.w *ℤ value_at g q ≡ q.w *ℤ value_at g p +ℤ dot (normal_of g) (toward p q)
+value_toward : (g : Plane) (p q : Spot) → p.w *ℤ value_at g q ≡ q.w *ℤ value_at g p +ℤ dot (cross_product g) (toward p q)
 value_toward g p q =
     identity (tuple ∷ tuple ∷ tuple ∷ []) (λ g p q. p.w ⊗ valueE g q ≈ q.w ⊗ valueE g p ⊕ dotE (vector_partE g) (towardE p q)) cancels (record { x = g.a; y = g.b; z = g.c; w = g.d }) (tuple_of p) (tuple_of q)
 
@@ -141,10 +141,10 @@ no_sign' d a b c s t =
     same_z_out _ _ (use_if (not (is_neg a and is_neg b and is_neg c)) _ (use_if (sum3 a b c Neg) _ (signs 4 (λ d a b c. sum3 a b c Neg ⇒ not (is_neg a and is_neg b and is_neg c) ⇒ same_z (crossing d Neg a b c) (pos 0)) tt d a b c) s) t)
 
 -- the crossing of p, and that of q with the edges seen from p
-front_form : (f : Vector) (p : Spot) (t : Tri) → pos 0 <ℤ p.w → seen_crossing f p t ≡ crossing (flip (sgn (value_at (support_of t) p))) (sgn (dot (normal_of (support_of t)) f)) (sgn (dot f (cross (seen p t.a) (seen p t.b)))) (sgn (dot f (cross (seen p t.b) (seen p t.c)))) (sgn (dot f (cross (seen p t.c) (seen p t.a))))
+front_form : (f : Vector) (p : Spot) (t : Tri) → pos 0 <ℤ p.w → seen_crossing f p t ≡ crossing (flip (sgn (value_at (support_of t) p))) (sgn (dot (cross_product (support_of t)) f)) (sgn (dot f (cross (seen p t.a) (seen p t.b)))) (sgn (dot f (cross (seen p t.b) (seen p t.c)))) (sgn (dot f (cross (seen p t.c) (seen p t.a))))
 front_form f p t w =
     let n = support_of t in let u = seen p t.a in let v = seen p t.b in let y = seen p t.c in let ww = pos_mul w w in
-    let en : sgn (dot f (normal u v y)) ≡ sgn (dot (normal_of n) f) = ap sgn (normal_value t f p) ∙ sgn_scaled (dot (normal_of n) f) ww in
+    let en : sgn (dot f (normal u v y)) ≡ sgn (dot (cross_product n) f) = ap sgn (normal_value t f p) ∙ sgn_scaled (dot (cross_product n) f) ww in
     let ed : sgn (det u v y) ≡ flip (sgn (value_at n p)) = ap sgn (support_value t p) ∙ sgn-neg (p.w *ℤ p.w *ℤ value_at n p) ∙ ap flip (sgn_scaled (value_at n p) ww) in
     λ i. crossing (ed i) (en i) (sgn (dot f (cross u v))) (sgn (dot f (cross v y))) (sgn (dot f (cross y u)))
 
@@ -152,10 +152,10 @@ same_seen : (u v : Corner) (p q : Spot) → pos 0 <ℤ p.w → pos 0 <ℤ q.w �
 same_seen u v p q lp lq =
     sym (sgn_scaled (dot (toward p q) (cross (seen q u) (seen q v))) (pos_mul lp lp)) ∙ ap sgn (seen_toward u v p q) ∙ sgn_scaled (dot (toward p q) (cross (seen p u) (seen p v))) (pos_mul lq lq)
 
-back_form : (p q : Spot) (t : Tri) → pos 0 <ℤ p.w → pos 0 <ℤ q.w → seen_crossing (toward p q) q t ≡ crossing (flip (sgn (value_at (support_of t) q))) (sgn (dot (normal_of (support_of t)) (toward p q))) (sgn (dot (toward p q) (cross (seen p t.a) (seen p t.b)))) (sgn (dot (toward p q) (cross (seen p t.b) (seen p t.c)))) (sgn (dot (toward p q) (cross (seen p t.c) (seen p t.a))))
+back_form : (p q : Spot) (t : Tri) → pos 0 <ℤ p.w → pos 0 <ℤ q.w → seen_crossing (toward p q) q t ≡ crossing (flip (sgn (value_at (support_of t) q))) (sgn (dot (cross_product (support_of t)) (toward p q))) (sgn (dot (toward p q) (cross (seen p t.a) (seen p t.b)))) (sgn (dot (toward p q) (cross (seen p t.b) (seen p t.c)))) (sgn (dot (toward p q) (cross (seen p t.c) (seen p t.a))))
 back_form p q t lp lq =
     let a = same_seen t.a t.b p q lp lq in let b = same_seen t.b t.c p q lp lq in let c = same_seen t.c t.a p q lp lq in
-    front_form (toward p q) q t lq ∙ (λ i. crossing (flip (sgn (value_at (support_of t) q))) (sgn (dot (normal_of (support_of t)) (toward p q))) (a i) (b i) (c i))
+    front_form (toward p q) q t lq ∙ (λ i. crossing (flip (sgn (value_at (support_of t) q))) (sgn (dot (cross_product (support_of t)) (toward p q))) (a i) (b i) (c i))
 
 -- the value of an edge plane at the point between, where the signs of the support plane differ
 -- s, s': the support plane at p and q; e: the edge plane at p; ef, nf: along the direction
@@ -176,12 +176,12 @@ edge_at : (n g : Plane) (p q : Spot) (k : Axis) (x y : ℤ) → pos 0 <ℤ p.w �
 edge_at n g p q k x y w h l =
     let e = value_times (sign (along n k)) g (between n p q) in let r = low_from p.w (along n k) (value_at g (between n p q)) y w h l in omega (arith, linear, e, r)
 
-edge_low : (n g : Plane) (p q : Spot) (k : Axis) (x : ℤ) → pos 0 <ℤ p.w → dot (normal_of n) (toward p q) *ℤ (p.w *ℤ value_at g p) -ℤ value_at n p *ℤ (p.w *ℤ dot (normal_of g) (toward p q)) ≡ neg_ℤ (dot (normal_of n) (unit k) *ℤ x) → (pos 0 <ℤ x) × (value_at n p <ℤ pos 0) × (pos 0 <ℤ value_at n q) ⊎ (x <ℤ pos 0) × (pos 0 <ℤ value_at n p) × (value_at n q <ℤ pos 0) → value_at (times_plane (sign (along n k)) g) (between n p q) ≤ℤ pos 0
+edge_low : (n g : Plane) (p q : Spot) (k : Axis) (x : ℤ) → pos 0 <ℤ p.w → dot (cross_product n) (toward p q) *ℤ (p.w *ℤ value_at g p) -ℤ value_at n p *ℤ (p.w *ℤ dot (cross_product g) (toward p q)) ≡ neg_ℤ (dot (cross_product n) (unit k) *ℤ x) → (pos 0 <ℤ x) × (value_at n p <ℤ pos 0) × (pos 0 <ℤ value_at n q) ⊎ (x <ℤ pos 0) × (pos 0 <ℤ value_at n p) × (value_at n q <ℤ pos 0) → value_at (times_plane (sign (along n k)) g) (between n p q) ≤ℤ pos 0
 edge_low n g p q k x w h c = by c
   where
     core : p.w *ℤ p.w *ℤ (value_at n q *ℤ value_at g p -ℤ value_at n p *ℤ value_at g q) ≡ neg_ℤ (along n k *ℤ x)
     core =
-        between_value p.w q.w (value_at n p) (value_at n q) (value_at g p) (value_at g q) (dot (normal_of n) (toward p q)) (dot (normal_of g) (toward p q)) (along n k) x (value_toward n p q) (value_toward g p q) (h ∙ ap (λ (z : ℤ). neg_ℤ (z *ℤ x)) (sym (along_dot n k)))
+        between_value p.w q.w (value_at n p) (value_at n q) (value_at g p) (value_at g q) (dot (cross_product n) (toward p q)) (dot (cross_product g) (toward p q)) (along n k) x (value_toward n p q) (value_toward g p q) (h ∙ ap (λ (z : ℤ). neg_ℤ (z *ℤ x)) (sym (along_dot n k)))
 
     by : (pos 0 <ℤ x) × (value_at n p <ℤ pos 0) × (pos 0 <ℤ value_at n q) ⊎ (x <ℤ pos 0) × (pos 0 <ℤ value_at n p) × (value_at n q <ℤ pos 0) → value_at (times_plane (sign (along n k)) g) (between n p q) ≤ℤ pos 0
     by (inl c) =
@@ -257,7 +257,7 @@ tri_along p q t lp lq np nq s =
     sq = value_at (support_of t) q
 
     nf : ℤ
-    nf = dot (normal_of (support_of t)) (toward p q)
+    nf = dot (cross_product (support_of t)) (toward p q)
 
     na : Sign
     na = sgn (number_of p q t.a t.b)
@@ -301,11 +301,11 @@ abbrev AreApart : Spot → Spot → List Tri → Type 0
 AreApart p q [] = Unit {0}
 AreApart p q (t ∷ ts) = (IsFlat t ⊎ Separates (face_of t) p q) × AreApart p q ts
 
-are_apart : (p q : Spot) (ts : List Tri) → pos 0 <ℤ p.w → pos 0 <ℤ q.w → AllByRecursion (Misses p q) (faces_of ts) → AreApart p q ts
+are_apart : (p q : Spot) (ts : List Tri) → pos 0 <ℤ p.w → pos 0 <ℤ q.w → AllByRecursion (MissesFace p q) (faces_of ts) → AreApart p q ts
 are_apart p q [] wp wq h = tt
 are_apart p q (t ∷ ts) wp wq h = by (is_flat t) refl h (are_apart p q ts wp wq)
   where
-    by : (b : Bool) → is_flat t ≡ b → AllByRecursion (Misses p q) (map face_of (cond (not b) (t ∷ filter (λ t. not (is_flat t)) ts) (filter (λ t. not (is_flat t)) ts))) → (AllByRecursion (Misses p q) (faces_of ts) → AreApart p q ts) → AreApart p q (t ∷ ts)
+    by : (b : Bool) → is_flat t ≡ b → AllByRecursion (MissesFace p q) (map face_of (cond (not b) (t ∷ filter (λ t. not (is_flat t)) ts) (filter (λ t. not (is_flat t)) ts))) → (AllByRecursion (MissesFace p q) (faces_of ts) → AreApart p q ts) → AreApart p q (t ∷ ts)
     by true e h r = (inl (flat_out t e), r h)
     by false e h r = (inr (separate (face_of t) p q wp wq h.0), r h.1)
 
@@ -361,7 +361,7 @@ by_way : (a b : Axis) (p q v w : Spot) (ts : List Tri) → IsBalanced ts → pos
 by_way a b p q v w ts l lp lq kp kq lv lw ev ew h gv gw sv s =
     axes_agree a X p ts l lp kp ∙ ev ∙ generic_way v w ts l lv lw h gv gw sv s ∙ sym ew ∙ axes_agree X b q ts l lq kq
 
-pub segment_law : (a b : Axis) (p q : Spot) (ts : List Tri) → IsBalanced ts → pos 0 <ℤ p.w → pos 0 <ℤ q.w → AreClear (faces_of ts) p → AreClear (faces_of ts) q → AllByRecursion (Misses p q) (faces_of ts) → wind a (faces_of ts) p ≡ wind b (faces_of ts) q
+pub segment_law : (a b : Axis) (p q : Spot) (ts : List Tri) → IsBalanced ts → pos 0 <ℤ p.w → pos 0 <ℤ q.w → AreClear (faces_of ts) p → AreClear (faces_of ts) q → AllByRecursion (MissesFace p q) (faces_of ts) → wind a (faces_of ts) p ≡ wind b (faces_of ts) q
 segment_law a b p q ts l lp lq kp kq h =
     let e = eventually_both (weight_shifted p lp) (eventually_both (wind_shifted X p (faces_of ts) lp kp) (eventually_both (generic_shifted (unit X) p ts lp) (near_shifted p q ts (are_apart p q ts lp lq h)))) in
     let p' = shifted p (pos e.from) in let r = e.holds e.from (le_refl e.from) in

@@ -18,7 +18,7 @@ use Rattle.ember_model.proofs.SignTests.{zero_scaled, positive_in, not_positive_
 use Rattle.ember_model.proofs.PlaneValues.{value_scaled, value_times, value_plus}
 use Rattle.ember_model.proofs.Hits.{closed_on, closed_parts}
 use Rattle.ember_model.proofs.LastZero.{none_positive_member, After, Last, last_zero}
-use Rattle.ember_law.specs.Laws.{Misses}
+use Rattle.ember_law.specs.Laws.{MissesFace}
 
 -- ---- points of the segment
 -- for k, m ≥ 0, not both 0: a point of the segment from p to q
@@ -34,7 +34,7 @@ mix_turn k m p q =
     let x = +ℤ_comm (k *ℤ p.x) (m *ℤ q.x) in let y = +ℤ_comm (k *ℤ p.y) (m *ℤ q.y) in let z = +ℤ_comm (k *ℤ p.z) (m *ℤ q.z) in let w = +ℤ_comm (k *ℤ p.w) (m *ℤ q.w) in
     λ i. record { x = x i; y = y i; z = z i; w = w i }
 
-misses_turn : (f : Face) (p q : Spot) → Misses p q f → Misses q p f
+misses_turn : (f : Face) (p q : Spot) → MissesFace p q f → MissesFace q p f
 misses_turn f p q h k m a b = ap (is_in_closed f) (mix_turn k m q p) ∙ h m k b a
 
 mix_weight : (k m : ℤ) (p q : Spot) → pos 0 ≤ℤ k → pos 0 ≤ℤ m → pos 0 <ℤ (k +ℤ m) → pos 0 <ℤ p.w → pos 0 <ℤ q.w → pos 0 <ℤ (mix k m p q).w
@@ -124,7 +124,7 @@ off_face : (f : Face) (x : Spot) → pos 0 <ℤ x.w → value_at f.support x ≡
 off_face f x w z c = above x f.edges (sym (closed_on f x (positive_in w) z) ∙ c)
 
 -- p behind, q in front, and one of them strictly
-across : (f : Face) (p q : Spot) → pos 0 <ℤ p.w → pos 0 <ℤ q.w → Misses p q f → value_at f.support p ≤ℤ pos 0 → pos 0 ≤ℤ value_at f.support q → pos 0 <ℤ (value_at f.support q -ℤ value_at f.support p) → Separates f p q
+across : (f : Face) (p q : Spot) → pos 0 <ℤ p.w → pos 0 <ℤ q.w → MissesFace p q f → value_at f.support p ≤ℤ pos 0 → pos 0 ≤ℤ value_at f.support q → pos 0 <ℤ (value_at f.support q -ℤ value_at f.support p) → Separates f p q
 across f p q wp wq h lp lq d =
     let s1 = value_at f.support p in let s2 = value_at f.support q in
     let x = mix s2 (neg_ℤ s1) p q in
@@ -145,7 +145,7 @@ across f p q wp wq h lp lq d =
     }
 
 -- both in the support plane
-inside_plane : (f : Face) (p q : Spot) → pos 0 <ℤ p.w → pos 0 <ℤ q.w → Misses p q f → value_at f.support p ≡ pos 0 → value_at f.support q ≡ pos 0 → Separates f p q
+inside_plane : (f : Face) (p q : Spot) → pos 0 <ℤ p.w → pos 0 <ℤ q.w → MissesFace p q f → value_at f.support p ≡ pos 0 → value_at f.support q ≡ pos 0 → Separates f p q
 inside_plane f p q wp wq h zp zq =
     let one = mix (pos 1) (pos 0) p q in
     let a = off_face f one (mix_weight (pos 1) (pos 0) p q (omega (arith, linear)) (omega (arith, linear)) (omega (arith, linear)) wp wq) (flat (pos 1) (pos 0)) (h (pos 1) (pos 0) (omega (arith, linear)) (omega (arith, linear))) in
@@ -194,7 +194,7 @@ inside_plane f p q wp wq h zp zq =
         (λ b. by_lt_z (pos 0) l1 (λ a. simple l.plane l.member a b) (λ a. joined g l.plane gm.0 l.member u d a b v))
         (λ b. absurd (let o = after_member p q g l.plane rest r.after (filter_in tame l.plane f.edges l.member (not_positive_in l2 b)) in omega (arith, linear, o, v, solve 4 (λ h1 h2 l1 l2. neg h2 ⊗ l1 ⊕ h1 ⊗ l2 ≈ l1 ⊗ neg h2 ⊖ h1 ⊗ neg l2) cancels h1 h2 l1 l2)))
 
-pub separate : (f : Face) (p q : Spot) → pos 0 <ℤ p.w → pos 0 <ℤ q.w → Misses p q f → Separates f p q
+pub separate : (f : Face) (p q : Spot) → pos 0 <ℤ p.w → pos 0 <ℤ q.w → MissesFace p q f → Separates f p q
 separate f p q wp wq h =
     by_sign (value_at f.support p)
     (λ a. by_sign (value_at f.support q)

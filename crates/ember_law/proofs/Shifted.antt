@@ -10,7 +10,7 @@ use Rattle.ember_model.specs.declared.plane.Plane.{Plane}
 use Rattle.ember_model.specs.declared.point.Spot.{Spot}
 use Rattle.ember_model.specs.Planes.{value_at}
 use Rattle.ember_model.specs.Points.{shifted}
-use Rattle.ember_model.proofs.Following.{Follows}
+use Rattle.ember_model.proofs.NearClearPoints.{Follows}
 
 abbrev pub NoNormal : Plane → Type 0
 NoNormal h = (h.a ≡ pos 0) × (h.b ≡ pos 0) × (h.c ≡ pos 0)

@@ -11,7 +11,7 @@ use Rattle.ember_model.specs.declared.face.Face.{Face}
 use Rattle.ember_model.specs.Faces.{face_of}
 use Rattle.ember_model.specs.Meshes.{faces_of, of_mesh, meshes, HasMesh}
 use Rattle.ember_law.specs.Counts.{added, with_more}
-use Rattle.ember_law.proofs.Flats.{IsFlat, total_faces}
+use Rattle.ember_law.proofs.FlatTriangles.{IsFlat, total_faces}
 
 -- the sum of f over the faces of each mesh
 abbrev pub tally : (Face → ℤ) → List Tri → List ℤ

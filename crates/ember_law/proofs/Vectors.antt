@@ -8,7 +8,7 @@ use Rattle.ember_model.specs.Faces.{is_flat, face_of}
 use Rattle.ember_model.specs.Clear.{IsClear}
 use Rattle.ember_model.specs.Meshes.{wind, faces_of, of_mesh, meshes, IsScene}
 use Rattle.ember_law.specs.Counts.{added, leg_wind}
-use Rattle.ember_law.specs.Laws.{AxesAgree, LegsTell, Misses, SegmentsKeep}
+use Rattle.ember_law.specs.Laws.{AxesAgree, SegmentsGiveDifference, MissesFace, ClearSegmentsKeepVectors}
 use Rattle.ember_law.proofs.Axes.{axes_agree}
 use Rattle.ember_law.proofs.Paths.{path_law}
 use Rattle.ember_law.proofs.Segments.{segment_law}
@@ -34,10 +34,10 @@ pub axes_law : (ts : List Tri) (n : ℕ) → IsScene ts n → AxesAgree ts
 axes_law ts n s p a b w c =
     map_same (λ m. wind a (faces_of (of_mesh m ts)) p) (λ m. wind b (faces_of (of_mesh m ts)) p) (λ m. axes_agree a b p (of_mesh m ts) (s.balanced m) w (of_mesh_all (λ f. IsClear f p) m ts c)) meshes
 
-pub legs_law : (ts : List Tri) (n : ℕ) → IsScene ts n → LegsTell ts
+pub legs_law : (ts : List Tri) (n : ℕ) → IsScene ts n → SegmentsGiveDifference ts
 legs_law ts n s a b p q wp wq d cp cq =
     map_added (λ m. wind b (faces_of (of_mesh m ts)) p) (λ m. wind b (faces_of (of_mesh m ts)) q) (λ m. leg_wind (faces_of (of_mesh m ts)) p q) (λ m. path_law a b p q (of_mesh m ts) (s.balanced m) wp wq d (of_mesh_all (λ f. IsClear f p) m ts cp) (of_mesh_all (λ f. IsClear f q) m ts cq)) meshes
 
-pub segments_law : (ts : List Tri) (n : ℕ) → IsScene ts n → SegmentsKeep ts
+pub segments_law : (ts : List Tri) (n : ℕ) → IsScene ts n → ClearSegmentsKeepVectors ts
 segments_law ts n s a b p q wp wq cp cq h =
-    map_same (λ m. wind a (faces_of (of_mesh m ts)) p) (λ m. wind b (faces_of (of_mesh m ts)) q) (λ m. segment_law a b p q (of_mesh m ts) (s.balanced m) wp wq (of_mesh_all (λ f. IsClear f p) m ts cp) (of_mesh_all (λ f. IsClear f q) m ts cq) (of_mesh_all (Misses p q) m ts h)) meshes
+    map_same (λ m. wind a (faces_of (of_mesh m ts)) p) (λ m. wind b (faces_of (of_mesh m ts)) q) (λ m. segment_law a b p q (of_mesh m ts) (s.balanced m) wp wq (of_mesh_all (λ f. IsClear f p) m ts cp) (of_mesh_all (λ f. IsClear f q) m ts cq) (of_mesh_all (MissesFace p q) m ts h)) meshes

@@ -18,16 +18,16 @@ AxesAgree ts = (p : Spot) (a b : Axis) → pos 0 <ℤ p.w → AreClear (faces_of
 
 -- of two clear points that differ at most in one coordinate, the vector at the first is that at the
 -- second with the crossings of the segment from the first to the second
-abbrev pub LegsTell : List Tri → Type 0
-LegsTell ts =
+abbrev pub SegmentsGiveDifference : List Tri → Type 0
+SegmentsGiveDifference ts =
     (a b : Axis) (p q : Spot) → pos 0 <ℤ p.w → pos 0 <ℤ q.w → DifferAlong a p q → AreClear (faces_of ts) p → AreClear (faces_of ts) q → vector b ts p ≡ added (vector b ts q) (leg_vector ts p q)
 
 -- no point of the segment from p to q lies in the closed face
-abbrev pub Misses : Spot → Spot → Face → Type 0
-Misses p q f =
+abbrev pub MissesFace : Spot → Spot → Face → Type 0
+MissesFace p q f =
     (k m : ℤ) → pos 0 ≤ℤ k → pos 0 ≤ℤ m → is_in_closed f (plus_s (scaled k p) (scaled m q)) ≡ false
 
 -- two clear points whose segment meets no face have one vector
-abbrev pub SegmentsKeep : List Tri → Type 0
-SegmentsKeep ts =
-    (a b : Axis) (p q : Spot) → pos 0 <ℤ p.w → pos 0 <ℤ q.w → AreClear (faces_of ts) p → AreClear (faces_of ts) q → AllByRecursion (Misses p q) (faces_of ts) → vector a ts p ≡ vector b ts q
+abbrev pub ClearSegmentsKeepVectors : List Tri → Type 0
+ClearSegmentsKeepVectors ts =
+    (a b : Axis) (p q : Spot) → pos 0 <ℤ p.w → pos 0 <ℤ q.w → AreClear (faces_of ts) p → AreClear (faces_of ts) q → AllByRecursion (MissesFace p q) (faces_of ts) → vector a ts p ≡ vector b ts q

@@ -5,12 +5,12 @@ ghost use Rattle.ember_model.specs.Valid.{IsValidTri, IsValidSpot};
 ghost use Rattle.ember_model.specs.Points.{DifferAlong};
 ghost use Rattle.ember_model.specs.Meshes.{HasMesh, vector};
 ghost use Rattle.ember_law.specs.Counts.{added, with_more, leg_vector, HasRoom};
-ghost use Rattle.ember_law.specs.Laws.{AxesAgree, LegsTell, SegmentsKeep};
+ghost use Rattle.ember_law.specs.Laws.{AxesAgree, SegmentsGiveDifference, ClearSegmentsKeepVectors};
 
 use ember_model::{Axis, Scene, Spot, Tri, Vector, crossing, leg};
 
 /// Adds 1, 0 or -1 to the count of a mesh. Meshes are numbered from 1 to 64.
-pub fn add_to(v: &mut Vector, mesh: u32, more: i32)
+pub fn add_count(v: &mut Vector, mesh: u32, more: i32)
     requires first { 1 ≤ mesh }
     requires last { mesh ≤ 64 }
     requires more { Small 1 more }
@@ -22,22 +22,22 @@ pub fn add_to(v: &mut Vector, mesh: u32, more: i32)
 }
 
 // The crossings of the ray from p along the axis with any triangles.
-pub fn count_rays(tris: &[Tri], p: &Spot, a: Axis, v: &mut Vector)
+pub fn count_rays(tris: &[Tri], point: &Spot, axis: Axis, v: &mut Vector)
     requires valid { All IsValidTri tris.now }
     requires numbered { All (HasMesh 64) tris.now }
     requires few { length tris.now ≤ 262144 }
-    requires spot { IsValidSpot p.now }
+    requires spot { IsValidSpot point.now }
     requires room { HasRoom v.old.counts }
-    ensures value { v.new.counts ≡ added v.old.counts (vector a tris.now p.now) }
+    ensures value { v.new.counts ≡ added v.old.counts (vector axis tris.now point.now) }
     ensures within { (m : ℕ) → All (Small m) v.old.counts → All (Small (m + length tris.now)) v.new.counts }
 {
     for t in tris {
-        add_to(v, t.mesh, crossing(p, a, t));
+        add_count(v, t.mesh, crossing(point, axis, t));
     }
 }
 
 // The crossings of the segment from p to q with any triangles.
-pub fn count_legs(tris: &[Tri], p: &Spot, q: &Spot, a: Axis, v: &mut Vector)
+pub fn count_segments(tris: &[Tri], p: &Spot, q: &Spot, a: Axis, v: &mut Vector)
     requires valid { All IsValidTri tris.now }
     requires numbered { All (HasMesh 64) tris.now }
     requires few { length tris.now ≤ 262144 }
@@ -49,7 +49,7 @@ pub fn count_legs(tris: &[Tri], p: &Spot, q: &Spot, a: Axis, v: &mut Vector)
     ensures within { (m : ℕ) → All (Small m) v.old.counts → All (Small (m + length tris.now)) v.new.counts }
 {
     for t in tris {
-        add_to(v, t.mesh, leg(p, q, a, t));
+        add_count(v, t.mesh, leg(p, q, a, t));
     }
 }
 
@@ -67,7 +67,7 @@ pub fn axis_count(s: &Scene, p: &Spot, a: Axis, v: &mut Vector)
 }
 
 /// Adds to the count of each mesh the signed crossings of the segment from `p` to `q` with the
-/// mesh's faces: 1 where the way from `p` to `q` leaves through the front. For clear points these
+/// mesh's faces: 1 where the segment from `p` to `q` leaves through the front. For clear points these
 /// are the winding numbers at `p` less those at `q`. As points of space `p` and `q` differ at most
 /// in the coordinate of the axis. The counts leave room as for `axis_count`.
 pub fn leg_count(s: &Scene, p: &Spot, q: &Spot, a: Axis, v: &mut Vector)
@@ -77,8 +77,8 @@ pub fn leg_count(s: &Scene, p: &Spot, q: &Spot, a: Axis, v: &mut Vector)
     requires room { HasRoom v.old.counts }
     ensures value { v.new.counts ≡ added v.old.counts (leg_vector s.now.tris p.now q.now) }
     ensures within { (m : ℕ) → All (Small m) v.old.counts → All (Small (m + length s.now.tris)) v.new.counts }
-    ensures law { LegsTell s.now.tris }
-    ensures segments { SegmentsKeep s.now.tris }
+    ensures law { SegmentsGiveDifference s.now.tris }
+    ensures segments { ClearSegmentsKeepVectors s.now.tris }
 {
-    count_legs(s.tris.items(), p, q, a, v);
+    count_segments(s.tris.items(), p, q, a, v);
 }

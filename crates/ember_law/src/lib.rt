@@ -3,7 +3,5 @@
 #![tactic(auto)]
 
 mod count;
-#[cfg(test)]
-mod tests;
 
-pub use count::{add_to, axis_count, leg_count};
+pub use count::{add_count, axis_count, leg_count};

@@ -7,22 +7,32 @@ use Rattle.ember_model.specs.declared.face.Face.{Face}
 use Rattle.ember_model.specs.Faces.{is_inside, is_flat, face_of, Meets, Contains}
 use Rattle.ember_model.specs.Owners.{is_coplanar}
 use Rattle.ember_model.proofs.SignTests.{clash}
-use Rattle.ember_box.specs.declared.spans.Spans.{Spans}
+use Rattle.ember_box.specs.declared.aabb.Aabb.{Aabb}
+use Rattle.ember_algebra.specs.Relations.{Every}
+use Rattle.ember_algebra.proofs.Relations.{every_append}
+use Rattle.std.proofs.lemmas.List.{append-nil}
+use Rattle.ember_box.specs.Regions.{cutting_planes_of}
 use Rattle.ember_box.specs.Near.{tri_at, no_tri}
-use Rattle.ember_box.specs.Spans.{bounding, overlap}
+use Rattle.ember_box.specs.Aabbs.{aabb_of_tri, aabbs_meet}
 use Rattle.ember_ref.proofs.FarTriangles.{inside_closed}
 use Rattle.ember_poly.specs.Cuts.{HasInside}
 use Rattle.ember_trace.proofs.FlatPlanes.{lies_flat, shared_face}
-use Rattle.ember_leaf.specs.Blades.{IsBounded}
-use Rattle.ember_leaf.specs.Pairs.{AreApart, IsLower, HasHolder}
-use Rattle.ember_leaf.specs.Lower.{StandsBefore, Holds, AddsLower, covers, joins, misses, follows, AreLower, HasCover, TellsOwner}
+use Rattle.ember_leaf.specs.declared.cutter.Cutter.{Cutter}
+use Rattle.ember_leaf.specs.declared.cutter.Role.{Role}
+use Rattle.ember_leaf.specs.declared.cutter.Role.TheVariants.{Across, Coplanar, Owner}
+use Rattle.ember_leaf.specs.Cutters.{role_if, owner_as, owners_by, owners_in, LiesAs, IsCutterOf, IsAdded, AddsCuttingPlanes, IsBounded}
+use Rattle.ember_leaf.specs.TriRelations.{AreDisjoint, IsLower, HasContaining}
+use Rattle.ember_leaf.specs.Lower.{IsListedBefore, ContainsPart, AddsLower, covers, joins, misses, follows, AreLower, HasCover, DecidesOwner}
 use Rattle.ember_leaf.specs.Written.{IsCovered}
-use Rattle.ember_leaf.proofs.Apart.{coplanar_flats}
-use Rattle.ember_leaf.proofs.Placing.{face_support}
-use Rattle.ember_leaf.proofs.Shedding.{away_unmet}
+use Rattle.ember_leaf.proofs.TriRelations.{coplanar_flats}
+use Rattle.ember_leaf.proofs.RegionOrder.{face_support}
+use Rattle.ember_leaf.proofs.Cutting.{all_every}
+use Rattle.ember_leaf.proofs.Leaving.{every_all}
+use Rattle.ember_leaf.proofs.Sharing.{coplanar_turned}
+use Rattle.ember_leaf.proofs.UnmetPlanes.{away_unmet, added_blades, added_owners, adds_all, edge_blades}
 
 -- ---- one triangle
-module _ (t u : Tri) (b : Spans) (f : Face) (h : Holds t b u f) where
+module _ (t u : Tri) (b : Aabb) (f : Face) (h : ContainsPart t b u f) where
   abbrev meets : Meets f (face_of u)
   meets =
       let s = h.somewhere in
@@ -37,19 +47,55 @@ module _ (t u : Tri) (b : Spans) (f : Face) (h : Holds t b u f) where
       let n = coplanar_flats u t h.coplanar in
       lies_flat t u (face_of t) h.somewhere.at (face_support t) n.1 n.0 held_inside (record { holds = λ v i. shared_face u t v h.coplanar (inside_closed (face_of t) v i) })
 
-pub flat_misses : (t u : Tri) (b : Spans) → is_flat u ≡ true → (f : Face) → Holds t b u f → ⊥
+pub flat_misses : (t u : Tri) (b : Aabb) → is_flat u ≡ true → (f : Face) → ContainsPart t b u f → ⊥
 flat_misses t u b e f h = clash e (coplanar_flats u t h.coplanar).0
 
-pub apart_misses : (t u : Tri) (b : Spans) → AreApart t u → (f : Face) → Holds t b u f → ⊥
+pub apart_misses : (t u : Tri) (b : Aabb) → AreDisjoint t u → (f : Face) → ContainsPart t b u f → ⊥
 apart_misses t u b a f h =
     clash (meets t u b f h).holds (a.holds h.somewhere.at (held_inside t u b f h))
 
-pub across_misses : (t u : Tri) (b : Spans) → is_coplanar t u ≡ false → (f : Face) → Holds t b u f → ⊥
+pub across_misses : (t u : Tri) (b : Aabb) → is_coplanar t u ≡ false → (f : Face) → ContainsPart t b u f → ⊥
 across_misses t u b e f h = clash (coplanar_too t u b f h) e
 
-pub away_misses : (t u : Tri) (b s : Spans) → s ≡ bounding u → overlap b s ≡ false → (f : Face) → Holds t b u f → ⊥
+pub away_misses : (t u : Tri) (b s : Aabb) → s ≡ aabb_of_tri u → aabbs_meet b s ≡ false → (f : Face) → ContainsPart t b u f → ⊥
 away_misses t u b s e q f h =
     away_unmet t u b s e q (coplanar_flats u t h.coplanar).0 f h.bounded (meets t u b f h)
+
+-- ---- what a triangle of one plane adds
+pub coplanar_added : (t u : Tri) (is_before : Bool) {old new : List Cutter} → is_coplanar t u ≡ true → IsAdded u (role_if is_before) old new → (b : Aabb) → AddsLower t u b is_before (owners_in old) false (owners_in new)
+coplanar_added t u true {old} {new} e a b =
+    subst (λ (l : List Tri). AddsLower t u b true (owners_in old) false l) (sym (added_owners a)) (joins refl (coplanar_turned u t e))
+coplanar_added t u false {old} {new} e a b =
+    subst (λ (l : List Tri). AddsLower t u b false (owners_in old) false l) (sym (added_owners a ∙ append-nil (owners_in old))) (follows refl)
+
+pub across_added : (t u : Tri) (is_before : Bool) {old new : List Cutter} → is_coplanar t u ≡ false → IsAdded u Across old new → (b : Aabb) → AddsLower t u b is_before (owners_in old) false (owners_in new)
+across_added t u is_before {old} {new} e a b =
+    subst (λ (l : List Tri). AddsLower t u b is_before (owners_in old) false l) (sym (added_owners a ∙ append-nil (owners_in old))) (misses (across_misses t u b e))
+
+pub coplanar_lies : (is_before : Bool) (t u : Tri) → is_coplanar t u ≡ true → LiesAs (role_if is_before) t u
+coplanar_lies true t u e = e
+coplanar_lies false t u e = e
+
+pub coplanar_blades : (t u : Tri) (is_before : Bool) {old new : List Cutter} (b : Aabb) → is_flat u ≡ false → is_coplanar t u ≡ true → IsAdded u (role_if is_before) old new → AddsCuttingPlanes (IsBounded t b) (cutting_planes_of t u) old new
+coplanar_blades t u true {old} {new} b n e a = adds_all old new (edge_blades t u n e) (added_blades a)
+coplanar_blades t u false {old} {new} b n e a = adds_all old new (edge_blades t u n e) (added_blades a)
+
+-- those that own are of lower number and in the plane of t
+owner_lower : (t : Tri) (c : Cutter) → IsCutterOf t c → Every (IsLower t) (owners_by c)
+owner_lower t c h = by c.role h.lies
+  where
+    by : (k : Role) → LiesAs k t c.tri → Every (IsLower t) (owner_as k c.tri)
+    by Across l = tt
+    by Coplanar l = tt
+    by Owner l = (record { valid = c.valid; coplanar = coplanar_turned c.tri t l }, tt)
+
+pub owners_lower : (t : Tri) (cs : List Cutter) → All (IsCutterOf t) cs → All (IsLower t) (owners_in cs)
+owners_lower t cs h = every_all (IsLower t) (owners_in cs) (by cs (all_every (IsCutterOf t) cs h))
+  where
+    by : (cs : List Cutter) → Every (IsCutterOf t) cs → Every (IsLower t) (owners_in cs)
+    by [] e = tt
+    by (c ∷ cs) e =
+        every_append (IsLower t) (owners_by c) (owners_in cs) (owner_lower t c e.0) (by cs e.1)
 
 -- ---- lists
 all_at : {X : Type 0} (P : X → Type 0) (xs : List X) (i : ℕ) (x : X) → All P xs → slice_get xs i ≡ Some x → P x
@@ -85,46 +131,46 @@ pub lt_in : (j i : ℕ) → j < i → nat_lt j i ≡ true
 lt_in j i l = grind arith
 
 -- ---- one triangle more
-module _ (ts : List Tri) (i : ℕ) (t : Tri) (b : Spans) where
+module _ (ts : List Tri) (i : ℕ) (t : Tri) (b : Aabb) where
   pub none_listed : (lower : List Tri) → lower ≡ [] → AreLower ts i t b 0 lower
   none_listed lower e =
-      record { stand = subst (All (StandsBefore ts i)) (sym e) (All-nil (StandsBefore ts i)); held = λ m l k f h. absurd (omega (arith, l)) }
+      record { stand = subst (All (IsListedBefore ts i)) (sym e) (All-nil (IsListedBefore ts i)); held = λ m l k f h. absurd (omega (arith, l)) }
 
   -- a list that is as it was
-  kept_list : (j : ℕ) (lower : List Tri) → AreLower ts i t b j lower → (j < i → (f : Face) → Holds t b (tri_at ts j) f → ⊥) → AreLower ts i t b (j + 1) lower
+  kept_list : (j : ℕ) (lower : List Tri) → AreLower ts i t b j lower → (j < i → (f : Face) → ContainsPart t b (tri_at ts j) f → ⊥) → AreLower ts i t b (j + 1) lower
   kept_list j lower a n =
       record { stand = a.stand; held = λ m l k f h. by m k f h (below_next m j l) }
     where
-      by : (m : ℕ) → m < i → (f : Face) → Holds t b (tri_at ts m) f → (m < j) ⊎ (m ≡ j) → HasHolder lower f
+      by : (m : ℕ) → m < i → (f : Face) → ContainsPart t b (tri_at ts m) f → (m < j) ⊎ (m ≡ j) → HasContaining lower f
       by m k f h (inl l) = a.held m l k f h
       by m k f h (inr e) =
-          absurd (n (omega (arith, e, k)) f (subst (λ (n : ℕ). Holds t b (tri_at ts n) f) e h))
+          absurd (n (omega (arith, e, k)) f (subst (λ (n : ℕ). ContainsPart t b (tri_at ts n) f) e h))
 
   pub own_listed : (j : ℕ) (lower : List Tri) → AreLower ts i t b j lower → j ≡ i → AreLower ts i t b (j + 1) lower
   own_listed j lower a e = kept_list j lower a (λ l f h. omega (arith, l, e))
 
   joined_list : (j : ℕ) (u : Tri) (lower : List Tri) → AreLower ts i t b j lower → j < i → j < length ts → u ≡ tri_at ts j → AreLower ts i t b (j + 1) (lower ++ u ∷ [])
   joined_list j u lower a l w e =
-      record { stand = All-push (StandsBefore ts i) lower u a.stand (record { place = j; before = l; here = slice_get-get_or ts j no_tri w ∙ ap (λ (v : Tri). Some v) (sym e) }); held = λ m n k f h. by m k f h (below_next m j n) }
+      record { stand = All-push (IsListedBefore ts i) lower u a.stand (record { index = j; before = l; here = slice_get-get_or ts j no_tri w ∙ ap (λ (v : Tri). Some v) (sym e) }); held = λ m n k f h. by m k f h (below_next m j n) }
     where
-      by : (m : ℕ) → m < i → (f : Face) → Holds t b (tri_at ts m) f → (m < j) ⊎ (m ≡ j) → HasHolder (lower ++ u ∷ []) f
+      by : (m : ℕ) → m < i → (f : Face) → ContainsPart t b (tri_at ts m) f → (m < j) ⊎ (m ≡ j) → HasContaining (lower ++ u ∷ []) f
       by m k f h (inl n) =
           let r = a.held m n k f h in
-          record { place = r.place; tri = r.tri; here = get_push lower u r.place r.tri r.here; holds = r.holds }
+          record { index = r.index; tri = r.tri; here = get_push lower u r.index r.tri r.here; holds = r.holds }
       by m k f h (inr q) =
-          record { place = length lower; tri = u; here = get_last lower u; holds = (subst (λ (v : Tri). Holds t b v f) (ap (tri_at ts) q ∙ sym e) h).within }
+          record { index = length lower; tri = u; here = get_last lower u; holds = (subst (λ (v : Tri). ContainsPart t b v f) (ap (tri_at ts) q ∙ sym e) h).within }
 
   pub other_listed : (j : ℕ) (u : Tri) (is_before : Bool) (old new : List Tri) {covered : Bool} → AreLower ts i t b j old → (is_before ≡ true → j < i) → (j < i → is_before ≡ true) → j < length ts → u ≡ tri_at ts j → covered ≡ false → AddsLower t u b is_before old covered new → AreLower ts i t b (j + 1) new
   other_listed j u is_before old new a f g w e q (covers x y z) = absurd (clash refl q)
   other_listed j u is_before old new a f g w e q (joins x y) = joined_list j u old a (f x) w e
   other_listed j u is_before old new a f g w e q (misses n) =
-      kept_list j old a (λ l r h. n r (subst (λ (v : Tri). Holds t b v r) (sym e) h))
+      kept_list j old a (λ l r h. n r (subst (λ (v : Tri). ContainsPart t b v r) (sym e) h))
   other_listed j u is_before old new a f g w e q (follows x) =
       kept_list j old a (λ l r h. absurd (clash (g l) x))
 
   pub cover_found : (j : ℕ) (u : Tri) (is_before : Bool) (old new : List Tri) {covered : Bool} → (is_before ≡ true → j < i) → j < length ts → u ≡ tri_at ts j → covered ≡ true → AddsLower t u b is_before old covered new → HasCover ts i t
   cover_found j u is_before old new f w e q (covers x y z) =
-      record { cover = u; stands = record { place = j; before = f x; here = slice_get-get_or ts j no_tri w ∙ ap (λ (v : Tri). Some v) (sym e) }; coplanar = y; contains = z }
+      record { cover = u; stands = record { index = j; before = f x; here = slice_get-get_or ts j no_tri w ∙ ap (λ (v : Tri). Some v) (sym e) }; coplanar = y; contains = z }
   cover_found j u is_before old new f w e q (joins x y) = absurd (clash q refl)
   cover_found j u is_before old new f w e q (misses n) = absurd (clash q refl)
   cover_found j u is_before old new f w e q (follows x) = absurd (clash q refl)
@@ -134,18 +180,18 @@ module _ (ts : List Tri) (i : ℕ) (t : Tri) (b : Spans) where
     there : slice_get ts i ≡ Some t
     there = slice_get-get_or ts i no_tri w ∙ ap (λ (v : Tri). Some v) (sym e)
 
-    pub tells_owner : (lower : List Tri) (f : Face) → All (IsLower t) lower → AreLower ts i t b (length ts) lower → IsBounded t b f → HasInside f → TellsOwner lower ts i f
+    pub tells_owner : (lower : List Tri) (f : Face) → All (IsLower t) lower → AreLower ts i t b (length ts) lower → IsBounded t b f → HasInside f → DecidesOwner lower ts i f
     tells_owner lower f k a d s =
         record {
-          free = λ n. record { first = λ j v u l at own c q. let h = by j u at v own c q l in all_at (λ r. Contains (face_of r) f → ⊥) lower h.place h.tri n h.here h.holds };
-          held = λ h o. let r = all_at (StandsBefore ts i) lower h.place h.tri a.stand h.here in o.first r.place t h.tri r.before r.here there (all_at (IsLower t) lower h.place h.tri k h.here).coplanar h.holds;
+          free = λ n. record { first = λ j v u l at own c q. let h = by j u at v own c q l in all_at (λ r. Contains (face_of r) f → ⊥) lower h.index h.tri n h.here h.holds };
+          held = λ h o. let r = all_at (IsListedBefore ts i) lower h.index h.tri a.stand h.here in o.first r.index t h.tri r.before r.here there (all_at (IsLower t) lower h.index h.tri k h.here).coplanar h.holds;
         }
       where
-        by : (j : ℕ) (u : Tri) → slice_get ts j ≡ Some u → (v : Tri) → slice_get ts i ≡ Some v → is_coplanar u v ≡ true → Contains (face_of u) f → j < i → HasHolder lower f
+        by : (j : ℕ) (u : Tri) → slice_get ts j ≡ Some u → (v : Tri) → slice_get ts i ≡ Some v → is_coplanar u v ≡ true → Contains (face_of u) f → j < i → HasContaining lower f
         by j u at v own c q l =
             let x = get_or_from_slice_get ts j u no_tri at in let y = sym (get_or_from_slice_get ts i v no_tri own) ∙ sym e in
-            a.held j (slice_get_within ts j u at) l f (subst (λ (r : Tri). Holds t b r f) (sym x) (record { coplanar = subst (λ (r : Tri). is_coplanar u r ≡ true) y c; bounded = d; somewhere = s; within = q }))
+            a.held j (slice_get_within ts j u at) l f (subst (λ (r : Tri). ContainsPart t b r f) (sym x) (record { coplanar = subst (λ (r : Tri). is_coplanar u r ≡ true) y c; bounded = d; somewhere = s; within = q }))
 
     pub is_covered : HasCover ts i t → IsCovered ts i
     is_covered h =
-        record { place = h.stands.place; cover = h.cover; own = t; before = h.stands.before; here = h.stands.here; there = there; coplanar = h.coplanar; contains = h.contains }
+        record { index = h.stands.index; cover = h.cover; own = t; before = h.stands.before; here = h.stands.here; there = there; coplanar = h.coplanar; contains = h.contains }

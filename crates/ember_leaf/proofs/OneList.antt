@@ -41,12 +41,12 @@ each_nothing Q f h (more {x = x} {ys = ys} {zs = zs} r e) =
 -- the regions of a leaf's triangle are regions of the leaf
 each_region : (near : List Tri) (c : Cell) (i : ℕ) (faces : List Face) → IsRegions c near i faces → Every (IsRegion near c) faces
 each_region near c i faces r =
-    every_from (IsRegion near c) faces (λ j g e. record { tri = i; regions = faces; are_regions = r; place = j; here = e })
+    every_from (IsRegion near c) faces (λ j g e. record { tri = i; regions = faces; are_regions = r; index = j; here = e })
 
 -- a covered triangle owns no region
 pub hidden_owns_none : (near : List Tri) (c : Cell) (i : ℕ) (faces : List Face) → IsRegions c near i faces → IsCovered near i → Every (λ g. IsOwner near i g → ⊥) faces
 hidden_owns_none near c i faces r h =
-    every_from (λ g. IsOwner near i g → ⊥) faces (λ j g e o. o.first h.place h.own h.cover h.before h.here h.there h.coplanar (record { holds = λ v w. h.contains.holds v (subst (λ (t : Tri). is_inside (face_of t) v ≡ true) (get_or_from_slice_get near i h.own no_tri h.there) (region_inside c near i j faces g r e v w)) }))
+    every_from (λ g. IsOwner near i g → ⊥) faces (λ j g e o. o.first h.index h.own h.cover h.before h.here h.there h.coplanar (record { holds = λ v w. h.contains.holds v (subst (λ (t : Tri). is_inside (face_of t) v ≡ true) (get_or_from_slice_get near i h.own no_tri h.there) (region_inside c near i j faces g r e v w)) }))
 
 -- ---- one list
 -- all sides of a region are equal
@@ -126,7 +126,7 @@ module _ (scene : List Tri) (f : Formula) (meshes : ℕ) (is : IsScene scene mes
 
   has_region : (c : Cell) (g : Face) → IsRegion (near scene c) c g → (v : Spot) → is_inside g v ≡ true → HasPoint c v
   has_region c g r v h =
-      in_box c g v (regions_lie_in c (near scene c) r.tri r.place r.regions g r.are_regions r.here) h
+      in_box c g v (regions_lie_in c (near scene c) r.tri r.index r.regions g r.are_regions r.here) h
 
   -- the written regions of a leaf of a scene are one list
   pub written_in_unique : (c : Cell) (us vs : List Kept) → IsWrittenIn scene f c (near scene c) us → IsWrittenIn scene f c (near scene c) vs → us ≡ vs

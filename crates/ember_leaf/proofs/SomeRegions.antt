@@ -9,7 +9,7 @@ use Rattle.ember_model.specs.Owners.{IsOwner}
 use Rattle.ember_expr.specs.Formula.{Formula}
 use Rattle.ember_box.specs.Boxes.{Cell}
 use Rattle.ember_box.specs.Near.{tri_at}
-use Rattle.ember_box.specs.Regions.{Wall, walls, IsAbove, LiesOn, AtWall, cut, outside, in_high, stays, Blade, blades, AtBlade, splits, whole, IsRegions}
+use Rattle.ember_box.specs.Regions.{Wall, walls, FaceIsAbove, FaceLiesOn, AtWall, cut, outside, in_high, stays, CuttingPlane, cutting_planes, AtCuttingPlane, splits, whole, IsRegions}
 use Rattle.ember_leaf.specs.declared.kept.Kept.{Kept}
 use Rattle.ember_leaf.specs.Written.{AtRegion, unowned, AreRegionsWritten, IsWrittenOf, regional, hidden}
 use Rattle.ember_leaf.proofs.OneList.{hidden_owns_none}
@@ -21,19 +21,19 @@ either P n = n (inr (λ p. n (inl p)))
 at_wall : (w : Wall) (f : Face) → ((fs : List Face) → AtWall w f fs → ⊥) → ⊥
 at_wall w f n = either (Cuts f w.plane) by_cut
   where
-    by_on : (Cuts f w.plane → ⊥) → (IsAbove f w.plane → ⊥) → ((w.is_high ≡ true × LiesOn f w.plane) ⊎ (w.is_high ≡ true × LiesOn f w.plane → ⊥)) → ⊥
+    by_on : (Cuts f w.plane → ⊥) → (FaceIsAbove f w.plane → ⊥) → ((w.is_high ≡ true × FaceLiesOn f w.plane) ⊎ (w.is_high ≡ true × FaceLiesOn f w.plane → ⊥)) → ⊥
     by_on c a (inl o) = n [] (in_high o.0 o.1)
     by_on c a (inr m) = n (f ∷ []) (stays c a (λ h o. m (h, o)))
 
-    by_above : (Cuts f w.plane → ⊥) → (IsAbove f w.plane ⊎ (IsAbove f w.plane → ⊥)) → ⊥
+    by_above : (Cuts f w.plane → ⊥) → (FaceIsAbove f w.plane ⊎ (FaceIsAbove f w.plane → ⊥)) → ⊥
     by_above c (inl a) = n [] (outside a)
-    by_above c (inr a) = either (w.is_high ≡ true × LiesOn f w.plane) (by_on c a)
+    by_above c (inr a) = either (w.is_high ≡ true × FaceLiesOn f w.plane) (by_on c a)
 
     by_cut : (Cuts f w.plane ⊎ (Cuts f w.plane → ⊥)) → ⊥
     by_cut (inl c) = n (below f w.plane ∷ []) (cut c)
-    by_cut (inr c) = either (IsAbove f w.plane) (by_above c)
+    by_cut (inr c) = either (FaceIsAbove f w.plane) (by_above c)
 
-at_blade : (b : Blade) (f : Face) → ((fs : List Face) → AtBlade b f fs → ⊥) → ⊥
+at_blade : (b : CuttingPlane) (f : Face) → ((fs : List Face) → AtCuttingPlane b f fs → ⊥) → ⊥
 at_blade b f n = either (Meets f b.face × Cuts f b.plane) by
   where
     by : ((Meets f b.face × Cuts f b.plane) ⊎ (Meets f b.face × Cuts f b.plane → ⊥)) → ⊥
@@ -52,7 +52,7 @@ some_chain f (x ∷ xs) a n = f x a (λ b r. some_chain f xs b (λ c k. n c (ste
 -- ---- regions
 some_regions : (c : Cell) (ts : List Tri) (i : ℕ) → ((fs : List Face) → IsRegions c ts i fs → ⊥) → ⊥
 some_regions c ts i n =
-    some_chain (λ w fs. some_each (at_wall w) fs) (walls c) (elim (is_flat (tri_at ts i)) [ true ↦ [] | false ↦ face_of (tri_at ts i) ∷ [] ]) (λ start s. some_chain (λ b fs. some_each (at_blade b) fs) (blades ts i) start (λ fs k. n fs (record { start = start; is_start = s; cuts = k })))
+    some_chain (λ w fs. some_each (at_wall w) fs) (walls c) (elim (is_flat (tri_at ts i)) [ true ↦ [] | false ↦ face_of (tri_at ts i) ∷ [] ]) (λ start s. some_chain (λ b fs. some_each (at_blade b) fs) (cutting_planes ts i) start (λ fs k. n fs (record { start = start; is_start = s; cuts = k })))
 
 all_unowned : (scene : List Tri) (f : Formula) (near : List Tri) (i : ℕ) (fs : List Face) → Every (λ g. IsOwner near i g → ⊥) fs → Each (AtRegion scene f near i) fs []
 all_unowned scene f near i [] h = none

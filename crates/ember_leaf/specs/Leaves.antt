@@ -6,8 +6,8 @@ use Rattle.ember_model.specs.declared.face.Face.{Face}
 use Rattle.ember_model.specs.Planes.{support_of}
 use Rattle.ember_model.specs.Faces.{is_flat}
 use Rattle.ember_box.specs.Near.{tri_at}
-use Rattle.ember_trace.specs.declared.facet.Facet.{Facet}
-use Rattle.ember_trace.specs.Facets.{tri_of}
+use Rattle.ember_trace.specs.declared.near_triangle.NearTriangle.{NearTriangle}
+use Rattle.ember_trace.specs.NearTriangles.{tri_of}
 use Rattle.ember_leaf.specs.declared.kept.Kept.{Kept}
 
 -- in the plane of a triangle that is not flat
@@ -22,7 +22,7 @@ pub record IsKeptOf (t : Tri) (i : ℕ) (k : Kept) : Type 0 where
 
 -- a region of a triangle of the list
 pub record IsPlaced (ts : List Tri) (k : Kept) : Type 0 where
-  pub place : k.tri < length ts
+  pub index : k.tri < length ts
   pub region : IsRegionOf (tri_at ts k.tri) k.ring
 
 -- by their triangles in order
@@ -35,5 +35,5 @@ pub record ArePlacedBelow (ts : List Tri) (n : ℕ) (ks : List Kept) : Type 0 wh
   pub placed : ArePlaced ts ks
   pub below : All (λ k. k.tri < n) ks
 
-abbrev pub tris_of : List Facet → List Tri
+abbrev pub tris_of : List NearTriangle → List Tri
 tris_of fs = map tri_of fs

@@ -1,7 +1,9 @@
-pub mod Blades
+pub mod Contact
+pub mod Cutters
+pub mod LeafBoxes
 pub mod Leaves
 pub mod Lower
-pub mod Pairs
+pub mod TriRelations
 pub mod Scenes
 pub mod Walls
 pub mod Written

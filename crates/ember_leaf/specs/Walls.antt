@@ -8,14 +8,14 @@ use Rattle.ember_model.specs.declared.plane.Plane.{Plane}
 use Rattle.ember_model.specs.declared.face.Face.{Face}
 use Rattle.ember_model.specs.Planes.{opposite}
 use Rattle.ember_model.specs.Faces.{is_flat, face_of, Contains}
-use Rattle.ember_box.specs.declared.spans.Span.{Span}
-use Rattle.ember_box.specs.declared.spans.Spans.{Spans}
+use Rattle.ember_box.specs.declared.aabb.Interval.{Interval}
+use Rattle.ember_box.specs.declared.aabb.Aabb.{Aabb}
 use Rattle.ember_box.specs.Regions.{level, AtWall}
 use Rattle.ember_box.specs.Regions as regions
 use Rattle.ember_poly.specs.Cuts.{HasInside}
 use Rattle.ember_leaf.specs.declared.wall.Wall.{Wall}
-use Rattle.ember_leaf.specs.declared.start.Stay.{Stay}
-use Rattle.ember_leaf.specs.declared.start.Stay.TheVariants.{Whole, Nothing, Untold}
+use Rattle.ember_leaf.specs.declared.clip.Remainder.{Remainder}
+use Rattle.ember_leaf.specs.declared.clip.Remainder.TheVariants.{Whole, Nothing, Unknown}
 use Rattle.ember_leaf.specs.Leaves.{IsRegionOf}
 
 -- the wall as a plane that is negative in the box
@@ -23,10 +23,10 @@ abbrev pub wall_of : Wall → regions.Wall
 wall_of w =
     record { plane = if w.is_high then level w.axis w.at else opposite (level w.axis w.at); is_high = w.is_high }
 
-abbrev pub span_along : Spans → Axis → Span
-span_along b X = b.x
-span_along b Y = b.y
-span_along b Z = b.z
+abbrev pub interval_along : Aabb → Axis → Interval
+interval_along b X = b.x
+interval_along b Y = b.y
+interval_along b Z = b.z
 
 -- a plane by its normal's entry along an axis and its constant
 abbrev pub level_by : Axis → ℤ → ℤ → Plane
@@ -40,24 +40,24 @@ pub record IsPartOf (t : Tri) (f : Face) : Type 0 where
   pub within : Contains (face_of t) f
   pub somewhere : HasInside f
 
--- what a span tells of a low wall and of a high one
-abbrev pub IsLowStay : Span → ℤ → Stay → Type 0
-IsLowStay s at Whole = at ≤ℤ s.low
-IsLowStay s at Nothing = (s.low <ℤ at) × (s.high ≤ℤ at)
-IsLowStay s at Untold = Unit {0}
+-- what an interval says of a low wall and of a high one
+abbrev pub IsLowRemainder : Interval → ℤ → Remainder → Type 0
+IsLowRemainder s at Whole = at ≤ℤ s.low
+IsLowRemainder s at Nothing = (s.low <ℤ at) × (s.high ≤ℤ at)
+IsLowRemainder s at Unknown = Unit {0}
 
-abbrev pub IsHighStay : Span → ℤ → Stay → Type 0
-IsHighStay s at Whole = (s.low <ℤ at) × (s.high ≤ℤ at)
-IsHighStay s at Nothing = at ≤ℤ s.low
-IsHighStay s at Untold = Unit {0}
+abbrev pub IsHighRemainder : Interval → ℤ → Remainder → Type 0
+IsHighRemainder s at Whole = (s.low <ℤ at) × (s.high ≤ℤ at)
+IsHighRemainder s at Nothing = at ≤ℤ s.low
+IsHighRemainder s at Unknown = Unit {0}
 
 -- what the bounding box of t tells of a wall and the parts of t
-abbrev pub IsStay : regions.Wall → Tri → Stay → Type 0
-IsStay w t Whole = (f : Face) → IsPartOf t f → AtWall w f (f ∷ [])
-IsStay w t Nothing = (f : Face) → IsPartOf t f → AtWall w f []
-IsStay w t Untold = Unit {0}
+abbrev pub IsRemainder : regions.Wall → Tri → Remainder → Type 0
+IsRemainder w t Whole = (f : Face) → IsPartOf t f → AtWall w f (f ∷ [])
+IsRemainder w t Nothing = (f : Face) → IsPartOf t f → AtWall w f []
+IsRemainder w t Unknown = Unit {0}
 
 -- what the walls, one after another, leave of t: one face, or none
-abbrev pub IsLeft : List regions.Wall → Tri → List Face → Type 0
-IsLeft ws t fs =
+abbrev pub IsClippedBy : List regions.Wall → Tri → List Face → Type 0
+IsClippedBy ws t fs =
     Chain (λ w. Each (AtWall w)) ws (elim (is_flat t) [ true ↦ [] | false ↦ face_of t ∷ [] ]) fs

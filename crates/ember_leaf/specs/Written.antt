@@ -14,6 +14,7 @@ use Rattle.ember_expr.specs.Truth.{truth}
 use Rattle.ember_box.specs.Boxes.{Cell}
 use Rattle.ember_box.specs.Reference.{Fits}
 use Rattle.ember_box.specs.Regions.{IsRegions}
+use Rattle.ember_leaf.specs.Cutters.{Without}
 use Rattle.ember_leaf.specs.declared.kept.Kept.{Kept}
 
 -- the winding numbers in front of a region, of those before and after it along its main axis
@@ -37,11 +38,11 @@ pub record AreRegionsWritten (scene : List Tri) (f : Formula) (c : Cell) (near :
 
 -- a triangle before triangle i, in its plane, contains its face, and so owns all its regions
 pub record IsCovered (near : List Tri) (i : ℕ) : Type 0 where
-  pub place : ℕ
+  pub index : ℕ
   pub cover : Tri
   pub own : Tri
-  pub before : place < i
-  pub here : slice_get near place ≡ Some cover
+  pub before : index < i
+  pub here : slice_get near index ≡ Some cover
   pub there : slice_get near i ≡ Some own
   pub coplanar : is_coplanar cover own ≡ true
   pub contains : Contains (face_of cover) (face_of own)
@@ -58,17 +59,23 @@ IsWrittenIn scene f c near ks =
 
 -- what the expression says of a region with these winding numbers before and after it: nothing, or
 -- whether it holds in front
-abbrev pub IsTurn : Formula → Face → List ℤ → List ℤ → Option Bool → Type 0
-IsTurn f face before after None = truth before f ≡ truth after f
-IsTurn f face before after (Some flipped) =
+abbrev pub IsFlip : Formula → Face → List ℤ → List ℤ → Option Bool → Type 0
+IsFlip f face before after None = truth before f ≡ truth after f
+IsFlip f face before after (Some flipped) =
     (truth before f ≢ truth after f) × (flipped ≡ truth (front face before after) f)
 
 -- in each scene that fits what is known at the box
 abbrev pub WhereFits : List Tri → Cell → List ℤ → (List Tri → List Kept → Type 0) → List Kept → Type 0
 WhereFits near c counts R ks = (scene : List Tri) → Fits scene near c counts → R scene ks
 
--- the list has grown by regions with the property
-pub record HasGrown (P : List Kept → Type 0) (old new : List Kept) : Type 0 where
-  pub more : List Kept
+-- the list has grown by members that have the property together
+pub record HasGrown {X : Type 0} (P : List X → Type 0) (old new : List X) : Type 0 where
+  pub more : List X
   pub is : new ≡ old ++ more
   pub holds : P more
+
+-- the regions of triangle i that it owns
+pub record AreOwned (c : Cell) (near : List Tri) (i : ℕ) (fs : List Face) : Type 0 where
+  pub all : List Face
+  pub are_regions : IsRegions c near i all
+  pub owned : Without (λ f. IsOwner near i f → ⊥) (IsOwner near i) all fs

@@ -1,11 +1,10 @@
 // The values of a plane at the corners of a triangle.
 ghost use Rattle.std.specs.Prelude.{◌≡◌, not, ◌&&◌};
 ghost use Rattle.ember_algebra.specs.Sign.{is_negative, is_zero, is_positive};
-ghost use Rattle.ember_model.specs.Valid.{IsValidCorner, IsValidTri};
-ghost use Rattle.ember_model.specs.Sizes.{IsSupportSized};
+ghost use Rattle.ember_model.specs.Valid.{IsValidCorner, IsValidPlane, IsValidTri};
 ghost use Rattle.ember_model.specs.Planes.{value_at};
-ghost use Rattle.ember_model.specs.Owners.{spot_at};
-ghost use Rattle.ember_leaf.specs.Pairs.{heights_of, none_behind, none_in_front, all_behind, all_in_front, all_on};
+ghost use Rattle.ember_model.specs.Owners.{spot_of_corner};
+ghost use Rattle.ember_leaf.specs.TriRelations.{heights_of, none_behind, none_in_front, all_behind, all_in_front, all_on};
 
 use ember_model::{Corner, Plane, Tri};
 
@@ -19,16 +18,16 @@ pub struct Heights {
 
 #[tactic(none)]
 fn height(p: &Plane, u: &Corner) -> i64
-    requires plane { IsSupportSized p.now }
+    requires plane { IsValidPlane p.now }
     requires corner { IsValidCorner u.now }
-    ensures { result ≡ value_at p.now (spot_at u.now) }
+    ensures { result ≡ value_at p.now (spot_of_corner u.now) }
 {
     p.a * u.x as i64 + p.b * u.y as i64 + p.c * u.z as i64 - p.d
 }
 
 /// Those of a triangle.
 pub fn heights_of(p: &Plane, t: &Tri) -> Heights
-    requires plane { IsSupportSized p.now }
+    requires plane { IsValidPlane p.now }
     requires tri { IsValidTri t.now }
     ensures { result ≡ heights_of p.now t.now }
 {
@@ -39,7 +38,8 @@ pub fn heights_of(p: &Plane, t: &Tri) -> Heights
     }
 }
 
-fn is_behind(height: i64) -> bool
+/// The height of a point behind the plane.
+pub fn is_behind(height: i64) -> bool
     ensures { result ≡ is_negative height }
 {
     height < 0

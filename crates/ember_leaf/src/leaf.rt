@@ -1,54 +1,38 @@
 // The written regions of a leaf.
-ghost use Rattle.std.specs.Prelude.{◌≡◌, List, true, false, ◌≤◌, ◌<◌, ◌+◌, map, length, All, IfOk, IfSome, OnOk, option_to_list};
+ghost use Rattle.std.specs.Prelude.{◌≡◌, List, ◌≤◌, ◌<◌, ◌+◌, map, length, All};
+ghost use Rattle.std.specs.Prelude.{IfOk, IfSome, OnOk, option_to_list};
 ghost use Rattle.ember_model.specs.Valid.{IsValidTri};
+ghost use Rattle.ember_model.specs.Owners.{IsOwner};
 ghost use Rattle.ember_model.specs.Meshes.{HasMesh};
 ghost use Rattle.ember_box.specs.Near.{tri_at};
 ghost use Rattle.ember_model.specs.declared.tri.Tri.{Tri as Corners};
 ghost use Rattle.ember_box.specs.Reference.{Fits};
-ghost use Rattle.ember_box.specs.Spans.{spans_of};
-ghost use Rattle.ember_box.specs.Regions.{IsRegions, walls as box_walls};
+ghost use Rattle.ember_box.specs.Aabbs.{aabb_of_cell};
+ghost use Rattle.ember_box.specs.Regions.{walls as box_walls};
 ghost use Rattle.ember_leaf.specs.Walls.{wall_of};
-ghost use Rattle.ember_coplanar.specs.Lying.{LiesOn};
-ghost use Rattle.ember_trace.specs.Facets.{StartsIn, AreBoxCounts, AreSideCounts};
+ghost use Rattle.ember_trace.specs.NearTriangles.{HasReferenceSide, AreBoxCounts, AreSideCounts};
 ghost use Rattle.ember_trace.specs.Boxed.{LiesIn};
 ghost use Rattle.ember_algebra.specs.Sign.{is_positive};
 ghost use Rattle.ember_model.specs.Planes.{along, main_axis};
-ghost use Rattle.ember_model.specs.Faces.{face_of, Contains};
 ghost use Rattle.ember_expr.specs.Formula.{formula_of};
-ghost use Rattle.ember_leaf.specs.Written.{IsTurn, AtRegion, IsWrittenOf, IsWrittenIn, WhereFits, HasGrown};
-ghost use Rattle.ember_leaf.specs.Lower.{TellsOwner};
-ghost use Rattle.ember_leaf.specs.Pairs.{IsLower, HasHolder};
+ghost use Rattle.ember_leaf.specs.Written.{IsFlip, IsWrittenIn, AreOwned};
+ghost use Rattle.ember_leaf.specs.LeafBoxes.{WritesRegion, AddsWritten};
 ghost use Rattle.ember_leaf.specs.Leaves.{IsRegionOf, IsKeptOf, ArePlaced, ArePlacedBelow, tris_of};
 
+use crate::clip::{clip_to_box, common_spans, is_outside, walls};
+use crate::cutter::Cutter;
+use crate::cutters::find_cutters;
 use crate::heights::is_in_front;
 use crate::kept::{Kept, KeptList};
-use crate::pairs::is_flat;
 use crate::regions::regions;
-use crate::rivals::Rivals;
-use crate::start::{common_spans, is_outside, start, walls};
+use crate::relation::is_flat;
 use crate::wall::Wall;
-use ember_box::{Cell, Spans, spans_of};
-use ember_coplanar::contains;
+use ember_box::{Aabb, Cell, aabb_of_cell};
 use ember_expr::{Expr, value};
 use ember_model::{Axis, OutOfMemory, Plane, Tri, Vector, main_axis};
 use ember_poly::{Ring, support};
-use ember_trace::{Facet, Sides, facets, sides_beside};
+use ember_trace::{NearTriangle, Sides, near_triangles, sides_beside};
 use std::alloc::Global;
-
-// None of the triangles contains the region.
-fn is_free(lower: &[Tri], r: &Ring) -> bool
-    requires valid { All IsValidTri lower.now }
-    requires plane { All (λ t. LiesOn t r.now) lower.now }
-    ensures free { result ≡ true → All (λ t. Contains (face_of t) r.now → ⊥) lower.now }
-    ensures held { result ≡ false → HasHolder lower.now r.now }
-{
-    for t in lower {
-        if contains(t, r) {
-            return false;
-        }
-    }
-    true
-}
 
 // The plane's front is on the side to which its main axis points.
 fn faces_on(p: &Plane) -> bool
@@ -62,10 +46,10 @@ fn faces_on(p: &Plane) -> bool
 }
 
 // None where the expression has one value on both sides. Else whether it holds in front.
-fn turn_of(e: &Expr, sides: &Sides, r: &Ring) -> Option<bool>
+fn flip_of(e: &Expr, sides: &Sides, r: &Ring) -> Option<bool>
     requires before { AreSideCounts sides.now.before.counts }
     requires after { AreSideCounts sides.now.after.counts }
-    ensures { IsTurn (formula_of e.now) r.now sides.now.before.counts sides.now.after.counts result }
+    ensures { IsFlip (formula_of e.now) r.now sides.now.before.counts sides.now.after.counts result }
 {
     let before = value(e, &sides.before);
     let after = value(e, &sides.after);
@@ -83,30 +67,26 @@ fn turn_of(e: &Expr, sides: &Sides, r: &Ring) -> Option<bool>
 struct Leaf<'a> {
     expr: &'a Expr,
     cell: &'a Cell,
-    spans: &'a Spans,
-    near: &'a [Facet],
+    aabb: &'a Aabb,
+    near: &'a [NearTriangle],
     at: &'a Vector,
 }
 
 impl Leaf<'_> {
     // The region as it is written, if it is.
-    fn kept(&self, i: usize, lower: &[Tri], ring: Ring) -> Option<Kept>
+    fn kept(&self, i: usize, ring: Ring) -> Option<Kept>
         requires few { length self.now.near.now ≤ 262144 }
         requires counts { AreBoxCounts self.now.at.now.counts }
-        requires place { i < length self.now.near.now }
-        requires lower { All (IsLower (tri_at (tris_of self.now.near.now) i)) lower.now }
+        requires index { i < length self.now.near.now }
         requires region { IsRegionOf (tri_at (tris_of self.now.near.now) i) ring }
-        requires starts { All (StartsIn self.now.cell.now) self.now.near.now }
+        requires starts { All (HasReferenceSide self.now.cell.now) self.now.near.now }
         requires inside { LiesIn self.now.cell.now ring }
-        requires owner { TellsOwner lower.now (tris_of self.now.near.now) i ring }
+        requires owner { IsOwner (tris_of self.now.near.now) i ring }
         ensures placed { IfSome result (IsKeptOf (tri_at (tris_of self.now.near.now) i) i) }
-        ensures written { WhereFits (tris_of self.now.near.now) self.now.cell.now self.now.at.now.counts (λ scene. AtRegion scene (formula_of self.now.expr.now) (tris_of self.now.near.now) i ring) (option_to_list result) }
+        ensures written { WritesRegion self.now i ring (option_to_list result) }
     {
-        if !is_free(lower, &ring) {
-            return None;
-        }
         let sides = sides_beside(self.near, self.cell, self.at, &ring);
-        match turn_of(self.expr, &sides, &ring) {
+        match flip_of(self.expr, &sides, &ring) {
             Some(flipped) => Some(Kept {
                 tri: i as u32,
                 flipped,
@@ -116,29 +96,22 @@ impl Leaf<'_> {
         }
     }
 
-    // Adds the written ones of the regions of triangle `i`.
-    fn keep(
-        &self,
-        list: Vec<Ring>,
-        i: usize,
-        lower: &[Tri],
-        kept: &mut Vec<Kept>,
-    ) -> Result<(), OutOfMemory>
+    // Adds the written ones of the regions that triangle `i` owns.
+    fn keep(&self, list: Vec<Ring>, i: usize, kept: &mut Vec<Kept>) -> Result<(), OutOfMemory>
         requires few { length self.now.near.now ≤ 262144 }
         requires counts { AreBoxCounts self.now.at.now.counts }
-        requires place { i < length self.now.near.now }
-        requires lower { All (IsLower (tri_at (tris_of self.now.near.now) i)) lower.now }
+        requires index { i < length self.now.near.now }
         requires plane { All (IsRegionOf (tri_at (tris_of self.now.near.now) i)) list.items }
-        requires regions { IsRegions self.now.cell.now (tris_of self.now.near.now) i list.items }
-        requires starts { All (StartsIn self.now.cell.now) self.now.near.now }
+        requires regions { AreOwned self.now.cell.now (tris_of self.now.near.now) i list.items }
+        requires starts { All (HasReferenceSide self.now.cell.now) self.now.near.now }
         requires inside { All (LiesIn self.now.cell.now) list.items }
-        requires owners { All (TellsOwner lower.now (tris_of self.now.near.now) i) list.items }
+        requires owners { All (IsOwner (tris_of self.now.near.now) i) list.items }
         requires kept { ArePlacedBelow (tris_of self.now.near.now) (i + 1) kept.old.items }
         ensures placed { OnOk result (ArePlacedBelow (tris_of self.now.near.now) (i + 1) kept.new.items) }
-        ensures written { OnOk result (HasGrown (WhereFits (tris_of self.now.near.now) self.now.cell.now self.now.at.now.counts (λ scene. IsWrittenOf scene (formula_of self.now.expr.now) self.now.cell.now (tris_of self.now.near.now) i)) kept.old.items kept.new.items) }
+        ensures written { OnOk result (AddsWritten self.now i kept.old.items kept.new.items) }
     {
         for ring in list {
-            if let Some(k) = self.kept(i, lower, ring) {
+            if let Some(k) = self.kept(i, ring) {
                 kept.push(k)?;
             }
         }
@@ -146,35 +119,35 @@ impl Leaf<'_> {
     }
 
     // Adds the written regions of triangle `i`.
-    fn keep_of(
+    fn write_triangle(
         &self,
         alloc: Global,
         walls: &[Wall],
         i: usize,
-        rivals: &mut Rivals,
+        cutters: &mut Vec<Cutter>,
         kept: &mut Vec<Kept>,
     ) -> Result<(), OutOfMemory>
         requires few { length self.now.near.now ≤ 262144 }
         requires counts { AreBoxCounts self.now.at.now.counts }
-        requires place { i < length self.now.near.now }
+        requires index { i < length self.now.near.now }
         requires walls { map wall_of walls.now ≡ box_walls self.now.cell.now }
-        requires spans { self.now.spans.now ≡ spans_of self.now.cell.now }
-        requires starts { All (StartsIn self.now.cell.now) self.now.near.now }
+        requires aabb { self.now.aabb.now ≡ aabb_of_cell self.now.cell.now }
+        requires starts { All (HasReferenceSide self.now.cell.now) self.now.near.now }
         requires kept { ArePlacedBelow (tris_of self.now.near.now) (i + 1) kept.old.items }
         ensures placed { OnOk result (ArePlacedBelow (tris_of self.now.near.now) (i + 1) kept.new.items) }
-        ensures written { OnOk result (HasGrown (WhereFits (tris_of self.now.near.now) self.now.cell.now self.now.at.now.counts (λ scene. IsWrittenOf scene (formula_of self.now.expr.now) self.now.cell.now (tris_of self.now.near.now) i)) kept.old.items kept.new.items) }
+        ensures written { OnOk result (AddsWritten self.now i kept.old.items kept.new.items) }
     {
         let own = &self.near[i];
         if is_flat(own) || is_outside(walls, own) {
             return Ok(());
         }
-        let bounds = common_spans(&own.spans, self.spans);
-        if rivals.find(own, &bounds, self.near, i)? {
+        let bounds = common_spans(&own.aabb, self.aabb);
+        if find_cutters(cutters, own, &bounds, self.near, i)? {
             return Ok(());
         }
-        if let Some(ring) = start(alloc, own, walls)? {
-            let list = regions(alloc, ring, &rivals.blades)?;
-            self.keep(list, i, &rivals.lower, kept)?;
+        if let Some(ring) = clip_to_box(alloc, own, walls)? {
+            let list = regions(alloc, ring, cutters)?;
+            self.keep(list, i, kept)?;
         }
         Ok(())
     }
@@ -196,20 +169,20 @@ pub fn leaf_faces(
     ensures placed { IfOk result (λ ks. ArePlaced near.now ks) }
     ensures written { IfOk result (λ ks. (scene : List Corners) → Fits scene near.now c.now v.now.counts → IsWrittenIn scene (formula_of e.now) c.now near.now ks) }
 {
-    let facets = facets(alloc, near, c)?;
-    let spans = spans_of(c);
+    let near_triangles = near_triangles(alloc, near, c)?;
+    let aabb = aabb_of_cell(c);
     let leaf = Leaf {
         expr: e,
         cell: c,
-        spans: &spans,
-        near: &facets,
+        aabb: &aabb,
+        near: &near_triangles,
         at: v,
     };
     let walls = walls(c);
-    let mut rivals = Rivals::new(alloc);
+    let mut cutters = Vec::new(alloc);
     let mut kept = Vec::new(alloc);
-    for i in 0..facets.len() {
-        leaf.keep_of(alloc, &walls, i, &mut rivals, &mut kept)?;
+    for i in 0..near_triangles.len() {
+        leaf.write_triangle(alloc, &walls, i, &mut cutters, &mut kept)?;
     }
     Ok(KeptList::of(kept))
 }

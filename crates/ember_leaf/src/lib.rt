@@ -2,18 +2,16 @@
 //! another, where a Boolean's value changes.
 #![tactic(auto)]
 
-mod blade;
+mod clip;
+mod contact;
+mod cutter;
+mod cutters;
 mod heights;
 mod kept;
 mod leaf;
-mod pairs;
 mod regions;
-mod rivals;
-mod start;
+mod relation;
 mod wall;
 
 pub use kept::{Kept, KeptList};
 pub use leaf::leaf_faces;
-
-#[cfg(test)]
-mod tests;

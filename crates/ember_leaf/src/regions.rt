@@ -1,60 +1,135 @@
-// The regions of a triangle: its start, cut by blade after blade.
-ghost use Rattle.std.specs.Prelude.{◌↔◌, IsTrue, List, [], ◌∷◌, ◌++◌, ◌≤◌, length, take, drop, IfOk, OnOk};
-ghost use Rattle.ember_model.specs.declared.face.Face.{Face};
+// The regions of a triangle: its start, cut by one triangle after another. A region that a triangle of
+// lower number contains is dropped as soon as that triangle has cut, so it costs nothing further.
+ghost use Rattle.std.specs.Prelude.{◌↔◌, IsTrue, [], ◌∷◌, ◌≤◌, length, take, drop};
+ghost use Rattle.std.specs.Prelude.{All, IfOk, OnOk};
+ghost use Rattle.ember_model.specs.Valid.{IsValidPlane};
 ghost use Rattle.ember_model.specs.Faces.{face_of, Meets};
-ghost use Rattle.ember_leaf.specs.Blades.{AreSplit, AreCut, MeetsFirst};
+ghost use Rattle.ember_leaf.specs.Cutters.{AtCutter, AtEdges, AtPlane, AreSplit, AreCut, IsSplitBehind};
+ghost use Rattle.ember_leaf.specs.Cutters.{MeetsFirst, AreLast, ShareAPlane, CanCut};
+ghost use Rattle.ember_poly.specs.Cuts.{HasInside};
+ghost use Rattle.ember_leaf.specs.Written.{HasGrown};
 
-use crate::blade::Blade;
-use ember_model::OutOfMemory;
-use ember_poly::{Reach, Ring, meets_face, parts, reach};
+use crate::contact::{Contact, contact_of};
+use crate::cutter::{Cutter, Role};
+use ember_model::{OutOfMemory, Plane};
+use ember_poly::{Reach, Ring, meets_face, outline, parts, reach};
 use std::alloc::Global;
 
-// Some inside point of the region lies in the closed face of the blade's triangle.
-fn is_met(r: &Ring, b: &Blade) -> bool
-    ensures { IsTrue result ↔ Meets r.now (face_of b.now.tri) }
+// Some inside point of the region lies in the closed face of a triangle of its plane. The triangle's
+// corners decide most pairs, in 64 bits and without computing a meet.
+fn is_met_flat(r: &Ring, c: &Cutter) -> bool
+    requires plane { ShareAPlane c.now.tri r.now }
+    requires somewhere { HasInside r.now }
+    ensures { IsTrue result ↔ Meets r.now (face_of c.now.tri) }
 {
-    meets_face(r, &b.support, &b.edges)
+    match contact_of(outline(r).0, &c.tri) {
+        Contact::Apart => false,
+        Contact::Met => true,
+        Contact::Unknown => meets_face(r, &c.support, &c.edges),
+    }
 }
 
-// How many regions at the front do not meet the blade's triangle.
-fn apart(list: &[Ring], b: &Blade) -> usize
+// Some inside point of the region lies in the closed face of the triangle.
+fn is_met(r: &Ring, c: &Cutter) -> bool
+    requires { CanCut c.now r.now }
+    ensures { IsTrue result ↔ Meets r.now (face_of c.now.tri) }
+{
+    match c.role {
+        Role::Across => meets_face(r, &c.support, &c.edges),
+        _ => is_met_flat(r, c),
+    }
+}
+
+// Length of the leading run of regions that don't meet the triangle.
+fn apart(list: &[Ring], c: &Cutter) -> usize
+    requires { All (CanCut c.now) list.now }
     ensures fits { result ≤ length list.now }
-    ensures whole { AreSplit b.now (take result list.now) (take result list.now) }
-    ensures met { MeetsFirst b.now (drop result list.now) }
+    ensures whole { AreSplit c.now (take result list.now) (take result list.now) }
+    ensures met { MeetsFirst c.now (drop result list.now) }
 {
     for i in 0..list.len() {
-        if is_met(&list[i], b) {
+        if is_met(&list[i], c) {
             return i;
         }
     }
     list.len()
 }
 
-// Adds what a blade leaves of regions, the first of which meets its triangle.
-fn add_parts(
+// Adds the two parts of a region that a plane cuts, or the region itself.
+fn add_sides(alloc: Global, r: Ring, p: &Plane, out: &mut Vec<Ring>) -> Result<(), OutOfMemory>
+    requires { IsValidPlane p.now }
+    ensures { OnOk result (HasGrown (AtPlane p.now r) out.old.items out.new.items) }
+{
+    match reach(&r, p) {
+        Reach::Both => {
+            let (low, high) = parts(alloc, r, p)?;
+            out.push(low)?;
+            out.push(high)?;
+        }
+        _ => out.push(r)?,
+    }
+    Ok(())
+}
+
+// Cuts a region that overlaps the triangle by the rest of its edge planes. Adds the part inside the
+// triangle, unless the triangle owns it, and then the parts outside, the last one cut off first.
+fn add_pieces(
     alloc: Global,
-    list: Vec<Ring>,
-    b: &Blade,
+    r: Ring,
+    c: &Cutter,
+    edges: &[Plane],
     out: &mut Vec<Ring>,
 ) -> Result<(), OutOfMemory>
-    requires { MeetsFirst b.now list.items }
-    ensures { OnOk result ((front : List Face) → AreSplit b.now front out.old.items → AreSplit b.now (front ++ list.items) out.new.items) }
+    requires valid { All IsValidPlane edges.now }
+    requires last { AreLast c.now.tri edges.now r }
+    ensures { OnOk result (HasGrown (AtEdges c.now edges.now r) out.old.items out.new.items) }
+{
+    match edges {
+        [] => match c.role {
+            Role::Owner => {}
+            _ => out.push(r)?,
+        },
+        [p, rest @ ..] => match reach(&r, p) {
+            Reach::Both => {
+                let (low, high) = parts(alloc, r, p)?;
+                add_pieces(alloc, low, c, rest, out)?;
+                out.push(high)?;
+            }
+            _ => add_pieces(alloc, r, c, rest, out)?,
+        },
+    }
+    Ok(())
+}
+
+// Adds what a triangle leaves of a region that meets it.
+fn add_cut(alloc: Global, r: Ring, c: &Cutter, out: &mut Vec<Ring>) -> Result<(), OutOfMemory>
+    requires met { Meets r (face_of c.now.tri) }
+    requires plane { CanCut c.now r }
+    ensures { OnOk result (HasGrown (AtCutter c.now r) out.old.items out.new.items) }
+{
+    match c.role {
+        Role::Across => add_sides(alloc, r, &c.support, out),
+        _ => add_pieces(alloc, r, c, &c.edges, out),
+    }
+}
+
+// Adds what a triangle leaves of regions, the first of which meets it.
+fn add_all(
+    alloc: Global,
+    list: Vec<Ring>,
+    c: &Cutter,
+    out: &mut Vec<Ring>,
+) -> Result<(), OutOfMemory>
+    requires met { MeetsFirst c.now list.items }
+    requires plane { All (CanCut c.now) list.items }
+    ensures { OnOk result (IsSplitBehind c.now list.items out.old.items out.new.items) }
 {
     let mut is_first = true;
     for r in list {
-        let is_cut = is_first || is_met(&r, b);
+        let is_cut = is_first || is_met(&r, c);
         is_first = false;
         if is_cut {
-            match reach(&r, &b.plane) {
-                Reach::Both => {
-                    let (x, y) = parts(alloc, r, &b.plane)?;
-                    out.push(x)?;
-                    out.push(y)?;
-                }
-                _ => {
-                    out.push(r)?;
-                }
-            }
+            add_cut(alloc, r, c, out)?;
         } else {
             out.push(r)?;
         }
@@ -62,27 +137,30 @@ fn add_parts(
     Ok(())
 }
 
-// One blade cuts each region that meets its triangle.
-fn split_all(alloc: Global, list: Vec<Ring>, b: &Blade) -> Result<Vec<Ring>, OutOfMemory>
-    ensures { IfOk result (λ out. AreSplit b.now list.items out.items) }
+// One triangle cuts each region that meets it.
+fn split_all(alloc: Global, list: Vec<Ring>, c: &Cutter) -> Result<Vec<Ring>, OutOfMemory>
+    requires { All (CanCut c.now) list.items }
+    ensures { IfOk result (λ out. AreSplit c.now list.items out.items) }
 {
     let mut out = list;
-    let place = apart(&out, b);
-    if place < out.len() {
-        let others = out.split_off(place)?;
-        add_parts(alloc, others, b, &mut out)?;
+    let index = apart(&out, c);
+    if index < out.len() {
+        let others = out.split_off(index)?;
+        add_all(alloc, others, c, &mut out)?;
     }
     Ok(out)
 }
 
-/// The regions that the blades leave of a start, in order.
-pub fn regions(alloc: Global, start: Ring, blades: &[Blade]) -> Result<Vec<Ring>, OutOfMemory>
-    ensures { IfOk result (λ out. AreCut blades.now (start ∷ []) out.items) }
+/// Cuts a start by one triangle after another. Returns the regions in order, without those that one of
+/// the triangles owns.
+pub fn regions(alloc: Global, start: Ring, cutters: &[Cutter]) -> Result<Vec<Ring>, OutOfMemory>
+    requires { All (λ c. CanCut c start) cutters.now }
+    ensures { IfOk result (λ out. AreCut cutters.now (start ∷ []) out.items) }
 {
     let mut list = Vec::new(alloc);
     list.push(start)?;
-    for b in blades {
-        list = split_all(alloc, list, b)?;
+    for c in cutters {
+        list = split_all(alloc, list, c)?;
     }
     Ok(list)
 }

@@ -50,7 +50,7 @@ module _ (ts : List Tri) (count : ℕ) (c : Cell) (scene : IsScene ts count) (f 
   main = main_axis f.support
 
   cut_out : IsCutOut (near ts c) t f
-  cut_out = region_cut c (near ts c) r.tri r.place r.regions f r.are_regions r.here
+  cut_out = region_cut c (near ts c) r.tri r.index r.regions f r.are_regions r.here
 
   slope : is_zero (along f.support main) ≡ false
   slope =

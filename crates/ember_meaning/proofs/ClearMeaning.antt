@@ -23,7 +23,7 @@ use Rattle.ember_meaning.proofs.General.{meaning_on_lines}
 use Rattle.ember_meaning.proofs.GeneralLines.{general_line}
 
 -- points directly beside a clear point have its vector
-vector_shifted : (a : Axis) (scene : List Tri) (p : Spot) → pos 0 <ℤ p.w → AreClear (faces_of scene) p → Eventually (λ k. vector a scene p ≡ vector a scene (shifted p (pos k)))
+pub vector_shifted : (a : Axis) (scene : List Tri) (p : Spot) → pos 0 <ℤ p.w → AreClear (faces_of scene) p → Eventually (λ k. vector a scene p ≡ vector a scene (shifted p (pos k)))
 vector_shifted a scene p w c = each meshes
   where
     each : (ms : List ℕ) → Eventually (λ k. map (λ m. wind a (faces_of (of_mesh m scene)) p) ms ≡ map (λ m. wind a (faces_of (of_mesh m scene)) (shifted p (pos k))) ms)

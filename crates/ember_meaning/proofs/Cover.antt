@@ -14,9 +14,9 @@ use Rattle.ember_model.specs.Planes.{value_at}
 use Rattle.ember_model.specs.Faces.{is_inside, Cuts}
 use Rattle.ember_model.proofs.SignTests.{positive_out, zero_out}
 use Rattle.ember_box.specs.Sums.{number}
-use Rattle.ember_box.specs.Regions.{Wall, AtWall, cut, outside, in_high, stays, Blade, AtBlade, splits, whole, IsAbove, LiesOn}
+use Rattle.ember_box.specs.Regions.{Wall, AtWall, cut, outside, in_high, stays, CuttingPlane, AtCuttingPlane, splits, whole, FaceIsAbove, FaceLiesOn}
 use Rattle.ember_trace.proofs.FilledFaces.{fills}
-use Rattle.ember_meaning.proofs.Counted.{IsOff, hits, passes}
+use Rattle.ember_meaning.proofs.CountedPoints.{IsOff, hits, passes}
 use Rattle.ember_meaning.proofs.Parts.{by_tests, not_zero_negative, is_inside-below, is_inside-above, on_support}
 
 -- a plane that cuts a face is no multiple of its support
@@ -24,14 +24,14 @@ pub off : (x : Spot) (f : Face) (p : Plane) → IsOff x f.support p → Cuts f p
 off x f p o c i z =
     ⊎_elim (λ n. n (on_support f x i) z) (λ m. not_zero_negative _ (m.zero c.low.at (on_support f c.low.at c.low.inside)) c.low.holds) o
 
--- ---- a blade keeps the count
+-- ---- a cutting plane keeps the count
 two_parts : (a : Bool) (z : ℤ) → (a ≡ true → is_zero z ≡ true → ⊥) → cond (a && is_negative z) 1 0 + cond (a && is_positive z) 1 0 ≡ cond a 1 0
 two_parts false z n = refl
 two_parts true (pos zero) n = absurd (n refl refl)
 two_parts true (pos (suc k)) n = refl
 two_parts true (negsuc k) n = refl
 
-pub blade_count : (x : Spot) (s : Plane) (b : Blade) → IsOff x s b.plane → (f : Face) (ys : List Face) → f.support ≡ s → AtBlade b f ys → Every (λ g. g.support ≡ s) ys × (hits x ys ≡ cond (is_inside f x) 1 0)
+pub blade_count : (x : Spot) (s : Plane) (b : CuttingPlane) → IsOff x s b.plane → (f : Face) (ys : List Face) → f.support ≡ s → AtCuttingPlane b f ys → Every (λ g. g.support ≡ s) ys × (hits x ys ≡ cond (is_inside f x) 1 0)
 blade_count x s b o f ys e (splits m c) =
     let n = off x f b.plane (subst (λ t. IsOff x t b.plane) (sym e) o) c in
     ((e, (e, tt)), rw (is_inside-below f b.plane x, is_inside-above f b.plane x) (omega (arith, two_parts (is_inside f x) (value_at b.plane x) n)))
@@ -41,12 +41,12 @@ blade_count x s b o f ys e (whole n) = ((e, tt), omega arith)
 abbrev HaveSupport : Plane → List Face → Type 0
 HaveSupport s fs = Every (λ g. g.support ≡ s) fs
 
--- all blades together keep the count
-blades_step : (x : Spot) (s : Plane) (b : Blade) (fs gs : List Face) → IsOff x s b.plane → HaveSupport s fs → Each (AtBlade b) fs gs → HaveSupport s gs × (hits x gs ≡ hits x fs)
+-- all cutting planes together keep the count
+blades_step : (x : Spot) (s : Plane) (b : CuttingPlane) (fs gs : List Face) → IsOff x s b.plane → HaveSupport s fs → Each (AtCuttingPlane b) fs gs → HaveSupport s gs × (hits x gs ≡ hits x fs)
 blades_step x s b fs gs o h r =
     each_count (λ g. is_inside g x) (λ f. cond (is_inside f x) 1 0) (λ f. f.support ≡ s) (λ g. g.support ≡ s) (λ f ys e q. blade_count x s b o f ys e q) r h
 
-pub blades_count : (x : Spot) (s : Plane) (bs : List Blade) (fs gs : List Face) → Every (λ b. IsOff x s b.plane) bs → HaveSupport s fs → Chain (λ b. Each (AtBlade b)) bs fs gs → HaveSupport s gs × (hits x gs ≡ hits x fs)
+pub blades_count : (x : Spot) (s : Plane) (bs : List CuttingPlane) (fs gs : List Face) → Every (λ b. IsOff x s b.plane) bs → HaveSupport s fs → Chain (λ b. Each (AtCuttingPlane b)) bs fs gs → HaveSupport s gs × (hits x gs ≡ hits x fs)
 blades_count x s bs fs gs o h r =
     chain_keeps (λ b. IsOff x s b.plane) (λ a b. HaveSupport s b × (hits x b ≡ hits x a)) fs o (h, refl) (λ b us vs o q r. let k = blades_step x s b us vs o q.0 r in (k.0, k.1 ∙ q.1)) r
 
@@ -107,11 +107,11 @@ all_left true false h = refl
 all_left false false h = refl
 
 -- a face that stays passes the wall at each inside point off it
-stays_passes : (x : Spot) (w : Wall) (f : Face) → IsOff x f.support w.plane → (Cuts f w.plane → ⊥) → (IsAbove f w.plane → ⊥) → (w.is_high ≡ true → LiesOn f w.plane → ⊥) → is_inside f x ≡ true → passes x w ≡ true
+stays_passes : (x : Spot) (w : Wall) (f : Face) → IsOff x f.support w.plane → (Cuts f w.plane → ⊥) → (FaceIsAbove f w.plane → ⊥) → (w.is_high ≡ true → FaceLiesOn f w.plane → ⊥) → is_inside f x ≡ true → passes x w ≡ true
 stays_passes x w f o n a h i =
     by_tests (value_at w.plane x) (λ px. absurd (a (all_above px))) (λ zx. on zx (cases_Bool w.is_high)) (λ m. passes_negative x w m)
   where
-    all_above : is_positive (value_at w.plane x) ≡ true → IsAbove f w.plane
+    all_above : is_positive (value_at w.plane x) ≡ true → FaceIsAbove f w.plane
     all_above px =
         record { holds = λ v hv. by_tests (value_at w.plane v) (λ p. p) (λ z. absurd (n (fills f w.plane x v i hv (positive_out (value_at w.plane x) px) (zero_out (value_at w.plane v) z)))) (λ m. absurd (n (record { low = record { at = v; inside = hv; holds = m }; high = record { at = x; inside = i; holds = px } }))) }
 

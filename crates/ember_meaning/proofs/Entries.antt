@@ -9,17 +9,17 @@ use Rattle.ember_model.specs.declared.tri.Tri.{Tri}
 use Rattle.ember_model.specs.declared.point.Spot.{Spot}
 use Rattle.ember_model.specs.declared.face.Face.{Face}
 use Rattle.ember_model.specs.Faces.{is_inside, is_flat, face_of}
-use Rattle.ember_box.specs.Boxes.{Cell, root, left}
+use Rattle.ember_box.specs.Boxes.{Cell, root, halvings_left}
 use Rattle.ember_box.specs.Near.{near, tri_at}
 use Rattle.ember_box.specs.Halving.{leaves}
 use Rattle.ember_box.specs.Sums.{number}
-use Rattle.ember_box.specs.Regions.{AtWall, AtBlade, walls, blades, IsRegions}
+use Rattle.ember_box.specs.Regions.{AtWall, AtCuttingPlane, walls, cutting_planes, IsRegions}
 use Rattle.ember_expr.specs.Formula.{Formula}
 use Rattle.ember_leaf.specs.declared.kept.Kept.{Kept}
 use Rattle.ember_leaf.specs.Written.{AtRegion, IsWrittenOf}
 use Rattle.ember_leaf.proofs.SomeRegions.{written_by_regions}
 use Rattle.ember_leaf.specs.Scenes.{HasOneValue, LeafGives, regions, nothing}
-use Rattle.ember_meaning.proofs.Counted.{hits, is_in_box, IsFair, IsFairAt, IsFairInAll}
+use Rattle.ember_meaning.proofs.CountedPoints.{hits, is_in_box, IsFair, IsFairAt, IsFairInAll}
 use Rattle.ember_meaning.proofs.Listed.{Entry, entry, IsEntriesOf, IsEntriesIn, IsEntries, has_inside, is_hit_at, Without, ends, keeps, drops}
 use Rattle.ember_meaning.proofs.Leaf.{leaf_count}
 use Rattle.ember_meaning.proofs.Tree.{leaves_count}
@@ -29,14 +29,14 @@ walls_of_none : {fs : List Face} (c : Cell) → (ws : List _) → Chain (λ w. E
 walls_of_none c [] done = refl
 walls_of_none c (w ∷ ws) (step none e) = walls_of_none c ws e
 
-blades_of_none : {fs : List Face} → (bs : List _) → Chain (λ b. Each (AtBlade b)) bs [] fs → fs ≡ []
+blades_of_none : {fs : List Face} → (bs : List _) → Chain (λ b. Each (AtCuttingPlane b)) bs [] fs → fs ≡ []
 blades_of_none [] done = refl
 blades_of_none (b ∷ bs) (step none e) = blades_of_none bs e
 
 flat_none : (c : Cell) (ts : List Tri) (i : ℕ) (fs : List Face) → is_flat (tri_at ts i) ≡ true → IsRegions c ts i fs → fs ≡ []
 flat_none c ts i fs e r =
     let begun = subst (λ b. Chain (λ w. Each (AtWall w)) (walls c) (elim b [ true ↦ [] | false ↦ face_of (tri_at ts i) ∷ [] ]) r.start) e r.is_start in
-    blades_of_none (blades ts i) (subst (λ s. Chain (λ b. Each (AtBlade b)) (blades ts i) s fs) (walls_of_none c (walls c) begun) r.cuts)
+    blades_of_none (cutting_planes ts i) (subst (λ s. Chain (λ b. Each (AtCuttingPlane b)) (cutting_planes ts i) s fs) (walls_of_none c (walls c) begun) r.cuts)
 
 -- ---- the regions of one triangle in one leaf
 abbrev pub is_entry_at : Spot → ℕ → Entry → Bool
@@ -154,7 +154,7 @@ fewer_without p (drops {x = x} {xs = xs} {ys = ys} h w) =
 
 pub one_holds : {P : Cell → Type 0} (scene : List Tri) (cs : List Cell) (x : Spot) → pos 0 ≤ℤ x.w → Without P (leaves scene root) cs → count_by (λ c. is_in_box c x) cs ≤ 1
 one_holds scene cs x w l =
-    at_most (is_in_box root x) (fewer_without (λ c. is_in_box c x) l) (leaves_count scene (left root) root x w)
+    at_most (is_in_box root x) (fewer_without (λ c. is_in_box c x) l) (leaves_count scene (halvings_left root) root x w)
   where
     at_most : {a n : ℕ} (b : Bool) → a ≤ n → n ≡ number b → a ≤ 1
     at_most true h e = omega arith

@@ -20,7 +20,7 @@ use Rattle.ember_model.specs.Valid.{IsValidTri}
 use Rattle.ember_model.specs.Meshes.{IsScene, vector, faces_of}
 use Rattle.ember_algebra.specs.Large.{Eventually}
 use Rattle.ember_expr.specs.Truth.{truth}
-use Rattle.ember_box.specs.Boxes.{root, left}
+use Rattle.ember_box.specs.Boxes.{root, halvings_left}
 use Rattle.ember_box.specs.Halving.{leaves}
 use Rattle.ember_box.specs.Sums.{number}
 use Rattle.ember_ref.proofs.FarTriangles.{inside_closed}
@@ -38,11 +38,11 @@ use Rattle.ember_meaning.proofs.Lines.{seen as counts_ahead}
 use Rattle.ember_text.specs.Documents.{written_face}
 use Rattle.ember_trace.proofs.CutRegions.{IsCutOut, region_cut}
 use Rattle.ember_meaning.specs.Meaning.{one_if}
-use Rattle.ember_meaning.proofs.Counted.{IsFairAt, IsFairInAll, is_in_box}
+use Rattle.ember_meaning.proofs.CountedPoints.{IsFairAt, IsFairInAll, is_in_box}
 use Rattle.ember_meaning.proofs.Listed.{Entry, IsListing, has_inside, is_hit_at, Without, ends, keeps, drops}
 use Rattle.ember_meaning.proofs.Lines.{In, here, there, Fraction, is_below, key, is_hit, is_tri_hit, tri_key, tri_hits, Placed, onward, beyond}
 use Rattle.ember_meaning.specs.Meaning.{IsFalseOutside, HasMeaning}
-use Rattle.ember_meaning.proofs.Regular.{place, SomeHit, IsGeneralAt, IsRegular, HaveMeaningOnLines}
+use Rattle.ember_meaning.proofs.Regular.{hit_point, SomeHit, IsGeneralAt, IsRegular, HaveMeaningOnLines}
 use Rattle.ember_meaning.proofs.Entries.{one_holds, Listed, listing}
 use Rattle.ember_law.proofs.Vectors.{axes_law}
 use Rattle.ember_meaning.proofs.Fractions.{fractions_order}
@@ -53,7 +53,7 @@ use Rattle.ember_meaning.proofs.Owners.{first as first_only}
 use Rattle.ember_meaning.proofs.Tree.{leaves_count}
 use Rattle.ember_meaning.proofs.Steps.{before_place, after_place}
 use Rattle.ember_meaning.proofs.Beside.{before_is, after_is}
-use Rattle.ember_meaning.proofs.Held.{has_point, in_root, all_in, lost, none_both}
+use Rattle.ember_meaning.proofs.LeafOfHit.{has_point, in_root, all_in, lost, none_both}
 use Rattle.ember_meaning.proofs.Turned.{key-turned, is_hit-turned}
 
 -- ---- members
@@ -85,7 +85,7 @@ module _ (scene : List Tri) (cs : List Cell) (e : Entry) (o : IsOf scene cs e) w
   tri_in = of_filter (λ t. is_near e.cell t) scene tri_of (in_at (near scene e.cell) e.tri o.below)
 
   cut_out : IsCutOut (near scene e.cell) tri_of e.face
-  cut_out = region_cut e.cell (near scene e.cell) e.tri o.place o.faces e.face o.are_regions o.here
+  cut_out = region_cut e.cell (near scene e.cell) e.tri o.index o.faces e.face o.are_regions o.here
 
   same_support : e.face.support ≡ (face_of tri_of).support
   same_support = cut_out.support ∙ sym (support_is tri_of)
@@ -145,12 +145,12 @@ module _ (scene : List Tri) (x : Formula) (ks : List Kept) (cs : List Cell) (es 
         first_owner = λ e j h least. owned scene cs at e (of e j) h (fair_at e j) least;
         beside = λ e before after j h s.
             let o = of e j in let n = slope e j h in
-            let r : IsRegion (near scene e.cell) e.cell e.face = record { tri = e.tri; regions = o.faces; are_regions = o.are_regions; place = o.place; here = o.here } in
+            let r : IsRegion (near scene e.cell) e.cell e.face = record { tri = e.tri; regions = o.faces; are_regions = o.are_regions; index = o.index; here = o.here } in
             (before_is scene count e.cell valid e.face r x before after s at h k n (onward_seen) seen_before g.clear_before, after_is scene count e.cell valid e.face r x before after s at h k n (beyond_seen) seen_after g.clear_after);
       }
     where
       at : Spot
-      at = place scene x k p cs es t
+      at = hit_point scene x k p cs es t
 
       listed_fair : IsFairInAll scene cs at
       listed_fair = every_without (λ c. IsFairAt scene at c) l.listed g.fair
@@ -208,8 +208,8 @@ module _ (scene : List Tri) (x : Formula) (ks : List Kept) (cs : List Cell) (es 
       near_hit c j h =
           let n = near_point c t at flat (has_point c at positive h) closed in
           let q = stands (near scene c) t (to_filter (λ u. is_near c u) scene t tri n) in
-          let e = get_or_from_slice_get (near scene c) q.place t no_tri q.is in
-          record { tri = q.place; is_hit = any_in (λ d. is_in_box d at && has_inside (near scene d) q.place at) cs c j (and_from (is_in_box c at) (has_inside (near scene c) q.place at) h (and_from (nat_lt q.place (length (near scene c))) (not (is_flat (tri_at (near scene c) q.place)) && is_inside (face_of (tri_at (near scene c) q.place)) at) (lt-ltb q.place (length (near scene c)) q.below) (subst (λ u. (not (is_flat u) && is_inside (face_of u) at) ≡ true) (sym e) (and_from (not (is_flat t)) (is_inside (face_of t) at) (ap not flat) held.1)))) }
+          let e = get_or_from_slice_get (near scene c) q.index t no_tri q.is in
+          record { tri = q.index; is_hit = any_in (λ d. is_in_box d at && has_inside (near scene d) q.index at) cs c j (and_from (is_in_box c at) (has_inside (near scene c) q.index at) h (and_from (nat_lt q.index (length (near scene c))) (not (is_flat (tri_at (near scene c) q.index)) && is_inside (face_of (tri_at (near scene c) q.index)) at) (lt-ltb q.index (length (near scene c)) q.below) (subst (λ u. (not (is_flat u) && is_inside (face_of u) at) ≡ true) (sym e) (and_from (not (is_flat t)) (is_inside (face_of t) at) (ap not flat) held.1)))) }
 
       one_value : (c : Cell) → HasOneValue scene x c → is_in_box c at ≡ true → truth onward_seen x ≡ truth beyond_seen x
       one_value c v h =
@@ -223,7 +223,7 @@ module _ (scene : List Tri) (x : Formula) (ks : List Kept) (cs : List Cell) (es 
       by : (list_any (λ c. is_in_box c at) cs ≡ true) ⊎ (list_any (λ c. is_in_box c at) cs ≡ false) → SomeHit scene x k p cs es t ⊎ (((j : ℕ) → is_hit_at scene cs at j ≡ false) × (truth onward_seen x ≡ truth beyond_seen x))
       by (inl h) = let q = passing (λ c. is_in_box c at) cs h in inl (near_hit q.at q.member q.holds)
       by (inr h) =
-          let q = lost (λ c. is_in_box c at) l.listed (some (leaves_count scene (left root) root at weight) (in_root t at (all_in (λ u. IsValidTri u) scene t valid.valid tri) flat closed positive)) h in
+          let q = lost (λ c. is_in_box c at) l.listed (some (leaves_count scene (halvings_left root) root at weight) (in_root t at (all_in (λ u. IsValidTri u) scene t valid.valid tri) flat closed positive)) h in
           inr (λ j. none_both (λ c. is_in_box c at) (λ c. has_inside (near scene c) j at) cs h, one_value q.at q.has q.holds)
         where
           some : {n : ℕ} {b : Bool} → n ≡ number b → b ≡ true → 0 < n

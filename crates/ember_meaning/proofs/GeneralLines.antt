@@ -25,7 +25,7 @@ use Rattle.ember_model.specs.Meshes.{faces_of}
 use Rattle.ember_model.proofs.Hits.{value_ray, ray_weight}
 use Rattle.ember_model.proofs.PlaneValues.{value_hit}
 use Rattle.ember_model.proofs.SignTests.{clash, zero_out, nonzero_out, zero_scaled, zero_times, size_positive, positive_out}
-use Rattle.ember_law.proofs.Flats.{flat_in}
+use Rattle.ember_law.proofs.FlatTriangles.{flat_in}
 use Rattle.ember_law.proofs.Generic.{cancel_zero, at_hit_of}
 use Rattle.ember_law.proofs.Generic.{IsOff as IsOffEdges}
 use Rattle.ember_law.proofs.GenericClear.{off_clear, clear_faces}
@@ -33,8 +33,8 @@ use Rattle.ember_law.proofs.Shifted.{NoNormal, off_shifted, weight_shifted}
 use Rattle.ember_box.specs.Boxes.{Cell, root}
 use Rattle.ember_box.specs.Halving.{leaves}
 use Rattle.ember_box.specs.Near.{near, tri_at}
-use Rattle.ember_box.specs.Regions.{walls, blades}
-use Rattle.ember_meaning.proofs.Counted.{IsOff, IsFair, IsFairAt}
+use Rattle.ember_box.specs.Regions.{walls, cutting_planes}
+use Rattle.ember_meaning.proofs.CountedPoints.{IsOff, IsFair, IsFairAt}
 use Rattle.ember_meaning.proofs.Lines.{In, is_hit, is_tri_hit, tri_hits}
 use Rattle.ember_meaning.proofs.Regular.{IsGeneralAt, IsGeneralLine}
 use Rattle.ember_meaning.proofs.Members.{in_filter, of_filter, every_in}
@@ -149,8 +149,8 @@ general_for k p w n u =
 
 -- where the line through q along k meets the plane n
 module _ (k : Axis) (q : Spot) (n : Plane) (crosses : along n k ≢ pos 0) where
-  abbrev place : Spot
-  place = hit n k q
+  abbrev hit_point : Spot
+  hit_point = hit n k q
 
   -- a triangle's plane that is a multiple of n doesn't hold the line
   slope : (u : Tri) → is_flat u ≡ false → IsMultiple k n (support_of u) → along (support_of u) k ≢ pos 0
@@ -159,16 +159,16 @@ module _ (k : Axis) (q : Spot) (n : Plane) (crosses : along n k ≢ pos 0) where
       clash (flat_in u (record { a = h.0; b = h.1; c = h.2 })) f
 
   -- a plane that is 0 at the place where a triangle's is, is 0 wherever that is
-  off_plane : (u : Tri) (g : Plane) → is_flat u ≡ false → IsGeneralTo k q n (support_of u) → IsGeneralTo k q n g → IsOff place (support_of u) g
+  off_plane : (u : Tri) (g : Plane) → is_flat u ≡ false → IsGeneralTo k q n (support_of u) → IsGeneralTo k q n g → IsOff hit_point (support_of u) g
   off_plane u g f hs hg =
-      by (cases_Bool (is_zero (value_at (support_of u) place))) (cases_Bool (is_zero (value_at g place)))
+      by (cases_Bool (is_zero (value_at (support_of u) hit_point))) (cases_Bool (is_zero (value_at g hit_point)))
     where
-      meets : is_zero (value_at (support_of u) place) ≡ true → is_zero (value_at g place) ≡ true → (v : Spot) → is_zero (value_at (support_of u) v) ≡ true → is_zero (value_at g v) ≡ true
+      meets : is_zero (value_at (support_of u) hit_point) ≡ true → is_zero (value_at g hit_point) ≡ true → (v : Spot) → is_zero (value_at (support_of u) v) ≡ true → is_zero (value_at g v) ≡ true
       meets e d v z =
-          let m = hs (zero_out (value_at (support_of u) place) e) in
-          ap is_zero (follows k n g (hg (zero_out (value_at g place) d)) crosses v (leads k n (support_of u) m crosses (slope u f m) v (zero_out (value_at (support_of u) v) z)))
+          let m = hs (zero_out (value_at (support_of u) hit_point) e) in
+          ap is_zero (follows k n g (hg (zero_out (value_at g hit_point) d)) crosses v (leads k n (support_of u) m crosses (slope u f m) v (zero_out (value_at (support_of u) v) z)))
 
-      by : (is_zero (value_at (support_of u) place) ≡ true) ⊎ (is_zero (value_at (support_of u) place) ≡ false) → (is_zero (value_at g place) ≡ true) ⊎ (is_zero (value_at g place) ≡ false) → IsOff place (support_of u) g
+      by : (is_zero (value_at (support_of u) hit_point) ≡ true) ⊎ (is_zero (value_at (support_of u) hit_point) ≡ false) → (is_zero (value_at g hit_point) ≡ true) ⊎ (is_zero (value_at g hit_point) ≡ false) → IsOff hit_point (support_of u) g
       by (inr e) d = inl (λ a b. clash a e)
       by (inl e) (inr d) = inl (λ a b. clash b d)
       by (inl e) (inl d) = inr (record { zero = meets e d })
@@ -249,7 +249,7 @@ module _ (scene : List Tri) (k : Axis) (p : Spot) (weight : pos 0 <ℤ p.w) wher
 
     fair_in : (c : Cell) (ts : List Tri) (i : ℕ) → Eventually (λ m. is_flat (tri_at ts i) ≡ false → IsFair c ts i (met m))
     fair_in c ts i =
-        eventually_where (is_flat (tri_at ts i)) (λ f. eventually_map (λ m h. record { walls = h.0; blades = h.1 }) (eventually_both (eventually_every (λ w m. IsOff (met m) (support_of (tri_at ts i)) w.plane) (walls c) (λ w. off (tri_at ts i) f w.plane)) (eventually_every (λ b m. IsOff (met m) (support_of (tri_at ts i)) b.plane) (blades ts i) (λ b. off (tri_at ts i) f b.plane))))
+        eventually_where (is_flat (tri_at ts i)) (λ f. eventually_map (λ m h. record { walls = h.0; cutting_planes = h.1 }) (eventually_both (eventually_every (λ w m. IsOff (met m) (support_of (tri_at ts i)) w.plane) (walls c) (λ w. off (tri_at ts i) f w.plane)) (eventually_every (λ b m. IsOff (met m) (support_of (tri_at ts i)) b.plane) (cutting_planes ts i) (λ b. off (tri_at ts i) f b.plane))))
 
     fair_at : (c : Cell) → Eventually (λ m. IsFairAt scene (met m) c)
     fair_at c =

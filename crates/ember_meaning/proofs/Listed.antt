@@ -14,7 +14,7 @@ use Rattle.ember_expr.specs.Formula.{Formula}
 use Rattle.ember_leaf.specs.declared.kept.Kept.{Kept}
 use Rattle.ember_leaf.specs.Written.{AtRegion}
 use Rattle.ember_leaf.specs.Scenes.{HasOneValue}
-use Rattle.ember_meaning.proofs.Counted.{is_in_box}
+use Rattle.ember_meaning.proofs.CountedPoints.{is_in_box}
 
 -- a region of triangle `tri` of those near a leaf
 pub record Entry : Type 0 where

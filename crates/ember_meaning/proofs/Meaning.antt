@@ -25,17 +25,17 @@ use Rattle.ember_leaf.specs.declared.kept.Kept.{Kept}
 use Rattle.ember_leaf.specs.Written.{AtRegion, unowned, even, written}
 use Rattle.ember_leaf.specs.Scenes.{HasOneValue}
 use Rattle.ember_text.specs.Documents.{written_face}
-use Rattle.ember_meaning.proofs.Counted.{is_in_box}
+use Rattle.ember_meaning.proofs.CountedPoints.{is_in_box}
 use Rattle.ember_meaning.proofs.Listed.{Entry, IsEntries, is_hit_at, Without}
 use Rattle.ember_meaning.specs.Meaning.{one_if}
 use Rattle.ember_meaning.proofs.Lines.{In, total_of, Fraction, is_below, on_line, key, is_hit, amount, beyond, onward, is_same_place, is_tri_hit, tri_key, tri_hits, seen}
 use Rattle.ember_meaning.specs.Meaning.{IsFalseOutside}
-use Rattle.ember_meaning.proofs.Regular.{before_hit, after_hit, place, truth_before, truth_after, truth_ahead, truth_back, IsRegular, IsRegularLine}
+use Rattle.ember_meaning.proofs.Regular.{before_hit, after_hit, hit_point, truth_before, truth_after, truth_ahead, truth_back, IsRegular, IsRegularLine}
 use Rattle.ember_meaning.proofs.AlongLine.{along_line, total_of-filter}
 use Rattle.ember_meaning.proofs.Entries.{entries_count, one_holds}
 use Rattle.ember_meaning.proofs.Members.{in_map, Source, source, in_filter}
-use Rattle.ember_meaning.proofs.Owned.{IsCovered, jump_at, still_at}
-use Rattle.ember_meaning.proofs.Jump.{written_amount, written_jump, even_jump}
+use Rattle.ember_meaning.proofs.OneOwner.{IsCovered, jump_at, still_at}
+use Rattle.ember_meaning.proofs.RegionJump.{written_amount, written_jump, even_jump}
 use Rattle.ember_meaning.proofs.Turned.{key-turned, is_hit-turned, amount-turned}
 use Rattle.ember_meaning.proofs.Places.{same_inside, inside_place}
 
@@ -67,7 +67,7 @@ weight_of f v i =
 
 module _ (scene : List Tri) (x : Formula) (k : Axis) (p : Spot) (cs : List Cell) (es : List Entry) (t : Tri) where
   abbrev at : Spot
-  at = place scene x k p cs es t
+  at = hit_point scene x k p cs es t
 
   abbrev before_here : Bool
   before_here = truth_before scene x k p cs es t

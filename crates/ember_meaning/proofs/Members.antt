@@ -6,7 +6,7 @@ use Rattle.std.proofs.lemmas.Bool.{cases_Bool, false≢true, or_right}
 use Rattle.ember_algebra.specs.Relations.{Each, none, more, Every}
 use Rattle.ember_box.specs.Sums.{number}
 use Rattle.ember_meaning.proofs.Lines.{In, here, there}
-use Rattle.ember_meaning.proofs.Owned.{count_in}
+use Rattle.ember_meaning.proofs.OneOwner.{count_in}
 
 -- ---- members of a map and of a filter
 pub in_map : {S T : Type 0} (h : S → T) (xs : List S) (x : S) → In x xs → In (h x) (map h xs)
@@ -72,15 +72,15 @@ giver {R = R} y (more {x = x} {xs = xs} {ys = us} {zs = vs} r e) i =
 
 -- ---- places
 pub record Stands {X : Type 0} (xs : List X) (x : X) : Type 0 where
-  pub place : ℕ
-  pub is : slice_get xs place ≡ Some x
-  pub below : place < length xs
+  pub index : ℕ
+  pub is : slice_get xs index ≡ Some x
+  pub below : index < length xs
 
 pub stands : {X : Type 0} (xs : List X) (x : X) → In x xs → Stands xs x
 stands [] x i = elim i [ ]
-stands (a ∷ xs) x here = record { place = 0; is = refl; below = omega arith }
+stands (a ∷ xs) x here = record { index = 0; is = refl; below = omega arith }
 stands (a ∷ xs) x (there i) =
-    let s = stands xs x i in record { place = suc s.place; is = s.is; below = (let l = s.below in omega (arith, l)) }
+    let s = stands xs x i in record { index = suc s.index; is = s.is; below = (let l = s.below in omega (arith, l)) }
 
 in_from : (a n i : ℕ) → In i (range_with_len a n) → i < a + n
 in_from a zero i h = elim h [ ]

@@ -20,12 +20,12 @@ use Rattle.ember_trace.proofs.BoxedRegions.{region_inside}
 use Rattle.ember_trace.proofs.CutRegions.{IsCutOut, region_cut}
 use Rattle.ember_trace.proofs.FlatPlanes.{lies_flat, shared_face}
 use Rattle.ember_trace.proofs.SharedPlanes.{on_plane}
-use Rattle.ember_meaning.proofs.Counted.{is_in_box, IsFairAt}
+use Rattle.ember_meaning.proofs.CountedPoints.{is_in_box, IsFairAt}
 use Rattle.ember_meaning.proofs.Listed.{Entry, entry, IsEntries, has_inside, is_hit_at}
 use Rattle.ember_meaning.proofs.Lines.{In}
 use Rattle.ember_meaning.proofs.Leaf.{leaf_count}
 use Rattle.ember_meaning.proofs.Members.{source, giver, stands, in_range, any_in, Passes, passing, only_one}
-use Rattle.ember_meaning.proofs.Owned.{count_in}
+use Rattle.ember_meaning.proofs.OneOwner.{count_in}
 
 -- ---- where an entry comes from
 pub record IsOf (scene : List Tri) (cs : List Cell) (e : Entry) : Type 0 where
@@ -33,8 +33,8 @@ pub record IsOf (scene : List Tri) (cs : List Cell) (e : Entry) : Type 0 where
   pub below : e.tri < length (near scene e.cell)
   pub faces : List Face
   pub are_regions : IsRegions e.cell (near scene e.cell) e.tri faces
-  pub place : ℕ
-  pub here : slice_get faces place ≡ Some e.face
+  pub index : ℕ
+  pub here : slice_get faces index ≡ Some e.face
   pub member : In e.face faces
 
 pub entry_of : (scene : List Tri) (cs : List Cell) (es : List Entry) (e : Entry) → IsEntries scene cs es → In e es → IsOf scene cs e
@@ -42,7 +42,7 @@ entry_of scene cs es e r i =
     let g = giver e r i in let k = giver e g.gives g.among in
     let s = source (entry g.from k.from) k.gives.faces e (subst (λ l. In e l) k.gives.is k.among) in
     let p = stands k.gives.faces s.at s.member in
-    subst (IsOf scene cs) (sym s.is) (record { listed = g.member; below = in_range (length (near scene g.from)) k.from k.member; faces = k.gives.faces; are_regions = k.gives.are_regions; place = p.place; here = p.is; member = s.member })
+    subst (IsOf scene cs) (sym s.is) (record { listed = g.member; below = in_range (length (near scene g.from)) k.from k.member; faces = k.gives.faces; are_regions = k.gives.are_regions; index = p.index; here = p.is; member = s.member })
 
 pub support_is : (u : Tri) → (face_of u).support ≡ support_of u
 unfolding face_of
@@ -56,10 +56,10 @@ module _ (scene : List Tri) (cs : List Cell) (v : Spot) (e : Entry) (o : IsOf sc
   t = tri_at ns e.tri
 
   cut_out : IsCutOut ns t e.face
-  cut_out = region_cut e.cell ns e.tri o.place o.faces e.face o.are_regions o.here
+  cut_out = region_cut e.cell ns e.tri o.index o.faces e.face o.are_regions o.here
 
   pub inside_tri : is_inside (face_of t) v ≡ true
-  inside_tri = region_inside e.cell ns e.tri o.place o.faces e.face o.are_regions o.here v has
+  inside_tri = region_inside e.cell ns e.tri o.index o.faces e.face o.are_regions o.here v has
 
   -- the leaf holds the place
   pub holds : IsFairAt scene v e.cell → is_in_box e.cell v ≡ true

@@ -1,16 +1,18 @@
 -- The faces that are read back from the document of the written regions have their meaning.
 use Rattle.std.proofs.Common.{◌≡◌, ℕ, suc, ap, ◌∙◌, refl, sym, Bool, true, false, List, [], ◌∷◌, ◌++◌, length, map, flat_map}
-use Rattle.std.specs.List.{All, range_with_len}
+use Rattle.std.specs.List.{All, AllByRecursion, range_with_len}
 use Rattle.std.proofs.lemmas.List.Concat.{flat_map-cons}
 use Rattle.std.proofs.lemmas.List.Elements.{All-cons, All-nil}
 use Rattle.ember_algebra.specs.Relations.{Each, none, more, Every}
 use Rattle.ember_model.specs.declared.tri.Tri.{Tri}
 use Rattle.ember_model.specs.declared.face.Face.{Face}
-use Rattle.ember_model.specs.Edges.{RingEdge}
 use Rattle.ember_model.specs.FaceFiles.{WrittenFace, IsWrittenFace, face_lines, header, ending}
 use Rattle.ember_model.specs.Meshes.{IsScene}
 use Rattle.ember_poly.specs.Cuts.{HasInside}
 use Rattle.ember_poly.proofs.OutlinePoints.{outline_has_its_points}
+use Rattle.ember_poly.proofs.OwnOutline.{outline_is_its_own}
+use Rattle.ember_chain.specs.Chains.{face_from, AxesAgreeOffScene, IsOutlined}
+use Rattle.ember_chain.proofs.Closed.{closed_faces}
 use Rattle.ember_expr.specs.Formula.{Formula}
 use Rattle.ember_expr.specs.Truth.{truth}
 use Rattle.ember_box.specs.Boxes.{Cell, root}
@@ -19,10 +21,10 @@ use Rattle.ember_box.specs.Halving.{leaves}
 use Rattle.ember_leaf.specs.declared.kept.Kept.{Kept}
 use Rattle.ember_leaf.specs.Written.{AtRegion, unowned, even, written, IsWrittenOf, regional, hidden, front}
 use Rattle.ember_leaf.specs.Scenes.{LeafGives, regions, nothing, IsWritten}
-use Rattle.ember_leaf.proofs.Starting.{each_every}
+use Rattle.ember_leaf.proofs.WallClips.{each_every}
 use Rattle.ember_text.specs.Texts.{IsGoodText, seen}
 use Rattle.ember_text.specs.Documents.{IsDocumentText, written_face}
-use Rattle.ember_meaning.specs.Meaning.{IsFalseOutside, ReadsWithMeaning}
+use Rattle.ember_meaning.specs.Meaning.{IsFalseOutside, HaveMeaning, ReadsWithMeaning}
 use Rattle.ember_meaning.proofs.Turned.{inside-turned}
 use Rattle.ember_meaning.proofs.ClearMeaning.{meaning_of_written}
 use Rattle.ember_meaning.proofs.SameFaces.{HaveSamePoints, same_meaning}
@@ -63,9 +65,6 @@ written_regions_are_filled scene x ks w =
 abbrev lines_of : WrittenFace → List ℕ
 lines_of w = face_lines w.support w.edges
 
-abbrev face_from : WrittenFace → Face
-face_from w = record { support = w.support; edges = map (λ (e : RingEdge). e.plane) w.edges }
-
 -- the texts are the lines of written faces, whose points are those of these faces
 record ReadAs (fs : List Face) (texts : List ℕ) : Type 0 where
   written : List WrittenFace
@@ -73,9 +72,10 @@ record ReadAs (fs : List Face) (texts : List ℕ) : Type 0 where
   is : texts ≡ flat_map lines_of written
   count : length fs ≡ length written
   same : HaveSamePoints fs (map face_from written)
+  outlined : AllByRecursion IsOutlined written
 
 texts_read : (ks : List Kept) {texts : List ℕ} → Every IsFilled ks → Each IsGoodText (map written_face ks) texts → ReadAs (map written_face ks) texts
-texts_read [] h none = record { written = []; well_formed = All-nil IsWrittenFace; is = refl; count = refl; same = tt }
+texts_read [] h none = record { written = []; well_formed = All-nil IsWrittenFace; is = refl; count = refl; same = tt; outlined = tt }
 texts_read (k ∷ ks) h (more {ys = ys} {zs = zs} t ts) =
     let f = written_face k in let s = texts_read ks h.1 ts in
     let w : WrittenFace = record { support = f.support; edges = t.text_is.outline } in
@@ -85,13 +85,22 @@ texts_read (k ∷ ks) h (more {ys = ys} {zs = zs} t ts) =
       is = (λ i. t.text_is.is i ++ s.is i) ∙ sym (flat_map-cons lines_of w s.written);
       count = ap (λ n. suc n) s.count;
       same = (outline_has_its_points f t.text_is.outline h.0 t.text_is.is_outline, s.same);
+      outlined = (outline_is_its_own f t.text_is.outline h.0 t.text_is.is_outline, s.outlined);
     }
 
+-- faces with a meaning wind alike along all axes
+axes_agree : (scene : List Tri) (x : Formula) (fs : List Face) → HaveMeaning scene x fs → AxesAgreeOffScene scene fs
+axes_agree scene x fs m a b p w s c = m a a p w s c ∙ sym (m b a p w s c)
+
+-- the faces of the document that is written have the meaning, and are a closed surface
 pub document_reads : (scene : List Tri) (count : ℕ) (x : Formula) (ks : List Kept) (bytes : List ℕ) → IsScene scene count → IsWritten scene x ks → IsFalseOutside x → IsDocumentText (map written_face ks) bytes → ReadsWithMeaning scene x bytes
 document_reads scene count x ks bytes v w o d =
     let s = texts_read ks (written_regions_are_filled scene x ks w) d.are_texts in
+    let m = same_meaning scene x (map written_face ks) (map face_from s.written) s.same (meaning_of_written scene count x ks v w o) in
     record {
       faces = map face_from s.written;
       read = record { written = s.written; well_formed = s.well_formed; is = d.is ∙ (λ i. header ++ (s.is i ++ ending (s.count i))); faces = refl };
-      meaning = same_meaning scene x (map written_face ks) (map face_from s.written) s.same (meaning_of_written scene count x ks v w o);
+      outlined = s.outlined;
+      meaning = m;
+      closed = closed_faces scene s.written s.outlined (axes_agree scene x (map face_from s.written) m);
     }

@@ -21,7 +21,7 @@ use Rattle.ember_box.specs.Near.{near}
 use Rattle.ember_leaf.specs.declared.kept.Kept.{Kept}
 use Rattle.ember_leaf.specs.Written.{front}
 use Rattle.ember_text.specs.Documents.{written_face}
-use Rattle.ember_meaning.proofs.Counted.{IsFairInAll}
+use Rattle.ember_meaning.proofs.CountedPoints.{IsFairInAll}
 use Rattle.ember_meaning.proofs.Listed.{Entry, is_hit_at}
 use Rattle.ember_meaning.specs.Meaning.{HasMeaning}
 use Rattle.ember_meaning.proofs.Lines.{In, is_below, key, is_hit, Placed, beyond, onward, tri_key, tri_hits, seen}
@@ -41,8 +41,8 @@ after_hit a ahead back = cond (is_positive a) ahead back
 
 module _ (scene : List Tri) (x : Formula) (k : Axis) (p : Spot) (cs : List Cell) (es : List Entry) (t : Tri) where
   -- the place where t is hit, and the truth just before and just after it
-  abbrev pub place : Spot
-  place = hit (face_of t).support k p
+  abbrev pub hit_point : Spot
+  hit_point = hit (face_of t).support k p
 
   abbrev pub truth_before : Bool
   truth_before =
@@ -61,22 +61,22 @@ module _ (scene : List Tri) (x : Formula) (k : Axis) (p : Spot) (cs : List Cell)
 
   pub record SomeHit : Type 0 where
     pub tri : ℕ
-    pub is_hit : is_hit_at scene cs place tri ≡ true
+    pub is_hit : is_hit_at scene cs hit_point tri ≡ true
 
   pub record IsRegular : Type 0 where
     -- the place is off all planes that cut
-    pub fair : IsFairInAll scene cs place
+    pub fair : IsFairInAll scene cs hit_point
     -- the leaf that holds the place is listed, and some triangle near it is hit there; or no listed
     -- leaf holds it, and the expression has one value there
-    pub some_hit : SomeHit ⊎ (((j : ℕ) → is_hit_at scene cs place j ≡ false) × (truth_before ≡ truth_after))
+    pub some_hit : SomeHit ⊎ (((j : ℕ) → is_hit_at scene cs hit_point j ≡ false) × (truth_before ≡ truth_after))
     -- the line doesn't run in the plane of a region that holds the place
-    pub crosses : (e : Entry) → In e es → is_inside e.face place ≡ true → is_zero (along e.face.support k) ≡ false
+    pub crosses : (e : Entry) → In e es → is_inside e.face hit_point ≡ true → is_zero (along e.face.support k) ≡ false
     -- of the regions that hold the place just those of the first triangle are owned
-    pub owner_first : (e : Entry) → In e es → is_inside e.face place ≡ true → IsOwner (near scene e.cell) e.tri e.face → (j : ℕ) → j < e.tri → is_hit_at scene cs place j ≡ false
-    pub first_owner : (e : Entry) → In e es → is_inside e.face place ≡ true → ((j : ℕ) → j < e.tri → is_hit_at scene cs place j ≡ false) → IsOwner (near scene e.cell) e.tri e.face
+    pub owner_first : (e : Entry) → In e es → is_inside e.face hit_point ≡ true → IsOwner (near scene e.cell) e.tri e.face → (j : ℕ) → j < e.tri → is_hit_at scene cs hit_point j ≡ false
+    pub first_owner : (e : Entry) → In e es → is_inside e.face hit_point ≡ true → ((j : ℕ) → j < e.tri → is_hit_at scene cs hit_point j ≡ false) → IsOwner (near scene e.cell) e.tri e.face
     -- just before and just after the hit the expression is as on the sides of a region that holds
     -- it
-    pub beside : (e : Entry) (before after : List ℤ) → In e es → is_inside e.face place ≡ true → IsSides scene e.face before after → (truth_before ≡ before_hit (along e.face.support k) (truth_ahead e.face before after) (truth_back e.face before after)) × (truth_after ≡ after_hit (along e.face.support k) (truth_ahead e.face before after) (truth_back e.face before after))
+    pub beside : (e : Entry) (before after : List ℤ) → In e es → is_inside e.face hit_point ≡ true → IsSides scene e.face before after → (truth_before ≡ before_hit (along e.face.support k) (truth_ahead e.face before after) (truth_back e.face before after)) × (truth_after ≡ after_hit (along e.face.support k) (truth_ahead e.face before after) (truth_back e.face before after))
 
 -- along the line through p the entries are regular, and a written face is hit only where a triangle
 -- is

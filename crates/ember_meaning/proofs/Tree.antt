@@ -17,7 +17,7 @@ use Rattle.ember_box.specs.Boxes.{Cell, low, high, left_half, right_half}
 use Rattle.ember_box.specs.Halving.{halving_axis, is_leaf, leaves_within}
 use Rattle.ember_box.specs.Sums.{number}
 use Rattle.ember_box.proofs.Halvable.{halvable_unless_leaf}
-use Rattle.ember_meaning.proofs.Counted.{is_between, is_in_box}
+use Rattle.ember_meaning.proofs.CountedPoints.{is_between, is_in_box}
 
 -- ---- one axis
 three_tests : (a b c x : ℤ) → a ≤ℤ b → b ≤ℤ c → number (int_le a x && int_lt x b) + number (int_le b x && int_lt x c) ≡ number (int_le a x && int_lt x c)

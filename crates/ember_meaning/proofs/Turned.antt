@@ -11,7 +11,7 @@ use Rattle.ember_model.specs.declared.point.Axis.TheVariants.{X, Y, Z}
 use Rattle.ember_model.specs.declared.face.Face.{Face}
 use Rattle.ember_model.specs.Planes.{value_at, along, opposite}
 use Rattle.ember_model.specs.Points.{scaled, moved}
-use Rattle.ember_model.specs.Faces.{size, is_inside, hit, turned}
+use Rattle.ember_model.specs.Faces.{size, is_inside, hit, flipped_face}
 use Rattle.ember_meaning.proofs.Lines.{key, is_hit, amount}
 use Rattle.ember_meaning.proofs.Parts.{value-opposite}
 
@@ -28,7 +28,7 @@ size-neg (negsuc n) = refl
 neg-neg : (a b : ℤ) → neg_ℤ a *ℤ neg_ℤ b ≡ a *ℤ b
 neg-neg a b = solve 2 (λ a b. neg a ⊗ neg b ≈ a ⊗ b) cancels a b
 
-pub inside-turned : (f : Face) (v : Spot) → is_inside (turned f) v ≡ is_inside f v
+pub inside-turned : (f : Face) (v : Spot) → is_inside (flipped_face f) v ≡ is_inside f v
 inside-turned f v =
     ap (λ b. is_positive v.w && (b && list_all (λ e. is_negative (value_at e v)) f.edges)) (ap is_zero (value-opposite f.support v) ∙ zero-neg (value_at f.support v))
 
@@ -48,18 +48,18 @@ hit-opposite n a v =
 key_num : (n v : ℤ) → neg_ℤ (sign (neg_ℤ n) *ℤ neg_ℤ v) ≡ neg_ℤ (sign n *ℤ v)
 key_num n v = ap neg_ℤ (ap (λ (z : ℤ). z *ℤ neg_ℤ v) (sign-neg n) ∙ neg-neg (sign n) v)
 
-pub key-turned : (a : Axis) (p : Spot) (f : Face) → key a p (turned f) ≡ key a p f
+pub key-turned : (a : Axis) (p : Spot) (f : Face) → key a p (flipped_face f) ≡ key a p f
 key-turned a p f =
     let e = along-opposite a f.support in let d = value-opposite f.support p in
     let n : neg_ℤ (sign (along (opposite f.support) a) *ℤ value_at (opposite f.support) p) ≡ neg_ℤ (sign (along f.support a) *ℤ value_at f.support p) = (λ i. neg_ℤ (sign (e i) *ℤ d i)) ∙ key_num (along f.support a) (value_at f.support p) in
     let m = ap (λ (z : ℤ). pred (unsigned_abs z)) e ∙ ap pred (size-neg (along f.support a)) in
     λ i. record { num = n i; den = m i }
 
-pub is_hit-turned : (a : Axis) (p : Spot) (f : Face) → is_hit a p (turned f) ≡ is_hit a p f
+pub is_hit-turned : (a : Axis) (p : Spot) (f : Face) → is_hit a p (flipped_face f) ≡ is_hit a p f
 is_hit-turned a p f =
     let e = ap is_zero (along-opposite a f.support) ∙ zero-neg (along f.support a) in
-    let d = ap (is_inside (turned f)) (hit-opposite f.support a p) ∙ inside-turned f (hit f.support a p) in
+    let d = ap (is_inside (flipped_face f)) (hit-opposite f.support a p) ∙ inside-turned f (hit f.support a p) in
     λ i. not (e i) && d i
 
-pub amount-turned : (a : Axis) (f : Face) → amount a (turned f) ≡ neg_ℤ (amount a f)
+pub amount-turned : (a : Axis) (f : Face) → amount a (flipped_face f) ≡ neg_ℤ (amount a f)
 amount-turned a f = ap sign (along-opposite a f.support) ∙ sign-neg (along f.support a)

@@ -1,5 +1,6 @@
 -- What the written regions of a scene mean
 use Rattle.std.specs.Prelude.{◌≡◌, ℕ, Bool, false, cond, List, replicate, ℤ, pos, ◌<ℤ◌}
+use Rattle.std.specs.List.{AllByRecursion}
 use Rattle.ember_model.specs.declared.tri.Tri.{Tri}
 use Rattle.ember_model.specs.declared.face.Face.{Face}
 use Rattle.ember_model.specs.declared.point.Spot.{Spot}
@@ -9,6 +10,7 @@ use Rattle.ember_model.specs.FaceFiles.{IsFaceFile}
 use Rattle.ember_model.specs.Meshes.{wind, vector, faces_of}
 use Rattle.ember_expr.specs.Formula.{Formula}
 use Rattle.ember_expr.specs.Truth.{truth}
+use Rattle.ember_chain.specs.Chains.{IsClosedSurface, IsOutlined}
 
 -- the number of a truth
 abbrev pub one_if : Bool → ℤ
@@ -28,8 +30,11 @@ abbrev pub HaveMeaning : List Tri → Formula → List Face → Type 0
 HaveMeaning scene x faces =
     (a b : Axis) (p : Spot) → pos 0 <ℤ p.w → AreClear (faces_of scene) p → AreClear faces p → HasMeaning scene x faces a b p
 
--- the bytes are a face file, and its faces have the meaning
+-- the bytes are a face file; the edges of its faces are their outlines, the faces have the meaning, and
+-- they are a closed surface
 pub record ReadsWithMeaning (scene : List Tri) (x : Formula) (bytes : List ℕ) : Type 0 where
   pub faces : List Face
   pub read : IsFaceFile bytes faces
+  pub outlined : AllByRecursion IsOutlined read.written
   pub meaning : HaveMeaning scene x faces
+  pub closed : IsClosedSurface read.written

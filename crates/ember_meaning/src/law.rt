@@ -1,9 +1,13 @@
 // The laws of the written regions, and of the faces that are read back from their document.
 ghost use Rattle.std.specs.Prelude.{ℕ, List, map};
+ghost use Rattle.std.specs.List.{AllByRecursion};
+ghost use Rattle.ember_chain.specs.Chains.{face_from, IsOutlined};
 ghost use Rattle.ember_expr.specs.Formula.{Formula};
 ghost use Rattle.ember_leaf.specs.declared.kept.Kept.{Kept};
 ghost use Rattle.ember_leaf.specs.Scenes.{IsWritten};
 ghost use Rattle.ember_meaning.specs.Meaning.{IsFalseOutside, HaveMeaning, ReadsWithMeaning};
+ghost use Rattle.ember_meaning.specs.Nearby.{AgreeOver, HaveMeaningNearby, WindNearbyAsHere, WindHereAsNearby, WindOnceAtMost};
+ghost use Rattle.ember_model.specs.FaceFiles.{WrittenFace};
 ghost use Rattle.ember_model.specs.Meshes.{IsScene};
 ghost use Rattle.ember_model.specs.declared.tri.Tri.{Tri};
 ghost use Rattle.ember_text.specs.Documents.{IsDocumentText, written_face};
@@ -15,8 +19,30 @@ pub fn written_regions_have_their_meaning()
     ensures { (scene : List Tri) (f : Formula) (ks : List Kept) → IsScene scene 64 → IsWritten scene f ks → IsFalseOutside f → HaveMeaning scene f (map written_face ks) }
 {}
 
-/// The document of the written regions is a face file, and the faces that are read back from it
-/// have the same meaning, though each has only the planes of a region's outline.
+/// The document of the written regions is a face file. The faces that are read back from it have
+/// the same meaning, though each has only the planes of a region's outline. Their written edges are
+/// those outlines, and they are a closed surface: on each line, each point is as often the start of
+/// a written edge as the end of one.
 pub fn documents_read_with_their_meaning()
     ensures { (scene : List Tri) (f : Formula) (ks : List Kept) (bytes : List ℕ) → IsScene scene 64 → IsWritten scene f ks → IsFalseOutside f → IsDocumentText (map written_face ks) bytes → ReadsWithMeaning scene f bytes }
+{}
+
+/// Let the written edges of each face be its outline, and let the faces have the meaning of an
+/// expression over a scene. Then they have it near every point, clear or not: at the point shifted
+/// along all axes by little enough. So where a point is clear of the scene alone, the expression at
+/// its winding numbers is what the faces wind beside it. Where a point is clear of these faces
+/// alone, they wind along all axes alike, once or not at all, as the expression says beside it.
+pub fn outlined_faces_have_their_meaning_nearby()
+    ensures nearby { (scene : List Tri) (f : Formula) (ws : List WrittenFace) → AllByRecursion IsOutlined ws → HaveMeaning scene f (map face_from ws) → HaveMeaningNearby scene f (map face_from ws) }
+    ensures scene { (scene : List Tri) (f : Formula) (ws : List WrittenFace) → AllByRecursion IsOutlined ws → HaveMeaning scene f (map face_from ws) → WindNearbyAsHere scene f (map face_from ws) }
+    ensures alone { (scene : List Tri) (f : Formula) (ws : List WrittenFace) → AllByRecursion IsOutlined ws → HaveMeaning scene f (map face_from ws) → WindHereAsNearby scene f (map face_from ws) }
+    ensures once { (scene : List Tri) (f : Formula) (ws : List WrittenFace) → AllByRecursion IsOutlined ws → HaveMeaning scene f (map face_from ws) → WindOnceAtMost (map face_from ws) }
+{}
+
+/// Expressions that agree at the winding numbers of all clear points of a scene have the same
+/// written regions. No others share a solid: expressions that the same outlined faces mean agree
+/// there.
+pub fn solids_are_one_where_expressions_agree()
+    ensures regions { (scene : List Tri) (f g : Formula) (ks : List Kept) → AgreeOver scene f g → IsWritten scene f ks → IsWritten scene g ks }
+    ensures faces { (scene : List Tri) (f g : Formula) (ws : List WrittenFace) → AllByRecursion IsOutlined ws → HaveMeaning scene f (map face_from ws) → HaveMeaning scene g (map face_from ws) → AgreeOver scene f g }
 {}

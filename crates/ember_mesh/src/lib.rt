@@ -5,8 +5,6 @@
 mod fault;
 mod joining;
 mod states;
-#[cfg(test)]
-mod tests;
 
 pub use fault::{JoinFault, MeshFault};
 pub use joining::join;

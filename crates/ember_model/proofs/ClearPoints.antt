@@ -16,7 +16,7 @@ use Rattle.ember_model.specs.Planes.{value_at, along}
 use Rattle.ember_model.specs.Points.{scaled, moved}
 use Rattle.ember_model.specs.Faces.{size, is_inside, is_in_closed, is_flat, face_of, hit}
 use Rattle.ember_model.specs.Clear.{IsClear, IsClearOf}
-use Rattle.ember_model.specs.ClearTest.{entry, enters, is_ray_clear, is_clear, is_clear_of, none_positive, all_negative}
+use Rattle.ember_model.specs.ClearTest.{entry_point, enters, is_ray_clear, is_clear, is_clear_of, none_positive, all_negative}
 use Rattle.ember_model.proofs.SignTests.{negative_in, negative_out, positive_in, positive_out, not_positive_in, zero_out, nonzero_out, zero_scaled, zero_times, size_positive, clash, not_true, and_parts, any_from, any_out}
 use Rattle.ember_model.proofs.PlaneValues.{value_scaled, value_hit, size-is}
 use Rattle.ember_model.proofs.Hits.{Scales, scales, same_all_negative, same_none_positive, closed_scaled, value_ray, ray_weight, closed_on, inside_on, hit_inside, hit_closed, closed_parts, inside_parts}
@@ -28,13 +28,13 @@ entry_low : (vg gg vh gh m s : ℤ) → pos 0 <ℤ s → (vg *ℤ neg_ℤ (m *�
 entry_low vg gg vh gh m s l h =
     by_lt_z (pos 0) (neg_ℤ gh *ℤ vg +ℤ vh *ℤ gg) (λ u. absurd (let q = pos_mul l u in omega (arith, linear, q, h, solve 6 (λ vg gg vh gh m s. vh ⊗ neg (m ⊗ vg ⊕ s ⊗ gg) ⊖ vg ⊗ neg (m ⊗ vh ⊕ s ⊗ gh) ≈ neg (s ⊗ (neg gh ⊗ vg ⊕ vh ⊗ gg))) cancels vg gg vh gh m s))) (λ u. u)
 
-entries : (p : Spot) (a : Axis) (m s : ℤ) (h : Plane) (es : List Plane) → pos 0 <ℤ s → After p (moved (scaled m p) a s) h es → none_positive es (entry h a p) ≡ true
+entries : (p : Spot) (a : Axis) (m s : ℤ) (h : Plane) (es : List Plane) → pos 0 <ℤ s → After p (moved (scaled m p) a s) h es → none_positive es (entry_point h a p) ≡ true
 entries p a m s h [] l f = refl
 entries p a m s h (g ∷ gs) l f =
     let x = value_ray h a p m s in let y = value_ray g a p m s in
     let k : (value_at g p *ℤ neg_ℤ (m *ℤ value_at h p +ℤ s *ℤ along h a)) ≤ℤ (value_at h p *ℤ neg_ℤ (m *ℤ value_at g p +ℤ s *ℤ along g a)) = subst (λ (v : ℤ). (value_at g p *ℤ neg_ℤ v) ≤ℤ (value_at h p *ℤ neg_ℤ (m *ℤ value_at g p +ℤ s *ℤ along g a))) x (subst (λ (v : ℤ). (value_at g p *ℤ neg_ℤ (value_at h (moved (scaled m p) a s))) ≤ℤ (value_at h p *ℤ neg_ℤ v)) y f.0) in
     let z = entry_low (value_at g p) (along g a) (value_at h p) (along h a) m s l k in
-    let w = not_positive_in (value_at g (entry h a p)) (let v = value_ray g a p (neg_ℤ (along h a)) (value_at h p) in omega (arith, linear, v, z)) in
+    let w = not_positive_in (value_at g (entry_point h a p)) (let v = value_ray g a p (neg_ℤ (along h a)) (value_at h p) in omega (arith, linear, v, z)) in
     let r = entries p a m s h gs l f.1 in λ i. w i && r i
 
 goes_down : (v w s g : ℤ) → v ≤ℤ pos 0 → v ≡ w +ℤ s *ℤ g → pos 0 <ℤ w → pos 0 ≤ℤ s → (pos 0 <ℤ s) × (g <ℤ pos 0)
@@ -53,23 +53,23 @@ enters_from es a p m s lm ls off on =
 enters_not : (f : Face) (a : Axis) (p : Spot) → pos 0 <ℤ p.w → along f.support a ≡ pos 0 → value_at f.support p ≡ pos 0 → IsClear f p → enters f.edges a p ≡ true → ⊥
 enters_not f a p w zn zs c e =
     let n = f.support in let es = f.edges in
-    let r = any_out (λ h. is_negative (along h a) && (is_positive (value_at h p) && none_positive es (entry h a p))) es e in
+    let r = any_out (λ h. is_negative (along h a) && (is_positive (value_at h p) && none_positive es (entry_point h a p))) es e in
     let h = r.item in
-    let x = and_parts (is_negative (along h a)) (is_positive (value_at h p) && none_positive es (entry h a p)) r.passes in
-    let y = and_parts (is_positive (value_at h p)) (none_positive es (entry h a p)) x.1 in
+    let x = and_parts (is_negative (along h a)) (is_positive (value_at h p) && none_positive es (entry_point h a p)) r.passes in
+    let y = and_parts (is_positive (value_at h p)) (none_positive es (entry_point h a p)) x.1 in
     let g = negative_out (along h a) x.0 in let v = positive_out (value_at h p) y.0 in
     let m : pos 0 <ℤ neg_ℤ (along h a) = omega (arith, linear, g) in
-    let flat : value_at n (entry h a p) ≡ pos 0 = value_ray n a p (neg_ℤ (along h a)) (value_at h p) ∙ (λ i. neg_ℤ (along h a) *ℤ zs i +ℤ value_at h p *ℤ zn i) ∙ solve 2 (λ g v. neg g ⊗ num (pos 0) ⊕ v ⊗ num (pos 0) ≈ num (pos 0)) cancels (along h a) (value_at h p) in
-    let closed = closed_on f (entry h a p) (ray_weight a p (neg_ℤ (along h a)) (value_at h p) m w) flat ∙ y.1 in
+    let flat : value_at n (entry_point h a p) ≡ pos 0 = value_ray n a p (neg_ℤ (along h a)) (value_at h p) ∙ (λ i. neg_ℤ (along h a) *ℤ zs i +ℤ value_at h p *ℤ zn i) ∙ solve 2 (λ g v. neg g ⊗ num (pos 0) ⊕ v ⊗ num (pos 0) ≈ num (pos 0)) cancels (along h a) (value_at h p) in
+    let closed = closed_on f (entry_point h a p) (ray_weight a p (neg_ℤ (along h a)) (value_at h p) m w) flat ∙ y.1 in
     let inside = c.rays a (neg_ℤ (along h a)) (value_at h p) m (omega (arith, linear, v)) closed in
-    let neg_h = all_negative_member (entry h a p) es h (inside_parts f (entry h a p) inside).2 r.member in
-    let zero : value_at h (entry h a p) ≡ pos 0 = value_ray h a p (neg_ℤ (along h a)) (value_at h p) ∙ solve 2 (λ g v. neg g ⊗ v ⊕ v ⊗ g ≈ num (pos 0)) cancels (along h a) (value_at h p) in
+    let neg_h = all_negative_member (entry_point h a p) es h (inside_parts f (entry_point h a p) inside).2 r.member in
+    let zero : value_at h (entry_point h a p) ≡ pos 0 = value_ray h a p (neg_ℤ (along h a)) (value_at h p) ∙ solve 2 (λ g v. neg g ⊗ v ⊕ v ⊗ g ≈ num (pos 0)) cancels (along h a) (value_at h p) in
     omega (arith, linear, neg_h, zero)
 
 -- ---- one ray
 -- the point of the ray is the hit, up to the weight
-pub hit_place : (n : Plane) (a : Axis) (p : Spot) (m s : ℤ) → m *ℤ value_at n p +ℤ s *ℤ along n a ≡ pos 0 → Scales m (hit n a p) (scaled (size (along n a)) (moved (scaled m p) a s))
-hit_place n a p m s z g =
+pub hit_is_one_point : (n : Plane) (a : Axis) (p : Spot) (m s : ℤ) → m *ℤ value_at n p +ℤ s *ℤ along n a ≡ pos 0 → Scales m (hit n a p) (scaled (size (along n a)) (moved (scaled m p) a s))
+hit_is_one_point n a p m s z g =
     let k = size (along n a) in let r = moved (scaled m p) a s in let sg = sign (along n a) in let na = along n a in
     let vg = value_at g p in let ga = along g a in let vn = value_at n p in
     let e = value_scaled k g r ∙ (let x = size-is na in let y = value_ray g a p m s in λ i. x i *ℤ y i) in
@@ -112,12 +112,12 @@ ray_from f a p w out t m s lm ls c = by (is_zero (along f.support a)) refl t
     same_most : along f.support a ≢ pos 0 → none_positive f.edges (hit f.support a p) ≡ none_positive f.edges (moved (scaled m p) a s)
     same_most nz =
         let n = f.support in let es = f.edges in let k = size (along n a) in let r = moved (scaled m p) a s in
-        sym (same_none_positive m (hit n a p) (scaled k r) es lm (hit_place n a p m s z)) ∙ same_none_positive k r (scaled k r) es (size_positive (along n a) nz) (scales k r)
+        sym (same_none_positive m (hit n a p) (scaled k r) es lm (hit_is_one_point n a p m s z)) ∙ same_none_positive k r (scaled k r) es (size_positive (along n a) nz) (scales k r)
 
     same_low : along f.support a ≢ pos 0 → all_negative f.edges (moved (scaled m p) a s) ≡ all_negative f.edges (hit f.support a p)
     same_low nz =
         let n = f.support in let es = f.edges in let k = size (along n a) in let r = moved (scaled m p) a s in
-        sym (same_all_negative k r (scaled k r) es (size_positive (along n a) nz) (scales k r)) ∙ same_all_negative m (hit n a p) (scaled k r) es lm (hit_place n a p m s z)
+        sym (same_all_negative k r (scaled k r) es (size_positive (along n a) nz) (scales k r)) ∙ same_all_negative m (hit n a p) (scaled k r) es lm (hit_is_one_point n a p m s z)
 
     at_p : along f.support a ≢ pos 0 → value_at f.support p *ℤ along f.support a ≡ pos 0 → ⊥
     at_p nz q =

@@ -19,7 +19,7 @@ use Rattle.ember_model.proofs.SignTests.{negative_not, sgn_scaled, zero_scaled, 
 use Rattle.ember_model.proofs.PlaneValues.{value_scaled, value_times, value_moved}
 use Rattle.ember_model.proofs.Hits.{Scales, same_all_negative}
 use Rattle.ember_model.proofs.Legs.{hit_moved, value_between, between_scales, leg_off, leg_on, LegCase, off, stay, touch, pass, leg_cases}
-use Rattle.ember_model.proofs.Scaling.{leg_scaled}
+use Rattle.ember_model.proofs.ScaledPoints.{leg_scaled}
 use Rattle.ember_model.proofs.FourSigns.{hit_edges}
 
 -- ---- points of one line along an axis, with one weight

@@ -18,7 +18,7 @@ use Rattle.ember_model.specs.ClearTest.{none_positive, all_negative}
 use Rattle.ember_model.proofs.SignTests.{negative_in, negative_not, negative_out, positive_in, positive_nonzero, negative_nonzero, zero_scaled, zero_times, size_positive, clash}
 use Rattle.ember_model.proofs.PlaneValues.{value_scaled, value_moved, value_plus, value_hit, size-is}
 use Rattle.ember_model.proofs.Hits.{Scales, same_all_negative, inside_on, closed_on, crossing_off, crossing_on, moved_weight}
-use Rattle.ember_model.proofs.Following.{StaysUp, lifted, not_below}
+use Rattle.ember_model.proofs.NearClearPoints.{StaysUp, lifted, not_below}
 
 -- ---- the hits from two points of one line
 pub hit_moved : (g n : Plane) (a : Axis) (p : Spot) (c : ℤ) → value_at g (hit n a (moved p a c)) ≡ value_at g (hit n a p)

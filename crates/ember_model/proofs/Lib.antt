@@ -2,13 +2,13 @@ pub mod PlaneSizes
 pub mod PlaneValues
 pub mod SignTests
 pub mod Hits
-pub mod RayPlaces
+pub mod RayPoints
 pub mod SeenCrossings
 pub mod FourSigns
 pub mod LastZero
 pub mod ClearPoints
-pub mod Following
+pub mod NearClearPoints
 pub mod Legs
-pub mod Scaling
+pub mod ScaledPoints
 pub mod Tuples
 pub mod LegSigns

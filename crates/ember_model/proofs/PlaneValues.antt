@@ -41,10 +41,10 @@ along_times k p X = refl
 along_times k p Y = refl
 along_times k p Z = refl
 
-abbrev pub normal_of : Plane → Vector
-normal_of p = record { x = p.a; y = p.b; z = p.c }
+abbrev pub cross_product : Plane → Vector
+cross_product p = record { x = p.a; y = p.b; z = p.c }
 
-pub along_dot : (p : Plane) (a : Axis) → along p a ≡ dot (normal_of p) (unit a)
+pub along_dot : (p : Plane) (a : Axis) → along p a ≡ dot (cross_product p) (unit a)
 along_dot p X = solve 3 (λ a b c. a ≈ a ⊗ num (pos 1) ⊕ b ⊗ num (pos 0) ⊕ c ⊗ num (pos 0)) cancels p.a p.b p.c
 along_dot p Y = solve 3 (λ a b c. b ≈ a ⊗ num (pos 0) ⊕ b ⊗ num (pos 1) ⊕ c ⊗ num (pos 0)) cancels p.a p.b p.c
 along_dot p Z = solve 3 (λ a b c. c ≈ a ⊗ num (pos 0) ⊕ b ⊗ num (pos 0) ⊕ c ⊗ num (pos 1)) cancels p.a p.b p.c
@@ -101,6 +101,6 @@ pub support_value : (t : Tri) (p : Spot) → det (seen p t.a) (seen p t.b) (seen
 support_value t p =
     identity (vector ∷ vector ∷ vector ∷ tuple ∷ []) (λ a b c p. detE (seenE p a) (seenE p b) (seenE p c) ≈ neg (p.w ⊗ p.w ⊗ valueE (supportE a b c) p)) cancels (vector_of t.a) (vector_of t.b) (vector_of t.c) (tuple_of p)
 
-pub normal_value : (t : Tri) (f : Vector) (p : Spot) → dot f (normal (seen p t.a) (seen p t.b) (seen p t.c)) ≡ p.w *ℤ p.w *ℤ dot (normal_of (support_of t)) f
+pub normal_value : (t : Tri) (f : Vector) (p : Spot) → dot f (normal (seen p t.a) (seen p t.b) (seen p t.c)) ≡ p.w *ℤ p.w *ℤ dot (cross_product (support_of t)) f
 normal_value t f p =
     identity (vector ∷ vector ∷ vector ∷ tuple ∷ vector ∷ []) (λ a b c p f. dotE f (normalE (seenE p a) (seenE p b) (seenE p c)) ≈ p.w ⊗ p.w ⊗ dotE (vector_partE (supportE a b c)) f) cancels (vector_of t.a) (vector_of t.b) (vector_of t.c) (tuple_of p) f

@@ -20,36 +20,36 @@ use Rattle.ember_model.specs.declared.point.Axis.TheVariants.{X, Y, Z}
 use Rattle.ember_model.specs.Planes.{vector_of, unit, value_at, along, main_axis, times_plane, support_of, edge_through}
 use Rattle.ember_model.specs.Faces.{hit, face_of, crossing}
 use Rattle.ember_model.proofs.SignTests.{ap2, sgn_scaled, same_sgn_out, zero_scaled, negative_not}
-use Rattle.ember_model.proofs.PlaneValues.{value_times, value_hit, size-is, sign-number, sgn-sign, along_dot, normal_of, seen, tuple_of, seenE, supportE, edgeE, support_value, normal_value}
+use Rattle.ember_model.proofs.PlaneValues.{value_times, value_hit, size-is, sign-number, sgn-sign, along_dot, cross_product, seen, tuple_of, seenE, supportE, edgeE, support_value, normal_value}
 use Rattle.ember_model.proofs.Hits.{crossing_off, crossing_across}
 
 -- ---- an edge plane at the hit
 -- the identity behind it, for each of the three edges
-pub first_edge : (t : Tri) (p : Spot) (f g : Vector) → dot (normal_of (support_of t)) f *ℤ (p.w *ℤ value_at (edge_through t.a t.b g) p) -ℤ value_at (support_of t) p *ℤ (p.w *ℤ dot (normal_of (edge_through t.a t.b g)) f) ≡ neg_ℤ (dot (normal_of (support_of t)) g *ℤ dot f (cross (seen p t.a) (seen p t.b)))
+pub first_edge : (t : Tri) (p : Spot) (f g : Vector) → dot (cross_product (support_of t)) f *ℤ (p.w *ℤ value_at (edge_through t.a t.b g) p) -ℤ value_at (support_of t) p *ℤ (p.w *ℤ dot (cross_product (edge_through t.a t.b g)) f) ≡ neg_ℤ (dot (cross_product (support_of t)) g *ℤ dot f (cross (seen p t.a) (seen p t.b)))
 first_edge t p f g =
     identity (vector ∷ vector ∷ vector ∷ tuple ∷ vector ∷ vector ∷ []) (λ a b c p f g. dotE (vector_partE (supportE a b c)) f ⊗ (p.w ⊗ valueE (edgeE a b g) p) ⊖ valueE (supportE a b c) p ⊗ (p.w ⊗ dotE (vector_partE (edgeE a b g)) f) ≈ neg (dotE (vector_partE (supportE a b c)) g ⊗ dotE f (crossE (seenE p a) (seenE p b)))) cancels (vector_of t.a) (vector_of t.b) (vector_of t.c) (tuple_of p) f g
 
-pub second_edge : (t : Tri) (p : Spot) (f g : Vector) → dot (normal_of (support_of t)) f *ℤ (p.w *ℤ value_at (edge_through t.b t.c g) p) -ℤ value_at (support_of t) p *ℤ (p.w *ℤ dot (normal_of (edge_through t.b t.c g)) f) ≡ neg_ℤ (dot (normal_of (support_of t)) g *ℤ dot f (cross (seen p t.b) (seen p t.c)))
+pub second_edge : (t : Tri) (p : Spot) (f g : Vector) → dot (cross_product (support_of t)) f *ℤ (p.w *ℤ value_at (edge_through t.b t.c g) p) -ℤ value_at (support_of t) p *ℤ (p.w *ℤ dot (cross_product (edge_through t.b t.c g)) f) ≡ neg_ℤ (dot (cross_product (support_of t)) g *ℤ dot f (cross (seen p t.b) (seen p t.c)))
 second_edge t p f g =
     identity (vector ∷ vector ∷ vector ∷ tuple ∷ vector ∷ vector ∷ []) (λ a b c p f g. dotE (vector_partE (supportE a b c)) f ⊗ (p.w ⊗ valueE (edgeE b c g) p) ⊖ valueE (supportE a b c) p ⊗ (p.w ⊗ dotE (vector_partE (edgeE b c g)) f) ≈ neg (dotE (vector_partE (supportE a b c)) g ⊗ dotE f (crossE (seenE p b) (seenE p c)))) cancels (vector_of t.a) (vector_of t.b) (vector_of t.c) (tuple_of p) f g
 
-pub third_edge : (t : Tri) (p : Spot) (f g : Vector) → dot (normal_of (support_of t)) f *ℤ (p.w *ℤ value_at (edge_through t.c t.a g) p) -ℤ value_at (support_of t) p *ℤ (p.w *ℤ dot (normal_of (edge_through t.c t.a g)) f) ≡ neg_ℤ (dot (normal_of (support_of t)) g *ℤ dot f (cross (seen p t.c) (seen p t.a)))
+pub third_edge : (t : Tri) (p : Spot) (f g : Vector) → dot (cross_product (support_of t)) f *ℤ (p.w *ℤ value_at (edge_through t.c t.a g) p) -ℤ value_at (support_of t) p *ℤ (p.w *ℤ dot (cross_product (edge_through t.c t.a g)) f) ≡ neg_ℤ (dot (cross_product (support_of t)) g *ℤ dot f (cross (seen p t.c) (seen p t.a)))
 third_edge t p f g =
     identity (vector ∷ vector ∷ vector ∷ tuple ∷ vector ∷ vector ∷ []) (λ a b c p f g. dotE (vector_partE (supportE a b c)) f ⊗ (p.w ⊗ valueE (edgeE c a g) p) ⊖ valueE (supportE a b c) p ⊗ (p.w ⊗ dotE (vector_partE (edgeE c a g)) f) ≈ neg (dotE (vector_partE (supportE a b c)) g ⊗ dotE f (crossE (seenE p c) (seenE p a)))) cancels (vector_of t.a) (vector_of t.b) (vector_of t.c) (tuple_of p) f g
 
 -- the value of any plane q with that identity, times the weight
-at_hit : (n q : Plane) (p : Spot) (a k : Axis) (x : ℤ) → dot (normal_of n) (unit a) *ℤ (p.w *ℤ value_at q p) -ℤ value_at n p *ℤ (p.w *ℤ dot (normal_of q) (unit a)) ≡ neg_ℤ (dot (normal_of n) (unit k) *ℤ x) → p.w *ℤ value_at q (hit n a p) ≡ neg_ℤ (sign (along n a) *ℤ (along n k *ℤ x))
+at_hit : (n q : Plane) (p : Spot) (a k : Axis) (x : ℤ) → dot (cross_product n) (unit a) *ℤ (p.w *ℤ value_at q p) -ℤ value_at n p *ℤ (p.w *ℤ dot (cross_product q) (unit a)) ≡ neg_ℤ (dot (cross_product n) (unit k) *ℤ x) → p.w *ℤ value_at q (hit n a p) ≡ neg_ℤ (sign (along n a) *ℤ (along n k *ℤ x))
 at_hit n q p a k x h =
     let e = value_hit q n a p in
     rw (e, size-is (along n a), along_dot q a, along_dot n k)
-    (omega (arith, linear, ap (λ (z : ℤ). sign (along n a) *ℤ z) h, solve 6 (λ w s na v sv qa. w ⊗ (s ⊗ na ⊗ v ⊖ s ⊗ sv ⊗ qa) ≈ s ⊗ (na ⊗ (w ⊗ v) ⊖ sv ⊗ (w ⊗ qa))) cancels p.w (sign (along n a)) (along n a) (value_at q p) (value_at n p) (dot (normal_of q) (unit a)), along_dot n a, ap (λ (z : ℤ). sign (along n a) *ℤ (z *ℤ (p.w *ℤ value_at q p) -ℤ value_at n p *ℤ (p.w *ℤ dot (normal_of q) (unit a)))) (along_dot n a), solve 3 (λ s k x. s ⊗ neg (k ⊗ x) ≈ neg (s ⊗ (k ⊗ x))) cancels (sign (along n a)) (dot (normal_of n) (unit k)) x))
+    (omega (arith, linear, ap (λ (z : ℤ). sign (along n a) *ℤ z) h, solve 6 (λ w s na v sv qa. w ⊗ (s ⊗ na ⊗ v ⊖ s ⊗ sv ⊗ qa) ≈ s ⊗ (na ⊗ (w ⊗ v) ⊖ sv ⊗ (w ⊗ qa))) cancels p.w (sign (along n a)) (along n a) (value_at q p) (value_at n p) (dot (cross_product q) (unit a)), along_dot n a, ap (λ (z : ℤ). sign (along n a) *ℤ (z *ℤ (p.w *ℤ value_at q p) -ℤ value_at n p *ℤ (p.w *ℤ dot (cross_product q) (unit a)))) (along_dot n a), solve 3 (λ s k x. s ⊗ neg (k ⊗ x) ≈ neg (s ⊗ (k ⊗ x))) cancels (sign (along n a)) (dot (cross_product n) (unit k)) x))
 
 twice : (k a x : Sign) → T (not (is_nil k)) → times k (flip (times a (times k x))) ≡ flip (times a x)
 twice k a x t =
     same_sgn_out _ _ (use_if (not (is_nil k)) _ (signs 3 (λ k a x. not (is_nil k) ⇒ same_sgn (times k (flip (times a (times k x)))) (flip (times a x))) tt k a x) t)
 
 -- its sign, with the factor that the edge plane has
-pub edge_sign : (n q : Plane) (p : Spot) (a k : Axis) (x : ℤ) → pos 0 <ℤ p.w → along n k ≢ pos 0 → dot (normal_of n) (unit a) *ℤ (p.w *ℤ value_at q p) -ℤ value_at n p *ℤ (p.w *ℤ dot (normal_of q) (unit a)) ≡ neg_ℤ (dot (normal_of n) (unit k) *ℤ x) → sgn (value_at (times_plane (sign (along n k)) q) (hit n a p)) ≡ flip (times (sgn (along n a)) (sgn x))
+pub edge_sign : (n q : Plane) (p : Spot) (a k : Axis) (x : ℤ) → pos 0 <ℤ p.w → along n k ≢ pos 0 → dot (cross_product n) (unit a) *ℤ (p.w *ℤ value_at q p) -ℤ value_at n p *ℤ (p.w *ℤ dot (cross_product q) (unit a)) ≡ neg_ℤ (dot (cross_product n) (unit k) *ℤ x) → sgn (value_at (times_plane (sign (along n k)) q) (hit n a p)) ≡ flip (times (sgn (along n a)) (sgn x))
 edge_sign n q p a k x w nk h =
     let c = sign (along n k) in let v = value_at q (hit n a p) in
     ap sgn (value_times c q (hit n a p)) ∙ sgn-mul c v ∙ ap2 times (sgn-sign (along n k)) (sym (sgn_scaled v w) ∙ ap sgn (at_hit n q p a k x h) ∙ sgn-neg (sign (along n a) *ℤ (along n k *ℤ x)) ∙ ap flip (sgn-mul (sign (along n a)) (along n k *ℤ x) ∙ ap2 times (sgn-sign (along n a)) (sgn-mul (along n k) x))) ∙ twice (sgn (along n k)) (sgn (along n a)) (sgn x) (not_null (along n k) nk)
@@ -108,7 +108,7 @@ crossing_seen a p t w =
     let n = support_of t in let k = main_axis n in let f = unit a in
     let u = seen p t.a in let v = seen p t.b in let y = seen p t.c in
     let ww = pos_mul w w in
-    let en : sgn (dot f (normal u v y)) ≡ sgn (along n a) = ap sgn (normal_value t f p) ∙ sgn_scaled (dot (normal_of n) f) ww ∙ ap sgn (sym (along_dot n a)) in
+    let en : sgn (dot f (normal u v y)) ≡ sgn (along n a) = ap sgn (normal_value t f p) ∙ sgn_scaled (dot (cross_product n) f) ww ∙ ap sgn (sym (along_dot n a)) in
     let ed : sgn (det u v y) ≡ flip (sgn (value_at n p)) = ap sgn (support_value t p) ∙ sgn-neg (p.w *ℤ p.w *ℤ value_at n p) ∙ ap flip (sgn_scaled (value_at n p) ww) in
     let off : along n a ≡ pos 0 → crossing (face_of t) a p ≡ seen_crossing f p t = λ z.
     crossing_off (face_of t) a p (negative_not (value_at n p *ℤ along n a) (let r = zero_scaled (value_at n p) (along n a) z in omega (arith, linear, r))) ∙ sym (ap (λ (s : Sign). sign_crossing (sgn (det u v y)) s (sgn (dot f (cross u v))) (sgn (dot f (cross v y))) (sgn (dot f (cross y u)))) (en ∙ ap sgn z) ∙ no_slope (sgn (det u v y)) (sgn (dot f (cross u v))) (sgn (dot f (cross v y))) (sgn (dot f (cross y u)))) in

@@ -20,12 +20,12 @@ abbrev pub all_negative : List Plane → Spot → Bool
 all_negative es x = list_all (λ e. is_negative (value_at e x)) es
 
 -- the point at which the line through p along a meets the plane h
-abbrev pub entry : Plane → Axis → Spot → Spot
-entry h a p = moved (scaled (neg_ℤ (along h a)) p) a (value_at h p)
+abbrev pub entry_point : Plane → Axis → Spot → Spot
+entry_point h a p = moved (scaled (neg_ℤ (along h a)) p) a (value_at h p)
 
 -- the ray passes from the front of h to its back where no plane of the list is positive
 abbrev pub is_entry : List Plane → Axis → Spot → Plane → Bool
-is_entry es a p h = is_negative (along h a) && (is_positive (value_at h p) && none_positive es (entry h a p))
+is_entry es a p h = is_negative (along h a) && (is_positive (value_at h p) && none_positive es (entry_point h a p))
 
 -- a ray inside the support plane meets the closed face: it does so at the first point where it enters through an edge
 abbrev pub enters : List Plane → Axis → Spot → Bool

@@ -61,7 +61,7 @@ crossing f a p =
 abbrev pub between : Plane → Spot → Spot → Spot
 between n p q = plus_s (scaled (size (value_at n q)) p) (scaled (size (value_at n p)) q)
 
--- the signed crossing of the segment from p to q: 1 where the way from p to q leaves through the front
+-- the signed crossing of the segment from p to q: 1 where the segment from p to q leaves through the front
 unfoldable pub leg : Face → Spot → Spot → ℤ
 leg f p q =
     if is_negative (value_at f.support p *ℤ value_at f.support q) && is_inside f (between f.support p q) then sign (value_at f.support q) else pos 0
@@ -74,8 +74,8 @@ below f p = record { support = f.support; edges = f.edges ++ p ∷ [] }
 abbrev pub above : Face → Plane → Face
 above f p = below f (opposite p)
 
-abbrev pub turned : Face → Face
-turned f = record { support = opposite f.support; edges = f.edges }
+abbrev pub flipped_face : Face → Face
+flipped_face f = record { support = opposite f.support; edges = f.edges }
 
 -- inside points of f lie strictly on both sides of p
 pub record Cuts (f : Face) (p : Plane) : Type 0 where

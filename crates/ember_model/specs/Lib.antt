@@ -5,7 +5,7 @@ pub mod Faces
 pub mod Clear
 pub mod Meshes
 pub mod Sizes
-pub mod Steps
+pub mod Vectors3
 pub mod ClearTest
 pub mod Rays
 pub mod Owners

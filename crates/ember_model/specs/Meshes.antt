@@ -50,12 +50,12 @@ abbrev pub same_edge : Edge → Edge → Bool
 same_edge e f = same_corner e.from f.from && same_corner e.to f.to
 
 -- how often an edge occurs
-abbrev pub times : Edge → List Edge → ℕ
-times e es = occurrences same_edge e es
+abbrev pub edge_count : Edge → List Edge → ℕ
+edge_count e es = occurrences same_edge e es
 
 -- each directed edge occurs as often as its reverse: the surface is closed
 abbrev pub IsBalanced : List Tri → Type 0
-IsBalanced ts = (e : Edge) → times e (edges_in ts) ≡ times (reversed e) (edges_in ts)
+IsBalanced ts = (e : Edge) → edge_count e (edges_in ts) ≡ edge_count (reversed e) (edges_in ts)
 
 -- ---- scenes
 pub record HasMesh (most : ℕ) (t : Tri) : Type 0 where

@@ -9,13 +9,13 @@ use Rattle.ember_model.specs.Planes.{support_of, value_at}
 use Rattle.ember_model.specs.Faces.{is_flat, face_of, Contains}
 
 -- the corner as a point
-abbrev pub spot_at : Corner → Spot
-spot_at c = record { x = c.x; y = c.y; z = c.z; w = pos 1 }
+abbrev pub spot_of_corner : Corner → Spot
+spot_of_corner c = record { x = c.x; y = c.y; z = c.z; w = pos 1 }
 
 -- each corner of u lies on the support plane of t
 abbrev pub lies_in_plane_of : Tri → Tri → Bool
 lies_in_plane_of t u =
-    is_zero (value_at (support_of t) (spot_at u.a)) && (is_zero (value_at (support_of t) (spot_at u.b)) && is_zero (value_at (support_of t) (spot_at u.c)))
+    is_zero (value_at (support_of t) (spot_of_corner u.a)) && (is_zero (value_at (support_of t) (spot_of_corner u.b)) && is_zero (value_at (support_of t) (spot_of_corner u.c)))
 
 -- neither is flat, and they lie in one plane
 unfoldable pub is_coplanar : Tri → Tri → Bool

@@ -11,7 +11,7 @@ use Rattle.ember_model.specs.Clear.{AreClear}
 use Rattle.ember_model.specs.Meshes.{faces_of, vector}
 
 -- v is clear of all triangles, and its winding numbers along k are these
-pub record Sees (ts : List Tri) (k : Axis) (v : Spot) (counts : List ℤ) : Type 0 where
+pub record HasWindings (ts : List Tri) (k : Axis) (v : Spot) (counts : List ℤ) : Type 0 where
   pub clear : AreClear (faces_of ts) v
   pub counts_are : vector k ts v ≡ counts
 
@@ -21,5 +21,5 @@ pub record IsSides (ts : List Tri) (f : Face) (before after : List ℤ) : Type 0
   pub at : Spot
   pub inside : is_inside f at ≡ true
   pub bound : ℕ
-  pub sees_before : (s m : ℕ) → 1 ≤ s → bound * s < m → Sees ts (main_axis f.support) (moved (scaled (pos m) at) (main_axis f.support) (neg_ℤ (pos s))) before
-  pub sees_after : (s m : ℕ) → 1 ≤ s → bound * s < m → Sees ts (main_axis f.support) (moved (scaled (pos m) at) (main_axis f.support) (pos s)) after
+  pub sees_before : (s m : ℕ) → 1 ≤ s → bound * s < m → HasWindings ts (main_axis f.support) (moved (scaled (pos m) at) (main_axis f.support) (neg_ℤ (pos s))) before
+  pub sees_after : (s m : ℕ) → 1 ≤ s → bound * s < m → HasWindings ts (main_axis f.support) (moved (scaled (pos m) at) (main_axis f.support) (pos s)) after

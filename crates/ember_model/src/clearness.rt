@@ -9,10 +9,10 @@ ghost use Rattle.ember_model.specs.ClearTest.{enters, is_entry, is_ray_clear, is
 use crate::face::Face;
 use crate::plane::Plane;
 use crate::point::{Axis, Spot};
-use crate::rays::{hit_along, meets};
-use crate::sides::{component, has_no_normal, main_edges, support_of};
+use crate::rays::{hit_on_ray, meets};
 use crate::tri::Tri;
-use crate::values::{Along, all_negative, none_positive, value};
+use crate::triangle_planes::{component, has_no_normal, main_edges, support_of};
+use crate::values::{RayPoint, all_negative, none_positive, value};
 
 // A point with this value lies on the plane.
 fn is_on(front: i128) -> bool
@@ -38,10 +38,10 @@ fn in_closed(p: &Spot, n: &Plane, es: &[Plane]) -> bool
         && none_positive(
             es,
             p,
-            &Along {
+            &RayPoint {
                 axis: Axis::X,
                 factor: 1,
-                way: 0,
+                offset: 0,
             },
         )
 }
@@ -54,16 +54,16 @@ fn is_entry(p: &Spot, a: Axis, h: &Plane, es: &[Plane]) -> bool
     ensures { result ≡ is_entry es.now a p.now h.now }
 {
     let slope = component(h, a);
-    let way = value(h, p);
+    let offset = value(h, p);
     slope < 0
-        && (way > 0
+        && (offset > 0
             && none_positive(
                 es,
                 p,
-                &Along {
+                &RayPoint {
                     axis: a,
                     factor: -slope,
-                    way,
+                    offset,
                 },
             ))
 }
@@ -93,7 +93,7 @@ fn is_ray_clear(p: &Spot, a: Axis, n: &Plane, es: &[Plane]) -> bool
     if is_level(slope) {
         !is_on(front) || !enters(p, a, es)
     } else if meets(front, slope) {
-        let hit = hit_along(front, slope, a);
+        let hit = hit_on_ray(front, slope, a);
         !none_positive(es, p, &hit) || all_negative(es, p, &hit)
     } else {
         true

@@ -9,13 +9,11 @@ mod plane;
 mod point;
 mod rays;
 mod scene;
-mod sides;
-mod steps;
-#[cfg(test)]
-mod tests;
 mod tri;
+mod triangle_planes;
 mod values;
 mod vector;
+mod vector3;
 
 pub use clearness::{clear, face_clear};
 pub use face::Face;
@@ -23,7 +21,7 @@ pub use plane::{Plane, Planes};
 pub use point::{Axis, Corner, Spot};
 pub use rays::{crossing, face_crossing, leg};
 pub use scene::Scene;
-pub use sides::{OutOfMemory, edge_plane, face_of, main_axis, support_of};
 pub use tri::{Lines, Soup, Tri, Tris};
+pub use triangle_planes::{OutOfMemory, edge_plane, face_of, main_axis, support_of};
 pub use values::value;
 pub use vector::Vector;

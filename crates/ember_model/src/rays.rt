@@ -4,15 +4,15 @@ ghost use Rattle.ember_algebra.specs.Size.{Small};
 ghost use Rattle.ember_algebra.specs.Sign.{sign, is_negative, is_positive};
 ghost use Rattle.ember_model.specs.Valid.{IsValidTri, IsValidSpot, IsValidFace};
 ghost use Rattle.ember_model.specs.Points.{DifferAlong};
-ghost use Rattle.ember_model.specs.Rays.{IsAlongSized};
+ghost use Rattle.ember_model.specs.Rays.{IsRayPointSized};
 ghost use Rattle.ember_model.specs.Faces.{size, crossing, leg, face_of};
 
 use crate::face::Face;
 use crate::point::{Axis, Spot};
-use crate::sides::{component, support_of};
-use crate::steps::sign_number;
 use crate::tri::Tri;
-use crate::values::{Along, all_negative, edge_value, value};
+use crate::triangle_planes::{component, support_of};
+use crate::values::{RayPoint, all_negative, edge_value, value};
+use crate::vector3::sign_number;
 
 // A ray on which a plane has the slope `slope` from its value `front` on meets the plane.
 pub fn meets(front: i128, slope: i64) -> bool
@@ -25,17 +25,17 @@ pub fn meets(front: i128, slope: i64) -> bool
 
 // The place at which it does.
 #[tactic(none)]
-pub fn hit_along(front: i128, slope: i64, axis: Axis) -> Along
+pub fn hit_on_ray(front: i128, slope: i64, axis: Axis) -> RayPoint
     requires front { Small (2 ^ 80) front }
     requires slope { Small 33554431 slope }
-    ensures value { result ≡ record { axis = axis; factor = size slope; way = neg_ℤ (sign slope *ℤ front) } }
-    ensures sized { IsAlongSized result }
+    ensures value { result ≡ record { axis = axis; factor = size slope; offset = neg_ℤ (sign slope *ℤ front) } }
+    ensures sized { IsRayPointSized result }
 {
     let s = sign_number(slope);
-    Along {
+    RayPoint {
         axis,
         factor: s * slope,
-        way: -(s as i128 * front),
+        offset: -(s as i128 * front),
     }
 }
 
@@ -49,7 +49,7 @@ pub fn face_crossing(p: &Spot, a: Axis, f: &Face) -> i32
 {
     let front = value(&f.support, p);
     let slope = component(&f.support, a);
-    if meets(front, slope) && all_negative(f.edges.items(), p, &hit_along(front, slope, a)) {
+    if meets(front, slope) && all_negative(f.edges.items(), p, &hit_on_ray(front, slope, a)) {
         sign_number(slope) as i32
     } else {
         0
@@ -117,8 +117,8 @@ fn all_behind(slope: i64, e: i128, f: i128, g: i128) -> bool
     }
 }
 
-// How a way passes a plane that has the values `start` and `end` at its ends.
-fn passage(start: i128, end: i128) -> i32
+// How a segment passes a plane that has the values `start` and `end` at its ends.
+fn signed_crossing(start: i128, end: i128) -> i32
     requires start { Small (2 ^ 80) start }
     requires end { Small (2 ^ 80) end }
     ensures value { result ≡ (if is_negative (start *ℤ end) then sign end else pos 0) }
@@ -134,7 +134,7 @@ fn passage(start: i128, end: i128) -> i32
 }
 
 /// The signed crossing of the segment from `p` to `q` with the inside of the triangle's face: 1
-/// where the way from `p` to `q` leaves through the front, -1 where it enters through it, else 0.
+/// where the segment from `p` to `q` leaves through the front, -1 where it enters through it, else 0.
 /// As points of space `p` and `q` differ at most in the coordinate of the axis.
 pub fn leg(p: &Spot, q: &Spot, a: Axis, t: &Tri) -> i32
     requires from { IsValidSpot p.now }
@@ -150,7 +150,7 @@ pub fn leg(p: &Spot, q: &Spot, a: Axis, t: &Tri) -> i32
     let f = edge_value(&t.b, &t.c, a, p);
     let g = edge_value(&t.c, &t.a, a, p);
     if all_behind(slope, e, f, g) {
-        passage(value(&n, p), value(&n, q))
+        signed_crossing(value(&n, p), value(&n, q))
     } else {
         0
     }

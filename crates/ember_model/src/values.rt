@@ -3,56 +3,58 @@ ghost use Rattle.std.specs.Prelude.{◌≡◌, ◌^◌, ◌-ℤ◌, ◌*ℤ◌, 
 ghost use Rattle.ember_algebra.specs.Size.{Small};
 ghost use Rattle.ember_model.specs.Valid.{IsValidCorner, IsValidPlane, IsValidSpot};
 ghost use Rattle.ember_model.specs.Planes.{value_at, along, unit, edge_through};
-ghost use Rattle.ember_model.specs.Rays.{place, IsAlongSized};
-ghost use Rattle.ember_model.specs.Steps.{IsStepWithin};
+ghost use Rattle.ember_model.specs.Rays.{point_on_ray, IsRayPointSized};
+ghost use Rattle.ember_model.specs.Vectors3.{IsVector3Within};
 ghost use Rattle.ember_model.specs.ClearTest.{none_positive, all_negative};
 
 use crate::plane::Plane;
 use crate::point::{Axis, Corner, Spot};
-use crate::sides::component;
-use crate::steps::{Step, step_between};
+use crate::triangle_planes::component;
+use crate::vector3::{Vector3, vector_between};
 
 /// The value of a plane at a point, `a x + b y + c z - d w`: positive in front of the plane.
 #[tactic(none)]
-pub fn value(p: &Plane, s: &Spot) -> i128
-    requires plane { IsValidPlane p.now }
-    requires spot { IsValidSpot s.now }
-    ensures value { result ≡ value_at p.now s.now }
+pub fn value(plane: &Plane, point: &Spot) -> i128
+    requires plane { IsValidPlane plane.now }
+    requires spot { IsValidSpot point.now }
+    ensures value { result ≡ value_at plane.now point.now }
     ensures small { Small (2 ^ 80) result }
 {
-    p.a as i128 * s.x as i128 + p.b as i128 * s.y as i128 + p.c as i128 * s.z as i128
-        - p.d as i128 * s.w as i128
+    plane.a as i128 * point.x as i128
+        + plane.b as i128 * point.y as i128
+        + plane.c as i128 * point.z as i128
+        - plane.d as i128 * point.w as i128
 }
 
 // A place on the ray from a point along an axis.
 #[derive(Clone, Copy)]
-pub struct Along {
+pub struct RayPoint {
     pub axis: Axis,
     pub factor: i64,
-    pub way: i128,
+    pub offset: i128,
 }
 
 // The value of a plane at a place on the ray from p.
 #[tactic(none)]
-pub fn value_along(e: &Plane, p: &Spot, r: &Along) -> i128
+pub fn value_at_ray_point(e: &Plane, p: &Spot, r: &RayPoint) -> i128
     requires plane { IsValidPlane e.now }
     requires spot { IsValidSpot p.now }
-    requires sized { IsAlongSized r.now }
-    ensures value { result ≡ value_at e.now (place p.now r.now) }
+    requires sized { IsRayPointSized r.now }
+    ensures value { result ≡ value_at e.now (point_on_ray p.now r.now) }
     ensures small { Small (2 ^ 107) result }
 {
-    r.factor as i128 * value(e, p) + r.way * component(e, r.axis) as i128
+    r.factor as i128 * value(e, p) + r.offset * component(e, r.axis) as i128
 }
 
 // All planes are negative at a place on the ray from p.
-pub fn all_negative(es: &[Plane], p: &Spot, r: &Along) -> bool
+pub fn all_negative(es: &[Plane], p: &Spot, r: &RayPoint) -> bool
     requires planes { All IsValidPlane es.now }
     requires spot { IsValidSpot p.now }
-    requires sized { IsAlongSized r.now }
-    ensures { result ≡ all_negative es.now (place p.now r.now) }
+    requires sized { IsRayPointSized r.now }
+    ensures { result ≡ all_negative es.now (point_on_ray p.now r.now) }
 {
     for e in es {
-        if value_along(e, p, r) >= 0 {
+        if value_at_ray_point(e, p, r) >= 0 {
             return false;
         }
     }
@@ -60,14 +62,14 @@ pub fn all_negative(es: &[Plane], p: &Spot, r: &Along) -> bool
 }
 
 // No plane is positive at a place on the ray from p.
-pub fn none_positive(es: &[Plane], p: &Spot, r: &Along) -> bool
+pub fn none_positive(es: &[Plane], p: &Spot, r: &RayPoint) -> bool
     requires planes { All IsValidPlane es.now }
     requires spot { IsValidSpot p.now }
-    requires sized { IsAlongSized r.now }
-    ensures { result ≡ none_positive es.now (place p.now r.now) }
+    requires sized { IsRayPointSized r.now }
+    ensures { result ≡ none_positive es.now (point_on_ray p.now r.now) }
 {
     for e in es {
-        if value_along(e, p, r) > 0 {
+        if value_at_ray_point(e, p, r) > 0 {
             return false;
         }
     }
@@ -76,15 +78,15 @@ pub fn none_positive(es: &[Plane], p: &Spot, r: &Along) -> bool
 
 // A point seen from a corner, times the point's weight.
 #[tactic(none)]
-fn seen_from(u: &Corner, s: &Spot) -> Step
+fn vector_from_corner(u: &Corner, s: &Spot) -> Vector3
     requires corner { IsValidCorner u.now }
     requires spot { IsValidSpot s.now }
     ensures x { result.x ≡ s.now.x -ℤ s.now.w *ℤ u.now.x }
     ensures y { result.y ≡ s.now.y -ℤ s.now.w *ℤ u.now.y }
     ensures z { result.z ≡ s.now.z -ℤ s.now.w *ℤ u.now.z }
-    ensures small { IsStepWithin (2 ^ 52) result }
+    ensures small { IsVector3Within (2 ^ 52) result }
 {
-    Step {
+    Vector3 {
         x: s.x - s.w * u.x as i64,
         y: s.y - s.w * u.y as i64,
         z: s.z - s.w * u.z as i64,
@@ -92,7 +94,7 @@ fn seen_from(u: &Corner, s: &Spot) -> Step
 }
 
 #[tactic(none)]
-fn turn(a: i64, x: i64, b: i64, y: i64) -> i128
+fn product_difference(a: i64, x: i64, b: i64, y: i64) -> i128
     requires a { Small 4094 a }
     requires x { Small (2 ^ 52) x }
     requires b { Small 4094 b }
@@ -111,11 +113,11 @@ pub fn edge_value(u: &Corner, v: &Corner, k: Axis, s: &Spot) -> i128
     ensures value { result ≡ value_at (edge_through u.now v.now (unit k)) s.now }
     ensures small { Small (2 ^ 66) result }
 {
-    let step = step_between(u, v);
-    let at = seen_from(u, s);
+    let step = vector_between(u, v);
+    let at = vector_from_corner(u, s);
     match k {
-        Axis::X => turn(step.z, at.y, step.y, at.z),
-        Axis::Y => turn(step.x, at.z, step.z, at.x),
-        Axis::Z => turn(step.y, at.x, step.x, at.y),
+        Axis::X => product_difference(step.z, at.y, step.y, at.z),
+        Axis::Y => product_difference(step.x, at.z, step.z, at.x),
+        Axis::Z => product_difference(step.y, at.x, step.x, at.y),
     }
 }

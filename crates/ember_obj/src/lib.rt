@@ -6,8 +6,6 @@ mod lines;
 mod reading;
 mod references;
 mod scan;
-#[cfg(test)]
-mod tests;
 mod vertex;
 
 pub use fault::ObjFault;

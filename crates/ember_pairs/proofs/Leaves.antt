@@ -13,12 +13,12 @@ use Rattle.ember_model.specs.Valid.{IsValidTri}
 use Rattle.ember_model.specs.Faces.{is_flat, face_of, is_in_closed}
 use Rattle.ember_model.proofs.SignTests.{In}
 use Rattle.ember_model.proofs.Hits.{closed_parts}
-use Rattle.ember_box.specs.Boxes.{Cell, low, root, left, left_half, right_half}
-use Rattle.ember_box.specs.Spans.{spans_of}
-use Rattle.ember_box.specs.Near.{is_near, tri_at, near_places, places}
+use Rattle.ember_box.specs.Boxes.{Cell, low, root, halvings_left, left_half, right_half}
+use Rattle.ember_box.specs.Aabbs.{aabb_of_cell}
+use Rattle.ember_box.specs.Near.{is_near, tri_at, near_indices, all_indices}
 use Rattle.ember_box.specs.Halving.{halving_axis, is_leaf}
-use Rattle.ember_box.proofs.Nearby.{halves_end}
-use Rattle.ember_box.proofs.Splits.{left_less}
+use Rattle.ember_box.proofs.NearByAabbs.{halves_end}
+use Rattle.ember_box.proofs.HalfCells.{left_less}
 use Rattle.ember_box.proofs.Halvable.{halvable_unless_leaf}
 use Rattle.ember_ref.proofs.NearPoints.{IsAcross, HasPoint, near_point, past_corners}
 use Rattle.ember_job.specs.declared.job.Job.{Job}
@@ -67,10 +67,10 @@ abbrev shapes : List Tri → Job → Shape
 shapes ts job = pairs_shape ts job
 
 -- what becomes of a box with two near triangles
-shape_of : (ts : List Tri) (c : Cell) → 2 ≤ length (near_places ts c (places ts)) → pairs_shape ts (job_at ts c) ≡ (if is_leaf ts c then leafed else halved (job_at ts (left_half c (halving_axis ts c))) (job_at ts (right_half c (halving_axis ts c))))
+shape_of : (ts : List Tri) (c : Cell) → 2 ≤ length (near_indices ts c (all_indices ts)) → pairs_shape ts (job_at ts c) ≡ (if is_leaf ts c then leafed else halved (job_at ts (left_half c (halving_axis ts c))) (job_at ts (right_half c (halving_axis ts c))))
 unfolding pairs_shape
 shape_of ts c many =
-    ap (λ b. if b then passed else (if is_leaf ts c then leafed else halved (job_at ts (left_half c (halving_axis ts c))) (job_at ts (right_half c (halving_axis ts c))))) (le-ltb (length (near_places ts c (places ts))) 2 many)
+    ap (λ b. if b then passed else (if is_leaf ts c then leafed else halved (job_at ts (left_half c (halving_axis ts c))) (job_at ts (right_half c (halving_axis ts c))))) (le-ltb (length (near_indices ts c (all_indices ts))) 2 many)
 
 -- a leaf that has the point
 pub record LeafAt (ts : List Tri) (jobs : List Job) (v : Spot) : Type 0 where
@@ -85,7 +85,7 @@ leaf_here ts n c v h e = record {
   has = h;
 }
 
-leaf_under : (ts : List Tri) (v : Spot) → ((c : Cell) → HasPoint c v → 2 ≤ length (near_places ts c (places ts))) → (n : ℕ) (c : Cell) → left c ≤ n → HasPoint c v → LeafAt ts (under (shapes ts) n (job_at ts c)) v
+leaf_under : (ts : List Tri) (v : Spot) → ((c : Cell) → HasPoint c v → 2 ≤ length (near_indices ts c (all_indices ts))) → (n : ℕ) (c : Cell) → halvings_left c ≤ n → HasPoint c v → LeafAt ts (under (shapes ts) n (job_at ts c)) v
 leaf_under ts v many zero c few h = by (is_leaf ts c) refl
   where
     by : (b : Bool) → is_leaf ts c ≡ b → LeafAt ts (under (shapes ts) zero (job_at ts c)) v
@@ -96,7 +96,7 @@ leaf_under ts v many zero c few h = by (is_leaf ts c) refl
 leaf_under ts v many (suc n) c few h =
     by (is_leaf ts c) refl (λ d. leaf_under ts v many n d)
   where
-    by : (b : Bool) → is_leaf ts c ≡ b → ((d : Cell) → left d ≤ n → HasPoint d v → LeafAt ts (under (shapes ts) n (job_at ts d)) v) → LeafAt ts (under (shapes ts) (suc n) (job_at ts c)) v
+    by : (b : Bool) → is_leaf ts c ≡ b → ((d : Cell) → halvings_left d ≤ n → HasPoint d v → LeafAt ts (under (shapes ts) n (job_at ts d)) v) → LeafAt ts (under (shapes ts) (suc n) (job_at ts c)) v
     by true e f =
         leaf_here ts (suc n) c v h (shape_of ts c (many c h) ∙ ap (λ b. if b then leafed else halved (job_at ts (left_half c (halving_axis ts c))) (job_at ts (right_half c (halving_axis ts c)))) e)
     by false e f =
@@ -123,7 +123,7 @@ root_has t v valid nf h =
       on_z = across v.z v.w w z z';
     }
   where
-    across : (x w : ℤ) → pos 0 <ℤ w → (neg_ℤ (pos 2047) *ℤ w) ≤ℤ (pos 1 *ℤ x) → (neg_ℤ (pos 2047) *ℤ w) ≤ℤ (neg_ℤ (pos 1) *ℤ x) → IsAcross (spans_of root).x x w
+    across : (x w : ℤ) → pos 0 <ℤ w → (neg_ℤ (pos 2047) *ℤ w) ≤ℤ (pos 1 *ℤ x) → (neg_ℤ (pos 2047) *ℤ w) ≤ℤ (neg_ℤ (pos 1) *ℤ x) → IsAcross (aabb_of_cell root).x x w
     across x w p a b = record { from = omega (arith, linear); to = omega (arith, linear) }
 
 -- ---- two triangles
@@ -141,14 +141,14 @@ pub record Share (ts : List Tri) (i j : ℕ) (v : Spot) : Type 0 where
   pub in_one : is_in_closed (face_of (tri_at ts i)) v ≡ true
   pub in_other : is_in_closed (face_of (tri_at ts j)) v ≡ true
 
-pub listed_at : (ts : List Tri) (c : Cell) (i : ℕ) (v : Spot) → i < length ts → is_flat (tri_at ts i) ≡ false → is_in_closed (face_of (tri_at ts i)) v ≡ true → HasPoint c v → In i (near_places ts c (places ts))
+pub listed_at : (ts : List Tri) (c : Cell) (i : ℕ) (v : Spot) → i < length ts → is_flat (tri_at ts i) ≡ false → is_in_closed (face_of (tri_at ts i)) v ≡ true → HasPoint c v → In i (near_indices ts c (all_indices ts))
 listed_at ts c i v l nf h p =
-    in_filter (λ k. is_near c (tri_at ts k)) i (places ts) (in_range 0 (length ts) i (omega arith) (omega (arith, l))) (near_point c (tri_at ts i) v nf p h)
+    in_filter (λ k. is_near c (tri_at ts k)) i (all_indices ts) (in_range 0 (length ts) i (omega arith) (omega (arith, l))) (near_point c (tri_at ts i) v nf p h)
 
 pub shared_leaf : (ts : List Tri) (i j : ℕ) (v : Spot) → i < j → j < length ts → IsValidTri (tri_at ts i) → Share ts i j v → LeafAt ts (leaf_jobs ts) v
 shared_leaf ts i j v l m valid s =
-    leaf_under ts v many (left root) root (omega arith) (root_has (tri_at ts i) v valid s.one s.in_one)
+    leaf_under ts v many (halvings_left root) root (omega arith) (root_has (tri_at ts i) v valid s.one s.in_one)
   where
-    many : (c : Cell) → HasPoint c v → 2 ≤ length (near_places ts c (places ts))
+    many : (c : Cell) → HasPoint c v → 2 ≤ length (near_indices ts c (all_indices ts))
     many c p =
-        two_members (near_places ts c (places ts)) i j (listed_at ts c i v (omega (arith, l, m)) s.one s.in_one p) (listed_at ts c j v m s.other s.in_other p) l
+        two_members (near_indices ts c (all_indices ts)) i j (listed_at ts c i v (omega (arith, l, m)) s.one s.in_one p) (listed_at ts c j v m s.other s.in_other p) l

@@ -7,7 +7,7 @@ use Rattle.std.proofs.lemmas.List.FromFn.{length-range_with_len, get_or-range_wi
 use Rattle.ember_model.specs.declared.tri.Tri.{Tri}
 use Rattle.ember_model.specs.declared.point.Axis.{Axis}
 use Rattle.ember_box.specs.Boxes.{Cell, root, left_half, right_half}
-use Rattle.ember_box.specs.Near.{listed, near_places, places}
+use Rattle.ember_box.specs.Near.{listed, near_indices, all_indices}
 use Rattle.ember_box.specs.Halving.{halving_axis, is_leaf}
 use Rattle.ember_box.proofs.Lists.{left_places, right_places, is_leaf_listed, halving_axis_listed, near_in_range}
 use Rattle.ember_job.specs.declared.job.Job.{Job}
@@ -23,16 +23,16 @@ range_more a (suc n) =
 pub root_is_valid : (ts : List Tri) (job : Job) → job ≡ job_at ts root → IsPairsJob ts job
 root_is_valid ts job e = subst (λ (j : Job). IsPairsJob ts j) (sym e) (record { from_root = at_root; is = refl })
 
-pub places_in_range : (ts : List Tri) → All (λ i. i < length ts) (places ts)
+pub places_in_range : (ts : List Tri) → All (λ i. i < length ts) (all_indices ts)
 places_in_range ts =
-    All-from_get_or (λ i. i < length ts) (places ts) 0 (λ i l. let b : i < length ts = omega (arith, l, length-range_with_len 0 (length ts)) in let e = get_or-range_with_len 0 (length ts) i 0 b in rw e (omega arith))
+    All-from_get_or (λ i. i < length ts) (all_indices ts) 0 (λ i l. let b : i < length ts = omega (arith, l, length-range_with_len 0 (length ts)) in let e = get_or-range_with_len 0 (length ts) i 0 b in rw e (omega arith))
 
-list_is : (ts : List Tri) (job : Job) → IsPairsJob ts job → job.list ≡ near_places ts job.cell (places ts)
+list_is : (ts : List Tri) (job : Job) → IsPairsJob ts job → job.list ≡ near_indices ts job.cell (all_indices ts)
 list_is ts job v = ap (λ (j : Job). j.list) v.is
 
 pub list_in_range : (ts : List Tri) (job : Job) (list : List ℕ) → IsPairsJob ts job → list ≡ job.list → All (λ i. i < length ts) list
 list_in_range ts job list v e =
-    subst (λ (is : List ℕ). All (λ i. i < length ts) is) (sym (e ∙ list_is ts job v)) (near_in_range ts job.cell (places ts) (places_in_range ts))
+    subst (λ (is : List ℕ). All (λ i. i < length ts) is) (sym (e ∙ list_is ts job v)) (near_in_range ts job.cell (all_indices ts) (places_in_range ts))
 
 -- ---- the answers
 abbrev leaf_or : Bool → Axis → Option Axis
@@ -72,15 +72,15 @@ answers_leaf ts job list v e many a =
     λ i. if le-ltb (length job.list) 2 long i then passed else (if leaf i then leafed else halved (job_at ts (left_half job.cell (halving_axis ts job.cell))) (job_at ts (right_half job.cell (halving_axis ts job.cell))))
 
 -- the job of a half with its near list from that of the box
-left_job : (ts : List Tri) (job : Job) (list : List ℕ) (k : Axis) (half : Cell) (low : Job) → IsPairsJob ts job → list ≡ job.list → 0 < job.cell.log k → half ≡ left_half job.cell k → low ≡ record { cell = half; list = near_places ts half list; at = no_windings } → low ≡ job_at ts (left_half job.cell k)
+left_job : (ts : List Tri) (job : Job) (list : List ℕ) (k : Axis) (half : Cell) (low : Job) → IsPairsJob ts job → list ≡ job.list → 0 < job.cell.log k → half ≡ left_half job.cell k → low ≡ record { cell = half; list = near_indices ts half list; at = no_windings } → low ≡ job_at ts (left_half job.cell k)
 left_job ts job list k half low v e p h is =
-    is ∙ (λ i. record { cell = h i; list = near_places ts (h i) (e i); at = no_windings }) ∙ (λ i. record { cell = left_half job.cell k; list = near_places ts (left_half job.cell k) (list_is ts job v i); at = no_windings }) ∙ (λ i. record { cell = left_half job.cell k; list = left_places ts job.cell k (places ts) p i; at = no_windings })
+    is ∙ (λ i. record { cell = h i; list = near_indices ts (h i) (e i); at = no_windings }) ∙ (λ i. record { cell = left_half job.cell k; list = near_indices ts (left_half job.cell k) (list_is ts job v i); at = no_windings }) ∙ (λ i. record { cell = left_half job.cell k; list = left_places ts job.cell k (all_indices ts) p i; at = no_windings })
 
-right_job : (ts : List Tri) (job : Job) (list : List ℕ) (k : Axis) (half : Cell) (high : Job) → IsPairsJob ts job → list ≡ job.list → 0 < job.cell.log k → half ≡ right_half job.cell k → high ≡ record { cell = half; list = near_places ts half list; at = no_windings } → high ≡ job_at ts (right_half job.cell k)
+right_job : (ts : List Tri) (job : Job) (list : List ℕ) (k : Axis) (half : Cell) (high : Job) → IsPairsJob ts job → list ≡ job.list → 0 < job.cell.log k → half ≡ right_half job.cell k → high ≡ record { cell = half; list = near_indices ts half list; at = no_windings } → high ≡ job_at ts (right_half job.cell k)
 right_job ts job list k half high v e p h is =
-    is ∙ (λ i. record { cell = h i; list = near_places ts (h i) (e i); at = no_windings }) ∙ (λ i. record { cell = right_half job.cell k; list = near_places ts (right_half job.cell k) (list_is ts job v i); at = no_windings }) ∙ (λ i. record { cell = right_half job.cell k; list = right_places ts job.cell k (places ts) p i; at = no_windings })
+    is ∙ (λ i. record { cell = h i; list = near_indices ts (h i) (e i); at = no_windings }) ∙ (λ i. record { cell = right_half job.cell k; list = near_indices ts (right_half job.cell k) (list_is ts job v i); at = no_windings }) ∙ (λ i. record { cell = right_half job.cell k; list = right_places ts job.cell k (all_indices ts) p i; at = no_windings })
 
-pub answers_halves : (ts : List Tri) (job : Job) (list : List ℕ) (k : Axis) (left right : Cell) (low high : Job) → IsPairsJob ts job → list ≡ job.list → 2 ≤ length list → Some k ≡ leaf_or (is_leaf (listed ts list) job.cell) (halving_axis (listed ts list) job.cell) → 0 < job.cell.log k → left ≡ left_half job.cell k → right ≡ right_half job.cell k → low ≡ record { cell = left; list = near_places ts left list; at = no_windings } → high ≡ record { cell = right; list = near_places ts right list; at = no_windings } → pairs_shape ts job ≡ halved low high
+pub answers_halves : (ts : List Tri) (job : Job) (list : List ℕ) (k : Axis) (left right : Cell) (low high : Job) → IsPairsJob ts job → list ≡ job.list → 2 ≤ length list → Some k ≡ leaf_or (is_leaf (listed ts list) job.cell) (halving_axis (listed ts list) job.cell) → 0 < job.cell.log k → left ≡ left_half job.cell k → right ≡ right_half job.cell k → low ≡ record { cell = left; list = near_indices ts left list; at = no_windings } → high ≡ record { cell = right; list = near_indices ts right list; at = no_windings } → pairs_shape ts job ≡ halved low high
 unfolding pairs_shape
 answers_halves ts job list k left right low high v e many a p l r is_low is_high =
     let long : 2 ≤ length job.list = subst (λ (is : List ℕ). 2 ≤ length is) e many in

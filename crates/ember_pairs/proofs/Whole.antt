@@ -13,8 +13,8 @@ use Rattle.ember_model.specs.declared.point.Spot.{Spot}
 use Rattle.ember_model.specs.Valid.{IsValidTri}
 use Rattle.ember_model.specs.Faces.{face_of}
 use Rattle.ember_model.proofs.SignTests.{In}
-use Rattle.ember_box.specs.Boxes.{Cell, root, left, left_half, right_half}
-use Rattle.ember_box.specs.Near.{is_near, tri_at, no_tri, near_places, places}
+use Rattle.ember_box.specs.Boxes.{Cell, root, halvings_left, left_half, right_half}
+use Rattle.ember_box.specs.Near.{is_near, tri_at, no_tri, near_indices, all_indices}
 use Rattle.ember_box.specs.Halving.{halving_axis, is_leaf}
 use Rattle.ember_ref.proofs.FarTriangles.{inside_closed}
 use Rattle.ember_job.specs.declared.job.Job.{Job}
@@ -148,9 +148,9 @@ data Becomes (ts : List Tri) (c : Cell) : Type 0 where
 
 becomes : (ts : List Tri) (c : Cell) → Becomes ts c
 unfolding pairs_shape
-becomes ts c = by (nat_lt (length (near_places ts c (places ts))) 2) (is_leaf ts c) refl refl
+becomes ts c = by (nat_lt (length (near_indices ts c (all_indices ts))) 2) (is_leaf ts c) refl refl
   where
-    by : (few leaf : Bool) → nat_lt (length (near_places ts c (places ts))) 2 ≡ few → is_leaf ts c ≡ leaf → Becomes ts c
+    by : (few leaf : Bool) → nat_lt (length (near_indices ts c (all_indices ts))) 2 ≡ few → is_leaf ts c ≡ leaf → Becomes ts c
     by true leaf e d =
         passes (ap (λ b. if b then passed else (if is_leaf ts c then leafed else halved (job_at ts (left_half c (halving_axis ts c))) (job_at ts (right_half c (halving_axis ts c))))) e)
     by false true e d =
@@ -194,17 +194,17 @@ leaf_visited shape (x ∷ jobs) j m =
 
 leaf_at : (ts : List Tri) (j : Job) → In j (leaf_jobs ts) → AtBox ts j
 leaf_at ts j m =
-    visited_at ts (left root) root j (leaf_visited (λ job. pairs_shape ts job) (visited_within (λ job. pairs_shape ts job) (left root) (job_at ts root)) j m)
+    visited_at ts (halvings_left root) root j (leaf_visited (λ job. pairs_shape ts job) (visited_within (λ job. pairs_shape ts job) (halvings_left root) (job_at ts root)) j m)
 
 -- ---- the law
-near_ascending : (ts : List Tri) (c : Cell) → Ascending (near_places ts c (places ts))
+near_ascending : (ts : List Tri) (c : Cell) → Ascending (near_indices ts c (all_indices ts))
 near_ascending ts c =
-    filter_ascending (λ i. is_near c (tri_at ts i)) (places ts) (range_ascending 0 (length ts))
+    filter_ascending (λ i. is_near c (tri_at ts i)) (all_indices ts) (range_ascending 0 (length ts))
 
-from_leaf : (ts : List Tri) (c : Cell) (p : Pair) → Listed ts (pairs_of (near_places ts c (places ts))) p → Listed ts (pairs_of (places ts)) p
+from_leaf : (ts : List Tri) (c : Cell) (p : Pair) → Listed ts (pairs_of (near_indices ts c (all_indices ts))) p → Listed ts (pairs_of (all_indices ts)) p
 from_leaf ts c p l =
-    let r = pair_out (near_places ts c (places ts)) p (near_ascending ts c) l.member in
-    record { member = pair_in (places ts) p.low p.high (range_ascending 0 (length ts)) (in_filter_out (λ i. is_near c (tri_at ts i)) p.low (places ts) r.low) (in_filter_out (λ i. is_near c (tri_at ts i)) p.high (places ts) r.high) r.less; meets = l.meets }
+    let r = pair_out (near_indices ts c (all_indices ts)) p (near_ascending ts c) l.member in
+    record { member = pair_in (all_indices ts) p.low p.high (range_ascending 0 (length ts)) (in_filter_out (λ i. is_near c (tri_at ts i)) p.low (all_indices ts) r.low) (in_filter_out (λ i. is_near c (tri_at ts i)) p.high (all_indices ts) r.high) r.less; meets = l.meets }
 
 record SharePoint (ts : List Tri) (i j : ℕ) : Type 0 where
   at : Spot
@@ -214,24 +214,24 @@ share_point : (ts : List Tri) (i j : ℕ) → AreMeeting (tri_at ts i) (tri_at t
 share_point ts i j m =
     ⊎_elim (λ a. record { at = a.at; shares = record { one = m.one; other = m.other; in_one = inside_closed (face_of (tri_at ts i)) a.at a.inside; in_other = a.holds } }) (λ a. record { at = a.at; shares = record { one = m.one; other = m.other; in_one = a.holds; in_other = inside_closed (face_of (tri_at ts j)) a.at a.inside } }) m.meet
 
-found : (ts : List Tri) (items : List (List Pair)) (p : Pair) → All IsValidTri ts → AreItems ts (leaf_jobs ts) items → In p (pairs_of (places ts)) → Meeting ts p → In p (together items)
+found : (ts : List Tri) (items : List (List Pair)) (p : Pair) → All IsValidTri ts → AreItems ts (leaf_jobs ts) items → In p (pairs_of (all_indices ts)) → Meeting ts p → In p (together items)
 found ts items p valid a m meets =
-    let r = pair_out (places ts) p (range_ascending 0 (length ts)) m in
+    let r = pair_out (all_indices ts) p (range_ascending 0 (length ts)) m in
     let l = in_range_out 0 (length ts) p.low r.low in let h = in_range_out 0 (length ts) p.high r.high in
     let low_in : p.low < length ts = omega (arith, l.1) in let high_in : p.high < length ts = omega (arith, h.1) in
     let s = share_point ts p.low p.high meets in
     let leaf = shared_leaf ts p.low p.high s.at r.less high_in (All-get_or IsValidTri ts p.low no_tri low_in valid) s.shares in
     let c = leaf.cell in
     let item = item_of ts (leaf_jobs ts) items (job_at ts c) a leaf.member in
-    let listed = pair_in (near_places ts c (places ts)) p.low p.high (near_ascending ts c) (listed_at ts c p.low s.at low_in s.shares.one s.shares.in_one leaf.has) (listed_at ts c p.high s.at high_in s.shares.other s.shares.in_other leaf.has) r.less in
-    in_together items item.item p item.member (each_has ts (pairs_of (near_places ts c (places ts))) item.item p item.is listed meets)
+    let listed = pair_in (near_indices ts c (all_indices ts)) p.low p.high (near_ascending ts c) (listed_at ts c p.low s.at low_in s.shares.one s.shares.in_one leaf.has) (listed_at ts c p.high s.at high_in s.shares.other s.shares.in_other leaf.has) r.less in
+    in_together items item.item p item.member (each_has ts (pairs_of (near_indices ts c (all_indices ts))) item.item p item.is listed meets)
 
-right_pairs : (ts : List Tri) (items : List (List Pair)) (p : Pair) → AreItems ts (leaf_jobs ts) items → In p (together items) → Listed ts (pairs_of (places ts)) p
+right_pairs : (ts : List Tri) (items : List (List Pair)) (p : Pair) → AreItems ts (leaf_jobs ts) items → In p (together items) → Listed ts (pairs_of (all_indices ts)) p
 right_pairs ts items p a m =
     let s = some_item items p m in let j = job_of ts (leaf_jobs ts) items s.item a s.member in
     let b = leaf_at ts j.job j.member in
-    from_leaf ts b.cell p (each_in ts (pairs_of (near_places ts b.cell (places ts))) s.item p (subst (λ (x : Job). AreMeetingPairs ts x.list s.item) b.is j.is) s.has)
+    from_leaf ts b.cell p (each_in ts (pairs_of (near_indices ts b.cell (all_indices ts))) s.item p (subst (λ (x : Job). AreMeetingPairs ts x.list s.item) b.is j.is) s.has)
 
 pub gathered_whole : (ts : List Tri) (items : List (List Pair)) (ps : List Pair) → All IsValidTri ts → AreItems ts (leaf_jobs ts) items → AreGathered items ps → ArePairs ts ps
 gathered_whole ts items ps valid a g =
-    each_of ts (pairs_of (places ts)) ps (pairs_sorted (places ts) (range_ascending 0 (length ts))) (sorted_from ps g.in_order) (λ p m. right_pairs ts items p a (in_from_contains (together items) p ((g.same p).0 (contains_from_in ps p m)))) (λ p m meets. in_from_contains ps p ((g.same p).1 (contains_from_in (together items) p (found ts items p valid a m meets))))
+    each_of ts (pairs_of (all_indices ts)) ps (pairs_sorted (all_indices ts) (range_ascending 0 (length ts))) (sorted_from ps g.in_order) (λ p m. right_pairs ts items p a (in_from_contains (together items) p ((g.same p).0 (contains_from_in ps p m)))) (λ p m meets. in_from_contains ps p ((g.same p).1 (contains_from_in (together items) p (found ts items p valid a m meets))))

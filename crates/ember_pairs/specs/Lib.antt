@@ -1,5 +1,5 @@
 pub mod Pairs
-pub mod Facets
+pub mod Candidates
 pub mod Works
 pub mod Laws
 pub mod Gathering

@@ -4,7 +4,7 @@ use Rattle.ember_algebra.specs.Relations.{Each}
 use Rattle.ember_model.specs.declared.tri.Tri.{Tri}
 use Rattle.ember_model.specs.declared.face.Face.{Face}
 use Rattle.ember_model.specs.Faces.{is_flat, face_of, Meets}
-use Rattle.ember_box.specs.Near.{tri_at, places}
+use Rattle.ember_box.specs.Near.{tri_at, all_indices}
 use Rattle.ember_pairs.specs.declared.pair.Pair.{Pair}
 
 -- neither is flat, and some inside point of the face of one lies in the closed face of the other
@@ -36,7 +36,7 @@ AreMeetingPairs ts is ps = Each (AtPair ts) (pairs_of is) ps
 
 -- those of all triangles of a scene
 abbrev pub ArePairs : List Tri → List Pair → Type 0
-ArePairs ts ps = AreMeetingPairs ts (places ts) ps
+ArePairs ts ps = AreMeetingPairs ts (all_indices ts) ps
 
 -- ---- on the way
 -- the face of a triangle that has one

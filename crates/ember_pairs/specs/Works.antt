@@ -3,7 +3,7 @@ use Rattle.std.specs.Prelude.{◌≡◌, ◌<◌, nat_lt, if◌then◌else◌, p
 use Rattle.ember_model.specs.declared.tri.Tri.{Tri}
 use Rattle.ember_model.specs.declared.vector.Vector.{Vector}
 use Rattle.ember_box.specs.Boxes.{Cell, root, left_half, right_half}
-use Rattle.ember_box.specs.Near.{near_places, places}
+use Rattle.ember_box.specs.Near.{near_indices, all_indices}
 use Rattle.ember_box.specs.Halving.{halving_axis, is_leaf}
 use Rattle.ember_job.specs.declared.job.Job.{Job}
 use Rattle.ember_job.specs.Works.{Shape, halved, leafed, passed}
@@ -19,7 +19,7 @@ no_windings = record { counts = replicate 64 (pos 0) }
 
 -- the job of a box: its near triangles, and the zero vector
 abbrev pub job_at : List Tri → Cell → Job
-job_at ts c = record { cell = c; list = near_places ts c (places ts); at = no_windings }
+job_at ts c = record { cell = c; list = near_indices ts c (all_indices ts); at = no_windings }
 
 pub record IsPairsJob (ts : List Tri) (job : Job) : Type 0 where
   pub from_root : IsFromRoot ts job.cell

@@ -7,8 +7,6 @@ mod law;
 mod meetings;
 mod pair;
 mod step;
-#[cfg(test)]
-mod tests;
 mod text;
 
 pub use gathering::gather;

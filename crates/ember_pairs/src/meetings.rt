@@ -4,28 +4,28 @@ ghost use Rattle.ember_model.specs.Valid.{IsValidTri};
 ghost use Rattle.ember_box.specs.Near.{tri_at};
 ghost use Rattle.ember_pairs.specs.declared.pair.Pair.{Pair};
 ghost use Rattle.ember_pairs.specs.Pairs.{AreMeeting, AreMeetingPairs, Completes, face_if, row, pairs_of};
-ghost use Rattle.ember_pairs.specs.Facets.{facet_of, facets_at};
+ghost use Rattle.ember_pairs.specs.Candidates.{candidate_of, candidates_at};
 
 use crate::pair::{Pair, PairList};
-use ember_box::{Spans, bounding, overlap};
+use ember_box::{Aabb, aabb_of_tri, aabbs_meet};
 use ember_model::{OutOfMemory, Scene, Tri};
 use ember_poly::{Ring, meets, of_tri};
 use std::alloc::Global;
 
 // A triangle's bounding box and the ring of its face, if it has one.
 #[derive(Drop)]
-struct Facet {
-    spans: Spans,
+struct Candidate {
+    aabb: Aabb,
     ring: Option<Ring>,
 }
 
-fn facet_of(alloc: Global, t: &Tri) -> Result<Facet, OutOfMemory>
+fn candidate_of(alloc: Global, t: &Tri) -> Result<Candidate, OutOfMemory>
     requires { IsValidTri t.now }
-    ensures { IfOk result (λ f. f ≡ facet_of t.now) }
+    ensures { IfOk result (λ f. f ≡ candidate_of t.now) }
 {
     let ring = of_tri(alloc, t)?;
-    Ok(Facet {
-        spans: bounding(t),
+    Ok(Candidate {
+        aabb: aabb_of_tri(t),
         ring,
     })
 }
@@ -48,14 +48,14 @@ fn rings_meet(r: &Option<Ring>, t: &Tri, q: &Option<Ring>, u: &Tri) -> bool
 }
 
 // The same, but triangles whose bounding boxes are apart are told so at once.
-fn are_meeting(f: &Facet, t: &Tri, g: &Facet, u: &Tri) -> bool
+fn are_meeting(f: &Candidate, t: &Tri, g: &Candidate, u: &Tri) -> bool
     requires one { IsValidTri t.now }
     requires other { IsValidTri u.now }
-    requires facet { f.now ≡ facet_of t.now }
-    requires other_facet { g.now ≡ facet_of u.now }
+    requires facet { f.now ≡ candidate_of t.now }
+    requires other_facet { g.now ≡ candidate_of u.now }
     ensures { IsTrue result ↔ AreMeeting t.now u.now }
 {
-    overlap(&f.spans, &g.spans) && rings_meet(&f.ring, t, &g.ring, u)
+    aabbs_meet(&f.aabb, &g.aabb) && rings_meet(&f.ring, t, &g.ring, u)
 }
 
 /// The same by the triangles.
@@ -67,8 +67,8 @@ pub fn meet_at(alloc: Global, tris: &[Tri], i: u32, j: u32) -> Result<bool, OutO
 {
     let t = tris[i as usize];
     let u = tris[j as usize];
-    let f = facet_of(alloc, &t)?;
-    let g = facet_of(alloc, &u)?;
+    let f = candidate_of(alloc, &t)?;
+    let g = candidate_of(alloc, &u)?;
     Ok(are_meeting(&f, &t, &g, &u))
 }
 
@@ -82,30 +82,30 @@ pub fn meeting(alloc: Global, s: &Scene, i: u32, j: u32) -> Result<bool, OutOfMe
     meet_at(alloc, s.tris.items(), i, j)
 }
 
-fn facets_at(alloc: Global, tris: &[Tri], list: &[u32]) -> Result<Vec<Facet>, OutOfMemory>
+fn candidates_at(alloc: Global, tris: &[Tri], list: &[u32]) -> Result<Vec<Candidate>, OutOfMemory>
     requires valid { All IsValidTri tris.now }
     requires places { All (λ i. i < length tris.now) list.now }
-    ensures { IfOk result (λ v. v.items ≡ facets_at tris.now list.now) }
+    ensures { IfOk result (λ v. v.items ≡ candidates_at tris.now list.now) }
 {
-    let mut facets = Vec::with_capacity(alloc, list.len())?;
+    let mut candidates = Vec::with_capacity(alloc, list.len())?;
     for i in list {
-        facets.push(facet_of(alloc, &tris[*i as usize])?)?;
+        candidates.push(candidate_of(alloc, &tris[*i as usize])?)?;
     }
-    Ok(facets)
+    Ok(candidates)
 }
 
 // The triangles at places a and b of the list meet.
-fn meet_in(tris: &[Tri], list: &[u32], facets: &[Facet], a: usize, b: usize) -> bool
+fn meet_in(tris: &[Tri], list: &[u32], candidates: &[Candidate], a: usize, b: usize) -> bool
     requires valid { All IsValidTri tris.now }
     requires places { All (λ i. i < length tris.now) list.now }
-    requires facets { facets.now ≡ facets_at tris.now list.now }
+    requires candidates { candidates.now ≡ candidates_at tris.now list.now }
     requires one { a < length list.now }
     requires other { b < length list.now }
     ensures { IsTrue result ↔ AreMeeting (tri_at tris.now (slice_index list.now a)) (tri_at tris.now (slice_index list.now b)) }
 {
     let t = tris[list[a] as usize];
     let u = tris[list[b] as usize];
-    are_meeting(&facets[a], &t, &facets[b], &u)
+    are_meeting(&candidates[a], &t, &candidates[b], &u)
 }
 
 // Appends a pair where its triangles meet.
@@ -122,14 +122,14 @@ fn push_if(meet: bool, p: Pair, out: &mut Vec<Pair>) -> Result<(), OutOfMemory>
 fn push_row(
     tris: &[Tri],
     list: &[u32],
-    facets: &[Facet],
+    candidates: &[Candidate],
     a: usize,
     out: &mut Vec<Pair>,
 ) -> Result<(), OutOfMemory>
     requires valid { All IsValidTri tris.now }
     requires places { All (λ i. i < length tris.now) list.now }
-    requires facets { facets.now ≡ facets_at tris.now list.now }
-    requires place { a < length list.now }
+    requires candidates { candidates.now ≡ candidates_at tris.now list.now }
+    requires index { a < length list.now }
     ensures { OnOk result ((all later : List Pair) → Completes tris.now all (row (slice_index list.now a) (drop (a + 1) list.now) ++ later) out.old.items → Completes tris.now all later out.new.items) }
 {
     for b in a + 1..list.len() {
@@ -137,7 +137,7 @@ fn push_row(
             low: list[a],
             high: list[b],
         };
-        push_if(meet_in(tris, list, facets, a, b), pair, out)?;
+        push_if(meet_in(tris, list, candidates, a, b), pair, out)?;
     }
     Ok(())
 }
@@ -148,10 +148,10 @@ pub fn meeting_pairs(alloc: Global, tris: &[Tri], list: &[u32]) -> Result<PairLi
     requires places { All (λ i. i < length tris.now) list.now }
     ensures { IfOk result (λ ps. AreMeetingPairs tris.now list.now ps) }
 {
-    let facets = facets_at(alloc, tris, list)?;
+    let candidates = candidates_at(alloc, tris, list)?;
     let mut out = Vec::new(alloc);
     for a in 0..list.len() {
-        push_row(tris, list, &facets, a, &mut out)?;
+        push_row(tris, list, &candidates, a, &mut out)?;
     }
     Ok(PairList::of(out))
 }

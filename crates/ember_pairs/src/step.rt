@@ -2,7 +2,7 @@
 ghost use Rattle.std.specs.Prelude.{◌≡◌, ◌<◌, length, All, IfOk};
 ghost use Rattle.std.specs.List.{range_with_len};
 ghost use Rattle.ember_box.specs.Boxes.{root};
-ghost use Rattle.ember_box.specs.Near.{near_places};
+ghost use Rattle.ember_box.specs.Near.{near_indices};
 ghost use Rattle.ember_job.specs.Works.{Answers};
 ghost use Rattle.ember_pairs.specs.Pairs.{AreMeetingPairs};
 ghost use Rattle.ember_pairs.specs.Works.{no_windings, job_at, IsPairsJob, pairs_shape};
@@ -81,7 +81,7 @@ pub fn root_pairs(alloc: Global, s: &Scene) -> Result<Job, OutOfMemory>
 // The job of a box with those of the listed triangles that are near it.
 fn half_job(alloc: Global, s: &Scene, list: &[u32], cell: Cell) -> Result<Job, OutOfMemory>
     requires { All (λ i. i < length s.now.tris) list.now }
-    ensures { IfOk result (λ job. job ≡ record { cell = cell; list = near_places s.now.tris cell list.now; at = no_windings }) }
+    ensures { IfOk result (λ job. job ≡ record { cell = cell; list = near_indices s.now.tris cell list.now; at = no_windings }) }
 {
     let near = near_list(alloc, s, list, &cell)?;
     Ok(Job {

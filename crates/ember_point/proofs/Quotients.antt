@@ -13,7 +13,7 @@ use Rattle.ember_algebra.proofs.Exact.{kept, ◌&◌, done, exact}
 use Rattle.ember_algebra.proofs.Laws.{linear}
 use Rattle.ember_model.specs.declared.point.Spot.{Spot}
 use Rattle.ember_model.specs.Valid.{IsValidMeet}
-use Rattle.ember_model.specs.Edges.{SamePlace}
+use Rattle.ember_model.specs.Edges.{SamePoint}
 use Rattle.ember_model.specs.FaceFiles.{IsLowest}
 use Rattle.ember_point.specs.Points.{IsGreatestDivisor}
 
@@ -62,7 +62,7 @@ same_ratio : (a b x w d : ℤ) → a *ℤ d ≡ x → b *ℤ d ≡ w → b *ℤ 
 same_ratio a b x w d e f =
     rw (← e, ← f) (solve 3 (λ a b d. b ⊗ (a ⊗ d) ≈ (b ⊗ d) ⊗ a) cancels a b d)
 
-pub quotient_same : {u v : Spot} {d : ℤ} → IsQuotient u v d → SamePlace u v
+pub quotient_same : {u v : Spot} {d : ℤ} → IsQuotient u v d → SamePoint u v
 quotient_same {u} {v} {d} q =
     record { x = same_ratio v.x v.w u.x u.w d q.x q.w; y = same_ratio v.y v.w u.y u.w d q.y q.w; z = same_ratio v.z v.w u.z u.w d q.z q.w }
 

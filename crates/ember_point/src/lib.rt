@@ -1,16 +1,13 @@
 //! Corners as meets of three planes, exact in 128 bits.
 #![tactic(auto)]
 
-mod corner;
 mod cross;
 mod lowest;
+mod meet_point;
 mod meeting;
-mod value;
+mod plane_side;
 
-pub use corner::Meet;
 pub use lowest::reduce;
+pub use meet_point::Meet;
 pub use meeting::meet;
-pub use value::{side, slide};
-
-#[cfg(test)]
-mod tests;
+pub use plane_side::{side, slide};

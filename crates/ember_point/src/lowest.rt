@@ -1,11 +1,11 @@
 // Points in lowest terms.
 ghost use Rattle.std.specs.Prelude.{◌≡◌, ◌^◌, ◌<◌, pos, ◌<ℤ◌, unsigned_abs, int_div};
 ghost use Rattle.std.specs.Int.{IsGcd};
-ghost use Rattle.ember_model.specs.Edges.{SamePlace};
+ghost use Rattle.ember_model.specs.Edges.{SamePoint};
 ghost use Rattle.ember_model.specs.FaceFiles.{IsLowest};
 ghost use Rattle.ember_point.specs.Points.{spot_of, IsGreatestDivisor};
 
-use crate::corner::Meet;
+use crate::meet_point::Meet;
 
 fn small_gcd(a: u64, b: u64) -> u64
     ensures { IsGcd a b result }
@@ -57,7 +57,7 @@ fn quotient(n: i128, divisor: i128) -> i128
 
 /// The same point, with 1 as the greatest common divisor of its four numbers.
 pub fn reduce(m: &Meet) -> Meet
-    ensures same { SamePlace (spot_of m.now) (spot_of result) }
+    ensures same { SamePoint (spot_of m.now) (spot_of result) }
     ensures lowest { IsLowest (spot_of result) }
 {
     let divisor = common_divisor(m);

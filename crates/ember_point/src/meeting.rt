@@ -7,8 +7,8 @@ ghost use Rattle.ember_model.specs.Planes.{value_at};
 ghost use Rattle.ember_model.specs.Edges.{normal};
 ghost use Rattle.ember_point.specs.Points.{spot_of, weight, meet_of, cross_of};
 
-use crate::corner::Meet;
 use crate::cross::Cross;
+use crate::meet_point::Meet;
 use ember_model::Plane;
 
 fn minor(a: i64, b: i64, c: i64, d: i64) -> i64

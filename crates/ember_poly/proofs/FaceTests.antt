@@ -1,5 +1,5 @@
 -- The tests of a face's points, and the same as facts on each plane.
-use Rattle.std.proofs.Common.{◌≡◌, refl, ap, Bool, true, not, ◌&&◌, List, [], ◌∷◌, ℤ, pos}
+use Rattle.std.proofs.Common.{◌≡◌, refl, sym, ap, Bool, true, false, not, ◌&&◌, List, [], ◌∷◌, ℤ, pos}
 use Rattle.std.specs.List.{list_all, AllByRecursion}
 use Rattle.ember_algebra.specs.Sign.{is_negative, is_zero, is_positive}
 use Rattle.ember_model.specs.declared.plane.Plane.{Plane}
@@ -9,19 +9,25 @@ use Rattle.ember_model.specs.Planes.{value_at}
 use Rattle.ember_model.specs.Faces.{is_inside, is_in_closed}
 use Rattle.ember_model.specs.Edges.{is_on_edge}
 use Rattle.ember_model.proofs.SignTests.{negative_in, negative_out, positive_in, positive_out, not_positive_in, not_positive_out, zero_out, and_parts}
-use Rattle.ember_poly.specs.Rings.{Under, AtMost, InFace, InClosedFace}
+use Rattle.ember_poly.specs.Rings.{IsBelow, IsNotAbove, InFace, InClosedFace}
 
 pub and_in : {a b : Bool} → a ≡ true → b ≡ true → (a && b) ≡ true
 and_in p q = rw (p, q) refl
 
+-- two tests of which each passes where the other does
+pub same_test : (a b : Bool) → (a ≡ true → b ≡ true) → (b ≡ true → a ≡ true) → a ≡ b
+same_test true b p q = sym (p refl)
+same_test false true p q = q refl
+same_test false false p q = refl
+
 pub zero_in : {a : ℤ} → a ≡ pos 0 → is_zero a ≡ true
 zero_in e = ap is_zero e
 
-pub all_in : (gs : List Plane) (v : Spot) → AllByRecursion (λ g. AtMost g v) gs → list_all (λ g. not (is_positive (value_at g v))) gs ≡ true
+pub all_in : (gs : List Plane) (v : Spot) → AllByRecursion (λ g. IsNotAbove g v) gs → list_all (λ g. not (is_positive (value_at g v))) gs ≡ true
 all_in [] v h = refl
 all_in (g ∷ gs) v h = and_in (not_positive_in (value_at g v) h.0.at_most) (all_in gs v h.1)
 
-pub all_out : (gs : List Plane) (v : Spot) → list_all (λ g. not (is_positive (value_at g v))) gs ≡ true → AllByRecursion (λ g. AtMost g v) gs
+pub all_out : (gs : List Plane) (v : Spot) → list_all (λ g. not (is_positive (value_at g v))) gs ≡ true → AllByRecursion (λ g. IsNotAbove g v) gs
 all_out [] v e = tt
 all_out (g ∷ gs) v e =
     let p = and_parts (not (is_positive (value_at g v))) (list_all (λ g. not (is_positive (value_at g v))) gs) e in
@@ -37,11 +43,11 @@ closed_out f v e =
     record { flat = zero_out (value_at f.support v) q.0; weight = positive_out v.w p.0; within = all_out f.edges v q.1 }
 
 -- ---- inside points
-all_under_in : (gs : List Plane) (v : Spot) → AllByRecursion (λ g. Under g v) gs → list_all (λ g. is_negative (value_at g v)) gs ≡ true
+all_under_in : (gs : List Plane) (v : Spot) → AllByRecursion (λ g. IsBelow g v) gs → list_all (λ g. is_negative (value_at g v)) gs ≡ true
 all_under_in [] v h = refl
 all_under_in (g ∷ gs) v h = and_in (negative_in h.0.under) (all_under_in gs v h.1)
 
-all_under_out : (gs : List Plane) (v : Spot) → list_all (λ g. is_negative (value_at g v)) gs ≡ true → AllByRecursion (λ g. Under g v) gs
+all_under_out : (gs : List Plane) (v : Spot) → list_all (λ g. is_negative (value_at g v)) gs ≡ true → AllByRecursion (λ g. IsBelow g v) gs
 all_under_out [] v e = tt
 all_under_out (g ∷ gs) v e =
     let p = and_parts (is_negative (value_at g v)) (list_all (λ g. is_negative (value_at g v)) gs) e in

@@ -2,31 +2,31 @@
 use Rattle.std.proofs.Common.{◌≡◌, ◌⊎◌, ⊎_elim, inl, inr, subst, ℕ, zero, suc, refl, Some, None, slice_get, List, [], ◌∷◌, ◌++◌}
 use Rattle.std.specs.List.{AllByRecursion}
 use Rattle.ember_poly.specs.Rings.{Side}
-use Rattle.ember_poly.specs.Sides.{IsBorn}
-use Rattle.ember_poly.specs.Passages.{Has}
+use Rattle.ember_poly.specs.Sides.{HasPlaneIndex}
+use Rattle.ember_poly.specs.Passages.{HasSome}
 
-pub has-push : {X : Type 0} (P : X → Type 0) (xs : List X) (y : X) → P y → Has P (xs ++ y ∷ [])
+pub has-push : {X : Type 0} (P : X → Type 0) (xs : List X) (y : X) → P y → HasSome P (xs ++ y ∷ [])
 has-push P [] y p = inl p
 has-push P (x ∷ xs) y p = inr (has-push P xs y p)
 
-pub has-front : {X : Type 0} (P : X → Type 0) (xs ys : List X) → Has P xs → Has P (xs ++ ys)
+pub has-front : {X : Type 0} (P : X → Type 0) (xs ys : List X) → HasSome P xs → HasSome P (xs ++ ys)
 has-front P [] ys h = absurd h
 has-front P (x ∷ xs) ys (inl p) = inl p
 has-front P (x ∷ xs) ys (inr h) = inr (has-front P xs ys h)
 
-pub has-back : {X : Type 0} (P : X → Type 0) (xs ys : List X) → Has P ys → Has P (xs ++ ys)
+pub has-back : {X : Type 0} (P : X → Type 0) (xs ys : List X) → HasSome P ys → HasSome P (xs ++ ys)
 has-back P [] ys h = h
 has-back P (x ∷ xs) ys h = inr (has-back P xs ys h)
 
-pub has-split : {X : Type 0} (P : X → Type 0) (xs ys : List X) → Has P (xs ++ ys) → Has P xs ⊎ Has P ys
+pub has-split : {X : Type 0} (P : X → Type 0) (xs ys : List X) → HasSome P (xs ++ ys) → HasSome P xs ⊎ HasSome P ys
 has-split P [] ys h = inr h
 has-split P (x ∷ xs) ys (inl p) = inl (inl p)
 has-split P (x ∷ xs) ys (inr h) = ⊎_elim (λ a. inl (inr a)) (λ b. inr b) (has-split P xs ys h)
 
-pub has-turned : {X : Type 0} (P : X → Type 0) (xs ys : List X) → Has P (xs ++ ys) → Has P (ys ++ xs)
+pub has-turned : {X : Type 0} (P : X → Type 0) (xs ys : List X) → HasSome P (xs ++ ys) → HasSome P (ys ++ xs)
 has-turned P xs ys h = ⊎_elim (λ a. has-back P ys xs a) (λ b. has-front P ys xs b) (has-split P xs ys h)
 
-pub has_map : {X : Type 0} (P Q : X → Type 0) (xs : List X) → ((x : X) → P x → Q x) → Has P xs → Has Q xs
+pub has_map : {X : Type 0} (P Q : X → Type 0) (xs : List X) → ((x : X) → P x → Q x) → HasSome P xs → HasSome Q xs
 has_map P Q [] f h = absurd h
 has_map P Q (x ∷ xs) f (inl p) = inl (f x p)
 has_map P Q (x ∷ xs) f (inr h) = inr (has_map P Q xs f h)
@@ -37,13 +37,13 @@ pub record Found {X : Type 0} (P Q : X → Type 0) : Type 0 where
   pub holds : P member
   pub also : Q member
 
-pub has_pick : {X : Type 0} (P Q : X → Type 0) (xs : List X) → Has P xs → AllByRecursion Q xs → Found P Q
+pub has_pick : {X : Type 0} (P Q : X → Type 0) (xs : List X) → HasSome P xs → AllByRecursion Q xs → Found P Q
 has_pick P Q [] h a = absurd h
 has_pick P Q (x ∷ xs) (inl p) a = record { member = x; holds = p; also = a.0 }
 has_pick P Q (x ∷ xs) (inr h) a = has_pick P Q xs h a.1
 
 -- ---- sides by the places of their planes
-get_has : {X : Type 0} (P : X → Type 0) (xs : List X) (k : ℕ) (x : X) → slice_get xs k ≡ Some x → P x → Has P xs
+get_has : {X : Type 0} (P : X → Type 0) (xs : List X) (k : ℕ) (x : X) → slice_get xs k ≡ Some x → P x → HasSome P xs
 get_has P [] k x e p = absurd (by e)
   where
     by : {X : Type 0} {x : X} → None ≡ Some x → ⊥
@@ -54,11 +54,11 @@ get_has P (y ∷ xs) zero x e p = inl (subst P (by e) p)
     by e = cc
 get_has P (y ∷ xs) (suc k) x e p = inr (get_has P xs k x e p)
 
-pub born_has : (i : ℕ) (xs : List Side) → IsBorn i xs → Has (λ s. s.birth ≡ i) xs
-born_has i xs b = get_has (λ s. s.birth ≡ i) xs b.at b.side b.here b.birth
+pub born_has : (i : ℕ) (xs : List Side) → HasPlaneIndex i xs → HasSome (λ s. s.plane_index ≡ i) xs
+born_has i xs b = get_has (λ s. s.plane_index ≡ i) xs b.at b.side b.here b.plane_index
 
-pub has_born : (i : ℕ) (xs : List Side) → Has (λ s. s.birth ≡ i) xs → IsBorn i xs
+pub has_born : (i : ℕ) (xs : List Side) → HasSome (λ s. s.plane_index ≡ i) xs → HasPlaneIndex i xs
 has_born i [] h = absurd h
-has_born i (x ∷ xs) (inl e) = record { at = 0; side = x; here = refl; birth = e }
+has_born i (x ∷ xs) (inl e) = record { at = 0; side = x; here = refl; plane_index = e }
 has_born i (x ∷ xs) (inr h) =
-    let b = has_born i xs h in record { at = suc b.at; side = b.side; here = b.here; birth = b.birth }
+    let b = has_born i xs h in record { at = suc b.at; side = b.side; here = b.here; plane_index = b.plane_index }

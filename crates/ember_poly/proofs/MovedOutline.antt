@@ -8,10 +8,10 @@ use Rattle.ember_model.specs.declared.plane.Plane.{Plane}
 use Rattle.ember_model.specs.declared.point.Spot.{Spot}
 use Rattle.ember_model.specs.declared.face.Face.{Face}
 use Rattle.ember_model.specs.Planes.{value_at}
-use Rattle.ember_model.specs.Edges.{SamePlace, is_on_edge, Counts, IsEarliest, SameEdge, reach_along, IsBefore, IsNotAfter, RingEdge, IsEdge, IsPath, IsAmong, AreApart, IsOutline}
-use Rattle.ember_poly.specs.Rings.{AtMost, along}
+use Rattle.ember_model.specs.Edges.{SamePoint, is_on_edge, HasEdge, IsEarliest, SameEdge, position_along, IsBefore, IsNotAfter, RingEdge, IsEdge, IsEdgeChain, HasEdgeOf, HaveDistinctEdges, IsOutline}
+use Rattle.ember_poly.specs.Rings.{IsNotAbove, along}
 use Rattle.ember_poly.proofs.Chains.{each_map}
-use Rattle.ember_poly.proofs.Lower.{not_zero}
+use Rattle.ember_poly.proofs.RingBelow.{not_zero}
 use Rattle.ember_poly.proofs.EdgeEnds.{reach}
 use Rattle.ember_poly.proofs.FaceTests.{edge_in, edge_out}
 use Rattle.ember_poly.proofs.RingOutline.{same_value}
@@ -53,28 +53,28 @@ le_moved p q p' q' a b a' b' hp hq hp' hq' ea eb l =
 
 -- ---- points
 pub record Moved (u v : Spot) : Type 0 where
-  pub same : SamePlace u v
+  pub same : SamePoint u v
   pub from : pos 0 <ℤ u.w
   pub to : pos 0 <ℤ v.w
 
 stays : (v : Spot) → pos 0 <ℤ v.w → Moved v v
 stays v p = record { same = record { x = refl; y = refl; z = refl }; from = p; to = p }
 
-reach_moved : {u v : Spot} (n g : Plane) → Moved u v → v.w *ℤ reach_along n g u ≡ u.w *ℤ reach_along n g v
+reach_moved : {u v : Spot} (n g : Plane) → Moved u v → v.w *ℤ position_along n g u ≡ u.w *ℤ position_along n g v
 reach_moved {u} {v} n g m = rw (reach n g u, reach n g v) (same_value m.same (along n g))
 
 edge_moved : {u v : Spot} (f : Face) (g : Plane) → Moved u v → is_on_edge f g u ≡ true → is_on_edge f g v ≡ true
 edge_moved {u} {v} f g m e =
     let o = edge_out f g u e in
-    edge_in f g v (record { flat = zero_moved u.w v.w (value_at f.support u) (value_at f.support v) m.from (same_value m.same f.support) o.closed.flat; weight = m.to; within = each_map (λ h. AtMost h u) (λ h. AtMost h v) f.edges (λ h l. record { at_most = most_moved u.w v.w (value_at h u) (value_at h v) m.from m.to (same_value m.same h) l.at_most }) o.closed.within }) (zero_moved u.w v.w (value_at g u) (value_at g v) m.from (same_value m.same g) o.zero)
+    edge_in f g v (record { flat = zero_moved u.w v.w (value_at f.support u) (value_at f.support v) m.from (same_value m.same f.support) o.closed.flat; weight = m.to; within = each_map (λ h. IsNotAbove h u) (λ h. IsNotAbove h v) f.edges (λ h l. record { at_most = most_moved u.w v.w (value_at h u) (value_at h v) m.from m.to (same_value m.same h) l.at_most }) o.closed.within }) (zero_moved u.w v.w (value_at g u) (value_at g v) m.from (same_value m.same g) o.zero)
 
 before_moved : {u u' v v' : Spot} (n g : Plane) → Moved u u' → Moved v v' → IsBefore n g u v → IsBefore n g u' v'
 before_moved {u} {u'} {v} {v'} n g a b h =
-    record { before = lt_moved u.w v.w u'.w v'.w (reach_along n g u) (reach_along n g v) (reach_along n g u') (reach_along n g v') a.from b.from a.to b.to (reach_moved n g a) (reach_moved n g b) h.before }
+    record { before = lt_moved u.w v.w u'.w v'.w (position_along n g u) (position_along n g v) (position_along n g u') (position_along n g v') a.from b.from a.to b.to (reach_moved n g a) (reach_moved n g b) h.before }
 
 not_after_moved : {u u' v v' : Spot} (n g : Plane) → Moved u u' → Moved v v' → IsNotAfter n g u v → IsNotAfter n g u' v'
 not_after_moved {u} {u'} {v} {v'} n g a b h =
-    record { not_after = le_moved u.w v.w u'.w v'.w (reach_along n g u) (reach_along n g v) (reach_along n g u') (reach_along n g v') a.from b.from a.to b.to (reach_moved n g a) (reach_moved n g b) h.not_after }
+    record { not_after = le_moved u.w v.w u'.w v'.w (position_along n g u) (position_along n g v) (position_along n g u') (position_along n g v') a.from b.from a.to b.to (reach_moved n g a) (reach_moved n g b) h.not_after }
 
 -- ---- edges
 abbrev pub at_start : RingEdge → Spot → RingEdge
@@ -103,7 +103,7 @@ is_edge_of : {end end' : Spot} (f : Face) (d e : RingEdge) → d.plane ≡ e.pla
 is_edge_of {end} {end'} f d e p a b h =
     subst (λ (c : RingEdge). IsEdge f c end') (λ i. record { plane = p i; start = e.start }) (is_edge_moved f d a b h)
 
-path_moved : {end end' : Spot} (f : Face) (ds es : List RingEdge) → AreMoved ds es → Moved end end' → IsPath f end ds → IsPath f end' es
+path_moved : {end end' : Spot} (f : Face) (ds es : List RingEdge) → AreMoved ds es → Moved end end' → IsEdgeChain f end ds → IsEdgeChain f end' es
 path_moved f [] [] m k h = tt
 path_moved f [] (e ∷ es) m k h = absurd m
 path_moved f (d ∷ ds) [] m k h = absurd m
@@ -113,7 +113,7 @@ path_moved f (d ∷ d' ∷ ds) (e ∷ []) m k h = absurd m.2
 path_moved f (d ∷ d' ∷ ds) (e ∷ e' ∷ es) m k h =
     (is_edge_of f d e m.0 m.1 m.2.1 h.0, path_moved f (d' ∷ ds) (e' ∷ es) m.2 k h.1)
 
-among_moved : (f : Face) (h : Plane) (ds es : List RingEdge) → AreMoved ds es → IsAmong f h ds → IsAmong f h es
+among_moved : (f : Face) (h : Plane) (ds es : List RingEdge) → AreMoved ds es → HasEdgeOf f h ds → HasEdgeOf f h es
 among_moved f h [] es m a = absurd a
 among_moved f h (d ∷ ds) [] m a = absurd m
 among_moved f h (d ∷ ds) (e ∷ es) m (inl s) = inl (subst (λ p. SameEdge f h p) m.0 s)
@@ -126,7 +126,7 @@ other_moved f p (d ∷ ds) [] m h = absurd m
 other_moved f p (d ∷ ds) (e ∷ es) m h =
     (subst (λ q. SameEdge f p q → ⊥) m.0 h.0, other_moved f p ds es m.2 h.1)
 
-apart_moved : (f : Face) (ds es : List RingEdge) → AreMoved ds es → AreApart f ds → AreApart f es
+apart_moved : (f : Face) (ds es : List RingEdge) → AreMoved ds es → HaveDistinctEdges f ds → HaveDistinctEdges f es
 apart_moved f [] [] m h = tt
 apart_moved f [] (e ∷ es) m h = absurd m
 apart_moved f (d ∷ ds) [] m h = absurd m
@@ -146,7 +146,7 @@ outline_moved f (d ∷ ds) (e ∷ es) m o =
       first = e;
       rest = es;
       begins = refl;
-      earliest = subst (λ p. IsEarliest (λ h. Counts f h) f.edges p) (ap (λ (c : RingEdge). c.plane) q ∙ m.0) o.earliest;
+      earliest = subst (λ p. IsEarliest (λ h. HasEdge f h) f.edges p) (ap (λ (c : RingEdge). c.plane) q ∙ m.0) o.earliest;
       round = path_moved f (d ∷ ds) (e ∷ es) m (subst (λ (c : RingEdge). Moved c.start e.start) (sym q) m.1) o.round;
       all = λ i h g c. among_moved f h (d ∷ ds) (e ∷ es) m (o.all i h g c);
       once = apart_moved f (d ∷ ds) (e ∷ es) m o.once;

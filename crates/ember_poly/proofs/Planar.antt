@@ -8,7 +8,7 @@ use Rattle.ember_algebra.proofs.Ring.{◌⊕◌, ◌⊖◌, ◌⊗◌, neg, num,
 use Rattle.ember_algebra.proofs.Vectors.{tuple, identity, TupleE, detE, valueE}
 use Rattle.ember_algebra.proofs.Order.{nonneg_mul, mul_pos_neg, mul_neg_pos, mul_neg_neg, cancel_eq, cancel_lt, cancel_le}
 use Rattle.ember_model.proofs.Tuples.{plane_tuple, spot_tuple, normalE}
-use Rattle.ember_poly.specs.Rings.{turn, mix, Under, AtMost}
+use Rattle.ember_poly.specs.Rings.{orientation, mix, IsBelow, IsNotAbove}
 
 abbrev pub turnE : TupleE → TupleE → TupleE → Expr
 turnE n g h = detE (normalE n) (normalE g) (normalE h)
@@ -18,7 +18,7 @@ mixE p a b =
     record { x = valueE p b ⊗ a.x ⊖ valueE p a ⊗ b.x; y = valueE p b ⊗ a.y ⊖ valueE p a ⊗ b.y; z = valueE p b ⊗ a.z ⊖ valueE p a ⊗ b.z; w = valueE p b ⊗ a.w ⊖ valueE p a ⊗ b.w }
 
 -- two points on three planes that meet in one point are the same place
-pub places : (n g p e : Plane) (y z : Spot) → turn n g p *ℤ (y.w *ℤ value_at e z -ℤ z.w *ℤ value_at e y) ≡ turn e g p *ℤ (y.w *ℤ value_at n z -ℤ z.w *ℤ value_at n y) +ℤ turn e p n *ℤ (y.w *ℤ value_at g z -ℤ z.w *ℤ value_at g y) +ℤ turn e n g *ℤ (y.w *ℤ value_at p z -ℤ z.w *ℤ value_at p y)
+pub places : (n g p e : Plane) (y z : Spot) → orientation n g p *ℤ (y.w *ℤ value_at e z -ℤ z.w *ℤ value_at e y) ≡ orientation e g p *ℤ (y.w *ℤ value_at n z -ℤ z.w *ℤ value_at n y) +ℤ orientation e p n *ℤ (y.w *ℤ value_at g z -ℤ z.w *ℤ value_at g y) +ℤ orientation e n g *ℤ (y.w *ℤ value_at p z -ℤ z.w *ℤ value_at p y)
 places n g p e y z =
     identity (tuple ∷ tuple ∷ tuple ∷ tuple ∷ tuple ∷ tuple ∷ []) (λ n g p e y z. turnE n g p ⊗ (y.w ⊗ valueE e z ⊖ z.w ⊗ valueE e y) ≈ turnE e g p ⊗ (y.w ⊗ valueE n z ⊖ z.w ⊗ valueE n y) ⊕ turnE e p n ⊗ (y.w ⊗ valueE g z ⊖ z.w ⊗ valueE g y) ⊕ turnE e n g ⊗ (y.w ⊗ valueE p z ⊖ z.w ⊗ valueE p y)) cancels (plane_tuple n) (plane_tuple g) (plane_tuple p) (plane_tuple e) (spot_tuple y) (spot_tuple z)
 
@@ -53,10 +53,10 @@ pub record Crossing (p : Plane) (a b y : Spot) : Type 0 where
   pub there : pos 0 <ℤ (mix p a b).w
   pub same : (e : Plane) → y.w *ℤ value_at e (mix p a b) ≡ (mix p a b).w *ℤ value_at e y
 
-pub same_place : (n g p : Plane) → turn n g p ≢ pos 0 → (e : Plane) (y z : Spot) → value_at n y ≡ pos 0 → value_at g y ≡ pos 0 → value_at p y ≡ pos 0 → value_at n z ≡ pos 0 → value_at g z ≡ pos 0 → value_at p z ≡ pos 0 → y.w *ℤ value_at e z ≡ z.w *ℤ value_at e y
+pub same_place : (n g p : Plane) → orientation n g p ≢ pos 0 → (e : Plane) (y z : Spot) → value_at n y ≡ pos 0 → value_at g y ≡ pos 0 → value_at p y ≡ pos 0 → value_at n z ≡ pos 0 → value_at g z ≡ pos 0 → value_at p z ≡ pos 0 → y.w *ℤ value_at e z ≡ z.w *ℤ value_at e y
 same_place n g p t e y z ny gy py nz gz pz =
-    let h : turn n g p *ℤ (y.w *ℤ value_at e z -ℤ z.w *ℤ value_at e y) ≡ turn n g p *ℤ pos 0 =
-    places n g p e y z ∙ rw (both_zero y.w z.w nz ny, both_zero y.w z.w gz gy, both_zero y.w z.w pz py) (zeros (turn e g p) (turn e p n) (turn e n g) (turn n g p)) in
+    let h : orientation n g p *ℤ (y.w *ℤ value_at e z -ℤ z.w *ℤ value_at e y) ≡ orientation n g p *ℤ pos 0 =
+    places n g p e y z ∙ rw (both_zero y.w z.w nz ny, both_zero y.w z.w gz gy, both_zero y.w z.w pz py) (zeros (orientation e g p) (orientation e p n) (orientation e n g) (orientation n g p)) in
     equal_from (cancel_eq t h)
   where
     zeros : (a b c d : ℤ) → a *ℤ pos 0 +ℤ b *ℤ pos 0 +ℤ c *ℤ pos 0 ≡ d *ℤ pos 0
@@ -65,7 +65,7 @@ same_place n g p t e y z ny gy py nz gz pz =
     equal_from : {x y : ℤ} → x -ℤ y ≡ pos 0 → x ≡ y
     equal_from e = omega (arith, linear)
 
-pub crossing : (n g p : Plane) (a b y : Spot) → turn n g p ≢ pos 0 → value_at n a ≡ pos 0 → value_at n b ≡ pos 0 → value_at g a ≡ pos 0 → value_at g b ≡ pos 0 → pos 0 <ℤ a.w → pos 0 <ℤ b.w → value_at p a <ℤ pos 0 → pos 0 ≤ℤ value_at p b → value_at n y ≡ pos 0 → value_at g y ≡ pos 0 → value_at p y ≡ pos 0 → pos 0 <ℤ y.w → Crossing p a b y
+pub crossing : (n g p : Plane) (a b y : Spot) → orientation n g p ≢ pos 0 → value_at n a ≡ pos 0 → value_at n b ≡ pos 0 → value_at g a ≡ pos 0 → value_at g b ≡ pos 0 → pos 0 <ℤ a.w → pos 0 <ℤ b.w → value_at p a <ℤ pos 0 → pos 0 ≤ℤ value_at p b → value_at n y ≡ pos 0 → value_at g y ≡ pos 0 → value_at p y ≡ pos 0 → pos 0 <ℤ y.w → Crossing p a b y
 crossing n g p a b y t na nb ga gb wa wb pa pb ny gy py wy =
     record {
       from = pa;
@@ -78,7 +78,7 @@ crossing n g p a b y t na nb ga gb wa wb pa pb ny gy py wy =
     own : (u v : ℤ) → u *ℤ v -ℤ v *ℤ u ≡ pos 0
     own = solve 2 (λ u v. u ⊗ v ⊖ v ⊗ u ≈ num (pos 0)) cancels
 
-neg_at : {p : Plane} {a b y : Spot} → Crossing p a b y → (e : Plane) → (value_at p b *ℤ value_at e a -ℤ value_at p a *ℤ value_at e b) <ℤ pos 0 → Under e y
+neg_at : {p : Plane} {a b y : Spot} → Crossing p a b y → (e : Plane) → (value_at p b *ℤ value_at e a -ℤ value_at p a *ℤ value_at e b) <ℤ pos 0 → IsBelow e y
 neg_at {p} {a} {b} {y} c e h =
     let m : value_at e (mix p a b) <ℤ pos 0 = rw (mixed p a b e) h in
     let l : ((mix p a b).w *ℤ value_at e y) <ℤ pos 0 = rw (← c.same e) (mul_pos_neg c.here m) in
@@ -87,10 +87,10 @@ neg_at {p} {a} {b} {y} c e h =
     cancel_neg : {k x : ℤ} → pos 0 <ℤ k → (k *ℤ x) <ℤ pos 0 → x <ℤ pos 0
     cancel_neg {k} {x} p q = cancel_lt p (rw (solve 1 (λ k. k ⊗ num (pos 0) ≈ num (pos 0)) cancels k) q)
 
-pub under_past : {p : Plane} {a b y : Spot} → Crossing p a b y → (e : Plane) → value_at e a ≤ℤ pos 0 → Under e b → Under e y
+pub under_past : {p : Plane} {a b y : Spot} → Crossing p a b y → (e : Plane) → value_at e a ≤ℤ pos 0 → IsBelow e b → IsBelow e y
 under_past c e h k = neg_at c e (blend_neg c.to c.from h k.under)
 
-pub under_first : {p : Plane} {a b y : Spot} → Crossing p a b y → (e : Plane) → pos 0 <ℤ value_at p b → Under e a → value_at e b ≤ℤ pos 0 → Under e y
+pub under_first : {p : Plane} {a b y : Spot} → Crossing p a b y → (e : Plane) → pos 0 <ℤ value_at p b → IsBelow e a → value_at e b ≤ℤ pos 0 → IsBelow e y
 under_first c e l h k = neg_at c e (blend_neg_strict l c.from h.under k)
 
 blend_most : {u v a b : ℤ} → pos 0 ≤ℤ u → v <ℤ pos 0 → a ≤ℤ pos 0 → b ≤ℤ pos 0 → (u *ℤ a -ℤ v *ℤ b) ≤ℤ pos 0
@@ -99,7 +99,7 @@ blend_most {u} {v} {a} {b} p q r s =
     let o : pos 0 ≤ℤ neg_ℤ v = omega (arith, linear) in
     omega (arith, linear, nonneg_mul p m, nonneg_mul o n, solve 2 (λ u a. u ⊗ neg a ≈ neg (u ⊗ a)) cancels u a, solve 2 (λ v b. neg v ⊗ neg b ≈ v ⊗ b) cancels v b)
 
-pub most_at : {p : Plane} {a b y : Spot} → Crossing p a b y → (e : Plane) → AtMost e a → AtMost e b → AtMost e y
+pub most_at : {p : Plane} {a b y : Spot} → Crossing p a b y → (e : Plane) → IsNotAbove e a → IsNotAbove e b → IsNotAbove e y
 most_at {p} {a} {b} {y} c e h k =
     let m : value_at e (mix p a b) ≤ℤ pos 0 = rw (mixed p a b e) (blend_most c.to c.from h.at_most k.at_most) in
     let l : (y.w *ℤ value_at e (mix p a b)) ≤ℤ pos 0 = shrink c.here m in

@@ -8,16 +8,16 @@ use Rattle.ember_algebra.specs.Sign.{is_negative}
 use Rattle.ember_model.specs.declared.plane.Plane.{Plane}
 use Rattle.ember_model.specs.Planes.{value_at}
 use Rattle.ember_model.proofs.SignTests.{negative_out}
-use Rattle.ember_point.specs.declared.corner.Meet.{Meet}
+use Rattle.ember_point.specs.declared.meet_point.Meet.{Meet}
 use Rattle.ember_point.specs.Points.{spot_of}
-use Rattle.ember_poly.specs.Rings.{Under, AtMost, AtLeast}
-use Rattle.ember_poly.specs.Passages.{is_under, Stops, IsRun, Enters, Straddles}
+use Rattle.ember_poly.specs.Rings.{IsBelow, IsNotAbove, IsNotBelow}
+use Rattle.ember_poly.specs.Passages.{is_under, Stops, IsOneSidedRun, Enters, Straddles}
 use Rattle.ember_poly.proofs.Chains.{each_map, each-front, each-back}
-use Rattle.ember_poly.proofs.Inner.{weak}
-use Rattle.ember_poly.proofs.Turns.{each-join}
+use Rattle.ember_poly.proofs.InsidePoints.{weak}
+use Rattle.ember_poly.proofs.Rotations.{each-join}
 
 -- ---- the test of one corner
-pub under_out : (p : Plane) (m : Meet) → is_under p m ≡ true → Under p (spot_of m)
+pub under_out : (p : Plane) (m : Meet) → is_under p m ≡ true → IsBelow p (spot_of m)
 under_out p m e = record { under = negative_out (value_at p (spot_of m)) e }
 
 not_negative : (a : ℤ) → is_negative a ≡ false → pos 0 ≤ℤ a
@@ -25,7 +25,7 @@ not_negative (pos zero) e = omega (arith, ints)
 not_negative (pos (suc n)) e = omega (arith, ints)
 not_negative (negsuc n) e = cc
 
-pub least_out : (p : Plane) (m : Meet) → is_under p m ≡ false → AtLeast p (spot_of m)
+pub least_out : (p : Plane) (m : Meet) → is_under p m ≡ false → IsNotBelow p (spot_of m)
 least_out p m e = record { at_least = not_negative (value_at p (spot_of m)) e }
 
 pub clash : {X : Type 0} {b : Bool} → b ≡ true → b ≡ false → X
@@ -41,29 +41,29 @@ stops_at p b ms i d l e = subst (λ ys. Stops p b ys) (sym (drop_more ms i d l))
 pub stops_end : (p : Plane) (b : Bool) (ms : List Meet) (i : ℕ) → length ms ≤ i → Stops p b (drop i ms)
 stops_end p b ms i l = subst (λ ys. Stops p b ys) (sym (drop_all i ms l)) tt
 
-pub run_rest : (p : Plane) (b : Bool) (m : Meet) (ms : List Meet) (k : ℕ) → IsRun p b (m ∷ ms) (suc k) → IsRun p b ms k
-run_rest p b m ms k r = record { fits = omega (arith, r.fits); all = r.all.1; stops = r.stops }
+pub run_rest : (p : Plane) (b : Bool) (m : Meet) (ms : List Meet) (k : ℕ) → IsOneSidedRun p b (m ∷ ms) (suc k) → IsOneSidedRun p b ms k
+run_rest p b m ms k r = record { has_vertex_within = omega (arith, r.has_vertex_within); all = r.all.1; stops = r.stops }
 
-pub run_more : (p : Plane) (b : Bool) (m : Meet) (ms : List Meet) (k : ℕ) → is_under p m ≡ b → IsRun p b ms k → IsRun p b (m ∷ ms) (suc k)
-run_more p b m ms k e r = record { fits = omega (arith, r.fits); all = (e, r.all); stops = r.stops }
+pub run_more : (p : Plane) (b : Bool) (m : Meet) (ms : List Meet) (k : ℕ) → is_under p m ≡ b → IsOneSidedRun p b ms k → IsOneSidedRun p b (m ∷ ms) (suc k)
+run_more p b m ms k e r = record { has_vertex_within = omega (arith, r.has_vertex_within); all = (e, r.all); stops = r.stops }
 
 -- a run that ends before the list does
-pub run_short : (p : Plane) (b : Bool) (us bs : List Meet) (k : ℕ) → k < length us → IsRun p b us k → IsRun p b (us ++ bs) k
+pub run_short : (p : Plane) (b : Bool) (us bs : List Meet) (k : ℕ) → k < length us → IsOneSidedRun p b us k → IsOneSidedRun p b (us ++ bs) k
 run_short p b [] bs k l r = absurd (omega (arith, l))
-run_short p b (m ∷ us) bs zero l r = record { fits = omega arith; all = tt; stops = r.stops }
+run_short p b (m ∷ us) bs zero l r = record { has_vertex_within = omega arith; all = tt; stops = r.stops }
 run_short p b (m ∷ us) bs (suc k) l r =
     run_more p b m (us ++ bs) k r.all.0 (run_short p b us bs k (omega (arith, l)) (run_rest p b m us k r))
 
 -- a run that goes on behind the list
-pub run_long : (p : Plane) (b : Bool) (us bs : List Meet) (k h : ℕ) → length us ≤ k → IsRun p b us k → IsRun p b bs h → IsRun p b (us ++ bs) (k + h)
-run_long p b [] bs zero h l r s = subst (λ j. IsRun p b bs j) (none h) s
+pub run_long : (p : Plane) (b : Bool) (us bs : List Meet) (k h : ℕ) → length us ≤ k → IsOneSidedRun p b us k → IsOneSidedRun p b bs h → IsOneSidedRun p b (us ++ bs) (k + h)
+run_long p b [] bs zero h l r s = subst (λ j. IsOneSidedRun p b bs j) (none h) s
   where
     none : (h : ℕ) → h ≡ 0 + h
     none h = omega arith
-run_long p b [] bs (suc k) h l r s = absurd (omega (arith, r.fits))
+run_long p b [] bs (suc k) h l r s = absurd (omega (arith, r.has_vertex_within))
 run_long p b (m ∷ us) bs zero h l r s = absurd (omega (arith, l))
 run_long p b (m ∷ us) bs (suc k) h l r s =
-    subst (λ j. IsRun p b (m ∷ (us ++ bs)) j) (one k h) (run_more p b m (us ++ bs) (k + h) r.all.0 (run_long p b us bs k h (omega (arith, l)) (run_rest p b m us k r) s))
+    subst (λ j. IsOneSidedRun p b (m ∷ (us ++ bs)) j) (one k h) (run_more p b m (us ++ bs) (k + h) r.all.0 (run_long p b us bs k h (omega (arith, l)) (run_rest p b m us k r) s))
   where
     one : (k h : ℕ) → suc (k + h) ≡ suc k + h
     one k h = omega arith
@@ -113,25 +113,25 @@ module _ (p : Plane) where
   abbrev IsHigh : Meet → Type 0
   IsHigh m = is_under p m ≡ false
 
-  pub lows : (us : List Meet) → AllByRecursion IsLow us → AllByRecursion (λ m. AtMost p (spot_of m)) us
-  lows us h = each_map IsLow (λ m. AtMost p (spot_of m)) us (λ m e. weak (under_out p m e)) h
+  pub lows : (us : List Meet) → AllByRecursion IsLow us → AllByRecursion (λ m. IsNotAbove p (spot_of m)) us
+  lows us h = each_map IsLow (λ m. IsNotAbove p (spot_of m)) us (λ m e. weak (under_out p m e)) h
 
-  pub highs : (us : List Meet) → AllByRecursion IsHigh us → AllByRecursion (λ m. AtLeast p (spot_of m)) us
-  highs us h = each_map IsHigh (λ m. AtLeast p (spot_of m)) us (λ m e. least_out p m e) h
+  pub highs : (us : List Meet) → AllByRecursion IsHigh us → AllByRecursion (λ m. IsNotBelow p (spot_of m)) us
+  highs us h = each_map IsHigh (λ m. IsNotBelow p (spot_of m)) us (λ m e. least_out p m e) h
 
   enters_at : (us bs : List Meet) (y : Meet) (cs : List Meet) → AllByRecursion IsLow us → AllByRecursion IsHigh bs → IsHigh y → Stops p false cs → Straddles p (us ++ (bs ++ y ∷ cs)) → Enters p ((y ∷ cs) ++ (us ++ bs))
   enters_at us bs y (c ∷ cs) ha hb hy s t = (hy, s)
   enters_at (a ∷ us) bs y [] ha hb hy s t = (hy, ha.0)
   enters_at [] bs y [] ha hb hy s t =
-      absurd (t.under (each-join (λ m. AtLeast p (spot_of m)) bs (y ∷ []) (highs bs hb) (least_out p y hy, tt)))
+      absurd (t.under (each-join (λ m. IsNotBelow p (spot_of m)) bs (y ∷ []) (highs bs hb) (least_out p y hy, tt)))
 
   pub first_positive : (us ys : List Meet) (u : ℕ) → AllByRecursion IsLow us → Stops p true ys → Stops p false (drop u ys) → Straddles p (us ++ ys) → 0 < u
   first_positive us ys (suc u) ha s f t = omega arith
   first_positive us (y ∷ ys) zero ha s f t = clash f s
   first_positive us [] zero ha s f t =
-      absurd (t.above (subst (λ zs. AllByRecursion (λ m. AtMost p (spot_of m)) zs) (sym (append-nil us)) (lows us ha)))
+      absurd (t.above (subst (λ zs. AllByRecursion (λ m. IsNotAbove p (spot_of m)) zs) (sym (append-nil us)) (lows us ha)))
 
-  module _ (ms : List Meet) (d u : ℕ) (down : IsRun p true ms d) (up : IsRun p false (drop d ms) u) (t : Straddles p ms) where
+  module _ (ms : List Meet) (d u : ℕ) (down : IsOneSidedRun p true ms d) (up : IsOneSidedRun p false (drop d ms) u) (t : Straddles p ms) where
     apart : Straddles p (take d ms ++ drop d ms)
     apart = subst (λ zs. Straddles p zs) (sym (take-append-drop d ms)) t
 
@@ -139,26 +139,26 @@ module _ (p : Plane) where
     up_positive = first_positive (take d ms) (drop d ms) u down.all down.stops up.stops apart
 
     pub entry_within : d + u - 1 < length ms
-    entry_within = omega (arith, up_positive, up.fits, down.fits, length-drop d ms)
+    entry_within = omega (arith, up_positive, up.has_vertex_within, down.has_vertex_within, length-drop d ms)
 
     pub entry_enters : Enters p (drop (d + u - 1) ms ++ take (d + u - 1) ms)
     entry_enters =
-        let w = last_of_first u (drop d ms) up_positive up.fits in
+        let w = last_of_first u (drop d ms) up_positive up.has_vertex_within in
         let high = subst (λ zs. AllByRecursion IsHigh zs) w.taken up.all in
         let e = enters_at (take d ms) w.front w.last w.behind down.all (each-front IsHigh w.front (w.last ∷ []) high) (each-back IsHigh w.front (w.last ∷ []) high).0 (subst (λ zs. Stops p false zs) w.left up.stops) (subst (λ zs. Straddles p (take d ms ++ zs)) w.whole apart) in
         let whole : ms ≡ (take d ms ++ w.front) ++ w.last ∷ w.behind = sym (take-append-drop d ms) ∙ ap (λ zs. take d ms ++ zs) w.whole ∙ sym (append_assoc (take d ms) w.front (w.last ∷ w.behind)) in
-        let count : d + u - 1 ≡ length (take d ms ++ w.front) = ap (λ k. d + k - 1) w.count ∙ less d (length w.front) ∙ sym (length-append (take d ms) w.front ∙ ap (λ k. k + length w.front) (length-take-le d ms down.fits)) in
+        let count : d + u - 1 ≡ length (take d ms ++ w.front) = ap (λ k. d + k - 1) w.count ∙ less d (length w.front) ∙ sym (length-append (take d ms) w.front ∙ ap (λ k. k + length w.front) (length-take-le d ms down.has_vertex_within)) in
         subst (λ zs. Enters p zs) (sym ((λ i. drop (d + u - 1) (whole i) ++ take (d + u - 1) (whole i)) ∙ turn_split (take d ms ++ w.front) (w.last ∷ w.behind) (d + u - 1) count)) e
       where
         less : (d k : ℕ) → d + suc k - 1 ≡ d + k
         less d k = omega arith
 
 -- a corner below comes second
-pub run_positive : (p : Plane) (m : Meet) (ns : List Meet) (c : ℕ) → Enters p (m ∷ ns) → IsRun p true ns c → 0 < c
+pub run_positive : (p : Plane) (m : Meet) (ns : List Meet) (c : ℕ) → Enters p (m ∷ ns) → IsOneSidedRun p true ns c → 0 < c
 run_positive p m [] c e r = absurd e
 run_positive p m (n ∷ ns) zero e r = clash e.1 r.stops
 run_positive p m (n ∷ ns) (suc c) e r = omega arith
 
-pub head_high : (p : Plane) (m : Meet) (ns : List Meet) → Enters p (m ∷ ns) → AtLeast p (spot_of m)
+pub head_high : (p : Plane) (m : Meet) (ns : List Meet) → Enters p (m ∷ ns) → IsNotBelow p (spot_of m)
 head_high p m [] e = absurd e
 head_high p m (n ∷ ns) e = least_out p m e.0

@@ -7,12 +7,12 @@ use Rattle.ember_algebra.proofs.Order.{mul_pos_neg, cancel_lt, zero_product}
 use Rattle.ember_model.specs.declared.plane.Plane.{Plane}
 use Rattle.ember_model.specs.declared.point.Spot.{Spot}
 use Rattle.ember_model.specs.Planes.{value_at}
-use Rattle.ember_model.specs.Edges.{IsBefore, reach_along}
+use Rattle.ember_model.specs.Edges.{IsBefore, position_along}
 use Rattle.ember_model.proofs.SignTests.{positive_nonzero}
 use Rattle.ember_model.proofs.Tuples.{plane_tuple, spot_tuple, normalE}
-use Rattle.ember_poly.specs.Rings.{turn, along}
+use Rattle.ember_poly.specs.Rings.{orientation, along}
 use Rattle.ember_poly.proofs.Planar.{places, both_zero, turnE}
-use Rattle.ember_poly.proofs.Slopes.{slope, pos_factor}
+use Rattle.ember_poly.proofs.CutOrientation.{slope, pos_factor}
 use Rattle.ember_poly.proofs.EdgeEnds.{reach}
 
 -- ---- the direction from u to v
@@ -24,7 +24,7 @@ abbrev towardE : TupleE → TupleE → TupleE
 towardE u v =
     record { x = u.w ⊗ v.x ⊖ v.w ⊗ u.x; y = u.w ⊗ v.y ⊖ v.w ⊗ u.y; z = u.w ⊗ v.z ⊖ v.w ⊗ u.z; w = num (pos 0) }
 
-turn_toward : (n g : Plane) (u v : Spot) → turn n g (toward u v) ≡ u.w *ℤ reach_along n g v -ℤ v.w *ℤ reach_along n g u
+turn_toward : (n g : Plane) (u v : Spot) → orientation n g (toward u v) ≡ u.w *ℤ position_along n g v -ℤ v.w *ℤ position_along n g u
 turn_toward n g u v =
     identity (tuple ∷ tuple ∷ tuple ∷ tuple ∷ []) (λ n g u v. turnE n g (towardE u v) ≈ u.w ⊗ dotE (crossE (normalE n) (normalE g)) (normalE v) ⊖ v.w ⊗ dotE (crossE (normalE n) (normalE g)) (normalE u)) cancels (plane_tuple n) (plane_tuple g) (spot_tuple u) (spot_tuple v)
 
@@ -32,14 +32,14 @@ rising : {a b : ℤ} → a <ℤ b → pos 0 <ℤ (b -ℤ a)
 rising l = omega (arith, linear, l)
 
 -- an edge's plane and its direction turn from the support plane
-pub turns_toward : (n g : Plane) (u v : Spot) → IsBefore n g u v → pos 0 <ℤ turn n g (toward u v)
+pub turns_toward : (n g : Plane) (u v : Spot) → IsBefore n g u v → pos 0 <ℤ orientation n g (toward u v)
 turns_toward n g u v l = rw (turn_toward n g u v) (rising l.before)
 
 -- ---- two planes through u and v
 module _ (n g h : Plane) (u v : Spot) (l : IsBefore n g u v) (nu : value_at n u ≡ pos 0) (nv : value_at n v ≡ pos 0) (gu : value_at g u ≡ pos 0) (gv : value_at g v ≡ pos 0) (hu : value_at h u ≡ pos 0) (hv : value_at h v ≡ pos 0) where
-  parallel : turn n g h ≡ pos 0
+  parallel : orientation n g h ≡ pos 0
   parallel =
-      ⊎_elim (λ z. z) (λ z. absurd (positive_nonzero far z)) (zero_product (slope n g h (along n g) u v nu nv gu gv ∙ rw (both_zero u.w v.w hv hu) (nothing (turn n (along n g) g))))
+      ⊎_elim (λ z. z) (λ z. absurd (positive_nonzero far z)) (zero_product (slope n g h (along n g) u v nu nv gu gv ∙ rw (both_zero u.w v.w hv hu) (nothing (orientation n (along n g) g))))
     where
       far : pos 0 <ℤ (u.w *ℤ value_at (along n g) v -ℤ v.w *ℤ value_at (along n g) u)
       far = rw (← reach n g u, ← reach n g v) (rising l.before)
@@ -48,15 +48,15 @@ module _ (n g h : Plane) (u v : Spot) (l : IsBefore n g u v) (nu : value_at n u 
       nothing = solve 1 (λ t. neg (t ⊗ num (pos 0)) ≈ num (pos 0)) cancels
 
   -- up to factors, their values agree
-  agree : (z : Spot) → value_at n z ≡ pos 0 → turn n g (toward u v) *ℤ (u.w *ℤ value_at h z) ≡ turn h (toward u v) n *ℤ (u.w *ℤ value_at g z)
+  agree : (z : Spot) → value_at n z ≡ pos 0 → orientation n g (toward u v) *ℤ (u.w *ℤ value_at h z) ≡ orientation h (toward u v) n *ℤ (u.w *ℤ value_at g z)
   agree z nz =
       let p = toward u v in
-      shape (turn n g p) (turn h g p) (turn h p n) u.w z.w (value_at h z) (value_at g z) (u.w *ℤ value_at p z -ℤ z.w *ℤ value_at p u) hu gu (both_zero u.w z.w nz nu) other (places n g p h u z)
+      shape (orientation n g p) (orientation h g p) (orientation h p n) u.w z.w (value_at h z) (value_at g z) (u.w *ℤ value_at p z -ℤ z.w *ℤ value_at p u) hu gu (both_zero u.w z.w nz nu) other (places n g p h u z)
     where
-      turned : (n g h : Plane) → turn h n g ≡ turn n g h
+      turned : (n g h : Plane) → orientation h n g ≡ orientation n g h
       turned n g h = identity (tuple ∷ tuple ∷ tuple ∷ []) (λ n g h. turnE h n g ≈ turnE n g h) cancels (plane_tuple n) (plane_tuple g) (plane_tuple h)
 
-      other : turn h n g ≡ pos 0
+      other : orientation h n g ≡ pos 0
       other = turned n g h ∙ parallel
 
       shape : (t r s w k x y d : ℤ) {a b c e : ℤ} → a ≡ pos 0 → b ≡ pos 0 → c ≡ pos 0 → e ≡ pos 0 → t *ℤ (w *ℤ x -ℤ k *ℤ a) ≡ r *ℤ c +ℤ s *ℤ (w *ℤ y -ℤ k *ℤ b) +ℤ e *ℤ d → t *ℤ (w *ℤ x) ≡ s *ℤ (w *ℤ y)

@@ -9,8 +9,8 @@ use Rattle.ember_algebra.proofs.Order.{pos_mul}
 use Rattle.ember_model.specs.declared.point.Corner.{Corner}
 use Rattle.ember_model.specs.declared.plane.Plane.{Plane}
 use Rattle.ember_model.specs.Planes.{value_at, vector_of, side_of, plane_through, times_plane, edge_through}
-use Rattle.ember_model.specs.Owners.{spot_at}
-use Rattle.ember_poly.specs.Rings.{Side, Under, Joint, Sound, Stands, turn}
+use Rattle.ember_model.specs.Owners.{spot_of_corner}
+use Rattle.ember_poly.specs.Rings.{Side, IsBelow, IsCornerOf, IsConvexRing, Represents, orientation}
 use Rattle.ember_poly.proofs.Planar.{turnE}
 
 abbrev pub normal_of : Corner → Corner → Corner → Vector
@@ -24,7 +24,7 @@ abbrev pub edge_along : ℤ → Vector → Corner → Corner → Plane
 edge_along s f u v = times_plane s (edge_through u v f)
 
 abbrev pub side_along : ℤ → Vector → Corner → Corner → ℕ → Side
-side_along s f u v b = record { plane = edge_along s f u v; corner = spot_at u; birth = b }
+side_along s f u v b = record { plane = edge_along s f u v; corner = spot_of_corner u; plane_index = b }
 
 abbrev pointE : VectorE → TupleE
 pointE u = record { x = u.x; y = u.y; z = u.z; w = num (pos 1) }
@@ -48,47 +48,47 @@ module _ (s : ℤ) (f : Vector) (u v w : Corner) where
   abbrev size : ℤ
   size = s *ℤ dot (normal_of u v w) f
 
-  flat_u : value_at (support_plane u v w) (spot_at u) ≡ pos 0
+  flat_u : value_at (support_plane u v w) (spot_of_corner u) ≡ pos 0
   flat_u =
       identity (vector ∷ vector ∷ vector ∷ []) (λ u v w. valueE (supportE u v w) (pointE u) ≈ num (pos 0)) cancels (vector_of u) (vector_of v) (vector_of w)
 
-  flat_v : value_at (support_plane u v w) (spot_at v) ≡ pos 0
+  flat_v : value_at (support_plane u v w) (spot_of_corner v) ≡ pos 0
   flat_v =
       identity (vector ∷ vector ∷ vector ∷ []) (λ u v w. valueE (supportE u v w) (pointE v) ≈ num (pos 0)) cancels (vector_of u) (vector_of v) (vector_of w)
 
-  flat_w : value_at (support_plane u v w) (spot_at w) ≡ pos 0
+  flat_w : value_at (support_plane u v w) (spot_of_corner w) ≡ pos 0
   flat_w =
       identity (vector ∷ vector ∷ vector ∷ []) (λ u v w. valueE (supportE u v w) (pointE w) ≈ num (pos 0)) cancels (vector_of u) (vector_of v) (vector_of w)
 
-  starts : value_at (edge_along s f u v) (spot_at u) ≡ pos 0
+  starts : value_at (edge_along s f u v) (spot_of_corner u) ≡ pos 0
   starts =
       identity (scalar ∷ vector ∷ vector ∷ vector ∷ []) (λ s f u v. valueE (edgeE s f u v) (pointE u) ≈ num (pos 0)) cancels s f (vector_of u) (vector_of v)
 
-  ends : value_at (edge_along s f u v) (spot_at v) ≡ pos 0
+  ends : value_at (edge_along s f u v) (spot_of_corner v) ≡ pos 0
   ends =
       identity (scalar ∷ vector ∷ vector ∷ vector ∷ []) (λ s f u v. valueE (edgeE s f u v) (pointE v) ≈ num (pos 0)) cancels s f (vector_of u) (vector_of v)
 
-  opposite_uv : value_at (edge_along s f u v) (spot_at w) ≡ neg_ℤ size
+  opposite_uv : value_at (edge_along s f u v) (spot_of_corner w) ≡ neg_ℤ size
   opposite_uv =
       identity (scalar ∷ vector ∷ vector ∷ vector ∷ vector ∷ []) (λ s f u v w. valueE (edgeE s f u v) (pointE w) ≈ neg (s ⊗ dotE (normalOfE u v w) f)) cancels s f (vector_of u) (vector_of v) (vector_of w)
 
-  opposite_vw : value_at (edge_along s f v w) (spot_at u) ≡ neg_ℤ size
+  opposite_vw : value_at (edge_along s f v w) (spot_of_corner u) ≡ neg_ℤ size
   opposite_vw =
       identity (scalar ∷ vector ∷ vector ∷ vector ∷ vector ∷ []) (λ s f u v w. valueE (edgeE s f v w) (pointE u) ≈ neg (s ⊗ dotE (normalOfE u v w) f)) cancels s f (vector_of u) (vector_of v) (vector_of w)
 
-  opposite_wu : value_at (edge_along s f w u) (spot_at v) ≡ neg_ℤ size
+  opposite_wu : value_at (edge_along s f w u) (spot_of_corner v) ≡ neg_ℤ size
   opposite_wu =
       identity (scalar ∷ vector ∷ vector ∷ vector ∷ vector ∷ []) (λ s f u v w. valueE (edgeE s f w u) (pointE v) ≈ neg (s ⊗ dotE (normalOfE u v w) f)) cancels s f (vector_of u) (vector_of v) (vector_of w)
 
-  turn_v : turn (support_plane u v w) (edge_along s f u v) (edge_along s f v w) ≡ size *ℤ size
+  turn_v : orientation (support_plane u v w) (edge_along s f u v) (edge_along s f v w) ≡ size *ℤ size
   turn_v =
       identity (scalar ∷ vector ∷ vector ∷ vector ∷ vector ∷ []) (λ s f u v w. turnE (supportE u v w) (edgeE s f u v) (edgeE s f v w) ≈ (s ⊗ dotE (normalOfE u v w) f) ⊗ (s ⊗ dotE (normalOfE u v w) f)) cancels s f (vector_of u) (vector_of v) (vector_of w)
 
-  turn_w : turn (support_plane u v w) (edge_along s f v w) (edge_along s f w u) ≡ size *ℤ size
+  turn_w : orientation (support_plane u v w) (edge_along s f v w) (edge_along s f w u) ≡ size *ℤ size
   turn_w =
       identity (scalar ∷ vector ∷ vector ∷ vector ∷ vector ∷ []) (λ s f u v w. turnE (supportE u v w) (edgeE s f v w) (edgeE s f w u) ≈ (s ⊗ dotE (normalOfE u v w) f) ⊗ (s ⊗ dotE (normalOfE u v w) f)) cancels s f (vector_of u) (vector_of v) (vector_of w)
 
-  turn_u : turn (support_plane u v w) (edge_along s f w u) (edge_along s f u v) ≡ size *ℤ size
+  turn_u : orientation (support_plane u v w) (edge_along s f w u) (edge_along s f u v) ≡ size *ℤ size
   turn_u =
       identity (scalar ∷ vector ∷ vector ∷ vector ∷ vector ∷ []) (λ s f u v w. turnE (supportE u v w) (edgeE s f w u) (edgeE s f u v) ≈ (s ⊗ dotE (normalOfE u v w) f) ⊗ (s ⊗ dotE (normalOfE u v w) f)) cancels s f (vector_of u) (vector_of v) (vector_of w)
 
@@ -102,21 +102,21 @@ one : pos 0 <ℤ pos 1
 one = omega (arith, linear)
 
 -- the three edges of a triangle, where s times the normal's product with f is positive
-pub triangle : (s : ℤ) (f : Vector) (u v w : Corner) → pos 0 <ℤ (s *ℤ dot (normal_of u v w) f) → Sound (support_plane u v w) (side_along s f u v 0 ∷ side_along s f v w 1 ∷ side_along s f w u 2 ∷ [])
+pub triangle : (s : ℤ) (f : Vector) (u v w : Corner) → pos 0 <ℤ (s *ℤ dot (normal_of u v w) f) → IsConvexRing (support_plane u v w) (side_along s f u v 0 ∷ side_along s f v w 1 ∷ side_along s f w u 2 ∷ [])
 triangle s f u v w p =
-    let at_u : Joint (support_plane u v w) (edge_along s f w u) (side_along s f u v 0) = record { flat = flat_u s f u v w; weight = one; before = ends s f w u v; after = starts s f u v w; turns = square p (turn_u s f u v w) } in
-    let at_v : Joint (support_plane u v w) (edge_along s f u v) (side_along s f v w 1) = record { flat = flat_v s f u v w; weight = one; before = ends s f u v w; after = starts s f v w u; turns = square p (turn_v s f u v w) } in
-    let at_w : Joint (support_plane u v w) (edge_along s f v w) (side_along s f w u 2) = record { flat = flat_w s f u v w; weight = one; before = ends s f v w u; after = starts s f w u v; turns = square p (turn_w s f u v w) } in
-    let uv : Under (edge_along s f u v) (spot_at w) = record { under = negative p (opposite_uv s f u v w) } in
-    let vw : Under (edge_along s f v w) (spot_at u) = record { under = negative p (opposite_vw s f u v w) } in
-    let wu : Under (edge_along s f w u) (spot_at v) = record { under = negative p (opposite_wu s f u v w) } in
+    let at_u : IsCornerOf (support_plane u v w) (edge_along s f w u) (side_along s f u v 0) = record { flat = flat_u s f u v w; weight = one; before = ends s f w u v; after = starts s f u v w; turns = square p (turn_u s f u v w) } in
+    let at_v : IsCornerOf (support_plane u v w) (edge_along s f u v) (side_along s f v w 1) = record { flat = flat_v s f u v w; weight = one; before = ends s f u v w; after = starts s f v w u; turns = square p (turn_v s f u v w) } in
+    let at_w : IsCornerOf (support_plane u v w) (edge_along s f v w) (side_along s f w u 2) = record { flat = flat_w s f u v w; weight = one; before = ends s f v w u; after = starts s f w u v; turns = square p (turn_w s f u v w) } in
+    let uv : IsBelow (edge_along s f u v) (spot_of_corner w) = record { under = negative p (opposite_uv s f u v w) } in
+    let vw : IsBelow (edge_along s f v w) (spot_of_corner u) = record { under = negative p (opposite_vw s f u v w) } in
+    let wu : IsBelow (edge_along s f w u) (spot_of_corner v) = record { under = negative p (opposite_wu s f u v w) } in
     (tt, (at_v, (uv, tt), (wu, tt), (at_w, tt, tt, tt)), (at_w, (vw, tt), (uv, tt), (at_u, tt, tt, tt)))
 
-pub triangle_stands : (s : ℤ) (f : Vector) (u v w : Corner) → pos 0 <ℤ (s *ℤ dot (normal_of u v w) f) → Stands (support_plane u v w) (edge_along s f u v ∷ edge_along s f v w ∷ edge_along s f w u ∷ []) (side_along s f u v 0 ∷ side_along s f v w 1 ∷ side_along s f w u 2 ∷ [])
+pub triangle_stands : (s : ℤ) (f : Vector) (u v w : Corner) → pos 0 <ℤ (s *ℤ dot (normal_of u v w) f) → Represents (support_plane u v w) (edge_along s f u v ∷ edge_along s f v w ∷ edge_along s f w u ∷ []) (side_along s f u v 0 ∷ side_along s f v w 1 ∷ side_along s f w u 2 ∷ [])
 triangle_stands s f u v w p =
     record {
       sound = triangle s f u v w p;
-      listed = (record { place = omega arith; here = refl }, (record { place = omega arith; here = refl }, (record { place = omega arith; here = refl }, tt)));
+      listed = (record { index = omega arith; here = refl }, (record { index = omega arith; here = refl }, (record { index = omega arith; here = refl }, tt)));
       follow = λ x i. i.within;
       follow_closed = λ x i. i.within;
     }

@@ -15,12 +15,12 @@ use Rattle.ember_model.specs.declared.plane.Plane.{Plane}
 use Rattle.ember_model.specs.declared.tri.Tri.{Tri}
 use Rattle.ember_model.specs.Planes.{along, unit, main_axis, support_of, edge_planes}
 use Rattle.ember_model.specs.Faces.{is_flat, face_of}
-use Rattle.ember_model.specs.Owners.{spot_at}
+use Rattle.ember_model.specs.Owners.{spot_of_corner}
 use Rattle.ember_model.specs.Valid.{IsValidPlane}
-use Rattle.ember_point.specs.declared.corner.Meet.{Meet}
+use Rattle.ember_point.specs.declared.meet_point.Meet.{Meet}
 use Rattle.ember_point.specs.Points.{spot_of}
-use Rattle.ember_poly.specs.Rings.{Side, Stands}
-use Rattle.ember_poly.specs.Sides.{sides_of, OldestFirst, AllCounted, IsRing}
+use Rattle.ember_poly.specs.Rings.{Side, Represents}
+use Rattle.ember_poly.specs.Sides.{sides_of, FirstPlaneFirst, AllAreEdges, IsRing}
 use Rattle.ember_poly.proofs.Triangle.{normal_of, side_along, triangle_stands}
 
 -- ---- the main axis
@@ -84,15 +84,15 @@ tri_sides t =
 abbrev pub tri_planes : Tri → List Plane
 tri_planes t = edge_planes t (main_axis (support_of t))
 
-pub stands : (t : Tri) → is_flat t ≡ false → Stands (support_of t) (tri_planes t) (tri_sides t)
+pub stands : (t : Tri) → is_flat t ≡ false → Represents (support_of t) (tri_planes t) (tri_sides t)
 stands t e =
     let k = main_axis (support_of t) in
     triangle_stands (sign (along (support_of t) k)) (unit k) t.a t.b t.c (faces_axis t e)
 
-pub counted : (t : Tri) → AllCounted (support_of t) (tri_planes t) (tri_sides t)
-counted t zero h e = inl (record { at = 0; side = _; here = refl; birth = refl })
-counted t (suc zero) h e = inl (record { at = 1; side = _; here = refl; birth = refl })
-counted t (suc (suc zero)) h e = inl (record { at = 2; side = _; here = refl; birth = refl })
+pub counted : (t : Tri) → AllAreEdges (support_of t) (tri_planes t) (tri_sides t)
+counted t zero h e = inl (record { at = 0; side = _; here = refl; plane_index = refl })
+counted t (suc zero) h e = inl (record { at = 1; side = _; here = refl; plane_index = refl })
+counted t (suc (suc zero)) h e = inl (record { at = 2; side = _; here = refl; plane_index = refl })
 counted t (suc (suc (suc i))) h e = absurd (none e)
   where
     none : None ≡ Some h → ⊥
@@ -101,18 +101,18 @@ counted t (suc (suc (suc i))) h e = absurd (none e)
 abbrev places : Meet → Meet → Meet → List Meet
 places u v w = u ∷ v ∷ w ∷ []
 
-same_sides : (t : Tri) (u v w : Meet) → spot_of u ≡ spot_at t.a → spot_of v ≡ spot_at t.b → spot_of w ≡ spot_at t.c → sides_of (tri_planes t) (places u v w) (0 ∷ 1 ∷ 2 ∷ []) ≡ tri_sides t
+same_sides : (t : Tri) (u v w : Meet) → spot_of u ≡ spot_of_corner t.a → spot_of v ≡ spot_of_corner t.b → spot_of w ≡ spot_of_corner t.c → sides_of (tri_planes t) (places u v w) (0 ∷ 1 ∷ 2 ∷ []) ≡ tri_sides t
 same_sides t u v w eu ev ew =
     let k = main_axis (support_of t) in let s = sign (along (support_of t) k) in
-    λ i. record { plane = (side_along s (unit k) t.a t.b 0).plane; corner = eu i; birth = 0 } ∷ record { plane = (side_along s (unit k) t.b t.c 1).plane; corner = ev i; birth = 1 } ∷ record { plane = (side_along s (unit k) t.c t.a 2).plane; corner = ew i; birth = 2 } ∷ []
+    λ i. record { plane = (side_along s (unit k) t.a t.b 0).plane; corner = eu i; plane_index = 0 } ∷ record { plane = (side_along s (unit k) t.b t.c 1).plane; corner = ev i; plane_index = 1 } ∷ record { plane = (side_along s (unit k) t.c t.a 2).plane; corner = ew i; plane_index = 2 } ∷ []
 
-ring_of : (t : Tri) (u v w : Meet) → is_flat t ≡ false → spot_of u ≡ spot_at t.a → spot_of v ≡ spot_at t.b → spot_of w ≡ spot_at t.c → IsValidPlane (support_of t) → All IsValidPlane (tri_planes t) → IsRing (support_of t) (tri_planes t) (tri_planes t) (places u v w) (0 ∷ 1 ∷ 2 ∷ [])
+ring_of : (t : Tri) (u v w : Meet) → is_flat t ≡ false → spot_of u ≡ spot_of_corner t.a → spot_of v ≡ spot_of_corner t.b → spot_of w ≡ spot_of_corner t.c → IsValidPlane (support_of t) → All IsValidPlane (tri_planes t) → IsRing (support_of t) (tri_planes t) (tri_planes t) (places u v w) (0 ∷ 1 ∷ 2 ∷ [])
 ring_of t u v w e eu ev ew vn vs =
     let q = sym (same_sides t u v w eu ev ew) in
-    record { stands = subst (λ xs. Stands (support_of t) (tri_planes t) xs) q (stands t e); oldest = subst (λ xs. OldestFirst xs) q (omega arith, (omega arith, tt)); counted = subst (λ xs. AllCounted (support_of t) (tri_planes t) xs) q (counted t); corners = refl; births = refl; support = vn; planes = vs }
+    record { stands = subst (λ xs. Represents (support_of t) (tri_planes t) xs) q (stands t e); oldest = subst (λ xs. FirstPlaneFirst xs) q (omega arith, (omega arith, tt)); counted = subst (λ xs. AllAreEdges (support_of t) (tri_planes t) xs) q (counted t); corners = refl; plane_indices = refl; support = vn; planes = vs }
 
 -- from what the code holds
-pub tri_ring : (t : Tri) (n : Plane) (u v w : Meet) {fs gs es : List Plane} {ms : List Meet} {bs : List ℕ} → is_flat t ≡ false → n ≡ support_of t → IsValidPlane n → fs ≡ tri_planes t → All IsValidPlane fs → gs ≡ fs → es ≡ fs → ms ≡ places u v w → bs ≡ 0 ∷ 1 ∷ 2 ∷ [] → spot_of u ≡ spot_at t.a → spot_of v ≡ spot_at t.b → spot_of w ≡ spot_at t.c → IsRing n gs es ms bs
+pub tri_ring : (t : Tri) (n : Plane) (u v w : Meet) {fs gs es : List Plane} {ms : List Meet} {bs : List ℕ} → is_flat t ≡ false → n ≡ support_of t → IsValidPlane n → fs ≡ tri_planes t → All IsValidPlane fs → gs ≡ fs → es ≡ fs → ms ≡ places u v w → bs ≡ 0 ∷ 1 ∷ 2 ∷ [] → spot_of u ≡ spot_of_corner t.a → spot_of v ≡ spot_of_corner t.b → spot_of w ≡ spot_of_corner t.c → IsRing n gs es ms bs
 tri_ring t n u v w {fs} {gs} {es} {ms} {bs} e en vn ef vs eg ee em eb eu ev ew =
     let r = ring_of t u v w e eu ev ew (subst (λ p. IsValidPlane p) en vn) (subst (λ ps. All IsValidPlane ps) ef vs) in
     rw (en, eg, ee, ef, em, eb) r

@@ -9,11 +9,11 @@ use Rattle.ember_model.specs.declared.plane.Plane.{Plane}
 use Rattle.ember_model.specs.declared.point.Spot.{Spot}
 use Rattle.ember_model.specs.declared.face.Face.{Face}
 use Rattle.ember_model.specs.Planes.{value_at, opposite}
-use Rattle.ember_model.specs.Faces.{turned}
-use Rattle.ember_model.specs.Edges.{is_on_edge, Counts, SameEdge, IsEarliest, reach_along, IsBefore, IsNotAfter, RingEdge, IsEdge, IsPath, IsAmong, AreApart, IsOutline}
+use Rattle.ember_model.specs.Faces.{flipped_face}
+use Rattle.ember_model.specs.Edges.{is_on_edge, HasEdge, SameEdge, IsEarliest, position_along, IsBefore, IsNotAfter, RingEdge, IsEdge, IsEdgeChain, HasEdgeOf, HaveDistinctEdges, IsOutline}
 use Rattle.ember_model.proofs.Tuples.{plane_tuple, spot_tuple, normalE}
 use Rattle.ember_poly.proofs.Chains.{each-push}
-use Rattle.ember_poly.proofs.Strict.{opposite_plane}
+use Rattle.ember_poly.proofs.InsideSigns.{opposite_plane}
 
 -- ---- the same points, the opposite way
 is_zero-neg : (a : ℤ) → is_zero (neg_ℤ a) ≡ is_zero a
@@ -21,34 +21,34 @@ is_zero-neg (pos zero) = refl
 is_zero-neg (pos (suc n)) = refl
 is_zero-neg (negsuc n) = refl
 
-on_turned : (f : Face) (g : Plane) (v : Spot) → is_on_edge (turned f) g v ≡ is_on_edge f g v
+on_turned : (f : Face) (g : Plane) (v : Spot) → is_on_edge (flipped_face f) g v ≡ is_on_edge f g v
 on_turned f g v =
     ap (λ b. (is_positive v.w && (b && list_all (λ e. not (is_positive (value_at e v))) f.edges)) && is_zero (value_at g v)) (ap is_zero (opposite_plane f.support v) ∙ is_zero-neg (value_at f.support v))
 
-same_turned : (f : Face) (g h : Plane) → SameEdge f g h → SameEdge (turned f) g h
+same_turned : (f : Face) (g h : Plane) → SameEdge f g h → SameEdge (flipped_face f) g h
 same_turned f g h e v = on_turned f g v ∙ e v ∙ sym (on_turned f h v)
 
-same_back : (f : Face) (g h : Plane) → SameEdge (turned f) g h → SameEdge f g h
+same_back : (f : Face) (g h : Plane) → SameEdge (flipped_face f) g h → SameEdge f g h
 same_back f g h e v = sym (on_turned f g v) ∙ e v ∙ on_turned f h v
 
-counts_turned : (f : Face) (g : Plane) → Counts f g → Counts (turned f) g
+counts_turned : (f : Face) (g : Plane) → HasEdge f g → HasEdge (flipped_face f) g
 counts_turned f g c =
     record { one = c.one; other = c.other; holds_one = on_turned f g c.one ∙ c.holds_one; holds_other = on_turned f g c.other ∙ c.holds_other; different = c.different }
 
-counts_back : (f : Face) (g : Plane) → Counts (turned f) g → Counts f g
+counts_back : (f : Face) (g : Plane) → HasEdge (flipped_face f) g → HasEdge f g
 counts_back f g c =
     record { one = c.one; other = c.other; holds_one = sym (on_turned f g c.one) ∙ c.holds_one; holds_other = sym (on_turned f g c.other) ∙ c.holds_other; different = c.different }
 
 abbrev oppositeE : TupleE → TupleE
 oppositeE v = record { x = neg v.x; y = neg v.y; z = neg v.z; w = neg v.w }
 
-reach_turned : (n g : Plane) (v : Spot) → reach_along (opposite n) g v ≡ neg_ℤ (reach_along n g v)
+reach_turned : (n g : Plane) (v : Spot) → position_along (opposite n) g v ≡ neg_ℤ (position_along n g v)
 reach_turned n g v =
     identity (tuple ∷ tuple ∷ tuple ∷ []) (λ n g v. dotE (crossE (normalE (oppositeE n)) (normalE g)) (normalE v) ≈ neg (dotE (crossE (normalE n) (normalE g)) (normalE v))) cancels (plane_tuple n) (plane_tuple g) (spot_tuple v)
 
 before_turned : (n g : Plane) (u v : Spot) → IsBefore n g u v → IsBefore (opposite n) g v u
 before_turned n g u v h =
-    record { before = rw (reach_turned n g u, reach_turned n g v) (flip v.w (reach_along n g u) u.w (reach_along n g v) h.before) }
+    record { before = rw (reach_turned n g u, reach_turned n g v) (flip v.w (position_along n g u) u.w (position_along n g v) h.before) }
   where
     flip : (p a q b : ℤ) → (p *ℤ a) <ℤ (q *ℤ b) → (q *ℤ neg_ℤ b) <ℤ (p *ℤ neg_ℤ a)
     flip p a q b l =
@@ -56,7 +56,7 @@ before_turned n g u v h =
 
 not_after_turned : (n g : Plane) (u v : Spot) → IsNotAfter n g u v → IsNotAfter (opposite n) g v u
 not_after_turned n g u v h =
-    record { not_after = rw (reach_turned n g u, reach_turned n g v) (flip v.w (reach_along n g u) u.w (reach_along n g v) h.not_after) }
+    record { not_after = rw (reach_turned n g u, reach_turned n g v) (flip v.w (position_along n g u) u.w (position_along n g v) h.not_after) }
   where
     flip : (p a q b : ℤ) → (p *ℤ a) ≤ℤ (q *ℤ b) → (q *ℤ neg_ℤ b) ≤ℤ (p *ℤ neg_ℤ a)
     flip p a q b l =
@@ -66,10 +66,10 @@ not_after_turned n g u v h =
 abbrev pub from_end : RingEdge → Spot → RingEdge
 from_end e end = record e { start = end }
 
-edge_turned : (f : Face) (e : RingEdge) (end : Spot) → IsEdge f e end → IsEdge (turned f) (from_end e end) e.start
+edge_turned : (f : Face) (e : RingEdge) (end : Spot) → IsEdge f e end → IsEdge (flipped_face f) (from_end e end) e.start
 edge_turned f e end h =
     record {
-      stands = record { place = h.stands.place; here = h.stands.here; holds = same_turned f e.plane e.plane h.stands.holds; earliest = λ i g l k s. h.stands.earliest i g l k (same_back f g e.plane s) };
+      stands = record { index = h.stands.index; here = h.stands.here; holds = same_turned f e.plane e.plane h.stands.holds; earliest = λ i g l k s. h.stands.earliest i g l k (same_back f g e.plane s) };
       starts = on_turned f e.plane end ∙ h.ends;
       ends = on_turned f e.plane e.start ∙ h.starts;
       leads = before_turned f.support e.plane e.start end h.leads;
@@ -96,36 +96,36 @@ back_starts end e [] = refl
 back_starts end e (d ∷ es) =
     starts_push end (turn_back end (d ∷ es)) (from_end e d.start ∷ []) (back_starts end d es)
 
-path_push : (f : Face) (end : Spot) (xs : List RingEdge) (d : RingEdge) → IsPath f d.start xs → IsEdge f d end → IsPath f end (xs ++ d ∷ [])
+path_push : (f : Face) (end : Spot) (xs : List RingEdge) (d : RingEdge) → IsEdgeChain f d.start xs → IsEdge f d end → IsEdgeChain f end (xs ++ d ∷ [])
 path_push f end [] d p h = h
 path_push f end (x ∷ []) d p h = (p, h)
 path_push f end (x ∷ y ∷ xs) d p h = (p.0, path_push f end (y ∷ xs) d p.1 h)
 
-path_cons : (f : Face) (end at : Spot) (d : RingEdge) (xs : List RingEdge) → IsEdge f d at → StartsAt at xs → IsPath f end xs → IsPath f end (d ∷ xs)
+path_cons : (f : Face) (end at : Spot) (d : RingEdge) (xs : List RingEdge) → IsEdge f d at → StartsAt at xs → IsEdgeChain f end xs → IsEdgeChain f end (d ∷ xs)
 path_cons f end at d [] h s p = absurd s
 path_cons f end at d (x ∷ xs) h s p = (subst (λ v. IsEdge f d v) (sym s) h, p)
 
-path_back : (f : Face) (end : Spot) (e : RingEdge) (es : List RingEdge) → IsPath f end (e ∷ es) → IsPath (turned f) e.start (turn_back end (e ∷ es))
+path_back : (f : Face) (end : Spot) (e : RingEdge) (es : List RingEdge) → IsEdgeChain f end (e ∷ es) → IsEdgeChain (flipped_face f) e.start (turn_back end (e ∷ es))
 path_back f end e [] p = edge_turned f e end p
 path_back f end e (d ∷ es) p =
-    path_push (turned f) e.start (turn_back end (d ∷ es)) (from_end e d.start) (path_back f end d es p.1) (edge_turned f e d.start p.0)
+    path_push (flipped_face f) e.start (turn_back end (d ∷ es)) (from_end e d.start) (path_back f end d es p.1) (edge_turned f e d.start p.0)
 
 -- ---- members
-among_turned : (f : Face) (h : Plane) (es : List RingEdge) → IsAmong f h es → IsAmong (turned f) h es
+among_turned : (f : Face) (h : Plane) (es : List RingEdge) → HasEdgeOf f h es → HasEdgeOf (flipped_face f) h es
 among_turned f h [] a = absurd a
 among_turned f h (e ∷ es) (inl s) = inl (same_turned f h e.plane s)
 among_turned f h (e ∷ es) (inr a) = inr (among_turned f h es a)
 
-among_left : (f : Face) (h : Plane) (xs ys : List RingEdge) → IsAmong f h xs → IsAmong f h (xs ++ ys)
+among_left : (f : Face) (h : Plane) (xs ys : List RingEdge) → HasEdgeOf f h xs → HasEdgeOf f h (xs ++ ys)
 among_left f h [] ys a = absurd a
 among_left f h (x ∷ xs) ys (inl s) = inl s
 among_left f h (x ∷ xs) ys (inr a) = inr (among_left f h xs ys a)
 
-among_last : (f : Face) (h : Plane) (xs : List RingEdge) (e : RingEdge) → SameEdge f h e.plane → IsAmong f h (xs ++ e ∷ [])
+among_last : (f : Face) (h : Plane) (xs : List RingEdge) (e : RingEdge) → SameEdge f h e.plane → HasEdgeOf f h (xs ++ e ∷ [])
 among_last f h [] e s = inl s
 among_last f h (x ∷ xs) e s = inr (among_last f h xs e s)
 
-among_back : (f : Face) (h : Plane) (end : Spot) (es : List RingEdge) → IsAmong f h es → IsAmong f h (turn_back end es)
+among_back : (f : Face) (h : Plane) (end : Spot) (es : List RingEdge) → HasEdgeOf f h es → HasEdgeOf f h (turn_back end es)
 among_back f h end [] a = a
 among_back f h end (e ∷ []) (inl s) = inl s
 among_back f h end (e ∷ []) (inr a) = absurd a
@@ -143,20 +143,20 @@ each_swap : (f : Face) (p : Plane) (es : List RingEdge) → AllByRecursion (λ d
 each_swap f p [] h = tt
 each_swap f p (e ∷ es) h = (λ s. h.0 (λ v. sym (s v)), each_swap f p es h.1)
 
-each_turned : (f : Face) (p : Plane) (es : List RingEdge) → AllByRecursion (λ d. SameEdge f p d.plane → ⊥) es → AllByRecursion (λ d. SameEdge (turned f) p d.plane → ⊥) es
+each_turned : (f : Face) (p : Plane) (es : List RingEdge) → AllByRecursion (λ d. SameEdge f p d.plane → ⊥) es → AllByRecursion (λ d. SameEdge (flipped_face f) p d.plane → ⊥) es
 each_turned f p [] h = tt
 each_turned f p (e ∷ es) h = (λ s. h.0 (same_back f p e.plane s), each_turned f p es h.1)
 
-apart_turned : (f : Face) (es : List RingEdge) → AreApart f es → AreApart (turned f) es
+apart_turned : (f : Face) (es : List RingEdge) → HaveDistinctEdges f es → HaveDistinctEdges (flipped_face f) es
 apart_turned f [] h = tt
 apart_turned f (e ∷ es) h = (each_turned f e.plane es h.0, apart_turned f es h.1)
 
-apart_push : (f : Face) (xs : List RingEdge) (e : RingEdge) → AreApart f xs → AllByRecursion (λ d. SameEdge f d.plane e.plane → ⊥) xs → AreApart f (xs ++ e ∷ [])
+apart_push : (f : Face) (xs : List RingEdge) (e : RingEdge) → HaveDistinctEdges f xs → AllByRecursion (λ d. SameEdge f d.plane e.plane → ⊥) xs → HaveDistinctEdges f (xs ++ e ∷ [])
 apart_push f [] e h k = (tt, tt)
 apart_push f (x ∷ xs) e h k =
     (each-push (λ d. SameEdge f x.plane d.plane → ⊥) xs e h.0 k.0, apart_push f xs e h.1 k.1)
 
-apart_back : (f : Face) (end : Spot) (es : List RingEdge) → AreApart f es → AreApart f (turn_back end es)
+apart_back : (f : Face) (end : Spot) (es : List RingEdge) → HaveDistinctEdges f es → HaveDistinctEdges f (turn_back end es)
 apart_back f end [] h = tt
 apart_back f end (e ∷ []) h = (tt, tt)
 apart_back f end (e ∷ d ∷ es) h =
@@ -167,27 +167,27 @@ apart_back f end (e ∷ d ∷ es) h =
 abbrev pub turned_outline : RingEdge → RingEdge → List RingEdge → List RingEdge
 turned_outline e d es = from_end e d.start ∷ turn_back e.start (d ∷ es)
 
-pub outline_turned : (f : Face) (e d : RingEdge) (es : List RingEdge) → IsOutline f (e ∷ d ∷ es) → IsOutline (turned f) (turned_outline e d es)
+pub outline_turned : (f : Face) (e d : RingEdge) (es : List RingEdge) → IsOutline f (e ∷ d ∷ es) → IsOutline (flipped_face f) (turned_outline e d es)
 outline_turned f e d es o =
     let q : o.first ≡ e = first o.begins in
-    let round : IsPath f e.start (e ∷ d ∷ es) = subst (λ (c : RingEdge). IsPath f c.start (e ∷ d ∷ es)) q o.round in
+    let round : IsEdgeChain f e.start (e ∷ d ∷ es) = subst (λ (c : RingEdge). IsEdgeChain f c.start (e ∷ d ∷ es)) q o.round in
     record {
       first = from_end e d.start;
       rest = turn_back e.start (d ∷ es);
       begins = refl;
-      earliest = early (subst (λ (c : RingEdge). IsEarliest (λ h. Counts f h) f.edges c.plane) q o.earliest);
-      round = path_cons (turned f) d.start e.start (from_end e d.start) (turn_back e.start (d ∷ es)) (edge_turned f e d.start round.0) (back_starts e.start d es) (path_back f e.start d es round.1);
+      earliest = early (subst (λ (c : RingEdge). IsEarliest (λ h. HasEdge f h) f.edges c.plane) q o.earliest);
+      round = path_cons (flipped_face f) d.start e.start (from_end e d.start) (turn_back e.start (d ∷ es)) (edge_turned f e d.start round.0) (back_starts e.start d es) (path_back f e.start d es round.1);
       all = λ i h k c. member h (among_turned f h (e ∷ d ∷ es) (o.all i h k (counts_back f h c)));
-      once = (each_edge_back (λ p. SameEdge (turned f) e.plane p → ⊥) e.start (d ∷ es) (each_turned f e.plane (d ∷ es) o.once.0), apart_back (turned f) e.start (d ∷ es) (apart_turned f (d ∷ es) o.once.1));
+      once = (each_edge_back (λ p. SameEdge (flipped_face f) e.plane p → ⊥) e.start (d ∷ es) (each_turned f e.plane (d ∷ es) o.once.0), apart_back (flipped_face f) e.start (d ∷ es) (apart_turned f (d ∷ es) o.once.1));
     }
   where
     first : {x : RingEdge} {xs : List RingEdge} → e ∷ d ∷ es ≡ x ∷ xs → x ≡ e
     first e = cc
 
-    early : IsEarliest (λ h. Counts f h) f.edges e.plane → IsEarliest (λ h. Counts (turned f) h) f.edges e.plane
+    early : IsEarliest (λ h. HasEdge f h) f.edges e.plane → IsEarliest (λ h. HasEdge (flipped_face f) h) f.edges e.plane
     early s =
-        record { place = s.place; here = s.here; holds = counts_turned f e.plane s.holds; earliest = λ i h l k c. s.earliest i h l k (counts_back f h c) }
+        record { index = s.index; here = s.here; holds = counts_turned f e.plane s.holds; earliest = λ i h l k c. s.earliest i h l k (counts_back f h c) }
 
-    member : (h : Plane) → IsAmong (turned f) h (e ∷ d ∷ es) → IsAmong (turned f) h (turned_outline e d es)
+    member : (h : Plane) → HasEdgeOf (flipped_face f) h (e ∷ d ∷ es) → HasEdgeOf (flipped_face f) h (turned_outline e d es)
     member h (inl s) = inl s
-    member h (inr a) = inr (among_back (turned f) h e.start (d ∷ es) a)
+    member h (inr a) = inr (among_back (flipped_face f) h e.start (d ∷ es) a)

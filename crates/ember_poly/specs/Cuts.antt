@@ -6,10 +6,10 @@ use Rattle.ember_model.specs.declared.point.Spot.{Spot}
 use Rattle.ember_model.specs.declared.face.Face.{Face}
 use Rattle.ember_model.specs.Planes.{value_at}
 use Rattle.ember_model.specs.Faces.{Somewhere, Everywhere, Cuts, below, above}
-use Rattle.ember_poly.specs.declared.answers.Reach.{Reach}
-use Rattle.ember_poly.specs.declared.answers.Reach.TheVariants as reach
-use Rattle.ember_poly.specs.declared.answers.Cut.{Cut}
-use Rattle.ember_poly.specs.declared.answers.Cut.TheVariants as cut
+use Rattle.ember_poly.specs.declared.reach_cut.Reach.{Reach}
+use Rattle.ember_poly.specs.declared.reach_cut.Reach.TheVariants as reach
+use Rattle.ember_poly.specs.declared.reach_cut.Cut.{Cut}
+use Rattle.ember_poly.specs.declared.reach_cut.Cut.TheVariants as cut
 
 -- f has an inside point
 abbrev pub HasInside : Face → Type 0

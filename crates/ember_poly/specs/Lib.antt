@@ -1,7 +1,7 @@
 pub mod Cuts
 pub mod Outlines
 pub mod Passages
-pub mod Rims
+pub mod Boundaries
 pub mod Rings
 pub mod Sides
-pub mod Spans
+pub mod Chords

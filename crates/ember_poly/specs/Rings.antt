@@ -12,112 +12,112 @@ use Rattle.ember_model.specs.Edges.{normal}
 pub record Side : Type 0 where
   pub plane : Plane
   pub corner : Spot
-  pub birth : ℕ
+  pub plane_index : ℕ
 
 -- greater than 0 where g turns to h counter-clockwise, seen from the front of n
-abbrev pub turn : Plane → Plane → Plane → ℤ
-turn n g h = det (normal n) (normal g) (normal h)
+abbrev pub orientation : Plane → Plane → Plane → ℤ
+orientation n g h = det (normal n) (normal g) (normal h)
 
 -- the point of the segment from a to b that p meets
 abbrev pub mix : Plane → Spot → Spot → Spot
 mix p a b =
     record { x = value_at p b *ℤ a.x -ℤ value_at p a *ℤ b.x; y = value_at p b *ℤ a.y -ℤ value_at p a *ℤ b.y; z = value_at p b *ℤ a.z -ℤ value_at p a *ℤ b.z; w = value_at p b *ℤ a.w -ℤ value_at p a *ℤ b.w }
 
-pub record Under (p : Plane) (v : Spot) : Type 0 where
+pub record IsBelow (p : Plane) (v : Spot) : Type 0 where
   pub under : value_at p v <ℤ pos 0
 
 -- the plane g ends at the side s, in the plane n
-pub record Joint (n g : Plane) (s : Side) : Type 0 where
+pub record IsCornerOf (n g : Plane) (s : Side) : Type 0 where
   pub flat : value_at n s.corner ≡ pos 0
   pub weight : pos 0 <ℤ s.corner.w
   pub before : value_at g s.corner ≡ pos 0
   pub after : value_at s.plane s.corner ≡ pos 0
-  pub turns : pos 0 <ℤ turn n g s.plane
+  pub turns : pos 0 <ℤ orientation n g s.plane
 
 -- an open chain: the edge g, and then the sides xs, each at the end of the one before.
 -- An edge is negative at all corners but its own two.
-abbrev pub Chain : Plane → Plane → List Side → Type 0
-Chain n g [] = Unit {0}
-Chain n g (s ∷ xs) =
-    Joint n g s × AllByRecursion (λ t. Under g t.corner) xs × AllByRecursion (λ t. Under t.plane s.corner) xs × Chain n s.plane xs
+abbrev pub IsSideChain : Plane → Plane → List Side → Type 0
+IsSideChain n g [] = Unit {0}
+IsSideChain n g (s ∷ xs) =
+    IsCornerOf n g s × AllByRecursion (λ t. IsBelow g t.corner) xs × AllByRecursion (λ t. IsBelow t.plane s.corner) xs × IsSideChain n s.plane xs
 
 abbrev pub Long : List Side → Type 0
 Long [] = ⊥
 Long (s ∷ xs) = Unit {0}
 
 -- a ring: at least three sides, and a chain from its first edge and from its second
-abbrev pub Sound : Plane → List Side → Type 0
-Sound n [] = ⊥
-Sound n (s ∷ []) = ⊥
-Sound n (s ∷ t ∷ xs) = Long xs × Chain n s.plane (t ∷ xs) × Chain n t.plane (xs ++ s ∷ [])
+abbrev pub IsConvexRing : Plane → List Side → Type 0
+IsConvexRing n [] = ⊥
+IsConvexRing n (s ∷ []) = ⊥
+IsConvexRing n (s ∷ t ∷ xs) = Long xs × IsSideChain n s.plane (t ∷ xs) × IsSideChain n t.plane (xs ++ s ∷ [])
 
 -- the last edge ends at t, and the others are negative there
 abbrev pub EndsAt : Plane → Plane → List Side → Side → Type 0
-EndsAt n g [] t = Joint n g t
-EndsAt n g (s ∷ xs) t = Under g t.corner × EndsAt n s.plane xs t
+EndsAt n g [] t = IsCornerOf n g t
+EndsAt n g (s ∷ xs) t = IsBelow g t.corner × EndsAt n s.plane xs t
 
-pub record AtMost (p : Plane) (v : Spot) : Type 0 where
+pub record IsNotAbove (p : Plane) (v : Spot) : Type 0 where
   pub at_most : value_at p v ≤ℤ pos 0
 
 -- the points of the ring
-pub record Inside (n : Plane) (xs : List Side) (v : Spot) : Type 0 where
+pub record IsInsideRing (n : Plane) (xs : List Side) (v : Spot) : Type 0 where
   pub flat : value_at n v ≡ pos 0
   pub weight : pos 0 <ℤ v.w
-  pub within : AllByRecursion (λ s. Under s.plane v) xs
+  pub within : AllByRecursion (λ s. IsBelow s.plane v) xs
 
-pub record Closed (n : Plane) (xs : List Side) (v : Spot) : Type 0 where
+pub record IsInClosedRing (n : Plane) (xs : List Side) (v : Spot) : Type 0 where
   pub flat : value_at n v ≡ pos 0
   pub weight : pos 0 <ℤ v.w
-  pub within : AllByRecursion (λ s. AtMost s.plane v) xs
+  pub within : AllByRecursion (λ s. IsNotAbove s.plane v) xs
 
 -- a plane is greatest at the corner of s
-pub record NotAbove (p : Plane) (v s : Spot) : Type 0 where
+pub record IsNotHigher (p : Plane) (v s : Spot) : Type 0 where
   pub not_above : (value_at p v *ℤ s.w) ≤ℤ (value_at p s *ℤ v.w)
 
 -- the face of a ring: its plane and all the planes that have cut it, oldest first
 pub record InFace (n : Plane) (gs : List Plane) (v : Spot) : Type 0 where
   pub flat : value_at n v ≡ pos 0
   pub weight : pos 0 <ℤ v.w
-  pub within : AllByRecursion (λ g. Under g v) gs
+  pub within : AllByRecursion (λ g. IsBelow g v) gs
 
 pub record InClosedFace (n : Plane) (gs : List Plane) (v : Spot) : Type 0 where
   pub flat : value_at n v ≡ pos 0
   pub weight : pos 0 <ℤ v.w
-  pub within : AllByRecursion (λ g. AtMost g v) gs
+  pub within : AllByRecursion (λ g. IsNotAbove g v) gs
 
--- the side's plane stands in the list at the place of its birth
-pub record Listed (gs : List Plane) (s : Side) : Type 0 where
-  pub place : s.birth < length gs
-  pub here : get_or gs s.birth s.plane ≡ s.plane
+-- the side's plane stands in the list at its plane index
+pub record IsInPlanes (gs : List Plane) (s : Side) : Type 0 where
+  pub index : s.plane_index < length gs
+  pub here : get_or gs s.plane_index s.plane ≡ s.plane
 
 -- the sides are planes of the list, and all planes of the list follow from the sides
-pub record Stands (n : Plane) (gs : List Plane) (xs : List Side) : Type 0 where
-  pub sound : Sound n xs
-  pub listed : AllByRecursion (λ s. Listed gs s) xs
-  pub follow : (v : Spot) → Inside n xs v → AllByRecursion (λ g. Under g v) gs
-  pub follow_closed : (v : Spot) → Closed n xs v → AllByRecursion (λ g. AtMost g v) gs
+pub record Represents (n : Plane) (gs : List Plane) (xs : List Side) : Type 0 where
+  pub sound : IsConvexRing n xs
+  pub listed : AllByRecursion (λ s. IsInPlanes gs s) xs
+  pub follow : (v : Spot) → IsInsideRing n xs v → AllByRecursion (λ g. IsBelow g v) gs
+  pub follow_closed : (v : Spot) → IsInClosedRing n xs v → AllByRecursion (λ g. IsNotAbove g v) gs
 
 -- a point at which three planes meet
-pub record Meets (n g p : Plane) (y : Spot) : Type 0 where
+pub record IsMeet (n g p : Plane) (y : Spot) : Type 0 where
   pub first : value_at n y ≡ pos 0
   pub second : value_at g y ≡ pos 0
   pub third : value_at p y ≡ pos 0
   pub weight : pos 0 <ℤ y.w
 
 -- the two sides that a cut makes
-abbrev pub entered : Side → Spot → Side
-entered f y = record f { corner = y }
+abbrev pub with_start : Side → Spot → Side
+with_start f y = record f { corner = y }
 
-abbrev pub closing : Plane → Spot → ℕ → Side
-closing p y b = record { plane = p; corner = y; birth = b }
+abbrev pub closing_side : Plane → Spot → ℕ → Side
+closing_side p y b = record { plane = p; corner = y; plane_index = b }
 
-pub record Over (p : Plane) (v : Spot) : Type 0 where
+pub record IsAbove (p : Plane) (v : Spot) : Type 0 where
   pub over : pos 0 <ℤ value_at p v
 
-pub record OnPlane (p : Plane) (v : Spot) : Type 0 where
+pub record IsOnPlane (p : Plane) (v : Spot) : Type 0 where
   pub on_plane : value_at p v ≡ pos 0
 
-pub record AtLeast (p : Plane) (v : Spot) : Type 0 where
+pub record IsNotBelow (p : Plane) (v : Spot) : Type 0 where
   pub at_least : pos 0 ≤ℤ value_at p v
 
 -- ---- edges
@@ -127,6 +127,6 @@ along n g =
     record { a = n.b *ℤ g.c -ℤ n.c *ℤ g.b; b = n.c *ℤ g.a -ℤ n.a *ℤ g.c; c = n.a *ℤ g.b -ℤ n.b *ℤ g.a; d = pos 0 }
 
 -- the plane is negative at all corners but one at most
-abbrev pub Lone : Plane → List Side → Type 0
-Lone h [] = Unit {0}
-Lone h (s ∷ xs) = (Under h s.corner × Lone h xs) ⊎ AllByRecursion (λ r. Under h r.corner) xs
+abbrev pub IsBelowAllButOne : Plane → List Side → Type 0
+IsBelowAllButOne h [] = Unit {0}
+IsBelowAllButOne h (s ∷ xs) = (IsBelow h s.corner × IsBelowAllButOne h xs) ⊎ AllByRecursion (λ r. IsBelow h r.corner) xs

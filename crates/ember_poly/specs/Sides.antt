@@ -6,45 +6,45 @@ use Rattle.ember_model.specs.declared.point.Spot.{Spot}
 use Rattle.ember_model.specs.declared.face.Face.{Face}
 use Rattle.ember_model.specs.Planes.{value_at}
 use Rattle.ember_model.specs.Valid.{IsValidPlane}
-use Rattle.ember_model.specs.Edges.{SamePlace, RingEdge, IsOutline}
-use Rattle.ember_point.specs.declared.corner.Meet.{Meet}
+use Rattle.ember_model.specs.Edges.{SamePoint, RingEdge, IsOutline}
+use Rattle.ember_point.specs.declared.meet_point.Meet.{Meet}
 use Rattle.ember_point.specs.Points.{spot_of}
-use Rattle.ember_poly.specs.Rings.{Side, Closed, Stands}
+use Rattle.ember_poly.specs.Rings.{Side, IsInClosedRing, Represents}
 
 abbrev pub sides_of : List Plane → List Meet → List ℕ → List Side
 sides_of [] ms bs = []
 sides_of (e ∷ es) [] bs = []
 sides_of (e ∷ es) (m ∷ ms) [] = []
-sides_of (e ∷ es) (m ∷ ms) (b ∷ bs) = record { plane = e; corner = spot_of m; birth = b } ∷ sides_of es ms bs
+sides_of (e ∷ es) (m ∷ ms) (b ∷ bs) = record { plane = e; corner = spot_of m; plane_index = b } ∷ sides_of es ms bs
 
 -- the first side's plane came first
-abbrev pub OldestFirst : List Side → Type 0
-OldestFirst [] = Unit {0}
-OldestFirst (s ∷ xs) = AllByRecursion (λ r. s.birth ≤ r.birth) xs
+abbrev pub FirstPlaneFirst : List Side → Type 0
+FirstPlaneFirst [] = Unit {0}
+FirstPlaneFirst (s ∷ xs) = AllByRecursion (λ r. s.plane_index ≤ r.plane_index) xs
 
 -- some side's plane is the one at this place
-pub record IsBorn (place : ℕ) (xs : List Side) : Type 0 where
+pub record HasPlaneIndex (index : ℕ) (xs : List Side) : Type 0 where
   pub at : ℕ
   pub side : Side
   pub here : slice_get xs at ≡ Some side
-  pub birth : side.birth ≡ place
+  pub plane_index : side.plane_index ≡ index
 
 -- the plane is 0 at one place of the closed ring at most
-abbrev pub IsSingle : Plane → List Side → Plane → Type 0
-IsSingle n xs h =
-    (u v : Spot) → Closed n xs u → Closed n xs v → value_at h u ≡ pos 0 → value_at h v ≡ pos 0 → SamePlace u v
+abbrev pub IsZeroAtOnePoint : Plane → List Side → Plane → Type 0
+IsZeroAtOnePoint n xs h =
+    (u v : Spot) → IsInClosedRing n xs u → IsInClosedRing n xs v → value_at h u ≡ pos 0 → value_at h v ≡ pos 0 → SamePoint u v
 
 -- each plane of the face is that of a side, or its edge does not count
-abbrev pub AllCounted : Plane → List Plane → List Side → Type 0
-AllCounted n gs xs = (i : ℕ) (h : Plane) → slice_get gs i ≡ Some h → IsBorn i xs ⊎ IsSingle n xs h
+abbrev pub AllAreEdges : Plane → List Plane → List Side → Type 0
+AllAreEdges n gs xs = (i : ℕ) (h : Plane) → slice_get gs i ≡ Some h → HasPlaneIndex i xs ⊎ IsZeroAtOnePoint n xs h
 
--- what a ring keeps: the support plane, all planes, and the edges with their corners and births
+-- what a ring keeps: the support plane, all planes, and the edges with their corners and plane indices
 pub record IsRing (n : Plane) (gs es : List Plane) (ms : List Meet) (bs : List ℕ) : Type 0 where
-  pub stands : Stands n gs (sides_of es ms bs)
-  pub oldest : OldestFirst (sides_of es ms bs)
-  pub counted : AllCounted n gs (sides_of es ms bs)
+  pub stands : Represents n gs (sides_of es ms bs)
+  pub oldest : FirstPlaneFirst (sides_of es ms bs)
+  pub counted : AllAreEdges n gs (sides_of es ms bs)
   pub corners : length ms ≡ length es
-  pub births : length bs ≡ length es
+  pub plane_indices : length bs ≡ length es
   pub support : IsValidPlane n
   pub planes : All IsValidPlane gs
 

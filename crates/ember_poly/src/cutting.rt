@@ -4,14 +4,14 @@ ghost use Rattle.ember_model.specs.Valid.{IsValidPlane};
 ghost use Rattle.ember_model.specs.Planes.{opposite};
 ghost use Rattle.ember_model.specs.Faces.{Cuts, below};
 ghost use Rattle.ember_poly.specs.Sides.{IsRing};
-ghost use Rattle.ember_poly.specs.Rims.{sides};
+ghost use Rattle.ember_poly.specs.Boundaries.{sides};
 ghost use Rattle.ember_poly.specs.Passages.{IsPassage};
 ghost use Rattle.ember_poly.specs.Cuts.{AreParts, IsClip, IsCut};
 
-use crate::answers::{Cut, Reach};
-use crate::passage::{Passage, find_entry, find_passage};
+use crate::boundary::Boundary;
+use crate::passage::{Passage, classify, find_passage};
+use crate::reach_cut::{Cut, Reach};
 use crate::reaching::reach;
-use crate::rim::Rim;
 use crate::ring::{Ring, copy};
 use ember_model::{OutOfMemory, Plane};
 use std::alloc::Global;
@@ -34,20 +34,20 @@ fn opposite(p: &Plane) -> Plane
 fn part(
     support: Plane,
     mut planes: Vec<Plane>,
-    mut rim: Rim,
+    mut rim: Boundary,
     p: &Plane,
     at: &Passage,
 ) -> Result<Ring, OutOfMemory>
     requires plane { IsValidPlane p.now }
-    requires ring { IsRing support planes.items rim.edges.items rim.corners.items rim.births.items }
+    requires ring { IsRing support planes.items rim.edges.items rim.corners.items rim.plane_indices.items }
     requires passage { IsPassage support p.now (sides rim) at.now }
     requires kept { at.now.kept < length rim.edges.items }
     ensures { IfOk result (λ part. part ≡ record { support = support; edges = planes.items ++ p.now ∷ [] }) }
 {
-    let birth = planes.len();
+    let plane_index = planes.len();
     planes.push(*p)?;
-    rim.close(at, *p, birth)?;
-    rim.begin_at_oldest();
+    rim.close(at, *p, plane_index)?;
+    rim.rotate_to_oldest();
     Ok(Ring {
         support,
         planes,
@@ -57,20 +57,20 @@ fn part(
 
 /// What a plane leaves of a ring: the part below it where inside points are on both sides, the
 /// ring itself where they are on one side or on the plane, and which of these it is.
-pub fn clip(r: Ring, p: &Plane) -> Result<(Reach, Ring), OutOfMemory>
-    requires { IsValidPlane p.now }
-    ensures { IfOk result (λ left. IsClip r p.now left.0 left.1) }
+pub fn clip(r: Ring, plane: &Plane) -> Result<(Reach, Ring), OutOfMemory>
+    requires { IsValidPlane plane.now }
+    ensures { IfOk result (λ left. IsClip r plane.now left.0 left.1) }
 {
-    let at = find_entry(p, r.rim.corners.as_slice());
+    let at = classify(plane, r.rim.corners.as_slice());
     match at.reach {
         Reach::Both => {
-            let at = find_passage(&r.support, &r.rim, p, &at);
+            let at = find_passage(&r.support, &r.rim, plane, &at);
             let Ring {
                 support,
                 planes,
                 rim,
             } = r;
-            Ok((Reach::Both, part(support, planes, rim, p, &at)?))
+            Ok((Reach::Both, part(support, planes, rim, plane, &at)?))
         }
         other => Ok((other, r)),
     }
@@ -88,13 +88,13 @@ fn below(r: Ring, p: &Plane) -> Result<Ring, OutOfMemory>
 
 /// The parts below and above a plane that has inside points of the ring on both sides: the part
 /// above has the opposite plane.
-pub fn parts(alloc: Global, r: Ring, p: &Plane) -> Result<(Ring, Ring), OutOfMemory>
-    requires plane { IsValidPlane p.now }
-    requires cuts { Cuts r p.now }
-    ensures { IfOk result (λ both. AreParts r p.now both.0 both.1) }
+pub fn parts(alloc: Global, r: Ring, plane: &Plane) -> Result<(Ring, Ring), OutOfMemory>
+    requires plane { IsValidPlane plane.now }
+    requires cuts { Cuts r plane.now }
+    ensures { IfOk result (λ both. AreParts r plane.now both.0 both.1) }
 {
-    let high = below(copy(alloc, &r)?, &opposite(p))?;
-    let low = below(r, p)?;
+    let high = below(copy(alloc, &r)?, &opposite(plane))?;
+    let low = below(r, plane)?;
     Ok((low, high))
 }
 

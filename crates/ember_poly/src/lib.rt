@@ -2,19 +2,16 @@
 //! sides of a plane it lies, its parts below and above one, and the triangles that it meets.
 #![tactic(auto)]
 
-mod answers;
+mod boundary;
 mod cutting;
 mod meeting;
 mod passage;
+mod reach_cut;
 mod reaching;
-mod rim;
 mod ring;
 
-pub use answers::{Cut, Reach};
 pub use cutting::{clip, cut, parts};
 pub use meeting::{meets, meets_face};
+pub use reach_cut::{Cut, Reach};
 pub use reaching::reach;
 pub use ring::{Ring, copy, corners, edges, main_edges, of_tri, outline, support};
-
-#[cfg(test)]
-mod tests;

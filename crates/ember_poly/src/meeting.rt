@@ -8,11 +8,11 @@ ghost use Rattle.ember_model.specs.Faces.{Meets, Somewhere, is_flat, face_of};
 ghost use Rattle.ember_model.specs.ClearTest.{face_with, none_positive};
 ghost use Rattle.ember_point.specs.Points.{spot_of};
 ghost use Rattle.ember_poly.specs.Cuts.{HasInside};
-ghost use Rattle.ember_model.specs.Owners.{spot_at};
-ghost use Rattle.ember_poly.specs.Spans.{IsAside, IsCrossing, IsSpan, IsLine, IsOpen, Fits};
+ghost use Rattle.ember_model.specs.Owners.{spot_of_corner};
+ghost use Rattle.ember_poly.specs.Chords.{IsOnOneSide, IsCrossing, IsChordPart, IsLine, IsOpen, HasVertexWithin};
 
-use crate::answers::Reach;
-use crate::passage::{find_entry, find_passage};
+use crate::passage::{classify, find_passage};
+use crate::reach_cut::Reach;
 use crate::ring;
 use crate::ring::{Ring, main_edges};
 use ember_algebra::Sign;
@@ -21,31 +21,31 @@ use ember_point::{Meet, meet, side};
 
 // What a plane leaves of the chord between two points.
 #[derive(Clone, Copy, PartialEq, Eq)]
-enum Span {
+enum ChordPart {
     // All of it.
-    Free,
+    Whole,
     // A part of it, up to a point between the two.
     Split,
     // No point between the two.
-    Shut,
+    Empty,
 }
 
 // By the signs of the plane at the two points.
-fn span_of(y: Sign, z: Sign) -> Span
-    ensures { (a b : ℤ) → y ≡ sgn a → z ≡ sgn b → IsSpan a b result }
+fn chord_part_of(y: Sign, z: Sign) -> ChordPart
+    ensures { (a b : ℤ) → y ≡ sgn a → z ≡ sgn b → IsChordPart a b result }
 {
     match y {
         Sign::Pos => match z {
-            Sign::Neg => Span::Split,
-            _ => Span::Shut,
+            Sign::Neg => ChordPart::Split,
+            _ => ChordPart::Empty,
         },
         Sign::Zero => match z {
-            Sign::Pos => Span::Shut,
-            _ => Span::Free,
+            Sign::Pos => ChordPart::Empty,
+            _ => ChordPart::Whole,
         },
         Sign::Neg => match z {
-            Sign::Pos => Span::Split,
-            _ => Span::Free,
+            Sign::Pos => ChordPart::Split,
+            _ => ChordPart::Whole,
         },
     }
 }
@@ -70,12 +70,12 @@ fn none_above(hs: &[Plane], m: &Meet) -> bool
 }
 
 // No plane is positive where the planes n, p and h meet.
-fn fits(n: &Plane, p: &Plane, h: &Plane, hs: &[Plane]) -> bool
+fn has_vertex_within(n: &Plane, p: &Plane, h: &Plane, hs: &[Plane]) -> bool
     requires valid_n { IsValidPlane n.now }
     requires valid_p { IsValidPlane p.now }
     requires valid_h { IsValidPlane h.now }
     requires valid { All IsValidPlane hs.now }
-    ensures { IsTrue result ↔ Fits n.now p.now h.now hs.now }
+    ensures { IsTrue result ↔ HasVertexWithin n.now p.now h.now hs.now }
 {
     match meet(n, p, h) {
         Some(m) => none_above(hs, &m),
@@ -93,13 +93,13 @@ fn meets_chord(n: &Plane, p: &Plane, y: &Meet, z: &Meet, hs: &[Plane]) -> bool
 {
     let mut free = true;
     for h in hs {
-        match span_of(side(h, y), side(h, z)) {
-            Span::Free => {}
-            Span::Shut => {
+        match chord_part_of(side(h, y), side(h, z)) {
+            ChordPart::Whole => {}
+            ChordPart::Empty => {
                 return false;
             }
-            Span::Split => {
-                if fits(n, p, h, hs) {
+            ChordPart::Split => {
+                if has_vertex_within(n, p, h, hs) {
                     return true;
                 }
                 free = false;
@@ -122,7 +122,7 @@ fn cross(r: &Ring, p: &Plane) -> Crossing
     requires { IsValidPlane p.now }
     ensures { IsCrossing r.now p.now result }
 {
-    let entry = find_entry(p, r.rim.corners.as_slice());
+    let entry = classify(p, r.rim.corners.as_slice());
     match entry.reach {
         Reach::Below => Crossing::Below,
         Reach::Above => Crossing::Above,
@@ -177,7 +177,7 @@ pub fn meets_face(r: &Ring, support: &Plane, edges: &[Plane]) -> bool
 fn height(p: &Plane, u: &Corner) -> i64
     requires plane { IsValidPlane p.now }
     requires corner { IsValidCorner u.now }
-    ensures value { result ≡ value_at p.now (spot_at u.now) }
+    ensures value { result ≡ value_at p.now (spot_of_corner u.now) }
     ensures small { Small (2 ^ 40) result }
 {
     p.a * u.x as i64 + p.b * u.y as i64 + p.c * u.z as i64 - p.d
@@ -196,10 +196,10 @@ fn are_below(a: i64, b: i64, c: i64) -> bool
 }
 
 // The triangle lies strictly on one side of the plane.
-fn is_aside(p: &Plane, t: &Tri) -> bool
+fn is_on_one_side(p: &Plane, t: &Tri) -> bool
     requires plane { IsValidPlane p.now }
     requires tri { IsValidTri t.now }
-    ensures { IsTrue result → IsAside p.now t.now }
+    ensures { IsTrue result → IsOnOneSide p.now t.now }
 {
     let a = height(p, &t.a);
     let b = height(p, &t.b);
@@ -213,7 +213,7 @@ pub fn meets(r: &Ring, t: &Tri) -> bool
     requires normal { is_flat t.now ≡ false }
     ensures { IsTrue result ↔ Meets r.now (face_of t.now) }
 {
-    if is_aside(&r.support, t) {
+    if is_on_one_side(&r.support, t) {
         return false;
     }
     let support = support_of(t);

@@ -6,13 +6,13 @@ ghost use Rattle.ember_algebra.specs.Sign.{sgn, is_positive};
 ghost use Rattle.ember_model.specs.Planes.{value_at};
 ghost use Rattle.ember_model.specs.Valid.{IsValidPlane};
 ghost use Rattle.ember_point.specs.Points.{spot_of};
-ghost use Rattle.ember_poly.specs.Rings.{Sound, Meets, Over, AtMost, turn};
-ghost use Rattle.ember_poly.specs.Rims.{sides, IsPaired};
-ghost use Rattle.ember_poly.specs.declared.answers.Reach.TheVariants as reach;
-ghost use Rattle.ember_poly.specs.Passages.{IsAlong, Has, AreSigns, AreSeen, is_under, Straddles, IsRun, AreRisen, IsRise, IsEntry, IsPassage};
+ghost use Rattle.ember_poly.specs.Rings.{IsConvexRing, IsMeet, IsAbove, IsNotAbove, orientation};
+ghost use Rattle.ember_poly.specs.Boundaries.{sides, HasEqualLengths};
+ghost use Rattle.ember_poly.specs.declared.reach_cut.Reach.TheVariants as reach;
+ghost use Rattle.ember_poly.specs.Passages.{IsAlong, HasSome, AreSigns, AreClassified, is_under, Straddles, IsOneSidedRun, AreNotBelow, IsRunNotBelow, EntersAt, IsPassage};
 
-use crate::answers::Reach;
-use crate::rim::Rim;
+use crate::boundary::Boundary;
+use crate::reach_cut::Reach;
 use ember_algebra::{Sign, sign_of};
 use ember_model::{Axis, Plane};
 use ember_point::{Meet, meet, side};
@@ -20,7 +20,7 @@ use ember_point::{Meet, meet, side};
 // How a ring's corners lie to a plane and, where they lie on both sides of it, how its negative
 // side is entered.
 #[derive(Clone, Copy)]
-pub struct Entry {
+pub struct Classification {
     pub reach: Reach,
     // The side on whose edge the plane's negative side is entered.
     pub first: usize,
@@ -54,6 +54,7 @@ fn axis_of(p: &Plane) -> Option<Axis>
 }
 
 // The side of a plane along an axis, by its entry there and its constant, on which a point lies.
+#[inline]
 fn side_by(a: i64, d: i64, x: i128, w: i128) -> Sign
     requires a { Small 33554431 a }
     requires d { Small 549755813887 d }
@@ -64,6 +65,7 @@ fn side_by(a: i64, d: i64, x: i128, w: i128) -> Sign
     sign_of(a as i128 * x - d as i128 * w)
 }
 
+#[inline]
 fn side_on(p: &Plane, axis: Axis, m: &Meet) -> Sign
     requires plane { IsValidPlane p.now }
     requires axis { IsAlong axis p.now }
@@ -77,6 +79,7 @@ fn side_on(p: &Plane, axis: Axis, m: &Meet) -> Sign
 }
 
 // The side of the plane on which the point lies.
+#[inline]
 fn side_along(p: &Plane, axis: Option<Axis>, m: &Meet) -> Sign
     requires plane { IsValidPlane p.now }
     requires axis { IfSome axis (λ k. IsAlong k p.now) }
@@ -102,8 +105,8 @@ fn run(p: &Plane, axis: Option<Axis>, corners: &[Meet], known: usize) -> (usize,
     requires plane { IsValidPlane p.now }
     requires axis { IfSome axis (λ k. IsAlong k p.now) }
     requires known { AllByRecursion (λ m. is_under p.now m ≡ true) (take known corners.now) }
-    ensures run { IsRun p.now true corners.now result.0 }
-    ensures next { AreRisen p.now result.1 (take 1 (drop result.0 corners.now)) }
+    ensures run { IsOneSidedRun p.now true corners.now result.0 }
+    ensures next { AreNotBelow p.now result.1 (take 1 (drop result.0 corners.now)) }
 {
     for i in known..corners.len() {
         match side_along(p, axis, &corners[i]) {
@@ -117,11 +120,11 @@ fn run(p: &Plane, axis: Option<Axis>, corners: &[Meet], known: usize) -> (usize,
 
 // How many corners at the front do not lie below the plane, as the first of them does not, and
 // whether one of them is above it.
-fn rise(p: &Plane, axis: Option<Axis>, corners: &[Meet], first: bool) -> (usize, bool)
+fn count_not_below(p: &Plane, axis: Option<Axis>, corners: &[Meet], first: bool) -> (usize, bool)
     requires plane { IsValidPlane p.now }
     requires axis { IfSome axis (λ k. IsAlong k p.now) }
-    requires first { AreRisen p.now first (take 1 corners.now) }
-    ensures { IsRise p.now corners.now result.0 result.1 }
+    requires first { AreNotBelow p.now first (take 1 corners.now) }
+    ensures { IsRunNotBelow p.now corners.now result.0 result.1 }
 {
     let mut high = first;
     for i in 1..corners.len() {
@@ -138,8 +141,8 @@ fn rise(p: &Plane, axis: Option<Axis>, corners: &[Meet], first: bool) -> (usize,
 fn is_some_above(p: &Plane, axis: Option<Axis>, corners: &[Meet], known: bool) -> bool
     requires plane { IsValidPlane p.now }
     requires axis { IfSome axis (λ k. IsAlong k p.now) }
-    ensures some { result ≡ true → (known ≡ true) ⊎ Has (λ m. Over p.now (spot_of m)) corners.now }
-    ensures none { result ≡ false → (known ≡ false) × AllByRecursion (λ m. AtMost p.now (spot_of m)) corners.now }
+    ensures some { result ≡ true → (known ≡ true) ⊎ HasSome (λ m. IsAbove p.now (spot_of m)) corners.now }
+    ensures none { result ≡ false → (known ≡ false) × AllByRecursion (λ m. IsNotAbove p.now (spot_of m)) corners.now }
 {
     if known {
         return true;
@@ -154,7 +157,7 @@ fn is_some_above(p: &Plane, axis: Option<Axis>, corners: &[Meet], known: bool) -
 
 // By the number of corners below a plane, and by whether some are above it.
 fn reach_by(low: usize, high: bool) -> Reach
-    ensures { (p : Plane) (ms : List Meet) → AreSeen p low high ms → AreSigns p ms result }
+    ensures { (p : Plane) (ms : List Meet) → AreClassified p low high ms → AreSigns p ms result }
 {
     if low == 0 {
         if high { Reach::Above } else { Reach::On }
@@ -166,27 +169,27 @@ fn reach_by(low: usize, high: bool) -> Reach
 }
 
 // How the corners lie to the plane, with the sign of each found once.
-pub fn find_entry(p: &Plane, corners: &[Meet]) -> Entry
-    requires { IsValidPlane p.now }
-    ensures signs { AreSigns p.now corners.now result.reach }
-    ensures entry { result.reach ≡ reach.Both → IsEntry p.now corners.now result.first result.kept }
+pub fn classify(plane: &Plane, corners: &[Meet]) -> Classification
+    requires { IsValidPlane plane.now }
+    ensures signs { AreSigns plane.now corners.now result.reach }
+    ensures entry { result.reach ≡ reach.Both → EntersAt plane.now corners.now result.first result.kept }
 {
-    let axis = axis_of(p);
-    let (down, next) = run(p, axis, corners, 0);
-    let (up, some_high) = rise(p, axis, &corners[down..], next);
+    let axis = axis_of(plane);
+    let (down, next) = run(plane, axis, corners, 0);
+    let (up, some_high) = count_not_below(plane, axis, &corners[down..], next);
     let end = down + up;
-    let (count, _) = run(p, axis, &corners[end..], 1);
-    let high = is_some_above(p, axis, &corners[end + count..], some_high);
+    let (count, _) = run(plane, axis, &corners[end..], 1);
+    let high = is_some_above(plane, axis, &corners[end + count..], some_high);
     let reach = reach_by(down + count, high);
     let first = end.saturating_sub(1);
     if end + count < corners.len() {
-        Entry {
+        Classification {
             reach,
             first,
             kept: count,
         }
     } else {
-        Entry {
+        Classification {
             reach,
             first,
             kept: count + down,
@@ -199,7 +202,7 @@ fn ahead(first: usize, count: usize, len: usize) -> usize
     requires first { first < len }
     requires count { count < len }
     ensures within { result < len }
-    ensures place { (result ≡ first + count) ⊎ (result + len ≡ first + count) }
+    ensures index { (result ≡ first + count) ⊎ (result + len ≡ first + count) }
 {
     let left = len - first;
     if count < left {
@@ -213,8 +216,8 @@ fn point_of(p: &Plane, q: &Plane, r: &Plane) -> Meet
     requires valid_p { IsValidPlane p.now }
     requires valid_q { IsValidPlane q.now }
     requires valid_r { IsValidPlane r.now }
-    requires turns { pos 0 <ℤ turn p.now q.now r.now }
-    ensures { Meets p.now q.now r.now (spot_of result) }
+    requires turns { pos 0 <ℤ orientation p.now q.now r.now }
+    ensures { IsMeet p.now q.now r.now (spot_of result) }
 {
     match meet(p, q, r) {
         Some(m) => m,
@@ -223,15 +226,15 @@ fn point_of(p: &Plane, q: &Plane, r: &Plane) -> Meet
 }
 
 // Where the plane passes the ring.
-pub fn find_passage(support: &Plane, rim: &Rim, p: &Plane, at: &Entry) -> Passage
+pub fn find_passage(support: &Plane, rim: &Boundary, plane: &Plane, at: &Classification) -> Passage
     requires support { IsValidPlane support.now }
     requires edges { All IsValidPlane rim.now.edges.items }
-    requires plane { IsValidPlane p.now }
-    requires paired { IsPaired rim.now }
-    requires sound { Sound support.now (sides rim.now) }
-    requires straddles { Straddles p.now rim.now.corners.items }
-    requires entry { IsEntry p.now rim.now.corners.items at.now.first at.now.kept }
-    ensures passage { IsPassage support.now p.now (sides rim.now) result }
+    requires plane { IsValidPlane plane.now }
+    requires paired { HasEqualLengths rim.now }
+    requires sound { IsConvexRing support.now (sides rim.now) }
+    requires straddles { Straddles plane.now rim.now.corners.items }
+    requires entry { EntersAt plane.now rim.now.corners.items at.now.first at.now.kept }
+    ensures passage { IsPassage support.now plane.now (sides rim.now) result }
     ensures kept { result.kept < length rim.now.edges.items }
 {
     let first = at.first;
@@ -240,7 +243,7 @@ pub fn find_passage(support: &Plane, rim: &Rim, p: &Plane, at: &Entry) -> Passag
     Passage {
         first,
         kept,
-        entry: point_of(support, p, &rim.edges[first]),
-        exit: point_of(support, &rim.edges[last], p),
+        entry: point_of(support, plane, &rim.edges[first]),
+        exit: point_of(support, &rim.edges[last], plane),
     }
 }

@@ -7,7 +7,7 @@ ghost use Rattle.ember_model.specs.Valid.{IsValidPlane};
 ghost use Rattle.ember_poly.specs.Cuts.{IsReach};
 ghost use Rattle.ember_poly.specs.Passages.{AreSigns};
 
-use crate::answers::Reach;
+use crate::reach_cut::Reach;
 use crate::ring::Ring;
 use ember_algebra::Sign;
 use ember_model::Plane;

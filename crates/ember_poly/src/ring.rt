@@ -4,12 +4,12 @@ ghost use Rattle.ember_algebra.specs.Sign.{is_zero};
 ghost use Rattle.ember_model.specs.Valid.{IsValidCorner, IsValidTri, IsValidPlane};
 ghost use Rattle.ember_model.specs.Planes.{support_of};
 ghost use Rattle.ember_model.specs.Faces.{is_flat, face_of, edges_of};
-ghost use Rattle.ember_model.specs.Owners.{spot_at};
+ghost use Rattle.ember_model.specs.Owners.{spot_of_corner};
 ghost use Rattle.ember_model.specs.Edges.{IsOutline};
 ghost use Rattle.ember_point.specs.Points.{spot_of};
 ghost use Rattle.ember_poly.specs.Sides.{ring_edges, AreEdges, AreCorners};
 
-use crate::rim::{Rim, with_room};
+use crate::boundary::{Boundary, with_room};
 use ember_model::{Corner, OutOfMemory, Plane, Tri, edge_plane, main_axis, support_of};
 use ember_point::Meet;
 use std::alloc::Global;
@@ -21,7 +21,7 @@ pub struct Ring {
     pub(crate) support: Plane,
     // All edge planes of the face, the earliest first.
     pub(crate) planes: Vec<Plane>,
-    pub(crate) rim: Rim,
+    pub(crate) rim: Boundary,
 }
 
 impl Model for Ring {
@@ -33,13 +33,13 @@ impl Model for Ring {
     ghost view = { λ r. record { support = r.support; edges = r.planes.items } };
 
     ghost invariant = { λ r. IsRing r.support r.planes.items
-        r.rim.edges.items r.rim.corners.items r.rim.births.items };
+        r.rim.edges.items r.rim.corners.items r.rim.plane_indices.items };
 }
 
 // The corner as a point with the weight 1.
 fn at_corner(c: &Corner) -> Meet
     requires { IsValidCorner c.now }
-    ensures { spot_of result ≡ spot_at c.now }
+    ensures { spot_of result ≡ spot_of_corner c.now }
 {
     Meet {
         x: c.x as i128,
@@ -84,14 +84,14 @@ pub fn of_tri(alloc: Global, t: &Tri) -> Result<Option<Ring>, OutOfMemory>
     let planes = with_room(alloc, &sides)?;
     let edges = with_room(alloc, &sides)?;
     let corners = with_room(alloc, &starts)?;
-    let births = with_room(alloc, &[0, 1, 2])?;
+    let plane_indices = with_room(alloc, &[0, 1, 2])?;
     Ok(Some(Ring {
         support,
         planes,
-        rim: Rim {
+        rim: Boundary {
             edges,
             corners,
-            births,
+            plane_indices,
         },
     }))
 }

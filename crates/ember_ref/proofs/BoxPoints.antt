@@ -15,16 +15,16 @@ use Rattle.ember_model.specs.Planes.{value_at}
 use Rattle.ember_model.specs.Points.{shifted}
 use Rattle.ember_model.specs.Faces.{size, between}
 use Rattle.ember_law.proofs.Separation.{mix}
-use Rattle.ember_box.specs.declared.spans.Span.{Span}
+use Rattle.ember_box.specs.declared.aabb.Interval.{Interval}
 use Rattle.ember_box.specs.Boxes.{Cell, low, high, right_half}
-use Rattle.ember_box.specs.Near.{place}
-use Rattle.ember_box.specs.Spans.{span_between, spans_of}
+use Rattle.ember_box.specs.Near.{spot_of_vector}
+use Rattle.ember_box.specs.Aabbs.{interval_between, aabb_of_cell}
 use Rattle.ember_box.specs.Reference.{reference}
-use Rattle.ember_box.proofs.Nearby.{halves_end}
+use Rattle.ember_box.proofs.NearByAabbs.{halves_end}
 use Rattle.ember_ref.proofs.NearPoints.{IsAcross, HasPoint}
 
 -- ---- reference points
-across_from : (l lo hi w e : ℤ) → lo ≤ℤ l → (l +ℤ pos 1) ≤ℤ hi → pos 0 ≤ℤ w → pos 0 ≤ℤ e → e ≤ℤ w → IsAcross (span_between lo hi) (w *ℤ l +ℤ e) (w *ℤ pos 1)
+across_from : (l lo hi w e : ℤ) → lo ≤ℤ l → (l +ℤ pos 1) ≤ℤ hi → pos 0 ≤ℤ w → pos 0 ≤ℤ e → e ≤ℤ w → IsAcross (interval_between lo hi) (w *ℤ l +ℤ e) (w *ℤ pos 1)
 across_from l lo hi w e a b pw pe le =
     let x = mul_le pw a in let y = mul_le pw b in
     let one : w *ℤ pos 1 ≡ w = solve 1 (λ w. w ⊗ num (pos 1) ≈ w) cancels w in
@@ -62,7 +62,7 @@ record HasUnit (c : Cell) (v : Vector) : Type 0 where
   to_y : (v.y +ℤ pos 1) ≤ℤ high c Y
   to_z : (v.z +ℤ pos 1) ≤ℤ high c Z
 
-has_shifted : (m : ℤ) (c : Cell) (v : Vector) → pos 1 ≤ℤ m → HasUnit c v → HasPoint c (shifted (place v) m)
+has_shifted : (m : ℤ) (c : Cell) (v : Vector) → pos 1 ≤ℤ m → HasUnit c v → HasPoint c (shifted (spot_of_vector v) m)
 has_shifted m c v l u =
     let p = powers m l in let w = m *ℤ m *ℤ m in
     record {
@@ -102,7 +102,7 @@ pub has_half_reference : (c : Cell) (k : Axis) → 0 < c.log k → HasPoint c (r
 has_half_reference c k l = has_shifted (pos (2 ^ 27)) c (right_half c k).lo (omega (arith, ints)) (half_unit c k l)
 
 -- ---- points between two of them
-mixed : (s : Span) (k m x y v w : ℤ) → pos 0 ≤ℤ k → pos 0 ≤ℤ m → IsAcross s x v → IsAcross s y w → IsAcross s (k *ℤ x +ℤ m *ℤ y) (k *ℤ v +ℤ m *ℤ w)
+mixed : (s : Interval) (k m x y v w : ℤ) → pos 0 ≤ℤ k → pos 0 ≤ℤ m → IsAcross s x v → IsAcross s y w → IsAcross s (k *ℤ x +ℤ m *ℤ y) (k *ℤ v +ℤ m *ℤ w)
 mixed s k m x y v w a b f g =
     let p = mul_le a f.from in let q = mul_le b g.from in let r = mul_le a f.to in let t = mul_le b g.to in
     let d = solve 5 (λ l k m v w. l ⊗ (k ⊗ v ⊕ m ⊗ w) ≈ k ⊗ (l ⊗ v) ⊕ m ⊗ (l ⊗ w)) cancels s.low k m v w in
@@ -114,7 +114,7 @@ size_at_least z = omega (arith, ints)
 
 pub has_mix : (c : Cell) (k m : ℤ) (p q : Spot) → HasPoint c p → HasPoint c q → pos 0 ≤ℤ k → pos 0 ≤ℤ m → pos 0 <ℤ (mix k m p q).w → HasPoint c (mix k m p q)
 has_mix c k m p q f g a b w =
-    record { weight = w; on_x = mixed (spans_of c).x k m p.x q.x p.w q.w a b f.on_x g.on_x; on_y = mixed (spans_of c).y k m p.y q.y p.w q.w a b f.on_y g.on_y; on_z = mixed (spans_of c).z k m p.z q.z p.w q.w a b f.on_z g.on_z }
+    record { weight = w; on_x = mixed (aabb_of_cell c).x k m p.x q.x p.w q.w a b f.on_x g.on_x; on_y = mixed (aabb_of_cell c).y k m p.y q.y p.w q.w a b f.on_y g.on_y; on_z = mixed (aabb_of_cell c).z k m p.z q.z p.w q.w a b f.on_z g.on_z }
 
 pub has_between : (n : Plane) (c : Cell) (p q : Spot) → HasPoint c p → HasPoint c q → pos 0 <ℤ (between n p q).w → HasPoint c (between n p q)
 has_between n c p q f g w =

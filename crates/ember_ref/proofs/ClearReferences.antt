@@ -19,13 +19,13 @@ use Rattle.ember_model.proofs.PlaneSizes.{support_sized, edge_sized}
 use Rattle.ember_law.proofs.Shifted.{NoNormal, value_shifted, off_horner}
 use Rattle.ember_law.proofs.Generic.{IsOff}
 use Rattle.ember_law.proofs.GenericClear.{off_clear, clear_faces}
-use Rattle.ember_box.specs.Near.{place}
+use Rattle.ember_box.specs.Near.{spot_of_vector}
 use Rattle.ember_box.specs.Reference.{reference_at}
 use Rattle.ember_ref.proofs.ReferenceLegs.{weight_at}
 
 off_plane : {m : ℕ} (h : Plane) (v : Vector) → m < 2 ^ 27 → EachSmall m (h.a ∷ h.b ∷ h.c ∷ []) → value_at h (reference_at v) ≡ pos 0 → NoNormal h
 off_plane h v l s e =
-    off_horner (2 ^ 27) (value_at h (place v)) h.a h.b h.c l s (sym (value_shifted h (place v) (pos (2 ^ 27))) ∙ e)
+    off_horner (2 ^ 27) (value_at h (spot_of_vector v)) h.a h.b h.c l s (sym (value_shifted h (spot_of_vector v) (pos (2 ^ 27))) ∙ e)
 
 off_edge : (u w : Corner) (k : Axis) (v : Vector) → IsValidCorner u → IsValidCorner w → value_at (edge_through u w (unit k)) (reference_at v) ≡ pos 0 → NoNormal (edge_through u w (unit k))
 off_edge u w k v iu iw =

@@ -17,8 +17,8 @@ use Rattle.ember_model.specs.ClearTest.{none_positive, all_negative}
 use Rattle.ember_model.proofs.SignTests.{clash, and_parts, positive_in, negative_out, not_positive_in}
 use Rattle.ember_model.proofs.Hits.{inside_parts, closed_on, closed_parts}
 use Rattle.ember_law.specs.Counts.{leg_vector}
-use Rattle.ember_law.specs.Laws.{Misses}
-use Rattle.ember_law.proofs.Flats.{flat_case, flat_out, flat_leg}
+use Rattle.ember_law.specs.Laws.{MissesFace}
+use Rattle.ember_law.proofs.FlatTriangles.{flat_case, flat_out, flat_leg}
 use Rattle.ember_law.proofs.Separation.{mix}
 use Rattle.ember_law.proofs.Segments.{segment_law}
 use Rattle.ember_law.proofs.Tallies.{tally_filter}
@@ -64,7 +64,7 @@ pub legs_near : (ts : List Tri) (c : Cell) (p q : Spot) → HasPoint c p → Has
 legs_near ts c p q f g = tally_filter (λ h. leg h p q) (flat_leg p q) (λ t. is_near c t) (λ t e. leg_far c t p q f g e) ts
 
 -- ---- segments
-pub misses_far : (c : Cell) (t : Tri) (p q : Spot) → is_flat t ≡ false → is_near c t ≡ false → HasPoint c p → HasPoint c q → Misses p q (face_of t)
+pub misses_far : (c : Cell) (t : Tri) (p q : Spot) → is_flat t ≡ false → is_near c t ≡ false → HasPoint c p → HasPoint c q → MissesFace p q (face_of t)
 misses_far c t p q nf far f g k m a b = by (is_in_closed (face_of t) (mix k m p q)) refl
   where
     by : (r : Bool) → is_in_closed (face_of t) (mix k m p q) ≡ r → is_in_closed (face_of t) (mix k m p q) ≡ false
@@ -72,12 +72,12 @@ misses_far c t p q nf far f g k m a b = by (is_in_closed (face_of t) (mix k m p 
         let x = mix k m p q in let w = (closed_parts (face_of t) x e).0 in absurd (clash (near_point c t x nf (has_mix c k m p q f g a b w) e) far)
     by false e = e
 
-all_missed : (c : Cell) (p q : Spot) (ts : List Tri) → HasPoint c p → HasPoint c q → All (λ t. is_near c t ≡ false) ts → AllByRecursion (Misses p q) (faces_of ts)
+all_missed : (c : Cell) (p q : Spot) (ts : List Tri) → HasPoint c p → HasPoint c q → All (λ t. is_near c t ≡ false) ts → AllByRecursion (MissesFace p q) (faces_of ts)
 all_missed c p q [] f g h = tt
 all_missed c p q (t ∷ ts) f g h =
     by (is_flat t) refl (all_missed c p q ts f g (All-tail (λ t. is_near c t ≡ false) t ts h))
   where
-    by : (b : Bool) → is_flat t ≡ b → AllByRecursion (Misses p q) (faces_of ts) → AllByRecursion (Misses p q) (map face_of (cond (not b) (t ∷ filter (λ t. not (is_flat t)) ts) (filter (λ t. not (is_flat t)) ts)))
+    by : (b : Bool) → is_flat t ≡ b → AllByRecursion (MissesFace p q) (faces_of ts) → AllByRecursion (MissesFace p q) (map face_of (cond (not b) (t ∷ filter (λ t. not (is_flat t)) ts) (filter (λ t. not (is_flat t)) ts)))
     by true e r = r
     by false e r = (misses_far c t p q e (All-head (λ t. is_near c t ≡ false) t ts h) f g, r)
 

@@ -1,10 +1,10 @@
 pub mod ReferenceSigns
 pub mod ReferenceLegs
-pub mod Carried
+pub mod CarriedCounts
 pub mod ClearReferences
 pub mod NearPoints
 pub mod BoxPoints
 pub mod FarTriangles
-pub mod Ways
+pub mod MissedSegments
 pub mod ShiftLaw
 pub mod RootOutside

@@ -14,13 +14,13 @@ use Rattle.ember_model.specs.declared.point.Axis.TheVariants.{X, Y, Z}
 use Rattle.ember_model.specs.declared.tri.Tri.{Tri}
 use Rattle.ember_model.specs.Planes.{vector_of, value_at, support_of}
 use Rattle.ember_model.specs.Faces.{is_flat, face_of, is_in_closed}
-use Rattle.ember_model.specs.Owners.{spot_at}
+use Rattle.ember_model.specs.Owners.{spot_of_corner}
 use Rattle.ember_model.proofs.Hits.{closed_parts}
 use Rattle.ember_law.proofs.CornerSides.{above_corners}
-use Rattle.ember_box.specs.declared.spans.Span.{Span}
+use Rattle.ember_box.specs.declared.aabb.Interval.{Interval}
 use Rattle.ember_box.specs.Boxes.{Cell, along, low, high}
 use Rattle.ember_box.specs.Near.{spans_meet, is_near}
-use Rattle.ember_box.specs.Spans.{spans_of, least_end, greatest_end, least, greatest, crosses}
+use Rattle.ember_box.specs.Aabbs.{aabb_of_cell, least_end, greatest_end, least, greatest, crosses}
 use Rattle.ember_box.proofs.Orders.{le_in}
 use Rattle.ember_box.proofs.Crossing.{crosses_is}
 
@@ -30,34 +30,34 @@ coordinate X v = v.x
 coordinate Y v = v.y
 coordinate Z v = v.z
 
--- x / w lies in the span
-pub record IsAcross (s : Span) (x w : ℤ) : Type 0 where
+-- x / w lies in the interval
+pub record IsAcross (s : Interval) (x w : ℤ) : Type 0 where
   pub from : (s.low *ℤ w) ≤ℤ x
   pub to : x ≤ℤ (s.high *ℤ w)
 
 -- the point lies in the closed box
 pub record HasPoint (c : Cell) (v : Spot) : Type 0 where
   pub weight : pos 0 <ℤ v.w
-  pub on_x : IsAcross (spans_of c).x v.x v.w
-  pub on_y : IsAcross (spans_of c).y v.y v.w
-  pub on_z : IsAcross (spans_of c).z v.z v.w
+  pub on_x : IsAcross (aabb_of_cell c).x v.x v.w
+  pub on_y : IsAcross (aabb_of_cell c).y v.y v.w
+  pub on_z : IsAcross (aabb_of_cell c).z v.z v.w
 
 -- ---- the support plane
 -- n is not below 0: its part is least at the lower end, and greatest at the upper one
-rising_low : (n x w : ℤ) (s : Span) → pos 0 ≤ℤ n → IsAcross s x w → (w *ℤ (n *ℤ s.low)) ≤ℤ (n *ℤ x)
+rising_low : (n x w : ℤ) (s : Interval) → pos 0 ≤ℤ n → IsAcross s x w → (w *ℤ (n *ℤ s.low)) ≤ℤ (n *ℤ x)
 rising_low n x w s z b = omega (arith, linear, mul_le z b.from, solve 3 (λ w n l. w ⊗ (n ⊗ l) ≈ n ⊗ (l ⊗ w)) cancels w n s.low)
 
-rising_high : (n x w : ℤ) (s : Span) → pos 0 ≤ℤ n → IsAcross s x w → (n *ℤ x) ≤ℤ (w *ℤ (n *ℤ s.high))
+rising_high : (n x w : ℤ) (s : Interval) → pos 0 ≤ℤ n → IsAcross s x w → (n *ℤ x) ≤ℤ (w *ℤ (n *ℤ s.high))
 rising_high n x w s z b = omega (arith, linear, mul_le z b.to, solve 3 (λ w n l. w ⊗ (n ⊗ l) ≈ n ⊗ (l ⊗ w)) cancels w n s.high)
 
-least_part : (n x w : ℤ) (s : Span) → IsAcross s x w → (w *ℤ (n *ℤ least_end n s)) ≤ℤ (n *ℤ x)
+least_part : (n x w : ℤ) (s : Interval) → IsAcross s x w → (w *ℤ (n *ℤ least_end n s)) ≤ℤ (n *ℤ x)
 least_part (pos zero) x w s b = rising_low (pos zero) x w s (omega (arith, ints)) b
 least_part (pos (suc n)) x w s b = rising_low (pos (suc n)) x w s (omega (arith, ints)) b
 least_part (negsuc n) x w s b =
     let z : pos 0 ≤ℤ pos (suc n) = omega (arith, ints) in
     omega (arith, linear, mul_le z b.to, solve 2 (λ a x. neg a ⊗ x ≈ neg (a ⊗ x)) cancels (pos (suc n)) x, solve 3 (λ w n l. w ⊗ (neg n ⊗ l) ≈ neg (n ⊗ (l ⊗ w))) cancels w (pos (suc n)) s.high)
 
-greatest_part : (n x w : ℤ) (s : Span) → IsAcross s x w → (n *ℤ x) ≤ℤ (w *ℤ (n *ℤ greatest_end n s))
+greatest_part : (n x w : ℤ) (s : Interval) → IsAcross s x w → (n *ℤ x) ≤ℤ (w *ℤ (n *ℤ greatest_end n s))
 greatest_part (pos zero) x w s b = rising_high (pos zero) x w s (omega (arith, ints)) b
 greatest_part (pos (suc n)) x w s b = rising_high (pos (suc n)) x w s (omega (arith, ints)) b
 greatest_part (negsuc n) x w s b =
@@ -65,10 +65,10 @@ greatest_part (negsuc n) x w s b =
     omega (arith, linear, mul_le z b.from, solve 2 (λ a x. neg a ⊗ x ≈ neg (a ⊗ x)) cancels (pos (suc n)) x, solve 3 (λ w n l. w ⊗ (neg n ⊗ l) ≈ neg (n ⊗ (l ⊗ w))) cancels w (pos (suc n)) s.low)
 
 -- a plane that is 0 at a point of a box crosses the box
-pub crosses_there : (p : Plane) (c : Cell) (v : Spot) → HasPoint c v → value_at p v ≡ pos 0 → crosses p (spans_of c) ≡ true
+pub crosses_there : (p : Plane) (c : Cell) (v : Spot) → HasPoint c v → value_at p v ≡ pos 0 → crosses p (aabb_of_cell c) ≡ true
 unfolding crosses
 crosses_there p c v h z =
-    let b = spans_of c in
+    let b = aabb_of_cell c in
     and_from (int_le (least p b) p.d) (int_le p.d (greatest p b))
     (le_in (least p b) p.d (cancel_le h.weight (omega (arith, linear, z, least_part p.a v.x v.w b.x h.on_x, least_part p.b v.y v.w b.y h.on_y, least_part p.c v.z v.w b.z h.on_z, solve 4 (λ w x y z. w ⊗ (x ⊕ y ⊕ z) ≈ w ⊗ x ⊕ w ⊗ y ⊕ w ⊗ z) cancels v.w (p.a *ℤ least_end p.a b.x) (p.b *ℤ least_end p.b b.y) (p.c *ℤ least_end p.c b.z), solve 2 (λ w d. w ⊗ d ≈ d ⊗ w) cancels v.w p.d))))
     (le_in p.d (greatest p b) (cancel_le h.weight (omega (arith, linear, z, greatest_part p.a v.x v.w b.x h.on_x, greatest_part p.b v.y v.w b.y h.on_y, greatest_part p.c v.z v.w b.z h.on_z, solve 4 (λ w x y z. w ⊗ (x ⊕ y ⊕ z) ≈ w ⊗ x ⊕ w ⊗ y ⊕ w ⊗ z) cancels v.w (p.a *ℤ greatest_end p.a b.x) (p.b *ℤ greatest_end p.b b.y) (p.c *ℤ greatest_end p.c b.z), solve 2 (λ w d. w ⊗ d ≈ d ⊗ w) cancels v.w p.d))))
@@ -85,15 +85,15 @@ axis_value X s d v = solve 6 (λ s d x y z w. s ⊗ x ⊕ num (pos 0) ⊗ y ⊕ 
 axis_value Y s d v = solve 6 (λ s d x y z w. num (pos 0) ⊗ x ⊕ s ⊗ y ⊕ num (pos 0) ⊗ z ⊖ d ⊗ w ≈ s ⊗ y ⊖ d ⊗ w) cancels s d v.x v.y v.z v.w
 axis_value Z s d v = solve 6 (λ s d x y z w. num (pos 0) ⊗ x ⊕ num (pos 0) ⊗ y ⊕ s ⊗ z ⊖ d ⊗ w ≈ s ⊗ z ⊖ d ⊗ w) cancels s d v.x v.y v.z v.w
 
-corner_is : (k : Axis) (u : Corner) → coordinate k (spot_at u) ≡ along k (vector_of u)
+corner_is : (k : Axis) (u : Corner) → coordinate k (spot_of_corner u) ≡ along k (vector_of u)
 corner_is X u = refl
 corner_is Y u = refl
 corner_is Z u = refl
 
 -- where all corners lie past a coordinate, so does each point of the closed face
-corner_value : (k : Axis) (s d : ℤ) (u : Corner) → d ≤ℤ (s *ℤ along k (vector_of u)) → pos 0 ≤ℤ value_at (axis_plane k s d) (spot_at u)
+corner_value : (k : Axis) (s d : ℤ) (u : Corner) → d ≤ℤ (s *ℤ along k (vector_of u)) → pos 0 ≤ℤ value_at (axis_plane k s d) (spot_of_corner u)
 corner_value k s d u l =
-    let e = axis_value k s d (spot_at u) in let f = ap (λ (x : ℤ). s *ℤ x) (corner_is k u) in let g : d *ℤ pos 1 ≡ d = omega (arith, ints) in omega (arith, linear, e, f, g, l)
+    let e = axis_value k s d (spot_of_corner u) in let f = ap (λ (x : ℤ). s *ℤ x) (corner_is k u) in let g : d *ℤ pos 1 ≡ d = omega (arith, ints) in omega (arith, linear, e, f, g, l)
 
 pub past_corners : (k : Axis) (s d : ℤ) (t : Tri) (v : Spot) → is_flat t ≡ false → d ≤ℤ (s *ℤ along k (vector_of t.a)) → d ≤ℤ (s *ℤ along k (vector_of t.b)) → d ≤ℤ (s *ℤ along k (vector_of t.c)) → is_in_closed (face_of t) v ≡ true → (d *ℤ v.w) ≤ℤ (s *ℤ coordinate k v)
 past_corners k s d t v nf a b c h =

@@ -20,7 +20,7 @@ use Rattle.ember_model.specs.ClearTest.{all_negative}
 use Rattle.ember_model.proofs.PlaneValues.{sign-number}
 use Rattle.ember_model.proofs.LegSigns.{leg_is}
 use Rattle.ember_box.specs.Boxes.{Cell, shifted_by, right_half}
-use Rattle.ember_box.specs.Near.{place}
+use Rattle.ember_box.specs.Near.{spot_of_vector}
 use Rattle.ember_box.specs.Reference.{reference_at, reference}
 use Rattle.ember_ref.specs.References.{corner_of, reference_of, IsBoxCorner}
 
@@ -33,7 +33,7 @@ box_corner cs h = record { x = at cs 0 h; y = at cs 1 h; z = at cs 2 h }
     at (c ∷ cs) zero h = All-head (Small 2048) c cs h
     at (c ∷ cs) (suc i) h = at cs i (All-tail (Small 2048) c cs h)
 
-weight_near : (m : ℤ) (v : Vector) → pos 0 <ℤ m → pos 0 <ℤ (shifted (place v) m).w
+weight_near : (m : ℤ) (v : Vector) → pos 0 <ℤ m → pos 0 <ℤ (shifted (spot_of_vector v) m).w
 weight_near m v l = pos_mul (pos_mul (pos_mul l l) l) (omega (arith, linear))
 
 pub weight_at : (v : Vector) → pos 0 <ℤ (reference_at v).w
@@ -43,7 +43,7 @@ pub weight_of : (lo : List ℤ) → pos 0 <ℤ (reference_of lo).w
 unfolding reference_of
 weight_of lo = weight_at (corner_of lo)
 
-differ_along : (m : ℤ) (k : Axis) (by : ℤ) (v : Vector) → DifferAlong k (shifted (place (shifted_by k by v)) m) (shifted (place v) m)
+differ_along : (m : ℤ) (k : Axis) (by : ℤ) (v : Vector) → DifferAlong k (shifted (spot_of_vector (shifted_by k by v)) m) (shifted (spot_of_vector v) m)
 differ_along m X by v = (refl, refl)
 differ_along m Y by v = (refl, refl)
 differ_along m Z by v = (refl, refl)

@@ -14,7 +14,7 @@ use Rattle.ember_model.specs.Planes.{value_at}
 use Rattle.ember_model.proofs.SignTests.{zero_times, zero_out}
 use Rattle.ember_law.proofs.Shifted.{value_shifted}
 use Rattle.ember_model.specs.Points.{shifted}
-use Rattle.ember_box.specs.Near.{place}
+use Rattle.ember_box.specs.Near.{spot_of_vector}
 use Rattle.ember_box.specs.Reference.{reference_at}
 use Rattle.ember_ref.specs.References.{or_sign, IsLevel}
 
@@ -31,14 +31,14 @@ next_sign n v a s l =
     (λ p. sgn_neg (large_neg s l p) ∙ sym (ap (λ (s : Sign). or_sign s (sgn a)) (sgn_neg p)))
 
 abbrev pub sign_beside : Plane → Vector → Sign
-sign_beside p v = or_sign (sgn (value_at p (place v))) (or_sign (sgn p.a) (or_sign (sgn p.b) (sgn p.c)))
+sign_beside p v = or_sign (sgn (value_at p (spot_of_vector v))) (or_sign (sgn p.a) (or_sign (sgn p.b) (sgn p.c)))
 
 -- with any number above the entries' sizes in the place of 2^27
-pub sign_near : {m : ℕ} (n : ℕ) (p : Plane) (v : Vector) → m < n → Small m p.a → Small m p.b → Small m p.c → sgn (value_at p (shifted (place v) (pos n))) ≡ sign_beside p v
+pub sign_near : {m : ℕ} (n : ℕ) (p : Plane) (v : Vector) → m < n → Small m p.a → Small m p.b → Small m p.c → sgn (value_at p (shifted (spot_of_vector v) (pos n))) ≡ sign_beside p v
 sign_near n p v l a b c =
-    let x = value_at p (place v) in let y = x *ℤ pos n +ℤ p.a in let z = y *ℤ pos n +ℤ p.b in
+    let x = value_at p (spot_of_vector v) in let y = x *ℤ pos n +ℤ p.a in let z = y *ℤ pos n +ℤ p.b in
     let e = next_sign n x p.a a l in let f = next_sign n y p.b b l in let g = next_sign n z p.c c l in
-    ap sgn (value_shifted p (place v) (pos n)) ∙ g ∙ ap (λ (s : Sign). or_sign s (sgn p.c)) (f ∙ ap (λ (s : Sign). or_sign s (sgn p.b)) e) ∙ ap (λ (s : Sign). or_sign s (sgn p.c)) (or_sign_assoc (sgn x) (sgn p.a) (sgn p.b)) ∙ or_sign_assoc (sgn x) (or_sign (sgn p.a) (sgn p.b)) (sgn p.c) ∙ ap (λ (s : Sign). or_sign (sgn x) s) (or_sign_assoc (sgn p.a) (sgn p.b) (sgn p.c))
+    ap sgn (value_shifted p (spot_of_vector v) (pos n)) ∙ g ∙ ap (λ (s : Sign). or_sign s (sgn p.c)) (f ∙ ap (λ (s : Sign). or_sign s (sgn p.b)) e) ∙ ap (λ (s : Sign). or_sign s (sgn p.c)) (or_sign_assoc (sgn x) (sgn p.a) (sgn p.b)) ∙ or_sign_assoc (sgn x) (or_sign (sgn p.a) (sgn p.b)) (sgn p.c) ∙ ap (λ (s : Sign). or_sign (sgn x) s) (or_sign_assoc (sgn p.a) (sgn p.b) (sgn p.c))
 
 pub sign_at_reference : {m : ℕ} (p : Plane) (v : Vector) → m < 2 ^ 27 → Small m p.a → Small m p.b → Small m p.c → sgn (value_at p (reference_at v)) ≡ sign_beside p v
 sign_at_reference p v l a b c = sign_near (2 ^ 27) p v l a b c
@@ -57,6 +57,6 @@ both_zero Pos t e = absurd (clash e)
 
 pub level_from : (p : Plane) (v : Vector) → sign_beside p v ≡ Zero → IsLevel p
 level_from p v e =
-    let x = both_zero (sgn (value_at p (place v))) (or_sign (sgn p.a) (or_sign (sgn p.b) (sgn p.c))) e in
+    let x = both_zero (sgn (value_at p (spot_of_vector v))) (or_sign (sgn p.a) (or_sign (sgn p.b) (sgn p.c))) e in
     let y = both_zero (sgn p.a) (or_sign (sgn p.b) (sgn p.c)) x.1 in let z = both_zero (sgn p.b) (sgn p.c) y.1 in
     (zero_out p.a (ap is_nil y.0), zero_out p.b (ap is_nil z.0), zero_out p.c (ap is_nil z.1))

@@ -16,7 +16,7 @@ use Rattle.ember_model.specs.Valid.{IsValidTri}
 use Rattle.ember_model.specs.Meshes.{meshes, IsScene}
 use Rattle.ember_model.proofs.SignTests.{zero_times}
 use Rattle.ember_model.proofs.Hits.{inside_parts}
-use Rattle.ember_law.proofs.Flats.{flat_case, flat_out, flat_crossing}
+use Rattle.ember_law.proofs.FlatTriangles.{flat_case, flat_out, flat_crossing}
 use Rattle.ember_law.proofs.Tallies.{tally_zero}
 use Rattle.ember_box.specs.Boxes.{root}
 use Rattle.ember_box.specs.Reference.{reference, vector_at}

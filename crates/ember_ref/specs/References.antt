@@ -36,7 +36,7 @@ or_sign Pos s = Pos
 abbrev pub IsLevel : Plane → Type 0
 IsLevel p = (p.a ≡ pos 0) × (p.b ≡ pos 0) × (p.c ≡ pos 0)
 
--- the counts at a box's reference point, with the crossings on the way back to it from that of its
+-- the counts at a box's reference point, with the crossings on the segment back to it from that of its
 -- right half
 abbrev pub carried : List Tri → Cell → Axis → List ℤ → List ℤ
 carried near c k counts = added counts (leg_vector near (reference (right_half c k)) (reference c))

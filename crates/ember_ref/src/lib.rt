@@ -5,8 +5,6 @@
 
 mod shifting;
 mod signs;
-#[cfg(test)]
-mod tests;
 
 pub use shifting::{shift, shift_listed};
 pub use signs::lex_side;

@@ -10,18 +10,18 @@ ghost use Rattle.ember_law.specs.Counts.{HasRoom, with_more};
 ghost use Rattle.ember_box.specs.Boxes.{Cell as Box, right_half};
 ghost use Rattle.ember_box.specs.Near.{listed};
 ghost use Rattle.ember_box.specs.Reference.{reference};
-ghost use Rattle.ember_box.specs.Spans.{span_between, spans_of};
+ghost use Rattle.ember_box.specs.Aabbs.{interval_between, aabb_of_cell};
 ghost use Rattle.ember_ref.specs.References.{corner_of, reference_of, IsBoxCorner, carried, ShiftsAll};
-ghost use Rattle.ember_ref.specs.Ways.{column, IsStraight, IsWayBack};
+ghost use Rattle.ember_ref.specs.Segments.{column, IsAlongAxis, IsSegmentBack};
 
 use crate::signs::{is_behind, lex_side};
 use ember_algebra::Sign;
-use ember_box::{Cell, Span, Spans, halves, reach_beside, spans_of};
-use ember_law::add_to;
+use ember_box::{Aabb, Cell, Interval, aabb_of_cell, aabbs_meet_beside, halves};
+use ember_law::add_count;
 use ember_model::{Axis, Tri, Vector, support_of};
 
-// How a way passes a plane that has the signs `start` and `end` at its ends.
-fn passage(start: Sign, end: Sign) -> i32
+// How a segment passes a plane that has the signs `start` and `end` at its ends.
+fn signed_crossing(start: Sign, end: Sign) -> i32
     ensures value { result ≡ (if is_neg (times start end) then number end else pos 0) }
     ensures small { Small 1 result }
 {
@@ -40,7 +40,7 @@ fn passage(start: Sign, end: Sign) -> i32
 
 // The signed crossing of the segment between the reference points of two boxes, given by their
 // least corners, with the inside of the triangle's face.
-fn leg_between(t: &Tri, p: [i32; 3], q: [i32; 3], k: Axis) -> i32
+fn crossing_between(t: &Tri, p: [i32; 3], q: [i32; 3], k: Axis) -> i32
     requires tri { IsValidTri t.now }
     requires from { IsBoxCorner (corner_of p) }
     requires to { IsBoxCorner (corner_of q) }
@@ -49,7 +49,7 @@ fn leg_between(t: &Tri, p: [i32; 3], q: [i32; 3], k: Axis) -> i32
     ensures small { Small 1 result }
 {
     let n = support_of(t);
-    let passes = passage(lex_side(&n, p), lex_side(&n, q));
+    let passes = signed_crossing(lex_side(&n, p), lex_side(&n, q));
     if passes != 0 && is_behind(t, k, p) {
         passes
     } else {
@@ -57,32 +57,32 @@ fn leg_between(t: &Tri, p: [i32; 3], q: [i32; 3], k: Axis) -> i32
     }
 }
 
-// The way from one reference point along an axis to another, and what holds it.
+// The segment from one reference point along an axis to another, and what holds it.
 #[derive(Clone, Copy)]
-struct Way {
+struct AxisSegment {
     from: [i32; 3],
     to: [i32; 3],
     axis: Axis,
-    spans: Spans,
+    aabb: Aabb,
 }
 
 // The box that has the side 1 along all axes but this one.
-fn column(c: &Cell, k: Axis) -> Spans
-    ensures { result ≡ spans_of (column c.now k) }
+fn column(c: &Cell, k: Axis) -> Aabb
+    ensures { result ≡ aabb_of_cell (column c.now k) }
 {
-    let whole = spans_of(c);
+    let whole = aabb_of_cell(c);
     match k {
-        Axis::X => Spans {
+        Axis::X => Aabb {
             x: whole.x,
             y: unit(whole.y.low),
             z: unit(whole.z.low),
         },
-        Axis::Y => Spans {
+        Axis::Y => Aabb {
             x: unit(whole.x.low),
             y: whole.y,
             z: unit(whole.z.low),
         },
-        Axis::Z => Spans {
+        Axis::Z => Aabb {
             x: unit(whole.x.low),
             y: unit(whole.y.low),
             z: whole.z,
@@ -90,54 +90,54 @@ fn column(c: &Cell, k: Axis) -> Spans
     }
 }
 
-fn unit(low: i32) -> Span
+fn unit(low: i32) -> Interval
     requires { Small 2048 low }
-    ensures { result ≡ span_between low (low +ℤ pos 1) }
+    ensures { result ≡ interval_between low (low +ℤ pos 1) }
 {
-    Span { low, high: low + 1 }
+    Interval { low, high: low + 1 }
 }
 
-// The way from the reference point of a box's right half to that of the box.
-fn way_back(c: &Cell, k: Axis) -> Way
+// The segment from the reference point of a box's right half to that of the box.
+fn segment_back(c: &Cell, k: Axis) -> AxisSegment
     requires { 0 < c.now.log k }
-    ensures way { IsWayBack c.now k result }
-    ensures straight { IsStraight result }
+    ensures way { IsSegmentBack c.now k result }
+    ensures straight { IsAlongAxis result }
 {
     let to = c.lo();
     let from = halves(c, k).1.lo();
-    Way {
+    AxisSegment {
         from,
         to,
         axis: k,
-        spans: column(c, k),
+        aabb: column(c, k),
     }
 }
 
-// The signed crossing of the way with the inside of the triangle's face. There is none where the
-// triangle's bounding box lies beside the way.
-fn leg_on(t: &Tri, w: &Way) -> i32
+// The signed crossing of the segment with the inside of the triangle's face. There is none where the
+// triangle's bounding box lies beside the segment.
+fn crossing_on(t: &Tri, w: &AxisSegment) -> i32
     requires tri { IsValidTri t.now }
-    requires straight { IsStraight w.now }
-    ensures value { (c : Box) (k : Axis) → 0 < c.log k → IsWayBack c k w.now → result ≡ leg (face_of t.now) (reference (right_half c k)) (reference c) }
+    requires straight { IsAlongAxis w.now }
+    ensures value { (c : Box) (k : Axis) → 0 < c.log k → IsSegmentBack c k w.now → result ≡ leg (face_of t.now) (reference (right_half c k)) (reference c) }
     ensures small { Small 1 result }
 {
-    if reach_beside(t, &w.spans, w.axis) {
-        leg_between(t, w.from, w.to, w.axis)
+    if aabbs_meet_beside(t, &w.aabb, w.axis) {
+        crossing_between(t, w.from, w.to, w.axis)
     } else {
         0
     }
 }
 
 // Adds the crossing of one triangle to the count of its mesh.
-fn carry(t: &Tri, w: &Way, v: &mut Vector)
+fn carry(t: &Tri, w: &AxisSegment, v: &mut Vector)
     requires tri { IsValidTri t.now }
     requires numbered { HasMesh 64 t.now }
-    requires straight { IsStraight w.now }
+    requires straight { IsAlongAxis w.now }
     requires room { All (Small 1073741823) v.old.counts }
-    ensures value { (c : Box) (k : Axis) → 0 < c.log k → IsWayBack c k w.now → v.new.counts ≡ with_more v.old.counts t.now.mesh (leg (face_of t.now) (reference (right_half c k)) (reference c)) }
+    ensures value { (c : Box) (k : Axis) → 0 < c.log k → IsSegmentBack c k w.now → v.new.counts ≡ with_more v.old.counts t.now.mesh (leg (face_of t.now) (reference (right_half c k)) (reference c)) }
     ensures within { (m : ℕ) → All (Small m) v.old.counts → All (Small (m + 1)) v.new.counts }
 {
-    add_to(v, t.mesh, leg_on(t, w));
+    add_count(v, t.mesh, crossing_on(t, w));
 }
 
 /// Carries the winding numbers from the reference point of a box to that of its right half along
@@ -153,25 +153,25 @@ pub fn shift(near: &[Tri], c: &Cell, k: Axis, v: &mut Vector)
     ensures law { ShiftsAll near.now c.now k v.old.counts v.new.counts }
     ensures within { (m : ℕ) → All (Small m) v.old.counts → All (Small (m + length near.now)) v.new.counts }
 {
-    let way = way_back(c, k);
+    let way = segment_back(c, k);
     for t in near {
         carry(t, &way, v);
     }
 }
 
 /// The same by the places of those triangles in a list of all.
-pub fn shift_listed(tris: &[Tri], list: &[u32], c: &Cell, k: Axis, v: &mut Vector)
+pub fn shift_listed(tris: &[Tri], list: &[u32], c: &Cell, axis: Axis, v: &mut Vector)
     requires valid { All IsValidTri tris.now }
     requires numbered { All (HasMesh 64) tris.now }
     requires places { All (λ i. i < length tris.now) list.now }
     requires few { length list.now ≤ 262144 }
-    requires side { 0 < c.now.log k }
+    requires side { 0 < c.now.log axis }
     requires room { HasRoom v.old.counts }
-    ensures value { v.new.counts ≡ carried (listed tris.now list.now) c.now k v.old.counts }
-    ensures law { ShiftsAll (listed tris.now list.now) c.now k v.old.counts v.new.counts }
+    ensures value { v.new.counts ≡ carried (listed tris.now list.now) c.now axis v.old.counts }
+    ensures law { ShiftsAll (listed tris.now list.now) c.now axis v.old.counts v.new.counts }
     ensures within { (m : ℕ) → All (Small m) v.old.counts → All (Small (m + length list.now)) v.new.counts }
 {
-    let way = way_back(c, k);
+    let way = segment_back(c, axis);
     for i in list {
         carry(&tris[*i as usize], &way, v);
     }

@@ -5,7 +5,7 @@ ghost use Rattle.ember_algebra.specs.Sign.{sgn, is_negative};
 ghost use Rattle.ember_model.specs.Valid.{IsValidPlane, IsValidTri};
 ghost use Rattle.ember_model.specs.Planes.{value_at, edge_planes};
 ghost use Rattle.ember_model.specs.ClearTest.{all_negative};
-ghost use Rattle.ember_box.specs.Near.{place};
+ghost use Rattle.ember_box.specs.Near.{spot_of_vector};
 ghost use Rattle.ember_ref.specs.References.{corner_of, reference_of, or_sign, IsBoxCorner, IsLevel};
 
 use ember_algebra::{Sign, sign_of};
@@ -24,7 +24,7 @@ fn or_sign(first: Sign, second: Sign) -> Sign
 fn value_at_corner(p: &Plane, at: [i32; 3]) -> i64
     requires plane { IsValidPlane p.now }
     requires corner { IsBoxCorner (corner_of at) }
-    ensures value { result ≡ value_at p.now (place (corner_of at)) }
+    ensures value { result ≡ value_at p.now (spot_of_vector (corner_of at)) }
     ensures small { Small (2 ^ 40) result }
 {
     let [x, y, z] = at;

@@ -3,8 +3,6 @@
 
 mod line;
 mod report;
-#[cfg(test)]
-mod tests;
 
 pub use line::report_line;
 pub use report::{Report, report_of};

@@ -39,7 +39,8 @@ stays_short w a b h k = omega (arith, h, face_shorter k)
 faces_end : (v w : WrittenFace) (a b c : List ℕ) → IsShort a → IsFaceLines v a b → IsFaceLines w a c → b ≡ c
 faces_end v w a b c q h k = face_end q h k
 
-no_face_at_end : (n : ℕ) (w : WrittenFace) (rest : List ℕ) → IsFaceLines w (ending n) rest → ⊥
+-- the last line isn't that of a face
+pub no_face_at_end : (n : ℕ) (w : WrittenFace) (rest : List ℕ) → IsFaceLines w (ending n) rest → ⊥
 no_face_at_end n w rest h = let t = face_begins h in absurd (omega (arith, heads t.1))
 
 pub not_an_end : (n : ℕ) {bytes t : List ℕ} → bytes ≡ 102 ∷ t → bytes ≡ ending n → ⊥
@@ -67,7 +68,8 @@ faces_text (step {x = w} {xs = ws} {c = c} h k) =
     let t = faces_text k in
     (h.is ∙ ap (λ l. lines_in w ++ l) t.0 ∙ sym (append_assoc (lines_in w) (flat_map lines_in ws) c) ∙ ap (λ l. l ++ c) (sym (flat_map-cons lines_in w ws)), (h.written, t.1))
 
-faces_chain : (ws : List WrittenFace) (rest : List ℕ) → AllByRecursion IsWrittenFace ws → Chain IsFaceLines ws (flat_map lines_in ws ++ rest) rest
+-- written faces, face by face
+pub faces_chain : (ws : List WrittenFace) (rest : List ℕ) → AllByRecursion IsWrittenFace ws → Chain IsFaceLines ws (flat_map lines_in ws ++ rest) rest
 faces_chain [] rest h = done
 faces_chain (w ∷ ws) rest h =
     let l = ap (λ q. q ++ rest) (flat_map-cons lines_in w ws) ∙ append_assoc (lines_in w) (flat_map lines_in ws) rest in

@@ -54,7 +54,8 @@ edges_text (step {x = e} {xs = es} {c = c} h k) =
     let t = edges_text k in
     (h.is ∙ ap (λ l. edge_line e ++ l) t.0 ∙ sym (append_assoc (edge_line e) (flat_map edge_line es) c) ∙ ap (λ l. l ++ c) (sym (flat_map-cons edge_line e es)), (h.written, t.1))
 
-edges_chain : (es : List RingEdge) (rest : List ℕ) → AllByRecursion IsWrittenEdge es → Chain IsEdgeLine es (flat_map edge_line es ++ rest) rest
+-- written edges, line by line
+pub edges_chain : (es : List RingEdge) (rest : List ℕ) → AllByRecursion IsWrittenEdge es → Chain IsEdgeLine es (flat_map edge_line es ++ rest) rest
 edges_chain [] rest h = done
 edges_chain (e ∷ es) rest h =
     let l = ap (λ q. q ++ rest) (flat_map-cons edge_line e es) ∙ append_assoc (edge_line e) (flat_map edge_line es) rest in

@@ -8,3 +8,4 @@ pub mod FaceTexts
 pub mod BodyTexts
 pub mod Prefixes
 pub mod OneOutline
+pub mod OneReading

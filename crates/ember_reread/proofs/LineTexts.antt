@@ -9,7 +9,7 @@ use Rattle.ember_model.specs.declared.point.Spot.{Spot}
 use Rattle.ember_model.specs.Valid.{IsValidPlane}
 use Rattle.ember_model.specs.Edges.{RingEdge}
 use Rattle.ember_model.specs.FaceFiles.{fields, line_of, IsWrittenCorner}
-use Rattle.ember_model.proofs.Tuples.{same_plane}
+use Rattle.ember_model.proofs.Tuples.{same_plane, same_spot}
 use Rattle.ember_reread.specs.declared.fields.Four.{Four}
 use Rattle.ember_reread.specs.Numbers.{IsEnd}
 use Rattle.ember_reread.specs.Lines.{IsField, AreFields, IsPlane, IsCorner, IsEdgeLine, IsSupportLine, HasEdge}
@@ -82,8 +82,14 @@ spaced_corner : (v : Spot) (rest : List ℕ) → IsWrittenCorner v → IsEnd res
 spaced_corner v rest h e =
     record { fields = spaced_four (record { x = v.x; y = v.y; z = v.z; w = v.w }) rest h.valid.x h.valid.y h.valid.z h.valid.w e; written = h }
 
+pub same_corners : {u v : Spot} {bytes r s : List ℕ} → IsCorner u bytes r → IsCorner v bytes s → (u ≡ v) × (r ≡ s)
+same_corners h k =
+    let t = same_fields (omega arith) (omega arith) h.fields k.fields in
+    let e = t.0 in
+    (same_spot (ap (λ (v : Four). v.x) e) (ap (λ (v : Four). v.y) e) (ap (λ (v : Four). v.z) e) (ap (λ (v : Four). v.w) e), t.1)
+
 pub corner_rest : {u v : Spot} {bytes r s : List ℕ} → IsCorner u bytes r → IsCorner v bytes s → r ≡ s
-corner_rest h k = (same_fields (omega arith) (omega arith) h.fields k.fields).1
+corner_rest h k = (same_corners h k).1
 
 -- ---- the line of an edge
 -- the parts behind its first byte
@@ -104,7 +110,7 @@ edge_parts {e} {bytes} {rest} h =
       corner = spaced_corner e.start (10 ∷ rest) h.written.start (omega arith);
     }
 
-abbrev NoEdge : List ℕ → Type 0
+abbrev pub NoEdge : List ℕ → Type 0
 NoEdge bytes = (e : RingEdge) (rest : List ℕ) → IsEdgeLine e bytes rest → ⊥
 
 abbrev NoByte : ℕ → List ℕ → Type 0
@@ -143,11 +149,16 @@ module _ {bytes s : List ℕ} (name : bytes ≡ 101 ∷ s) where
             };
           }
 
-pub same_edge : {e d : RingEdge} {bytes r s : List ℕ} → IsEdgeLine e bytes r → IsEdgeLine d bytes s → (e.plane ≡ d.plane) × (r ≡ s)
+-- a line is that of one edge
+pub same_edge : {e d : RingEdge} {bytes r s : List ℕ} → IsEdgeLine e bytes r → IsEdgeLine d bytes s → (e ≡ d) × (r ≡ s)
 same_edge h k =
     let p = edge_parts h in let q = edge_parts k in
-    let t = same_planes (edge_plane q.name p) q.plane in
-    (t.0, tails (corner_rest (edge_corner q.name q.plane p) q.corner))
+    let t = same_planes (edge_plane q.name p) q.plane in let c = same_corners (edge_corner q.name q.plane p) q.corner in
+    (λ i. record { plane = t.0 i; start = c.0 i }, tails c.1)
+
+-- it begins with its name and a space
+pub edge_begins : {e : RingEdge} {bytes rest : List ℕ} → IsEdgeLine e bytes rest → (t : List ℕ) × (bytes ≡ 101 ∷ 32 ∷ t)
+edge_begins h = let p = edge_parts h in (_, p.name ∙ ap (λ l. 101 ∷ l) (plane_spaced p.plane))
 
 -- ---- the first line of a face
 record SupportParts (n : Plane) (count : ℕ) (bytes rest : List ℕ) : Type 0 where
@@ -208,6 +219,13 @@ module _ {bytes s : List ℕ} (name : bytes ≡ 102 ∷ s) where
             enough = l;
             is = name ∙ ap (λ l. 102 ∷ l) (plane_spaced plane ∙ ap (λ l. spaced (plane_numbers p) l) (number.is ∙ (λ i. 32 ∷ (signed_decimal (e i) ++ end i)))) ∙ sym (line_spaced 102 (p.a ∷ p.b ∷ p.c ∷ p.d ∷ pos count ∷ []) rest);
           }
+
+-- two readings of it have one plane, and what follows is the same
+pub support_line_once : {n m : Plane} {count many : ℕ} {bytes r s : List ℕ} → IsSupportLine n count bytes r → IsSupportLine m many bytes s → (n ≡ m) × (r ≡ s)
+support_line_once {count = count} {r = r} h i =
+    let p = support_parts h in let q = support_parts i in
+    let t = same_planes (support_plane q.name p) q.plane in
+    (t.0, tails (same_rest (subst (λ b. IsField count (pos count) b (10 ∷ r)) t.1 p.number) q.number))
 
 pub same_support : {n m : Plane} {count many : ℕ} {bytes r s : List ℕ} → count < 10 ^ 64 → many < 10 ^ 64 → IsSupportLine n count bytes r → IsSupportLine m many bytes s → (n ≡ m) × (count ≡ many) × (r ≡ s)
 same_support {n} {m} {count} {many} {bytes} {r} {s} k l h i =

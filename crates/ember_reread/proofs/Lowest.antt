@@ -10,7 +10,7 @@ use Rattle.ember_algebra.proofs.Laws.{from_one}
 use Rattle.ember_algebra.proofs.Ring.{num, ◌⊖◌, ◌⊗◌, ◌≈◌, solve, cancels}
 use Rattle.ember_algebra.proofs.Order.{by_sign, cancel_eq}
 use Rattle.ember_model.specs.declared.point.Spot.{Spot}
-use Rattle.ember_model.specs.Edges.{SamePlace}
+use Rattle.ember_model.specs.Edges.{SamePoint}
 use Rattle.ember_model.specs.FaceFiles.{IsLowest}
 use Rattle.ember_model.proofs.Tuples.{same_spot}
 
@@ -37,11 +37,11 @@ less_entry : (a b x y : ℤ) → b *ℤ x ≡ a *ℤ y → (b -ℤ a) *ℤ x ≡
 less_entry a b x y e =
     from_one (pos 1) e (solve 4 (λ a b x y. (b ⊖ a) ⊗ x ⊖ a ⊗ (y ⊖ x) ≈ num (pos 1) ⊗ (b ⊗ x ⊖ a ⊗ y)) cancels a b x y)
 
-same_less : (u v : Spot) → SamePlace u v → SamePlace u (less v u)
+same_less : (u v : Spot) → SamePoint u v → SamePoint u (less v u)
 same_less u v s =
     record { x = less_entry u.w v.w u.x v.x s.x; y = less_entry u.w v.w u.y v.y s.y; z = less_entry u.w v.w u.z v.z s.z }
 
-turned : {u v : Spot} → SamePlace u v → SamePlace v u
+turned : {u v : Spot} → SamePoint u v → SamePoint v u
 turned s = record { x = sym s.x; y = sym s.y; z = sym s.z }
 
 add_entry : (a b : ℕ) (t x y : ℤ) → x ≡ pos a *ℤ t → y -ℤ x ≡ pos b *ℤ t → y ≡ pos (b + a) *ℤ t
@@ -60,7 +60,7 @@ equal_entry a b x y p e s =
 once : (u : Spot) → IsMultiple 1 u u
 once u = record { x = omega (arith, ints); y = omega (arith, ints); z = omega (arith, ints); w = omega (arith, ints) }
 
-unit_of : (n : ℕ) (u v : Spot) → pos 0 <ℤ u.w → pos 0 <ℤ v.w → (u.w +ℤ v.w) ≤ℤ pos n → SamePlace u v → HaveUnit u v
+unit_of : (n : ℕ) (u v : Spot) → pos 0 <ℤ u.w → pos 0 <ℤ v.w → (u.w +ℤ v.w) ≤ℤ pos n → SamePoint u v → HaveUnit u v
 unit_of zero u v p q l s = absurd (omega (arith, ints, p, q, l))
 unit_of (suc n) u v p q l s =
     by_sign (v.w -ℤ u.w)
@@ -82,7 +82,7 @@ only_once {a} {t} {u} h l =
 same_entry : (a b : ℕ) (t x y : ℤ) → a ≡ 1 → b ≡ 1 → x ≡ pos a *ℤ t → y ≡ pos b *ℤ t → x ≡ y
 same_entry a b t x y p q e f = e ∙ ap (λ n. pos n *ℤ t) (p ∙ sym q) ∙ sym f
 
-pub same_lowest : (u v : Spot) → pos 0 <ℤ u.w → pos 0 <ℤ v.w → SamePlace u v → IsLowest u → IsLowest v → u ≡ v
+pub same_lowest : (u v : Spot) → pos 0 <ℤ u.w → pos 0 <ℤ v.w → SamePoint u v → IsLowest u → IsLowest v → u ≡ v
 same_lowest u v p q s l m =
     let k = unit_of (unsigned_abs (u.w +ℤ v.w)) u v p q (omega (arith, ints, p, q)) s in
     let a = only_once k.first l in let b = only_once k.second m in

@@ -16,7 +16,7 @@ use Rattle.ember_model.specs.declared.point.Spot.{Spot}
 use Rattle.ember_model.specs.declared.face.Face.{Face}
 use Rattle.ember_model.specs.Planes.{value_at}
 use Rattle.ember_model.specs.Faces.{is_in_closed}
-use Rattle.ember_model.specs.Edges.{SamePlace, is_on_edge, Counts, SameEdge, IsEarliest, normal, RingEdge, IsEdge, IsPath, AreApart, IsOutline}
+use Rattle.ember_model.specs.Edges.{SamePoint, is_on_edge, HasEdge, SameEdge, IsEarliest, normal, RingEdge, IsEdge, IsEdgeChain, HaveDistinctEdges, IsOutline}
 use Rattle.ember_model.specs.FaceFiles.{IsLowest, face_lines, header, ending, IsFaceText, IsFacesText}
 use Rattle.ember_model.proofs.SignTests.{and_parts, zero_out, zero_scaled, zero_times, not_positive_out}
 use Rattle.ember_model.specs.ClearTest.{none_positive}
@@ -89,7 +89,7 @@ module _ (f : Face) (g : Plane) (s v : Spot) (os : On f g s) (ov : On f g v) whe
       let c = solve 6 (λ a b c x y z. a ⊗ x ⊕ b ⊗ y ⊕ c ⊗ z ≈ x ⊗ a ⊕ y ⊗ b ⊕ z ⊗ c) cancels z.x z.y z.z (away s v).x (away s v).y (away s v).z in
       let d = pos_mul l (subst (λ t. pos 0 <ℤ t) c l) in absurd (omega (arith, linear, a, b, d))
 
-  one_place : (dot z z ≡ pos 0 → ⊥) → dot z (away s v) ≡ pos 0 → SamePlace s v
+  one_place : (dot z z ≡ pos 0 → ⊥) → dot z (away s v) ≡ pos 0 → SamePoint s v
   one_place nz e =
       let x = entry (record { x = pos 1; y = pos 0; z = pos 0 }) in let y = entry (record { x = pos 0; y = pos 1; z = pos 0 }) in let t = entry (record { x = pos 0; y = pos 0; z = pos 1 }) in
       let d = away s v in
@@ -126,12 +126,12 @@ module _ (f : Face) (g : Plane) (s a : Spot) (e : IsEdge f (side g s) a) where
   long : dot way way ≡ pos 0 → ⊥
   long z = some_length f g s a at_start at_end ahead z
 
-  same_start : (t b : Spot) → IsEdge f (side g t) b → SamePlace s t
+  same_start : (t b : Spot) → IsEdge f (side g t) b → SamePoint s t
   same_start t b d =
       let x = (e.from_start t d.starts).not_after in let y = (d.from_start s e.starts).not_after in let w = dot_away way s t in
       one_place f g s t at_start (on_edge f g t d.starts) long (omega (arith, linear, x, y, w))
 
-  same_end : (t b : Spot) → IsEdge f (side g t) b → SamePlace a b
+  same_end : (t b : Spot) → IsEdge f (side g t) b → SamePoint a b
   same_end t b d =
       let x = (e.to_end b d.ends).not_after in let y = (d.to_end a e.ends).not_after in let w = dot_away way a b in
       one_place f g a b at_end (on_edge f g b d.ends) long (omega (arith, linear, x, y, w))
@@ -143,7 +143,7 @@ module _ (f : Face) (g : Plane) (s a : Spot) (e : IsEdge f (side g s) a) where
 
     not_outwards : dot (normal k) way ≤ℤ pos 0
     not_outwards =
-        let m = at_end.below d.stands.place k d.stands.here in
+        let m = at_end.below d.stands.index k d.stands.here in
         let c = plane_away k s a in let c0 = zero_scaled a.w (value_at k s) k_at_start in
         let ws = at_start.weight in let w : pos 0 ≤ℤ s.w = omega (arith, linear, ws) in
         let c1 = mul_le w m in let c2 = zero_scaled s.w (pos 0) refl in
@@ -176,16 +176,16 @@ one_edge f g k s a b e d v =
 
 -- ---- the earliest plane is one
 earliest_one : (P Q : Plane → Type 0) (gs : List Plane) (g h : Plane) → ((x : Plane) → P x → Q x) → ((x : Plane) → Q x → P x) → IsEarliest P gs g → IsEarliest Q gs h → g ≡ h
-earliest_one P Q gs g h pq qp a b = by (nat_lt a.place b.place) (nat_lt b.place a.place) refl refl
+earliest_one P Q gs g h pq qp a b = by (nat_lt a.index b.index) (nat_lt b.index a.index) refl refl
   where
     at_one : {x y : Plane} → Some x ≡ Some y → x ≡ y
     at_one e = cc
 
-    by : (l m : Bool) → nat_lt a.place b.place ≡ l → nat_lt b.place a.place ≡ m → g ≡ h
-    by true m e d = absurd (b.earliest a.place g (ltb-true a.place b.place e) a.here (pq g a.holds))
-    by false true e d = absurd (a.earliest b.place h (ltb-true b.place a.place d) b.here (qp h b.holds))
+    by : (l m : Bool) → nat_lt a.index b.index ≡ l → nat_lt b.index a.index ≡ m → g ≡ h
+    by true m e d = absurd (b.earliest a.index g (ltb-true a.index b.index e) a.here (pq g a.holds))
+    by false true e d = absurd (a.earliest b.index h (ltb-true b.index a.index d) b.here (qp h b.holds))
     by false false e d =
-        let x = ltb-false a.place b.place e in let y = ltb-false b.place a.place d in let p : a.place ≡ b.place = omega (arith, x, y) in
+        let x = ltb-false a.index b.index e in let y = ltb-false b.index a.index d in let p : a.index ≡ b.index = omega (arith, x, y) in
         at_one (sym a.here ∙ ap (λ i. slice_get gs i) p ∙ b.here)
 
 stands_one : (f : Face) (g k : Plane) (s a b t : Spot) → IsEdge f (side g s) a → IsEdge f (side k t) b → SameEdge f g k → g ≡ k
@@ -194,7 +194,7 @@ stands_one f g k s a b t e d same =
 
 -- ---- outlines
 -- a corner of one edge that is the corner of another: one point
-corner_one : (f : Face) (g h : Plane) (u v : Spot) → is_on_edge f g u ≡ true → is_on_edge f h v ≡ true → SamePlace u v → IsLowest u → IsLowest v → u ≡ v
+corner_one : (f : Face) (g h : Plane) (u v : Spot) → is_on_edge f g u ≡ true → is_on_edge f h v ≡ true → SamePoint u v → IsLowest u → IsLowest v → u ≡ v
 corner_one f g h u v a b s l m = same_lowest u v (on_edge f g u a).weight (on_edge f h v b).weight s l m
 
 abbrev Lowest : RingEdge → Type 0
@@ -205,7 +205,7 @@ record Led (f : Face) (e : RingEdge) : Type 0 where
   end : Spot
   is_edge : IsEdge f e end
 
-led : (f : Face) (end : Spot) (e : RingEdge) (es : List RingEdge) → IsPath f end (e ∷ es) → Led f e
+led : (f : Face) (end : Spot) (e : RingEdge) (es : List RingEdge) → IsEdgeChain f end (e ∷ es) → Led f e
 led f end e [] p = record { end = end; is_edge = p }
 led f end e (d ∷ es) p = record { end = d.start; is_edge = p.0 }
 
@@ -224,38 +224,38 @@ module _ (f : Face) (first : RingEdge) (first_led : Led f first) (first_lowest :
   Aside es = AllByRecursion (λ d. SameEdge f first.plane d.plane → ⊥) es
 
   -- it doesn't go on where it came back
-  not_on : (e c : RingEdge) (cs : List RingEdge) → IsEdge f e first.start → IsPath f first.start (e ∷ c ∷ cs) → Lowest c → Aside (c ∷ cs) → ⊥
+  not_on : (e c : RingEdge) (cs : List RingEdge) → IsEdge f e first.start → IsEdgeChain f first.start (e ∷ c ∷ cs) → Lowest c → Aside (c ∷ cs) → ⊥
   not_on e c cs a p l aside =
       aside.0 (next_one f e first c a p.0 first_lowest l first_led (led f first.start c cs p.1)).0
 
-  path_one : (e : RingEdge) (ds cs : List RingEdge) → IsPath f first.start (e ∷ ds) → IsPath f first.start (e ∷ cs) → All Lowest ds → All Lowest cs → Aside ds → Aside cs → ds ≡ cs
+  path_one : (e : RingEdge) (ds cs : List RingEdge) → IsEdgeChain f first.start (e ∷ ds) → IsEdgeChain f first.start (e ∷ cs) → All Lowest ds → All Lowest cs → Aside ds → Aside cs → ds ≡ cs
   path_one e [] [] p q l m a b = refl
   path_one e [] (c ∷ cs) p q l m a b = absurd (not_on e c cs p q (All-head Lowest c cs m) b)
   path_one e (d ∷ ds) [] p q l m a b = absurd (not_on e d ds q p (All-head Lowest d ds l) a)
   path_one e (d ∷ ds) (c ∷ cs) p q l m a b =
       let same : d ≡ c = (next_one f e d c p.0 q.0 (All-head Lowest d ds l) (All-head Lowest c cs m) (led f first.start d ds p.1) (led f first.start c cs q.1)).1 in
-      let rest = path_one d ds cs p.1 (subst (λ x. IsPath f first.start (x ∷ cs)) (sym same) q.1) (All-tail Lowest d ds l) (All-tail Lowest c cs m) a.1 b.1 in
+      let rest = path_one d ds cs p.1 (subst (λ x. IsEdgeChain f first.start (x ∷ cs)) (sym same) q.1) (All-tail Lowest d ds l) (All-tail Lowest c cs m) a.1 b.1 in
       λ i. same i ∷ rest i
 
 record Begun (f : Face) (es : List RingEdge) (first : RingEdge) (rest : List RingEdge) : Type 0 where
-  earliest : IsEarliest (λ h. Counts f h) f.edges first.plane
-  round : IsPath f first.start (first ∷ rest)
+  earliest : IsEarliest (λ h. HasEdge f h) f.edges first.plane
+  round : IsEdgeChain f first.start (first ∷ rest)
   aside : AllByRecursion (λ d. SameEdge f first.plane d.plane → ⊥) rest
   lowest : All Lowest (first ∷ rest)
 
 begun : (f : Face) (es : List RingEdge) (o : IsOutline f es) → All Lowest es → Begun f es o.first o.rest
 begun f es o l =
-    record { earliest = o.earliest; round = subst (λ xs. IsPath f o.first.start xs) o.begins o.round; aside = (subst (λ xs. AreApart f xs) o.begins o.once).0; lowest = subst (λ xs. All Lowest xs) o.begins l }
+    record { earliest = o.earliest; round = subst (λ xs. IsEdgeChain f o.first.start xs) o.begins o.round; aside = (subst (λ xs. HaveDistinctEdges f xs) o.begins o.once).0; lowest = subst (λ xs. All Lowest xs) o.begins l }
 
 begun_one : (f : Face) (es cs : List RingEdge) (d c : RingEdge) (ds bs : List RingEdge) → Begun f es d ds → Begun f cs c bs → d ∷ ds ≡ c ∷ bs
 begun_one f es cs d c ds bs a b =
-    let plane = earliest_one (λ h. Counts f h) (λ h. Counts f h) f.edges d.plane c.plane (λ x p. p) (λ x p. p) a.earliest b.earliest in
+    let plane = earliest_one (λ h. HasEdge f h) (λ h. HasEdge f h) f.edges d.plane c.plane (λ x p. p) (λ x p. p) a.earliest b.earliest in
     let p = led f d.start d ds a.round in let q = led f c.start c bs b.round in
     let ld = All-head Lowest d ds a.lowest in let lc = All-head Lowest c bs b.lowest in
     let r : IsEdge f (side d.plane c.start) q.end = subst (λ g. IsEdge f (side g c.start) q.end) (sym plane) q.is_edge in
     let start = corner_one f d.plane d.plane d.start c.start p.is_edge.starts r.starts (same_start f d.plane d.start p.end p.is_edge c.start q.end r) ld lc in
     let same : d ≡ c = λ i. record { plane = plane i; start = start i } in
-    let rest = path_one f d p ld d ds bs a.round (subst (λ x. IsPath f x.start (x ∷ bs)) (sym same) b.round) (All-tail Lowest d ds a.lowest) (All-tail Lowest c bs b.lowest) a.aside (subst (λ x. AllByRecursion (λ h. SameEdge f x.plane h.plane → ⊥) bs) (sym same) b.aside) in
+    let rest = path_one f d p ld d ds bs a.round (subst (λ x. IsEdgeChain f x.start (x ∷ bs)) (sym same) b.round) (All-tail Lowest d ds a.lowest) (All-tail Lowest c bs b.lowest) a.aside (subst (λ x. AllByRecursion (λ h. SameEdge f x.plane h.plane → ⊥) bs) (sym same) b.aside) in
     λ i. same i ∷ rest i
 
 -- a face has one outline with corners in lowest terms

@@ -9,8 +9,6 @@ mod law;
 mod list;
 mod number;
 mod parts;
-#[cfg(test)]
-mod tests;
 
 pub use faces::read_faces;
 pub use fault::RereadFault;

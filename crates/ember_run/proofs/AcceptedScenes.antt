@@ -31,11 +31,11 @@ use Rattle.ember_words.proofs.Limited.{read_limits}
 use Rattle.ember_run.specs.OfScenes.{IsOfScene}
 use Rattle.ember_run.specs.Outputs.{Output, FaceTexts, Counts, MeetingPairs, Lattice, SolidFaces, SolidReport}
 use Rattle.ember_run.specs.Reported.{IsErrText, IsReportIf, IsReportOf, asks_report}
-use Rattle.ember_run.specs.Serves.{IsText}
+use Rattle.ember_run.specs.CallOutcome.{IsText}
 use Rattle.ember_run.specs.declared.status.Status.{Status}
 use Rattle.ember_run.specs.declared.status.Status.TheVariants.{Done, Unbounded, NotClear, Limit}
 use Rattle.ember_run.specs.declared.status.LimitKind.TheVariants.{Bytes, Triangles}
-use Rattle.ember_run.specs.Verdict.{Contents, Verdict, Untold, Refused, Writes, Slices, after_bytes, after_triangles, after_file, after_balance, after_files, after_scene, after_parse, after_given, after_bounded, after_solid, after_clear, told_verdict}
+use Rattle.ember_run.specs.Verdict.{Contents, Verdict, Unknown, Refused, Writes, Slices, after_bytes, after_triangles, after_file, after_balance, after_files, after_scene, after_parse, after_given, after_bounded, after_solid, after_clear, told_verdict}
 use Rattle.ember_run.proofs.NoneLoose.{balanced_if_none}
 use Rattle.ember_run.proofs.OneTexts.{output_one, report_one, slice_one}
 
@@ -59,7 +59,7 @@ mesh_more ts mesh count are valid of balanced = record {
 -- ---- verdicts
 -- the triangles of the output, where the verdict is one, are as a scene gives them
 abbrev HasScene : Verdict → Type 0
-HasScene Untold = ⊤
+HasScene Unknown = ⊤
 HasScene (Refused status) = ⊤
 HasScene (Writes output) = IsOfScene output
 HasScene (Slices at bytes) = ⊤
@@ -142,13 +142,13 @@ words_scene words told = by (command_of words) refl
     by (Some given) e = command_scene given told (read_limits words (Ok given) e)
 
 -- ---- one text
-text_one : (verdict : Verdict) (one other : List ℕ) → HasScene verdict → verdict ≢ Untold → IsText verdict one → IsText verdict other → one ≡ other
-text_one Untold one other s n a b = absurd (n refl)
+text_one : (verdict : Verdict) (one other : List ℕ) → HasScene verdict → verdict ≢ Unknown → IsText verdict one → IsText verdict other → one ≡ other
+text_one Unknown one other s n a b = absurd (n refl)
 text_one (Refused status) one other s n a b = absurd a
 text_one (Writes output) one other s n a b = output_one output one other s a b
 text_one (Slices at bytes) one other s n a b = slice_one at bytes one other a b
 
-pub input_one : (words : List (List ℕ)) (told : List ℕ → Option (List ℕ)) (one other : List ℕ) → told_verdict (command_of words) told ≢ Untold → IsText (told_verdict (command_of words) told) one → IsText (told_verdict (command_of words) told) other → one ≡ other
+pub input_one : (words : List (List ℕ)) (told : List ℕ → Option (List ℕ)) (one other : List ℕ) → told_verdict (command_of words) told ≢ Unknown → IsText (told_verdict (command_of words) told) one → IsText (told_verdict (command_of words) told) other → one ≡ other
 input_one words told one other n a b =
     text_one (told_verdict (command_of words) told) one other (words_scene words told) n a b
 
@@ -162,18 +162,18 @@ line_one (SolidFaces tris formula) one other s a b =
 line_one (SolidReport tris formula) one other s a b = absurd a
 line_one (Lattice tris formula size) one other s a b = absurd a
 
-report_if_one : (asked : Bool) (verdict : Verdict) (one other : List ℕ) → HasScene verdict → verdict ≢ Untold → IsReportIf asked verdict one → IsReportIf asked verdict other → one ≡ other
+report_if_one : (asked : Bool) (verdict : Verdict) (one other : List ℕ) → HasScene verdict → verdict ≢ Unknown → IsReportIf asked verdict one → IsReportIf asked verdict other → one ≡ other
 report_if_one false verdict one other s n a b = a ∙ sym b
-report_if_one true Untold one other s n a b = absurd (n refl)
+report_if_one true Unknown one other s n a b = absurd (n refl)
 report_if_one true (Refused status) one other s n a b = absurd a
 report_if_one true (Writes output) one other s n a b = line_one output one other s a b
 report_if_one true (Slices at bytes) one other s n a b = absurd a
 
-err_text_one : (given : Option Command) (told : List ℕ → Option (List ℕ)) (status : Status) (one other : List ℕ) → HasScene (told_verdict given told) → told_verdict given told ≢ Untold → IsErrText given told status one → IsErrText given told status other → one ≡ other
+err_text_one : (given : Option Command) (told : List ℕ → Option (List ℕ)) (status : Status) (one other : List ℕ) → HasScene (told_verdict given told) → told_verdict given told ≢ Unknown → IsErrText given told status one → IsErrText given told status other → one ≡ other
 err_text_one given told Done one other s n a b =
     report_if_one (asks_report given) (told_verdict given told) one other s n a b
 err_text_one given told status one other s n a b = a ∙ sym b
 
-pub err_one : (words : List (List ℕ)) (told : List ℕ → Option (List ℕ)) (status : Status) (one other : List ℕ) → told_verdict (command_of words) told ≢ Untold → IsErrText (command_of words) told status one → IsErrText (command_of words) told status other → one ≡ other
+pub err_one : (words : List (List ℕ)) (told : List ℕ → Option (List ℕ)) (status : Status) (one other : List ℕ) → told_verdict (command_of words) told ≢ Unknown → IsErrText (command_of words) told status one → IsErrText (command_of words) told status other → one ≡ other
 err_one words told status one other n a b =
     err_text_one (command_of words) told status one other (words_scene words told) n a b

@@ -13,8 +13,8 @@ use Rattle.ember_run.specs.declared.status.Status.{Status}
 use Rattle.ember_run.specs.declared.status.Status.TheVariants.{NotClear}
 use Rattle.ember_run.specs.Outputs.{Counts, counts_text}
 use Rattle.ember_run.specs.Scenes.{MayRead}
-use Rattle.ember_run.specs.Serves.{IsRefusal, IsSameIfTold, IsText, is_refusal}
-use Rattle.ember_run.specs.Verdict.{Contents, Verdict, Untold, Refused, Writes, after_given, after_scene, at_verdict, counts_verdict, first_told}
+use Rattle.ember_run.specs.CallOutcome.{IsRefusal, IsSameIfTold, IsText, is_refusal}
+use Rattle.ember_run.specs.Verdict.{Contents, Verdict, Unknown, Refused, Writes, after_given, after_scene, at_verdict, counts_verdict, first_told}
 use Rattle.ember_run.proofs.Verdicts.{refusal_then, text_then}
 
 -- what the words ask for, over so many meshes
@@ -68,7 +68,7 @@ length_told n [] = refl
 length_told zero (told ∷ more) = ap suc (length_told zero more)
 length_told (suc n) (told ∷ more) = ap suc (length_told n more)
 
-pub at_unread : (point : Spot) (expr : Option (List ℕ)) (places m i : ℕ) (contents : Contents) (formula : Option Formula) → length contents ≡ m → Given expr m formula → MayRead places contents i → at_verdict point expr places (first_told (i - 1) contents) ≡ Untold
+pub at_unread : (point : Spot) (expr : Option (List ℕ)) (places m i : ℕ) (contents : Contents) (formula : Option Formula) → length contents ≡ m → Given expr m formula → MayRead places contents i → at_verdict point expr places (first_told (i - 1) contents) ≡ Unknown
 at_unread point expr places m i contents formula e given unread =
-    subst (λ (n : ℕ). at_for point expr places (first_told (i - 1) contents) n ≡ Untold) (sym (length_told (i - 1) contents ∙ e))
+    subst (λ (n : ℕ). at_for point expr places (first_told (i - 1) contents) n ≡ Unknown) (sym (length_told (i - 1) contents ∙ e))
     (given (λ formula. after_scene places (first_told (i - 1) contents) (counts_verdict point m formula)) ∙ unread (counts_verdict point m formula))

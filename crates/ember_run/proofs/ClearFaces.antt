@@ -12,7 +12,8 @@ use Rattle.ember_model.proofs.ClearPoints.{clear_of_from}
 use Rattle.ember_model.proofs.SignTests.{and_parts}
 use Rattle.ember_law.proofs.Vectors.{axes_law}
 
-clear_faces : (tris : List Tri) (p : Spot) → pos 0 <ℤ p.w → list_all (λ t. is_clear_of t p) tris ≡ true → AreClear (faces_of tris) p
+-- where all triangles pass, so do their faces
+pub clear_faces : (tris : List Tri) (p : Spot) → pos 0 <ℤ p.w → list_all (λ t. is_clear_of t p) tris ≡ true → AreClear (faces_of tris) p
 clear_faces [] p w e = tt
 clear_faces (t ∷ ts) p w e =
     let q = and_parts (is_clear_of t p) (list_all (λ t. is_clear_of t p) ts) e in by (is_flat t) refl (clear_of_from t p w q.0) (clear_faces ts p w q.1)

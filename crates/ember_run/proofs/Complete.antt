@@ -7,9 +7,9 @@ use Rattle.ember_words.specs.declared.command.Command.{Command}
 use Rattle.ember_run.specs.declared.status.Status.{Status}
 use Rattle.ember_run.specs.declared.status.Status.TheVariants.{Done, Words, ReadFault, WriteFault, ObjRefused, MeshRefused, ExprRefused, Unbounded, Limit, NotClear, FaceRefused, OutOfMemory}
 use Rattle.ember_run.specs.Outputs.{Output}
-use Rattle.ember_run.specs.Serves.{AsksOutput, AsksRefusal, IsBegun, IsRefusal, IsWritten, Serves, is_refusal}
+use Rattle.ember_run.specs.CallOutcome.{AsksOutput, AsksRefusal, IsBegun, IsRefusal, IsWritten, IsCallOutcome, is_refusal}
 use Rattle.ember_run.specs.Slices.{IsFaceFault, IsSliceRefusal, IsSliceable}
-use Rattle.ember_run.specs.Verdict.{Verdict, Untold, Refused, Writes, Slices, told_verdict, verdict_before}
+use Rattle.ember_run.specs.Verdict.{Verdict, Unknown, Refused, Writes, Slices, told_verdict, verdict_before}
 use Rattle.ember_run.specs.declared.status.FaceFault.{FaceFault}
 use Rattle.ember_run.proofs.SliceFaults.{one_fault, slice_or_fault, sliceable_or_fault}
 
@@ -78,11 +78,11 @@ fault_or_memory at bytes other R W old new (FaceRefused fault) f o r = inl (ap F
 fault_or_memory at bytes other R W old new OutOfMemory f o r = inr refl
 
 -- ---- any verdict
-output_comes : (v : Verdict) (R W : Type 0) (old new : Option (List ℕ)) (status : Status) → AsksOutput v → Owes v R W old new status → ¬ R → ¬ W → (status ≡ Done) ⊎ (status ≡ OutOfMemory)
-output_comes Untold R W old new status a o r w = absurd a
-output_comes (Refused refusal) R W old new status a o r w = absurd a
-output_comes (Writes output) R W old new status a o r w = output_or_memory output R W old new status o r w
-output_comes (Slices at bytes) R W old new status a o r w = slice_or_memory at bytes R W old new status a o r w
+output_given : (v : Verdict) (R W : Type 0) (old new : Option (List ℕ)) (status : Status) → AsksOutput v → Owes v R W old new status → ¬ R → ¬ W → (status ≡ Done) ⊎ (status ≡ OutOfMemory)
+output_given Unknown R W old new status a o r w = absurd a
+output_given (Refused refusal) R W old new status a o r w = absurd a
+output_given (Writes output) R W old new status a o r w = output_or_memory output R W old new status o r w
+output_given (Slices at bytes) R W old new status a o r w = slice_or_memory at bytes R W old new status a o r w
 
 refused_slice : (at : ℤ) (bytes : List ℕ) (refusal : Status) → IsSliceRefusal at bytes refusal → (fault : FaceFault) × (refusal ≡ FaceRefused fault) × IsFaceFault at bytes fault
 refused_slice at bytes Done a = absurd a
@@ -98,11 +98,11 @@ refused_slice at bytes NotClear a = absurd a
 refused_slice at bytes (FaceRefused fault) a = (fault, refl, a)
 refused_slice at bytes OutOfMemory a = absurd a
 
-refusal_comes : (v : Verdict) (refusal : Status) (R W : Type 0) (old new : Option (List ℕ)) (status : Status) → AsksRefusal refusal v → Owes v R W old new status → ¬ R → (status ≡ refusal) ⊎ (status ≡ OutOfMemory)
-refusal_comes Untold refusal R W old new status a o r = absurd a
-refusal_comes (Refused other) refusal R W old new status a o r = subst (λ (s : Status). (status ≡ s) ⊎ (status ≡ OutOfMemory)) a (refusal_or_memory other R W old new status o r)
-refusal_comes (Writes output) refusal R W old new status a o r = absurd a
-refusal_comes (Slices at bytes) refusal R W old new status a o r =
+refusal_given : (v : Verdict) (refusal : Status) (R W : Type 0) (old new : Option (List ℕ)) (status : Status) → AsksRefusal refusal v → Owes v R W old new status → ¬ R → (status ≡ refusal) ⊎ (status ≡ OutOfMemory)
+refusal_given Unknown refusal R W old new status a o r = absurd a
+refusal_given (Refused other) refusal R W old new status a o r = subst (λ (s : Status). (status ≡ s) ⊎ (status ≡ OutOfMemory)) a (refusal_or_memory other R W old new status o r)
+refusal_given (Writes output) refusal R W old new status a o r = absurd a
+refusal_given (Slices at bytes) refusal R W old new status a o r =
     let f = refused_slice at bytes refusal a in
     subst (λ (s : Status). (status ≡ s) ⊎ (status ≡ OutOfMemory)) (sym f.1) (fault_or_memory at bytes f.0 R W old new status f.2 o r)
 
@@ -110,11 +110,11 @@ refusal_comes (Slices at bytes) refusal R W old new status a o r =
 pub record Rows (command : Option Command) (told : List ℕ → Option (List ℕ)) (shelf_before shelf_now fault_at out_before out_now flushed : ℕ) (old new : Option (List ℕ)) (status : Status) : Type 0 where
   pub done : status ≡ Done → IsWritten (told_verdict command told) old new × IsFlushed new flushed
   pub refused : is_refusal status ≡ true → IsRefusal status (told_verdict command told)
-  pub read_fault : (i : ℕ) → status ≡ ReadFault i → Rose shelf_before shelf_now × (fault_at ≡ i) × (verdict_before i command told ≡ Untold)
+  pub read_fault : (i : ℕ) → status ≡ ReadFault i → Rose shelf_before shelf_now × (fault_at ≡ i) × (verdict_before i command told ≡ Unknown)
   pub write_fault : status ≡ WriteFault → Rose out_before out_now × IsBegun (told_verdict command told) old new
   pub untouched : status ≢ Done → status ≢ WriteFault → new ≡ old
 
-pub served : (command : Option Command) (told : List ℕ → Option (List ℕ)) (a b c d e f : ℕ) (old new : Option (List ℕ)) (status : Status) → Rows command told a b c d e f old new status → Serves command told a b c d e f old new status
+pub served : (command : Option Command) (told : List ℕ → Option (List ℕ)) (a b c d e f : ℕ) (old new : Option (List ℕ)) (status : Status) → Rows command told a b c d e f old new status → IsCallOutcome command told a b c d e f old new status
 served command told a b c d e f old new status rows =
     let owes : Owes (told_verdict command told) (Rose a b) (Rose d e) old new status = record { done = λ p. (rows.done p).0; refused = rows.refused; read_fault = λ i p. (rows.read_fault i p).0; write_fault = rows.write_fault } in
     record {
@@ -123,6 +123,6 @@ served command told a b c d e f old new status rows =
       read_fault = rows.read_fault;
       write_fault = rows.write_fault;
       untouched = rows.untouched;
-      output_comes = λ asks r w. output_comes (told_verdict command told) (Rose a b) (Rose d e) old new status asks owes r w;
-      refusal_comes = λ refusal asks r. refusal_comes (told_verdict command told) refusal (Rose a b) (Rose d e) old new status asks owes r;
+      output_given = λ asks r w. output_given (told_verdict command told) (Rose a b) (Rose d e) old new status asks owes r w;
+      refusal_given = λ refusal asks r. refusal_given (told_verdict command told) refusal (Rose a b) (Rose d e) old new status asks owes r;
     }

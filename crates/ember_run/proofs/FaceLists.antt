@@ -1,6 +1,6 @@
 -- Faces of a list of triangles, one triangle more.
-use Rattle.std.proofs.Common.{◌≡◌, ℕ, ◌+◌, ◌<◌, Bool, true, false, not, List, [], ◌∷◌, ◌++◌, length, take, get_or, map, filter, refl, sym, ap, ◌∙◌, append_assoc, length-append, subst, None, Some, if◌then◌else◌}
-use Rattle.std.proofs.lemmas.List.{take_more, append-nil, length-map}
+use Rattle.std.proofs.Common.{◌≡◌, ℕ, ◌+◌, ◌<◌, ◌≤◌, Bool, true, false, not, List, [], ◌∷◌, ◌++◌, length, take, get_or, map, filter, refl, sym, ap, ◌∙◌, append_assoc, length-append, subst, None, Some, if◌then◌else◌}
+use Rattle.std.proofs.lemmas.List.{take_all, take_more, append-nil, length-map}
 use Rattle.ember_algebra.specs.Relations.{Each, none, more}
 use Rattle.ember_algebra.proofs.Relations.{each_append}
 use Rattle.ember_model.specs.declared.tri.Tri.{Tri}
@@ -43,14 +43,19 @@ all_texts ts bytes count h =
       is = ap (λ (front : List ℕ). front ++ ending count) h.is ∙ append_assoc header h.texts (ending count) ∙ ap (λ (n : ℕ). header ++ (h.texts ++ ending n)) (sym h.count_is);
     }
 
-pub face_file : (ts : List Tri) (bytes : List ℕ) (count : ℕ) → HasTexts ts bytes count → IsFaceFileOf ts (bytes ++ ending count)
-face_file ts bytes count h =
+ended : (ts : List Tri) (bytes : List ℕ) (count : ℕ) → HasTexts ts bytes count → IsFaceFileOf ts (bytes ++ ending count)
+ended ts bytes count h =
     let r = h.read_back in
     let number : count ≡ length r.written = sym h.count_is ∙ ap (λ (fs : List Face). length fs) r.faces ∙ length-map r.written written_face in
     record {
       text = all_texts ts bytes count h;
       reads_back = record { written = r.written; well_formed = r.well_formed; is = (λ i. h.is i ++ ending (number i)) ∙ ap (λ (x : List ℕ). header ++ x ++ ending (length r.written)) r.is; faces = r.faces };
+      outlined = r.outlined;
     }
+
+pub face_file : (ts : List Tri) (i : ℕ) (bytes file : List ℕ) (count : ℕ) → length ts ≤ i → HasTexts (take i ts) bytes count → file ≡ bytes ++ ending count → IsFaceFileOf ts file
+face_file ts i bytes file count l h e =
+    subst (λ (file : List ℕ). IsFaceFileOf ts file) (sym e) (ended ts bytes count (subst (λ (ts : List Tri). HasTexts ts bytes count) (take_all i ts l) h))
 
 -- ---- one triangle
 none_flat : (b : Bool) (f : Face) → None ≡ (if b then None else Some f) → b ≡ true

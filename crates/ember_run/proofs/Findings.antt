@@ -1,4 +1,4 @@
--- What the leaves below a root give is what a task asks for.
+-- What the leaves below a root give is what a query asks for.
 use Rattle.std.proofs.Common.{◌≡◌, ◌≤◌, ℕ, List, Vec, Global, Bor, sym, subst}
 use Rattle.ember_box.specs.Boxes as boxes
 use Rattle.ember_expr.specs.declared.formula.Tree.{Tree}
@@ -17,38 +17,38 @@ use Rattle.ember_voxel.specs.Fills.{IsFill}
 use Rattle.ember_voxel.specs.Lattice as lattice
 use Rattle.ember_step.specs.Counts.{IsCount}
 use Rattle.ember_job.specs.Items.{EachAnswers}
-use Rattle.ember_run.specs.declared.task.Finds.TheVariants as finds
-use Rattle.ember_run.specs.declared.task.Found.{Found}
-use Rattle.ember_run.specs.declared.task.Task.{Task}
-use Rattle.ember_run.specs.declared.task.Task.TheVariants as task
+use Rattle.ember_run.specs.declared.query.Answer.TheVariants as finds
+use Rattle.ember_run.specs.declared.query.RunResult.{RunResult}
+use Rattle.ember_run.specs.declared.query.Query.{Query}
+use Rattle.ember_run.specs.declared.query.Query.TheVariants as query
 use Rattle.ember_run.specs.Runs.{HoldEntries}
 use Rattle.ember_run.specs.Solids.{IsWrittenAt}
-use Rattle.ember_run.specs.Tasks.{IsFound, IsTask}
+use Rattle.ember_run.specs.Queries.{IsAnswer, IsQuery}
 use Rattle.ember_run.proofs.SceneVerdicts.{root_is_valid}
 
-pub pairs_found : (asked : Task) (scene : Bor Scene) (root : Job) (items : Vec (List Pair) Global) → asked ≡ task.Pairs scene → root ≡ job_at scene.now.tris boxes.root → EachAnswers (λ job ps. AreMeetingPairs scene.now.tris job.list ps) (leaves (λ job. pairs_shape scene.now.tris job) root) items.items → IsFound asked (finds.Pairs items)
+pub pairs_found : (asked : Query) (scene : Bor Scene) (root : Job) (items : Vec (List Pair) Global) → asked ≡ query.Pairs scene → root ≡ job_at scene.now.tris boxes.root → EachAnswers (λ job ps. AreMeetingPairs scene.now.tris job.list ps) (leaves (λ job. pairs_shape scene.now.tris job) root) items.items → IsAnswer asked (finds.Pairs items)
 pairs_found asked scene root items e f are =
-    subst (λ (asked : Task). IsFound asked (finds.Pairs items)) (sym e) (subst (λ (root : Job). EachAnswers (λ job ps. AreMeetingPairs scene.now.tris job.list ps) (leaves (λ job. pairs_shape scene.now.tris job) root) items.items) f are)
+    subst (λ (asked : Query). IsAnswer asked (finds.Pairs items)) (sym e) (subst (λ (root : Job). EachAnswers (λ job ps. AreMeetingPairs scene.now.tris job.list ps) (leaves (λ job. pairs_shape scene.now.tris job) root) items.items) f are)
 
-pub fills_root : (asked : Task) (scene : Bor Scene) (expr : Bor Tree) (size : ℕ) (root : Job) → IsTask asked → asked ≡ task.Fills scene expr size → root ≡ root_job scene.now.tris → lattice.IsVoxelJob scene.now.tris size root
+pub fills_root : (asked : Query) (scene : Bor Scene) (expr : Bor Tree) (size : ℕ) (root : Job) → IsQuery asked → asked ≡ query.Fills scene expr size → root ≡ root_job scene.now.tris → lattice.IsVoxelJob scene.now.tris size root
 fills_root asked scene expr size root may e f =
-    let sized : (4 ≤ size) × (size ≤ 12) = subst IsTask e may in
+    let sized : (4 ≤ size) × (size ≤ 12) = subst IsQuery e may in
     root_is_valid scene.now size root sized.1 f
 
-pub fills_found : (asked : Task) (scene : Bor Scene) (expr : Bor Tree) (size : ℕ) (root : Job) (fills : Vec Fill Global) → asked ≡ task.Fills scene expr size → root ≡ root_job scene.now.tris → EachAnswers (IsFill (formula_of expr.now)) (leaves (lattice.shape scene.now.tris (formula_of expr.now) size) root) fills.items → IsFound asked (finds.Fills fills)
+pub fills_found : (asked : Query) (scene : Bor Scene) (expr : Bor Tree) (size : ℕ) (root : Job) (fills : Vec Fill Global) → asked ≡ query.Fills scene expr size → root ≡ root_job scene.now.tris → EachAnswers (IsFill (formula_of expr.now)) (leaves (lattice.shape scene.now.tris (formula_of expr.now) size) root) fills.items → IsAnswer asked (finds.Fills fills)
 fills_found asked scene expr size root fills e f are =
-    subst (λ (asked : Task). IsFound asked (finds.Fills fills)) (sym e) (subst (λ (root : Job). EachAnswers (IsFill (formula_of expr.now)) (leaves (lattice.shape scene.now.tris (formula_of expr.now) size) root) fills.items) f are)
+    subst (λ (asked : Query). IsAnswer asked (finds.Fills fills)) (sym e) (subst (λ (root : Job). EachAnswers (IsFill (formula_of expr.now)) (leaves (lattice.shape scene.now.tris (formula_of expr.now) size) root) fills.items) f are)
 
-pub kept_found : (asked : Task) (scene : Bor Scene) (expr : Bor Tree) (root : Job) (found : Found (List Kept)) → asked ≡ task.Kept scene expr → root ≡ root_job scene.now.tris → EachAnswers (IsWrittenAt scene.now.tris (formula_of expr.now)) (leaves (values.shape scene.now.tris (formula_of expr.now)) root) found.items.items → HoldEntries (values.shape scene.now.tris (formula_of expr.now)) root found.journals → IsFound asked (finds.Kept found)
+pub kept_found : (asked : Query) (scene : Bor Scene) (expr : Bor Tree) (root : Job) (found : RunResult (List Kept)) → asked ≡ query.Kept scene expr → root ≡ root_job scene.now.tris → EachAnswers (IsWrittenAt scene.now.tris (formula_of expr.now)) (leaves (values.shape scene.now.tris (formula_of expr.now)) root) found.items.items → HoldEntries (values.shape scene.now.tris (formula_of expr.now)) root found.journals → IsAnswer asked (finds.Kept found)
 kept_found asked scene expr root found e f are holds =
-    subst (λ (asked : Task). IsFound asked (finds.Kept found)) (sym e) (
+    subst (λ (asked : Query). IsAnswer asked (finds.Kept found)) (sym e) (
       subst (λ (root : Job). EachAnswers (IsWrittenAt scene.now.tris (formula_of expr.now)) (leaves (values.shape scene.now.tris (formula_of expr.now)) root) found.items.items) f are,
       subst (λ (root : Job). HoldEntries (values.shape scene.now.tris (formula_of expr.now)) root found.journals) f holds,
     )
 
-pub counts_found : (asked : Task) (scene : Bor Scene) (expr : Bor Tree) (root : Job) (found : Found ℕ) → asked ≡ task.Counts scene expr → root ≡ root_job scene.now.tris → EachAnswers (λ job n. IsCount (IsWrittenAt scene.now.tris (formula_of expr.now) job) n) (leaves (values.shape scene.now.tris (formula_of expr.now)) root) found.items.items → HoldEntries (values.shape scene.now.tris (formula_of expr.now)) root found.journals → IsFound asked (finds.Counts found)
+pub counts_found : (asked : Query) (scene : Bor Scene) (expr : Bor Tree) (root : Job) (found : RunResult ℕ) → asked ≡ query.Counts scene expr → root ≡ root_job scene.now.tris → EachAnswers (λ job n. IsCount (IsWrittenAt scene.now.tris (formula_of expr.now) job) n) (leaves (values.shape scene.now.tris (formula_of expr.now)) root) found.items.items → HoldEntries (values.shape scene.now.tris (formula_of expr.now)) root found.journals → IsAnswer asked (finds.Counts found)
 counts_found asked scene expr root found e f are holds =
-    subst (λ (asked : Task). IsFound asked (finds.Counts found)) (sym e) (
+    subst (λ (asked : Query). IsAnswer asked (finds.Counts found)) (sym e) (
       subst (λ (root : Job). EachAnswers (λ job n. IsCount (IsWrittenAt scene.now.tris (formula_of expr.now) job) n) (leaves (values.shape scene.now.tris (formula_of expr.now)) root) found.items.items) f are,
       subst (λ (root : Job). HoldEntries (values.shape scene.now.tris (formula_of expr.now)) root found.journals) f holds,
     )

@@ -15,9 +15,11 @@ pub mod ReadBack
 pub mod FaceLists
 pub mod CanonicalWords
 pub mod OneReading
+pub mod ClosedMeshes
 pub mod SolidFiles
 pub mod SliceFaults
 pub mod Complete
 pub mod OneTexts
 pub mod NoneLoose
 pub mod AcceptedScenes
+pub mod OneSolid

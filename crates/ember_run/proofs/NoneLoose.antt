@@ -5,7 +5,7 @@ use Rattle.std.proofs.lemmas.Bool.{ltb-true, ltb-false}
 use Rattle.ember_balance.specs.Loose.{is_loose, least_of, loose_of}
 use Rattle.ember_balance.proofs.Edges.{member_from_times}
 use Rattle.ember_model.specs.declared.tri.Tri.{Tri}
-use Rattle.ember_model.specs.Meshes.{Edge, reversed, edges_in, times, IsBalanced}
+use Rattle.ember_model.specs.Meshes.{Edge, reversed, edges_in, edge_count, IsBalanced}
 use Rattle.ember_model.proofs.SignTests.{clash, In}
 
 -- a member that passes a test is left
@@ -23,14 +23,14 @@ none_least es [] h = refl
 none_least es (f ∷ fs) h = cc
 
 module _ (ts : List Tri) (none : least_of (edges_in ts) (filter (is_loose (edges_in ts)) (edges_in ts)) ≡ None) where
-  at_most : (e : Edge) → times e (edges_in ts) ≤ times (reversed e) (edges_in ts)
+  at_most : (e : Edge) → edge_count e (edges_in ts) ≤ edge_count (reversed e) (edges_in ts)
   at_most e = by (is_loose (edges_in ts) e) refl
     where
-      by : (b : Bool) → is_loose (edges_in ts) e ≡ b → times e (edges_in ts) ≤ times (reversed e) (edges_in ts)
+      by : (b : Bool) → is_loose (edges_in ts) e ≡ b → edge_count e (edges_in ts) ≤ edge_count (reversed e) (edges_in ts)
       by true q =
-          let less = ltb-true (times (reversed e) (edges_in ts)) (times e (edges_in ts)) q in
+          let less = ltb-true (edge_count (reversed e) (edges_in ts)) (edge_count e (edges_in ts)) q in
           absurd (some_pass (is_loose (edges_in ts)) e (edges_in ts) q (member_from_times e (edges_in ts) (omega (arith, less))) (none_least (edges_in ts) (filter (is_loose (edges_in ts)) (edges_in ts)) none))
-      by false q = ltb-false (times (reversed e) (edges_in ts)) (times e (edges_in ts)) q
+      by false q = ltb-false (edge_count (reversed e) (edges_in ts)) (edge_count e (edges_in ts)) q
 
   none_loose : IsBalanced ts
   none_loose e = let there = at_most e in let back = at_most (reversed e) in omega (arith, there, back)

@@ -6,8 +6,8 @@ use Rattle.std.specs.Borrow.{Bor}
 use Rattle.std.specs.Io.KnownBytes.{Appends}
 use Rattle.ember_io.specs.Causes.{Rose}
 use Rattle.ember_io.specs.Sinks.{AppendsPrefix}
-use Rattle.ember_io.proofs.Known.{Appends-append}
-use Rattle.ember_run.specs.Said.{Says}
+use Rattle.ember_io.proofs.ToldBytes.{Appends-append}
+use Rattle.ember_run.specs.Messages.{AppendsUntilFault}
 
 abbrev pub flat : List (Bor (List ℕ)) → List ℕ
 flat pieces = flat_map {X = Bor (List ℕ)} {A = ℕ} (λ p. p.now) pieces
@@ -24,7 +24,7 @@ pub rose_later : (a b c : ℕ) → a ≤ b → Rose b c → Rose a c
 rose_later a b c l r = omega (arith, l, r)
 
 pub piece_stopped : (a b c : ℕ) (old mid new : Option (List ℕ)) (pieces : List (Bor (List ℕ))) (i : ℕ) (d : Bor (List ℕ)) (text front : List ℕ) → a ≤ b → b ≤ c → Rose b c → i < length pieces → text ≡ front ++ flat (drop i pieces) → Appends old mid front → AppendsPrefix mid new (get_or pieces i d).now
-    → Says a c old new text
+    → AppendsUntilFault a c old new text
 piece_stopped a b c old mid new pieces i d text front l m r h e p q =
     let more = flat (drop (i + 1) pieces) in
     let x = q.0 in let y = q.1 in

@@ -7,7 +7,7 @@ use Rattle.ember_algebra.specs.Size.{Small}
 use Rattle.ember_algebra.proofs.Laws.{linear}
 use Rattle.ember_expr.specs.Truth.{AreCounts}
 use Rattle.ember_law.specs.Counts.{added}
-use Rattle.ember_law.proofs.Grown.{all_within}
+use Rattle.ember_law.proofs.CountBounds.{all_within}
 use Rattle.ember_model.specs.declared.point.Axis.{Axis}
 use Rattle.ember_model.specs.declared.point.Spot.{Spot}
 use Rattle.ember_model.specs.declared.tri.Tri.{Tri}

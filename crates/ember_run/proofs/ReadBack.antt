@@ -4,17 +4,20 @@ use Rattle.std.proofs.lemmas.List.{append-nil, map-append}
 use Rattle.std.proofs.lemmas.List.Concat.{flat_map-cons}
 use Rattle.std.proofs.lemmas.List.Elements.{All-append, All-cons, All-nil}
 use Rattle.std.proofs.lemmas.Grind.{flat_map-append}
+use Rattle.ember_chain.specs.Chains.{IsOutlined}
+use Rattle.ember_leaf.proofs.TriFaces.{has_inside}
 use Rattle.ember_model.specs.declared.tri.Tri.{Tri}
 use Rattle.ember_model.specs.declared.face.Face.{Face}
 use Rattle.ember_model.specs.Planes.{support_of}
 use Rattle.ember_model.specs.Faces.{is_flat, face_of}
 use Rattle.ember_model.specs.FaceFiles.{WrittenFace, IsWrittenFace}
+use Rattle.ember_poly.proofs.OwnOutline.{outline_is_its_own}
 use Rattle.ember_poly.proofs.TriangleOutline.{triangle_outline}
 use Rattle.ember_text.specs.Texts.{IsGoodText}
 use Rattle.ember_run.specs.FaceTexts.{ReadsBack, written_lines, written_face}
 
 pub nothing_back : ReadsBack [] []
-nothing_back = record { written = []; well_formed = All-nil IsWrittenFace; is = refl; faces = refl }
+nothing_back = record { written = []; well_formed = All-nil IsWrittenFace; is = refl; faces = refl; outlined = All-nil IsOutlined }
 
 pub triangle_back : (t : Tri) (text : List ℕ) → is_flat t ≡ false → IsGoodText (face_of t) text → ReadsBack (face_of t ∷ []) text
 unfolding face_of
@@ -26,6 +29,7 @@ triangle_back t text e g =
       well_formed = All-cons IsWrittenFace w [] g.written (All-nil IsWrittenFace);
       is = g.text_is.is ∙ sym (append-nil (written_lines w)) ∙ sym (flat_map-cons written_lines w []);
       faces = λ i. record { support = support_of t; edges = sym q i } ∷ [];
+      outlined = All-cons IsOutlined w [] (outline_is_its_own (face_of t) g.text_is.outline (has_inside t e) g.text_is.is_outline) (All-nil IsOutlined);
     }
 
 pub join_back : {fs gs : List Face} {x y : List ℕ} → ReadsBack fs x → ReadsBack gs y → ReadsBack (fs ++ gs) (x ++ y)
@@ -35,4 +39,5 @@ join_back p q =
       well_formed = All-append IsWrittenFace p.written q.written p.well_formed q.well_formed;
       is = (λ i. p.is i ++ q.is i) ∙ sym (flat_map-append written_lines p.written q.written);
       faces = (λ i. p.faces i ++ q.faces i) ∙ sym (map-append written_face p.written q.written);
+      outlined = All-append IsOutlined p.written q.written p.outlined q.outlined;
     }

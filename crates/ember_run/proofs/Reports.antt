@@ -30,7 +30,7 @@ few_below shape (suc n) job = few_shape shape n (few_below shape n) job (shape j
 
 few_visited : (shape : Job → Shape) (root : Job) → root.cell ≡ boxes.root → length (visited shape root) ≤ 137438953471
 few_visited shape root e =
-    let n : boxes.left root.cell ≡ 36 = ap boxes.left e in
+    let n : boxes.halvings_left root.cell ≡ 36 = ap boxes.halvings_left e in
     subst (λ (n : ℕ). length (visited_within shape n root) ≤ 137438953471) (sym n) (few_below shape 36 root)
 
 -- ---- counts of entries are weights

@@ -14,9 +14,9 @@ use Rattle.ember_model.specs.declared.tri.Tri.{Tri}
 use Rattle.ember_run.specs.declared.status.Status.{Status}
 use Rattle.ember_run.specs.declared.status.LimitKind.TheVariants.{Triangles}
 use Rattle.ember_run.specs.declared.status.Status.TheVariants.{MeshRefused, Limit}
-use Rattle.ember_run.specs.Serves.{IsRefusal, IsSameIfTold, is_refusal}
+use Rattle.ember_run.specs.CallOutcome.{IsRefusal, IsSameIfTold, is_refusal}
 use Rattle.ember_run.specs.Scenes.{HasParts, MayRead}
-use Rattle.ember_run.specs.Verdict.{Contents, Verdict, Untold, after_balance, after_file, after_files, after_mesh, after_scene, after_total, first_told}
+use Rattle.ember_run.specs.Verdict.{Contents, Verdict, Unknown, after_balance, after_file, after_files, after_mesh, after_scene, after_total, first_told}
 use Rattle.ember_run.proofs.Verdicts.{same_self, same_then, refusal_then, untold_then, above}
 
 -- ---- one mesh
@@ -96,8 +96,8 @@ pub part_unread : (places : ℕ) (told : List ℕ → Option (List ℕ)) (files 
 part_unread places told files k number i parts l h e q next =
     let r = first_contents told files k l in
     let n : i - 1 ≡ k = omega (arith, e, q) in
-    subst (λ (n : ℕ). after_scene places (first_told n (map told files)) next ≡ Untold) (sym n)
-    (subst (λ (contents : Contents). after_scene places contents next ≡ Untold) (sym r.1)
+    subst (λ (n : ℕ). after_scene places (first_told n (map told files)) next ≡ Unknown) (sym n)
+    (subst (λ (contents : Contents). after_scene places contents next ≡ Unknown) (sym r.1)
     (untold_then _ _ (h.same (None ∷ r.0) next) refl))
 
 -- ---- all files

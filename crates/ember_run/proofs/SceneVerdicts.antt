@@ -23,8 +23,8 @@ use Rattle.ember_run.specs.Lattices.{AreFills, IsLatticeText}
 use Rattle.ember_run.specs.Outputs.{Lattice, MeetingPairs}
 use Rattle.ember_run.specs.PairLists.{ArePairsOfLeaves, IsPairsText}
 use Rattle.ember_run.specs.Scenes.{MayRead}
-use Rattle.ember_run.specs.Serves.{IsRefusal, IsSameIfTold, IsText}
-use Rattle.ember_run.specs.Verdict.{Contents, Verdict, Untold, Writes, after_expr, after_scene, first_told, pairs_verdict, voxels_verdict}
+use Rattle.ember_run.specs.CallOutcome.{IsRefusal, IsSameIfTold, IsText}
+use Rattle.ember_run.specs.Verdict.{Contents, Verdict, Unknown, Writes, after_expr, after_scene, first_told, pairs_verdict, voxels_verdict}
 use Rattle.ember_run.proofs.Verdicts.{text_then}
 
 -- these triangles were read
@@ -74,7 +74,7 @@ length_told n [] = refl
 length_told zero (told ∷ more) = ap suc (length_told zero more)
 length_told (suc n) (told ∷ more) = ap suc (length_told n more)
 
-pub scene_unread : (after : ℕ → (Formula → Verdict) → Verdict) (places m i : ℕ) (contents : Contents) (formula : Formula) (next : Formula → List Tri → Verdict) → length contents ≡ m → ExprRead after m formula → MayRead places contents i → after (length (first_told (i - 1) contents)) (λ formula. after_scene places (first_told (i - 1) contents) (next formula)) ≡ Untold
+pub scene_unread : (after : ℕ → (Formula → Verdict) → Verdict) (places m i : ℕ) (contents : Contents) (formula : Formula) (next : Formula → List Tri → Verdict) → length contents ≡ m → ExprRead after m formula → MayRead places contents i → after (length (first_told (i - 1) contents)) (λ formula. after_scene places (first_told (i - 1) contents) (next formula)) ≡ Unknown
 scene_unread after places m i contents formula next count given unread =
     after_read after places m (first_told (i - 1) contents) (length_told (i - 1) contents ∙ count) formula (λ formula. after_scene places (first_told (i - 1) contents) (next formula)) given ∙ unread (next formula)
 

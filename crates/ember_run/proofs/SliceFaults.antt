@@ -10,7 +10,7 @@ use Rattle.ember_model.specs.declared.plane.Plane.{Plane}
 use Rattle.ember_model.specs.declared.point.Spot.{Spot}
 use Rattle.ember_model.proofs.SignTests.{and_parts, clash, negative_out}
 use Rattle.ember_slice.specs.Lines.{IsFlat, ahead, is_before, is_on_line}
-use Rattle.ember_slice.specs.Segments.{Directed, Gives, GivesNone, GoesBack, GoesOn, IsEndless, IsFirstEndless, IsSegment, IsSliceText, is_cut}
+use Rattle.ember_slice.specs.Segments.{Directed, GivesSegments, GivesNone, IsUnboundedBack, IsUnboundedAhead, IsEndless, IsFirstEndless, IsSegment, IsSliceText, is_cut}
 use Rattle.ember_slice.proofs.Along.{ahead_turned, on_line_in, square, square_above}
 use Rattle.ember_slice.proofs.Bounds.{cut_line}
 use Rattle.ember_run.specs.declared.status.FaceFault.{FaceFault}
@@ -32,7 +32,7 @@ point_on n at t =
           }),
     )
 
-beyond : (f : Face) (at : ℤ) (v : Spot) → is_on_line f.support at v ≡ true → GoesOn f at ⊎ GoesBack f at → (p : Spot) × (is_cut f at p ≡ true)
+beyond : (f : Face) (at : ℤ) (v : Spot) → is_on_line f.support at v ≡ true → IsUnboundedAhead f at ⊎ IsUnboundedBack f at → (p : Spot) × (is_cut f at p ≡ true)
 beyond f at v on (inl goes) = let p = goes v on in (p.0, p.1)
 beyond f at v on (inr goes) = let p = goes v on in (p.0, p.1)
 
@@ -44,7 +44,7 @@ none_ends : (f : Face) (at : ℤ) → IsEndless f at → GivesNone f at → ⊥
 none_ends f at h (inl flat) = h.tilted flat
 none_ends f at h (inr empty) = let v = point_on f.support at h.tilted in let p = beyond f at v.0 v.1 h.unbounded in clash p.1 (empty p.0)
 
-segment_ends : (f : Face) (at : ℤ) (u v : Spot) → GoesOn f at ⊎ GoesBack f at → IsSegment f at u v → ⊥
+segment_ends : (f : Face) (at : ℤ) (u v : Spot) → IsUnboundedAhead f at ⊎ IsUnboundedBack f at → IsSegment f at u v → ⊥
 segment_ends f at u v (inl goes) s =
     let p = goes v s.last in
     let b = and_parts (is_before f.support u p.0) (is_before f.support p.0 v) (sym (s.between p.0 (cut_line f at p.0 p.1)) ∙ p.1) in not_both f.support v p.0 p.2 b.1
@@ -52,7 +52,7 @@ segment_ends f at u v (inr goes) s =
     let p = goes u s.first in
     let b = and_parts (is_before f.support u p.0) (is_before f.support p.0 v) (sym (s.between p.0 (cut_line f at p.0 p.1)) ∙ p.1) in not_both f.support u p.0 b.0 p.2
 
-gives_ends : (f : Face) (at : ℤ) (ss : List Directed) → IsEndless f at → Gives at f ss → ⊥
+gives_ends : (f : Face) (at : ℤ) (ss : List Directed) → IsEndless f at → GivesSegments at f ss → ⊥
 gives_ends f at [] h g = none_ends f at h g
 gives_ends f at (s ∷ []) h g = segment_ends f at s.first s.last h.unbounded g
 gives_ends f at (s ∷ t ∷ ss) h g = g
@@ -83,22 +83,22 @@ compare_nat (suc m) (suc n) = by (compare_nat m n)
 same_some : {X : Type 0} (x y : X) → Some x ≡ Some y → x ≡ y
 same_some {X = X} x y e = ap (λ (o : Option X). or_else o x) e
 
-each_at : (at : ℤ) (fs : List Face) (ss : List Directed) (i : ℕ) (f : Face) → Each (Gives at) fs ss → slice_get fs i ≡ Some f → (own : List Directed) × Gives at f own
+each_at : (at : ℤ) (fs : List Face) (ss : List Directed) (i : ℕ) (f : Face) → Each (GivesSegments at) fs ss → slice_get fs i ≡ Some f → (own : List Directed) × GivesSegments at f own
 each_at at [] ss i f h e = absurd (no_some e)
-each_at at (g ∷ fs) _ zero f (more {ys = ys} r rs) e = (ys, subst (λ (f : Face). Gives at f ys) (same_some g f e) r)
+each_at at (g ∷ fs) _ zero f (more {ys = ys} r rs) e = (ys, subst (λ (f : Face). GivesSegments at f ys) (same_some g f e) r)
 each_at at (g ∷ fs) _ (suc i) f (more {zs = zs} r rs) e = each_at at fs zs i f rs e
 
 slice_ends : (at : ℤ) (fs : List Face) (text : List ℕ) (n : ℕ) → IsSliceText fs at text → IsFirstEndless fs at n → ⊥
 slice_ends at fs text n t h =
-    let g = each_at at fs t.segments h.place h.face t.are_segments h.here in gives_ends h.face at g.0 h.endless g.1
+    let g = each_at at fs t.segments h.index h.face t.are_segments h.here in gives_ends h.face at g.0 h.endless g.1
 
 same_number : (at : ℤ) (fs : List Face) (m n : ℕ) → IsFirstEndless fs at m → IsFirstEndless fs at n → m ≡ n
-same_number at fs m n h k = by (compare_nat h.place k.place)
+same_number at fs m n h k = by (compare_nat h.index k.index)
   where
-    by : (h.place ≡ k.place) ⊎ ((h.place < k.place) ⊎ (k.place < h.place)) → m ≡ n
+    by : (h.index ≡ k.index) ⊎ ((h.index < k.index) ⊎ (k.index < h.index)) → m ≡ n
     by (inl e) = h.number ∙ ap (λ (i : ℕ). i + 1) e ∙ sym k.number
-    by (inr (inl l)) = absurd (k.earliest h.place h.face l h.here h.endless)
-    by (inr (inr l)) = absurd (h.earliest k.place k.face l k.here k.endless)
+    by (inr (inl l)) = absurd (k.earliest h.index h.face l h.here h.endless)
+    by (inr (inr l)) = absurd (h.earliest k.index k.face l k.here k.endless)
 
 -- ---- what a file gives
 pub slice_or_fault : (at : ℤ) (bytes text : List ℕ) (fault : FaceFault) → IsSlice at bytes text → IsFaceFault at bytes fault → ⊥

@@ -4,7 +4,7 @@ use Rattle.std.specs.declared.option.Option.{Option}
 use Rattle.ember_reread.specs.declared.fault.RereadFault.{RereadFault}
 use Rattle.ember_reread.specs.declared.fault.RereadFault.TheVariants.{Form, OutOfMemory}
 use Rattle.ember_run.specs.declared.status.Status.{Status}
-use Rattle.ember_run.specs.Serves.{IsRefusal, IsSameIfTold, IsText, is_refusal}
+use Rattle.ember_run.specs.CallOutcome.{IsRefusal, IsSameIfTold, IsText, is_refusal}
 use Rattle.ember_run.specs.Slices.{IsSlice, IsSliceRefusal}
 use Rattle.ember_run.specs.Verdict.{Verdict, Slices, after_bytes, slice_verdict}
 use Rattle.ember_run.proofs.Verdicts.{refusal_then, text_then}

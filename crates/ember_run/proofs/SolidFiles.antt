@@ -1,6 +1,7 @@
--- The file of a solid: the faces that are read back from it have the meaning.
+-- The file of a solid: the faces that are read back from it have the meaning, and are closed.
 use Rattle.std.proofs.Common.{◌≡◌, ℕ, Bool, true, false, List, [], pos, Result, Ok, Err, refl, subst}
 use Rattle.std.specs.Prelude.{if◌then◌else◌, replicate}
+use Rattle.ember_chain.specs.Chains.{IsClosedSurface}
 use Rattle.ember_expr.specs.declared.fault.ExprFault.{ExprFault}
 use Rattle.ember_expr.specs.Formula.{Formula}
 use Rattle.ember_expr.specs.Grammar.{expr_of}
@@ -9,18 +10,20 @@ use Rattle.ember_meaning.specs.Meaning.{HaveMeaning, IsFalseOutside}
 use Rattle.ember_meaning.proofs.ReadFaces.{document_reads}
 use Rattle.ember_model.specs.declared.face.Face.{Face}
 use Rattle.ember_model.specs.declared.scene.Scene.{Scene}
+use Rattle.ember_model.specs.FaceFiles.{WrittenFace}
+use Rattle.ember_reread.proofs.OneReading.{face_file_is_read_once}
 use Rattle.ember_run.specs.declared.status.Status.TheVariants.{ExprRefused, Unbounded}
 use Rattle.ember_run.specs.Outputs.{SolidFaces}
 use Rattle.ember_run.specs.Solids.{IsSolidFile, IsSolidText}
-use Rattle.ember_run.specs.Verdict.{Verdict, Untold, Refused, Writes, after_bounded, after_parse, after_solid}
+use Rattle.ember_run.specs.Verdict.{Verdict, Unknown, Refused, Writes, after_bounded, after_parse, after_solid}
 use Rattle.ember_run.proofs.OneReading.{one_reading}
 use Rattle.ember_run.proofs.SceneVerdicts.{ExprRead}
 
 -- ---- an expression that is given is false outside
 given_bounded : (formula given : Formula) (b : Bool) → truth (replicate 64 (pos 0)) given ≡ b → ((next : Formula → Verdict) → (if b then Refused Unbounded else next given) ≡ next formula) → IsFalseOutside formula
-given_bounded formula given true e read = absurd (clash (read (λ f. Untold)))
+given_bounded formula given true e read = absurd (clash (read (λ f. Unknown)))
   where
-    clash : Refused Unbounded ≡ Untold → ⊥
+    clash : Refused Unbounded ≡ Unknown → ⊥
     clash q = cc
 given_bounded formula given false e read =
     subst (λ (f : Formula). truth (replicate 64 (pos 0)) f ≡ false) (same (read (λ f. Writes (SolidFaces [] f)))) e
@@ -32,9 +35,9 @@ false_outside : (text : List ℕ) (m : ℕ) (formula : Formula) → ExprRead (af
 false_outside text m formula read = by (expr_of text m) read
   where
     by : (parsed : Result Formula ExprFault) → ((next : Formula → Verdict) → after_parse parsed (λ f. after_bounded f (next f)) ≡ next formula) → IsFalseOutside formula
-    by (Err fault) read = absurd (clash (read (λ f. Untold)))
+    by (Err fault) read = absurd (clash (read (λ f. Unknown)))
       where
-        clash : Refused (ExprRefused fault) ≡ Untold → ⊥
+        clash : Refused (ExprRefused fault) ≡ Unknown → ⊥
         clash q = cc
     by (Ok given) read = given_bounded formula given (truth (replicate 64 (pos 0)) given) refl read
 
@@ -42,4 +45,9 @@ false_outside text m formula read = by (expr_of text m) read
 pub solid_file : (text : List ℕ) (m : ℕ) (formula : Formula) (scene : Scene) (bytes : List ℕ) → ExprRead (after_solid text) m formula → IsSolidText scene.tris formula bytes → IsSolidFile scene.tris formula bytes
 solid_file text m formula scene bytes read is =
     let r = document_reads scene.tris scene.meshes formula is.kept bytes scene.kept is.solid.written (false_outside text m formula read) is.text in
-    record { text = is; reads = r; means = λ faces f. subst (λ (faces : List Face). HaveMeaning scene.tris formula faces) (one_reading bytes r.faces faces r.read f) r.meaning }
+    record {
+      text = is;
+      reads = r;
+      means = λ faces f. subst (λ (faces : List Face). HaveMeaning scene.tris formula faces) (one_reading bytes r.faces faces r.read f) r.meaning;
+      closed = λ faces f. subst (λ (written : List WrittenFace). IsClosedSurface written) (face_file_is_read_once bytes r.faces faces r.read f) r.closed;
+    }

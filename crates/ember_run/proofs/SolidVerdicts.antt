@@ -22,18 +22,18 @@ use Rattle.ember_run.specs.Reported.{IsErrText, IsReport, IsReportIf, asks_repor
 use Rattle.ember_run.specs.Lines.{text_on_err}
 use Rattle.ember_words.specs.declared.command.Command.{Command}
 use Rattle.std.specs.declared.option.Option.{Option}
-use Rattle.ember_run.specs.Serves.{IsRefusal, IsSameIfTold, IsText}
+use Rattle.ember_run.specs.CallOutcome.{IsRefusal, IsSameIfTold, IsText}
 use Rattle.ember_job.specs.declared.job.Entry.{Entry}
 use Rattle.ember_report.specs.Reports.{report_from}
 use Rattle.ember_visit.specs.Values.{shape}
 use Rattle.std.specs.List.{sum, sum_by}
 use Rattle.ember_run.specs.Runs.{HoldEntries, run_report}
 use Rattle.ember_run.proofs.Reports.{entries_fit, same_report}
-use Rattle.ember_run.specs.Solids.{AreKept, AreKeptCounts, HoldRun, IsReportLine, IsReportText, IsSolid, IsSolidFile, IsSolidReport, IsSolidText, IsWrittenAt, report_lines}
+use Rattle.ember_run.specs.Solids.{AreWrittenRegions, AreRegionCounts, HoldRun, IsReportLine, IsReportText, IsSolid, IsSolidFile, IsSolidReport, IsSolidText, IsWrittenAt, report_lines}
 use Rattle.ember_gen.specs.Scene.{scene_of}
 use Rattle.ember_leaf.specs.declared.kept.Kept.{Kept}
 use Rattle.ember_text.specs.Documents.{IsDocumentText, written_face}
-use Rattle.ember_run.specs.Verdict.{Contents, Verdict, Untold, Refused, Writes, Slices, after_bounded, after_expr, after_scene, after_solid, bool_verdict, demo_verdict, names_of, told_verdict}
+use Rattle.ember_run.specs.Verdict.{Contents, Verdict, Unknown, Refused, Writes, Slices, after_bounded, after_expr, after_scene, after_solid, bool_verdict, demo_verdict, names_of, told_verdict}
 use Rattle.ember_run.proofs.SceneVerdicts.{ExprRead, SceneRead, after_read, scene_text}
 
 pub root_is_valid : (scene : Scene) (job : Job) → job ≡ root_job scene.tris → IsJob scene.tris job
@@ -48,13 +48,13 @@ abbrev pub VisitedWriteAll : List Tri → Formula → Type 0
 VisitedWriteAll tris formula =
     (kept : List Kept) → Each (IsWrittenAt tris formula) (leaves (shape tris formula) (root_job tris)) kept → IsWritten tris formula kept
 
-pub is_solid : (tris : List Tri) (formula : Formula) (items : List (List Kept)) (kept : List Kept) (journals : List (List Entry)) (faces : ℕ) (report : Report) → VisitedWriteAll tris formula → AreKept tris formula items → HoldRun tris formula journals → kept ≡ flat_map (λ ks. ks) items → report ≡ report_from journals faces → faces ≡ length kept → IsSolid tris formula kept report
+pub is_solid : (tris : List Tri) (formula : Formula) (items : List (List Kept)) (kept : List Kept) (journals : List (List Entry)) (faces : ℕ) (report : Report) → VisitedWriteAll tris formula → AreWrittenRegions tris formula items → HoldRun tris formula journals → kept ≡ flat_map (λ ks. ks) items → report ≡ report_from journals faces → faces ≡ length kept → IsSolid tris formula kept report
 is_solid tris formula items kept journals faces report law are holds all e f = record {
   written = law kept (subst (λ (kept : List Kept). Each (IsWrittenAt tris formula) (leaves (shape tris formula) (root_job tris)) kept) (sym all) (all_given (IsWrittenAt tris formula) (leaves (shape tris formula) (root_job tris)) items are));
   report_is = e ∙ same_report (shape tris formula) (root_job tris) journals faces holds ∙ ap (run_report (shape tris formula) (root_job tris)) f;
 }
 
-pub is_solid_report : (tris : List Tri) (formula : Formula) (counts : List ℕ) (journals : List (List Entry)) (faces : ℕ) (report : Report) → VisitedWriteAll tris formula → AreKeptCounts tris formula counts → HoldRun tris formula journals → report ≡ report_from journals faces → faces ≡ sum counts → IsSolidReport tris formula report
+pub is_solid_report : (tris : List Tri) (formula : Formula) (counts : List ℕ) (journals : List (List Entry)) (faces : ℕ) (report : Report) → VisitedWriteAll tris formula → AreRegionCounts tris formula counts → HoldRun tris formula journals → report ≡ report_from journals faces → faces ≡ sum counts → IsSolidReport tris formula report
 is_solid_report tris formula counts journals faces report law are holds e f =
     let lists = are_counted (IsWrittenAt tris formula) (leaves (shape tris formula) (root_job tris)) counts are in
     let kept = flat_map (λ ks. ks) lists.items in
@@ -105,7 +105,7 @@ solid_written expr places m contents formula tris bytes count given scene is =
     scene_text (after_solid expr) places m contents count formula tris bytes (λ formula tris. Writes (SolidFaces tris formula)) given scene is
 
 report_then : (line : List ℕ) (u v : Verdict) → IsSameIfTold u v → IsReport v line → IsReport u line
-report_then line Untold v e f = tt
+report_then line Unknown v e f = tt
 report_then line (Refused refusal) v e f = subst (λ v. IsReport v line) (sym e) f
 report_then line (Writes output) v e f = subst (λ v. IsReport v line) (sym e) f
 report_then line (Slices at bytes) v e f = subst (λ v. IsReport v line) (sym e) f

@@ -13,36 +13,36 @@ use Rattle.ember_run.specs.declared.status.Status.{Status}
 use Rattle.ember_run.specs.declared.status.Status.TheVariants.{ObjRefused, Limit}
 use Rattle.ember_run.specs.FaceTexts.{IsFaceFileOf}
 use Rattle.ember_run.specs.Outputs.{FaceTexts}
-use Rattle.ember_run.specs.Verdict.{Verdict, Untold, Refused, Writes, Slices, after_bytes, after_file, after_triangles, faces_verdict}
-use Rattle.ember_run.specs.Serves.{IsRefusal, IsSameIfTold, IsText}
+use Rattle.ember_run.specs.Verdict.{Verdict, Unknown, Refused, Writes, Slices, after_bytes, after_file, after_triangles, faces_verdict}
+use Rattle.ember_run.specs.CallOutcome.{IsRefusal, IsSameIfTold, IsText}
 
 -- ---- one step after another
 pub same_self : (v : Verdict) → IsSameIfTold v v
-same_self Untold = tt
+same_self Unknown = tt
 same_self (Refused status) = refl
 same_self (Writes output) = refl
 same_self (Slices at bytes) = refl
 
 pub same_then : (u v w : Verdict) → IsSameIfTold u v → IsSameIfTold v w → IsSameIfTold u w
-same_then Untold v w e f = tt
+same_then Unknown v w e f = tt
 same_then (Refused status) v w e f = subst (λ v. IsSameIfTold v w) (sym e) f
 same_then (Writes output) v w e f = subst (λ v. IsSameIfTold v w) (sym e) f
 same_then (Slices at bytes) v w e f = subst (λ v. IsSameIfTold v w) (sym e) f
 
 pub refusal_then : (status : Status) (u v : Verdict) → IsSameIfTold u v → IsRefusal status v → IsRefusal status u
-refusal_then status Untold v e f = tt
+refusal_then status Unknown v e f = tt
 refusal_then status (Refused refusal) v e f = subst (λ v. IsRefusal status v) (sym e) f
 refusal_then status (Writes output) v e f = subst (λ v. IsRefusal status v) (sym e) f
 refusal_then status (Slices at bytes) v e f = subst (λ v. IsRefusal status v) (sym e) f
 
 pub text_then : (bytes : List ℕ) (u v : Verdict) → IsSameIfTold u v → IsText v bytes → IsText u bytes
-text_then bytes Untold v e f = tt
+text_then bytes Unknown v e f = tt
 text_then bytes (Refused refusal) v e f = subst (λ v. IsText v bytes) (sym e) f
 text_then bytes (Writes output) v e f = subst (λ v. IsText v bytes) (sym e) f
 text_then bytes (Slices at file) v e f = subst (λ v. IsText v bytes) (sym e) f
 
-pub untold_then : (u v : Verdict) → IsSameIfTold u v → v ≡ Untold → u ≡ Untold
-untold_then Untold v e f = refl
+pub untold_then : (u v : Verdict) → IsSameIfTold u v → v ≡ Unknown → u ≡ Unknown
+untold_then Unknown v e f = refl
 untold_then (Refused refusal) v e f = e ∙ f
 untold_then (Writes output) v e f = e ∙ f
 untold_then (Slices at bytes) v e f = e ∙ f

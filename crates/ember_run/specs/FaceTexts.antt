@@ -1,16 +1,18 @@
 -- The face file of triangles, and its text while it grows, triangle by triangle
 use Rattle.std.specs.Prelude.{◌≡◌, ℕ, List, [], ◌∷◌, ◌++◌, All, map, flat_map, length}
 use Rattle.ember_algebra.specs.Relations.{Each}
+use Rattle.ember_chain.specs.Chains.{IsOutlined}
 use Rattle.ember_model.specs.declared.face.Face.{Face}
 use Rattle.ember_model.specs.declared.tri.Tri.{Tri}
 use Rattle.ember_model.specs.Edges.{RingEdge}
 use Rattle.ember_model.specs.Meshes.{faces_of}
 use Rattle.ember_model.specs.FaceFiles.{IsFaceText, IsFacesText, IsFaceFile, WrittenFace, IsWrittenFace, face_lines, header}
 
--- the bytes are the text of the triangles' faces, and a face file that holds these faces
+-- the bytes are the text of the triangles' faces, and a face file that holds these faces, each with its outline
 pub record IsFaceFileOf (ts : List Tri) (bytes : List ℕ) : Type 0 where
   pub text : IsFacesText (faces_of ts) bytes
   pub reads_back : IsFaceFile bytes (faces_of ts)
+  pub outlined : All IsOutlined reads_back.written
 
 -- ---- while it grows
 -- the lines of a written face, and the face that it holds
@@ -20,12 +22,13 @@ written_lines w = face_lines w.support w.edges
 abbrev pub written_face : WrittenFace → Face
 written_face w = record { support = w.support; edges = map (λ (e : RingEdge). e.plane) w.edges }
 
--- the text is the lines of written faces that hold these faces
+-- the text is the lines of written faces that hold these faces, each with its outline
 pub record ReadsBack (fs : List Face) (text : List ℕ) : Type 0 where
   pub written : List WrittenFace
   pub well_formed : All IsWrittenFace written
   pub is : text ≡ flat_map written_lines written
   pub faces : fs ≡ map written_face written
+  pub outlined : All IsOutlined written
 
 -- the text of the triangle's face was added, where it has one, and their number is that
 pub record AddsFace (t : Tri) (count : ℕ) (old new : List ℕ) : Type 0 where

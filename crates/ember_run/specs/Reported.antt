@@ -8,7 +8,7 @@ use Rattle.ember_run.specs.declared.status.Status.TheVariants.{Done}
 use Rattle.ember_run.specs.Lines.{line_on_err}
 use Rattle.ember_run.specs.Outputs.{Output, FaceTexts, Counts, MeetingPairs, SolidFaces, SolidReport, Lattice}
 use Rattle.ember_run.specs.Solids.{IsReportText}
-use Rattle.ember_run.specs.Verdict.{Verdict, Untold, Refused, Writes, Slices, names_of, told_verdict}
+use Rattle.ember_run.specs.Verdict.{Verdict, Unknown, Refused, Writes, Slices, names_of, told_verdict}
 
 -- a report is asked for
 abbrev pub asks_report : Option Command → Bool
@@ -32,7 +32,7 @@ IsReportOf (Lattice tris formula size) line = ⊥
 
 -- where the verdict is told
 abbrev pub IsReport : Verdict → List ℕ → Type 0
-IsReport Untold line = ⊤
+IsReport Unknown line = ⊤
 IsReport (Refused refusal) line = ⊥
 IsReport (Writes output) line = IsReportOf output line
 IsReport (Slices at bytes) line = ⊥

@@ -3,8 +3,8 @@ use Rattle.std.specs.Prelude.{◌≡◌, ℕ, ◌+◌, ◌-◌, List, ◌++◌, 
 use Rattle.ember_mesh.specs.declared.states.Closed.{Closed}
 use Rattle.ember_mesh.specs.Joined.{AreNumbered, triangles_of}
 use Rattle.ember_model.specs.declared.tri.Tri.{Tri}
-use Rattle.ember_run.specs.Serves.{IsSameIfTold}
-use Rattle.ember_run.specs.Verdict.{Contents, Verdict, Untold, after_files, after_scene, first_told}
+use Rattle.ember_run.specs.CallOutcome.{IsSameIfTold}
+use Rattle.ember_run.specs.Verdict.{Contents, Verdict, Unknown, after_files, after_scene, first_told}
 
 -- the files with these contents were read as these meshes; with whatever more files, their triangles decide what follows
 pub record HasParts (places : ℕ) (read : Contents) (parts : List Closed) : Type 0 where
@@ -14,4 +14,4 @@ pub record HasParts (places : ℕ) (read : Contents) (parts : List Closed) : Typ
 
 -- no file before file i, from 1, is refused
 abbrev pub MayRead : ℕ → Contents → ℕ → Type 0
-MayRead places contents i = (next : List Tri → Verdict) → after_scene places (first_told (i - 1) contents) next ≡ Untold
+MayRead places contents i = (next : List Tri → Verdict) → after_scene places (first_told (i - 1) contents) next ≡ Unknown

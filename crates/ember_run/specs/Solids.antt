@@ -1,5 +1,6 @@
 -- The written regions of a solid, and what is reported of its run
 use Rattle.std.specs.Prelude.{◌≡◌, ℕ, Bool, true, false, List, [], length, map}
+use Rattle.ember_chain.specs.Chains.{IsClosedSurface}
 use Rattle.ember_expr.specs.Formula.{Formula}
 use Rattle.ember_box.specs.Near.{near}
 use Rattle.ember_job.specs.declared.job.Entry.{Entry}
@@ -26,13 +27,13 @@ abbrev pub IsWrittenAt : List Tri → Formula → Job → List Kept → Type 0
 IsWrittenAt tris formula job kept = IsWrittenIn tris formula job.cell (near tris job.cell) kept
 
 -- the written regions of each leaf of the tree of boxes
-abbrev pub AreKept : List Tri → Formula → List (List Kept) → Type 0
-AreKept tris formula items =
+abbrev pub AreWrittenRegions : List Tri → Formula → List (List Kept) → Type 0
+AreWrittenRegions tris formula items =
     EachAnswers (IsWrittenAt tris formula) (leaves (shape tris formula) (root_job tris)) items
 
 -- the numbers of the written regions of each leaf
-abbrev pub AreKeptCounts : List Tri → Formula → List ℕ → Type 0
-AreKeptCounts tris formula counts =
+abbrev pub AreRegionCounts : List Tri → Formula → List ℕ → Type 0
+AreRegionCounts tris formula counts =
     EachAnswers (λ job n. IsCount (IsWrittenAt tris formula job) n) (leaves (shape tris formula) (root_job tris)) counts
 
 -- the journals hold the boxes that were visited for them
@@ -56,12 +57,17 @@ pub record IsSolidText (tris : List Tri) (formula : Formula) (bytes : List ℕ) 
   pub solid : IsSolid tris formula kept report
   pub text : IsDocumentText (map written_face kept) bytes
 
--- they are the face file of these regions, and the faces that are read back from it have the meaning
--- of the expression over the triangles
+-- each reading of the bytes is a closed surface
+abbrev pub IsClosedFile : List ℕ → Type 0
+IsClosedFile bytes = (faces : List Face) (file : IsFaceFile bytes faces) → IsClosedSurface file.written
+
+-- they are the face file of these regions. The faces that are read back from it have the meaning of
+-- the expression over the triangles, and their written edges are a closed surface.
 pub record IsSolidFile (tris : List Tri) (formula : Formula) (bytes : List ℕ) : Type 0 where
   pub text : IsSolidText tris formula bytes
   pub reads : ReadsWithMeaning tris formula bytes
   pub means : (faces : List Face) → IsFaceFile bytes faces → HaveMeaning tris formula faces
+  pub closed : IsClosedFile bytes
 
 -- the bytes are the line of the solid's report
 pub record IsReportText (tris : List Tri) (formula : Formula) (bytes : List ℕ) : Type 0 where

@@ -25,7 +25,7 @@ use Rattle.ember_run.specs.declared.status.Status.TheVariants.{Words, ObjRefused
 
 -- the first refusal, or the output; Untold where it rests on contents that aren't told
 pub data Verdict : Type 0 where
-  Untold : Verdict
+  Unknown : Verdict
   Refused : Status → Verdict
   Writes : Output → Verdict
   -- what slicing these bytes at a level gives, a refusal or an output
@@ -37,7 +37,7 @@ Contents = List (Option (List ℕ))
 
 -- ---- a file; `next` is what follows on its bytes, or on its triangles
 abbrev pub after_bytes : ℕ → Option (List ℕ) → (List ℕ → Verdict) → Verdict
-after_bytes i None next = Untold
+after_bytes i None next = Unknown
 after_bytes i (Some bytes) next = if nat_le (length bytes) 268435456 then next bytes else Refused (Limit (Bytes i) 268435457)
 
 abbrev pub after_triangles : ℕ → Result Faces ObjFault → (List Tri → Verdict) → Verdict

@@ -7,10 +7,10 @@ ghost use Rattle.ember_model.specs.declared.point.Axis.TheVariants.{X};
 ghost use Rattle.ember_model.specs.ClearTest.{is_clear_of};
 ghost use Rattle.ember_model.specs.Meshes.{vector};
 ghost use Rattle.ember_model.specs.Valid.{IsValidSpot, IsValidTri};
-ghost use Rattle.ember_run.specs.Given.{given_formula};
+ghost use Rattle.ember_run.specs.OptionalExpr.{given_formula};
 ghost use Rattle.ember_run.specs.Outputs.{count_line, count_lines, counts_text, value_line, value_lines};
-ghost use Rattle.ember_run.specs.Serves.{IsRefusal, IsText, is_refusal};
-ghost use Rattle.ember_run.specs.Verdict.{Untold, at_verdict, counts_verdict, first_told};
+ghost use Rattle.ember_run.specs.CallOutcome.{IsRefusal, IsText, is_refusal};
+ghost use Rattle.ember_run.specs.Verdict.{Unknown, at_verdict, counts_verdict, first_told};
 
 use crate::expression::parse_given;
 use crate::scene::read_scene;
@@ -156,7 +156,7 @@ pub fn at_output<S: Shelf>(
     ensures later { S.faults shelf.old ≤ S.faults shelf.new }
     ensures text { IfOk result (λ text. IsText (at_verdict point.now expr.now places (map (S.contents shelf.old) files.now)) text.items) }
     ensures refused { IfErr result (λ status. is_refusal status ≡ true → IsRefusal status (at_verdict point.now expr.now places (map (S.contents shelf.old) files.now))) }
-    ensures read_fault { (i : ℕ) → result ≡ Err (Status.ReadFault i) → Rose (S.faults shelf.old) (S.faults shelf.new) × (S.fault_at shelf.new ≡ i) × (at_verdict point.now expr.now places (first_told (i - 1) (map (S.contents shelf.old) files.now)) ≡ Untold) }
+    ensures read_fault { (i : ℕ) → result ≡ Err (Status.ReadFault i) → Rose (S.faults shelf.old) (S.faults shelf.new) × (S.fault_at shelf.new ≡ i) × (at_verdict point.now expr.now places (first_told (i - 1) (map (S.contents shelf.old) files.now)) ≡ Unknown) }
     ensures no_other { (result ≢ Err Status.Done) × (result ≢ Err Status.Words) × (result ≢ Err Status.WriteFault) }
 {
     let files = files.items();

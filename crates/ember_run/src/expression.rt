@@ -2,8 +2,8 @@
 ghost use Rattle.std.specs.Prelude.{ℕ, ◌≡◌, ◌≢◌, ◌≤◌, true, Err, IfOk, IfErr, codes};
 ghost use Rattle.std.specs.declared.option.Option.{Option};
 ghost use Rattle.ember_expr.specs.Formula.{Formula, formula_of};
-ghost use Rattle.ember_run.specs.Given.{given_formula};
-ghost use Rattle.ember_run.specs.Serves.{IsRefusal, is_refusal};
+ghost use Rattle.ember_run.specs.OptionalExpr.{given_formula};
+ghost use Rattle.ember_run.specs.CallOutcome.{IsRefusal, is_refusal};
 ghost use Rattle.ember_run.specs.Verdict.{Verdict, after_expr, after_given, after_solid};
 
 use crate::status::Status;

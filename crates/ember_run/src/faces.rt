@@ -3,7 +3,7 @@ ghost use Rattle.std.specs.Prelude.{ℕ, ◌≡◌, ◌≢◌, ◌≤◌, length
 ghost use Rattle.ember_io.specs.Causes.{Rose};
 ghost use Rattle.ember_model.specs.Valid.{IsValidTri};
 ghost use Rattle.ember_run.specs.FaceTexts.{AddsFace, IsFaceFileOf};
-ghost use Rattle.ember_run.specs.Serves.{IsRefusal, IsText, is_refusal};
+ghost use Rattle.ember_run.specs.CallOutcome.{IsRefusal, IsText, is_refusal};
 ghost use Rattle.ember_run.specs.Verdict.{faces_verdict};
 
 use crate::reading::read_file;
@@ -31,7 +31,7 @@ fn add_face(alloc: Global, tri: &Tri, text: &mut Vec<u8>) -> Result<u32, OutOfMe
 }
 
 // The text of the triangles' faces.
-#[tactic(auto, using(crate::proofs::FaceLists::no_texts, crate::proofs::FaceLists::more_texts, crate::proofs::FaceLists::face_file))]
+#[tactic(auto, using(crate::proofs::FaceLists::no_texts, crate::proofs::FaceLists::more_texts))]
 fn faces_text(alloc: Global, tris: &[Tri]) -> Result<Vec<u8>, OutOfMemory>
     requires valid { All IsValidTri tris.now }
     requires few { length tris.now ≤ 262144 }

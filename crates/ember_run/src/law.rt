@@ -1,4 +1,5 @@
-// The laws of what is written: each output has one text, and what `faces` and `at` write has its meaning.
+// The laws of what is written: each output has one text, what `faces` and `at` write has its meaning, and solids are
+// closed surfaces.
 ghost use Rattle.std.specs.Prelude.{◌≡◌, ◌≢◌, ◌↔◌, ℕ, ℤ, pos, ◌<ℤ◌, Bool, true, List, Some};
 ghost use Rattle.std.specs.List.{list_all};
 ghost use Rattle.std.specs.declared.option.Option.{Option};
@@ -10,15 +11,16 @@ ghost use Rattle.ember_model.specs.declared.tri.Tri.{Tri};
 ghost use Rattle.ember_model.specs.FaceFiles.{IsFaceFile};
 ghost use Rattle.ember_model.specs.Clear.{IsClearOf};
 ghost use Rattle.ember_model.specs.ClearTest.{is_clear_of};
-ghost use Rattle.ember_model.specs.Meshes.{IsScene, faces_of, vector, wind};
+ghost use Rattle.ember_model.specs.Meshes.{IsBalanced, IsScene, faces_of, vector, wind};
 ghost use Rattle.ember_words.specs.declared.command.Command.TheVariants.{Boole, Demo, Pairs, Voxels};
 ghost use Rattle.ember_words.specs.Meaning.{command_of};
 ghost use Rattle.ember_run.specs.OfScenes.{IsOfScene};
 ghost use Rattle.ember_run.specs.Outputs.{FaceTexts, IsOutput, Output, SolidFaces};
 ghost use Rattle.ember_run.specs.Reported.{IsErrText};
-ghost use Rattle.ember_run.specs.Serves.{IsText};
+ghost use Rattle.ember_run.specs.CallOutcome.{IsText};
 ghost use Rattle.ember_run.specs.Slices.{IsSlice};
-ghost use Rattle.ember_run.specs.Verdict.{Untold, told_verdict};
+ghost use Rattle.ember_run.specs.Solids.{IsClosedFile};
+ghost use Rattle.ember_run.specs.Verdict.{Unknown, told_verdict};
 ghost use Rattle.ember_run.specs.declared.status.Status.{Status};
 
 /// The solid of an expression over the triangles of a scene has one document: its written regions
@@ -30,8 +32,8 @@ pub fn solids_have_one_document()
 /// Each accepted input has one text, and one text on err for each status: the words and the
 /// contents of their files tell all of its bytes.
 pub fn accepted_inputs_have_one_text()
-    ensures out { (words : List (List ℕ)) (told : List ℕ → Option (List ℕ)) (one other : List ℕ) → told_verdict (command_of words) told ≢ Untold → IsText (told_verdict (command_of words) told) one → IsText (told_verdict (command_of words) told) other → one ≡ other }
-    ensures err { (words : List (List ℕ)) (told : List ℕ → Option (List ℕ)) (status : Status) (one other : List ℕ) → told_verdict (command_of words) told ≢ Untold → IsErrText (command_of words) told status one → IsErrText (command_of words) told status other → one ≡ other }
+    ensures out { (words : List (List ℕ)) (told : List ℕ → Option (List ℕ)) (one other : List ℕ) → told_verdict (command_of words) told ≢ Unknown → IsText (told_verdict (command_of words) told) one → IsText (told_verdict (command_of words) told) other → one ≡ other }
+    ensures err { (words : List (List ℕ)) (told : List ℕ → Option (List ℕ)) (status : Status) (one other : List ℕ) → told_verdict (command_of words) told ≢ Unknown → IsErrText (command_of words) told status one → IsErrText (command_of words) told status other → one ≡ other }
 {}
 
 /// The number of workers changes no verdict, so the text is one for every number of them.
@@ -57,6 +59,17 @@ pub fn slices_of_files_have_one_text()
 pub fn faces_wind_as_read()
     ensures only { (tris : List Tri) (bytes : List ℕ) (faces : List Face) → IsOutput (FaceTexts tris) bytes → IsFaceFile bytes faces → faces ≡ faces_of tris }
     ensures wind { (tris : List Tri) (bytes : List ℕ) (faces : List Face) → IsOutput (FaceTexts tris) bytes → IsFaceFile bytes faces → (axis : Axis) (point : Spot) → wind axis faces point ≡ wind axis (faces_of tris) point }
+{}
+
+/// The file of a solid is a closed surface: on each line, each point is as often the start of a
+/// written edge as the end of one.
+pub fn solids_are_closed()
+    ensures { (tris : List Tri) (f : Formula) (bytes : List ℕ) → IsOutput (SolidFaces tris f) bytes → IsClosedFile bytes }
+{}
+
+/// What `faces` writes for a closed mesh is a closed surface too.
+pub fn faces_of_closed_meshes_are_closed()
+    ensures { (tris : List Tri) (bytes : List ℕ) → IsBalanced tris → IsOutput (FaceTexts tris) bytes → IsClosedFile bytes }
 {}
 
 /// A list of bytes is the face file of one list of faces at most.

@@ -2,13 +2,13 @@
 ghost use Rattle.std.specs.Prelude.{ℕ, ◌≡◌, ◌≢◌, ◌≤◌, ◌-◌, length, map, true, Err, IfOk, IfErr};
 ghost use Rattle.ember_io.specs.Causes.{Rose};
 ghost use Rattle.ember_run.specs.PairLists.{IsPairsText};
-ghost use Rattle.ember_run.specs.Serves.{IsRefusal, IsText, is_refusal};
-ghost use Rattle.ember_run.specs.Tasks.{IsCrew};
-ghost use Rattle.ember_run.specs.Verdict.{Untold, first_told, pairs_verdict};
+ghost use Rattle.ember_run.specs.CallOutcome.{IsRefusal, IsText, is_refusal};
+ghost use Rattle.ember_run.specs.Queries.{IsExecutor};
+ghost use Rattle.ember_run.specs.Verdict.{Unknown, first_told, pairs_verdict};
 
+use crate::query::{Answer, Query, pairs_by};
 use crate::scene::read_scene;
 use crate::status::Status;
-use crate::task::{Finds, Task, pairs_by};
 use ember_io::Shelf;
 use ember_model::{OutOfMemory, Scene};
 use ember_pairs::{gather, gathered_pairs_are_all, pairs_text};
@@ -16,15 +16,15 @@ use ember_words::Texts;
 use std::alloc::Global;
 
 // The text of the scene's pairs.
-fn text_of_pairs<C: Fn(&Task) -> Result<Finds, OutOfMemory>>(
+fn text_of_pairs<C: Fn(&Query) -> Result<Answer, OutOfMemory>>(
     alloc: Global,
     scene: &Scene,
-    crew: &C,
+    executor: &C,
 ) -> Result<Vec<u8>, OutOfMemory>
-    requires { IsCrew C.pre C.post crew.now }
+    requires { IsExecutor C.pre C.post executor.now }
     ensures { IfOk result (λ text. IsPairsText scene.now.tris text.items) }
 {
-    let items = pairs_by(scene, crew)?;
+    let items = pairs_by(scene, executor)?;
     let pairs = gather(alloc, items)?;
     gathered_pairs_are_all(scene);
     pairs_text(alloc, pairs.items())
@@ -33,26 +33,26 @@ fn text_of_pairs<C: Fn(&Task) -> Result<Finds, OutOfMemory>>(
 /// The text of `pairs`: the triangles that cross or overlap. `places` is at most 3, and there are
 /// at most 64 files.
 #[tactic(auto, using(crate::proofs::SceneVerdicts::pairs_listed))]
-pub fn pairs_output<S: Shelf, C: Fn(&Task) -> Result<Finds, OutOfMemory>>(
+pub fn pairs_output<S: Shelf, C: Fn(&Query) -> Result<Answer, OutOfMemory>>(
     alloc: Global,
     places: u8,
     files: &Texts,
     shelf: &mut S,
-    crew: &C,
+    executor: &C,
 ) -> Result<Vec<u8>, Status>
     requires places { places ≤ 3 }
     requires few { length files.now ≤ 64 }
-    requires crew { IsCrew C.pre C.post crew.now }
+    requires executor { IsExecutor C.pre C.post executor.now }
     ensures contents { S.contents shelf.new ≡ S.contents shelf.old }
     ensures later { S.faults shelf.old ≤ S.faults shelf.new }
     ensures text { IfOk result (λ text. IsText (pairs_verdict places (map (S.contents shelf.old) files.now)) text.items) }
     ensures refused { IfErr result (λ status. is_refusal status ≡ true → IsRefusal status (pairs_verdict places (map (S.contents shelf.old) files.now))) }
-    ensures read_fault { (i : ℕ) → result ≡ Err (Status.ReadFault i) → Rose (S.faults shelf.old) (S.faults shelf.new) × (S.fault_at shelf.new ≡ i) × (pairs_verdict places (first_told (i - 1) (map (S.contents shelf.old) files.now)) ≡ Untold) }
+    ensures read_fault { (i : ℕ) → result ≡ Err (Status.ReadFault i) → Rose (S.faults shelf.old) (S.faults shelf.new) × (S.fault_at shelf.new ≡ i) × (pairs_verdict places (first_told (i - 1) (map (S.contents shelf.old) files.now)) ≡ Unknown) }
     ensures no_other { (result ≢ Err Status.Done) × (result ≢ Err Status.Words) × (result ≢ Err Status.WriteFault) }
 {
     let scene = match read_scene(alloc, shelf, files.items(), places) {
         Ok(scene) => scene,
         Err(status) => return Err(status),
     };
-    Ok(text_of_pairs(alloc, &scene, crew)?)
+    Ok(text_of_pairs(alloc, &scene, executor)?)
 }

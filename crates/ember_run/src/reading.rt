@@ -2,7 +2,7 @@
 ghost use Rattle.std.specs.Prelude.{ℕ, List, ◌≡◌, ◌≢◌, ◌≤◌, length, true, All, Err, IfOk, IfErr};
 ghost use Rattle.ember_io.specs.Causes.{Rose};
 ghost use Rattle.ember_model.specs.declared.tri.Tri.{Tri};
-ghost use Rattle.ember_run.specs.Serves.{IsRefusal, IsSameIfTold, is_refusal};
+ghost use Rattle.ember_run.specs.CallOutcome.{IsRefusal, IsSameIfTold, is_refusal};
 ghost use Rattle.ember_run.specs.Verdict.{Verdict, after_bytes, after_file};
 
 use crate::status::{LimitKind, Status};

@@ -4,8 +4,8 @@ ghost use Rattle.ember_io.specs.Causes.{Rose};
 ghost use Rattle.ember_mesh.specs.Joined.{AreNumbered, triangles_of};
 ghost use Rattle.ember_model.specs.declared.tri.Tri.{Tri};
 ghost use Rattle.ember_run.specs.Scenes.{HasParts, MayRead};
-ghost use Rattle.ember_run.specs.Serves.{IsRefusal, IsSameIfTold, is_refusal};
-ghost use Rattle.ember_run.specs.Verdict.{Untold, Verdict, after_mesh, after_scene, after_total, first_told};
+ghost use Rattle.ember_run.specs.CallOutcome.{IsRefusal, IsSameIfTold, is_refusal};
+ghost use Rattle.ember_run.specs.Verdict.{Unknown, Verdict, after_mesh, after_scene, after_total, first_told};
 
 use crate::reading::read_file;
 use crate::status::{LimitKind, Status};

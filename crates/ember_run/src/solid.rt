@@ -3,9 +3,9 @@ ghost use Rattle.std.specs.Prelude.{◌≡◌, IfOk, flat_map};
 ghost use Rattle.std.specs.List.{sum};
 ghost use Rattle.ember_expr.specs.Formula.{formula_of};
 ghost use Rattle.ember_run.specs.Solids.{IsSolid, IsSolidReport};
-ghost use Rattle.ember_run.specs.Tasks.{IsCrew};
+ghost use Rattle.ember_run.specs.Queries.{IsExecutor};
 
-use crate::task::{Finds, Task, counts_by, kept_by};
+use crate::query::{Answer, Query, counts_by, kept_by};
 use ember_expr::Expr;
 use ember_leaf::{Kept, KeptList};
 use ember_model::{OutOfMemory, Scene};
@@ -35,16 +35,16 @@ fn all_kept(alloc: Global, items: Vec<KeptList>) -> Result<Vec<Kept>, OutOfMemor
 }
 
 /// The solid of an expression over a scene.
-pub fn solid_of<C: Fn(&Task) -> Result<Finds, OutOfMemory>>(
+pub fn solid_of<C: Fn(&Query) -> Result<Answer, OutOfMemory>>(
     alloc: Global,
     scene: &Scene,
     expr: &Expr,
-    crew: &C,
+    executor: &C,
 ) -> Result<Solid, OutOfMemory>
-    requires { IsCrew C.pre C.post crew.now }
+    requires { IsExecutor C.pre C.post executor.now }
     ensures { IfOk result (λ solid. IsSolid scene.now.tris (formula_of expr.now) solid.kept.items solid.report) }
 {
-    let found = kept_by(scene, expr, crew)?;
+    let found = kept_by(scene, expr, executor)?;
     let journals = found.journals;
     let kept = all_kept(alloc, found.items)?;
     visited_leaves_write_all(scene, expr);
@@ -70,15 +70,15 @@ fn total(counts: &[u64]) -> Result<u64, OutOfMemory>
 
 /// The numbers of the run that gives the solid of an expression over a scene. The written regions
 /// are counted leaf by leaf and not kept.
-pub fn report_by<C: Fn(&Task) -> Result<Finds, OutOfMemory>>(
+pub fn report_by<C: Fn(&Query) -> Result<Answer, OutOfMemory>>(
     scene: &Scene,
     expr: &Expr,
-    crew: &C,
+    executor: &C,
 ) -> Result<Report, OutOfMemory>
-    requires { IsCrew C.pre C.post crew.now }
+    requires { IsExecutor C.pre C.post executor.now }
     ensures { IfOk result (λ report. IsSolidReport scene.now.tris (formula_of expr.now) report) }
 {
-    let found = counts_by(scene, expr, crew)?;
+    let found = counts_by(scene, expr, executor)?;
     let faces = total(&found.items)?;
     visited_leaves_write_all(scene, expr);
     Ok(report_of(&found.journals, faces))

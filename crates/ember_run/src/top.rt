@@ -6,21 +6,21 @@ ghost use Rattle.ember_io.specs.Sinks.{AppendsPrefix, IsFlushed};
 ghost use Rattle.ember_words.specs.Canonical.{Line, IsCanonical, command_with, words_of};
 ghost use Rattle.ember_words.specs.Meaning.{command_of};
 ghost use Rattle.ember_words.specs.Within.{IsWithinLimits};
-ghost use Rattle.ember_run.specs.Said.{Says};
+ghost use Rattle.ember_run.specs.Messages.{AppendsUntilFault};
 ghost use Rattle.ember_run.specs.Reported.{IsErrText, IsReportIf, asks_report};
-ghost use Rattle.ember_run.specs.Serves.{IsBegun, IsRefusal, IsText, IsWritten, Serves, is_refusal};
-ghost use Rattle.ember_run.specs.Tasks.{IsCrew, IsCrewOfAny, IsFound, IsTask};
-ghost use Rattle.ember_run.specs.Verdict.{Untold, told_verdict, verdict_before};
+ghost use Rattle.ember_run.specs.CallOutcome.{IsBegun, IsRefusal, IsText, IsWritten, IsCallOutcome, is_refusal};
+ghost use Rattle.ember_run.specs.Queries.{IsExecutor, IsExecutorOfAny, IsAnswer, IsQuery};
+ghost use Rattle.ember_run.specs.Verdict.{Unknown, told_verdict, verdict_before};
 
 use crate::at::at_output;
 use crate::boole::{boole_output, demo_output};
-use crate::crew::{alone, by_workers};
+use crate::executor::{alone, by_workers};
 use crate::faces::faces_output;
 use crate::lines::{say_out_of_memory, say_status, say_words_refused};
 use crate::pairs::pairs_output;
+use crate::query::{Answer, Query};
 use crate::slice::slice_output;
 use crate::status::Status;
-use crate::task::{Finds, Task};
 use crate::voxels::voxels_output;
 use ember_io::{Shelf, Sink, write_all};
 use ember_model::OutOfMemory;
@@ -32,22 +32,22 @@ use steal_pool::Gate;
 
 // The output of the command, or why there is none. The line of a report goes to `lines`, where one
 // is asked for.
-fn output_of<S: Shelf, C: Fn(&Task) -> Result<Finds, OutOfMemory>>(
+fn output_of<S: Shelf, C: Fn(&Query) -> Result<Answer, OutOfMemory>>(
     alloc: Global,
     command: &Command,
     shelf: &mut S,
-    crew: &C,
+    executor: &C,
     lines: &mut Vec<u8>,
 ) -> Result<Vec<u8>, Status>
     requires command { IsWithinLimits command.now }
     requires lines { lines.old.items ≡ [] }
-    requires crew { IsCrew C.pre C.post crew.now }
+    requires executor { IsExecutor C.pre C.post executor.now }
     ensures contents { S.contents shelf.new ≡ S.contents shelf.old }
     ensures later { S.faults shelf.old ≤ S.faults shelf.new }
     ensures text { IfOk result (λ text. IsText (told_verdict (Some command.now) (S.contents shelf.old)) text.items) }
     ensures report { IfOk result (λ _. IsReportIf (asks_report (Some command.now)) (told_verdict (Some command.now) (S.contents shelf.old)) lines.new.items) }
     ensures refused { IfErr result (λ status. is_refusal status ≡ true → IsRefusal status (told_verdict (Some command.now) (S.contents shelf.old))) }
-    ensures read_fault { (i : ℕ) → result ≡ Err (Status.ReadFault i) → Rose (S.faults shelf.old) (S.faults shelf.new) × (S.fault_at shelf.new ≡ i) × (verdict_before i (Some command.now) (S.contents shelf.old) ≡ Untold) }
+    ensures read_fault { (i : ℕ) → result ≡ Err (Status.ReadFault i) → Rose (S.faults shelf.old) (S.faults shelf.new) × (S.fault_at shelf.new ≡ i) × (verdict_before i (Some command.now) (S.contents shelf.old) ≡ Unknown) }
     ensures no_other { (result ≢ Err Status.Done) × (result ≢ Err Status.WriteFault) }
 {
     match command {
@@ -64,12 +64,20 @@ fn output_of<S: Shelf, C: Fn(&Task) -> Result<Finds, OutOfMemory>>(
             places,
             files,
             ..
-        } => voxels_output(alloc, expr, *size as u8, *places as u8, files, shelf, crew),
+        } => voxels_output(
+            alloc,
+            expr,
+            *size as u8,
+            *places as u8,
+            files,
+            shelf,
+            executor,
+        ),
         Command::Pairs { places, files, .. } => {
-            pairs_output(alloc, *places as u8, files, shelf, crew)
+            pairs_output(alloc, *places as u8, files, shelf, executor)
         }
         Command::Slice { at, file } => slice_output(alloc, *at, file, shelf),
-        Command::Demo { boxes, .. } => demo_output(alloc, *boxes, crew),
+        Command::Demo { boxes, .. } => demo_output(alloc, *boxes, executor),
         Command::Boole {
             expr,
             places,
@@ -83,7 +91,7 @@ fn output_of<S: Shelf, C: Fn(&Task) -> Result<Finds, OutOfMemory>>(
             *report,
             files,
             shelf,
-            crew,
+            executor,
             lines,
         ),
     }
@@ -103,52 +111,52 @@ fn write_output<O: Sink>(out: &mut O, text: &[u8]) -> Status
 }
 
 // Does what the command asks for.
-fn do_command<S: Shelf, O: Sink, C: Fn(&Task) -> Result<Finds, OutOfMemory>>(
+fn do_command<S: Shelf, O: Sink, C: Fn(&Query) -> Result<Answer, OutOfMemory>>(
     alloc: Global,
     command: &Command,
     shelf: &mut S,
     out: &mut O,
-    crew: &C,
+    executor: &C,
     lines: &mut Vec<u8>,
 ) -> Status
     requires command { IsWithinLimits command.now }
     requires lines { lines.old.items ≡ [] }
-    requires crew { IsCrew C.pre C.post crew.now }
+    requires executor { IsExecutor C.pre C.post executor.now }
     ensures contents { S.contents shelf.new ≡ S.contents shelf.old }
     ensures later { S.faults shelf.old ≤ S.faults shelf.new }
     ensures out_later { O.faults out.old ≤ O.faults out.new }
     ensures done { result ≡ Status.Done → IsWritten (told_verdict (Some command.now) (S.contents shelf.old)) (O.taken out.old) (O.taken out.new) × IsFlushed (O.taken out.new) (O.flushed out.new) }
     ensures report { result ≡ Status.Done → IsReportIf (asks_report (Some command.now)) (told_verdict (Some command.now) (S.contents shelf.old)) lines.new.items }
     ensures refused { is_refusal result ≡ true → IsRefusal result (told_verdict (Some command.now) (S.contents shelf.old)) }
-    ensures read_fault { (i : ℕ) → result ≡ Status.ReadFault i → Rose (S.faults shelf.old) (S.faults shelf.new) × (S.fault_at shelf.new ≡ i) × (verdict_before i (Some command.now) (S.contents shelf.old) ≡ Untold) }
+    ensures read_fault { (i : ℕ) → result ≡ Status.ReadFault i → Rose (S.faults shelf.old) (S.faults shelf.new) × (S.fault_at shelf.new ≡ i) × (verdict_before i (Some command.now) (S.contents shelf.old) ≡ Unknown) }
     ensures write_fault { result ≡ Status.WriteFault → Rose (O.faults out.old) (O.faults out.new) × IsBegun (told_verdict (Some command.now) (S.contents shelf.old)) (O.taken out.old) (O.taken out.new) }
     ensures untouched { result ≢ Status.Done → result ≢ Status.WriteFault → O.taken out.new ≡ O.taken out.old }
 {
-    match output_of(alloc, command, shelf, crew, lines) {
+    match output_of(alloc, command, shelf, executor, lines) {
         Ok(text) => write_output(out, &text),
         Err(status) => status,
     }
 }
 
 // Does what the command asks for, and writes the status's line to err.
-fn serve<S: Shelf, O: Sink, E: Sink, C: Fn(&Task) -> Result<Finds, OutOfMemory>>(
+fn serve<S: Shelf, O: Sink, E: Sink, C: Fn(&Query) -> Result<Answer, OutOfMemory>>(
     alloc: Global,
     command: &Command,
     shelf: &mut S,
     out: &mut O,
     err: &mut E,
-    crew: &C,
+    executor: &C,
 ) -> Status
     requires command { IsWithinLimits command.now }
-    requires crew { IsCrew C.pre C.post crew.now }
+    requires executor { IsExecutor C.pre C.post executor.now }
     ensures contents { S.contents shelf.new ≡ S.contents shelf.old }
     ensures later { S.faults shelf.old ≤ S.faults shelf.new }
     ensures out_later { O.faults out.old ≤ O.faults out.new }
-    ensures status { Serves (Some command.now) (S.contents shelf.old) (S.faults shelf.old) (S.faults shelf.new) (S.fault_at shelf.new) (O.faults out.old) (O.faults out.new) (O.flushed out.new) (O.taken out.old) (O.taken out.new) result }
-    ensures err { (text : List ℕ) × IsErrText (Some command.now) (S.contents shelf.old) result text × Says (E.faults err.old) (E.faults err.new) (E.taken err.old) (E.taken err.new) text }
+    ensures status { IsCallOutcome (Some command.now) (S.contents shelf.old) (S.faults shelf.old) (S.faults shelf.new) (S.fault_at shelf.new) (O.faults out.old) (O.faults out.new) (O.flushed out.new) (O.taken out.old) (O.taken out.new) result }
+    ensures err { (text : List ℕ) × IsErrText (Some command.now) (S.contents shelf.old) result text × AppendsUntilFault (E.faults err.old) (E.faults err.new) (E.taken err.old) (E.taken err.new) text }
 {
     let mut lines = Vec::new(alloc);
-    let status = do_command(alloc, command, shelf, out, crew, &mut lines);
+    let status = do_command(alloc, command, shelf, out, executor, &mut lines);
     say_status(err, command, &status, &lines);
     status
 }
@@ -167,23 +175,23 @@ fn workers_of(command: &Command) -> u32
     }
 }
 
-// Does what the words ask for, by a crew of the workers that they ask for, and writes the status's
+// Does what the words ask for, by an executor with the workers that they ask for, and writes the status's
 // line to err.
-fn run_by<S: Shelf, O: Sink, E: Sink, C: Fn(u32, &Task) -> Result<Finds, OutOfMemory>>(
+fn run_by<S: Shelf, O: Sink, E: Sink, C: Fn(u32, &Query) -> Result<Answer, OutOfMemory>>(
     alloc: Global,
     words: &[String],
     shelf: &mut S,
     out: &mut O,
     err: &mut E,
-    crew: &C,
+    executor: &C,
 ) -> Status
-    requires { IsCrewOfAny C.pre C.post crew.now }
+    requires { IsExecutorOfAny C.pre C.post executor.now }
     ensures contents { S.contents shelf.new ≡ S.contents shelf.old }
     ensures later { S.faults shelf.old ≤ S.faults shelf.new }
     ensures out_later { O.faults out.old ≤ O.faults out.new }
-    ensures status { Serves (command_of (map string_bytes words.now)) (S.contents shelf.old) (S.faults shelf.old) (S.faults shelf.new) (S.fault_at shelf.new) (O.faults out.old) (O.faults out.new) (O.flushed out.new) (O.taken out.old) (O.taken out.new) result }
+    ensures status { IsCallOutcome (command_of (map string_bytes words.now)) (S.contents shelf.old) (S.faults shelf.old) (S.faults shelf.new) (S.fault_at shelf.new) (O.faults out.old) (O.faults out.new) (O.flushed out.new) (O.taken out.old) (O.taken out.new) result }
     ensures canonical { (line : Line) → IsCanonical line → map string_bytes words.now ≡ words_of line → command_of (map string_bytes words.now) ≡ command_with line }
-    ensures err { (text : List ℕ) × IsErrText (command_of (map string_bytes words.now)) (S.contents shelf.old) result text × Says (E.faults err.old) (E.faults err.new) (E.taken err.old) (E.taken err.new) text }
+    ensures err { (text : List ℕ) × IsErrText (command_of (map string_bytes words.now)) (S.contents shelf.old) result text × AppendsUntilFault (E.faults err.old) (E.faults err.new) (E.taken err.old) (E.taken err.new) text }
 {
     match read_words(alloc, words) {
         Ok(command) => {
@@ -194,10 +202,10 @@ fn run_by<S: Shelf, O: Sink, E: Sink, C: Fn(u32, &Task) -> Result<Finds, OutOfMe
                 shelf,
                 out,
                 err,
-                &|task: &Task| -> Result<Finds, OutOfMemory>
-                    requires { C.pre crew.now workers task }
-                    ensures { C.post crew.entry.now workers task.entry result }
-                { crew(workers, task) },
+                &|query: &Query| -> Result<Answer, OutOfMemory>
+                    requires { C.pre executor.now workers query }
+                    ensures { C.post executor.entry.now workers query.entry result }
+                { executor(workers, query) },
             )
         }
         Err(WordsFault::Words) => {
@@ -224,9 +232,9 @@ pub fn run_one<S: Shelf, O: Sink, E: Sink, G: Gate>(
     ensures contents { S.contents shelf.new ≡ S.contents shelf.old }
     ensures later { S.faults shelf.old ≤ S.faults shelf.new }
     ensures out_later { O.faults out.old ≤ O.faults out.new }
-    ensures status { Serves (command_of (map string_bytes words.now)) (S.contents shelf.old) (S.faults shelf.old) (S.faults shelf.new) (S.fault_at shelf.new) (O.faults out.old) (O.faults out.new) (O.flushed out.new) (O.taken out.old) (O.taken out.new) result }
+    ensures status { IsCallOutcome (command_of (map string_bytes words.now)) (S.contents shelf.old) (S.faults shelf.old) (S.faults shelf.new) (S.fault_at shelf.new) (O.faults out.old) (O.faults out.new) (O.flushed out.new) (O.taken out.old) (O.taken out.new) result }
     ensures canonical { (line : Line) → IsCanonical line → map string_bytes words.now ≡ words_of line → command_of (map string_bytes words.now) ≡ command_with line }
-    ensures err { (text : List ℕ) × IsErrText (command_of (map string_bytes words.now)) (S.contents shelf.old) result text × Says (E.faults err.old) (E.faults err.new) (E.taken err.old) (E.taken err.new) text }
+    ensures err { (text : List ℕ) × IsErrText (command_of (map string_bytes words.now)) (S.contents shelf.old) result text × AppendsUntilFault (E.faults err.old) (E.faults err.new) (E.taken err.old) (E.taken err.new) text }
 {
     run_by(
         alloc,
@@ -234,10 +242,10 @@ pub fn run_one<S: Shelf, O: Sink, E: Sink, G: Gate>(
         shelf,
         out,
         err,
-        &|_workers: u32, task: &Task| -> Result<Finds, OutOfMemory>
-            requires { IsTask task.now }
-            ensures { IfOk result (IsFound task.entry.now) }
-        { alone(alloc, gate, task) },
+        &|_workers: u32, query: &Query| -> Result<Answer, OutOfMemory>
+            requires { IsQuery query.now }
+            ensures { IfOk result (IsAnswer query.entry.now) }
+        { alone(alloc, gate, query) },
     )
 }
 
@@ -255,9 +263,9 @@ pub fn run<R: Threads + Wait + Sync, S: Shelf, O: Sink, E: Sink, G: Gate + Sync>
     ensures contents { S.contents shelf.new ≡ S.contents shelf.old }
     ensures later { S.faults shelf.old ≤ S.faults shelf.new }
     ensures out_later { O.faults out.old ≤ O.faults out.new }
-    ensures status { Serves (command_of (map string_bytes words.now)) (S.contents shelf.old) (S.faults shelf.old) (S.faults shelf.new) (S.fault_at shelf.new) (O.faults out.old) (O.faults out.new) (O.flushed out.new) (O.taken out.old) (O.taken out.new) result }
+    ensures status { IsCallOutcome (command_of (map string_bytes words.now)) (S.contents shelf.old) (S.faults shelf.old) (S.faults shelf.new) (S.fault_at shelf.new) (O.faults out.old) (O.faults out.new) (O.flushed out.new) (O.taken out.old) (O.taken out.new) result }
     ensures canonical { (line : Line) → IsCanonical line → map string_bytes words.now ≡ words_of line → command_of (map string_bytes words.now) ≡ command_with line }
-    ensures err { (text : List ℕ) × IsErrText (command_of (map string_bytes words.now)) (S.contents shelf.old) result text × Says (E.faults err.old) (E.faults err.new) (E.taken err.old) (E.taken err.new) text }
+    ensures err { (text : List ℕ) × IsErrText (command_of (map string_bytes words.now)) (S.contents shelf.old) result text × AppendsUntilFault (E.faults err.old) (E.faults err.new) (E.taken err.old) (E.taken err.new) text }
 {
     run_by(
         alloc,
@@ -265,10 +273,10 @@ pub fn run<R: Threads + Wait + Sync, S: Shelf, O: Sink, E: Sink, G: Gate + Sync>
         shelf,
         out,
         err,
-        &|workers: u32, task: &Task| -> Result<Finds, OutOfMemory>
+        &|workers: u32, query: &Query| -> Result<Answer, OutOfMemory>
             requires workers { (1 ≤ workers) × (workers ≤ 64) }
-            requires task { IsTask task.now }
-            ensures { IfOk result (IsFound task.entry.now) }
-        { by_workers(rt, alloc, workers, gate, task) },
+            requires query { IsQuery query.now }
+            ensures { IfOk result (IsAnswer query.entry.now) }
+        { by_workers(rt, alloc, workers, gate, query) },
     )
 }

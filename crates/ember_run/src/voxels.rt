@@ -3,14 +3,14 @@ ghost use Rattle.std.specs.Prelude.{ℕ, ◌≡◌, ◌≢◌, ◌≤◌, ◌-�
 ghost use Rattle.ember_expr.specs.Formula.{formula_of};
 ghost use Rattle.ember_io.specs.Causes.{Rose};
 ghost use Rattle.ember_run.specs.Lattices.{IsLatticeText};
-ghost use Rattle.ember_run.specs.Serves.{IsRefusal, IsText, is_refusal};
-ghost use Rattle.ember_run.specs.Tasks.{IsCrew};
-ghost use Rattle.ember_run.specs.Verdict.{Untold, first_told, voxels_verdict};
+ghost use Rattle.ember_run.specs.CallOutcome.{IsRefusal, IsText, is_refusal};
+ghost use Rattle.ember_run.specs.Queries.{IsExecutor};
+ghost use Rattle.ember_run.specs.Verdict.{Unknown, first_told, voxels_verdict};
 
 use crate::expression::parse_text;
+use crate::query::{Answer, Query, fills_by};
 use crate::scene::read_scene;
 use crate::status::Status;
-use crate::task::{Finds, Task, fills_by};
 use ember_expr::Expr;
 use ember_io::Shelf;
 use ember_model::{OutOfMemory, Scene};
@@ -19,19 +19,19 @@ use ember_words::{Text, Texts};
 use std::alloc::Global;
 
 // The text of the scene's lattice.
-fn text_of_voxels<C: Fn(&Task) -> Result<Finds, OutOfMemory>>(
+fn text_of_voxels<C: Fn(&Query) -> Result<Answer, OutOfMemory>>(
     alloc: Global,
     scene: &Scene,
     expr: &Expr,
     size: u8,
-    crew: &C,
+    executor: &C,
 ) -> Result<Vec<u8>, OutOfMemory>
     requires least { 4 ≤ size }
     requires most { size ≤ 12 }
-    requires crew { IsCrew C.pre C.post crew.now }
+    requires executor { IsExecutor C.pre C.post executor.now }
     ensures { IfOk result (λ text. IsLatticeText scene.now.tris (formula_of expr.now) size text.items) }
 {
-    let fills = fills_by(scene, expr, size, crew)?;
+    let fills = fills_by(scene, expr, size, executor)?;
     each_cell_has_its_value(scene, expr);
     grid_text(alloc, size, &fills)
 }
@@ -39,25 +39,25 @@ fn text_of_voxels<C: Fn(&Task) -> Result<Finds, OutOfMemory>>(
 /// The text of `voxels`: the solid sampled on a lattice whose cells have the side `2 ^ size`, for
 /// a size of 4 to 12. `places` is at most 3, and there are at most 64 files.
 #[tactic(auto, using(crate::proofs::SceneVerdicts::lattice_sampled))]
-pub fn voxels_output<S: Shelf, C: Fn(&Task) -> Result<Finds, OutOfMemory>>(
+pub fn voxels_output<S: Shelf, C: Fn(&Query) -> Result<Answer, OutOfMemory>>(
     alloc: Global,
     expr: &Text,
     size: u8,
     places: u8,
     files: &Texts,
     shelf: &mut S,
-    crew: &C,
+    executor: &C,
 ) -> Result<Vec<u8>, Status>
     requires least { 4 ≤ size }
     requires most { size ≤ 12 }
     requires places { places ≤ 3 }
     requires few { length files.now ≤ 64 }
-    requires crew { IsCrew C.pre C.post crew.now }
+    requires executor { IsExecutor C.pre C.post executor.now }
     ensures contents { S.contents shelf.new ≡ S.contents shelf.old }
     ensures later { S.faults shelf.old ≤ S.faults shelf.new }
     ensures text { IfOk result (λ text. IsText (voxels_verdict expr.now size places (map (S.contents shelf.old) files.now)) text.items) }
     ensures refused { IfErr result (λ status. is_refusal status ≡ true → IsRefusal status (voxels_verdict expr.now size places (map (S.contents shelf.old) files.now))) }
-    ensures read_fault { (i : ℕ) → result ≡ Err (Status.ReadFault i) → Rose (S.faults shelf.old) (S.faults shelf.new) × (S.fault_at shelf.new ≡ i) × (voxels_verdict expr.now size places (first_told (i - 1) (map (S.contents shelf.old) files.now)) ≡ Untold) }
+    ensures read_fault { (i : ℕ) → result ≡ Err (Status.ReadFault i) → Rose (S.faults shelf.old) (S.faults shelf.new) × (S.fault_at shelf.new ≡ i) × (voxels_verdict expr.now size places (first_told (i - 1) (map (S.contents shelf.old) files.now)) ≡ Unknown) }
     ensures no_other { (result ≢ Err Status.Done) × (result ≢ Err Status.Words) × (result ≢ Err Status.WriteFault) }
 {
     let files = files.items();
@@ -69,5 +69,5 @@ pub fn voxels_output<S: Shelf, C: Fn(&Task) -> Result<Finds, OutOfMemory>>(
         Ok(scene) => scene,
         Err(status) => return Err(status),
     };
-    Ok(text_of_voxels(alloc, &scene, &expr, size, crew)?)
+    Ok(text_of_voxels(alloc, &scene, &expr, size, executor)?)
 }

@@ -13,7 +13,7 @@ use Rattle.ember_model.proofs.Tuples.{plane_tuple, spot_tuple, normalE}
 use Rattle.ember_model.proofs.SignTests.{sgn_scaled, positive_in, positive_out, zero_out, and_parts}
 use Rattle.ember_point.specs.Points.{weight}
 use Rattle.ember_slice.specs.Lines.{level, IsFlat, is_on_line, along_line, ahead}
-use Rattle.ember_slice.specs.Spans.{Enters, Leaves}
+use Rattle.ember_slice.specs.Intervals.{Enters, Leaves}
 
 -- ---- points of the line
 pub record OnLine (n : Plane) (at : ℤ) (v : Spot) : Type 0 where

@@ -10,14 +10,14 @@ use Rattle.ember_model.specs.declared.plane.Plane.{Plane}
 use Rattle.ember_model.specs.declared.point.Spot.{Spot}
 use Rattle.ember_model.specs.declared.face.Face.{Face}
 use Rattle.ember_model.specs.Planes.{value_at}
-use Rattle.ember_model.specs.Edges.{SamePlace}
+use Rattle.ember_model.specs.Edges.{SamePoint}
 use Rattle.ember_model.proofs.SignTests.{and_parts, sgn_scaled, negative_in}
 use Rattle.ember_point.specs.Points.{spot_of}
 use Rattle.ember_slice.specs.declared.ends.Segment.{Segment}
-use Rattle.ember_slice.specs.declared.span.End.{End}
+use Rattle.ember_slice.specs.declared.interval.End.{End}
 use Rattle.ember_slice.specs.Lines.{level, IsFlat, is_on_line, along_line, ahead, is_before}
-use Rattle.ember_slice.specs.Spans.{IsSpan, is_behind}
-use Rattle.ember_slice.specs.Segments.{is_cut, IsSegment, IsAnswer, Joins, GivesNone, GoesOn, GoesBack, IsEndless}
+use Rattle.ember_slice.specs.Intervals.{IsInterval, is_behind}
+use Rattle.ember_slice.specs.Segments.{is_cut, IsSegment, IsAnswer, Joins, GivesNone, IsUnboundedAhead, IsUnboundedBack, IsEndless}
 use Rattle.ember_slice.proofs.Along.{OnLine, on_line_out, on_line_in, ahead_turned, square_above}
 use Rattle.ember_slice.proofs.Orders.{not_after_then, then_not_after, before_trans}
 
@@ -48,7 +48,7 @@ none_behind f at h = inr (λ v. cut_split f at v ∙ by v (is_on_line f.support 
     by v false e = refl
 
 -- ---- the same place
-module _ {u v : Spot} (s : SamePlace u v) (pu : pos 0 <ℤ u.w) (pv : pos 0 <ℤ v.w) where
+module _ {u v : Spot} (s : SamePoint u v) (pu : pos 0 <ℤ u.w) (pv : pos 0 <ℤ v.w) where
   same_value : (p : Plane) → u.w *ℤ value_at p v ≡ v.w *ℤ value_at p u
   same_value p =
       from_three (neg_ℤ p.a) (neg_ℤ p.b) (neg_ℤ p.c) s.x s.y s.z (solve 12 (λ a b c d x y z w e f g h. w ⊗ (a ⊗ e ⊕ b ⊗ f ⊕ c ⊗ g ⊖ d ⊗ h) ⊖ h ⊗ (a ⊗ x ⊕ b ⊗ y ⊕ c ⊗ z ⊖ d ⊗ w) ≈ neg a ⊗ (h ⊗ x ⊖ w ⊗ e) ⊕ neg b ⊗ (h ⊗ y ⊖ w ⊗ f) ⊕ neg c ⊗ (h ⊗ z ⊖ w ⊗ g)) cancels p.a p.b p.c p.d u.x u.y u.z u.w v.x v.y v.z v.w)
@@ -91,7 +91,7 @@ module _ {u v : Spot} (s : SamePlace u v) (pu : pos 0 <ℤ u.w) (pv : pos 0 <ℤ
       turned a b e = ap is_neg (sgn-neg a ∙ ap flip e ∙ sym (sgn-neg b))
 
 -- ---- two ends
-module _ (f : Face) (at : ℤ) (a b : End) (h : IsSpan f.support at f.edges (record { first = Some a; last = Some b })) where
+module _ (f : Face) (at : ℤ) (a b : End) (h : IsInterval f.support at f.edges (record { first = Some a; last = Some b })) where
   sign_of_ends : sgn (value_at b.plane (spot_of a.point)) ≡ sgn (ahead f.support (spot_of a.point) (spot_of b.point))
   sign_of_ends = h.ends.last.signs (spot_of a.point) h.ends.first.on
 
@@ -212,7 +212,7 @@ module _ (f : Face) (at : ℤ) (t : IsFlat f.support → ⊥) where
             let k = nearer_ahead n at u on t in
             (nearer n u, nearer_on_line n at u on, negative_in (then_not_after n (nearer n u) u a wu wu wa k l), negative_in k)
 
-  goes_on : (first : Option End) → IsSpan f.support at f.edges (record { first = first; last = None }) → GoesOn f at
+  goes_on : (first : Option End) → IsInterval f.support at f.edges (record { first = first; last = None }) → IsUnboundedAhead f at
   goes_on None h u on =
       let p = further n u in let q = further_on_line n at u on in
       (p, cut_on_line f at p q ∙ h.holds p q, negative_in (ahead_of_further n at u on t))
@@ -220,7 +220,7 @@ module _ (f : Face) (at : ℤ) (t : IsFlat f.support → ⊥) where
       let b = beyond (spot_of e.point) h.ends.first.on u on in
       (b.0, cut_on_line f at b.0 b.1 ∙ h.holds b.0 b.1 ∙ ap (λ c. c && true) b.2, b.3)
 
-  goes_back : (last : Option End) → IsSpan f.support at f.edges (record { first = None; last = last }) → GoesBack f at
+  goes_back : (last : Option End) → IsInterval f.support at f.edges (record { first = None; last = last }) → IsUnboundedBack f at
   goes_back None h u on =
       let p = nearer n u in let q = nearer_on_line n at u on in
       (p, cut_on_line f at p q ∙ h.holds p q, negative_in (nearer_ahead n at u on t))
@@ -228,12 +228,12 @@ module _ (f : Face) (at : ℤ) (t : IsFlat f.support → ⊥) where
       let b = ahead_of (spot_of e.point) h.ends.last.on u on in
       (b.0, cut_on_line f at b.0 b.1 ∙ h.holds b.0 b.1 ∙ b.2, b.3)
 
-  pub endless_on : (first : Option End) → IsSpan f.support at f.edges (record { first = first; last = None }) → IsEndless f at
+  pub endless_on : (first : Option End) → IsInterval f.support at f.edges (record { first = first; last = None }) → IsEndless f at
   endless_on first h = record { tilted = t; unbounded = inl (goes_on first h) }
 
-  pub endless_back : (last : Option End) → IsSpan f.support at f.edges (record { first = None; last = last }) → IsEndless f at
+  pub endless_back : (last : Option End) → IsInterval f.support at f.edges (record { first = None; last = last }) → IsEndless f at
   endless_back last h = record { tilted = t; unbounded = inr (goes_back last h) }
 
-pub answer_between : (f : Face) (at : ℤ) (a b : End) → IsSpan f.support at f.edges (record { first = Some a; last = Some b }) → (r : Option Segment) → MatchOption r (is_negative (value_at b.plane (spot_of a.point)) ≡ false) (λ s. (is_negative (value_at b.plane (spot_of a.point)) ≡ true) × Joins (spot_of a.point) (spot_of b.point) s) → IsAnswer f at (Ok r)
+pub answer_between : (f : Face) (at : ℤ) (a b : End) → IsInterval f.support at f.edges (record { first = Some a; last = Some b }) → (r : Option Segment) → MatchOption r (is_negative (value_at b.plane (spot_of a.point)) ≡ false) (λ s. (is_negative (value_at b.plane (spot_of a.point)) ≡ true) × Joins (spot_of a.point) (spot_of b.point) s) → IsAnswer f at (Ok r)
 answer_between f at a b h None k = no_segment f at a b h k
 answer_between f at a b h (Some s) k = segment_between f at a b h s k.0 k.1

@@ -8,10 +8,10 @@ use Rattle.ember_model.specs.declared.point.Spot.{Spot}
 use Rattle.ember_model.specs.Planes.{value_at}
 use Rattle.ember_model.proofs.SignTests.{negative_in, negative_out, positive_out, not_positive_out}
 use Rattle.ember_point.specs.Points.{spot_of}
-use Rattle.ember_slice.specs.declared.span.End.{End}
-use Rattle.ember_slice.specs.declared.span.Span.{Span}
+use Rattle.ember_slice.specs.declared.interval.End.{End}
+use Rattle.ember_slice.specs.declared.interval.LineInterval.{LineInterval}
 use Rattle.ember_slice.specs.Lines.{is_on_line, ahead, is_before}
-use Rattle.ember_slice.specs.Spans.{AllOf, Enters, Leaves, AreEnds, IsNarrowed, IsSpan, is_after, is_until, is_in_span, is_behind}
+use Rattle.ember_slice.specs.Intervals.{AllOf, Enters, Leaves, AreEnds, IsNarrowed, IsInterval, is_after, is_until, is_in_interval, is_behind}
 use Rattle.ember_slice.proofs.Along.{on_line_out, ahead_turned}
 use Rattle.ember_slice.proofs.Orders.{not_after_then, then_not_after, absorbs_first, absorbs_second}
 
@@ -145,15 +145,15 @@ all_true : (b c : Bool) → c ≡ true → b ≡ b && c
 all_true true c e = sym e
 all_true false c e = refl
 
-pub narrowed_nowhere : (n : Plane) (at : ℤ) (p : Plane) (s : Span) → AreEnds n at s → AllOf n at p true → IsNarrowed n at p s s
+pub narrowed_nowhere : (n : Plane) (at : ℤ) (p : Plane) (s : LineInterval) → AreEnds n at s → AllOf n at p true → IsNarrowed n at p s s
 narrowed_nowhere n at p s ends h =
-    record { ends = ends; left = λ v on. all_true (is_in_span n s v) (is_negative (value_at p v)) (h v on) }
+    record { ends = ends; left = λ v on. all_true (is_in_interval n s v) (is_negative (value_at p v)) (h v on) }
 
 -- ---- plane after plane
 -- what the planes leave is what those from a place on leave of the span
-pub record LeftOf (n : Plane) (at : ℤ) (ps rest : List Plane) (s : Span) : Type 0 where
+pub record LeftOf (n : Plane) (at : ℤ) (ps rest : List Plane) (s : LineInterval) : Type 0 where
   pub ends : AreEnds n at s
-  pub left : (v : Spot) → is_on_line n at v ≡ true → is_behind ps v ≡ is_in_span n s v && is_behind rest v
+  pub left : (v : Spot) → is_on_line n at v ≡ true → is_behind ps v ≡ is_in_interval n s v && is_behind rest v
 
 pub whole_line : (n : Plane) (at : ℤ) (ps : List Plane) → LeftOf n at ps ps (record { first = None; last = None })
 whole_line n at ps = record { ends = record { first = tt; last = tt }; left = λ v on. refl }
@@ -162,14 +162,14 @@ both_parts : (a b c d : Bool) → a ≡ b && c → b && (c && d) ≡ a && d
 both_parts a true c d e = ap (λ x. x && d) (sym e)
 both_parts a false c d e = ap (λ x. x && d) (sym e)
 
-module _ {n : Plane} {at : ℤ} {ps qs : List Plane} {p : Plane} {s : Span} (h : LeftOf n at ps (p ∷ qs) s) where
-  pub less_left : {t : Span} → IsNarrowed n at p s t → LeftOf n at ps qs t
+module _ {n : Plane} {at : ℤ} {ps qs : List Plane} {p : Plane} {s : LineInterval} (h : LeftOf n at ps (p ∷ qs) s) where
+  pub less_left : {t : LineInterval} → IsNarrowed n at p s t → LeftOf n at ps qs t
   less_left {t} k =
-      record { ends = k.ends; left = λ v on. h.left v on ∙ both_parts (is_in_span n t v) (is_in_span n s v) (is_negative (value_at p v)) (is_behind qs v) (k.left v on) }
+      record { ends = k.ends; left = λ v on. h.left v on ∙ both_parts (is_in_interval n t v) (is_in_interval n s v) (is_negative (value_at p v)) (is_behind qs v) (k.left v on) }
 
   pub nothing_left : AllOf n at p false → (v : Spot) → is_on_line n at v ≡ true → is_behind ps v ≡ false
   nothing_left k v on =
-      h.left v on ∙ ap (λ b. is_in_span n s v && (b && is_behind qs v)) (k v on) ∙ never (is_in_span n s v)
+      h.left v on ∙ ap (λ b. is_in_interval n s v && (b && is_behind qs v)) (k v on) ∙ never (is_in_interval n s v)
     where
       never : (b : Bool) → b && false ≡ false
       never true = refl
@@ -179,17 +179,17 @@ abbrev pub zero_plane : Plane
 zero_plane = record { a = pos 0; b = pos 0; c = pos 0; d = pos 0 }
 
 -- by the place of the next plane
-pub next_plane : {n : Plane} {at : ℤ} {s : Span} (ps : List Plane) (i : ℕ) → i < length ps → LeftOf n at ps (drop i ps) s → LeftOf n at ps (get_or ps i zero_plane ∷ drop (i + 1) ps) s
+pub next_plane : {n : Plane} {at : ℤ} {s : LineInterval} (ps : List Plane) (i : ℕ) → i < length ps → LeftOf n at ps (drop i ps) s → LeftOf n at ps (get_or ps i zero_plane ∷ drop (i + 1) ps) s
 next_plane {n} {at} {s} ps i l h =
     subst (λ qs. LeftOf n at ps qs s) (drop-cons ps i zero_plane l ∙ ap (λ k. get_or ps i zero_plane ∷ drop k ps) (sym (add-one i))) h
 
-pub last_plane : {n : Plane} {at : ℤ} {s : Span} (ps : List Plane) (i : ℕ) → length ps ≤ i → LeftOf n at ps (drop i ps) s → LeftOf n at ps [] s
+pub last_plane : {n : Plane} {at : ℤ} {s : LineInterval} (ps : List Plane) (i : ℕ) → length ps ≤ i → LeftOf n at ps (drop i ps) s → LeftOf n at ps [] s
 last_plane {n} {at} {s} ps i l h = subst (λ qs. LeftOf n at ps qs s) (drop_of_length-le ps l) h
 
 always : (b : Bool) → b && true ≡ b
 always true = refl
 always false = refl
 
-pub span_left : {n : Plane} {at : ℤ} {ps : List Plane} {s : Span} → LeftOf n at ps [] s → IsSpan n at ps s
+pub span_left : {n : Plane} {at : ℤ} {ps : List Plane} {s : LineInterval} → LeftOf n at ps [] s → IsInterval n at ps s
 span_left {n} {at} {ps} {s} h =
-    record { ends = h.ends; holds = λ v on. h.left v on ∙ always (is_in_span n s v) }
+    record { ends = h.ends; holds = λ v on. h.left v on ∙ always (is_in_interval n s v) }

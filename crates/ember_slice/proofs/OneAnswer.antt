@@ -9,12 +9,12 @@ use Rattle.ember_model.specs.declared.point.Spot.{Spot}
 use Rattle.ember_model.specs.declared.face.Face.{Face}
 use Rattle.ember_model.specs.Planes.{value_at}
 use Rattle.ember_model.specs.Points.{plus_s}
-use Rattle.ember_model.specs.Edges.{SamePlace}
+use Rattle.ember_model.specs.Edges.{SamePoint}
 use Rattle.ember_model.specs.FaceFiles.{line_of, ending}
 use Rattle.ember_model.proofs.SignTests.{negative_in, negative_out, and_parts, clash}
 use Rattle.ember_reread.proofs.Lowest.{same_lowest}
 use Rattle.ember_slice.specs.Lines.{level, IsFlat, ahead, is_before}
-use Rattle.ember_slice.specs.Segments.{is_cut, IsSegment, GivesNone, Directed, Gives, segment_line, IsSliceText}
+use Rattle.ember_slice.specs.Segments.{is_cut, IsSegment, GivesNone, Directed, GivesSegments, segment_line, IsSliceText}
 use Rattle.ember_slice.specs.Crossings.{gap}
 use Rattle.ember_slice.proofs.Along.{OnLine, on_line_out, on_line_in, ahead_turned, square, square_above}
 use Rattle.ember_slice.proofs.Orders.{not_after_then, then_not_after, not_both, tilted}
@@ -42,7 +42,7 @@ module _ (n : Plane) (at : ℤ) (u v : Spot) (hu : OnLine n at u) (hv : OnLine n
       solve 8 (λ a b x y w e f h. h ⊗ (a ⊗ (y ⊕ f) ⊖ b ⊗ (x ⊕ e)) ⊖ (w ⊕ h) ⊗ (a ⊗ f ⊖ b ⊗ e) ≈ h ⊗ (a ⊗ y ⊖ b ⊗ x) ⊖ w ⊗ (a ⊗ f ⊖ b ⊗ e)) cancels n.a n.b u.x u.y u.w v.x v.y v.w
 
   -- neither comes before the other
-  one_place : (IsFlat n → ⊥) → ahead n u v ≡ pos 0 → SamePlace u v
+  one_place : (IsFlat n → ⊥) → ahead n u v ≡ pos 0 → SamePoint u v
   one_place t e =
       record { x = x_from (no_gap (λ s. neg_ℤ s.x) n.b (falls n at u v hu hv)); y = y_from (no_gap (λ s. s.y) n.a (rises n at u v hu hv)); z = z_from hu.level hv.level }
     where
@@ -162,7 +162,7 @@ module _ (f : Face) (at : ℤ) where
       let mv = negative_in (subst (λ z. z <ℤ pos 0) (sym (middle_ahead n at u v hu hv)) l) in
       ⊎_elim (λ t. tilted n u v s.leads t) (λ k. clash (outer u v s (plus_s u v) (middle_on_line n at u v hu hv) um mv) (k (plus_s u v))) g
 
-gives_one : (at : ℤ) (f : Face) (ss ts : List Directed) → Gives at f ss → Gives at f ts → ss ≡ ts
+gives_one : (at : ℤ) (f : Face) (ss ts : List Directed) → GivesSegments at f ss → GivesSegments at f ts → ss ≡ ts
 gives_one at f [] [] g h = refl
 gives_one at f [] (t ∷ []) g h = absurd (not_none f at t.first t.last h g)
 gives_one at f [] (t ∷ s ∷ ts) g h = absurd h

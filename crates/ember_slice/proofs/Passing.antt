@@ -24,9 +24,9 @@ use Rattle.ember_model.proofs.SignTests.{sgn_scaled, negative_out, positive_out,
 use Rattle.ember_model.proofs.PlaneValues.{hit_flat}
 use Rattle.ember_model.proofs.Hits.{value_ray, ray_weight, crossing_off, crossing_across}
 use Rattle.ember_slice.specs.Lines.{level, IsFlat, along_line, ahead, is_before}
-use Rattle.ember_slice.specs.Spans.{is_behind}
-use Rattle.ember_slice.specs.Segments.{IsSegment, GivesNone, Directed, Gives}
-use Rattle.ember_slice.specs.Crossings.{gap, is_lower, turn, passing, ray_x, ray_y}
+use Rattle.ember_slice.specs.Intervals.{is_behind}
+use Rattle.ember_slice.specs.Segments.{IsSegment, GivesNone, Directed, GivesSegments}
+use Rattle.ember_slice.specs.Crossings.{gap, is_lower, orientation, passing, ray_x, ray_y}
 use Rattle.ember_slice.proofs.Along.{OnLine, on_line_out, on_line_in, square, square_above, nothing, valueE, levelE, alongE}
 use Rattle.ember_slice.proofs.Orders.{weak_first, tilted}
 use Rattle.ember_slice.proofs.Bounds.{cut_on_line}
@@ -52,11 +52,11 @@ module _ (n : Plane) (at : ℤ) (u v : Spot) (hu : OnLine n at u) (hv : OnLine n
       omega (arith, linear, z)
 
   -- the way from u to v turns round p as p lies to the front or the back of n
-  pub turns : (p : Spot) → value_at (level at) p ≡ pos 0 → (pos 2 *ℤ square n) *ℤ turn u v p ≡ (pos 2 *ℤ value_at n p) *ℤ ahead n u v
+  pub turns : (p : Spot) → value_at (level at) p ≡ pos 0 → (pos 2 *ℤ square n) *ℤ orientation u v p ≡ (pos 2 *ℤ value_at n p) *ℤ ahead n u v
   turns p hp =
       let i = along_line n v *ℤ p.w -ℤ v.w *ℤ along_line n p in
       let j = along_line n u *ℤ p.w -ℤ u.w *ℤ along_line n p in
-      let e : (pos 2 *ℤ square n) *ℤ turn u v p -ℤ (pos 2 *ℤ value_at n p) *ℤ ahead n u v ≡ ((pos 2 *ℤ i) *ℤ value_at n u +ℤ neg_ℤ (pos 2 *ℤ j) *ℤ value_at n v +ℤ neg_ℤ (n.c *ℤ i) *ℤ value_at (level at) u +ℤ (n.c *ℤ j) *ℤ value_at (level at) v) +ℤ neg_ℤ (n.c *ℤ ahead n u v) *ℤ value_at (level at) p =
+      let e : (pos 2 *ℤ square n) *ℤ orientation u v p -ℤ (pos 2 *ℤ value_at n p) *ℤ ahead n u v ≡ ((pos 2 *ℤ i) *ℤ value_at n u +ℤ neg_ℤ (pos 2 *ℤ j) *ℤ value_at n v +ℤ neg_ℤ (n.c *ℤ i) *ℤ value_at (level at) u +ℤ (n.c *ℤ j) *ℤ value_at (level at) v) +ℤ neg_ℤ (n.c *ℤ ahead n u v) *ℤ value_at (level at) p =
       identity (tuple ∷ scalar ∷ tuple ∷ tuple ∷ tuple ∷ []) (λ n at u v p.
       let q = levelE (num (pos 2) ⊗ at ⊕ num (pos 1)) in let s = n.x ⊗ n.x ⊕ n.y ⊗ n.y in
       let i = alongE n v ⊗ p.w ⊖ v.w ⊗ alongE n p in let j = alongE n u ⊗ p.w ⊖ u.w ⊗ alongE n p in
@@ -166,9 +166,9 @@ module _ (n : Plane) (at : ℤ) (c : Spot → ℤ) (k : ℤ) (t : IsFlat n → �
 
   -- ---- the turn
   module _ (u v p : Spot) (hu : OnLine n at u) (hv : OnLine n at v) (hp : value_at (level at) p ≡ pos 0) (before : ahead n u v <ℤ pos 0) where
-    turn_sign : sgn (turn u v p) ≡ sgn (neg_ℤ (value_at n p))
+    turn_sign : sgn (orientation u v p) ≡ sgn (neg_ℤ (value_at n p))
     turn_sign =
-        same_sign (pos 2 *ℤ square n) (neg_ℤ (pos 2 *ℤ ahead n u v)) (turn u v p) (neg_ℤ (value_at n p)) twice_square (turned_above (below before)) (turns n at u v hu hv p hp ∙ moved (value_at n p) (ahead n u v))
+        same_sign (pos 2 *ℤ square n) (neg_ℤ (pos 2 *ℤ ahead n u v)) (orientation u v p) (neg_ℤ (value_at n p)) twice_square (turned_above (below before)) (turns n at u v hu hv p hp ∙ moved (value_at n p) (ahead n u v))
       where
         below : {a : ℤ} → a <ℤ pos 0 → (pos 2 *ℤ a) <ℤ pos 0
         below h = omega (arith, linear, h)
@@ -176,10 +176,10 @@ module _ (n : Plane) (at : ℤ) (c : Spot → ℤ) (k : ℤ) (t : IsFlat n → �
         moved : (s a : ℤ) → (pos 2 *ℤ s) *ℤ a ≡ neg_ℤ (pos 2 *ℤ a) *ℤ neg_ℤ s
         moved = solve 2 (λ s a. (num (pos 2) ⊗ s) ⊗ a ≈ neg (num (pos 2) ⊗ a) ⊗ neg s) cancels
 
-    turn_left : is_positive (turn u v p) ≡ is_negative (value_at n p)
+    turn_left : is_positive (orientation u v p) ≡ is_negative (value_at n p)
     turn_left = ap is_pos turn_sign ∙ positive_turned (value_at n p)
 
-    turn_right : is_negative (turn u v p) ≡ is_positive (value_at n p)
+    turn_right : is_negative (orientation u v p) ≡ is_positive (value_at n p)
     turn_right = ap is_neg turn_sign ∙ negative_turned (value_at n p)
 
 -- ---- where the ray meets the face's plane
@@ -284,8 +284,8 @@ module _ (a : Axis) (c : Spot → ℤ) (p : Spot) (across : IsAcross a c p) (f :
         let away = not_between n at c k steep (across.grows n at) v u p hv.weight hu.weight w (omega (arith, linear, order, gap_turned n at c k steep (across.grows n at) u v)) in
         met (is_lower c u p && is_lower c p v) nz inner
         ∙ (λ i. cond ((facing_up l ∙ sym (turn_left n at c k steep (across.grows n at) u v p hu hv hp leads)) i && (is_lower c u p && is_lower c p v)) (sign_pos l i) (pos 0))
-        ∙ pick_first (is_positive (turn u v p)) (is_lower c u p && is_lower c p v) (is_lower c v p && is_lower c p u) (is_negative (turn u v p)) away)
-        (λ e. no_entry e ∙ pick_none (is_lower c u p && is_lower c p v) (is_lower c v p && is_lower c p u) (is_positive (turn u v p)) (is_negative (turn u v p))
+        ∙ pick_first (is_positive (orientation u v p)) (is_lower c u p && is_lower c p v) (is_lower c v p && is_lower c p u) (is_negative (orientation u v p)) away)
+        (λ e. no_entry e ∙ pick_none (is_lower c u p && is_lower c p v) (is_lower c v p && is_lower c p u) (is_positive (orientation u v p)) (is_negative (orientation u v p))
         (not_between n at c k steep (across.grows n at) u v p hu.weight hv.weight w (omega (arith, linear, level_gap e)))
         (not_between n at c k steep (across.grows n at) v u p hv.weight hu.weight w (omega (arith, linear, level_gap e, gap_turned n at c k steep (across.grows n at) u v))))
         (λ l. let nz = negative_nonzero l in let hh = hit_on_line n at a p nz (across.flat at) w hp in
@@ -294,7 +294,7 @@ module _ (a : Axis) (c : Spot → ℤ) (p : Spot) (across : IsAcross a c p) (f :
         let away = not_between n at c k steep (across.grows n at) u v p hu.weight hv.weight w (omega (arith, linear, order, gap_turned n at c k steep (across.grows n at) u v)) in
         met (is_lower c v p && is_lower c p u) nz (inner ∙ swap (is_lower c p u) (is_lower c v p))
         ∙ (λ i. cond ((facing_down l ∙ sym (turn_right n at c k steep (across.grows n at) u v p hu hv hp leads)) i && (is_lower c v p && is_lower c p u)) (sign_neg l i) (pos 0))
-        ∙ pick_second (is_negative (turn u v p)) (is_lower c v p && is_lower c p u) (is_lower c u p && is_lower c p v) (is_positive (turn u v p)) away)
+        ∙ pick_second (is_negative (orientation u v p)) (is_lower c v p && is_lower c p u) (is_lower c u p && is_lower c p v) (is_positive (orientation u v p)) away)
       where
         swap : (x y : Bool) → x && y ≡ y && x
         swap true true = refl
@@ -325,12 +325,12 @@ module _ (a : Axis) (c : Spot → ℤ) (p : Spot) (across : IsAcross a c p) (f :
 abbrev IsLevelAxis : Axis → Type 0
 IsLevelAxis a = (a ≡ X) ⊎ (a ≡ Y)
 
-all_crossed : (a : Axis) (c : Spot → ℤ) (p : Spot) → IsAcross a c p → IsLevelAxis a → (at : ℤ) → pos 0 <ℤ p.w → value_at (level at) p ≡ pos 0 → {fs : List Face} {ss : List Directed} → Each (Gives at) fs ss → total (passing c p) ss ≡ wind a fs p
+all_crossed : (a : Axis) (c : Spot → ℤ) (p : Spot) → IsAcross a c p → IsLevelAxis a → (at : ℤ) → pos 0 <ℤ p.w → value_at (level at) p ≡ pos 0 → {fs : List Face} {ss : List Directed} → Each (GivesSegments at) fs ss → total (passing c p) ss ≡ wind a fs p
 all_crossed a c p h o at w hp none = refl
 all_crossed a c p h o at w hp (more {x = f} {xs = fs} {ys = ys} {zs = zs} r d) =
     total-append (passing c p) ys zs ∙ (λ i. one ys r i +ℤ all_crossed a c p h o at w hp d i)
   where
-    one : (ys : List Directed) → Gives at f ys → total (passing c p) ys ≡ crossing f a p
+    one : (ys : List Directed) → GivesSegments at f ys → total (passing c p) ys ≡ crossing f a p
     one [] g = sym (none_crossed a c p h f at w hp o g)
     one (s ∷ []) g = plus_zero (passing c p s) ∙ sym (segment_crossed a c p h f at w hp s.first s.last g)
       where
@@ -348,8 +348,8 @@ across_y p =
     turned_product : (m x : ℤ) → neg_ℤ (m *ℤ x) ≡ m *ℤ neg_ℤ x
     turned_product = solve 2 (λ m x. neg (m ⊗ x) ≈ m ⊗ neg x) cancels
 
-pub crossed_along_x : (p : Spot) (at : ℤ) → pos 0 <ℤ p.w → value_at (level at) p ≡ pos 0 → {fs : List Face} {ss : List Directed} → Each (Gives at) fs ss → total (ray_x p) ss ≡ wind X fs p
+pub crossed_along_x : (p : Spot) (at : ℤ) → pos 0 <ℤ p.w → value_at (level at) p ≡ pos 0 → {fs : List Face} {ss : List Directed} → Each (GivesSegments at) fs ss → total (ray_x p) ss ≡ wind X fs p
 crossed_along_x p at w hp d = all_crossed X (λ v. v.y) p (across_x p) (inl refl) at w hp d
 
-pub crossed_along_y : (p : Spot) (at : ℤ) → pos 0 <ℤ p.w → value_at (level at) p ≡ pos 0 → {fs : List Face} {ss : List Directed} → Each (Gives at) fs ss → total (ray_y p) ss ≡ wind Y fs p
+pub crossed_along_y : (p : Spot) (at : ℤ) → pos 0 <ℤ p.w → value_at (level at) p ≡ pos 0 → {fs : List Face} {ss : List Directed} → Each (GivesSegments at) fs ss → total (ray_y p) ss ≡ wind Y fs p
 crossed_along_y p at w hp d = all_crossed Y (λ v. neg_ℤ v.x) p (across_y p) (inr refl) at w hp d

@@ -17,7 +17,7 @@ use Rattle.ember_model.proofs.SignTests.{and_parts, clash}
 use Rattle.ember_point.specs.Points.{spot_of}
 use Rattle.ember_slice.specs.declared.ends.Segment.{Segment}
 use Rattle.ember_slice.specs.Lines.{IsFlat, is_on_line, is_before}
-use Rattle.ember_slice.specs.Segments.{is_cut, IsSegment, GivesNone, IsEndless, Directed, Gives, segment_line, IsSliceText, IsFirstEndless}
+use Rattle.ember_slice.specs.Segments.{is_cut, IsSegment, GivesNone, IsEndless, Directed, GivesSegments, segment_line, IsSliceText, IsFirstEndless}
 use Rattle.ember_slice.specs.Texts.{AddsSegment, HasSegments}
 use Rattle.ember_slice.proofs.Orders.{not_both}
 use Rattle.ember_slice.proofs.Bounds.{cut_line}
@@ -49,7 +49,7 @@ one_more {fs} {gs} {f} {at} {count} {many} {text} {new} h k e =
     let head = line_of (codes "slice") (at ∷ []) in
     record {
       segments = h.segments ++ k.segments;
-      are = subst (λ xs. Each (Gives at) xs (h.segments ++ k.segments)) (sym e) (each_push h.are k.gives);
+      are = subst (λ xs. Each (GivesSegments at) xs (h.segments ++ k.segments)) (sym e) (each_push h.are k.gives);
       is = k.is ∙ ap (λ l. l ++ flat_map segment_line k.segments) h.is ∙ append_assoc head (flat_map segment_line h.segments) (flat_map segment_line k.segments) ∙ ap (λ l. head ++ l) (sym (flat_map-append segment_line h.segments k.segments));
       count_is = omega (arith, length-append h.segments k.segments, h.count_is, k.count_is);
     }
@@ -99,7 +99,7 @@ not_bounded f at u v h s =
     inner : (p : Spot) → is_cut f at p ≡ true → (is_before f.support u p ≡ true) × (is_before f.support p v ≡ true)
     inner p c = and_parts (is_before f.support u p) (is_before f.support p v) (sym (s.between p (cut_line f at p c)) ∙ c)
 
-gives_bounded : (f : Face) (at : ℤ) (ss : List Directed) → Gives at f ss → IsEndless f at → ⊥
+gives_bounded : (f : Face) (at : ℤ) (ss : List Directed) → GivesSegments at f ss → IsEndless f at → ⊥
 gives_bounded f at [] h e = ⊎_elim (λ t. e.tilted t) (λ k. not_empty f at e k) h
 gives_bounded f at (s ∷ []) h e = not_bounded f at s.first s.last e h
 gives_bounded f at (s ∷ t ∷ ss) h e = h
@@ -107,9 +107,9 @@ gives_bounded f at (s ∷ t ∷ ss) h e = h
 some_in : {f g : Face} → Some f ≡ Some g → f ≡ g
 some_in e = cc
 
-each_gives : (at : ℤ) {fs : List Face} {ss : List Directed} → Each (Gives at) fs ss → (k : ℕ) (g : Face) → slice_get fs k ≡ Some g → (ts : List Directed) × Gives at g ts
+each_gives : (at : ℤ) {fs : List Face} {ss : List Directed} → Each (GivesSegments at) fs ss → (k : ℕ) (g : Face) → slice_get fs k ≡ Some g → (ts : List Directed) × GivesSegments at g ts
 each_gives at none k g e = absurd (cc)
-each_gives at (more {ys = ys} r d) zero g e = (ys, subst (λ f. Gives at f ys) (some_in e) r)
+each_gives at (more {ys = ys} r d) zero g e = (ys, subst (λ f. GivesSegments at f ys) (some_in e) r)
 each_gives at (more r d) (suc k) g e = each_gives at d k g e
 
 get_taken : (fs : List Face) (n k : ℕ) → k < n → slice_get (take n fs) k ≡ slice_get fs k
@@ -123,7 +123,7 @@ pub first_endless : {fs : List Face} {f : Face} {at : ℤ} {count : ℕ} {text :
 first_endless {fs} {f} {at} i h l e x =
     record {
       face = f;
-      place = i;
+      index = i;
       number = refl;
       here = slice_get-get_or fs i f l ∙ ap (λ g. Some g) (sym e);
       endless = x;

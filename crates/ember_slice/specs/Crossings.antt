@@ -12,15 +12,15 @@ abbrev pub is_lower : (Spot → ℤ) → Spot → Spot → Bool
 is_lower c u v = is_negative (gap c u v)
 
 -- seen from above p lies to the left of the way from u to v where this is positive, to the right where it is negative
-abbrev pub turn : Spot → Spot → Spot → ℤ
-turn u v p =
+abbrev pub orientation : Spot → Spot → Spot → ℤ
+orientation u v p =
     u.x *ℤ (v.y *ℤ p.w -ℤ v.w *ℤ p.y) -ℤ u.y *ℤ (v.x *ℤ p.w -ℤ v.w *ℤ p.x) +ℤ u.w *ℤ (v.x *ℤ p.y -ℤ v.y *ℤ p.x)
 
 -- 1 where the segment passes p on p's right upwards in c, -1 where it does so downwards
 abbrev pub passing : (Spot → ℤ) → Spot → Directed → ℤ
 passing c p s =
-    if (is_lower c s.first p && is_lower c p s.last) && is_positive (turn s.first s.last p) then pos 1
-    else (if (is_lower c s.last p && is_lower c p s.first) && is_negative (turn s.first s.last p) then negsuc 0 else pos 0)
+    if (is_lower c s.first p && is_lower c p s.last) && is_positive (orientation s.first s.last p) then pos 1
+    else (if (is_lower c s.last p && is_lower c p s.first) && is_negative (orientation s.first s.last p) then negsuc 0 else pos 0)
 
 -- the signed crossing of the ray from p along x: 1 where y grows from the first end to the last
 abbrev pub ray_x : Spot → Directed → ℤ

@@ -1,5 +1,5 @@
 pub mod Lines
-pub mod Spans
+pub mod Intervals
 pub mod Segments
 pub mod Texts
 pub mod Crossings

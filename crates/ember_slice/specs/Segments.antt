@@ -6,7 +6,7 @@ use Rattle.ember_model.specs.declared.point.Spot.{Spot}
 use Rattle.ember_model.specs.declared.face.Face.{Face}
 use Rattle.ember_model.specs.Planes.{value_at}
 use Rattle.ember_model.specs.Faces.{is_inside}
-use Rattle.ember_model.specs.Edges.{SamePlace}
+use Rattle.ember_model.specs.Edges.{SamePoint}
 use Rattle.ember_model.specs.FaceFiles.{line_of, ending, IsLowest}
 use Rattle.ember_point.specs.Points.{spot_of}
 use Rattle.ember_slice.specs.declared.ends.Segment.{Segment}
@@ -31,21 +31,21 @@ abbrev pub GivesNone : Face → ℤ → Type 0
 GivesNone f at = IsFlat f.support ⊎ ((p : Spot) → is_cut f at p ≡ false)
 
 -- some inside point at the level lies beyond each point of the line
-abbrev pub GoesOn : Face → ℤ → Type 0
-GoesOn f at = (u : Spot) → is_on_line f.support at u ≡ true → (p : Spot) × (is_cut f at p ≡ true) × (is_before f.support u p ≡ true)
+abbrev pub IsUnboundedAhead : Face → ℤ → Type 0
+IsUnboundedAhead f at = (u : Spot) → is_on_line f.support at u ≡ true → (p : Spot) × (is_cut f at p ≡ true) × (is_before f.support u p ≡ true)
 
-abbrev pub GoesBack : Face → ℤ → Type 0
-GoesBack f at = (u : Spot) → is_on_line f.support at u ≡ true → (p : Spot) × (is_cut f at p ≡ true) × (is_before f.support p u ≡ true)
+abbrev pub IsUnboundedBack : Face → ℤ → Type 0
+IsUnboundedBack f at = (u : Spot) → is_on_line f.support at u ≡ true → (p : Spot) × (is_cut f at p ≡ true) × (is_before f.support p u ≡ true)
 
 -- the inside points at the level aren't bounded
 pub record IsEndless (f : Face) (at : ℤ) : Type 0 where
   pub tilted : IsFlat f.support → ⊥
-  pub unbounded : GoesOn f at ⊎ GoesBack f at
+  pub unbounded : IsUnboundedAhead f at ⊎ IsUnboundedBack f at
 
 -- the segment goes from u to v, in lowest terms
 pub record Joins (u v : Spot) (s : Segment) : Type 0 where
-  pub first : SamePlace u (spot_of s.first)
-  pub last : SamePlace v (spot_of s.last)
+  pub first : SamePoint u (spot_of s.first)
+  pub last : SamePoint v (spot_of s.last)
   pub first_lowest : IsLowest (spot_of s.first)
   pub last_lowest : IsLowest (spot_of s.last)
 
@@ -61,10 +61,10 @@ pub record Directed : Type 0 where
   pub last : Spot
 
 -- the segment of f, or none
-abbrev pub Gives : ℤ → Face → List Directed → Type 0
-Gives at f [] = GivesNone f at
-Gives at f (s ∷ []) = IsSegment f at s.first s.last
-Gives at f (s ∷ t ∷ ss) = ⊥
+abbrev pub GivesSegments : ℤ → Face → List Directed → Type 0
+GivesSegments at f [] = GivesNone f at
+GivesSegments at f (s ∷ []) = IsSegment f at s.first s.last
+GivesSegments at f (s ∷ t ∷ ss) = ⊥
 
 abbrev pub segment_line : Directed → List ℕ
 segment_line s =
@@ -73,14 +73,14 @@ segment_line s =
 -- the line with the level, those of the segments in order, and the last line with their number
 pub record IsSliceText (fs : List Face) (at : ℤ) (bytes : List ℕ) : Type 0 where
   pub segments : List Directed
-  pub are_segments : Each (Gives at) fs segments
+  pub are_segments : Each (GivesSegments at) fs segments
   pub is : bytes ≡ line_of (codes "slice") (at ∷ []) ++ (flat_map segment_line segments ++ ending (length segments))
 
 -- the face with the number n, from 1, is the first endless one
 pub record IsFirstEndless (fs : List Face) (at : ℤ) (n : ℕ) : Type 0 where
   pub face : Face
-  pub place : ℕ
-  pub number : n ≡ place + 1
-  pub here : slice_get fs place ≡ Some face
+  pub index : ℕ
+  pub number : n ≡ index + 1
+  pub here : slice_get fs index ≡ Some face
   pub endless : IsEndless face at
-  pub earliest : (i : ℕ) (g : Face) → i < place → slice_get fs i ≡ Some g → IsEndless g at → ⊥
+  pub earliest : (i : ℕ) (g : Face) → i < index → slice_get fs i ≡ Some g → IsEndless g at → ⊥

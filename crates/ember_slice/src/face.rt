@@ -6,13 +6,13 @@ ghost use Rattle.ember_model.specs.Valid.{IsValidFace};
 ghost use Rattle.ember_model.specs.Planes.{value_at};
 ghost use Rattle.ember_point.specs.Points.{spot_of};
 ghost use Rattle.ember_slice.specs.Lines.{IsFlat};
-ghost use Rattle.ember_slice.specs.Spans.{IsSpan};
+ghost use Rattle.ember_slice.specs.Intervals.{IsInterval};
 ghost use Rattle.ember_slice.specs.Segments.{IsAnswer, Joins};
 
 use crate::ends::Segment;
 use crate::fault::Endless;
+use crate::interval::{End, LineInterval};
 use crate::narrow::span_behind;
-use crate::span::{End, Span};
 use ember_algebra::Sign;
 use ember_model::Face;
 use ember_point::{reduce, side};
@@ -31,13 +31,13 @@ fn between(first: &End, last: &End) -> Option<Segment>
 }
 
 // The segment from the first end to the last, where there are both.
-fn segment_of(span: &Span) -> Result<Option<Segment>, Endless>
-    ensures { (f : Face) (at : ℤ) → (IsFlat f.support → ⊥) → IsSpan f.support at f.edges span.now → IsAnswer f at result }
+fn segment_between_ends(interval: &LineInterval) -> Result<Option<Segment>, Endless>
+    ensures { (f : Face) (at : ℤ) → (IsFlat f.support → ⊥) → IsInterval f.support at f.edges interval.now → IsAnswer f at result }
 {
-    let Some(first) = span.first else {
+    let Some(first) = interval.first else {
         return Err(Endless);
     };
-    let Some(last) = span.last else {
+    let Some(last) = interval.last else {
         return Err(Endless);
     };
     Ok(between(&first, &last))
@@ -56,7 +56,7 @@ pub fn segment(f: &Face, at: i32) -> Result<Option<Segment>, Endless>
         return Ok(None);
     }
     match span_behind(&f.support, at, f.edges.items()) {
-        Some(span) => segment_of(&span),
+        Some(interval) => segment_between_ends(&interval),
         None => Ok(None),
     }
 }

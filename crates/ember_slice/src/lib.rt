@@ -4,12 +4,10 @@
 mod ends;
 mod face;
 mod fault;
+mod interval;
 mod law;
 mod line;
 mod narrow;
-mod span;
-#[cfg(test)]
-mod tests;
 mod text;
 
 pub use ends::Segment;

@@ -3,7 +3,7 @@ ghost use Rattle.std.specs.Prelude.{ℤ, pos, negsuc, ◌≡◌, ◌-ℤ◌, ◌
 ghost use Rattle.ember_algebra.specs.Size.{Small};
 ghost use Rattle.ember_model.specs.Valid.{IsValidPlane};
 ghost use Rattle.ember_slice.specs.Lines.{level, IsFlat};
-ghost use Rattle.ember_slice.specs.Spans.{AllOf, IsPart};
+ghost use Rattle.ember_slice.specs.Intervals.{AllOf, IsHalfLine};
 
 use ember_algebra::Sign;
 use ember_model::Plane;
@@ -11,7 +11,7 @@ use ember_point::{Meet, meet, side};
 
 /// The part of a line that lies behind a plane. The line is that of a support plane at a level, and
 /// goes along (-b, a, 0) where that plane has the normal (a, b, c).
-pub(crate) enum Part {
+pub(crate) enum HalfLine {
     Nothing,
     Everything,
     /// What comes after this point.
@@ -76,27 +76,27 @@ fn is_behind(support: &Plane, at: i32, p: &Plane) -> bool
 }
 
 /// The part of the line that lies behind the plane.
-pub(crate) fn part_behind(support: &Plane, at: i32, p: &Plane) -> Part
+pub(crate) fn part_behind(support: &Plane, at: i32, p: &Plane) -> HalfLine
     requires support { IsValidPlane support.now }
     requires low { negsuc 2047 ≤ℤ at }
     requires high { at ≤ℤ pos 2047 }
     requires plane { IsValidPlane p.now }
     requires tilted { IsFlat support.now → ⊥ }
-    ensures { IsPart support.now at p.now result }
+    ensures { IsHalfLine support.now at p.now result }
 {
     match meet(support, &level_plane(at), p) {
         None => {
             if is_behind(support, at, p) {
-                Part::Everything
+                HalfLine::Everything
             } else {
-                Part::Nothing
+                HalfLine::Nothing
             }
         }
         Some(point) => {
             if climb(support, p) < 0 {
-                Part::From(point)
+                HalfLine::From(point)
             } else {
-                Part::To(point)
+                HalfLine::To(point)
             }
         }
     }

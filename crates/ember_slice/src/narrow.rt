@@ -7,10 +7,10 @@ ghost use Rattle.ember_model.specs.declared.plane.Plane.{Plane};
 ghost use Rattle.ember_model.specs.declared.point.Spot.{Spot};
 ghost use Rattle.ember_point.specs.Points.{spot_of};
 ghost use Rattle.ember_slice.specs.Lines.{IsFlat, is_on_line};
-ghost use Rattle.ember_slice.specs.Spans.{AllOf, AreEnds, Enters, IsNarrowed, IsSpan, Leaves, is_behind};
+ghost use Rattle.ember_slice.specs.Intervals.{AllOf, AreEnds, Enters, IsNarrowed, IsInterval, Leaves, is_behind};
 
-use crate::line::{Part, part_behind};
-use crate::span::{End, Span};
+use crate::interval::{End, LineInterval};
+use crate::line::{HalfLine, part_behind};
 use ember_algebra::Sign;
 use ember_model::Plane;
 use ember_point::{Meet, side};
@@ -40,69 +40,69 @@ fn tighter(end: Option<End>, new: End) -> End
 }
 
 // What is left of the span after the point, where the line passes to behind the plane.
-fn left_after(span: Span, plane: &Plane, point: Meet) -> Span
+fn left_after(interval: LineInterval, plane: &Plane, point: Meet) -> LineInterval
     requires { IsValidPlane plane.now }
-    ensures { (n : Plane) (at : ℤ) → AreEnds n at span → Enters n at plane.now (spot_of point) → IsNarrowed n at plane.now span result }
+    ensures { (n : Plane) (at : ℤ) → AreEnds n at interval → Enters n at plane.now (spot_of point) → IsNarrowed n at plane.now interval result }
 {
     let end = End {
         plane: *plane,
         point,
     };
-    Span {
-        first: Some(tighter(span.first, end)),
-        last: span.last,
+    LineInterval {
+        first: Some(tighter(interval.first, end)),
+        last: interval.last,
     }
 }
 
 // What is left of the span before the point, where the line passes back to the plane's front.
-fn left_before(span: Span, plane: &Plane, point: Meet) -> Span
+fn left_before(interval: LineInterval, plane: &Plane, point: Meet) -> LineInterval
     requires { IsValidPlane plane.now }
-    ensures { (n : Plane) (at : ℤ) → AreEnds n at span → Leaves n at plane.now (spot_of point) → IsNarrowed n at plane.now span result }
+    ensures { (n : Plane) (at : ℤ) → AreEnds n at interval → Leaves n at plane.now (spot_of point) → IsNarrowed n at plane.now interval result }
 {
     let end = End {
         plane: *plane,
         point,
     };
-    Span {
-        first: span.first,
-        last: Some(tighter(span.last, end)),
+    LineInterval {
+        first: interval.first,
+        last: Some(tighter(interval.last, end)),
     }
 }
 
 // What is left of the span behind the plane, where any of the line is.
-fn narrowed(support: &Plane, at: i32, span: Span, p: &Plane) -> Option<Span>
+fn narrowed(support: &Plane, at: i32, interval: LineInterval, p: &Plane) -> Option<LineInterval>
     requires support { IsValidPlane support.now }
     requires low { negsuc 2047 ≤ℤ at }
     requires high { at ≤ℤ pos 2047 }
     requires plane { IsValidPlane p.now }
     requires tilted { IsFlat support.now → ⊥ }
-    requires ends { AreEnds support.now at span }
-    ensures { MatchOption result (AllOf support.now at p.now false) (IsNarrowed support.now at p.now span) }
+    requires ends { AreEnds support.now at interval }
+    ensures { MatchOption result (AllOf support.now at p.now false) (IsNarrowed support.now at p.now interval) }
 {
     match part_behind(support, at, p) {
-        Part::Nothing => None,
-        Part::Everything => Some(span),
-        Part::From(point) => Some(left_after(span, p, point)),
-        Part::To(point) => Some(left_before(span, p, point)),
+        HalfLine::Nothing => None,
+        HalfLine::Everything => Some(interval),
+        HalfLine::From(point) => Some(left_after(interval, p, point)),
+        HalfLine::To(point) => Some(left_before(interval, p, point)),
     }
 }
 
 /// What is left of the line behind all the planes. `None` where one of them has all of the line on
 /// its front.
-pub(crate) fn span_behind(support: &Plane, at: i32, planes: &[Plane]) -> Option<Span>
+pub(crate) fn span_behind(support: &Plane, at: i32, planes: &[Plane]) -> Option<LineInterval>
     requires support { IsValidPlane support.now }
     requires low { negsuc 2047 ≤ℤ at }
     requires high { at ≤ℤ pos 2047 }
     requires planes { All IsValidPlane planes.now }
     requires tilted { IsFlat support.now → ⊥ }
-    ensures { MatchOption result ((v : Spot) → is_on_line support.now at v ≡ true → is_behind planes.now v ≡ false) (IsSpan support.now at planes.now) }
+    ensures { MatchOption result ((v : Spot) → is_on_line support.now at v ≡ true → is_behind planes.now v ≡ false) (IsInterval support.now at planes.now) }
 {
-    let mut span = Span {
+    let mut interval = LineInterval {
         first: None,
         last: None,
     };
     for p in planes {
-        span = narrowed(support, at, span, p)?;
+        interval = narrowed(support, at, interval, p)?;
     }
-    Some(span)
+    Some(interval)
 }

@@ -12,13 +12,13 @@ use Rattle.ember_model.specs.declared.point.Axis.TheVariants.{X, Y, Z}
 use Rattle.ember_model.specs.declared.tri.Tri.{Tri}
 use Rattle.ember_model.specs.Meshes.{IsScene}
 use Rattle.ember_expr.specs.Formula.{Formula, IsFit}
-use Rattle.ember_box.specs.Boxes.{Cell, left, left_half, right_half}
-use Rattle.ember_box.specs.Spans.{span_between}
+use Rattle.ember_box.specs.Boxes.{Cell, halvings_left, left_half, right_half}
+use Rattle.ember_box.specs.Aabbs.{interval_between}
 use Rattle.ember_box.specs.Near.{near}
 use Rattle.ember_box.specs.Halving.{halving_axis, is_leaf, leaves_within}
 use Rattle.ember_box.proofs.Halvable.{halvable_unless_leaf}
-use Rattle.ember_box.proofs.Nearby.{halves_end}
-use Rattle.ember_box.proofs.Splits.{left_less}
+use Rattle.ember_box.proofs.NearByAabbs.{halves_end}
+use Rattle.ember_box.proofs.HalfCells.{left_less}
 use Rattle.ember_box.proofs.Lists.{halving_axis_near, is_leaf_near}
 use Rattle.ember_ref.proofs.NearPoints.{IsAcross, HasPoint}
 use Rattle.ember_leaf.specs.declared.kept.Kept.{Kept}
@@ -30,22 +30,22 @@ use Rattle.ember_job.specs.Visited.{leaves}
 use Rattle.ember_job.proofs.Leaves.{under, under_leaf, under_passed, under_halved}
 use Rattle.ember_visit.specs.Jobs.{near_of, IsJob, root_job, left_job, right_job}
 use Rattle.ember_visit.specs.Values.{box_value, unless_known, leaf_or, shape}
-use Rattle.ember_visit.proofs.Among.{near_listed}
+use Rattle.ember_visit.proofs.IndexLists.{near_listed}
 use Rattle.ember_visit.proofs.Laws.{root_is_job, halves_are_jobs}
-use Rattle.ember_step.proofs.Beside.{known_has_one}
+use Rattle.ember_step.proofs.KnownBesideBox.{known_has_one}
 
 -- ---- a half of a box lies in it
-narrower : (l h from to x w : ℤ) → pos 0 <ℤ w → l ≤ℤ from → to ≤ℤ h → IsAcross (span_between from to) x w → IsAcross (span_between l h) x w
+narrower : (l h from to x w : ℤ) → pos 0 <ℤ w → l ≤ℤ from → to ≤ℤ h → IsAcross (interval_between from to) x w → IsAcross (interval_between l h) x w
 narrower l h from to x w p a b f =
     let z : pos 0 ≤ℤ w = omega (arith, linear, p) in let turn = λ (u : ℤ). solve 2 (λ u w. u ⊗ w ≈ w ⊗ u) cancels u w in
     record { from = omega (arith, linear, mul_le z a, f.from, turn l, turn from); to = omega (arith, linear, mul_le z b, f.to, turn h, turn to) }
 
-in_low : (l : ℤ) (n : ℕ) (x w : ℤ) → 0 < n → pos 0 <ℤ w → IsAcross (span_between l (l +ℤ pos (2 ^ pred n))) x w → IsAcross (span_between l (l +ℤ pos (2 ^ n))) x w
+in_low : (l : ℤ) (n : ℕ) (x w : ℤ) → 0 < n → pos 0 <ℤ w → IsAcross (interval_between l (l +ℤ pos (2 ^ pred n))) x w → IsAcross (interval_between l (l +ℤ pos (2 ^ n))) x w
 in_low l n x w may p f =
     let e = halves_end l n may in
     narrower l (l +ℤ pos (2 ^ n)) l (l +ℤ pos (2 ^ pred n)) x w p (omega (arith, linear)) (omega (arith, ints, e)) f
 
-in_high : (l : ℤ) (n : ℕ) (x w : ℤ) → 0 < n → pos 0 <ℤ w → IsAcross (span_between (l +ℤ pos (2 ^ pred n)) (l +ℤ pos (2 ^ pred n) +ℤ pos (2 ^ pred n))) x w → IsAcross (span_between l (l +ℤ pos (2 ^ n))) x w
+in_high : (l : ℤ) (n : ℕ) (x w : ℤ) → 0 < n → pos 0 <ℤ w → IsAcross (interval_between (l +ℤ pos (2 ^ pred n)) (l +ℤ pos (2 ^ pred n) +ℤ pos (2 ^ pred n))) x w → IsAcross (interval_between l (l +ℤ pos (2 ^ n))) x w
 in_high l n x w may p f =
     let e = halves_end l n may in
     narrower l (l +ℤ pos (2 ^ n)) (l +ℤ pos (2 ^ pred n)) (l +ℤ pos (2 ^ pred n) +ℤ pos (2 ^ pred n)) x w p (omega (arith, ints)) (omega (arith, ints, e)) f
@@ -127,7 +127,7 @@ module _ (ts : List Tri) (count : ℕ) (scene : IsScene ts count) (f : Formula) 
       by zero r = r
       by (suc n) r = rw (e, leaves_within) r
 
-  gives : (depth : ℕ) (j : Job) → left j.cell ≤ depth → IsJob ts j → Gives depth j
+  gives : (depth : ℕ) (j : Job) → halvings_left j.cell ≤ depth → IsJob ts j → Gives depth j
   gives zero j few is = by (box_value ts f j) (is_leaf ts j.cell) refl refl
     where
       by : (v : Option Bool) (l : Bool) → box_value ts f j ≡ v → is_leaf ts j.cell ≡ l → Gives zero j
@@ -137,7 +137,7 @@ module _ (ts : List Tri) (count : ℕ) (scene : IsScene ts count) (f : Formula) 
           absurd (omega (arith, few, left_less j.cell (halving_axis ts j.cell) (halvable_unless_leaf ts j.cell q)))
   gives (suc depth) j few is = by (box_value ts f j) (is_leaf ts j.cell) refl refl (gives depth)
     where
-      by : (v : Option Bool) (l : Bool) → box_value ts f j ≡ v → is_leaf ts j.cell ≡ l → ((half : Job) → left half.cell ≤ depth → IsJob ts half → Gives depth half) → Gives (suc depth) j
+      by : (v : Option Bool) (l : Bool) → box_value ts f j ≡ v → is_leaf ts j.cell ≡ l → ((half : Job) → halvings_left half.cell ≤ depth → IsJob ts half → Gives depth half) → Gives (suc depth) j
       by (Some known) l e q half = passed_gives (suc depth) j is known e (by_shape j (Some known) l e (ap (λ (us : List Tri). is_leaf us j.cell) (sym (near_listed ts j is)) ∙ is_leaf_near ts j.cell ∙ q))
       by None true e q half = leafed_gives (suc depth) j q (by_shape j None true e (ap (λ (us : List Tri). is_leaf us j.cell) (sym (near_listed ts j is)) ∙ is_leaf_near ts j.cell ∙ q))
       by None false e q half = λ ks r.
@@ -146,8 +146,8 @@ module _ (ts : List Tri) (count : ℕ) (scene : IsScene ts count) (f : Formula) 
           let s : of j ≡ halved low high = by_shape j None false e (ap (λ (us : List Tri). is_leaf us j.cell) (sym (near_listed ts j is)) ∙ is_leaf_near ts j.cell ∙ q) in
           let both = halves_are_jobs ts f j low high count scene is s in
           let less = left_less j.cell k (halvable_unless_leaf ts j.cell q) in
-          let fewer : left low.cell ≤ depth = omega (arith, few, less, ap (λ (k : Axis). left (left_half j.cell k)) same) in
-          let fewer_too : left high.cell ≤ depth = omega (arith, few, less, ap (λ (k : Axis). left (left_half j.cell k)) same) in
+          let fewer : halvings_left low.cell ≤ depth = omega (arith, few, less, ap (λ (k : Axis). halvings_left (left_half j.cell k)) same) in
+          let fewer_too : halvings_left high.cell ≤ depth = omega (arith, few, less, ap (λ (k : Axis). halvings_left (left_half j.cell k)) same) in
           let p = parted (under of depth low) (under of depth high) ks (subst (λ (js : List Job). Each Writes js ks) (under_halved of depth j low high s) r) in
           let a = subst (λ (k : Axis). Each (LeafGives ts f) (leaves_within ts depth (left_half j.cell k)) p.first) same (half low fewer both.0 p.first p.firsts) in
           let b = subst (λ (k : Axis). Each (LeafGives ts f) (leaves_within ts depth (right_half j.cell k)) p.second) same (half high fewer_too both.1 p.second p.seconds) in
@@ -155,4 +155,4 @@ module _ (ts : List Tri) (count : ℕ) (scene : IsScene ts count) (f : Formula) 
 
   -- the regions that the visited leaves write are those of the full tree
   pub visited_written : (ks : List Kept) → Each Writes (leaves of (root_job ts)) ks → IsWritten ts f ks
-  visited_written ks r = gives (left (root_job ts).cell) (root_job ts) (omega arith) (root_is_job ts count scene) ks r
+  visited_written ks r = gives (halvings_left (root_job ts).cell) (root_job ts) (omega arith) (root_is_job ts count scene) ks r

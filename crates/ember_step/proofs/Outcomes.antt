@@ -11,8 +11,8 @@ use Rattle.ember_job.specs.declared.job.Job.{Job}
 use Rattle.ember_job.specs.Works.{Shape, halved, leafed, passed}
 use Rattle.ember_leaf.specs.declared.kept.Kept.{Kept}
 use Rattle.ember_leaf.specs.Written.{IsWrittenIn}
-use Rattle.ember_visit.specs.Jobs.{near_of, IsJob, left_job, right_job, AreHalves}
-use Rattle.ember_visit.proofs.Among.{of_64, near_listed}
+use Rattle.ember_visit.specs.Jobs.{near_of, IsJob, left_job, right_job, AreHalfJobs}
+use Rattle.ember_visit.proofs.IndexLists.{of_64, near_listed}
 use Rattle.ember_visit.specs.Values.{box_value, unless_known, leaf_or, shape}
 
 known : (v : Option Bool) (s : Shape) → is_some v ≡ true → unless_known v s ≡ passed
@@ -53,7 +53,7 @@ module _ (ts : List Tri) (f : Formula) (j : Job) where
   pub leaf_by : is_some (box_value ts f j) ≡ false → None ≡ (if is_leaf (near_of ts j) j.cell then None else Some axis) → shape ts f j ≡ leafed
   leaf_by e l = goes_on e ∙ ap (λ b. leaf_or b halves) (a_leaf (is_leaf (near_of ts j) j.cell) axis l)
 
-  pub halved_by : (k : Axis) (low high : Job) → is_some (box_value ts f j) ≡ false → Some k ≡ (if is_leaf (near_of ts j) j.cell then None else Some axis) → AreHalves ts j k low high → shape ts f j ≡ halved low high
+  pub halved_by : (k : Axis) (low high : Job) → is_some (box_value ts f j) ≡ false → Some k ≡ (if is_leaf (near_of ts j) j.cell then None else Some axis) → AreHalfJobs ts j k low high → shape ts f j ≡ halved low high
   halved_by k low high e l h =
       let is : k ≡ axis = that_axis (is_leaf (near_of ts j) j.cell) k axis l in
       let low_is : low ≡ left_job ts j axis = h.is_low ∙ ap (left_job ts j) is in

@@ -5,8 +5,6 @@
 mod count;
 mod law;
 mod step;
-#[cfg(test)]
-mod tests;
 
 pub use count::{CountWork, count_step};
 pub use ember_visit::{box_value, halve_job, root_job};

@@ -3,9 +3,9 @@ use Rattle.std.proofs.Common.{◌≡◌, refl, sym, ap, ◌∙◌, arith, ℕ, z
 use lib.ListN.{get_or}
 use Rattle.std.proofs.lemmas.List.{take_more}
 use Rattle.ember_model.specs.declared.plane.Plane.{Plane}
-use Rattle.ember_model.specs.Edges.{RingEdge, SamePlace}
+use Rattle.ember_model.specs.Edges.{RingEdge, SamePoint}
 use Rattle.ember_model.specs.FaceFiles.{IsLowest}
-use Rattle.ember_point.specs.declared.corner.Meet.{Meet}
+use Rattle.ember_point.specs.declared.meet_point.Meet.{Meet}
 use Rattle.ember_point.specs.Points.{spot_of}
 use Rattle.ember_poly.specs.Sides.{ring_edges}
 use Rattle.ember_text.specs.Texts.{AreReduced}
@@ -31,13 +31,13 @@ pub ring_at : (es : List Plane) (ms : List Meet) (i : ℕ) (d : RingEdge) (m : M
 ring_at es ms i d m p l h =
     ap (λ (u : Meet). edge_with (get_or es i zero_plane) u) h ∙ sym (ring_get es ms i d zero_plane m p l)
 
-pub reduced_push : (ms vs : List Meet) (m v : Meet) → AreReduced ms vs → SamePlace (spot_of m) (spot_of v) → IsLowest (spot_of v) → AreReduced (ms ++ m ∷ []) (vs ++ v ∷ [])
+pub reduced_push : (ms vs : List Meet) (m v : Meet) → AreReduced ms vs → SamePoint (spot_of m) (spot_of v) → IsLowest (spot_of v) → AreReduced (ms ++ m ∷ []) (vs ++ v ∷ [])
 reduced_push [] [] m v h s l = (s, l, tt)
 reduced_push [] (y ∷ vs) m v h s l = absurd h
 reduced_push (x ∷ ms) [] m v h s l = absurd h
 reduced_push (x ∷ ms) (y ∷ vs) m v h s l = (h.0, h.1, reduced_push ms vs m v h.2 s l)
 
-pub reduced_more : (ms vs : List Meet) (i : ℕ) (m v : Meet) {ws : List Meet} → i < length ms → AreReduced (take i ms) vs → m ≡ get_or ms i m → ws ≡ vs ++ v ∷ [] → SamePlace (spot_of m) (spot_of v) → IsLowest (spot_of v) → AreReduced (take (i + 1) ms) ws
+pub reduced_more : (ms vs : List Meet) (i : ℕ) (m v : Meet) {ws : List Meet} → i < length ms → AreReduced (take i ms) vs → m ≡ get_or ms i m → ws ≡ vs ++ v ∷ [] → SamePoint (spot_of m) (spot_of v) → IsLowest (spot_of v) → AreReduced (take (i + 1) ms) ws
 reduced_more ms vs i m v l h e ew s k =
     rw (ew, take_more ms i m l, ← e) (reduced_push (take i ms) vs m v h s k)
 

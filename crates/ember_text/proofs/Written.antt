@@ -7,15 +7,15 @@ use Rattle.std.proofs.lemmas.Grind.{reverse_onto}
 use Rattle.ember_model.specs.declared.plane.Plane.{Plane}
 use Rattle.ember_model.specs.declared.face.Face.{Face}
 use Rattle.ember_model.specs.Planes.{opposite}
-use Rattle.ember_model.specs.Faces.{turned}
+use Rattle.ember_model.specs.Faces.{flipped_face}
 use Rattle.ember_model.specs.Valid.{IsValidPlane}
 use Rattle.ember_model.specs.Edges.{RingEdge, IsOutline}
 use Rattle.ember_model.specs.FaceFiles.{face_lines, IsLowest, IsWrittenEdge}
-use Rattle.ember_point.specs.declared.corner.Meet.{Meet}
+use Rattle.ember_point.specs.declared.meet_point.Meet.{Meet}
 use Rattle.ember_point.specs.Points.{spot_of}
 use Rattle.ember_poly.specs.Sides.{ring_edges}
 use Rattle.ember_poly.proofs.Chains.{each-push, each_map}
-use Rattle.ember_poly.proofs.Turns.{each-join}
+use Rattle.ember_poly.proofs.Rotations.{each-join}
 use Rattle.ember_poly.proofs.MovedOutline.{AreMoved, outline_moved}
 use Rattle.ember_poly.proofs.TurnedOutline.{turn_back, turned_outline, outline_turned}
 use Rattle.ember_text.specs.Texts.{AreReduced, IsGoodText}
@@ -113,15 +113,15 @@ each_turn_corners P [] h = tt
 each_turn_corners P (u ∷ []) h = (h.0, tt)
 each_turn_corners P (u ∷ v ∷ vs) h = each_reverse P (vs ++ u ∷ v ∷ []) (each-join P vs (u ∷ v ∷ []) h.1.1 (h.0, (h.1.0, tt)))
 
-outline_flipped : (f : Face) (es : List Plane) (vs : List Meet) → IsOutline f (ring_edges es vs) → length vs ≡ length es → 3 ≤ length es → IsOutline (turned f) (ring_edges (turn_planes es) (turn_corners vs))
+outline_flipped : (f : Face) (es : List Plane) (vs : List Meet) → IsOutline f (ring_edges es vs) → length vs ≡ length es → 3 ≤ length es → IsOutline (flipped_face f) (ring_edges (turn_planes es) (turn_corners vs))
 outline_flipped f [] vs o p t = absurd (omega (arith, t))
 outline_flipped f (a ∷ []) vs o p t = absurd (omega (arith, t))
 outline_flipped f (a ∷ b ∷ es) [] o p t = absurd (omega (arith, p))
 outline_flipped f (a ∷ b ∷ es) (u ∷ []) o p t = absurd (omega (arith, p))
 outline_flipped f (a ∷ b ∷ es) (u ∷ v ∷ vs) o p t =
-    subst (λ zs. IsOutline (turned f) zs) (sym (ring_turned a b es u v vs (omega (arith, p)))) (outline_turned f (edge_with a u) (edge_with b v) (ring_edges es vs) o)
+    subst (λ zs. IsOutline (flipped_face f) zs) (sym (ring_turned a b es u v vs (omega (arith, p)))) (outline_turned f (edge_with a u) (edge_with b v) (ring_edges es vs) o)
 
-pub good_flipped : (f : Face) (n n' : Plane) (es es' : List Plane) (ms vs vs' : List Meet) → n ≡ f.support → n' ≡ opposite n → IsValidPlane n' → IsOutline f (ring_edges es ms) → length ms ≡ length es → 3 ≤ length es → All IsValidPlane es → AreReduced ms vs → length vs ≡ length ms → es' ≡ turn_planes es → vs' ≡ turn_corners vs → IsGoodText (turned f) (face_lines n' (ring_edges es' vs'))
+pub good_flipped : (f : Face) (n n' : Plane) (es es' : List Plane) (ms vs vs' : List Meet) → n ≡ f.support → n' ≡ opposite n → IsValidPlane n' → IsOutline f (ring_edges es ms) → length ms ≡ length es → 3 ≤ length es → All IsValidPlane es → AreReduced ms vs → length vs ≡ length ms → es' ≡ turn_planes es → vs' ≡ turn_corners vs → IsGoodText (flipped_face f) (face_lines n' (ring_edges es' vs'))
 good_flipped f n n' es es' ms vs vs' en eo vn o p t ve r l ee ev =
     let moved = outline_moved f (ring_edges es ms) (ring_edges es vs) (reduced_moved es ms vs r) o in
-    rw (ee, ev) (good (turned f) n' (turn_planes es) (turn_corners vs) (eo ∙ ap opposite en) vn (outline_flipped f es vs moved (l ∙ p) t) (length-turn_corners vs (subst (λ k. 3 ≤ k) (sym (l ∙ p)) t) ∙ (l ∙ p) ∙ sym (length-turn_planes es t)) (subst (λ k. 3 ≤ k) (sym (length-turn_planes es t)) t) (each_turn_planes IsValidPlane es (each_of IsValidPlane es ve)) (each_turn_corners Lowest vs (reduced_lowest ms vs r)))
+    rw (ee, ev) (good (flipped_face f) n' (turn_planes es) (turn_corners vs) (eo ∙ ap opposite en) vn (outline_flipped f es vs moved (l ∙ p) t) (length-turn_corners vs (subst (λ k. 3 ≤ k) (sym (l ∙ p)) t) ∙ (l ∙ p) ∙ sym (length-turn_planes es t)) (subst (λ k. 3 ≤ k) (sym (length-turn_planes es t)) t) (each_turn_planes IsValidPlane es (each_of IsValidPlane es ve)) (each_turn_corners Lowest vs (reduced_lowest ms vs r)))

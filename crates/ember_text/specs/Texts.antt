@@ -2,10 +2,10 @@
 use Rattle.std.specs.Prelude.{◌≡◌, ◌⊎◌, ℕ, Bool, if◌then◌else◌, List, [], ◌∷◌, ◌++◌, flat_map}
 use Rattle.ember_model.specs.declared.face.Face.{Face}
 use Rattle.ember_model.specs.declared.plane.Plane.{Plane}
-use Rattle.ember_model.specs.Faces.{turned}
-use Rattle.ember_model.specs.Edges.{SamePlace}
+use Rattle.ember_model.specs.Faces.{flipped_face}
+use Rattle.ember_model.specs.Edges.{SamePoint}
 use Rattle.ember_model.specs.FaceFiles.{edge_line, face_lines, IsLowest, IsFaceText, IsWrittenFace}
-use Rattle.ember_point.specs.declared.corner.Meet.{Meet}
+use Rattle.ember_point.specs.declared.meet_point.Meet.{Meet}
 use Rattle.ember_point.specs.Points.{spot_of}
 use Rattle.ember_poly.specs.Sides.{ring_edges}
 
@@ -28,14 +28,14 @@ lines_of n ps ms = face_lines n (ring_edges ps ms)
 
 -- the face, or the same with the opposite front
 abbrev pub seen : Face → Bool → Face
-seen f flipped = if flipped then turned f else f
+seen f flipped = if flipped then flipped_face f else f
 
 -- the same points in lowest terms
 abbrev pub AreReduced : List Meet → List Meet → Type 0
 AreReduced [] [] = Unit {0}
 AreReduced [] (v ∷ vs) = ⊥
 AreReduced (m ∷ ms) [] = ⊥
-AreReduced (m ∷ ms) (v ∷ vs) = SamePlace (spot_of m) (spot_of v) × IsLowest (spot_of v) × AreReduced ms vs
+AreReduced (m ∷ ms) (v ∷ vs) = SamePoint (spot_of m) (spot_of v) × IsLowest (spot_of v) × AreReduced ms vs
 
 -- the text of a face whose numbers are in their ranges
 pub record IsGoodText (f : Face) (text : List ℕ) : Type 0 where

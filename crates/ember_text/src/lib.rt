@@ -9,6 +9,3 @@ mod whole;
 pub use face::face_text;
 pub use file::{begin_file, end_file};
 pub use whole::document;
-
-#[cfg(test)]
-mod tests;

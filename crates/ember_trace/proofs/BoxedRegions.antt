@@ -15,7 +15,7 @@ use Rattle.ember_model.specs.ClearTest.{none_positive}
 use Rattle.ember_model.proofs.SignTests.{negative_out, negative_in, positive_in, not_positive_in}
 use Rattle.ember_box.specs.Boxes.{Cell}
 use Rattle.ember_box.specs.Near.{tri_at}
-use Rattle.ember_box.specs.Regions.{Wall, walls, AtWall, cut, outside, in_high, stays, Blade, AtBlade, splits, whole, IsRegions}
+use Rattle.ember_box.specs.Regions.{Wall, walls, AtWall, cut, outside, in_high, stays, CuttingPlane, AtCuttingPlane, splits, whole, IsRegions}
 use Rattle.ember_trace.specs.Boxed.{LiesIn}
 use Rattle.ember_trace.proofs.FilledFaces.{inside_below, fills}
 
@@ -60,13 +60,13 @@ at_walls Q (step {x = w} {xs = ws} {c = gs} r c) h =
     both : {a b : Bool} → a ≡ true → b ≡ true → a && b ≡ true
     both x y = λ i. x i && y i
 
--- ---- blades
-at_blade : (b : Blade) (Q : Spot → Type 0) (f : Face) (fs : List Face) → Everywhere f Q → AtBlade b f fs → Every (λ g. Everywhere g Q) fs
+-- ---- cutting planes
+at_blade : (b : CuttingPlane) (Q : Spot → Type 0) (f : Face) (fs : List Face) → Everywhere f Q → AtCuttingPlane b f fs → Every (λ g. Everywhere g Q) fs
 at_blade b Q f fs h (splits m c) =
     (record { holds = λ v i. h.holds v (inside_below f b.plane v i).0 }, (record { holds = λ v i. h.holds v (inside_below f (opposite b.plane) v i).0 }, tt))
 at_blade b Q f fs h (whole m) = (h, tt)
 
-at_blades : {bs : List Blade} {fs gs : List Face} (Q : Spot → Type 0) → Chain (λ b. Each (AtBlade b)) bs fs gs → Every (λ f. Everywhere f Q) fs → Every (λ g. Everywhere g Q) gs
+at_blades : {bs : List CuttingPlane} {fs gs : List Face} (Q : Spot → Type 0) → Chain (λ b. Each (AtCuttingPlane b)) bs fs gs → Every (λ f. Everywhere f Q) fs → Every (λ g. Everywhere g Q) gs
 at_blades Q done h = h
 at_blades Q (step {x = b} r c) h =
     at_blades Q c (each_every (λ f. Everywhere f Q) (λ g. Everywhere g Q) (λ f fs e a. at_blade b Q f fs e a) r h)

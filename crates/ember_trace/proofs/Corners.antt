@@ -16,40 +16,40 @@ use Rattle.ember_model.specs.declared.face.Face.{Face}
 use Rattle.ember_model.specs.Planes.{value_at, along, main_axis}
 use Rattle.ember_model.specs.Faces.{is_in_closed, is_inside}
 use Rattle.ember_model.specs.ClearTest.{none_positive, all_negative}
-use Rattle.ember_model.specs.Edges.{normal, reach_along, RingEdge, IsEdge, IsBefore, IsPath, IsAmong, IsOutline, SameEdge, SamePlace, is_on_edge}
+use Rattle.ember_model.specs.Edges.{normal, position_along, RingEdge, IsEdge, IsBefore, IsEdgeChain, HasEdgeOf, IsOutline, SameEdge, SamePoint, is_on_edge}
 use Rattle.ember_model.proofs.SignTests.{and_parts, zero_out, zero_scaled, zero_times, clash, negative_in, not_positive_out, positive_in}
 use Rattle.ember_model.proofs.Hits.{closed_parts, inside_on}
 use Rattle.ember_model.proofs.SeenCrossings.{main_zero}
 use Rattle.ember_model.proofs.Tuples.{plane_tuple, spot_tuple, normalE}
 use Rattle.ember_law.proofs.Shifted.{NoNormal}
-use Rattle.ember_point.specs.declared.corner.Meet.{Meet}
+use Rattle.ember_point.specs.declared.meet_point.Meet.{Meet}
 use Rattle.ember_point.specs.Points.{spot_of}
-use Rattle.ember_poly.specs.Rings.{turn}
+use Rattle.ember_poly.specs.Rings.{orientation}
 use Rattle.ember_poly.specs.Sides.{ring_edges, AreCorners}
 use Rattle.ember_law.proofs.Generic.{cancel_zero}
 use Rattle.ember_poly.proofs.Planar.{places, same_place, turnE, both_zero}
-use Rattle.ember_trace.proofs.WayPoints.{close_to, value_close}
+use Rattle.ember_trace.proofs.PathVertices.{close_to, value_close}
 
 -- the plane that grows along an edge, as its reach does
 abbrev grows : Plane → Plane → Plane
 grows n g =
     let z = cross (normal n) (normal g) in record { a = z.x; b = z.y; c = z.z; d = pos 0 }
 
--- the way from u to v, as a plane
+-- the path from u to v, as a plane
 abbrev way : Spot → Spot → Plane
 way u v = record { a = u.w *ℤ v.x -ℤ v.w *ℤ u.x; b = u.w *ℤ v.y -ℤ v.w *ℤ u.y; c = u.w *ℤ v.z -ℤ v.w *ℤ u.z; d = pos 0 }
 
-reach_value : (n g : Plane) (v : Spot) → value_at (grows n g) v ≡ reach_along n g v
+reach_value : (n g : Plane) (v : Spot) → value_at (grows n g) v ≡ position_along n g v
 reach_value n g v =
     let z = cross (normal n) (normal g) in
     solve 7 (λ a b c x y z w. a ⊗ x ⊕ b ⊗ y ⊕ c ⊗ z ⊖ num (pos 0) ⊗ w ≈ a ⊗ x ⊕ b ⊗ y ⊕ c ⊗ z) cancels z.x z.y z.z v.x v.y v.z v.w
 
-way_turn : (n g : Plane) (u v : Spot) → turn (way u v) n g ≡ u.w *ℤ reach_along n g v -ℤ v.w *ℤ reach_along n g u
+way_turn : (n g : Plane) (u v : Spot) → orientation (way u v) n g ≡ u.w *ℤ position_along n g v -ℤ v.w *ℤ position_along n g u
 way_turn n g u v =
     identity (tuple ∷ tuple ∷ tuple ∷ tuple ∷ []) (λ n g u v. dotE (record { x = u.w ⊗ v.x ⊖ v.w ⊗ u.x; y = u.w ⊗ v.y ⊖ v.w ⊗ u.y; z = u.w ⊗ v.z ⊖ v.w ⊗ u.z }) (crossE (normalE n) (normalE g)) ≈ u.w ⊗ dotE (crossE (normalE n) (normalE g)) (record { x = v.x; y = v.y; z = v.z }) ⊖ v.w ⊗ dotE (crossE (normalE n) (normalE g)) (record { x = u.x; y = u.y; z = u.z })) cancels (plane_tuple n) (plane_tuple g) (spot_tuple u) (spot_tuple v)
 
 -- one place is as far along as itself
-not_before : (n g : Plane) (u v : Spot) → v.w *ℤ reach_along n g u ≡ u.w *ℤ reach_along n g v → IsBefore n g u v → ⊥
+not_before : (n g : Plane) (u v : Spot) → v.w *ℤ position_along n g u ≡ u.w *ℤ position_along n g v → IsBefore n g u v → ⊥
 not_before n g u v e b = let l = b.before in absurd (omega (arith, linear, e, l))
 
 same_zero : (a b : ℤ) → (a ≡ pos 0 → b ≡ pos 0) → (b ≡ pos 0 → a ≡ pos 0) → is_zero a ≡ is_zero b
@@ -135,11 +135,11 @@ edge_at : (f : Face) (g : Plane) (v : Spot) → is_in_closed f v ≡ true → va
 edge_at f g v c z = let e = ap is_zero z in λ i. c i && e i
 
 -- a plane that is 0 at both ends of an edge doesn't turn from it
-no_turn : (f : Face) (g p : Plane) (u v : Spot) → IsBefore f.support g u v → OnEdge f g u → OnEdge f g v → value_at p u ≡ pos 0 → value_at p v ≡ pos 0 → turn f.support g p ≡ pos 0
+no_turn : (f : Face) (g p : Plane) (u v : Spot) → IsBefore f.support g u v → OnEdge f g u → OnEdge f g v → value_at p u ≡ pos 0 → value_at p v ≡ pos 0 → orientation f.support g p ≡ pos 0
 no_turn f g p u v b a d pu pv =
-    by_sign (turn f.support g p) (λ l. absurd (turns (λ z. omega (arith, linear, l, z)))) (λ z. z) (λ l. absurd (turns (λ z. omega (arith, linear, l, z))))
+    by_sign (orientation f.support g p) (λ l. absurd (turns (λ z. omega (arith, linear, l, z)))) (λ z. z) (λ l. absurd (turns (λ z. omega (arith, linear, l, z))))
   where
-    turns : turn f.support g p ≢ pos 0 → ⊥
+    turns : orientation f.support g p ≢ pos 0 → ⊥
     turns t =
         let n = f.support in let e = same_place n g p t (grows n g) u v a.flat a.zero pu d.flat d.zero pv in
         let x = reach_value n g u in let y = reach_value n g v in
@@ -159,7 +159,7 @@ no_entry n p Y l s e =
 no_entry n p Z l s e =
     (other_zero n.c p.a s (let q = zero_scaled n.a p.c e in let r = l.y in omega (arith, linear, q, r)), other_zero n.c p.b s (let q = zero_scaled n.b p.c e in let r = l.x in omega (arith, linear, q, r)), e)
 
-reach_zero : (n p : Plane) (v : Spot) → Parallel n p → reach_along n p v ≡ pos 0
+reach_zero : (n p : Plane) (v : Spot) → Parallel n p → position_along n p v ≡ pos 0
 reach_zero n p v h =
     let x = zero_times _ v.x h.x in let y = zero_times _ v.y h.y in let z = zero_times _ v.z h.z in omega (arith, linear, x, y, z)
 
@@ -179,39 +179,39 @@ module _ (f : Face) (g h : Plane) (u v w : Spot) (j : Joins f g h u v w) where
   then_w : OnEdge f h w
   then_w = on_edge f h w j.second.ends
 
-  leads : pos 0 <ℤ turn (way u v) n g
+  leads : pos 0 <ℤ orientation (way u v) n g
   leads = let e = way_turn n g u v in let l = j.first.leads.before in omega (arith, linear, e, l)
 
-  leads_on : pos 0 <ℤ turn (way v w) n h
+  leads_on : pos 0 <ℤ orientation (way v w) n h
   leads_on = let e = way_turn n h v w in let l = j.second.leads.before in omega (arith, linear, e, l)
 
   -- the second edge turns from the first: else they would be one
-  turns : turn n g h ≢ pos 0
+  turns : orientation n g h ≢ pos 0
   turns t = j.apart (λ x. by x (is_in_closed f x) refl)
     where
-      back : turn n h g ≡ pos 0
+      back : orientation n h g ≡ pos 0
       back =
           identity (tuple ∷ tuple ∷ tuple ∷ []) (λ n g h. turnE n h g ≈ neg (turnE n g h)) cancels (plane_tuple n) (plane_tuple g) (plane_tuple h) ∙ ap neg_ℤ t
 
       to : (x : Spot) → value_at n x ≡ pos 0 → value_at g x ≡ pos 0 → value_at h x ≡ pos 0
       to x nx gx =
           let e = way u v in
-          last_zero (turn n g h) (v.w *ℤ value_at e x -ℤ x.w *ℤ value_at e v) (turn e g h) (turn e h n) (turn e n g) v.w x.w (value_at n x) (value_at n v) (value_at g x) (value_at g v) (value_at h x) (value_at h v) leads at_v.weight t nx at_v.flat gx at_v.zero then_v.zero (places n g h e v x)
+          last_zero (orientation n g h) (v.w *ℤ value_at e x -ℤ x.w *ℤ value_at e v) (orientation e g h) (orientation e h n) (orientation e n g) v.w x.w (value_at n x) (value_at n v) (value_at g x) (value_at g v) (value_at h x) (value_at h v) leads at_v.weight t nx at_v.flat gx at_v.zero then_v.zero (places n g h e v x)
 
       from : (x : Spot) → value_at n x ≡ pos 0 → value_at h x ≡ pos 0 → value_at g x ≡ pos 0
       from x nx hx =
           let e = way v w in
-          last_zero (turn n h g) (v.w *ℤ value_at e x -ℤ x.w *ℤ value_at e v) (turn e h g) (turn e g n) (turn e n h) v.w x.w (value_at n x) (value_at n v) (value_at h x) (value_at h v) (value_at g x) (value_at g v) leads_on at_v.weight back nx at_v.flat hx then_v.zero at_v.zero (places n h g e v x)
+          last_zero (orientation n h g) (v.w *ℤ value_at e x -ℤ x.w *ℤ value_at e v) (orientation e h g) (orientation e g n) (orientation e n h) v.w x.w (value_at n x) (value_at n v) (value_at h x) (value_at h v) (value_at g x) (value_at g v) leads_on at_v.weight back nx at_v.flat hx then_v.zero at_v.zero (places n h g e v x)
 
       by : (x : Spot) (b : Bool) → is_in_closed f x ≡ b → is_on_edge f g x ≡ is_on_edge f h x
       by x true c =
           let z = (closed_parts f x c).1 in ap (λ (b : Bool). is_in_closed f x && b) (same_zero (value_at g x) (value_at h x) (to x z) (from x z))
       by x false c = ap (λ (b : Bool). b && is_zero (value_at g x)) c ∙ sym (ap (λ (b : Bool). b && is_zero (value_at h x)) c)
 
-  first_turn : (p : Plane) → IsZeroAt p u v w → turn n g p ≡ pos 0
+  first_turn : (p : Plane) → IsZeroAt p u v w → orientation n g p ≡ pos 0
   first_turn p z = no_turn f g p u v j.first.leads at_u at_v z.first z.second
 
-  second_turn : (p : Plane) → IsZeroAt p u v w → turn n h p ≡ pos 0
+  second_turn : (p : Plane) → IsZeroAt p u v w → orientation n h p ≡ pos 0
   second_turn p z = no_turn f h p v w j.second.leads then_v then_w z.second z.third
 
   -- a plane that is 0 at the three corners is parallel to the support plane
@@ -219,9 +219,9 @@ module _ (f : Face) (g h : Plane) (u v w : Spot) (j : Joins f g h u v w) where
   parallel p z =
       let s = tuple ∷ tuple ∷ tuple ∷ tuple ∷ [] in let a = first_turn p z in let b = second_turn p z in
       record {
-        x = other_zero (turn n g h) _ turns (identity s (λ n g h p. turnE n g h ⊗ (crossE (normalE n) (normalE p)).x ≈ neg (turnE n g p ⊗ (crossE (normalE h) (normalE n)).x ⊕ turnE n h p ⊗ (crossE (normalE n) (normalE g)).x)) cancels (plane_tuple n) (plane_tuple g) (plane_tuple h) (plane_tuple p) ∙ nothing (turn n g p) _ (turn n h p) _ a b);
-        y = other_zero (turn n g h) _ turns (identity s (λ n g h p. turnE n g h ⊗ (crossE (normalE n) (normalE p)).y ≈ neg (turnE n g p ⊗ (crossE (normalE h) (normalE n)).y ⊕ turnE n h p ⊗ (crossE (normalE n) (normalE g)).y)) cancels (plane_tuple n) (plane_tuple g) (plane_tuple h) (plane_tuple p) ∙ nothing (turn n g p) _ (turn n h p) _ a b);
-        z = other_zero (turn n g h) _ turns (identity s (λ n g h p. turnE n g h ⊗ (crossE (normalE n) (normalE p)).z ≈ neg (turnE n g p ⊗ (crossE (normalE h) (normalE n)).z ⊕ turnE n h p ⊗ (crossE (normalE n) (normalE g)).z)) cancels (plane_tuple n) (plane_tuple g) (plane_tuple h) (plane_tuple p) ∙ nothing (turn n g p) _ (turn n h p) _ a b);
+        x = other_zero (orientation n g h) _ turns (identity s (λ n g h p. turnE n g h ⊗ (crossE (normalE n) (normalE p)).x ≈ neg (turnE n g p ⊗ (crossE (normalE h) (normalE n)).x ⊕ turnE n h p ⊗ (crossE (normalE n) (normalE g)).x)) cancels (plane_tuple n) (plane_tuple g) (plane_tuple h) (plane_tuple p) ∙ nothing (orientation n g p) _ (orientation n h p) _ a b);
+        y = other_zero (orientation n g h) _ turns (identity s (λ n g h p. turnE n g h ⊗ (crossE (normalE n) (normalE p)).y ≈ neg (turnE n g p ⊗ (crossE (normalE h) (normalE n)).y ⊕ turnE n h p ⊗ (crossE (normalE n) (normalE g)).y)) cancels (plane_tuple n) (plane_tuple g) (plane_tuple h) (plane_tuple p) ∙ nothing (orientation n g p) _ (orientation n h p) _ a b);
+        z = other_zero (orientation n g h) _ turns (identity s (λ n g h p. turnE n g h ⊗ (crossE (normalE n) (normalE p)).z ≈ neg (turnE n g p ⊗ (crossE (normalE h) (normalE n)).z ⊕ turnE n h p ⊗ (crossE (normalE n) (normalE g)).z)) cancels (plane_tuple n) (plane_tuple g) (plane_tuple h) (plane_tuple p) ∙ nothing (orientation n g p) _ (orientation n h p) _ a b);
       }
     where
       nothing : (s x t y : ℤ) → s ≡ pos 0 → t ≡ pos 0 → neg_ℤ (s *ℤ x +ℤ t *ℤ y) ≡ pos 0
@@ -241,11 +241,11 @@ module _ (f : Face) (g h : Plane) (u v w : Spot) (j : Joins f g h u v w) where
   -- it is 0 at the whole face
   flat_out : (p : Plane) → IsZeroAt p u v w → (x : Spot) → is_in_closed f x ≡ true → value_at p x ≡ pos 0
   flat_out p z x c =
-      let a : turn p h n ≡ pos 0 = identity (tuple ∷ tuple ∷ tuple ∷ []) (λ n h p. turnE p h n ≈ neg (turnE n h p)) cancels (plane_tuple n) (plane_tuple h) (plane_tuple p) ∙ ap neg_ℤ (second_turn p z) in
-      let b : turn p n g ≡ pos 0 = identity (tuple ∷ tuple ∷ tuple ∷ []) (λ n g p. turnE p n g ≈ turnE n g p) cancels (plane_tuple n) (plane_tuple g) (plane_tuple p) ∙ first_turn p z in
-      first_zero (turn n g h) v.w x.w (value_at p x) (value_at p v) (turn p g h) (turn p h n) (turn p n g) (value_at n x) (value_at n v) (value_at g x) (value_at g v) (value_at h x) (value_at h v) turns at_v.weight a b (closed_parts f x c).1 at_v.flat z.second (places n g h p v x)
+      let a : orientation p h n ≡ pos 0 = identity (tuple ∷ tuple ∷ tuple ∷ []) (λ n h p. turnE p h n ≈ neg (turnE n h p)) cancels (plane_tuple n) (plane_tuple h) (plane_tuple p) ∙ ap neg_ℤ (second_turn p z) in
+      let b : orientation p n g ≡ pos 0 = identity (tuple ∷ tuple ∷ tuple ∷ []) (λ n g p. turnE p n g ≈ turnE n g p) cancels (plane_tuple n) (plane_tuple g) (plane_tuple p) ∙ first_turn p z in
+      first_zero (orientation n g h) v.w x.w (value_at p x) (value_at p v) (orientation p g h) (orientation p h n) (orientation p n g) (value_at n x) (value_at n v) (value_at g x) (value_at g v) (value_at h x) (value_at h v) turns at_v.weight a b (closed_parts f x c).1 at_v.flat z.second (places n g h p v x)
 
-  different : SamePlace u v → ⊥
+  different : SamePoint u v → ⊥
   different s =
       not_before n g u v (let z = cross (normal n) (normal g) in solve 7 (λ a b c k x y z. k ⊗ (a ⊗ x ⊕ b ⊗ y ⊕ c ⊗ z) ≈ a ⊗ (k ⊗ x) ⊕ b ⊗ (k ⊗ y) ⊕ c ⊗ (k ⊗ z)) cancels z.x z.y z.z v.w u.x u.y u.z ∙ (λ i. z.x *ℤ s.x i +ℤ z.y *ℤ s.y i +ℤ z.z *ℤ s.z i) ∙ solve 7 (λ a b c k x y z. a ⊗ (k ⊗ x) ⊕ b ⊗ (k ⊗ y) ⊕ c ⊗ (k ⊗ z) ≈ k ⊗ (a ⊗ x ⊕ b ⊗ y ⊕ c ⊗ z)) cancels z.x z.y z.z u.w v.x v.y v.z) j.first.leads
 
@@ -257,7 +257,7 @@ module _ (f : Face) (g h : Plane) (u v w : Spot) (j : Joins f g h u v w) where
       let a = zero_scaled end.w _ (reach_zero n e.plane e.start l) in let b = zero_scaled e.start.w _ (reach_zero n e.plane end l) in
       not_before n e.plane e.start end (a ∙ sym b) i.leads
 
-  not_among : (p : Plane) (end : Spot) (es : List RingEdge) → IsZeroAt p u v w → IsPath f end es → IsAmong f p es → ⊥
+  not_among : (p : Plane) (end : Spot) (es : List RingEdge) → IsZeroAt p u v w → IsEdgeChain f end es → HasEdgeOf f p es → ⊥
   not_among p end [] z path a = a
   not_among p end (e ∷ []) z path a = ⊎_elim (λ s. not_edge p e end z path s) (λ b. b) a
   not_among p end (e ∷ d ∷ es) z path a = ⊎_elim (λ s. not_edge p e d.start z path.0 s) (λ b. not_among p end (d ∷ es) z path.1 b) a

@@ -16,9 +16,9 @@ use Rattle.ember_model.proofs.SignTests.{clash, negative_out, positive_out}
 use Rattle.ember_model.proofs.Hits.{closed_parts}
 use Rattle.ember_box.specs.Boxes.{Cell}
 use Rattle.ember_box.specs.Near.{tri_at}
-use Rattle.ember_box.specs.Regions.{Wall, AtWall, cut, outside, in_high, stays, Blade, blades_at, blades, AtBlade, splits, whole, IsRegions}
+use Rattle.ember_box.specs.Regions.{Wall, AtWall, cut, outside, in_high, stays, CuttingPlane, cutting_planes_at, cutting_planes, AtCuttingPlane, splits, whole, IsRegions}
 use Rattle.ember_poly.proofs.Chains.{each-front, each-back}
-use Rattle.ember_trace.proofs.WayPoints.{opposite_value}
+use Rattle.ember_trace.proofs.PathVertices.{opposite_value}
 use Rattle.ember_trace.proofs.FilledFaces.{inside_below, uncut_flat}
 use Rattle.ember_trace.proofs.FlatPlanes.{lies_flat, self_coplanar}
 use Rattle.ember_trace.proofs.SharedPlanes.{on_plane, shared_inside}
@@ -38,30 +38,30 @@ walls_keep : (P : Face → Type 0) → Keeps P → {ws : List Wall} {fs gs : Lis
 walls_keep P k done h = h
 walls_keep P k (step {x = w} r c) h = walls_keep P k c (each_every P P (λ f fs e a. wall_keeps P k w f fs e a) r h)
 
-blade_keeps : (P : Face → Type 0) → Keeps P → (b : Blade) (f : Face) (fs : List Face) → P f → AtBlade b f fs → Every P fs
+blade_keeps : (P : Face → Type 0) → Keeps P → (b : CuttingPlane) (f : Face) (fs : List Face) → P f → AtCuttingPlane b f fs → Every P fs
 blade_keeps P k b f fs h (splits m c) = (k f b.plane h, (k f (opposite b.plane) h, tt))
 blade_keeps P k b f fs h (whole m) = (h, tt)
 
-blades_keep : (P : Face → Type 0) → Keeps P → {bs : List Blade} {fs gs : List Face} → Chain (λ b. Each (AtBlade b)) bs fs gs → Every P fs → Every P gs
+blades_keep : (P : Face → Type 0) → Keeps P → {bs : List CuttingPlane} {fs gs : List Face} → Chain (λ b. Each (AtCuttingPlane b)) bs fs gs → Every P fs → Every P gs
 blades_keep P k done h = h
 blades_keep P k (step {x = b} r c) h = blades_keep P k c (each_every P P (λ f fs e a. blade_keeps P k b f fs e a) r h)
 
--- ---- after the turn of a blade
--- where an inside point of g lies in the closed face of the blade, its plane doesn't cut g
-abbrev pub IsUncut : Blade → Face → Type 0
+-- ---- after the turn of a cutting plane
+-- where an inside point of g lies in the closed face of the cutting plane, its plane doesn't cut g
+abbrev pub IsUncut : CuttingPlane → Face → Type 0
 IsUncut b g = (v : Spot) → is_inside g v ≡ true → is_in_closed b.face v ≡ true → Cuts g b.plane → ⊥
 
-uncut_kept : (b : Blade) → Keeps (IsUncut b)
+uncut_kept : (b : CuttingPlane) → Keeps (IsUncut b)
 uncut_kept b f p h v i c k =
     h v (inside_below f p v i).0 c (record { low = record { at = k.low.at; inside = (inside_below f p k.low.at k.low.inside).0; holds = k.low.holds }; high = record { at = k.high.at; inside = (inside_below f p k.high.at k.high.inside).0; holds = k.high.holds } })
 
-after_turn : (b : Blade) (f : Face) (fs : List Face) → AtBlade b f fs → Every (IsUncut b) fs
+after_turn : (b : CuttingPlane) (f : Face) (fs : List Face) → AtCuttingPlane b f fs → Every (IsUncut b) fs
 after_turn b f fs (splits m c) =
     (λ v i c k. let l = negative_out (value_at b.plane k.high.at) (inside_below f b.plane k.high.at k.high.inside).1 in let h = positive_out (value_at b.plane k.high.at) k.high.holds in absurd (omega (arith, linear, l, h)), (λ v i c k. let l = negative_out (value_at (opposite b.plane) k.low.at) (inside_below f (opposite b.plane) k.low.at k.low.inside).1 in let h = negative_out (value_at b.plane k.low.at) k.low.holds in let e = opposite_value b.plane k.low.at in absurd (omega (arith, linear, l, h, e)), tt))
 after_turn b f fs (whole m) = (λ v i c k. m (record { at = v; inside = i; holds = c }) k, tt)
 
 -- after all turns
-after_all : {bs : List Blade} {fs gs : List Face} → Chain (λ b. Each (AtBlade b)) bs fs gs → Every (λ g. AllByRecursion (λ b. IsUncut b g) bs) gs
+after_all : {bs : List CuttingPlane} {fs gs : List Face} → Chain (λ b. Each (AtCuttingPlane b)) bs fs gs → Every (λ g. AllByRecursion (λ b. IsUncut b g) bs) gs
 after_all (done {a = fs}) = none_yet fs
   where
     none_yet : (fs : List Face) → Every (λ g. Unit {0}) fs
@@ -78,8 +78,8 @@ after_all (step {x = b} {a = fs} {c = gs} r c) =
     both P Q [] h k = tt
     both P Q (g ∷ gs) h k = ((h.0, k.0), both P Q gs h.1 k.1)
 
--- ---- the blades of one triangle
-at_range : (P : Blade → Type 0) (g : ℕ → List Blade) (n a d : ℕ) → AllByRecursion P (flat_map g (range_with_len a n)) → d < n → AllByRecursion P (g (a + d))
+-- ---- the cutting planes of one triangle
+at_range : (P : CuttingPlane → Type 0) (g : ℕ → List CuttingPlane) (n a d : ℕ) → AllByRecursion P (flat_map g (range_with_len a n)) → d < n → AllByRecursion P (g (a + d))
 at_range P g zero a d h l = absurd (omega arith)
 at_range P g (suc n) a zero h l =
     let e : a ≡ a + zero = omega arith in
@@ -88,16 +88,16 @@ at_range P g (suc n) a (suc d) h l =
     let e : (a + 1) + d ≡ a + suc d = omega arith in
     subst (λ (i : ℕ). AllByRecursion P (g i)) e (at_range P g n (a + 1) d (each-back P (g a) (flat_map g (range_with_len (a + 1) n)) h) (omega arith))
 
-blades_in : (P : Blade → Type 0) (ts : List Tri) (i m : ℕ) → AllByRecursion P (blades ts i) → m < length ts → AllByRecursion P (blades_at ts i m)
+blades_in : (P : CuttingPlane → Type 0) (ts : List Tri) (i m : ℕ) → AllByRecursion P (cutting_planes ts i) → m < length ts → AllByRecursion P (cutting_planes_at ts i m)
 blades_in P ts i m h l =
     let e : 0 + m ≡ m = omega arith in
-    subst (λ (j : ℕ). AllByRecursion P (blades_at ts i j)) e (at_range P (λ j. blades_at ts i j) (length ts) 0 m h l)
+    subst (λ (j : ℕ). AllByRecursion P (cutting_planes_at ts i j)) e (at_range P (λ j. cutting_planes_at ts i j) (length ts) 0 m h l)
 
-abbrev blade_of : Tri → Blade
+abbrev blade_of : Tri → CuttingPlane
 blade_of u = record { face = face_of u; plane = support_of u }
 
--- a triangle that isn't in the plane of triangle i has its own plane for a blade
-own_blade : (P : Blade → Type 0) (ts : List Tri) (i m : ℕ) → is_flat (tri_at ts i) ≡ false → is_flat (tri_at ts m) ≡ false → is_coplanar (tri_at ts i) (tri_at ts m) ≡ false → AllByRecursion P (blades_at ts i m) → P (blade_of (tri_at ts m))
+-- a triangle that isn't in the plane of triangle i has its own plane for a cutting plane
+own_blade : (P : CuttingPlane → Type 0) (ts : List Tri) (i m : ℕ) → is_flat (tri_at ts i) ≡ false → is_flat (tri_at ts m) ≡ false → is_coplanar (tri_at ts i) (tri_at ts m) ≡ false → AllByRecursion P (cutting_planes_at ts i m) → P (blade_of (tri_at ts m))
 own_blade P ts i m fi fm apart h = by (nat_eq m i) (is_flat (tri_at ts m)) (is_coplanar (tri_at ts i) (tri_at ts m)) refl fm apart h
   where
     by : (s f c : Bool) → nat_eq m i ≡ s → f ≡ false → c ≡ false → AllByRecursion P (elim s [ true ↦ [] | false ↦ elim f [ true ↦ [] | false ↦ map (λ p. record { face = face_of (tri_at ts m); plane = p }) (elim c [ true ↦ edges_of (tri_at ts m) | false ↦ support_of (tri_at ts m) ∷ [] ]) ] ]) → P (blade_of (tri_at ts m))
@@ -109,7 +109,7 @@ own_blade P ts i m fi fm apart h = by (nat_eq m i) (is_flat (tri_at ts m)) (is_c
     by false false false e ef ec h = h.0
 
 -- a triangle in the plane of triangle i has its edge planes
-own_edges : (P : Blade → Type 0) (ts : List Tri) (i m : ℕ) → nat_eq m i ≡ false → is_flat (tri_at ts m) ≡ false → is_coplanar (tri_at ts i) (tri_at ts m) ≡ true → AllByRecursion P (blades_at ts i m) → AllByRecursion P (map (λ p. record { face = face_of (tri_at ts m); plane = p }) (edges_of (tri_at ts m)))
+own_edges : (P : CuttingPlane → Type 0) (ts : List Tri) (i m : ℕ) → nat_eq m i ≡ false → is_flat (tri_at ts m) ≡ false → is_coplanar (tri_at ts i) (tri_at ts m) ≡ true → AllByRecursion P (cutting_planes_at ts i m) → AllByRecursion P (map (λ p. record { face = face_of (tri_at ts m); plane = p }) (edges_of (tri_at ts m)))
 own_edges P ts i m other fm within h = by (nat_eq m i) (is_flat (tri_at ts m)) (is_coplanar (tri_at ts i) (tri_at ts m)) other fm within h
   where
     by : (s f c : Bool) → s ≡ false → f ≡ false → c ≡ true → AllByRecursion P (elim s [ true ↦ [] | false ↦ elim f [ true ↦ [] | false ↦ map (λ p. record { face = face_of (tri_at ts m); plane = p }) (elim c [ true ↦ edges_of (tri_at ts m) | false ↦ support_of (tri_at ts m) ∷ [] ]) ] ]) → AllByRecursion P (map (λ p. record { face = face_of (tri_at ts m); plane = p }) (edges_of (tri_at ts m)))
@@ -142,8 +142,8 @@ region_cut c ts i j fs f r e = record { support = own.0; normal = own.1; misses 
     own : P f
     own = every_at P fs j f (blades_keep P (λ f p h. h) r.cuts (walls_keep P (λ f p h. h) r.is_start (begun (is_flat t) refl))) e
 
-    after : AllByRecursion (λ b. IsUncut b f) (blades ts i)
-    after = every_at (λ g. AllByRecursion (λ b. IsUncut b g) (blades ts i)) fs j f (after_all r.cuts) e
+    after : AllByRecursion (λ b. IsUncut b f) (cutting_planes ts i)
+    after = every_at (λ g. AllByRecursion (λ b. IsUncut b g) (cutting_planes ts i)) fs j f (after_all r.cuts) e
 
     missed : (m : ℕ) → m < length ts → is_flat (tri_at ts m) ≡ false → is_coplanar t (tri_at ts m) ≡ false → (v : Spot) → is_inside f v ≡ true → is_in_closed (face_of (tri_at ts m)) v ≡ true → ⊥
     missed m l fm apart v h x =

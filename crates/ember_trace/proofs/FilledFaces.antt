@@ -16,7 +16,7 @@ use Rattle.ember_model.specs.Faces.{is_inside, below, Everywhere, Cuts}
 use Rattle.ember_model.specs.ClearTest.{all_negative}
 use Rattle.ember_model.proofs.SignTests.{and_parts, negative_in, negative_out, positive_in, positive_out, zero_times}
 use Rattle.ember_model.proofs.Hits.{inside_on, inside_parts}
-use Rattle.ember_trace.proofs.WayPoints.{opposite_value}
+use Rattle.ember_trace.proofs.PathVertices.{opposite_value}
 
 -- ---- a plane appended
 pub inside_below : (f : Face) (p : Plane) (v : Spot) → is_inside (below f p) v ≡ true → (is_inside f v ≡ true) × (is_negative (value_at p v) ≡ true)

@@ -15,14 +15,14 @@ use Rattle.ember_model.specs.declared.tri.Tri.{Tri}
 use Rattle.ember_model.specs.declared.face.Face.{Face}
 use Rattle.ember_model.specs.Planes.{vector_of, value_at, opposite, support_of}
 use Rattle.ember_model.specs.Faces.{is_inside, is_in_closed, is_flat, face_of, Everywhere}
-use Rattle.ember_model.specs.Owners.{spot_at, lies_in_plane_of, is_coplanar}
+use Rattle.ember_model.specs.Owners.{spot_of_corner, lies_in_plane_of, is_coplanar}
 use Rattle.ember_model.specs.ClearTest.{all_negative}
 use Rattle.ember_model.proofs.SignTests.{and_parts, negative_in, negative_out, positive_in, zero_scaled, zero_times, zero_out, not_true, clash}
 use Rattle.ember_model.proofs.Hits.{inside_on, inside_parts}
 use Rattle.ember_law.proofs.Generic.{cancel_zero}
-use Rattle.ember_law.proofs.Flats.{flat_in}
+use Rattle.ember_law.proofs.FlatTriangles.{flat_in}
 use Rattle.ember_law.proofs.CornerSides.{above_corners}
-use Rattle.ember_trace.proofs.WayPoints.{opposite_value}
+use Rattle.ember_trace.proofs.PathVertices.{opposite_value}
 use Rattle.ember_trace.proofs.Corners.{Parallel}
 
 -- ---- a little beside a point, along a vector
@@ -102,15 +102,15 @@ module _ (n p : Plane) (v q : Spot) (l : Parallel n p) (w : pos 0 <ℤ v.w) (nv 
       (λ o. by_x (λ z. omega (arith, linear, o, z)))
 
 -- ---- triangles
-pub corner_a : (u : Tri) → value_at (support_of u) (spot_at u.a) ≡ pos 0
+pub corner_a : (u : Tri) → value_at (support_of u) (spot_of_corner u.a) ≡ pos 0
 corner_a u =
     identity (vector ∷ vector ∷ vector ∷ []) (λ a b c. dotE (crossE (minusE b a) (minusE c a)) a ⊖ dotE (crossE (minusE b a) (minusE c a)) a ⊗ num (pos 1) ≈ num (pos 0)) cancels (vector_of u.a) (vector_of u.b) (vector_of u.c)
 
-corner_b : (u : Tri) → value_at (support_of u) (spot_at u.b) ≡ pos 0
+corner_b : (u : Tri) → value_at (support_of u) (spot_of_corner u.b) ≡ pos 0
 corner_b u =
     identity (vector ∷ vector ∷ vector ∷ []) (λ a b c. dotE (crossE (minusE b a) (minusE c a)) b ⊖ dotE (crossE (minusE b a) (minusE c a)) a ⊗ num (pos 1) ≈ num (pos 0)) cancels (vector_of u.a) (vector_of u.b) (vector_of u.c)
 
-corner_c : (u : Tri) → value_at (support_of u) (spot_at u.c) ≡ pos 0
+corner_c : (u : Tri) → value_at (support_of u) (spot_of_corner u.c) ≡ pos 0
 corner_c u =
     identity (vector ∷ vector ∷ vector ∷ []) (λ a b c. dotE (crossE (minusE b a) (minusE c a)) c ⊖ dotE (crossE (minusE b a) (minusE c a)) a ⊗ num (pos 1) ≈ num (pos 0)) cancels (vector_of u.a) (vector_of u.b) (vector_of u.c)
 
@@ -123,9 +123,9 @@ lies_flat t u f v s ft fu h z =
     let l = subst (λ (n : Plane). Parallel n (support_of u)) s (parallel f (support_of u) v h z) in
     let tv = sym (ap (λ (n : Plane). value_at n v) s) ∙ i.1 in
     let some = λ (a : (support_of u).a ≡ pos 0) (b : (support_of u).b ≡ pos 0) (c : (support_of u).c ≡ pos 0). clash (flat_in u (record { a = a; b = b; c = c })) fu in
-    let x = ap is_zero (shared (support_of t) (support_of u) v (spot_at u.a) l i.0 tv (z.holds v h) (corner_a u) some) in
-    let y = ap is_zero (shared (support_of t) (support_of u) v (spot_at u.b) l i.0 tv (z.holds v h) (corner_b u) some) in
-    let w = ap is_zero (shared (support_of t) (support_of u) v (spot_at u.c) l i.0 tv (z.holds v h) (corner_c u) some) in
+    let x = ap is_zero (shared (support_of t) (support_of u) v (spot_of_corner u.a) l i.0 tv (z.holds v h) (corner_a u) some) in
+    let y = ap is_zero (shared (support_of t) (support_of u) v (spot_of_corner u.b) l i.0 tv (z.holds v h) (corner_b u) some) in
+    let w = ap is_zero (shared (support_of t) (support_of u) v (spot_of_corner u.c) l i.0 tv (z.holds v h) (corner_c u) some) in
     λ i. not (ft i) && (not (fu i) && (x i && (y i && w i)))
 
 pub self_coplanar : (t : Tri) → is_flat t ≡ false → is_coplanar t t ≡ true
@@ -140,11 +140,11 @@ unfolding is_coplanar
 shared_face t u x e h =
     let p = and_parts (not (is_flat t)) (not (is_flat u) && lies_in_plane_of t u) e in let q = and_parts (not (is_flat u)) (lies_in_plane_of t u) p.1 in
     let s = support_of t in
-    let r = and_parts (is_zero (value_at s (spot_at u.a))) (is_zero (value_at s (spot_at u.b)) && is_zero (value_at s (spot_at u.c))) q.1 in
-    let o = and_parts (is_zero (value_at s (spot_at u.b))) (is_zero (value_at s (spot_at u.c))) r.1 in
-    let a = zero_out (value_at s (spot_at u.a)) r.0 in let b = zero_out (value_at s (spot_at u.b)) o.0 in let c = zero_out (value_at s (spot_at u.c)) o.1 in
+    let r = and_parts (is_zero (value_at s (spot_of_corner u.a))) (is_zero (value_at s (spot_of_corner u.b)) && is_zero (value_at s (spot_of_corner u.c))) q.1 in
+    let o = and_parts (is_zero (value_at s (spot_of_corner u.b))) (is_zero (value_at s (spot_of_corner u.c))) r.1 in
+    let a = zero_out (value_at s (spot_of_corner u.a)) r.0 in let b = zero_out (value_at s (spot_of_corner u.b)) o.0 in let c = zero_out (value_at s (spot_of_corner u.c)) o.1 in
     let up = above_corners u s x (not_true (is_flat u) q.0) (omega (arith, linear, a)) (omega (arith, linear, b)) (omega (arith, linear, c)) h in
-    let down = above_corners u (opposite s) x (not_true (is_flat u) q.0) (turned (spot_at u.a) a) (turned (spot_at u.b) b) (turned (spot_at u.c) c) h in
+    let down = above_corners u (opposite s) x (not_true (is_flat u) q.0) (turned (spot_of_corner u.a) a) (turned (spot_of_corner u.b) b) (turned (spot_of_corner u.c) c) h in
     let t = opposite_value s x in omega (arith, linear, up, down, t)
   where
     turned : (v : Spot) → value_at (support_of t) v ≡ pos 0 → pos 0 ≤ℤ value_at (opposite (support_of t)) v

@@ -10,10 +10,10 @@ use Rattle.ember_model.specs.declared.face.Face.{Face}
 use Rattle.ember_model.specs.Faces.{face_of}
 use Rattle.ember_model.specs.Meshes.{faces_of, of_mesh, meshes, HasMesh}
 use Rattle.ember_law.specs.Counts.{added, with_more}
-use Rattle.ember_law.proofs.Flats.{IsFlat}
+use Rattle.ember_law.proofs.FlatTriangles.{IsFlat}
 use Rattle.ember_law.proofs.Tallies.{tally, map_same, of_one, entry, tally_more, tally_none}
-use Rattle.ember_trace.specs.declared.facet.Facet.{Facet}
-use Rattle.ember_trace.specs.Facets.{tri_of}
+use Rattle.ember_trace.specs.declared.near_triangle.NearTriangle.{NearTriangle}
+use Rattle.ember_trace.specs.NearTriangles.{tri_of}
 use Rattle.ember_trace.specs.Crossings.{taken, counted}
 
 -- flat triangles add nothing
@@ -61,7 +61,7 @@ pub tally_both : (f g : Face → ℤ) (ts : List Tri) (old : List ℤ) → added
 tally_both f g ts old =
     added_twice old (λ m. total f (faces_of (of_mesh m ts))) (λ m. total g (faces_of (of_mesh m ts))) meshes ∙ ap (λ (vs : List ℤ). added old vs) (map_same (λ m. total f (faces_of (of_mesh m ts)) +ℤ total g (faces_of (of_mesh m ts))) (λ m. total (λ h. f h +ℤ g h) (faces_of (of_mesh m ts))) (λ m. sym (total-add f g (faces_of (of_mesh m ts)))) meshes)
 
--- ---- facet by facet
+-- ---- triangle by triangle
 module _ (g : Face → ℤ) (flat : LeavesFlat g) where
   one_more : (old : List ℤ) (t : Tri) → HasMesh 64 t → with_more old t.mesh (g (face_of t)) ≡ added old (tally g (t ∷ []))
   one_more old t m =
@@ -75,8 +75,8 @@ module _ (g : Face → ℤ) (flat : LeavesFlat g) where
   pushed old t ts m =
       ap (λ (vs : List ℤ). added vs (tally g ts)) (one_more old t m) ∙ added_twice old (λ m. total g (faces_of (of_mesh m (t ∷ [])))) (λ m. total g (faces_of (of_mesh m ts))) meshes ∙ ap (λ (vs : List ℤ). added old vs) (map_same (λ m. total g (faces_of (of_mesh m (t ∷ []))) +ℤ total g (faces_of (of_mesh m ts))) (λ m. total g (faces_of (of_mesh m (t ∷ ts)))) (λ m. at_front m t ts) meshes)
 
-  -- the counts that the code takes, where each facet takes what g counts back
-  pub taken_legs : (less : Facet → ℤ) (fs : List Facet) → All (λ f. g (face_of f.tri) ≡ neg_ℤ (less f)) fs → (old : List ℤ) → taken less fs old ≡ added old (tally g (map tri_of fs))
+  -- the counts that the code takes, where each triangle takes what g counts back
+  pub taken_legs : (less : NearTriangle → ℤ) (fs : List NearTriangle) → All (λ f. g (face_of f.tri) ≡ neg_ℤ (less f)) fs → (old : List ℤ) → taken less fs old ≡ added old (tally g (map tri_of fs))
   taken_legs less [] h old = sym (tally_none g old)
   taken_legs less (f ∷ fs) h old =
       let e = All-head (λ f. g (face_of f.tri) ≡ neg_ℤ (less f)) f fs h in

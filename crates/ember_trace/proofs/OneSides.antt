@@ -23,11 +23,11 @@ use Rattle.ember_model.specs.ClearTest.{all_negative}
 use Rattle.ember_model.specs.Owners.{is_coplanar}
 use Rattle.ember_model.specs.Meshes.{faces_of, vector, IsScene}
 use Rattle.ember_model.specs.Clear.{AreClear}
-use Rattle.ember_model.specs.Sides.{Sees, IsSides}
+use Rattle.ember_model.specs.Sides.{HasWindings, IsSides}
 use Rattle.ember_model.proofs.SignTests.{and_parts, negative_in, negative_out, positive_in, zero_scaled, zero_times}
 use Rattle.ember_model.proofs.PlaneValues.{value_moved, value_scaled}
 use Rattle.ember_model.proofs.Hits.{inside_on, inside_parts, closed_parts}
-use Rattle.ember_law.specs.Laws.{Misses}
+use Rattle.ember_law.specs.Laws.{MissesFace}
 use Rattle.ember_law.proofs.Separation.{mix, value_mix, separate}
 use Rattle.ember_law.proofs.Vectors.{segments_law}
 use Rattle.ember_law.proofs.CornerSides.{main_entry}
@@ -36,7 +36,7 @@ use Rattle.ember_box.specs.Near.{is_near, near, no_tri, tri_at}
 use Rattle.ember_ref.proofs.NearPoints.{HasPoint}
 use Rattle.ember_ref.proofs.FarTriangles.{misses_far}
 use Rattle.ember_trace.specs.Boxed.{IsRegion}
-use Rattle.ember_trace.proofs.WayPoints.{moved_weight, opposite_value}
+use Rattle.ember_trace.proofs.PathVertices.{moved_weight, opposite_value}
 use Rattle.ember_trace.proofs.FlatPlanes.{shared_face}
 use Rattle.ember_trace.proofs.BoxedRegions.{regions_lie_in}
 use Rattle.ember_trace.proofs.CutRegions.{IsCutOut, region_cut}
@@ -83,7 +83,7 @@ value_beside h m p k e =
     let x = value_moved h (scaled (pos m) p) k e in let y = value_scaled (pos m) h p in let z = solve 2 (λ m v. m ⊗ v ≈ v ⊗ m) cancels (pos m) (value_at h p) in
     omega (arith, linear, x, y, z)
 
-held_apart : (u : Tri) (p q : Spot) (a k : Axis) (e d : ℤ) → pos 0 <ℤ p.w → pos 0 <ℤ q.w → Misses p q (face_of u) → IsHeld u p q a k e d
+held_apart : (u : Tri) (p q : Spot) (a k : Axis) (e d : ℤ) → pos 0 <ℤ p.w → pos 0 <ℤ q.w → MissesFace p q (face_of u) → IsHeld u p q a k e d
 held_apart u p q a k e d wp wq h =
     let s = separate (face_of u) p q wp wq h in
     record {
@@ -108,7 +108,7 @@ held_level t u p q a k e d c zp zq o =
         let o = opposite_value n (moved (scaled (pos m) v) k e) in let x = value_beside n m v k e in let y = zero_times (value_at n v) (pos m) z in omega (arith, linear, l, o, x, y)
 
 -- so the segment misses the face
-pub held_misses : (u : Tri) (p q : Spot) (g : Plane) → ((x : Spot) → is_in_closed (face_of u) x ≡ true → value_at g x ≤ℤ pos 0) → pos 0 <ℤ value_at g p → pos 0 <ℤ value_at g q → Misses p q (face_of u)
+pub held_misses : (u : Tri) (p q : Spot) (g : Plane) → ((x : Spot) → is_in_closed (face_of u) x ≡ true → value_at g x ≤ℤ pos 0) → pos 0 <ℤ value_at g p → pos 0 <ℤ value_at g q → MissesFace p q (face_of u)
 held_misses u p q g low gp gq k m pk pm = by (is_in_closed (face_of u) (mix k m p q)) refl
   where
     by : (b : Bool) → is_in_closed (face_of u) (mix k m p q) ≡ b → is_in_closed (face_of u) (mix k m p q) ≡ false
@@ -117,11 +117,11 @@ held_misses u p q g low gp gq k m pk pm = by (is_in_closed (face_of u) (mix k m 
         let l = positive_mix k m (value_at g p) (value_at g q) p.w q.w pk pm gp gq (closed_parts (face_of u) (mix k m p q) h).0 in
         let e = value_mix g k m p q in let z = low (mix k m p q) h in absurd (omega (arith, linear, l, e, z))
 
-all_missed : (p q : Spot) (a k : Axis) (e d : ℤ) (ts : List Tri) → AllByRecursion (λ u. is_flat u ≡ false → IsHeld u p q a k e d) ts → Eventually (λ m. AllByRecursion (Misses (moved (scaled (pos m) p) a e) (moved (scaled (pos m) q) k d)) (faces_of ts))
+all_missed : (p q : Spot) (a k : Axis) (e d : ℤ) (ts : List Tri) → AllByRecursion (λ u. is_flat u ≡ false → IsHeld u p q a k e d) ts → Eventually (λ m. AllByRecursion (MissesFace (moved (scaled (pos m) p) a e) (moved (scaled (pos m) q) k d)) (faces_of ts))
 all_missed p q a k e d [] h = record { from = 0; holds = λ m l. tt }
 all_missed p q a k e d (u ∷ ts) h = by (is_flat u) refl (all_missed p q a k e d ts h.1)
   where
-    by : (b : Bool) → is_flat u ≡ b → Eventually (λ m. AllByRecursion (Misses (moved (scaled (pos m) p) a e) (moved (scaled (pos m) q) k d)) (faces_of ts)) → Eventually (λ m. AllByRecursion (Misses (moved (scaled (pos m) p) a e) (moved (scaled (pos m) q) k d)) (map face_of (cond (not b) (u ∷ filter (λ t. not (is_flat t)) ts) (filter (λ t. not (is_flat t)) ts))))
+    by : (b : Bool) → is_flat u ≡ b → Eventually (λ m. AllByRecursion (MissesFace (moved (scaled (pos m) p) a e) (moved (scaled (pos m) q) k d)) (faces_of ts)) → Eventually (λ m. AllByRecursion (MissesFace (moved (scaled (pos m) p) a e) (moved (scaled (pos m) q) k d)) (map face_of (cond (not b) (u ∷ filter (λ t. not (is_flat t)) ts) (filter (λ t. not (is_flat t)) ts))))
     by true f r = r
     by false f r =
         let i = h.0 f in
@@ -136,13 +136,13 @@ module _ (ts ns : List Tri) (count : ℕ) (c : Cell) (scene : IsScene ts count) 
   k = main_axis f.support
 
   cut_out : IsCutOut ns t f
-  cut_out = region_cut c ns r.tri r.place r.regions f r.are_regions r.here
+  cut_out = region_cut c ns r.tri r.index r.regions f r.are_regions r.here
 
   slope : along (support_of t) k ≢ pos 0
   slope = subst (λ (n : Plane). along (support_of t) (main_axis n) ≢ pos 0) (sym cut_out.support) (main_entry t cut_out.normal)
 
   has : (v : Spot) → is_inside f v ≡ true → HasPoint c v
-  has v h = in_box c f v (regions_lie_in c ns r.tri r.place r.regions f r.are_regions r.here) h
+  has v h = in_box c f v (regions_lie_in c ns r.tri r.index r.regions f r.are_regions r.here) h
 
   level_at : (v : Spot) → is_inside f v ≡ true → value_at (support_of t) v ≡ pos 0
   level_at v h = sym (ap (λ (n : Plane). value_at n v) cut_out.support) ∙ (inside_parts f v h).1
@@ -174,7 +174,7 @@ module _ (ts ns : List Tri) (count : ℕ) (c : Cell) (scene : IsScene ts count) 
         by true n h rest = (All-head P u (near us c) h, rest (All-tail P u (near us c) h))
         by false n h rest = (held_far u n, rest h)
 
-    missed_all : Eventually (λ m. AllByRecursion (Misses (moved (scaled (pos m) p) a e) (moved (scaled (pos m) q) b d)) (faces_of ts))
+    missed_all : Eventually (λ m. AllByRecursion (MissesFace (moved (scaled (pos m) p) a e) (moved (scaled (pos m) q) b d)) (faces_of ts))
     missed_all =
         all_missed p q a b e d ts (held_all ts (subst (λ (us : List Tri). All P us) (sym is_near_list) (λ i d' l. subst P (get_or_default ns i no_tri d' l) (held_near i l))))
 
@@ -188,11 +188,11 @@ module _ (ts ns : List Tri) (count : ℕ) (c : Cell) (scene : IsScene ts count) 
             let x = moved_weight (scaled (pos m) v) k e in let z : pos 0 <ℤ pos m = omega (arith, ints, l) in let y = pos_mul z w in omega (arith, linear, x, y)
 
     -- so what one of them sees, the other has
-    pub sees_one : (bound : ℕ) (xs : List ℤ) → ((m : ℕ) → bound * 1 < m → Sees ts k (moved (scaled (pos m) q) b d) xs) → Eventually (λ m. AreClear (faces_of ts) (moved (scaled (pos m) p) a e) → (x : Axis) → vector x ts (moved (scaled (pos m) p) a e) ≡ xs)
+    pub sees_one : (bound : ℕ) (xs : List ℤ) → ((m : ℕ) → bound * 1 < m → HasWindings ts k (moved (scaled (pos m) q) b d) xs) → Eventually (λ m. AreClear (faces_of ts) (moved (scaled (pos m) p) a e) → (x : Axis) → vector x ts (moved (scaled (pos m) p) a e) ≡ xs)
     sees_one bound xs s =
         record { from = one_vector.from + bound * 1 + 1; holds = λ m l cp x. let g = s m (omega arith) in one_vector.holds m (omega arith) cp g.clear x k ∙ g.counts_are }
 
-  one_value : (p q : Spot) → is_inside f p ≡ true → is_inside f q ≡ true → (e : ℤ) → e ≢ pos 0 → (bp bq : ℕ) (xs ys : List ℤ) → ((m : ℕ) → bp * 1 < m → Sees ts k (moved (scaled (pos m) p) k e) xs) → ((m : ℕ) → bq * 1 < m → Sees ts k (moved (scaled (pos m) q) k e) ys) → xs ≡ ys
+  one_value : (p q : Spot) → is_inside f p ≡ true → is_inside f q ≡ true → (e : ℤ) → e ≢ pos 0 → (bp bq : ℕ) (xs ys : List ℤ) → ((m : ℕ) → bp * 1 < m → HasWindings ts k (moved (scaled (pos m) p) k e) xs) → ((m : ℕ) → bq * 1 < m → HasWindings ts k (moved (scaled (pos m) q) k e) ys) → xs ≡ ys
   one_value p q hp hq e nz bp bq xs ys sp sq =
       let far = sees_one p q hp hq k k e e sign bq ys sq in let m = far.from + bp * 1 + 1 in
       let g = sp m (omega arith) in sym g.counts_are ∙ far.holds m (omega arith) g.clear k

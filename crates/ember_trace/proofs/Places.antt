@@ -4,7 +4,7 @@ use Rattle.std.proofs.lemmas.List.Elements.{All-head, All-tail}
 use Rattle.ember_algebra.specs.Size.{Small}
 use Rattle.ember_model.specs.declared.point.Axis.{Axis}
 use Rattle.ember_model.specs.declared.point.Axis.TheVariants.{X, Y, Z}
-use Rattle.ember_trace.specs.Ways.{coordinate}
+use Rattle.ember_trace.specs.Paths.{coordinate}
 
 entry_small : (m : ℕ) (xs : List ℤ) (i : ℕ) → All (Small m) xs → Small m (slice_index_or xs i (pos 0))
 entry_small m [] i h = record { small = omega arith }

@@ -11,20 +11,20 @@ use Rattle.ember_model.specs.Planes.{value_at, along, main_axis, support_of}
 use Rattle.ember_model.specs.Valid.{IsValidTri}
 use Rattle.ember_model.specs.Faces.{face_of, crossing}
 use Rattle.ember_model.specs.Meshes.{HasMesh}
-use Rattle.ember_model.specs.Sides.{Sees, IsSides}
+use Rattle.ember_model.specs.Sides.{HasWindings, IsSides}
 use Rattle.ember_model.proofs.FourSigns.{crossing_is}
 use Rattle.ember_model.proofs.PlaneValues.{sign-number}
 use Rattle.ember_model.proofs.PlaneSizes.{support_sized}
-use Rattle.ember_law.proofs.Flats.{flat_crossing}
-use Rattle.ember_point.specs.declared.corner.Meet.{Meet}
+use Rattle.ember_law.proofs.FlatTriangles.{flat_crossing}
+use Rattle.ember_point.specs.declared.meet_point.Meet.{Meet}
 use Rattle.ember_ref.specs.References.{or_sign}
-use Rattle.ember_trace.specs.declared.pair.Sides.{Sides}
-use Rattle.ember_trace.specs.Ways.{inside_side}
-use Rattle.ember_trace.specs.Crossings.{passage, is_pierced, counted, AreRayCounts}
-use Rattle.ember_trace.proofs.WaySigns.{IsClose}
+use Rattle.ember_trace.specs.declared.side_vectors.Sides.{Sides}
+use Rattle.ember_trace.specs.Paths.{inside_side}
+use Rattle.ember_trace.specs.Crossings.{signed_crossing, is_pierced, counted, AreRayCounts}
+use Rattle.ember_trace.proofs.VertexSides.{IsClose}
 use Rattle.ember_trace.proofs.Corners.{first_corners}
-use Rattle.ember_trace.proofs.FacetLegs.{IsEnd, edges_behind, exchanged, or_zero}
-use Rattle.ember_trace.proofs.ClearStops.{generic_clear, end_generic}
+use Rattle.ember_trace.proofs.SegmentCrossings.{IsEnd, edges_behind, exchanged, or_zero}
+use Rattle.ember_trace.proofs.ClearVertices.{generic_clear, end_generic}
 use Rattle.ember_trace.proofs.RegionEnds.{find, before_end, after_end}
 use Rattle.ember_trace.proofs.MeshSums.{counted_rays, added_none}
 
@@ -32,7 +32,7 @@ module _ (k : Axis) (a b d : Meet) (q : Spot) (close : IsClose k a b d q) (turn 
   -- the crossing of the ray from the end, as the code counts it
   abbrev pub ray : Tri → ℤ
   ray t =
-      cond (is_pierced t k a b d) (passage (or_sign (inside_side (support_of t) a b d) (turn (sgn (along (support_of t) k)))) (sgn (along (support_of t) k))) (pos 0)
+      cond (is_pierced t k a b d) (signed_crossing (or_sign (inside_side (support_of t) a b d) (turn (sgn (along (support_of t) k)))) (sgn (along (support_of t) k))) (pos 0)
 
   ray_crossing : (t : Tri) → IsValidTri t → crossing (face_of t) k e ≡ ray t
   ray_crossing t v =
@@ -42,7 +42,7 @@ module _ (k : Axis) (a b d : Meet) (q : Spot) (close : IsClose k a b d q) (turn 
       let g = edges_behind (λ h. inside_side h a b d) t k e v (λ h i z. end.side h i ∙ or_zero (inside_side h a b d) (turn (sgn (along h k))) (ap turn (ap sgn z) ∙ end.level)) in
       crossing_is k e t end.weight ∙ (λ i. cond (m i && g i) (sign-number (along n k) i) (pos 0)) ∙ exchanged (is_neg (times (or_sign (inside_side n a b d) (turn s)) s)) (is_pierced t k a b d) (number s)
 
-  pub end_sees : (ts : List Tri) → All IsValidTri ts → All (HasMesh 64) ts → Sees ts k e (counted ray ts (replicate 64 (pos 0)))
+  pub end_sees : (ts : List Tri) → All IsValidTri ts → All (HasMesh 64) ts → HasWindings ts k e (counted ray ts (replicate 64 (pos 0)))
   end_sees ts valid numbered =
       record {
         clear = generic_clear e ts end.weight (end_generic k a b d q close turn e end) valid;
@@ -61,5 +61,5 @@ ray_sides ts f s valid numbered r =
       sees_after = λ s' m ls lm. same (end_sees k r.first r.second r.third u.q u.close (λ t. t) _ (after_end k r.first r.second r.third u.q u.close s' m ls lm) ts valid numbered) (sym r.after);
     }
   where
-    same : {k : Axis} {v : Spot} {x y : List ℤ} → Sees ts k v x → x ≡ y → Sees ts k v y
+    same : {k : Axis} {v : Spot} {x y : List ℤ} → HasWindings ts k v x → x ≡ y → HasWindings ts k v y
     same h e = record { clear = h.clear; counts_are = h.counts_are ∙ e }

@@ -1,4 +1,4 @@
--- The points at which the ways to a region end: directly beside an inside point that is close
+-- The points at which the paths to a region end: directly beside an inside point that is close
 -- enough to the first corner.
 use Rattle.std.proofs.Common.{◌≡◌, refl, ap, ◌∙◌, arith, ℕ, ◌+◌, ◌*◌, ◌^◌, ◌<◌, ◌≤◌, true, ℤ, pos, neg_ℤ, ◌<ℤ◌, unsigned_abs}
 use borrow.Author.Differences.{ints}
@@ -22,15 +22,15 @@ use Rattle.ember_model.proofs.SignTests.{zero_out}
 use Rattle.ember_model.proofs.Hits.{inside_parts}
 use Rattle.ember_model.proofs.PlaneSizes.{support_valid}
 use Rattle.ember_law.proofs.Shifted.{NoNormal}
-use Rattle.ember_point.specs.declared.corner.Meet.{Meet}
+use Rattle.ember_point.specs.declared.meet_point.Meet.{Meet}
 use Rattle.ember_point.specs.Points.{spot_of}
 use Rattle.ember_ref.specs.References.{or_sign}
-use Rattle.ember_trace.specs.Ways.{coordinate, inside_side, second_of}
+use Rattle.ember_trace.specs.Paths.{coordinate, inside_side, second_of}
 use Rattle.ember_trace.proofs.Slides.{slid_once, slid_twice}
-use Rattle.ember_trace.proofs.WayPoints.{close_to, entries, moved_weight}
-use Rattle.ember_trace.proofs.WaySigns.{IsClose, AreStops, both_zero, value_bound, close_sign, after_sign, before_sign}
+use Rattle.ember_trace.proofs.PathVertices.{close_to, entries, moved_weight}
+use Rattle.ember_trace.proofs.VertexSides.{IsClose, AreStops, both_zero, value_bound, close_sign, after_sign, before_sign}
 use Rattle.ember_trace.proofs.Corners.{AreFirst}
-use Rattle.ember_trace.proofs.FacetLegs.{IsEnd}
+use Rattle.ember_trace.proofs.SegmentCrossings.{IsEnd}
 
 -- ---- an inside point, close enough to the first corner
 pub record Found (f : Face) (a b d : Meet) : Type 0 where
@@ -57,7 +57,7 @@ find f a b d first =
         let x = both_zero (sgn u) (or_sign (sgn v) (sgn w)) z in let y = both_zero (sgn v) (sgn w) x.1 in
         first.apart h (zero_out u (ap is_nil x.0)) (zero_out v (ap is_nil y.0)) (zero_out w (ap is_nil y.1)) e
 
--- ---- a way to it, from close enough to the corner of the box
+-- ---- a path to it, from close enough to the corner of the box
 abbrev pub far_out : Spot → ℕ
 far_out q = 2 ^ 27 + unsigned_abs q.w * 33554431 + unsigned_abs q.w * (unsigned_abs q.w * 33554431) + 1
 

@@ -17,24 +17,24 @@ use Rattle.ember_model.specs.declared.tri.Tri.{Tri}
 use Rattle.ember_model.specs.declared.face.Face.{Face}
 use Rattle.ember_model.specs.Planes.{vector_of, unit, value_at, along, main_axis, times_plane, support_of, edge_through, side_of}
 use Rattle.ember_model.specs.Faces.{is_inside, is_in_closed, is_flat, face_of, Everywhere, Cuts}
-use Rattle.ember_model.specs.Owners.{spot_at, lies_in_plane_of, is_coplanar}
+use Rattle.ember_model.specs.Owners.{spot_of_corner, lies_in_plane_of, is_coplanar}
 use Rattle.ember_model.specs.ClearTest.{none_positive}
 use Rattle.ember_model.proofs.SignTests.{and_parts, clash, negative_in, positive_in, not_positive_out, not_true, zero_out}
 use Rattle.ember_model.proofs.PlaneValues.{along_dot}
 use Rattle.ember_model.proofs.Hits.{inside_on, inside_parts, closed_parts}
 use Rattle.ember_law.proofs.Shifted.{NoNormal}
-use Rattle.ember_law.proofs.Flats.{flat_in}
+use Rattle.ember_law.proofs.FlatTriangles.{flat_in}
 use Rattle.ember_law.proofs.CornerSides.{main_entry}
 use Rattle.ember_trace.proofs.Corners.{Parallel, no_entry}
-use Rattle.ember_trace.proofs.FacetLegs.{edge_level}
+use Rattle.ember_trace.proofs.SegmentCrossings.{edge_level}
 use Rattle.ember_trace.proofs.FilledFaces.{uncut_flat}
 use Rattle.ember_trace.proofs.FlatPlanes.{parallel, shared, corner_a}
 
 -- ---- the planes of coplanar triangles
 pub record OnPlane (t u : Tri) : Type 0 where
-  pub a : value_at (support_of t) (spot_at u.a) ≡ pos 0
-  pub b : value_at (support_of t) (spot_at u.b) ≡ pos 0
-  pub c : value_at (support_of t) (spot_at u.c) ≡ pos 0
+  pub a : value_at (support_of t) (spot_of_corner u.a) ≡ pos 0
+  pub b : value_at (support_of t) (spot_of_corner u.b) ≡ pos 0
+  pub c : value_at (support_of t) (spot_of_corner u.c) ≡ pos 0
   pub normal_t : is_flat t ≡ false
   pub normal_u : is_flat u ≡ false
 
@@ -43,15 +43,15 @@ unfolding is_coplanar
 on_plane t u e =
     let p = and_parts (not (is_flat t)) (not (is_flat u) && lies_in_plane_of t u) e in let q = and_parts (not (is_flat u)) (lies_in_plane_of t u) p.1 in
     let s = support_of t in
-    let r = and_parts (is_zero (value_at s (spot_at u.a))) (is_zero (value_at s (spot_at u.b)) && is_zero (value_at s (spot_at u.c))) q.1 in
-    let o = and_parts (is_zero (value_at s (spot_at u.b))) (is_zero (value_at s (spot_at u.c))) r.1 in
-    record { a = zero_out (value_at s (spot_at u.a)) r.0; b = zero_out (value_at s (spot_at u.b)) o.0; c = zero_out (value_at s (spot_at u.c)) o.1; normal_t = not_true (is_flat t) p.0; normal_u = not_true (is_flat u) q.0 }
+    let r = and_parts (is_zero (value_at s (spot_of_corner u.a))) (is_zero (value_at s (spot_of_corner u.b)) && is_zero (value_at s (spot_of_corner u.c))) q.1 in
+    let o = and_parts (is_zero (value_at s (spot_of_corner u.b))) (is_zero (value_at s (spot_of_corner u.c))) r.1 in
+    record { a = zero_out (value_at s (spot_of_corner u.a)) r.0; b = zero_out (value_at s (spot_of_corner u.b)) o.0; c = zero_out (value_at s (spot_of_corner u.c)) o.1; normal_t = not_true (is_flat t) p.0; normal_u = not_true (is_flat u) q.0 }
 
 abbrev normal_of : Plane → Vector
 normal_of p = record { x = p.a; y = p.b; z = p.c }
 
 -- along the plane between two of its corners
-along_plane : (n : Plane) (u v : Corner) → value_at n (spot_at u) ≡ pos 0 → value_at n (spot_at v) ≡ pos 0 → dot (normal_of n) (side_of u v) ≡ pos 0
+along_plane : (n : Plane) (u v : Corner) → value_at n (spot_of_corner u) ≡ pos 0 → value_at n (spot_of_corner v) ≡ pos 0 → dot (normal_of n) (side_of u v) ≡ pos 0
 along_plane n u v e h =
     let i = solve 10 (λ a b c d x y z r s t. a ⊗ (r ⊖ x) ⊕ b ⊗ (s ⊖ y) ⊕ c ⊗ (t ⊖ z) ≈ (a ⊗ r ⊕ b ⊗ s ⊕ c ⊗ t ⊖ d ⊗ num (pos 1)) ⊖ (a ⊗ x ⊕ b ⊗ y ⊕ c ⊗ z ⊖ d ⊗ num (pos 1))) cancels n.a n.b n.c n.d u.x u.y u.z v.x v.y v.z in
     omega (arith, linear, i, e, h)
@@ -74,7 +74,7 @@ turned {n} {p} l =
 pub on_other : (t u : Tri) (w : Spot) → is_coplanar t u ≡ true → value_at (support_of t) w ≡ pos 0 → value_at (support_of u) w ≡ pos 0
 on_other t u w e z =
     let o = on_plane t u e in
-    shared (support_of u) (support_of t) (spot_at u.a) w (turned (parallel_planes t u o)) (omega (arith, ints)) (corner_a u) o.a z (λ a b c. clash (flat_in t (record { a = a; b = b; c = c })) o.normal_t)
+    shared (support_of u) (support_of t) (spot_of_corner u.a) w (turned (parallel_planes t u o)) (omega (arith, ints)) (corner_a u) o.a z (λ a b c. clash (flat_in t (record { a = a; b = b; c = c })) o.normal_t)
 
 -- ---- the edge planes of u along its main axis
 module _ (u : Tri) (k : Axis) (nz : along (support_of u) k ≢ pos 0) where

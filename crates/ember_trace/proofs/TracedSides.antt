@@ -1,4 +1,4 @@
--- The counts that the ways to a region give are the winding numbers directly before and after it.
+-- The counts that the paths to a region give are the winding numbers directly before and after it.
 use Rattle.std.proofs.Common.{◌≡◌, refl, sym, ap, subst, ◌∙◌, arith, ℕ, true, cond, ◌&&◌, List, map, get_or, Some, slice_get, ℤ, pos, ◌+ℤ◌, ◌-ℤ◌, ◌*ℤ◌, neg_ℤ, ◌≤ℤ◌}
 use Rattle.ember_algebra.specs.Vector.{Vector}
 use Rattle.ember_algebra.specs.Size.{Small}
@@ -24,13 +24,13 @@ use Rattle.ember_model.proofs.FourSigns.{crossing_is}
 use Rattle.ember_model.proofs.Hits.{inside_parts}
 use Rattle.ember_model.proofs.PlaneSizes.{support_sized}
 use Rattle.ember_law.specs.Counts.{added, leg_vector}
-use Rattle.ember_law.proofs.Flats.{flat_crossing, flat_leg}
+use Rattle.ember_law.proofs.FlatTriangles.{flat_crossing, flat_leg}
 use Rattle.ember_law.proofs.Tallies.{tally}
 use Rattle.ember_law.proofs.Vectors.{axes_law, legs_law}
-use Rattle.ember_point.specs.declared.corner.Meet.{Meet}
+use Rattle.ember_point.specs.declared.meet_point.Meet.{Meet}
 use Rattle.ember_point.specs.Points.{spot_of}
 use Rattle.ember_box.specs.Boxes.{Cell, low, high}
-use Rattle.ember_box.specs.Spans.{span_between}
+use Rattle.ember_box.specs.Aabbs.{interval_between}
 use Rattle.ember_box.specs.Near.{is_near}
 use Rattle.ember_box.specs.Reference.{reference_at, Fits}
 use Rattle.ember_box.specs.Regions.{walls, level}
@@ -38,21 +38,21 @@ use Rattle.ember_ref.specs.References.{or_sign}
 use Rattle.ember_ref.proofs.NearPoints.{HasPoint, IsAcross, coordinate as along_point}
 use Rattle.ember_ref.proofs.ReferenceLegs.{weight_at}
 use Rattle.ember_ref.proofs.FarTriangles.{legs_near}
-use Rattle.ember_trace.specs.declared.facet.Facet.{Facet}
-use Rattle.ember_trace.specs.declared.way.Way.{Way}
-use Rattle.ember_trace.specs.declared.pair.Sides.{Sides}
-use Rattle.ember_trace.specs.Facets.{AreFacets, StartsIn}
-use Rattle.ember_trace.specs.Ways.{coordinate, first_of, second_of, side_at_end, IsWay}
-use Rattle.ember_trace.specs.Crossings.{taken, legs_in_wall, last_leg, crossing_before, crossing_after, AreTraced}
+use Rattle.ember_trace.specs.declared.near_triangle.NearTriangle.{NearTriangle}
+use Rattle.ember_trace.specs.declared.path.Path.{Path}
+use Rattle.ember_trace.specs.declared.side_vectors.Sides.{Sides}
+use Rattle.ember_trace.specs.NearTriangles.{AreNearTriangles, HasReferenceSide}
+use Rattle.ember_trace.specs.Paths.{coordinate, first_of, second_of, side_at_end, IsPathTo}
+use Rattle.ember_trace.specs.Crossings.{taken, segments_in_wall, last_segment, crossing_before, crossing_after, AreTraced}
 use Rattle.ember_trace.specs.Boxed.{LiesIn, AreSides}
 use Rattle.ember_trace.proofs.Places.{coordinate_small}
-use Rattle.ember_trace.proofs.WayPoints.{entries, differ_with, differ_last, opposite_value}
-use Rattle.ember_trace.proofs.WaySigns.{AreStops, stop_at_start, stop_after_first, stop_after_second, start_sign}
+use Rattle.ember_trace.proofs.PathVertices.{entries, differ_with, differ_last, opposite_value}
+use Rattle.ember_trace.proofs.VertexSides.{AreStops, stop_at_start, stop_after_first, stop_after_second, start_sign}
 use Rattle.ember_trace.proofs.Corners.{AreFirst, first_corners, none_at}
-use Rattle.ember_trace.proofs.FacetLegs.{IsEnd, edges_behind, differ_back, start_weight, first_legs, final_leg}
+use Rattle.ember_trace.proofs.SegmentCrossings.{IsEnd, edges_behind, differ_back, start_weight, first_legs, final_leg}
 use Rattle.ember_trace.proofs.RegionEnds.{find, far_out, stops_from, before_end, after_end}
-use Rattle.ember_trace.proofs.ClearStops.{generic_clear, has_with, has_start, start_generic, first_generic, second_generic, end_generic}
-use Rattle.ember_trace.proofs.FarLegs.{last_far}
+use Rattle.ember_trace.proofs.ClearVertices.{generic_clear, has_with, has_start, start_generic, first_generic, second_generic, end_generic}
+use Rattle.ember_trace.proofs.FarSegments.{last_far}
 use Rattle.ember_trace.proofs.MeshSums.{LeavesFlat, tally_same, tally_kept, tally_both, taken_legs}
 
 -- ---- in the box
@@ -69,7 +69,7 @@ in_box c f q l i =
     wall : (j : ℕ) (p : Plane) → slice_get (map (λ w. w.plane) (walls c)) j ≡ Some p → value_at p q ≤ℤ pos 0
     wall j p e = none_at (map (λ w. w.plane) (walls c)) q (l.holds q i) j p e
 
-    across : (k : Axis) → value_at (opposite (level k (low c k))) q ≤ℤ pos 0 → value_at (level k (high c k)) q ≤ℤ pos 0 → IsAcross (span_between (low c k) (high c k)) (along_point k q) q.w
+    across : (k : Axis) → value_at (opposite (level k (low c k))) q ≤ℤ pos 0 → value_at (level k (high c k)) q ≤ℤ pos 0 → IsAcross (interval_between (low c k) (high c k)) (along_point k q) q.w
     across k a b =
         let x = opposite_value (level k (low c k)) q in let y = level_value k (low c k) q in let z = level_value k (high c k) q in
         record { from = omega (arith, linear, a, x, y); to = omega (arith, linear, b, z) }
@@ -91,8 +91,8 @@ module _ (k : Axis) (lo : Vector) (a b d : Meet) (q : Spot) (n : ℕ) (s : AreSt
       axes_law ts 64 i p k X (start_weight lo n s.large) (generic_clear p ts (start_weight lo n s.large) (start_generic k lo a b d q n s) i.valid) ∙ tally_same (λ f. crossing f X p) (λ f. crossing f X r) (flat_crossing X p) (flat_crossing X r) ts (λ i' d' l. start_crossing (get_or ts i' d') (i.valid i' d' l))
 
 -- ---- the vector at the end
-module _ (ts ns : List Tri) (c : Cell) (counts : List ℤ) (fits : Fits ts ns c counts) (k : Axis) (v : Way) (e : v.lo ≡ entries c.lo) (q : Spot) (n : ℕ) (s : AreStops k c.lo v.corner v.next v.last q n) (has : HasPoint c q) (fs : List Facet) (facets : AreFacets ns c fs) (turn : Sign → Sign) (p3 : Spot) (end : IsEnd k v.corner v.next v.last turn p3) (line : DifferAlong k (stop_after_second k c.lo q n) p3) where
-  abbrev w : Way
+module _ (ts ns : List Tri) (c : Cell) (counts : List ℤ) (fits : Fits ts ns c counts) (k : Axis) (v : Path) (e : v.lo ≡ entries c.lo) (q : Spot) (n : ℕ) (s : AreStops k c.lo v.corner v.next v.last q n) (has : HasPoint c q) (fs : List NearTriangle) (near_triangles : AreNearTriangles ns c fs) (turn : Sign → Sign) (p3 : Spot) (end : IsEnd k v.corner v.next v.last turn p3) (line : DifferAlong k (stop_after_second k c.lo q n) p3) where
+  abbrev w : Path
   w = record v { first = first_of k; second = second_of k; main = k }
 
   abbrev p0 : Spot
@@ -135,15 +135,15 @@ module _ (ts ns : List Tri) (c : Cell) (counts : List ℤ) (fits : Fits ts ns c 
   legs_three =
       sym (tally_kept (λ h. leg h p3 p2) (flat_leg p3 p2) (λ t. is_near c t) ts (λ i d l far. last_far c k v.corner v.next v.last q n s has turn p3 end line (get_or ts i d) (fits.scene.valid i d l) far)) ∙ ap (λ (us : List Tri). leg_vector us p3 p2) fits.near
 
-  -- what a triangle adds on the three legs together
+  -- what a triangle adds on the three segments together
   abbrev legs : Face → ℤ
   legs h = leg h p1 p0 +ℤ leg h p2 p1 +ℤ leg h p3 p2
 
   legs_flat : LeavesFlat legs
   legs_flat t f = let x = flat_leg p1 p0 t f in let y = flat_leg p2 p1 t f in let z = flat_leg p3 p2 t f in omega (arith, linear, x, y, z)
 
-  abbrev less : Facet → ℤ
-  less f = legs_in_wall w f +ℤ last_leg w f (or_sign (side_at_end w f.support) (turn (sgn (along f.support k))))
+  abbrev less : NearTriangle → ℤ
+  less f = segments_in_wall w f +ℤ last_segment w f (or_sign (side_at_end w f.support) (turn (sgn (along f.support k))))
 
   pub end_vector : vector k ts p3 ≡ taken less fs counts
   end_vector =
@@ -154,14 +154,14 @@ module _ (ts ns : List Tri) (c : Cell) (counts : List ℤ) (fits : Fits ts ns c 
       let one : vector k ts p1 ≡ added counts (leg_vector ns p1 p0) = d ∙ (λ i. added (start i) (legs_one i)) in
       let two : vector k ts p2 ≡ added counts (tally (λ h. leg h p1 p0 +ℤ leg h p2 p1) ns) = b ∙ (λ i. added (one i) (legs_two i)) ∙ tally_both (λ h. leg h p1 p0) (λ h. leg h p2 p1) ns counts in
       let three : vector k ts p3 ≡ added counts (tally legs ns) = a ∙ (λ i. added (two i) (legs_three i)) ∙ tally_both (λ h. leg h p1 p0 +ℤ leg h p2 p1) (λ h. leg h p3 p2) ns counts in
-      three ∙ ap (λ (us : List Tri). added counts (tally legs us)) (sym facets.tris) ∙ sym (taken_legs legs legs_flat less fs (λ i d l. each (get_or fs i d) (facets.starts i d l)) counts)
+      three ∙ ap (λ (us : List Tri). added counts (tally legs us)) (sym near_triangles.tris) ∙ sym (taken_legs legs legs_flat less fs (λ i d l. each (get_or fs i d) (near_triangles.starts i d l)) counts)
     where
-      each : (f : Facet) → StartsIn c f → legs (face_of f.tri) ≡ neg_ℤ (less f)
+      each : (f : NearTriangle) → HasReferenceSide c f → legs (face_of f.tri) ≡ neg_ℤ (less f)
       each f from =
           let x = first_legs c k v e q n s f from in let y = final_leg c k v e q n s f from turn p3 end line in omega (arith, linear, x, y)
 
 -- ---- the region
-module _ (ns : List Tri) (c : Cell) (counts : List ℤ) (f : Face) (v : Way) (is : IsWay c f v) where
+module _ (ns : List Tri) (c : Cell) (counts : List ℤ) (f : Face) (v : Path) (is : IsPathTo c f v) where
   abbrev k : Axis
   k = main_axis f.support
 
@@ -171,14 +171,14 @@ module _ (ns : List Tri) (c : Cell) (counts : List ℤ) (f : Face) (v : Way) (is
   first : AreFirst f (spot_of v.corner) (spot_of v.next) (spot_of v.last)
   first = first_corners f is.corners v.corner v.next v.last is.are_corners is.corner is.next is.last
 
-  -- the way with its axes told by the last
+  -- the path with its axes told by the last
   told : v ≡ record v { first = first_of k; second = second_of k; main = k }
   told = λ i. record v { first = is.first i; second = is.second i; main = is.main i }
 
   -- the traced counts are the sides in each scene that fits
-  pub traced_sides : (fs : List Facet) → AreFacets ns c fs → (before after : List ℤ) → before ≡ taken (crossing_before v) fs counts → after ≡ taken (crossing_after v) fs counts → LiesIn c f → (ts : List Tri) → Fits ts ns c counts → IsSides ts f before after
+  pub traced_sides : (fs : List NearTriangle) → AreNearTriangles ns c fs → (before after : List ℤ) → before ≡ taken (crossing_before v) fs counts → after ≡ taken (crossing_after v) fs counts → LiesIn c f → (ts : List Tri) → Fits ts ns c counts → IsSides ts f before after
   unfolding crossing_before crossing_after
-  traced_sides fs facets before after eb ea l ts fits =
+  traced_sides fs near_triangles before after eb ea l ts fits =
       let u = find f v.corner v.next v.last first in let has = in_box c f u.q l u.inside in
       let n = far_out u.q in let stops = stops_from k c.lo v.corner v.next v.last u.q u.close small in
       let line = λ (m s : ℤ). differ_last k (stop_at_start c.lo n) u.q m s in
@@ -188,11 +188,11 @@ module _ (ns : List Tri) (c : Cell) (counts : List ℤ) (f : Face) (v : Way) (is
         bound = 33554431;
         sees_before = λ s m ls lm.
             let e = before_end k v.corner v.next v.last u.q u.close s m ls lm in
-            record { clear = clear_end ts ns c counts fits k v is.lo u.q n stops has fs facets flip _ e (line (pos m) (neg_ℤ (pos s))); counts_are = end_vector ts ns c counts fits k v is.lo u.q n stops has fs facets flip _ e (line (pos m) (neg_ℤ (pos s))) ∙ sym (eb ∙ ap (λ (w : Way). taken (crossing_before w) fs counts) told) };
+            record { clear = clear_end ts ns c counts fits k v is.lo u.q n stops has fs near_triangles flip _ e (line (pos m) (neg_ℤ (pos s))); counts_are = end_vector ts ns c counts fits k v is.lo u.q n stops has fs near_triangles flip _ e (line (pos m) (neg_ℤ (pos s))) ∙ sym (eb ∙ ap (λ (w : Path). taken (crossing_before w) fs counts) told) };
         sees_after = λ s m ls lm.
             let e = after_end k v.corner v.next v.last u.q u.close s m ls lm in
-            record { clear = clear_end ts ns c counts fits k v is.lo u.q n stops has fs facets (λ t. t) _ e (line (pos m) (pos s)); counts_are = end_vector ts ns c counts fits k v is.lo u.q n stops has fs facets (λ t. t) _ e (line (pos m) (pos s)) ∙ sym (ea ∙ ap (λ (w : Way). taken (crossing_after w) fs counts) told) };
+            record { clear = clear_end ts ns c counts fits k v is.lo u.q n stops has fs near_triangles (λ t. t) _ e (line (pos m) (pos s)); counts_are = end_vector ts ns c counts fits k v is.lo u.q n stops has fs near_triangles (λ t. t) _ e (line (pos m) (pos s)) ∙ sym (ea ∙ ap (λ (w : Path). taken (crossing_after w) fs counts) told) };
       }
 
-pub are_sides : (ns : List Tri) (c : Cell) (counts : List ℤ) (f : Face) (s : Sides) (fs : List Facet) → AreFacets ns c fs → AreTraced c fs counts f s → AreSides ns c counts f s
-are_sides ns c counts f s fs facets t = traced_sides ns c counts f t.way t.is_way fs facets s.before.counts s.after.counts t.before t.after
+pub are_sides : (ns : List Tri) (c : Cell) (counts : List ℤ) (f : Face) (s : Sides) (fs : List NearTriangle) → AreNearTriangles ns c fs → AreTraced c fs counts f s → AreSides ns c counts f s
+are_sides ns c counts f s fs near_triangles t = traced_sides ns c counts f t.way t.is_way fs near_triangles s.before.counts s.after.counts t.before t.after

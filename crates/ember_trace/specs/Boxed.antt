@@ -8,7 +8,7 @@ use Rattle.ember_model.specs.Sides.{IsSides}
 use Rattle.ember_box.specs.Boxes.{Cell}
 use Rattle.ember_box.specs.Reference.{Fits}
 use Rattle.ember_box.specs.Regions.{walls, IsRegions}
-use Rattle.ember_trace.specs.declared.pair.Sides.{Sides}
+use Rattle.ember_trace.specs.declared.side_vectors.Sides.{Sides}
 
 -- the inside of the face lies in the closed box
 abbrev pub LiesIn : Cell → Face → Type 0
@@ -30,8 +30,8 @@ pub record IsRegion (near : List Tri) (c : Cell) (f : Face) : Type 0 where
   pub tri : ℕ
   pub regions : List Face
   pub are_regions : IsRegions c near tri regions
-  pub place : ℕ
-  pub here : slice_get regions place ≡ Some f
+  pub index : ℕ
+  pub here : slice_get regions index ≡ Some f
 
 abbrev pub AreRegionSides : List Tri → Cell → List ℤ → Face → Sides → Type 0
 AreRegionSides near c counts f s =

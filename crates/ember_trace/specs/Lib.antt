@@ -1,4 +1,4 @@
 pub mod Boxed
 pub mod Crossings
-pub mod Facets
-pub mod Ways
+pub mod NearTriangles
+pub mod Paths

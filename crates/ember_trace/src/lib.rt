@@ -1,21 +1,18 @@
 //! The winding numbers on both sides of a region.
 #![tactic(auto)]
 
-mod facet;
-mod legs;
+mod crossing_signs;
 mod near;
-mod pair;
-mod passing;
+mod near_triangle;
+mod path;
+mod segments;
+mod side_vectors;
 mod sides;
-mod stops;
-mod way;
-mod whole;
+mod vertices;
+mod whole_rays;
 
-pub use facet::Facet;
-pub use near::facets;
-pub use pair::Sides;
+pub use near::near_triangles;
+pub use near_triangle::NearTriangle;
+pub use side_vectors::Sides;
 pub use sides::{sides_beside, sides_traced};
-pub use whole::{sides_by_rays, sides_whole};
-
-#[cfg(test)]
-mod tests;
+pub use whole_rays::{sides_by_rays, sides_whole};

@@ -1,4 +1,4 @@
-// The facets of the triangles near a box.
+// The triangles near a box, with their planes and bounding boxes.
 ghost use Rattle.std.specs.Prelude.{◌≡◌, All, IfOk};
 ghost use Rattle.ember_algebra.specs.Size.{Small};
 ghost use Rattle.ember_algebra.specs.Sign.{sgn};
@@ -6,15 +6,15 @@ ghost use Rattle.ember_model.specs.Valid.{IsValidTri};
 ghost use Rattle.ember_model.specs.Planes.{value_at};
 ghost use Rattle.ember_model.specs.Meshes.{HasMesh};
 ghost use Rattle.ember_ref.specs.References.{reference_of};
-ghost use Rattle.ember_trace.specs.Facets.{AreFacets};
+ghost use Rattle.ember_trace.specs.NearTriangles.{AreNearTriangles};
 
-use crate::facet::Facet;
-use ember_box::{Cell, bounding};
+use crate::near_triangle::NearTriangle;
+use ember_box::{Cell, aabb_of_tri};
 use ember_model::{OutOfMemory, Tri, support_of};
 use ember_ref::lex_side;
 use std::alloc::Global;
 
-fn facet_of(t: &Tri, lo: [i32; 3]) -> Facet
+fn near_triangle_of(t: &Tri, lo: [i32; 3]) -> NearTriangle
     requires valid { IsValidTri t.now }
     requires mesh { HasMesh 64 t.now }
     requires corner { All (Small 2048) lo }
@@ -22,24 +22,28 @@ fn facet_of(t: &Tri, lo: [i32; 3]) -> Facet
     ensures start { result.start ≡ sgn (value_at result.support (reference_of lo)) }
 {
     let support = support_of(t);
-    Facet {
+    NearTriangle {
         tri: *t,
         support,
-        spans: bounding(t),
+        aabb: aabb_of_tri(t),
         start: lex_side(&support, lo),
     }
 }
 
 /// The triangles near a box, in order, each with its planes. Meshes are numbered from 1 to 64.
-pub fn facets(alloc: Global, near: &[Tri], c: &Cell) -> Result<Vec<Facet>, OutOfMemory>
+pub fn near_triangles(
+    alloc: Global,
+    near: &[Tri],
+    c: &Cell,
+) -> Result<Vec<NearTriangle>, OutOfMemory>
     requires valid { All IsValidTri near.now }
     requires numbered { All (HasMesh 64) near.now }
-    ensures { IfOk result (λ v. AreFacets near.now c.now v.items) }
+    ensures { IfOk result (λ v. AreNearTriangles near.now c.now v.items) }
 {
     let lo = c.lo();
     let mut found = Vec::with_capacity(alloc, near.len())?;
     for t in near {
-        found.push(facet_of(t, lo))?;
+        found.push(near_triangle_of(t, lo))?;
     }
     Ok(found)
 }

@@ -1,18 +1,18 @@
-// The sides of a region, by the crossings on the way to it.
+// The sides of a region, by the crossings on the path to it.
 ghost use Rattle.std.specs.Prelude.{◌≡◌, ℕ, ◌+◌, ◌≤◌, All, IfOk, length, map, neg_ℤ};
 ghost use Rattle.ember_algebra.specs.Size.{Small};
 ghost use Rattle.ember_model.specs.Valid.{IsValidTri};
 ghost use Rattle.ember_model.specs.Meshes.{HasMesh};
 ghost use Rattle.ember_law.specs.Counts.{with_more};
 ghost use Rattle.ember_trace.specs.Boxed.{AreSides, AreRegionSides, AreOnlySides};
-ghost use Rattle.ember_trace.specs.Facets.{AreBoxCounts, StartsIn, StayWithin, tri_of};
+ghost use Rattle.ember_trace.specs.NearTriangles.{AreBoxCounts, HasReferenceSide, AreWithinBound, tri_of};
 ghost use Rattle.ember_trace.specs.Crossings.{AreTraced, AreTracedBy};
 
-use crate::facet::Facet;
-use crate::legs::{crossings_of, ends_of};
-use crate::near::facets;
-use crate::pair::Sides;
-use crate::stops::way_to;
+use crate::near::near_triangles;
+use crate::near_triangle::NearTriangle;
+use crate::segments::{crossings_of, ends_of};
+use crate::side_vectors::Sides;
+use crate::vertices::path_to;
 use ember_box::Cell;
 use ember_model::{OutOfMemory, Tri, Vector};
 use ember_poly::Ring;
@@ -31,17 +31,17 @@ fn take_from(v: &mut Vector, mesh: u32, less: i32)
 }
 
 /// The sides of a region of a box, from the winding numbers at the reference point of the box and
-/// the crossings of two ways from there to the region with the triangles near the box: the winding
+/// the crossings of two paths from there to the region with the triangles near the box: the winding
 /// numbers directly before and after it, in every scene that fits what is known at the box.
-pub fn sides_beside(near: &[Facet], c: &Cell, v: &Vector, r: &Ring) -> Sides
+pub fn sides_beside(near: &[NearTriangle], c: &Cell, v: &Vector, r: &Ring) -> Sides
     requires few { length near.now ≤ 262144 }
     requires counts { AreBoxCounts v.now.counts }
     ensures traced { AreTraced c.now near.now v.now.counts r.now result }
-    ensures sides { All (StartsIn c.now) near.now → AreSides (map tri_of near.now) c.now v.now.counts r.now result }
-    ensures before { StayWithin (length near.now) v.now.counts result.before.counts }
-    ensures after { StayWithin (length near.now) v.now.counts result.after.counts }
+    ensures sides { All (HasReferenceSide c.now) near.now → AreSides (map tri_of near.now) c.now v.now.counts r.now result }
+    ensures before { AreWithinBound (length near.now) v.now.counts result.before.counts }
+    ensures after { AreWithinBound (length near.now) v.now.counts result.after.counts }
 {
-    let way = way_to(c, r);
+    let way = path_to(c, r);
     let at = ends_of(&way);
     let mut before = *v;
     let mut after = *v;
@@ -70,9 +70,9 @@ pub fn sides_traced(
     ensures sides { IfOk result (λ s. AreSides near.now c.now v.now.counts r.now s) }
     ensures region { IfOk result (λ s. AreRegionSides near.now c.now v.now.counts r.now s) }
     ensures only { IfOk result (λ s. AreOnlySides near.now c.now v.now.counts r.now s) }
-    ensures before { IfOk result (λ s. StayWithin (length near.now) v.now.counts s.before.counts) }
-    ensures after { IfOk result (λ s. StayWithin (length near.now) v.now.counts s.after.counts) }
+    ensures before { IfOk result (λ s. AreWithinBound (length near.now) v.now.counts s.before.counts) }
+    ensures after { IfOk result (λ s. AreWithinBound (length near.now) v.now.counts s.after.counts) }
 {
-    let near = facets(alloc, near, c)?;
+    let near = near_triangles(alloc, near, c)?;
     Ok(sides_beside(near.as_slice(), c, v, r))
 }

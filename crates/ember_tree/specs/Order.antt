@@ -5,12 +5,12 @@ use Rattle.std.specs.List.Sorted.{IsPermutation, IsNonDecreasingBy}
 use Rattle.ember_tree.specs.declared.part.Part.{Part}
 
 -- a path with its first digit moved to the front of 64: a box's left half keeps its place, and all of the right half comes after all of the left one
-abbrev pub tree_place : ℕ → ℕ
-tree_place path = path * 2 ^ leading_zeros w64 path
+abbrev pub tree_key : ℕ → ℕ
+tree_key path = path * 2 ^ leading_zeros w64 path
 
 -- the items of the parts, put into the order of the tree
 pub record IsMerged {I : Type 0} (parts : List (Part I)) (items : List I) : Type 0 where
   pub sorted : List (Part I)
   pub same : IsPermutation parts sorted
-  pub ascends : IsNonDecreasingBy (λ p. tree_place p.path) sorted
+  pub ascends : IsNonDecreasingBy (λ p. tree_key p.path) sorted
   pub are : items ≡ map (λ p. p.item) sorted

@@ -2,8 +2,6 @@
 #![tactic(auto)]
 
 mod part;
-#[cfg(test)]
-mod tests;
 mod tree;
 
 pub use part::Part;

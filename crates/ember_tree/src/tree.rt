@@ -1,6 +1,6 @@
 // Parts come in any order, and their items leave in that of the tree.
 ghost use Rattle.std.specs.Prelude.{◌≡◌, ◌*◌, ◌^◌, IfOk};
-ghost use Rattle.ember_tree.specs.Order.{tree_place, IsMerged};
+ghost use Rattle.ember_tree.specs.Order.{tree_key, IsMerged};
 
 use crate::Part;
 use std::alloc::{AllocError, Global};
@@ -10,7 +10,7 @@ pub type OutOfMemory = AllocError;
 
 // The path with its first digit moved to the front of 64 binary digits.
 fn place(path: u64) -> u64
-    ensures { result ≡ tree_place path }
+    ensures { result ≡ tree_key path }
 {
     if path == 0 {
         return 0;
@@ -25,7 +25,7 @@ pub fn merge<I: Drop>(alloc: Global, parts: Vec<Part<I>>) -> Result<Vec<I>, OutO
     let mut sorted = parts;
     sorted.sort_by_key(
         |part: &Part<I>| -> u64
-            ensures { result ≡ tree_place part.now.path }
+            ensures { result ≡ tree_key part.now.path }
         { place(part.path) },
     )?;
     let mut items = Vec::with_capacity(alloc, sorted.len())?;

@@ -6,7 +6,7 @@ use Rattle.ember_model.specs.declared.point.Axis.TheVariants.{X}
 use Rattle.ember_model.specs.Meshes.{IsScene, vector}
 use Rattle.ember_expr.specs.Formula.{Formula}
 use Rattle.ember_box.specs.Boxes.{Cell, left_half, right_half}
-use Rattle.ember_box.specs.Near.{near_places, places}
+use Rattle.ember_box.specs.Near.{near_indices, all_indices}
 use Rattle.ember_box.specs.Reference.{reference}
 use Rattle.ember_box.specs.Halving.{is_leaf, halving_axis}
 use Rattle.ember_box.proofs.Lists.{left_places, right_places}
@@ -16,7 +16,7 @@ use Rattle.ember_job.specs.declared.job.Job.{Job}
 use Rattle.ember_job.specs.Works.{halved, IsSplit}
 use Rattle.ember_visit.specs.Jobs.{near_of, IsJob, root_job, left_job, right_job}
 use Rattle.ember_visit.specs.Values.{unless_known, leaf_or, box_value, shape}
-use Rattle.ember_visit.proofs.Among.{of_64, near_listed}
+use Rattle.ember_visit.proofs.IndexLists.{of_64, near_listed}
 use Rattle.ember_box.proofs.Halvable.{halvable_unless_leaf}
 
 -- ---- the root
@@ -30,13 +30,13 @@ same_reference c k = refl
 module _ (ts : List Tri) (n : ℕ) (s : IsScene ts n) (j : Job) (h : IsJob ts j) (k : Axis) (may : 0 < j.cell.log k) where
   pub left_is_job : IsJob ts (left_job ts j k)
   left_is_job = record {
-    list = ap (near_places ts (left_half j.cell k)) h.list ∙ left_places ts j.cell k (places ts) may;
+    list = ap (near_indices ts (left_half j.cell k)) h.list ∙ left_places ts j.cell k (all_indices ts) may;
     at = h.at ∙ ap (vector X ts) (sym (same_reference j.cell k));
   }
 
   pub right_is_job : IsJob ts (right_job ts j k)
   right_is_job = record {
-    list = ap (near_places ts (right_half j.cell k)) h.list ∙ right_places ts j.cell k (places ts) may;
+    list = ap (near_indices ts (right_half j.cell k)) h.list ∙ right_places ts j.cell k (all_indices ts) may;
     at = sym (shift_law ts (near_of ts j) j.cell k j.at.counts may (record { scene = of_64 ts n s; near = near_listed ts j h; at = sym h.at }));
   }
 

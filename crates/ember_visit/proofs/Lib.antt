@@ -1,3 +1,3 @@
-pub mod Among
+pub mod IndexLists
 pub mod Laws
-pub mod Inside
+pub mod KnownInBox

@@ -3,7 +3,7 @@ use Rattle.std.specs.Prelude.{◌≡◌, ℕ, ℤ, pos, List, replicate}
 use Rattle.ember_model.specs.declared.tri.Tri.{Tri}
 use Rattle.ember_model.specs.declared.point.Axis.{Axis}
 use Rattle.ember_box.specs.Boxes.{Cell, root, left_half, right_half}
-use Rattle.ember_box.specs.Near.{listed, near_places, places}
+use Rattle.ember_box.specs.Near.{listed, near_indices, all_indices}
 use Rattle.ember_box.specs.Reference.{vector_at}
 use Rattle.ember_ref.specs.References.{carried}
 use Rattle.ember_job.specs.declared.job.Job.{Job}
@@ -17,20 +17,20 @@ near_of ts j = listed ts j.list
 
 -- the list is that of the triangles near the box, and the counts are those at its reference point
 pub record IsJob (ts : List Tri) (j : Job) : Type 0 where
-  pub list : j.list ≡ near_places ts j.cell (places ts)
+  pub list : j.list ≡ near_indices ts j.cell (all_indices ts)
   pub at : j.at.counts ≡ vector_at ts j.cell
 
 -- the root, with the triangles near it and no windings
 abbrev pub root_job : List Tri → Job
-root_job ts = job_of root (near_places ts root (places ts)) (replicate 64 (pos 0))
+root_job ts = job_of root (near_indices ts root (all_indices ts)) (replicate 64 (pos 0))
 
 -- the halves of a job along an axis, each with the triangles near it; the reference point of the left half is that of the whole
 abbrev pub left_job : List Tri → Job → Axis → Job
-left_job ts j k = job_of (left_half j.cell k) (near_places ts (left_half j.cell k) j.list) j.at.counts
+left_job ts j k = job_of (left_half j.cell k) (near_indices ts (left_half j.cell k) j.list) j.at.counts
 
 abbrev pub right_job : List Tri → Job → Axis → Job
-right_job ts j k = job_of (right_half j.cell k) (near_places ts (right_half j.cell k) j.list) (carried (near_of ts j) j.cell k j.at.counts)
+right_job ts j k = job_of (right_half j.cell k) (near_indices ts (right_half j.cell k) j.list) (carried (near_of ts j) j.cell k j.at.counts)
 
-pub record AreHalves (ts : List Tri) (j : Job) (k : Axis) (low high : Job) : Type 0 where
+pub record AreHalfJobs (ts : List Tri) (j : Job) (k : Axis) (low high : Job) : Type 0 where
   pub is_low : low ≡ left_job ts j k
   pub is_high : high ≡ right_job ts j k

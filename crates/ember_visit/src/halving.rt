@@ -2,7 +2,7 @@
 ghost use Rattle.std.specs.Prelude.{◌≡◌, ◌<◌, ◌≤◌, length, All, IfOk};
 ghost use Rattle.ember_box.specs.Near.{listed};
 ghost use Rattle.ember_law.specs.Counts.{HasRoom};
-ghost use Rattle.ember_visit.specs.Jobs.{AreHalves};
+ghost use Rattle.ember_visit.specs.Jobs.{AreHalfJobs};
 
 use ember_box::{halves, near_halves};
 use ember_job::{Job, Numbers};
@@ -26,16 +26,16 @@ pub fn tris_at(alloc: Global, tris: &[Tri], list: &[u32]) -> Result<Vec<Tri>, Ou
 /// and with the winding numbers at its own reference point. The side along the axis is above 1,
 /// the list holds places of the scene's triangles, at most 262,144, and each count leaves room for
 /// a crossing with each of them.
-pub fn halve_job(alloc: Global, s: &Scene, job: &Job, k: Axis) -> Result<(Job, Job), OutOfMemory>
-    requires side { 0 < job.now.cell.log k }
+pub fn halve_job(alloc: Global, s: &Scene, job: &Job, axis: Axis) -> Result<(Job, Job), OutOfMemory>
+    requires side { 0 < job.now.cell.log axis }
     requires places { All (λ i. i < length s.now.tris) job.now.list }
     requires few { length job.now.list ≤ 262144 }
     requires room { HasRoom job.now.at.counts }
-    ensures { IfOk result (λ r. AreHalves s.now.tris job.now k r.0 r.1) }
+    ensures { IfOk result (λ r. AreHalfJobs s.now.tris job.now axis r.0 r.1) }
 {
     let list = job.list.items();
-    let (left, right) = halves(&job.cell, k);
-    let (left_list, right_list) = near_halves(alloc, s, list, &job.cell, k)?;
+    let (left, right) = halves(&job.cell, axis);
+    let (left_list, right_list) = near_halves(alloc, s, list, &job.cell, axis)?;
     let low = Job {
         cell: left,
         list: Numbers::of(left_list),
@@ -46,6 +46,6 @@ pub fn halve_job(alloc: Global, s: &Scene, job: &Job, k: Axis) -> Result<(Job, J
         list: Numbers::of(right_list),
         at: job.at,
     };
-    shift_listed(s.tris.items(), list, &job.cell, k, &mut high.at);
+    shift_listed(s.tris.items(), list, &job.cell, axis, &mut high.at);
     Ok((low, high))
 }

@@ -5,8 +5,6 @@
 mod halving;
 mod law;
 mod start;
-#[cfg(test)]
-mod tests;
 mod value;
 
 pub use halving::{halve_job, tris_at};

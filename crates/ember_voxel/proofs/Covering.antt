@@ -8,13 +8,13 @@ use borrow.Author.Differences.{ints}
 use Rattle.ember_algebra.proofs.Laws.{linear}
 use Rattle.ember_model.specs.declared.point.Axis.{Axis}
 use Rattle.ember_model.specs.declared.point.Axis.TheVariants.{X, Y, Z}
-use Rattle.ember_box.specs.Boxes.{Cell, along, Sits, IsCell, low, high, root, left_half, right_half}
+use Rattle.ember_box.specs.Boxes.{Cell, along, IsOnGrid, IsCell, low, high, root, left_half, right_half}
 use Rattle.ember_box.proofs.Orders.{le_in, le_out}
-use Rattle.ember_box.proofs.Nearby.{halves_end}
-use Rattle.ember_box.proofs.Splits.{left_is_cell, right_is_cell}
+use Rattle.ember_box.proofs.NearByAabbs.{halves_end}
+use Rattle.ember_box.proofs.HalfCells.{left_is_cell, right_is_cell}
 use Rattle.ember_visit.specs.Values.{HasCorner}
-use Rattle.ember_voxel.specs.Grid.{corner, spans, covers}
-use Rattle.ember_voxel.specs.Lattice.{longest, IsEven, whole, low as low_even, high as high_even, is_lattice_cell}
+use Rattle.ember_voxel.specs.Grid.{corner, contains_along, contains_cell}
+use Rattle.ember_voxel.specs.Lattice.{longest, IsHalvedByLongest, whole, low as low_even, high as high_even, is_lattice_cell}
 use Rattle.ember_voxel.specs.Voxels.{least_corner}
 use Rattle.ember_voxel.proofs.Ceilings.{all_cells, times_more}
 
@@ -52,13 +52,13 @@ in_third true false false = refl
 in_third false b t = refl
 
 -- the cells of a box are those of its halves
-pub halves_cover : (size : ℕ) (c : Cell) (k : Axis) (i j l : ℕ) → 0 < c.log k → (covers size (left_half c k) i j l || covers size (right_half c k) i j l) ≡ covers size c i j l
+pub halves_cover : (size : ℕ) (c : Cell) (k : Axis) (i j l : ℕ) → 0 < c.log k → (contains_cell size (left_half c k) i j l || contains_cell size (right_half c k) i j l) ≡ contains_cell size c i j l
 halves_cover size c X i j l above =
-    in_first (spans size (left_half c X) X i) (spans size (right_half c X) X i) (spans size c Z l) (spans size c Y j) ∙ ap (λ t. spans size c Z l && (spans size c Y j && t)) (half_spans c.lo.x (c.log X) (corner size i) above)
+    in_first (contains_along size (left_half c X) X i) (contains_along size (right_half c X) X i) (contains_along size c Z l) (contains_along size c Y j) ∙ ap (λ t. contains_along size c Z l && (contains_along size c Y j && t)) (half_spans c.lo.x (c.log X) (corner size i) above)
 halves_cover size c Y i j l above =
-    in_second (spans size (left_half c Y) Y j) (spans size (right_half c Y) Y j) (spans size c Z l) (spans size c X i) ∙ ap (λ t. spans size c Z l && (t && spans size c X i)) (half_spans c.lo.y (c.log Y) (corner size j) above)
+    in_second (contains_along size (left_half c Y) Y j) (contains_along size (right_half c Y) Y j) (contains_along size c Z l) (contains_along size c X i) ∙ ap (λ t. contains_along size c Z l && (t && contains_along size c X i)) (half_spans c.lo.y (c.log Y) (corner size j) above)
 halves_cover size c Z i j l above =
-    in_third (spans size (left_half c Z) Z l) (spans size (right_half c Z) Z l) (spans size c Y j && spans size c X i) ∙ ap (λ t. t && (spans size c Y j && spans size c X i)) (half_spans c.lo.z (c.log Z) (corner size l) above)
+    in_third (contains_along size (left_half c Z) Z l) (contains_along size (right_half c Z) Z l) (contains_along size c Y j && contains_along size c X i) ∙ ap (λ t. t && (contains_along size c Y j && contains_along size c X i)) (half_spans c.lo.z (c.log Z) (corner size l) above)
 
 -- ---- the root
 root_span : (size i : ℕ) → size ≤ 12 → i < 2 ^ (12 - size) → (int_le (neg_ℤ (pos 2048)) (corner size i) && int_lt (corner size i) (neg_ℤ (pos 2048) +ℤ pos (2 ^ 12))) ≡ true
@@ -68,22 +68,22 @@ root_span size i le within =
     let some : 0 < 2 ^ size = pow_pos size in
     and_from (int_le (neg_ℤ (pos 2048)) (corner size i)) (int_lt (corner size i) (neg_ℤ (pos 2048) +ℤ pos (2 ^ 12))) (le_in (neg_ℤ (pos 2048)) (corner size i) (omega (arith, ints))) (lt_in (corner size i) (neg_ℤ (pos 2048) +ℤ pos (2 ^ 12)) (omega (arith, ints, below, some)))
 
-pub root_covers : (size i j l : ℕ) → size ≤ 12 → i < 2 ^ (12 - size) → j < 2 ^ (12 - size) → l < 2 ^ (12 - size) → covers size root i j l ≡ true
+pub root_covers : (size i j l : ℕ) → size ≤ 12 → i < 2 ^ (12 - size) → j < 2 ^ (12 - size) → l < 2 ^ (12 - size) → contains_cell size root i j l ≡ true
 root_covers size i j l le p q r = λ t. root_span size l le r t && (root_span size j le q t && root_span size i le p t)
 
 -- ---- the cells of a box
-within : (size : ℕ) (c : Cell) (k : Axis) (i : ℕ) → spans size c k i ≡ true → (low c k ≤ℤ corner size i) × (corner size i <ℤ high c k)
+within : (size : ℕ) (c : Cell) (k : Axis) (i : ℕ) → contains_along size c k i ≡ true → (low c k ≤ℤ corner size i) × (corner size i <ℤ high c k)
 within size c k i e =
     let p = and_parts (int_le (low c k) (corner size i)) (int_lt (corner size i) (high c k)) e in
     (le_out (low c k) (corner size i) p.0, lt_out (corner size i) (high c k) p.1)
 
-pub covered : (size : ℕ) (c : Cell) (i j l : ℕ) → covers size c i j l ≡ true → HasCorner c (least_corner size i j l)
+pub covered : (size : ℕ) (c : Cell) (i j l : ℕ) → contains_cell size c i j l ≡ true → HasCorner c (least_corner size i j l)
 covered size c i j l e = record { from = λ k. (at k).0; until = λ k. (at k).1 } where
-  p : (spans size c Z l ≡ true) × ((spans size c Y j && spans size c X i) ≡ true)
-  p = and_parts (spans size c Z l) (spans size c Y j && spans size c X i) e
+  p : (contains_along size c Z l ≡ true) × ((contains_along size c Y j && contains_along size c X i) ≡ true)
+  p = and_parts (contains_along size c Z l) (contains_along size c Y j && contains_along size c X i) e
 
-  q : (spans size c Y j ≡ true) × (spans size c X i ≡ true)
-  q = and_parts (spans size c Y j) (spans size c X i) p.1
+  q : (contains_along size c Y j ≡ true) × (contains_along size c X i ≡ true)
+  q = and_parts (contains_along size c Y j) (contains_along size c X i) p.1
 
   at : (k : Axis) → (low c k ≤ℤ along k (least_corner size i j l)) × (along k (least_corner size i j l) <ℤ high c k)
   at X = within size c X i q.1
@@ -96,12 +96,12 @@ own_corner c = record { from = λ k. omega (arith, linear); until = λ k. let so
 -- ---- a box of the size of a cell
 root_is_cell : IsCell root
 root_is_cell = record { sits = at; from = omega arith; below = omega arith } where
-  at : (k : Axis) → Sits (low root k) (root.log k)
-  at X = record { small = omega arith; place = 0; at = refl; within = omega arith }
-  at Y = record { small = omega arith; place = 0; at = refl; within = omega arith }
-  at Z = record { small = omega arith; place = 0; at = refl; within = omega arith }
+  at : (k : Axis) → IsOnGrid (low root k) (root.log k)
+  at X = record { small = omega arith; index = 0; at = refl; within = omega arith }
+  at Y = record { small = omega arith; index = 0; at = refl; within = omega arith }
+  at Z = record { small = omega arith; index = 0; at = refl; within = omega arith }
 
-even_is_cell : (c : Cell) → IsEven c → IsCell c
+even_is_cell : (c : Cell) → IsHalvedByLongest c → IsCell c
 even_is_cell c whole = root_is_cell
 even_is_cell c (low_even d even may) = left_is_cell d (longest d) may (even_is_cell d even)
 even_is_cell c (high_even d even may) = right_is_cell d (longest d) may (even_is_cell d even)
@@ -115,12 +115,12 @@ same_multiple d p i from until = by (nat_lt p i) refl where
   by false e =
       let h : i * d ≤ p * d = mul-le-mul_right d (let g : i ≤ p = ltb-false p i e in g) in omega (arith, h, from)
 
-begins_there : (size log i : ℕ) (lo : ℤ) → log ≡ size → Sits lo log → lo ≤ℤ corner size i → corner size i <ℤ (lo +ℤ pos (2 ^ log)) → lo ≡ corner size i
-begins_there size log i lo e = subst (λ n. Sits lo n → lo ≤ℤ corner size i → corner size i <ℤ (lo +ℤ pos (2 ^ n)) → lo ≡ corner size i) (sym e) (λ s from until.
+begins_there : (size log i : ℕ) (lo : ℤ) → log ≡ size → IsOnGrid lo log → lo ≤ℤ corner size i → corner size i <ℤ (lo +ℤ pos (2 ^ log)) → lo ≡ corner size i
+begins_there size log i lo e = subst (λ n. IsOnGrid lo n → lo ≤ℤ corner size i → corner size i <ℤ (lo +ℤ pos (2 ^ n)) → lo ≡ corner size i) (sym e) (λ s from until.
     let d = 2 ^ size in
-    let m = same_multiple d s.place i (omega (arith, ints, s.at, from)) (omega (arith, ints, s.at, until)) in omega (arith, ints, s.at, m))
+    let m = same_multiple d s.index i (omega (arith, ints, s.at, from)) (omega (arith, ints, s.at, until)) in omega (arith, ints, s.at, m))
 
-pub least_is : (size : ℕ) (c : Cell) (i j l : ℕ) → IsEven c → is_lattice_cell size c ≡ true → covers size c i j l ≡ true → c.lo ≡ least_corner size i j l
+pub least_is : (size : ℕ) (c : Cell) (i j l : ℕ) → IsHalvedByLongest c → is_lattice_cell size c ≡ true → contains_cell size c i j l ≡ true → c.lo ≡ least_corner size i j l
 least_is size c i j l even last e =
     let p = and_parts (c.log X == size) (c.log Y == size && c.log Z == size) last in let q = and_parts (c.log Y == size) (c.log Z == size) p.1 in
     let at = covered size c i j l e in let sits = (even_is_cell c even).sits in

@@ -8,10 +8,10 @@ use Rattle.ember_voxel.specs.Grid.{char_at, is_one, header_of, IsGrid, IsTextOfB
 
 module _ (n : ℕ) (bit : ℕ → ℕ → ℕ → Bool) (a b : List ℕ) (f : IsGrid n bit a) (g : IsGrid n bit b) where
   same_char : (r i : ℕ) → r < n * n → i < n + 1 → char_at n a r i ≡ char_at n b r i
-  same_char r i row place = elim (eqb_tells i n) [
+  same_char r i row index = elim (eqb_tells i n) [
     | inl e ↦ subst (λ k. char_at n a r k ≡ char_at n b r k) (sym e.1) (f.feed r row ∙ sym (g.feed r row))
     | inr e ↦
-        let cell : i < n = omega (arith, place, e.1) in let some : zero < n = omega (arith, cell) in
+        let cell : i < n = omega (arith, index, e.1) in let some : zero < n = omega (arith, cell) in
         let j = mod-lt r some in let l = (div-lt_iff_lt-mul some).1 row in
         subst (λ k. char_at n a k i ≡ char_at n b k i) (div-add-mod' r n) (f.cell i (r % n) (r / n) cell j l ∙ sym (g.cell i (r % n) (r / n) cell j l))
   ]

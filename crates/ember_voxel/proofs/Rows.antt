@@ -9,7 +9,7 @@ use Rattle.std.proofs.Math.Nat.{mul-le-mul_right}
 use Rattle.ember_box.proofs.Orders.{same_test}
 use Rattle.ember_voxel.specs.declared.fill.Fill.{Fill}
 use Rattle.ember_voxel.specs.declared.grid.Extent.{Extent}
-use Rattle.ember_voxel.specs.Grid.{char_at, between, lights, lit, KeepsFeeds, AddsRows}
+use Rattle.ember_voxel.specs.Grid.{char_at, between, sets_cell, is_set, KeepsFeeds, AddsRows}
 use Rattle.ember_voxel.proofs.Ceilings.{times_more}
 
 -- ---- tests
@@ -173,16 +173,16 @@ block_more n from l x y old now new le s layer feeds = record {
 
 -- ---- all boxes
 pub record FillsSet (size n : ℕ) (fills : List Fill) (old now : List ℕ) : Type 0 where
-  pub cells : (i j m : ℕ) → i < n → j < n → m < n → char_at n now (m * n + j) i ≡ (if lit size fills i j m then 49 else char_at n old (m * n + j) i)
+  pub cells : (i j m : ℕ) → i < n → j < n → m < n → char_at n now (m * n + j) i ≡ (if is_set size fills i j m then 49 else char_at n old (m * n + j) i)
   pub feeds : KeepsFeeds n old now
 
-pub fills_more : (size n k : ℕ) (fills : List Fill) (f : Fill) (old now new : List ℕ) → k < length fills → f ≡ get_or fills k f → FillsSet size n (take k fills) old now → ((i j m : ℕ) → i < n → j < n → m < n → char_at n new (m * n + j) i ≡ (if lights size i j m f then 49 else char_at n now (m * n + j) i)) → KeepsFeeds n now new → FillsSet size n (take (k + 1) fills) old new
+pub fills_more : (size n k : ℕ) (fills : List Fill) (f : Fill) (old now new : List ℕ) → k < length fills → f ≡ get_or fills k f → FillsSet size n (take k fills) old now → ((i j m : ℕ) → i < n → j < n → m < n → char_at n new (m * n + j) i ≡ (if sets_cell size i j m f then 49 else char_at n now (m * n + j) i)) → KeepsFeeds n now new → FillsSet size n (take (k + 1) fills) old new
 fills_more size n k fills f old now new within is s one feeds = record {
   cells = λ i j m a b c.
       one i j m a b c
-      ∙ ap (λ o. if lights size i j m f then 49 else o) (s.cells i j m a b c)
-      ∙ merge_fill (lights size i j m f) (lit size (take k fills) i j m) (char_at n old (m * n + j) i)
-      ∙ ap (λ t. if t then 49 else char_at n old (m * n + j) i) (ap (λ g. lit size (take k fills) i j m || lights size i j m g) is ∙ sym (list_any_more (lights size i j m) fills k f within));
+      ∙ ap (λ o. if sets_cell size i j m f then 49 else o) (s.cells i j m a b c)
+      ∙ merge_fill (sets_cell size i j m f) (is_set size (take k fills) i j m) (char_at n old (m * n + j) i)
+      ∙ ap (λ t. if t then 49 else char_at n old (m * n + j) i) (ap (λ g. is_set size (take k fills) i j m || sets_cell size i j m g) is ∙ sym (list_any_more (sets_cell size i j m) fills k f within));
   feeds = record { kept = λ q. feeds.kept q ∙ s.feeds.kept q };
 }
 

@@ -3,7 +3,7 @@ use Rattle.std.proofs.Common.{◌≡◌, ℕ, ◌+◌, ◌-◌, ◌*◌, ◌^◌
 use Rattle.std.proofs.lemmas.List.{drop_all, drop_at, take_all, append-nil, length-append, length-take, length-drop}
 use Rattle.std.proofs.Math.Nat.{mul-le-mul_right}
 use Rattle.ember_voxel.specs.declared.fill.Fill.{Fill}
-use Rattle.ember_voxel.specs.Grid.{char_at, lit, is_one, header_of, IsGrid, IsGridText, KeepsFeeds, AddsRows}
+use Rattle.ember_voxel.specs.Grid.{char_at, is_set, is_one, header_of, IsGrid, IsGridText, KeepsFeeds, AddsRows}
 use Rattle.ember_voxel.proofs.Ceilings.{times_more}
 
 -- the list after its part from b on was written through
@@ -39,10 +39,10 @@ row_within : (n j l : ℕ) → j < n → l < n → l * n + j < n * n
 row_within n j l p q = let h : (l + 1) * n ≤ n * n = mul-le-mul_right n (let g : l + 1 ≤ n = omega (arith, q) in g) in omega (arith, h, p, times_more l n)
 
 -- the whole text, of the parts that the steps tell of
-pub made : (size n b l ones : ℕ) (fills : List Fill) (h t d r c text : List ℕ) → n ≡ 2 ^ (12 - size) → h ≡ header_of size n → AddsRows n (n * n) h t → d ≡ t → b ≡ length h → l ≡ length t → length r ≡ length (take (length d - b) (drop b d)) → ((i j m : ℕ) → i < n → j < n → m < n → char_at n r (m * n + j) i ≡ (if lit size fills i j m then 49 else char_at n (take (length d - b) (drop b d)) (m * n + j) i)) → KeepsFeeds n (take (length d - b) (drop b d)) r → c ≡ after_write l b t d r → ones ≡ count_by is_one (take (length c - b) (drop b c)) → text ≡ after_write l b t d r ++ (codes "end " ++ decimal ones ++ codes "\n") → IsGridText size fills text
+pub made : (size n b l ones : ℕ) (fills : List Fill) (h t d r c text : List ℕ) → n ≡ 2 ^ (12 - size) → h ≡ header_of size n → AddsRows n (n * n) h t → d ≡ t → b ≡ length h → l ≡ length t → length r ≡ length (take (length d - b) (drop b d)) → ((i j m : ℕ) → i < n → j < n → m < n → char_at n r (m * n + j) i ≡ (if is_set size fills i j m then 49 else char_at n (take (length d - b) (drop b d)) (m * n + j) i)) → KeepsFeeds n (take (length d - b) (drop b d)) r → c ≡ after_write l b t d r → ones ≡ count_by is_one (take (length c - b) (drop b c)) → text ≡ after_write l b t d r ++ (codes "end " ++ decimal ones ++ codes "\n") → IsGridText size fills text
 made size n b l ones fills h t d r c text is_n is_h s is_d is_b is_l len cells feeds is_c is_ones is_text = record {
   rows = r;
-  grid = subst (λ m. IsGrid m (lit size fills) r) is_n grid;
+  grid = subst (λ m. IsGrid m (is_set size fills) r) is_n grid;
   is = subst (λ m. text ≡ header_of size m ++ r ++ (codes "end " ++ decimal (count_by is_one r) ++ codes "\n")) is_n text_is;
 } where
   same : take (length d - b) (drop b d) ≡ s.rows
@@ -61,9 +61,9 @@ made size n b l ones fills h t d r c text is_n is_h s is_d is_b is_l len cells f
   text_is : text ≡ header_of size n ++ r ++ (codes "end " ++ decimal (count_by is_one r) ++ codes "\n")
   text_is = is_text ∙ (λ i. (whole ∙ ap (λ xs. xs ++ r) is_h) i ++ (codes "end " ++ decimal (count i) ++ codes "\n"))
 
-  grid : IsGrid n (lit size fills) r
+  grid : IsGrid n (is_set size fills) r
   grid = record {
     size = size_is ∙ s.blank.size;
-    cell = λ i j m p q o. cells i j m p q o ∙ ap (λ z. if lit size fills i j m then 49 else z) (ap (λ xs. char_at n xs (m * n + j) i) same ∙ s.blank.cell (m * n + j) i (row_within n j m q o) p);
+    cell = λ i j m p q o. cells i j m p q o ∙ ap (λ z. if is_set size fills i j m then 49 else z) (ap (λ xs. char_at n xs (m * n + j) i) same ∙ s.blank.cell (m * n + j) i (row_within n j m q o) p);
     feed = λ k p. feeds.kept k ∙ ap (λ xs. char_at n xs k n) same ∙ s.blank.feed k p;
   }

@@ -13,19 +13,19 @@ abbrev pub corner : ℕ → ℕ → ℤ
 corner size i = pos (i * 2 ^ size) -ℤ pos 2048
 
 -- along an axis that corner lies in the box
-abbrev pub spans : ℕ → Cell → Axis → ℕ → Bool
-spans size c k i = int_le (low c k) (corner size i) && int_lt (corner size i) (high c k)
+abbrev pub contains_along : ℕ → Cell → Axis → ℕ → Bool
+contains_along size c k i = int_le (low c k) (corner size i) && int_lt (corner size i) (high c k)
 
 -- the least corner of the cell (i, j, l) lies in the box
-abbrev pub covers : ℕ → Cell → ℕ → ℕ → ℕ → Bool
-covers size c i j l = spans size c Z l && (spans size c Y j && spans size c X i)
+abbrev pub contains_cell : ℕ → Cell → ℕ → ℕ → ℕ → Bool
+contains_cell size c i j l = contains_along size c Z l && (contains_along size c Y j && contains_along size c X i)
 
-abbrev pub lights : ℕ → ℕ → ℕ → ℕ → Fill → Bool
-lights size i j l f = f.bit && covers size f.cell i j l
+abbrev pub sets_cell : ℕ → ℕ → ℕ → ℕ → Fill → Bool
+sets_cell size i j l f = f.bit && contains_cell size f.cell i j l
 
 -- some box of the value 1 has the cell
-abbrev pub lit : ℕ → List Fill → ℕ → ℕ → ℕ → Bool
-lit size fills i j l = list_any (lights size i j l) fills
+abbrev pub is_set : ℕ → List Fill → ℕ → ℕ → ℕ → Bool
+is_set size fills i j l = list_any (sets_cell size i j l) fills
 
 -- ---- rows of n cells and a line feed each
 abbrev pub char_at : ℕ → List ℕ → ℕ → ℕ → ℕ
@@ -51,7 +51,7 @@ pub record IsTextOfBits (size : ℕ) (bit : ℕ → ℕ → ℕ → Bool) (text 
 
 -- the text of the cells that these boxes have
 abbrev pub IsGridText : ℕ → List Fill → List ℕ → Type 0
-IsGridText size fills text = IsTextOfBits size (lit size fills) text
+IsGridText size fills text = IsTextOfBits size (is_set size fills) text
 
 -- ---- while it is made
 abbrev pub between : Extent → ℕ → Bool

@@ -16,15 +16,15 @@ longest c =
     if nat_le (c.log Y) (c.log X) && nat_le (c.log Z) (c.log X) then X else (if nat_le (c.log Z) (c.log Y) then Y else Z)
 
 -- boxes that come from the root by halving the longest side
-pub data IsEven : Cell → Type 0 where
-  whole : IsEven root
-  low : (c : Cell) → IsEven c → 0 < c.log (longest c) → IsEven (left_half c (longest c))
-  high : (c : Cell) → IsEven c → 0 < c.log (longest c) → IsEven (right_half c (longest c))
+pub data IsHalvedByLongest : Cell → Type 0 where
+  whole : IsHalvedByLongest root
+  low : (c : Cell) → IsHalvedByLongest c → 0 < c.log (longest c) → IsHalvedByLongest (left_half c (longest c))
+  high : (c : Cell) → IsHalvedByLongest c → 0 < c.log (longest c) → IsHalvedByLongest (right_half c (longest c))
 
 -- a job of such a box, with no side below 2 ^ size
 pub record IsVoxelJob (ts : List Tri) (size : ℕ) (j : Job) : Type 0 where
   pub job : IsJob ts j
-  pub even : IsEven j.cell
+  pub even : IsHalvedByLongest j.cell
   pub sides : (k : Axis) → size ≤ j.cell.log k
 
 -- all sides are 2 ^ size

@@ -1,6 +1,6 @@
 // The text of all lattice cells.
 ghost use Rattle.std.specs.Prelude.{◌≡◌, ℕ, ◌+◌, ◌-◌, ◌*◌, ◌^◌, ◌<◌, ◌≤◌, ◌==◌, ◌&&◌, Bool, nat_lt, nat_le, pos, ◌+ℤ◌, codes, decimal, ◌++◌, length, count_by, if◌then◌else◌, IfOk, OnOk};
-ghost use Rattle.ember_voxel.specs.Grid.{char_at, between, covers, lights, lit, is_one, IsExtent, IsGridText, AddsRows, KeepsFeeds, header_of};
+ghost use Rattle.ember_voxel.specs.Grid.{char_at, between, contains_cell, sets_cell, is_set, is_one, IsExtent, IsGridText, AddsRows, KeepsFeeds, header_of};
 ghost use Rattle.ember_box.specs.Boxes as boxes;
 ghost use Rattle.ember_voxel.specs.Grid as grids;
 
@@ -136,7 +136,7 @@ fn cells_before(size: u8, x: usize) -> usize
 fn extent_along(size: u8, c: &Cell, k: Axis) -> Extent
     requires { size ≤ 12 }
     ensures extent { IsExtent (2 ^ (12 - size)) result }
-    ensures cells { (i : ℕ) → between result i ≡ grids.spans size c.now k i }
+    ensures cells { (i : ℕ) → between result i ≡ grids.contains_along size c.now k i }
 {
     let low = offset(c, k);
     let high = low + (1usize << c.log(k));
@@ -151,7 +151,7 @@ fn block_of(size: u8, c: &Cell) -> Block
     ensures x { IsExtent (2 ^ (12 - size)) result.x }
     ensures y { IsExtent (2 ^ (12 - size)) result.y }
     ensures z { IsExtent (2 ^ (12 - size)) result.z }
-    ensures cells { (i j l : ℕ) → (between result.z l && (between result.y j && between result.x i)) ≡ covers size c.now i j l }
+    ensures cells { (i j l : ℕ) → (between result.z l && (between result.y j && between result.x i)) ≡ contains_cell size c.now i j l }
 {
     Block {
         x: extent_along(size, c, Axis::X),
@@ -166,7 +166,7 @@ fn set_fill(rows: &mut [u8], size: u8, n: usize, fill: &Fill)
     requires cells { n ≡ 2 ^ (12 - size) }
     requires size { length rows.old ≡ n * n * (n + 1) }
     ensures len { length rows.new ≡ length rows.old }
-    ensures cells { (i j m : ℕ) → i < n → j < n → m < n → char_at n rows.new (m * n + j) i ≡ (if lights size i j m fill.now then 49 else char_at n rows.old (m * n + j) i) }
+    ensures cells { (i j m : ℕ) → i < n → j < n → m < n → char_at n rows.new (m * n + j) i ≡ (if sets_cell size i j m fill.now then 49 else char_at n rows.old (m * n + j) i) }
     ensures feeds { KeepsFeeds n rows.old rows.new }
 {
     if fill.bit {
@@ -179,7 +179,7 @@ fn set_fills(rows: &mut [u8], size: u8, n: usize, fills: &[Fill])
     requires cells { n ≡ 2 ^ (12 - size) }
     requires size { length rows.old ≡ n * n * (n + 1) }
     ensures len { length rows.new ≡ length rows.old }
-    ensures cells { (i j m : ℕ) → i < n → j < n → m < n → char_at n rows.new (m * n + j) i ≡ (if lit size fills.now i j m then 49 else char_at n rows.old (m * n + j) i) }
+    ensures cells { (i j m : ℕ) → i < n → j < n → m < n → char_at n rows.new (m * n + j) i ≡ (if is_set size fills.now i j m then 49 else char_at n rows.old (m * n + j) i) }
     ensures feeds { KeepsFeeds n rows.old rows.new }
 {
     for fill in fills {

@@ -5,8 +5,6 @@ mod fill;
 mod grid;
 mod law;
 mod step;
-#[cfg(test)]
-mod tests;
 
 pub use fill::{Fill, FillList};
 pub use grid::grid_text;

@@ -2,6 +2,6 @@ pub mod Numbers
 pub mod Parts
 pub mod Getters
 pub mod Refusals
-pub mod Walks
+pub mod OptionWalk
 pub mod Taken
 pub mod Limited

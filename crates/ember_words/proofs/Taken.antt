@@ -14,7 +14,7 @@ use Rattle.ember_words.specs.declared.verb.Verb.TheVariants.{Faces, At, Boole, D
 use Rattle.ember_words.specs.Meaning.{Reads, app_for, command_of, taken_by}
 use Rattle.ember_words.specs.Canonical.{Given, IsCanonical, Line, arguments_of, command_with, words_of}
 use Rattle.ember_words.specs.Canonical.{faces_line, at_line, bool_line, demo_line, voxels_line, pairs_line, slice_line}
-use Rattle.ember_words.proofs.Walks.{IsFlag, IsOption, Reaches, at_word, at_words, begins, flag_gives, flag_rows, given_rows, option_gives, still_new, word_ends, words_end}
+use Rattle.ember_words.proofs.OptionWalk.{IsFlag, IsOption, Reaches, at_word, at_words, begins, flag_gives, flag_rows, given_rows, option_gives, still_new, word_ends, words_end}
 
 abbrev top_of : Verb → Shape
 top_of v = (built (app_for v)).top

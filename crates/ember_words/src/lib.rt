@@ -12,6 +12,3 @@ mod verb;
 pub use command::{Command, WordsFault};
 pub use reading::read_words;
 pub use text::{Text, Texts};
-
-#[cfg(test)]
-mod tests;

@@ -6,8 +6,6 @@
 mod law;
 mod place;
 mod state;
-#[cfg(test)]
-mod tests;
 
 pub use law::{ended_boxes_come_in_pairs, every_list_of_events, journals_are_a_run};
 pub use place::{Event, Place, Placed};

@@ -3,23 +3,23 @@ use Rattle.std.proofs.Common.{◌≡◌, ◌≢◌, ℕ, zero, suc, ◌+◌, ◌
 use Rattle.std.proofs.lemmas.Bool.Decides.{eqb_tells}
 use Rattle.std.specs.Int.{leading_zeros, w64}
 use Rattle.steal_core.specs.Runs.{keep}
-use Rattle.ember_box.specs.Boxes.{left}
+use Rattle.ember_box.specs.Boxes.{halvings_left}
 use Rattle.ember_job.specs.Weights.{weigh, one}
 use Rattle.ember_job.specs.declared.job.Job.{Job}
 use Rattle.ember_job.specs.declared.job.Entry.{Entry}
 use Rattle.ember_job.specs.declared.job.Kind.{Kind}
 use Rattle.ember_job.proofs.Weights.{one_same, one_other}
-use Rattle.ember_tree.specs.Order.{tree_place}
-use Rattle.steal_pool.specs.Seats.{at_job}
+use Rattle.ember_tree.specs.Order.{tree_key}
+use Rattle.steal_pool.specs.Steps.{at_job}
 use Rattle.steal_pool.specs.Journals.{times, journal_of}
 use Rattle.steal_pool.proofs.Places.{base, Fits, place_is, zeros_are}
 
 -- by its path alone, a box has a place in the order of the visits
 abbrev pub turn_of : ℕ → ℕ
-turn_of p = tree_place p * 64 + (63 - leading_zeros w64 p)
+turn_of p = tree_key p * 64 + (63 - leading_zeros w64 p)
 
-pub turn_is : (j : Job) → Fits j → turn_of j.cell.path ≡ base j * 2 ^ 27 * 64 + (36 - left j.cell)
-turn_is j f = ap₂ (λ a z. a * 64 + (63 - z)) (place_is j f) (sym (zeros_are j f)) ∙ ap (λ x. base j * 2 ^ 27 * 64 + x) (drop (left j.cell) f.few) where
+pub turn_is : (j : Job) → Fits j → turn_of j.cell.path ≡ base j * 2 ^ 27 * 64 + (36 - halvings_left j.cell)
+turn_is j f = ap₂ (λ a z. a * 64 + (63 - z)) (place_is j f) (sym (zeros_are j f)) ∙ ap (λ x. base j * 2 ^ 27 * 64 + x) (drop (halvings_left j.cell) f.few) where
   drop : (n : ℕ) → n ≤ 36 → 63 - (n + 27) ≡ 36 - n
   drop n few = omega (arith, few)
 
@@ -47,7 +47,7 @@ once lo hi q (j ∷ js) w = elim (eqb_tells j.cell.path q) [
 ]
 
 abbrev pub top : Job → ℕ
-top j = (base j + 2 ^ left j.cell) * 2 ^ 27 * 64
+top j = (base j + 2 ^ halvings_left j.cell) * 2 ^ 27 * 64
 
 -- the journal in which a path stands first
 abbrev pub pick : ℕ → ℕ → ℕ

@@ -6,7 +6,7 @@ use Rattle.ember_job.specs.declared.job.Entry.{Entry}
 use Rattle.ember_job.specs.Works.{Shape, leafed, passed, halved}
 use Rattle.ember_job.specs.Visited.{IsVisited, entry_of, visited, leaves}
 use Rattle.ember_tree.specs.declared.part.Part.{Part}
-use Rattle.steal_pool.specs.Seats.{IsPart, by_path, at_job, at_entry, if_halved}
+use Rattle.steal_pool.specs.Steps.{IsPart, by_path, at_job, at_entry, if_halved}
 
 -- how often a path stands in a journal, and how often as that of a halved box
 abbrev pub times : ℕ → List Entry → ℕ

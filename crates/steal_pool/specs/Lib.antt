@@ -1,9 +1,11 @@
-pub mod Hands
-pub mod Seats
-pub mod Turns
+pub mod Codes
+pub mod Protocol
+pub mod Steps
+pub mod Workers
 pub mod Owners
-pub mod Tables
-pub mod Gathers
+pub mod States
+pub mod RunJournals
 pub mod Journals
 pub mod Halving
 pub mod CoreRuns
+pub mod Laws

@@ -1,122 +1,143 @@
 // Boxes run to their end by one caller.
-ghost use Rattle.std.specs.Prelude.{◌≡◌, ◌+◌, ◌≤◌, All, true, [], ◌∷◌, ◌++◌, ℕ, OnOk, MatchOption};
-ghost use Rattle.crossbeam_deque.specs.Handles.{worker_deque, worker_view};
-ghost use Rattle.ember_job.specs.declared.job.Entry.{Entry};
-ghost use Rattle.ember_tree.specs.declared.part.Part.{Part};
-ghost use Rattle.ember_job.specs.Weights.{weigh};
-ghost use Rattle.steal_pool.specs.Hands.{hand, Settles};
-ghost use Rattle.steal_pool.specs.Owners.{Lent};
-ghost use Rattle.steal_pool.specs.Seats.{Tells, IsPart, by_path, at_entry, at_halves};
+ghost use Rattle.std.specs.Prelude.{◌≡◌, All, IfOk, OnOk};
+ghost use Rattle.crossbeam_deque.specs.Handles.{worker_view};
+ghost use Rattle.steal_pool.specs.Protocol.{IsDrain};
+ghost use Rattle.steal_pool.specs.Owners.{Lent, AddsDrained};
+ghost use Rattle.steal_pool.specs.Steps.{RunsVisited, OutcomeFits, IsPart, AreHalves, EndsBox, AddsBox, KeepsHalves, KeepsHalvesAnd};
 
+use crate::boxed::{BoxHalves, BoxedJob};
 use crate::gate::Gate;
-use crate::rule::{Drained, Naming, Owner};
-use crate::seat::{Weighing, ask};
+use crate::names::{BoxWeight, VisitedJobs};
+use crate::output::Output;
+use crate::protocol::{Drained, Owner};
 use ember_job::{Entry, Job, Kind, OutOfMemory, Outcome};
 use ember_tree::Part;
-use std::alloc::AllocError;
+use std::alloc::Global;
 use std::sync::Wait;
 
-// Runs a box and all below it, left half first.
-#[tactic(auto, using(crate::proofs::Rules::weigh_append))]
-pub fn run_below<
-    K: Naming + Weighing<I>,
+// The outcome of a visited box.
+fn ask<K: VisitedJobs + BoxWeight<I>, I, F: Fn(&Job) -> Result<Outcome<I>, OutOfMemory>>(
+    call: &F,
+    job: &Job,
+) -> Result<Outcome<I>, OutOfMemory>
+    requires call { RunsVisited K.is_visited K.answers K.weight F.pre F.post call.now }
+    requires job { K.is_visited job.now }
+    ensures { IfOk result (OutcomeFits K.is_visited K.answers K.weight job.now) }
+{
+    call(job)
+}
+
+// Enters a box into the journal, with the item of a leaf, and hands back its halves, if any. The jobs lie on this
+// function's stack only while it runs, so that a recursion over halves needs little of it.
+#[tactic(auto, using(crate::proofs::DequeSteps::weigh_append))]
+pub fn end_box<
+    K: VisitedJobs + BoxWeight<I>,
     I: Drop,
     F: Fn(&Job) -> Result<Outcome<I>, OutOfMemory>,
     G: Gate,
 >(
+    alloc: Global,
     call: &F,
     gate: &G,
     job: &Job,
-    journal: &mut Vec<Entry>,
-    parts: &mut Vec<Part<I>>,
-) -> Result<(), OutOfMemory>
-    requires call { Tells K.is_visited K.answers K.weight F.pre F.post call.now }
+    output: &mut Output<I>,
+) -> Result<Option<BoxHalves>, OutOfMemory>
+    requires call { RunsVisited K.is_visited K.answers K.weight F.pre F.post call.now }
     requires job { K.is_visited job.now }
-    requires found { All (IsPart K.is_visited K.answers) parts.old.items }
-    ensures found { OnOk result (All (IsPart K.is_visited K.answers) parts.new.items) }
-    ensures stays { OnOk result ((h : ℕ → ℕ) → weigh (at_entry h) journal.old.items + weigh (at_halves h) journal.new.items + h job.now.cell.path ≤ weigh (at_entry h) journal.new.items + weigh (at_halves h) journal.old.items) }
-    ensures sums { OnOk result ((h : Entry → ℕ) (g : ℕ → ℕ) → weigh h journal.new.items + weigh (by_path g) parts.new.items ≡ weigh h journal.old.items + weigh (by_path g) parts.old.items + K.weight h g job.now) }
+    requires found { All (IsPart K.is_visited K.answers) output.old.parts.items }
+    ensures found { OnOk result (All (IsPart K.is_visited K.answers) output.new.parts.items) }
+    ensures halves { IfOk result (AreHalves K.is_visited job.now) }
+    ensures ends { IfOk result (EndsBox K.weight job.now output.old output.new) }
 {
     let path = job.cell.path();
     gate.enter(path);
     match ask::<K, I, F>(call, job)? {
         Outcome::Leaf(item) => {
-            let Ok(()) = journal.push(Entry {
-                path,
-                kind: Kind::Leafed,
-            }) else {
-                return Err(AllocError);
-            };
-            let Ok(()) = parts.push(Part { path, item }) else {
-                return Err(AllocError);
-            };
-            Ok(())
+            let kind = Kind::Leafed;
+            output.journal.push(Entry { path, kind })?;
+            output.parts.push(Part { path, item })?;
+            Ok(None)
         }
         Outcome::Skipped => {
-            let Ok(()) = journal.push(Entry {
-                path,
-                kind: Kind::Passed,
-            }) else {
-                return Err(AllocError);
-            };
-            Ok(())
+            let kind = Kind::Passed;
+            output.journal.push(Entry { path, kind })?;
+            Ok(None)
         }
         Outcome::Halves(low, high) => {
-            let Ok(()) = journal.push(Entry {
-                path,
-                kind: Kind::Halved,
-            }) else {
-                return Err(AllocError);
-            };
-            let Ok(()) = run_below::<K, I, F, G>(call, gate, &low, journal, parts) else {
-                return Err(AllocError);
-            };
-            let Ok(()) = run_below::<K, I, F, G>(call, gate, &high, journal, parts) else {
-                return Err(AllocError);
-            };
-            Ok(())
+            let kind = Kind::Halved;
+            output.journal.push(Entry { path, kind })?;
+            let low = BoxedJob::new(alloc, low)?;
+            let high = BoxedJob::new(alloc, high)?;
+            Ok(Some(BoxHalves { low, high }))
         }
     }
 }
 
-// Takes the box that was pushed last, where all passes came back.
-fn drain_next<K: Naming>(owner: &mut Owner<K>) -> Option<Job>
+// Runs a box and all below it, left half first.
+#[tactic(auto, using(crate::proofs::DequeSteps::weigh_append))]
+pub fn run_below<
+    K: VisitedJobs + BoxWeight<I>,
+    I: Drop,
+    F: Fn(&Job) -> Result<Outcome<I>, OutOfMemory>,
+    G: Gate,
+>(
+    alloc: Global,
+    call: &F,
+    gate: &G,
+    job: BoxedJob,
+    output: &mut Output<I>,
+) -> Result<(), OutOfMemory>
+    requires call { RunsVisited K.is_visited K.answers K.weight F.pre F.post call.now }
+    requires job { K.is_visited job }
+    requires found { All (IsPart K.is_visited K.answers) output.old.parts.items }
+    ensures found { OnOk result (All (IsPart K.is_visited K.answers) output.new.parts.items) }
+    ensures stays { OnOk result (KeepsHalvesAnd job.cell.path output.old output.new) }
+    ensures sums { OnOk result (AddsBox K.weight job output.old output.new) }
+{
+    let halves = end_box::<K, I, F, G>(alloc, call, gate, job.job(), output)?;
+    let Some(halves) = halves else {
+        return Ok(());
+    };
+    run_below::<K, I, F, G>(alloc, call, gate, halves.low, output)?;
+    run_below::<K, I, F, G>(alloc, call, gate, halves.high, output)
+}
+
+// Pops the job that was pushed last, where all passes came back.
+fn drain_next<K: VisitedJobs>(owner: &mut Owner<K>) -> Option<BoxedJob>
     requires { Lent 0 (worker_view owner.old) }
-    ensures { MatchOption result (Settles (worker_view owner.old)) (λ x. (worker_view owner.new ≡ hand (worker_view owner.old).owns (worker_view owner.old).lent (worker_view owner.old).pushed ((worker_view owner.old).taken ++ x ∷ [])) × K.is_visited x) }
+    ensures { IsDrain K.is_visited result (worker_view owner.old) (worker_view owner.new) }
 {
     owner.pop_as::<Drained<K>>()
 }
 
 // Runs what is left in a deque to its end.
-#[tactic(auto, using(crate::proofs::Rules::weigh_append, crate::proofs::Sums::drained_one))]
+#[tactic(auto, using(crate::proofs::DequeSteps::weigh_append, crate::proofs::AccountSums::drained_one))]
 pub fn drain<
     R: Wait,
-    K: Naming + Weighing<I>,
+    K: VisitedJobs + BoxWeight<I>,
     I: Drop,
     F: Fn(&Job) -> Result<Outcome<I>, OutOfMemory>,
     G: Gate,
 >(
     rt: &R,
+    alloc: Global,
     call: &F,
     gate: &G,
     mut owner: Owner<K>,
-    journal: &mut Vec<Entry>,
-    parts: &mut Vec<Part<I>>,
+    output: &mut Output<I>,
 ) -> Result<(), OutOfMemory>
-    requires call { Tells K.is_visited K.answers K.weight F.pre F.post call.now }
+    requires call { RunsVisited K.is_visited K.answers K.weight F.pre F.post call.now }
     requires owner { Lent 0 (worker_view owner) }
-    requires found { All (IsPart K.is_visited K.answers) parts.old.items }
-    ensures found { OnOk result (All (IsPart K.is_visited K.answers) parts.new.items) }
-    ensures stays { OnOk result ((h : ℕ → ℕ) → weigh (at_entry h) journal.old.items + weigh (at_halves h) journal.new.items ≤ weigh (at_entry h) journal.new.items + weigh (at_halves h) journal.old.items) }
-    ensures sums { OnOk result ((h : Entry → ℕ) (g : ℕ → ℕ) → weigh h journal.new.items + weigh (by_path g) parts.new.items + weigh (K.weight h g) (worker_view owner).taken ≡ weigh h journal.old.items + weigh (by_path g) parts.old.items + weigh (K.weight h g) (worker_view owner).pushed) }
+    requires found { All (IsPart K.is_visited K.answers) output.old.parts.items }
+    ensures found { OnOk result (All (IsPart K.is_visited K.answers) output.new.parts.items) }
+    ensures stays { OnOk result (KeepsHalves output.old output.new) }
+    ensures sums { OnOk result (AddsDrained K.weight (worker_view owner) output.old output.new) }
 {
     for _ in rt.forever() {
         let Some(job) = drain_next(&mut owner) else {
             return Ok(());
         };
-        let Ok(()) = run_below::<K, I, F, G>(call, gate, &job, journal, parts) else {
-            return Err(AllocError);
-        };
+        run_below::<K, I, F, G>(alloc, call, gate, job, output)?;
     }
     unreachable!()
 }

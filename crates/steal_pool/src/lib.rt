@@ -2,17 +2,20 @@
 #![tactic(auto)]
 
 mod alone;
+mod boxed;
 mod gate;
 mod harvest;
 mod law;
+mod names;
+mod output;
 mod owners;
 mod pool;
-mod rule;
-mod seat;
-#[cfg(test)]
-mod tests;
+mod progress;
+mod protocol;
+mod state;
+mod threads;
 mod tree;
-mod turns;
+mod worker;
 
 pub use gate::{DepthGate, Gate, OpenGate, TURNS};
 pub use harvest::{Harvest, PartList};

@@ -1,124 +1,117 @@
-// The seats of all workers, before and after their run.
-ghost use Rattle.std.specs.Prelude.{map, ◌≡◌, ◌+◌, ◌<◌, ◌≤◌, true, [], ◌∷◌, ◌++◌, ℕ, List, All, IfOk, OnOk, MatchOption, length, vec_len, vec_capacity};
+// The states of all workers, before and after their run.
+ghost use Rattle.std.specs.Prelude.{◌≡◌, ◌+◌, ◌<◌, ◌≤◌, true, [], ◌∷◌, ◌++◌, ℕ, All, IfOk, OnOk, MatchOption, length, vec_len};
 ghost use Rattle.crossbeam_deque.specs.Handles.{worker_deque, worker_view};
 ghost use Rattle.ember_job.specs.declared.job.Job.{Job};
-ghost use Rattle.ember_job.specs.declared.job.Entry.{Entry};
-ghost use Rattle.ember_tree.specs.declared.part.Part.{Part};
-ghost use Rattle.ember_job.specs.Weights.{weigh};
-ghost use Rattle.steal_pool.specs.Hands.{hand};
-ghost use Rattle.steal_pool.specs.Owners.{EachOwner, Fresh, Lent, AllBack, all_pushed, all_popped};
-ghost use Rattle.steal_pool.specs.Seats.{Tells, IsPart, EachPass, all_taken, by_path, at_job, at_entry, at_left, at_halves};
-ghost use Rattle.steal_pool.specs.Tables.{EachSeat, Seating, Leaving, Idle};
-ghost use Rattle.steal_pool.specs.Turns.{Ready, Ended, EachEnded, all_has, all_got};
-ghost use Rattle.steal_pool.specs.Gathers.{HasLast, Books, Gathers};
+ghost use Rattle.steal_pool.specs.Protocol.{handle};
+ghost use Rattle.steal_pool.specs.Owners.{EachOwner, Fresh, Lent, AllBack, EachRow, NewRow, AddsAllDrained, all_pushed, all_popped, rows_taken};
+ghost use Rattle.steal_pool.specs.Steps.{RunsVisited, IsPart, KeepsHalves};
+ghost use Rattle.steal_pool.specs.Workers.{IsReady};
+ghost use Rattle.steal_pool.specs.States.{EachState, MayLeave, IsNew, HandsOver, HoldRoot, Conserves, HoldsTree};
+ghost use Rattle.steal_pool.specs.RunJournals.{LastHolds, WorkerJournals, RunJournals};
 
 use crate::alone::drain;
+use crate::boxed::BoxedJob;
 use crate::gate::Gate;
 use crate::harvest::{Harvest, PartList};
+use crate::names::{BoxWeight, VisitedJobs};
+use crate::output::Output;
 use crate::owners::{absorb_each, lend_each};
-use crate::rule::{Hand, Naming, Owner, Thief};
-use crate::seat::{Boxes, Seat, Weighing};
-use crate::turns::each_turn;
+use crate::protocol::{HandleView, JobStealer, Owner};
+use crate::state::{WorkerOutputs, WorkerState};
+use crate::threads::run_workers;
 use crossbeam_deque::Pass;
-use crossbeam_utils::CachePadded;
-use ember_job::{Entry, Job, Journals, OutOfMemory, Outcome};
+use ember_job::{Job, Journals, OutOfMemory, Outcome};
 use ember_tree::Part;
-use smallvec::SmallVec;
-use std::alloc::{AllocError, Global};
+use std::alloc::Global;
 use std::sync::Wait;
-use std::sync::atomic::AtomicU64;
 use std::thread::Threads;
+
+// The room of a new deque, which grows where it is full.
+const DEQUE_ROOM: usize = 64;
+
+// The room of a hand, so that holding a box takes no memory.
+const HAND_ROOM: usize = 40;
 
 /// The deques.
 #[derive(Drop)]
-pub struct Deques<K: Naming> {
-    pub thieves: Vec<Thief<K>>,
+pub struct Deques<K: VisitedJobs> {
+    pub stealers: Vec<JobStealer<K>>,
     pub owners: Vec<Owner<K>>,
 }
 
-// A deque for each worker.
-#[tactic(auto, using(crate::proofs::Tables::each_owner_snoc))]
-fn make_deques<K: Naming>(alloc: Global, workers: usize) -> Result<Deques<K>, OutOfMemory>
-    ensures { IfOk result (λ d. EachOwner (Fresh 0) d.thieves.items d.owners.items × (vec_len d.owners ≡ workers)) }
+fn make_owner<K: VisitedJobs>(alloc: Global) -> Result<Owner<K>, OutOfMemory>
+    ensures { IfOk result (λ o. worker_view o ≡ handle true 0 [] []) }
 {
-    let mut thieves = Vec::new(alloc);
-    let mut owners = Vec::new(alloc);
-    for _i in 0..workers {
-        let Ok(owner) = make_owner::<K>(alloc) else {
-            return Err(AllocError);
-        };
-        let Ok(thief) = owner.stealer() else {
-            return Err(AllocError);
-        };
-        let Ok(()) = thieves.push(thief) else {
-            return Err(AllocError);
-        };
-        let Ok(()) = owners.push(owner) else {
-            return Err(AllocError);
-        };
-    }
-    Ok(Deques { thieves, owners })
+    Owner::<K>::lifo_as(alloc, DEQUE_ROOM)
 }
 
-fn make_owner<K: Naming>(alloc: Global) -> Result<Owner<K>, OutOfMemory>
-    ensures { IfOk result (λ o. worker_view o ≡ hand true 0 [] []) }
+// A deque for each worker.
+#[tactic(auto, using(crate::proofs::StateLists::each_owner_snoc))]
+fn make_deques<K: VisitedJobs>(alloc: Global, workers: usize) -> Result<Deques<K>, OutOfMemory>
+    ensures owners { IfOk result (λ d. EachOwner (Fresh 0) d.stealers.items d.owners.items) }
+    ensures count { IfOk result (λ d. vec_len d.owners ≡ workers) }
 {
-    let Ok(owner) = Owner::<K>::lifo_as(alloc, 64) else {
-        return Err(AllocError);
-    };
-    Ok(owner)
+    let mut stealers = Vec::new(alloc);
+    let mut owners = Vec::new(alloc);
+    for _i in 0..workers {
+        let owner = make_owner::<K>(alloc)?;
+        stealers.push(owner.stealer()?)?;
+        owners.push(owner)?;
+    }
+    Ok(Deques { stealers, owners })
 }
 
 // For each worker a pass on each deque.
-fn make_rows<K: Naming>(
+fn make_rows<K: VisitedJobs>(
     alloc: Global,
-    thieves: &Vec<Thief<K>>,
+    stealers: &Vec<JobStealer<K>>,
     owners: &mut Vec<Owner<K>>,
     workers: usize,
-) -> Result<Vec<Vec<Pass<Job, Hand>>>, OutOfMemory>
-    requires { EachOwner (Fresh 0) thieves.now.items owners.old.items }
+) -> Result<Vec<Vec<Pass<BoxedJob, HandleView>>>, OutOfMemory>
+    requires { EachOwner (Fresh 0) stealers.now.items owners.old.items }
     ensures len { length owners.new.items ≡ length owners.old.items }
-    ensures owners { OnOk result (EachOwner (Fresh workers) thieves.now.items owners.new.items) }
-    ensures rows { IfOk result (λ v. (vec_len v ≡ workers) × All (λ r. EachPass thieves.now.items r.items × ((h : Job → ℕ) → all_taken h r.items ≡ 0)) v.items) }
+    ensures owners { OnOk result (EachOwner (Fresh workers) stealers.now.items owners.new.items) }
+    ensures count { IfOk result (λ v. vec_len v ≡ workers) }
+    ensures rows { IfOk result (λ v. All (λ r. NewRow stealers.now.items r.items) v.items) }
 {
     let mut rows = Vec::new(alloc);
     for i in 0..workers {
-        let Ok(row) = lend_each(alloc, thieves, owners, i) else {
-            return Err(AllocError);
-        };
-        let Ok(()) = rows.push(row) else {
-            return Err(AllocError);
-        };
+        let row = lend_each(alloc, stealers, owners, i)?;
+        rows.push(row)?;
     }
     Ok(rows)
 }
 
-// An empty seat.
-fn make_seat<K: Naming + Weighing<I>, I>(
+// A worker that has nothing yet.
+fn make_state<K: VisitedJobs + BoxWeight<I>, I>(
     alloc: Global,
-    thieves: &Vec<Thief<K>>,
+    stealers: &Vec<JobStealer<K>>,
     owner: Owner<K>,
-    passes: Vec<Pass<Job, Hand>>,
+    passes: Vec<Pass<BoxedJob, HandleView>>,
     workers: usize,
-) -> Seat<K, I>
+) -> Result<WorkerState<K, I>, OutOfMemory>
     requires owner { Fresh workers (worker_view owner) }
-    requires passes { EachPass thieves.now.items passes.items × ((h : Job → ℕ) → all_taken h passes.items ≡ 0) }
-    ensures owner { (worker_deque result.owner ≡ worker_deque owner) × Fresh workers (worker_view result.owner) }
-    ensures ready { Ready K.is_visited (IsPart K.is_visited K.answers) thieves.now.items result }
-    ensures idle { Idle K.weight result }
+    requires passes { NewRow stealers.now.items passes.items }
+    ensures deque { IfOk result (λ s. worker_deque s.owner ≡ worker_deque owner) }
+    ensures owner { IfOk result (λ s. Fresh workers (worker_view s.owner)) }
+    ensures state { IfOk result (IsNew K.is_visited K.answers K.weight stealers.now.items) }
 {
-    Seat {
+    Ok(WorkerState {
         owner,
         passes,
-        hand: Boxes::new(alloc),
-        journal: Vec::new(alloc),
-        parts: Vec::new(alloc),
-    }
+        hand: Vec::with_capacity(alloc, HAND_ROOM)?,
+        output: Output {
+            journal: Vec::new(alloc),
+            parts: Vec::new(alloc),
+        },
+        done: false,
+    })
 }
 
 // Takes the first owner.
-fn first_owner<K: Naming>(owners: &mut Vec<Owner<K>>) -> Option<Owner<K>>
-    ensures { MatchOption result ((owners.old.items ≡ []) × (owners.new.items ≡ [])) (λ p. (owners.old.items ≡ p ∷ owners.new.items) × (vec_len owners.old ≡ vec_len owners.new + 1)) }
+fn first_owner<K: VisitedJobs>(owners: &mut Vec<Owner<K>>) -> Option<Owner<K>>
+    ensures first { MatchOption result (owners.old.items ≡ []) (λ p. owners.old.items ≡ p ∷ owners.new.items) }
+    ensures len { MatchOption result (owners.new.items ≡ []) (λ _. vec_len owners.old ≡ vec_len owners.new + 1) }
 {
     if owners.is_empty() {
         return None;
@@ -126,200 +119,165 @@ fn first_owner<K: Naming>(owners: &mut Vec<Owner<K>>) -> Option<Owner<K>>
     Some(owners.remove(0))
 }
 
-// Takes the first seat.
-fn first_seat<K: Naming, I>(seats: &mut Vec<Seat<K, I>>) -> Option<Seat<K, I>>
-    ensures { MatchOption result ((seats.old.items ≡ []) × (seats.new.items ≡ [])) (λ p. (seats.old.items ≡ p ∷ seats.new.items) × (vec_len seats.old ≡ vec_len seats.new + 1)) }
+// Takes the first state.
+fn first_state<K: VisitedJobs, I>(states: &mut Vec<WorkerState<K, I>>) -> Option<WorkerState<K, I>>
+    ensures first { MatchOption result (states.old.items ≡ []) (λ p. states.old.items ≡ p ∷ states.new.items) }
+    ensures len { MatchOption result (states.new.items ≡ []) (λ _. vec_len states.old ≡ vec_len states.new + 1) }
 {
-    if seats.is_empty() {
+    if states.is_empty() {
         return None;
     }
-    Some(seats.remove(0))
+    Some(states.remove(0))
 }
 
-// A seat for each owner.
-#[tactic(auto, using(crate::proofs::Tables::seating_at, crate::proofs::Tables::seating_next, crate::proofs::Tables::seating_end))]
-fn make_seats<K: Naming + Weighing<I>, I: Drop>(
+// A state for each owner.
+#[tactic(auto, using(crate::proofs::StateLists::making_at, crate::proofs::StateLists::making_next, crate::proofs::StateLists::making_end))]
+fn make_states<K: VisitedJobs + BoxWeight<I>, I: Drop>(
     alloc: Global,
-    thieves: &Vec<Thief<K>>,
+    stealers: &Vec<JobStealer<K>>,
     mut owners: Vec<Owner<K>>,
-    mut rows: Vec<Vec<Pass<Job, Hand>>>,
+    mut rows: Vec<Vec<Pass<BoxedJob, HandleView>>>,
     workers: usize,
-) -> Result<Vec<Seat<K, I>>, OutOfMemory>
-    requires owners { EachOwner (Fresh workers) thieves.now.items owners.items }
-    requires rows { All (λ r. EachPass thieves.now.items r.items × ((h : Job → ℕ) → all_taken h r.items ≡ 0)) rows.items }
+) -> Result<Vec<WorkerState<K, I>>, OutOfMemory>
+    requires owners { EachOwner (Fresh workers) stealers.now.items owners.items }
+    requires rows { All (λ r. NewRow stealers.now.items r.items) rows.items }
     requires len { vec_len rows ≡ vec_len owners }
     ensures len { IfOk result (λ v. vec_len v ≡ vec_len owners) }
-    ensures seats { IfOk result (λ v. EachSeat (Fresh workers) thieves.now.items v.items) }
-    ensures ready { IfOk result (λ v. All (λ s. Ready K.is_visited (IsPart K.is_visited K.answers) thieves.now.items s × Idle K.weight s) v.items) }
+    ensures deques { IfOk result (λ v. EachState (Fresh workers) stealers.now.items v.items) }
+    ensures states { IfOk result (λ v. All (IsNew K.is_visited K.answers K.weight stealers.now.items) v.items) }
 {
-    let mut seats = Vec::new(alloc);
+    let mut states = Vec::new(alloc);
     while let Some(owner) = first_owner(&mut owners) {
         let Some(row) = rows.pop() else {
             unreachable!();
         };
-        let seat = make_seat(alloc, thieves, owner, row, workers);
-        let Ok(()) = seats.push(seat) else {
-            return Err(AllocError);
-        };
+        let state = make_state(alloc, stealers, owner, row, workers)?;
+        states.push(state)?;
     }
-    Ok(seats)
+    Ok(states)
 }
 
-/// What all workers leave behind.
-#[derive(Drop)]
-pub struct Left<K: Naming, I> {
-    pub owners: Vec<Owner<K>>,
-    pub rows: Vec<Vec<Pass<Job, Hand>>>,
-    pub journals: Vec<Vec<Entry>>,
-    pub parts: Vec<Part<I>>,
-}
-
-// Adds parts.
-#[tactic(auto, using(crate::proofs::Rules::weigh_append))]
-fn append<I: Drop>(parts: &mut Vec<Part<I>>, mut more: Vec<Part<I>>) -> Result<(), OutOfMemory>
-    ensures { OnOk result (parts.new.items ≡ parts.old.items ++ more.items) }
-{
-    let Ok(()) = parts.append(&mut more) else {
-        return Err(AllocError);
-    };
-    Ok(())
-}
-
-// All owners leave their seats.
-#[tactic(auto, using(crate::proofs::Tables::leaving_next, crate::proofs::Tables::leaving_end, crate::proofs::Rules::weigh_append, crate::proofs::Sums::pushed_snoc, crate::proofs::Sums::popped_snoc))]
-fn leave<K: Naming + Weighing<I>, I: Drop>(
+// All states are taken apart.
+fn take_apart<K: VisitedJobs + BoxWeight<I>, I: Drop>(
     alloc: Global,
-    thieves: &Vec<Thief<K>>,
-    mut seats: Vec<Seat<K, I>>,
+    stealers: &Vec<JobStealer<K>>,
+    mut states: Vec<WorkerState<K, I>>,
     workers: usize,
-) -> Result<Left<K, I>, OutOfMemory>
-    requires seats { EachSeat (Lent workers) thieves.now.items seats.items }
-    requires ended { All (λ s. EachPass thieves.now.items s.passes.items × (s.hand.items ≡ []) × All (IsPart K.is_visited K.answers) s.parts.items) seats.items }
-    ensures owners { IfOk result (λ l. EachOwner (Lent workers) thieves.now.items l.owners.items) }
-    ensures rows { IfOk result (λ l. (vec_len l.rows ≡ vec_len seats) × All (λ r. EachPass thieves.now.items r.items) l.rows.items) }
-    ensures journals { IfOk result (λ l. map (λ j. j.items) l.journals.items ≡ map (λ s. s.journal.items) seats.items) }
+) -> Result<WorkerOutputs<K, I>, OutOfMemory>
+    requires deques { EachState (Lent workers) stealers.now.items states.items }
+    requires states { All (MayLeave K.is_visited K.answers stealers.now.items) states.items }
+    ensures owners { IfOk result (λ l. EachOwner (Lent workers) stealers.now.items l.owners.items) }
+    ensures count { IfOk result (λ l. vec_len l.rows ≡ vec_len states) }
+    ensures rows { IfOk result (λ l. EachRow stealers.now.items l.rows.items) }
     ensures found { IfOk result (λ l. All (IsPart K.is_visited K.answers) l.parts.items) }
-    ensures has { IfOk result (λ l. (h : Entry → ℕ) (g : ℕ → ℕ) → weigh (λ j. weigh h j.items) l.journals.items + weigh (by_path g) l.parts.items + all_pushed (K.weight h g) l.owners.items ≡ all_has K.weight h g seats.items) }
-    ensures got { IfOk result (λ l. (h : Entry → ℕ) (g : ℕ → ℕ) → all_popped (K.weight h g) l.owners.items + weigh (λ r. all_taken (K.weight h g) r.items) l.rows.items ≡ all_got K.weight h g seats.items) }
+    ensures sums { IfOk result (HandsOver K.weight states.items) }
 {
     let mut owners = Vec::new(alloc);
     let mut rows = Vec::new(alloc);
     let mut journals = Vec::new(alloc);
-    let mut all_parts = Vec::new(alloc);
-    while let Some(seat) = first_seat(&mut seats) {
-        let Seat {
+    let mut parts = Vec::new(alloc);
+    while let Some(state) = first_state(&mut states) {
+        let WorkerState {
             owner,
             passes,
-            hand: _hand,
+            hand: _,
+            output,
+            done: _,
+        } = state;
+        let Output {
             journal,
-            parts,
-        } = seat;
-        let Ok(()) = owners.push(owner) else {
-            return Err(AllocError);
-        };
-        let Ok(()) = rows.push(passes) else {
-            return Err(AllocError);
-        };
-        let Ok(()) = journals.push(journal) else {
-            return Err(AllocError);
-        };
-        let Ok(()) = append(&mut all_parts, parts) else {
-            return Err(AllocError);
-        };
+            parts: mut more,
+        } = output;
+        owners.push(owner)?;
+        rows.push(passes)?;
+        journals.push(journal)?;
+        parts.append(&mut more)?;
     }
-    Ok(Left {
+    Ok(WorkerOutputs {
         owners,
         rows,
         journals,
-        parts: all_parts,
+        parts,
     })
 }
 
 // Takes in all passes.
-#[tactic(auto, using(crate::proofs::Rules::weigh_append))]
-fn absorb_all<K: Naming>(
-    thieves: &Vec<Thief<K>>,
+#[tactic(auto, using(crate::proofs::DequeSteps::weigh_append))]
+fn absorb_all<K: VisitedJobs>(
+    stealers: &Vec<JobStealer<K>>,
     owners: &mut Vec<Owner<K>>,
-    mut rows: Vec<Vec<Pass<Job, Hand>>>,
+    mut rows: Vec<Vec<Pass<BoxedJob, HandleView>>>,
 )
-    requires owners { EachOwner (Lent (vec_len rows)) thieves.now.items owners.old.items }
-    requires rows { All (λ r. EachPass thieves.now.items r.items) rows.items }
-    ensures owners { EachOwner (Lent 0) thieves.now.items owners.new.items }
+    requires owners { EachOwner (Lent (vec_len rows)) stealers.now.items owners.old.items }
+    requires rows { EachRow stealers.now.items rows.items }
+    ensures owners { EachOwner (Lent 0) stealers.now.items owners.new.items }
     ensures pushed { (h : Job → ℕ) → all_pushed h owners.new.items ≡ all_pushed h owners.old.items }
-    ensures popped { (h : Job → ℕ) → all_popped h owners.new.items ≡ all_popped h owners.old.items + weigh (λ r. all_taken h r.items) rows.items }
+    ensures popped { (h : _) → all_popped h owners.new.items ≡ all_popped h owners.old.items + rows_taken h rows.items }
 {
     while let Some(row) = rows.pop() {
-        absorb_each(thieves, owners, row, rows.len());
+        absorb_each(stealers, owners, row, rows.len());
     }
 }
 
 // Runs what is left in all deques to its end, the last deque first.
-#[tactic(auto, using(crate::proofs::Tables::last_is_back))]
+#[tactic(auto, using(crate::proofs::StateLists::last_is_back))]
 fn drain_all<
     R: Wait,
-    K: Naming + Weighing<I>,
+    K: VisitedJobs + BoxWeight<I>,
     I: Drop,
     F: Fn(&Job) -> Result<Outcome<I>, OutOfMemory>,
     G: Gate,
 >(
     rt: &R,
+    alloc: Global,
     call: &F,
     gate: &G,
     mut owners: Vec<Owner<K>>,
-    journal: &mut Vec<Entry>,
-    parts: &mut Vec<Part<I>>,
+    output: &mut Output<I>,
 ) -> Result<(), OutOfMemory>
-    requires call { Tells K.is_visited K.answers K.weight F.pre F.post call.now }
+    requires call { RunsVisited K.is_visited K.answers K.weight F.pre F.post call.now }
     requires owners { AllBack owners.items }
-    requires found { All (IsPart K.is_visited K.answers) parts.old.items }
-    ensures found { OnOk result (All (IsPart K.is_visited K.answers) parts.new.items) }
-    ensures stays { OnOk result ((h : ℕ → ℕ) → weigh (at_entry h) journal.old.items + weigh (at_halves h) journal.new.items ≤ weigh (at_entry h) journal.new.items + weigh (at_halves h) journal.old.items) }
-    ensures sums { OnOk result ((h : Entry → ℕ) (g : ℕ → ℕ) → weigh h journal.new.items + weigh (by_path g) parts.new.items + all_popped (K.weight h g) owners.items ≡ weigh h journal.old.items + weigh (by_path g) parts.old.items + all_pushed (K.weight h g) owners.items) }
+    requires found { All (IsPart K.is_visited K.answers) output.old.parts.items }
+    ensures found { OnOk result (All (IsPart K.is_visited K.answers) output.new.parts.items) }
+    ensures stays { OnOk result (KeepsHalves output.old output.new) }
+    ensures sums { OnOk result (AddsAllDrained K.weight owners.items output.old output.new) }
 {
     while let Some(owner) = owners.pop() {
-        let Ok(()) = drain(rt, call, gate, owner, journal, parts) else {
-            return Err(AllocError);
-        };
+        drain(rt, alloc, call, gate, owner, output)?;
     }
     Ok(())
 }
 
-// The root comes into the hand of the last seat, which stays in this thread where no other can be made.
-#[tactic(auto, using(crate::proofs::Tables::root_seated))]
-fn give_root<K: Naming + Weighing<I>, I: Drop>(
-    thieves: &Vec<Thief<K>>,
-    mut seats: Vec<Seat<K, I>>,
-    root: Job,
+// Gives the root to the last worker, which runs on the calling thread even if no thread can be started.
+fn give_root<K: VisitedJobs + BoxWeight<I>, I: Drop>(
+    stealers: &Vec<JobStealer<K>>,
+    mut states: Vec<WorkerState<K, I>>,
+    root: BoxedJob,
     workers: usize,
-) -> Result<Vec<Seat<K, I>>, OutOfMemory>
+) -> Result<Vec<WorkerState<K, I>>, OutOfMemory>
     requires root { K.is_visited root }
-    requires seats { EachSeat (Fresh workers) thieves.now.items seats.items }
-    requires ready { All (λ s. Ready K.is_visited (IsPart K.is_visited K.answers) thieves.now.items s × Idle K.weight s) seats.items }
-    requires len { 0 < vec_len seats }
-    ensures root { IfOk result (λ v. HasLast root.cell.path v.items) }
-    ensures seats { IfOk result (λ v. EachSeat (Fresh workers) thieves.now.items v.items) }
-    ensures ready { IfOk result (λ v. All (λ s. Ready K.is_visited (IsPart K.is_visited K.answers) thieves.now.items s) v.items) }
-    ensures len { IfOk result (λ v. vec_len v ≡ vec_len seats) }
-    ensures has { IfOk result (λ v. (h : Entry → ℕ) (g : ℕ → ℕ) → all_has K.weight h g v.items ≡ K.weight h g root) }
-    ensures got { IfOk result (λ v. (h : Entry → ℕ) (g : ℕ → ℕ) → all_got K.weight h g v.items ≡ 0) }
+    requires deques { EachState (Fresh workers) stealers.now.items states.items }
+    requires states { All (IsNew K.is_visited K.answers K.weight stealers.now.items) states.items }
+    requires len { 0 < vec_len states }
+    ensures root { IfOk result (λ v. LastHolds root.cell.path v.items) }
+    ensures deques { IfOk result (λ v. EachState (Fresh workers) stealers.now.items v.items) }
+    ensures ready { IfOk result (λ v. All (IsReady K.is_visited K.answers stealers.now.items) v.items) }
+    ensures len { IfOk result (λ v. vec_len v ≡ vec_len states) }
+    ensures sums { IfOk result (λ v. HoldRoot K.weight root v.items) }
 {
-    let Some(mut last) = seats.pop() else {
+    let Some(mut last) = states.pop() else {
         unreachable!();
     };
-    let Ok(()) = last.hand.push(root) else {
-        return Err(AllocError);
-    };
-    let Ok(()) = seats.push(last) else {
-        return Err(AllocError);
-    };
-    Ok(seats)
+    last.hand.push(root)?;
+    states.push(last)?;
+    Ok(states)
 }
 
-// The run of all workers and of the caller after them.
-#[tactic(auto, using(crate::proofs::Rules::weigh_append, crate::proofs::Sums::each_sums, crate::proofs::Tables::all_back, crate::proofs::Tables::ended_seats, crate::proofs::Tables::ended_all))]
-fn run_seats<
+// The run of all workers, and of the caller after them.
+#[tactic(auto, using(crate::proofs::StateLists::all_back, crate::proofs::StateLists::finished_states, crate::proofs::StateLists::finished_all, crate::proofs::StateLists::finished_length))]
+fn run_states<
     R: Threads + Wait + Sync,
-    K: Naming + Weighing<I> + Send + Sync,
+    K: VisitedJobs + BoxWeight<I> + Send + Sync,
     I: Drop + Send,
     F: Fn(&Job) -> Result<Outcome<I>, OutOfMemory> + Sync,
     G: Gate + Sync,
@@ -328,56 +286,34 @@ fn run_seats<
     alloc: Global,
     call: &F,
     gate: &G,
-    thieves: &Vec<Thief<K>>,
-    seats: Vec<Seat<K, I>>,
+    stealers: &Vec<JobStealer<K>>,
+    mut states: Vec<WorkerState<K, I>>,
 ) -> Result<Harvest<I>, OutOfMemory>
-    requires call { Tells K.is_visited K.answers K.weight F.pre F.post call.now }
-    requires len { 0 < vec_len seats }
-    requires seats { EachSeat (Fresh (vec_len seats)) thieves.now.items seats.items }
-    requires ready { All (λ s. Ready K.is_visited (IsPart K.is_visited K.answers) thieves.now.items s) seats.items }
+    requires call { RunsVisited K.is_visited K.answers K.weight F.pre F.post call.now }
+    requires len { 0 < vec_len states }
+    requires deques { EachState (Fresh (vec_len states)) stealers.now.items states.items }
+    requires ready { All (IsReady K.is_visited K.answers stealers.now.items) states.items }
     ensures found { IfOk result (λ v. All (IsPart K.is_visited K.answers) v.parts) }
-    ensures books { IfOk result (λ v. Books seats.items v.journals v.left) }
-    ensures sums { IfOk result (λ v. (h : Entry → ℕ) (g : ℕ → ℕ) → weigh (weigh h) v.journals + weigh (by_path g) v.parts + all_got K.weight h g seats.items ≡ all_has K.weight h g seats.items) }
+    ensures journals { IfOk result (λ v. WorkerJournals states.items v.journals v.left) }
+    ensures sums { IfOk result (λ v. Conserves K.weight states.items v.journals v.parts) }
 {
-    let workers = seats.len();
-    let Ok(done) = Vec::with_capacity(alloc, workers) else {
-        return Err(AllocError);
-    };
-    let finished = CachePadded::new(AtomicU64::new(0));
-    let stop = CachePadded::new(AtomicU64::new(0));
-    let finished_word: &AtomicU64 = &finished;
-    let stop_word: &AtomicU64 = &stop;
-    let Ok(seats) = each_turn(
-        rt,
-        call,
-        gate,
-        thieves,
-        finished_word,
-        stop_word,
-        seats,
-        done,
-    ) else {
-        return Err(AllocError);
-    };
-    let Ok(left) = leave(alloc, thieves, seats, workers) else {
-        return Err(AllocError);
-    };
-    let Left {
+    let workers = states.len();
+    run_workers(rt, alloc, call, gate, stealers, &mut states)?;
+    let outputs = take_apart(alloc, stealers, states, workers)?;
+    let WorkerOutputs {
         mut owners,
         rows,
         mut journals,
-        mut parts,
-    } = left;
-    absorb_all(thieves, &mut owners, rows);
-    let mut journal = Vec::new(alloc);
-    let Ok(()) = drain_all(rt, call, gate, owners, &mut journal, &mut parts) else {
-        return Err(AllocError);
-    };
+        parts,
+    } = outputs;
+    absorb_all(stealers, &mut owners, rows);
+    let journal = Vec::new(alloc);
+    let mut rest = Output { journal, parts };
+    drain_all(rt, alloc, call, gate, owners, &mut rest)?;
+    let Output { journal, parts } = rest;
     journals.reverse();
     let left = journal.len() as u64;
-    let Ok(()) = journals.push(journal) else {
-        return Err(AllocError);
-    };
+    journals.push(journal)?;
     Ok(Harvest {
         parts: PartList::of(parts),
         journals: Journals::of(journals),
@@ -385,46 +321,41 @@ fn run_seats<
     })
 }
 
-// A run of the root by this many workers.
+// The run of a root by 1 or more workers. The work stands among the arguments, since the names of a run are picked
+// from them.
 pub fn run_named<
     R: Threads + Wait + Sync,
-    K: Naming + Weighing<I> + Send + Sync,
+    K: VisitedJobs + BoxWeight<I> + Send + Sync,
+    W,
     I: Drop + Send,
     F: Fn(&Job) -> Result<Outcome<I>, OutOfMemory> + Sync,
     G: Gate + Sync,
 >(
     rt: &R,
     alloc: Global,
-    workers: usize,
+    workers: u32,
     root: Job,
+    _work: &W,
     call: &F,
     gate: &G,
 ) -> Result<Harvest<I>, OutOfMemory>
-    requires call { Tells K.is_visited K.answers K.weight F.pre F.post call.now }
+    requires call { RunsVisited K.is_visited K.answers K.weight F.pre F.post call.now }
     requires root { K.is_visited root }
     requires workers { 1 ≤ workers }
     ensures found { IfOk result (λ v. All (IsPart K.is_visited K.answers) v.parts) }
-    ensures gathers { IfOk result (λ v. Gathers root.cell.path workers v.journals v.left) }
-    ensures sums { IfOk result (λ v. (h : Entry → ℕ) (g : ℕ → ℕ) → weigh (weigh h) v.journals + weigh (by_path g) v.parts ≡ K.weight h g root) }
+    ensures journals { IfOk result (λ v. RunJournals root.cell.path workers v.journals v.left) }
+    ensures sums { IfOk result (λ v. HoldsTree K.weight root v.journals v.parts) }
 {
-    let Ok(deques) = make_deques::<K>(alloc, workers) else {
-        return Err(AllocError);
-    };
+    let count = workers as usize;
+    let boxed = BoxedJob::new(alloc, root)?;
+    let deques = make_deques::<K>(alloc, count)?;
     let Deques {
-        thieves,
+        stealers,
         mut owners,
     } = deques;
-    let Ok(rows) = make_rows(alloc, &thieves, &mut owners, workers) else {
-        return Err(AllocError);
-    };
-    let Ok(seats) = make_seats(alloc, &thieves, owners, rows, workers) else {
-        return Err(AllocError);
-    };
-    let Ok(seats) = give_root(&thieves, seats, root, workers) else {
-        return Err(AllocError);
-    };
-    let Ok(harvest) = run_seats(rt, alloc, call, gate, &thieves, seats) else {
-        return Err(AllocError);
-    };
+    let rows = make_rows(alloc, &stealers, &mut owners, count)?;
+    let fresh = make_states(alloc, &stealers, owners, rows, count)?;
+    let states = give_root(&stealers, fresh, boxed, count)?;
+    let harvest = run_states(rt, alloc, call, gate, &stealers, states)?;
     Ok(harvest)
 }

@@ -1,81 +1,53 @@
 // A run of a stored step, by one caller alone or by many workers.
-ghost use Rattle.std.specs.Prelude.{◌≡◌, ◌+◌, ◌≤◌, ◌++◌, ◌∷◌, [], ℕ, IfOk, All, length};
+ghost use Rattle.std.specs.Prelude.{◌≡◌, ◌+◌, ◌≤◌, ◌++◌, ◌∷◌, [], IfOk, All, length};
 ghost use Rattle.ember_box.specs.Boxes as boxes;
-ghost use Rattle.ember_job.specs.Weights.{weigh};
 ghost use Rattle.ember_job.specs.Works.{AnswersAll};
-ghost use Rattle.ember_job.specs.declared.job.Entry.{Entry};
-ghost use Rattle.steal_pool.specs.Seats.{Tells, IsPart, by_path};
-ghost use Rattle.steal_pool.specs.Gathers.{Gathers};
+ghost use Rattle.steal_pool.specs.Steps.{RunsVisited, IsPart};
+ghost use Rattle.steal_pool.specs.States.{HoldsTree};
+ghost use Rattle.steal_pool.specs.RunJournals.{RunJournals};
 ghost use Rattle.steal_pool.specs.Journals.{KeepRules, AreParts, journal_of};
 
 use crate::alone::run_below;
+use crate::boxed::BoxedJob;
 use crate::gate::Gate;
 use crate::harvest::{Harvest, PartList};
+use crate::names::{BoxWeight, VisitedJobs};
+use crate::output::Output;
 use crate::pool::run_named;
-use crate::rule::Naming;
-use crate::seat::Weighing;
 use ember_job::{Job, Journals, OutOfMemory, Outcome, Step, Work};
-use std::alloc::{AllocError, Global};
+use std::alloc::Global;
 use std::marker::Brand;
 use std::sync::Wait;
 use std::thread::Threads;
 
-// The run of one caller, with names. The work stands among the arguments, since the names are picked from them.
-fn run_alone_for<
-    K: Naming + Weighing<I>,
+// The run of one caller. The work stands among the arguments, since the names of a run are picked from them.
+fn run_alone_named<
+    K: VisitedJobs + BoxWeight<I>,
     W,
     I: Drop,
     F: Fn(&Job) -> Result<Outcome<I>, OutOfMemory>,
     G: Gate,
 >(alloc: Global, root: Job, _work: &W, call: &F, gate: &G) -> Result<Harvest<I>, OutOfMemory>
-    requires call { Tells K.is_visited K.answers K.weight F.pre F.post call.now }
+    requires call { RunsVisited K.is_visited K.answers K.weight F.pre F.post call.now }
     requires root { K.is_visited root }
     ensures count { IfOk result (λ v. (length v.journals ≡ 1) × (v.left ≡ 0)) }
     ensures found { IfOk result (λ v. All (IsPart K.is_visited K.answers) v.parts) }
-    ensures gathers { IfOk result (λ v. Gathers root.cell.path 1 (v.journals ++ [] ∷ []) 0) }
-    ensures sums { IfOk result (λ v. (h : Entry → ℕ) (g : ℕ → ℕ) → weigh (weigh h) (v.journals ++ [] ∷ []) + weigh (by_path g) v.parts ≡ K.weight h g root) }
+    ensures journals { IfOk result (λ v. RunJournals root.cell.path 1 (v.journals ++ [] ∷ []) 0) }
+    ensures sums { IfOk result (λ v. HoldsTree K.weight root (v.journals ++ [] ∷ []) v.parts) }
 {
-    let mut journal = Vec::new(alloc);
-    let mut parts = Vec::new(alloc);
-    let Ok(()) = run_below::<K, I, F, G>(call, gate, &root, &mut journal, &mut parts) else {
-        return Err(AllocError);
-    };
+    let journal = Vec::new(alloc);
+    let parts = Vec::new(alloc);
+    let mut output = Output { journal, parts };
+    let boxed = BoxedJob::new(alloc, root)?;
+    run_below::<K, I, F, G>(alloc, call, gate, boxed, &mut output)?;
+    let Output { journal, parts } = output;
     let mut journals = Vec::new(alloc);
-    let Ok(()) = journals.push(journal) else {
-        return Err(AllocError);
-    };
+    journals.push(journal)?;
     Ok(Harvest {
         parts: PartList::of(parts),
         journals: Journals::of(journals),
         left: 0,
     })
-}
-
-// The run of many workers, with names.
-fn run_tree_for<
-    R: Threads + Wait + Sync,
-    K: Naming + Weighing<I> + Send + Sync,
-    W,
-    I: Drop + Send,
-    F: Fn(&Job) -> Result<Outcome<I>, OutOfMemory> + Sync,
-    G: Gate + Sync,
->(
-    rt: &R,
-    alloc: Global,
-    workers: u32,
-    root: Job,
-    _work: &W,
-    call: &F,
-    gate: &G,
-) -> Result<Harvest<I>, OutOfMemory>
-    requires call { Tells K.is_visited K.answers K.weight F.pre F.post call.now }
-    requires root { K.is_visited root }
-    requires workers { 1 ≤ workers }
-    ensures found { IfOk result (λ v. All (IsPart K.is_visited K.answers) v.parts) }
-    ensures gathers { IfOk result (λ v. Gathers root.cell.path workers v.journals v.left) }
-    ensures sums { IfOk result (λ v. (h : Entry → ℕ) (g : ℕ → ℕ) → weigh (weigh h) v.journals + weigh (by_path g) v.parts ≡ K.weight h g root) }
-{
-    run_named::<R, K, I, F, G>(rt, alloc, workers as usize, root, call, gate)
 }
 
 /// Runs the root and all that is visited below it, in this thread alone, left halves first, and
@@ -97,11 +69,9 @@ where
     ensures parts { IfOk result (λ v. AreParts (W.shape step.now.work) (W.item step.now.work) root v.parts) }
     ensures journals { IfOk result (λ v. KeepRules (W.shape step.now.work) root 1 (v.journals ++ [] ∷ [])) }
 {
-    let Ok(harvest) = run_alone_for::<Brand, W, W::Item, F, G>(
+    let harvest = run_alone_named::<Brand, W, W::Item, F, G>(
         alloc, root, &step.work, &step.call, gate,
-    ) else {
-        return Err(AllocError);
-    };
+    )?;
     Ok(harvest)
 }
 
@@ -128,14 +98,13 @@ where
     requires workers { (1 ≤ workers) × (workers ≤ 64) }
     requires root { W.valid step.now.work root }
     requires cell { root.cell ≡ boxes.root }
-    ensures count { IfOk result (λ v. (length v.journals ≡ workers + 1) × (v.left ≡ length (journal_of workers v.journals))) }
+    ensures count { IfOk result (λ v. length v.journals ≡ workers + 1) }
+    ensures left { IfOk result (λ v. v.left ≡ length (journal_of workers v.journals)) }
     ensures parts { IfOk result (λ v. AreParts (W.shape step.now.work) (W.item step.now.work) root v.parts) }
     ensures journals { IfOk result (λ v. KeepRules (W.shape step.now.work) root workers v.journals) }
 {
-    let Ok(harvest) = run_tree_for::<R, Brand, W, W::Item, F, G>(
+    let harvest = run_named::<R, Brand, W, W::Item, F, G>(
         rt, alloc, workers, root, &step.work, &step.call, gate,
-    ) else {
-        return Err(AllocError);
-    };
+    )?;
     Ok(harvest)
 }

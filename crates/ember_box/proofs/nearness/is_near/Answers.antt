@@ -1,17 +1,17 @@
 use Rattle.std.proofs.Common.{◌≡◌, sym, ap, ◌∙◌, true, false, ◌&&◌}
 use Rattle.ember_model.specs.Planes.{support_of}
-use Rattle.ember_box.specs.Spans.{spans_of, bounding, overlap, crosses}
-use Rattle.ember_box.proofs.Nearby.{near_is}
+use Rattle.ember_box.specs.Aabbs.{aabb_of_cell, aabb_of_tri, aabbs_meet, crosses}
+use Rattle.ember_box.proofs.NearByAabbs.{near_is}
 use Rattle.ember_box.proofs.nearness.is_near.Goals as goal
 
-pub returns-then-overlap : goal.returns-then-overlap
-returns-then-overlap c =
+pub returns-then-aabbs_meet : goal.returns-then-aabbs_meet
+returns-then-aabbs_meet c =
     let t = c.args.t.now in let b = c.args.b.now in
-    let o : overlap (bounding t) b ≡ true = ap (λ s. overlap s b) (sym c.bounding-spans.ensures) ∙ sym c.overlap.ensures ∙ c.if-overlap.true in
-    λ box e. (c.is_crossed.ensures box e o ∙ ap (λ b. crosses (support_of t) b) e ∙ sym (near_is box t ∙ ap (λ r. r && crosses (support_of t) (spans_of box)) (ap (λ b. overlap (bounding t) b) (sym e) ∙ o)))
+    let o : aabbs_meet (aabb_of_tri t) b ≡ true = ap (λ s. aabbs_meet s b) (sym c.aabb_of_tri-spans.ensures) ∙ sym c.aabbs_meet.ensures ∙ c.if-aabbs_meet.true in
+    λ box e. (c.is_crossed.ensures box e o ∙ ap (λ b. crosses (support_of t) b) e ∙ sym (near_is box t ∙ ap (λ r. r && crosses (support_of t) (aabb_of_cell box)) (ap (λ b. aabbs_meet (aabb_of_tri t) b) (sym e) ∙ o)))
 
-pub returns-else-overlap : goal.returns-else-overlap
-returns-else-overlap c =
+pub returns-else-aabbs_meet : goal.returns-else-aabbs_meet
+returns-else-aabbs_meet c =
     let t = c.args.t.now in let b = c.args.b.now in
-    let o : overlap (bounding t) b ≡ false = ap (λ s. overlap s b) (sym c.bounding-spans.ensures) ∙ sym c.overlap.ensures ∙ c.if-overlap.false in
-    λ box e. (c.if-overlap.false ∙ sym (near_is box t ∙ ap (λ r. r && crosses (support_of t) (spans_of box)) (ap (λ b. overlap (bounding t) b) (sym e) ∙ o)))
+    let o : aabbs_meet (aabb_of_tri t) b ≡ false = ap (λ s. aabbs_meet s b) (sym c.aabb_of_tri-spans.ensures) ∙ sym c.aabbs_meet.ensures ∙ c.if-aabbs_meet.false in
+    λ box e. (c.if-aabbs_meet.false ∙ sym (near_is box t ∙ ap (λ r. r && crosses (support_of t) (aabb_of_cell box)) (ap (λ b. aabbs_meet (aabb_of_tri t) b) (sym e) ∙ o)))

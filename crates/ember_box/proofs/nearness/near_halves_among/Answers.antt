@@ -1,15 +1,15 @@
 use Rattle.std.proofs.Common.{◌<◌, ◌∙◌, arith, length}
 use Rattle.ember_box.specs.Boxes.{left_half, right_half}
 use Rattle.ember_box.specs.Near.{is_near, tri_at}
-use Rattle.ember_box.proofs.Sights.{kept_more}
+use Rattle.ember_box.proofs.HalfNearness.{kept_more}
 use Rattle.ember_box.proofs.nearness.near_halves_among.Goals as goal
 
 pub loop-i-preserved : goal.loop-i-preserved
 loop-i-preserved c =
-    let tris = c.args.tris.now in let list = c.args.list.now in let cell = c.args.c.now in let k = c.args.k in
+    let tris = c.args.tris.now in let list = c.args.list.now in let cell = c.args.c.now in let k = c.args.axis in
     let i = c.loop-i.i-index in
     let below : i < length list = omega arith in
-    let each = c.near_each-in_low.ensures cell c.requires.side c.spans_of-whole.ensures.value c.halves_of-halves.ensures.value in
+    let each = c.near_each-in_low.ensures cell c.requires.side c.aabb_of_cell-whole.ensures.value c.halves_of-halves.ensures.value in
     record {
       low = kept_more (λ j. is_near (left_half cell k) (tri_at tris j)) list i c.loop-i.low.items c.push_if.new.list.items c.near_each-in_low.result.0 below c.loop-i.invariant.low each.0 c.push_if.ensures.items;
       high = kept_more (λ j. is_near (right_half cell k) (tri_at tris j)) list i c.loop-i.high.items c.push_if-in-loop-i.new.list.items c.near_each-in_low.result.1 below c.loop-i.invariant.high each.1 c.push_if-in-loop-i.ensures.items;

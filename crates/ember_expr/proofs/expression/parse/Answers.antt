@@ -1,5 +1,5 @@
 use Rattle.ember_expr.specs.Formula.{formula_of}
-use Rattle.ember_expr.proofs.Fit.{fit_more}
+use Rattle.ember_expr.proofs.TreeLimits.{fit_more}
 use Rattle.ember_expr.proofs.expression.parse.Goals as goal
 
 pub invariant_of-result : goal.invariant_of-result

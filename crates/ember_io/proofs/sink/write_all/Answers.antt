@@ -1,5 +1,5 @@
 use Rattle.std.proofs.Common.{arith}
-use Rattle.ember_io.proofs.Known.{taken_step}
+use Rattle.ember_io.proofs.ToldBytes.{taken_step}
 use Rattle.ember_io.proofs.sink.write_all.Goals as goal
 
 pub loop-rest-preserved : goal.loop-rest-preserved

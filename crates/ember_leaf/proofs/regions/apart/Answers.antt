@@ -1,5 +1,6 @@
 use Rattle.ember_algebra.specs.Relations.{none}
-use Rattle.ember_leaf.proofs.Splitting.{region_unmet, whole_more}
+use Rattle.ember_leaf.proofs.RegionCuts.{not_met, whole_more}
+use Rattle.ember_leaf.proofs.Pieces.{unmet_left}
 use Rattle.ember_leaf.proofs.regions.apart.Goals as goal
 
 pub loop-i-init : goal.loop-i-init
@@ -7,4 +8,4 @@ loop-i-init c = none
 
 pub loop-i-preserved : goal.loop-i-preserved
 loop-i-preserved c =
-    whole_more c.args.b.now c.args.list.now c.loop-i.i c.index-list-i.result c.loop-i-test.true c.index-list-i.is c.loop-i.invariant (region_unmet c.args.b.now c.index-list-i.result c.is_met.ensures c.if-is_met.false)
+    whole_more c.args.c.now c.args.list.now c.loop-i.i c.index-list-i.result c.loop-i-test.true c.index-list-i.is c.loop-i.invariant (unmet_left c.args.c.now c.index-list-i.result (not_met c.is_met.ensures c.if-is_met.false))

@@ -1,8 +1,14 @@
 use Rattle.std.proofs.Common.{◌↔◌, IsTrue, subst}
 use Rattle.ember_model.specs.Faces.{Meets}
-use Rattle.ember_leaf.proofs.Splitting.{blade_face}
+use Rattle.ember_leaf.proofs.Pieces.{shares}
+use Rattle.ember_leaf.proofs.RegionCuts.{blade_face}
 use Rattle.ember_leaf.proofs.regions.is_met.Goals as goal
 
-pub returns : goal.returns
-returns c =
-    subst (λ f. IsTrue c.meets_face.result ↔ Meets c.args.r.now f) (blade_face c.args.b.now.tri c.args.b.now.face c.args.b.now.sides) c.meets_face.ensures
+pub is_met_flat-requires : goal.is_met_flat-requires
+is_met_flat-requires c =
+    record { plane = shares c.args.c.now c.args.r.now c.requires c.in_default.not-Across; somewhere = c.requires.somewhere }
+
+pub returns-in-Across : goal.returns-in-Across
+returns-in-Across c =
+    let u = c.args.c.now in
+    subst (λ f. IsTrue c.meets_face.result ↔ Meets c.args.r.now f) (blade_face u.tri u.face u.sides) c.meets_face.ensures

@@ -5,7 +5,7 @@ use Rattle.ember_algebra.proofs.Exact.{input, stored, ◌&◌, done, exact}
 use Rattle.ember_model.specs.Planes.{value_at, along}
 use Rattle.ember_model.specs.Faces.{hit}
 use Rattle.ember_model.specs.ClearTest.{enters, none_positive, all_negative}
-use Rattle.ember_model.proofs.RayPlaces.{place_hit}
+use Rattle.ember_model.proofs.RayPoints.{ray_point_is_hit}
 use Rattle.ember_model.proofs.clearness.is_ray_clear.Goals as goal
 
 pub returns-then-not-none_positive : goal.returns-then-not-none_positive
@@ -15,7 +15,7 @@ returns-then-not-none_positive c =
     let k = exact (c.component-slope.ensures.small & done) (stored w64 (input 0)) tt ∙ c.component-slope.ensures.value in
     let l : is_zero (along n a) ≡ false = (λ i. is_zero (sym k i)) ∙ sym c.is_level.ensures ∙ c.if-is_level.false in
     let m : is_negative (value_at n p *ℤ along n a) ≡ true = (λ i. is_negative (sym s i *ℤ sym k i)) ∙ sym c.meets.ensures ∙ c.if-meets.true in
-    let q = place_hit n a p _ _ c.hit_along-hit.result s k c.hit_along-hit.ensures.value in
+    let q = ray_point_is_hit n a p _ _ c.hit_on_ray-hit.result s k c.hit_on_ray-hit.ensures.value in
     let h : none_positive es (hit n a p) ≡ false = (λ i. none_positive es (sym q i)) ∙ sym c.none_positive.ensures ∙ c.if-not-none_positive.true in
     ap not c.if-not-none_positive.true ∙ sym (λ i. cond (l i) (cond (is_zero (value_at n p)) (not (enters es a p)) true) (cond (m i && h i) (all_negative es (hit n a p)) true))
 
@@ -26,6 +26,6 @@ returns-else-not-none_positive c =
     let k = exact (c.component-slope.ensures.small & done) (stored w64 (input 0)) tt ∙ c.component-slope.ensures.value in
     let l : is_zero (along n a) ≡ false = (λ i. is_zero (sym k i)) ∙ sym c.is_level.ensures ∙ c.if-is_level.false in
     let m : is_negative (value_at n p *ℤ along n a) ≡ true = (λ i. is_negative (sym s i *ℤ sym k i)) ∙ sym c.meets.ensures ∙ c.if-meets.true in
-    let q = place_hit n a p _ _ c.hit_along-hit.result s k c.hit_along-hit.ensures.value in
+    let q = ray_point_is_hit n a p _ _ c.hit_on_ray-hit.result s k c.hit_on_ray-hit.ensures.value in
     let h : none_positive es (hit n a p) ≡ true = (λ i. none_positive es (sym q i)) ∙ sym c.none_positive.ensures ∙ c.if-not-none_positive.false in
     c.all_negative.ensures ∙ (λ i. all_negative es (q i)) ∙ sym (λ i. cond (l i) (cond (is_zero (value_at n p)) (not (enters es a p)) true) (cond (m i && h i) (all_negative es (hit n a p)) true))

@@ -1,11 +1,11 @@
 use Rattle.std.proofs.Common.{◌≡◌, false, sym, ◌∙◌}
 use Rattle.std.proofs.lemmas.Bool.{false≢true}
-use Rattle.ember_box.specs.Spans.{bounding, overlap}
-use Rattle.ember_pairs.proofs.Apart.{boxes_apart}
+use Rattle.ember_box.specs.Aabbs.{aabb_of_tri, aabbs_meet}
+use Rattle.ember_pairs.proofs.DisjointAabbs.{boxes_apart}
 use Rattle.ember_pairs.proofs.meetings.are_meeting.Goals as goal
 
-pub returns-else-overlap : goal.returns-else-overlap
-returns-else-overlap c =
+pub returns-else-aabbs_meet : goal.returns-else-aabbs_meet
+returns-else-aabbs_meet c =
     let t = c.args.t.now in let u = c.args.u.now in
-    let e : overlap (bounding t) (bounding u) ≡ false = (λ i. overlap (sym c.requires.facet i).spans (sym c.requires.other_facet i).spans) ∙ sym c.overlap.ensures ∙ c.if-overlap.false in
-    (λ r. absurd (false≢true (sym c.if-overlap.false ∙ r)), λ m. absurd (boxes_apart t u e m))
+    let e : aabbs_meet (aabb_of_tri t) (aabb_of_tri u) ≡ false = (λ i. aabbs_meet (sym c.requires.facet i).aabb (sym c.requires.other_facet i).aabb) ∙ sym c.aabbs_meet.ensures ∙ c.if-aabbs_meet.false in
+    (λ r. absurd (false≢true (sym c.if-aabbs_meet.false ∙ r)), λ m. absurd (boxes_apart t u e m))

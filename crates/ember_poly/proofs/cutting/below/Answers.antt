@@ -1,4 +1,4 @@
-use Rattle.ember_poly.proofs.Clipped.{clip_cut}
+use Rattle.ember_poly.proofs.ClipResult.{clip_cut}
 use Rattle.ember_poly.proofs.cutting.below.Goals as goal
 
 pub returns : goal.returns

@@ -2,7 +2,7 @@ use Rattle.std.proofs.Common.{sym, subst, ap, ◌≡◌, true, false}
 use Rattle.ember_model.specs.declared.face.Face.{Face}
 use Rattle.ember_model.specs.Faces.{Meets, face_of}
 use Rattle.ember_model.specs.ClearTest.{face_with}
-use Rattle.ember_poly.proofs.Aside.{aside}
+use Rattle.ember_poly.proofs.OneSide.{one_side_meets_not}
 use Rattle.ember_poly.proofs.meeting.meets.Goals as goal
 
 pub returns : goal.returns
@@ -15,7 +15,7 @@ returns c =
 differ : false ≡ true → ⊥
 differ e = cc
 
-pub returns-then-is_aside : goal.returns-then-is_aside
-returns-then-is_aside c =
+pub returns-then-is_on_one_side : goal.returns-then-is_on_one_side
+returns-then-is_on_one_side c =
     let f = c.args.r.now in
-    (λ e. absurd (differ e), λ m. absurd (aside f c.r.inside.support c.args.t.now (ap (λ (g : Face). g.support) (sym c.r.view_is)) c.requires.normal (c.is_aside.ensures c.if-is_aside.true) m))
+    (λ e. absurd (differ e), λ m. absurd (one_side_meets_not f c.r.inside.support c.args.t.now (ap (λ (g : Face). g.support) (sym c.r.view_is)) c.requires.normal (c.is_on_one_side.ensures c.if-is_on_one_side.true) m))

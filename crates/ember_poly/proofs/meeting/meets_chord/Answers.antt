@@ -3,9 +3,9 @@ use lib.ListN.{get_or}
 use Rattle.ember_model.specs.declared.plane.Plane.{Plane}
 use Rattle.ember_model.specs.Planes.{value_at}
 use Rattle.ember_point.specs.Points.{spot_of}
-use Rattle.ember_poly.specs.Spans.{IsSpan}
-use Rattle.ember_poly.proofs.Spanned.{Tried, open_split, shut_at, free_at, split_at, tried_end}
-use Rattle.ember_poly.proofs.meeting.meets_chord.Goals.{in-Free, in-Split+else-fits}
+use Rattle.ember_poly.specs.Chords.{IsChordPart}
+use Rattle.ember_poly.proofs.ChordParts.{Tried, open_split, shut_at, free_at, split_at, tried_end}
+use Rattle.ember_poly.proofs.meeting.meets_chord.Goals.{in-Whole, in-Split+else-has_vertex_within}
 use Rattle.ember_poly.proofs.meeting.meets_chord.Goals as goal
 
 differ : true ≡ false → ⊥
@@ -14,29 +14,29 @@ differ e = cc
 abbrev none : Plane
 none = record { a = pos 0; b = pos 0; c = pos 0; d = pos 0 }
 
-pub returns-in-Shut : goal.returns-in-Shut
-returns-in-Shut c =
+pub returns-in-Empty : goal.returns-in-Empty
+returns-in-Empty c =
     let hs = c.args.hs.now in let y = spot_of c.args.y.now in let z = spot_of c.args.z.now in
     let i = c.loop-h.h-index in let a = value_at (get_or hs i none) y in let b = value_at (get_or hs i none) z in
-    let s = subst (λ s. IsSpan a b s) c.in-Shut.is (c.span_of.ensures a b c.side.ensures c.side-in-loop-h.ensures) in
+    let s = subst (λ s. IsChordPart a b s) c.in-Empty.is (c.chord_part_of.ensures a b c.side.ensures c.side-in-loop-h.ensures) in
     (λ e. absurd (differ (sym e)), λ o. absurd (shut_at c.args.n.now c.args.p.now hs y z c.requires.line i none c.loop-h-test.true s o))
 
-pub returns-then-fits : goal.returns-then-fits
-returns-then-fits c =
+pub returns-then-has_vertex_within : goal.returns-then-has_vertex_within
+returns-then-has_vertex_within c =
     let hs = c.args.hs.now in let y = spot_of c.args.y.now in let z = spot_of c.args.z.now in
     let i = c.loop-h.h-index in let h = get_or hs i none in let a = value_at h y in let b = value_at h z in
-    let s = subst (λ s. IsSpan a b s) c.in-Split.is (c.span_of.ensures a b c.side.ensures c.side-in-loop-h.ensures) in
-    (λ e. open_split c.args.n.now c.args.p.now hs y z c.requires.line h s (c.fits.ensures.0 c.if-fits.true), λ o. refl)
+    let s = subst (λ s. IsChordPart a b s) c.in-Split.is (c.chord_part_of.ensures a b c.side.ensures c.side-in-loop-h.ensures) in
+    (λ e. open_split c.args.n.now c.args.p.now hs y z c.requires.line h s (c.has_vertex_within.ensures.0 c.if-has_vertex_within.true), λ o. refl)
 
 pub loop-h-preserved : goal.loop-h-preserved
 loop-h-preserved c =
     let n = c.args.n.now in let p = c.args.p.now in let hs = c.args.hs.now in let y = spot_of c.args.y.now in
     let z = spot_of c.args.z.now in let i = c.loop-h.h-index in let a = value_at (get_or hs i none) y in
     let b = value_at (get_or hs i none) z in
-    let s = c.span_of.ensures a b c.side.ensures c.side-in-loop-h.ensures in
-    elim c.match-span_of.branch [
-      | in-Free w ↦ subst (λ b. Tried n p hs y z b (take (i + 1) hs)) (sym w.free-is) (free_at n p hs y z c.requires.line c.loop-h.free i none c.loop-h-test.true (subst (λ s. IsSpan a b s) w.in-Free.is s) c.loop-h.invariant)
-      | in-Split+else-fits w ↦ subst (λ b. Tried n p hs y z b (take (i + 1) hs)) (sym w.free-is) (split_at n p hs y z c.requires.line c.loop-h.free i none c.loop-h-test.true (subst (λ s. IsSpan a b s) w.in-Split.is s) (λ f. differ (sym (w.fits.ensures.1 f) ∙ w.if-fits.false)) c.loop-h.invariant)
+    let s = c.chord_part_of.ensures a b c.side.ensures c.side-in-loop-h.ensures in
+    elim c.match-chord_part_of.branch [
+      | in-Whole w ↦ subst (λ b. Tried n p hs y z b (take (i + 1) hs)) (sym w.free-is) (free_at n p hs y z c.requires.line c.loop-h.free i none c.loop-h-test.true (subst (λ s. IsChordPart a b s) w.in-Whole.is s) c.loop-h.invariant)
+      | in-Split+else-has_vertex_within w ↦ subst (λ b. Tried n p hs y z b (take (i + 1) hs)) (sym w.free-is) (split_at n p hs y z c.requires.line c.loop-h.free i none c.loop-h-test.true (subst (λ s. IsChordPart a b s) w.in-Split.is s) (λ f. differ (sym (w.has_vertex_within.ensures.1 f) ∙ w.if-has_vertex_within.false)) c.loop-h.invariant)
     ]
 
 pub returns : goal.returns

@@ -1,6 +1,6 @@
 use Rattle.std.proofs.Common.{take}
 use Rattle.ember_point.specs.Points.{spot_of}
-use Rattle.ember_poly.proofs.Spanned.{Tried}
+use Rattle.ember_poly.proofs.ChordParts.{Tried}
 use Rattle.ember_poly.proofs.meeting.meets_chord.Given as goal
 
 abbrev pub invariant-loop-h : goal.invariant-loop-h

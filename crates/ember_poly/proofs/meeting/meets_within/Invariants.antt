@@ -1,5 +1,5 @@
 use Rattle.std.proofs.Common.{take}
-use Rattle.ember_poly.proofs.Touching.{Tested}
+use Rattle.ember_poly.proofs.InsideNotAbove.{Tested}
 use Rattle.ember_poly.proofs.meeting.meets_within.Given as goal
 
 abbrev pub invariant-loop-h : goal.invariant-loop-h

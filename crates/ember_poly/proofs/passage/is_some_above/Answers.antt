@@ -1,5 +1,5 @@
 use Rattle.std.proofs.Common.{inr, sym, ◌∙◌}
-use Rattle.ember_poly.proofs.Entered.{some_raised, level_next}
+use Rattle.ember_poly.proofs.Classification.{some_raised, level_next}
 use Rattle.ember_poly.proofs.passage.is_some_above.Goals as goal
 
 pub returns-then-is_above-clause-some : goal.returns-then-is_above-clause-some

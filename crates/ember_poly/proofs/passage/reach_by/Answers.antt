@@ -1,4 +1,4 @@
-use Rattle.ember_poly.proofs.Entered.{on_both}
+use Rattle.ember_poly.proofs.Classification.{on_both}
 use Rattle.ember_poly.proofs.passage.reach_by.Goals as goal
 
 pub returns-else-high : goal.returns-else-high

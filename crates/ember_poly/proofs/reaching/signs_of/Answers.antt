@@ -1,6 +1,6 @@
 use Rattle.std.proofs.Common.{subst, take, ◌+◌}
 use Rattle.ember_poly.specs.Passages.{AreSigns}
-use Rattle.ember_poly.proofs.Seen.{signs_next, seen_both}
+use Rattle.ember_poly.proofs.CornerSigns.{signs_next, seen_both}
 use Rattle.ember_poly.proofs.reaching.signs_of.Goals as goal
 
 pub loop-m-preserved : goal.loop-m-preserved

@@ -1,9 +1,9 @@
 use Rattle.std.proofs.Common.{subst}
 use Rattle.ember_model.specs.Planes.{value_at}
 use Rattle.ember_point.specs.Points.{spot_of}
-use Rattle.ember_poly.specs.declared.answers.Reach.TheVariants.{Below, Above, On, Both}
+use Rattle.ember_poly.specs.declared.reach_cut.Reach.TheVariants.{Below, Above, On, Both}
 use Rattle.ember_poly.specs.Passages.{AreSigns}
-use Rattle.ember_poly.proofs.Seen.{neg_out, zero_out, pos_out, seen_zero, seen_low, seen_high}
+use Rattle.ember_poly.proofs.CornerSigns.{neg_out, zero_out, pos_out, seen_zero, seen_low, seen_high}
 use Rattle.ember_poly.proofs.reaching.with_corner.Goals as goal
 
 pub returns-in-Zero : goal.returns-in-Zero

@@ -2,9 +2,9 @@ use Rattle.std.proofs.Common.{List, take_all, ◌+◌, sym, ap, ◌∙◌, arith
 use Rattle.ember_model.specs.declared.tri.Tri.{Tri}
 use Rattle.ember_model.specs.Faces.{face_of, leg}
 use Rattle.ember_law.specs.Counts.{with_more}
-use Rattle.ember_law.proofs.Flats.{flat_leg}
+use Rattle.ember_law.proofs.FlatTriangles.{flat_leg}
 use Rattle.ember_law.proofs.Tallies.{no_tri, tally_more, tally_none}
-use Rattle.ember_law.proofs.Grown.{all_within}
+use Rattle.ember_law.proofs.CountBounds.{all_within}
 use Rattle.ember_box.specs.Boxes.{right_half}
 use Rattle.ember_box.specs.Reference.{reference}
 use Rattle.ember_ref.specs.References.{carried}
@@ -29,7 +29,7 @@ loop-t-preserved c =
     let ts = c.args.near.now in let i = c.loop-t.t-index in let t = get_or ts i no_tri in
     let l = c.loop-t-test.true in
     record {
-      value = c.carry.ensures.value b k c.requires.side c.way_back-way.ensures.way ∙ ap (λ old. with_more old t.mesh (leg (face_of t) p q)) c.loop-t.invariant.value ∙ sym (tally_more (λ f. leg f p q) (flat_leg p q) ts i no_tri l (c.requires.numbered i no_tri l) c.args.v.now.counts);
+      value = c.carry.ensures.value b k c.requires.side c.segment_back-way.ensures.way ∙ ap (λ old. with_more old t.mesh (leg (face_of t) p q)) c.loop-t.invariant.value ∙ sym (tally_more (λ f. leg f p q) (flat_leg p q) ts i no_tri l (c.requires.numbered i no_tri l) c.args.v.now.counts);
       within = λ m h. all_within c.carry.new.v.counts (omega arith) (c.carry.ensures.within (m + i) (c.loop-t.invariant.within m h));
     }
 

@@ -4,9 +4,9 @@ use Rattle.ember_model.specs.declared.tri.Tri.{Tri}
 use Rattle.ember_model.specs.Faces.{face_of, leg}
 use Rattle.ember_model.specs.Meshes.{HasMesh}
 use Rattle.ember_law.specs.Counts.{with_more}
-use Rattle.ember_law.proofs.Flats.{flat_leg}
+use Rattle.ember_law.proofs.FlatTriangles.{flat_leg}
 use Rattle.ember_law.proofs.Tallies.{tally_more, tally_none}
-use Rattle.ember_law.proofs.Grown.{all_within}
+use Rattle.ember_law.proofs.CountBounds.{all_within}
 use Rattle.ember_box.specs.Boxes.{right_half}
 use Rattle.ember_box.specs.Near.{listed, tri_at, no_tri}
 use Rattle.ember_box.specs.Reference.{reference}
@@ -17,7 +17,7 @@ use Rattle.ember_ref.proofs.shifting.shift_listed.Goals as goal
 pub loop-i-init : goal.loop-i-init
 loop-i-init c =
     record {
-      value = sym (tally_none (λ f. leg f (reference (right_half c.args.c.now c.args.k)) (reference c.args.c.now)) c.args.v.now.counts);
+      value = sym (tally_none (λ f. leg f (reference (right_half c.args.c.now c.args.axis)) (reference c.args.c.now)) c.args.v.now.counts);
       within = λ m h. all_within c.args.v.now.counts (omega arith) h;
     }
 
@@ -28,7 +28,7 @@ carry-requires-clause-room c =
 
 pub loop-i-preserved : goal.loop-i-preserved
 loop-i-preserved c =
-    let b = c.args.c.now in let k = c.args.k in let p = reference (right_half b k) in let q = reference b in
+    let b = c.args.c.now in let k = c.args.axis in let p = reference (right_half b k) in let q = reference b in
     let tris = c.args.tris.now in let list = c.args.list.now in let ts = listed tris list in let i = c.loop-i.i-index in
     let t = tri_at tris (get_or list i 0) in
     let l : i < length list = omega arith in
@@ -36,7 +36,7 @@ loop-i-preserved c =
     let e : get_or ts i no_tri ≡ t = get_or-map (λ j. tri_at tris j) list i 0 no_tri l in
     let m : HasMesh 64 t = c.requires.numbered (get_or list i 0) no_tri (c.requires.places i 0 l) in
     record {
-      value = c.carry.ensures.value b k c.requires.side c.way_back-way.ensures.way ∙ (λ j. with_more (c.loop-i.invariant.value j) (sym e j).mesh (leg (face_of (sym e j)) p q)) ∙ sym (tally_more (λ f. leg f p q) (flat_leg p q) ts i no_tri here (subst (HasMesh 64) (sym e) m) c.args.v.now.counts);
+      value = c.carry.ensures.value b k c.requires.side c.segment_back-way.ensures.way ∙ (λ j. with_more (c.loop-i.invariant.value j) (sym e j).mesh (leg (face_of (sym e j)) p q)) ∙ sym (tally_more (λ f. leg f p q) (flat_leg p q) ts i no_tri here (subst (HasMesh 64) (sym e) m) c.args.v.now.counts);
       within = λ m h. all_within c.carry.new.v.counts (omega arith) (c.carry.ensures.within (m + i) (c.loop-i.invariant.within m h));
     }
 
@@ -44,13 +44,13 @@ pub returns-clause-value : goal.returns-clause-value
 returns-clause-value c =
     let ts = listed c.args.tris.now c.args.list.now in
     let n : length ts ≤ c.loop-i.i-index = omega (arith, c.loop-i-test.false, length-map c.args.list.now (λ j. tri_at c.args.tris.now j)) in
-    c.loop-i.invariant.value ∙ ap (λ (ns : List Tri). carried ns c.args.c.now c.args.k c.args.v.now.counts) (take_all c.loop-i.i-index ts n)
+    c.loop-i.invariant.value ∙ ap (λ (ns : List Tri). carried ns c.args.c.now c.args.axis c.args.v.now.counts) (take_all c.loop-i.i-index ts n)
 
 pub returns-clause-within : goal.returns-clause-within
 returns-clause-within c = λ m h. let e = c.loop-i-test.false in let f = c.loop-i.auto.i-index-end in all_within c.loop-i.v.counts (omega arith) (c.loop-i.invariant.within m h)
 
 pub returns-clause-law : goal.returns-clause-law
 returns-clause-law c = λ scene f.
-    let b = c.args.c.now in let k = c.args.k in let old = c.args.v.now.counts in let ts = listed c.args.tris.now c.args.list.now in
+    let b = c.args.c.now in let k = c.args.axis in let old = c.args.v.now.counts in let ts = listed c.args.tris.now c.args.list.now in
     let n : length ts ≤ c.loop-i.i-index = omega (arith, c.loop-i-test.false, length-map c.args.list.now (λ j. tri_at c.args.tris.now j)) in
     shift_law scene ts b k old c.requires.side f ∙ sym (c.loop-i.invariant.value ∙ ap (λ (ns : List Tri). carried ns b k old) (take_all c.loop-i.i-index ts n))

@@ -1,7 +1,7 @@
 use Rattle.std.proofs.Common.{◌≡◌, ℕ, ◌-◌, true, List, map, subst, IfOk, IfErr}
 use Rattle.std.proofs.lemmas.List.{length-map}
-use Rattle.ember_run.specs.Serves.{IsRefusal, IsText, is_refusal}
-use Rattle.ember_run.specs.Verdict.{Untold, at_verdict, first_told}
+use Rattle.ember_run.specs.CallOutcome.{IsRefusal, IsText, is_refusal}
+use Rattle.ember_run.specs.Verdict.{Unknown, at_verdict, first_told}
 use Rattle.ember_run.proofs.Verdicts.{same_error}
 use Rattle.ember_run.proofs.AtVerdict.{at_expr_refused, at_scene_refused, at_unread, point_refused_if, text_if}
 use Rattle.ember_run.proofs.at.at_output.Goals as goal
@@ -24,7 +24,7 @@ returns-in-Err-read_scene-clause-read_fault g c =
     λ i e. let f = c.in-Err-read_scene.ensures.read_fault i (same_error _ _ e) in (
       f.0,
       f.1,
-      subst (λ (names : List (List ℕ)). at_verdict a.point.now a.expr.now a.places (first_told (i - 1) (map told names)) ≡ Untold) c.items-files.ensures
+      subst (λ (names : List (List ℕ)). at_verdict a.point.now a.expr.now a.places (first_told (i - 1) (map told names)) ≡ Unknown) c.items-files.ensures
           (at_unread a.point.now a.expr.now a.places _ i (map told names) _ (length-map names told) c.in-Ok.ensures.expr f.2),
     )
 

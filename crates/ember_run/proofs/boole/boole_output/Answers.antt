@@ -2,8 +2,8 @@ use Rattle.std.proofs.Common.{◌≡◌, ℕ, ◌-◌, List, map, subst}
 use Rattle.std.proofs.lemmas.List.{length-map}
 use Rattle.ember_run.specs.Outputs.{SolidFaces}
 use Rattle.ember_run.specs.Reported.{IsReportIf}
-use Rattle.ember_run.specs.Serves.{IsText}
-use Rattle.ember_run.specs.Verdict.{Untold, Writes, after_solid, bool_verdict, first_told}
+use Rattle.ember_run.specs.CallOutcome.{IsText}
+use Rattle.ember_run.specs.Verdict.{Unknown, Writes, after_solid, bool_verdict, first_told}
 use Rattle.ember_run.proofs.SceneVerdicts.{scene_unread}
 use Rattle.ember_run.proofs.SolidFiles.{solid_file}
 use Rattle.ember_run.proofs.SolidVerdicts.{solid_reported, solid_written}
@@ -16,7 +16,7 @@ returns-in-Err-read_scene-clause-read_fault g c =
     λ i e. let f = c.in-Err-read_scene.ensures.read_fault i (same_error _ _ e) in (
       f.0,
       f.1,
-      subst (λ (names : List (List ℕ)). bool_verdict a.expr.now a.places (first_told (i - 1) (map told names)) ≡ Untold) c.items-files.ensures
+      subst (λ (names : List (List ℕ)). bool_verdict a.expr.now a.places (first_told (i - 1) (map told names)) ≡ Unknown) c.items-files.ensures
           (scene_unread (after_solid a.expr.now) a.places _ i (map told names) _ (λ formula tris. Writes (SolidFaces tris formula)) (length-map names told) c.in-Ok.ensures.expr f.2),
     )
 

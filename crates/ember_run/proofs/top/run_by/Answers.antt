@@ -2,13 +2,13 @@ use Rattle.std.proofs.Common.{sym, subst}
 use Rattle.std.specs.declared.option.Option.{Option}
 use Rattle.ember_words.specs.declared.command.Command.{Command}
 use Rattle.ember_run.specs.Reported.{IsErrText}
-use Rattle.ember_run.specs.Serves.{Serves}
+use Rattle.ember_run.specs.CallOutcome.{IsCallOutcome}
 use Rattle.ember_run.proofs.CanonicalWords.{canonical_command}
 use Rattle.ember_run.proofs.top.run_by.Goals as goal
 
 pub returns-in-Ok-clause-status : goal.returns-in-Ok-clause-status
 returns-in-Ok-clause-status g c =
-    subst (λ (command : Option Command). Serves command (g.S.Shelf.contents c.args.shelf.now) (g.S.Shelf.faults c.args.shelf.now) (g.S.Shelf.faults c.serve.new.shelf) (g.S.Shelf.fault_at c.serve.new.shelf) (g.O.Sink.faults c.args.out.now) (g.O.Sink.faults c.serve.new.out) (g.O.Sink.flushed c.serve.new.out) (g.O.Sink.taken c.args.out.now) (g.O.Sink.taken c.serve.new.out) c.serve.result)
+    subst (λ (command : Option Command). IsCallOutcome command (g.S.Shelf.contents c.args.shelf.now) (g.S.Shelf.faults c.args.shelf.now) (g.S.Shelf.faults c.serve.new.shelf) (g.S.Shelf.fault_at c.serve.new.shelf) (g.O.Sink.faults c.args.out.now) (g.O.Sink.faults c.serve.new.out) (g.O.Sink.flushed c.serve.new.out) (g.O.Sink.taken c.args.out.now) (g.O.Sink.taken c.serve.new.out) c.serve.result)
     (sym c.in-Ok.ensures.command) c.serve.ensures.status
 
 pub returns-in-Ok-clause-err : goal.returns-in-Ok-clause-err

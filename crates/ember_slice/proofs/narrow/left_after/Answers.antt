@@ -3,4 +3,4 @@ use Rattle.ember_slice.proofs.narrow.left_after.Goals as goal
 
 pub returns : goal.returns
 returns c =
-    λ n at ends h. narrowed_after n at _ h c.args.span.first c.args.span.last c.tighter.result c.tighter.ensures ends
+    λ n at ends h. narrowed_after n at _ h c.args.interval.first c.args.interval.last c.tighter.result c.tighter.ensures ends

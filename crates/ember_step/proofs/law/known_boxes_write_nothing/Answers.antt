@@ -1,4 +1,4 @@
-use Rattle.ember_step.proofs.Beside.{known_has_one}
+use Rattle.ember_step.proofs.KnownBesideBox.{known_has_one}
 use Rattle.ember_leaf.proofs.OneList.{value_on_sides, nothing_written}
 use Rattle.ember_step.proofs.law.known_boxes_write_nothing.Goals as goal
 

@@ -2,7 +2,7 @@ use Rattle.std.proofs.Common.{◌<◌, All, None, Some, is_some, if◌then◌els
 use Rattle.ember_expr.specs.Formula.{formula_of}
 use Rattle.ember_box.specs.Near.{listed}
 use Rattle.ember_box.specs.Halving.{is_leaf, halving_axis}
-use Rattle.ember_visit.proofs.Among.{job_places, few_listed, counts_within}
+use Rattle.ember_visit.proofs.IndexLists.{job_places, few_listed, counts_within}
 use Rattle.ember_step.proofs.Outcomes.{passed_by, leaf_by, halved_by}
 use Rattle.ember_step.proofs.step.box_step.Goals as goal
 

@@ -10,7 +10,7 @@ use Rattle.ember_expr.specs.Formula.{formula_of}
 use Rattle.ember_leaf.specs.Written.{IsWrittenIn}
 use Rattle.ember_visit.specs.Jobs.{near_of}
 use Rattle.ember_step.proofs.Outcomes.{written_by}
-use Rattle.ember_visit.proofs.Among.{all_listed, numbered_less, job_places, few_listed, counts_within}
+use Rattle.ember_visit.proofs.IndexLists.{all_listed, numbered_less, job_places, few_listed, counts_within}
 use Rattle.ember_step.proofs.step.kept_in.Goals as goal
 
 copied : (c : goal.After-deref) → c.deref.result.now ≡ listed c.args.s.now.tris c.args.job.now.list

@@ -2,11 +2,11 @@ use Rattle.std.proofs.Common.{refl, ap, map, ◌∙◌, ◌+◌, ◌*◌, arith,
 use mir.Syntax.{w32}
 use Rattle.std.proofs.lemmas.List.{take_all}
 use Rattle.ember_algebra.proofs.Exact.{input, stored, ◌&◌, done, exact}
-use Rattle.ember_trace.specs.declared.facet.Facet.{Facet}
-use Rattle.ember_law.proofs.Grown.{all_within}
+use Rattle.ember_trace.specs.declared.near_triangle.NearTriangle.{NearTriangle}
+use Rattle.ember_law.proofs.CountBounds.{all_within}
 use Rattle.ember_trace.specs.Crossings.{taken, crossing_before, crossing_after}
 use Rattle.ember_trace.proofs.Tallies.{taken_more}
-use Rattle.ember_trace.specs.Facets.{tri_of}
+use Rattle.ember_trace.specs.NearTriangles.{tri_of}
 use Rattle.ember_trace.proofs.TracedSides.{are_sides}
 use Rattle.ember_trace.proofs.sides.sides_beside.Goals as goal
 
@@ -22,7 +22,7 @@ take_from-requires-in-loop-f-clause-room c =
 
 pub loop-f-preserved : goal.loop-f-preserved
 loop-f-preserved c =
-    let i = c.loop-f.f-index in let n = c.args.near.now in let v = c.args.v.now.counts in let w = c.way_to-way.result in let f = c.f-item.result in
+    let i = c.loop-f.f-index in let n = c.args.near.now in let v = c.args.v.now.counts in let w = c.path_to-way.result in let f = c.f-item.result in
     let less = c.crossings_of-less.ensures in
     let before = exact (less.small.0 & done) (stored w32 (input 0)) tt ∙ less.before in
     let after = exact (less.small.1 & done) (stored w32 (input 0)) tt ∙ less.after in
@@ -43,14 +43,14 @@ returns-clause-after c = λ m h.
 
 pub returns-clause-traced : goal.returns-clause-traced
 returns-clause-traced c =
-    let w = c.way_to-way.result in let v = c.args.v.now.counts in
+    let w = c.path_to-way.result in let v = c.args.v.now.counts in
     let past = c.loop-f-test.false in
     let all = take_all c.loop-f.f-index c.args.near.now (omega arith) in
     record {
       way = w;
-      is_way = c.way_to-way.ensures;
-      before = c.loop-f.invariant.traced_before ∙ ap (λ (fs : List Facet). taken (crossing_before w) fs v) all;
-      after = c.loop-f.invariant.traced_after ∙ ap (λ (fs : List Facet). taken (crossing_after w) fs v) all;
+      is_way = c.path_to-way.ensures;
+      before = c.loop-f.invariant.traced_before ∙ ap (λ (fs : List NearTriangle). taken (crossing_before w) fs v) all;
+      after = c.loop-f.invariant.traced_after ∙ ap (λ (fs : List NearTriangle). taken (crossing_after w) fs v) all;
     }
 
 pub returns-clause-sides : goal.returns-clause-sides

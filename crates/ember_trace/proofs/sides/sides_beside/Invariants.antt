@@ -1,13 +1,13 @@
 use Rattle.std.proofs.Common.{◌≡◌, take}
-use Rattle.ember_trace.specs.Facets.{StayWithin}
+use Rattle.ember_trace.specs.NearTriangles.{AreWithinBound}
 use Rattle.ember_trace.specs.Crossings.{taken, crossing_before, crossing_after}
 use Rattle.ember_trace.proofs.sides.sides_beside.Given as goal
 
 abbrev pub invariant-loop-f : goal.invariant-loop-f
 invariant-loop-f l =
     record {
-      before : StayWithin l.f-index l.fn.v.counts l.before.counts;
-      after : StayWithin l.f-index l.fn.v.counts l.after.counts;
+      before : AreWithinBound l.f-index l.fn.v.counts l.before.counts;
+      after : AreWithinBound l.f-index l.fn.v.counts l.after.counts;
       traced_before : l.before.counts ≡ taken (crossing_before l.way) (take l.f-index l.near) l.fn.v.counts;
       traced_after : l.after.counts ≡ taken (crossing_after l.way) (take l.f-index l.near) l.fn.v.counts;
     }

@@ -1,6 +1,6 @@
 use Rattle.std.proofs.Common.{All, subst, sym}
 use Rattle.ember_model.specs.Meshes.{HasMesh}
-use Rattle.ember_visit.proofs.Among.{numbered_less}
+use Rattle.ember_visit.proofs.IndexLists.{numbered_less}
 use Rattle.ember_visit.proofs.halving.halve_job.Goals as goal
 
 pub shift_listed-requires-clause-numbered : goal.shift_listed-requires-clause-numbered

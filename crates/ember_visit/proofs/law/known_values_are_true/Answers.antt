@@ -1,4 +1,4 @@
-use Rattle.ember_visit.proofs.Inside.{known_at_corners}
+use Rattle.ember_visit.proofs.KnownInBox.{known_at_corners}
 use Rattle.ember_visit.proofs.law.known_values_are_true.Goals as goal
 
 pub returns : goal.returns

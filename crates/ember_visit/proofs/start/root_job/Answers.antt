@@ -1,16 +1,16 @@
 use Rattle.std.proofs.Common.{◌<◌, length, All, subst, sym, ◌∙◌, ap}
-use Rattle.ember_box.specs.Near.{near_places, places}
+use Rattle.ember_box.specs.Near.{near_indices, all_indices}
 use Rattle.ember_box.specs.Reference.{vector_at}
 use Rattle.ember_ref.proofs.RootOutside.{root_is_outside}
-use Rattle.ember_visit.proofs.Among.{all_places}
+use Rattle.ember_visit.proofs.IndexLists.{all_places}
 use Rattle.ember_visit.proofs.start.root_job.Goals as goal
 
 pub near_list-requires : goal.near_list-requires
 near_list-requires c = let a = all_places c.args.s.now.tris in
-    subst (All (λ i. i < length c.args.s.now.tris)) (sym (c.deref.ensures.value ∙ c.in_ok-all.ensures ∙ ap (λ ts. places ts) c.items.ensures)) a
+    subst (All (λ i. i < length c.args.s.now.tris)) (sym (c.deref.ensures.value ∙ c.in_ok-all.ensures ∙ ap (λ ts. all_indices ts) c.items.ensures)) a
 
 pub returns-clause-valid : goal.returns-clause-valid
 returns-clause-valid c = record {
-  list = c.of.ensures ∙ c.in_ok-list.ensures ∙ ap (λ is. near_places c.args.s.now.tris c.root-root.result is) (c.deref.ensures.value ∙ c.in_ok-all.ensures ∙ ap (λ ts. places ts) c.items.ensures);
+  list = c.of.ensures ∙ c.in_ok-list.ensures ∙ ap (λ is. near_indices c.args.s.now.tris c.root-root.result is) (c.deref.ensures.value ∙ c.in_ok-all.ensures ∙ ap (λ ts. all_indices ts) c.items.ensures);
   at = sym (ap (λ b. vector_at c.args.s.now.tris b) c.root-root.ensures ∙ root_is_outside c.args.s.now.tris c.args.s.now.meshes c.args.s.now.kept);
 }

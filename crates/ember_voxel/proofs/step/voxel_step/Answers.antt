@@ -1,7 +1,7 @@
 use Rattle.std.proofs.Common.{sym, subst, ◌<◌, arith}
 use Rattle.ember_expr.specs.Formula.{formula_of}
-use Rattle.ember_visit.specs.Jobs.{AreHalves}
-use Rattle.ember_visit.proofs.Among.{job_places, few_listed, counts_within}
+use Rattle.ember_visit.specs.Jobs.{AreHalfJobs}
+use Rattle.ember_visit.proofs.IndexLists.{job_places, few_listed, counts_within}
 use Rattle.ember_voxel.specs.Laws.{leaf_by, halved_by, may_halve}
 use Rattle.ember_voxel.specs.Lattice.{longest}
 use Rattle.ember_voxel.proofs.step.voxel_step.Goals as goal
@@ -32,5 +32,5 @@ halve_job-requires-clause-room c = counts_within c.args.s.now.tris c.args.job.no
 pub returns-in_ok-low-in-None : goal.returns-in_ok-low-in-None
 returns-in_ok-low-in-None c =
     let ts = c.args.s.now.tris in let j = c.args.job.now in
-    let h : AreHalves ts j (longest j.cell) c.in_ok-low-in-None.low c.in_ok-low-in-None.high = subst (λ k. AreHalves ts j k c.in_ok-low-in-None.low c.in_ok-low-in-None.high) c.longest.ensures c.in_ok-low-in-None.ensures in
+    let h : AreHalfJobs ts j (longest j.cell) c.in_ok-low-in-None.low c.in_ok-low-in-None.high = subst (λ k. AreHalfJobs ts j k c.in_ok-low-in-None.low c.in_ok-low-in-None.high) c.longest.ensures c.in_ok-low-in-None.ensures in
     halved_by ts (formula_of c.args.e.now) c.args.size j c.in_ok-low-in-None.low c.in_ok-low-in-None.high c.in-None.ensures.ends h.is_low h.is_high

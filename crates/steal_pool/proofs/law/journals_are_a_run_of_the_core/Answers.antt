@@ -5,4 +5,6 @@ use Rattle.steal_pool.proofs.CoreOwned.{core_run}
 use Rattle.steal_pool.proofs.law.journals_are_a_run_of_the_core.Goals as goal
 
 pub returns : goal.returns
-returns g c = λ root workers room journals v at rules many. core_run (g.W.Work.shape c.args._work.now) (g.W.Work.valid c.args._work.now) root workers journals (λ j l r w is. (g.W.Work.halves_valid c.args._work.now j l r w is, g.W.Work.halves_split c.args._work.now j l r w is)) v (fits_root root at) rules many room (ap (λ (x : Cell). x.path) at)
+returns g c = λ root workers room journals v at rules many.
+    let w = c.args._work.now in
+    core_run (g.W.Work.shape w) (g.W.Work.valid w) root workers journals (λ j l r v is. (g.W.Work.halves_valid w j l r v is, g.W.Work.halves_split w j l r v is)) v (fits_root root at) rules many room (ap (λ (x : Cell). x.path) at)

@@ -1,12 +1,14 @@
-use Rattle.std.proofs.Common.{subst, arith}
-use Rattle.steal_pool.specs.Gathers.{Gathers}
-use Rattle.steal_pool.proofs.Gathered.{gathered}
+use Rattle.std.proofs.Common.{ap, subst, arith}
+use Rattle.ember_job.specs.declared.job.Job.{Job}
+use Rattle.steal_pool.specs.RunJournals.{RunJournals}
+use Rattle.steal_pool.proofs.JournalLists.{gathered}
 use Rattle.steal_pool.proofs.pool.run_named.Goals as goal
 
-pub returns-clause-gathers : goal.returns-clause-gathers
-returns-clause-gathers g c =
-    subst (λ n. Gathers c.args.root.cell.path n c.in-Ok-run_seats.harvest.journals c.in-Ok-run_seats.harvest.left) (omega (arith, c.in-Ok-give_root.ensures.len, c.in-Ok-make_seats.ensures.len, c.in-Ok-make_rows.ensures.len, c.in-Ok.ensures.1))
-    (gathered c.args.root.cell.path c.in-Ok-give_root.seats.items c.in-Ok-run_seats.harvest.journals c.in-Ok-run_seats.harvest.left c.in-Ok-give_root.ensures.root c.in-Ok-run_seats.ensures.books)
+pub returns-clause-journals : goal.returns-clause-journals
+returns-clause-journals g c =
+    subst (λ p. RunJournals p c.args.workers c.in_ok-harvest.harvest.journals c.in_ok-harvest.harvest.left) (ap (λ (j : Job). j.cell.path) c.in_ok-boxed.ensures)
+    (subst (λ n. RunJournals c.in_ok-boxed.boxed.cell.path n c.in_ok-harvest.harvest.journals c.in_ok-harvest.harvest.left) (omega (arith, c.in_ok-states.ensures.len, c.in_ok-fresh.ensures.len, c.in_ok-rows.ensures.count, c.in_ok-deques.ensures.count))
+    (gathered c.in_ok-boxed.boxed.cell.path c.in_ok-states.states.items c.in_ok-harvest.harvest.journals c.in_ok-harvest.harvest.left c.in_ok-states.ensures.root c.in_ok-harvest.ensures.journals))
 
 pub returns-clause-sums : goal.returns-clause-sums
-returns-clause-sums g c = λ h u. omega (arith, c.in-Ok-run_seats.ensures.sums h u, c.in-Ok-give_root.ensures.has h u, c.in-Ok-give_root.ensures.got h u)
+returns-clause-sums g c = λ h u. omega (arith, c.in_ok-harvest.ensures.sums h u, c.in_ok-states.ensures.sums.held h u, c.in_ok-states.ensures.sums.received h u, ap (g.K.BoxWeight.weight h u) c.in_ok-boxed.ensures)

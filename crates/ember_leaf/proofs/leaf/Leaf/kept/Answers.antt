@@ -1,44 +1,24 @@
 use Rattle.std.proofs.Common.{arith}
 use Rattle.ember_expr.specs.Formula.{formula_of}
-use Rattle.std.proofs.lemmas.List.Elements.{All-weaker}
-use Rattle.ember_model.specs.Valid.{IsValidTri}
-use Rattle.ember_box.specs.Near.{tri_at}
-use Rattle.ember_coplanar.specs.Lying.{LiesOn}
-use Rattle.ember_law.proofs.Grown.{all_within}
-use Rattle.ember_leaf.specs.Pairs.{IsLower}
+use Rattle.ember_law.proofs.CountBounds.{all_within}
 use Rattle.ember_leaf.specs.Leaves.{tris_of}
-use Rattle.ember_leaf.specs.Written.{unowned}
-use Rattle.ember_leaf.proofs.Placing.{lies_lower}
-use Rattle.ember_leaf.proofs.Keeping.{is_written, is_even}
+use Rattle.ember_leaf.proofs.WrittenRegions.{is_written, is_even}
 use Rattle.ember_leaf.proofs.leaf.Leaf.kept.Goals as goal
 
-pub is_free-requires-clause-valid : goal.is_free-requires-clause-valid
-is_free-requires-clause-valid c =
-    All-weaker (IsLower (tri_at (tris_of c.args.self.now.near.now) c.args.i)) IsValidTri (λ u l. l.valid) c.args.lower.now c.requires.lower
-
-pub is_free-requires-clause-plane : goal.is_free-requires-clause-plane
-is_free-requires-clause-plane c =
-    let t = tri_at (tris_of c.args.self.now.near.now) c.args.i in
-    All-weaker (IsLower t) (λ u. LiesOn u c.args.ring) (λ u l. lies_lower t u c.args.ring c.requires.region l) c.args.lower.now c.requires.lower
-
-pub turn_of-requires-clause-before : goal.turn_of-requires-clause-before
-turn_of-requires-clause-before c =
+pub flip_of-requires-clause-before : goal.flip_of-requires-clause-before
+flip_of-requires-clause-before c =
     let l = c.requires.few in
     all_within c.sides_beside-sides.result.before.counts (omega arith) (c.sides_beside-sides.ensures.before 9437184 c.requires.counts)
 
-pub turn_of-requires-clause-after : goal.turn_of-requires-clause-after
-turn_of-requires-clause-after c =
+pub flip_of-requires-clause-after : goal.flip_of-requires-clause-after
+flip_of-requires-clause-after c =
     let l = c.requires.few in
     all_within c.sides_beside-sides.result.after.counts (omega arith) (c.sides_beside-sides.ensures.after 9437184 c.requires.counts)
 
-pub returns-then-not-is_free-clause-written : goal.returns-then-not-is_free-clause-written
-returns-then-not-is_free-clause-written c =
-    λ scene h. unowned (c.requires.owner.held (c.is_free.ensures.held c.if-not-is_free.true))
-
 pub returns-in-Some-clause-written : goal.returns-in-Some-clause-written
 returns-in-Some-clause-written c =
-    λ scene h. is_written scene (formula_of c.args.self.now.expr.now) (tris_of c.args.self.now.near.now) c.args.i c.args.ring _ _ (c.sides_beside-sides.ensures.sides c.requires.starts c.requires.inside scene h) c.turn_of.result c.in-Some.flipped (c.requires.owner.free (c.is_free.ensures.free c.if-not-is_free.false)) c.turn_of.ensures c.in-Some.is
+    λ scene h. is_written scene (formula_of c.args.self.now.expr.now) (tris_of c.args.self.now.near.now) c.args.i c.args.ring _ _ (c.sides_beside-sides.ensures.sides c.requires.starts c.requires.inside scene h) c.flip_of.result c.in-Some.flipped c.requires.owner c.flip_of.ensures c.in-Some.is
 
 pub returns-in-None-clause-written : goal.returns-in-None-clause-written
 returns-in-None-clause-written c =
-    λ scene h. is_even scene (formula_of c.args.self.now.expr.now) (tris_of c.args.self.now.near.now) c.args.i c.args.ring _ _ (c.sides_beside-sides.ensures.sides c.requires.starts c.requires.inside scene h) c.turn_of.result c.turn_of.ensures c.in-None.is
+    λ scene h. is_even scene (formula_of c.args.self.now.expr.now) (tris_of c.args.self.now.near.now) c.args.i c.args.ring _ _ (c.sides_beside-sides.ensures.sides c.requires.starts c.requires.inside scene h) c.flip_of.result c.flip_of.ensures c.in-None.is

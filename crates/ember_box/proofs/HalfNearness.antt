@@ -1,0 +1,98 @@
+-- What is looked at of a triangle tells whether it is near a box and near its halves.
+use Rattle.std.proofs.Common.{◌≡◌, refl, sym, ap, ◌∙◌, Bool, true, false, ◌&&◌, ◌||◌, if◌then◌else◌, ℕ, ◌+◌, ◌<◌, int_le, List, [], ◌∷◌, ◌++◌, filter, length, take, get_or, None, Some, Option}
+use Rattle.std.proofs.lemmas.List.Elements.{filter_more}
+use Rattle.ember_model.specs.declared.tri.Tri.{Tri}
+use Rattle.ember_model.specs.declared.plane.Plane.{Plane}
+use Rattle.ember_model.specs.declared.point.Axis.{Axis}
+use Rattle.ember_model.specs.Planes.{support_of}
+use Rattle.ember_box.specs.declared.aabb.Aabb.{Aabb}
+use Rattle.ember_box.specs.declared.half_boxes.HalfBoxes.{HalfBoxes}
+use Rattle.ember_box.specs.Boxes.{Cell, low, left_half, right_half}
+use Rattle.ember_box.specs.Near.{is_near}
+use Rattle.ember_box.specs.Aabbs.{interval_on, aabb_of_cell, aabb_of_tri, aabbs_meet, within, is_level, crosses}
+use Rattle.ember_box.specs.Sums.{number, IsPlaneOf, may_cross, AreHalves, meets_left, meets_right, halves_met, near_halves}
+use Rattle.ember_box.proofs.FlatAlongAxis.{level_crossed}
+use Rattle.ember_box.proofs.Orders.{and_implied}
+use Rattle.ember_box.proofs.NearByAabbs.{near_is, AreInside, are_inside, inside_crossed, left_crossed, right_crossed}
+use Rattle.ember_box.proofs.HalvesMet.{left_meets, right_meets}
+
+always : (b : Bool) → b && true ≡ b
+always true = refl
+always false = refl
+
+-- where a triangle without a plane is crossed by what its bounding box meets
+crossed_by : (whole : Aabb) (c : Cell) (t : Tri) (p : Option Plane) → IsPlaneOf whole t p → (AreInside whole t → aabbs_meet (aabb_of_tri t) (aabb_of_cell c) ≡ true → crosses (support_of t) (aabb_of_cell c) ≡ true) → aabbs_meet (aabb_of_tri t) (aabb_of_cell c) && may_cross (aabb_of_cell c) p ≡ is_near c t
+crossed_by whole c t p plane crossed = by p plane ∙ sym (near_is c t)
+  where
+    by : (p : Option Plane) → IsPlaneOf whole t p → aabbs_meet (aabb_of_tri t) (aabb_of_cell c) && may_cross (aabb_of_cell c) p ≡ aabbs_meet (aabb_of_tri t) (aabb_of_cell c) && crosses (support_of t) (aabb_of_cell c)
+    by None e =
+        always (aabbs_meet (aabb_of_tri t) (aabb_of_cell c)) ∙ and_implied (aabbs_meet (aabb_of_tri t) (aabb_of_cell c)) (crosses (support_of t) (aabb_of_cell c)) (λ o. or_either (is_level (aabb_of_tri t)) (within whole (aabb_of_tri t)) e (λ l. level_crossed c t l o) (λ i. crossed (are_inside whole t i) o))
+      where
+        or_either : {P : Type 0} (p q : Bool) → p || q ≡ true → (p ≡ true → P) → (q ≡ true → P) → P
+        or_either true q e f g = f refl
+        or_either false q e f g = g e
+    by (Some p) e = ap (λ q. aabbs_meet (aabb_of_tri t) (aabb_of_cell c) && crosses q (aabb_of_cell c)) e
+
+-- ---- where the bounding box meets the box
+module _ (c : Cell) (t : Tri) (p : Option Plane) (o : aabbs_meet (aabb_of_tri t) (aabb_of_cell c) ≡ true) (plane : IsPlaneOf (aabb_of_cell c) t p) where
+  pub seen_whole : may_cross (aabb_of_cell c) p ≡ is_near c t
+  seen_whole =
+      sym (ap (λ b. b && may_cross (aabb_of_cell c) p) o) ∙ crossed_by (aabb_of_cell c) c t p plane (λ i _. inside_crossed t (aabb_of_cell c) i)
+
+  pub seen_low : (k : Axis) (h : HalfBoxes) → 0 < c.log k → AreHalves c k h → meets_left h (interval_on k (aabb_of_tri t)) p ≡ is_near (left_half c k) t
+  seen_low k h above are =
+      parts p ∙ (λ i. meets i && may_cross (are.is_low i) p) ∙ crossed_by (aabb_of_cell c) (left_half c k) t p plane (left_crossed c k t)
+    where
+      parts : (p : Option Plane) → meets_left h (interval_on k (aabb_of_tri t)) p ≡ int_le (interval_on k (aabb_of_tri t)).low h.middle && may_cross h.low p
+      parts None = sym (always (int_le (interval_on k (aabb_of_tri t)).low h.middle))
+      parts (Some p) = refl
+
+      meets : int_le (interval_on k (aabb_of_tri t)).low h.middle ≡ aabbs_meet (aabb_of_tri t) (aabb_of_cell (left_half c k))
+      meets =
+          (λ i. sym o i && int_le (interval_on k (aabb_of_tri t)).low (are.is_middle i)) ∙ left_meets c k (aabb_of_tri t) above
+
+  pub seen_high : (k : Axis) (h : HalfBoxes) → 0 < c.log k → AreHalves c k h → meets_right h (interval_on k (aabb_of_tri t)) p ≡ is_near (right_half c k) t
+  seen_high k h above are =
+      parts p ∙ (λ i. meets i && may_cross (are.is_high i) p) ∙ crossed_by (aabb_of_cell c) (right_half c k) t p plane (right_crossed c k t above)
+    where
+      parts : (p : Option Plane) → meets_right h (interval_on k (aabb_of_tri t)) p ≡ int_le h.middle (interval_on k (aabb_of_tri t)).high && may_cross h.high p
+      parts None = sym (always (int_le h.middle (interval_on k (aabb_of_tri t)).high))
+      parts (Some p) = refl
+
+      meets : int_le h.middle (interval_on k (aabb_of_tri t)).high ≡ aabbs_meet (aabb_of_tri t) (aabb_of_cell (right_half c k))
+      meets =
+          (λ i. sym o i && int_le (are.is_middle i) (interval_on k (aabb_of_tri t)).high) ∙ right_meets c k (aabb_of_tri t) above
+
+  pub seen_halves : (k : Axis) (h : HalfBoxes) → 0 < c.log k → AreHalves c k h → halves_met h (interval_on k (aabb_of_tri t)) p ≡ near_halves c k t
+  unfolding near_halves
+  seen_halves k h above are = λ i. number (seen_low k h above are i) + number (seen_high k h above are i)
+
+-- ---- where it misses the box
+module _ (c : Cell) (t : Tri) (o : aabbs_meet (aabb_of_tri t) (aabb_of_cell c) ≡ false) where
+  pub far_whole : is_near c t ≡ false
+  far_whole = near_is c t ∙ ap (λ b. b && crosses (support_of t) (aabb_of_cell c)) o
+
+  pub far_low : (k : Axis) → 0 < c.log k → is_near (left_half c k) t ≡ false
+  far_low k above =
+      near_is (left_half c k) t ∙ ap (λ b. b && crosses (support_of t) (aabb_of_cell (left_half c k))) (sym (left_meets c k (aabb_of_tri t) above) ∙ ap (λ b. b && int_le (interval_on k (aabb_of_tri t)).low (low (right_half c k) k)) o)
+
+  pub far_high : (k : Axis) → 0 < c.log k → is_near (right_half c k) t ≡ false
+  far_high k above =
+      near_is (right_half c k) t ∙ ap (λ b. b && crosses (support_of t) (aabb_of_cell (right_half c k))) (sym (right_meets c k (aabb_of_tri t) above) ∙ ap (λ b. b && int_le (low (right_half c k) k) (interval_on k (aabb_of_tri t)).high) o)
+
+  pub far_halves : (k : Axis) → 0 < c.log k → near_halves c k t ≡ 0
+  unfolding near_halves
+  far_halves k above = λ i. number (far_low k above i) + number (far_high k above i)
+
+-- ---- a list of places
+-- one more is looked at, and kept where the test holds
+pub kept_more : (p : ℕ → Bool) (list : List ℕ) (i : ℕ) (old new : List ℕ) (b : Bool) → i < length list → old ≡ filter p (take i list) → b ≡ p (get_or list i 0) → new ≡ (if b then old ++ get_or list i 0 ∷ [] else old) → new ≡ filter p (take (i + 1) list)
+kept_more p list i old new b l o t n = n ∙ by b ∙ (λ j. o j ++ (if t j then get_or list i 0 ∷ [] else [])) ∙ sym (filter_more p list i 0 l)
+  where
+    none : (xs : List ℕ) → xs ≡ xs ++ []
+    none [] = refl
+    none (x ∷ xs) = ap (λ (ys : List ℕ). x ∷ ys) (none xs)
+
+    by : (b : Bool) → (if b then old ++ get_or list i 0 ∷ [] else old) ≡ old ++ (if b then get_or list i 0 ∷ [] else [])
+    by true = refl
+    by false = none old

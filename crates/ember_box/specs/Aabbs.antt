@@ -1,0 +1,101 @@
+-- Bounding boxes of boxes and of triangles, and the tests on them
+use Rattle.std.specs.Prelude.{ℤ, ◌+ℤ◌, ◌*ℤ◌, Bool, ◌&&◌, ◌||◌, if◌then◌else◌, int_le}
+use Rattle.std.specs.Int.{int_min, int_max}
+use Rattle.ember_algebra.specs.Size.{Small}
+use Rattle.ember_algebra.specs.Sign.{is_negative}
+use Rattle.ember_model.specs.declared.tri.Tri.{Tri}
+use Rattle.ember_model.specs.declared.plane.Plane.{Plane}
+use Rattle.ember_model.specs.declared.point.Corner.{Corner}
+use Rattle.ember_model.specs.declared.point.Axis.{Axis}
+use Rattle.ember_model.specs.declared.point.Axis.TheVariants.{X, Y, Z}
+use Rattle.ember_box.specs.declared.aabb.Interval.{Interval}
+use Rattle.ember_box.specs.declared.aabb.Aabb.{Aabb}
+use Rattle.ember_box.specs.Boxes.{Cell, low, high}
+
+abbrev pub interval_between : ℤ → ℤ → Interval
+interval_between l h = record { low = l; high = h }
+
+-- the closed box
+abbrev pub aabb_of_cell : Cell → Aabb
+aabb_of_cell c =
+    record { x = interval_between (low c X) (high c X); y = interval_between (low c Y) (high c Y); z = interval_between (low c Z) (high c Z) }
+
+-- from the least of three numbers to the greatest
+abbrev pub interval_over : ℤ → ℤ → ℤ → Interval
+interval_over a b c = interval_between (int_min (int_min a b) c) (int_max (int_max a b) c)
+
+-- the bounding box of a triangle
+abbrev pub aabb_of_tri : Tri → Aabb
+aabb_of_tri t =
+    record { x = interval_over t.a.x t.b.x t.c.x; y = interval_over t.a.y t.b.y t.c.y; z = interval_over t.a.z t.b.z t.c.z }
+
+-- its interval along an axis
+abbrev pub interval_on : Axis → Aabb → Interval
+interval_on X b = b.x
+interval_on Y b = b.y
+interval_on Z b = b.z
+
+abbrev pub intervals_meet : Interval → Interval → Bool
+intervals_meet a b = int_le a.low b.high && int_le b.low a.high
+
+-- the two have a common point
+abbrev pub aabbs_meet : Aabb → Aabb → Bool
+aabbs_meet a b = intervals_meet a.x b.x && intervals_meet a.y b.y && intervals_meet a.z b.z
+
+-- they reach each other along the axes other than this one
+abbrev pub aabbs_meet_beside : Axis → Aabb → Aabb → Bool
+aabbs_meet_beside X a b = intervals_meet a.y b.y && intervals_meet a.z b.z
+aabbs_meet_beside Y a b = intervals_meet a.x b.x && intervals_meet a.z b.z
+aabbs_meet_beside Z a b = intervals_meet a.x b.x && intervals_meet a.y b.y
+
+abbrev pub covers : Interval → Interval → Bool
+covers b a = int_le b.low a.low && int_le a.high b.high
+
+-- the second lies in the first
+abbrev pub within : Aabb → Aabb → Bool
+within b a = covers b.x a.x && covers b.y a.y && covers b.z a.z
+
+-- its ends are one
+abbrev pub is_point : Interval → Bool
+is_point s = int_le s.high s.low
+
+-- it lies across an axis
+abbrev pub is_level : Aabb → Bool
+is_level b = is_point b.x || is_point b.y || is_point b.z
+
+abbrev pub has : Interval → ℤ → Bool
+has b x = int_le b.low x && int_le x b.high
+
+-- the corner lies in it
+abbrev pub holds : Aabb → Corner → Bool
+holds b u = has b.x u.x && has b.y u.y && has b.z u.z
+
+-- the ends of an interval at which n * x is least and greatest
+abbrev pub least_end : ℤ → Interval → ℤ
+least_end n s = if is_negative n then s.high else s.low
+
+abbrev pub greatest_end : ℤ → Interval → ℤ
+greatest_end n s = if is_negative n then s.low else s.high
+
+abbrev pub combined : Plane → ℤ → ℤ → ℤ → ℤ
+combined p x y z = p.a *ℤ x +ℤ p.b *ℤ y +ℤ p.c *ℤ z
+
+-- a plane's least and greatest value over a box, without its constant
+abbrev pub least : Plane → Aabb → ℤ
+least p b = combined p (least_end p.a b.x) (least_end p.b b.y) (least_end p.c b.z)
+
+abbrev pub greatest : Plane → Aabb → ℤ
+greatest p b = combined p (greatest_end p.a b.x) (greatest_end p.b b.y) (greatest_end p.c b.z)
+
+unfoldable pub crosses : Plane → Aabb → Bool
+crosses p b = int_le (least p b) p.d && int_le p.d (greatest p b)
+
+-- ---- sizes
+pub record IsIntervalSized (s : Interval) : Type 0 where
+  pub low : Small 2048 s.low
+  pub high : Small 2048 s.high
+
+pub record IsAabbSized (b : Aabb) : Type 0 where
+  pub x : IsIntervalSized b.x
+  pub y : IsIntervalSized b.y
+  pub z : IsIntervalSized b.z

@@ -1,0 +1,225 @@
+// Bounding boxes of boxes and of triangles.
+ghost use Rattle.std.specs.Prelude.{◌≡◌};
+ghost use Rattle.ember_algebra.specs.Size.{Small};
+ghost use Rattle.ember_model.specs.Sizes.{IsSupportSized};
+ghost use Rattle.ember_box.specs.Boxes as boxes;
+ghost use Rattle.ember_box.specs.Aabbs.{interval_between, interval_over, interval_on, aabb_of_cell, aabb_of_tri, intervals_meet, aabbs_meet, aabbs_meet_beside, covers, within, is_point, is_level, has, holds, least_end, greatest_end, combined, least, greatest, crosses, IsIntervalSized, IsAabbSized};
+
+use crate::cell::Cell;
+use ember_model::{Axis, Corner, Plane, Tri};
+
+/// From a least coordinate to a greatest one, both ends included.
+#[derive(Clone, Copy)]
+pub struct Interval {
+    pub low: i32,
+    pub high: i32,
+}
+
+/// An axis-aligned bounding box: an interval along each axis.
+#[derive(Clone, Copy)]
+pub struct Aabb {
+    pub x: Interval,
+    pub y: Interval,
+    pub z: Interval,
+}
+
+fn span_along(c: &Cell, k: Axis) -> Interval
+    ensures value { result ≡ interval_between (boxes.low c.now k) (boxes.high c.now k) }
+    ensures sized { IsIntervalSized result }
+{
+    let low = c.low(k);
+    let side = c.side(k);
+    Interval {
+        low,
+        high: low + side,
+    }
+}
+
+/// The closed box.
+pub fn aabb_of_cell(c: &Cell) -> Aabb
+    ensures value { result ≡ aabb_of_cell c.now }
+    ensures sized { IsAabbSized result }
+{
+    Aabb {
+        x: span_along(c, Axis::X),
+        y: span_along(c, Axis::Y),
+        z: span_along(c, Axis::Z),
+    }
+}
+
+fn interval_over(a: i32, b: i32, c: i32) -> Interval
+    ensures { result ≡ interval_over a b c }
+{
+    Interval {
+        low: a.min(b).min(c),
+        high: a.max(b).max(c),
+    }
+}
+
+fn along_x(t: &Tri) -> Interval
+    ensures { result ≡ interval_over t.now.a.x t.now.b.x t.now.c.x }
+{
+    interval_over(t.a.x, t.b.x, t.c.x)
+}
+
+fn along_y(t: &Tri) -> Interval
+    ensures { result ≡ interval_over t.now.a.y t.now.b.y t.now.c.y }
+{
+    interval_over(t.a.y, t.b.y, t.c.y)
+}
+
+fn along_z(t: &Tri) -> Interval
+    ensures { result ≡ interval_over t.now.a.z t.now.b.z t.now.c.z }
+{
+    interval_over(t.a.z, t.b.z, t.c.z)
+}
+
+/// The bounding box of a triangle.
+pub fn aabb_of_tri(t: &Tri) -> Aabb
+    ensures { result ≡ aabb_of_tri t.now }
+{
+    Aabb {
+        x: along_x(t),
+        y: along_y(t),
+        z: along_z(t),
+    }
+}
+
+// Its interval along an axis.
+pub fn interval_on(b: &Aabb, axis: Axis) -> Interval
+    ensures { result ≡ interval_on axis b.now }
+{
+    match axis {
+        Axis::X => b.x,
+        Axis::Y => b.y,
+        Axis::Z => b.z,
+    }
+}
+
+fn intervals_meet(a: &Interval, b: &Interval) -> bool
+    ensures { result ≡ intervals_meet a.now b.now }
+{
+    a.low <= b.high && b.low <= a.high
+}
+
+/// The two have a common point.
+pub fn aabbs_meet(a: &Aabb, b: &Aabb) -> bool
+    ensures { result ≡ aabbs_meet a.now b.now }
+{
+    intervals_meet(&a.x, &b.x) && intervals_meet(&a.y, &b.y) && intervals_meet(&a.z, &b.z)
+}
+
+/// The bounding box of the triangle reaches the box along the axes other than this one.
+pub fn aabbs_meet_beside(t: &Tri, b: &Aabb, axis: Axis) -> bool
+    ensures { result ≡ aabbs_meet_beside axis (aabb_of_tri t.now) b.now }
+{
+    match axis {
+        Axis::X => intervals_meet(&along_y(t), &b.y) && intervals_meet(&along_z(t), &b.z),
+        Axis::Y => intervals_meet(&along_x(t), &b.x) && intervals_meet(&along_z(t), &b.z),
+        Axis::Z => intervals_meet(&along_x(t), &b.x) && intervals_meet(&along_y(t), &b.y),
+    }
+}
+
+fn covers(b: &Interval, a: &Interval) -> bool
+    ensures { result ≡ covers b.now a.now }
+{
+    b.low <= a.low && a.high <= b.high
+}
+
+/// The second lies in the first.
+pub fn within(b: &Aabb, a: &Aabb) -> bool
+    ensures { result ≡ within b.now a.now }
+{
+    covers(&b.x, &a.x) && covers(&b.y, &a.y) && covers(&b.z, &a.z)
+}
+
+fn is_point(s: &Interval) -> bool
+    ensures { result ≡ is_point s.now }
+{
+    s.high <= s.low
+}
+
+/// It lies across an axis: its ends along that axis are one.
+pub fn is_level(b: &Aabb) -> bool
+    ensures { result ≡ is_level b.now }
+{
+    is_point(&b.x) || is_point(&b.y) || is_point(&b.z)
+}
+
+fn has(b: &Interval, x: i32) -> bool
+    ensures { result ≡ has b.now x }
+{
+    b.low <= x && x <= b.high
+}
+
+/// The corner lies in it.
+pub fn holds(b: &Aabb, u: &Corner) -> bool
+    ensures { result ≡ holds b.now u.now }
+{
+    has(&b.x, u.x) && has(&b.y, u.y) && has(&b.z, u.z)
+}
+
+fn least_end(n: i64, s: &Interval) -> i32
+    requires { IsIntervalSized s.now }
+    ensures value { result ≡ least_end n s.now }
+    ensures small { Small 2048 result }
+{
+    if n < 0 { s.high } else { s.low }
+}
+
+fn greatest_end(n: i64, s: &Interval) -> i32
+    requires { IsIntervalSized s.now }
+    ensures value { result ≡ greatest_end n s.now }
+    ensures small { Small 2048 result }
+{
+    if n < 0 { s.low } else { s.high }
+}
+
+// A sum of three products.
+#[tactic(none)]
+fn combined(p: &Plane, x: i32, y: i32, z: i32) -> i64
+    requires plane { IsSupportSized p.now }
+    requires x { Small 2048 x }
+    requires y { Small 2048 y }
+    requires z { Small 2048 z }
+    ensures { result ≡ combined p.now x y z }
+{
+    p.a * x as i64 + p.b * y as i64 + p.c * z as i64
+}
+
+fn least(p: &Plane, b: &Aabb) -> i64
+    requires plane { IsSupportSized p.now }
+    requires spans { IsAabbSized b.now }
+    ensures { result ≡ least p.now b.now }
+{
+    combined(
+        p,
+        least_end(p.a, &b.x),
+        least_end(p.b, &b.y),
+        least_end(p.c, &b.z),
+    )
+}
+
+fn greatest(p: &Plane, b: &Aabb) -> i64
+    requires plane { IsSupportSized p.now }
+    requires spans { IsAabbSized b.now }
+    ensures { result ≡ greatest p.now b.now }
+{
+    combined(
+        p,
+        greatest_end(p.a, &b.x),
+        greatest_end(p.b, &b.y),
+        greatest_end(p.c, &b.z),
+    )
+}
+
+/// The corners aren't all strictly on one side of the plane: it isn't positive at the one where
+/// it is least, and not negative at the one where it is greatest.
+#[tactic(auto, unfolding(crate::specs::Aabbs::crosses))]
+pub fn crosses(p: &Plane, b: &Aabb) -> bool
+    requires plane { IsSupportSized p.now }
+    requires spans { IsAabbSized b.now }
+    ensures { result ≡ crosses p.now b.now }
+{
+    least(p, b) <= p.d && p.d <= greatest(p, b)
+}

@@ -1,0 +1,17 @@
+pub mod Setting
+pub mod Rectangle
+pub mod Ahead
+pub mod ClearCorners
+pub mod Quad
+pub mod Displacements
+pub mod EdgeForm
+pub mod OneEdge
+pub mod NearLegs
+pub mod EdgeSums
+pub mod FaceLoop
+pub mod Starts
+pub mod Pieces
+pub mod Ready
+pub mod Missed
+pub mod Loops
+pub mod Closed

@@ -1,8 +1,0 @@
-use Rattle.std.proofs.Common.{◌∙◌, sym}
-use Rattle.ember_coplanar.proofs.Coplanar.{lies_on_both}
-use Rattle.ember_coplanar.proofs.Owning.{lies_at}
-use Rattle.ember_coplanar.proofs.tests.owns.Goals as goal
-
-pub is_owner-requires-clause-plane : goal.is_owner-requires-clause-plane
-is_owner-requires-clause-plane c =
-    lies_at c.args.near.now c.args.place _ c.args.ring.now c.requires.place (lies_on_both _ _ c.args.ring.now (sym c.same_plane.ensures ∙ c.if-same_plane.true) c.requires.ring)

@@ -1,0 +1,84 @@
+// Coplanar triangles, and which of them owns a region of their plane.
+ghost use Rattle.std.specs.Prelude.{◌<◌, All, length};
+ghost use Rattle.ember_model.specs.Valid.{IsValidTri};
+ghost use Rattle.ember_coplanar.specs.TrianglePlane.{LiesOn};
+
+use crate::scenes::soup_of;
+use crate::shapes::triangle;
+use ember_coplanar::{contains, is_owner, same_plane};
+use ember_model::{OutOfMemory, Tri};
+use ember_poly::{Ring, of_tri};
+use std::alloc::Global;
+use std::test::Fail;
+
+#[test]
+fn triangles_of_one_plane(rt: HostRuntime) {
+    let [o, x, y, far] = [[0, 0, 0], [1, 0, 0], [0, 1, 0], [4, 4, 0]];
+    let rows = [
+        ([o, x, y], [y, x, far], true),
+        ([o, x, y], [o, y, x], true),
+        ([o, x, y], [o, x, [0, 1, 1]], false),
+        ([o, x, y], [o, x, x], false),
+        ([o, x, x], [o, x, y], false),
+    ];
+    for (one, other, want) in rows {
+        let are_coplanar = same_plane(&triangle(one), &triangle(other));
+        assert_eq!(rt; are_coplanar, want, "{one:?} and {other:?}");
+    }
+}
+
+// A triangle of a list is coplanar with `own`, in whose plane the ring lies: whether it contains
+// the ring, and whether it owns it. None where it isn't coplanar.
+fn holds_and_owns(near: &[Tri], i: u32, own: &Tri, ring: &Ring) -> Option<(bool, bool)>
+    requires valid { All IsValidTri near.now }
+    requires place { i < length near.now }
+    requires own { IsValidTri own.now }
+    requires ring { LiesOn own.now ring.now }
+{
+    let t = &near[i as usize];
+    if same_plane(t, own) {
+        Some((contains(t, ring), is_owner(near, i, ring)))
+    } else {
+        None
+    }
+}
+
+// The same for the ring of `own`.
+fn holds_and_owns_face(
+    alloc: Global,
+    near: &[Tri],
+    i: u32,
+    own: &Tri,
+) -> Result<Option<(bool, bool)>, OutOfMemory>
+    requires valid { All IsValidTri near.now }
+    requires place { i < length near.now }
+    requires own { IsValidTri own.now }
+{
+    match of_tri(alloc, own)? {
+        Some(ring) => Ok(holds_and_owns(near, i, own, &ring)),
+        None => Ok(None),
+    }
+}
+
+// The triangle in the plane z = 0, with a triangle of another plane and one of another place before it, and the same turned behind it.
+const NEAR: &[u8] = b"\
+v 0 0 0\nv 1 0 0\nv 0 1 0\nv 0 1 1\nv 4 4 0\nf 1 2 4\nf 1 5 3\nf 1 2 3\nf 3 2 1\n";
+
+#[test]
+fn the_first_that_contains_a_region_owns_it(rt: HostRuntime) -> Result<(), Fail> {
+    let soup = soup_of(rt.alloc(), NEAR, 1)?;
+    let near = soup.tris.items();
+    assert_eq!(rt; near.len(), 4);
+    // Nothing before the second triangle contains the third, but neither does it itself.
+    let rows = [
+        None,
+        Some((false, true)),
+        Some((true, true)),
+        Some((true, false)),
+    ];
+    for i in 0..4u32 {
+        let found = holds_and_owns_face(rt.alloc(), near, i, &near[2])?;
+        assert_eq!(rt; found, rows[i as usize], "triangle {i}");
+    }
+    Ok(())
+}

@@ -1,0 +1,41 @@
+// The written regions of a leaf.
+ghost use Rattle.ember_visit.specs.Jobs.{IsJob};
+
+use crate::scenes::{expression, scene_of_files};
+use crate::texts::TETRA;
+use ember_expr::Expr;
+use ember_job::Job;
+use ember_leaf::{Kept, KeptList, leaf_faces};
+use ember_model::{OutOfMemory, Scene};
+use ember_visit::{root_job, tris_at};
+use std::alloc::Global;
+use std::test::Fail;
+
+// The regions of a job's box, as of a leaf.
+fn regions(alloc: Global, s: &Scene, e: &Expr, job: &Job) -> Result<KeptList, OutOfMemory>
+    requires { IsJob s.now.tris job.now }
+{
+    let near = tris_at(alloc, s.tris.items(), job.list.items())?;
+    leaf_faces(alloc, e, &job.cell, &near, &job.at)
+}
+
+// These are the four triangles, none of them flipped.
+fn are_all_four(kept: &[Kept]) -> bool {
+    let [first, second, third, fourth] = kept else {
+        return false;
+    };
+    let places = (first.tri, second.tri, third.tri, fourth.tri);
+    let flipped = first.flipped || second.flipped || third.flipped || fourth.flipped;
+    places == (0, 1, 2, 3) && !flipped
+}
+
+#[test]
+fn a_tetrahedron_is_written_whole(rt: HostRuntime) -> Result<(), Fail> {
+    let alloc = rt.alloc();
+    let scene = scene_of_files(alloc, &[TETRA])?;
+    let e = expression(alloc, b"m1", 1)?;
+    let job = root_job(alloc, &scene)?;
+    let kept = regions(alloc, &scene, &e, &job)?;
+    assert!(rt; are_all_four(kept.items()));
+    Ok(())
+}

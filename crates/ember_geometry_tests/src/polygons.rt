@@ -1,0 +1,219 @@
+// Rings of triangles, their parts below and above planes, and the triangles that they meet.
+ghost use Rattle.std.specs.Prelude.{◌≡◌, false};
+ghost use Rattle.ember_model.specs.Faces.{is_flat};
+ghost use Rattle.ember_model.specs.Valid.{IsValidPlane, IsValidTri};
+
+use crate::shapes::{is_at, plane, tetra, triangle};
+use crate::texts::TETRA_TEXT;
+use ember_model::{Face, OutOfMemory, Plane, Tri};
+use ember_poly::{
+    Cut, Reach, Ring, clip, copy, corners, cut, edges, meets, meets_face, of_tri, outline, parts,
+    reach, support,
+};
+use ember_reread::read_faces;
+use std::alloc::Global;
+use std::process::Abort;
+use std::test::Fail;
+
+// The ring of the triangle with the corners (1, 0, 0), (0, 1, 0) and (0, 0, 1).
+fn unit_ring(alloc: Global) -> Result<Ring, Fail> {
+    match of_tri(alloc, &triangle([[1, 0, 0], [0, 1, 0], [0, 0, 1]]))? {
+        Some(ring) => Ok(ring),
+        None => Err(Fail::from("no ring")),
+    }
+}
+
+// The ring has these edge planes, and at these corners its edges start.
+fn check(rt: &impl Abort, ring: &Ring, planes: &[[i16; 4]], starts: &[[i128; 4]]) {
+    let (found_planes, found_starts) = outline(ring);
+    assert_eq!(rt; found_planes.len(), planes.len());
+    for (found, want) in found_planes.iter().zip(planes) {
+        assert_eq!(rt; *found, plane(*want));
+    }
+    assert_eq!(rt; found_starts.len(), starts.len());
+    for (found, want) in found_starts.iter().zip(starts) {
+        assert!(rt; is_at(found, *want), "{want:?}");
+    }
+    assert!(rt; edges(ring) == found_planes && corners(ring) == found_starts);
+}
+
+#[test]
+fn the_ring_of_a_triangle(rt: HostRuntime) -> Result<(), Fail> {
+    let ring = unit_ring(rt.alloc())?;
+    let same = copy(rt.alloc(), &ring)?;
+    let planes = [[0, 0, -1, 0], [0, 1, 1, 1], [0, -1, 0, 0]];
+    let starts = [[1, 0, 0, 1], [0, 1, 0, 1], [0, 0, 1, 1]];
+    for ring in [&ring, &same] {
+        assert_eq!(rt; support(ring), plane([1, 1, 1, 1]));
+        check(&rt, ring, &planes, &starts);
+    }
+    Ok(())
+}
+
+fn has_planes_of(ring: &Ring, face: &Face) -> bool {
+    support(ring) == face.support && edges(ring) == face.edges.items()
+}
+
+#[test]
+fn the_rings_of_a_tetrahedron_have_the_planes_of_its_face_file(
+    rt: HostRuntime,
+) -> Result<(), Fail> {
+    let Ok(faces) = read_faces(rt.alloc(), TETRA_TEXT) else {
+        return Err(Fail::from("no face file"));
+    };
+    let faces = faces.items();
+    assert_eq!(rt; faces.len(), 4);
+    for i in 0..4 {
+        let Some(ring) = of_tri(rt.alloc(), &tetra(i))? else {
+            return Err(Fail::from("no ring"));
+        };
+        assert!(rt; has_planes_of(&ring, &faces[i]), "triangle {i}");
+    }
+    Ok(())
+}
+
+#[test]
+fn a_flat_triangle_has_no_ring(rt: HostRuntime) -> Result<(), Fail> {
+    let flat = triangle([[1, 0, 0], [1, 0, 0], [0, 0, 1]]);
+    assert!(rt; of_tri(rt.alloc(), &flat)?.is_none());
+    Ok(())
+}
+
+#[test]
+fn on_which_sides_of_a_plane_a_ring_lies(rt: HostRuntime) -> Result<(), Fail> {
+    let rows = [
+        ([1, 0, 0, 1], Reach::Below),
+        ([-1, 0, 0, 0], Reach::Below),
+        ([1, 0, 0, -1], Reach::Above),
+        ([2, 2, 2, 2], Reach::On),
+        ([2, 0, 0, 1], Reach::Both),
+        ([1, -1, 0, 0], Reach::Both),
+    ];
+    let ring = unit_ring(rt.alloc())?;
+    for (numbers, want) in rows {
+        assert_eq!(rt; reach(&ring, &plane(numbers)), want, "{numbers:?}");
+    }
+    Ok(())
+}
+
+// The planes and starts of the parts of the unit ring below and above 2x = 1.
+const LOW_PLANES: [[i16; 4]; 4] = [[0, 0, -1, 0], [0, 1, 1, 1], [0, -1, 0, 0], [2, 0, 0, 1]];
+
+const LOW_STARTS: [[i128; 4]; 4] = [[1, 1, 0, 2], [0, 1, 0, 1], [0, 0, 1, 1], [1, 0, 1, 2]];
+
+const HIGH_PLANES: [[i16; 4]; 3] = [[0, 0, -1, 0], [-2, 0, 0, -1], [0, -1, 0, 0]];
+
+const HIGH_STARTS: [[i128; 4]; 3] = [[1, 0, 0, 1], [1, 1, 0, 2], [1, 0, 1, 2]];
+
+#[test]
+fn a_cut_triangle(rt: HostRuntime) -> Result<(), Fail> {
+    let ring = unit_ring(rt.alloc())?;
+    let Cut::Both(low, high) = cut(rt.alloc(), &ring, &plane([2, 0, 0, 1]))? else {
+        return Err(Fail::from("one part"));
+    };
+    check(&rt, &low, &LOW_PLANES, &LOW_STARTS);
+    check(&rt, &high, &HIGH_PLANES, &HIGH_STARTS);
+    Ok(())
+}
+
+#[test]
+fn a_clipped_triangle(rt: HostRuntime) -> Result<(), Fail> {
+    let (side, low) = clip(unit_ring(rt.alloc())?, &plane([2, 0, 0, 1]))?;
+    assert_eq!(rt; side, Reach::Both);
+    check(&rt, &low, &LOW_PLANES, &LOW_STARTS);
+    Ok(())
+}
+
+// The parts of a ring below and above a plane, if there are both.
+fn both_parts(alloc: Global, r: Ring, p: &Plane) -> Result<Option<(Ring, Ring)>, OutOfMemory>
+    requires { IsValidPlane p.now }
+{
+    match reach(&r, p) {
+        Reach::Both => Ok(Some(parts(alloc, r, p)?)),
+        _ => Ok(None),
+    }
+}
+
+#[test]
+fn the_parts_of_a_triangle(rt: HostRuntime) -> Result<(), Fail> {
+    let ring = unit_ring(rt.alloc())?;
+    let Some((low, high)) = both_parts(rt.alloc(), ring, &plane([2, 0, 0, 1]))? else {
+        return Err(Fail::from("one part"));
+    };
+    check(&rt, &low, &LOW_PLANES, &LOW_STARTS);
+    check(&rt, &high, &HIGH_PLANES, &HIGH_STARTS);
+    Ok(())
+}
+
+// Whether a ring meets the triangle, and whether it meets the triangle's ring.
+fn meets_both(r: &Ring, u: &Tri, q: &Ring) -> (bool, bool)
+    requires tri { IsValidTri u.now }
+    requires normal { is_flat u.now ≡ false }
+{
+    (meets(r, u), meets_face(r, &support(q), outline(q).0))
+}
+
+// The ring of the one triangle meets the other, by both calls; or not by both, or there are no
+// two rings.
+fn meeting(alloc: Global, t: &Tri, u: &Tri) -> Result<Option<bool>, OutOfMemory>
+    requires first { IsValidTri t.now }
+    requires second { IsValidTri u.now }
+{
+    let Some(ring) = of_tri(alloc, t)? else {
+        return Ok(None);
+    };
+    match of_tri(alloc, u)? {
+        Some(other) => {
+            let (by_triangle, by_face) = meets_both(&ring, u, &other);
+            Ok(if by_triangle == by_face {
+                Some(by_face)
+            } else {
+                None
+            })
+        }
+        None => Ok(None),
+    }
+}
+
+#[test]
+fn rings_and_triangles_of_several_planes(rt: HostRuntime) -> Result<(), Fail> {
+    // The faces of two tetrahedra with right angles at their first corners.
+    let [o, a, b, c] = [[0, 0, 0], [2, 0, 0], [0, 2, 0], [0, 0, 2]];
+    let [p, q, r, s] = [[1, 0, 0], [3, 0, 0], [1, 2, 0], [1, 0, 2]];
+    let rows = [
+        ([a, b, c], [p, r, q], false),
+        ([p, r, q], [a, b, c], true),
+        ([a, b, c], [p, s, r], true),
+        ([o, b, a], [p, r, q], true),
+        ([o, b, a], [o, a, c], false),
+        ([o, b, a], [c, s, [0, 2, 2]], false),
+    ];
+    for (one, other, want) in rows {
+        let meet = meeting(rt.alloc(), &triangle(one), &triangle(other))?;
+        assert_eq!(rt; meet, Some(want), "{one:?} and {other:?}");
+    }
+    Ok(())
+}
+
+#[test]
+fn rings_and_triangles_of_one_plane(rt: HostRuntime) -> Result<(), Fail> {
+    let small = [[0, 0, 0], [1, 0, 0], [0, 1, 0]];
+    let large = [[-4, -1, 0], [4, -1, 0], [0, 4, 0]];
+    let rows = [
+        (small, small, true),
+        (small, large, true),
+        (large, small, true),
+        (small, [[1, 0, 0], [4, 4, 0], [0, 1, 0]], false),
+        (small, [[1, 0, 0], [2, 0, 0], [4, 4, 0]], false),
+        (
+            [[0, 0, 0], [2, 0, 0], [0, 4, 0]],
+            [[1, 0, 0], [2, 0, 0], [4, 4, 0]],
+            true,
+        ),
+    ];
+    for (one, other, want) in rows {
+        let meet = meeting(rt.alloc(), &triangle(one), &triangle(other))?;
+        assert_eq!(rt; meet, Some(want), "{one:?} and {other:?}");
+    }
+    Ok(())
+}

@@ -1,0 +1,65 @@
+// One box of a Boolean: passed, a leaf or halves.
+use crate::scenes::{expression, scene_of_files};
+use crate::texts::{C, D, TETRA};
+use ember_gen::scene_of;
+use ember_job::Outcome;
+use ember_model::Scene;
+use ember_step::{box_step, count_step, root_job};
+use std::alloc::Global;
+use std::process::Abort;
+use std::test::Fail;
+
+// What becomes of the root: of a leaf, how many regions it has.
+#[derive(Clone, Copy, Debug, PartialEq, Eq)]
+enum Root {
+    Skipped,
+    Leaf(u64),
+    Halved,
+}
+
+// By the step that gives the regions.
+fn root_by_regions(alloc: Global, s: &Scene, text: &str) -> Result<Root, Fail> {
+    let e = expression(alloc, text.as_bytes(), 2)?;
+    let job = root_job(alloc, s)?;
+    match box_step(alloc, s, &e, &job)? {
+        Outcome::Halves(_, _) => Ok(Root::Halved),
+        Outcome::Leaf(kept) => Ok(Root::Leaf(kept.items().len() as u64)),
+        Outcome::Skipped => Ok(Root::Skipped),
+    }
+}
+
+// By the step that counts them.
+fn root_by_count(alloc: Global, s: &Scene, text: &str) -> Result<Root, Fail> {
+    let e = expression(alloc, text.as_bytes(), 2)?;
+    let job = root_job(alloc, s)?;
+    match count_step(alloc, s, &e, &job)? {
+        Outcome::Halves(_, _) => Ok(Root::Halved),
+        Outcome::Leaf(count) => Ok(Root::Leaf(count)),
+        Outcome::Skipped => Ok(Root::Skipped),
+    }
+}
+
+fn check(rt: &impl Abort, alloc: Global, s: &Scene, text: &str, want: Root) -> Result<(), Fail> {
+    assert_eq!(rt; root_by_regions(alloc, s, text)?, want, "{text}");
+    assert_eq!(rt; root_by_count(alloc, s, text)?, want, "{text}");
+    Ok(())
+}
+
+#[test]
+fn the_root_of_one_box(rt: HostRuntime) -> Result<(), Fail> {
+    let scene = scene_of(rt.alloc(), 1)?;
+    // The second expression is never true.
+    for (text, want) in [("m1|m2", Root::Leaf(12)), ("m1&1=2", Root::Skipped)] {
+        check(&rt, rt.alloc(), &scene, text, want)?;
+    }
+    Ok(())
+}
+
+#[test]
+fn the_roots_of_a_tetrahedron_and_of_two_cubes(rt: HostRuntime) -> Result<(), Fail> {
+    let alloc = rt.alloc();
+    let tetra = scene_of_files(alloc, &[TETRA])?;
+    check(&rt, alloc, &tetra, "m1", Root::Leaf(4))?;
+    let cubes = scene_of_files(alloc, &[C, D])?;
+    check(&rt, alloc, &cubes, "m1|m2", Root::Halved)
+}

@@ -1,0 +1,73 @@
+// The job of the root, what is known of it, and the jobs of its halves.
+ghost use Rattle.std.specs.Prelude.{◌<◌};
+ghost use Rattle.ember_visit.specs.Jobs.{IsJob};
+
+use crate::scenes::{expression, scene_of_files};
+use crate::texts::{APART, TETRA};
+use ember_expr::Expr;
+use ember_gen::scene_of;
+use ember_job::Job;
+use ember_model::{Axis, OutOfMemory, Scene, Tri};
+use ember_visit::{box_value, halve_job, root_job, tris_at};
+use std::alloc::Global;
+use std::test::Fail;
+
+#[test]
+fn all_triangles_are_near_the_root(rt: HostRuntime) -> Result<(), Fail> {
+    let alloc = rt.alloc();
+    let root = root_job(alloc, &scene_of_files(alloc, &[TETRA])?)?;
+    assert_eq!(rt; root.list.items(), [0, 1, 2, 3].as_slice());
+    let root = root_job(alloc, &scene_of(alloc, 1)?)?;
+    assert_eq!(rt; root.list.items().len(), 12);
+    Ok(())
+}
+
+// What is known of an expression in the box of a job.
+fn value_in(s: &Scene, e: &Expr, job: &Job) -> Option<bool>
+    requires { IsJob s.now.tris job.now }
+{
+    box_value(e, s, job)
+}
+
+#[test]
+fn what_is_known_of_the_root_of_one_box(rt: HostRuntime) -> Result<(), Fail> {
+    let alloc = rt.alloc();
+    let scene = scene_of(alloc, 1)?;
+    let root = root_job(alloc, &scene)?;
+    let rows: [(&str, Option<bool>); 2] = [("m1", None), ("m2", Some(false))];
+    for (text, want) in rows {
+        let e = expression(alloc, text.as_bytes(), 2)?;
+        assert_eq!(rt; value_in(&scene, &e, &root), want, "{text}");
+    }
+    Ok(())
+}
+
+// The jobs of the halves along y.
+fn halves_of(alloc: Global, s: &Scene, job: &Job) -> Result<(Job, Job), OutOfMemory>
+    requires job { IsJob s.now.tris job.now }
+    requires side { 0 < job.now.cell.log Axis.Y }
+{
+    halve_job(alloc, s, job, Axis::Y)
+}
+
+// The triangles of a job.
+fn listed(alloc: Global, s: &Scene, job: &Job) -> Result<Vec<Tri>, OutOfMemory>
+    requires { IsJob s.now.tris job.now }
+{
+    tris_at(alloc, s.tris.items(), job.list.items())
+}
+
+#[test]
+fn the_halves_of_the_root_part_its_triangles(rt: HostRuntime) -> Result<(), Fail> {
+    let alloc = rt.alloc();
+    let scene = scene_of_files(alloc, &[APART])?;
+    let root = root_job(alloc, &scene)?;
+    assert!(rt; listed(alloc, &scene, &root)?.as_slice() == scene.tris.items());
+    assert!(rt; root.cell.log(Axis::Y) > 0);
+    let (low, high) = halves_of(alloc, &scene, &root)?;
+    assert_eq!(rt; (low.cell.path(), high.cell.path()), (2, 3));
+    assert_eq!(rt; low.list.items(), [2, 3].as_slice());
+    assert_eq!(rt; high.list.items(), [0, 1].as_slice());
+    assert!(rt; low.at == root.at && high.at == root.at);
+    Ok(())
+}

@@ -1,0 +1,63 @@
+// Files of a list by their places.
+ghost use Rattle.std.specs.Prelude.{◌≡◌, ◌<◌, ◌≤◌, [], ◌++◌, ◌+◌, ◌-◌, min, length, drop, take, Some, None, MatchOption};
+ghost use Rattle.ember_io.specs.Files.{named, first_of, first_or_empty, bytes_at};
+
+// The place of the first file of that name.
+pub fn file_index_of(files: &[(String, Vec<u8>)], name: &str) -> Option<usize>
+    ensures { MatchOption result (first_of (named files.now) name.now ≡ None) (λ i. first_of (named files.now) name.now ≡ Some (bytes_at (named files.now) i)) }
+{
+    for (i, file) in files.iter().enumerate() {
+        if file.0.as_str() == name {
+            return Some(i);
+        }
+    }
+    None
+}
+
+// The same, or the place past the last.
+#[tactic(auto, using(crate::proofs::FileIndices::named_past))]
+pub fn file_index_or_end(files: &[(String, Vec<u8>)], name: &str) -> usize
+    ensures { Some (bytes_at (named files.now) result) ≡ first_or_empty (named files.now) name.now }
+{
+    match file_index_of(files, name) {
+        Some(file_index) => file_index,
+        None => files.len(),
+    }
+}
+
+// The place past the last, at which no bytes stand.
+#[tactic(auto, using(crate::proofs::FileIndices::named_past))]
+pub fn past_files(files: &[(String, Vec<u8>)]) -> usize
+    ensures { bytes_at (named files.now) result ≡ [] }
+{
+    files.len()
+}
+
+// The bytes at a place, and none past the last.
+pub fn bytes_of(files: &[(String, Vec<u8>)], file_index: usize) -> &[u8]
+    ensures { result.now ≡ bytes_at (named files.now) file_index }
+{
+    match files.get(file_index) {
+        Some(file) => file.1.as_slice(),
+        None => &[],
+    }
+}
+
+// Puts the bytes from `at` on, at most a piece, at the front of a buffer.
+pub fn give(bytes: &[u8], at: usize, piece: usize, buf: &mut [u8]) -> usize
+    requires { 0 < piece }
+    ensures bound { result ≤ length buf.new }
+    ensures same_length { length buf.new ≡ length buf.old }
+    ensures count { result ≡ min piece (min (length buf.old) (length (drop at bytes.now))) }
+    ensures bytes { drop at bytes.now ≡ take result buf.new ++ drop (at + result) bytes.now }
+    ensures end { result ≡ 0 → 0 < length buf.new → drop (at + result) bytes.now ≡ [] }
+{
+    let left = if at < bytes.len() {
+        bytes.split_at(at).1
+    } else {
+        &[]
+    };
+    let count = piece.min(buf.len().min(left.len()));
+    buf[..count].copy_from_slice(left.split_at(count).0);
+    count
+}

@@ -1,0 +1,200 @@
+-- What a triangle leaves of one region.
+use Rattle.std.proofs.Common.{◌≡◌, ◌≢◌, suc, ◌-◌, ◌<◌, ◌≤◌, length, take, drop, get_or, refl, sym, ap, subst, ◌∙◌, arith, ℤ, pos, ◌<ℤ◌, ◌≤ℤ◌, Bool, true, false, List, [], ◌∷◌, ◌++◌, append_assoc, All}
+use Rattle.std.specs.List.{AllByRecursion}
+use Rattle.std.proofs.lemmas.List.{append-nil}
+use Rattle.ember_algebra.specs.Relations.{Each, Chain, none, more, done, step, Every}
+use Rattle.ember_algebra.specs.Sign.{is_negative, is_positive}
+use Rattle.ember_algebra.proofs.Laws.{linear}
+use Rattle.ember_model.specs.declared.plane.Plane.{Plane}
+use Rattle.ember_model.specs.declared.point.Spot.{Spot}
+use Rattle.ember_model.specs.declared.tri.Tri.{Tri}
+use Rattle.ember_model.specs.declared.face.Face.{Face}
+use Rattle.ember_model.specs.Planes.{value_at, support_of, opposite}
+use Rattle.ember_model.specs.Faces.{face_of, edges_of, is_flat, is_inside, is_in_closed, Somewhere, Everywhere, Meets, Contains, Cuts, below, above}
+use Rattle.ember_model.proofs.SignTests.{negative_in, negative_out, positive_out, zero_out, clash}
+use Rattle.ember_box.specs.Regions.{CuttingPlane, AtCuttingPlane, splits, whole}
+use Rattle.ember_poly.specs.Rings.{IsBelow, IsNotAbove}
+use Rattle.ember_poly.specs.Cuts.{AreParts, IsReach}
+use Rattle.ember_poly.specs.declared.reach_cut.Reach.{Reach}
+use Rattle.ember_poly.specs.declared.reach_cut.Reach.TheVariants.{Below, Above, On, Both}
+use Rattle.ember_poly.proofs.FaceTests.{inside_in, inside_out, closed_out}
+use Rattle.ember_poly.proofs.ReachBySigns.{over_from_opposite}
+use Rattle.ember_ref.proofs.FarTriangles.{inside_closed}
+use Rattle.ember_trace.proofs.FilledFaces.{inside_below}
+use Rattle.ember_leaf.specs.declared.cutter.Cutter.{Cutter}
+use Rattle.ember_leaf.specs.declared.cutter.Role.{Role}
+use Rattle.ember_leaf.specs.declared.cutter.Role.TheVariants.{Across, Coplanar, Owner}
+use Rattle.ember_leaf.specs.TriRelations.{HasContaining}
+use Rattle.ember_leaf.specs.Written.{HasGrown}
+use Rattle.ember_leaf.specs.Cutters.{planes_as, owner_as, cutting_planes_with, blades_by, owners_by, Without, ended, left, dropped, AreDisjoint, IsFree, AreLeft, AtCutter, AtPlane, AtEdges, AreAround, AreLast, ShareAPlane, SharesAs, CanCut}
+use Rattle.ember_leaf.proofs.WallClips.{inside_in_below}
+use Rattle.ember_leaf.proofs.RegionCuts.{take_all, region_parts, region_whole}
+use Rattle.ember_leaf.proofs.Leaving.{cuts_both, cuts_unmet, without_append, none_dropped}
+use Rattle.ember_leaf.proofs.Sharing.{unmet_disjoint, meets_inside}
+
+-- ---- a region that the triangle doesn't meet
+free_as : (k : Role) (t : Tri) (f : Face) → AreDisjoint (face_of t) f → IsFree (owner_as k t) f
+free_as Across t f d = record { free = tt }
+free_as Coplanar t f d = record { free = tt }
+free_as Owner t f d = record { free = (d, tt) }
+
+pub unmet_left : (c : Cutter) (f : Face) → (Meets f (face_of c.tri) → ⊥) → AtCutter c f (f ∷ [])
+unmet_left c f n =
+    record { all = f ∷ []; cuts = cuts_unmet c.tri (planes_as c.role c.tri) f n; without = left (free_as c.role c.tri f (unmet_disjoint c.tri f n)) ended }
+
+-- ---- a triangle in another plane
+plane_left : (t : Tri) (p : Plane) (f : Face) {gs : List Face} → Meets f (face_of t) → AtPlane p f gs → AreLeft (cutting_planes_with t (p ∷ [])) [] (f ∷ []) gs
+plane_left t p f {gs} m h =
+    record { all = gs; cuts = step (subst (λ (l : List Face). Each (AtCuttingPlane (record { face = face_of t; plane = p })) (f ∷ []) l) (append-nil gs) (more (h (face_of t) m) none)) done; without = none_dropped gs (λ g. record { free = tt }) }
+
+pub across_left : (c : Cutter) (p : Plane) (f : Face) {old new : List Face} → c.role ≡ Across → p ≡ support_of c.tri → Meets f (face_of c.tri) → HasGrown (AtPlane p f) old new → HasGrown (AtCutter c f) old new
+across_left c p f {old} {new} e q m g =
+    record { more = g.more; is = g.is; holds = subst (λ (k : Role). AreLeft (cutting_planes_with c.tri (planes_as k c.tri)) (owner_as k c.tri) (f ∷ []) g.more) (sym e) (plane_left c.tri (support_of c.tri) f m (subst (λ (p : Plane). AtPlane p f g.more) q g.holds)) }
+
+pub plane_parts : (p : Plane) (f low high : Face) (old mid new : List Face) → AreParts f p low high → mid ≡ old ++ low ∷ [] → new ≡ mid ++ high ∷ [] → HasGrown (AtPlane p f) old new
+plane_parts p f low high old mid new a e q =
+    record { more = low ∷ high ∷ []; is = q ∙ ap (λ (l : List Face). l ++ high ∷ []) e ∙ append_assoc old (low ∷ []) (high ∷ []); holds = λ g m. region_parts (record { face = g; plane = p }) f low high m a }
+
+pub plane_whole : (p : Plane) (f : Face) (k : Reach) (old new : List Face) → IsReach f p k → (k ≡ Both → ⊥) → new ≡ old ++ f ∷ [] → HasGrown (AtPlane p f) old new
+plane_whole p f k old new r n e =
+    record { more = f ∷ []; is = e; holds = λ g m. region_whole (record { face = g; plane = p }) f k r n }
+
+-- ---- a triangle in the same plane, which has inside points in common with the region
+module _ (t : Tri) (p : Plane) (ps : List Plane) (f : Face) (h : AreLast t (p ∷ ps) f) where
+  abbrev rest_around : AreAround t ps
+  rest_around =
+      record { inside = λ v i. (h.around.inside v i).1; closed = λ v i. (h.around.closed v i).1 }
+
+  shared_under : IsBelow p h.shared.at
+  shared_under = (h.around.inside h.shared.at h.shared.holds).0
+
+  meets_too : Meets f (face_of t)
+  meets_too =
+      record { at = h.shared.at; inside = h.shared.inside; holds = inside_closed (face_of t) h.shared.at h.shared.holds }
+
+  low_last : AreLast t ps (below f p)
+  low_last =
+      record {
+        around = rest_around;
+        shared = record { at = h.shared.at; inside = inside_in_below f p h.shared.at h.shared.inside (negative_in shared_under.under); holds = h.shared.holds };
+        within = λ v i us. let k = inside_below f p v i in h.within v k.0 (record { under = negative_out (value_at p v) k.1 }, us);
+      }
+
+  high_over : (v : Spot) → is_inside (above f p) v ≡ true → pos 0 <ℤ value_at p v
+  high_over v i =
+      (over_from_opposite p v (record { under = negative_out (value_at (opposite p) v) (inside_below f (opposite p) v i).1 })).over
+
+  high_unmet : Meets (above f p) (face_of t) → ⊥
+  high_unmet m =
+      let o = high_over m.at m.inside in let a = (h.around.closed m.at m.holds).0.at_most in omega (arith, linear, o, a)
+
+  -- where the plane doesn't cut the region, all of the region is below it
+  pub all_under : (k : Reach) → IsReach f p k → (k ≡ Both → ⊥) → AreLast t ps f
+  all_under Below r n =
+      record { around = rest_around; shared = h.shared; within = λ v i us. h.within v i (record { under = negative_out (value_at p v) (r.everywhere.holds v i) }, us) }
+  all_under Above r n =
+      let u = shared_under.under in let o = positive_out (value_at p h.shared.at) (r.everywhere.holds h.shared.at h.shared.inside) in
+      absurd (omega (arith, linear, u, o))
+  all_under On r n =
+      let u = shared_under.under in let o = zero_out (value_at p h.shared.at) (r.everywhere.holds h.shared.at h.shared.inside) in
+      absurd (omega (arith, linear, u, o))
+  all_under Both r n = absurd (n refl)
+
+  pub whole_left : (ts : List Tri) (k : Reach) {gs : List Face} → IsReach f p k → (k ≡ Both → ⊥) → AreLeft (cutting_planes_with t ps) ts (f ∷ []) gs → AreLeft (cutting_planes_with t (p ∷ ps)) ts (f ∷ []) gs
+  whole_left ts k r n l =
+      record { all = l.all; cuts = step (more (region_whole (record { face = face_of t; plane = p }) f k r n) none) l.cuts; without = l.without }
+
+  pub parts_left : (k : Role) (low high : Face) {gs : List Face} → AreParts f p low high → AreLeft (cutting_planes_with t ps) (owner_as k t) (low ∷ []) gs → AreLeft (cutting_planes_with t (p ∷ ps)) (owner_as k t) (f ∷ []) (gs ++ high ∷ [])
+  parts_left k low high a l =
+      let n : Meets high (face_of t) → ⊥ = subst (λ (g : Face). Meets g (face_of t) → ⊥) (sym a.is_high) high_unmet in
+      record {
+        all = l.all ++ high ∷ [];
+        cuts = step (more (region_parts (record { face = face_of t; plane = p }) f low high meets_too a) none) (cuts_both l.cuts (cuts_unmet t ps high n));
+        without = without_append l.without (left (free_as k t high (unmet_disjoint t high n)) ended);
+      }
+
+pub low_is_last : (t : Tri) (p : Plane) (ps : List Plane) (f low high : Face) → AreLast t (p ∷ ps) f → AreParts f p low high → AreLast t ps low
+low_is_last t p ps f low high h a = subst (AreLast t ps) (sym a.is_low) (low_last t p ps f h)
+
+-- ---- after the last edge plane
+pub none_held : (t : Tri) (f : Face) → AreLast t [] f → HasContaining (t ∷ []) f
+none_held t f h = record { index = 0; tri = t; here = refl; holds = record { holds = λ v i. h.within v i tt } }
+
+pub last_dropped : (c : Cutter) (f : Face) (old : List Face) → c.role ≡ Owner → AreLast c.tri [] f → HasGrown (AtEdges c [] f) old old
+last_dropped c f old e h =
+    record { more = []; is = sym (append-nil old); holds = subst (λ (k : Role). AreLeft [] (owner_as k c.tri) (f ∷ []) []) (sym e) (record { all = f ∷ []; cuts = done; without = dropped (none_held c.tri f h) ended }) }
+
+pub last_left : (c : Cutter) (f : Face) (old new : List Face) → (c.role ≡ Owner → ⊥) → new ≡ old ++ f ∷ [] → HasGrown (AtEdges c [] f) old new
+last_left c f old new n e =
+    record { more = f ∷ []; is = e; holds = record { all = f ∷ []; cuts = done; without = left (none c.role n) ended } }
+  where
+    none : (k : Role) → (k ≡ Owner → ⊥) → IsFree (owner_as k c.tri) f
+    none Across m = record { free = tt }
+    none Coplanar m = record { free = tt }
+    none Owner m = absurd (m refl)
+
+pub whole_grown : (c : Cutter) (p : Plane) (ps : List Plane) (f : Face) (k : Reach) (old new : List Face) → AreLast c.tri (p ∷ ps) f → IsReach f p k → (k ≡ Both → ⊥) → HasGrown (AtEdges c ps f) old new → HasGrown (AtEdges c (p ∷ ps) f) old new
+whole_grown c p ps f k old new h r n g =
+    record { more = g.more; is = g.is; holds = whole_left c.tri p ps f h (owners_by c) k r n g.holds }
+
+pub parts_grown : (c : Cutter) (p : Plane) (ps : List Plane) (f low high : Face) (old mid new : List Face) → AreLast c.tri (p ∷ ps) f → AreParts f p low high → HasGrown (AtEdges c ps low) old mid → new ≡ mid ++ high ∷ [] → HasGrown (AtEdges c (p ∷ ps) f) old new
+parts_grown c p ps f low high old mid new h a g e =
+    record { more = g.more ++ high ∷ []; is = e ∙ ap (λ (l : List Face). l ++ high ∷ []) g.is ∙ append_assoc old g.more (high ∷ []); holds = parts_left c.tri p ps f h c.role low high a g.holds }
+
+-- ---- all edge planes
+around : (t : Tri) → AreAround t (edges_of t)
+unfolding face_of
+around t =
+    record { inside = λ v i. (inside_out (face_of t) v i).within; closed = λ v i. (closed_out (face_of t) v i).within }
+
+inside_all : (t : Tri) (v : Spot) → value_at (support_of t) v ≡ pos 0 → pos 0 <ℤ v.w → AllByRecursion (λ p. IsBelow p v) (edges_of t) → is_inside (face_of t) v ≡ true
+unfolding face_of
+inside_all t v e w us = inside_in (face_of t) v (record { flat = e; weight = w; within = us })
+
+pub all_last : (t : Tri) (f : Face) → is_flat t ≡ false → ShareAPlane t f → Meets f (face_of t) → AreLast t (edges_of t) f
+all_last t f n s m =
+    record { around = around t; shared = meets_inside t f n s m; within = λ v i us. inside_all t v (s.face v i) (inside_out f v i).weight us }
+
+pub shares : (c : Cutter) (f : Face) → CanCut c f → c.role ≢ Across → ShareAPlane c.tri f
+shares c f h n = by c.role n h.shares
+  where
+    by : (k : Role) → (k ≡ Across → ⊥) → SharesAs k c.tri f → ShareAPlane c.tri f
+    by Across n s = absurd (n refl)
+    by Coplanar n s = s
+    by Owner n s = s
+
+pub edges_last : (c : Cutter) (es : List Plane) (f : Face) → CanCut c f → c.role ≢ Across → es ≡ edges_of c.tri → Meets f (face_of c.tri) → AreLast c.tri es f
+edges_last c es f h n e m =
+    subst (λ (ps : List Plane). AreLast c.tri ps f) (sym e) (all_last c.tri f c.normal (shares c f h n) m)
+
+pub edges_left : (c : Cutter) (es : List Plane) (f : Face) (old new : List Face) → c.role ≢ Across → es ≡ edges_of c.tri → HasGrown (AtEdges c es f) old new → HasGrown (AtCutter c f) old new
+edges_left c es f old new n e g =
+    record { more = g.more; is = g.is; holds = subst (λ (ps : List Plane). AreLeft (cutting_planes_with c.tri ps) (owners_by c) (f ∷ []) g.more) (e ∙ sym (by c.role n)) g.holds }
+  where
+    by : (k : Role) → (k ≡ Across → ⊥) → planes_as k c.tri ≡ edges_of c.tri
+    by Across n = absurd (n refl)
+    by Coplanar n = refl
+    by Owner n = refl
+
+-- ---- the first plane of a list and the rest
+abbrev rest_of : {A : Type 0} → List A → List A
+rest_of xs = take (length xs - 1) (drop 1 xs)
+
+pub first_rest : {A : Type 0} (xs : List A) (d : A) → 1 ≤ length xs → get_or xs 0 d ∷ take (length xs - 1) (drop 1 xs) ≡ xs
+first_rest [] d l = absurd (omega (arith, l))
+first_rest (x ∷ xs) d l = ap (λ ys. x ∷ ys) (take_all (length (x ∷ xs) - 1) xs (omega arith))
+
+pub rest_shorter : {A : Type 0} (xs : List A) → 1 ≤ length xs → length (take (length xs - 1) (drop 1 xs)) < length xs
+rest_shorter [] l = absurd (omega (arith, l))
+rest_shorter (x ∷ xs) l =
+    let e = ap length (take_all (length (x ∷ xs) - 1) xs (omega arith)) in omega (arith, e)
+
+pub rest_all : {A : Type 0} (P : A → Type 0) (xs : List A) (d : A) → 1 ≤ length xs → All P xs → All P (take (length xs - 1) (drop 1 xs))
+rest_all {A} P xs d l h = tail (get_or xs 0 d) (rest_of xs) (subst (All P) (sym (first_rest xs d l)) h)
+  where
+    tail : (y : A) (ys : List A) → All P (y ∷ ys) → All P ys
+    tail y ys h = λ k d l. h (suc k) d (omega (arith, l))
+
+pub no_first : {A : Type 0} (xs : List A) → length xs < 1 → xs ≡ []
+no_first [] l = refl
+no_first (x ∷ xs) l = absurd (omega (arith, l))

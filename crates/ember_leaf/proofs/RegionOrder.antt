@@ -1,0 +1,74 @@
+-- Written regions of one triangle after another.
+use Rattle.std.proofs.Common.{◌≡◌, refl, sym, ap, subst, ◌∙◌, arith, ℕ, ◌+◌, ◌<◌, ◌≤◌, Bool, Some, List, [], ◌∷◌, ◌++◌, length, get_or, None, take, All}
+use Rattle.std.proofs.lemmas.List.{get_or-map, length-map, take_more}
+use Rattle.std.proofs.lemmas.List.Elements.{All-nil, All-push}
+use Rattle.std.proofs.lemmas.List.Quantifiers.{all_pairs_push}
+use Rattle.ember_model.specs.declared.tri.Tri.{Tri}
+use Rattle.ember_model.specs.declared.plane.Plane.{Plane}
+use Rattle.ember_model.specs.declared.face.Face.{Face}
+use Rattle.ember_model.specs.Planes.{support_of}
+use Rattle.ember_model.specs.Faces.{face_of}
+use Rattle.ember_model.specs.Owners.{lies_in_plane_of}
+use Rattle.ember_box.specs.Near.{tri_at, no_tri}
+use Rattle.ember_coplanar.specs.TrianglePlane.{LiesOn}
+use Rattle.ember_coplanar.proofs.Coplanar.{lies_on_both}
+use Rattle.ember_coplanar.proofs.Owning.{lies_by_support}
+use Rattle.ember_trace.specs.declared.near_triangle.NearTriangle.{NearTriangle}
+use Rattle.ember_trace.specs.NearTriangles.{tri_of}
+use Rattle.ember_leaf.specs.declared.kept.Kept.{Kept}
+use Rattle.ember_leaf.specs.declared.heights.Heights.{Heights}
+use Rattle.ember_leaf.specs.TriRelations.{IsLower, heights_of, all_on}
+use Rattle.ember_leaf.specs.Leaves.{IsRegionOf, IsKeptOf, IsPlaced, ArePlacedBelow, tris_of}
+
+-- ---- the plane of a triangle
+pub in_plane : (t u : Tri) {p : Plane} {h : Heights} {b : Bool} → p ≡ support_of t → h ≡ heights_of p u → b ≡ all_on h → b ≡ lies_in_plane_of t u
+in_plane t u e h q = q ∙ ap all_on h ∙ ap (λ (p : Plane). all_on (heights_of p u)) e
+
+pub lies_lower : (t u : Tri) (f : Face) → IsRegionOf t f → IsLower t u → LiesOn u f
+lies_lower t u f r l = lies_on_both u t f l.coplanar (lies_by_support t f r.normal r.support)
+
+pub face_support : (t : Tri) → (face_of t).support ≡ support_of t
+unfolding face_of
+face_support t = refl
+
+pub none_some : {f : Face} → Some f ≡ None → ⊥
+none_some e = cc
+
+-- ---- lists of written regions
+pub placed_none : (ts : List Tri) (n : ℕ) (ks : List Kept) → ks ≡ [] → ArePlacedBelow ts n ks
+placed_none ts n ks e =
+    subst (λ (l : List Kept). ArePlacedBelow ts n l) (sym e) (record { placed = record { each = All-nil (IsPlaced ts); ordered = λ i j d l m. omega (arith, m) }; below = All-nil (λ k. k.tri < n) })
+
+pub placed_next : (ts : List Tri) (n : ℕ) (ks : List Kept) → ArePlacedBelow ts n ks → ArePlacedBelow ts (n + 1) ks
+placed_next ts n ks h =
+    record { placed = h.placed; below = λ i d l. let b = h.below i d l in omega (arith, b) }
+
+at_number : (fs : List NearTriangle) (n : ℕ) (k : Kept) → n < length fs → IsKeptOf (tri_at (tris_of fs) n) n k → IsPlaced (tris_of fs) k
+at_number fs n k l h =
+    let e = h.number in let q = length-map fs tri_of in
+    record { index = omega (arith, e, q, l); region = subst (λ (m : ℕ). IsRegionOf (tri_at (tris_of fs) m) k.ring) (sym h.number) h.region }
+
+pub placed_push : (fs : List NearTriangle) (n : ℕ) (ks new : List Kept) (k : Kept) → n < length fs → ArePlacedBelow (tris_of fs) (n + 1) ks → IsKeptOf (tri_at (tris_of fs) n) n k → new ≡ ks ++ k ∷ [] → ArePlacedBelow (tris_of fs) (n + 1) new
+placed_push fs n ks new k l h r e =
+    let q = r.number in
+    subst (λ (l : List Kept). ArePlacedBelow (tris_of fs) (n + 1) l) (sym e) (record {
+      placed = record {
+        each = All-push (IsPlaced (tris_of fs)) ks k h.placed.each (at_number fs n k l r);
+        ordered = all_pairs_push (λ a b. a.tri ≤ b.tri) ks k h.placed.ordered (λ i d m. let b = h.below i d m in omega (arith, b, q));
+      };
+      below = All-push (λ a. a.tri < n + 1) ks k h.below (omega (arith, q));
+    })
+
+pub own_is : (fs : List NearTriangle) (i : ℕ) (d : NearTriangle) → i < length fs → (get_or fs i d).tri ≡ tri_at (tris_of fs) i
+own_is fs i d l = sym (get_or-map tri_of fs i d no_tri l)
+
+pub listed_too : (fs : List NearTriangle) (i : ℕ) → i < length fs → i < length (tris_of fs)
+listed_too fs i l = let q = length-map fs tri_of in omega (arith, l, q)
+
+pub all_listed : (fs : List NearTriangle) (i : ℕ) → length fs ≤ i → i ≤ length fs → i ≡ length (tris_of fs)
+all_listed fs i l m = let q = length-map fs tri_of in omega (arith, l, m, q)
+
+-- the first triangles of a list, and one more
+pub first_more : (P : Tri → Type 0) (ts : List Tri) (i : ℕ) (d : Tri) → i < length ts → All P (take i ts) → P (get_or ts i d) → All P (take (i + 1) ts)
+first_more P ts i d l h p =
+    subst (All P) (sym (take_more ts i d l)) (All-push P (take i ts) (get_or ts i d) h p)

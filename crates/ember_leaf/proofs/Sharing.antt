@@ -1,0 +1,98 @@
+-- Faces and triangles of one plane: where they meet, they have inside points in common.
+use Rattle.std.proofs.Common.{◌≡◌, refl, ap, ◌∙◌, arith, Bool, true, false, List, [], ◌∷◌, ◌++◌, ℕ, ℤ, pos, neg_ℤ, ◌+ℤ◌, ◌*ℤ◌, ◌<ℤ◌, ◌≤ℤ◌}
+use Rattle.std.specs.List.{AllByRecursion}
+use borrow.Author.Differences.{ints}
+use Rattle.ember_algebra.specs.Large.{Eventually}
+use Rattle.ember_algebra.proofs.Large.{eventually_both, eventually_map, eventually_pos}
+use Rattle.ember_algebra.proofs.Laws.{linear}
+use Rattle.ember_algebra.proofs.Ring.{◌⊕◌, ◌⊗◌, neg, num, ◌≈◌, solve, cancels}
+use Rattle.ember_model.specs.declared.plane.Plane.{Plane}
+use Rattle.ember_model.specs.declared.point.Spot.{Spot}
+use Rattle.ember_model.specs.declared.tri.Tri.{Tri}
+use Rattle.ember_model.specs.declared.face.Face.{Face}
+use Rattle.ember_model.specs.Planes.{value_at, support_of}
+use Rattle.ember_model.specs.Faces.{is_flat, face_of, edges_of, is_inside, is_in_closed, Somewhere, Everywhere, Meets, Contains, Cuts, below, above}
+use Rattle.ember_model.specs.Owners.{is_coplanar}
+use Rattle.ember_model.proofs.SignTests.{clash}
+use Rattle.ember_poly.specs.Rings.{IsBelow, IsNotAbove, InFace, InClosedFace}
+use Rattle.ember_poly.specs.Chords.{mixed2}
+use Rattle.ember_poly.proofs.Chains.{each_map}
+use Rattle.ember_poly.proofs.FaceTests.{inside_in, inside_out, closed_out}
+use Rattle.ember_poly.proofs.InsidePoints.{inside_sum}
+use Rattle.ember_poly.proofs.InsideSigns.{mixed2_value, eventually_each}
+use Rattle.ember_poly.proofs.TriangleRing.{tri_sides}
+use Rattle.ember_coplanar.proofs.Coplanar.{lies_on_both}
+use Rattle.ember_coplanar.proofs.Owning.{lies_by_support}
+use Rattle.ember_ref.proofs.FarTriangles.{inside_closed}
+use Rattle.ember_trace.proofs.FlatPlanes.{lies_flat, shared_face}
+use Rattle.ember_leaf.specs.Leaves.{IsRegionOf}
+use Rattle.ember_leaf.specs.Cutters.{AreDisjoint, ShareAPlane}
+use Rattle.ember_leaf.proofs.TriRelations.{coplanar_flats}
+use Rattle.ember_leaf.proofs.RegionOrder.{face_support}
+use Rattle.ember_leaf.proofs.TriFaces.{has_inside, inside_ring, closed_ring, ring_inside}
+
+-- ---- the other way round
+pub coplanar_turned : (t u : Tri) → is_coplanar u t ≡ true → is_coplanar t u ≡ true
+coplanar_turned t u e =
+    let n = coplanar_flats u t e in let s = has_inside t n.1 in
+    lies_flat t u (face_of t) s.at (face_support t) n.1 n.0 s.inside (record { holds = λ v i. shared_face u t v e (inside_closed (face_of t) v i) })
+
+pub share_a_plane : (t u : Tri) (f : Face) → IsRegionOf t f → is_coplanar t u ≡ true → ShareAPlane u f
+share_a_plane t u f r e = record { face = on_triangle; triangle = on_face }
+  where
+    on_face : (v : Spot) → is_in_closed (face_of u) v ≡ true → value_at f.support v ≡ pos 0
+    on_face v i = ap (λ (p : Plane). value_at p v) r.support ∙ shared_face t u v e i
+
+    on_triangle : (v : Spot) → is_inside f v ≡ true → value_at (support_of u) v ≡ pos 0
+    on_triangle v i =
+        (lies_on_both u t f (coplanar_turned u t e) (lies_by_support t f r.normal r.support)).plane v i
+
+-- ---- no inside point in common
+pub unmet_disjoint : (t : Tri) (f : Face) → (Meets f (face_of t) → ⊥) → AreDisjoint (face_of t) f
+unmet_disjoint t f n =
+    record { holds = λ v i. off (is_inside (face_of t) v) (λ e. n (record { at = v; inside = i; holds = inside_closed (face_of t) v e })) }
+  where
+    off : (b : Bool) → (b ≡ true → ⊥) → b ≡ false
+    off true g = absurd (g refl)
+    off false g = refl
+
+-- ---- a common point, moved a little into the triangle
+module _ (t : Tri) (f : Face) (v u : Spot) (iv : InFace f.support f.edges v) (iu : is_inside (face_of t) u ≡ true) (flat : value_at f.support u ≡ pos 0) where
+  abbrev moved : ℕ → Spot
+  moved m = mixed2 (pos m) (pos 1) v u
+
+  moved_under : (e : Plane) → IsBelow e v → Eventually (λ m. IsBelow e (moved m))
+  moved_under e h =
+      eventually_map (λ m p. record { under = rw (mixed2_value (pos m) (pos 1) v u e) (flip (value_at e v) (pos m) (value_at e u) p) }) (eventually_pos {a = neg_ℤ (value_at e v)} (neg_ℤ (value_at e u)) (positive h.under))
+    where
+      positive : {a : ℤ} → a <ℤ pos 0 → pos 0 <ℤ neg_ℤ a
+      positive q = omega (arith, linear, q)
+
+      flip : (a m b : ℤ) → pos 0 <ℤ (neg_ℤ a *ℤ m +ℤ neg_ℤ b) → (m *ℤ a +ℤ pos 1 *ℤ b) <ℤ pos 0
+      flip a m b p =
+          omega (arith, linear, p, solve 2 (λ a m. neg a ⊗ m ≈ neg (m ⊗ a)) cancels a m, solve 1 (λ b. num (pos 1) ⊗ b ≈ b) cancels b)
+
+  moved_inside : Eventually (λ m. InFace f.support f.edges (moved m))
+  moved_inside =
+      eventually_map (λ m p. record { flat = mixed2_value (pos m) (pos 1) v u f.support ∙ both (pos m) iv.flat flat; weight = weight v.w u.w (pos m) p.0; within = p.1 }) (eventually_both (eventually_pos u.w iv.weight) (eventually_each (λ e m. IsBelow e (moved m)) f.edges (each_map (λ e. IsBelow e v) (λ e. Eventually (λ m. IsBelow e (moved m))) f.edges (λ e h. moved_under e h) iv.within)))
+    where
+      weight : (w z m : ℤ) → pos 0 <ℤ (w *ℤ m +ℤ z) → pos 0 <ℤ (m *ℤ w +ℤ pos 1 *ℤ z)
+      weight w z m p =
+          omega (arith, linear, p, solve 2 (λ w m. w ⊗ m ≈ m ⊗ w) cancels w m, solve 1 (λ z. num (pos 1) ⊗ z ≈ z) cancels z)
+
+      both : {a b : ℤ} (m : ℤ) → a ≡ pos 0 → b ≡ pos 0 → m *ℤ a +ℤ pos 1 *ℤ b ≡ pos 0
+      both m p q = rw (p, q) (solve 1 (λ m. m ⊗ num (pos 0) ⊕ num (pos 1) ⊗ num (pos 0) ≈ num (pos 0)) cancels m)
+
+  pub some_shared : is_in_closed (face_of t) v ≡ true → Somewhere f (λ x. is_inside (face_of t) x ≡ true)
+  some_shared c =
+      let e = moved_inside in let m = e.from in let one : pos 0 <ℤ pos 1 = omega (arith, linear) in
+      record { at = moved m; inside = inside_in f (moved m) (e.holds m (omega arith)); holds = ring_inside t (moved m) (inside_sum (pos m) (pos 1) (support_of t) (tri_sides t) v u (least m) one (closed_ring t v c) (inside_ring t u iu)) }
+    where
+      least : (m : ℕ) → pos 0 ≤ℤ pos m
+      least m = omega (arith, ints)
+
+-- a face that meets a triangle of its plane has inside points in it
+pub meets_inside : (t : Tri) (f : Face) → is_flat t ≡ false → ShareAPlane t f → Meets f (face_of t) → Somewhere f (λ v. is_inside (face_of t) v ≡ true)
+meets_inside t f n s m =
+    let u = has_inside t n in
+    some_shared t f m.at u.at (inside_out f m.at m.inside) u.inside (s.triangle u.at (inside_closed (face_of t) u.at u.inside)) m.holds

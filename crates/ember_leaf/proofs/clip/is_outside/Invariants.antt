@@ -1,0 +1,8 @@
+use Rattle.std.proofs.Common.{[], ◌∷◌, map, take}
+use Rattle.ember_model.specs.Faces.{face_of}
+use Rattle.ember_leaf.specs.Walls.{wall_of, IsClippedBy}
+use Rattle.ember_leaf.proofs.clip.is_outside.Given as goal
+
+abbrev pub invariant-loop-w : goal.invariant-loop-w
+invariant-loop-w l =
+    IsClippedBy (map wall_of (take l.w-index l.walls)) l.f.tri (face_of l.f.tri ∷ [])

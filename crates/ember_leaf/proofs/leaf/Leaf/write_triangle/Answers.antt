@@ -1,0 +1,74 @@
+use Rattle.std.proofs.Common.{◌≡◌, ◌∙◌, ap, [], ◌∷◌, sym, subst, ℕ, List, All, get_or, map, option_to_list}
+use Rattle.ember_model.specs.declared.face.Face.{Face}
+use Rattle.ember_model.specs.Faces.{is_flat}
+use Rattle.ember_expr.specs.Formula.{formula_of}
+use Rattle.ember_box.specs.Boxes.{Cell}
+use Rattle.ember_box.specs.Regions.{walls, IsStart}
+use Rattle.ember_box.specs.Regions as regions
+use Rattle.ember_leaf.specs.declared.wall.Wall.{Wall}
+use Rattle.ember_leaf.specs.Lower.{AreLowerOrCovered}
+use Rattle.ember_leaf.specs.Written.{hidden}
+use Rattle.ember_leaf.proofs.Lower.{is_covered}
+use Rattle.ember_leaf.proofs.WrittenRegions.{grown_none, none_started, none_flat}
+use Rattle.ember_model.specs.declared.tri.Tri.{Tri}
+use Rattle.ember_box.specs.Near.{tri_at}
+use Rattle.ember_leaf.specs.Leaves.{tris_of}
+use Rattle.ember_leaf.proofs.RegionOrder.{own_is, listed_too}
+use Rattle.ember_leaf.specs.Walls.{wall_of, IsClippedBy}
+use Rattle.ember_leaf.proofs.WallClips.{left_parts}
+use Rattle.ember_leaf.specs.Cutters.{owners_in, CanCut, common_of, AreCut}
+use Rattle.ember_leaf.proofs.LeafRegions.{leaf_owned, owned_planes, owned_inside, owned_each, all_can}
+use Rattle.ember_leaf.proofs.leaf.Leaf.write_triangle.Goals.{then-is_flat-via-then-is_flat, then-is_flat-via-else-is_flat+then-is_outside}
+use Rattle.ember_leaf.proofs.leaf.Leaf.write_triangle.Goals as goal
+
+to_start : (c : Cell) (ns : List Tri) (i : ℕ) (ws : List Wall) {t : Tri} {fs : List Face} → t ≡ tri_at ns i → map wall_of ws ≡ walls c → IsClippedBy (map wall_of ws) t fs → IsStart c (tri_at ns i) fs
+to_start c ns i ws {t} {fs} e w l =
+    subst (λ (u : Tri). IsStart c u fs) e (subst (λ (vs : List regions.Wall). IsClippedBy vs t fs) w l)
+
+pub returns-then-is_flat-clause-written : goal.returns-then-is_flat-clause-written
+returns-then-is_flat-clause-written c =
+    let s = c.args.self.now in let near = s.near.now in let ns = tris_of near in let i = c.args.i in
+    let e = own_is near i c.index-self-i.result c.requires.index in
+    grown_none _ c.args.kept.now.items (λ scene h. elim c.then-is_flat.branch [
+      | then-is_flat-via-then-is_flat w ↦ none_flat scene (formula_of s.expr.now) s.cell.now ns i (sym (ap is_flat e) ∙ sym c.is_flat.ensures ∙ w.if-is_flat.true)
+      | then-is_flat-via-else-is_flat+then-is_outside w ↦ none_started scene (formula_of s.expr.now) s.cell.now ns i (to_start s.cell.now ns i c.args.walls.now e c.requires.walls (w.is_outside.ensures w.if-is_outside.true))
+    ])
+
+pub returns-then-branch-clause-written : goal.returns-then-branch-clause-written
+returns-then-branch-clause-written c =
+    let near = c.args.self.now.near.now in let ns = tris_of near in let i = c.args.i in let t = (get_or near i c.index-self-i.result).tri in
+    let h = subst (AreLowerOrCovered ns i t c.common_spans-bounds.result (owners_in c.find_cutters.new.list.items)) c.if-branch.true c.in_ok-find_cutters.ensures.owners in
+    grown_none _ c.args.kept.now.items (λ scene f. hidden (is_covered ns i t c.common_spans-bounds.result (own_is near i c.index-self-i.result c.requires.index) (listed_too near i c.requires.index) h))
+
+pub find_cutters-requires-clause-own : goal.find_cutters-requires-clause-own
+find_cutters-requires-clause-own c = own_is c.args.self.now.near.now c.args.i c.index-self-i.result c.requires.index
+
+pub regions-requires : goal.regions-requires
+regions-requires c =
+    let near = c.args.self.now.near.now in let u = (get_or near c.args.i c.index-self-i.result).tri in let cs = c.find_cutters.new.list.items in
+    let l = left_parts u (subst (λ o. IsClippedBy (map wall_of c.args.walls.now) u (option_to_list o)) c.in-Some.is c.in_ok-ring.ensures) in
+    subst (All (λ v. CanCut v c.in-Some.ring)) (sym c.deref.ensures.value) (all_can u c.in-Some.ring cs l.0 c.in_ok-find_cutters.ensures.cutters)
+
+pub keep-requires-clause-regions : goal.keep-requires-clause-regions
+keep-requires-clause-regions c =
+    let s = c.args.self.now in let near = s.near.now in let ns = tris_of near in let i = c.args.i in let f = get_or near i c.index-self-i.result in
+    let ring = c.in-Some.ring in let b = c.common_spans-bounds.result in let cs = c.find_cutters.new.list.items in let k = c.in_ok-find_cutters.ensures in
+    leaf_owned s.cell.now f ring ns i c.args.walls.now cs b c.in_ok-list.list.items (own_is near i c.index-self-i.result c.requires.index) (listed_too near i c.requires.index) c.requires.walls (c.common_spans-bounds.ensures ∙ ap (common_of f.aabb) c.requires.aabb) (subst (λ o. IsClippedBy (map wall_of c.args.walls.now) f.tri (option_to_list o)) c.in-Some.is c.in_ok-ring.ensures) (k.cutting_planes c.if-branch.false) k.cutters (subst (AreLowerOrCovered ns i f.tri b (owners_in cs)) c.if-branch.false k.owners) (subst (λ us. AreCut us (ring ∷ []) c.in_ok-list.list.items) c.deref.ensures.value c.in_ok-list.ensures)
+
+pub keep-requires-clause-plane : goal.keep-requires-clause-plane
+keep-requires-clause-plane c =
+    let s = c.args.self.now in owned_planes s.cell.now (tris_of s.near.now) c.args.i c.in_ok-list.list.items (keep-requires-clause-regions c)
+
+pub keep-requires-clause-inside : goal.keep-requires-clause-inside
+keep-requires-clause-inside c =
+    let s = c.args.self.now in owned_inside s.cell.now (tris_of s.near.now) c.args.i c.in_ok-list.list.items (keep-requires-clause-regions c)
+
+pub keep-requires-clause-owners : goal.keep-requires-clause-owners
+keep-requires-clause-owners c =
+    let s = c.args.self.now in owned_each s.cell.now (tris_of s.near.now) c.args.i c.in_ok-list.list.items (keep-requires-clause-regions c)
+
+pub returns-in_default-clause-written : goal.returns-in_default-clause-written
+returns-in_default-clause-written c =
+    let s = c.args.self.now in let near = s.near.now in let ns = tris_of near in let i = c.args.i in let walls = c.args.walls.now in
+    let l = subst (λ o. IsClippedBy (map wall_of walls) (get_or near i c.index-self-i.result).tri (option_to_list o)) c.in_default.is c.in_ok-ring.ensures in
+    grown_none _ c.args.kept.now.items (λ scene h. none_started scene (formula_of s.expr.now) s.cell.now ns i (to_start s.cell.now ns i walls (own_is near i c.index-self-i.result c.requires.index) c.requires.walls l))

@@ -1,0 +1,53 @@
+use Rattle.std.proofs.Common.{◌-◌, arith, sym, subst, pos, List, ◌∷◌, length, take, drop, get_or}
+use Rattle.ember_model.specs.declared.plane.Plane.{Plane}
+use Rattle.ember_model.specs.declared.tri.Tri.{Tri}
+use Rattle.ember_model.specs.declared.face.Face.{Face}
+use Rattle.ember_model.specs.Valid.{IsValidPlane}
+use Rattle.ember_leaf.specs.Written.{HasGrown}
+use Rattle.ember_leaf.specs.Cutters.{AreLast, AtEdges}
+use Rattle.ember_leaf.proofs.Pieces.{low_is_last, all_under, last_dropped, last_left, whole_grown, parts_grown, first_rest, rest_shorter, rest_all, no_first}
+use Rattle.ember_leaf.proofs.regions.+add_pieces.Goals as goal
+
+abbrev no_plane : Plane
+no_plane = record { a = pos 0; b = pos 0; c = pos 0; d = pos 0 }
+
+abbrev first : List Plane → Plane
+first es = get_or es 0 no_plane
+
+abbrev rest : List Plane → List Plane
+rest es = take (length es - 1) (drop 1 es)
+
+pub add_pieces-requires : goal.add_pieces-requires
+add_pieces-requires t c =
+    let es = c.args.edges.now in let u = c.args.c.now.tri in let r = c.args.r in let k = c.in_ok-low-in-Both in let l = c.in-len1-up.len_at_least in
+    let h = subst (λ ps. AreLast u ps r) (sym (first_rest es no_plane l)) c.requires.last in let s = rest_shorter es l in
+    (omega (arith, s), (rest_all IsValidPlane es no_plane l c.requires.valid, low_is_last u (first es) (rest es) r k.low k.high h k.ensures))
+
+pub add_pieces-requires-in_default-reach : goal.add_pieces-requires-in_default-reach
+add_pieces-requires-in_default-reach t c =
+    let es = c.args.edges.now in let u = c.args.c.now.tri in let r = c.args.r in let l = c.in-len1-up.len_at_least in
+    let h = subst (λ ps. AreLast u ps r) (sym (first_rest es no_plane l)) c.requires.last in let s = rest_shorter es l in
+    (omega (arith, s), (rest_all IsValidPlane es no_plane l c.requires.valid, all_under u (first es) (rest es) r h c.reach.result c.reach.ensures c.in_default-reach.not-Both))
+
+pub returns-in-Owner : goal.returns-in-Owner
+returns-in-Owner t c =
+    let u = c.args.c.now in let r = c.args.r in let old = c.args.out.now.items in let e = no_first c.args.edges.now c.in-empty.len_below in
+    subst (λ ps. HasGrown (AtEdges u ps r) old old) (sym e) (last_dropped u r old c.in-Owner.is (subst (λ ps. AreLast u.tri ps r) e c.requires.last))
+
+pub returns-in_ok-push-in_default : goal.returns-in_ok-push-in_default
+returns-in_ok-push-in_default t c =
+    let u = c.args.c.now in let r = c.args.r in let old = c.args.out.now.items in let new = c.push.new.self.items in
+    subst (λ ps. HasGrown (AtEdges u ps r) old new) (sym (no_first c.args.edges.now c.in-empty.len_below)) (last_left u r old new c.in_default.not-Owner c.in_ok-push-in_default.ensures.items)
+
+pub returns-in_ok-push-in-Both : goal.returns-in_ok-push-in-Both
+returns-in_ok-push-in-Both t c =
+    let es = c.args.edges.now in let u = c.args.c.now in let r = c.args.r in let old = c.args.out.now.items in let k = c.in_ok-low-in-Both in
+    let e = first_rest es no_plane c.in-len1-up.len_at_least in let h = subst (λ ps. AreLast u.tri ps r) (sym e) c.requires.last in
+    let mid = c.add_pieces.new.out.items in let new = c.push-in-Both.new.self.items in
+    subst (λ ps. HasGrown (AtEdges u ps r) old new) e (parts_grown u (first es) (rest es) r k.low k.high old mid new h k.ensures c.in_ok-add_pieces-in-Both.ensures c.in_ok-push-in-Both.ensures.items)
+
+pub returns-in_ok-add_pieces-in_default-reach : goal.returns-in_ok-add_pieces-in_default-reach
+returns-in_ok-add_pieces-in_default-reach t c =
+    let es = c.args.edges.now in let u = c.args.c.now in let r = c.args.r in let old = c.args.out.now.items in let new = c.add_pieces-in_default-reach.new.out.items in
+    let e = first_rest es no_plane c.in-len1-up.len_at_least in let h = subst (λ ps. AreLast u.tri ps r) (sym e) c.requires.last in
+    subst (λ ps. HasGrown (AtEdges u ps r) old new) e (whole_grown u (first es) (rest es) r c.reach.result old new h c.reach.ensures c.in_default-reach.not-Both c.in_ok-add_pieces-in_default-reach.ensures)

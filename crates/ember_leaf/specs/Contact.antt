@@ -1,0 +1,29 @@
+-- What the corners of a triangle show of a region in its plane
+use Rattle.std.specs.Prelude.{◌≡◌, ◌⊎◌, ℕ, ◌<◌, true, List, length, slice_index_or, pos}
+use Rattle.std.specs.List.{AllByRecursion}
+use Rattle.ember_model.specs.declared.plane.Plane.{Plane}
+use Rattle.ember_model.specs.declared.tri.Tri.{Tri}
+use Rattle.ember_model.specs.declared.point.Corner.{Corner}
+use Rattle.ember_model.specs.Owners.{spot_of_corner}
+use Rattle.ember_poly.specs.Rings.{IsBelow}
+use Rattle.ember_leaf.specs.declared.contact.Contact.{Contact}
+use Rattle.ember_leaf.specs.declared.contact.Contact.TheVariants.{Apart, Met, Unknown}
+use Rattle.ember_leaf.specs.TriRelations.{heights_of, none_behind}
+
+abbrev pub no_plane : Plane
+no_plane = record { a = pos 0; b = pos 0; c = pos 0; d = pos 0 }
+
+-- no corner is behind some plane of the list
+pub record HasParting (es : List Plane) (t : Tri) : Type 0 where
+  pub index : ℕ
+  pub before : index < length es
+  pub parts : none_behind (heights_of (slice_index_or es index no_plane) t) ≡ true
+
+-- the corner is behind all of them
+abbrev pub IsBehind : List Plane → Corner → Type 0
+IsBehind es c = AllByRecursion (λ g. IsBelow g (spot_of_corner c)) es
+
+abbrev pub IsContact : List Plane → Tri → Contact → Type 0
+IsContact es t Apart = HasParting es t
+IsContact es t Met = IsBehind es t.a ⊎ (IsBehind es t.b ⊎ IsBehind es t.c)
+IsContact es t Unknown = Unit {0}

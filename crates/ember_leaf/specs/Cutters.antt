@@ -1,0 +1,180 @@
+-- What triangles leave of the regions of another one
+use Rattle.std.specs.Prelude.{◌≡◌, Bool, true, false, List, [], ◌∷◌, ◌++◌, map, flat_map, ℤ, pos, ◌*ℤ◌, ◌≤ℤ◌}
+use Rattle.std.specs.List.{AllByRecursion}
+use Rattle.std.specs.Int.{int_min, int_max}
+use Rattle.ember_algebra.specs.Relations.{Each, Chain}
+use Rattle.ember_model.specs.declared.tri.Tri.{Tri}
+use Rattle.ember_model.specs.declared.plane.Plane.{Plane}
+use Rattle.ember_model.specs.declared.point.Spot.{Spot}
+use Rattle.ember_model.specs.declared.face.Face.{Face}
+use Rattle.ember_model.specs.Planes.{support_of, value_at}
+use Rattle.ember_model.specs.Faces.{edges_of, face_of, is_inside, is_in_closed, Somewhere, Everywhere, Meets, Contains}
+use Rattle.ember_model.specs.Owners.{is_coplanar}
+use Rattle.ember_box.specs.declared.aabb.Interval.{Interval}
+use Rattle.ember_box.specs.declared.aabb.Aabb.{Aabb}
+use Rattle.ember_box.specs.Aabbs.{interval_between}
+use Rattle.ember_box.specs.Regions.{CuttingPlane, AtCuttingPlane}
+use Rattle.ember_poly.specs.Rings.{IsBelow, IsNotAbove}
+use Rattle.ember_poly.specs.Cuts.{HasInside}
+use Rattle.ember_leaf.specs.declared.cutter.Role.{Role}
+use Rattle.ember_leaf.specs.declared.cutter.Role.TheVariants.{Across, Coplanar, Owner}
+use Rattle.ember_leaf.specs.declared.cutter.Cutter.{Cutter}
+use Rattle.ember_leaf.specs.TriRelations.{HasContaining}
+
+-- ---- what a triangle cuts by, and whether it owns what it contains
+abbrev pub planes_as : Role → Tri → List Plane
+planes_as Across t = support_of t ∷ []
+planes_as Coplanar t = edges_of t
+planes_as Owner t = edges_of t
+
+abbrev pub owner_as : Role → Tri → List Tri
+owner_as Across t = []
+owner_as Coplanar t = []
+owner_as Owner t = t ∷ []
+
+-- the role of a triangle in the plane of another one, by whether it comes before that one
+abbrev pub role_if : Bool → Role
+role_if true = Owner
+role_if false = Coplanar
+
+-- u lies so to t, whose regions it cuts
+abbrev pub LiesAs : Role → Tri → Tri → Type 0
+LiesAs Across t u = Unit {0}
+LiesAs Coplanar t u = is_coplanar t u ≡ true
+LiesAs Owner t u = is_coplanar t u ≡ true
+
+pub record IsCutterOf (t : Tri) (c : Cutter) : Type 0 where
+  pub lies : LiesAs c.role t c.tri
+
+-- a triangle has joined a list
+pub record IsAdded (u : Tri) (k : Role) (old new : List Cutter) : Type 0 where
+  pub cutter : Cutter
+  pub is : new ≡ old ++ cutter ∷ []
+  pub tri : cutter.tri ≡ u
+  pub role : cutter.role ≡ k
+
+-- the cutting planes of a triangle's face with these planes
+abbrev pub cutting_planes_with : Tri → List Plane → List CuttingPlane
+cutting_planes_with t ps = map (λ p. record { face = face_of t; plane = p }) ps
+
+abbrev pub blades_by : Cutter → List CuttingPlane
+blades_by c = cutting_planes_with c.tri (planes_as c.role c.tri)
+
+abbrev pub blades_in : List Cutter → List CuttingPlane
+blades_in cs = flat_map blades_by cs
+
+abbrev pub owners_by : Cutter → List Tri
+owners_by c = owner_as c.role c.tri
+
+abbrev pub owners_in : List Cutter → List Tri
+owners_in cs = flat_map owners_by cs
+
+-- ---- regions that are left
+-- the first list without some members that have the first property; those left have the second
+pub data Without {X : Type 0} (P Q : X → Type 0) : List X → List X → Type 0 where
+  ended : Without P Q [] []
+  left : {x : X} {xs ys : List X} → Q x → Without P Q xs ys → Without P Q (x ∷ xs) (x ∷ ys)
+  dropped : {x : X} {xs ys : List X} → P x → Without P Q xs ys → Without P Q (x ∷ xs) ys
+
+-- no point is inside both faces
+abbrev pub AreDisjoint : Face → Face → Type 0
+AreDisjoint g f = Everywhere f (λ v. is_inside g v ≡ false)
+
+-- none of the triangles has an inside point of the face
+pub record IsFree (ts : List Tri) (f : Face) : Type 0 where
+  pub free : AllByRecursion (λ t. AreDisjoint (face_of t) f) ts
+
+-- the cutting planes leave these faces, but for some that the triangles contain
+pub record AreLeft (bs : List CuttingPlane) (ts : List Tri) (fs gs : List Face) : Type 0 where
+  pub all : List Face
+  pub cuts : Chain (λ b. Each (AtCuttingPlane b)) bs fs all
+  pub without : Without (HasContaining ts) (IsFree ts) all gs
+
+-- what a triangle leaves of a region
+abbrev pub AtCutter : Cutter → Face → List Face → Type 0
+AtCutter c f gs = AreLeft (blades_by c) (owners_by c) (f ∷ []) gs
+
+-- of each region
+abbrev pub AreSplit : Cutter → List Face → List Face → Type 0
+AreSplit c fs gs = Each (AtCutter c) fs gs
+
+-- the list has grown by what the triangle leaves of fs
+abbrev pub IsSplitBehind : Cutter → List Face → List Face → List Face → Type 0
+IsSplitBehind c fs old new = (front : List Face) → AreSplit c front old → AreSplit c (front ++ fs) new
+
+-- the triangles, one after another
+abbrev pub AreCut : List Cutter → List Face → List Face → Type 0
+AreCut cs fs gs = Chain AreSplit cs fs gs
+
+-- the first region meets the triangle's closed face
+abbrev pub MeetsFirst : Cutter → List Face → Type 0
+MeetsFirst c [] = Unit {0}
+MeetsFirst c (f ∷ fs) = Meets f (face_of c.tri)
+
+-- planes that are negative inside the triangle, and nowhere positive in its closed face
+pub record AreAround (t : Tri) (ps : List Plane) : Type 0 where
+  pub inside : (v : Spot) → is_inside (face_of t) v ≡ true → AllByRecursion (λ p. IsBelow p v) ps
+  pub closed : (v : Spot) → is_in_closed (face_of t) v ≡ true → AllByRecursion (λ p. IsNotAbove p v) ps
+
+-- the planes cut out of f what lies in the triangle
+pub record AreLast (t : Tri) (ps : List Plane) (f : Face) : Type 0 where
+  pub around : AreAround t ps
+  pub shared : Somewhere f (λ v. is_inside (face_of t) v ≡ true)
+  pub within : (v : Spot) → is_inside f v ≡ true → AllByRecursion (λ p. IsBelow p v) ps → is_inside (face_of t) v ≡ true
+
+-- what a plane leaves of a region that meets the face of its triangle
+abbrev pub AtPlane : Plane → Face → List Face → Type 0
+AtPlane p f gs = (g : Face) → Meets f g → AtCuttingPlane (record { face = g; plane = p }) f gs
+
+-- what the planes leave of a region
+abbrev pub AtEdges : Cutter → List Plane → Face → List Face → Type 0
+AtEdges c ps f gs = AreLeft (cutting_planes_with c.tri ps) (owners_by c) (f ∷ []) gs
+
+-- the triangle and the face lie in one plane, if the triangle cuts by its edge planes
+pub record ShareAPlane (t : Tri) (f : Face) : Type 0 where
+  pub face : (v : Spot) → is_inside f v ≡ true → value_at (support_of t) v ≡ pos 0
+  pub triangle : (v : Spot) → is_in_closed (face_of t) v ≡ true → value_at f.support v ≡ pos 0
+
+abbrev pub SharesAs : Role → Tri → Face → Type 0
+SharesAs Across t f = Unit {0}
+SharesAs Coplanar t f = ShareAPlane t f
+SharesAs Owner t f = ShareAPlane t f
+
+pub record CanCut (c : Cutter) (f : Face) : Type 0 where
+  pub shares : SharesAs c.role c.tri f
+  pub somewhere : HasInside f
+
+-- ---- bounds
+-- x / w lies in the interval, and a point in the box
+pub record IsWithinInterval (s : Interval) (x w : ℤ) : Type 0 where
+  pub low : (s.low *ℤ w) ≤ℤ x
+  pub high : x ≤ℤ (s.high *ℤ w)
+
+pub record IsWithinAabb (b : Aabb) (v : Spot) : Type 0 where
+  pub x : IsWithinInterval b.x v.x v.w
+  pub y : IsWithinInterval b.y v.y v.w
+  pub z : IsWithinInterval b.z v.z v.w
+
+-- the inside of f lies in that of t, and within the bounds
+pub record IsBounded (t : Tri) (b : Aabb) (f : Face) : Type 0 where
+  pub within : Contains (face_of t) f
+  pub bounds : Everywhere f (IsWithinAabb b)
+
+-- all cutting planes of the first list stand in the second, but for some whose faces no face with the
+-- property meets
+pub data OmitsUnmet (P : Face → Type 0) : List CuttingPlane → List CuttingPlane → Type 0 where
+  all_seen : OmitsUnmet P [] []
+  stays : {b : CuttingPlane} {xs ys : List CuttingPlane} → OmitsUnmet P xs ys → OmitsUnmet P (b ∷ xs) (b ∷ ys)
+  goes : {b : CuttingPlane} {xs ys : List CuttingPlane} → ((f : Face) → P f → Meets f b.face → ⊥) → OmitsUnmet P xs ys → OmitsUnmet P (b ∷ xs) ys
+
+-- a list has grown by these cutting planes, but for such
+abbrev pub AddsCuttingPlanes : (Face → Type 0) → List CuttingPlane → List Cutter → List Cutter → Type 0
+AddsCuttingPlanes P bs old new =
+    (front : List CuttingPlane) → OmitsUnmet P front (blades_in old) → OmitsUnmet P (front ++ bs) (blades_in new)
+
+-- what two boxes have in common
+abbrev pub common : Interval → Interval → Interval
+common a b = interval_between (int_max a.low b.low) (int_min a.high b.high)
+
+abbrev pub common_of : Aabb → Aabb → Aabb
+common_of a b = record { x = common a.x b.x; y = common a.y b.y; z = common a.z b.z }

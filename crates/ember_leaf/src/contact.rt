@@ -1,0 +1,66 @@
+// Whether a region meets a triangle in its plane, as far as the triangle's corners show it.
+ghost use Rattle.std.specs.Prelude.{◌≡◌, ◌&&◌, All};
+ghost use Rattle.ember_algebra.specs.Sign.{is_negative};
+ghost use Rattle.ember_model.specs.Valid.{IsValidPlane, IsValidTri};
+ghost use Rattle.ember_leaf.specs.Contact.{IsContact};
+
+use crate::heights::{Heights, heights_of, is_behind};
+use ember_model::{Plane, Tri};
+
+/// What the corners of a triangle show of a region in its plane.
+#[derive(Clone, Copy)]
+pub enum Contact {
+    /// No corner is behind some edge of the region: the two don't meet.
+    Apart,
+    /// A corner is behind all edges of the region, so inside it: they meet.
+    Met,
+    /// They show neither.
+    Unknown,
+}
+
+// Which corners are behind all planes seen so far.
+#[derive(Clone, Copy)]
+struct Behind {
+    a: bool,
+    b: bool,
+    c: bool,
+}
+
+impl Behind {
+    fn and(&self, h: &Heights) -> Behind
+        ensures a { result.a ≡ self.now.a && is_negative h.now.a }
+        ensures b { result.b ≡ self.now.b && is_negative h.now.b }
+        ensures c { result.c ≡ self.now.c && is_negative h.now.c }
+    {
+        Behind {
+            a: self.a && is_behind(h.a),
+            b: self.b && is_behind(h.b),
+            c: self.c && is_behind(h.c),
+        }
+    }
+}
+
+/// By the edge planes of the region's outline.
+pub fn contact_of(edges: &[Plane], t: &Tri) -> Contact
+    requires edges { All IsValidPlane edges.now }
+    requires tri { IsValidTri t.now }
+    ensures { IsContact edges.now t.now result }
+{
+    let mut behind = Behind {
+        a: true,
+        b: true,
+        c: true,
+    };
+    for i in 0..edges.len() {
+        let h = heights_of(&edges[i], t);
+        if h.none_behind() {
+            return Contact::Apart;
+        }
+        behind = behind.and(&h);
+    }
+    if behind.a || (behind.b || behind.c) {
+        Contact::Met
+    } else {
+        Contact::Unknown
+    }
+}

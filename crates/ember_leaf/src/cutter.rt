@@ -1,0 +1,33 @@
+// Triangles that cut the regions of another one.
+ghost use Rattle.std.specs.Prelude.{◌≡◌, false, All};
+ghost use Rattle.ember_model.specs.Valid.{IsValidTri, IsValidPlane};
+ghost use Rattle.ember_model.specs.Planes.{support_of};
+ghost use Rattle.ember_model.specs.Faces.{is_flat, edges_of};
+
+use ember_model::{Plane, Tri};
+
+/// How a triangle cuts the regions of another one that its closed face touches.
+#[derive(Clone, Copy)]
+pub enum Role {
+    /// In another plane: by its support plane.
+    Across,
+    /// In the same plane, with a higher number: by its edge planes.
+    Coplanar,
+    /// In the same plane, with a lower number: by its edge planes, and what it contains is its own.
+    Owner,
+}
+
+/// A triangle that cuts the regions of another one.
+#[derive(Clone, Copy)]
+pub struct Cutter {
+    pub tri: Tri,
+    pub support: Plane,
+    pub edges: [Plane; 3],
+    pub role: Role,
+    ghost valid: { IsValidTri tri },
+    ghost normal: { is_flat tri ≡ false },
+    ghost face: { support ≡ support_of tri },
+    ghost sides: { edges ≡ edges_of tri },
+    ghost sized: { IsValidPlane support },
+    ghost sides_sized: { All IsValidPlane edges },
+}

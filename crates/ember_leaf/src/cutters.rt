@@ -1,0 +1,137 @@
+// The other triangles near a leaf that may cut the regions of one.
+ghost use Rattle.std.specs.Prelude.{◌≡◌, false, true, All, IfOk, OnOk};
+ghost use Rattle.ember_model.specs.Faces.{is_flat};
+ghost use Rattle.ember_model.specs.Owners.{is_coplanar};
+ghost use Rattle.ember_box.specs.Near.{tri_at};
+ghost use Rattle.ember_leaf.specs.Leaves.{tris_of};
+ghost use Rattle.ember_leaf.specs.Cutters.{role_if, IsAdded, IsCutterOf};
+ghost use Rattle.ember_leaf.specs.Lower.{AddsBlades, AddsOwners};
+ghost use Rattle.ember_leaf.specs.Lower.{AddsBladesWithin, AddsOwnersWithin, AreBladesFound, AreOwnersFound};
+
+use crate::cutter::{Cutter, Role};
+use crate::relation::{Relation, covers, is_flat, relation_of};
+use ember_box::{Aabb, aabbs_meet};
+use ember_model::OutOfMemory;
+use ember_poly::main_edges;
+use ember_trace::NearTriangle;
+
+fn add_cutter(list: &mut Vec<Cutter>, g: &NearTriangle, role: Role) -> Result<(), OutOfMemory>
+    requires { is_flat g.now.tri ≡ false }
+    ensures { OnOk result (IsAdded g.now.tri role list.old.items list.new.items) }
+{
+    list.push(Cutter {
+        tri: g.tri,
+        support: g.support,
+        edges: main_edges(&g.tri, &g.support),
+        role,
+    })?;
+    Ok(())
+}
+
+// The role of a triangle in the plane of another one.
+fn role_of(is_before: bool) -> Role
+    ensures { result ≡ role_if is_before }
+{
+    if is_before {
+        Role::Owner
+    } else {
+        Role::Coplanar
+    }
+}
+
+// Adds a triangle in the plane of another one that it may meet. Returns `true`, and adds nothing, if it
+// comes before that one and covers it.
+fn add_coplanar(
+    list: &mut Vec<Cutter>,
+    own: &NearTriangle,
+    g: &NearTriangle,
+    is_before: bool,
+) -> Result<bool, OutOfMemory>
+    requires normal { is_flat g.now.tri ≡ false }
+    requires plane { is_coplanar own.now.tri g.now.tri ≡ true }
+    requires own { is_flat own.now.tri ≡ false }
+    requires cutters { All (IsCutterOf own.now.tri) list.old.items }
+    ensures cutters { OnOk result (All (IsCutterOf own.now.tri) list.new.items) }
+    ensures cutting_planes { IfOk result (AddsBlades own.now.tri g.now.tri list.old.items list.new.items) }
+    ensures owners { IfOk result (AddsOwners own.now.tri g.now.tri is_before list.old.items list.new.items) }
+{
+    if is_before && covers(g, own) {
+        return Ok(true);
+    }
+    add_cutter(list, g, role_of(is_before))?;
+    Ok(false)
+}
+
+// Adds a triangle if it may meet the regions of another one. Returns `true`, and adds nothing, if it comes
+// before that one and covers it.
+fn add(
+    list: &mut Vec<Cutter>,
+    own: &NearTriangle,
+    g: &NearTriangle,
+    is_before: bool,
+) -> Result<bool, OutOfMemory>
+    requires own { is_flat own.now.tri ≡ false }
+    requires cutters { All (IsCutterOf own.now.tri) list.old.items }
+    ensures cutters { OnOk result (All (IsCutterOf own.now.tri) list.new.items) }
+    ensures cutting_planes { IfOk result (AddsBlades own.now.tri g.now.tri list.old.items list.new.items) }
+    ensures owners { IfOk result (AddsOwners own.now.tri g.now.tri is_before list.old.items list.new.items) }
+{
+    if is_flat(g) {
+        return Ok(false);
+    }
+    match relation_of(own, g) {
+        Relation::Apart => Ok(false),
+        Relation::Across => {
+            add_cutter(list, g, Role::Across)?;
+            Ok(false)
+        }
+        Relation::Coplanar => add_coplanar(list, own, g, is_before),
+    }
+}
+
+// The same, if its bounding box meets the bounds.
+fn add_near(
+    list: &mut Vec<Cutter>,
+    own: &NearTriangle,
+    bounds: &Aabb,
+    g: &NearTriangle,
+    is_before: bool,
+) -> Result<bool, OutOfMemory>
+    requires own { is_flat own.now.tri ≡ false }
+    requires cutters { All (IsCutterOf own.now.tri) list.old.items }
+    ensures cutters { OnOk result (All (IsCutterOf own.now.tri) list.new.items) }
+    ensures cutting_planes { IfOk result (AddsBladesWithin bounds.now own.now.tri g.now.tri list.old.items list.new.items) }
+    ensures owners { IfOk result (AddsOwnersWithin bounds.now own.now.tri g.now.tri is_before list.old.items list.new.items) }
+{
+    if aabbs_meet(bounds, &g.aabb) {
+        add(list, own, g, is_before)
+    } else {
+        Ok(false)
+    }
+}
+
+/// Collects in order what may cut the regions of triangle `i`, which isn't flat and whose regions lie within
+/// the bounds. Returns `true`, with an incomplete list, if an earlier triangle in its plane covers it and so
+/// owns all its regions.
+pub fn find_cutters(
+    list: &mut Vec<Cutter>,
+    own: &NearTriangle,
+    bounds: &Aabb,
+    near: &[NearTriangle],
+    i: usize,
+) -> Result<bool, OutOfMemory>
+    requires normal { is_flat own.now.tri ≡ false }
+    requires own { own.now.tri ≡ tri_at (tris_of near.now) i }
+    ensures cutters { OnOk result (All (IsCutterOf own.now.tri) list.new.items) }
+    ensures cutting_planes { IfOk result (AreBladesFound (tris_of near.now) i own.now.tri bounds.now list.new.items) }
+    ensures owners { IfOk result (AreOwnersFound (tris_of near.now) i own.now.tri bounds.now list.new.items) }
+{
+    list.clear();
+    for j in 0..near.len() {
+        let g = &near[j];
+        if j != i && add_near(list, own, bounds, g, j < i)? {
+            return Ok(true);
+        }
+    }
+    Ok(false)
+}

@@ -1,0 +1,102 @@
+-- The leaf that holds the place of a hit is listed, and the triangle is near it; or the expression
+-- has one value there.
+use Rattle.std.proofs.Common.{◌≡◌, ℕ, ◌+◌, ◌<◌, refl, ap, sym, List, [], ◌∷◌, Bool, true, false, ◌&&◌, ◌||◌, cond, ◌⊎◌, inl, inr, arith, ℤ, pos, negsuc, neg_ℤ, All, ◌*ℤ◌, ◌<ℤ◌, ◌≤ℤ◌}
+use borrow.Author.Differences.{ints}
+use Rattle.std.specs.Prelude.{int_le, int_lt}
+use Rattle.std.specs.List.{count_by, list_any}
+use Rattle.std.proofs.lemmas.Bool.{cases_Bool, false≢true, and_parts, and_from}
+use Rattle.std.proofs.lemmas.List.Sums.{sum_by-cons}
+use Rattle.ember_algebra.proofs.Laws.{linear}
+use Rattle.ember_model.specs.declared.point.Spot.{Spot}
+use Rattle.ember_model.specs.declared.point.Axis.TheVariants.{X, Y, Z}
+use Rattle.std.proofs.lemmas.List.Elements.{All-head, All-tail}
+use Rattle.ember_algebra.specs.Size.{Small}
+use Rattle.ember_model.specs.declared.tri.Tri.{Tri}
+use Rattle.ember_model.specs.Valid.{IsValidTri}
+use Rattle.ember_model.specs.Faces.{is_in_closed, is_flat, face_of}
+use Rattle.ember_box.specs.Boxes.{Cell, low, high, root}
+use Rattle.ember_box.specs.Sums.{number}
+use Rattle.ember_ref.proofs.NearPoints.{HasPoint, past_corners}
+use Rattle.ember_meaning.proofs.CountedPoints.{is_between, is_in_box}
+use Rattle.ember_meaning.proofs.Listed.{Without, ends, keeps, drops}
+use Rattle.ember_meaning.proofs.Lines.{In, here, there}
+
+-- ---- the half-open box lies in the closed one
+le_fact : (a b : ℤ) → int_le a b ≡ true → a ≤ℤ b
+le_fact a b h = grind (arith, ints)
+
+lt_fact : (a b : ℤ) → int_lt a b ≡ true → a ≤ℤ b
+lt_fact a b h = grind (arith, ints)
+
+pub has_point : (c : Cell) (v : Spot) → pos 0 <ℤ v.w → is_in_box c v ≡ true → HasPoint c v
+has_point c v w h =
+    let bx = is_between (low c X) (high c X) v.x v.w in let by = is_between (low c Y) (high c Y) v.y v.w in let bz = is_between (low c Z) (high c Z) v.z v.w in
+    let p = and_parts bx (by && bz) h in let q = and_parts by bz p.1 in
+    let x = and_parts (int_le (low c X *ℤ v.w) v.x) (int_lt v.x (high c X *ℤ v.w)) p.0 in
+    let y = and_parts (int_le (low c Y *ℤ v.w) v.y) (int_lt v.y (high c Y *ℤ v.w)) q.0 in
+    let z = and_parts (int_le (low c Z *ℤ v.w) v.z) (int_lt v.z (high c Z *ℤ v.w)) q.1 in
+    record {
+      weight = w;
+      on_x = record { from = le_fact (low c X *ℤ v.w) v.x x.0; to = lt_fact v.x (high c X *ℤ v.w) x.1 };
+      on_y = record { from = le_fact (low c Y *ℤ v.w) v.y y.0; to = lt_fact v.y (high c Y *ℤ v.w) y.1 };
+      on_z = record { from = le_fact (low c Z *ℤ v.w) v.z z.0; to = lt_fact v.z (high c Z *ℤ v.w) z.1 };
+    }
+
+-- ---- the root holds all valid triangles
+lifted : (z : ℤ) → Small 2047 z → (neg_ℤ (pos 2047) ≤ℤ (pos 1 *ℤ z)) × (neg_ℤ (pos 2047) ≤ℤ (negsuc 0 *ℤ z))
+lifted (pos n) s = (omega (arith, ints, s.small), omega (arith, ints, s.small))
+lifted (negsuc n) s = (omega (arith, ints, s.small), omega (arith, ints, s.small))
+
+between : (x w : ℤ) → pos 0 <ℤ w → (neg_ℤ (pos 2047) *ℤ w) ≤ℤ (pos 1 *ℤ x) → (neg_ℤ (pos 2047) *ℤ w) ≤ℤ (negsuc 0 *ℤ x) → is_between (neg_ℤ (pos 2048)) (pos 2048) x w ≡ true
+between x w p h k =
+    and_from (int_le (neg_ℤ (pos 2048) *ℤ w) x) (int_lt x (pos 2048 *ℤ w)) (le_yes (neg_ℤ (pos 2048) *ℤ w) x (omega (arith, linear, p, h))) (lt_yes x (pos 2048 *ℤ w) (omega (arith, linear, p, k)))
+  where
+    le_yes : (a b : ℤ) → a ≤ℤ b → int_le a b ≡ true
+    le_yes a b h = grind (arith, ints)
+
+    lt_yes : (a b : ℤ) → a <ℤ b → int_lt a b ≡ true
+    lt_yes a b h = grind (arith, ints)
+
+pub in_root : (t : Tri) (v : Spot) → IsValidTri t → is_flat t ≡ false → is_in_closed (face_of t) v ≡ true → pos 0 <ℤ v.w → is_in_box root v ≡ true
+in_root t v s nf h w =
+    and_from (is_between (neg_ℤ (pos 2048)) (pos 2048) v.x v.w) (is_between (neg_ℤ (pos 2048)) (pos 2048) v.y v.w && is_between (neg_ℤ (pos 2048)) (pos 2048) v.z v.w) (between v.x v.w w (past_corners X (pos 1) (neg_ℤ (pos 2047)) t v nf (lifted t.a.x s.a.x).0 (lifted t.b.x s.b.x).0 (lifted t.c.x s.c.x).0 h) (past_corners X (negsuc 0) (neg_ℤ (pos 2047)) t v nf (lifted t.a.x s.a.x).1 (lifted t.b.x s.b.x).1 (lifted t.c.x s.c.x).1 h)) (and_from (is_between (neg_ℤ (pos 2048)) (pos 2048) v.y v.w) (is_between (neg_ℤ (pos 2048)) (pos 2048) v.z v.w) (between v.y v.w w (past_corners Y (pos 1) (neg_ℤ (pos 2047)) t v nf (lifted t.a.y s.a.y).0 (lifted t.b.y s.b.y).0 (lifted t.c.y s.c.y).0 h) (past_corners Y (negsuc 0) (neg_ℤ (pos 2047)) t v nf (lifted t.a.y s.a.y).1 (lifted t.b.y s.b.y).1 (lifted t.c.y s.c.y).1 h)) (between v.z v.w w (past_corners Z (pos 1) (neg_ℤ (pos 2047)) t v nf (lifted t.a.z s.a.z).0 (lifted t.b.z s.b.z).0 (lifted t.c.z s.c.z).0 h) (past_corners Z (negsuc 0) (neg_ℤ (pos 2047)) t v nf (lifted t.a.z s.a.z).1 (lifted t.b.z s.b.z).1 (lifted t.c.z s.c.z).1 h)))
+
+pub all_in : {X : Type 0} (P : X → Type 0) (xs : List X) (x : X) → All P xs → In x xs → P x
+all_in P [] x h i = elim i [ ]
+all_in P (a ∷ xs) x h here = All-head P a xs h
+all_in P (a ∷ xs) x h (there i) = all_in P xs x (All-tail P a xs h) i
+
+-- ---- what isn't listed
+pub record Lost {X : Type 0} (P : X → Type 0) (p : X → Bool) : Type 0 where
+  pub at : X
+  pub has : P at
+  pub holds : p at ≡ true
+
+parts : (a b : Bool) → (a || b) ≡ false → (a ≡ false) × (b ≡ false)
+parts true b h = absurd (false≢true (sym h))
+parts false b h = (refl, h)
+
+-- where some member passes and none of the listed does, one that passes isn't listed
+pub lost : {X : Type 0} {P : X → Type 0} (p : X → Bool) {xs ys : List X} → Without P xs ys → 0 < count_by p xs → list_any p ys ≡ false → Lost P p
+lost p ends l h = absurd (omega arith)
+lost p (keeps {x = x} {xs = xs} {ys = ys} w) l h =
+    let q = parts (p x) (list_any p ys) h in
+    lost p w (less (number (p x)) (sum_by-cons (λ z. cond (p z) 1 0) x xs) l (ap number q.0)) q.1
+  where
+    less : {m n : ℕ} (q : ℕ) → m ≡ q + n → 0 < m → q ≡ 0 → 0 < n
+    less q e l z = omega arith
+lost {P = P} p (drops {x = x} {xs = xs} {ys = ys} d w) l h =
+    by (cases_Bool (p x)) (λ k. lost p w k h)
+  where
+    less : {m n : ℕ} (q : ℕ) → m ≡ q + n → 0 < m → q ≡ 0 → 0 < n
+    less q e l z = omega arith
+
+    by : (p x ≡ true) ⊎ (p x ≡ false) → (0 < count_by p xs → Lost P p) → Lost P p
+    by (inl e) f = record { at = x; has = d; holds = e }
+    by (inr e) f = f (less (number (p x)) (sum_by-cons (λ z. cond (p z) 1 0) x xs) l (ap number e))
+
+-- a test with another beside it passes nowhere where it passes nowhere
+pub none_both : {X : Type 0} (p q : X → Bool) (xs : List X) → list_any p xs ≡ false → list_any (λ x. p x && q x) xs ≡ false
+none_both p q [] h = refl
+none_both p q (x ∷ xs) h =
+    let k = parts (p x) (list_any p xs) h in rw (k.0, none_both p q xs k.1) refl

@@ -1,0 +1,131 @@
+// The planes of a triangle: its support plane, its edge planes along an axis, and its face.
+ghost use Rattle.std.specs.Prelude.{◌≡◌, ◌<◌, ◌&&◌, IfOk, IfSome, All, slice_get, if◌then◌else◌};
+ghost use Rattle.ember_algebra.specs.Size.{Small};
+ghost use Rattle.ember_algebra.specs.Sign.{is_zero};
+ghost use Rattle.ember_model.specs.Valid.{IsValidCorner, IsValidTri, IsValidPlane, IsValidFace};
+ghost use Rattle.ember_model.specs.Sizes.{IsSupportSized, IsEdgeSized};
+ghost use Rattle.ember_model.specs.Planes.{support_of, main_axis, along, unit, times_plane, edge_through, edge_planes};
+ghost use Rattle.ember_model.specs.Faces.{is_flat, face_of, edges_of};
+
+use crate::face::Face;
+use crate::plane::{Plane, Planes};
+use crate::point::{Axis, Corner};
+use crate::tri::Tri;
+use crate::vector3::{cross_product, edge_normal, plane_with, sign_number, vector_between};
+use std::alloc::{AllocError, Global};
+
+/// The only error of a call that allocates.
+pub type OutOfMemory = AllocError;
+
+/// The plane in which the triangle lies; its normal points to the triangle's front.
+pub fn support_of(t: &Tri) -> Plane
+    requires { IsValidTri t.now }
+    ensures value { result ≡ support_of t.now }
+    ensures valid { IsValidPlane result }
+    ensures small { IsSupportSized result }
+{
+    let u = vector_between(&t.a, &t.b);
+    let v = vector_between(&t.a, &t.c);
+    plane_with(&cross_product(&u, &v), &t.a)
+}
+
+/// The axis along which the plane's normal is largest in size, the first of them in a tie.
+pub fn main_axis(p: &Plane) -> Axis
+    ensures { result ≡ main_axis p.now }
+{
+    let a = p.a.unsigned_abs();
+    let b = p.b.unsigned_abs();
+    let c = p.c.unsigned_abs();
+    if b <= a && c <= a {
+        Axis::X
+    } else if c <= b {
+        Axis::Y
+    } else {
+        Axis::Z
+    }
+}
+
+// The entry of a plane's normal.
+pub fn component(plane: &Plane, axis: Axis) -> i64
+    requires { IsValidPlane plane.now }
+    ensures value { result ≡ along plane.now axis }
+    ensures small { Small 33554431 result }
+{
+    match axis {
+        Axis::X => plane.a,
+        Axis::Y => plane.b,
+        Axis::Z => plane.c,
+    }
+}
+
+// The plane through the edge from u to v along an axis, times a sign.
+fn side_plane(u: &Corner, v: &Corner, k: Axis, s: i64) -> Plane
+    requires from { IsValidCorner u.now }
+    requires to { IsValidCorner v.now }
+    requires s { Small 1 s }
+    ensures value { result ≡ times_plane s (edge_through u.now v.now (unit k)) }
+    ensures small { IsEdgeSized result }
+{
+    let step = vector_between(u, v);
+    plane_with(&edge_normal(&step, k, s), u)
+}
+
+/// The plane along `k` of an edge of the triangle, negative on the triangle's side of it where
+/// the triangle's normal has an entry along `k`. Edges 0, 1 and 2 go from `a` to `b`, from `b`
+/// to `c` and from `c` to `a`.
+pub fn edge_plane(t: &Tri, edge: u8, k: Axis) -> Plane
+    requires tri { IsValidTri t.now }
+    requires edge { edge < 3 }
+    ensures value { slice_get (edge_planes t.now k) edge ≡ Some result }
+    ensures valid { IsValidPlane result }
+    ensures small { IsEdgeSized result }
+{
+    let s = sign_number(component(&support_of(t), k));
+    match edge {
+        0 => side_plane(&t.a, &t.b, k, s),
+        1 => side_plane(&t.b, &t.c, k, s),
+        _ => side_plane(&t.c, &t.a, k, s),
+    }
+}
+
+pub fn has_no_normal(plane: &Plane) -> bool
+    ensures { result ≡ is_zero plane.now.a && (is_zero plane.now.b && is_zero plane.now.c) }
+{
+    plane.a == 0 && (plane.b == 0 && plane.c == 0)
+}
+
+// The edge planes along the main axis.
+pub fn main_edges(t: &Tri, support: &Plane) -> [Plane; 3]
+    requires tri { IsValidTri t.now }
+    requires support { support.now ≡ support_of t.now }
+    ensures value { result ≡ edges_of t.now }
+    ensures small { All IsEdgeSized result }
+{
+    let k = main_axis(support);
+    let s = sign_number(component(support, k));
+    [
+        side_plane(&t.a, &t.b, k, s),
+        side_plane(&t.b, &t.c, k, s),
+        side_plane(&t.c, &t.a, k, s),
+    ]
+}
+
+/// The triangle's face: its support plane and its edge planes along the main axis. None where
+/// the triangle's normal is zero.
+pub fn face_of(alloc: Global, t: &Tri) -> Result<Option<Face>, OutOfMemory>
+    requires { IsValidTri t.now }
+    ensures value { IfOk result (λ f. f ≡ (if is_flat t.now then None else Some (face_of t.now))) }
+    ensures valid { IfOk result (λ f. IfSome f IsValidFace) }
+    ensures support { IfOk result (λ f. IfSome f (λ g. IsSupportSized g.support)) }
+    ensures edges { IfOk result (λ f. IfSome f (λ g. All IsEdgeSized g.edges)) }
+{
+    let support = support_of(t);
+    if has_no_normal(&support) {
+        return Ok(None);
+    }
+    let edges = Vec::from_array(alloc, main_edges(t, &support))?;
+    Ok(Some(Face {
+        support,
+        edges: Planes::of(edges),
+    }))
+}

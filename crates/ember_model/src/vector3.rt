@@ -1,0 +1,94 @@
+// Steps between corners, normals, and the planes that have them.
+ghost use Rattle.std.specs.Prelude.{◌≡◌, ℤ, ◌*ℤ◌};
+ghost use Rattle.ember_algebra.specs.Size.{Small};
+ghost use Rattle.ember_algebra.specs.Sign.{sign};
+ghost use Rattle.ember_algebra.specs.Vector.{cross, scale_v};
+ghost use Rattle.ember_model.specs.Valid.{IsValidCorner};
+ghost use Rattle.ember_model.specs.Planes.{side_of, plane_through, unit};
+ghost use Rattle.ember_model.specs.Vectors3.{as_vector, IsVector3Within};
+
+use crate::plane::Plane;
+use crate::point::{Axis, Corner};
+
+/// A step from one point to another, or the normal of a plane.
+#[derive(Clone, Copy)]
+pub struct Vector3 {
+    pub x: i64,
+    pub y: i64,
+    pub z: i64,
+}
+
+#[tactic(none)]
+pub fn vector_between(from: &Corner, to: &Corner) -> Vector3
+    requires from { IsValidCorner from.now }
+    requires to { IsValidCorner to.now }
+    ensures value { as_vector result ≡ side_of from.now to.now }
+    ensures small { IsVector3Within 4094 result }
+{
+    Vector3 {
+        x: to.x as i64 - from.x as i64,
+        y: to.y as i64 - from.y as i64,
+        z: to.z as i64 - from.z as i64,
+    }
+}
+
+#[tactic(none)]
+pub fn cross_product(u: &Vector3, v: &Vector3) -> Vector3
+    requires u { IsVector3Within 4094 u.now }
+    requires v { IsVector3Within 4094 v.now }
+    ensures value { as_vector result ≡ cross (as_vector u.now) (as_vector v.now) }
+    ensures small { IsVector3Within 33521672 result }
+{
+    Vector3 {
+        x: u.y * v.z - u.z * v.y,
+        y: u.z * v.x - u.x * v.z,
+        z: u.x * v.y - u.y * v.x,
+    }
+}
+
+// The plane with the normal `n` and the corner `u` on it.
+#[tactic(none)]
+pub fn plane_with(n: &Vector3, u: &Corner) -> Plane
+    requires n { IsVector3Within 33521672 n.now }
+    requires u { IsValidCorner u.now }
+    ensures { result ≡ plane_through (as_vector n.now) u.now }
+{
+    let d = n.x * u.x as i64 + n.y * u.y as i64 + n.z * u.z as i64;
+    Plane {
+        a: n.x,
+        b: n.y,
+        c: n.z,
+        d,
+    }
+}
+
+// The normal along an axis that an edge's plane has, times a sign.
+#[tactic(none)]
+pub fn edge_normal(step: &Vector3, k: Axis, s: i64) -> Vector3
+    requires step { IsVector3Within 4094 step.now }
+    requires s { Small 1 s }
+    ensures value { as_vector result ≡ scale_v s (cross (as_vector step.now) (unit k)) }
+    ensures small { IsVector3Within 4094 result }
+{
+    let x = s * step.x;
+    let y = s * step.y;
+    let z = s * step.z;
+    match k {
+        Axis::X => Vector3 { x: 0, y: z, z: -y },
+        Axis::Y => Vector3 { x: -z, y: 0, z: x },
+        Axis::Z => Vector3 { x: y, y: -x, z: 0 },
+    }
+}
+
+pub fn sign_number(x: i64) -> i64
+    ensures value { result ≡ sign x }
+    ensures small { Small 1 result }
+{
+    if x < 0 {
+        -1
+    } else if x == 0 {
+        0
+    } else {
+        1
+    }
+}

@@ -1,0 +1,56 @@
+-- The sides of a ring as its three lists hold them
+use Rattle.std.specs.Prelude.{◌≡◌, ℕ, ◌+◌, ◌≤◌, List, [], ◌∷◌, ◌++◌, length, take, drop}
+use Rattle.std.specs.List.{AllByRecursion}
+use Rattle.ember_model.specs.declared.point.Spot.{Spot}
+use Rattle.ember_model.specs.declared.plane.Plane.{Plane}
+use Rattle.ember_point.specs.Points.{spot_of}
+use Rattle.ember_poly.specs.declared.boundary.Boundary.{Boundary}
+use Rattle.ember_poly.specs.declared.passage.Passage.{Passage}
+use Rattle.ember_poly.specs.Rings.{Side, with_start, closing_side}
+use Rattle.ember_poly.specs.Sides.{sides_of}
+
+abbrev pub sides : Boundary → List Side
+sides r = sides_of r.edges.items r.corners.items r.plane_indices.items
+
+-- the three lists are equally long
+pub record HasEqualLengths (r : Boundary) : Type 0 where
+  pub corners : length r.corners.items ≡ length r.edges.items
+  pub plane_indices : length r.plane_indices.items ≡ length r.edges.items
+
+-- the first edge starts at v
+abbrev pub with_first_start : Spot → List Side → List Side
+with_first_start v [] = []
+with_first_start v (s ∷ xs) = with_start s v ∷ xs
+
+-- the first number is the least
+abbrev pub LeastFirst : List ℕ → Type 0
+LeastFirst [] = Unit {0}
+LeastFirst (b ∷ bs) = AllByRecursion (λ c. b ≤ c) bs
+
+-- a closed list, rotated
+abbrev pub rotated : {X : Type 0} → ℕ → List X → List X
+rotated k xs = drop k xs ++ take k xs
+
+-- a list with an item in the place of those from one place to another
+abbrev pub replace_between : {X : Type 0} → ℕ → ℕ → X → List X → List X
+replace_between from to x xs = take from xs ++ x ∷ drop to xs
+
+-- the edge at this place starts at v
+abbrev pub with_start_at : ℕ → Spot → List Side → List Side
+with_start_at k v xs = take k xs ++ with_first_start v (drop k xs)
+
+-- the sides that a passage keeps, from the entry to the exit, and the closing side behind them
+abbrev pub part_sides : List Side → Passage → Plane → ℕ → List Side
+part_sides xs at p plane_index =
+    with_first_start (spot_of at.entry) (take (at.kept + 1) (rotated at.first xs)) ++ closing_side p (spot_of at.exit) plane_index ∷ []
+
+-- these sides, rotated
+pub record IsPartOfBoundary (old : Boundary) (at : Passage) (p : Plane) (plane_index : ℕ) (new : Boundary) : Type 0 where
+  pub index : ℕ
+  pub order : sides new ≡ rotated index (part_sides (sides old) at p plane_index)
+  pub paired : HasEqualLengths new
+
+-- the same sides, rotated
+pub record IsRotated (old new : Boundary) : Type 0 where
+  pub index : ℕ
+  pub order : sides new ≡ rotated index (sides old)

@@ -1,0 +1,195 @@
+// The sides of a ring.
+ghost use Rattle.std.specs.Prelude.{◌≡◌, ◌≤◌, ◌<◌, length, IfOk, OnOk};
+ghost use Rattle.ember_point.specs.Points.{spot_of};
+ghost use Rattle.ember_poly.specs.Rings.{closing_side};
+ghost use Rattle.ember_poly.specs.Boundaries.{sides, rotated, replace_between, with_start_at, HasEqualLengths, IsPartOfBoundary, IsRotated, LeastFirst};
+
+use crate::passage::Passage;
+use ember_model::{OutOfMemory, Plane};
+use ember_point::Meet;
+use std::alloc::{AllocError, Global};
+
+/// The planes whose edges count, in their order round the face, with the corner where each edge
+/// starts and its place among all planes of the face.
+#[derive(Drop)]
+pub struct Boundary {
+    pub edges: Vec<Plane>,
+    pub corners: Vec<Meet>,
+    pub plane_indices: Vec<usize>,
+}
+
+// The side that a plane adds to a ring.
+#[derive(Clone, Copy)]
+struct ClosingSide {
+    plane: Plane,
+    corner: Meet,
+    plane_index: usize,
+}
+
+// Puts an item into a list, in the place of the items from one place to another.
+fn replace_between<T: Copy>(
+    items: &mut Vec<T>,
+    from: usize,
+    to: usize,
+    item: T,
+) -> Result<(), AllocError>
+    requires order { from ≤ to }
+    requires within { to ≤ length items.old.items }
+    ensures { OnOk result (items.new.items ≡ replace_between from to item items.old.items) }
+{
+    if from == to {
+        items.insert(from, item)?;
+        return Ok(());
+    }
+    items[from] = item;
+    for _ in from + 1..to {
+        items.remove(from + 1);
+    }
+    Ok(())
+}
+
+// Begins a closed list at another place. The library's rotation by several places clears a room on
+// the stack, which takes longer than three reversals of a list as short as these.
+fn begin_at<T>(items: &mut Vec<T>, index: usize)
+    requires { index ≤ length items.old.items }
+    ensures { items.new.items ≡ rotated index items.old.items }
+{
+    if index < 2 || items.len() - index == 1 {
+        items.rotate_left(index);
+        return;
+    }
+    let (front, back) = items.split_at_mut(index);
+    front.reverse();
+    back.reverse();
+    items.reverse();
+}
+
+// For how many cuts a list has room at first.
+const ROOM: usize = 6;
+
+// The list, with room for more items.
+pub fn with_room<T: Copy>(alloc: Global, items: &[T]) -> Result<Vec<T>, AllocError>
+    ensures { IfOk result (λ list. list.items ≡ items.now) }
+{
+    let mut list = Vec::with_capacity(alloc, items.len().saturating_add(ROOM))?;
+    list.extend_from_slice(items)?;
+    Ok(list)
+}
+
+impl Boundary {
+    // The same sides.
+    pub fn copy(&self, alloc: Global) -> Result<Boundary, OutOfMemory>
+        ensures edges { IfOk result (λ r. r.edges.items ≡ self.now.edges.items) }
+        ensures corners { IfOk result (λ r. r.corners.items ≡ self.now.corners.items) }
+        ensures plane_indices { IfOk result (λ r. r.plane_indices.items ≡ self.now.plane_indices.items) }
+    {
+        let edges = with_room(alloc, self.edges.as_slice())?;
+        let corners = with_room(alloc, self.corners.as_slice())?;
+        let plane_indices = with_room(alloc, self.plane_indices.as_slice())?;
+        Ok(Boundary {
+            edges,
+            corners,
+            plane_indices,
+        })
+    }
+
+    // Begins the sides at another place.
+    fn rotate(&mut self, index: usize)
+        requires index { index ≤ length self.old.edges.items }
+        requires paired { HasEqualLengths self.old }
+        ensures order { sides self.new ≡ rotated index (sides self.old) }
+        ensures plane_indices { self.new.plane_indices.items ≡ rotated index self.old.plane_indices.items }
+        ensures count { length self.new.edges.items ≡ length self.old.edges.items }
+        ensures paired { HasEqualLengths self.new }
+    {
+        begin_at(&mut self.edges, index);
+        begin_at(&mut self.corners, index);
+        begin_at(&mut self.plane_indices, index);
+    }
+
+    // Lets an edge start at another corner.
+    fn set_start(&mut self, index: usize, corner: Meet)
+        requires index { index < length self.old.edges.items }
+        requires paired { HasEqualLengths self.old }
+        ensures order { sides self.new ≡ with_start_at index (spot_of corner) (sides self.old) }
+        ensures edges { self.new.edges ≡ self.old.edges }
+        ensures paired { HasEqualLengths self.new }
+    {
+        self.corners[index] = corner;
+    }
+
+    // Puts a side in the place of the sides from one place to another.
+    fn put(&mut self, from: usize, to: usize, side: ClosingSide) -> Result<(), OutOfMemory>
+        requires order { from ≤ to }
+        requires within { to ≤ length self.old.edges.items }
+        requires paired { HasEqualLengths self.old }
+        ensures order { OnOk result (sides self.new ≡ replace_between from to (closing_side side.plane (spot_of side.corner) side.plane_index) (sides self.old)) }
+        ensures some { OnOk result (0 < length self.new.edges.items) }
+        ensures paired { OnOk result (HasEqualLengths self.new) }
+    {
+        replace_between(&mut self.edges, from, to, side.plane)?;
+        replace_between(&mut self.corners, from, to, side.corner)?;
+        replace_between(&mut self.plane_indices, from, to, side.plane_index)?;
+        Ok(())
+    }
+
+    // Leaves the sides that a passage keeps, from the entry to the exit, and puts the closing
+    // side behind them.
+    pub fn close(
+        &mut self,
+        at: &Passage,
+        plane: Plane,
+        plane_index: usize,
+    ) -> Result<(), OutOfMemory>
+        requires first { at.now.first < length self.old.edges.items }
+        requires kept { at.now.kept < length self.old.edges.items }
+        requires paired { HasEqualLengths self.old }
+        ensures part { OnOk result (IsPartOfBoundary self.old at.now plane plane_index self.new) }
+        ensures some { OnOk result (0 < length self.new.edges.items) }
+    {
+        let side = ClosingSide {
+            plane,
+            corner: at.exit,
+            plane_index,
+        };
+        let len = self.edges.len();
+        let ahead = len - at.first;
+        if at.kept < ahead {
+            self.rotate(at.first);
+            self.set_start(0, at.entry);
+            self.put(at.kept + 1, len, side)?;
+            Ok(())
+        } else {
+            self.set_start(at.first, at.entry);
+            self.put(at.kept + 1 - ahead, at.first, side)?;
+            Ok(())
+        }
+    }
+
+    // Begins the sides at the oldest.
+    pub fn rotate_to_oldest(&mut self)
+        requires some { 0 < length self.old.edges.items }
+        requires paired { HasEqualLengths self.old }
+        ensures order { IsRotated self.old self.new }
+        ensures paired { HasEqualLengths self.new }
+        ensures oldest { LeastFirst self.new.plane_indices.items }
+    {
+        let index = least(self.plane_indices.as_slice());
+        self.rotate(index);
+    }
+}
+
+// The place of the least number.
+fn least(numbers: &[usize]) -> usize
+    requires { 0 < length numbers.now }
+    ensures within { result < length numbers.now }
+    ensures least { LeastFirst (rotated result numbers.now) }
+{
+    let mut best = 0;
+    for i in 1..numbers.len() {
+        if numbers[i] < numbers[best] {
+            best = i;
+        }
+    }
+    best
+}

@@ -1,0 +1,24 @@
+-- The segment from the reference point of a box's right half back to that of the box
+use Rattle.std.specs.Prelude.{◌≡◌}
+use Rattle.ember_model.specs.declared.point.Axis.{Axis}
+use Rattle.ember_model.specs.Points.{DifferAlong}
+use Rattle.ember_box.specs.Boxes.{Cell, put, right_half}
+use Rattle.ember_box.specs.Aabbs.{aabb_of_cell}
+use Rattle.ember_box.specs.Reference.{reference}
+use Rattle.ember_ref.specs.declared.shifting.AxisSegment.{AxisSegment}
+use Rattle.ember_ref.specs.References.{corner_of, reference_of, IsBoxCorner}
+
+-- the box that has the side 1 along all axes but this one
+abbrev pub column : Cell → Axis → Cell
+column c k = record { lo = c.lo; log = put k (c.log k) (λ j. 0); path = c.path }
+
+-- it leads along its axis
+pub record IsAlongAxis (w : AxisSegment) : Type 0 where
+  pub from : IsBoxCorner (corner_of w.from)
+  pub to : IsBoxCorner (corner_of w.to)
+  pub line : DifferAlong w.axis (reference_of w.from) (reference_of w.to)
+
+pub record IsSegmentBack (c : Cell) (k : Axis) (w : AxisSegment) : Type 0 where
+  pub from : reference_of w.from ≡ reference (right_half c k)
+  pub to : reference_of w.to ≡ reference c
+  pub aabb : w.aabb ≡ aabb_of_cell (column c k)

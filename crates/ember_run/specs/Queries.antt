@@ -1,0 +1,39 @@
+-- What the boxes of a scene are run for, what comes of it, and who runs them
+use Rattle.std.specs.Prelude.{◌≤◌, ⊤, ℕ, Result, IfOk}
+use Rattle.std.specs.Borrow.{Bor}
+use Rattle.std.specs.declared.alloc.AllocError.{AllocError}
+use Rattle.ember_expr.specs.Formula.{formula_of}
+use Rattle.ember_run.specs.declared.query.Answer.{Answer}
+use Rattle.ember_run.specs.declared.query.Answer.TheVariants as finds
+use Rattle.ember_run.specs.declared.query.Query.{Query}
+use Rattle.ember_run.specs.declared.query.Query.TheVariants as query
+use Rattle.ember_run.specs.Lattices.{AreFills}
+use Rattle.ember_run.specs.PairLists.{ArePairsOfLeaves}
+use Rattle.ember_run.specs.Solids.{AreWrittenRegions, AreRegionCounts, HoldRun}
+
+-- the queries that may be asked: cells have a side of 2 ^ 4 to 2 ^ 12
+abbrev pub IsQuery : Query → Type 0
+IsQuery (query.Pairs scene) = ⊤
+IsQuery (query.Fills scene expr size) = (4 ≤ size) × (size ≤ 12)
+IsQuery (query.Kept scene expr) = ⊤
+IsQuery (query.Counts scene expr) = ⊤
+
+-- this is what the query asks for
+abbrev pub IsAnswer : Query → Answer → Type 0
+IsAnswer (query.Pairs scene) (finds.Pairs items) = ArePairsOfLeaves scene.now.tris items.items
+IsAnswer (query.Fills scene expr size) (finds.Fills fills) = AreFills scene.now.tris (formula_of expr.now) size fills.items
+IsAnswer (query.Kept scene expr) (finds.Kept found) =
+    AreWrittenRegions scene.now.tris (formula_of expr.now) found.items.items × HoldRun scene.now.tris (formula_of expr.now) found.journals
+IsAnswer (query.Counts scene expr) (finds.Counts found) =
+    AreRegionCounts scene.now.tris (formula_of expr.now) found.items.items × HoldRun scene.now.tris (formula_of expr.now) found.journals
+IsAnswer _ _ = ⊥
+
+-- the call may be made at each query, and each Ok of it is what the query asks for
+pub record IsExecutor {C : Type 0} (pre : C → Bor Query → Type 0) (post : C → Bor Query → Result Answer AllocError → Type 0) (call : C) : Type 0 where
+  pub runs : (query : Bor Query) → IsQuery query.now → pre call query
+  pub answers_each : (query : Bor Query) (r : Result Answer AllocError) → IsQuery query.now → post call query r → IfOk r (IsAnswer query.now)
+
+-- so it is with each number of workers, 1 to 64
+pub record IsExecutorOfAny {C : Type 0} (pre : C → ℕ → Bor Query → Type 0) (post : C → ℕ → Bor Query → Result Answer AllocError → Type 0) (call : C) : Type 0 where
+  pub runs : (workers : ℕ) (query : Bor Query) → (1 ≤ workers) × (workers ≤ 64) → IsQuery query.now → pre call workers query
+  pub answers_each : (workers : ℕ) (query : Bor Query) (r : Result Answer AllocError) → (1 ≤ workers) × (workers ≤ 64) → IsQuery query.now → post call workers query r → IfOk r (IsAnswer query.now)

@@ -1,0 +1,96 @@
+// Values, bounds, trees and faults of expressions.
+ghost use Rattle.ember_expr.specs.Truth.{AreCounts};
+
+use ember_expr::{ExprFault, Rel, Sum, Tree, bounded, parse, tree, value};
+use ember_model::Vector;
+use std::process::Abort;
+use std::test::Fail;
+
+// The winding numbers of two meshes.
+fn windings(first: i8, second: i8) -> Vector
+    ensures { AreCounts result.counts }
+{
+    let mut counts = [0; 64];
+    counts[0] = i32::from(first);
+    counts[1] = i32::from(second);
+    Vector { counts }
+}
+
+#[test]
+fn values(rt: HostRuntime) -> Result<(), Fail> {
+    let rows: [(&str, i8, i8, bool); 7] = [
+        ("2*w1-w2>=1", 1, 1, true),
+        ("m1^m2", 1, 1, false),
+        ("m1|m2^m2", 1, 1, true),
+        ("-w1<0", 1, 1, true),
+        ("odd(-w1)", -1, 0, true),
+        ("w1!=-1", -1, 0, false),
+        ("!m1", -1, 0, true),
+    ];
+    for (text, first, second, want) in rows {
+        let e = parse(rt.alloc(), text.as_bytes(), 2)?;
+        assert_eq!(rt; value(&e, &windings(first, second)), want, "{text}");
+    }
+    Ok(())
+}
+
+// Workers share expressions.
+fn shared<T: Send + Sync>(value: &T) -> &T {
+    value
+}
+
+#[test]
+fn bounded_or_not(rt: HostRuntime) -> Result<(), Fail> {
+    for (text, want) in [("m1", true), ("!m1", false)] {
+        let e = parse(rt.alloc(), text.as_bytes(), 2)?;
+        assert_eq!(rt; bounded(shared(&e)), want, "{text}");
+    }
+    Ok(())
+}
+
+#[test]
+fn the_tree_of_a_mesh(rt: HostRuntime) -> Result<(), Fail> {
+    let e = parse(rt.alloc(), b"m1", 2)?;
+    assert!(rt; matches!(tree(&e), Tree::Mesh(1)));
+    Ok(())
+}
+
+fn check_terms(rt: &impl Abort, sum: &Sum, want: &[(bool, u32, u32)]) {
+    assert_eq!(rt; sum.items().len(), want.len());
+    for (term, want) in sum.items().iter().zip(want) {
+        assert_eq!(rt; (term.minus, term.factor, term.mesh), *want);
+    }
+}
+
+#[test]
+fn the_tree_of_a_comparison(rt: HostRuntime) -> Result<(), Fail> {
+    let e = parse(rt.alloc(), b" - 2 * w1 + 3 != w2 ", 2)?;
+    let Tree::Compare(left, Rel::NotEqual, right) = tree(&e) else {
+        return Err(Fail::from("another tree"));
+    };
+    check_terms(&rt, left, &[(true, 2, 1), (false, 3, 0)]);
+    check_terms(&rt, right, &[(false, 1, 2)]);
+    Ok(())
+}
+
+#[test]
+fn refused(rt: HostRuntime) -> Result<(), Fail> {
+    let mut signs = "!".repeat(rt.alloc(), 65)?;
+    signs.push_str("m1")?;
+    let long = " ".repeat(rt.alloc(), 4097)?;
+    let rows: [(&[u8], ExprFault); 9] = [
+        (b"m3", ExprFault::NoMesh(3)),
+        (b"w1>", ExprFault::Syntax(3)),
+        (b"m1 | 1000001 = w1", ExprFault::Number(5)),
+        (b"!m1=w2", ExprFault::Syntax(3)),
+        (b"m", ExprFault::Syntax(0)),
+        (b"", ExprFault::Syntax(0)),
+        (b"m0", ExprFault::NoMesh(0)),
+        (signs.as_bytes(), ExprFault::Deep(64)),
+        (long.as_bytes(), ExprFault::Long),
+    ];
+    for (text, want) in rows {
+        assert_eq!(rt; parse(rt.alloc(), text, 2).err(), Some(want));
+    }
+    Ok(())
+}

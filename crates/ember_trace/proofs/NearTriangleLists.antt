@@ -1,0 +1,25 @@
+-- Near triangles, one more.
+use Rattle.std.proofs.Common.{◌≡◌, ℕ, ◌+◌, ◌<◌, ℤ, List, [], ◌∷◌, ◌++◌, All, length, take, get_or, map, sym, ap, ◌∙◌, subst}
+use Rattle.std.proofs.lemmas.List.{take_more, length-map, map-append}
+use Rattle.std.proofs.lemmas.List.Elements.{All-push}
+use Rattle.ember_algebra.specs.Sign.{sgn}
+use Rattle.ember_model.specs.declared.tri.Tri.{Tri}
+use Rattle.ember_model.specs.Planes.{value_at}
+use Rattle.ember_box.specs.Boxes.{Cell}
+use Rattle.ember_ref.specs.References.{reference_of}
+use Rattle.ember_trace.specs.declared.near_triangle.NearTriangle.{NearTriangle}
+use Rattle.ember_trace.specs.NearTriangles.{AreNearTriangles, HasReferenceSide, tri_of}
+
+pub starts_in : (c : Cell) (f : NearTriangle) (lo : List ℤ) → lo ≡ c.lo.x ∷ c.lo.y ∷ c.lo.z ∷ [] → f.start ≡ sgn (value_at f.support (reference_of lo)) → HasReferenceSide c f
+starts_in c f lo e s =
+    record { start = s ∙ ap (λ (at : List ℤ). sgn (value_at f.support (reference_of at))) e }
+
+pub more_facets : (ts : List Tri) (i : ℕ) (d : Tri) (c : Cell) (fs new : List NearTriangle) (f : NearTriangle) → i < length ts → AreNearTriangles (take i ts) c fs → f.tri ≡ get_or ts i d → HasReferenceSide c f → new ≡ fs ++ f ∷ [] → AreNearTriangles (take (i + 1) ts) c new
+more_facets ts i d c fs new f l h t s e =
+    record {
+      tris = ap (λ (gs : List NearTriangle). map tri_of gs) e ∙ map-append tri_of fs (f ∷ []) ∙ ap (λ (us : List Tri). us ++ f.tri ∷ []) h.tris ∙ ap (λ (u : Tri). take i ts ++ u ∷ []) t ∙ sym (take_more ts i d l);
+      starts = subst (λ (gs : List NearTriangle). All (HasReferenceSide c) gs) (sym e) (All-push (HasReferenceSide c) fs f h.starts s);
+    }
+
+pub facets_length : (ts : List Tri) (c : Cell) (fs : List NearTriangle) → AreNearTriangles ts c fs → length fs ≡ length ts
+facets_length ts c fs h = sym (length-map fs tri_of) ∙ ap (λ (us : List Tri). length us) h.tris

@@ -1,0 +1,349 @@
+-- The crossings of the segments of a path with a triangle, as the code counts them: by the sides of its
+-- planes on which the vertices lie, and only where the bounding box lets a segment cross it.
+use Rattle.std.proofs.Common.{◌≡◌, refl, sym, ap, ◌∙◌, arith, ℕ, ◌^◌, ◌≤◌, Bool, true, false, ◌&&◌, cond, ℤ, pos, ◌+ℤ◌, ◌-ℤ◌, ◌*ℤ◌, neg_ℤ, ◌<ℤ◌, ◌≤ℤ◌}
+use Rattle.std.specs.Int.{int_div_euclid}
+use borrow.Author.Differences.{ints}
+use Rattle.ember_algebra.specs.Vector.{Vector}
+use Rattle.ember_algebra.specs.declared.Sign.{Sign}
+use Rattle.ember_algebra.specs.declared.Sign.TheVariants.{Neg, Zero, Pos}
+use Rattle.ember_algebra.specs.Sign.{sign, sgn, times, number, is_neg}
+use Rattle.ember_algebra.proofs.Laws.{linear}
+use Rattle.ember_algebra.proofs.Order.{pos_mul, mul_le, mul_pos_neg}
+use Rattle.ember_algebra.proofs.Ring.{◌⊕◌, ◌⊖◌, ◌⊗◌, ◌≈◌, num, solve, cancels}
+use Rattle.ember_algebra.proofs.Signs.{sgn_neg, sgn-mul}
+use Rattle.ember_model.specs.declared.point.Spot.{Spot}
+use Rattle.ember_model.specs.declared.point.Axis.{Axis}
+use Rattle.ember_model.specs.declared.point.Axis.TheVariants.{X, Y, Z}
+use Rattle.ember_model.specs.declared.plane.Plane.{Plane}
+use Rattle.ember_model.specs.declared.tri.Tri.{Tri}
+use Rattle.ember_model.specs.declared.point.Corner.{Corner}
+use Rattle.ember_model.specs.Planes.{unit, value_at, along, support_of, edge_through, edge_planes, times_plane}
+use Rattle.ember_model.specs.Points.{DifferAlong}
+use Rattle.ember_model.specs.Valid.{IsValidTri, IsValidCorner}
+use Rattle.ember_model.specs.Sizes.{IsSupportSized, IsEdgeSized}
+use Rattle.ember_model.specs.Faces.{face_of, leg}
+use Rattle.ember_model.specs.ClearTest.{all_negative}
+use Rattle.ember_model.proofs.SignTests.{negative_out}
+use Rattle.ember_model.proofs.PlaneValues.{sign-number}
+use Rattle.ember_model.proofs.PlaneSizes.{support_sized, support_valid, edge_sized, sign_small}
+use Rattle.ember_model.proofs.LegSigns.{leg_is}
+use Rattle.ember_model.proofs.ScaledPoints.{leg_back}
+use Rattle.ember_algebra.proofs.Size.{small_within}
+use Rattle.ember_point.specs.declared.meet_point.Meet.{Meet}
+use Rattle.ember_point.specs.Points.{spot_of, slid}
+use Rattle.ember_box.specs.Boxes.{Cell}
+use Rattle.ember_box.specs.Reference.{reference_at}
+use Rattle.ember_ref.specs.References.{or_sign, corner_of, reference_of}
+use Rattle.ember_ref.proofs.NearPoints.{coordinate as along_point}
+use Rattle.ember_ref.proofs.ReferenceLegs.{reference_is}
+use Rattle.ember_trace.specs.declared.near_triangle.NearTriangle.{NearTriangle}
+use Rattle.ember_trace.specs.declared.path.Path.{Path}
+use Rattle.ember_trace.specs.NearTriangles.{HasReferenceSide}
+use Rattle.ember_trace.specs.Paths.{coordinate, inside_side, first_of, second_of, side_at_start, side_at_end, side_after_first, side_after_second, floor_at_end}
+use Rattle.ember_trace.specs.Crossings.{signed_crossing, all_behind, interval_along, contains_above, may_contain, may_end, first_segment, second_segment, segments_in_wall, last_segment}
+use Rattle.ember_trace.proofs.PathVertices.{with_along, entries, weight_with, level_with, differ_with}
+use Rattle.ember_trace.proofs.VertexSides.{AreStops, stop_at_start, stop_after_first, stop_after_second, start_sign, first_sign, second_sign}
+use Rattle.ember_trace.proofs.SegmentsPast.{leg_behind, across, value_across, across_with, across_sized, IsPast, past_above, past_floor}
+
+-- ---- where the path starts
+record ArePowers (m : ℤ) : Type 0 where
+  square : pos 0 <ℤ (m *ℤ m)
+  square_below : (m *ℤ m) <ℤ (m *ℤ m *ℤ m)
+  below : m <ℤ (m *ℤ m *ℤ m)
+  one_below : pos 1 <ℤ (m *ℤ m *ℤ m)
+
+powers : (m : ℤ) → pos 2 ≤ℤ m → ArePowers m
+powers m l =
+    let p : pos 0 <ℤ m = omega (arith, linear, l) in let z : pos 0 ≤ℤ m = omega (arith, linear, l) in
+    let sq = pos_mul p p in let zs : pos 0 ≤ℤ (m *ℤ m) = omega (arith, linear, sq) in
+    let a = mul_le z l in let b = mul_le zs l in
+    let two : m *ℤ pos 2 ≡ m +ℤ m = solve 1 (λ m. m ⊗ num (pos 2) ≈ m ⊕ m) cancels m in
+    let four : m *ℤ m *ℤ pos 2 ≡ m *ℤ m +ℤ m *ℤ m = solve 1 (λ m. m ⊗ m ⊗ num (pos 2) ≈ m ⊗ m ⊕ m ⊗ m) cancels m in
+    record { square = sq; square_below = omega (arith, linear, b, four, sq); below = omega (arith, linear, a, b, two, four, l); one_below = omega (arith, linear, a, b, two, four, l) }
+
+-- y / w lies between a whole number and the next
+pub record IsAbove (at y w : ℤ) : Type 0 where
+  pub from : (at *ℤ w) <ℤ y
+  pub to : y <ℤ ((at +ℤ pos 1) *ℤ w)
+
+above : (at m e : ℤ) → pos 0 <ℤ e → e <ℤ m → IsAbove at (m *ℤ at +ℤ e) (m *ℤ pos 1)
+above at m e l h =
+    let x = solve 2 (λ a m. a ⊗ (m ⊗ num (pos 1)) ≈ m ⊗ a) cancels at m in let y = solve 2 (λ a m. (a ⊕ num (pos 1)) ⊗ (m ⊗ num (pos 1)) ≈ m ⊗ a ⊕ m) cancels at m in
+    record { from = omega (arith, linear, x, l); to = omega (arith, linear, y, h) }
+
+pub start_above : (lo : Vector) (n : ℕ) (k : Axis) → 2 ^ 27 ≤ n → IsAbove (coordinate (entries lo) k) (along_point k (stop_at_start lo n)) (stop_at_start lo n).w
+start_above lo n k l = by k
+  where
+    p : ArePowers (pos n)
+    p = powers (pos n) (omega (arith, ints, l))
+
+    by : (k : Axis) → IsAbove (coordinate (entries lo) k) (along_point k (stop_at_start lo n)) (stop_at_start lo n).w
+    by X = above lo.x (pos n *ℤ pos n *ℤ pos n) (pos n *ℤ pos n) p.square p.square_below
+    by Y = above lo.y (pos n *ℤ pos n *ℤ pos n) (pos n) (omega (arith, ints, l)) p.below
+    by Z = above lo.z (pos n *ℤ pos n *ℤ pos n) (pos 1) (omega (arith, ints)) p.one_below
+
+-- ---- axes of a path are three
+across_first : (k : Axis) (s d : ℤ) → along (across k s d) (first_of k) ≡ pos 0
+across_first X s d = refl
+across_first Y s d = refl
+across_first Z s d = refl
+
+across_second : (k : Axis) (s d : ℤ) → along (across k s d) (second_of k) ≡ pos 0
+across_second X s d = refl
+across_second Y s d = refl
+across_second Z s d = refl
+
+second_first : (k : Axis) (s d : ℤ) → along (across (second_of k) s d) (first_of k) ≡ pos 0
+second_first X s d = refl
+second_first Y s d = refl
+second_first Z s d = refl
+
+second_main : (k : Axis) (s d : ℤ) → along (across (second_of k) s d) k ≡ pos 0
+second_main X s d = refl
+second_main Y s d = refl
+second_main Z s d = refl
+
+first_second : (k : Axis) (s d : ℤ) → along (across (first_of k) s d) (second_of k) ≡ pos 0
+first_second X s d = refl
+first_second Y s d = refl
+first_second Z s d = refl
+
+first_main : (k : Axis) (s d : ℤ) → along (across (first_of k) s d) k ≡ pos 0
+first_main X s d = refl
+first_main Y s d = refl
+first_main Z s d = refl
+
+-- ---- the edge planes along an axis
+pub edge_level : (s : ℤ) (u v : Corner) (k : Axis) → along (times_plane s (edge_through u v (unit k))) k ≡ pos 0
+edge_level s u v X = solve 3 (λ s y z. s ⊗ (y ⊗ num (pos 0) ⊖ z ⊗ num (pos 0)) ≈ num (pos 0)) cancels s (v.y -ℤ u.y) (v.z -ℤ u.z)
+edge_level s u v Y = solve 3 (λ s z x. s ⊗ (z ⊗ num (pos 0) ⊖ x ⊗ num (pos 0)) ≈ num (pos 0)) cancels s (v.z -ℤ u.z) (v.x -ℤ u.x)
+edge_level s u v Z = solve 3 (λ s x y. s ⊗ (x ⊗ num (pos 0) ⊖ y ⊗ num (pos 0)) ≈ num (pos 0)) cancels s (v.x -ℤ u.x) (v.y -ℤ u.y)
+
+pub edge_support : {p : Plane} → IsEdgeSized p → IsSupportSized p
+edge_support s =
+    record { a = small_within (omega arith) s.a; b = small_within (omega arith) s.b; c = small_within (omega arith) s.c; d = small_within (omega arith) s.d }
+
+-- all edge planes are negative at p where the sides say so
+pub edges_behind : (side : Plane → Sign) (t : Tri) (k : Axis) (p : Spot) → IsValidTri t → ((h : Plane) → IsSupportSized h → along h k ≡ pos 0 → sgn (value_at h p) ≡ side h) → all_negative (edge_planes t k) p ≡ all_behind side (edge_planes t k)
+edges_behind side t k p v f =
+    let x = each t.a t.b v.a v.b in let y = each t.b t.c v.b v.c in let z = each t.c t.a v.c v.a in λ i. is_neg (x i) && (is_neg (y i) && (is_neg (z i) && true))
+  where
+    s : ℤ
+    s = sign (along (support_of t) k)
+
+    each : (u w : Corner) → IsValidCorner u → IsValidCorner w → sgn (value_at (times_plane s (edge_through u w (unit k))) p) ≡ side (times_plane s (edge_through u w (unit k)))
+    each u w iu iw =
+        f (times_plane s (edge_through u w (unit k))) (edge_support (edge_sized u w k s iu iw (sign_small (along (support_of t) k)))) (edge_level s u w k)
+
+-- ---- a segment by signs
+pub exchanged : (m b : Bool) (v : ℤ) → cond (m && b) v (pos 0) ≡ cond b (cond m v (pos 0)) (pos 0)
+exchanged true true v = refl
+exchanged true false v = refl
+exchanged false true v = refl
+exchanged false false v = refl
+
+told : (k : Axis) (p q : Spot) (t : Tri) (b : Bool) (s e : Sign) → pos 0 <ℤ p.w → pos 0 <ℤ q.w → DifferAlong k p q → sgn (value_at (support_of t) p) ≡ s → sgn (value_at (support_of t) q) ≡ e → all_negative (edge_planes t k) p ≡ b → leg (face_of t) p q ≡ cond b (signed_crossing s e) (pos 0)
+told k p q t b s e wp wq d es ee eb =
+    let x = value_at (support_of t) p in let y = value_at (support_of t) q in
+    let m = ap is_neg (sgn-mul x y) ∙ (λ i. is_neg (times (es i) (ee i))) in let f = sign-number y ∙ ap number ee in
+    leg_is k p q t wp wq d ∙ (λ i. cond (m i && eb i) (f i) (pos 0)) ∙ exchanged (is_neg (times s e)) b (number e)
+
+back : (s e : Sign) → signed_crossing e s ≡ neg_ℤ (signed_crossing s e)
+back Neg Neg = refl
+back Neg Zero = refl
+back Neg Pos = refl
+back Zero Neg = refl
+back Zero Zero = refl
+back Zero Pos = refl
+back Pos Neg = refl
+back Pos Zero = refl
+back Pos Pos = refl
+
+told_back : (b : Bool) (s e : Sign) (g : ℤ) → g ≡ cond b (signed_crossing e s) (pos 0) → g ≡ neg_ℤ (cond b (signed_crossing s e) (pos 0))
+told_back true s e g h = h ∙ back s e
+told_back false s e g h = h
+
+-- ---- tests that leave out what doesn't count
+tested : (f b : Bool) (v g : ℤ) → g ≡ neg_ℤ (cond b v (pos 0)) → (f ≡ false → g ≡ pos 0) → g ≡ neg_ℤ (cond (f && b) v (pos 0))
+tested true b v g h n = h
+tested false b v g h n = n refl
+
+both : (f : Bool) (v u g h : ℤ) → g ≡ neg_ℤ v → h ≡ neg_ℤ u → (f ≡ false → g ≡ pos 0) → (f ≡ false → h ≡ pos 0) → g +ℤ h ≡ neg_ℤ (cond f (v +ℤ u) (pos 0))
+both true v u g h e d n m = omega (arith, linear, e, d)
+both false v u g h e d n m = let x = n refl in let y = m refl in omega (arith, linear, x, y)
+
+either_test : {P : Type 0} (f g : Bool) → (f ≡ false → P) → (g ≡ false → P) → f && g ≡ false → P
+either_test true g x y e = y e
+either_test false g x y e = x refl
+
+negative_sign : (z : ℤ) → sgn z ≡ Neg → z <ℤ pos 0
+negative_sign z e = negative_out z (ap is_neg e)
+
+-- ---- the end of a path
+-- a point directly beside q along k, on the side that the turn of a plane's slope tells
+pub record IsEnd (k : Axis) (a b c : Meet) (turn : Sign → Sign) (e : Spot) : Type 0 where
+  pub weight : pos 0 <ℤ e.w
+  pub side : (h : Plane) → IsSupportSized h → sgn (value_at h e) ≡ or_sign (inside_side h a b c) (turn (sgn (along h k)))
+  pub level : turn Zero ≡ Zero
+  pub level_out : (s : Sign) → turn s ≡ Zero → s ≡ Zero
+
+pub or_zero : (s t : Sign) → t ≡ Zero → or_sign s t ≡ s
+or_zero Neg t e = refl
+or_zero Zero t e = e
+or_zero Pos t e = refl
+
+pub start_weight : (lo : Vector) (n : ℕ) → 2 ^ 27 ≤ n → pos 0 <ℤ (stop_at_start lo n).w
+start_weight lo n l =
+    let p = powers (pos n) (omega (arith, ints, l)) in let h = p.one_below in omega (arith, linear, h)
+
+pub differ_back : (k : Axis) (p q : Spot) → DifferAlong k p q → DifferAlong k q p
+differ_back X p q d = (sym d.0, sym d.1)
+differ_back Y p q d = (sym d.0, sym d.1)
+differ_back Z p q d = (sym d.0, sym d.1)
+
+floor_is : (w : Path) (k : Axis) → floor_at_end w k ≡ int_div_euclid (along_point k (spot_of w.corner)) w.corner.w
+floor_is w X = refl
+floor_is w Y = refl
+floor_is w Z = refl
+
+module _ (c : Cell) (k : Axis) (v : Path) (e : v.lo ≡ entries c.lo) (q : Spot) (n : ℕ) (s : AreStops k c.lo v.corner v.next v.last q n) (f : NearTriangle) (from : HasReferenceSide c f) where
+  -- the path, with its axes told by the last
+  abbrev w : Path
+  w = record v { first = first_of k; second = second_of k; main = k }
+
+  abbrev t : Tri
+  t = f.tri
+
+  abbrev p0 : Spot
+  p0 = stop_at_start c.lo n
+
+  abbrev p1 : Spot
+  p1 = stop_after_first k c.lo q n
+
+  abbrev p2 : Spot
+  p2 = stop_after_second k c.lo q n
+
+  w0 : pos 0 <ℤ p0.w
+  w0 = start_weight c.lo n s.large
+
+  w1 : pos 0 <ℤ p1.w
+  w1 = weight_with (first_of k) p0 q w0 s.close.weight
+
+  w2 : pos 0 <ℤ p2.w
+  w2 = weight_with (second_of k) p1 q w1 s.close.weight
+
+  -- ---- sides, as the code has them
+  side_start : (h : Plane) → side_at_start w h ≡ sgn (value_at h (reference_at c.lo))
+  side_start h = ap (λ (p : Spot). sgn (value_at h p)) (reference_is v.lo c (ap corner_of e))
+
+  side_first : (h : Plane) → IsSupportSized h → sgn (value_at h p1) ≡ side_after_first w h
+  side_first h i =
+      first_sign k c.lo v.corner v.next v.last q n s h i ∙ sym (λ j. or_sign (inside_side (slid (slid h (second_of k) (coordinate (e j) (second_of k))) k (coordinate (e j) k)) v.corner v.next v.last) (side_start h j))
+
+  side_second : (h : Plane) → IsSupportSized h → sgn (value_at h p2) ≡ side_after_second w h
+  side_second h i =
+      second_sign k c.lo v.corner v.next v.last q n s h i ∙ sym (λ j. or_sign (inside_side (slid h k (coordinate (e j) k)) v.corner v.next v.last) (side_start h j))
+
+  sized : IsSupportSized (support_of t)
+  sized = support_sized t f.valid
+
+  at_start : sgn (value_at (support_of t) p0) ≡ f.start
+  at_start =
+      start_sign k c.lo v.corner v.next v.last q n s (support_of t) sized ∙ sym (from.start ∙ ap (λ (p : Plane). sgn (value_at p (reference_of (entries c.lo)))) f.plane ∙ ap (λ (r : Spot). sgn (value_at (support_of t) r)) (reference_is (entries c.lo) c refl))
+
+  after_first : sgn (value_at (support_of t) p1) ≡ side_after_first w f.support
+  after_first = side_first (support_of t) sized ∙ ap (λ (p : Plane). side_after_first w p) (sym f.plane)
+
+  after_second : sgn (value_at (support_of t) p2) ≡ side_after_second w f.support
+  after_second = side_second (support_of t) sized ∙ ap (λ (p : Plane). side_after_second w p) (sym f.plane)
+
+  -- ---- past the bounding box
+  -- the coordinate of the start isn't within
+  past_start : (a : Axis) → contains_above (interval_along f.aabb a) (coordinate v.lo a) ≡ false → IsPast t a (along_point a p0) p0.w
+  past_start a h =
+      let i = start_above c.lo n a s.large in
+      past_above t a f.valid (along_point a p0) p0.w (coordinate (entries c.lo) a) w0 i.from i.to (sym (λ j. contains_above (interval_along (f.bounds j) a) (coordinate (e j) a)) ∙ h)
+
+  behind_start : (a : Axis) (i : IsPast t a (along_point a p0) p0.w) → value_at (across a i.s i.d) p0 <ℤ pos 0
+  behind_start a i = let x = value_across a i.s i.d p0 in let l = i.past in omega (arith, linear, x, l)
+
+  -- nor is the end's
+  past_end : (a : Axis) → may_contain (interval_along f.aabb a) (floor_at_end w a) ≡ false → IsPast t a (along_point a (spot_of v.corner)) v.corner.w
+  past_end a h =
+      past_floor t a f.valid (along_point a (spot_of v.corner)) v.corner.w v.corner.valid.weight (sym (λ j. may_contain (interval_along (f.bounds j) a) (floor_is w a j)) ∙ h)
+
+  behind_end : (a : Axis) (i : IsPast t a (along_point a (spot_of v.corner)) v.corner.w) → inside_side (across a i.s i.d) v.corner v.next v.last ≡ Neg
+  behind_end a i =
+      let g = across a i.s i.d in let x = value_across a i.s i.d (spot_of v.corner) in let l = i.past in
+      ap (λ (s : Sign). or_sign s (or_sign (sgn (value_at g (spot_of v.next))) (sgn (value_at g (spot_of v.last))))) (sgn_neg {a = value_at g (spot_of v.corner)} (omega (arith, linear, x, l)))
+
+  behind_q : (a : Axis) (i : IsPast t a (along_point a (spot_of v.corner)) v.corner.w) → value_at (across a i.s i.d) q <ℤ pos 0
+  behind_q a i =
+      negative_sign (value_at (across a i.s i.d) q) (s.close.at_end (across a i.s i.d) (support_valid (across_sized a i.s i.d i.small_s i.small_d)) ∙ behind_end a i)
+
+  -- a plane stays behind along an axis at which it has no entry
+  stays : (g : Plane) (a : Axis) (u : Spot) → along g a ≡ pos 0 → value_at g u <ℤ pos 0 → value_at g (with_along a u q) <ℤ pos 0
+  stays g a u z l = let x = level_with g a u q z in let m = mul_pos_neg s.close.weight l in omega (arith, linear, x, m)
+
+  comes : (a : Axis) (b d : ℤ) (u : Spot) → pos 0 <ℤ u.w → value_at (across a b d) q <ℤ pos 0 → value_at (across a b d) (with_along a u q) <ℤ pos 0
+  comes a b d u pw l = let x = across_with a b d u q in let m = mul_pos_neg pw l in omega (arith, linear, x, m)
+
+  -- ---- the segments
+  pub first_legs : leg (face_of t) p1 p0 +ℤ leg (face_of t) p2 p1 ≡ neg_ℤ (segments_in_wall w f)
+  first_legs =
+      both (contains_above (interval_along f.aabb k) (coordinate v.lo k)) (first_segment w f) (second_segment w f) (leg (face_of t) p1 p0) (leg (face_of t) p2 p1) first second (λ h. first_out k (across_first k) h) second_out
+    where
+      first_out : (a : Axis) → ((b d : ℤ) → along (across a b d) (first_of k) ≡ pos 0) → contains_above (interval_along f.aabb a) (coordinate v.lo a) ≡ false → leg (face_of t) p1 p0 ≡ pos 0
+      first_out a z h =
+          let i = past_start a h in let g = across a i.s i.d in let l = behind_start a i in
+          leg_behind t g p1 p0 i.before w1 w0 (stays g (first_of k) p0 (z i.s i.d) l) l
+
+      second_out : contains_above (interval_along f.aabb k) (coordinate v.lo k) ≡ false → leg (face_of t) p2 p1 ≡ pos 0
+      second_out h =
+          let i = past_start k h in let g = across k i.s i.d in let l = stays g (first_of k) p0 (across_first k i.s i.d) (behind_start k i) in
+          leg_behind t g p2 p1 i.before w2 w1 (stays g (second_of k) p1 (across_second k i.s i.d) l) l
+
+      end_out : may_contain (interval_along f.aabb (first_of k)) (floor_at_end w (first_of k)) ≡ false → leg (face_of t) p2 p1 ≡ pos 0
+      end_out h =
+          let i = past_end (first_of k) h in let g = across (first_of k) i.s i.d in let l = comes (first_of k) i.s i.d p0 w0 (behind_q (first_of k) i) in
+          leg_behind t g p2 p1 i.before w2 w1 (stays g (second_of k) p1 (first_second k i.s i.d) l) l
+
+      first : leg (face_of t) p1 p0 ≡ neg_ℤ (first_segment w f)
+      first =
+          let b = all_behind (λ p. side_at_start w p) (edge_planes t (first_of k)) in
+          tested (contains_above (interval_along f.aabb (second_of k)) (coordinate v.lo (second_of k))) b (signed_crossing f.start (side_after_first w f.support)) (leg (face_of t) p1 p0)
+          (leg_back (face_of t) p0 p1 w0 w1 ∙ ap neg_ℤ (told (first_of k) p0 p1 t b f.start (side_after_first w f.support) w0 w1 (differ_with (first_of k) p0 q) at_start after_first (edges_behind (λ p. side_at_start w p) t (first_of k) p0 f.valid (λ h i z. start_sign k c.lo v.corner v.next v.last q n s h i ∙ sym (side_start h)))))
+          (λ h. first_out (second_of k) (second_first k) h)
+
+      second : leg (face_of t) p2 p1 ≡ neg_ℤ (second_segment w f)
+      second =
+          let b = all_behind (λ p. side_after_first w p) (edge_planes t (second_of k)) in
+          tested (may_contain (interval_along f.aabb (first_of k)) (floor_at_end w (first_of k))) b (signed_crossing (side_after_first w f.support) (side_after_second w f.support)) (leg (face_of t) p2 p1)
+          (leg_back (face_of t) p1 p2 w1 w2 ∙ ap neg_ℤ (told (second_of k) p1 p2 t b (side_after_first w f.support) (side_after_second w f.support) w1 w2 (differ_with (second_of k) p1 q) after_first after_second (edges_behind (λ p. side_after_first w p) t (second_of k) p1 f.valid (λ h i z. side_first h i))))
+          end_out
+
+  module _ (turn : Sign → Sign) (p3 : Spot) (end : IsEnd k v.corner v.next v.last turn p3) (line : DifferAlong k p2 p3) where
+    abbrev side_end : Sign
+    side_end = or_sign (side_at_end w f.support) (turn (sgn (along f.support k)))
+
+    pub final_leg : leg (face_of t) p3 p2 ≡ neg_ℤ (last_segment w f side_end)
+    final_leg =
+        let b = all_behind (λ p. side_at_end w p) (edge_planes t k) in
+        tested (may_end w f) b (signed_crossing (side_after_second w f.support) side_end) (leg (face_of t) p3 p2)
+        (told_back b (side_after_second w f.support) side_end (leg (face_of t) p3 p2) (told k p3 p2 t b side_end (side_after_second w f.support) end.weight w2 (differ_back k p2 p3 line) (end.side (support_of t) sized ∙ ap (λ (p : Plane). or_sign (side_at_end w p) (turn (sgn (along p k)))) (sym f.plane)) after_second (edges_behind (λ p. side_at_end w p) t k p3 f.valid (λ h i z. end.side h i ∙ or_zero (inside_side h v.corner v.next v.last) (turn (sgn (along h k))) (ap turn (ap sgn z) ∙ end.level)))))
+        (λ h. either_test (may_contain (interval_along f.aabb (first_of k)) (floor_at_end w (first_of k))) (may_contain (interval_along f.aabb (second_of k)) (floor_at_end w (second_of k))) first_out second_out h)
+      where
+        at_p3 : (a : Axis) (i : IsPast t a (along_point a (spot_of v.corner)) v.corner.w) → value_at (across a i.s i.d) p3 <ℤ pos 0
+        at_p3 a i =
+            let g = across a i.s i.d in
+            negative_sign (value_at g p3) (end.side g (across_sized a i.s i.d i.small_s i.small_d) ∙ ap (λ (s : Sign). or_sign s (turn (sgn (along g k)))) (behind_end a i))
+
+        first_out : may_contain (interval_along f.aabb (first_of k)) (floor_at_end w (first_of k)) ≡ false → leg (face_of t) p3 p2 ≡ pos 0
+        first_out h =
+            let i = past_end (first_of k) h in let g = across (first_of k) i.s i.d in
+            leg_behind t g p3 p2 i.before end.weight w2 (at_p3 (first_of k) i) (stays g (second_of k) p1 (first_second k i.s i.d) (comes (first_of k) i.s i.d p0 w0 (behind_q (first_of k) i)))
+
+        second_out : may_contain (interval_along f.aabb (second_of k)) (floor_at_end w (second_of k)) ≡ false → leg (face_of t) p3 p2 ≡ pos 0
+        second_out h =
+            let i = past_end (second_of k) h in let g = across (second_of k) i.s i.d in
+            leg_behind t g p3 p2 i.before end.weight w2 (at_p3 (second_of k) i) (comes (second_of k) i.s i.d p1 w1 (behind_q (second_of k) i))

@@ -1,8 +1,0 @@
-use Rattle.ember_trace.specs.Ways.{side_after_first}
-use Rattle.ember_trace.proofs.Threes.{all_three, last_of_three}
-use Rattle.ember_trace.proofs.legs.second_is_behind.Goals as goal
-
-pub returns-then-is_behind_after_first-2 : goal.returns-then-is_behind_after_first-2
-returns-then-is_behind_after_first-2 c =
-    let w = c.args.way.now in
-    last_of_three c.is_behind_after_first.result c.is_behind_after_first-then-is_behind_after_first.result c.is_behind_after_first-then-is_behind_after_first-2.result _ c.if-is_behind_after_first.true c.if-is_behind_after_first-2.true (all_three (λ p. side_after_first w p) c.args.t.now w.second _ _ _ _ _ _ c.edge_plane.ensures.value c.edge_plane-then-is_behind_after_first.ensures.value c.edge_plane-then-is_behind_after_first-2.ensures.value c.is_behind_after_first.ensures c.is_behind_after_first-then-is_behind_after_first.ensures c.is_behind_after_first-then-is_behind_after_first-2.ensures)

@@ -1,0 +1,33 @@
+-- Triangles near a box, and counts that leave room for crossings with them
+use Rattle.std.specs.Prelude.{◌≡◌, ℕ, ◌+◌, ◌*◌, ℤ, List, [], ◌∷◌, All, map}
+use Rattle.ember_algebra.specs.Size.{Small}
+use Rattle.ember_algebra.specs.Sign.{sgn}
+use Rattle.ember_model.specs.declared.tri.Tri.{Tri}
+use Rattle.ember_model.specs.Planes.{value_at}
+use Rattle.ember_box.specs.Boxes.{Cell}
+use Rattle.ember_ref.specs.References.{reference_of}
+use Rattle.ember_trace.specs.declared.near_triangle.NearTriangle.{NearTriangle}
+
+abbrev pub tri_of : NearTriangle → Tri
+tri_of f = f.tri
+
+-- the side of the triangle's plane on which the reference point of the box lies
+pub record HasReferenceSide (c : Cell) (f : NearTriangle) : Type 0 where
+  pub start : f.start ≡ sgn (value_at f.support (reference_of (c.lo.x ∷ c.lo.y ∷ c.lo.z ∷ [])))
+
+-- these triangles, as they are near this box
+pub record AreNearTriangles (ts : List Tri) (c : Cell) (fs : List NearTriangle) : Type 0 where
+  pub tris : map tri_of fs ≡ ts
+  pub starts : All (HasReferenceSide c) fs
+
+-- counts of a box: at most a crossing with each triangle of a scene for each halving
+abbrev pub AreBoxCounts : List ℤ → Type 0
+AreBoxCounts counts = All (Small 9437184) counts
+
+-- the counts stay within a bound that grows by three for each of so many triangles
+abbrev pub AreWithinBound : ℕ → List ℤ → List ℤ → Type 0
+AreWithinBound number old new = (m : ℕ) → All (Small m) old → All (Small (m + 3 * number)) new
+
+-- counts beside a region: at most three crossings more with each triangle
+abbrev pub AreSideCounts : List ℤ → Type 0
+AreSideCounts counts = All (Small 10223616) counts

@@ -1,0 +1,76 @@
+-- The sides of a plane on which the vertices of a path lie: the path goes from the reference point of a
+-- box, along one axis after another, to an inside point of a region
+use Rattle.std.specs.Prelude.{◌≡◌, ℤ, pos, List, [], ◌∷◌, Some, slice_get, slice_index_or}
+use Rattle.std.specs.Int.{int_div_euclid}
+use Rattle.ember_algebra.specs.declared.Sign.{Sign}
+use Rattle.ember_algebra.specs.Sign.{sgn}
+use Rattle.ember_model.specs.declared.plane.Plane.{Plane}
+use Rattle.ember_model.specs.declared.point.Axis.{Axis}
+use Rattle.ember_model.specs.declared.point.Axis.TheVariants.{X, Y, Z}
+use Rattle.ember_model.specs.declared.face.Face.{Face}
+use Rattle.ember_model.specs.Planes.{value_at, main_axis}
+use Rattle.ember_point.specs.declared.meet_point.Meet.{Meet}
+use Rattle.ember_point.specs.Points.{spot_of, slid}
+use Rattle.ember_poly.specs.Sides.{AreCorners}
+use Rattle.ember_box.specs.Boxes.{Cell}
+use Rattle.ember_ref.specs.References.{reference_of, or_sign}
+use Rattle.ember_trace.specs.declared.path.Path.{Path}
+
+-- the coordinate of a place along an axis
+abbrev pub coordinate : List ℤ → Axis → ℤ
+coordinate at X = slice_index_or at 0 (pos 0)
+coordinate at Y = slice_index_or at 1 (pos 0)
+coordinate at Z = slice_index_or at 2 (pos 0)
+
+-- the side of the inside points that are close to the first of three corners, and closest to the
+-- line from there to the second: that of the first corner which isn't on the plane
+abbrev pub inside_side : Plane → Meet → Meet → Meet → Sign
+inside_side p a b c =
+    or_sign (sgn (value_at p (spot_of a))) (or_sign (sgn (value_at p (spot_of b))) (sgn (value_at p (spot_of c))))
+
+abbrev pub side_at_start : Path → Plane → Sign
+side_at_start w p = sgn (value_at p (reference_of w.lo))
+
+abbrev pub side_at_end : Path → Plane → Sign
+side_at_end w p = inside_side p w.corner w.next w.last
+
+-- the plane with the coordinate along an axis fixed to that of the start
+abbrev pub slid_to_start : Path → Axis → Plane → Plane
+slid_to_start w k p = slid p k (coordinate w.lo k)
+
+-- after the first segment, two coordinates are those of the start, and after the second segment one
+abbrev pub side_after_first : Path → Plane → Sign
+side_after_first w p =
+    or_sign (side_at_end w (slid_to_start w w.main (slid_to_start w w.second p))) (side_at_start w p)
+
+abbrev pub side_after_second : Path → Plane → Sign
+side_after_second w p = or_sign (side_at_end w (slid_to_start w w.main p)) (side_at_start w p)
+
+-- the whole number at or below the coordinate of the first corner
+abbrev pub floor_at_end : Path → Axis → ℤ
+floor_at_end w X = int_div_euclid w.corner.x w.corner.w
+floor_at_end w Y = int_div_euclid w.corner.y w.corner.w
+floor_at_end w Z = int_div_euclid w.corner.z w.corner.w
+
+-- the other two axes in order
+abbrev pub first_of : Axis → Axis
+first_of X = Y
+first_of Y = X
+first_of Z = X
+
+abbrev pub second_of : Axis → Axis
+second_of X = Z
+second_of Y = Z
+second_of Z = Y
+
+-- the path from the reference point of the box to the region
+pub record IsPathTo (c : Cell) (r : Face) (w : Path) : Type 0 where
+  pub lo : w.lo ≡ c.lo.x ∷ c.lo.y ∷ c.lo.z ∷ []
+  pub main : w.main ≡ main_axis r.support
+  pub first : w.first ≡ first_of (main_axis r.support)
+  pub second : w.second ≡ second_of (main_axis r.support)
+  pub corners : List Meet
+  pub are_corners : AreCorners r corners
+  pub corner : slice_get corners 0 ≡ Some w.corner
+  pub next : slice_get corners 1 ≡ Some w.next
+  pub last : slice_get corners 2 ≡ Some w.last

@@ -1,0 +1,80 @@
+// How segments pass planes.
+ghost use Rattle.std.specs.Prelude.{◌≡◌};
+ghost use Rattle.ember_algebra.specs.Size.{Small};
+ghost use Rattle.ember_algebra.specs.Sign.{flip, sgn};
+ghost use Rattle.ember_model.specs.Planes.{along};
+ghost use Rattle.ember_ref.specs.References.{or_sign};
+ghost use Rattle.ember_trace.specs.Crossings.{signed_crossing, side_before, side_after};
+
+use ember_algebra::{Sign, sign_of};
+use ember_model::{Axis, Plane};
+
+/// A segment from one side of a plane to another passes it: 1 from behind to the front, -1 back.
+pub fn signed_crossing(from: Sign, to: Sign) -> i32
+    ensures value { result ≡ signed_crossing from to }
+    ensures small { Small 1 result }
+{
+    match from {
+        Sign::Zero => 0,
+        Sign::Neg => match to {
+            Sign::Pos => 1,
+            _ => 0,
+        },
+        Sign::Pos => match to {
+            Sign::Neg => -1,
+            _ => 0,
+        },
+    }
+}
+
+fn flipped(s: Sign) -> Sign
+    ensures { result ≡ flip s }
+{
+    match s {
+        Sign::Neg => Sign::Pos,
+        Sign::Zero => Sign::Zero,
+        Sign::Pos => Sign::Neg,
+    }
+}
+
+fn or_sign(first: Sign, second: Sign) -> Sign
+    ensures { result ≡ or_sign first second }
+{
+    match first {
+        Sign::Zero => second,
+        _ => first,
+    }
+}
+
+// The sign of the plane's slope along an axis.
+fn slope(p: &Plane, k: Axis) -> Sign
+    ensures { result ≡ sgn (along p.now k) }
+{
+    match k {
+        Axis::X => sign_of(p.a as i128),
+        Axis::Y => sign_of(p.b as i128),
+        Axis::Z => sign_of(p.c as i128),
+    }
+}
+
+/// The side of the plane directly before a point, along an axis, where that of the point is this.
+pub fn side_before(p: &Plane, k: Axis, at: Sign) -> Sign
+    ensures { result ≡ side_before p.now k at }
+{
+    or_sign(at, flipped(slope(p, k)))
+}
+
+/// The side directly after it.
+pub fn side_after(p: &Plane, k: Axis, at: Sign) -> Sign
+    ensures { result ≡ side_after p.now k at }
+{
+    or_sign(at, slope(p, k))
+}
+
+/// The passage of a ray from one side of the plane along an axis.
+pub fn signed_crossing_along(from: Sign, p: &Plane, k: Axis) -> i32
+    ensures value { result ≡ signed_crossing from (sgn (along p.now k)) }
+    ensures small { Small 1 result }
+{
+    signed_crossing(from, slope(p, k))
+}

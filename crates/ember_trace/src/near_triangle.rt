@@ -1,0 +1,26 @@
+// Triangles near a box, with what is asked of them again and again.
+ghost use Rattle.std.specs.Prelude.{◌≡◌};
+ghost use Rattle.ember_model.specs.Valid.{IsValidTri};
+ghost use Rattle.ember_model.specs.Sizes.{IsSupportSized};
+ghost use Rattle.ember_model.specs.Planes.{support_of};
+ghost use Rattle.ember_model.specs.Meshes.{HasMesh};
+ghost use Rattle.ember_box.specs.Aabbs.{aabb_of_tri};
+
+use ember_algebra::Sign;
+use ember_box::Aabb;
+use ember_model::{Plane, Tri};
+
+/// A triangle near a box, with its support plane, its bounding box, and the side of the plane on
+/// which the reference point of the box lies.
+#[derive(Clone, Copy)]
+pub struct NearTriangle {
+    pub tri: Tri,
+    pub support: Plane,
+    pub aabb: Aabb,
+    pub start: Sign,
+    ghost valid: { IsValidTri tri },
+    ghost mesh: { HasMesh 64 tri },
+    ghost plane: { support ≡ support_of tri },
+    ghost sized: { IsSupportSized support },
+    ghost bounds: { aabb ≡ aabb_of_tri tri },
+}

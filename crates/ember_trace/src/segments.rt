@@ -1,0 +1,260 @@
+// Where the segments of a path cross a triangle.
+ghost use Rattle.std.specs.Prelude.{◌≡◌, int_le, int_lt, ◌&&◌};
+ghost use Rattle.ember_algebra.specs.Size.{Small};
+ghost use Rattle.ember_algebra.specs.declared.Sign.{Sign};
+ghost use Rattle.ember_algebra.specs.Sign.{is_neg};
+ghost use Rattle.ember_model.specs.Valid.{IsValidTri, IsValidPlane};
+ghost use Rattle.ember_model.specs.Sizes.{IsSupportSized};
+ghost use Rattle.ember_model.specs.Planes.{edge_planes};
+ghost use Rattle.ember_trace.specs.Paths.{coordinate, side_at_start, side_after_first, side_at_end, floor_at_end};
+ghost use Rattle.ember_trace.specs.Crossings.{all_behind, interval_along, contains_above, may_contain, may_end, is_on_first, is_on_second, is_on_last, first_segment, second_segment, segments_in_wall, last_segment, side_before, side_after, crossing_before, crossing_after};
+
+use crate::crossing_signs::{side_after, side_before, signed_crossing};
+use crate::near_triangle::NearTriangle;
+use crate::path::Path;
+use crate::vertices::coordinate;
+use ember_algebra::Sign;
+use ember_box::{Aabb, Interval};
+use ember_model::{Axis, Plane, Tri, edge_plane};
+
+fn interval_along(s: &Aabb, k: Axis) -> Interval
+    ensures { result ≡ interval_along s.now k }
+{
+    match k {
+        Axis::X => s.x,
+        Axis::Y => s.y,
+        Axis::Z => s.z,
+    }
+}
+
+// A place a little above the whole number is strictly within.
+fn contains_above(s: &Interval, at: i32) -> bool
+    ensures { result ≡ contains_above s.now at }
+{
+    s.low <= at && at < s.high
+}
+
+// A place from this whole number to the next can be within.
+fn may_contain(s: &Interval, floor: i128) -> bool
+    ensures { result ≡ may_contain s.now floor }
+{
+    i128::from(s.low) <= floor && floor <= i128::from(s.high)
+}
+
+/// The whole numbers at or below the coordinates of a path's end, but for the main axis.
+#[derive(Clone, Copy)]
+pub struct Ends {
+    pub first: i128,
+    pub second: i128,
+}
+
+/// Those of a path.
+pub fn ends_of(way: &Path) -> Ends
+    ensures first { result.first ≡ floor_at_end way.now way.now.first }
+    ensures second { result.second ≡ floor_at_end way.now way.now.second }
+{
+    Ends {
+        first: way.floor_at_end(way.first),
+        second: way.floor_at_end(way.second),
+    }
+}
+
+fn is_neg(s: Sign) -> bool
+    ensures { result ≡ is_neg s }
+{
+    matches!(s, Sign::Neg)
+}
+
+fn is_behind_at_start(way: &Path, p: &Plane) -> bool
+    requires { IsValidPlane p.now }
+    ensures { result ≡ is_neg (side_at_start way.now p.now) }
+{
+    is_neg(way.side_at_start(p))
+}
+
+fn is_behind_after_first(way: &Path, p: &Plane) -> bool
+    requires { IsSupportSized p.now }
+    ensures { result ≡ is_neg (side_after_first way.now p.now) }
+{
+    is_neg(way.side_after_first(p))
+}
+
+fn is_behind_at_end(way: &Path, p: &Plane) -> bool
+    requires { IsValidPlane p.now }
+    ensures { result ≡ is_neg (side_at_end way.now p.now) }
+{
+    is_neg(way.side_at_end(p))
+}
+
+// All edge planes along the first segment are negative where it begins.
+fn first_is_behind(t: &Tri, way: &Path) -> bool
+    requires { IsValidTri t.now }
+    ensures { result ≡ all_behind (λ p. side_at_start way.now p) (edge_planes t.now way.now.first) }
+{
+    let k = way.first;
+    is_behind_at_start(way, &edge_plane(t, 0, k))
+        && (is_behind_at_start(way, &edge_plane(t, 1, k))
+            && is_behind_at_start(way, &edge_plane(t, 2, k)))
+}
+
+// All edge planes along the second segment are negative where it begins.
+fn second_is_behind(t: &Tri, way: &Path) -> bool
+    requires { IsValidTri t.now }
+    ensures { result ≡ all_behind (λ p. side_after_first way.now p) (edge_planes t.now way.now.second) }
+{
+    let k = way.second;
+    is_behind_after_first(way, &edge_plane(t, 0, k))
+        && (is_behind_after_first(way, &edge_plane(t, 1, k))
+            && is_behind_after_first(way, &edge_plane(t, 2, k)))
+}
+
+// All edge planes along the last segment are negative where it ends.
+fn last_is_behind(t: &Tri, way: &Path) -> bool
+    requires { IsValidTri t.now }
+    ensures { result ≡ all_behind (λ p. side_at_end way.now p) (edge_planes t.now way.now.main) }
+{
+    let k = way.main;
+    is_behind_at_end(way, &edge_plane(t, 0, k))
+        && (is_behind_at_end(way, &edge_plane(t, 1, k))
+            && is_behind_at_end(way, &edge_plane(t, 2, k)))
+}
+
+fn is_on_first(f: &NearTriangle, way: &Path) -> bool
+    ensures { result ≡ is_on_first way.now f.now }
+{
+    contains_above(
+        &interval_along(&f.aabb, way.second),
+        coordinate(way.lo, way.second),
+    ) && first_is_behind(&f.tri, way)
+}
+
+fn may_end_along_first(f: &NearTriangle, way: &Path, at: &Ends) -> bool
+    requires { at.now.first ≡ floor_at_end way.now way.now.first }
+    ensures { result ≡ may_contain (interval_along f.now.aabb way.now.first) (floor_at_end way.now way.now.first) }
+{
+    may_contain(&interval_along(&f.aabb, way.first), at.first)
+}
+
+fn may_end_along_second(f: &NearTriangle, way: &Path, at: &Ends) -> bool
+    requires { at.now.second ≡ floor_at_end way.now way.now.second }
+    ensures { result ≡ may_contain (interval_along f.now.aabb way.now.second) (floor_at_end way.now way.now.second) }
+{
+    may_contain(&interval_along(&f.aabb, way.second), at.second)
+}
+
+fn may_end(f: &NearTriangle, way: &Path, at: &Ends) -> bool
+    requires first { at.now.first ≡ floor_at_end way.now way.now.first }
+    requires second { at.now.second ≡ floor_at_end way.now way.now.second }
+    ensures { result ≡ may_end way.now f.now }
+{
+    may_end_along_first(f, way, at) && may_end_along_second(f, way, at)
+}
+
+fn is_on_second(f: &NearTriangle, way: &Path, at: &Ends) -> bool
+    requires { at.now.first ≡ floor_at_end way.now way.now.first }
+    ensures { result ≡ is_on_second way.now f.now }
+{
+    may_end_along_first(f, way, at) && second_is_behind(&f.tri, way)
+}
+
+fn is_on_last(f: &NearTriangle, way: &Path, at: &Ends) -> bool
+    requires first { at.now.first ≡ floor_at_end way.now way.now.first }
+    requires second { at.now.second ≡ floor_at_end way.now way.now.second }
+    ensures { result ≡ is_on_last way.now f.now }
+{
+    may_end(f, way, at) && last_is_behind(&f.tri, way)
+}
+
+fn first_segment(f: &NearTriangle, way: &Path) -> i32
+    ensures value { result ≡ first_segment way.now f.now }
+    ensures small { Small 1 result }
+{
+    if is_on_first(f, way) {
+        signed_crossing(f.start, way.side_after_first(&f.support))
+    } else {
+        0
+    }
+}
+
+fn second_segment(f: &NearTriangle, way: &Path, at: &Ends) -> i32
+    requires { at.now.first ≡ floor_at_end way.now way.now.first }
+    ensures value { result ≡ second_segment way.now f.now }
+    ensures small { Small 1 result }
+{
+    if is_on_second(f, way, at) {
+        signed_crossing(
+            way.side_after_first(&f.support),
+            way.side_after_second(&f.support),
+        )
+    } else {
+        0
+    }
+}
+
+fn is_in_wall(f: &NearTriangle, way: &Path) -> bool
+    ensures { result ≡ contains_above (interval_along f.now.aabb way.now.main) (coordinate way.now.lo way.now.main) }
+{
+    contains_above(
+        &interval_along(&f.aabb, way.main),
+        coordinate(way.lo, way.main),
+    )
+}
+
+// The crossings of the segments in the low wall of the main axis.
+fn segments_in_wall(f: &NearTriangle, way: &Path, at: &Ends) -> i32
+    requires { at.now.first ≡ floor_at_end way.now way.now.first }
+    ensures value { result ≡ segments_in_wall way.now f.now }
+    ensures small { Small 2 result }
+{
+    if is_in_wall(f, way) {
+        first_segment(f, way) + second_segment(f, way, at)
+    } else {
+        0
+    }
+}
+
+/// The signed crossings of the two paths to a region with a triangle: that which ends before the
+/// region, and that which ends after it.
+#[derive(Clone, Copy)]
+pub struct Crossings {
+    pub before: i32,
+    pub after: i32,
+}
+
+// The crossings of the last segments, one along each path.
+fn last_segments(f: &NearTriangle, way: &Path, at: &Ends) -> Crossings
+    requires first { at.now.first ≡ floor_at_end way.now way.now.first }
+    requires second { at.now.second ≡ floor_at_end way.now way.now.second }
+    ensures before { result.before ≡ last_segment way.now f.now (side_before f.now.support way.now.main (side_at_end way.now f.now.support)) }
+    ensures after { result.after ≡ last_segment way.now f.now (side_after f.now.support way.now.main (side_at_end way.now f.now.support)) }
+    ensures small { Small 1 result.before × Small 1 result.after }
+{
+    if !is_on_last(f, way, at) {
+        return Crossings {
+            before: 0,
+            after: 0,
+        };
+    }
+    let start = way.side_after_second(&f.support);
+    let end = way.side_at_end(&f.support);
+    Crossings {
+        before: signed_crossing(start, side_before(&f.support, way.main, end)),
+        after: signed_crossing(start, side_after(&f.support, way.main, end)),
+    }
+}
+
+/// The crossings of the paths with a triangle.
+pub fn crossings_of(f: &NearTriangle, way: &Path, at: &Ends) -> Crossings
+    requires first { at.now.first ≡ floor_at_end way.now way.now.first }
+    requires second { at.now.second ≡ floor_at_end way.now way.now.second }
+    ensures before { result.before ≡ crossing_before way.now f.now }
+    ensures after { result.after ≡ crossing_after way.now f.now }
+    ensures small { Small 3 result.before × Small 3 result.after }
+{
+    let both = segments_in_wall(f, way, at);
+    let last = last_segments(f, way, at);
+    Crossings {
+        before: both + last.before,
+        after: both + last.after,
+    }
+}

@@ -1,0 +1,140 @@
+// On which sides of a plane the vertices of a path lie.
+ghost use Rattle.std.specs.Prelude.{◌≡◌, ◌≤◌, All, length};
+ghost use Rattle.ember_algebra.specs.Size.{Small};
+ghost use Rattle.ember_model.specs.Valid.{IsValidPlane};
+ghost use Rattle.ember_model.specs.Sizes.{IsSupportSized};
+ghost use Rattle.ember_trace.specs.Paths.{coordinate, inside_side, side_at_start, side_at_end, side_after_first, side_after_second, slid_to_start, floor_at_end, first_of, second_of, IsPathTo};
+
+use crate::path::Path;
+use ember_algebra::Sign;
+use ember_box::Cell;
+use ember_model::{Axis, Plane, main_axis};
+use ember_point::{Meet, side, slide};
+use ember_poly::{Ring, corners, support};
+use ember_ref::lex_side;
+
+// The two other axes, in order.
+fn first_of(k: Axis) -> Axis
+    ensures { result ≡ first_of k }
+{
+    match k {
+        Axis::X => Axis::Y,
+        _ => Axis::X,
+    }
+}
+
+fn second_of(k: Axis) -> Axis
+    ensures { result ≡ second_of k }
+{
+    match k {
+        Axis::Z => Axis::Y,
+        _ => Axis::Z,
+    }
+}
+
+/// The path from the reference point of the box to the region.
+pub fn path_to(c: &Cell, r: &Ring) -> Path
+    ensures { IsPathTo c.now r.now result }
+{
+    let main = main_axis(&support(r));
+    let at = corners(r);
+    Path {
+        lo: c.lo(),
+        first: first_of(main),
+        second: second_of(main),
+        main,
+        corner: at[0],
+        next: at[1],
+        last: at[2],
+    }
+}
+
+/// The coordinate of a place along an axis.
+pub fn coordinate(at: [i32; 3], k: Axis) -> i32
+    requires { All (Small 2048) at }
+    ensures value { result ≡ coordinate at k }
+    ensures small { Small 2048 result }
+{
+    match k {
+        Axis::X => at[0],
+        Axis::Y => at[1],
+        Axis::Z => at[2],
+    }
+}
+
+/// The side of a plane on which the inside point of the region lies: that of the first of three
+/// corners that isn't on the plane.
+pub fn inside_side(p: &Plane, first: &Meet, second: &Meet, third: &Meet) -> Sign
+    requires { IsValidPlane p.now }
+    ensures { result ≡ inside_side p.now first.now second.now third.now }
+{
+    match side(p, first) {
+        Sign::Zero => match side(p, second) {
+            Sign::Zero => side(p, third),
+            s => s,
+        },
+        s => s,
+    }
+}
+
+// The plane with the coordinate along an axis fixed to that of the start.
+fn slid_to_start(w: &Path, k: Axis, p: &Plane) -> Plane
+    requires plane { IsValidPlane p.now }
+    requires result { IsValidPlane (slid_to_start w.now k p.now) }
+    ensures { result ≡ slid_to_start w.now k p.now }
+{
+    slide(p, k, coordinate(w.lo, k))
+}
+
+impl Path {
+    /// The side of a plane on which the path begins.
+    pub fn side_at_start(&self, p: &Plane) -> Sign
+        requires { IsValidPlane p.now }
+        ensures { result ≡ side_at_start self.now p.now }
+    {
+        lex_side(p, self.lo)
+    }
+
+    /// The side of a plane on which the inside point lies.
+    pub fn side_at_end(&self, p: &Plane) -> Sign
+        requires { IsValidPlane p.now }
+        ensures { result ≡ side_at_end self.now p.now }
+    {
+        inside_side(p, &self.corner, &self.next, &self.last)
+    }
+
+    /// The side at the end of the first segment.
+    pub fn side_after_first(&self, p: &Plane) -> Sign
+        requires { IsSupportSized p.now }
+        ensures { result ≡ side_after_first self.now p.now }
+    {
+        let slid = slid_to_start(self, self.second, p);
+        match self.side_at_end(&slid_to_start(self, self.main, &slid)) {
+            Sign::Zero => self.side_at_start(p),
+            s => s,
+        }
+    }
+
+    /// The side at the end of the second segment.
+    pub fn side_after_second(&self, p: &Plane) -> Sign
+        requires { IsSupportSized p.now }
+        ensures { result ≡ side_after_second self.now p.now }
+    {
+        match self.side_at_end(&slid_to_start(self, self.main, p)) {
+            Sign::Zero => self.side_at_start(p),
+            s => s,
+        }
+    }
+
+    /// The whole number at or below the inside point's coordinate.
+    pub fn floor_at_end(&self, k: Axis) -> i128
+        ensures { result ≡ floor_at_end self.now k }
+    {
+        let m = &self.corner;
+        match k {
+            Axis::X => m.x.div_euclid(m.w),
+            Axis::Y => m.y.div_euclid(m.w),
+            Axis::Z => m.z.div_euclid(m.w),
+        }
+    }
+}

@@ -1,0 +1,96 @@
+-- Lists of places, and the triangles that they list.
+use Rattle.std.proofs.Common.{◌≡◌, ℕ, zero, suc, ◌+◌, ◌<◌, ◌≤◌, ◌||◌, Bool, true, false, not, nat_eq, List, [], ◌∷◌, ◌++◌, filter, length, get_or, All, sym, ap, ◌∙◌, subst, arith}
+use Rattle.std.specs.List.{range_with_len}
+use Rattle.std.proofs.lemmas.List.{length-map}
+use Rattle.std.proofs.lemmas.List.Elements.{All-get_or, All-weaker, All-cons, All-map}
+use Rattle.std.proofs.lemmas.List.Sums.{length-filter, count_by-le-length}
+use Rattle.std.proofs.lemmas.List.FromFn.{length-range_with_len}
+use Rattle.ember_algebra.specs.Size.{Small}
+use Rattle.ember_algebra.proofs.Size.{small_within, small_add}
+use Rattle.ember_model.specs.declared.tri.Tri.{Tri}
+use Rattle.ember_model.specs.declared.point.Axis.{Axis}
+use Rattle.ember_model.specs.declared.point.Axis.TheVariants.{X}
+use Rattle.ember_model.specs.declared.point.Spot.{Spot}
+use Rattle.ember_model.specs.declared.face.Face.{Face}
+use Rattle.ember_model.specs.Faces.{is_flat, face_of}
+use Rattle.ember_model.specs.Meshes.{HasMesh, IsScene, wind, faces_of, of_mesh, meshes}
+use Rattle.ember_law.proofs.CountBounds.{crossing_small}
+use Rattle.ember_box.specs.Boxes.{Cell}
+use Rattle.ember_box.specs.Reference.{reference, vector_at}
+use Rattle.ember_box.specs.Near.{is_near, near, no_tri, tri_at, listed, all_indices}
+use Rattle.ember_box.proofs.Lists.{near_in_range, listed_near_all}
+use Rattle.ember_job.specs.declared.job.Job.{Job}
+use Rattle.ember_visit.specs.Jobs.{near_of, IsJob}
+
+-- what holds of all triangles holds of those that are listed
+pub all_listed : (P : Tri → Type 0) (ts : List Tri) (is : List ℕ) → All P ts → All (λ i. i < length ts) is → All P (listed ts is)
+all_listed P ts is a within = All-map P (λ i. tri_at ts i) is (All-weaker (λ i. i < length ts) (λ i. P (tri_at ts i)) (λ i l. All-get_or P ts i no_tri l a) is within)
+
+pub numbered_less : (n : ℕ) (ts : List Tri) → n ≤ 64 → All (HasMesh n) ts → All (HasMesh 64) ts
+numbered_less n ts le a = All-weaker (HasMesh n) (HasMesh 64) (λ t h. record { first = h.first; last = omega (arith, h.last, le) }) ts a
+
+-- a scene may have 64 meshes
+pub of_64 : (ts : List Tri) (n : ℕ) → IsScene ts n → IsScene ts 64
+of_64 ts n s =
+    record { valid = s.valid; few = s.few; few_meshes = omega arith; numbered = numbered_less n ts s.few_meshes s.numbered; balanced = s.balanced }
+
+-- the numbers of a range
+range_below : (from n most : ℕ) → from + n ≤ most → All (λ i. i < most) (range_with_len from n)
+range_below from zero most le = λ k d l. absurd (omega arith)
+range_below from (suc n) most le = All-cons (λ i. i < most) from (range_with_len (from + 1) n) (omega arith) (range_below (from + 1) n most (omega arith))
+
+pub all_places : (ts : List Tri) → All (λ i. i < length ts) (all_indices ts)
+all_places ts = range_below 0 (length ts) (length ts) (omega arith)
+
+-- ---- winding numbers are small
+wind_small : (a : Axis) (p : Spot) (fs : List Face) → Small (length fs) (wind a fs p)
+wind_small a p [] = record { small = omega arith }
+wind_small a p (f ∷ fs) = small_within (omega arith) (small_add (crossing_small f a p) (wind_small a p fs))
+
+few_faces : (m : ℕ) (ts : List Tri) → length (faces_of (of_mesh m ts)) ≤ length ts
+few_faces m ts =
+    let flat : Tri → Bool = λ t. not (is_flat t) in let same : Tri → Bool = λ t. nat_eq t.mesh m in
+    omega (
+      arith,
+      length-map (filter flat (of_mesh m ts)) face_of,
+      length-filter flat (of_mesh m ts),
+      count_by-le-length flat (of_mesh m ts),
+      length-filter same ts,
+      count_by-le-length same ts,
+    )
+
+pub vector_small : (ts : List Tri) (c : Cell) → length ts ≤ 262144 → All (Small 262144) (vector_at ts c)
+vector_small ts c few =
+    All-map (Small 262144) (λ m. wind X (faces_of (of_mesh m ts)) (reference c)) meshes (λ k d l.
+    let m = get_or meshes k d in
+    small_within (omega (arith, few, few_faces m ts)) (wind_small X (reference c) (faces_of (of_mesh m ts))))
+
+-- ---- what a job keeps
+module _ (ts : List Tri) (j : Job) (h : IsJob ts j) where
+  pub job_places : All (λ i. i < length ts) j.list
+  job_places = subst (All (λ i. i < length ts)) (sym h.list) (near_in_range ts j.cell (all_indices ts) (all_places ts))
+
+  pub few_listed : length ts ≤ 262144 → length j.list ≤ 262144
+  few_listed few =
+      let p : ℕ → Bool = λ i. is_near j.cell (tri_at ts i) in
+      omega (arith, few, ap length h.list, length-filter p (all_indices ts), count_by-le-length p (all_indices ts), length-range_with_len 0 (length ts))
+
+  pub counts_within : (m : ℕ) → 262144 ≤ m → length ts ≤ 262144 → All (Small m) j.at.counts
+  counts_within m le few =
+      subst (All (Small m)) (sym h.at) (λ k d l. small_within le (vector_small ts j.cell few k d l))
+
+  pub near_listed : near ts j.cell ≡ near_of ts j
+  near_listed = sym (ap (listed ts) h.list ∙ listed_near_all ts j.cell)
+
+-- a mesh more, and one triangle less to come
+pub moved_in : (now before rest all : Bool) → (before || (now || rest)) ≡ all → ((now || before) || rest) ≡ all
+moved_in true true rest all e = e
+moved_in true false rest all e = e
+moved_in false before rest all e = e
+
+-- one number more
+pub range_more : (n : ℕ) → range_with_len 0 (n + 1) ≡ range_with_len 0 n ++ n ∷ []
+range_more n = let e : n + 1 ≡ suc n = omega arith in ap (range_with_len 0) e ∙ from 0 n n (omega arith) where
+  from : (a k m : ℕ) → a + k ≡ m → range_with_len a (suc k) ≡ range_with_len a k ++ m ∷ []
+  from a zero m e = ap (λ b. b ∷ []) (let f : a ≡ m = omega (arith, e) in f)
+  from a (suc k) m e = ap (λ xs. a ∷ xs) (from (a + 1) k m (omega (arith, e)))

@@ -1,0 +1,46 @@
+// Jobs on the heap.
+ghost use Rattle.std.specs.Prelude.{◌≡◌, IfOk};
+
+use ember_job::{Job, OutOfMemory};
+use std::alloc::Global;
+use std::marker::Model;
+
+/// A job on the heap, so that hands, deques and steals move one word. Contracts see the job.
+#[derive(Drop)]
+pub struct BoxedJob {
+    job: Box<Job>,
+}
+
+impl Model for BoxedJob {
+    ghost use Rattle.ember_job.specs.declared.job.Job.{Job};
+    ghost use Rattle.steal_pool.specs.Codes.{job_code};
+
+    ghost Value = { Job };
+
+    ghost coded = { job_code };
+
+    ghost view = { λ s. s.job.value };
+}
+
+impl BoxedJob {
+    pub fn new(alloc: Global, job: Job) -> Result<BoxedJob, OutOfMemory>
+        ensures { IfOk result (λ boxed. boxed ≡ job) }
+    {
+        Ok(BoxedJob {
+            job: Box::new(alloc, job)?,
+        })
+    }
+
+    pub fn job(&self) -> &Job
+        ensures { result.now ≡ self.now }
+    {
+        &self.job
+    }
+}
+
+/// The halves of a box, which are still to be run.
+#[derive(Drop)]
+pub struct BoxHalves {
+    pub low: BoxedJob,
+    pub high: BoxedJob,
+}

@@ -1,0 +1,10 @@
+// What one worker or one caller has ended.
+use ember_job::Entry;
+use ember_tree::Part;
+
+/// The boxes that were ended, and the items of the leaves among them.
+#[derive(Drop)]
+pub struct Output<I> {
+    pub journal: Vec<Entry>,
+    pub parts: Vec<Part<I>>,
+}

@@ -1,0 +1,103 @@
+// The rule that all handles of a deque keep.
+ghost use Rattle.std.specs.Prelude.{◌≡◌, All};
+ghost use Rattle.ember_job.specs.declared.job.Job.{Job};
+ghost use Rattle.steal_pool.specs.Protocol.{JobsConserved, TookAllPushed, handle, new_pass, with_pushed, with_taken, with_one_lent, with_returned};
+
+use crate::boxed::BoxedJob;
+use crate::names::VisitedJobs;
+use crossbeam_deque::protocol::{Join, Outcome, Protocol, Split};
+use crossbeam_deque::{Stealer, Worker};
+use ember_job::Job;
+use std::alloc::Global;
+use std::collections::LinkedList;
+use std::marker::PhantomData;
+
+/// What contracts know of a handle of a deque. No value of it exists at run time.
+pub struct HandleView {
+    /// Whether it is the owner's.
+    pub owns: bool,
+    /// The owner's: how many passes are out. Another's: 1, and 0 once it came back.
+    pub lent: u64,
+    /// The jobs that it has pushed.
+    pub pushed: LinkedList<Job>,
+    /// The jobs that it has popped or stolen.
+    pub taken: LinkedList<Job>,
+}
+
+/// The rule of one deque: jobs of visited boxes, none lost and none twice.
+pub struct JobProtocol<K: VisitedJobs> {
+    of: PhantomData<K>,
+}
+
+impl<K: VisitedJobs> Protocol<BoxedJob, HandleView> for JobProtocol<K> {
+    ghost use Rattle.std.specs.Prelude.{true, []};
+    ghost use Rattle.steal_pool.specs.Protocol.{JobsConserved, handle, new_pass};
+
+    ghost holds = { JobsConserved K.is_visited };
+
+    ghost first = { handle true 0 [] [] };
+
+    ghost guest = { new_pass };
+}
+
+/// How the owner makes a pass for a stealer, and takes it back.
+pub struct ForStealer;
+
+impl Split<HandleView> for ForStealer {
+    ghost use Rattle.steal_pool.specs.Protocol.{with_one_lent, new_pass};
+
+    ghost left = { λ v. with_one_lent v };
+
+    ghost right = { λ _. new_pass };
+}
+
+impl Join<HandleView> for ForStealer {
+    ghost use Rattle.std.specs.Prelude.{false, []};
+    ghost use Rattle.steal_pool.specs.Protocol.{with_returned, handle};
+
+    ghost both = { λ v w. with_returned v w };
+
+    ghost spent = { handle false 0 [] [] };
+}
+
+/// What a push leaves.
+pub struct Pushed;
+
+impl Outcome<BoxedJob, HandleView> for Pushed {
+    ghost use Rattle.std.specs.Prelude.{◌≡◌};
+    ghost use Rattle.steal_pool.specs.Protocol.{with_pushed};
+
+    ghost then = { λ v xs w. w ≡ with_pushed v xs };
+}
+
+/// What a pop or a steal leaves.
+pub struct Taken<K: VisitedJobs> {
+    of: PhantomData<K>,
+}
+
+impl<K: VisitedJobs> Outcome<BoxedJob, HandleView> for Taken<K> {
+    ghost use Rattle.std.specs.Prelude.{◌≡◌, All};
+    ghost use Rattle.steal_pool.specs.Protocol.{with_taken};
+
+    ghost then = { λ v xs w. (w ≡ with_taken v xs) × All K.is_visited xs };
+}
+
+/// What the owner's pop leaves once all passes came back.
+pub struct Drained<K: VisitedJobs> {
+    of: PhantomData<K>,
+}
+
+impl<K: VisitedJobs> Outcome<BoxedJob, HandleView> for Drained<K> {
+    ghost use Rattle.std.specs.Prelude.{◌≡◌, All};
+    ghost use Rattle.steal_pool.specs.Protocol.{with_taken, TookAllPushed};
+
+    ghost then = { λ v xs w. (w ≡ with_taken v xs) × All K.is_visited xs };
+
+    ghost empty = { TookAllPushed };
+}
+
+/// The owner's end of a deque.
+pub type Owner<K> = Worker<BoxedJob, Global, HandleView, JobProtocol<K>>;
+
+/// The end of a deque from which others steal.
+pub type JobStealer<K> = Stealer<BoxedJob, Global, HandleView, JobProtocol<K>>;
