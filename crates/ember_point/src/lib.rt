@@ -2,11 +2,13 @@
 #![tactic(auto)]
 
 mod cross;
+mod law;
 mod lowest;
 mod meet_point;
 mod meeting;
 mod plane_side;
 
+pub use law::values_at_meets_are_small;
 pub use lowest::reduce;
 pub use meet_point::Meet;
 pub use meeting::meet;
