@@ -4,6 +4,7 @@
 
 mod boundary;
 mod cutting;
+mod law;
 mod meeting;
 mod passage;
 mod reach_cut;
@@ -11,6 +12,7 @@ mod reaching;
 mod ring;
 
 pub use cutting::{clip, cut, parts};
+pub use law::rings_are_valid_and_bounded;
 pub use meeting::{meets, meets_face};
 pub use reach_cut::{Cut, Reach};
 pub use reaching::reach;
