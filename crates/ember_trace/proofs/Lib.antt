@@ -1,3 +1,4 @@
+pub mod AboveEnds
 pub mod BoxedRegions
 pub mod ClearVertices
 pub mod Corners
@@ -12,6 +13,7 @@ pub mod OneSides
 pub mod SegmentsPast
 pub mod Places
 pub mod RaySides
+pub mod Roots
 pub mod RegionEnds
 pub mod SharedPlanes
 pub mod Slides

@@ -1,5 +1,6 @@
 // Where the segments of a path cross a triangle.
 ghost use Rattle.std.specs.Prelude.{◌≡◌, int_le, int_lt, ◌&&◌};
+ghost use Rattle.std.specs.Int.{int_max};
 ghost use Rattle.ember_algebra.specs.Size.{Small};
 ghost use Rattle.ember_algebra.specs.declared.Sign.{Sign};
 ghost use Rattle.ember_algebra.specs.Sign.{is_neg};
@@ -7,7 +8,7 @@ ghost use Rattle.ember_model.specs.Valid.{IsValidTri, IsValidPlane};
 ghost use Rattle.ember_model.specs.Sizes.{IsSupportSized};
 ghost use Rattle.ember_model.specs.Planes.{edge_planes};
 ghost use Rattle.ember_trace.specs.Paths.{coordinate, side_at_start, side_after_first, side_at_end, floor_at_end};
-ghost use Rattle.ember_trace.specs.Crossings.{all_behind, interval_along, contains_above, may_contain, may_end, is_on_first, is_on_second, is_on_last, first_segment, second_segment, segments_in_wall, last_segment, side_before, side_after, crossing_before, crossing_after};
+ghost use Rattle.ember_trace.specs.Crossings.{all_behind, interval_along, contains_above, may_contain, may_end, in_root, AreEnds, is_on_first, is_on_second, is_on_last, first_segment, second_segment, segments_in_wall, last_segment, side_before, side_after, crossing_before, crossing_after};
 
 use crate::crossing_signs::{side_after, side_before, signed_crossing};
 use crate::near_triangle::NearTriangle;
@@ -35,28 +36,57 @@ fn contains_above(s: &Interval, at: i32) -> bool
 }
 
 // A place from this whole number to the next can be within.
-fn may_contain(s: &Interval, floor: i128) -> bool
+fn may_contain(s: &Interval, floor: i32) -> bool
     ensures { result ≡ may_contain s.now floor }
 {
-    i128::from(s.low) <= floor && floor <= i128::from(s.high)
+    s.low <= floor && floor <= s.high
 }
 
-/// The whole numbers at or below the coordinates of a path's end, but for the main axis.
+/// The whole numbers at or below the coordinates of a path's end, moved into the root. What lies
+/// above `top` along the main axis lies above the whole last segment.
 #[derive(Clone, Copy)]
 pub struct Ends {
-    pub first: i128,
-    pub second: i128,
+    pub first: i32,
+    pub second: i32,
+    pub top: i32,
+}
+
+fn in_root(floor: i128) -> i32
+    ensures value { result ≡ in_root floor }
+    ensures small { Small 2048 result }
+{
+    if floor < -2048 {
+        -2048
+    } else if 2048 < floor {
+        2048
+    } else {
+        floor as i32
+    }
+}
+
+fn floor_in_root(way: &Path, k: Axis) -> i32
+    ensures value { result ≡ in_root (floor_at_end way.now k) }
+    ensures small { Small 2048 result }
+{
+    in_root(way.floor_at_end(k))
+}
+
+// Above this along the main axis lies what is above both ends of the last segment.
+fn top_of(way: &Path) -> i32
+    ensures value { result ≡ int_max (in_root (floor_at_end way.now way.now.main)) (coordinate way.now.lo way.now.main) }
+    ensures small { Small 2048 result }
+{
+    floor_in_root(way, way.main).max(coordinate(way.lo, way.main))
 }
 
 /// Those of a path.
 pub fn ends_of(way: &Path) -> Ends
-    ensures first { result.first ≡ floor_at_end way.now way.now.first }
-    ensures second { result.second ≡ floor_at_end way.now way.now.second }
+    ensures { AreEnds way.now result }
 {
-    Ends {
-        first: way.floor_at_end(way.first),
-        second: way.floor_at_end(way.second),
-    }
+    let first = floor_in_root(way, way.first);
+    let second = floor_in_root(way, way.second);
+    let top = top_of(way);
+    Ends { first, second, top }
 }
 
 fn is_neg(s: Sign) -> bool
@@ -129,37 +159,35 @@ fn is_on_first(f: &NearTriangle, way: &Path) -> bool
 }
 
 fn may_end_along_first(f: &NearTriangle, way: &Path, at: &Ends) -> bool
-    requires { at.now.first ≡ floor_at_end way.now way.now.first }
+    requires { AreEnds way.now at.now }
     ensures { result ≡ may_contain (interval_along f.now.aabb way.now.first) (floor_at_end way.now way.now.first) }
 {
     may_contain(&interval_along(&f.aabb, way.first), at.first)
 }
 
 fn may_end_along_second(f: &NearTriangle, way: &Path, at: &Ends) -> bool
-    requires { at.now.second ≡ floor_at_end way.now way.now.second }
+    requires { AreEnds way.now at.now }
     ensures { result ≡ may_contain (interval_along f.now.aabb way.now.second) (floor_at_end way.now way.now.second) }
 {
     may_contain(&interval_along(&f.aabb, way.second), at.second)
 }
 
 fn may_end(f: &NearTriangle, way: &Path, at: &Ends) -> bool
-    requires first { at.now.first ≡ floor_at_end way.now way.now.first }
-    requires second { at.now.second ≡ floor_at_end way.now way.now.second }
+    requires { AreEnds way.now at.now }
     ensures { result ≡ may_end way.now f.now }
 {
     may_end_along_first(f, way, at) && may_end_along_second(f, way, at)
 }
 
 fn is_on_second(f: &NearTriangle, way: &Path, at: &Ends) -> bool
-    requires { at.now.first ≡ floor_at_end way.now way.now.first }
+    requires { AreEnds way.now at.now }
     ensures { result ≡ is_on_second way.now f.now }
 {
     may_end_along_first(f, way, at) && second_is_behind(&f.tri, way)
 }
 
 fn is_on_last(f: &NearTriangle, way: &Path, at: &Ends) -> bool
-    requires first { at.now.first ≡ floor_at_end way.now way.now.first }
-    requires second { at.now.second ≡ floor_at_end way.now way.now.second }
+    requires { AreEnds way.now at.now }
     ensures { result ≡ is_on_last way.now f.now }
 {
     may_end(f, way, at) && last_is_behind(&f.tri, way)
@@ -177,7 +205,7 @@ fn first_segment(f: &NearTriangle, way: &Path) -> i32
 }
 
 fn second_segment(f: &NearTriangle, way: &Path, at: &Ends) -> i32
-    requires { at.now.first ≡ floor_at_end way.now way.now.first }
+    requires { AreEnds way.now at.now }
     ensures value { result ≡ second_segment way.now f.now }
     ensures small { Small 1 result }
 {
@@ -202,7 +230,7 @@ fn is_in_wall(f: &NearTriangle, way: &Path) -> bool
 
 // The crossings of the segments in the low wall of the main axis.
 fn segments_in_wall(f: &NearTriangle, way: &Path, at: &Ends) -> i32
-    requires { at.now.first ≡ floor_at_end way.now way.now.first }
+    requires { AreEnds way.now at.now }
     ensures value { result ≡ segments_in_wall way.now f.now }
     ensures small { Small 2 result }
 {
@@ -222,9 +250,8 @@ pub struct Crossings {
 }
 
 // The crossings of the last segments, one along each path.
-fn last_segments(f: &NearTriangle, way: &Path, at: &Ends) -> Crossings
-    requires first { at.now.first ≡ floor_at_end way.now way.now.first }
-    requires second { at.now.second ≡ floor_at_end way.now way.now.second }
+fn last_segments_by_sides(f: &NearTriangle, way: &Path, at: &Ends) -> Crossings
+    requires { AreEnds way.now at.now }
     ensures before { result.before ≡ last_segment way.now f.now (side_before f.now.support way.now.main (side_at_end way.now f.now.support)) }
     ensures after { result.after ≡ last_segment way.now f.now (side_after f.now.support way.now.main (side_at_end way.now f.now.support)) }
     ensures small { Small 1 result.before × Small 1 result.after }
@@ -243,10 +270,32 @@ fn last_segments(f: &NearTriangle, way: &Path, at: &Ends) -> Crossings
     }
 }
 
+fn lies_above(f: &NearTriangle, way: &Path, at: &Ends) -> bool
+    ensures { result ≡ int_lt at.now.top (interval_along f.now.aabb way.now.main).low }
+{
+    at.top < interval_along(&f.aabb, way.main).low
+}
+
+// The same, at once where the triangle lies above the end of the path.
+fn last_segments(f: &NearTriangle, way: &Path, at: &Ends) -> Crossings
+    requires { AreEnds way.now at.now }
+    ensures before { result.before ≡ last_segment way.now f.now (side_before f.now.support way.now.main (side_at_end way.now f.now.support)) }
+    ensures after { result.after ≡ last_segment way.now f.now (side_after f.now.support way.now.main (side_at_end way.now f.now.support)) }
+    ensures small { Small 1 result.before × Small 1 result.after }
+{
+    if lies_above(f, way, at) {
+        Crossings {
+            before: 0,
+            after: 0,
+        }
+    } else {
+        last_segments_by_sides(f, way, at)
+    }
+}
+
 /// The crossings of the paths with a triangle.
 pub fn crossings_of(f: &NearTriangle, way: &Path, at: &Ends) -> Crossings
-    requires first { at.now.first ≡ floor_at_end way.now way.now.first }
-    requires second { at.now.second ≡ floor_at_end way.now way.now.second }
+    requires { AreEnds way.now at.now }
     ensures before { result.before ≡ crossing_before way.now f.now }
     ensures after { result.after ≡ crossing_after way.now f.now }
     ensures small { Small 3 result.before × Small 3 result.after }
