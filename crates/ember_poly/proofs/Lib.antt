@@ -40,3 +40,4 @@ pub mod RedundantPlanes
 pub mod OutlinePoints
 pub mod SameSide
 pub mod OwnOutline
+pub mod LevelMeets

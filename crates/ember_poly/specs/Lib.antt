@@ -5,3 +5,5 @@ pub mod Boundaries
 pub mod Rings
 pub mod Sides
 pub mod Chords
+pub mod Levels
+pub mod Drafts

@@ -4,6 +4,8 @@
 
 mod boundary;
 mod cutting;
+mod draft;
+mod level;
 mod meeting;
 mod passage;
 mod reach_cut;
@@ -11,6 +13,7 @@ mod reaching;
 mod ring;
 
 pub use cutting::{clip, cut, parts};
+pub use draft::Draft;
 pub use meeting::{meets, meets_face};
 pub use reach_cut::{Cut, Reach};
 pub use reaching::reach;
