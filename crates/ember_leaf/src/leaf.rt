@@ -30,9 +30,12 @@ use crate::wall::Wall;
 use ember_box::{Aabb, Cell, aabb_of_cell};
 use ember_expr::{Expr, value};
 use ember_model::{Axis, OutOfMemory, Plane, Tri, Vector, main_axis};
-use ember_poly::{Ring, support};
+use ember_poly::{Draft, Ring, support};
 use ember_trace::{NearTriangle, Sides, near_triangles, sides_beside};
 use std::alloc::Global;
+
+// For how many cuts a triangle's start has room at most.
+const ROOM: usize = 6;
 
 // The plane's front is on the side to which its main axis points.
 fn faces_on(p: &Plane) -> bool
@@ -125,6 +128,7 @@ impl Leaf<'_> {
         walls: &[Wall],
         i: usize,
         cutters: &mut Vec<Cutter>,
+        draft: &mut Draft,
         kept: &mut Vec<Kept>,
     ) -> Result<(), OutOfMemory>
         requires few { length self.now.near.now ≤ 262144 }
@@ -145,7 +149,7 @@ impl Leaf<'_> {
         if find_cutters(cutters, own, &bounds, self.near, i)? {
             return Ok(());
         }
-        if let Some(ring) = clip_to_box(alloc, own, walls)? {
+        if let Some(ring) = clip_to_box(alloc, draft, own, walls, cutters.len().min(ROOM))? {
             let list = regions(alloc, ring, cutters)?;
             self.keep(list, i, kept)?;
         }
@@ -180,9 +184,10 @@ pub fn leaf_faces(
     };
     let walls = walls(c);
     let mut cutters = Vec::new(alloc);
+    let mut draft = Draft::new(alloc);
     let mut kept = Vec::new(alloc);
     for i in 0..near_triangles.len() {
-        leaf.write_triangle(alloc, &walls, i, &mut cutters, &mut kept)?;
+        leaf.write_triangle(alloc, &walls, i, &mut cutters, &mut draft, &mut kept)?;
     }
     Ok(KeptList::of(kept))
 }

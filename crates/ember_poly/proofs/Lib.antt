@@ -41,3 +41,4 @@ pub mod OutlinePoints
 pub mod SameSide
 pub mod OwnOutline
 pub mod BoundedRings
+pub mod LevelMeets

@@ -6,3 +6,5 @@ pub mod Bounds
 pub mod Rings
 pub mod Sides
 pub mod Chords
+pub mod Levels
+pub mod Drafts

@@ -5,6 +5,8 @@
 mod boundary;
 mod cutting;
 mod law;
+mod draft;
+mod level;
 mod meeting;
 mod passage;
 mod reach_cut;
@@ -13,6 +15,7 @@ mod ring;
 
 pub use cutting::{clip, cut, parts};
 pub use law::rings_are_valid_and_bounded;
+pub use draft::Draft;
 pub use meeting::{meets, meets_face};
 pub use reach_cut::{Cut, Reach};
 pub use reaching::reach;
