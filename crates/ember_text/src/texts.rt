@@ -57,6 +57,8 @@ pub fn faces_text(alloc: Global, kept: &[Kept]) -> Result<FacesText, OutOfMemory
 {
     let mut bytes = Vec::new(alloc);
     put_faces(alloc, kept, &mut bytes)?;
+    // Many texts wait side by side, so none keeps room that it doesn't need.
+    bytes.shrink_to_fit();
     Ok(FacesText {
         bytes,
         count: kept.len() as u64,
