@@ -1,5 +1,5 @@
 // Whole numbers below multiples of numbers.
-ghost use Rattle.std.specs.Prelude.{◌≡◌, ◌^◌, ◌<◌, IfSome};
+ghost use Rattle.std.specs.Prelude.{◌≡◌, ◌^◌, ◌<◌, IfSome, unsigned_abs};
 ghost use Rattle.std.specs.Option.{option_map};
 ghost use Rattle.ember_number.specs.Fractions as fractions;
 ghost use Rattle.ember_number.specs.Fractions.{signed};
@@ -11,7 +11,8 @@ use crate::values::Number;
 
 fn with_sign(minus: bool, size: Option<u128>) -> Option<i128>
     requires { IfSome size (λ size. size < 2 ^ 106) }
-    ensures { result ≡ option_map (signed minus) size }
+    ensures value { result ≡ option_map (signed minus) size }
+    ensures small { IfSome result (λ floor. unsigned_abs floor < 2 ^ 106) }
 {
     match size {
         Some(size) => {
@@ -26,7 +27,8 @@ fn with_sign(minus: bool, size: Option<u128>) -> Option<i128>
 /// where the number is 10^15 or more in size.
 pub fn floor_times(number: &Number, factor: u64) -> Option<i128>
     requires { factor < 2 ^ 41 }
-    ensures { result ≡ fractions.floor_times factor (value_of number.now) }
+    ensures value { result ≡ fractions.floor_times factor (value_of number.now) }
+    ensures small { IfSome result (λ floor. unsigned_abs floor < 2 ^ 106) }
 {
     match number {
         Number::Decimal(d) => with_sign(d.minus, decimal_multiple(d, factor)),
