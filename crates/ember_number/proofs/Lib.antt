@@ -3,3 +3,4 @@ pub mod DigitNumbers
 pub mod Parts
 pub mod SignedFloors
 pub mod Doublings
+pub mod Denominators

@@ -3,7 +3,7 @@ ghost use Rattle.std.specs.Prelude.{ℕ, ◌<◌, IfSome, IfNone};
 ghost use Rattle.ember_snap.specs.Steps.{IsStep, nice_of};
 ghost use Rattle.ember_snap.specs.Spans.{FitsAll, AreCoordinates, IsLeastNice};
 
-use crate::spans::{Coordinates, spans};
+use crate::spans::{Coordinates, fitting_spans};
 use crate::steps::{NICE_STEPS, Step, nice};
 
 /// The least of the nice steps at which the coordinates fit on a grid. Nice are 1, 2 and 5 times a
@@ -18,8 +18,9 @@ pub fn nice_step(coordinates: &Coordinates) -> Option<Step>
 {
     for rank in 0..NICE_STEPS {
         let step = nice(rank);
-        if spans(coordinates, &step).is_some() {
-            return Some(step);
+        match fitting_spans(coordinates, &step) {
+            Some(_) => return Some(step),
+            None => {}
         }
     }
     None

@@ -1,5 +1,5 @@
 // What the cells of many numbers span.
-ghost use Rattle.std.specs.Prelude.{IfSome, IfNone};
+ghost use Rattle.std.specs.Prelude.{◌≤ℤ◌, IfSome, IfNone};
 ghost use Rattle.ember_snap.specs.Steps.{IsStep};
 ghost use Rattle.ember_snap.specs.Spans.{Fits, FitsAll, IsSpan, AreSpans, AreNumbers, AreCoordinates, IsWidened};
 
@@ -32,6 +32,7 @@ pub(crate) struct Spans {
 const MOST: i128 = 4094;
 
 fn widened(span: Span, cell: i128) -> Span
+    requires { span.least ≤ℤ span.greatest }
     ensures { IsWidened span cell result }
 {
     if cell < span.least {
@@ -50,7 +51,7 @@ fn widened(span: Span, cell: i128) -> Span
 }
 
 // The least and the greatest cell, if the cells fit on a grid.
-pub(crate) fn span(numbers: &[Number], step: &Step) -> Option<Span>
+pub(crate) fn fitting_span(numbers: &[Number], step: &Step) -> Option<Span>
     requires step { IsStep step.now }
     requires numbers { AreNumbers numbers.now }
     ensures found { IfSome result (IsSpan step.now numbers.now) }
@@ -71,15 +72,15 @@ pub(crate) fn span(numbers: &[Number], step: &Step) -> Option<Span>
 }
 
 // The same along all axes.
-pub(crate) fn spans(coordinates: &Coordinates, step: &Step) -> Option<Spans>
+pub(crate) fn fitting_spans(coordinates: &Coordinates, step: &Step) -> Option<Spans>
     requires step { IsStep step.now }
     requires coordinates { AreCoordinates coordinates.now }
     ensures found { IfSome result (AreSpans step.now coordinates.now) }
     ensures none { IfNone result (FitsAll step.now coordinates.now → ⊥) }
 {
-    match span(coordinates.x, step) {
-        Some(x) => match span(coordinates.y, step) {
-            Some(y) => match span(coordinates.z, step) {
+    match fitting_span(coordinates.x, step) {
+        Some(x) => match fitting_span(coordinates.y, step) {
+            Some(y) => match fitting_span(coordinates.z, step) {
                 Some(z) => Some(Spans { x, y, z }),
                 None => None,
             },
