@@ -14,6 +14,8 @@ mod face_files;
 #[cfg(test)]
 mod lists;
 #[cfg(test)]
+mod numbers;
+#[cfg(test)]
 mod objects;
 #[cfg(test)]
 mod reports;

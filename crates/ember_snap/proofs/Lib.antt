@@ -1,0 +1,4 @@
+pub mod Floors
+pub mod Nearest
+pub mod NiceSteps
+pub mod SpanSteps

@@ -1,0 +1,13 @@
+//! Places numbers on a grid of whole numbers: the step of the grid, the cell of a number, and where
+//! the grid lies. Takes no memory.
+#![tactic(auto)]
+
+mod cells;
+mod search;
+mod spans;
+mod steps;
+
+pub use cells::{cell, grid_number};
+pub use search::nice_step;
+pub use spans::Coordinates;
+pub use steps::Step;
