@@ -4,8 +4,8 @@
 
 mod boundary;
 mod cutting;
-mod law;
 mod draft;
+mod law;
 mod level;
 mod meeting;
 mod passage;
@@ -14,8 +14,8 @@ mod reaching;
 mod ring;
 
 pub use cutting::{clip, cut, parts};
-pub use law::rings_are_valid_and_bounded;
 pub use draft::Draft;
+pub use law::rings_are_valid_and_bounded;
 pub use meeting::{meets, meets_face};
 pub use reach_cut::{Cut, Reach};
 pub use reaching::reach;
