@@ -11,5 +11,5 @@ mod plane_side;
 pub use lowest::reduce;
 pub use meet_point::Meet;
 pub use meeting::meet;
-pub use narrow::{is_narrow, narrow_side};
+pub use narrow::{is_narrow, narrow_product, narrow_side};
 pub use plane_side::{side, slide};

@@ -2,6 +2,7 @@
 #![tactic(auto)]
 
 mod crossing_signs;
+mod edge_lines;
 mod near;
 mod near_triangle;
 mod path;
