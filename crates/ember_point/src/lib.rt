@@ -13,5 +13,5 @@ pub use law::values_at_meets_are_small;
 pub use lowest::reduce;
 pub use meet_point::Meet;
 pub use meeting::meet;
-pub use narrow::{is_narrow, narrow_side};
+pub use narrow::{is_narrow, narrow_product, narrow_side};
 pub use plane_side::{side, slide};

@@ -18,8 +18,8 @@ pub fn is_narrow(m: &Meet) -> bool
     coordinates + m.w.unsigned_abs() < 4611686018427387904
 }
 
-// One product of 64 by 64 bits.
-fn product(a: i64, x: i128) -> i128
+/// The product of a plane's entry and a coordinate of a narrow point, by 64 bits times 64.
+pub fn narrow_product(a: i64, x: i128) -> i128
     requires a { Small 549755813887 a }
     requires x { Small 4611686018427387903 x }
     ensures value { result ≡ a *ℤ x }
@@ -34,6 +34,6 @@ pub fn narrow_side(p: &Plane, m: &Meet) -> Sign
     requires narrow { is_narrow (spot_of m.now) ≡ true }
     ensures { result ≡ sgn (value_at p.now (spot_of m.now)) }
 {
-    let front = product(p.a, m.x) + product(p.b, m.y) + product(p.c, m.z);
-    sign_of(front - product(p.d, m.w))
+    let front = narrow_product(p.a, m.x) + narrow_product(p.b, m.y) + narrow_product(p.c, m.z);
+    sign_of(front - narrow_product(p.d, m.w))
 }

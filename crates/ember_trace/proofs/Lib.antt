@@ -8,6 +8,7 @@ pub mod NearTriangleLists
 pub mod FarSegments
 pub mod FilledFaces
 pub mod FlatPlanes
+pub mod LevelTriangles
 pub mod MeshSums
 pub mod OneSides
 pub mod SegmentsPast

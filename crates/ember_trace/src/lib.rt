@@ -3,6 +3,7 @@
 
 mod crossing_signs;
 mod law;
+mod edge_lines;
 mod near;
 mod near_triangle;
 mod path;

@@ -1,6 +1,6 @@
 use mir.Syntax.{w64, w128}
 use Rattle.ember_algebra.proofs.Exact.{Code, stored, kept, wide, ◌⊠◌, ◌&◌, done, exact, bounded}
-use Rattle.ember_point.proofs.narrow.product.Goals as goal
+use Rattle.ember_point.proofs.narrow.narrow_product.Goals as goal
 
 abbrev code : Code
 code = stored w128 (wide 0 ⊠ stored w128 (stored w64 (kept 1)))
