@@ -1,7 +1,7 @@
 use Rattle.std.proofs.Common.{All, subst, sym}
 use Rattle.ember_model.specs.Meshes.{HasMesh}
 use Rattle.ember_visit.proofs.IndexLists.{numbered_less}
-use Rattle.ember_visit.proofs.halving.halve_job.Goals as goal
+use Rattle.ember_visit.proofs.halving.jobs_of.Goals as goal
 
 pub shift_listed-requires-clause-numbered : goal.shift_listed-requires-clause-numbered
 shift_listed-requires-clause-numbered c =
