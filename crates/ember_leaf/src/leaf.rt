@@ -1,5 +1,5 @@
 // The written regions of a leaf.
-ghost use Rattle.std.specs.Prelude.{◌≡◌, List, ◌≤◌, ◌<◌, ◌+◌, map, length, All};
+ghost use Rattle.std.specs.Prelude.{◌≡◌, List, [], ◌∷◌, ◌≤◌, ◌<◌, ◌+◌, map, length, All};
 ghost use Rattle.std.specs.Prelude.{IfOk, IfSome, OnOk, option_to_list};
 ghost use Rattle.ember_model.specs.Valid.{IsValidTri};
 ghost use Rattle.ember_model.specs.Owners.{IsOwner};
@@ -99,6 +99,26 @@ impl Leaf<'_> {
         }
     }
 
+    // Adds the one region of triangle `i`, if it is written.
+    fn keep_one(&self, ring: Ring, i: usize, kept: &mut Vec<Kept>) -> Result<(), OutOfMemory>
+        requires few { length self.now.near.now ≤ 262144 }
+        requires counts { AreBoxCounts self.now.at.now.counts }
+        requires index { i < length self.now.near.now }
+        requires region { IsRegionOf (tri_at (tris_of self.now.near.now) i) ring }
+        requires regions { AreOwned self.now.cell.now (tris_of self.now.near.now) i (ring ∷ []) }
+        requires starts { All (HasReferenceSide self.now.cell.now) self.now.near.now }
+        requires inside { LiesIn self.now.cell.now ring }
+        requires owner { IsOwner (tris_of self.now.near.now) i ring }
+        requires kept { ArePlacedBelow (tris_of self.now.near.now) (i + 1) kept.old.items }
+        ensures placed { OnOk result (ArePlacedBelow (tris_of self.now.near.now) (i + 1) kept.new.items) }
+        ensures written { OnOk result (AddsWritten self.now i kept.old.items kept.new.items) }
+    {
+        if let Some(k) = self.kept(i, ring) {
+            kept.push(k)?;
+        }
+        Ok(())
+    }
+
     // Adds the written ones of the regions that triangle `i` owns.
     fn keep(&self, list: Vec<Ring>, i: usize, kept: &mut Vec<Kept>) -> Result<(), OutOfMemory>
         requires few { length self.now.near.now ≤ 262144 }
@@ -150,8 +170,12 @@ impl Leaf<'_> {
             return Ok(());
         }
         if let Some(ring) = clip_to_box(alloc, draft, own, walls, cutters.len().min(ROOM))? {
-            let list = regions(alloc, ring, cutters)?;
-            self.keep(list, i, kept)?;
+            if cutters.is_empty() {
+                self.keep_one(ring, i, kept)?;
+            } else {
+                let list = regions(alloc, ring, cutters)?;
+                self.keep(list, i, kept)?;
+            }
         }
         Ok(())
     }

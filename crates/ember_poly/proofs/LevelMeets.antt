@@ -1,12 +1,12 @@
 -- The meet of two planes with a level lies on the three planes.
-use Rattle.std.proofs.Common.{◌≡◌, sym, subst, ap, ◌∙◌, Bool, true, false, ℤ, pos, negsuc, neg_ℤ, ◌+ℤ◌, ◌-ℤ◌, ◌*ℤ◌, ◌<ℤ◌}
+use Rattle.std.proofs.Common.{◌≡◌, sym, subst, ap, ◌∙◌, Bool, true, false, ℤ, pos, negsuc, ◌-ℤ◌, ◌*ℤ◌, ◌<ℤ◌}
 use Rattle.ember_algebra.specs.Vector.{det}
 use Rattle.ember_algebra.proofs.Ring.{◌⊕◌, ◌⊖◌, ◌⊗◌, ◌≈◌, neg, num, solve, cancels}
 use Rattle.ember_model.specs.declared.point.Axis.{Axis}
 use Rattle.ember_model.specs.declared.point.Axis.TheVariants.{X, Y, Z}
 use Rattle.ember_model.specs.declared.point.Spot.{Spot}
 use Rattle.ember_model.specs.declared.plane.Plane.{Plane}
-use Rattle.ember_model.specs.Planes.{value_at, along}
+use Rattle.ember_model.specs.Planes.{value_at}
 use Rattle.ember_model.specs.Edges.{normal}
 use Rattle.ember_poly.specs.Rings.{IsMeet, orientation}
 use Rattle.ember_poly.specs.Levels.{FacesAt, IsLevel, turn_at, level_meet}

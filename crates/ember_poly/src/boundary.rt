@@ -108,6 +108,9 @@ impl Boundary {
         ensures count { length self.new.edges.items ≡ length self.old.edges.items }
         ensures paired { HasEqualLengths self.new }
     {
+        if index == 0 {
+            return;
+        }
         begin_at(&mut self.edges, index);
         begin_at(&mut self.corners, index);
         begin_at(&mut self.plane_indices, index);

@@ -103,6 +103,7 @@ fn is_above(p: &Plane, axis: Option<Axis>, m: &Meet) -> bool
 
 // How many corners at the front lie below the plane, where some at the front are known to, and
 // whether the next one is above it.
+#[inline(always)]
 fn run(p: &Plane, axis: Option<Axis>, corners: &[Meet], known: usize) -> (usize, bool)
     requires plane { IsValidPlane p.now }
     requires axis { IfSome axis (λ k. IsAlong k p.now) }

@@ -1,4 +1,4 @@
-use Rattle.std.proofs.Common.{◌≡◌, sym, subst, ap, ◌∙◌, [], ◌∷◌, ℤ, pos, ◌<ℤ◌}
+use Rattle.std.proofs.Common.{sym, subst, ap, ◌∙◌, [], ◌∷◌, ℤ, pos, ◌<ℤ◌}
 use Rattle.ember_algebra.specs.Size.{Small}
 use Rattle.ember_algebra.proofs.Exact.{wide, kept, run, ◌&◌, done, exact, bounded}
 use Rattle.ember_model.specs.Valid.{IsValidMeet}
