@@ -3,3 +3,6 @@ pub mod Rules
 pub mod TreeLimits
 pub mod Derived
 pub mod DerivedTrees
+pub mod Checked
+pub mod Complete
+pub mod CompleteTrees
