@@ -21,7 +21,8 @@ span_fits s xs span h = (
       record { low_enough = within.low_enough; high_enough = omega (arith, ints, within.high_enough, h.narrow) },
 )
 
-at_one : (s : Step) (xs : List Number) (z low high : ℤ) → All (λ x. IsBetween low (cell_at s x) high) xs → Any (λ x. cell_at s x ≡ z) xs → IsBetween low z high
+-- what holds of all cells holds of one
+pub at_one : (s : Step) (xs : List Number) (z low high : ℤ) → All (λ x. IsBetween low (cell_at s x) high) xs → Any (λ x. cell_at s x ≡ z) xs → IsBetween low z high
 at_one s xs z low high all any =
     let at : IsBetween low (cell_at s (get_or xs any.0 any.1)) high = all any.0 any.1 any.2 in rw (any.3, any.4) at at
 

@@ -38,6 +38,16 @@ pub record IsWidened (old : Span) (cell : ℤ) (new : Span) : Type 0 where
   pub least : (new.least ≡ old.least) ⊎ (new.least ≡ cell)
   pub greatest : (new.greatest ≡ old.greatest) ⊎ (new.greatest ≡ cell)
 
+-- from the least to the greatest cell there are at most 4095
+pub record IsNarrow (span : Span) : Type 0 where
+  pub ordered : span.least ≤ℤ span.greatest
+  pub narrow : (span.greatest -ℤ span.least) ≤ℤ pos 4094
+
+pub record AreNarrow (spans : Spans) : Type 0 where
+  pub x : IsNarrow spans.x
+  pub y : IsNarrow spans.y
+  pub z : IsNarrow spans.z
+
 -- the least and the greatest cell, which fit on a grid
 pub record IsSpan (s : Step) (xs : List Number) (span : Span) : Type 0 where
   pub within : All (λ x. IsBetween span.least (cell_at s x) span.greatest) xs
