@@ -1,5 +1,5 @@
 -- Spans of cells: what they say, and one number more.
-use Rattle.std.proofs.Common.{◌≡◌, ◌≤◌, ◌<◌, ◌⊎◌, ⊎_elim, ℕ, ◌+◌, ◌^◌, List, length, take, get_or, ◌∙◌, sym, arith, ℤ, pos, ◌+ℤ◌, ◌-ℤ◌, ◌<ℤ◌, ◌≤ℤ◌}
+use Rattle.std.proofs.Common.{◌≡◌, ◌≤◌, ◌<◌, ◌⊎◌, ⊎_elim, Bool, true, false, ℕ, ◌+◌, ◌^◌, List, length, take, get_or, ◌∙◌, sym, arith, ℤ, pos, ◌+ℤ◌, ◌-ℤ◌, ◌<ℤ◌, ◌≤ℤ◌}
 use borrow.Author.Differences.{ints}
 use Rattle.std.specs.List.{All, Any}
 use Rattle.std.specs.Int.RustNames.{unsigned_abs}
@@ -112,3 +112,7 @@ spans_fit s c spans h = record {
   y = span_fits s c.y.now spans.y h.y;
   z = span_fits s c.z.now spans.z h.z;
 }
+
+-- a test that has failed
+pub when_not : {P : Type 0} (b : Bool) → b ≡ false → (b ≡ true → P) × (P → b ≡ true) → P → ⊥
+when_not b failed test fact = let passed : b ≡ true = test.1 fact in cc

@@ -10,6 +10,6 @@ mod steps;
 
 pub use cells::{cell, grid_number};
 pub use offsets::{Offset, offset_at};
-pub use search::nice_step;
+pub use search::{finest_step, nice_step};
 pub use spans::Coordinates;
 pub use steps::Step;
