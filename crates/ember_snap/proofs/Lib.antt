@@ -2,3 +2,4 @@ pub mod Floors
 pub mod Nearest
 pub mod NiceSteps
 pub mod SpanSteps
+pub mod Landings

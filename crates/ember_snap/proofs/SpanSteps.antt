@@ -1,5 +1,5 @@
 -- Spans of cells: what they say, and one number more.
-use Rattle.std.proofs.Common.{◌≡◌, ◌≤◌, ◌<◌, ◌⊎◌, ⊎_elim, ℕ, ◌+◌, ◌^◌, List, length, take, get_or, ◌∙◌, sym, arith, ℤ, pos, ◌+ℤ◌, ◌-ℤ◌, ◌<ℤ◌, ◌≤ℤ◌}
+use Rattle.std.proofs.Common.{◌≡◌, ◌≤◌, ◌<◌, ◌⊎◌, ⊎_elim, Bool, true, false, ℕ, ◌+◌, ◌^◌, List, length, take, get_or, ◌∙◌, sym, arith, ℤ, pos, ◌+ℤ◌, ◌-ℤ◌, ◌<ℤ◌, ◌≤ℤ◌}
 use borrow.Author.Differences.{ints}
 use Rattle.std.specs.List.{All, Any}
 use Rattle.std.specs.Int.RustNames.{unsigned_abs}
@@ -21,7 +21,8 @@ span_fits s xs span h = (
       record { low_enough = within.low_enough; high_enough = omega (arith, ints, within.high_enough, h.narrow) },
 )
 
-at_one : (s : Step) (xs : List Number) (z low high : ℤ) → All (λ x. IsBetween low (cell_at s x) high) xs → Any (λ x. cell_at s x ≡ z) xs → IsBetween low z high
+-- what holds of all cells holds of one
+pub at_one : (s : Step) (xs : List Number) (z low high : ℤ) → All (λ x. IsBetween low (cell_at s x) high) xs → Any (λ x. cell_at s x ≡ z) xs → IsBetween low z high
 at_one s xs z low high all any =
     let at : IsBetween low (cell_at s (get_or xs any.0 any.1)) high = all any.0 any.1 any.2 in rw (any.3, any.4) at at
 
@@ -111,3 +112,7 @@ spans_fit s c spans h = record {
   y = span_fits s c.y.now spans.y h.y;
   z = span_fits s c.z.now spans.z h.z;
 }
+
+-- a test that has failed
+pub when_not : {P : Type 0} (b : Bool) → b ≡ false → (b ≡ true → P) × (P → b ≡ true) → P → ⊥
+when_not b failed test fact = let passed : b ≡ true = test.1 fact in cc

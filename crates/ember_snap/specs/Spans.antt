@@ -7,7 +7,8 @@ use Rattle.ember_snap.specs.declared.steps.Step.{Step}
 use Rattle.ember_snap.specs.declared.spans.Coordinates.{Coordinates}
 use Rattle.ember_snap.specs.declared.spans.Span.{Span}
 use Rattle.ember_snap.specs.declared.spans.Spans.{Spans}
-use Rattle.ember_snap.specs.Steps.{nice_of}
+use Rattle.ember_snap.specs.declared.search.Ends.{Ends}
+use Rattle.ember_snap.specs.declared.search.AllEnds.{AllEnds}
 use Rattle.ember_snap.specs.Cells.{cell_at, IsBetween}
 
 -- all cells are among 4095 neighbours, so they fit on a grid
@@ -38,6 +39,16 @@ pub record IsWidened (old : Span) (cell : ℤ) (new : Span) : Type 0 where
   pub least : (new.least ≡ old.least) ⊎ (new.least ≡ cell)
   pub greatest : (new.greatest ≡ old.greatest) ⊎ (new.greatest ≡ cell)
 
+-- from the least to the greatest cell there are at most 4095
+pub record IsNarrow (span : Span) : Type 0 where
+  pub ordered : span.least ≤ℤ span.greatest
+  pub narrow : (span.greatest -ℤ span.least) ≤ℤ pos 4094
+
+pub record AreNarrow (spans : Spans) : Type 0 where
+  pub x : IsNarrow spans.x
+  pub y : IsNarrow spans.y
+  pub z : IsNarrow spans.z
+
 -- the least and the greatest cell, which fit on a grid
 pub record IsSpan (s : Step) (xs : List Number) (span : Span) : Type 0 where
   pub within : All (λ x. IsBetween span.least (cell_at s x) span.greatest) xs
@@ -50,9 +61,19 @@ pub record AreSpans (s : Step) (c : Coordinates) (spans : Spans) : Type 0 where
   pub y : IsSpan s c.y.now spans.y
   pub z : IsSpan s c.z.now spans.z
 
--- the least nice step at which the coordinates fit on a grid
-pub record IsLeastNice (c : Coordinates) (s : Step) : Type 0 where
+-- the first of these steps at which the coordinates fit on a grid
+pub record IsLeast (steps : ℕ → Step) (c : Coordinates) (s : Step) : Type 0 where
   pub rank : ℕ
-  pub nice : s ≡ nice_of rank
+  pub step : s ≡ steps rank
   pub fits : FitsAll s c
-  pub least : (lower : ℕ) → lower < rank → FitsAll (nice_of lower) c → ⊥
+  pub least : (lower : ℕ) → lower < rank → FitsAll (steps lower) c → ⊥
+
+-- two places in a list
+pub record AreEnds (xs : List Number) (ends : Ends) : Type 0 where
+  pub low : ends.low < length xs
+  pub high : ends.high < length xs
+
+pub record AreAllEnds (c : Coordinates) (ends : AllEnds) : Type 0 where
+  pub x : AreEnds c.x.now ends.x
+  pub y : AreEnds c.y.now ends.y
+  pub z : AreEnds c.z.now ends.z

@@ -3,11 +3,13 @@
 #![tactic(auto)]
 
 mod cells;
+mod offsets;
 mod search;
 mod spans;
 mod steps;
 
 pub use cells::{cell, grid_number};
-pub use search::nice_step;
+pub use offsets::{Offset, offset_at};
+pub use search::{finest_step, nice_step};
 pub use spans::Coordinates;
 pub use steps::Step;

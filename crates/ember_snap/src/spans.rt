@@ -29,7 +29,7 @@ pub(crate) struct Spans {
 }
 
 // The most cells from the least to the greatest that a grid has.
-const MOST: i128 = 4094;
+pub(crate) const MOST: i128 = 4094;
 
 fn widened(span: Span, cell: i128) -> Span
     requires { span.least ≤ℤ span.greatest }
