@@ -1,5 +1,5 @@
 -- The verdicts of `bool` and `demo`, step by step.
-use Rattle.std.proofs.Common.{◌≡◌, ◌<◌, ◌^◌, ℕ, Bool, true, false, not, List, [], flat_map, length, pos, Some, Result, Ok, Err, IfOk, refl, sym, ap, subst, ◌∙◌}
+use Rattle.std.proofs.Common.{◌≡◌, ◌<◌, ◌^◌, ℕ, Bool, true, false, not, List, [], flat_map, length, pos, Some, Result, Ok, Err, IfOk, Vec, Global, refl, sym, ap, subst, ◌∙◌}
 use Rattle.std.specs.Prelude.{codes, map, replicate, if◌then◌else◌}
 use Rattle.ember_expr.specs.Formula.{Formula}
 use Rattle.ember_expr.specs.Truth.{truth}
@@ -18,11 +18,14 @@ use Rattle.ember_visit.proofs.Laws.{root_is_job}
 use Rattle.ember_run.specs.declared.status.Status.{Status}
 use Rattle.ember_run.specs.declared.status.Status.TheVariants.{Done, Words, ReadFault, WriteFault, ObjRefused, MeshRefused, ExprRefused, Unbounded, Limit, NotClear, FaceRefused, OutOfMemory}
 use Rattle.ember_run.specs.Outputs.{SolidFaces, SolidReport}
+use Rattle.ember_run.specs.declared.reply.Reply.{Reply}
+use Rattle.ember_run.specs.Serves.{IsReply}
 use Rattle.ember_run.specs.Reported.{IsErrText, IsReport, IsReportIf, asks_report}
 use Rattle.ember_run.specs.Lines.{text_on_err}
 use Rattle.ember_words.specs.declared.command.Command.{Command}
 use Rattle.std.specs.declared.option.Option.{Option}
-use Rattle.ember_run.specs.CallOutcome.{IsRefusal, IsSameIfTold, IsText}
+use Rattle.ember_run.specs.CallOutcome.{IsSameIfTold, IsText}
+use Rattle.ember_run.specs.Stops.{IsWordsStop}
 use Rattle.ember_job.specs.declared.job.Entry.{Entry}
 use Rattle.ember_report.specs.Reports.{report_from}
 use Rattle.ember_visit.specs.Values.{shape}
@@ -73,12 +76,11 @@ pub bounded_read : (text : List ℕ) (m : ℕ) (formula : Formula) (next : Formu
 bounded_read text m formula next given e =
     given (λ formula. after_bounded formula (next formula)) ∙ ap (λ (b : Bool). if b then Refused Unbounded else next formula) (not_true (truth (replicate 64 (pos 0)) formula) e)
 
-pub unbounded_refused : (text : List ℕ) (m : ℕ) (formula : Formula) (next : Formula → Verdict) → ((next : Formula → Verdict) → after_expr text m next ≡ next formula) → false ≡ not (truth (replicate 64 (pos 0)) formula) → IsRefusal Unbounded (after_solid text m next)
-unbounded_refused text m formula next given e =
-    subst (λ (v : Verdict). IsRefusal Unbounded v) (sym (given (λ formula. after_bounded formula (next formula)) ∙ ap (λ (b : Bool). if b then Refused Unbounded else next formula) (not_false (truth (replicate 64 (pos 0)) formula) e))) refl
-
-pub bounded_refused : (text : List ℕ) (m : ℕ) (status : Status) (next : Formula → Verdict) → ((next : Formula → Verdict) → IsRefusal status (after_expr text m next)) → IsRefusal status (after_solid text m next)
-bounded_refused text m status next refused = refused (λ formula. after_bounded formula (next formula))
+pub unbounded_stop : (text : List ℕ) (m : ℕ) (formula : Formula) (next : Formula → Verdict) → ((next : Formula → Verdict) → after_expr text m next ≡ next formula) → false ≡ not (truth (replicate 64 (pos 0)) formula) → IsWordsStop (after_solid text m next) Unbounded
+unbounded_stop text m formula next given e = record {
+  refused = λ r. given (λ formula. after_bounded formula (next formula)) ∙ ap (λ (b : Bool). if b then Refused Unbounded else next formula) (not_false (truth (replicate 64 (pos 0)) formula) e);
+  of_words = tt;
+}
 
 -- ---- texts
 pub solid_text : (tris : List Tri) (formula : Formula) (kept : List Kept) (report : Report) (lines : List ℕ) (reported : Bool) → IsSolid tris formula kept report → lines ≡ report_lines reported report → IsReportLine reported tris formula lines
@@ -96,8 +98,8 @@ pub report_written : (boxes : ℕ) (formula : Formula) (tris : List Tri) (bytes 
 report_written boxes formula tris bytes given e is =
     subst (λ (v : Verdict). IsText v bytes) (sym (given (λ formula. Writes (SolidReport (scene_of boxes) formula)))) (subst (λ (tris : List Tri). IsReportText tris formula bytes) e is)
 
-pub report_refused : (boxes : ℕ) (status : Status) → ((next : Formula → Verdict) → IsRefusal status (after_expr (codes "m1|m2") 2 next)) → IsRefusal status (demo_verdict boxes)
-report_refused boxes status refused = refused (λ formula. Writes (SolidReport (scene_of boxes) formula))
+pub report_refused : (boxes : ℕ) (status : Status) → ((next : Formula → Verdict) → IsWordsStop (after_expr (codes "m1|m2") 2 next) status) → IsWordsStop (demo_verdict boxes) status
+report_refused boxes status stop = stop (λ formula. Writes (SolidReport (scene_of boxes) formula))
 
 -- ---- the document
 pub solid_written : (expr : List ℕ) (places m : ℕ) (contents : Contents) (formula : Formula) (tris : List Tri) (bytes : List ℕ) → length contents ≡ m → ExprRead (after_solid expr) m formula → SceneRead places contents tris → IsSolidFile tris formula bytes → IsText (bool_verdict expr places contents) bytes
@@ -117,10 +119,17 @@ solid_reported true expr places m contents formula tris line count given scene i
 solid_reported false expr places m contents formula tris line count given scene is = is
 
 -- ---- what err takes
-pub no_report : {A E : Type 0} (result : Result A E) (command known : Command) (verdict : Verdict) (lines : List ℕ) → command ≡ known → asks_report (Some known) ≡ false → lines ≡ [] → IfOk result (λ _. IsReportIf (asks_report (Some command)) verdict lines)
-no_report (Ok value) command known verdict lines e a l =
-    subst (λ (b : Bool). IsReportIf b verdict lines) (sym (ap (λ (c : Command). asks_report (Some c)) e ∙ a)) l
-no_report (Err error) command known verdict lines e a l = tt
+pub plain_reply : (command known : Command) (told : List ℕ → Option (List ℕ)) (text : Vec ℕ Global) (reply : Reply) → command ≡ known → asks_report (Some known) ≡ false → IsText (told_verdict (Some known) told) text.items → reply.text.items ≡ text.items → reply.report.items ≡ [] → IsReply command told reply
+plain_reply command known told text reply e a is t r =
+    subst (λ (command : Command). IsReply command told reply) (sym e)
+    (record {
+      text = subst (λ (bytes : List ℕ). IsText (told_verdict (Some known) told) bytes) (sym t) is;
+      report = subst (λ (b : Bool). IsReportIf b (told_verdict (Some known) told) reply.report.items) (sym a) r;
+    })
+
+pub reported_reply : (command known : Command) (told : List ℕ → Option (List ℕ)) (reply : Reply) → command ≡ known → IsText (told_verdict (Some known) told) reply.text.items → IsReportIf (asks_report (Some known)) (told_verdict (Some known) told) reply.report.items → IsReply command told reply
+reported_reply command known told reply e text report =
+    subst (λ (command : Command). IsReply command told reply) (sym e) (record { text = text; report = report })
 
 pub err_text : (command : Option Command) (told : List ℕ → Option (List ℕ)) (status : Status) (lines : List ℕ) → (status ≡ Done → IsReportIf (asks_report command) (told_verdict command told) lines) → IsErrText command told status (text_on_err (names_of command) status lines)
 err_text command told Done lines h = h refl

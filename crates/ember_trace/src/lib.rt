@@ -2,8 +2,8 @@
 #![tactic(auto)]
 
 mod crossing_signs;
-mod law;
 mod edge_lines;
+mod law;
 mod near;
 mod near_triangle;
 mod path;
