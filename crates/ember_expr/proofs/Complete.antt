@@ -1,5 +1,5 @@
 -- Where the grammar derives words, the rules read them: terms and sums.
-use Rattle.std.proofs.Common.{◌≡◌, ℕ, zero, suc, ◌+◌, ◌<◌, ◌≤◌, Bool, true, false, List, [], ◌∷◌, ◌++◌, map, length, length-append, refl, ap, sym, subst, ◌∙◌, arith, append_assoc, Some, None, Ok, Err, Result, Option, ◌⊎◌, inl, inr}
+use Rattle.std.proofs.Common.{◌≡◌, ℕ, zero, suc, ◌≤◌, Bool, true, false, List, [], ◌∷◌, ◌++◌, length, length-append, refl, ap, sym, subst, ◌∙◌, arith, append_assoc, None, Ok, Err, Result, ◌⊎◌, inl, inr}
 use Rattle.std.proofs.lemmas.List.{length-map}
 use Rattle.ember_algebra.specs.Relations.{Every}
 use Rattle.ember_expr.specs.declared.fault.ExprFault.{ExprFault}
@@ -8,7 +8,7 @@ use Rattle.ember_expr.specs.declared.token.Word.{Word}
 use Rattle.ember_expr.specs.declared.token.Word.TheVariants as word
 use Rattle.ember_expr.specs.declared.token.Token.{Token}
 use Rattle.ember_expr.specs.declared.grammar.Scope.{Scope}
-use Rattle.ember_expr.specs.Grammar.{Read, read, Rule, ◌>>=◌, is_star, product, minus_of, sign_before, after_first, where_some, is_minus}
+use Rattle.ember_expr.specs.Grammar.{Read, read, Rule, ◌>>=◌, is_star, product, minus_of, sign_before, is_minus}
 use Rattle.ember_expr.specs.Derivation.{IsTerm, IsSum, words}
 use Rattle.ember_expr.specs.Derivation as grammar
 use Rattle.ember_expr.proofs.Checked.{Checks, wind_by, wind_at_by, scaled_by, term_by, term_at_by, more_terms_by, first_term_by, sum_by}

@@ -1,5 +1,5 @@
 -- Where the grammar derives words, the rules read them: trees, and that each text has one.
-use Rattle.std.proofs.Common.{◌≡◌, ℕ, zero, suc, ◌+◌, ◌<◌, ◌≤◌, max, Bool, true, false, List, [], ◌∷◌, ◌++◌, length, refl, ap, sym, subst, ◌∙◌, arith, append_assoc, append-nil, Some, None, Ok, Err, Result, Option, ◌⊎◌, inl, inr}
+use Rattle.std.proofs.Common.{◌≡◌, ℕ, zero, suc, ◌+◌, ◌≤◌, max, Bool, false, List, [], ◌∷◌, ◌++◌, refl, ap, sym, subst, ◌∙◌, arith, append_assoc, append-nil, Result, Option, ◌⊎◌, inl, inr}
 use Rattle.ember_algebra.specs.Relations.{Every}
 use Rattle.ember_expr.specs.declared.fault.ExprFault.{ExprFault}
 use Rattle.ember_expr.specs.declared.fault.ExprFault.TheVariants.{Deep}
@@ -150,6 +150,6 @@ complete bad c scope left (grammar.comparison {vs} {ws} {s} {t} {rel} d e) shall
     subst (Accepts bad (Compare s rel t) us) (sym (at_sum c scope (deeper_by c scope left) d all (word.Compare rel ∷ ws ++ us) right)) (comparison_accepts bad c scope rel d e fit all us right h)
 
 -- a text of the grammar is read to its end
-pub text_accepts : (bad : ExprFault → Type 0) (c : Checks) (scope : Scope) (left : ℕ) (f : Formula) (all : List Token) (d : Derives grammar.or (words all) f) → Shallow bad (depth d) left → Every (Passes bad c) (words all) → Accepts bad f [] (or (not_by c scope left) all)
-text_accepts bad c scope left f all d shallow fit =
-    chain_done bad joint.Or (not_by c scope left) all f [] (omega arith) (complete bad c scope left d shallow fit all [] (sym (append-nil (words all))) (omega arith))
+pub text_accepts : (bad : ExprFault → Type 0) (c : Checks) (scope : Scope) (left : ℕ) (ws : List Word) (f : Formula) (d : Derives grammar.or ws f) → Shallow bad (depth d) left → Every (Passes bad c) ws → (all : List Token) → words all ≡ ws → Accepts bad f [] (or (not_by c scope left) all)
+text_accepts bad c scope left ws f d shallow fit all same =
+    chain_done bad joint.Or (not_by c scope left) all f [] (omega arith) (complete bad c scope left d shallow fit all [] (same ∙ sym (append-nil ws)) (omega arith))

@@ -1,18 +1,14 @@
 -- What the rules read from the front of the tokens is derived by the grammar.
-use Rattle.std.proofs.Common.{◌≡◌, ℕ, zero, suc, ◌+◌, ◌<◌, ◌≤◌, max, Bool, true, false, ◌&&◌, if◌then◌else◌, nat_le, List, [], ◌∷◌, ◌++◌, map, length, refl, ap, sym, subst, ◌∙◌, arith, rules, append_assoc, Some, None, Ok, Err, Result, Option, ◌⊎◌, inl, inr}
+use Rattle.std.proofs.Common.{◌≡◌, ℕ, zero, suc, ◌≤◌, Bool, true, false, if◌then◌else◌, List, [], ◌∷◌, ◌++◌, length, refl, ap, sym, subst, ◌∙◌, rules, append_assoc, Some, None, Ok, Err, Result, Option}
 use Rattle.ember_algebra.specs.Relations.{Every}
 use Rattle.ember_algebra.proofs.Relations.{every_append}
 use Rattle.ember_expr.specs.declared.fault.ExprFault.{ExprFault}
-use Rattle.ember_expr.specs.declared.formula.Rel.{Rel}
 use Rattle.ember_expr.specs.declared.formula.Term.{Term}
 use Rattle.ember_expr.specs.declared.token.Word.{Word}
 use Rattle.ember_expr.specs.declared.token.Word.TheVariants as word
 use Rattle.ember_expr.specs.declared.token.Token.{Token}
-use Rattle.ember_expr.specs.declared.grammar.Joint.{Joint}
-use Rattle.ember_expr.specs.declared.grammar.Joint.TheVariants as joint
 use Rattle.ember_expr.specs.declared.grammar.Scope.{Scope}
-use Rattle.ember_expr.specs.Formula.{Formula}
-use Rattle.ember_expr.specs.Grammar.{Read, read, Rule, ◌>>=◌, limited, existing, mesh_number, wind_at, wind, scaled, term_at, term, product, is_star, minus_of, sign_before, after_first, where_some, more_terms, is_minus, first_term, sum}
+use Rattle.ember_expr.specs.Grammar.{Read, read, ◌>>=◌, limited, existing, mesh_number, wind_at, wind, scaled, term_at, term, product, is_star, minus_of, sign_before, after_first, where_some, more_terms, is_minus, first_term, sum}
 use Rattle.ember_expr.specs.Derivation.{IsTerm, IsSum, IsFitWord, IsFitMesh, words}
 use Rattle.ember_expr.specs.Derivation as grammar
 

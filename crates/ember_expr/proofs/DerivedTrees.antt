@@ -1,21 +1,19 @@
 -- The trees that the rules read are derived by the grammar, within the limits.
-use Rattle.std.proofs.Common.{◌≡◌, ℕ, zero, suc, ◌+◌, ◌<◌, ◌≤◌, max, Bool, true, false, if◌then◌else◌, List, [], ◌∷◌, ◌++◌, length, refl, ap, sym, subst, ◌∙◌, arith, append_assoc, append-nil, Some, None, Ok, Err, Result, Option}
+use Rattle.std.proofs.Common.{◌≡◌, ℕ, zero, suc, ◌+◌, ◌≤◌, true, List, [], ◌∷◌, ◌++◌, length, refl, ap, sym, subst, ◌∙◌, arith, append_assoc, append-nil, Some, None, Ok, Err, Result, Option}
 use Rattle.ember_algebra.specs.Relations.{Every}
 use Rattle.ember_algebra.proofs.Relations.{every_append}
 use Rattle.ember_expr.specs.declared.fault.ExprFault.{ExprFault}
-use Rattle.ember_expr.specs.declared.formula.Rel.{Rel}
-use Rattle.ember_expr.specs.declared.formula.Term.{Term}
 use Rattle.ember_expr.specs.declared.token.Word.{Word}
 use Rattle.ember_expr.specs.declared.token.Word.TheVariants as word
 use Rattle.ember_expr.specs.declared.token.Token.{Token}
 use Rattle.ember_expr.specs.declared.grammar.Joint.{Joint}
 use Rattle.ember_expr.specs.declared.grammar.Joint.TheVariants as joint
 use Rattle.ember_expr.specs.declared.grammar.Scope.{Scope}
-use Rattle.ember_expr.specs.Formula.{Formula, Or, Xor, And, Not, Mesh, Odd, Compare}
-use Rattle.ember_expr.specs.Grammar.{Read, read, Rule, ◌>>=◌, mesh_number, sum, after_first, begins_with, joins, join, more_parts, chain_of, part_of, or, is_open, is_close, closed, relation, rel_at, comparison, inside, odd, not_at, not_with, deeper, not, ended, whole}
+use Rattle.ember_expr.specs.Formula.{Formula, Not, Mesh, Odd, Compare}
+use Rattle.ember_expr.specs.Grammar.{read, Rule, ◌>>=◌, mesh_number, sum, after_first, begins_with, joins, join, more_parts, chain_of, part_of, or, is_open, is_close, closed, relation, rel_at, comparison, inside, odd, not_at, not_with, deeper, not, ended, whole}
 use Rattle.ember_expr.specs.Derivation.{IsTerm, IsSum, Phrase, Derives, depth, IsFitWord, IsFitMesh, words}
 use Rattle.ember_expr.specs.Derivation as grammar
-use Rattle.ember_expr.proofs.Derived.{IfReads, if_bind, if_equal, if_test, weaker, mesh_fits, Front, FrontOf, FitSum, sum_front, longer}
+use Rattle.ember_expr.proofs.Derived.{IfReads, if_bind, if_test, mesh_fits, Front, FrontOf, FitSum, sum_front, longer}
 
 -- a phrase of the grammar within the limits
 pub record IsWithin (meshes left : ℕ) (p : Phrase) (ws : List Word) (f : Formula) : Type 0 where

@@ -6,3 +6,4 @@ pub mod DerivedTrees
 pub mod Checked
 pub mod Complete
 pub mod CompleteTrees
+pub mod OneTree

@@ -1,5 +1,5 @@
 -- The grammar of expressions as a relation: which words have which tree, rule by rule, and the limits beside it
-use Rattle.std.specs.Prelude.{ℕ, ◌+◌, ◌≤◌, max, ◌≡◌, Bool, true, false, List, [], ◌∷◌, ◌++◌, map, length}
+use Rattle.std.specs.Prelude.{ℕ, ◌+◌, ◌≤◌, max, Bool, true, false, List, [], ◌∷◌, ◌++◌, map, length}
 use Rattle.ember_algebra.specs.Relations.{Every}
 use Rattle.ember_expr.specs.declared.formula.Rel.{Rel}
 use Rattle.ember_expr.specs.declared.formula.Term.{Term}
@@ -52,6 +52,10 @@ pub data Derives : Phrase → List Word → Formula → Type 0 where
   odd : {ws : List Word} {s : List Term} → IsSum ws s → Derives atom (word.Odd ∷ Open ∷ ws ++ Close ∷ []) (Odd s)
   comparison : {vs ws : List Word} {s t : List Term} {rel : Rel} → IsSum vs s → IsSum ws t → Derives atom (vs ++ word.Compare rel ∷ ws) (Compare s rel t)
 
+-- these words are an expression with this tree
+abbrev pub IsExpression : List Word → Formula → Type 0
+IsExpression ws f = Derives or ws f
+
 -- ---- the limits
 -- the most parentheses and signs `!` inside one another
 abbrev pub depth : {p : Phrase} {ws : List Word} {f : Formula} → Derives p ws f → ℕ
@@ -87,6 +91,6 @@ words tokens = map (λ t. t.word) tokens
 -- a text of the grammar within all limits, with its tree
 pub record HasTree (text : List ℕ) (meshes : ℕ) (f : Formula) : Type 0 where
   pub short : length text ≤ 4096
-  pub derived : Derives or (words (tokens_of text)) f
+  pub derived : IsExpression (words (tokens_of text)) f
   pub shallow : depth derived ≤ 64
   pub fit : Every (IsFitWord meshes) (words (tokens_of text))
