@@ -57,7 +57,8 @@ fn lowered(significand: u64, places: u32, factor: u64, up: bool) -> Option<u128>
 // The size of the multiple of a binary number, rounded up where there is a minus and down else.
 pub(crate) fn binary_multiple(b: &Binary, factor: u64) -> Option<u128>
     requires { factor < 2 ^ 41 }
-    ensures value { result ≡ size_of_multiple b.now.minus factor (b.now.significand * 2 ^ b.now.power) (2 ^ b.now.scale) }
+    ensures value { let over = b.now.significand * 2 ^ b.now.power in
+        result ≡ size_of_multiple b.now.minus factor over (2 ^ b.now.scale) }
     ensures small { IfSome result (λ size. size < 2 ^ 106) }
 {
     let power = u32::from(b.power);

@@ -11,5 +11,5 @@ mod steps;
 pub use cells::{cell, grid_number};
 pub use offsets::{Offset, offset_at};
 pub use search::{finest_step, nice_step};
-pub use spans::Coordinates;
+pub use spans::{Coordinates, are_coordinates};
 pub use steps::Step;

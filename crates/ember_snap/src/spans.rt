@@ -1,11 +1,13 @@
 // What the cells of many numbers span.
-ghost use Rattle.std.specs.Prelude.{◌≤ℤ◌, IfSome, IfNone};
+ghost use Rattle.std.specs.Prelude.{◌≡◌, ◌↔◌, true, ◌≤ℤ◌, All, IsTrue, IfSome, IfNone};
+ghost use Rattle.ember_number.specs.Fractions.{is_below_limit};
+ghost use Rattle.ember_number.specs.Values.{value_of};
 ghost use Rattle.ember_snap.specs.Steps.{IsStep};
 ghost use Rattle.ember_snap.specs.Spans.{Fits, FitsAll, IsSpan, AreSpans, AreNumbers, AreCoordinates, IsWidened};
 
 use crate::cells::cell;
 use crate::steps::Step;
-use ember_number::Number;
+use ember_number::{Number, is_below_limit};
 
 /// The coordinates of all corners: along x, along y and along z.
 #[derive(Clone, Copy)]
@@ -26,6 +28,25 @@ pub(crate) struct Spans {
     pub x: Span,
     pub y: Span,
     pub z: Span,
+}
+
+fn are_below_limit(numbers: &[Number]) -> bool
+    ensures { IsTrue result ↔ All (λ x. is_below_limit (value_of x) ≡ true) numbers.now }
+{
+    numbers.iter().all(|number| is_below_limit(number))
+}
+
+fn are_numbers(numbers: &[Number]) -> bool
+    ensures { IsTrue result ↔ AreNumbers numbers.now }
+{
+    !numbers.is_empty() && are_below_limit(numbers)
+}
+
+/// Whether there are coordinates along each axis, and each is below 10^15 in size.
+pub fn are_coordinates(coordinates: &Coordinates) -> bool
+    ensures { IsTrue result ↔ AreCoordinates coordinates.now }
+{
+    are_numbers(coordinates.x) && are_numbers(coordinates.y) && are_numbers(coordinates.z)
 }
 
 // The most cells from the least to the greatest that a grid has.

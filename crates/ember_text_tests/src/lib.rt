@@ -12,6 +12,8 @@ mod expressions;
 #[cfg(test)]
 mod face_files;
 #[cfg(test)]
+mod grids;
+#[cfg(test)]
 mod lists;
 #[cfg(test)]
 mod numbers;

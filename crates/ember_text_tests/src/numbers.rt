@@ -1,5 +1,7 @@
 // Numbers of mesh files: decimals, binary floats and integers.
-use ember_number::{Number, binary32, binary64, floor_times, integer, is_below_limit, read_decimal};
+use ember_number::{
+    Number, binary32, binary64, floor_times, integer, is_below_limit, read_decimal,
+};
 
 const GREATEST: u64 = (1 << 41) - 1;
 
@@ -27,12 +29,32 @@ fn floors_of_decimals(rt: HostRuntime) {
         (b"-1.5e-3", 1, Some(-1)),
         (b"0.0001e+4", 1, Some(1)),
         (b"12345.678e2", GREATEST, Some(2_714_843_302_754_435_857)),
-        (b"999999999999999.9999", GREATEST, Some(2_199_023_255_550_999_999_780_097_674)),
-        (b"123456789012345678901234567890e-20", GREATEST, Some(2_714_843_500_938_013_207_483)),
-        (b"-123456789012345678901234567890e-20", 7, Some(-8_641_975_231)),
+        (
+            b"999999999999999.9999",
+            GREATEST,
+            Some(2_199_023_255_550_999_999_780_097_674),
+        ),
+        (
+            b"123456789012345678901234567890e-20",
+            GREATEST,
+            Some(2_714_843_500_938_013_207_483),
+        ),
+        (
+            b"-123456789012345678901234567890e-20",
+            7,
+            Some(-8_641_975_231),
+        ),
         (b"1e00012", 1, Some(1_000_000_000_000)),
-        (b"100000000000000000000e-6", 2000, Some(200_000_000_000_000_000)),
-        (b"0.99999999999999999999999999999999", GREATEST, Some(2_199_023_255_550)),
+        (
+            b"100000000000000000000e-6",
+            2000,
+            Some(200_000_000_000_000_000),
+        ),
+        (
+            b"0.99999999999999999999999999999999",
+            GREATEST,
+            Some(2_199_023_255_550),
+        ),
         (b"0e9999", 1, Some(0)),
         (b"1e-9999", GREATEST, Some(0)),
         (b"-1e-9999", GREATEST, Some(-1)),
@@ -48,8 +70,8 @@ fn floors_of_decimals(rt: HostRuntime) {
 #[test]
 fn texts_that_are_no_decimals(rt: HostRuntime) {
     let rows: [&[u8]; 16] = [
-        b"", b".", b"-", b"+.", b"e5", b".e5", b"1e", b"1e+", b"1e10000", b"1.2.3", b"1e5.0", b"--1",
-        b"nan", b"inf", b"0x10", b"1E5e3",
+        b"", b".", b"-", b"+.", b"e5", b".e5", b"1e", b"1e+", b"1e10000", b"1.2.3", b"1e5.0",
+        b"--1", b"nan", b"inf", b"0x10", b"1E5e3",
     ];
     for text in rows {
         assert!(rt; read_decimal(text).is_none());
@@ -66,7 +88,11 @@ fn floors_of_binary_numbers(rt: HostRuntime) {
         (binary32(0x8000_0001), 1, Some(-1)),
         (binary32(0x4049_0fdb), GREATEST, Some(6_908_435_496_956)),
         (binary32(0xc049_0fdb), GREATEST, Some(-6_908_435_496_957)),
-        (binary32(0x5863_5fa9), GREATEST, Some(2_199_023_226_944_135_166_955_618_304)),
+        (
+            binary32(0x5863_5fa9),
+            GREATEST,
+            Some(2_199_023_226_944_135_166_955_618_304),
+        ),
         (binary32(0x8000_0000), 1, Some(0)),
         (binary32(0x7f7f_ffff), 1, None),
         (binary32(0x7f80_0000), 1, None),
@@ -75,7 +101,11 @@ fn floors_of_binary_numbers(rt: HostRuntime) {
         (binary64(0xbfb9_9999_9999_999a), 2000, Some(-201)),
         (binary64(0x7ff0_0000_0000_0000), 1, None),
         (Some(integer(-7)), 3, Some(-21)),
-        (Some(integer(999_999_999_999_999)), 1, Some(999_999_999_999_999)),
+        (
+            Some(integer(999_999_999_999_999)),
+            1,
+            Some(999_999_999_999_999),
+        ),
         (Some(integer(i64::MIN)), 1, None),
     ];
     for (number, factor, want) in rows {
