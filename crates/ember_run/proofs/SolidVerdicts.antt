@@ -1,5 +1,5 @@
 -- The verdicts of `bool` and `demo`, step by step.
-use Rattle.std.proofs.Common.{◌≡◌, ◌<◌, ◌^◌, ℕ, Bool, true, false, not, List, [], flat_map, length, pos, Some, Result, Ok, Err, IfOk, Vec, Global, refl, sym, ap, subst, ◌∙◌}
+use Rattle.std.proofs.Common.{◌≡◌, ◌<◌, ◌^◌, ℕ, Bool, true, false, not, List, [], flat_map, length, pos, Some, Vec, Global, refl, sym, ap, subst, ◌∙◌}
 use Rattle.std.specs.Prelude.{codes, map, replicate, if◌then◌else◌}
 use Rattle.ember_expr.specs.Formula.{Formula}
 use Rattle.ember_expr.specs.Truth.{truth}
@@ -32,10 +32,14 @@ use Rattle.ember_visit.specs.Values.{shape}
 use Rattle.std.specs.List.{sum, sum_by}
 use Rattle.ember_run.specs.Runs.{HoldEntries, run_report}
 use Rattle.ember_run.proofs.Reports.{entries_fit, same_report}
-use Rattle.ember_run.specs.Solids.{AreWrittenRegions, AreRegionCounts, HoldRun, IsReportLine, IsReportText, IsSolid, IsSolidFile, IsSolidReport, IsSolidText, IsWrittenAt, report_lines}
+use Rattle.ember_step.specs.Texts.{AreLeafTexts, IsSceneText, LeafTextsJoin}
+use Rattle.ember_text.specs.Counted.{CountedText}
+use Rattle.ember_model.specs.declared.face.Face.{Face}
+use Rattle.std.proofs.lemmas.List.{length-map}
+use Rattle.ember_run.specs.Solids.{AreRegionCounts, HoldRun, IsReportLine, IsReportText, IsSolid, IsSolidFile, IsSolidReport, IsSolidText, IsWrittenAt, report_lines}
 use Rattle.ember_gen.specs.Scene.{scene_of}
 use Rattle.ember_leaf.specs.declared.kept.Kept.{Kept}
-use Rattle.ember_text.specs.Documents.{IsDocumentText, written_face}
+use Rattle.ember_text.specs.Documents.{IsDocumentText, IsTextOf, joined, written_face}
 use Rattle.ember_run.specs.Verdict.{Contents, Verdict, Unknown, Refused, Writes, Slices, after_bounded, after_expr, after_scene, after_solid, bool_verdict, demo_verdict, names_of, told_verdict}
 use Rattle.ember_run.proofs.SceneVerdicts.{ExprRead, SceneRead, after_read, scene_text}
 
@@ -46,22 +50,43 @@ root_is_valid scene job e = subst (IsJob scene.tris) (sym e) (root_is_job scene.
 pub journals_fit : (tris : List Tri) (formula : Formula) (journals : List (List Entry)) → HoldEntries (shape tris formula) (root_job tris) journals → sum_by length journals < 2 ^ 64
 journals_fit tris formula journals holds = entries_fit (shape tris formula) (root_job tris) journals refl holds
 
+of_run : (tris : List Tri) (formula : Formula) (journals : List (List Entry)) (faces count : ℕ) (report : Report) → HoldRun tris formula journals → report ≡ report_from journals faces → faces ≡ count → report ≡ run_report (shape tris formula) (root_job tris) count
+of_run tris formula journals faces count report holds e f =
+    e ∙ same_report (shape tris formula) (root_job tris) journals faces holds ∙ ap (run_report (shape tris formula) (root_job tris)) f
+
 -- the visited leaves write what the scene does
 abbrev pub VisitedWriteAll : List Tri → Formula → Type 0
 VisitedWriteAll tris formula =
     (kept : List Kept) → Each (IsWrittenAt tris formula) (leaves (shape tris formula) (root_job tris)) kept → IsWritten tris formula kept
 
-pub is_solid : (tris : List Tri) (formula : Formula) (items : List (List Kept)) (kept : List Kept) (journals : List (List Entry)) (faces : ℕ) (report : Report) → VisitedWriteAll tris formula → AreWrittenRegions tris formula items → HoldRun tris formula journals → kept ≡ flat_map (λ ks. ks) items → report ≡ report_from journals faces → faces ≡ length kept → IsSolid tris formula kept report
-is_solid tris formula items kept journals faces report law are holds all e f = record {
-  written = law kept (subst (λ (kept : List Kept). Each (IsWrittenAt tris formula) (leaves (shape tris formula) (root_job tris)) kept) (sym all) (all_given (IsWrittenAt tris formula) (leaves (shape tris formula) (root_job tris)) items are));
-  report_is = e ∙ same_report (shape tris formula) (root_job tris) journals faces holds ∙ ap (run_report (shape tris formula) (root_job tris)) f;
-}
-
 pub is_solid_report : (tris : List Tri) (formula : Formula) (counts : List ℕ) (journals : List (List Entry)) (faces : ℕ) (report : Report) → VisitedWriteAll tris formula → AreRegionCounts tris formula counts → HoldRun tris formula journals → report ≡ report_from journals faces → faces ≡ sum counts → IsSolidReport tris formula report
 is_solid_report tris formula counts journals faces report law are holds e f =
-    let lists = are_counted (IsWrittenAt tris formula) (leaves (shape tris formula) (root_job tris)) counts are in
+    let jobs = leaves (shape tris formula) (root_job tris) in
+    let lists = are_counted (IsWrittenAt tris formula) jobs counts are in
     let kept = flat_map (λ ks. ks) lists.items in
-    record { kept = kept; solid = is_solid tris formula lists.items kept journals faces report law lists.answer holds refl e (f ∙ all_counted counts lists.items lists.lengths) }
+    record {
+      kept = kept;
+      solid = record {
+        written = law kept (all_given (IsWrittenAt tris formula) jobs lists.items lists.answer);
+        report_is = of_run tris formula journals faces (length kept) report holds e (f ∙ all_counted counts lists.items lists.lengths);
+      };
+    }
+
+-- ---- the texts of the leaves
+scene_solid : (tris : List Tri) (formula : Formula) (text : CountedText) (journals : List (List Entry)) (faces : ℕ) (report : Report) → HoldRun tris formula journals → report ≡ report_from journals faces → faces ≡ text.count → (is : IsSceneText tris formula text) → IsSolid tris formula is.kept report
+scene_solid tris formula text journals faces report holds e f is = record {
+  written = is.has;
+  report_is = of_run tris formula journals faces (length is.kept) report holds e (f ∙ is.text_of.count ∙ length-map is.kept written_face);
+}
+
+pub solid_text_of : (tris : List Tri) (formula : Formula) (texts : List CountedText) (journals : List (List Entry)) (faces : ℕ) (report : Report) (bytes : List ℕ) → LeafTextsJoin tris formula → AreLeafTexts tris formula texts → HoldRun tris formula journals → report ≡ report_from journals faces → faces ≡ (joined texts).count → ((fs : List Face) → IsTextOf fs (joined texts) → IsDocumentText fs bytes) → IsSolidText tris formula bytes
+solid_text_of tris formula texts journals faces report bytes law are holds e f file =
+    let is = law texts are in
+    record { kept = is.kept; report = report; solid = scene_solid tris formula (joined texts) journals faces report holds e f is; text = file (map written_face is.kept) is.text_of }
+
+pub solid_report_of : (tris : List Tri) (formula : Formula) (texts : List CountedText) (journals : List (List Entry)) (faces : ℕ) (report : Report) → LeafTextsJoin tris formula → AreLeafTexts tris formula texts → HoldRun tris formula journals → report ≡ report_from journals faces → faces ≡ (joined texts).count → IsSolidReport tris formula report
+solid_report_of tris formula texts journals faces report law are holds e f =
+    let is = law texts are in record { kept = is.kept; solid = scene_solid tris formula (joined texts) journals faces report holds e f is }
 
 -- ---- bounded expressions
 not_true : (b : Bool) → true ≡ not b → b ≡ false
@@ -83,12 +108,9 @@ unbounded_stop text m formula next given e = record {
 }
 
 -- ---- texts
-pub solid_text : (tris : List Tri) (formula : Formula) (kept : List Kept) (report : Report) (lines : List ℕ) (reported : Bool) → IsSolid tris formula kept report → lines ≡ report_lines reported report → IsReportLine reported tris formula lines
-solid_text tris formula kept report lines true solid e = record { kept = kept; report = report; solid = solid; text = e }
-solid_text tris formula kept report lines false solid e = e
-
-pub is_solid_text : (tris : List Tri) (formula : Formula) (kept : List Kept) (report : Report) (bytes : List ℕ) → IsSolid tris formula kept report → IsDocumentText (map written_face kept) bytes → IsSolidText tris formula bytes
-is_solid_text tris formula kept report bytes solid text = record { kept = kept; report = report; solid = solid; text = text }
+pub report_line_is : (tris : List Tri) (formula : Formula) (report : Report) (lines : List ℕ) (reported : Bool) → IsSolidReport tris formula report → lines ≡ report_lines reported report → IsReportLine reported tris formula lines
+report_line_is tris formula report lines true solid e = record { kept = solid.kept; report = report; solid = solid.solid; text = e }
+report_line_is tris formula report lines false solid e = e
 
 pub is_report_text : (tris : List Tri) (formula : Formula) (report : Report) (bytes : List ℕ) → IsSolidReport tris formula report → bytes ≡ line_of report → IsReportText tris formula bytes
 is_report_text tris formula report bytes solid text = record { kept = solid.kept; report = report; solid = solid.solid; text = text }

@@ -1,8 +1,7 @@
 -- Why a command has no answer, step by step.
-use Rattle.std.proofs.Common.{◌≡◌, ◌≢◌, ℕ, ◌-◌, ◌+◌, zero, suc, Bool, true, false, List, [], ◌∷◌, ◌++◌, length, map, take, drop, Some, None, Result, Ok, Err, IfErr, refl, sym, ap, subst, arith, ◌∙◌}
+use Rattle.std.proofs.Common.{◌≡◌, ◌≢◌, ℕ, ◌-◌, zero, suc, Bool, true, false, List, [], ◌∷◌, length, map, Some, None, Result, Ok, Err, IfErr, refl, sym, ap, subst, arith, ◌∙◌}
 use Rattle.std.proofs.lemmas.List.{length-map}
 use Rattle.std.specs.declared.option.Option.{Option}
-use Rattle.std.specs.Prelude.{⊤}
 use Rattle.ember_expr.specs.declared.fault.ExprFault.{ExprFault}
 use Rattle.ember_expr.specs.declared.fault.ExprFault.TheVariants as expr
 use Rattle.ember_model.specs.declared.tri.Tri.{Tri}
@@ -12,7 +11,7 @@ use Rattle.ember_run.specs.CallOutcome.{IsRefusal, hides_memory, is_before_files
 use Rattle.ember_run.specs.Devices.{ShelfCall, HasShelfFailed}
 use Rattle.ember_run.specs.Stops.{IsAfterFiles, IsOfWords, IsSceneStop, IsStop, IsWordsStop, with_others}
 use Rattle.ember_run.specs.Verdict.{Contents, Verdict, Unknown, Refused, after_scene, first_told, file_at}
-use Rattle.ember_run.specs.declared.status.LimitKind.TheVariants.{Bytes, Triangles}
+use Rattle.ember_run.specs.declared.status.LimitKind.TheVariants.{Triangles}
 use Rattle.ember_run.specs.declared.status.Status.{Status}
 use Rattle.ember_run.specs.declared.status.Status.TheVariants.{Done, Words, ReadFault, WriteFault, ObjRefused, MeshRefused, ExprRefused, Unbounded, Limit, NotClear, FaceRefused, OutOfMemory}
 

@@ -20,7 +20,6 @@ use ember_gen::scene_of;
 use ember_io::Shelf;
 use ember_model::{OutOfMemory, Scene};
 use ember_report::{Report, report_line};
-use ember_text::document;
 use ember_words::{Text, Texts};
 use std::alloc::Global;
 
@@ -35,7 +34,7 @@ fn report_if(alloc: Global, reported: bool, report: &Report) -> Result<Vec<u8>, 
 }
 
 // The document of the solid, and the line of its report, where it is asked for.
-#[tactic(auto, using(crate::proofs::SolidVerdicts::solid_text, crate::proofs::SolidVerdicts::is_solid_text))]
+#[tactic(auto, using(crate::proofs::SolidVerdicts::report_line_is))]
 fn reply_of_solid<C: Fn(&Query) -> Result<Answer, OutOfMemory>>(
     alloc: Global,
     scene: &Scene,
@@ -49,8 +48,10 @@ fn reply_of_solid<C: Fn(&Query) -> Result<Answer, OutOfMemory>>(
 {
     let solid = solid_of(alloc, scene, expr, executor)?;
     let report = report_if(alloc, reported, &solid.report)?;
-    let text = document(alloc, &solid.kept)?;
-    Ok(Reply { text, report })
+    Ok(Reply {
+        text: solid.text,
+        report,
+    })
 }
 
 /// The document of `bool`, and the line of the report, where it is asked for. `places` is at most 3,

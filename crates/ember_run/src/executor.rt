@@ -11,7 +11,7 @@ use crate::query::{Answer, Query, RunResult};
 use ember_job::{Job, Outcome, Step, Work};
 use ember_model::OutOfMemory;
 use ember_pairs::{PairWork, pair_step, root_pairs};
-use ember_step::{BoolWork, CountWork, box_step, count_step};
+use ember_step::{CountWork, TextWork, count_step, text_step};
 use ember_tree::merge;
 use ember_visit::root_job;
 use ember_voxel::{VoxelWork, voxel_step};
@@ -97,13 +97,13 @@ macro_rules! finds {
                 };
                 Ok(Answer::Fills($found?.items))
             }
-            Query::Kept(scene, expr) => {
+            Query::Texts(scene, expr) => {
                 let $root = root_job($alloc, scene)?;
                 let $step = Step {
-                    work: BoolWork { scene, expr },
-                    call: |job: &Job| box_step($alloc, scene, expr, job),
+                    work: TextWork { scene, expr },
+                    call: |job: &Job| text_step($alloc, scene, expr, job),
                 };
-                Ok(Answer::Kept($found?))
+                Ok(Answer::Texts($found?))
             }
             Query::Counts(scene, expr) => {
                 let $root = root_job($alloc, scene)?;
