@@ -4,8 +4,11 @@ use Rattle.ember_algebra.proofs.Relations.{each_unique}
 use Rattle.ember_box.specs.Boxes.{Cell}
 use Rattle.ember_box.specs.Near.{near}
 use Rattle.ember_expr.specs.Formula.{Formula}
+use Rattle.ember_job.specs.declared.job.Job.{Job}
+use Rattle.ember_job.specs.declared.job.Outcome.{Outcome}
 use Rattle.ember_job.specs.Items.{EachAnswers}
 use Rattle.ember_job.specs.Visited.{leaves}
+use Rattle.ember_job.specs.Works.{Answers}
 use Rattle.ember_leaf.specs.declared.kept.Kept.{Kept}
 use Rattle.ember_leaf.specs.Written.{IsWrittenIn}
 use Rattle.ember_leaf.specs.Scenes.{IsWritten}
@@ -27,6 +30,11 @@ pub record IsRegionsText (Has : List Kept → Type 0) (text : CountedText) : Typ
 -- the text of what is written in a box
 abbrev pub IsBoxText : List Tri → Formula → Cell → CountedText → Type 0
 IsBoxText tris formula c text = IsRegionsText (IsWrittenIn tris formula c (near tris c)) text
+
+-- what becomes of a job, with the text of what is written for a leaf
+abbrev pub AnswersByText : List Tri → Formula → Job → Outcome CountedText → Type 0
+AnswersByText tris formula job outcome =
+    Answers (shape tris formula) (λ job text. IsBoxText tris formula job.cell text) job outcome
 
 -- of each visited leaf
 abbrev pub AreLeafTexts : List Tri → Formula → List CountedText → Type 0

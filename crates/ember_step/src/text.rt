@@ -1,10 +1,8 @@
 // The text of what a box writes.
 ghost use Rattle.std.specs.Prelude.{IfOk};
 ghost use Rattle.ember_expr.specs.Formula.{formula_of};
-ghost use Rattle.ember_job.specs.Works.{Answers};
-ghost use Rattle.ember_step.specs.Texts.{IsBoxText};
+ghost use Rattle.ember_step.specs.Texts.{AnswersByText};
 ghost use Rattle.ember_visit.specs.Jobs.{IsJob};
-ghost use Rattle.ember_visit.specs.Values.{shape};
 
 use crate::step::box_step;
 use ember_expr::Expr;
@@ -58,7 +56,7 @@ pub fn text_step(
     job: &Job,
 ) -> Result<Outcome<FacesText>, OutOfMemory>
     requires { IsJob s.now.tris job.now }
-    ensures { IfOk result (λ o. Answers (shape s.now.tris (formula_of e.now)) (λ j text. IsBoxText s.now.tris (formula_of e.now) j.cell text) job.now o) }
+    ensures { IfOk result (λ o. AnswersByText s.now.tris (formula_of e.now) job.now o) }
 {
     match box_step(alloc, s, e, job)? {
         Outcome::Halves(low, high) => Ok(Outcome::Halves(low, high)),

@@ -34,3 +34,7 @@ pub record IsDocumentText (fs : List Face) (bytes : List ℕ) : Type 0 where
   pub texts : List ℕ
   pub are_texts : AreGoodTexts fs texts
   pub is : bytes ≡ header ++ (texts ++ ending (length fs))
+
+-- the face file of the faces of which these are the texts
+abbrev pub IsDocumentOf : List CountedText → List ℕ → Type 0
+IsDocumentOf texts bytes = (fs : List Face) → IsTextOf fs (joined texts) → IsDocumentText fs bytes

@@ -1,7 +1,6 @@
 // The face file of written regions.
-ghost use Rattle.std.specs.Prelude.{◌≡◌, List, map, IfOk};
-ghost use Rattle.ember_model.specs.declared.face.Face.{Face};
-ghost use Rattle.ember_text.specs.Documents.{IsDocumentText, IsTextOf, file_of, joined, written_face};
+ghost use Rattle.std.specs.Prelude.{◌≡◌, map, IfOk};
+ghost use Rattle.ember_text.specs.Documents.{IsDocumentOf, IsDocumentText, file_of, joined, written_face};
 
 use crate::file::{begin_file, put_ending};
 use crate::texts::{FacesText, put_faces};
@@ -41,7 +40,7 @@ pub fn face_count(texts: &[FacesText]) -> Result<u64, OutOfMemory>
 /// with the number of all faces.
 pub fn document_of(alloc: Global, texts: Vec<FacesText>) -> Result<Vec<u8>, OutOfMemory>
     ensures bytes { IfOk result (λ file. file.items ≡ file_of (joined texts.items)) }
-    ensures document { IfOk result (λ file. (faces : List Face) → IsTextOf faces (joined texts.items) → IsDocumentText faces file.items) }
+    ensures document { IfOk result (λ file. IsDocumentOf texts.items file.items) }
 {
     let count = face_count(&texts)?;
     let size = texts.iter().fold(
