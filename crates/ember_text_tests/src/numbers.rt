@@ -1,4 +1,6 @@
 // Numbers of mesh files: decimals, binary floats and integers.
+ghost use Rattle.std.specs.Prelude.{◌^◌, ◌<◌};
+
 use ember_number::{
     Number, binary32, binary64, floor_times, integer, is_below_limit, read_decimal,
 };
