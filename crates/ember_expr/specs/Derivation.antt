@@ -88,9 +88,12 @@ IsFitWord meshes _ = Unit {0}
 abbrev pub words : List Token → List Word
 words tokens = map (λ t. t.word) tokens
 
+abbrev pub words_of : List ℕ → List Word
+words_of text = words (tokens_of text)
+
 -- a text of the grammar within all limits, with its tree
 pub record HasTree (text : List ℕ) (meshes : ℕ) (f : Formula) : Type 0 where
   pub short : length text ≤ 4096
-  pub derived : IsExpression (words (tokens_of text)) f
+  pub derived : IsExpression (words_of text) f
   pub shallow : depth derived ≤ 64
-  pub fit : Every (IsFitWord meshes) (words (tokens_of text))
+  pub fit : Every (IsFitWord meshes) (words_of text)

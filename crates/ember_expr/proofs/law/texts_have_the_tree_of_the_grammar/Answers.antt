@@ -7,8 +7,8 @@ returns-clause-derived c = λ text meshes f e. parsed_has_tree text meshes f e
 pub returns-clause-parsed : goal.returns-clause-parsed
 returns-clause-parsed c = λ text meshes f h. text_is_parsed text meshes f h
 
-pub returns-clause-no_syntax : goal.returns-clause-no_syntax
-returns-clause-no_syntax c = λ text meshes place f d e. text_has_no_syntax_fault text meshes place f d e
+pub returns-clause-clean : goal.returns-clause-clean
+returns-clause-clean c = λ text meshes place f d e. text_has_no_syntax_fault text meshes place f d e
 
 pub returns-clause-one : goal.returns-clause-one
 returns-clause-one c = λ p ws f g d e. phrase_unique p ws f g d e
