@@ -13,8 +13,7 @@ use Rattle.ember_model.specs.Valid.{IsValidTri}
 use Rattle.ember_model.specs.Meshes.{Edge, reversed, edges_in, same_corner, same_edge, edge_count}
 use Rattle.ember_model.proofs.SignTests.{zero_out, clash, In}
 use Rattle.ember_balance.specs.Counts.{count}
-use Rattle.ember_balance.specs.Numbers.{edge_number, IsValidEdge}
-use Rattle.ember_balance.proofs.EdgeNumbers.{same_edges}
+use Rattle.ember_balance.specs.Numbers.{edge_number, two_way_number, IsValidEdge}
 
 -- ---- equal edges
 same_corners_out : (u v : Corner) → same_corner u v ≡ true → u ≡ v
@@ -59,20 +58,21 @@ pub times_reversed : (e : Edge) (es : List Edge) → edge_count e (map reversed 
 times_reversed = occurrences-map same_edge reversed reversed same_reversed
 
 -- ---- by their numbers
-same_by_number : (e f : Edge) → IsValidEdge e → IsValidEdge f → same_edge e f ≡ eqb (edge_number e) (edge_number f)
-same_by_number e f v w = by (same_edge e f) refl
-  where
-    by : (b : Bool) → same_edge e f ≡ b → b ≡ eqb (edge_number e) (edge_number f)
-    by true h = sym (eq-eqb _ _ (ap edge_number (same_edge_out e f h)))
-    by false h =
-        sym (ne_eqb _ _ (λ n. clash (subst (λ (g : Edge). same_edge e g ≡ true) (same_edges v w n) (same_edge-refl e)) h))
+module _ (number : Edge → ℕ) (one : (e f : Edge) → IsValidEdge e → IsValidEdge f → number e ≡ number f → e ≡ f) where
+  same_by_number : (e f : Edge) → IsValidEdge e → IsValidEdge f → same_edge e f ≡ eqb (number e) (number f)
+  same_by_number e f v w = by (same_edge e f) refl
+    where
+      by : (b : Bool) → same_edge e f ≡ b → b ≡ eqb (number e) (number f)
+      by true h = sym (eq-eqb _ _ (ap number (same_edge_out e f h)))
+      by false h =
+          sym (ne_eqb _ _ (λ n. clash (subst (λ (g : Edge). same_edge e g ≡ true) (one e f v w n) (same_edge-refl e)) h))
 
-pub times_is_count : (e : Edge) → IsValidEdge e → (es : List Edge) → AllByRecursion IsValidEdge es → edge_count e es ≡ count (edge_number e) (map edge_number es)
-times_is_count e v [] a = refl
-times_is_count e v (f ∷ es) a =
-    let t = times_is_count e v es a.1 in
-    let s = same_by_number e f v a.0 in
-    λ i. cond (s i) 1 0 + t i
+  pub times_is_count : (e : Edge) → IsValidEdge e → (es : List Edge) → AllByRecursion IsValidEdge es → edge_count e es ≡ count (number e) (map number es)
+  times_is_count e v [] a = refl
+  times_is_count e v (f ∷ es) a =
+      let t = times_is_count e v es a.1 in
+      let s = same_by_number e f v a.0 in
+      λ i. cond (s i) 1 0 + t i
 
 -- ---- the edges of triangles
 pub valid_edges : (ts : List Tri) → All IsValidTri ts → AllByRecursion IsValidEdge (edges_in ts)
@@ -104,6 +104,9 @@ more f h ts i d ns ms l e g =
 
 pub there_more : (ts : List Tri) (i : ℕ) (d : Tri) (ns ms : List ℕ) → i < length ts → ns ≡ map edge_number (edges_in (take i ts)) → ms ≡ ns ++ map edge_number (edges_in (get_or ts i d ∷ [])) → ms ≡ map edge_number (edges_in (take (i + 1) ts))
 there_more = more (map edge_number) (map-append edge_number)
+
+pub two_way_more : (ts : List Tri) (i : ℕ) (d : Tri) (ns ms : List ℕ) → i < length ts → ns ≡ map two_way_number (edges_in (take i ts)) → ms ≡ ns ++ map two_way_number (edges_in (get_or ts i d ∷ [])) → ms ≡ map two_way_number (edges_in (take (i + 1) ts))
+two_way_more = more (map two_way_number) (map-append two_way_number)
 
 pub back_more : (ts : List Tri) (i : ℕ) (d : Tri) (ns ms : List ℕ) → i < length ts → ns ≡ map edge_number (map reversed (edges_in (take i ts))) → ms ≡ ns ++ map edge_number (map reversed (edges_in (get_or ts i d ∷ []))) → ms ≡ map edge_number (map reversed (edges_in (take (i + 1) ts)))
 back_more =

@@ -4,3 +4,4 @@ pub mod Edges
 pub mod Sorted
 pub mod Least
 pub mod Balanced
+pub mod TwoWay

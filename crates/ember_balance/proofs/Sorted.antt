@@ -11,7 +11,7 @@ use Rattle.ember_balance.specs.declared.loose.Loose.{Loose}
 use Rattle.ember_balance.specs.Counts.{count, HasNoSurplus, IsFirstSurplus}
 use Rattle.ember_balance.specs.Loose.{comes_before, with_counts, edge_of, IsLeastLoose}
 use Rattle.ember_balance.specs.Numbers.{edge_number, IsValidEdge, AreNumbers}
-use Rattle.ember_balance.proofs.EdgeNumbers.{edges_rise, edge_small}
+use Rattle.ember_balance.proofs.EdgeNumbers.{edges_rise, edge_small, same_edges}
 use Rattle.ember_balance.proofs.Walk.{count_permutation}
 use Rattle.ember_balance.proofs.Edges.{times_is_count, times_reversed, valid_edges, valid_reversed, length-edges_in, member_from_times, valid_member, Numbered, member_from_count}
 
@@ -23,26 +23,26 @@ pub few_back : (ts : List Tri) (there back : List ℕ) → AreNumbers ts there b
 few_back ts there back s =
     length_permutation _ _ s.back ∙ length-map (map reversed (edges_in ts)) edge_number ∙ length-map (edges_in ts) reversed ∙ length-edges_in ts
 
+-- an edge that stands somewhere is valid
+pub by_standing : (ts : List Tri) (valid : All IsValidTri ts) (e : Edge) → (IsValidEdge e → edge_count e (edges_in ts) ≤ edge_count (reversed e) (edges_in ts)) → edge_count e (edges_in ts) ≤ edge_count (reversed e) (edges_in ts)
+by_standing ts valid e k = by (cases_lt 0 (edge_count e (edges_in ts)))
+  where
+    by : (0 < edge_count e (edges_in ts)) ⊎ (edge_count e (edges_in ts) ≤ 0) → edge_count e (edges_in ts) ≤ edge_count (reversed e) (edges_in ts)
+    by (inl l) = k (valid_member e (edges_in ts) (member_from_times e (edges_in ts) l) (valid_edges ts valid))
+    by (inr z) = omega (arith, z)
+
 module _ (ts : List Tri) (valid : All IsValidTri ts) (there back : List ℕ) (s : AreNumbers ts there back) where
   pub count_there : (e : Edge) → IsValidEdge e → count (edge_number e) there ≡ edge_count e (edges_in ts)
   count_there e v =
-      count_permutation _ _ _ s.there ∙ sym (times_is_count e v (edges_in ts) (valid_edges ts valid))
+      count_permutation _ _ _ s.there ∙ sym (times_is_count edge_number (λ e f v w. same_edges v w) e v (edges_in ts) (valid_edges ts valid))
 
   pub count_back : (e : Edge) → IsValidEdge e → count (edge_number e) back ≡ edge_count (reversed e) (edges_in ts)
   count_back e v =
-      count_permutation _ _ _ s.back ∙ sym (times_is_count e v (map reversed (edges_in ts)) (valid_reversed (edges_in ts) (valid_edges ts valid))) ∙ times_reversed e (edges_in ts)
-
-  -- an edge that stands somewhere is valid
-  by_standing : (e : Edge) → (IsValidEdge e → edge_count e (edges_in ts) ≤ edge_count (reversed e) (edges_in ts)) → edge_count e (edges_in ts) ≤ edge_count (reversed e) (edges_in ts)
-  by_standing e k = by (cases_lt 0 (edge_count e (edges_in ts)))
-    where
-      by : (0 < edge_count e (edges_in ts)) ⊎ (edge_count e (edges_in ts) ≤ 0) → edge_count e (edges_in ts) ≤ edge_count (reversed e) (edges_in ts)
-      by (inl l) = k (valid_member e (edges_in ts) (member_from_times e (edges_in ts) l) (valid_edges ts valid))
-      by (inr z) = omega (arith, z)
+      count_permutation _ _ _ s.back ∙ sym (times_is_count edge_number (λ e f v w. same_edges v w) e v (map reversed (edges_in ts)) (valid_reversed (edges_in ts) (valid_edges ts valid))) ∙ times_reversed e (edges_in ts)
 
   at_most : HasNoSurplus there back → (e : Edge) → edge_count e (edges_in ts) ≤ edge_count (reversed e) (edges_in ts)
   at_most h e =
-      by_standing e (λ v. let a = count_there e v in let b = count_back e v in let c = h.none (edge_number e) in omega (arith, a, b, c))
+      by_standing ts valid e (λ v. let a = count_there e v in let b = count_back e v in let c = h.none (edge_number e) in omega (arith, a, b, c))
 
   pub balanced_from : HasNoSurplus there back → IsBalanced ts
   balanced_from h e =
@@ -67,7 +67,7 @@ module _ (ts : List Tri) (valid : All IsValidTri ts) (there back : List ℕ) (s 
 
       least : (f : Edge) → comes_before f e ≡ true → edge_count f (edges_in ts) ≤ edge_count (reversed f) (edges_in ts)
       least f l =
-          by_standing f (λ w. let a = count_there f w in let b = count_back f w in let c = h.first (edge_number f) (edges_rise f e w v l) in omega (arith, a, b, c))
+          by_standing ts valid f (λ w. let a = count_there f w in let b = count_back f w in let c = h.first (edge_number f) (edges_rise f e w v l) in omega (arith, a, b, c))
 
   pub least_loose_from : (l : Loose) (k : ℕ) → IsFirstSurplus k there back → ((e : Edge) → IsValidEdge e → edge_number e ≡ k → edge_of l ≡ e) → l.there ≡ count k there → l.back ≡ count k back → IsLeastLoose ts l
   least_loose_from l k h edge a b =

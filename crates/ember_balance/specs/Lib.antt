@@ -1,3 +1,4 @@
 pub mod Loose
 pub mod Numbers
 pub mod Counts
+pub mod Tallies

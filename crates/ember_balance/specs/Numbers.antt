@@ -1,10 +1,11 @@
 -- Edges as numbers
-use Rattle.std.specs.Prelude.{ℕ, ◌+◌, ◌*◌, ◌^◌, List, map, ℤ, pos, ◌+ℤ◌, unsigned_abs}
+use Rattle.std.specs.Prelude.{◌≡◌, ℕ, ◌+◌, ◌*◌, ◌/◌, ◌%◌, ◌^◌, nat_lt, nat_eq, Bool, false, if◌then◌else◌, List, map, ℤ, pos, ◌+ℤ◌, unsigned_abs}
 use Rattle.std.specs.List.Sorted.{IsPermutation, IsNonDecreasing}
 use Rattle.ember_model.specs.declared.point.Corner.{Corner}
 use Rattle.ember_model.specs.declared.tri.Tri.{Tri}
 use Rattle.ember_model.specs.Valid.{IsValidCorner}
 use Rattle.ember_model.specs.Meshes.{Edge, reversed, edges_in}
+use Rattle.ember_balance.specs.Counts.{count}
 
 -- from 0 to 4094
 abbrev pub digit : ℤ → ℕ
@@ -16,6 +17,19 @@ corner_number c = (digit c.x * 4096 + digit c.y) * 4096 + digit c.z
 
 abbrev pub edge_number : Edge → ℕ
 edge_number e = corner_number e.from * 2 ^ 36 + corner_number e.to
+
+-- one number for an edge and its reverse, doubled; one more for an edge to a corner of lower number
+abbrev pub two_way_number : Edge → ℕ
+two_way_number e =
+    if nat_lt (corner_number e.to) (corner_number e.from) then 2 * edge_number (reversed e) + 1 else 2 * edge_number e
+
+-- of the edge with this number both ends are one corner
+abbrev pub has_one_end : ℕ → Bool
+has_one_end n = nat_eq (n / 2 ^ 36) (n % 2 ^ 36)
+
+-- of the two-way numbers, each edge with two ends has one direction as often as the other
+pub record AreTwoWay (ks : List ℕ) : Type 0 where
+  pub each : (n : ℕ) → has_one_end n ≡ false → count (2 * n) ks ≡ count (2 * n + 1) ks
 
 pub record IsValidEdge (e : Edge) : Type 0 where
   pub from : IsValidCorner e.from

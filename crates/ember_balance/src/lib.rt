@@ -4,5 +4,6 @@
 mod loose;
 mod numbers;
 mod surplus;
+mod two_way;
 
 pub use loose::{Loose, balance};

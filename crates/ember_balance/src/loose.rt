@@ -1,13 +1,14 @@
 // Edges that stand more often than their reverse.
-ghost use Rattle.std.specs.Prelude.{◌≡◌, ◌<◌, ◌≤◌, ◌^◌, [], ◌∷◌, ◌++◌, length, map, All, IfOk, OnOk, MatchOption};
+ghost use Rattle.std.specs.Prelude.{◌≡◌, ◌<◌, ◌≤◌, ◌^◌, [], ◌∷◌, ◌++◌, length, map, All, IfOk, OnOk, IsTrue, MatchOption};
 ghost use Rattle.ember_model.specs.Valid.{IsValidCorner, IsValidTri};
 ghost use Rattle.ember_model.specs.Meshes.{Edge, reversed, edges_in, IsBalanced};
 ghost use Rattle.ember_balance.specs.Counts.{count};
-ghost use Rattle.ember_balance.specs.Numbers.{edge_number, IsValidEdge, AreNumbers};
+ghost use Rattle.ember_balance.specs.Numbers.{edge_number, two_way_number, IsValidEdge, AreNumbers};
 ghost use Rattle.ember_balance.specs.Loose.{edge_of, loose_of, IsLeastLoose};
 
-use crate::numbers::{edge_number, ends_of};
+use crate::numbers::{edge_number, ends_of, two_way_number};
 use crate::surplus::{count, first_surplus};
+use crate::two_way::are_two_way;
 use ember_model::{Corner, OutOfMemory, Tri};
 use std::alloc::Global;
 
@@ -96,10 +97,41 @@ fn loose_with(number: u128, numbers: &Numbers) -> Loose
     }
 }
 
-/// `None` exactly where the triangles are balanced: each directed edge stands as often as its
-/// reverse. Else the least edge, by x, y and z of `from` and then of `to`, that stands more often
-/// than its reverse.
-pub fn balance(alloc: Global, tris: &[Tri]) -> Result<Option<Loose>, OutOfMemory>
+// The two-way numbers of the triangles' edges.
+fn push_two_way(numbers: &mut Vec<u128>, t: &Tri) -> Result<(), OutOfMemory>
+    requires { IsValidTri t.now }
+    ensures { OnOk result (numbers.new.items ≡ numbers.old.items ++ map two_way_number (edges_in (t.now ∷ []))) }
+{
+    numbers.push(two_way_number(&t.a, &t.b))?;
+    numbers.push(two_way_number(&t.b, &t.c))?;
+    numbers.push(two_way_number(&t.c, &t.a))?;
+    Ok(())
+}
+
+fn two_way_numbers(alloc: Global, tris: &[Tri]) -> Result<Vec<u128>, OutOfMemory>
+    requires valid { All IsValidTri tris.now }
+    requires few { length tris.now ≤ 262144 }
+    ensures { IfOk result (λ numbers. numbers.items ≡ map two_way_number (edges_in tris.now)) }
+{
+    let mut numbers = Vec::with_capacity(alloc, 3 * tris.len())?;
+    for t in tris {
+        push_two_way(&mut numbers, t)?;
+    }
+    Ok(numbers)
+}
+
+// The triangles are balanced. This takes one list in order, where the least loose edge takes two.
+fn are_balanced(alloc: Global, tris: &[Tri]) -> Result<bool, OutOfMemory>
+    requires valid { All IsValidTri tris.now }
+    requires few { length tris.now ≤ 262144 }
+    ensures { IfOk result (λ b. IsTrue b → IsBalanced tris.now) }
+{
+    let mut numbers = two_way_numbers(alloc, tris)?;
+    numbers.sort_unstable();
+    Ok(are_two_way(&numbers))
+}
+
+fn least_loose(alloc: Global, tris: &[Tri]) -> Result<Option<Loose>, OutOfMemory>
     requires valid { All IsValidTri tris.now }
     requires few { length tris.now ≤ 262144 }
     ensures value { IfOk result (λ found. found ≡ loose_of tris.now) }
@@ -110,4 +142,19 @@ pub fn balance(alloc: Global, tris: &[Tri]) -> Result<Option<Loose>, OutOfMemory
         None => Ok(None),
         Some(number) => Ok(Some(loose_with(number, &numbers))),
     }
+}
+
+/// `None` exactly where the triangles are balanced: each directed edge stands as often as its
+/// reverse. Else the least edge, by x, y and z of `from` and then of `to`, that stands more often
+/// than its reverse.
+pub fn balance(alloc: Global, tris: &[Tri]) -> Result<Option<Loose>, OutOfMemory>
+    requires valid { All IsValidTri tris.now }
+    requires few { length tris.now ≤ 262144 }
+    ensures value { IfOk result (λ found. found ≡ loose_of tris.now) }
+    ensures meaning { IfOk result (λ found. MatchOption found (IsBalanced tris.now) (λ l. IsLeastLoose tris.now l)) }
+{
+    if are_balanced(alloc, tris)? {
+        return Ok(None);
+    }
+    least_loose(alloc, tris)
 }

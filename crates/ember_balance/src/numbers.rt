@@ -1,9 +1,9 @@
 // Directed edges as numbers. They rise by x, y and z of the start and then of the end.
-ghost use Rattle.std.specs.Prelude.{◌≡◌, ◌<◌, ◌^◌};
+ghost use Rattle.std.specs.Prelude.{◌≡◌, ◌<◌, ◌+◌, ◌*◌, ◌^◌};
 ghost use Rattle.ember_model.specs.declared.point.Corner.{Corner};
 ghost use Rattle.ember_model.specs.Valid.{IsValidCorner};
 ghost use Rattle.ember_model.specs.Meshes.{Edge};
-ghost use Rattle.ember_balance.specs.Numbers.{corner_number, edge_number, IsValidEdge};
+ghost use Rattle.ember_balance.specs.Numbers.{corner_number, edge_number, two_way_number, has_one_end, IsValidEdge};
 
 use ember_model::Corner;
 
@@ -22,7 +22,40 @@ pub fn edge_number(from: &Corner, to: &Corner) -> u128
     requires to { IsValidCorner to.now }
     ensures { result ≡ edge_number (record { from = from.now; to = to.now }) }
 {
-    corner_number(from) as u128 * 68_719_476_736 + corner_number(to) as u128
+    joined(corner_number(from), corner_number(to))
+}
+
+// The number of the edge between the corners with these numbers.
+fn joined(from: u64, to: u64) -> u128
+    requires from { from < 2 ^ 36 }
+    requires to { to < 2 ^ 36 }
+    ensures value { result ≡ from * 2 ^ 36 + to }
+    ensures small { result < 2 ^ 72 }
+{
+    from as u128 * 68_719_476_736 + to as u128
+}
+
+/// The number of the edge from the corner of lower number to the other one, doubled, and one more
+/// where the edge runs the other way: of 73 bits.
+pub fn two_way_number(from: &Corner, to: &Corner) -> u128
+    requires from { IsValidCorner from.now }
+    requires to { IsValidCorner to.now }
+    ensures { result ≡ two_way_number (record { from = from.now; to = to.now }) }
+{
+    let start = corner_number(from);
+    let end = corner_number(to);
+    if end < start {
+        2 * joined(end, start) + 1
+    } else {
+        2 * joined(start, end)
+    }
+}
+
+/// Both ends of the edge with this number are one corner.
+pub fn has_one_end(number: u128) -> bool
+    ensures { result ≡ has_one_end number }
+{
+    number / 68_719_476_736 == number % 68_719_476_736
 }
 
 // The corner with this number.

@@ -9,3 +9,5 @@ pub mod HalfNearness
 pub mod Counting
 pub mod Lists
 pub mod Halvable
+pub mod HalfCrossing
+pub mod OneLook

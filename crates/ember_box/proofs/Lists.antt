@@ -13,7 +13,7 @@ use Rattle.ember_box.specs.Halving.{half_sum, is_no_better, halving_axis, is_unp
 use Rattle.ember_box.proofs.NearByAabbs.{left_near, right_near, near_root}
 
 -- ---- filters
-false_by : (s t : Bool) → (s ≡ true → t ≡ true) → t ≡ false → s ≡ false
+pub false_by : (s t : Bool) → (s ≡ true → t ≡ true) → t ≡ false → s ≡ false
 false_by true t f e = sym (f refl) ∙ e
 false_by false t f e = refl
 

@@ -5,3 +5,5 @@ pub mod Halving
 pub mod Sums
 pub mod Reference
 pub mod Regions
+pub mod NearParts
+pub mod Halved

@@ -9,7 +9,6 @@ use Rattle.ember_model.specs.Sizes.{IsSupportSized}
 use Rattle.ember_box.specs.declared.aabb.Interval.{Interval}
 use Rattle.ember_box.specs.declared.aabb.Aabb.{Aabb}
 use Rattle.ember_box.specs.declared.half_boxes.HalfBoxes.{HalfBoxes}
-use Rattle.ember_box.specs.declared.sums.HalvesByAxis.{HalvesByAxis}
 use Rattle.ember_box.specs.declared.sums.Sums.{Sums}
 use Rattle.ember_box.specs.Boxes.{Cell, low, left_half, right_half}
 use Rattle.ember_box.specs.Aabbs.{aabb_of_cell, aabb_of_tri, within, is_level, crosses, IsAabbSized}
@@ -59,19 +58,7 @@ halves_met h a p = number (meets_left h a p) + number (meets_right h a p)
 unfoldable pub near_halves : Cell → Axis → Tri → ℕ
 near_halves c k t = number (is_near (left_half c k) t) + number (is_near (right_half c k) t)
 
--- ---- the halves along all axes
-pub record AreHalvesByAxis (c : Cell) (b : HalvesByAxis) : Type 0 where
-  pub whole : b.whole ≡ aabb_of_cell c
-  pub x : 0 < c.log X → AreHalves c X b.x
-  pub y : 0 < c.log Y → AreHalves c Y b.y
-  pub z : 0 < c.log Z → AreHalves c Z b.z
-
-pub record AreHalvesByAxisSized (b : HalvesByAxis) : Type 0 where
-  pub whole : IsAabbSized b.whole
-  pub x : AreHalvesSized b.x
-  pub y : AreHalvesSized b.y
-  pub z : AreHalvesSized b.z
-
+-- ---- the sums of one triangle
 pub record AreSumsOfOne (c : Cell) (t : Tri) (s : Sums) : Type 0 where
   pub near : s.near ≡ number (is_near c t)
   pub x : 0 < c.log X → s.x ≡ near_halves c X t

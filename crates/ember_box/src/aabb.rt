@@ -1,8 +1,9 @@
 // Bounding boxes of boxes and of triangles.
-ghost use Rattle.std.specs.Prelude.{◌≡◌};
+ghost use Rattle.std.specs.Prelude.{◌≡◌, ◌^◌, ◌&&◌, pos, ◌-ℤ◌, int_le};
 ghost use Rattle.ember_algebra.specs.Size.{Small};
 ghost use Rattle.ember_model.specs.Sizes.{IsSupportSized};
 ghost use Rattle.ember_box.specs.Boxes as boxes;
+ghost use Rattle.ember_box.specs.NearParts.{AreMargins};
 ghost use Rattle.ember_box.specs.Aabbs.{interval_between, interval_over, interval_on, aabb_of_cell, aabb_of_tri, intervals_meet, aabbs_meet, aabbs_meet_beside, covers, within, is_point, is_level, has, holds, least_end, greatest_end, combined, least, greatest, crosses, IsIntervalSized, IsAabbSized};
 
 use crate::cell::Cell;
@@ -182,7 +183,8 @@ fn combined(p: &Plane, x: i32, y: i32, z: i32) -> i64
     requires x { Small 2048 x }
     requires y { Small 2048 y }
     requires z { Small 2048 z }
-    ensures { result ≡ combined p.now x y z }
+    ensures value { result ≡ combined p.now x y z }
+    ensures small { Small (2 ^ 38) result }
 {
     p.a * x as i64 + p.b * y as i64 + p.c * z as i64
 }
@@ -190,7 +192,8 @@ fn combined(p: &Plane, x: i32, y: i32, z: i32) -> i64
 fn least(p: &Plane, b: &Aabb) -> i64
     requires plane { IsSupportSized p.now }
     requires spans { IsAabbSized b.now }
-    ensures { result ≡ least p.now b.now }
+    ensures value { result ≡ least p.now b.now }
+    ensures small { Small (2 ^ 38) result }
 {
     combined(
         p,
@@ -203,7 +206,8 @@ fn least(p: &Plane, b: &Aabb) -> i64
 fn greatest(p: &Plane, b: &Aabb) -> i64
     requires plane { IsSupportSized p.now }
     requires spans { IsAabbSized b.now }
-    ensures { result ≡ greatest p.now b.now }
+    ensures value { result ≡ greatest p.now b.now }
+    ensures small { Small (2 ^ 38) result }
 {
     combined(
         p,
@@ -222,4 +226,40 @@ pub fn crosses(p: &Plane, b: &Aabb) -> bool
     ensures { result ≡ crosses p.now b.now }
 {
     least(p, b) <= p.d && p.d <= greatest(p, b)
+}
+
+// How far a plane's constant lies above its least value over a box, and below its greatest one.
+#[derive(Clone, Copy)]
+pub struct Margins {
+    pub above: i64,
+    pub below: i64,
+}
+
+#[tactic(none)]
+fn difference(a: i64, b: i64) -> i64
+    requires a { Small (2 ^ 38) a }
+    requires b { Small (2 ^ 38) b }
+    ensures { result ≡ a -ℤ b }
+{
+    a - b
+}
+
+pub fn margins_of(p: &Plane, b: &Aabb) -> Margins
+    requires plane { IsSupportSized p.now }
+    requires spans { IsAabbSized b.now }
+    ensures { AreMargins p.now b.now result }
+{
+    Margins {
+        above: difference(p.d, least(p, b)),
+        below: difference(greatest(p, b), p.d),
+    }
+}
+
+impl Margins {
+    // Neither is negative: the plane crosses the box.
+    pub fn are_both(&self) -> bool
+        ensures { result ≡ (int_le (pos 0) self.now.above && int_le (pos 0) self.now.below) }
+    {
+        self.above >= 0 && self.below >= 0
+    }
 }

@@ -2,7 +2,7 @@
 ghost use Rattle.std.specs.Prelude.{◌≡◌, ◌<◌};
 ghost use Rattle.ember_model.specs.Valid.{IsValidTri};
 ghost use Rattle.ember_box.specs.Aabbs.{aabb_of_tri, IsAabbSized};
-ghost use Rattle.ember_box.specs.Sums.{IsPlaneOf, IsPlaneSized, may_cross, meets_left, meets_right, AreHalves, AreHalvesSized};
+ghost use Rattle.ember_box.specs.Sums.{IsPlaneOf, IsPlaneSized, meets_left, meets_right, AreHalves, AreHalvesSized};
 
 use crate::aabb::{Aabb, Interval, aabb_of_cell, crosses, is_level, within};
 use crate::cell::{Cell, halves};
@@ -20,17 +20,6 @@ pub fn plane_of(whole: &Aabb, spans: &Aabb, t: &Tri) -> Option<Plane>
         None
     } else {
         Some(support_of(t))
-    }
-}
-
-pub fn may_cross(b: &Aabb, plane: &Option<Plane>) -> bool
-    requires spans { IsAabbSized b.now }
-    requires plane { IsPlaneSized plane.now }
-    ensures { result ≡ may_cross b.now plane.now }
-{
-    match plane {
-        None => true,
-        Some(p) => crosses(p, b),
     }
 }
 
@@ -52,22 +41,6 @@ pub fn halves_of(c: &Cell, k: Axis) -> HalfBoxes
         low: aabb_of_cell(&low),
         high: aabb_of_cell(&high),
         middle: high.low(k),
-    }
-}
-
-// The same, and anything where the side is 1.
-pub fn halves_along(c: &Cell, k: Axis) -> HalfBoxes
-    ensures value { 0 < c.now.log k → AreHalves c.now k result }
-    ensures sized { AreHalvesSized result }
-{
-    if c.log(k) == 0 {
-        HalfBoxes {
-            low: aabb_of_cell(c),
-            high: aabb_of_cell(c),
-            middle: c.low(k),
-        }
-    } else {
-        halves_of(c, k)
     }
 }
 

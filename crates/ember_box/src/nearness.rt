@@ -94,7 +94,7 @@ pub fn near_list(alloc: Global, s: &Scene, list: &[u32], c: &Cell) -> Result<Vec
 }
 
 // A place more, if it belongs to the list, which has room for it.
-fn push_if(belongs: bool, i: u32, list: &mut Vec<u32>)
+pub fn push_if(belongs: bool, i: u32, list: &mut Vec<u32>)
     requires { vec_len list.old < vec_capacity list.old }
     ensures items { list.new.items ≡ (if belongs then list.old.items ++ i ∷ [] else list.old.items) }
     ensures len { vec_len list.new ≤ vec_len list.old + 1 }

@@ -7,12 +7,12 @@ ghost use Rattle.ember_model.specs.declared.point.Axis.TheVariants.{X, Y, Z};
 ghost use Rattle.ember_box.specs.Boxes.{Cell as Box};
 ghost use Rattle.ember_box.specs.Near.{listed};
 ghost use Rattle.ember_box.specs.Halving as halvings;
-ghost use Rattle.ember_box.specs.Sums.{number, IsPlaneSized, AreHalvesSized, halves_met, AreHalvesByAxis, AreHalvesByAxisSized, AreSumsOfOne, AreFew, AreSums};
+ghost use Rattle.ember_box.specs.Sums.{number, AreSumsOfOne, AreFew, AreSums};
+ghost use Rattle.ember_box.specs.NearParts.{AreNearParts};
 
-use crate::aabb::{Aabb, Interval, aabb_of_cell, aabb_of_tri, aabbs_meet};
 use crate::cell::Cell;
-use crate::half_boxes::{HalfBoxes, halves_along, may_cross, meets_left, meets_right, plane_of};
-use ember_model::{Axis, Plane, Scene, Tri};
+use crate::near_parts::{NearPair, NearParts, middles_of, near_parts};
+use ember_model::{Axis, Scene, Tri};
 
 // A box with at most so many near triangles is a leaf.
 const FEW: u64 = 16;
@@ -24,71 +24,34 @@ fn number(b: bool) -> u64
     if b { 1 } else { 0 }
 }
 
-// The number of halves that a triangle is near whose bounding box meets the box, and has this interval
-// along their axis.
-fn halves_met(h: &HalfBoxes, span: &Interval, plane: &Option<Plane>) -> u64
-    requires halves { AreHalvesSized h.now }
-    requires plane { IsPlaneSized plane.now }
-    ensures value { result ≡ halves_met h.now span.now plane.now }
+fn number_of(pair: &NearPair) -> u64
+    ensures value { result ≡ number pair.now.low + number pair.now.high }
     ensures bound { result ≤ 2 }
 {
-    number(meets_left(h, span, plane)) + number(meets_right(h, span, plane))
-}
-
-// A box, and its halves along each axis.
-#[derive(Clone, Copy)]
-struct HalvesByAxis {
-    whole: Aabb,
-    x: HalfBoxes,
-    y: HalfBoxes,
-    z: HalfBoxes,
-}
-
-fn parts_of(c: &Cell) -> HalvesByAxis
-    ensures value { AreHalvesByAxis c.now result }
-    ensures sized { AreHalvesByAxisSized result }
-{
-    HalvesByAxis {
-        whole: aabb_of_cell(c),
-        x: halves_along(c, Axis::X),
-        y: halves_along(c, Axis::Y),
-        z: halves_along(c, Axis::Z),
-    }
+    number(pair.low) + number(pair.high)
 }
 
 // How many triangles of a list are near a box, and the sum of each axis: how many are near its
 // halves, those near both counted twice. The sum of an axis along which the side is 1 tells
 // nothing.
 #[derive(Clone, Copy)]
-struct Sums {
-    near: u64,
-    x: u64,
-    y: u64,
-    z: u64,
+pub struct Sums {
+    pub near: u64,
+    pub x: u64,
+    pub y: u64,
+    pub z: u64,
 }
 
 // The sums of one triangle.
-fn sums_of(b: &HalvesByAxis, t: &Tri) -> Sums
-    requires valid { IsValidTri t.now }
-    requires sized { AreHalvesByAxisSized b.now }
-    ensures sums { (c : Box) → AreHalvesByAxis c b.now → AreSumsOfOne c t.now result }
+pub fn sums_of(p: &NearParts) -> Sums
+    ensures sums { (c : Box) (t : Tri) → AreNearParts c t p.now → AreSumsOfOne c t result }
     ensures few { AreFew result }
 {
-    let spans = aabb_of_tri(t);
-    if aabbs_meet(&spans, &b.whole) {
-        let plane = plane_of(&b.whole, &spans, t);
-        let near = number(may_cross(&b.whole, &plane));
-        let x = halves_met(&b.x, &spans.x, &plane);
-        let y = halves_met(&b.y, &spans.y, &plane);
-        let z = halves_met(&b.z, &spans.z, &plane);
-        Sums { near, x, y, z }
-    } else {
-        Sums {
-            near: 0,
-            x: 0,
-            y: 0,
-            z: 0,
-        }
+    Sums {
+        near: number(p.whole),
+        x: number_of(&p.x),
+        y: number_of(&p.y),
+        z: number_of(&p.z),
     }
 }
 
@@ -97,13 +60,13 @@ fn half_sums(tris: &[Tri], list: &[u32], c: &Cell) -> Sums
     requires places { All (λ i. i < length tris.now) list.now }
     ensures { AreSums (listed tris.now list.now) c.now result }
 {
-    let parts = parts_of(c);
+    let middles = middles_of(c);
     let mut near = 0;
     let mut x_sum = 0;
     let mut y_sum = 0;
     let mut z_sum = 0;
     for i in list {
-        let more = sums_of(&parts, &tris[*i as usize]);
+        let more = sums_of(&near_parts(&middles, &tris[*i as usize]));
         near += more.near;
         x_sum += more.x;
         y_sum += more.y;
@@ -138,7 +101,7 @@ fn chosen(x_before_y: bool, x_before_z: bool, y_before_z: bool) -> Axis
     }
 }
 
-fn least_axis(c: &Cell, sums: &Sums) -> Axis
+pub fn least_axis(c: &Cell, sums: &Sums) -> Axis
     ensures { (ts : List Tri) → AreSums ts c.now sums.now → result ≡ halvings.halving_axis ts c.now }
 {
     let x = c.log(Axis::X);
@@ -158,7 +121,7 @@ fn is_unprofitable(log: u8, near: u64, sum: u64) -> bool
     log == 0 || 7 * near as u128 <= 4 * sum as u128
 }
 
-fn is_few(near: u64) -> bool
+pub fn is_few(near: u64) -> bool
     ensures { result ≡ nat_le near 16 }
 {
     near <= FEW
@@ -171,7 +134,7 @@ fn ends(is_few: bool, x_spreads: bool, y_spreads: bool, z_spreads: bool) -> bool
     is_few || x_spreads && y_spreads && z_spreads
 }
 
-fn is_leaf_by(c: &Cell, sums: &Sums) -> bool
+pub fn is_leaf_by(c: &Cell, sums: &Sums) -> bool
     ensures { (ts : List Tri) → AreSums ts c.now sums.now → result ≡ halvings.is_leaf ts c.now }
 {
     ends(

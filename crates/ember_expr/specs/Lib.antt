@@ -2,3 +2,4 @@ pub mod Formula
 pub mod Truth
 pub mod Tokens
 pub mod Grammar
+pub mod Derivation

@@ -6,10 +6,12 @@ mod expression;
 mod fault;
 mod formula;
 mod grammar;
+mod law;
 mod token;
 mod truth;
 
 pub use expression::{Expr, bounded, parse, tree, value};
 pub use fault::ExprFault;
 pub use formula::{Rel, Sum, Term, Tree};
+pub use law::texts_have_the_tree_of_the_grammar;
 pub use truth::holds;

@@ -1,10 +1,11 @@
 // One box of a Boolean: passed, a leaf or halves.
 use crate::scenes::{expression, scene_of_files};
-use crate::texts::{C, D, TETRA};
+use crate::texts::{C, D, TETRA, TETRA_TEXT};
 use ember_gen::scene_of;
 use ember_job::Outcome;
 use ember_model::Scene;
-use ember_step::{box_step, count_step, root_job};
+use ember_step::{box_step, count_step, root_job, text_step};
+use ember_text::{document_of, face_count};
 use std::alloc::Global;
 use std::process::Abort;
 use std::test::Fail;
@@ -39,9 +40,21 @@ fn root_by_count(alloc: Global, s: &Scene, text: &str) -> Result<Root, Fail> {
     }
 }
 
+// By the step that gives their text.
+fn root_by_text(alloc: Global, s: &Scene, text: &str) -> Result<Root, Fail> {
+    let e = expression(alloc, text.as_bytes(), 2)?;
+    let job = root_job(alloc, s)?;
+    match text_step(alloc, s, &e, &job)? {
+        Outcome::Halves(_, _) => Ok(Root::Halved),
+        Outcome::Leaf(text) => Ok(Root::Leaf(text.count())),
+        Outcome::Skipped => Ok(Root::Skipped),
+    }
+}
+
 fn check(rt: &impl Abort, alloc: Global, s: &Scene, text: &str, want: Root) -> Result<(), Fail> {
     assert_eq!(rt; root_by_regions(alloc, s, text)?, want, "{text}");
     assert_eq!(rt; root_by_count(alloc, s, text)?, want, "{text}");
+    assert_eq!(rt; root_by_text(alloc, s, text)?, want, "{text}");
     Ok(())
 }
 
@@ -62,4 +75,20 @@ fn the_roots_of_a_tetrahedron_and_of_two_cubes(rt: HostRuntime) -> Result<(), Fa
     check(&rt, alloc, &tetra, "m1", Root::Leaf(4))?;
     let cubes = scene_of_files(alloc, &[C, D])?;
     check(&rt, alloc, &cubes, "m1|m2", Root::Halved)
+}
+
+#[test]
+fn the_text_of_a_tetrahedron(rt: HostRuntime) -> Result<(), Fail> {
+    let alloc = rt.alloc();
+    let scene = scene_of_files(alloc, &[TETRA])?;
+    let e = expression(alloc, b"m1", 1)?;
+    let job = root_job(alloc, &scene)?;
+    let Outcome::Leaf(text) = text_step(alloc, &scene, &e, &job)? else {
+        return Err(Fail::from("no leaf"));
+    };
+    let texts = vec![in alloc; text]?;
+    assert_eq!(rt; face_count(&texts)?, 4);
+    let file = document_of(alloc, texts)?;
+    assert_eq!(rt; file.as_slice(), TETRA_TEXT);
+    Ok(())
 }

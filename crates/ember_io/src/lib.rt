@@ -20,10 +20,12 @@ pub use safe_shelf::SafeShelf;
 pub use shelf::{ReadEnd, Shelf, read_all};
 pub use sink::{Sink, WriteFault, write_all};
 use std::alloc::AllocError;
+use thiserror::Error;
 
 /// Want of memory.
 pub type OutOfMemory = AllocError;
 
 /// A call to the outside failed.
-#[derive(Clone, Copy, Debug, PartialEq, Eq)]
+#[derive(Clone, Copy, Debug, PartialEq, Eq, Error)]
+#[error("a call to the outside failed")]
 pub struct Failed;

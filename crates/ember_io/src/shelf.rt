@@ -8,6 +8,7 @@ ghost use Rattle.ember_io.specs.Shelves.{Tells, TellsMore, MarksFault};
 
 use crate::Failed;
 use std::alloc::Global;
+use thiserror::Error;
 
 /// Files by name, of which the one begun last is read. At the start no bytes are unread, and the
 /// numbers of the last `begin` and of the last fault are 0.
@@ -48,13 +49,16 @@ pub trait Shelf {
 }
 
 /// Why a file wasn't read whole.
-#[derive(Clone, Copy, Debug, PartialEq, Eq)]
+#[derive(Clone, Copy, Debug, PartialEq, Eq, Error)]
 pub enum ReadEnd {
     /// A call of the shelf failed.
+    #[error("cannot be read")]
     ReadFault,
     /// The file has at least this many bytes, which is one more than are allowed.
+    #[error("{0} bytes or more")]
     TooLong(u64),
     /// There was no memory for the bytes.
+    #[error("out of memory")]
     OutOfMemory,
 }
 

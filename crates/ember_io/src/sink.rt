@@ -7,6 +7,7 @@ ghost use Rattle.ember_io.specs.Causes.{HasCause};
 ghost use Rattle.ember_io.specs.Sinks.{IsFlushed, AppendsPrefix};
 
 use crate::Failed;
+use thiserror::Error;
 
 /// A place that takes bytes, some of which are flushed.
 pub trait Sink {
@@ -36,7 +37,8 @@ pub trait Sink {
 }
 
 /// A call of the sink failed.
-#[derive(Clone, Copy, Debug, PartialEq, Eq)]
+#[derive(Clone, Copy, Debug, PartialEq, Eq, Error)]
+#[error("cannot be written")]
 pub struct WriteFault;
 
 /// Writes all the bytes, and flushes. At a fault the sink has taken a prefix of them.

@@ -6,28 +6,25 @@ use borrow.Author.Differences.{ints}
 use Rattle.ember_algebra.specs.Sign.{sign, is_negative}
 use Rattle.ember_model.specs.declared.plane.Plane.{Plane}
 use Rattle.ember_model.specs.declared.point.Corner.{Corner}
-use Rattle.ember_model.specs.declared.point.Spot.{Spot}
 use Rattle.ember_model.specs.declared.tri.Tri.{Tri}
 use Rattle.ember_model.specs.declared.face.Face.{Face}
 use Rattle.ember_model.specs.Planes.{value_at, along, unit, main_axis, support_of}
-use Rattle.ember_model.specs.Faces.{is_flat, face_of, is_inside, is_in_closed, Meets}
-use Rattle.ember_model.specs.Edges.{RingEdge, IsOutline}
+use Rattle.ember_model.specs.Faces.{is_flat, face_of, is_in_closed, Meets}
+use Rattle.ember_model.specs.Edges.{IsOutline}
 use Rattle.ember_model.specs.Owners.{spot_of_corner}
 use Rattle.ember_model.proofs.SignTests.{and_parts, negative_out}
 use Rattle.ember_point.specs.declared.meet_point.Meet.{Meet}
 use Rattle.ember_poly.specs.Cuts.{HasInside}
-use Rattle.ember_poly.specs.Outlines.{SamePoints, face_of_edges}
+use Rattle.ember_poly.specs.Outlines.{SamePoints}
 use Rattle.ember_poly.specs.Rings.{Side, IsBelow}
 use Rattle.ember_poly.specs.Sides.{ring_edges}
-use Rattle.ember_poly.proofs.FaceTests.{inside_in, inside_out, closed_in}
+use Rattle.ember_poly.proofs.FaceTests.{inside_in, inside_out}
 use Rattle.ember_poly.proofs.InsidePoints.{corner_closed}
 use Rattle.ember_poly.proofs.OutlinePoints.{outline_has_its_points}
 use Rattle.ember_poly.proofs.Triangle.{side_along}
-use Rattle.ember_poly.proofs.TriangleRing.{tri_sides, stands}
-use Rattle.ember_leaf.specs.declared.heights.Heights.{Heights}
+use Rattle.ember_poly.proofs.TriangleRing.{stands}
 use Rattle.ember_leaf.specs.Contact.{no_plane, HasParting, IsBehind}
 use Rattle.ember_leaf.specs.Cutters.{ShareAPlane}
-use Rattle.ember_leaf.specs.TriRelations.{heights_of, none_behind}
 use Rattle.ember_leaf.proofs.TriRelations.{front_at_least, under_least}
 use Rattle.ember_leaf.proofs.RegionCuts.{take_all}
 use Rattle.ember_leaf.proofs.TriFaces.{closed_at_least, closed_ring, ring_closed}

@@ -6,10 +6,9 @@ use Rattle.ember_algebra.specs.Relations.{Each, Chain, done, step, Every}
 use Rattle.ember_algebra.specs.Sign.{is_negative}
 use Rattle.ember_algebra.proofs.Relations.{chain_push}
 use Rattle.ember_model.specs.declared.plane.Plane.{Plane}
-use Rattle.ember_model.specs.declared.point.Spot.{Spot}
 use Rattle.ember_model.specs.declared.face.Face.{Face}
 use Rattle.ember_model.specs.Planes.{value_at, opposite}
-use Rattle.ember_model.specs.Faces.{Contains, Somewhere, Cuts, below}
+use Rattle.ember_model.specs.Faces.{Contains, Somewhere, below}
 use Rattle.ember_model.proofs.SignTests.{negative_in, positive_out}
 use Rattle.ember_box.specs.Regions.{CuttingPlane, AtCuttingPlane, splits, whole}
 use Rattle.ember_poly.specs.Cuts.{HasInside}
@@ -18,7 +17,7 @@ use Rattle.ember_trace.proofs.FilledFaces.{inside_below}
 use Rattle.ember_leaf.specs.declared.cutter.Cutter.{Cutter}
 use Rattle.ember_leaf.specs.declared.cutter.Role.{Role}
 use Rattle.ember_leaf.specs.declared.cutter.Role.TheVariants.{Across, Coplanar, Owner}
-use Rattle.ember_leaf.specs.Cutters.{ShareAPlane, SharesAs, CanCut, AreSplit, AreCut}
+use Rattle.ember_leaf.specs.Cutters.{ShareAPlane, SharesAs, CanCut, AreCut}
 use Rattle.ember_leaf.proofs.WallClips.{each_every, inside_in_below}
 use Rattle.ember_leaf.proofs.Leaving.{left_every, every_all, regions_left}
 

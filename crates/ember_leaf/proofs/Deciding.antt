@@ -1,8 +1,8 @@
 -- A plane cuts a face or it doesn't, and a face meets another one or it doesn't. So what a cutting plane
 -- leaves of a face is a list of faces, whatever the face.
-use Rattle.std.proofs.Common.{◌≡◌, ◌⊎◌, inl, inr, sym, arith, true, List, [], ◌∷◌, ◌++◌, map, ℤ, pos, neg_ℤ, ◌<ℤ◌, ◌≤ℤ◌, ◌+ℤ◌}
+use Rattle.std.proofs.Common.{◌≡◌, ◌⊎◌, inl, inr, arith, true, List, [], ◌∷◌, ◌++◌, map, pos, neg_ℤ}
 use Rattle.std.specs.List.{AllByRecursion}
-use Rattle.ember_algebra.specs.Relations.{Each, Chain, none, more, done, step, Every}
+use Rattle.ember_algebra.specs.Relations.{Every}
 use Rattle.ember_algebra.specs.Sign.{is_negative, is_positive}
 use Rattle.ember_algebra.proofs.Laws.{linear}
 use Rattle.ember_algebra.proofs.Relations.{every_append}
@@ -14,7 +14,7 @@ use Rattle.ember_model.specs.Planes.{value_at, opposite}
 use Rattle.ember_model.specs.Faces.{Somewhere, Cuts, Meets, is_inside, is_in_closed, below, above}
 use Rattle.ember_model.proofs.SignTests.{positive_in, positive_out, negative_in, negative_out}
 use Rattle.ember_box.specs.Regions.{CuttingPlane, AtCuttingPlane, splits, whole}
-use Rattle.ember_poly.specs.Rings.{IsBelow, IsNotAbove, InFace, InClosedFace}
+use Rattle.ember_poly.specs.Rings.{IsBelow, IsNotAbove, InFace}
 use Rattle.ember_poly.proofs.FaceTests.{inside_in, inside_out, closed_in, closed_out}
 use Rattle.ember_poly.proofs.InsideSigns.{opposite_plane}
 use Rattle.ember_poly.proofs.ReachBySigns.{over_opposite, over_from_opposite, most_opposite, least_from_opposite}

@@ -16,7 +16,7 @@ use Rattle.ember_model.specs.declared.tri.Tri.{Tri}
 use Rattle.ember_model.specs.declared.face.Face.{Face}
 use Rattle.ember_model.specs.Planes.{value_at, opposite}
 use Rattle.ember_model.specs.Faces.{is_inside, is_flat, face_of, Contains}
-use Rattle.ember_model.specs.Owners.{is_coplanar, IsOwner}
+use Rattle.ember_model.specs.Owners.{IsOwner}
 use Rattle.ember_model.proofs.SignTests.{clash}
 use Rattle.ember_box.specs.declared.aabb.Interval.{Interval}
 use Rattle.ember_box.specs.declared.aabb.Aabb.{Aabb}
@@ -37,14 +37,14 @@ use Rattle.ember_trace.proofs.BoxedRegions.{every_at, regions_lie_in}
 use Rattle.ember_leaf.specs.declared.wall.Wall as leaf
 use Rattle.ember_leaf.specs.declared.cutter.Cutter.{Cutter}
 use Rattle.ember_leaf.specs.Walls.{wall_of, IsPartOf, IsClippedBy}
-use Rattle.ember_leaf.specs.TriRelations.{IsLower, HasContaining}
+use Rattle.ember_leaf.specs.TriRelations.{IsLower}
 use Rattle.ember_leaf.specs.declared.cutter.Role.{Role}
 use Rattle.ember_leaf.specs.declared.cutter.Role.TheVariants.{Across, Coplanar, Owner}
 use Rattle.ember_leaf.specs.Leaves.{IsRegionOf}
 use Rattle.ember_leaf.specs.Lower.{AreLower, DecidesOwner}
 use Rattle.ember_leaf.specs.Written.{AreOwned}
 use Rattle.ember_poly.specs.Cuts.{HasInside}
-use Rattle.ember_leaf.specs.Cutters.{blades_in, owners_in, IsCutterOf, AreDisjoint, IsFree, Without, AreCut, CanCut, LiesAs, SharesAs, IsWithinInterval, IsWithinAabb, IsBounded, OmitsUnmet, common, common_of}
+use Rattle.ember_leaf.specs.Cutters.{blades_in, owners_in, IsCutterOf, AreDisjoint, IsFree, AreCut, CanCut, LiesAs, SharesAs, IsWithinInterval, IsWithinAabb, IsBounded, OmitsUnmet, common, common_of}
 use Rattle.ember_leaf.proofs.WallClips.{left_parts}
 use Rattle.ember_leaf.proofs.TriRelations.{bounds}
 use Rattle.ember_leaf.proofs.UnmetPlanes.{unshed}

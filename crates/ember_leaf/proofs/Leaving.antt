@@ -1,15 +1,15 @@
 -- Regions that are left, where those that a triangle owns are left out as soon as they are found.
-use Rattle.std.proofs.Common.{◌≡◌, refl, sym, ap, subst, ◌∙◌, ℕ, zero, suc, None, Some, slice_get, true, false, List, [], ◌∷◌, ◌++◌, append_assoc, All}
+use Rattle.std.proofs.Common.{◌≡◌, sym, subst, ℕ, zero, suc, None, Some, slice_get, List, [], ◌∷◌, ◌++◌, append_assoc, All}
 use Rattle.std.specs.List.{AllByRecursion}
 use Rattle.std.proofs.lemmas.List.{append-nil}
 use Rattle.std.proofs.lemmas.List.Elements.{All-nil, All-cons}
 use Rattle.ember_algebra.specs.Relations.{Each, Chain, none, more, done, step, Every}
-use Rattle.ember_algebra.proofs.Relations.{each_append, chain_append, every_append}
+use Rattle.ember_algebra.proofs.Relations.{each_append, chain_append}
 use Rattle.ember_model.specs.declared.tri.Tri.{Tri}
 use Rattle.ember_model.specs.declared.plane.Plane.{Plane}
 use Rattle.ember_model.specs.declared.face.Face.{Face}
 use Rattle.ember_model.specs.Planes.{opposite}
-use Rattle.ember_model.specs.Faces.{face_of, Everywhere, Contains, Meets}
+use Rattle.ember_model.specs.Faces.{face_of, Meets}
 use Rattle.ember_box.specs.Regions.{CuttingPlane, AtCuttingPlane, splits, whole}
 use Rattle.ember_trace.proofs.FilledFaces.{inside_below}
 use Rattle.ember_leaf.specs.declared.cutter.Cutter.{Cutter}

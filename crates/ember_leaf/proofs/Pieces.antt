@@ -1,19 +1,18 @@
 -- What a triangle leaves of one region.
-use Rattle.std.proofs.Common.{◌≡◌, ◌≢◌, suc, ◌-◌, ◌<◌, ◌≤◌, length, take, drop, get_or, refl, sym, ap, subst, ◌∙◌, arith, ℤ, pos, ◌<ℤ◌, ◌≤ℤ◌, Bool, true, false, List, [], ◌∷◌, ◌++◌, append_assoc, All}
+use Rattle.std.proofs.Common.{◌≡◌, ◌≢◌, suc, ◌-◌, ◌<◌, ◌≤◌, length, take, drop, get_or, refl, sym, ap, subst, ◌∙◌, arith, pos, ◌<ℤ◌, true, false, List, [], ◌∷◌, ◌++◌, append_assoc, All}
 use Rattle.std.specs.List.{AllByRecursion}
 use Rattle.std.proofs.lemmas.List.{append-nil}
-use Rattle.ember_algebra.specs.Relations.{Each, Chain, none, more, done, step, Every}
-use Rattle.ember_algebra.specs.Sign.{is_negative, is_positive}
+use Rattle.ember_algebra.specs.Relations.{Each, none, more, done, step}
 use Rattle.ember_algebra.proofs.Laws.{linear}
 use Rattle.ember_model.specs.declared.plane.Plane.{Plane}
 use Rattle.ember_model.specs.declared.point.Spot.{Spot}
 use Rattle.ember_model.specs.declared.tri.Tri.{Tri}
 use Rattle.ember_model.specs.declared.face.Face.{Face}
 use Rattle.ember_model.specs.Planes.{value_at, support_of, opposite}
-use Rattle.ember_model.specs.Faces.{face_of, edges_of, is_flat, is_inside, is_in_closed, Somewhere, Everywhere, Meets, Contains, Cuts, below, above}
-use Rattle.ember_model.proofs.SignTests.{negative_in, negative_out, positive_out, zero_out, clash}
-use Rattle.ember_box.specs.Regions.{CuttingPlane, AtCuttingPlane, splits, whole}
-use Rattle.ember_poly.specs.Rings.{IsBelow, IsNotAbove}
+use Rattle.ember_model.specs.Faces.{face_of, edges_of, is_flat, is_inside, Meets, below, above}
+use Rattle.ember_model.proofs.SignTests.{negative_in, negative_out, positive_out, zero_out}
+use Rattle.ember_box.specs.Regions.{AtCuttingPlane}
+use Rattle.ember_poly.specs.Rings.{IsBelow}
 use Rattle.ember_poly.specs.Cuts.{AreParts, IsReach}
 use Rattle.ember_poly.specs.declared.reach_cut.Reach.{Reach}
 use Rattle.ember_poly.specs.declared.reach_cut.Reach.TheVariants.{Below, Above, On, Both}
@@ -26,7 +25,7 @@ use Rattle.ember_leaf.specs.declared.cutter.Role.{Role}
 use Rattle.ember_leaf.specs.declared.cutter.Role.TheVariants.{Across, Coplanar, Owner}
 use Rattle.ember_leaf.specs.TriRelations.{HasContaining}
 use Rattle.ember_leaf.specs.Written.{HasGrown}
-use Rattle.ember_leaf.specs.Cutters.{planes_as, owner_as, cutting_planes_with, blades_by, owners_by, Without, ended, left, dropped, AreDisjoint, IsFree, AreLeft, AtCutter, AtPlane, AtEdges, AreAround, AreLast, ShareAPlane, SharesAs, CanCut}
+use Rattle.ember_leaf.specs.Cutters.{planes_as, owner_as, cutting_planes_with, owners_by, ended, left, dropped, AreDisjoint, IsFree, AreLeft, AtCutter, AtPlane, AtEdges, AreAround, AreLast, ShareAPlane, SharesAs, CanCut}
 use Rattle.ember_leaf.proofs.WallClips.{inside_in_below}
 use Rattle.ember_leaf.proofs.RegionCuts.{take_all, region_parts, region_whole}
 use Rattle.ember_leaf.proofs.Leaving.{cuts_both, cuts_unmet, without_append, none_dropped}

@@ -1,6 +1,5 @@
 -- Faces and triangles of one plane: where they meet, they have inside points in common.
-use Rattle.std.proofs.Common.{◌≡◌, refl, ap, ◌∙◌, arith, Bool, true, false, List, [], ◌∷◌, ◌++◌, ℕ, ℤ, pos, neg_ℤ, ◌+ℤ◌, ◌*ℤ◌, ◌<ℤ◌, ◌≤ℤ◌}
-use Rattle.std.specs.List.{AllByRecursion}
+use Rattle.std.proofs.Common.{◌≡◌, refl, ap, ◌∙◌, arith, Bool, true, false, ℕ, ℤ, pos, neg_ℤ, ◌+ℤ◌, ◌*ℤ◌, ◌<ℤ◌, ◌≤ℤ◌}
 use borrow.Author.Differences.{ints}
 use Rattle.ember_algebra.specs.Large.{Eventually}
 use Rattle.ember_algebra.proofs.Large.{eventually_both, eventually_map, eventually_pos}
@@ -11,13 +10,12 @@ use Rattle.ember_model.specs.declared.point.Spot.{Spot}
 use Rattle.ember_model.specs.declared.tri.Tri.{Tri}
 use Rattle.ember_model.specs.declared.face.Face.{Face}
 use Rattle.ember_model.specs.Planes.{value_at, support_of}
-use Rattle.ember_model.specs.Faces.{is_flat, face_of, edges_of, is_inside, is_in_closed, Somewhere, Everywhere, Meets, Contains, Cuts, below, above}
+use Rattle.ember_model.specs.Faces.{is_flat, face_of, is_inside, is_in_closed, Somewhere, Meets}
 use Rattle.ember_model.specs.Owners.{is_coplanar}
-use Rattle.ember_model.proofs.SignTests.{clash}
-use Rattle.ember_poly.specs.Rings.{IsBelow, IsNotAbove, InFace, InClosedFace}
+use Rattle.ember_poly.specs.Rings.{IsBelow, InFace}
 use Rattle.ember_poly.specs.Chords.{mixed2}
 use Rattle.ember_poly.proofs.Chains.{each_map}
-use Rattle.ember_poly.proofs.FaceTests.{inside_in, inside_out, closed_out}
+use Rattle.ember_poly.proofs.FaceTests.{inside_in, inside_out}
 use Rattle.ember_poly.proofs.InsidePoints.{inside_sum}
 use Rattle.ember_poly.proofs.InsideSigns.{mixed2_value, eventually_each}
 use Rattle.ember_poly.proofs.TriangleRing.{tri_sides}

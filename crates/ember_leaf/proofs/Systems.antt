@@ -1,8 +1,7 @@
 -- Systems of linear inequalities: each has a solution, or it has none. One unknown after another
 -- is eliminated. Solutions may be multiplied by positive numbers, so integers are enough.
-use Rattle.std.proofs.Common.{◌≡◌, ap, ◌⊎◌, inl, inr, ℕ, zero, suc, ◌∙◌, arith, List, [], ◌∷◌, ◌++◌, map, ℤ, pos, negsuc, ◌+ℤ◌, ◌*ℤ◌, neg_ℤ, ◌≤ℤ◌, ◌<ℤ◌}
+use Rattle.std.proofs.Common.{◌≡◌, ap, ◌⊎◌, inl, inr, ℕ, zero, suc, ◌∙◌, arith, List, [], ◌∷◌, ◌++◌, ℤ, pos, ◌+ℤ◌, ◌*ℤ◌, neg_ℤ, ◌≤ℤ◌, ◌<ℤ◌}
 use Rattle.std.proofs.lemmas.Int.{by_lt_z}
-use borrow.Author.Differences.{ints}
 use Rattle.ember_algebra.specs.Relations.{Every}
 use lib.IntN.{zero-*ℤ}
 use Rattle.ember_algebra.proofs.Laws.{linear, neg-*ℤ}

@@ -1,5 +1,5 @@
 -- A cutting plane that no region meets leaves the list, and so does its triangle.
-use Rattle.std.proofs.Common.{◌≡◌, Result, Ok, Err, OnOk, refl, sym, ap, subst, ◌∙◌, arith, ℕ, zero, suc, ◌+◌, flat_map, Bool, true, false, nat_eq, ◌&&◌, List, [], ◌∷◌, ◌++◌, map, All}
+use Rattle.std.proofs.Common.{◌≡◌, Result, Ok, Err, OnOk, refl, sym, ap, subst, ◌∙◌, arith, ℕ, zero, suc, ◌+◌, flat_map, Bool, true, false, nat_eq, ◌&&◌, List, [], ◌∷◌, ◌++◌, All}
 use Rattle.std.specs.List.{range_with_len}
 use Rattle.std.proofs.lemmas.List.{append-nil}
 use Rattle.std.proofs.lemmas.List.Concat.{flat_map-append}
@@ -22,7 +22,6 @@ use Rattle.ember_model.specs.declared.point.Axis.TheVariants.{X, Y, Z}
 use Rattle.std.proofs.lemmas.Bool.{and_from}
 use Rattle.ember_leaf.specs.declared.cutter.Cutter.{Cutter}
 use Rattle.ember_leaf.specs.declared.cutter.Role.{Role}
-use Rattle.ember_leaf.specs.declared.cutter.Role.TheVariants.{Across, Coplanar, Owner}
 use Rattle.ember_leaf.specs.TriRelations.{AreDisjoint}
 use Rattle.ember_leaf.specs.Cutters.{planes_as, owner_as, LiesAs, IsCutterOf, IsAdded, cutting_planes_with, blades_by, blades_in, owners_by, owners_in, IsBounded, OmitsUnmet, all_seen, stays, goes, AddsCuttingPlanes}
 use Rattle.ember_leaf.proofs.WallClips.{each_every}

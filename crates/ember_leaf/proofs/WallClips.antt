@@ -1,5 +1,5 @@
 -- A wall more, and what it leaves of a part of a triangle.
-use Rattle.std.proofs.Common.{◌≡◌, refl, sym, ap, subst, ◌∙◌, arith, ℕ, ◌+◌, ◌<◌, ◌⊎◌, inl, inr, Bool, true, false, ◌&&◌, if◌then◌else◌, List, [], ◌∷◌, length, take, drop, get_or, map, Option, None, Some, ℤ, pos, neg_ℤ, ◌-ℤ◌, ◌<ℤ◌, ◌≤ℤ◌}
+use Rattle.std.proofs.Common.{◌≡◌, refl, sym, ap, subst, ◌∙◌, arith, ℕ, ◌+◌, ◌<◌, ◌⊎◌, inl, inr, Bool, true, false, not, ◌&&◌, if◌then◌else◌, List, [], ◌∷◌, length, take, drop, get_or, map, Option, None, Some, ℤ, pos, neg_ℤ, ◌-ℤ◌, ◌<ℤ◌, ◌≤ℤ◌}
 use Rattle.std.specs.Int.{int_min}
 use Rattle.std.proofs.lemmas.Int.{clamps, by_lt_z}
 use Rattle.std.proofs.lemmas.List.{append-nil, map-append, take_more, take-append-drop}
@@ -236,6 +236,13 @@ module _ (w : Wall) (f : Face) (p : Plane) (same : p ≡ w.plane) where
     where
       not_over : (z : ℤ) → is_zero z ≡ true → is_positive z ≡ false
       not_over z q = ap is_positive (zero_out z q)
+
+  pub wall_on : {g : Face} → g ≡ f → IsReach f p On → AtWall w f (if not w.is_high then g ∷ [] else [])
+  wall_on {g} e h = by w.is_high refl
+    where
+      by : (b : Bool) → w.is_high ≡ b → AtWall w f (if not b then g ∷ [] else [])
+      by true q = wall_high_on q h
+      by false q = subst (λ (g : Face). AtWall w f (g ∷ [])) (sym e) (wall_low_on q h)
 
   pub wall_cut : {g : Face} → g ≡ below f p → IsReach f p Both → AtWall w f (g ∷ [])
   wall_cut e h =

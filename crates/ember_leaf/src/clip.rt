@@ -1,5 +1,5 @@
 // The part of a triangle that belongs to a box.
-ghost use Rattle.std.specs.Prelude.{◌≡◌, true, false, [], map, IfOk, option_to_list};
+ghost use Rattle.std.specs.Prelude.{◌≡◌, true, false, [], ◌∷◌, map, if◌then◌else◌, IfOk, OnOk, option_to_list};
 ghost use Rattle.ember_algebra.specs.Size.{Small};
 ghost use Rattle.ember_model.specs.Valid.{IsValidPlane};
 ghost use Rattle.ember_box.specs.Aabbs.{IsIntervalSized};
@@ -7,13 +7,14 @@ ghost use Rattle.ember_model.specs.Planes.{opposite};
 ghost use Rattle.ember_model.specs.Faces.{is_flat, face_of};
 ghost use Rattle.ember_box.specs.Regions.{level, AtWall};
 ghost use Rattle.ember_box.specs.Regions as regions;
+ghost use Rattle.ember_poly.specs.Drafts.{face_in, HoldsRing};
 ghost use Rattle.ember_leaf.specs.Cutters.{common, common_of};
 ghost use Rattle.ember_leaf.specs.Walls.{wall_of, interval_along, level_by, IsLowRemainder, IsHighRemainder, IsRemainder, IsClippedBy};
 
 use crate::wall::Wall;
 use ember_box::{Aabb, Cell, Interval, aabb_of_cell};
 use ember_model::{Axis, OutOfMemory, Plane};
-use ember_poly::{Reach, Ring, clip, of_tri};
+use ember_poly::{Draft, Reach, Ring};
 use ember_trace::NearTriangle;
 use std::alloc::Global;
 
@@ -184,49 +185,59 @@ pub fn is_outside(walls: &[Wall], f: &NearTriangle) -> bool
     false
 }
 
-// What the wall leaves of a face.
-fn at_wall(f: Ring, w: &Wall) -> Result<Option<Ring>, OutOfMemory>
-    ensures { IfOk result (λ out. AtWall (wall_of w.now) f (option_to_list out)) }
+// Keeps what the wall leaves of a face. Returns whether anything is left.
+fn at_wall(draft: &mut Draft, w: &Wall) -> Result<bool, OutOfMemory>
+    requires { HoldsRing draft.old }
+    ensures ring { OnOk result (HoldsRing draft.new) }
+    ensures left { IfOk result (λ some. AtWall (wall_of w.now) (face_in draft.old) (if some then face_in draft.new ∷ [] else [])) }
 {
-    let (side, left) = clip(f, &plane_of(w))?;
+    let side = draft.clip(&plane_of(w))?;
     match side {
-        Reach::Below => Ok(Some(left)),
-        Reach::Above => Ok(None),
-        Reach::On => Ok(if w.is_high { None } else { Some(left) }),
-        Reach::Both => Ok(Some(left)),
+        Reach::Below => Ok(true),
+        Reach::Above => Ok(false),
+        Reach::On => Ok(!w.is_high),
+        Reach::Both => Ok(true),
     }
 }
 
-// What the walls leave of a part of the triangle.
-fn within_walls(part: Ring, f: &NearTriangle, walls: &[Wall]) -> Result<Option<Ring>, OutOfMemory>
+// Keeps what the walls leave of the triangle's face. Returns whether anything is left.
+fn within_walls(draft: &mut Draft, f: &NearTriangle, walls: &[Wall]) -> Result<bool, OutOfMemory>
     requires normal { is_flat f.now.tri ≡ false }
-    requires whole { part ≡ face_of f.now.tri }
-    ensures { IfOk result (λ out. IsClippedBy (map wall_of walls.now) f.now.tri (option_to_list out)) }
+    requires ring { HoldsRing draft.old }
+    requires whole { face_in draft.old ≡ face_of f.now.tri }
+    ensures ring { OnOk result (HoldsRing draft.new) }
+    ensures left { IfOk result (λ some. IsClippedBy (map wall_of walls.now) f.now.tri (if some then face_in draft.new ∷ [] else [])) }
 {
-    let mut ring = part;
     for w in walls {
         match remainder_at(w, f) {
             Remainder::Whole => {}
-            Remainder::Nothing => return Ok(None),
-            Remainder::Unknown => match at_wall(ring, w)? {
-                Some(left) => ring = left,
-                None => return Ok(None),
-            },
+            Remainder::Nothing => return Ok(false),
+            Remainder::Unknown => {
+                if !at_wall(draft, w)? {
+                    return Ok(false);
+                }
+            }
         }
     }
-    Ok(Some(ring))
+    Ok(true)
 }
 
-/// The part of a triangle that belongs to the box with these walls, if there is any.
+/// The part of a triangle that isn't flat that belongs to the box with these walls, if there is any, with room
+/// for so many cuts. The draft is left with any face.
 pub fn clip_to_box(
     alloc: Global,
+    draft: &mut Draft,
     f: &NearTriangle,
     walls: &[Wall],
+    room: usize,
 ) -> Result<Option<Ring>, OutOfMemory>
+    requires { is_flat f.now.tri ≡ false }
     ensures { IfOk result (λ out. IsClippedBy (map wall_of walls.now) f.now.tri (option_to_list out)) }
 {
-    match of_tri(alloc, &f.tri)? {
-        Some(ring) => within_walls(ring, f, walls),
-        None => Ok(None),
+    draft.begin(&f.tri, &f.support)?;
+    if within_walls(draft, f, walls)? {
+        Ok(Some(draft.ring(alloc, room)?))
+    } else {
+        Ok(None)
     }
 }

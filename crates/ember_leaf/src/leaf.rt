@@ -1,5 +1,5 @@
 // The written regions of a leaf.
-ghost use Rattle.std.specs.Prelude.{◌≡◌, List, ◌≤◌, ◌<◌, ◌+◌, map, length, All};
+ghost use Rattle.std.specs.Prelude.{◌≡◌, List, [], ◌∷◌, ◌≤◌, ◌<◌, ◌+◌, map, length, All};
 ghost use Rattle.std.specs.Prelude.{IfOk, IfSome, OnOk, option_to_list};
 ghost use Rattle.ember_model.specs.Valid.{IsValidTri};
 ghost use Rattle.ember_model.specs.Owners.{IsOwner};
@@ -30,9 +30,12 @@ use crate::wall::Wall;
 use ember_box::{Aabb, Cell, aabb_of_cell};
 use ember_expr::{Expr, value};
 use ember_model::{Axis, OutOfMemory, Plane, Tri, Vector, main_axis};
-use ember_poly::{Ring, support};
+use ember_poly::{Draft, Ring, support};
 use ember_trace::{NearTriangle, Sides, near_triangles, sides_beside};
 use std::alloc::Global;
+
+// For how many cuts a triangle's start has room at most.
+const ROOM: usize = 6;
 
 // The plane's front is on the side to which its main axis points.
 fn faces_on(p: &Plane) -> bool
@@ -96,6 +99,26 @@ impl Leaf<'_> {
         }
     }
 
+    // Adds the one region of triangle `i`, if it is written.
+    fn keep_one(&self, ring: Ring, i: usize, kept: &mut Vec<Kept>) -> Result<(), OutOfMemory>
+        requires few { length self.now.near.now ≤ 262144 }
+        requires counts { AreBoxCounts self.now.at.now.counts }
+        requires index { i < length self.now.near.now }
+        requires region { IsRegionOf (tri_at (tris_of self.now.near.now) i) ring }
+        requires regions { AreOwned self.now.cell.now (tris_of self.now.near.now) i (ring ∷ []) }
+        requires starts { All (HasReferenceSide self.now.cell.now) self.now.near.now }
+        requires inside { LiesIn self.now.cell.now ring }
+        requires owner { IsOwner (tris_of self.now.near.now) i ring }
+        requires kept { ArePlacedBelow (tris_of self.now.near.now) (i + 1) kept.old.items }
+        ensures placed { OnOk result (ArePlacedBelow (tris_of self.now.near.now) (i + 1) kept.new.items) }
+        ensures written { OnOk result (AddsWritten self.now i kept.old.items kept.new.items) }
+    {
+        if let Some(k) = self.kept(i, ring) {
+            kept.push(k)?;
+        }
+        Ok(())
+    }
+
     // Adds the written ones of the regions that triangle `i` owns.
     fn keep(&self, list: Vec<Ring>, i: usize, kept: &mut Vec<Kept>) -> Result<(), OutOfMemory>
         requires few { length self.now.near.now ≤ 262144 }
@@ -125,6 +148,7 @@ impl Leaf<'_> {
         walls: &[Wall],
         i: usize,
         cutters: &mut Vec<Cutter>,
+        draft: &mut Draft,
         kept: &mut Vec<Kept>,
     ) -> Result<(), OutOfMemory>
         requires few { length self.now.near.now ≤ 262144 }
@@ -145,9 +169,13 @@ impl Leaf<'_> {
         if find_cutters(cutters, own, &bounds, self.near, i)? {
             return Ok(());
         }
-        if let Some(ring) = clip_to_box(alloc, own, walls)? {
-            let list = regions(alloc, ring, cutters)?;
-            self.keep(list, i, kept)?;
+        if let Some(ring) = clip_to_box(alloc, draft, own, walls, cutters.len().min(ROOM))? {
+            if cutters.is_empty() {
+                self.keep_one(ring, i, kept)?;
+            } else {
+                let list = regions(alloc, ring, cutters)?;
+                self.keep(list, i, kept)?;
+            }
         }
         Ok(())
     }
@@ -180,9 +208,10 @@ pub fn leaf_faces(
     };
     let walls = walls(c);
     let mut cutters = Vec::new(alloc);
+    let mut draft = Draft::new(alloc);
     let mut kept = Vec::new(alloc);
     for i in 0..near_triangles.len() {
-        leaf.write_triangle(alloc, &walls, i, &mut cutters, &mut kept)?;
+        leaf.write_triangle(alloc, &walls, i, &mut cutters, &mut draft, &mut kept)?;
     }
     Ok(KeptList::of(kept))
 }

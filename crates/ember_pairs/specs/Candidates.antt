@@ -1,13 +1,13 @@
 -- What the test of two triangles looks at
 use Rattle.std.specs.Prelude.{ℕ, List, map}
 use Rattle.ember_model.specs.declared.tri.Tri.{Tri}
+use Rattle.ember_model.specs.Planes.{support_of}
 use Rattle.ember_box.specs.Near.{tri_at}
 use Rattle.ember_box.specs.Aabbs.{aabb_of_tri}
 use Rattle.ember_pairs.specs.declared.meetings.Candidate.{Candidate}
-use Rattle.ember_pairs.specs.Pairs.{face_if}
 
 abbrev pub candidate_of : Tri → Candidate
-candidate_of t = record { aabb = aabb_of_tri t; ring = face_if t }
+candidate_of t = record { aabb = aabb_of_tri t; support = support_of t }
 
 abbrev pub candidates_at : List Tri → List ℕ → List Candidate
 candidates_at ts is = map (λ i. candidate_of (tri_at ts i)) is

@@ -1,4 +1,5 @@
 pub mod Pairs
+pub mod Heights
 pub mod Candidates
 pub mod Works
 pub mod Laws

@@ -3,6 +3,7 @@
 #![tactic(auto)]
 
 mod gathering;
+mod heights;
 mod law;
 mod meetings;
 mod pair;

@@ -6,28 +6,45 @@ ghost use Rattle.ember_pairs.specs.declared.pair.Pair.{Pair};
 ghost use Rattle.ember_pairs.specs.Pairs.{AreMeeting, AreMeetingPairs, Completes, face_if, row, pairs_of};
 ghost use Rattle.ember_pairs.specs.Candidates.{candidate_of, candidates_at};
 
+use crate::heights::heights_of;
 use crate::pair::{Pair, PairList};
 use ember_box::{Aabb, aabb_of_tri, aabbs_meet};
-use ember_model::{OutOfMemory, Scene, Tri};
+use ember_model::{OutOfMemory, Plane, Scene, Tri, support_of};
 use ember_poly::{Ring, meets, of_tri};
 use std::alloc::Global;
 
-// A triangle's bounding box and the ring of its face, if it has one.
-#[derive(Drop)]
+// What the test of two triangles looks at first of each: its bounding box and its plane.
+#[derive(Clone, Copy)]
 struct Candidate {
     aabb: Aabb,
-    ring: Option<Ring>,
+    support: Plane,
 }
 
-fn candidate_of(alloc: Global, t: &Tri) -> Result<Candidate, OutOfMemory>
+fn candidate_of(t: &Tri) -> Candidate
     requires { IsValidTri t.now }
-    ensures { IfOk result (λ f. f ≡ candidate_of t.now) }
+    ensures { result ≡ candidate_of t.now }
 {
-    let ring = of_tri(alloc, t)?;
-    Ok(Candidate {
+    Candidate {
         aabb: aabb_of_tri(t),
-        ring,
-    })
+        support: support_of(t),
+    }
+}
+
+// The corners of two triangles show that they don't meet: those of one lie strictly on one side of
+// the other's plane, or those of each lie on one side of the other's plane and not all on it.
+fn are_parted(f: &Candidate, t: &Tri, g: &Candidate, u: &Tri) -> bool
+    requires one { IsValidTri t.now }
+    requires other { IsValidTri u.now }
+    requires facet { f.now ≡ candidate_of t.now }
+    requires other_facet { g.now ≡ candidate_of u.now }
+    ensures { IsTrue result → AreMeeting t.now u.now → ⊥ }
+{
+    let theirs = heights_of(&f.support, u);
+    if theirs.are_on_one_side() {
+        return true;
+    }
+    let own = heights_of(&g.support, t);
+    own.are_on_one_side() || own.lean_to_one_side() && theirs.lean_to_one_side()
 }
 
 // Two triangles meet; each is handed over with the ring of its face, if it has one.
@@ -47,15 +64,38 @@ fn rings_meet(r: &Option<Ring>, t: &Tri, q: &Option<Ring>, u: &Tri) -> bool
     }
 }
 
-// The same, but triangles whose bounding boxes are apart are told so at once.
-fn are_meeting(f: &Candidate, t: &Tri, g: &Candidate, u: &Tri) -> bool
+// The same, by their faces.
+fn faces_meet(alloc: Global, t: &Tri, u: &Tri) -> Result<bool, OutOfMemory>
+    requires one { IsValidTri t.now }
+    requires other { IsValidTri u.now }
+    ensures { IfOk result (λ b. IsTrue b ↔ AreMeeting t.now u.now) }
+{
+    let r = of_tri(alloc, t)?;
+    let q = of_tri(alloc, u)?;
+    Ok(rings_meet(&r, t, &q, u))
+}
+
+// The same. Faces are made only where neither bounding boxes nor corners tell that the two are apart.
+fn are_meeting(
+    alloc: Global,
+    f: &Candidate,
+    t: &Tri,
+    g: &Candidate,
+    u: &Tri,
+) -> Result<bool, OutOfMemory>
     requires one { IsValidTri t.now }
     requires other { IsValidTri u.now }
     requires facet { f.now ≡ candidate_of t.now }
     requires other_facet { g.now ≡ candidate_of u.now }
-    ensures { IsTrue result ↔ AreMeeting t.now u.now }
+    ensures { IfOk result (λ b. IsTrue b ↔ AreMeeting t.now u.now) }
 {
-    aabbs_meet(&f.aabb, &g.aabb) && rings_meet(&f.ring, t, &g.ring, u)
+    if !aabbs_meet(&f.aabb, &g.aabb) {
+        return Ok(false);
+    }
+    if are_parted(f, t, g, u) {
+        return Ok(false);
+    }
+    faces_meet(alloc, t, u)
 }
 
 /// The same by the triangles.
@@ -67,9 +107,9 @@ pub fn meet_at(alloc: Global, tris: &[Tri], i: u32, j: u32) -> Result<bool, OutO
 {
     let t = tris[i as usize];
     let u = tris[j as usize];
-    let f = candidate_of(alloc, &t)?;
-    let g = candidate_of(alloc, &u)?;
-    Ok(are_meeting(&f, &t, &g, &u))
+    let f = candidate_of(&t);
+    let g = candidate_of(&u);
+    are_meeting(alloc, &f, &t, &g, &u)
 }
 
 /// The triangles `i` and `j` of the scene meet: neither has a zero normal, and some inside point of
@@ -89,23 +129,30 @@ fn candidates_at(alloc: Global, tris: &[Tri], list: &[u32]) -> Result<Vec<Candid
 {
     let mut candidates = Vec::with_capacity(alloc, list.len())?;
     for i in list {
-        candidates.push(candidate_of(alloc, &tris[*i as usize])?)?;
+        candidates.push(candidate_of(&tris[*i as usize]))?;
     }
     Ok(candidates)
 }
 
 // The triangles at places a and b of the list meet.
-fn meet_in(tris: &[Tri], list: &[u32], candidates: &[Candidate], a: usize, b: usize) -> bool
+fn meet_in(
+    alloc: Global,
+    tris: &[Tri],
+    list: &[u32],
+    candidates: &[Candidate],
+    a: usize,
+    b: usize,
+) -> Result<bool, OutOfMemory>
     requires valid { All IsValidTri tris.now }
     requires places { All (λ i. i < length tris.now) list.now }
     requires candidates { candidates.now ≡ candidates_at tris.now list.now }
     requires one { a < length list.now }
     requires other { b < length list.now }
-    ensures { IsTrue result ↔ AreMeeting (tri_at tris.now (slice_index list.now a)) (tri_at tris.now (slice_index list.now b)) }
+    ensures { IfOk result (λ m. IsTrue m ↔ AreMeeting (tri_at tris.now (slice_index list.now a)) (tri_at tris.now (slice_index list.now b))) }
 {
     let t = tris[list[a] as usize];
     let u = tris[list[b] as usize];
-    are_meeting(&candidates[a], &t, &candidates[b], &u)
+    are_meeting(alloc, &candidates[a], &t, &candidates[b], &u)
 }
 
 // Appends a pair where its triangles meet.
@@ -120,6 +167,7 @@ fn push_if(meet: bool, p: Pair, out: &mut Vec<Pair>) -> Result<(), OutOfMemory>
 
 // Appends the meeting pairs of the place a with all later ones of the list.
 fn push_row(
+    alloc: Global,
     tris: &[Tri],
     list: &[u32],
     candidates: &[Candidate],
@@ -137,7 +185,7 @@ fn push_row(
             low: list[a],
             high: list[b],
         };
-        push_if(meet_in(tris, list, candidates, a, b), pair, out)?;
+        push_if(meet_in(alloc, tris, list, candidates, a, b)?, pair, out)?;
     }
     Ok(())
 }
@@ -151,7 +199,7 @@ pub fn meeting_pairs(alloc: Global, tris: &[Tri], list: &[u32]) -> Result<PairLi
     let candidates = candidates_at(alloc, tris, list)?;
     let mut out = Vec::new(alloc);
     for a in 0..list.len() {
-        push_row(tris, list, &candidates, a, &mut out)?;
+        push_row(alloc, tris, list, &candidates, a, &mut out)?;
     }
     Ok(PairList::of(out))
 }

@@ -2,14 +2,13 @@
 ghost use Rattle.std.specs.Prelude.{◌≡◌, ◌<◌, length, All, IfOk};
 ghost use Rattle.std.specs.List.{range_with_len};
 ghost use Rattle.ember_box.specs.Boxes.{root};
-ghost use Rattle.ember_box.specs.Near.{near_indices};
 ghost use Rattle.ember_job.specs.Works.{Answers};
 ghost use Rattle.ember_pairs.specs.Pairs.{AreMeetingPairs};
 ghost use Rattle.ember_pairs.specs.Works.{no_windings, job_at, IsPairsJob, pairs_shape};
 
 use crate::meetings::meeting_pairs;
 use crate::pair::PairList;
-use ember_box::{Cell, halves, halving, near_list, root};
+use ember_box::{Cell, HalvedBox, halved, halves, near_list, root};
 use ember_job::{Job, Numbers, OneItem, OutOfMemory, Outcome, Work};
 use ember_model::{Scene, Vector};
 use std::alloc::Global;
@@ -61,12 +60,8 @@ fn root_job(alloc: Global, s: &Scene) -> Result<Job, OutOfMemory>
 {
     let root = root();
     let all = numbers_below(alloc, s.tris.items().len() as u32)?;
-    let list = near_list(alloc, s, &all, &root)?;
-    Ok(Job {
-        cell: root,
-        list: Numbers::of(list),
-        at: Vector { counts: [0; 64] },
-    })
+    let near = near_list(alloc, s, &all, &root)?;
+    Ok(job_of(root, near))
 }
 
 /// The job of the root box, with the triangles near it.
@@ -78,17 +73,15 @@ pub fn root_pairs(alloc: Global, s: &Scene) -> Result<Job, OutOfMemory>
     root_job(alloc, s)
 }
 
-// The job of a box with those of the listed triangles that are near it.
-fn half_job(alloc: Global, s: &Scene, list: &[u32], cell: Cell) -> Result<Job, OutOfMemory>
-    requires { All (λ i. i < length s.now.tris) list.now }
-    ensures { IfOk result (λ job. job ≡ record { cell = cell; list = near_indices s.now.tris cell list.now; at = no_windings }) }
+// The job of a box with the places of the triangles near it.
+fn job_of(cell: Cell, near: Vec<u32>) -> Job
+    ensures { result ≡ record { cell = cell; list = near.items; at = no_windings } }
 {
-    let near = near_list(alloc, s, list, &cell)?;
-    Ok(Job {
+    Job {
         cell,
         list: Numbers::of(near),
         at: Vector { counts: [0; 64] },
-    })
+    }
 }
 
 /// What becomes of a job: it is passed over where its list has fewer than two triangles; else a
@@ -102,14 +95,17 @@ pub fn pair_step(alloc: Global, s: &Scene, job: &Job) -> Result<Outcome<PairList
     if list.len() < 2 {
         return Ok(Outcome::Skipped);
     }
-    match halving(s, list, &job.cell) {
+    match halved(alloc, s, list, &job.cell)? {
         None => Ok(Outcome::Leaf(meeting_pairs(alloc, s.tris.items(), list)?)),
-        Some(k) => {
-            let (low, high) = halves(&job.cell, k);
-            Ok(Outcome::Halves(
-                half_job(alloc, s, list, low)?,
-                half_job(alloc, s, list, high)?,
-            ))
+        Some(
+            HalvedBox {
+                axis,
+                low: near_low,
+                high: near_high,
+            },
+        ) => {
+            let (low, high) = halves(&job.cell, axis);
+            Ok(Outcome::Halves(job_of(low, near_low), job_of(high, near_high)))
         }
     }
 }

@@ -66,7 +66,7 @@ pub quotient_same : {u v : Spot} {d : ℤ} → IsQuotient u v d → SamePoint u 
 quotient_same {u} {v} {d} q =
     record { x = same_ratio v.x v.w u.x u.w d q.x q.w; y = same_ratio v.y v.w u.y u.w d q.y q.w; z = same_ratio v.z v.w u.z u.w d q.z q.w }
 
-one_dvd : (k : ℕ) → 1 ∣ k
+pub one_dvd : (k : ℕ) → 1 ∣ k
 one_dvd k = subst (λ n. 1 ∣ n) (omega arith) (dvd-mul_right 1 k)
 
 pub quotient_lowest : {u v : Spot} {d : ℤ} → IsGreatestDivisor u d → IsQuotient u v d → IsLowest v
@@ -81,6 +81,11 @@ quotient_lowest {u} {v} {d} g q =
     only_one k h =
         let l : 0 < unsigned_abs d = omega (arith, g.positive, ints) in
         dvd_of_mul-dvd-mul_right k l (subst (λ n. (k * unsigned_abs d) ∣ n) (omega arith) h)
+
+-- it is one already where nothing but 1 divides it
+pub lowest_if_one : {u : Spot} {d : ℤ} → IsGreatestDivisor u d → d ≡ pos 1 → IsLowest u
+lowest_if_one {u} {d} g e =
+    record { lowest = λ k x y z w. dvd_antisymm (subst (λ (n : ℤ). k ∣ unsigned_abs n) e (g.greatest k x y z w)) (one_dvd k) }
 
 -- ---- the greatest common divisor of four
 module _ (u : Spot) (valid : IsValidMeet u) (w x y z a b g : ℕ) (ew : w ≡ unsigned_abs u.w) (ex : x ≡ unsigned_abs u.x) (ey : y ≡ unsigned_abs u.y) (ez : z ≡ unsigned_abs u.z) (first : IsGcd w x a) (second : IsGcd a y b) (third : IsGcd b z g) where

@@ -1,5 +1,5 @@
 -- Meets of three planes, and planes with a coordinate fixed
-use Rattle.std.specs.Prelude.{ℕ, ℤ, pos, ◌<ℤ◌, unsigned_abs, ◌-ℤ◌, ◌*ℤ◌}
+use Rattle.std.specs.Prelude.{ℕ, ◌+◌, ◌^◌, Bool, ltb, ℤ, pos, ◌<ℤ◌, unsigned_abs, ◌-ℤ◌, ◌*ℤ◌}
 use Rattle.std.specs.Int.{◌∣◌}
 use Rattle.ember_algebra.specs.Size.{Small}
 use Rattle.ember_algebra.specs.Sign.{sign}
@@ -51,6 +51,11 @@ abbrev pub slid : Plane → Axis → ℤ → Plane
 slid p X at = record { a = pos 0; b = p.b; c = p.c; d = p.d -ℤ p.a *ℤ at }
 slid p Y at = record { a = p.a; b = pos 0; c = p.c; d = p.d -ℤ p.b *ℤ at }
 slid p Z at = record { a = p.a; b = p.b; c = pos 0; d = p.d -ℤ p.c *ℤ at }
+
+-- ---- points in 64 bits
+-- the sizes of the four numbers add up to less than 2^62
+abbrev pub is_narrow : Spot → Bool
+is_narrow s = ltb (unsigned_abs s.x + unsigned_abs s.y + unsigned_abs s.z + unsigned_abs s.w) (2 ^ 62)
 
 -- ---- lowest terms
 -- d divides the four numbers, and each number that does divides d

@@ -24,6 +24,9 @@ fn small_gcd(a: u64, b: u64) -> u64
 fn gcd(a: u128, b: u128) -> u128
     ensures { IsGcd a b result }
 {
+    if a == 1 {
+        return 1;
+    }
     let mut x = a;
     let mut y = b;
     while y > u64::MAX as u128 {
@@ -33,6 +36,9 @@ fn gcd(a: u128, b: u128) -> u128
     }
     if y == 0 {
         return x;
+    }
+    if x <= u64::MAX as u128 {
+        return small_gcd(x as u64, y as u64) as u128;
     }
     small_gcd(y as u64, (x % y) as u64) as u128
 }
@@ -47,12 +53,17 @@ fn common_divisor(m: &Meet) -> i128
     third as i128
 }
 
+// In 64 bits where both numbers fit into them.
 fn quotient(n: i128, divisor: i128) -> i128
     requires positive { pos 0 <ℤ divisor }
     requires small { unsigned_abs n < 2 ^ 92 }
     ensures { result ≡ int_div n divisor }
 {
-    n / divisor
+    if n.unsigned_abs() < 1 << 62 && divisor < 1 << 62 {
+        ((n as i64) / (divisor as i64)) as i128
+    } else {
+        n / divisor
+    }
 }
 
 /// The same point, with 1 as the greatest common divisor of its four numbers.
@@ -61,6 +72,9 @@ pub fn reduce(m: &Meet) -> Meet
     ensures lowest { IsLowest (spot_of result) }
 {
     let divisor = common_divisor(m);
+    if divisor == 1 {
+        return *m;
+    }
     Meet {
         x: quotient(m.x, divisor),
         y: quotient(m.y, divisor),

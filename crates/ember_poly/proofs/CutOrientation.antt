@@ -18,6 +18,9 @@ swap a n g = identity (tuple ∷ tuple ∷ tuple ∷ []) (λ a n g. turnE a n g 
 pub swap_last : (n g p : Plane) → orientation n p g ≡ neg_ℤ (orientation n g p)
 swap_last n g p = identity (tuple ∷ tuple ∷ tuple ∷ []) (λ n g p. turnE n p g ≈ neg (turnE n g p)) cancels (plane_tuple n) (plane_tuple g) (plane_tuple p)
 
+pub in_turn : (n p g : Plane) → orientation n p g ≡ orientation g n p
+in_turn n p g = identity (tuple ∷ tuple ∷ tuple ∷ []) (λ n p g. turnE n p g ≈ turnE g n p) cancels (plane_tuple n) (plane_tuple p) (plane_tuple g)
+
 -- the places identity where two planes vanish at both points
 pub slope : (n g p a : Plane) (c d : Spot) → value_at n c ≡ pos 0 → value_at n d ≡ pos 0 → value_at g c ≡ pos 0 → value_at g d ≡ pos 0 → orientation n g p *ℤ (c.w *ℤ value_at a d -ℤ d.w *ℤ value_at a c) ≡ neg_ℤ (orientation n a g *ℤ (c.w *ℤ value_at p d -ℤ d.w *ℤ value_at p c))
 slope n g p a c d nc nd gc gd =

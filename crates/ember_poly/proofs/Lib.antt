@@ -40,3 +40,5 @@ pub mod RedundantPlanes
 pub mod OutlinePoints
 pub mod SameSide
 pub mod OwnOutline
+pub mod BoundedRings
+pub mod LevelMeets

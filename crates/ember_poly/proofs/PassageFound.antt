@@ -15,6 +15,7 @@ use Rattle.ember_poly.proofs.Chains.{each_map}
 use Rattle.ember_poly.proofs.Rotations.{each-join, each-turned, turned_by}
 use Rattle.ember_poly.proofs.InsidePoints.{weak}
 use Rattle.ember_poly.proofs.RingBelow.{turns_some, turns_all}
+use Rattle.ember_poly.proofs.CutOrientation.{in_turn}
 use Rattle.ember_poly.proofs.ListOutline.{length-sides_of}
 use Rattle.ember_poly.proofs.SideLists.{each_corner, corner_each, sides-take, sides-drop, sides-turned}
 use Rattle.ember_poly.proofs.Runs.{under_out, least_out, LastOfFirst, last_of_first, run_positive, head_high}
@@ -191,13 +192,14 @@ module _ (n p : Plane) (es : List Plane) (ms : List Meet) (bs : List ℕ) (k c r
         let pl : (r ≡ k + c) ⊎ (r + length es ≡ k + c) = subst (λ j. (r ≡ k + c) ⊎ (r + j ≡ k + c)) em index in
         sym (turned_get es k c r d in_es lc lr pl) ∙ ap (λ zs. get_or zs c d) (sym begun_e) ∙ ap (λ j. get_or (e.at ∷ es') j d) w.count ∙ plane_at (e.at ∷ es') (m.at ∷ ms') (b.at ∷ bs') (head ∷ w.front) w.last w.behind d (ap (λ zs. head ∷ zs) w.whole)
 
-    pub entry_turns : (d : Plane) → pos 0 <ℤ orientation n p (get_or es k d)
-    entry_turns d = subst (λ g. pos 0 <ℤ orientation n p g) (sym (e.same d)) turns.1
+    pub entry_turns : (d : Plane) → pos 0 <ℤ orientation (get_or es k d) n p
+    entry_turns d =
+        subst (λ g. pos 0 <ℤ orientation g n p) (sym (e.same d)) (subst (λ z. pos 0 <ℤ z) (in_turn n p e.at) turns.1)
 
     pub exit_turns : (d : Plane) → pos 0 <ℤ orientation n (get_or es r d) p
     exit_turns d = subst (λ g. pos 0 <ℤ orientation n g p) (sym (last_plane d)) turns.0
 
-    pub passage_is : (y z : Meet) (d g : Plane) → IsMeet n p (get_or es k d) (spot_of z) → IsMeet n (get_or es r g) p (spot_of y) → IsPassage n p xs (record { first = k; kept = c; entry = z; exit = y })
+    pub passage_is : (y z : Meet) (d g : Plane) → IsMeet (get_or es k d) n p (spot_of z) → IsMeet n (get_or es r g) p (spot_of y) → IsPassage n p xs (record { first = k; kept = c; entry = z; exit = y })
     passage_is y z d g mz my =
         record {
           head = head;
@@ -210,6 +212,6 @@ module _ (n p : Plane) (es : List Plane) (ms : List Meet) (bs : List ℕ) (k c r
           under = under;
           enters = head_high p m.at ms' enters';
           leaves = leaves;
-          entry = subst (λ h. IsMeet n h p (spot_of z)) (e.same d) (record { first = mz.first; second = mz.third; third = mz.second; weight = mz.weight });
+          entry = subst (λ h. IsMeet n h p (spot_of z)) (e.same d) (record { first = mz.second; second = mz.first; third = mz.third; weight = mz.weight });
           exit = subst (λ h. IsMeet n h p (spot_of y)) (last_plane g) my;
         }

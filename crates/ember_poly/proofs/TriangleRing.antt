@@ -16,7 +16,8 @@ use Rattle.ember_model.specs.declared.tri.Tri.{Tri}
 use Rattle.ember_model.specs.Planes.{along, unit, main_axis, support_of, edge_planes}
 use Rattle.ember_model.specs.Faces.{is_flat, face_of}
 use Rattle.ember_model.specs.Owners.{spot_of_corner}
-use Rattle.ember_model.specs.Valid.{IsValidPlane}
+use Rattle.ember_model.specs.Valid.{IsValidTri, IsValidPlane}
+use Rattle.ember_model.proofs.PlaneSizes.{support_sized, support_valid}
 use Rattle.ember_point.specs.declared.meet_point.Meet.{Meet}
 use Rattle.ember_point.specs.Points.{spot_of}
 use Rattle.ember_poly.specs.Rings.{Side, Represents}
@@ -127,3 +128,11 @@ pub face_is : (t : Tri) (n : Plane) (gs : List Plane) → is_flat t ≡ false �
 unfolding face_of
 face_is t n gs e en eg =
     (λ i. Some (record { support = en i; edges = eg i })) ∙ sym (ap (λ b. cond b None (Some (face_of t))) e)
+
+-- ---- of a triangle that is not flat
+pub tri_face : (t : Tri) (n : Plane) (gs : List Plane) → n ≡ support_of t → gs ≡ tri_planes t → record { support = n; edges = gs } ≡ face_of t
+unfolding face_of
+tri_face t n gs en eg = λ i. record { support = en i; edges = eg i }
+
+pub tri_support : {t : Tri} {n : Plane} → n ≡ support_of t → IsValidTri t → IsValidPlane n
+tri_support {t} {n} e v = subst (λ p. IsValidPlane p) (sym e) (support_valid (support_sized t v))

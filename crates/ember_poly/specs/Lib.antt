@@ -2,6 +2,9 @@ pub mod Cuts
 pub mod Outlines
 pub mod Passages
 pub mod Boundaries
+pub mod Bounds
 pub mod Rings
 pub mod Sides
 pub mod Chords
+pub mod Levels
+pub mod Drafts

@@ -64,28 +64,34 @@ fn begin_at<T>(items: &mut Vec<T>, index: usize)
     items.reverse();
 }
 
-// For how many cuts a list has room at first.
-const ROOM: usize = 6;
-
-// The list, with room for more items.
-pub fn with_room<T: Copy>(alloc: Global, items: &[T]) -> Result<Vec<T>, AllocError>
+// The list, with room for so many more items.
+pub fn with_room<T: Copy>(alloc: Global, items: &[T], room: usize) -> Result<Vec<T>, AllocError>
     ensures { IfOk result (λ list. list.items ≡ items.now) }
 {
-    let mut list = Vec::with_capacity(alloc, items.len().saturating_add(ROOM))?;
+    let mut list = Vec::with_capacity(alloc, items.len().saturating_add(room))?;
     list.extend_from_slice(items)?;
     Ok(list)
 }
 
 impl Boundary {
-    // The same sides.
-    pub fn copy(&self, alloc: Global) -> Result<Boundary, OutOfMemory>
+    // No sides.
+    pub fn new(alloc: Global) -> Boundary {
+        Boundary {
+            edges: Vec::new(alloc),
+            corners: Vec::new(alloc),
+            plane_indices: Vec::new(alloc),
+        }
+    }
+
+    // The same sides, with room for so many more.
+    pub fn copy(&self, alloc: Global, room: usize) -> Result<Boundary, OutOfMemory>
         ensures edges { IfOk result (λ r. r.edges.items ≡ self.now.edges.items) }
         ensures corners { IfOk result (λ r. r.corners.items ≡ self.now.corners.items) }
         ensures plane_indices { IfOk result (λ r. r.plane_indices.items ≡ self.now.plane_indices.items) }
     {
-        let edges = with_room(alloc, self.edges.as_slice())?;
-        let corners = with_room(alloc, self.corners.as_slice())?;
-        let plane_indices = with_room(alloc, self.plane_indices.as_slice())?;
+        let edges = with_room(alloc, self.edges.as_slice(), room)?;
+        let corners = with_room(alloc, self.corners.as_slice(), room)?;
+        let plane_indices = with_room(alloc, self.plane_indices.as_slice(), room)?;
         Ok(Boundary {
             edges,
             corners,
@@ -102,6 +108,9 @@ impl Boundary {
         ensures count { length self.new.edges.items ≡ length self.old.edges.items }
         ensures paired { HasEqualLengths self.new }
     {
+        if index == 0 {
+            return;
+        }
         begin_at(&mut self.edges, index);
         begin_at(&mut self.corners, index);
         begin_at(&mut self.plane_indices, index);

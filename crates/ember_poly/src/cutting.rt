@@ -1,15 +1,11 @@
 // Rings cut by planes.
-ghost use Rattle.std.specs.Prelude.{◌≡◌, ◌<◌, ◌++◌, ◌∷◌, [], length, IfOk};
+ghost use Rattle.std.specs.Prelude.{◌≡◌, IfOk};
 ghost use Rattle.ember_model.specs.Valid.{IsValidPlane};
 ghost use Rattle.ember_model.specs.Planes.{opposite};
 ghost use Rattle.ember_model.specs.Faces.{Cuts, below};
-ghost use Rattle.ember_poly.specs.Sides.{IsRing};
-ghost use Rattle.ember_poly.specs.Boundaries.{sides};
-ghost use Rattle.ember_poly.specs.Passages.{IsPassage};
 ghost use Rattle.ember_poly.specs.Cuts.{AreParts, IsClip, IsCut};
 
-use crate::boundary::Boundary;
-use crate::passage::{Passage, classify, find_passage};
+use crate::draft::draft_of;
 use crate::reach_cut::{Cut, Reach};
 use crate::reaching::reach;
 use crate::ring::{Ring, copy};
@@ -30,50 +26,15 @@ fn opposite(p: &Plane) -> Plane
     }
 }
 
-// The part of a ring's lists below a plane that passes it.
-fn part(
-    support: Plane,
-    mut planes: Vec<Plane>,
-    mut rim: Boundary,
-    p: &Plane,
-    at: &Passage,
-) -> Result<Ring, OutOfMemory>
-    requires plane { IsValidPlane p.now }
-    requires ring { IsRing support planes.items rim.edges.items rim.corners.items rim.plane_indices.items }
-    requires passage { IsPassage support p.now (sides rim) at.now }
-    requires kept { at.now.kept < length rim.edges.items }
-    ensures { IfOk result (λ part. part ≡ record { support = support; edges = planes.items ++ p.now ∷ [] }) }
-{
-    let plane_index = planes.len();
-    planes.push(*p)?;
-    rim.close(at, *p, plane_index)?;
-    rim.rotate_to_oldest();
-    Ok(Ring {
-        support,
-        planes,
-        rim,
-    })
-}
-
 /// What a plane leaves of a ring: the part below it where inside points are on both sides, the
 /// ring itself where they are on one side or on the plane, and which of these it is.
 pub fn clip(r: Ring, plane: &Plane) -> Result<(Reach, Ring), OutOfMemory>
     requires { IsValidPlane plane.now }
     ensures { IfOk result (λ left. IsClip r plane.now left.0 left.1) }
 {
-    let at = classify(plane, r.rim.corners.as_slice());
-    match at.reach {
-        Reach::Both => {
-            let at = find_passage(&r.support, &r.rim, plane, &at);
-            let Ring {
-                support,
-                planes,
-                rim,
-            } = r;
-            Ok((Reach::Both, part(support, planes, rim, plane, &at)?))
-        }
-        other => Ok((other, r)),
-    }
+    let mut draft = draft_of(r);
+    let side = draft.clip(plane)?;
+    Ok((side, draft.into_ring()))
 }
 
 // The part below a plane that has inside points of the ring on both sides.

@@ -4,6 +4,9 @@
 
 mod boundary;
 mod cutting;
+mod draft;
+mod law;
+mod level;
 mod meeting;
 mod passage;
 mod reach_cut;
@@ -11,6 +14,8 @@ mod reaching;
 mod ring;
 
 pub use cutting::{clip, cut, parts};
+pub use draft::Draft;
+pub use law::rings_are_valid_and_bounded;
 pub use meeting::{meets, meets_face};
 pub use reach_cut::{Cut, Reach};
 pub use reaching::reach;

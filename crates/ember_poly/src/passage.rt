@@ -9,9 +9,11 @@ ghost use Rattle.ember_point.specs.Points.{spot_of};
 ghost use Rattle.ember_poly.specs.Rings.{IsConvexRing, IsMeet, IsAbove, IsNotAbove, orientation};
 ghost use Rattle.ember_poly.specs.Boundaries.{sides, HasEqualLengths};
 ghost use Rattle.ember_poly.specs.declared.reach_cut.Reach.TheVariants as reach;
+ghost use Rattle.ember_poly.specs.Levels.{IsLevel};
 ghost use Rattle.ember_poly.specs.Passages.{IsAlong, HasSome, AreSigns, AreClassified, is_under, Straddles, IsOneSidedRun, AreNotBelow, IsRunNotBelow, EntersAt, IsPassage};
 
 use crate::boundary::Boundary;
+use crate::level::{Level, level_of, level_point};
 use crate::reach_cut::Reach;
 use ember_algebra::{Sign, sign_of};
 use ember_model::{Axis, Plane};
@@ -101,6 +103,7 @@ fn is_above(p: &Plane, axis: Option<Axis>, m: &Meet) -> bool
 
 // How many corners at the front lie below the plane, where some at the front are known to, and
 // whether the next one is above it.
+#[inline(always)]
 fn run(p: &Plane, axis: Option<Axis>, corners: &[Meet], known: usize) -> (usize, bool)
     requires plane { IsValidPlane p.now }
     requires axis { IfSome axis (λ k. IsAlong k p.now) }
@@ -212,16 +215,27 @@ fn ahead(first: usize, count: usize, len: usize) -> usize
     }
 }
 
-fn point_of(p: &Plane, q: &Plane, r: &Plane) -> Meet
+// The point of three planes that turn counter-clockwise, by small numbers where the third is a level.
+fn point_of(p: &Plane, q: &Plane, r: &Plane, level: Option<Level>) -> Meet
     requires valid_p { IsValidPlane p.now }
     requires valid_q { IsValidPlane q.now }
     requires valid_r { IsValidPlane r.now }
     requires turns { pos 0 <ℤ orientation p.now q.now r.now }
+    requires level { IfSome level (λ l. IsLevel l.axis l.at l.is_up r.now) }
     ensures { IsMeet p.now q.now r.now (spot_of result) }
 {
-    match meet(p, q, r) {
-        Some(m) => m,
-        None => unreachable!(),
+    match level {
+        Some(l) => {
+            if l.is_up {
+                level_point(p, q, &l)
+            } else {
+                level_point(q, p, &l)
+            }
+        }
+        None => match meet(p, q, r) {
+            Some(m) => m,
+            None => unreachable!(),
+        },
     }
 }
 
@@ -240,10 +254,11 @@ pub fn find_passage(support: &Plane, rim: &Boundary, plane: &Plane, at: &Classif
     let first = at.first;
     let kept = at.kept;
     let last = ahead(first, kept, rim.corners.len());
+    let level = level_of(plane);
     Passage {
         first,
         kept,
-        entry: point_of(support, plane, &rim.edges[first]),
-        exit: point_of(support, &rim.edges[last], plane),
+        entry: point_of(&rim.edges[first], support, plane, level),
+        exit: point_of(support, &rim.edges[last], plane, level),
     }
 }

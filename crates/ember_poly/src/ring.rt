@@ -36,8 +36,11 @@ impl Model for Ring {
         r.rim.edges.items r.rim.corners.items r.rim.plane_indices.items };
 }
 
+// For how many cuts a ring has room at first.
+const ROOM: usize = 6;
+
 // The corner as a point with the weight 1.
-fn at_corner(c: &Corner) -> Meet
+pub fn at_corner(c: &Corner) -> Meet
     requires { IsValidCorner c.now }
     ensures { spot_of result ≡ spot_of_corner c.now }
 {
@@ -81,10 +84,10 @@ pub fn of_tri(alloc: Global, t: &Tri) -> Result<Option<Ring>, OutOfMemory>
     }
     let sides = main_edges(t, &support);
     let starts = [at_corner(&t.a), at_corner(&t.b), at_corner(&t.c)];
-    let planes = with_room(alloc, &sides)?;
-    let edges = with_room(alloc, &sides)?;
-    let corners = with_room(alloc, &starts)?;
-    let plane_indices = with_room(alloc, &[0, 1, 2])?;
+    let planes = with_room(alloc, &sides, ROOM)?;
+    let edges = with_room(alloc, &sides, ROOM)?;
+    let corners = with_room(alloc, &starts, ROOM)?;
+    let plane_indices = with_room(alloc, &[0, 1, 2], ROOM)?;
     Ok(Some(Ring {
         support,
         planes,
@@ -100,8 +103,8 @@ pub fn of_tri(alloc: Global, t: &Tri) -> Result<Option<Ring>, OutOfMemory>
 pub fn copy(alloc: Global, r: &Ring) -> Result<Ring, OutOfMemory>
     ensures { IfOk result (λ c. c ≡ r.now) }
 {
-    let planes = with_room(alloc, r.planes.as_slice())?;
-    let rim = r.rim.copy(alloc)?;
+    let planes = with_room(alloc, r.planes.as_slice(), ROOM)?;
+    let rim = r.rim.copy(alloc, ROOM)?;
     Ok(Ring {
         support: r.support,
         planes,

@@ -3,8 +3,10 @@
 //! point of a box to that of its half by the triangles near the box alone.
 #![tactic(auto)]
 
+mod law;
 mod shifting;
 mod signs;
 
+pub use law::reference_points_are_clear;
 pub use shifting::{shift, shift_listed};
 pub use signs::lex_side;

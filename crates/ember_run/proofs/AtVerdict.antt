@@ -1,5 +1,5 @@
 -- The verdict of `at`, step by step.
-use Rattle.std.proofs.Common.{◌≡◌, ℕ, ◌-◌, zero, suc, Bool, true, false, List, [], ◌∷◌, length, ℤ, Result, Ok, Err, IfOk, IfErr, Vec, Global, refl, sym, ap, subst, ◌∙◌}
+use Rattle.std.proofs.Common.{◌≡◌, ◌≢◌, ℕ, Bool, true, false, List, length, map, ℤ, Result, Ok, Err, IfOk, IfErr, Vec, Global, refl, sym, ap, subst, ◌∙◌}
 use Rattle.std.specs.declared.option.Option.{Option}
 use Rattle.std.specs.List.{list_all}
 use Rattle.std.specs.Prelude.{if◌then◌else◌}
@@ -10,11 +10,13 @@ use Rattle.ember_model.specs.declared.tri.Tri.{Tri}
 use Rattle.ember_model.specs.ClearTest.{is_clear_of}
 use Rattle.ember_model.specs.Meshes.{vector}
 use Rattle.ember_run.specs.declared.status.Status.{Status}
-use Rattle.ember_run.specs.declared.status.Status.TheVariants.{NotClear}
+use Rattle.ember_run.specs.declared.status.Status.TheVariants.{Done, Words, ReadFault, WriteFault, NotClear}
 use Rattle.ember_run.specs.Outputs.{Counts, counts_text}
-use Rattle.ember_run.specs.Scenes.{MayRead}
+use Rattle.ember_run.specs.Devices.{ShelfCall}
+use Rattle.ember_run.specs.Stops.{IsAfterFiles, IsStop}
 use Rattle.ember_run.specs.CallOutcome.{IsRefusal, IsSameIfTold, IsText, is_refusal}
-use Rattle.ember_run.specs.Verdict.{Contents, Verdict, Unknown, Refused, Writes, after_given, after_scene, at_verdict, counts_verdict, first_told}
+use Rattle.ember_run.specs.Verdict.{Contents, Verdict, Refused, Writes, after_given, after_scene, at_verdict, counts_verdict}
+use Rattle.ember_run.proofs.Stops.{after_stop}
 use Rattle.ember_run.proofs.Verdicts.{refusal_then, text_then}
 
 -- what the words ask for, over so many meshes
@@ -48,27 +50,9 @@ text_if point expr places m contents formula tris (Ok text) e given scene is =
     text_then text.items (at_verdict point expr places contents) (counts_verdict point m formula tris) (at_same point expr places m contents formula tris e given scene) is
 text_if point expr places m contents formula tris (Err error) e given scene is = tt
 
-pub point_refused_if : {A : Type 0} (point : Spot) (expr : Option (List ℕ)) (places m : ℕ) (contents : Contents) (formula : Option Formula) (tris : List Tri) (result : Result A Status) → length contents ≡ m → Given expr m formula → SceneRead places contents tris → IfErr result (λ status. is_refusal status ≡ true → IsRefusal status (counts_verdict point m formula tris)) → IfErr result (λ status. is_refusal status ≡ true → IsRefusal status (at_verdict point expr places contents))
-point_refused_if point expr places m contents formula tris (Ok value) e given scene refused = tt
-point_refused_if point expr places m contents formula tris (Err status) e given scene refused =
-    λ r. refusal_then status (at_verdict point expr places contents) (counts_verdict point m formula tris) (at_same point expr places m contents formula tris e given scene) (refused r)
-
--- ---- before it
-pub at_expr_refused : (point : Spot) (expr : Option (List ℕ)) (places m : ℕ) (contents : Contents) (status : Status) → length contents ≡ m → ((next : Option Formula → Verdict) → IsRefusal status (after_given expr m next)) → IsRefusal status (at_verdict point expr places contents)
-at_expr_refused point expr places m contents status e refused =
-    subst (λ (n : ℕ). IsRefusal status (at_for point expr places contents n)) (sym e) (refused (λ formula. after_scene places contents (counts_verdict point m formula)))
-
-pub at_scene_refused : (point : Spot) (expr : Option (List ℕ)) (places m : ℕ) (contents : Contents) (formula : Option Formula) (status : Status) → length contents ≡ m → Given expr m formula → ((next : List Tri → Verdict) → IsRefusal status (after_scene places contents next)) → IsRefusal status (at_verdict point expr places contents)
-at_scene_refused point expr places m contents formula status e given refused =
-    subst (λ (n : ℕ). IsRefusal status (at_for point expr places contents n)) (sym e)
-    (subst (λ (v : Verdict). IsRefusal status v) (sym (given (λ formula. after_scene places contents (counts_verdict point m formula)))) (refused (counts_verdict point m formula)))
-
-length_told : (n : ℕ) (contents : Contents) → length (first_told n contents) ≡ length contents
-length_told n [] = refl
-length_told zero (told ∷ more) = ap suc (length_told zero more)
-length_told (suc n) (told ∷ more) = ap suc (length_told n more)
-
-pub at_unread : (point : Spot) (expr : Option (List ℕ)) (places m i : ℕ) (contents : Contents) (formula : Option Formula) → length contents ≡ m → Given expr m formula → MayRead places contents i → at_verdict point expr places (first_told (i - 1) contents) ≡ Unknown
-at_unread point expr places m i contents formula e given unread =
-    subst (λ (n : ℕ). at_for point expr places (first_told (i - 1) contents) n ≡ Unknown) (sym (length_told (i - 1) contents ∙ e))
-    (given (λ formula. after_scene places (first_told (i - 1) contents) (counts_verdict point m formula)) ∙ unread (counts_verdict point m formula))
+pub point_stop_if : {A : Type 0} (point : Spot) (expr : Option (List ℕ)) (places m : ℕ) (names : List (List ℕ)) (shelf : ShelfCall) (formula : Option Formula) (tris : List Tri) (result : Result A Status) → length (map shelf.told names) ≡ m → Given expr m formula → SceneRead places (map shelf.told names) tris → IfErr result (λ status. is_refusal status ≡ true → IsRefusal status (counts_verdict point m formula tris)) → IfErr result IsAfterFiles → ((i : ℕ) → result ≢ Err (ReadFault i)) → (result ≢ Err Done) × (result ≢ Err Words) × (result ≢ Err WriteFault) → IfErr result (IsStop (at_verdict point expr places) names shelf)
+point_stop_if point expr places m names shelf formula tris (Ok value) e given scene refused kind only no_other = tt
+point_stop_if point expr places m names shelf formula tris (Err status) e given scene refused kind only no_other =
+    after_stop (at_verdict point expr places) names shelf status kind
+    (λ r. refusal_then status (at_verdict point expr places (map shelf.told names)) (counts_verdict point m formula tris) (at_same point expr places m (map shelf.told names) formula tris e given scene) (refused r))
+    (λ i f. only i (ap Err f)) (λ f. no_other.0 (ap Err f), λ f. no_other.1 (ap Err f), λ f. no_other.2 (ap Err f))

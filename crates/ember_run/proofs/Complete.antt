@@ -1,17 +1,27 @@
 -- Where no device failed, a call gives what the verdict says, or memory was short.
-use Rattle.std.proofs.Common.{◌≡◌, ◌≢◌, ℕ, ℤ, List, true, ◌⊎◌, inl, inr, refl, sym, ap, subst}
+use Rattle.std.proofs.Common.{◌≡◌, ◌≢◌, ◌≤◌, ℕ, ◌-◌, ℤ, List, [], length, map, true, false, ◌⊎◌, inl, inr, Some, None, refl, sym, ap, subst, ◌∙◌}
 use Rattle.std.specs.declared.option.Option.{Option}
-use Rattle.ember_io.specs.Causes.{Rose}
-use Rattle.ember_io.specs.Sinks.{IsFlushed}
+use Rattle.std.specs.Io.KnownBytes.{Appends}
+use Rattle.ember_io.specs.Sinks.{AppendsPrefix, IsFlushed}
 use Rattle.ember_words.specs.declared.command.Command.{Command}
 use Rattle.ember_run.specs.declared.status.Status.{Status}
 use Rattle.ember_run.specs.declared.status.Status.TheVariants.{Done, Words, ReadFault, WriteFault, ObjRefused, MeshRefused, ExprRefused, Unbounded, Limit, NotClear, FaceRefused, OutOfMemory}
+use Rattle.ember_run.specs.declared.reply.Reply.{Reply}
 use Rattle.ember_run.specs.Outputs.{Output}
-use Rattle.ember_run.specs.CallOutcome.{AsksOutput, AsksRefusal, IsBegun, IsRefusal, IsWritten, IsCallOutcome, is_refusal}
+use Rattle.ember_run.specs.CallOutcome.{AsksOutput, AsksRefusal, IsBegun, IsRefusal, IsText, IsWritten, hides_memory, is_before_files, is_refusal, refused_file}
+use Rattle.ember_run.specs.Devices.{ShelfCall, SinkCall, HasShelfFailed, HasSinkFailed}
+use Rattle.ember_run.specs.Lines.{line_on_err, text_on_err}
+use Rattle.ember_run.specs.Messages.{AppendsUntilFault}
+use Rattle.ember_run.specs.Reported.{IsErrText, IsReportIf, asks_report}
+use Rattle.ember_run.specs.Serves.{IsReply, Serves}
+use Rattle.ember_run.specs.Stops.{IsStop, with_others}
 use Rattle.ember_run.specs.Slices.{IsFaceFault, IsSliceRefusal, IsSliceable}
-use Rattle.ember_run.specs.Verdict.{Verdict, Unknown, Refused, Writes, Slices, told_verdict, verdict_before}
+use Rattle.ember_run.specs.Verdict.{Contents, Verdict, Unknown, Refused, Writes, Slices, first_told, names_of, told_verdict, verdict_before, verdict_of}
 use Rattle.ember_run.specs.declared.status.FaceFault.{FaceFault}
+use Rattle.ember_run.proofs.Before.{refused_with_any, unknown_refused}
 use Rattle.ember_run.proofs.SliceFaults.{one_fault, slice_or_fault, sliceable_or_fault}
+use Rattle.ember_run.proofs.SolidVerdicts.{err_text}
+use Rattle.ember_run.proofs.Stops.{before_is_refusal, file_is_refusal, length_told, none_some}
 
 -- what a status must be for, by the verdict v
 pub record Owes (v : Verdict) (R W : Type 0) (old new : Option (List ℕ)) (status : Status) : Type 0 where
@@ -106,23 +116,157 @@ refusal_given (Slices at bytes) refusal R W old new status a o r =
     let f = refused_slice at bytes refusal a in
     subst (λ (s : Status). (status ≡ s) ⊎ (status ≡ OutOfMemory)) (sym f.1) (fault_or_memory at bytes f.0 R W old new status f.2 o r)
 
--- the rows of the statuses alone
-pub record Rows (command : Option Command) (told : List ℕ → Option (List ℕ)) (shelf_before shelf_now fault_at out_before out_now flushed : ℕ) (old new : Option (List ℕ)) (status : Status) : Type 0 where
-  pub done : status ≡ Done → IsWritten (told_verdict command told) old new × IsFlushed new flushed
-  pub refused : is_refusal status ≡ true → IsRefusal status (told_verdict command told)
-  pub read_fault : (i : ℕ) → status ≡ ReadFault i → Rose shelf_before shelf_now × (fault_at ≡ i) × (verdict_before i command told ≡ Unknown)
-  pub write_fault : status ≡ WriteFault → Rose out_before out_now × IsBegun (told_verdict command told) old new
-  pub untouched : status ≢ Done → status ≢ WriteFault → new ≡ old
+-- what the statuses say, by the verdict
+pub record Rows (command : Option Command) (shelf : ShelfCall) (out : SinkCall) (status : Status) : Type 0 where
+  pub contents : shelf.told_after ≡ shelf.told
+  pub later : shelf.faults ≤ shelf.faults_after
+  pub out_later : out.faults ≤ out.faults_after
+  pub done : status ≡ Done → IsWritten (told_verdict command shelf.told) out.taken out.taken_after × IsFlushed out.taken_after out.flushed
+  pub refused : is_refusal status ≡ true → IsRefusal status (told_verdict command shelf.told)
+  pub read_fault : (i : ℕ) → status ≡ ReadFault i → HasShelfFailed shelf × (shelf.fault_at ≡ i) × (verdict_before i command shelf.told ≡ Unknown)
+  pub words : status ≡ Words → command ≡ None
+  pub before_files : is_before_files status ≡ true → verdict_before 1 command shelf.told ≡ Refused status
+  pub in_file : (i : ℕ) → refused_file status ≡ Some i → (others : Contents) → length others ≡ length (names_of command) → IsRefusal status (verdict_of command (with_others i (map shelf.told (names_of command)) others))
+  pub memory : hides_memory status ≡ false
+  pub write_fault : status ≡ WriteFault → HasSinkFailed out × IsBegun (told_verdict command shelf.told) out.taken out.taken_after
+  pub untouched : status ≢ Done → status ≢ WriteFault → out.taken_after ≡ out.taken
 
-pub served : (command : Option Command) (told : List ℕ → Option (List ℕ)) (a b c d e f : ℕ) (old new : Option (List ℕ)) (status : Status) → Rows command told a b c d e f old new status → IsCallOutcome command told a b c d e f old new status
-served command told a b c d e f old new status rows =
-    let owes : Owes (told_verdict command told) (Rose a b) (Rose d e) old new status = record { done = λ p. (rows.done p).0; refused = rows.refused; read_fault = λ i p. (rows.read_fault i p).0; write_fault = rows.write_fault } in
+-- what is refused with no file known is refused, or memory was short
+before_given : (command : Option Command) (shelf : ShelfCall) (out : SinkCall) (status : Status) → Rows command shelf out status → (refusal : Status) → verdict_before 1 command shelf.told ≡ Refused refusal → (status ≡ refusal) ⊎ (status ≡ OutOfMemory)
+before_given command shelf out status rows refusal e =
+    let contents = map shelf.told (names_of command) in
+    let is : told_verdict command shelf.told ≡ Refused refusal = refused_with_any command contents contents refusal refl e in
+    refusal_or_memory refusal ⊥ (HasSinkFailed out) out.taken out.taken_after status
+    (record {
+      done = λ p. subst (λ (v : Verdict). IsWritten v out.taken out.taken_after) is (rows.done p).0;
+      refused = λ p. subst (λ (v : Verdict). IsRefusal status v) is (rows.refused p);
+      read_fault = λ i p. unknown_refused (sym (rows.read_fault i p).2 ∙ refused_with_any command contents (first_told (i - 1) contents) refusal (length_told (i - 1) contents) e);
+      write_fault = λ p. let w = rows.write_fault p in (w.0, subst (λ (v : Verdict). IsBegun v out.taken out.taken_after) is w.1);
+    })
+    (λ f. f)
+
+served : (command : Option Command) (shelf : ShelfCall) (out err : SinkCall) (status : Status) (text : List ℕ) → Rows command shelf out status → IsErrText command shelf.told status text → AppendsUntilFault err.faults err.faults_after err.taken err.taken_after text → Serves command shelf out err status
+served command shelf out err status text rows is said =
+    let v = told_verdict command shelf.told in
+    let owes : Owes v (HasShelfFailed shelf) (HasSinkFailed out) out.taken out.taken_after status = record { done = λ p. (rows.done p).0; refused = rows.refused; read_fault = λ i p. (rows.read_fault i p).0; write_fault = rows.write_fault } in
     record {
+      contents = rows.contents;
+      later = rows.later;
+      out_later = rows.out_later;
       done = rows.done;
       refused = rows.refused;
+      words = rows.words;
+      no_command = λ e. before_given command shelf out status rows Words (subst (λ (command : Option Command). verdict_before 1 command shelf.told ≡ Refused Words) (sym e) refl);
+      before_files = rows.before_files;
+      before_files_given = before_given command shelf out status rows;
+      in_file = rows.in_file;
+      memory = rows.memory;
       read_fault = rows.read_fault;
       write_fault = rows.write_fault;
       untouched = rows.untouched;
-      output_given = λ asks r w. output_given (told_verdict command told) (Rose a b) (Rose d e) old new status asks owes r w;
-      refusal_given = λ refusal asks r. refusal_given (told_verdict command told) refusal (Rose a b) (Rose d e) old new status asks owes r;
+      output_given = λ asks r w. output_given v (HasShelfFailed shelf) (HasSinkFailed out) out.taken out.taken_after status asks owes r w;
+      refusal_given = λ refusal asks r. refusal_given v refusal (HasShelfFailed shelf) (HasSinkFailed out) out.taken out.taken_after status asks owes r;
+      err_text = (text, is, said);
     }
+
+-- ---- a call whose command is answered
+not_refusal : (status : Status) → (status ≡ Done) ⊎ (status ≡ WriteFault) → is_refusal status ≡ true → ⊥
+not_refusal status (inl e) r = absurd (cc)
+not_refusal status (inr e) r = absurd (cc)
+
+not_read_fault : (status : Status) (i : ℕ) → (status ≡ Done) ⊎ (status ≡ WriteFault) → status ≡ ReadFault i → ⊥
+not_read_fault status i (inl e) r = absurd (cc)
+not_read_fault status i (inr e) r = absurd (cc)
+
+ended_memory : (status : Status) → (status ≡ Done) ⊎ (status ≡ WriteFault) → hides_memory status ≡ false
+ended_memory status (inl e) = ap hides_memory e
+ended_memory status (inr e) = ap hides_memory e
+
+touched : (status : Status) → (status ≡ Done) ⊎ (status ≡ WriteFault) → status ≢ Done → status ≢ WriteFault → ⊥
+touched status (inl e) d w = d e
+touched status (inr e) d w = w e
+
+pub answered : (command : Command) (shelf : ShelfCall) (out err : SinkCall) (status : Status) (reply : Reply) (text line : List ℕ) → shelf.told_after ≡ shelf.told → shelf.faults ≤ shelf.faults_after → out.faults ≤ out.faults_after → IsReply command shelf.told reply → text ≡ reply.text.items → line ≡ reply.report.items
+    → (status ≡ Done → Appends out.taken out.taken_after text × IsFlushed out.taken_after out.flushed) → (status ≡ WriteFault → HasSinkFailed out × AppendsPrefix out.taken out.taken_after text) → (status ≡ Done) ⊎ (status ≡ WriteFault)
+    → AppendsUntilFault err.faults err.faults_after err.taken err.taken_after (text_on_err (names_of (Some command)) status line) → Serves (Some command) shelf out err status
+answered command shelf out err status reply text line same later out_later is t l done fault either said =
+    let verdict = told_verdict (Some command) shelf.told in
+    let is_text : IsText verdict text = subst (λ (bytes : List ℕ). IsText verdict bytes) (sym t) is.text in
+    served (Some command) shelf out err status (text_on_err (names_of (Some command)) status line)
+    (record {
+      contents = same;
+      later = later;
+      out_later = out_later;
+      done = λ e. let d = done e in ((text, is_text, d.0), d.1);
+      refused = λ r. absurd (not_refusal status either r);
+      words = λ e. absurd (not_refusal status either (ap is_refusal e));
+      before_files = λ b. absurd (not_refusal status either (before_is_refusal status b));
+      in_file = λ i e. absurd (not_refusal status either (file_is_refusal status i e));
+      memory = ended_memory status either;
+      read_fault = λ i e. absurd (not_read_fault status i either e);
+      write_fault = λ e. let f = fault e in (f.0, (text, is_text, f.1));
+      untouched = λ d w. absurd (touched status either d w);
+    })
+    (err_text (Some command) shelf.told status line (λ d. subst (λ (bytes : List ℕ). IsReportIf (asks_report (Some command)) verdict bytes) (sym l) is.report)) said
+
+-- ---- a call that has no answer
+pub stopped : (command : Command) (shelf : ShelfCall) (out err : SinkCall) (status : Status) → shelf.told_after ≡ shelf.told → shelf.faults ≤ shelf.faults_after → out.faults ≤ out.faults_after → out.taken_after ≡ out.taken → IsStop (verdict_of (Some command)) (names_of (Some command)) shelf status
+    → AppendsUntilFault err.faults err.faults_after err.taken err.taken_after (text_on_err (names_of (Some command)) status []) → Serves (Some command) shelf out err status
+stopped command shelf out err status same later out_later untouched stop said =
+    served (Some command) shelf out err status (text_on_err (names_of (Some command)) status [])
+    (record {
+      contents = same;
+      later = later;
+      out_later = out_later;
+      done = λ e. absurd (stop.no_other.0 e);
+      refused = stop.refused;
+      words = λ e. absurd (stop.no_other.1 e);
+      before_files = stop.before_files;
+      in_file = stop.in_file;
+      memory = stop.memory;
+      read_fault = stop.read_fault;
+      write_fault = λ e. absurd (stop.no_other.2 e);
+      untouched = λ d w. untouched;
+    })
+    (err_text (Some command) shelf.told status [] (λ e. absurd (stop.no_other.0 e))) said
+
+-- ---- words that ask for nothing, or that no memory was left to read
+pub words_refused : (shelf : ShelfCall) (out err : SinkCall) → shelf.told_after ≡ shelf.told → shelf.faults ≤ shelf.faults_after → out.faults ≤ out.faults_after → out.taken_after ≡ out.taken
+    → AppendsUntilFault err.faults err.faults_after err.taken err.taken_after (line_on_err [] Words) → Serves None shelf out err Words
+words_refused shelf out err same later out_later untouched said =
+    served None shelf out err Words (line_on_err [] Words)
+    (record {
+      contents = same;
+      later = later;
+      out_later = out_later;
+      done = λ e. absurd (cc);
+      refused = λ r. refl;
+      words = λ e. refl;
+      before_files = λ b. refl;
+      in_file = λ i e. absurd (none_some e);
+      memory = refl;
+      read_fault = λ i e. absurd (cc);
+      write_fault = λ e. absurd (cc);
+      untouched = λ d w. untouched;
+    })
+    refl said
+
+pub memory_short : (command : Option Command) (shelf : ShelfCall) (out err : SinkCall) → shelf.told_after ≡ shelf.told → shelf.faults ≤ shelf.faults_after → out.faults ≤ out.faults_after → out.taken_after ≡ out.taken
+    → AppendsUntilFault err.faults err.faults_after err.taken err.taken_after (line_on_err [] OutOfMemory) → Serves command shelf out err OutOfMemory
+memory_short command shelf out err same later out_later untouched said =
+    served command shelf out err OutOfMemory (line_on_err [] OutOfMemory)
+    (record {
+      contents = same;
+      later = later;
+      out_later = out_later;
+      done = λ e. absurd (cc);
+      refused = λ r. absurd (cc);
+      words = λ e. absurd (cc);
+      before_files = λ b. absurd (cc);
+      in_file = λ i e. absurd (none_some e);
+      memory = refl;
+      read_fault = λ i e. absurd (cc);
+      write_fault = λ e. absurd (cc);
+      untouched = λ d w. untouched;
+    })
+    refl said

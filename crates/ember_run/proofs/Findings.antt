@@ -5,7 +5,6 @@ use Rattle.ember_expr.specs.declared.formula.Tree.{Tree}
 use Rattle.ember_expr.specs.Formula.{formula_of}
 use Rattle.ember_job.specs.declared.job.Job.{Job}
 use Rattle.ember_job.specs.Visited.{leaves}
-use Rattle.ember_leaf.specs.declared.kept.Kept.{Kept}
 use Rattle.ember_model.specs.declared.scene.Scene.{Scene}
 use Rattle.ember_pairs.specs.declared.pair.Pair.{Pair}
 use Rattle.ember_pairs.specs.Pairs.{AreMeetingPairs}
@@ -16,6 +15,8 @@ use Rattle.ember_voxel.specs.declared.fill.Fill.{Fill}
 use Rattle.ember_voxel.specs.Fills.{IsFill}
 use Rattle.ember_voxel.specs.Lattice as lattice
 use Rattle.ember_step.specs.Counts.{IsCount}
+use Rattle.ember_step.specs.Texts.{IsBoxText}
+use Rattle.ember_text.specs.Counted.{CountedText}
 use Rattle.ember_job.specs.Items.{EachAnswers}
 use Rattle.ember_run.specs.declared.query.Answer.TheVariants as finds
 use Rattle.ember_run.specs.declared.query.RunResult.{RunResult}
@@ -39,10 +40,10 @@ pub fills_found : (asked : Query) (scene : Bor Scene) (expr : Bor Tree) (size : 
 fills_found asked scene expr size root fills e f are =
     subst (λ (asked : Query). IsAnswer asked (finds.Fills fills)) (sym e) (subst (λ (root : Job). EachAnswers (IsFill (formula_of expr.now)) (leaves (lattice.shape scene.now.tris (formula_of expr.now) size) root) fills.items) f are)
 
-pub kept_found : (asked : Query) (scene : Bor Scene) (expr : Bor Tree) (root : Job) (found : RunResult (List Kept)) → asked ≡ query.Kept scene expr → root ≡ root_job scene.now.tris → EachAnswers (IsWrittenAt scene.now.tris (formula_of expr.now)) (leaves (values.shape scene.now.tris (formula_of expr.now)) root) found.items.items → HoldEntries (values.shape scene.now.tris (formula_of expr.now)) root found.journals → IsAnswer asked (finds.Kept found)
-kept_found asked scene expr root found e f are holds =
-    subst (λ (asked : Query). IsAnswer asked (finds.Kept found)) (sym e) (
-      subst (λ (root : Job). EachAnswers (IsWrittenAt scene.now.tris (formula_of expr.now)) (leaves (values.shape scene.now.tris (formula_of expr.now)) root) found.items.items) f are,
+pub texts_found : (asked : Query) (scene : Bor Scene) (expr : Bor Tree) (root : Job) (found : RunResult CountedText) → asked ≡ query.Texts scene expr → root ≡ root_job scene.now.tris → EachAnswers (λ job text. IsBoxText scene.now.tris (formula_of expr.now) job.cell text) (leaves (values.shape scene.now.tris (formula_of expr.now)) root) found.items.items → HoldEntries (values.shape scene.now.tris (formula_of expr.now)) root found.journals → IsAnswer asked (finds.Texts found)
+texts_found asked scene expr root found e f are holds =
+    subst (λ (asked : Query). IsAnswer asked (finds.Texts found)) (sym e) (
+      subst (λ (root : Job). EachAnswers (λ job text. IsBoxText scene.now.tris (formula_of expr.now) job.cell text) (leaves (values.shape scene.now.tris (formula_of expr.now)) root) found.items.items) f are,
       subst (λ (root : Job). HoldEntries (values.shape scene.now.tris (formula_of expr.now)) root found.journals) f holds,
     )
 

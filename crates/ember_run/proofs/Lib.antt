@@ -1,5 +1,8 @@
 pub mod Pieces
 pub mod Verdicts
+pub mod Stops
+pub mod Expressions
+pub mod Before
 pub mod SceneFiles
 pub mod PointCounts
 pub mod ClearFaces

@@ -1,5 +1,5 @@
 -- The files of a scene, one after another.
-use Rattle.std.proofs.Common.{◌≡◌, ℕ, ◌+◌, ◌-◌, ◌<◌, ◌≤◌, zero, suc, true, List, [], ◌∷◌, ◌++◌, length, map, take, get_or, All, Some, None, Result, Ok, Err, IfOk, IfErr, refl, sym, ap, subst, arith, ◌∙◌, append_assoc, length-append}
+use Rattle.std.proofs.Common.{◌≡◌, ◌≢◌, ℕ, ◌+◌, ◌-◌, ◌<◌, ◌≤◌, zero, suc, true, false, List, [], ◌∷◌, ◌++◌, length, map, take, drop, get_or, All, Some, None, Result, Ok, Err, IfOk, IfErr, refl, sym, ap, subst, arith, ◌∙◌, append_assoc, length-append}
 use Rattle.std.proofs.lemmas.Bool.{le-leb}
 use Rattle.std.proofs.lemmas.List.{take_more, append-nil, map-append}
 use Rattle.std.proofs.lemmas.Grind.{flat_map-append}
@@ -13,10 +13,13 @@ use Rattle.ember_model.specs.declared.scene.Scene.{Scene}
 use Rattle.ember_model.specs.declared.tri.Tri.{Tri}
 use Rattle.ember_run.specs.declared.status.Status.{Status}
 use Rattle.ember_run.specs.declared.status.LimitKind.TheVariants.{Triangles}
-use Rattle.ember_run.specs.declared.status.Status.TheVariants.{MeshRefused, Limit}
-use Rattle.ember_run.specs.CallOutcome.{IsRefusal, IsSameIfTold, is_refusal}
-use Rattle.ember_run.specs.Scenes.{HasParts, MayRead}
+use Rattle.ember_run.specs.declared.status.Status.TheVariants.{Done, Words, ReadFault, WriteFault, MeshRefused, Limit}
+use Rattle.ember_run.specs.CallOutcome.{IsRefusal, IsSameIfTold, hides_memory, is_refusal, refused_file}
+use Rattle.ember_run.specs.Devices.{ShelfCall, HasShelfFailed}
+use Rattle.ember_run.specs.Scenes.{HasParts}
+use Rattle.ember_run.specs.Stops.{IsAfterFiles, IsSceneStop, with_others}
 use Rattle.ember_run.specs.Verdict.{Contents, Verdict, Unknown, after_balance, after_file, after_files, after_mesh, after_scene, after_total, first_told}
+use Rattle.ember_run.proofs.Stops.{after_stop, before_is_refusal, before_no_file, file_is_refusal, same_number}
 use Rattle.ember_run.proofs.Verdicts.{same_self, same_then, refusal_then, untold_then, above}
 
 -- ---- one mesh
@@ -77,14 +80,12 @@ all_contents told (file ∷ files) zero d l = (map told files, refl)
 all_contents told (file ∷ files) (suc k) d l =
     let r = all_contents told files k d (omega (arith, l)) in (r.0, ap (λ (xs : Contents). told file ∷ xs) r.1)
 
-pub part_refused : (places : ℕ) (told now : List ℕ → Option (List ℕ)) (files : List (List ℕ)) (k number : ℕ) (d name : List ℕ) (parts : List Closed) (status : Status) (next : List Tri → Verdict) → k < length files → HasParts places (map told (take k files)) parts → now ≡ told → number ≡ k + 1 → name ≡ get_or files k d → ((next : List Tri → Verdict) → IsRefusal status (after_mesh places number (now name) next)) → IsRefusal status (after_scene places (map told files) next)
-part_refused places told now files k number d name parts status next l h t e n refused =
-    let r = all_contents told files k d l in
-    let rest = λ (mesh : List Tri). after_files places (k + 1 + 1) (triangles_of parts ++ mesh) r.0 next in
-    subst (λ (contents : Contents). IsRefusal status (after_scene places contents next)) (sym r.1)
-    (refusal_then status _ _ (h.same (told (get_or files k d) ∷ r.0) next)
-    (subst (λ (n : ℕ). IsRefusal status (after_files places (n + 1) (triangles_of parts) (told (get_or files k d) ∷ r.0) next)) (sym (read_count told files k (omega (arith, l))))
-    (subst (λ (c : Option (List ℕ)). IsRefusal status (after_mesh places (k + 1) c rest)) (λ i. t i (n i)) (subst (λ (number : ℕ). IsRefusal status (after_mesh places number (now name) rest)) e (refused rest)))))
+part_refused : (places : ℕ) (told now : List ℕ → Option (List ℕ)) (files : List (List ℕ)) (k number : ℕ) (d name : List ℕ) (parts : List Closed) (status : Status) (more : Contents) (next : List Tri → Verdict) → k < length files → HasParts places (map told (take k files)) parts → now ≡ told → number ≡ k + 1 → name ≡ get_or files k d → ((next : List Tri → Verdict) → IsRefusal status (after_mesh places number (now name) next)) → IsRefusal status (after_scene places (map told (take k files) ++ told (get_or files k d) ∷ more) next)
+part_refused places told now files k number d name parts status more next l h t e n refused =
+    let rest = λ (mesh : List Tri). after_files places (k + 1 + 1) (triangles_of parts ++ mesh) more next in
+    refusal_then status _ _ (h.same (told (get_or files k d) ∷ more) next)
+    (subst (λ (n : ℕ). IsRefusal status (after_files places (n + 1) (triangles_of parts) (told (get_or files k d) ∷ more) next)) (sym (read_count told files k (omega (arith, l))))
+    (subst (λ (c : Option (List ℕ)). IsRefusal status (after_mesh places (k + 1) c rest)) (λ i. t i (n i)) (subst (λ (number : ℕ). IsRefusal status (after_mesh places number (now name) rest)) e (refused rest))))
 
 first_contents : (told : List ℕ → Option (List ℕ)) (files : List (List ℕ)) (k : ℕ) → k < length files → (more : Contents) × (first_told k (map told files) ≡ map told (take k files) ++ None ∷ more)
 first_contents told [] k l = absurd (omega (arith, l))
@@ -92,13 +93,44 @@ first_contents told (file ∷ files) zero l = (first_told 0 (map told files), re
 first_contents told (file ∷ files) (suc k) l =
     let r = first_contents told files k (omega (arith, l)) in (r.0, ap (λ (xs : Contents). told file ∷ xs) r.1)
 
-pub part_unread : (places : ℕ) (told : List ℕ → Option (List ℕ)) (files : List (List ℕ)) (k number i : ℕ) (parts : List Closed) → k < length files → HasParts places (map told (take k files)) parts → number ≡ k + 1 → i ≡ number → MayRead places (map told files) i
-part_unread places told files k number i parts l h e q next =
+part_unread : (places : ℕ) (told : List ℕ → Option (List ℕ)) (files : List (List ℕ)) (k i : ℕ) (parts : List Closed) (next : List Tri → Verdict) → k < length files → HasParts places (map told (take k files)) parts → i ≡ k + 1 → after_scene places (first_told (i - 1) (map told files)) next ≡ Unknown
+part_unread places told files k i parts next l h e =
     let r = first_contents told files k l in
-    let n : i - 1 ≡ k = omega (arith, e, q) in
+    let n : i - 1 ≡ k = omega (arith, e) in
     subst (λ (n : ℕ). after_scene places (first_told n (map told files)) next ≡ Unknown) (sym n)
     (subst (λ (contents : Contents). after_scene places contents next ≡ Unknown) (sym r.1)
     (untold_then _ _ (h.same (None ∷ r.0) next) refl))
+
+take_told : (told : List ℕ → Option (List ℕ)) (n : ℕ) (files : List (List ℕ)) → take n (map told files) ≡ map told (take n files)
+take_told told zero [] = refl
+take_told told zero (file ∷ files) = refl
+take_told told (suc n) [] = refl
+take_told told (suc n) (file ∷ files) = ap (λ (xs : Contents). told file ∷ xs) (take_told told n files)
+
+-- the files up to this one, and others after them
+with_part : (told : List ℕ → Option (List ℕ)) (files : List (List ℕ)) (k : ℕ) (d : List ℕ) (others : Contents) → k < length files → with_others (k + 1) (map told files) others ≡ map told (take k files) ++ told (get_or files k d) ∷ drop (k + 1) others
+with_part told files k d others l =
+    ap (λ (xs : Contents). xs ++ drop (k + 1) others) (take_told told (k + 1) files) ∙ more_read told files k d (drop (k + 1) others) l
+
+pub part_stop : (places : ℕ) (now : List ℕ → Option (List ℕ)) (files : List (List ℕ)) (k number : ℕ) (d name : List ℕ) (parts : List Closed) (shelf : ShelfCall) (status : Status) → k < length files → HasParts places (map shelf.told (take k files)) parts → now ≡ shelf.told → number ≡ k + 1 → name ≡ get_or files k d
+    → (is_refusal status ≡ true → (next : List Tri → Verdict) → IsRefusal status (after_mesh places number (now name) next)) → (is_refusal status ≡ true → refused_file status ≡ Some number) → ((i : ℕ) → status ≡ ReadFault i → (i ≡ number) × HasShelfFailed shelf × (shelf.fault_at ≡ i)) → hides_memory status ≡ false → (status ≢ Done) × (status ≢ Words) × (status ≢ WriteFault)
+    → IsSceneStop places files shelf status
+part_stop places now files k number d name parts shelf status l h t e n refused file read_fault memory no_other next =
+    let told = shelf.told in
+    let r = all_contents told files k d l in
+    record {
+      refused = λ f. subst (λ (contents : Contents). IsRefusal status (after_scene places contents next)) (sym r.1) (part_refused places told now files k number d name parts status r.0 next l h t e n (refused f));
+      before_files = λ b. absurd (before_no_file status number b (file (before_is_refusal status b)));
+      in_file = λ i f others m.
+          let is = file_is_refusal status i f in
+          let at : i ≡ k + 1 = same_number i number (sym f ∙ file is) ∙ e in
+          subst (λ (i : ℕ). IsRefusal status (after_scene places (with_others i (map told files) others) next)) (sym at)
+          (subst (λ (contents : Contents). IsRefusal status (after_scene places contents next)) (sym (with_part told files k d others l))
+          (part_refused places told now files k number d name parts status (drop (k + 1) others) next l h t e n (refused is)));
+      read_fault = λ i f. let a = read_fault i f in (a.1, a.2, part_unread places told files k i parts next l h (a.0 ∙ e));
+      memory = memory;
+      no_other = no_other;
+    }
 
 -- ---- all files
 pub few_joined : (tris : List Tri) (next : List Tri → Verdict) → length tris ≤ 262144 → after_total tris next ≡ next tris
@@ -119,6 +151,8 @@ pub joined_if : {E : Type 0} (places : ℕ) (contents : Contents) (parts : List 
 joined_if places contents parts (Ok scene) h e = λ next. scene_joined places contents parts scene.tris next h (e next)
 joined_if places contents parts (Err error) h e = tt
 
-pub refused_if : {A : Type 0} (places : ℕ) (contents : Contents) (parts : List Closed) (result : Result A Status) → HasParts places contents parts → IfErr result (λ status. is_refusal status ≡ true → (next : List Tri → Verdict) → IsRefusal status (after_total (triangles_of parts) next)) → IfErr result (λ status. is_refusal status ≡ true → (next : List Tri → Verdict) → IsRefusal status (after_scene places contents next))
-refused_if places contents parts (Ok value) h e = tt
-refused_if places contents parts (Err status) h e = λ r next. scene_refused places contents parts status next h (e r next)
+pub stop_if : {A : Type 0} (places : ℕ) (names : List (List ℕ)) (shelf : ShelfCall) (parts : List Closed) (result : Result A Status) → HasParts places (map shelf.told names) parts → IfErr result (λ status. is_refusal status ≡ true → (next : List Tri → Verdict) → IsRefusal status (after_total (triangles_of parts) next)) → IfErr result IsAfterFiles → ((i : ℕ) → result ≢ Err (ReadFault i)) → (result ≢ Err Done) × (result ≢ Err Words) × (result ≢ Err WriteFault) → IfErr result (IsSceneStop places names shelf)
+stop_if places names shelf parts (Ok value) h refused kind only no_other = tt
+stop_if places names shelf parts (Err status) h refused kind only no_other = λ next.
+    after_stop (λ contents. after_scene places contents next) names shelf status kind (λ r. scene_refused places (map shelf.told names) parts status next h (refused r next))
+    (λ i f. only i (ap Err f)) (λ f. no_other.0 (ap Err f), λ f. no_other.1 (ap Err f), λ f. no_other.2 (ap Err f))

@@ -1,5 +1,5 @@
 -- What follows on an expression, and on the scene of the files.
-use Rattle.std.proofs.Common.{◌≡◌, ℕ, ◌-◌, ◌≤◌, zero, suc, List, [], ◌∷◌, map, length, Result, Ok, Err, IfOk, Vec, Global, refl, sym, ap, ap₂, subst, ◌∙◌}
+use Rattle.std.proofs.Common.{◌≡◌, ℕ, ◌≤◌, List, [], ◌∷◌, map, length, Result, Ok, Err, IfOk, Vec, Global, refl, sym, ap, ap₂, subst, ◌∙◌}
 use Rattle.ember_expr.specs.Formula.{Formula}
 use Rattle.ember_job.specs.declared.job.Job.{Job}
 use Rattle.ember_job.specs.Visited.{leaves}
@@ -7,7 +7,7 @@ use Rattle.ember_model.specs.declared.scene.Scene.{Scene}
 use Rattle.ember_model.specs.declared.tri.Tri.{Tri}
 use Rattle.ember_pairs.specs.declared.pair.Pair.{Pair}
 use Rattle.ember_pairs.specs.Gathering.{AreGathered}
-use Rattle.ember_pairs.specs.Pairs.{AreMeetingPairs, ArePairs}
+use Rattle.ember_pairs.specs.Pairs.{ArePairs}
 use Rattle.ember_pairs.specs.Texts.{pairs_text}
 use Rattle.ember_pairs.specs.Whole.{AreItems, leaf_jobs}
 use Rattle.ember_job.specs.Items.{EachAnswers}
@@ -18,13 +18,11 @@ use Rattle.ember_voxel.specs.Grid.{IsGridText}
 use Rattle.ember_voxel.specs.Lattice.{IsVoxelJob, shape}
 use Rattle.ember_voxel.specs.Voxels.{IsVoxelText}
 use Rattle.ember_voxel.specs.Laws.{root_is_voxel_job}
-use Rattle.ember_run.specs.declared.status.Status.{Status}
 use Rattle.ember_run.specs.Lattices.{AreFills, IsLatticeText}
 use Rattle.ember_run.specs.Outputs.{Lattice, MeetingPairs}
 use Rattle.ember_run.specs.PairLists.{ArePairsOfLeaves, IsPairsText}
-use Rattle.ember_run.specs.Scenes.{MayRead}
-use Rattle.ember_run.specs.CallOutcome.{IsRefusal, IsSameIfTold, IsText}
-use Rattle.ember_run.specs.Verdict.{Contents, Verdict, Unknown, Writes, after_expr, after_scene, first_told, pairs_verdict, voxels_verdict}
+use Rattle.ember_run.specs.CallOutcome.{IsSameIfTold, IsText}
+use Rattle.ember_run.specs.Verdict.{Contents, Verdict, Writes, after_expr, after_scene, pairs_verdict, voxels_verdict}
 use Rattle.ember_run.proofs.Verdicts.{text_then}
 
 -- these triangles were read
@@ -36,16 +34,9 @@ abbrev pub ExprRead : (ℕ → (Formula → Verdict) → Verdict) → ℕ → Fo
 ExprRead after m formula = (next : Formula → Verdict) → after m next ≡ next formula
 
 -- ---- pairs
--- the pairs of leaves, as the law of the whole list takes them
-are_items : (tris : List Tri) (jobs : List Job) (items : List (List Pair)) → EachAnswers (λ job ps. AreMeetingPairs tris job.list ps) jobs items → AreItems tris jobs items
-are_items tris [] [] h = h
-are_items tris [] (ps ∷ items) h = h
-are_items tris (job ∷ jobs) [] h = h
-are_items tris (job ∷ jobs) (ps ∷ items) h = (h.0, are_items tris jobs items h.1)
-
 pub pairs_text_if : {E : Type 0} (tris : List Tri) (items : List (List Pair)) (ps shown : List Pair) (result : Result (Vec ℕ Global) E) → ((items : List (List Pair)) (ps : List Pair) → AreItems tris (leaf_jobs tris) items → AreGathered items ps → ArePairs tris ps) → ArePairsOfLeaves tris items → AreGathered items ps → shown ≡ ps → IfOk result (λ text. text.items ≡ pairs_text shown) → IfOk result (λ text. IsPairsText tris text.items)
 pairs_text_if tris items ps shown (Ok text) law are gathered e is =
-    (ps, law items ps (are_items tris (leaf_jobs tris) items are) gathered, is ∙ ap pairs_text e)
+    (ps, law items ps are gathered, is ∙ ap pairs_text e)
 pairs_text_if tris items ps shown (Err error) law are gathered e is = tt
 
 pub pairs_listed : (places : ℕ) (contents : Contents) (tris : List Tri) (bytes : List ℕ) → ((next : List Tri → Verdict) → IsSameIfTold (after_scene places contents next) (next tris)) → IsPairsText tris bytes → IsText (pairs_verdict places contents) bytes
@@ -54,29 +45,13 @@ pairs_listed places contents tris bytes scene is =
 
 -- ---- an expression and a scene
 module _ (after : ℕ → (Formula → Verdict) → Verdict) (places m : ℕ) (contents : Contents) (count : length contents ≡ m) where
-  pub expr_refused : (status : Status) (next : Formula → Verdict) → ((next : Formula → Verdict) → IsRefusal status (after m next)) → IsRefusal status (after (length contents) next)
-  expr_refused status next refused = subst (λ (n : ℕ). IsRefusal status (after n next)) (sym count) (refused next)
-
   pub after_read : (formula : Formula) (next : Formula → Verdict) → ExprRead after m formula → after (length contents) next ≡ next formula
   after_read formula next given = subst (λ (n : ℕ). after n next ≡ next formula) (sym count) (given next)
-
-  pub scene_refused : (formula : Formula) (status : Status) (next : Formula → List Tri → Verdict) → ExprRead after m formula → ((next : List Tri → Verdict) → IsRefusal status (after_scene places contents next)) → IsRefusal status (after (length contents) (λ formula. after_scene places contents (next formula)))
-  scene_refused formula status next given refused =
-      subst (λ (v : Verdict). IsRefusal status v) (sym (after_read formula (λ formula. after_scene places contents (next formula)) given)) (refused (next formula))
 
   pub scene_text : (formula : Formula) (tris : List Tri) (bytes : List ℕ) (next : Formula → List Tri → Verdict) → ExprRead after m formula → SceneRead places contents tris → IsText (next formula tris) bytes → IsText (after (length contents) (λ formula. after_scene places contents (next formula))) bytes
   scene_text formula tris bytes next given scene is =
       subst (λ (v : Verdict). IsText v bytes) (sym (after_read formula (λ formula. after_scene places contents (next formula)) given))
       (text_then bytes (after_scene places contents (next formula)) (next formula tris) (scene (next formula)) is)
-
-length_told : (n : ℕ) (contents : Contents) → length (first_told n contents) ≡ length contents
-length_told n [] = refl
-length_told zero (told ∷ more) = ap suc (length_told zero more)
-length_told (suc n) (told ∷ more) = ap suc (length_told n more)
-
-pub scene_unread : (after : ℕ → (Formula → Verdict) → Verdict) (places m i : ℕ) (contents : Contents) (formula : Formula) (next : Formula → List Tri → Verdict) → length contents ≡ m → ExprRead after m formula → MayRead places contents i → after (length (first_told (i - 1) contents)) (λ formula. after_scene places (first_told (i - 1) contents) (next formula)) ≡ Unknown
-scene_unread after places m i contents formula next count given unread =
-    after_read after places m (first_told (i - 1) contents) (length_told (i - 1) contents ∙ count) formula (λ formula. after_scene places (first_told (i - 1) contents) (next formula)) given ∙ unread (next formula)
 
 -- ---- a lattice
 pub root_is_valid : (scene : Scene) (size : ℕ) (job : Job) → size ≤ 12 → job ≡ root_job scene.tris → IsVoxelJob scene.tris size job

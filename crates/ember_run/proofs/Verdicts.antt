@@ -1,8 +1,9 @@
 -- What follows on a step of a verdict, and what the reading of a file says of it.
-use Rattle.std.proofs.Common.{◌≡◌, ℕ, ◌<◌, ◌≤◌, true, false, List, length, nat_le, Some, None, Result, Ok, Err, refl, sym, ap, subst, arith, leb, ◌⊎◌, inl, inr, ◌∙◌}
+use Rattle.std.proofs.Common.{◌≡◌, ℕ, ◌<◌, ◌≤◌, true, false, List, length, nat_le, Some, None, Result, Ok, Err, IfErr, refl, sym, ap, subst, arith, leb, ◌⊎◌, inl, inr, ◌∙◌}
 use Rattle.std.proofs.lemmas.Bool.{le-leb}
 use Rattle.std.proofs.lemmas.Bool.Decides.{leb_tells}
 use Rattle.std.specs.declared.option.Option.{Option}
+use Rattle.std.specs.Result.{IsErrAnd}
 use Rattle.ember_io.specs.Shelves.{Tells, TellsMore}
 use Rattle.ember_model.specs.declared.tri.Tri.{Tri}
 use Rattle.ember_obj.specs.declared.fault.ObjFault.{ObjFault}
@@ -55,6 +56,11 @@ error_or (Err error) other = error
 -- one error, whatever the value might have been
 pub same_error : {A B E : Type 0} (error other : E) → ◌≡◌ {A = Result A E} (Err error) (Err other) → ◌≡◌ {A = Result B E} (Err error) (Err other)
 same_error {A = A} {E = E} error other e = ap Err (ap (λ (r : Result A E). error_or r error) e)
+
+-- an error that is passed on as it is
+pub passed_on : {A : Type 0} (P : Status → Type 0) (result : Result A Status) (status : Status) → IsErrAnd result (λ given. given ≡ status) → P status → IfErr result P
+passed_on P (Ok value) status e h = tt
+passed_on P (Err given) status e h = subst P (sym e) h
 
 -- ---- a file
 pub above : (a b : ℕ) → b < a → nat_le a b ≡ false

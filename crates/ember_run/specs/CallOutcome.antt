@@ -1,13 +1,15 @@
--- What a status says of the verdict and of the devices
-use Rattle.std.specs.Prelude.{◌≡◌, ◌≢◌, ◌⊎◌, ⊤, Bool, true, false, ℕ, List}
+-- What a status, and the bytes that were written, say of the verdict
+use Rattle.std.specs.Prelude.{◌≡◌, ⊤, Bool, true, false, ℕ, List, None, Some}
 use Rattle.std.specs.declared.option.Option.{Option}
 use Rattle.std.specs.Io.KnownBytes.{Appends}
-use Rattle.ember_io.specs.Causes.{Rose}
-use Rattle.ember_io.specs.Sinks.{AppendsPrefix, IsFlushed}
-use Rattle.ember_words.specs.declared.command.Command.{Command}
+use Rattle.ember_io.specs.Sinks.{AppendsPrefix}
+use Rattle.ember_expr.specs.declared.fault.ExprFault.TheVariants as expr
+use Rattle.ember_mesh.specs.declared.fault.MeshFault.TheVariants as mesh
+use Rattle.ember_obj.specs.declared.fault.ObjFault.TheVariants as obj
 use Rattle.ember_run.specs.Outputs.{IsOutput}
 use Rattle.ember_run.specs.Slices.{IsSlice, IsSliceRefusal, IsSliceable}
-use Rattle.ember_run.specs.Verdict.{Verdict, Unknown, Refused, Writes, Slices, told_verdict, verdict_before}
+use Rattle.ember_run.specs.Verdict.{Verdict, Unknown, Refused, Writes, Slices}
+use Rattle.ember_run.specs.declared.status.LimitKind.TheVariants.{Bytes, Triangles}
 use Rattle.ember_run.specs.declared.status.Status.{Status}
 use Rattle.ember_run.specs.declared.status.Status.TheVariants.{Done, Words, ReadFault, WriteFault, ObjRefused, MeshRefused, ExprRefused, Unbounded, Limit, NotClear, FaceRefused, OutOfMemory}
 
@@ -25,6 +27,44 @@ is_refusal (Limit kind count) = true
 is_refusal NotClear = true
 is_refusal (FaceRefused fault) = true
 is_refusal OutOfMemory = false
+
+-- those that rest on the words alone: nothing is read before them
+abbrev pub is_before_files : Status → Bool
+is_before_files Done = false
+is_before_files Words = true
+is_before_files (ReadFault i) = false
+is_before_files WriteFault = false
+is_before_files (ObjRefused i fault) = false
+is_before_files (MeshRefused i fault) = false
+is_before_files (ExprRefused fault) = true
+is_before_files Unbounded = true
+is_before_files (Limit kind count) = false
+is_before_files NotClear = false
+is_before_files (FaceRefused fault) = false
+is_before_files OutOfMemory = false
+
+-- the file, from 1, whose contents are refused
+abbrev pub refused_file : Status → Option ℕ
+refused_file Done = None
+refused_file Words = None
+refused_file (ReadFault i) = None
+refused_file WriteFault = None
+refused_file (ObjRefused i fault) = Some i
+refused_file (MeshRefused i fault) = Some i
+refused_file (ExprRefused fault) = None
+refused_file Unbounded = None
+refused_file (Limit (Bytes i) count) = Some i
+refused_file (Limit Triangles count) = None
+refused_file NotClear = None
+refused_file (FaceRefused fault) = Some 1
+refused_file OutOfMemory = None
+
+-- want of memory in the guise of another fault
+abbrev pub hides_memory : Status → Bool
+hides_memory (ObjRefused i obj.OutOfMemory) = true
+hides_memory (MeshRefused i mesh.OutOfMemory) = true
+hides_memory (ExprRefused expr.OutOfMemory) = true
+hides_memory _ = false
 
 -- where the first verdict is told, it is the second
 abbrev pub IsSameIfTold : Verdict → Verdict → Type 0
@@ -68,14 +108,3 @@ IsWritten verdict old new = (bytes : List ℕ) × IsText verdict bytes × Append
 -- the verdict, where told, is an output, and a prefix of it was written
 abbrev pub IsBegun : Verdict → Option (List ℕ) → Option (List ℕ) → Type 0
 IsBegun verdict old new = (bytes : List ℕ) × IsText verdict bytes × AppendsPrefix old new bytes
-
--- when each status comes, and what out then took: `old` before the call and `new` after it
-pub record IsCallOutcome (command : Option Command) (told : List ℕ → Option (List ℕ)) (shelf_before shelf_now fault_at out_before out_now flushed : ℕ) (old new : Option (List ℕ)) (status : Status) : Type 0 where
-  pub done : status ≡ Done → IsWritten (told_verdict command told) old new × IsFlushed new flushed
-  pub refused : is_refusal status ≡ true → IsRefusal status (told_verdict command told)
-  pub read_fault : (i : ℕ) → status ≡ ReadFault i → Rose shelf_before shelf_now × (fault_at ≡ i) × (verdict_before i command told ≡ Unknown)
-  pub write_fault : status ≡ WriteFault → Rose out_before out_now × IsBegun (told_verdict command told) old new
-  pub untouched : status ≢ Done → status ≢ WriteFault → new ≡ old
-  -- where no device failed, the verdict is answered, or memory was short
-  pub output_given : AsksOutput (told_verdict command told) → ¬ Rose shelf_before shelf_now → ¬ Rose out_before out_now → (status ≡ Done) ⊎ (status ≡ OutOfMemory)
-  pub refusal_given : (refusal : Status) → AsksRefusal refusal (told_verdict command told) → ¬ Rose shelf_before shelf_now → (status ≡ refusal) ⊎ (status ≡ OutOfMemory)

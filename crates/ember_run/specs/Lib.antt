@@ -12,6 +12,9 @@ pub mod Slices
 pub mod Verdict
 pub mod CallOutcome
 pub mod Reported
+pub mod Devices
+pub mod Stops
+pub mod Serves
 pub mod Scenes
 pub mod OptionalExpr
 pub mod OneSolid

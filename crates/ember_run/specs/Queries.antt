@@ -9,21 +9,22 @@ use Rattle.ember_run.specs.declared.query.Query.{Query}
 use Rattle.ember_run.specs.declared.query.Query.TheVariants as query
 use Rattle.ember_run.specs.Lattices.{AreFills}
 use Rattle.ember_run.specs.PairLists.{ArePairsOfLeaves}
-use Rattle.ember_run.specs.Solids.{AreWrittenRegions, AreRegionCounts, HoldRun}
+use Rattle.ember_step.specs.Texts.{AreLeafTexts}
+use Rattle.ember_run.specs.Solids.{AreRegionCounts, HoldRun}
 
 -- the queries that may be asked: cells have a side of 2 ^ 4 to 2 ^ 12
 abbrev pub IsQuery : Query → Type 0
 IsQuery (query.Pairs scene) = ⊤
 IsQuery (query.Fills scene expr size) = (4 ≤ size) × (size ≤ 12)
-IsQuery (query.Kept scene expr) = ⊤
+IsQuery (query.Texts scene expr) = ⊤
 IsQuery (query.Counts scene expr) = ⊤
 
 -- this is what the query asks for
 abbrev pub IsAnswer : Query → Answer → Type 0
 IsAnswer (query.Pairs scene) (finds.Pairs items) = ArePairsOfLeaves scene.now.tris items.items
 IsAnswer (query.Fills scene expr size) (finds.Fills fills) = AreFills scene.now.tris (formula_of expr.now) size fills.items
-IsAnswer (query.Kept scene expr) (finds.Kept found) =
-    AreWrittenRegions scene.now.tris (formula_of expr.now) found.items.items × HoldRun scene.now.tris (formula_of expr.now) found.journals
+IsAnswer (query.Texts scene expr) (finds.Texts found) =
+    AreLeafTexts scene.now.tris (formula_of expr.now) found.items.items × HoldRun scene.now.tris (formula_of expr.now) found.journals
 IsAnswer (query.Counts scene expr) (finds.Counts found) =
     AreRegionCounts scene.now.tris (formula_of expr.now) found.items.items × HoldRun scene.now.tris (formula_of expr.now) found.journals
 IsAnswer _ _ = ⊥

@@ -1,17 +1,14 @@
 -- The files of a scene while they are read, one after another
-use Rattle.std.specs.Prelude.{◌≡◌, ℕ, ◌+◌, ◌-◌, List, ◌++◌, length}
+use Rattle.std.specs.Prelude.{◌≡◌, ℕ, ◌+◌, List, ◌++◌, length}
 use Rattle.ember_mesh.specs.declared.states.Closed.{Closed}
 use Rattle.ember_mesh.specs.Joined.{AreNumbered, triangles_of}
 use Rattle.ember_model.specs.declared.tri.Tri.{Tri}
 use Rattle.ember_run.specs.CallOutcome.{IsSameIfTold}
-use Rattle.ember_run.specs.Verdict.{Contents, Verdict, Unknown, after_files, after_scene, first_told}
+use Rattle.ember_run.specs.Verdict.{Contents, Verdict, after_files, after_scene}
 
 -- the files with these contents were read as these meshes; with whatever more files, their triangles decide what follows
 pub record HasParts (places : ℕ) (read : Contents) (parts : List Closed) : Type 0 where
   pub count : length parts ≡ length read
   pub numbered : AreNumbered 1 parts
-  pub same : (more : Contents) (next : List Tri → Verdict) → IsSameIfTold (after_scene places (read ++ more) next) (after_files places (length read + 1) (triangles_of parts) more next)
-
--- no file before file i, from 1, is refused
-abbrev pub MayRead : ℕ → Contents → ℕ → Type 0
-MayRead places contents i = (next : List Tri → Verdict) → after_scene places (first_told (i - 1) contents) next ≡ Unknown
+  pub same : (more : Contents) (next : List Tri → Verdict) →
+      IsSameIfTold (after_scene places (read ++ more) next) (after_files places (length read + 1) (triangles_of parts) more next)

@@ -26,11 +26,6 @@ use Rattle.ember_run.specs.Runs.{HoldEntries, run_report}
 abbrev pub IsWrittenAt : List Tri → Formula → Job → List Kept → Type 0
 IsWrittenAt tris formula job kept = IsWrittenIn tris formula job.cell (near tris job.cell) kept
 
--- the written regions of each leaf of the tree of boxes
-abbrev pub AreWrittenRegions : List Tri → Formula → List (List Kept) → Type 0
-AreWrittenRegions tris formula items =
-    EachAnswers (IsWrittenAt tris formula) (leaves (shape tris formula) (root_job tris)) items
-
 -- the numbers of the written regions of each leaf
 abbrev pub AreRegionCounts : List Tri → Formula → List ℕ → Type 0
 AreRegionCounts tris formula counts =

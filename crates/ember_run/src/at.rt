@@ -1,8 +1,7 @@
 // The command `at`.
-ghost use Rattle.std.specs.Prelude.{ℕ, ◌≡◌, ◌≢◌, ◌≤◌, ◌++◌, ◌-◌, length, map, true, All, Err, IfOk, IfErr, OnOk};
+ghost use Rattle.std.specs.Prelude.{ℕ, ◌≡◌, ◌≢◌, ◌≤◌, ◌++◌, length, map, true, All, Err, IfOk, IfErr, OnOk};
 ghost use Rattle.std.specs.List.{list_all};
 ghost use Rattle.ember_expr.specs.Truth.{AreCounts};
-ghost use Rattle.ember_io.specs.Causes.{Rose};
 ghost use Rattle.ember_model.specs.declared.point.Axis.TheVariants.{X};
 ghost use Rattle.ember_model.specs.ClearTest.{is_clear_of};
 ghost use Rattle.ember_model.specs.Meshes.{vector};
@@ -10,7 +9,9 @@ ghost use Rattle.ember_model.specs.Valid.{IsValidSpot, IsValidTri};
 ghost use Rattle.ember_run.specs.OptionalExpr.{given_formula};
 ghost use Rattle.ember_run.specs.Outputs.{count_line, count_lines, counts_text, value_line, value_lines};
 ghost use Rattle.ember_run.specs.CallOutcome.{IsRefusal, IsText, is_refusal};
-ghost use Rattle.ember_run.specs.Verdict.{Unknown, at_verdict, counts_verdict, first_told};
+ghost use Rattle.ember_run.specs.Devices.{shelf_call};
+ghost use Rattle.ember_run.specs.Stops.{IsAfterFiles, IsStop};
+ghost use Rattle.ember_run.specs.Verdict.{at_verdict, counts_verdict};
 
 use crate::expression::parse_given;
 use crate::scene::read_scene;
@@ -117,7 +118,7 @@ fn counts_lines(
 }
 
 // The text at a point, where that is clear of the scene.
-#[tactic(auto, using(crate::proofs::AtVerdict::clear_text, crate::proofs::AtVerdict::unclear_refused))]
+#[tactic(auto, using(crate::proofs::AtVerdict::clear_text, crate::proofs::AtVerdict::unclear_refused, crate::proofs::Stops::unclear_after, crate::proofs::Stops::memory_after))]
 fn text_at(
     alloc: Global,
     point: &Spot,
@@ -127,8 +128,11 @@ fn text_at(
 ) -> Result<Vec<u8>, Status>
     requires point { IsValidSpot point.now }
     requires meshes { meshes ≤ 64 }
-    ensures text { IfOk result (λ text. IsText (counts_verdict point.now meshes (given_formula expr.now) scene.now.tris) text.items) }
-    ensures refused { IfErr result (λ status. is_refusal status ≡ true → IsRefusal status (counts_verdict point.now meshes (given_formula expr.now) scene.now.tris)) }
+    ensures text { IfOk result (λ text.
+        IsText (counts_verdict point.now meshes (given_formula expr.now) scene.now.tris) text.items) }
+    ensures refused { IfErr result (λ status. is_refusal status ≡ true →
+        IsRefusal status (counts_verdict point.now meshes (given_formula expr.now) scene.now.tris)) }
+    ensures kind { IfErr result IsAfterFiles }
     ensures only { (i : ℕ) → result ≢ Err (Status.ReadFault i) }
     ensures no_other { (result ≢ Err Status.Done) × (result ≢ Err Status.Words) × (result ≢ Err Status.WriteFault) }
 {
@@ -154,10 +158,11 @@ pub fn at_output<S: Shelf>(
     requires few { length files.now ≤ 64 }
     ensures contents { S.contents shelf.new ≡ S.contents shelf.old }
     ensures later { S.faults shelf.old ≤ S.faults shelf.new }
-    ensures text { IfOk result (λ text. IsText (at_verdict point.now expr.now places (map (S.contents shelf.old) files.now)) text.items) }
-    ensures refused { IfErr result (λ status. is_refusal status ≡ true → IsRefusal status (at_verdict point.now expr.now places (map (S.contents shelf.old) files.now))) }
-    ensures read_fault { (i : ℕ) → result ≡ Err (Status.ReadFault i) → Rose (S.faults shelf.old) (S.faults shelf.new) × (S.fault_at shelf.new ≡ i) × (at_verdict point.now expr.now places (first_told (i - 1) (map (S.contents shelf.old) files.now)) ≡ Unknown) }
-    ensures no_other { (result ≢ Err Status.Done) × (result ≢ Err Status.Words) × (result ≢ Err Status.WriteFault) }
+    ensures text { IfOk result (λ text.
+        IsText (at_verdict point.now expr.now places (map (S.contents shelf.old) files.now)) text.items) }
+    ensures stop { IfErr result
+        (IsStop (at_verdict point.now expr.now places) files.now
+        (shelf_call S.contents S.faults S.fault_at shelf.old shelf.new)) }
 {
     let files = files.items();
     let expr = match parse_given(alloc, expr, files.len() as u32) {

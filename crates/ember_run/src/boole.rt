@@ -1,15 +1,17 @@
 // The commands `bool` and `demo`.
-ghost use Rattle.std.specs.Prelude.{ℕ, [], ◌≡◌, ◌≢◌, ◌≤◌, ◌-◌, ◌++◌, length, map, true, Err, IfOk, IfErr, OnOk};
+ghost use Rattle.std.specs.Prelude.{◌≡◌, ◌≤◌, length, map, IfOk, IfErr};
 ghost use Rattle.ember_expr.specs.Formula.{formula_of};
-ghost use Rattle.ember_io.specs.Causes.{Rose};
 ghost use Rattle.ember_run.specs.Reported.{IsReportIf};
-ghost use Rattle.ember_run.specs.CallOutcome.{IsRefusal, IsText, is_refusal};
+ghost use Rattle.ember_run.specs.CallOutcome.{IsText};
+ghost use Rattle.ember_run.specs.Devices.{shelf_call};
+ghost use Rattle.ember_run.specs.Stops.{IsStop, IsWordsStop};
 ghost use Rattle.ember_run.specs.Solids.{IsReportLine, IsReportText, IsSolidText, report_lines};
 ghost use Rattle.ember_run.specs.Queries.{IsExecutor};
-ghost use Rattle.ember_run.specs.Verdict.{Unknown, bool_verdict, demo_verdict, first_told};
+ghost use Rattle.ember_run.specs.Verdict.{bool_verdict, demo_verdict};
 
 use crate::expression::{parse_bounded, parse_union};
 use crate::query::{Answer, Query};
+use crate::reply::Reply;
 use crate::scene::read_scene;
 use crate::solid::{report_by, solid_of};
 use crate::status::Status;
@@ -18,49 +20,42 @@ use ember_gen::scene_of;
 use ember_io::Shelf;
 use ember_model::{OutOfMemory, Scene};
 use ember_report::{Report, report_line};
-use ember_text::document;
 use ember_words::{Text, Texts};
 use std::alloc::Global;
 
-// Appends the line of the report, where it is asked for.
-fn put_report(
-    alloc: Global,
-    reported: bool,
-    report: &Report,
-    lines: &mut Vec<u8>,
-) -> Result<(), OutOfMemory>
-    ensures { OnOk result (lines.new.items ≡ lines.old.items ++ report_lines reported report.now) }
+// The line of the report, where it is asked for.
+fn report_if(alloc: Global, reported: bool, report: &Report) -> Result<Vec<u8>, OutOfMemory>
+    ensures { IfOk result (λ line. line.items ≡ report_lines reported report.now) }
 {
     if !reported {
-        return Ok(());
+        return Ok(Vec::new(alloc));
     }
-    let line = report_line(alloc, report)?;
-    lines.extend_from_slice(&line)
+    report_line(alloc, report)
 }
 
-// The document of the solid; the line of its report goes to `lines`, where it is asked for.
-#[tactic(auto, using(crate::proofs::SolidVerdicts::solid_text, crate::proofs::SolidVerdicts::is_solid_text))]
-fn text_of_solid<C: Fn(&Query) -> Result<Answer, OutOfMemory>>(
+// The document of the solid, and the line of its report, where it is asked for.
+#[tactic(auto, using(crate::proofs::SolidVerdicts::report_line_is))]
+fn reply_of_solid<C: Fn(&Query) -> Result<Answer, OutOfMemory>>(
     alloc: Global,
     scene: &Scene,
     expr: &Expr,
     reported: bool,
     executor: &C,
-    lines: &mut Vec<u8>,
-) -> Result<Vec<u8>, OutOfMemory>
-    requires lines { lines.old.items ≡ [] }
-    requires executor { IsExecutor C.pre C.post executor.now }
-    ensures text { IfOk result (λ text. IsSolidText scene.now.tris (formula_of expr.now) text.items) }
-    ensures report { IfOk result (λ _. IsReportLine reported scene.now.tris (formula_of expr.now) lines.new.items) }
+) -> Result<Reply, OutOfMemory>
+    requires { IsExecutor C.pre C.post executor.now }
+    ensures text { IfOk result (λ reply. IsSolidText scene.now.tris (formula_of expr.now) reply.text.items) }
+    ensures report { IfOk result (λ reply. IsReportLine reported scene.now.tris (formula_of expr.now) reply.report.items) }
 {
     let solid = solid_of(alloc, scene, expr, executor)?;
-    put_report(alloc, reported, &solid.report, lines)?;
-    let text = document(alloc, &solid.kept)?;
-    Ok(text)
+    let report = report_if(alloc, reported, &solid.report)?;
+    Ok(Reply {
+        text: solid.text,
+        report,
+    })
 }
 
-/// The document of `bool`; the line of the report goes to `lines`, where it is asked for. `places`
-/// is at most 3, and there are at most 64 files.
+/// The document of `bool`, and the line of the report, where it is asked for. `places` is at most 3,
+/// and there are at most 64 files.
 pub fn boole_output<S: Shelf, C: Fn(&Query) -> Result<Answer, OutOfMemory>>(
     alloc: Global,
     expr: &Text,
@@ -69,19 +64,20 @@ pub fn boole_output<S: Shelf, C: Fn(&Query) -> Result<Answer, OutOfMemory>>(
     files: &Texts,
     shelf: &mut S,
     executor: &C,
-    lines: &mut Vec<u8>,
-) -> Result<Vec<u8>, Status>
+) -> Result<Reply, Status>
     requires places { places ≤ 3 }
     requires few { length files.now ≤ 64 }
-    requires lines { lines.old.items ≡ [] }
     requires executor { IsExecutor C.pre C.post executor.now }
     ensures contents { S.contents shelf.new ≡ S.contents shelf.old }
     ensures later { S.faults shelf.old ≤ S.faults shelf.new }
-    ensures text { IfOk result (λ text. IsText (bool_verdict expr.now places (map (S.contents shelf.old) files.now)) text.items) }
-    ensures report { IfOk result (λ _. IsReportIf reported (bool_verdict expr.now places (map (S.contents shelf.old) files.now)) lines.new.items) }
-    ensures refused { IfErr result (λ status. is_refusal status ≡ true → IsRefusal status (bool_verdict expr.now places (map (S.contents shelf.old) files.now))) }
-    ensures read_fault { (i : ℕ) → result ≡ Err (Status.ReadFault i) → Rose (S.faults shelf.old) (S.faults shelf.new) × (S.fault_at shelf.new ≡ i) × (bool_verdict expr.now places (first_told (i - 1) (map (S.contents shelf.old) files.now)) ≡ Unknown) }
-    ensures no_other { (result ≢ Err Status.Done) × (result ≢ Err Status.Words) × (result ≢ Err Status.WriteFault) }
+    ensures text { IfOk result (λ reply.
+        IsText (bool_verdict expr.now places (map (S.contents shelf.old) files.now)) reply.text.items) }
+    ensures report { IfOk result (λ reply.
+        IsReportIf reported (bool_verdict expr.now places (map
+        (S.contents shelf.old) files.now)) reply.report.items) }
+    ensures stop { IfErr result
+        (IsStop (bool_verdict expr.now places) files.now
+        (shelf_call S.contents S.faults S.fault_at shelf.old shelf.new)) }
 {
     let files = files.items();
     let expr = match parse_bounded(alloc, expr, files.len() as u32) {
@@ -92,8 +88,8 @@ pub fn boole_output<S: Shelf, C: Fn(&Query) -> Result<Answer, OutOfMemory>>(
         Ok(scene) => scene,
         Err(status) => return Err(status),
     };
-    let text = text_of_solid(alloc, &scene, &expr, reported, executor, lines)?;
-    Ok(text)
+    let reply = reply_of_solid(alloc, &scene, &expr, reported, executor)?;
+    Ok(reply)
 }
 
 // The line of the report of a solid.
@@ -113,7 +109,7 @@ fn text_of_report<C: Fn(&Query) -> Result<Answer, OutOfMemory>>(
 }
 
 /// The report of `demo`, of the union of so many generated boxes, 1 to 20000.
-#[tactic(auto, using(crate::proofs::SolidVerdicts::report_written, crate::proofs::SolidVerdicts::report_refused))]
+#[tactic(auto, using(crate::proofs::SolidVerdicts::report_written, crate::proofs::SolidVerdicts::report_refused, crate::proofs::Stops::memory_words_stop))]
 pub fn demo_output<C: Fn(&Query) -> Result<Answer, OutOfMemory>>(
     alloc: Global,
     boxes: u32,
@@ -122,9 +118,7 @@ pub fn demo_output<C: Fn(&Query) -> Result<Answer, OutOfMemory>>(
     requires boxes { boxes ≤ 20000 }
     requires executor { IsExecutor C.pre C.post executor.now }
     ensures text { IfOk result (λ text. IsText (demo_verdict boxes) text.items) }
-    ensures refused { IfErr result (λ status. is_refusal status ≡ true → IsRefusal status (demo_verdict boxes)) }
-    ensures only { (i : ℕ) → result ≢ Err (Status.ReadFault i) }
-    ensures no_other { (result ≢ Err Status.Done) × (result ≢ Err Status.Words) × (result ≢ Err Status.WriteFault) }
+    ensures stop { IfErr result (IsWordsStop (demo_verdict boxes)) }
 {
     let expr = match parse_union(alloc) {
         Ok(expr) => expr,

@@ -11,7 +11,7 @@ use crate::query::{Answer, Query, RunResult};
 use ember_job::{Job, Outcome, Step, Work};
 use ember_model::OutOfMemory;
 use ember_pairs::{PairWork, pair_step, root_pairs};
-use ember_step::{BoolWork, CountWork, box_step, count_step};
+use ember_step::{CountWork, TextWork, count_step, text_step};
 use ember_tree::merge;
 use ember_visit::root_job;
 use ember_voxel::{VoxelWork, voxel_step};
@@ -32,7 +32,8 @@ where
     requires step { AnswersAll W.valid W.shape W.item F.pre F.post step.now.work step.now.call }
     requires root { W.valid step.now.work root }
     requires cell { root.cell ≡ boxes.root }
-    ensures items { IfOk result (λ found. EachAnswers (W.item step.now.work) (leaves (W.shape step.now.work) root) found.items.items) }
+    ensures items { IfOk result (λ found.
+        EachAnswers (W.item step.now.work) (leaves (W.shape step.now.work) root) found.items.items) }
     ensures journals { IfOk result (λ found. HoldEntries (W.shape step.now.work) root found.journals) }
 {
     let harvest = run_alone(alloc, root, step, gate)?;
@@ -42,7 +43,7 @@ where
     Ok(RunResult { items, journals })
 }
 
-// What they give, run by 1 to 64 workers.
+// What they give, run by 1 to 64 workers. One worker is this thread.
 fn results_by_workers<
     R: Threads + Wait + Sync,
     W: Work + Sync,
@@ -62,9 +63,13 @@ where
     requires step { AnswersAll W.valid W.shape W.item F.pre F.post step.now.work step.now.call }
     requires root { W.valid step.now.work root }
     requires cell { root.cell ≡ boxes.root }
-    ensures items { IfOk result (λ found. EachAnswers (W.item step.now.work) (leaves (W.shape step.now.work) root) found.items.items) }
+    ensures items { IfOk result (λ found.
+        EachAnswers (W.item step.now.work) (leaves (W.shape step.now.work) root) found.items.items) }
     ensures journals { IfOk result (λ found. HoldEntries (W.shape step.now.work) root found.journals) }
 {
+    if workers == 1 {
+        return results_alone(alloc, gate, root, step);
+    }
     let harvest = run_tree(rt, alloc, workers, root, step, gate)?;
     let journals = harvest.journals;
     let items = merge(alloc, harvest.parts.into_vec())?;
@@ -92,13 +97,13 @@ macro_rules! finds {
                 };
                 Ok(Answer::Fills($found?.items))
             }
-            Query::Kept(scene, expr) => {
+            Query::Texts(scene, expr) => {
                 let $root = root_job($alloc, scene)?;
                 let $step = Step {
-                    work: BoolWork { scene, expr },
-                    call: |job: &Job| box_step($alloc, scene, expr, job),
+                    work: TextWork { scene, expr },
+                    call: |job: &Job| text_step($alloc, scene, expr, job),
                 };
-                Ok(Answer::Kept($found?))
+                Ok(Answer::Texts($found?))
             }
             Query::Counts(scene, expr) => {
                 let $root = root_job($alloc, scene)?;
@@ -124,7 +129,8 @@ pub fn alone<G: Gate>(alloc: Global, gate: &G, query: &Query) -> Result<Answer, 
     )
 }
 
-/// What comes of a query, where 1 to 64 workers run the boxes.
+/// What comes of a query, where 1 to 64 workers run the boxes. One worker is this thread: it makes
+/// no deque and starts no thread.
 pub fn by_workers<R: Threads + Wait + Sync, G: Gate + Sync>(
     rt: &R,
     alloc: Global,

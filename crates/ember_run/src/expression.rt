@@ -1,9 +1,9 @@
 // The expression of the words.
-ghost use Rattle.std.specs.Prelude.{ℕ, ◌≡◌, ◌≢◌, ◌≤◌, true, Err, IfOk, IfErr, codes};
+ghost use Rattle.std.specs.Prelude.{◌≡◌, ◌≤◌, IfOk, IfErr, codes};
 ghost use Rattle.std.specs.declared.option.Option.{Option};
 ghost use Rattle.ember_expr.specs.Formula.{Formula, formula_of};
 ghost use Rattle.ember_run.specs.OptionalExpr.{given_formula};
-ghost use Rattle.ember_run.specs.CallOutcome.{IsRefusal, is_refusal};
+ghost use Rattle.ember_run.specs.Stops.{IsWordsStop};
 ghost use Rattle.ember_run.specs.Verdict.{Verdict, after_expr, after_given, after_solid};
 
 use crate::status::Status;
@@ -12,12 +12,11 @@ use ember_words::Text;
 use std::alloc::Global;
 
 /// The expression of a text over so many meshes, at most 64.
+#[tactic(auto, using(crate::proofs::Expressions::fault_stop, crate::proofs::Stops::memory_words_stop))]
 pub fn parse_text(alloc: Global, text: &Text, meshes: u32) -> Result<Expr, Status>
     requires { meshes ≤ 64 }
     ensures expr { IfOk result (λ expr. (next : Formula → Verdict) → after_expr text.now meshes next ≡ next (formula_of expr)) }
-    ensures refused { IfErr result (λ status. is_refusal status ≡ true → (next : Formula → Verdict) → IsRefusal status (after_expr text.now meshes next)) }
-    ensures only { (i : ℕ) → result ≢ Err (Status.ReadFault i) }
-    ensures no_other { (result ≢ Err Status.Done) × (result ≢ Err Status.Words) × (result ≢ Err Status.WriteFault) }
+    ensures stop { IfErr result (λ status. (next : Formula → Verdict) → IsWordsStop (after_expr text.now meshes next) status) }
 {
     match parse(alloc, text.as_str().as_bytes(), meshes) {
         Ok(expr) => Ok(expr),
@@ -29,10 +28,10 @@ pub fn parse_text(alloc: Global, text: &Text, meshes: u32) -> Result<Expr, Statu
 /// The expression of a text, where one is given.
 pub fn parse_given(alloc: Global, text: &Option<Text>, meshes: u32) -> Result<Option<Expr>, Status>
     requires { meshes ≤ 64 }
-    ensures expr { IfOk result (λ expr. (next : Option Formula → Verdict) → after_given text.now meshes next ≡ next (given_formula expr)) }
-    ensures refused { IfErr result (λ status. is_refusal status ≡ true → (next : Option Formula → Verdict) → IsRefusal status (after_given text.now meshes next)) }
-    ensures only { (i : ℕ) → result ≢ Err (Status.ReadFault i) }
-    ensures no_other { (result ≢ Err Status.Done) × (result ≢ Err Status.Words) × (result ≢ Err Status.WriteFault) }
+    ensures expr { IfOk result (λ expr. (next : Option Formula → Verdict) →
+        after_given text.now meshes next ≡ next (given_formula expr)) }
+    ensures stop { IfErr result (λ status. (next : Option Formula → Verdict) →
+        IsWordsStop (after_given text.now meshes next) status) }
 {
     match text {
         Some(text) => Ok(Some(parse_text(alloc, text, meshes)?)),
@@ -42,13 +41,11 @@ pub fn parse_given(alloc: Global, text: &Option<Text>, meshes: u32) -> Result<Op
 
 /// The expression of a text over so many meshes, at most 64, where it doesn't hold outside all of
 /// them.
-#[tactic(auto, using(crate::proofs::SolidVerdicts::bounded_read, crate::proofs::SolidVerdicts::bounded_refused, crate::proofs::SolidVerdicts::unbounded_refused))]
+#[tactic(auto, using(crate::proofs::SolidVerdicts::bounded_read, crate::proofs::SolidVerdicts::unbounded_stop))]
 pub fn parse_bounded(alloc: Global, text: &Text, meshes: u32) -> Result<Expr, Status>
     requires { meshes ≤ 64 }
     ensures expr { IfOk result (λ expr. (next : Formula → Verdict) → after_solid text.now meshes next ≡ next (formula_of expr)) }
-    ensures refused { IfErr result (λ status. is_refusal status ≡ true → (next : Formula → Verdict) → IsRefusal status (after_solid text.now meshes next)) }
-    ensures only { (i : ℕ) → result ≢ Err (Status.ReadFault i) }
-    ensures no_other { (result ≢ Err Status.Done) × (result ≢ Err Status.Words) × (result ≢ Err Status.WriteFault) }
+    ensures stop { IfErr result (λ status. (next : Formula → Verdict) → IsWordsStop (after_solid text.now meshes next) status) }
 {
     let expr = match parse_text(alloc, text, meshes) {
         Ok(expr) => expr,
@@ -61,11 +58,10 @@ pub fn parse_bounded(alloc: Global, text: &Text, meshes: u32) -> Result<Expr, St
 }
 
 /// The union of two meshes.
+#[tactic(auto, using(crate::proofs::Expressions::fault_stop, crate::proofs::Stops::memory_words_stop))]
 pub fn parse_union(alloc: Global) -> Result<Expr, Status>
     ensures expr { IfOk result (λ expr. (next : Formula → Verdict) → after_expr (codes "m1|m2") 2 next ≡ next (formula_of expr)) }
-    ensures refused { IfErr result (λ status. is_refusal status ≡ true → (next : Formula → Verdict) → IsRefusal status (after_expr (codes "m1|m2") 2 next)) }
-    ensures only { (i : ℕ) → result ≢ Err (Status.ReadFault i) }
-    ensures no_other { (result ≢ Err Status.Done) × (result ≢ Err Status.Words) × (result ≢ Err Status.WriteFault) }
+    ensures stop { IfErr result (λ status. (next : Formula → Verdict) → IsWordsStop (after_expr (codes "m1|m2") 2 next) status) }
 {
     match parse(alloc, b"m1|m2", 2) {
         Ok(expr) => Ok(expr),

@@ -1,10 +1,11 @@
 // The command `faces`.
-ghost use Rattle.std.specs.Prelude.{ℕ, ◌≡◌, ◌≢◌, ◌≤◌, length, true, All, Err, IfOk, IfErr};
-ghost use Rattle.ember_io.specs.Causes.{Rose};
+ghost use Rattle.std.specs.Prelude.{[], ◌∷◌, ◌≡◌, ◌≤◌, length, All, IfOk, IfErr};
 ghost use Rattle.ember_model.specs.Valid.{IsValidTri};
 ghost use Rattle.ember_run.specs.FaceTexts.{AddsFace, IsFaceFileOf};
-ghost use Rattle.ember_run.specs.CallOutcome.{IsRefusal, IsText, is_refusal};
-ghost use Rattle.ember_run.specs.Verdict.{faces_verdict};
+ghost use Rattle.ember_run.specs.CallOutcome.{IsText};
+ghost use Rattle.ember_run.specs.Devices.{shelf_call};
+ghost use Rattle.ember_run.specs.Stops.{IsStop};
+ghost use Rattle.ember_run.specs.Verdict.{faces_verdict, file_at};
 
 use crate::reading::read_file;
 use crate::status::Status;
@@ -58,9 +59,9 @@ pub fn faces_output<S: Shelf>(
     ensures contents { S.contents shelf.new ≡ S.contents shelf.old }
     ensures later { S.faults shelf.old ≤ S.faults shelf.new }
     ensures text { IfOk result (λ text. IsText (faces_verdict places (S.contents shelf.old file.now)) text.items) }
-    ensures refused { IfErr result (λ status. is_refusal status ≡ true → IsRefusal status (faces_verdict places (S.contents shelf.old file.now))) }
-    ensures read_fault { (i : ℕ) → result ≡ Err (Status.ReadFault i) → (i ≡ 1) × Rose (S.faults shelf.old) (S.faults shelf.new) × (S.fault_at shelf.new ≡ i) }
-    ensures no_other { (result ≢ Err Status.Done) × (result ≢ Err Status.Words) × (result ≢ Err Status.WriteFault) }
+    ensures stop { IfErr result
+        (IsStop (λ contents. faces_verdict places (file_at contents 1)) (file.now ∷ [])
+        (shelf_call S.contents S.faults S.fault_at shelf.old shelf.new)) }
 {
     let soup = read_file(alloc, shelf, file.as_str(), 1, places)?;
     Ok(faces_text(alloc, soup.tris.items())?)

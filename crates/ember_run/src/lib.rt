@@ -12,6 +12,7 @@ mod one_solid;
 mod pairs;
 mod query;
 mod reading;
+mod reply;
 mod scene;
 mod slice;
 mod solid;

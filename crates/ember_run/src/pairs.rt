@@ -1,10 +1,11 @@
 // The command `pairs`.
-ghost use Rattle.std.specs.Prelude.{ℕ, ◌≡◌, ◌≢◌, ◌≤◌, ◌-◌, length, map, true, Err, IfOk, IfErr};
-ghost use Rattle.ember_io.specs.Causes.{Rose};
+ghost use Rattle.std.specs.Prelude.{◌≡◌, ◌≤◌, length, map, IfOk, IfErr};
 ghost use Rattle.ember_run.specs.PairLists.{IsPairsText};
-ghost use Rattle.ember_run.specs.CallOutcome.{IsRefusal, IsText, is_refusal};
+ghost use Rattle.ember_run.specs.CallOutcome.{IsText};
+ghost use Rattle.ember_run.specs.Devices.{shelf_call};
+ghost use Rattle.ember_run.specs.Stops.{IsStop};
 ghost use Rattle.ember_run.specs.Queries.{IsExecutor};
-ghost use Rattle.ember_run.specs.Verdict.{Unknown, first_told, pairs_verdict};
+ghost use Rattle.ember_run.specs.Verdict.{pairs_verdict};
 
 use crate::query::{Answer, Query, pairs_by};
 use crate::scene::read_scene;
@@ -46,9 +47,9 @@ pub fn pairs_output<S: Shelf, C: Fn(&Query) -> Result<Answer, OutOfMemory>>(
     ensures contents { S.contents shelf.new ≡ S.contents shelf.old }
     ensures later { S.faults shelf.old ≤ S.faults shelf.new }
     ensures text { IfOk result (λ text. IsText (pairs_verdict places (map (S.contents shelf.old) files.now)) text.items) }
-    ensures refused { IfErr result (λ status. is_refusal status ≡ true → IsRefusal status (pairs_verdict places (map (S.contents shelf.old) files.now))) }
-    ensures read_fault { (i : ℕ) → result ≡ Err (Status.ReadFault i) → Rose (S.faults shelf.old) (S.faults shelf.new) × (S.fault_at shelf.new ≡ i) × (pairs_verdict places (first_told (i - 1) (map (S.contents shelf.old) files.now)) ≡ Unknown) }
-    ensures no_other { (result ≢ Err Status.Done) × (result ≢ Err Status.Words) × (result ≢ Err Status.WriteFault) }
+    ensures stop { IfErr result
+        (IsStop (pairs_verdict places) files.now
+        (shelf_call S.contents S.faults S.fault_at shelf.old shelf.new)) }
 {
     let scene = match read_scene(alloc, shelf, files.items(), places) {
         Ok(scene) => scene,

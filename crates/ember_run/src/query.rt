@@ -3,14 +3,15 @@ ghost use Rattle.std.specs.Prelude.{◌≤◌, IfOk};
 ghost use Rattle.ember_expr.specs.Formula.{formula_of};
 ghost use Rattle.ember_run.specs.Lattices.{AreFills};
 ghost use Rattle.ember_run.specs.PairLists.{ArePairsOfLeaves};
-ghost use Rattle.ember_run.specs.Solids.{AreWrittenRegions, AreRegionCounts, HoldRun};
+ghost use Rattle.ember_step.specs.Texts.{AreLeafTexts};
+ghost use Rattle.ember_run.specs.Solids.{AreRegionCounts, HoldRun};
 ghost use Rattle.ember_run.specs.Queries.{IsExecutor};
 
 use ember_expr::Expr;
 use ember_job::Journals;
-use ember_leaf::KeptList;
 use ember_model::{OutOfMemory, Scene};
 use ember_pairs::PairList;
+use ember_text::FacesText;
 use ember_voxel::Fill;
 
 /// What the boxes of a scene are run for.
@@ -20,8 +21,8 @@ pub enum Query<'a> {
     Pairs(&'a Scene),
     /// The boxes of one value, down to cells with the side `2 ^ size`, for a size of 4 to 12.
     Fills(&'a Scene, &'a Expr, u8),
-    /// The written regions of each leaf.
-    Kept(&'a Scene, &'a Expr),
+    /// The text of the written regions of each leaf.
+    Texts(&'a Scene, &'a Expr),
     /// The number of written regions of each leaf.
     Counts(&'a Scene, &'a Expr),
 }
@@ -38,7 +39,7 @@ pub struct RunResult<I> {
 pub enum Answer {
     Pairs(Vec<PairList>),
     Fills(Vec<Fill>),
-    Kept(RunResult<KeptList>),
+    Texts(RunResult<FacesText>),
     Counts(RunResult<u64>),
 }
 
@@ -74,17 +75,17 @@ pub fn fills_by<C: Fn(&Query) -> Result<Answer, OutOfMemory>>(
     Ok(fills)
 }
 
-/// The written regions of each leaf.
-pub fn kept_by<C: Fn(&Query) -> Result<Answer, OutOfMemory>>(
+/// The text of the written regions of each leaf.
+pub fn texts_by<C: Fn(&Query) -> Result<Answer, OutOfMemory>>(
     scene: &Scene,
     expr: &Expr,
     executor: &C,
-) -> Result<RunResult<KeptList>, OutOfMemory>
+) -> Result<RunResult<FacesText>, OutOfMemory>
     requires { IsExecutor C.pre C.post executor.now }
-    ensures items { IfOk result (λ found. AreWrittenRegions scene.now.tris (formula_of expr.now) found.items.items) }
+    ensures items { IfOk result (λ found. AreLeafTexts scene.now.tris (formula_of expr.now) found.items.items) }
     ensures journals { IfOk result (λ found. HoldRun scene.now.tris (formula_of expr.now) found.journals) }
 {
-    let Answer::Kept(found) = executor(&Query::Kept(scene, expr))? else {
+    let Answer::Texts(found) = executor(&Query::Texts(scene, expr))? else {
         unreachable!()
     };
     Ok(found)

@@ -1,8 +1,8 @@
 // The bytes and the triangles of a file.
-ghost use Rattle.std.specs.Prelude.{ℕ, List, ◌≡◌, ◌≢◌, ◌≤◌, length, true, All, Err, IfOk, IfErr};
+ghost use Rattle.std.specs.Prelude.{ℕ, List, ◌≡◌, ◌≢◌, ◌≤◌, length, true, false, All, Some, Err, IfOk, IfErr};
 ghost use Rattle.ember_io.specs.Causes.{Rose};
 ghost use Rattle.ember_model.specs.declared.tri.Tri.{Tri};
-ghost use Rattle.ember_run.specs.CallOutcome.{IsRefusal, IsSameIfTold, is_refusal};
+ghost use Rattle.ember_run.specs.CallOutcome.{IsRefusal, IsSameIfTold, hides_memory, is_refusal, refused_file};
 ghost use Rattle.ember_run.specs.Verdict.{Verdict, after_bytes, after_file};
 
 use crate::status::{LimitKind, Status};
@@ -23,10 +23,15 @@ pub fn read_bytes<S: Shelf>(
 ) -> Result<Vec<u8>, Status>
     ensures contents { S.contents shelf.new ≡ S.contents shelf.old }
     ensures later { S.faults shelf.old ≤ S.faults shelf.new }
-    ensures read { IfOk result (λ bytes. (next : List ℕ → Verdict) → IsSameIfTold (after_bytes number (S.contents shelf.old name.now) next) (next bytes.items)) }
+    ensures read { IfOk result (λ bytes. (next : List ℕ → Verdict) →
+        IsSameIfTold (after_bytes number (S.contents shelf.old name.now) next) (next bytes.items)) }
     ensures few { IfOk result (λ bytes. length bytes.items ≤ 268435456) }
-    ensures refused { IfErr result (λ status. is_refusal status ≡ true → (next : List ℕ → Verdict) → IsRefusal status (after_bytes number (S.contents shelf.old name.now) next)) }
-    ensures read_fault { (i : ℕ) → result ≡ Err (Status.ReadFault i) → (i ≡ number) × Rose (S.faults shelf.old) (S.faults shelf.new) × (S.fault_at shelf.new ≡ i) }
+    ensures refused { IfErr result (λ status. is_refusal status ≡ true → (next : List ℕ → Verdict) →
+        IsRefusal status (after_bytes number (S.contents shelf.old name.now) next)) }
+    ensures file { IfErr result (λ status. is_refusal status ≡ true → refused_file status ≡ Some number) }
+    ensures memory { IfErr result (λ status. hides_memory status ≡ false) }
+    ensures read_fault { (i : ℕ) → result ≡ Err (Status.ReadFault i) → (i ≡ number) × Rose (S.faults shelf.old) (S.faults shelf.new) ×
+        (S.fault_at shelf.new ≡ i) }
     ensures no_other { (result ≢ Err Status.Done) × (result ≢ Err Status.Words) × (result ≢ Err Status.WriteFault) }
 {
     match read_all(alloc, shelf, name, number, MOST_BYTES) {
@@ -38,7 +43,7 @@ pub fn read_bytes<S: Shelf>(
 }
 
 /// The triangles of the file with this number, from 1, under its name. `places` is at most 3.
-#[tactic(auto, using(crate::proofs::Verdicts::file_read, crate::proofs::Verdicts::file_refused))]
+#[tactic(auto, using(crate::proofs::Verdicts::file_read, crate::proofs::Verdicts::file_refused, crate::proofs::Stops::obj_tells))]
 pub fn read_file<S: Shelf>(
     alloc: Global,
     shelf: &mut S,
@@ -49,11 +54,16 @@ pub fn read_file<S: Shelf>(
     requires { places ≤ 3 }
     ensures contents { S.contents shelf.new ≡ S.contents shelf.old }
     ensures later { S.faults shelf.old ≤ S.faults shelf.new }
-    ensures read { IfOk result (λ soup. (next : List Tri → Verdict) → IsSameIfTold (after_file places number (S.contents shelf.old name.now) next) (next soup.tris)) }
+    ensures read { IfOk result (λ soup. (next : List Tri → Verdict) →
+        IsSameIfTold (after_file places number (S.contents shelf.old name.now) next) (next soup.tris)) }
     ensures few { IfOk result (λ soup. length soup.tris ≤ 262144) }
     ensures mesh { IfOk result (λ soup. All (λ t. t.mesh ≡ number) soup.tris) }
-    ensures refused { IfErr result (λ status. is_refusal status ≡ true → (next : List Tri → Verdict) → IsRefusal status (after_file places number (S.contents shelf.old name.now) next)) }
-    ensures read_fault { (i : ℕ) → result ≡ Err (Status.ReadFault i) → (i ≡ number) × Rose (S.faults shelf.old) (S.faults shelf.new) × (S.fault_at shelf.new ≡ i) }
+    ensures refused { IfErr result (λ status. is_refusal status ≡ true → (next : List Tri → Verdict) →
+        IsRefusal status (after_file places number (S.contents shelf.old name.now) next)) }
+    ensures file { IfErr result (λ status. is_refusal status ≡ true → refused_file status ≡ Some number) }
+    ensures memory { IfErr result (λ status. hides_memory status ≡ false) }
+    ensures read_fault { (i : ℕ) → result ≡ Err (Status.ReadFault i) → (i ≡ number) × Rose (S.faults shelf.old) (S.faults shelf.new) ×
+        (S.fault_at shelf.new ≡ i) }
     ensures no_other { (result ≢ Err Status.Done) × (result ≢ Err Status.Words) × (result ≢ Err Status.WriteFault) }
 {
     let bytes = read_bytes(alloc, shelf, name, number)?;

@@ -1,11 +1,13 @@
 // The scene of several files: each a closed mesh, all of them together within the limit.
-ghost use Rattle.std.specs.Prelude.{ℕ, List, ◌≡◌, ◌≢◌, ◌≤◌, ◌-◌, length, map, true, All, Err, IfOk, IfErr};
+ghost use Rattle.std.specs.Prelude.{ℕ, List, ◌≡◌, ◌≢◌, ◌≤◌, length, map, true, false, All, Some, Err, IfOk, IfErr};
 ghost use Rattle.ember_io.specs.Causes.{Rose};
 ghost use Rattle.ember_mesh.specs.Joined.{AreNumbered, triangles_of};
 ghost use Rattle.ember_model.specs.declared.tri.Tri.{Tri};
-ghost use Rattle.ember_run.specs.Scenes.{HasParts, MayRead};
-ghost use Rattle.ember_run.specs.CallOutcome.{IsRefusal, IsSameIfTold, is_refusal};
-ghost use Rattle.ember_run.specs.Verdict.{Unknown, Verdict, after_mesh, after_scene, after_total, first_told};
+ghost use Rattle.ember_run.specs.Scenes.{HasParts};
+ghost use Rattle.ember_run.specs.CallOutcome.{IsRefusal, IsSameIfTold, hides_memory, is_refusal, refused_file};
+ghost use Rattle.ember_run.specs.Devices.{shelf_call};
+ghost use Rattle.ember_run.specs.Stops.{IsAfterFiles, IsSceneStop};
+ghost use Rattle.ember_run.specs.Verdict.{Verdict, after_mesh, after_scene, after_total};
 
 use crate::reading::read_file;
 use crate::status::{LimitKind, Status};
@@ -27,10 +29,15 @@ fn read_mesh<S: Shelf>(
     requires { places ≤ 3 }
     ensures contents { S.contents shelf.new ≡ S.contents shelf.old }
     ensures later { S.faults shelf.old ≤ S.faults shelf.new }
-    ensures read { IfOk result (λ mesh. (next : List Tri → Verdict) → IsSameIfTold (after_mesh places number (S.contents shelf.old name.now) next) (next mesh.tris)) }
+    ensures read { IfOk result (λ mesh. (next : List Tri → Verdict) →
+        IsSameIfTold (after_mesh places number (S.contents shelf.old name.now) next) (next mesh.tris)) }
     ensures number { IfOk result (λ mesh. All (λ t. t.mesh ≡ number) mesh.tris) }
-    ensures refused { IfErr result (λ status. is_refusal status ≡ true → (next : List Tri → Verdict) → IsRefusal status (after_mesh places number (S.contents shelf.old name.now) next)) }
-    ensures read_fault { (i : ℕ) → result ≡ Err (Status.ReadFault i) → (i ≡ number) × Rose (S.faults shelf.old) (S.faults shelf.new) × (S.fault_at shelf.new ≡ i) }
+    ensures refused { IfErr result (λ status. is_refusal status ≡ true → (next : List Tri → Verdict) →
+        IsRefusal status (after_mesh places number (S.contents shelf.old name.now) next)) }
+    ensures file { IfErr result (λ status. is_refusal status ≡ true → refused_file status ≡ Some number) }
+    ensures memory { IfErr result (λ status. hides_memory status ≡ false) }
+    ensures read_fault { (i : ℕ) → result ≡ Err (Status.ReadFault i) → (i ≡ number) × Rose (S.faults shelf.old) (S.faults shelf.new) ×
+        (S.fault_at shelf.new ≡ i) }
     ensures no_other { (result ≢ Err Status.Done) × (result ≢ Err Status.Words) × (result ≢ Err Status.WriteFault) }
 {
     let soup = read_file(alloc, shelf, name, number, places)?;
@@ -55,9 +62,8 @@ fn read_parts<S: Shelf>(
     ensures contents { S.contents shelf.new ≡ S.contents shelf.old }
     ensures later { S.faults shelf.old ≤ S.faults shelf.new }
     ensures parts { IfOk result (λ parts. HasParts places (map (S.contents shelf.old) files.now) parts.items) }
-    ensures refused { IfErr result (λ status. is_refusal status ≡ true → (next : List Tri → Verdict) → IsRefusal status (after_scene places (map (S.contents shelf.old) files.now) next)) }
-    ensures read_fault { (i : ℕ) → result ≡ Err (Status.ReadFault i) → Rose (S.faults shelf.old) (S.faults shelf.new) × (S.fault_at shelf.new ≡ i) × MayRead places (map (S.contents shelf.old) files.now) i }
-    ensures no_other { (result ≢ Err Status.Done) × (result ≢ Err Status.Words) × (result ≢ Err Status.WriteFault) }
+    ensures stop { IfErr result
+        (IsSceneStop places files.now (shelf_call S.contents S.faults S.fault_at shelf.old shelf.new)) }
 {
     let mut parts = Vec::new(alloc);
     let mut number = 1;
@@ -73,13 +79,16 @@ fn read_parts<S: Shelf>(
 }
 
 // The scene of the meshes, where they have few enough triangles.
-#[tactic(auto, using(crate::proofs::SceneFiles::few_joined, crate::proofs::SceneFiles::many_refused))]
+#[tactic(auto, using(crate::proofs::SceneFiles::few_joined, crate::proofs::SceneFiles::many_refused, crate::proofs::Stops::triangles_after, crate::proofs::Stops::memory_after))]
 fn join_parts(alloc: Global, parts: Vec<Closed>) -> Result<Scene, Status>
     requires few { length parts.items ≤ 64 }
     requires numbered { AreNumbered 1 parts.items }
-    ensures scene { IfOk result (λ scene. (next : List Tri → Verdict) → after_total (triangles_of parts.items) next ≡ next scene.tris) }
+    ensures scene { IfOk result (λ scene. (next : List Tri → Verdict) →
+        after_total (triangles_of parts.items) next ≡ next scene.tris) }
     ensures meshes { IfOk result (λ scene. scene.meshes ≡ length parts.items) }
-    ensures refused { IfErr result (λ status. is_refusal status ≡ true → (next : List Tri → Verdict) → IsRefusal status (after_total (triangles_of parts.items) next)) }
+    ensures refused { IfErr result (λ status. is_refusal status ≡ true → (next : List Tri → Verdict) →
+        IsRefusal status (after_total (triangles_of parts.items) next)) }
+    ensures kind { IfErr result IsAfterFiles }
     ensures only { (i : ℕ) → result ≢ Err (Status.ReadFault i) }
     ensures no_other { (result ≢ Err Status.Done) × (result ≢ Err Status.Words) × (result ≢ Err Status.WriteFault) }
 {
@@ -106,11 +115,11 @@ pub fn read_scene<S: Shelf>(
     requires few { length files.now ≤ 64 }
     ensures contents { S.contents shelf.new ≡ S.contents shelf.old }
     ensures later { S.faults shelf.old ≤ S.faults shelf.new }
-    ensures read { IfOk result (λ scene. (next : List Tri → Verdict) → IsSameIfTold (after_scene places (map (S.contents shelf.old) files.now) next) (next scene.tris)) }
+    ensures read { IfOk result (λ scene. (next : List Tri → Verdict) →
+        IsSameIfTold (after_scene places (map (S.contents shelf.old) files.now) next) (next scene.tris)) }
     ensures meshes { IfOk result (λ scene. scene.meshes ≡ length files.now) }
-    ensures refused { IfErr result (λ status. is_refusal status ≡ true → (next : List Tri → Verdict) → IsRefusal status (after_scene places (map (S.contents shelf.old) files.now) next)) }
-    ensures read_fault { (i : ℕ) → result ≡ Err (Status.ReadFault i) → Rose (S.faults shelf.old) (S.faults shelf.new) × (S.fault_at shelf.new ≡ i) × MayRead places (map (S.contents shelf.old) files.now) i }
-    ensures no_other { (result ≢ Err Status.Done) × (result ≢ Err Status.Words) × (result ≢ Err Status.WriteFault) }
+    ensures stop { IfErr result
+        (IsSceneStop places files.now (shelf_call S.contents S.faults S.fault_at shelf.old shelf.new)) }
 {
     let parts = read_parts(alloc, shelf, files, places)?;
     join_parts(alloc, parts)

@@ -1,11 +1,12 @@
 // The command `slice`.
-ghost use Rattle.std.specs.Prelude.{ℕ, ℤ, pos, negsuc, ◌≤ℤ◌, ◌≡◌, ◌≢◌, ◌≤◌, List, length, true, All, Err, IfOk, IfErr};
-ghost use Rattle.ember_io.specs.Causes.{Rose};
+ghost use Rattle.std.specs.Prelude.{ℕ, ℤ, pos, negsuc, ◌≤ℤ◌, ◌≡◌, ◌≢◌, ◌≤◌, List, [], ◌∷◌, length, true, All, Err, IfOk, IfErr};
 ghost use Rattle.ember_model.specs.FaceFiles.{IsFaceFile};
 ghost use Rattle.ember_model.specs.Valid.{IsValidFace};
-ghost use Rattle.ember_run.specs.CallOutcome.{IsRefusal, IsText, is_refusal};
+ghost use Rattle.ember_run.specs.CallOutcome.{IsText, is_refusal};
+ghost use Rattle.ember_run.specs.Devices.{shelf_call};
+ghost use Rattle.ember_run.specs.Stops.{IsStop};
 ghost use Rattle.ember_run.specs.Slices.{IsSlice, IsSliceRefusal};
-ghost use Rattle.ember_run.specs.Verdict.{slice_verdict};
+ghost use Rattle.ember_run.specs.Verdict.{file_at, slice_verdict};
 
 use crate::reading::read_bytes;
 use crate::status::{FaceFault, Status};
@@ -39,7 +40,8 @@ fn segments_text(alloc: Global, faces: &FaceList, at: i32) -> Result<Vec<u8>, St
     requires low { negsuc 2047 ≤ℤ at }
     requires high { at ≤ℤ pos 2047 }
     ensures text { (bytes : List ℕ) → IsFaceFile bytes faces.now → IfOk result (λ text. IsSlice at bytes text.items) }
-    ensures refused { (bytes : List ℕ) → IsFaceFile bytes faces.now → IfErr result (λ status. is_refusal status ≡ true → IsSliceRefusal at bytes status) }
+    ensures refused { (bytes : List ℕ) → IsFaceFile bytes faces.now → IfErr result (λ status. is_refusal status ≡ true →
+        IsSliceRefusal at bytes status) }
     ensures only { (i : ℕ) → result ≢ Err (Status.ReadFault i) }
     ensures no_other { (result ≢ Err Status.Done) × (result ≢ Err Status.Words) × (result ≢ Err Status.WriteFault) }
 {
@@ -78,9 +80,9 @@ pub fn slice_output<S: Shelf>(
     ensures contents { S.contents shelf.new ≡ S.contents shelf.old }
     ensures later { S.faults shelf.old ≤ S.faults shelf.new }
     ensures text { IfOk result (λ text. IsText (slice_verdict at (S.contents shelf.old file.now)) text.items) }
-    ensures refused { IfErr result (λ status. is_refusal status ≡ true → IsRefusal status (slice_verdict at (S.contents shelf.old file.now))) }
-    ensures read_fault { (i : ℕ) → result ≡ Err (Status.ReadFault i) → (i ≡ 1) × Rose (S.faults shelf.old) (S.faults shelf.new) × (S.fault_at shelf.new ≡ i) }
-    ensures no_other { (result ≢ Err Status.Done) × (result ≢ Err Status.Words) × (result ≢ Err Status.WriteFault) }
+    ensures stop { IfErr result
+        (IsStop (λ contents. slice_verdict at (file_at contents 1)) (file.now ∷ [])
+        (shelf_call S.contents S.faults S.fault_at shelf.old shelf.new)) }
 {
     let bytes = match read_bytes(alloc, shelf, file.as_str(), 1) {
         Ok(bytes) => bytes,

@@ -1,40 +1,26 @@
-// The solid of an expression over a scene: its written regions, and the numbers of the run.
-ghost use Rattle.std.specs.Prelude.{◌≡◌, IfOk, flat_map};
+// The solid of an expression over a scene: its face file, and the numbers of the run.
+ghost use Rattle.std.specs.Prelude.{◌≡◌, IfOk};
 ghost use Rattle.std.specs.List.{sum};
 ghost use Rattle.ember_expr.specs.Formula.{formula_of};
-ghost use Rattle.ember_run.specs.Solids.{IsSolid, IsSolidReport};
+ghost use Rattle.ember_run.specs.Solids.{IsSolidReport, IsSolidText};
 ghost use Rattle.ember_run.specs.Queries.{IsExecutor};
 
-use crate::query::{Answer, Query, counts_by, kept_by};
+use crate::query::{Answer, Query, counts_by, texts_by};
 use ember_expr::Expr;
-use ember_leaf::{Kept, KeptList};
 use ember_model::{OutOfMemory, Scene};
 use ember_report::{Report, report_of};
-use ember_step::visited_leaves_write_all;
+use ember_step::{leaf_texts_join, visited_leaves_write_all};
+use ember_text::{document_of, face_count};
 use std::alloc::{AllocError, Global};
 
-/// The written regions of all leaves, in the order of the tree, and the numbers of the run.
+/// The face file of the written regions, and the numbers of the run.
 #[derive(Drop)]
 pub struct Solid {
-    pub kept: Vec<Kept>,
+    pub text: Vec<u8>,
     pub report: Report,
 }
 
-// All of these in one list.
-#[tactic(auto, using(crate::proofs::KeptLists::kept_more))]
-fn all_kept(alloc: Global, items: Vec<KeptList>) -> Result<Vec<Kept>, OutOfMemory>
-    ensures { IfOk result (λ kept. kept.items ≡ flat_map (λ ks. ks) items.items) }
-{
-    let mut rest = items;
-    rest.reverse();
-    let mut kept = Vec::new(alloc);
-    while let Some(list) = rest.pop() {
-        kept.append(&mut list.into_vec())?;
-    }
-    Ok(kept)
-}
-
-/// The solid of an expression over a scene.
+/// The solid of an expression over a scene. Whoever runs a leaf makes its text.
 pub fn solid_of<C: Fn(&Query) -> Result<Answer, OutOfMemory>>(
     alloc: Global,
     scene: &Scene,
@@ -42,14 +28,16 @@ pub fn solid_of<C: Fn(&Query) -> Result<Answer, OutOfMemory>>(
     executor: &C,
 ) -> Result<Solid, OutOfMemory>
     requires { IsExecutor C.pre C.post executor.now }
-    ensures { IfOk result (λ solid. IsSolid scene.now.tris (formula_of expr.now) solid.kept.items solid.report) }
+    ensures text { IfOk result (λ solid. IsSolidText scene.now.tris (formula_of expr.now) solid.text.items) }
+    ensures report { IfOk result (λ solid. IsSolidReport scene.now.tris (formula_of expr.now) solid.report) }
 {
-    let found = kept_by(scene, expr, executor)?;
+    let found = texts_by(scene, expr, executor)?;
     let journals = found.journals;
-    let kept = all_kept(alloc, found.items)?;
-    visited_leaves_write_all(scene, expr);
-    let report = report_of(&journals, kept.len() as u64);
-    Ok(Solid { kept, report })
+    let faces = face_count(&found.items)?;
+    let report = report_of(&journals, faces);
+    leaf_texts_join(scene, expr);
+    let text = document_of(alloc, found.items)?;
+    Ok(Solid { text, report })
 }
 
 // The numbers together. Memory is short where 64 bits are too few.

@@ -1,11 +1,12 @@
 // The command `voxels`.
-ghost use Rattle.std.specs.Prelude.{ℕ, ◌≡◌, ◌≢◌, ◌≤◌, ◌-◌, length, map, true, Err, IfOk, IfErr};
+ghost use Rattle.std.specs.Prelude.{◌≡◌, ◌≤◌, length, map, IfOk, IfErr};
 ghost use Rattle.ember_expr.specs.Formula.{formula_of};
-ghost use Rattle.ember_io.specs.Causes.{Rose};
 ghost use Rattle.ember_run.specs.Lattices.{IsLatticeText};
-ghost use Rattle.ember_run.specs.CallOutcome.{IsRefusal, IsText, is_refusal};
+ghost use Rattle.ember_run.specs.CallOutcome.{IsText};
+ghost use Rattle.ember_run.specs.Devices.{shelf_call};
+ghost use Rattle.ember_run.specs.Stops.{IsStop};
 ghost use Rattle.ember_run.specs.Queries.{IsExecutor};
-ghost use Rattle.ember_run.specs.Verdict.{Unknown, first_told, voxels_verdict};
+ghost use Rattle.ember_run.specs.Verdict.{voxels_verdict};
 
 use crate::expression::parse_text;
 use crate::query::{Answer, Query, fills_by};
@@ -55,10 +56,11 @@ pub fn voxels_output<S: Shelf, C: Fn(&Query) -> Result<Answer, OutOfMemory>>(
     requires executor { IsExecutor C.pre C.post executor.now }
     ensures contents { S.contents shelf.new ≡ S.contents shelf.old }
     ensures later { S.faults shelf.old ≤ S.faults shelf.new }
-    ensures text { IfOk result (λ text. IsText (voxels_verdict expr.now size places (map (S.contents shelf.old) files.now)) text.items) }
-    ensures refused { IfErr result (λ status. is_refusal status ≡ true → IsRefusal status (voxels_verdict expr.now size places (map (S.contents shelf.old) files.now))) }
-    ensures read_fault { (i : ℕ) → result ≡ Err (Status.ReadFault i) → Rose (S.faults shelf.old) (S.faults shelf.new) × (S.fault_at shelf.new ≡ i) × (voxels_verdict expr.now size places (first_told (i - 1) (map (S.contents shelf.old) files.now)) ≡ Unknown) }
-    ensures no_other { (result ≢ Err Status.Done) × (result ≢ Err Status.Words) × (result ≢ Err Status.WriteFault) }
+    ensures text { IfOk result (λ text.
+        IsText (voxels_verdict expr.now size places (map (S.contents shelf.old) files.now)) text.items) }
+    ensures stop { IfErr result
+        (IsStop (voxels_verdict expr.now size places) files.now
+        (shelf_call S.contents S.faults S.fault_at shelf.old shelf.new)) }
 {
     let files = files.items();
     let expr = match parse_text(alloc, expr, files.len() as u32) {

@@ -6,7 +6,8 @@ use std::alloc::{AllocError, AllocFailed};
 use thiserror::Error;
 
 /// The inside points of a face in the level plane go on without end.
-#[derive(Clone, Copy, Debug, PartialEq, Eq)]
+#[derive(Clone, Copy, Debug, PartialEq, Eq, Error)]
+#[error("endless")]
 pub struct Endless;
 
 /// Why there is no text of a slice.

@@ -1,5 +1,5 @@
 -- What becomes of a job, by what is known of its box, whether it is a leaf, and its halving axis.
-use Rattle.std.proofs.Common.{◌≡◌, Bool, true, false, if◌then◌else◌, Option, None, Some, is_some, List, ℕ, refl, sym, ap, ap₂, ◌∙◌, subst}
+use Rattle.std.proofs.Common.{◌≡◌, Bool, true, false, Option, None, Some, is_some, List, ℕ, refl, sym, ap, ap₂, ◌∙◌, subst}
 use Rattle.ember_model.specs.declared.tri.Tri.{Tri}
 use Rattle.ember_model.specs.Meshes.{IsScene}
 use Rattle.ember_model.specs.declared.point.Axis.{Axis}
@@ -23,18 +23,6 @@ unknown : (v : Option Bool) (s : Shape) → is_some v ≡ false → unless_known
 unknown None s e = refl
 unknown (Some b) s e = absurd (cc)
 
-a_leaf : (b : Bool) (k : Axis) → None ≡ (if b then None else Some k) → b ≡ true
-a_leaf true k e = refl
-a_leaf false k e = absurd (cc)
-
-no_leaf : (b : Bool) (j k : Axis) → Some j ≡ (if b then None else Some k) → b ≡ false
-no_leaf true j k e = absurd (cc)
-no_leaf false j k e = refl
-
-that_axis : (b : Bool) (j k : Axis) → Some j ≡ (if b then None else Some k) → j ≡ k
-that_axis true j k e = absurd (cc)
-that_axis false j k e = cc
-
 module _ (ts : List Tri) (f : Formula) (j : Job) where
   abbrev axis : Axis
   axis = halving_axis (near_of ts j) j.cell
@@ -50,15 +38,11 @@ module _ (ts : List Tri) (f : Formula) (j : Job) where
   unfolding shape
   goes_on e = unknown (box_value ts f j) (leaf_or (is_leaf (near_of ts j) j.cell) halves) e
 
-  pub leaf_by : is_some (box_value ts f j) ≡ false → None ≡ (if is_leaf (near_of ts j) j.cell then None else Some axis) → shape ts f j ≡ leafed
-  leaf_by e l = goes_on e ∙ ap (λ b. leaf_or b halves) (a_leaf (is_leaf (near_of ts j) j.cell) axis l)
+  pub leaf_by : is_some (box_value ts f j) ≡ false → is_leaf (near_of ts j) j.cell ≡ true → shape ts f j ≡ leafed
+  leaf_by e l = goes_on e ∙ ap (λ b. leaf_or b halves) l
 
-  pub halved_by : (k : Axis) (low high : Job) → is_some (box_value ts f j) ≡ false → Some k ≡ (if is_leaf (near_of ts j) j.cell then None else Some axis) → AreHalfJobs ts j k low high → shape ts f j ≡ halved low high
-  halved_by k low high e l h =
-      let is : k ≡ axis = that_axis (is_leaf (near_of ts j) j.cell) k axis l in
-      let low_is : low ≡ left_job ts j axis = h.is_low ∙ ap (left_job ts j) is in
-      let high_is : high ≡ right_job ts j axis = h.is_high ∙ ap (right_job ts j) is in
-      goes_on e ∙ ap (λ b. leaf_or b halves) (no_leaf (is_leaf (near_of ts j) j.cell) k axis l) ∙ ap₂ halved (sym low_is) (sym high_is)
+  pub halved_by : (low high : Job) → is_some (box_value ts f j) ≡ false → is_leaf (near_of ts j) j.cell ≡ false → AreHalfJobs ts j axis low high → shape ts f j ≡ halved low high
+  halved_by low high e l h = goes_on e ∙ ap (λ b. leaf_or b halves) l ∙ ap₂ halved (sym h.is_low) (sym h.is_high)
 
 -- ---- the written regions of a leaf
 -- what holds in each scene that fits what is known at a job holds in the scene of the job

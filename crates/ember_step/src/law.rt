@@ -15,6 +15,7 @@ ghost use Rattle.ember_job.specs.Visited.{leaves};
 ghost use Rattle.ember_leaf.specs.declared.kept.Kept.{Kept};
 ghost use Rattle.ember_leaf.specs.Written.{IsWrittenIn};
 ghost use Rattle.ember_leaf.specs.Scenes.{HasOneValue, IsWritten};
+ghost use Rattle.ember_step.specs.Texts.{LeafTextsJoin};
 ghost use Rattle.ember_visit.specs.Jobs.{IsJob, root_job};
 ghost use Rattle.ember_visit.specs.Values.{box_value, shape};
 
@@ -33,6 +34,14 @@ pub fn known_boxes_write_nothing()
 /// tree write.
 pub fn visited_leaves_write_all(_s: &Scene, e: &Expr)
     ensures { (kept : List Kept) → Each (λ job ks. IsWrittenIn _s.now.tris (formula_of e.now) job.cell (near _s.now.tris job.cell) ks) (leaves (shape _s.now.tris (formula_of e.now)) (root_job _s.now.tris)) kept → IsWritten _s.now.tris (formula_of e.now) kept }
+{
+    tree(e);
+}
+
+/// The texts of the visited leaves of a Boolean, one after another, are the text of the written
+/// regions of its scene.
+pub fn leaf_texts_join(_s: &Scene, e: &Expr)
+    ensures { LeafTextsJoin _s.now.tris (formula_of e.now) }
 {
     tree(e);
 }

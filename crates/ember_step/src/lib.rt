@@ -5,8 +5,13 @@
 mod count;
 mod law;
 mod step;
+mod text;
 
 pub use count::{CountWork, count_step};
 pub use ember_visit::{box_value, halve_job, root_job};
-pub use law::{known_boxes_write_nothing, visited_leaves_write_all, written_regions_are_one_list};
+pub use law::{
+    known_boxes_write_nothing, leaf_texts_join, visited_leaves_write_all,
+    written_regions_are_one_list,
+};
 pub use step::{BoolWork, box_step};
+pub use text::{TextWork, text_step};

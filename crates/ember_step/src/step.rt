@@ -7,12 +7,11 @@ ghost use Rattle.ember_leaf.specs.Written.{IsWrittenIn};
 ghost use Rattle.ember_visit.specs.Jobs.{IsJob};
 ghost use Rattle.ember_visit.specs.Values.{shape};
 
-use ember_box::halving;
 use ember_expr::Expr;
 use ember_job::{Job, OneItem, Outcome, Work};
 use ember_leaf::{KeptList, leaf_faces};
 use ember_model::{OutOfMemory, Scene};
-use ember_visit::{box_value, halve_job, tris_at};
+use ember_visit::{box_value, halve_unless_leaf, tris_at};
 use std::alloc::Global;
 
 /// The Boolean of an expression over a scene: the work whose items are the written regions of the
@@ -74,11 +73,8 @@ pub fn box_step(
     if box_value(e, s, job).is_some() {
         return Ok(Outcome::Skipped);
     }
-    match halving(s, job.list.items(), &job.cell) {
+    match halve_unless_leaf(alloc, s, job)? {
         None => Ok(Outcome::Leaf(kept_in(alloc, s, e, job)?)),
-        Some(k) => {
-            let (low, high) = halve_job(alloc, s, job, k)?;
-            Ok(Outcome::Halves(low, high))
-        }
+        Some((low, high)) => Ok(Outcome::Halves(low, high)),
     }
 }

@@ -1,32 +1,50 @@
--- A face file while it grows, region by region.
-use Rattle.std.proofs.Common.{◌≡◌, ℕ, ◌+◌, ◌<◌, List, [], ◌∷◌, ◌++◌, length, take, get_or, map, refl, sym, ap, ◌∙◌, append_assoc, subst}
-use Rattle.std.proofs.lemmas.List.{take_more, append-nil, length-map, map-append}
-use Rattle.ember_algebra.specs.Relations.{Each, none, more}
-use Rattle.ember_algebra.proofs.Relations.{each_append}
+-- Texts of written regions, region by region, and the face files of them.
+use Rattle.std.proofs.Common.{◌≡◌, ℕ, ◌+◌, ◌<◌, List, [], ◌∷◌, ◌++◌, length, take, get_or, map, flat_map, sym, ap, ◌∙◌, append_assoc, subst}
+use Rattle.std.proofs.lemmas.List.{append-nil, take_more, length-map, map-append}
+use Rattle.std.proofs.lemmas.List.Concat.{flat_map-cons}
+use Rattle.ember_leaf.specs.declared.kept.Kept.{Kept}
+use Rattle.ember_leaf.specs.Written.{HasGrown}
 use Rattle.ember_model.specs.declared.face.Face.{Face}
 use Rattle.ember_model.specs.FaceFiles.{header, ending}
-use Rattle.ember_leaf.specs.declared.kept.Kept.{Kept}
-use Rattle.ember_text.specs.Texts.{Writes, IsGoodText}
-use Rattle.ember_text.specs.Documents.{HasGoodTexts, IsDocumentText, written_face}
+use Rattle.ember_text.specs.Counted.{CountedText}
+use Rattle.ember_text.specs.Texts.{Writes}
+use Rattle.ember_text.specs.Documents.{AreGoodTexts, IsDocumentText, IsTextOf, file_of, joined, written_face}
+use Rattle.ember_text.proofs.Grown.{grown_push}
 
-pub no_good_texts : HasGoodTexts [] header
-no_good_texts = record { texts = []; are_texts = none; is = refl }
-
-pub more_good_texts : (ks : List Kept) (i : ℕ) (d : Kept) (old new : List ℕ) → i < length ks → HasGoodTexts (map written_face (take i ks)) old → Writes (written_face (get_or ks i d)) old new → HasGoodTexts (map written_face (take (i + 1) ks)) new
-more_good_texts ks i d old new l h w =
+pub more_good_texts : (ks : List Kept) (i : ℕ) (d : Kept) (old : List ℕ) {mid new : List ℕ} → i < length ks → HasGrown (AreGoodTexts (map written_face (take i ks))) old mid → Writes (written_face (get_or ks i d)) mid new → HasGrown (AreGoodTexts (map written_face (take (i + 1) ks))) old new
+more_good_texts ks i d old {mid} {new} l g w =
     let k = get_or ks i d in
-    let one : Each IsGoodText (written_face k ∷ []) w.text = subst (λ (t : List ℕ). Each IsGoodText (written_face k ∷ []) t) (append-nil w.text) (more w.good none) in
     let e : map written_face (take (i + 1) ks) ≡ map written_face (take i ks) ++ written_face k ∷ [] = ap (λ (xs : List Kept). map written_face xs) (take_more ks i d l) ∙ map-append written_face (take i ks) (k ∷ []) in
+    subst (λ (fs : List Face). HasGrown (AreGoodTexts fs) old new) (sym e) (grown_push (map written_face (take i ks)) (written_face k) old g (record { more = w.text; is = w.is; holds = w.good }))
+
+pub ended_text : (ks : List Kept) (count : ℕ) {old mid new : List ℕ} → old ≡ header → HasGrown (AreGoodTexts (map written_face ks)) old mid → count ≡ length ks → new ≡ mid ++ ending count → IsDocumentText (map written_face ks) new
+ended_text ks count e g ec en =
     record {
-      texts = h.texts ++ w.text;
-      are_texts = subst (λ (fs : List Face). Each IsGoodText fs (h.texts ++ w.text)) (sym e) (each_append h.are_texts one);
-      is = w.is ∙ ap (λ (bytes : List ℕ). bytes ++ w.text) h.is ∙ append_assoc header h.texts w.text;
+      texts = g.more;
+      are_texts = g.holds;
+      is = en ∙ (λ i. (g.is ∙ ap (λ (bytes : List ℕ). bytes ++ g.more) e) i ++ ending ((ec ∙ sym (length-map ks written_face)) i)) ∙ append_assoc header g.more (ending (length (map written_face ks)));
     }
 
-pub ended_text : (ks : List Kept) (bytes : List ℕ) → HasGoodTexts (map written_face ks) bytes → IsDocumentText (map written_face ks) (bytes ++ ending (length ks))
-ended_text ks bytes h =
+pub begun_text : (ks : List Kept) (count : ℕ) {old new : List ℕ} → old ≡ [] → HasGrown (AreGoodTexts (map written_face ks)) old new → count ≡ length ks → IsTextOf (map written_face ks) (record { bytes = new; count = count })
+begun_text ks count e g ec =
     record {
-      texts = h.texts;
-      are_texts = h.are_texts;
-      is = ap (λ (front : List ℕ). front ++ ending (length ks)) h.is ∙ append_assoc header h.texts (ending (length ks)) ∙ ap (λ (n : ℕ). header ++ (h.texts ++ ending n)) (sym (length-map ks written_face));
+      are_texts = subst (AreGoodTexts (map written_face ks)) (sym (g.is ∙ ap (λ (bytes : List ℕ). bytes ++ g.more) e)) g.holds;
+      count = ec ∙ sym (length-map ks written_face);
     }
+
+pub file_is_document : (faces : List Face) (text : CountedText) {bytes : List ℕ} → bytes ≡ file_of text → IsTextOf faces text → IsDocumentText faces bytes
+file_is_document faces text e t =
+    record { texts = text.bytes; are_texts = t.are_texts; is = e ∙ ap (λ n. header ++ (text.bytes ++ ending n)) t.count }
+
+-- ---- texts that are copied one after another
+abbrev pub bytes_of : List CountedText → List ℕ
+bytes_of texts = flat_map (λ (t : CountedText). t.bytes) texts
+
+pub one_copied : (rest left : List CountedText) (t : CountedText) (want old : List ℕ) {new : List ℕ} → old ++ bytes_of rest ≡ want → rest ≡ t ∷ left → new ≡ old ++ t.bytes → new ++ bytes_of left ≡ want
+one_copied rest left t want old {new} inv e f =
+    ap (λ (bytes : List ℕ). bytes ++ bytes_of left) f ∙ append_assoc old t.bytes (bytes_of left) ∙ ap (λ (bytes : List ℕ). old ++ bytes) (sym (flat_map-cons (λ (u : CountedText). u.bytes) t left) ∙ sym (ap bytes_of e)) ∙ inv
+
+pub all_copied : (rest texts : List CountedText) (count : ℕ) (old : List ℕ) {new : List ℕ} → old ++ bytes_of rest ≡ header ++ bytes_of texts → rest ≡ [] → count ≡ (joined texts).count → new ≡ old ++ ending count → new ≡ file_of (joined texts)
+all_copied rest texts count old {new} inv e ec f =
+    let all : old ≡ header ++ bytes_of texts = sym (append-nil old) ∙ ap (λ (ts : List CountedText). old ++ bytes_of ts) (sym e) ∙ inv in
+    f ∙ (λ i. all i ++ ending (ec i)) ∙ append_assoc header (bytes_of texts) (ending (joined texts).count)

@@ -1,127 +1,58 @@
--- The lines that are written are the text of the face, as it is or flipped.
-use Rattle.std.proofs.Common.{◌≡◌, refl, sym, ap, subst, ◌∙◌, arith, suc, ◌≤◌, List, [], ◌∷◌, ◌++◌, length, take, drop, reverse, All}
+-- The lines that are written are the text of the face, as it is or with the opposite front.
+use Rattle.std.proofs.Common.{◌≡◌, refl, sym, ap, subst, ◌∙◌, ℕ, suc, ◌≤◌, arith, List, [], ◌∷◌, ◌++◌, append_assoc, length, flat_map, All}
 use Rattle.std.specs.List.{AllByRecursion}
-use Rattle.std.proofs.lemmas.List.{reverse-append, length-reverse}
+use Rattle.std.proofs.lemmas.List.Concat.{flat_map-cons}
 use Rattle.std.proofs.lemmas.List.Elements.{All-from_recursion, recursion_from_All}
-use Rattle.std.proofs.lemmas.Grind.{reverse_onto}
+use Rattle.ember_algebra.specs.Relations.{Each, none, more}
+use Rattle.ember_leaf.specs.Written.{HasGrown}
 use Rattle.ember_model.specs.declared.plane.Plane.{Plane}
 use Rattle.ember_model.specs.declared.face.Face.{Face}
 use Rattle.ember_model.specs.Planes.{opposite}
 use Rattle.ember_model.specs.Faces.{flipped_face}
 use Rattle.ember_model.specs.Valid.{IsValidPlane}
 use Rattle.ember_model.specs.Edges.{RingEdge, IsOutline}
-use Rattle.ember_model.specs.FaceFiles.{face_lines, IsLowest, IsWrittenEdge}
-use Rattle.ember_point.specs.declared.meet_point.Meet.{Meet}
-use Rattle.ember_point.specs.Points.{spot_of}
-use Rattle.ember_poly.specs.Sides.{ring_edges}
-use Rattle.ember_poly.proofs.Chains.{each-push, each_map}
-use Rattle.ember_poly.proofs.Rotations.{each-join}
+use Rattle.ember_model.specs.FaceFiles.{support_line, edge_line, IsLowest, IsWrittenEdge}
+use Rattle.ember_poly.proofs.Chains.{each_map}
 use Rattle.ember_poly.proofs.MovedOutline.{AreMoved, outline_moved}
-use Rattle.ember_poly.proofs.TurnedOutline.{turn_back, turned_outline, outline_turned}
-use Rattle.ember_text.specs.Texts.{AreReduced, IsGoodText}
-use Rattle.ember_text.proofs.Pairs.{edge_with, length-ring_edges}
+use Rattle.ember_text.specs.Texts.{IsEdgeText, IsGoodText, Writes, turned}
+use Rattle.ember_text.proofs.TurnedEdges.{length-turned, outline_of_turned}
 
--- ---- all of a list
 pub each_of : {X : Type 0} (P : X → Type 0) (xs : List X) → All P xs → AllByRecursion P xs
 each_of P xs h = recursion_from_All P xs h
 
-each_reverse : {X : Type 0} (P : X → Type 0) (xs : List X) → AllByRecursion P xs → AllByRecursion P (reverse xs)
-each_reverse P [] h = tt
-each_reverse P (x ∷ xs) h =
-    subst (λ ys. AllByRecursion P ys) (sym (reverse_onto xs x [])) (each-push P (reverse xs) x (each_reverse P xs h.1) h.0)
+-- the texts of edges are lines of the same edges with corners in lowest terms
+record HasLines (rs : List RingEdge) (texts : List ℕ) : Type 0 where
+  edges : List RingEdge
+  moved : AreMoved rs edges
+  written : AllByRecursion IsWrittenEdge edges
+  is : texts ≡ flat_map edge_line edges
+  long : length edges ≡ length rs
 
--- ---- corners in lowest terms
-abbrev pub Lowest : Meet → Type 0
-Lowest v = IsLowest (spot_of v)
-
-pub reduced_lowest : (ms vs : List Meet) → AreReduced ms vs → AllByRecursion Lowest vs
-reduced_lowest [] [] h = tt
-reduced_lowest [] (v ∷ vs) h = absurd h
-reduced_lowest (m ∷ ms) [] h = absurd h
-reduced_lowest (m ∷ ms) (v ∷ vs) h = (h.1, reduced_lowest ms vs h.2)
-
-reduced_moved : (es : List Plane) (ms vs : List Meet) → AreReduced ms vs → AreMoved (ring_edges es ms) (ring_edges es vs)
-reduced_moved [] ms vs h = tt
-reduced_moved (e ∷ es) [] [] h = tt
-reduced_moved (e ∷ es) [] (v ∷ vs) h = absurd h
-reduced_moved (e ∷ es) (m ∷ ms) [] h = absurd h
-reduced_moved (e ∷ es) (m ∷ ms) (v ∷ vs) h =
-    (refl, record { same = h.0; from = m.valid.weight; to = v.valid.weight }, reduced_moved es ms vs h.2)
-
-each_written : (es : List Plane) (vs : List Meet) → AllByRecursion IsValidPlane es → AllByRecursion Lowest vs → AllByRecursion IsWrittenEdge (ring_edges es vs)
-each_written [] vs p h = tt
-each_written (e ∷ es) [] p h = tt
-each_written (e ∷ es) (v ∷ vs) p h =
-    (record { plane = p.0; start = record { valid = v.valid; lowest = h.0 } }, each_written es vs p.1 h.1)
-
-good : (f : Face) (n : Plane) (es : List Plane) (vs : List Meet) → n ≡ f.support → IsValidPlane n → IsOutline f (ring_edges es vs) → length vs ≡ length es → 3 ≤ length es → AllByRecursion IsValidPlane es → AllByRecursion Lowest vs → IsGoodText f (face_lines n (ring_edges es vs))
-good f n es vs en vn o p t ve vl =
-    let w = each_written es vs ve vl in
+lines_of : {rs : List RingEdge} {texts : List ℕ} → Each IsEdgeText rs texts → HasLines rs texts
+lines_of none = record { edges = []; moved = tt; written = tt; is = refl; long = refl }
+lines_of (more {x = e} {xs = rs} {ys = text} {zs = texts} t rest) =
+    let r = lines_of rest in let d : RingEdge = record { plane = e.plane; start = t.start } in
     record {
-      text_is = record { outline = ring_edges es vs; is_outline = o; lowest = All-from_recursion (λ (e : RingEdge). IsLowest e.start) (ring_edges es vs) (each_map IsWrittenEdge (λ (e : RingEdge). IsLowest e.start) (ring_edges es vs) (λ e h. h.start.lowest) w); is = ap (λ m. face_lines m (ring_edges es vs)) en };
-      written = record { support = subst IsValidPlane en vn; edges = All-from_recursion IsWrittenEdge (ring_edges es vs) w; at_least_three = subst (λ k. 3 ≤ k) (sym (length-ring_edges es vs p)) t };
+      edges = d ∷ r.edges;
+      moved = (refl, t.moved, r.moved);
+      written = (t.written, r.written);
+      is = (λ i. t.is i ++ r.is i) ∙ sym (flat_map-cons edge_line d r.edges);
+      long = ap (λ n. suc n) r.long;
     }
 
--- ---- as it is
-pub good_plain : (f : Face) (n : Plane) (es : List Plane) (ms vs : List Meet) → n ≡ f.support → IsValidPlane n → IsOutline f (ring_edges es ms) → length ms ≡ length es → 3 ≤ length es → All IsValidPlane es → AreReduced ms vs → length vs ≡ length ms → IsGoodText f (face_lines n (ring_edges es vs))
-good_plain f n es ms vs en vn o p t ve r l =
-    good f n es vs en vn (outline_moved f (ring_edges es ms) (ring_edges es vs) (reduced_moved es ms vs r) o) (l ∙ p) t (each_of IsValidPlane es ve) (reduced_lowest ms vs r)
+good : (f : Face) (n : Plane) (rs : List RingEdge) (count : ℕ) {texts : List ℕ} → n ≡ f.support → IsValidPlane n → IsOutline f rs → 3 ≤ length rs → count ≡ length rs → Each IsEdgeText rs texts → IsGoodText f (support_line n count ++ texts)
+good f n rs count en vn o t ec each =
+    let r = lines_of each in
+    record {
+      text_is = record { outline = r.edges; is_outline = outline_moved f rs r.edges r.moved o; lowest = All-from_recursion (λ (e : RingEdge). IsLowest e.start) r.edges (each_map IsWrittenEdge (λ (e : RingEdge). IsLowest e.start) r.edges (λ e h. h.start.lowest) r.written); is = λ i. support_line (en i) ((ec ∙ sym r.long) i) ++ r.is i };
+      written = record { support = subst IsValidPlane en vn; edges = All-from_recursion IsWrittenEdge r.edges r.written; at_least_three = subst (λ k. 3 ≤ k) (sym r.long) t };
+    }
 
--- ---- flipped
-ring_push : (es : List Plane) (vs : List Meet) (e : Plane) (v : Meet) → length vs ≡ length es → ring_edges (es ++ e ∷ []) (vs ++ v ∷ []) ≡ ring_edges es vs ++ record { plane = e; start = spot_of v } ∷ []
-ring_push [] [] e v p = refl
-ring_push [] (u ∷ vs) e v p = absurd (omega (arith, p))
-ring_push (f ∷ es) [] e v p = absurd (omega (arith, p))
-ring_push (f ∷ es) (u ∷ vs) e v p =
-    ap (λ ys. edge_with f u ∷ ys) (ring_push es vs e v (omega (arith, p)))
+-- the line of the support plane, and those of the edges
+pub writes : (f : Face) (n : Plane) (rs : List RingEdge) (count : ℕ) (old : List ℕ) {mid new : List ℕ} → n ≡ f.support → IsValidPlane n → IsOutline f rs → 3 ≤ length rs → count ≡ length rs → mid ≡ old ++ support_line n count → HasGrown (Each IsEdgeText rs) mid new → Writes f old new
+writes f n rs count old en vn o t ec e g =
+    record { text = support_line n count ++ g.more; good = good f n rs count en vn o t ec g.holds; is = g.is ∙ ap (λ bytes. bytes ++ g.more) e ∙ append_assoc old (support_line n count) g.more }
 
-ring_back : (u : Meet) (e : Plane) (v : Meet) (es : List Plane) (vs : List Meet) → length vs ≡ length es → ring_edges (reverse (e ∷ es)) (u ∷ reverse vs) ≡ turn_back (spot_of u) (ring_edges (e ∷ es) (v ∷ vs))
-ring_back u e v [] [] p = refl
-ring_back u e v [] (w ∷ vs) p = absurd (omega (arith, p))
-ring_back u e v (f ∷ es) [] p = absurd (omega (arith, p))
-ring_back u e v (f ∷ es) (w ∷ vs) p =
-    let l : length (u ∷ reverse vs) ≡ length (reverse (f ∷ es)) = ap (λ n. suc n) (length-reverse vs) ∙ p ∙ sym (length-reverse (f ∷ es)) in
-    ap (λ xs. ring_edges xs (u ∷ reverse (w ∷ vs))) (reverse_onto (f ∷ es) e []) ∙ ap (λ ys. ring_edges (reverse (f ∷ es) ++ e ∷ []) (u ∷ ys)) (reverse_onto vs w []) ∙ ring_push (reverse (f ∷ es)) (u ∷ reverse vs) e w l ∙ ap (λ zs. zs ++ edge_with e w ∷ []) (ring_back u f w es vs (omega (arith, p)))
-
-abbrev pub turn_planes : List Plane → List Plane
-turn_planes es = reverse (drop 1 es ++ take 1 es)
-
-abbrev pub turn_corners : List Meet → List Meet
-turn_corners vs = reverse (drop 2 vs ++ take 2 vs)
-
-ring_turned : (a b : Plane) (es : List Plane) (u v : Meet) (vs : List Meet) → length vs ≡ length es → ring_edges (turn_planes (a ∷ b ∷ es)) (turn_corners (u ∷ v ∷ vs)) ≡ turned_outline (edge_with a u) (edge_with b v) (ring_edges es vs)
-ring_turned a b es u v vs p =
-    ap (λ xs. ring_edges xs (turn_corners (u ∷ v ∷ vs))) (reverse-append (b ∷ es) (a ∷ [])) ∙ ap (λ ys. ring_edges (a ∷ reverse (b ∷ es)) ys) (reverse-append vs (u ∷ v ∷ [])) ∙ ap (λ zs. edge_with a v ∷ zs) (ring_back u b v es vs p)
-
-pub length-turn_planes : (es : List Plane) → 3 ≤ length es → length (turn_planes es) ≡ length es
-length-turn_planes [] t = refl
-length-turn_planes (a ∷ es) t =
-    ap (λ xs. length xs) (reverse-append es (a ∷ [])) ∙ ap (λ n. suc n) (length-reverse es)
-
-pub length-turn_corners : (vs : List Meet) → 3 ≤ length vs → length (turn_corners vs) ≡ length vs
-length-turn_corners [] t = refl
-length-turn_corners (u ∷ []) t = refl
-length-turn_corners (u ∷ v ∷ vs) t =
-    ap (λ xs. length xs) (reverse-append vs (u ∷ v ∷ [])) ∙ ap (λ n. suc (suc n)) (length-reverse vs)
-
-pub each_turn_planes : (P : Plane → Type 0) (es : List Plane) → AllByRecursion P es → AllByRecursion P (turn_planes es)
-each_turn_planes P [] h = tt
-each_turn_planes P (a ∷ es) h = each_reverse P (es ++ a ∷ []) (each-push P es a h.1 h.0)
-
-each_turn_corners : (P : Meet → Type 0) (vs : List Meet) → AllByRecursion P vs → AllByRecursion P (turn_corners vs)
-each_turn_corners P [] h = tt
-each_turn_corners P (u ∷ []) h = (h.0, tt)
-each_turn_corners P (u ∷ v ∷ vs) h = each_reverse P (vs ++ u ∷ v ∷ []) (each-join P vs (u ∷ v ∷ []) h.1.1 (h.0, (h.1.0, tt)))
-
-outline_flipped : (f : Face) (es : List Plane) (vs : List Meet) → IsOutline f (ring_edges es vs) → length vs ≡ length es → 3 ≤ length es → IsOutline (flipped_face f) (ring_edges (turn_planes es) (turn_corners vs))
-outline_flipped f [] vs o p t = absurd (omega (arith, t))
-outline_flipped f (a ∷ []) vs o p t = absurd (omega (arith, t))
-outline_flipped f (a ∷ b ∷ es) [] o p t = absurd (omega (arith, p))
-outline_flipped f (a ∷ b ∷ es) (u ∷ []) o p t = absurd (omega (arith, p))
-outline_flipped f (a ∷ b ∷ es) (u ∷ v ∷ vs) o p t =
-    subst (λ zs. IsOutline (flipped_face f) zs) (sym (ring_turned a b es u v vs (omega (arith, p)))) (outline_turned f (edge_with a u) (edge_with b v) (ring_edges es vs) o)
-
-pub good_flipped : (f : Face) (n n' : Plane) (es es' : List Plane) (ms vs vs' : List Meet) → n ≡ f.support → n' ≡ opposite n → IsValidPlane n' → IsOutline f (ring_edges es ms) → length ms ≡ length es → 3 ≤ length es → All IsValidPlane es → AreReduced ms vs → length vs ≡ length ms → es' ≡ turn_planes es → vs' ≡ turn_corners vs → IsGoodText (flipped_face f) (face_lines n' (ring_edges es' vs'))
-good_flipped f n n' es es' ms vs vs' en eo vn o p t ve r l ee ev =
-    let moved = outline_moved f (ring_edges es ms) (ring_edges es vs) (reduced_moved es ms vs r) o in
-    rw (ee, ev) (good (flipped_face f) n' (turn_planes es) (turn_corners vs) (eo ∙ ap opposite en) vn (outline_flipped f es vs moved (l ∙ p) t) (length-turn_corners vs (subst (λ k. 3 ≤ k) (sym (l ∙ p)) t) ∙ (l ∙ p) ∙ sym (length-turn_planes es t)) (subst (λ k. 3 ≤ k) (sym (length-turn_planes es t)) t) (each_turn_planes IsValidPlane es (each_of IsValidPlane es ve)) (each_turn_corners Lowest vs (reduced_lowest ms vs r)))
+pub flipped_written : (f : Face) (n turned_n : Plane) (rs : List RingEdge) (count : ℕ) (old : List ℕ) {mid new : List ℕ} → n ≡ f.support → turned_n ≡ opposite n → IsValidPlane turned_n → IsOutline f rs → 3 ≤ length rs → count ≡ length rs → mid ≡ old ++ support_line turned_n count → HasGrown (Each IsEdgeText (turned rs)) mid new → Writes (flipped_face f) old new
+flipped_written f n turned_n rs count old en eo vn o t ec e g =
+    writes (flipped_face f) turned_n (turned rs) count old (eo ∙ ap opposite en) vn (outline_of_turned f rs (omega (arith, t)) o) (omega (arith, t, length-turned rs)) (ec ∙ sym (length-turned rs)) e g

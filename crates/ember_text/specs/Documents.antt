@@ -1,23 +1,40 @@
--- Face files of written regions
-use Rattle.std.specs.Prelude.{◌≡◌, ℕ, List, ◌++◌, length}
+-- Texts of written regions, and face files of them
+use Rattle.std.specs.Prelude.{◌≡◌, ℕ, List, ◌++◌, length, flat_map}
+use Rattle.std.specs.List.{sum_by}
 use Rattle.ember_algebra.specs.Relations.{Each}
 use Rattle.ember_model.specs.declared.face.Face.{Face}
 use Rattle.ember_model.specs.FaceFiles.{header, ending}
 use Rattle.ember_leaf.specs.declared.kept.Kept.{Kept}
+use Rattle.ember_text.specs.Counted.{CountedText}
 use Rattle.ember_text.specs.Texts.{IsGoodText, seen}
 
 -- the face of a written region, with the front that is written
 abbrev pub written_face : Kept → Face
 written_face k = seen k.ring k.flipped
 
--- the header and the texts of these faces in order
-pub record HasGoodTexts (fs : List Face) (bytes : List ℕ) : Type 0 where
-  pub texts : List ℕ
-  pub are_texts : Each IsGoodText fs texts
-  pub is : bytes ≡ header ++ texts
+-- the texts of these faces in order
+abbrev pub AreGoodTexts : List Face → List ℕ → Type 0
+AreGoodTexts fs bytes = Each IsGoodText fs bytes
+
+-- the texts of these faces in order, and how many they are
+pub record IsTextOf (fs : List Face) (text : CountedText) : Type 0 where
+  pub are_texts : AreGoodTexts fs text.bytes
+  pub count : text.count ≡ length fs
+
+-- texts one after another
+abbrev pub joined : List CountedText → CountedText
+joined texts = record { bytes = flat_map (λ t. t.bytes) texts; count = sum_by (λ t. t.count) texts }
+
+-- the header, the text, and the last line with its number of faces
+abbrev pub file_of : CountedText → List ℕ
+file_of text = header ++ (text.bytes ++ ending text.count)
 
 -- the face file of these faces: the header, their texts in order, and the last line with their number
 pub record IsDocumentText (fs : List Face) (bytes : List ℕ) : Type 0 where
   pub texts : List ℕ
-  pub are_texts : Each IsGoodText fs texts
+  pub are_texts : AreGoodTexts fs texts
   pub is : bytes ≡ header ++ (texts ++ ending (length fs))
+
+-- the face file of the faces of which these are the texts
+abbrev pub IsDocumentOf : List CountedText → List ℕ → Type 0
+IsDocumentOf texts bytes = (fs : List Face) → IsTextOf fs (joined texts) → IsDocumentText fs bytes

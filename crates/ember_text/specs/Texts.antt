@@ -1,41 +1,42 @@
 -- Texts of faces at the end of what was there
-use Rattle.std.specs.Prelude.{◌≡◌, ◌⊎◌, ℕ, Bool, if◌then◌else◌, List, [], ◌∷◌, ◌++◌, flat_map}
+use Rattle.std.specs.Prelude.{◌≡◌, ℕ, Bool, if◌then◌else◌, List, [], ◌∷◌, ◌++◌}
+use Rattle.ember_leaf.specs.Written.{HasGrown}
 use Rattle.ember_model.specs.declared.face.Face.{Face}
 use Rattle.ember_model.specs.declared.plane.Plane.{Plane}
+use Rattle.ember_model.specs.declared.point.Spot.{Spot}
 use Rattle.ember_model.specs.Faces.{flipped_face}
-use Rattle.ember_model.specs.Edges.{SamePoint}
-use Rattle.ember_model.specs.FaceFiles.{edge_line, face_lines, IsLowest, IsFaceText, IsWrittenFace}
+use Rattle.ember_model.specs.Edges.{RingEdge}
+use Rattle.ember_model.specs.FaceFiles.{edge_line, IsFaceText, IsWrittenEdge, IsWrittenFace}
 use Rattle.ember_point.specs.declared.meet_point.Meet.{Meet}
 use Rattle.ember_point.specs.Points.{spot_of}
-use Rattle.ember_poly.specs.Sides.{ring_edges}
+use Rattle.ember_poly.proofs.MovedOutline.{Moved}
+use Rattle.ember_poly.proofs.TurnedOutline.{turned_outline}
 
--- the new bytes are the old ones and a beginning of the text
-pub record IsBegun (old text new : List ℕ) : Type 0 where
-  pub part : List ℕ
-  pub rest : List ℕ
-  pub split : text ≡ part ++ rest
-  pub is : new ≡ old ++ part
+-- the new bytes are the old ones and some more
+abbrev pub Extends : List ℕ → List ℕ → Type 0
+Extends old new = HasGrown (λ more. Unit {0}) old new
 
--- the lines of edges that start at these corners, and of a face with them
-abbrev pub edge_text : Plane → Meet → List ℕ
-edge_text p m = edge_line (record { plane = p; start = spot_of m })
+-- ---- edges
+abbrev pub edge_with : Plane → Meet → RingEdge
+edge_with p m = record { plane = p; start = spot_of m }
 
-abbrev pub edges_text : List Plane → List Meet → List ℕ
-edges_text ps ms = flat_map edge_line (ring_edges ps ms)
+-- the edges as they go round seen from the other side
+abbrev pub turned : List RingEdge → List RingEdge
+turned [] = []
+turned (e ∷ []) = e ∷ []
+turned (e ∷ d ∷ es) = turned_outline e d es
 
-abbrev pub lines_of : Plane → List Plane → List Meet → List ℕ
-lines_of n ps ms = face_lines n (ring_edges ps ms)
+-- the line of an edge, with its start corner in lowest terms
+pub record IsEdgeText (e : RingEdge) (text : List ℕ) : Type 0 where
+  pub start : Spot
+  pub moved : Moved e.start start
+  pub written : IsWrittenEdge (record { plane = e.plane; start = start })
+  pub is : text ≡ edge_line (record { plane = e.plane; start = start })
 
+-- ---- faces
 -- the face, or the same with the opposite front
 abbrev pub seen : Face → Bool → Face
 seen f flipped = if flipped then flipped_face f else f
-
--- the same points in lowest terms
-abbrev pub AreReduced : List Meet → List Meet → Type 0
-AreReduced [] [] = Unit {0}
-AreReduced [] (v ∷ vs) = ⊥
-AreReduced (m ∷ ms) [] = ⊥
-AreReduced (m ∷ ms) (v ∷ vs) = SamePoint (spot_of m) (spot_of v) × IsLowest (spot_of v) × AreReduced ms vs
 
 -- the text of a face whose numbers are in their ranges
 pub record IsGoodText (f : Face) (text : List ℕ) : Type 0 where
@@ -47,12 +48,3 @@ pub record Writes (f : Face) (old new : List ℕ) : Type 0 where
   pub text : List ℕ
   pub good : IsGoodText f text
   pub is : new ≡ old ++ text
-
--- or only a beginning of it
-pub record BeginsText (f : Face) (old new : List ℕ) : Type 0 where
-  pub text : List ℕ
-  pub good : IsGoodText f text
-  pub begun : IsBegun old text new
-
-abbrev pub WritesPart : Face → List ℕ → List ℕ → Type 0
-WritesPart f old new = (new ≡ old) ⊎ BeginsText f old new

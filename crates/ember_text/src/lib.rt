@@ -1,11 +1,14 @@
 //! The text of faces.
 #![tactic(auto)]
 
+mod edges;
 mod face;
 mod file;
 mod line;
+mod texts;
 mod whole;
 
 pub use face::face_text;
 pub use file::{begin_file, end_file};
-pub use whole::document;
+pub use texts::{FacesText, faces_text};
+pub use whole::{document, document_of, face_count};

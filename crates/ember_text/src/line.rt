@@ -1,105 +1,72 @@
-// Lines of numbers, and the lines of a face.
-ghost use Rattle.std.specs.Prelude.{◌≡◌, [], ◌∷◌, ◌++◌, length, codes, All, OnOk, OnErr};
-ghost use Rattle.std.specs.Fmt.{signed_decimal};
-ghost use Rattle.ember_model.specs.Valid.{IsValidPlane};
-ghost use Rattle.ember_model.specs.FaceFiles.{line_of, support_line};
-ghost use Rattle.ember_text.specs.Texts.{IsBegun, edge_text, edges_text, lines_of};
+// Lines of numbers. A line is written from its end to its start, and then appended at once.
+ghost use Rattle.std.specs.Prelude.{◌≡◌, ◌+◌, ◌≤◌, [], ◌∷◌, ◌++◌, length, drop, codes, OnOk, OnErr};
+ghost use Rattle.std.specs.Fmt.{decimal, signed_decimal};
+ghost use Rattle.ember_model.specs.FaceFiles.{line_of};
 
-use ember_model::{OutOfMemory, Plane};
-use ember_point::Meet;
-use itoa::Buffer;
+use ember_model::OutOfMemory;
+use itoa::write_digits;
+
+// The longest line: its keyword, eight numbers, each with a space, and the line feed.
+const LONGEST: usize = 330;
+
+// Writes the digits so that they end at `end`, and returns where they start. Those past 64 bits go
+// one at a time.
+fn write_size(n: u128, line: &mut [u8], end: usize) -> usize
+    requires { (39 ≤ end) × (end ≤ length line.old) }
+    ensures start { result + length (decimal n) ≡ end }
+    ensures written { drop result line.new ≡ decimal n ++ drop end line.old }
+{
+    let mut left = n;
+    let mut at = end;
+    while left > u64::MAX as u128 {
+        at -= 1;
+        line[at] = b'0' + (left % 10) as u8;
+        left /= 10;
+    }
+    write_digits(left as u64, line, at)
+}
+
+// The number, with its sign where it is negative.
+fn write_signed(n: i128, line: &mut [u8], end: usize) -> usize
+    requires { (40 ≤ end) × (end ≤ length line.old) }
+    ensures start { (result ≤ end) × (end ≤ result + 40) }
+    ensures written { drop result line.new ≡ signed_decimal n ++ drop end line.old }
+{
+    let start = write_size(n.unsigned_abs(), line, end);
+    if n >= 0 {
+        return start;
+    }
+    line[start - 1] = b'-';
+    start - 1
+}
 
 // A space and the number.
-fn put_number(n: &i128, out: &mut Vec<u8>) -> Result<(), OutOfMemory>
-    ensures ok { OnOk result (
-        out.new.items ≡ out.old.items ++ (codes " " ++ signed_decimal n.now)) }
-    ensures err { OnErr result (
-        IsBegun out.old.items (codes " " ++ signed_decimal n.now) out.new.items) }
+fn write_field(n: i128, line: &mut [u8], end: usize) -> usize
+    requires { (41 ≤ end) × (end ≤ length line.old) }
+    ensures start { (result ≤ end) × (end ≤ result + 41) }
+    ensures written { drop result line.new ≡ (codes " " ++ signed_decimal n) ++ drop end line.old }
 {
-    let mut buffer = Buffer::new();
-    out.push(b' ')?;
-    out.extend_from_slice(buffer.format(*n).as_bytes())
+    let start = write_signed(n, line, end);
+    line[start - 1] = b' ';
+    start - 1
 }
 
-// The keyword and the numbers.
-fn put_line(keyword: u8, numbers: &[i128], out: &mut Vec<u8>) -> Result<(), OutOfMemory>
+/// Appends the line of the keyword and the numbers, eight at most. Where memory is short, nothing
+/// is appended.
+pub fn put_line(keyword: u8, numbers: &[i128], out: &mut Vec<u8>) -> Result<(), OutOfMemory>
+    requires { length numbers.now ≤ 8 }
     ensures ok { OnOk result (out.new.items ≡ out.old.items ++ line_of (keyword ∷ []) numbers.now) }
-    ensures err { OnErr result (
-        IsBegun out.old.items (line_of (keyword ∷ []) numbers.now) out.new.items) }
+    ensures err { OnErr result (out.new.items ≡ out.old.items) }
 {
-    out.push(keyword)?;
-    for n in numbers {
-        put_number(n, out)?;
+    let mut line = [0; LONGEST];
+    let mut at = LONGEST - 1;
+    line[at] = b'\n';
+    let mut left = numbers.len();
+    while left > 0 {
+        left -= 1;
+        at = write_field(numbers[left], &mut line, at);
     }
-    out.push(b'\n')?;
-    Ok(())
-}
-
-// The line of an edge.
-fn put_edge(edge: &Plane, start: &Meet, out: &mut Vec<u8>) -> Result<(), OutOfMemory>
-    requires { IsValidPlane edge.now }
-    ensures ok { OnOk result (out.new.items ≡ out.old.items ++ edge_text edge.now start.now) }
-    ensures err { OnErr result (
-        IsBegun out.old.items (edge_text edge.now start.now) out.new.items) }
-{
-    let numbers = [
-        edge.a as i128,
-        edge.b as i128,
-        edge.c as i128,
-        edge.d as i128,
-        start.x,
-        start.y,
-        start.z,
-        start.w,
-    ];
-    put_line(b'e', &numbers, out)
-}
-
-// The line of a support plane and the number of edges.
-fn put_support(n: &Plane, count: usize, out: &mut Vec<u8>) -> Result<(), OutOfMemory>
-    requires { IsValidPlane n.now }
-    ensures ok { OnOk result (out.new.items ≡ out.old.items ++ support_line n.now count) }
-    ensures err { OnErr result (IsBegun out.old.items (support_line n.now count) out.new.items) }
-{
-    let numbers = [
-        n.a as i128,
-        n.b as i128,
-        n.c as i128,
-        n.d as i128,
-        count as i128,
-    ];
-    put_line(b'f', &numbers, out)
-}
-
-// The lines of all edges, in order.
-fn put_edges(edges: &[Plane], starts: &[Meet], out: &mut Vec<u8>) -> Result<(), OutOfMemory>
-    requires paired { length starts.now ≡ length edges.now }
-    requires valid { All IsValidPlane edges.now }
-    ensures ok { OnOk result (out.new.items ≡ out.old.items ++ edges_text edges.now starts.now) }
-    ensures err { OnErr result (
-        IsBegun out.old.items (edges_text edges.now starts.now) out.new.items) }
-{
-    for i in 0..edges.len() {
-        put_edge(&edges[i], &starts[i], out)?;
-    }
-    Ok(())
-}
-
-/// Appends the lines of a face with these edges, which start at these corners.
-pub fn put_face(
-    n: &Plane,
-    edges: &[Plane],
-    starts: &[Meet],
-    out: &mut Vec<u8>,
-) -> Result<(), OutOfMemory>
-    requires paired { length starts.now ≡ length edges.now }
-    requires support { IsValidPlane n.now }
-    requires valid { All IsValidPlane edges.now }
-    ensures ok { OnOk result (
-        out.new.items ≡ out.old.items ++ lines_of n.now edges.now starts.now) }
-    ensures err { OnErr result (
-        IsBegun out.old.items (lines_of n.now edges.now starts.now) out.new.items) }
-{
-    put_support(n, edges.len(), out)?;
-    put_edges(edges, starts, out)
+    at -= 1;
+    line[at] = keyword;
+    out.extend_from_slice(&line[at..])
 }

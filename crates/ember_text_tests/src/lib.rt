@@ -1,8 +1,10 @@
-//! Tests of the crates that read and write texts: each subject by calls from outside.
+//! Tests of the crates that read and write texts, and of wide numbers and rounding: each subject by calls from outside.
 #![tactic(auto)]
 
 #[cfg(test)]
 mod commands;
+#[cfg(test)]
+mod comparisons;
 #[cfg(test)]
 mod decimals;
 #[cfg(test)]
@@ -12,11 +14,17 @@ mod expressions;
 #[cfg(test)]
 mod face_files;
 #[cfg(test)]
+mod grids;
+#[cfg(test)]
 mod lists;
+#[cfg(test)]
+mod numbers;
 #[cfg(test)]
 mod objects;
 #[cfg(test)]
 mod reports;
+#[cfg(test)]
+mod roundings;
 #[cfg(test)]
 mod shapes;
 #[cfg(test)]

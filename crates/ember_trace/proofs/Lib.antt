@@ -1,3 +1,4 @@
+pub mod AboveEnds
 pub mod BoxedRegions
 pub mod ClearVertices
 pub mod Corners
@@ -7,11 +8,13 @@ pub mod NearTriangleLists
 pub mod FarSegments
 pub mod FilledFaces
 pub mod FlatPlanes
+pub mod LevelTriangles
 pub mod MeshSums
 pub mod OneSides
 pub mod SegmentsPast
 pub mod Places
 pub mod RaySides
+pub mod Roots
 pub mod RegionEnds
 pub mod SharedPlanes
 pub mod Slides

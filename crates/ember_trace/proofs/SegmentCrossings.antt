@@ -176,7 +176,7 @@ either_test : {P : Type 0} (f g : Bool) → (f ≡ false → P) → (g ≡ false
 either_test true g x y e = y e
 either_test false g x y e = x refl
 
-negative_sign : (z : ℤ) → sgn z ≡ Neg → z <ℤ pos 0
+pub negative_sign : (z : ℤ) → sgn z ≡ Neg → z <ℤ pos 0
 negative_sign z e = negative_out z (ap is_neg e)
 
 -- ---- the end of a path
@@ -201,7 +201,7 @@ differ_back X p q d = (sym d.0, sym d.1)
 differ_back Y p q d = (sym d.0, sym d.1)
 differ_back Z p q d = (sym d.0, sym d.1)
 
-floor_is : (w : Path) (k : Axis) → floor_at_end w k ≡ int_div_euclid (along_point k (spot_of w.corner)) w.corner.w
+pub floor_is : (w : Path) (k : Axis) → floor_at_end w k ≡ int_div_euclid (along_point k (spot_of w.corner)) w.corner.w
 floor_is w X = refl
 floor_is w Y = refl
 floor_is w Z = refl

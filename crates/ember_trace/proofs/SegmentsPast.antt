@@ -75,7 +75,7 @@ value_across X s d v = solve 6 (λ s d x y z w. s ⊗ x ⊕ num (pos 0) ⊗ y �
 value_across Y s d v = solve 6 (λ s d x y z w. num (pos 0) ⊗ x ⊕ s ⊗ y ⊕ num (pos 0) ⊗ z ⊖ s ⊗ d ⊗ w ≈ s ⊗ (y ⊖ d ⊗ w)) cancels s d v.x v.y v.z v.w
 value_across Z s d v = solve 6 (λ s d x y z w. num (pos 0) ⊗ x ⊕ num (pos 0) ⊗ y ⊕ s ⊗ z ⊖ s ⊗ d ⊗ w ≈ s ⊗ (z ⊖ d ⊗ w)) cancels s d v.x v.y v.z v.w
 
-across_along : (k : Axis) (s d : ℤ) → along (across k s d) k ≡ s
+pub across_along : (k : Axis) (s d : ℤ) → along (across k s d) k ≡ s
 across_along X s d = refl
 across_along Y s d = refl
 across_along Z s d = refl
@@ -121,7 +121,7 @@ least_small {m} a b i j = by (int_lt b a)
     by true = j
     by false = i
 
-greatest_small : {m : ℕ} (a b : ℤ) → Small m a → Small m b → Small m (int_max a b)
+pub greatest_small : {m : ℕ} (a b : ℤ) → Small m a → Small m b → Small m (int_max a b)
 greatest_small {m} a b i j = by (int_lt b a)
   where
     by : (t : Bool) → Small m (cond t a b)
@@ -152,6 +152,12 @@ corner_is X u = refl
 corner_is Y u = refl
 corner_is Z u = refl
 
+pub low_small : (t : Tri) (k : Axis) → IsValidTri t → Small 2047 (interval_along (aabb_of_tri t) k).low
+low_small t k v = let o = aabb t k v in o.small_low
+
+pub high_small : (t : Tri) (k : Axis) → IsValidTri t → Small 2047 (interval_along (aabb_of_tri t) k).high
+high_small t k v = let o = aabb t k v in o.small_high
+
 -- below it
 from_low : (k : Axis) (l : ℤ) (u : Corner) → l ≤ℤ along_vector k (vector_of u) → pos 0 ≤ℤ value_at (across k (pos 1) l) (spot_of_corner u)
 from_low k l u h =
@@ -160,6 +166,12 @@ from_low k l u h =
 from_high : (k : Axis) (l : ℤ) (u : Corner) → along_vector k (vector_of u) ≤ℤ l → pos 0 ≤ℤ value_at (across k (negsuc 0) l) (spot_of_corner u)
 from_high k l u h =
     let e = value_across k (negsuc 0) l (spot_of_corner u) in let f = corner_is k u in omega (arith, linear, e, f, h)
+
+-- the triangle lies above its bounding box's low end
+pub above_low : (t : Tri) (k : Axis) → IsValidTri t → LiesBefore (across k (pos 1) (interval_along (aabb_of_tri t) k).low) t
+above_low t k v =
+    let o = aabb t k v in let l = (interval_along (aabb_of_tri t) k).low in
+    record { a = from_low k l t.a o.low_a; b = from_low k l t.b o.low_b; c = from_low k l t.c o.low_c }
 
 -- ---- the whole number at or below a fraction
 above_quotient : (a b : ℕ) → 0 < b → a < (a / b + 1) * b
@@ -176,7 +188,7 @@ floor_high (pos a) (pos b) p = omega (arith, ints, above_quotient a b (omega (ar
 floor_high (negsuc a) (pos b) p = omega (arith, ints, div-mul-le_self a b)
 floor_high y (negsuc b) p = absurd (omega (arith, ints))
 
-below_floor : (y w h : ℤ) → pos 0 <ℤ w → (int_div_euclid y w +ℤ pos 1) ≤ℤ h → y <ℤ (h *ℤ w)
+pub below_floor : (y w h : ℤ) → pos 0 <ℤ w → (int_div_euclid y w +ℤ pos 1) ≤ℤ h → y <ℤ (h *ℤ w)
 below_floor y w h p l =
     let f = int_div_euclid y w in let z : pos 0 ≤ℤ w = omega (arith, linear, p) in
     let e = solve 2 (λ f w. w ⊗ (f ⊕ num (pos 1)) ≈ f ⊗ w ⊕ w) cancels f w in

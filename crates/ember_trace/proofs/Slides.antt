@@ -36,6 +36,9 @@ valid p s = record { a = s.a; b = s.b; c = s.c; d = small_within (omega arith) s
 pub slid_once : (p : Plane) (k : Axis) (at : ℤ) → IsSupportSized p → Small 2048 at → IsValidPlane (slid p k at)
 slid_once p k at s t = valid (slid p k at) (once p k at s t)
 
+pub slid_constant : (p : Plane) (k : Axis) (at : ℤ) → IsSupportSized p → Small 2048 at → Small 274877906943 (slid p k at).d
+slid_constant p k at s t = small_within (omega arith) (once p k at s t).d
+
 twice : (p : Plane) (k : Axis) (at : ℤ) → IsMoved p → Small 2048 at → IsValidPlane (slid p k at)
 twice p X at s t =
     record { a = none; b = s.b; c = s.c; d = small_within (omega arith) (moved_once p.d p.a at s.d s.a t) }

@@ -1,6 +1,7 @@
 -- How often a path from the reference point of a box to a region crosses the triangles near the box,
 -- by the sides of planes on which its vertices lie
-use Rattle.std.specs.Prelude.{◌≡◌, ℤ, pos, ◌+ℤ◌, neg_ℤ, int_le, int_lt, Bool, ◌&&◌, if◌then◌else◌, List, fold, replicate, Some, slice_get}
+use Rattle.std.specs.Prelude.{◌≡◌, ℤ, pos, negsuc, ◌+ℤ◌, neg_ℤ, int_le, int_lt, Bool, ◌&&◌, if◌then◌else◌, List, fold, replicate, Some, slice_get}
+use Rattle.std.specs.Int.{int_max}
 use Rattle.std.specs.List.{list_all}
 use Rattle.ember_algebra.specs.declared.Sign.{Sign}
 use Rattle.ember_algebra.specs.Sign.{sgn, flip, times, number, is_neg}
@@ -19,6 +20,7 @@ use Rattle.ember_box.specs.Boxes.{Cell}
 use Rattle.ember_ref.specs.References.{or_sign}
 use Rattle.ember_trace.specs.declared.near_triangle.NearTriangle.{NearTriangle}
 use Rattle.ember_trace.specs.declared.path.Path.{Path}
+use Rattle.ember_trace.specs.declared.segments.Ends.{Ends}
 use Rattle.ember_trace.specs.declared.side_vectors.Sides.{Sides}
 use Rattle.ember_trace.specs.NearTriangles.{AreNearTriangles}
 use Rattle.ember_trace.specs.Paths.{coordinate, inside_side, side_at_start, side_at_end, side_after_first, side_after_second, floor_at_end, IsPathTo}
@@ -44,6 +46,16 @@ contains_above s at = int_le s.low at && int_lt at s.high
 -- a place from this whole number to the next can be within
 abbrev pub may_contain : Interval → ℤ → Bool
 may_contain s floor = int_le s.low floor && int_le floor s.high
+
+-- moved into the root: bounding boxes contain it, or lie below or above it, as before
+abbrev pub in_root : ℤ → ℤ
+in_root z = if int_lt z (negsuc 2047) then negsuc 2047 else if int_lt (pos 2048) z then pos 2048 else z
+
+-- the floors of a path's end along its axes; along the main axis no less than where the last segment begins
+pub record AreEnds (w : Path) (at : Ends) : Type 0 where
+  pub first : at.first ≡ in_root (floor_at_end w w.first)
+  pub second : at.second ≡ in_root (floor_at_end w w.second)
+  pub top : at.top ≡ int_max (in_root (floor_at_end w w.main)) (coordinate w.lo w.main)
 
 -- ---- the segments
 -- seen along a segment, it runs through the triangle

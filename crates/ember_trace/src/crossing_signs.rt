@@ -1,7 +1,7 @@
 // How segments pass planes.
 ghost use Rattle.std.specs.Prelude.{◌≡◌};
 ghost use Rattle.ember_algebra.specs.Size.{Small};
-ghost use Rattle.ember_algebra.specs.Sign.{flip, sgn};
+ghost use Rattle.ember_algebra.specs.Sign.{flip, sgn, sign, is_nil};
 ghost use Rattle.ember_model.specs.Planes.{along};
 ghost use Rattle.ember_ref.specs.References.{or_sign};
 ghost use Rattle.ember_trace.specs.Crossings.{signed_crossing, side_before, side_after};
@@ -54,6 +54,25 @@ fn slope(p: &Plane, k: Axis) -> Sign
         Axis::X => sign_of(p.a as i128),
         Axis::Y => sign_of(p.b as i128),
         Axis::Z => sign_of(p.c as i128),
+    }
+}
+
+/// The plane's normal has no entry along an axis.
+pub fn is_level(p: &Plane, k: Axis) -> bool
+    ensures { result ≡ is_nil (sgn (along p.now k)) }
+{
+    matches!(slope(p, k), Sign::Zero)
+}
+
+/// The sign of the plane's slope along an axis, as a number.
+pub fn slope_number(p: &Plane, k: Axis) -> i64
+    ensures value { result ≡ sign (along p.now k) }
+    ensures small { Small 1 result }
+{
+    match slope(p, k) {
+        Sign::Neg => -1,
+        Sign::Zero => 0,
+        Sign::Pos => 1,
     }
 }
 

@@ -2,6 +2,8 @@
 #![tactic(auto)]
 
 mod crossing_signs;
+mod edge_lines;
+mod law;
 mod near;
 mod near_triangle;
 mod path;
@@ -11,6 +13,7 @@ mod sides;
 mod vertices;
 mod whole_rays;
 
+pub use law::slid_support_planes_are_valid;
 pub use near::near_triangles;
 pub use near_triangle::NearTriangle;
 pub use side_vectors::Sides;

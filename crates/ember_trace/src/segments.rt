@@ -1,21 +1,23 @@
 // Where the segments of a path cross a triangle.
-ghost use Rattle.std.specs.Prelude.{◌≡◌, int_le, int_lt, ◌&&◌};
+ghost use Rattle.std.specs.Prelude.{◌≡◌, true, int_le, int_lt, ◌&&◌};
+ghost use Rattle.std.specs.Int.{int_max};
 ghost use Rattle.ember_algebra.specs.Size.{Small};
 ghost use Rattle.ember_algebra.specs.declared.Sign.{Sign};
 ghost use Rattle.ember_algebra.specs.Sign.{is_neg};
-ghost use Rattle.ember_model.specs.Valid.{IsValidTri, IsValidPlane};
+ghost use Rattle.ember_model.specs.Valid.{IsValidCorner, IsValidPlane};
 ghost use Rattle.ember_model.specs.Sizes.{IsSupportSized};
-ghost use Rattle.ember_model.specs.Planes.{edge_planes};
+ghost use Rattle.ember_model.specs.Planes.{edge_planes, edge_through, times_plane, unit};
 ghost use Rattle.ember_trace.specs.Paths.{coordinate, side_at_start, side_after_first, side_at_end, floor_at_end};
-ghost use Rattle.ember_trace.specs.Crossings.{all_behind, interval_along, contains_above, may_contain, may_end, is_on_first, is_on_second, is_on_last, first_segment, second_segment, segments_in_wall, last_segment, side_before, side_after, crossing_before, crossing_after};
+ghost use Rattle.ember_trace.specs.Crossings.{all_behind, interval_along, contains_above, may_contain, may_end, in_root, AreEnds, is_on_first, is_on_second, is_on_last, first_segment, second_segment, segments_in_wall, last_segment, side_before, side_after, crossing_before, crossing_after};
 
-use crate::crossing_signs::{side_after, side_before, signed_crossing};
+use crate::crossing_signs::{is_level, side_after, side_before, signed_crossing, slope_number};
+use crate::edge_lines::edge_side;
 use crate::near_triangle::NearTriangle;
 use crate::path::Path;
 use crate::vertices::coordinate;
 use ember_algebra::Sign;
 use ember_box::{Aabb, Interval};
-use ember_model::{Axis, Plane, Tri, edge_plane};
+use ember_model::{Axis, Corner, Plane, edge_plane};
 
 fn interval_along(s: &Aabb, k: Axis) -> Interval
     ensures { result ≡ interval_along s.now k }
@@ -35,28 +37,57 @@ fn contains_above(s: &Interval, at: i32) -> bool
 }
 
 // A place from this whole number to the next can be within.
-fn may_contain(s: &Interval, floor: i128) -> bool
+fn may_contain(s: &Interval, floor: i32) -> bool
     ensures { result ≡ may_contain s.now floor }
 {
-    i128::from(s.low) <= floor && floor <= i128::from(s.high)
+    s.low <= floor && floor <= s.high
 }
 
-/// The whole numbers at or below the coordinates of a path's end, but for the main axis.
+/// The whole numbers at or below the coordinates of a path's end, moved into the root. What lies
+/// above `top` along the main axis lies above the whole last segment.
 #[derive(Clone, Copy)]
 pub struct Ends {
-    pub first: i128,
-    pub second: i128,
+    pub first: i32,
+    pub second: i32,
+    pub top: i32,
+}
+
+fn in_root(floor: i128) -> i32
+    ensures value { result ≡ in_root floor }
+    ensures small { Small 2048 result }
+{
+    if floor < -2048 {
+        -2048
+    } else if 2048 < floor {
+        2048
+    } else {
+        floor as i32
+    }
+}
+
+fn floor_in_root(way: &Path, k: Axis) -> i32
+    ensures value { result ≡ in_root (floor_at_end way.now k) }
+    ensures small { Small 2048 result }
+{
+    in_root(way.floor_at_end(k))
+}
+
+// Above this along the main axis lies what is above both ends of the last segment.
+fn top_of(way: &Path) -> i32
+    ensures value { result ≡ int_max (in_root (floor_at_end way.now way.now.main)) (coordinate way.now.lo way.now.main) }
+    ensures small { Small 2048 result }
+{
+    floor_in_root(way, way.main).max(coordinate(way.lo, way.main))
 }
 
 /// Those of a path.
 pub fn ends_of(way: &Path) -> Ends
-    ensures first { result.first ≡ floor_at_end way.now way.now.first }
-    ensures second { result.second ≡ floor_at_end way.now way.now.second }
+    ensures { AreEnds way.now result }
 {
-    Ends {
-        first: way.floor_at_end(way.first),
-        second: way.floor_at_end(way.second),
-    }
+    let first = floor_in_root(way, way.first);
+    let second = floor_in_root(way, way.second);
+    let top = top_of(way);
+    Ends { first, second, top }
 }
 
 fn is_neg(s: Sign) -> bool
@@ -87,33 +118,84 @@ fn is_behind_at_end(way: &Path, p: &Plane) -> bool
 }
 
 // All edge planes along the first segment are negative where it begins.
-fn first_is_behind(t: &Tri, way: &Path) -> bool
-    requires { IsValidTri t.now }
-    ensures { result ≡ all_behind (λ p. side_at_start way.now p) (edge_planes t.now way.now.first) }
+fn first_is_behind(f: &NearTriangle, way: &Path) -> bool
+    ensures { result ≡ all_behind (λ p. side_at_start way.now p) (edge_planes f.now.tri way.now.first) }
 {
     let k = way.first;
+    let t = &f.tri;
+    if is_level(&f.support, k) {
+        return false;
+    }
     is_behind_at_start(way, &edge_plane(t, 0, k))
         && (is_behind_at_start(way, &edge_plane(t, 1, k))
             && is_behind_at_start(way, &edge_plane(t, 2, k)))
 }
 
 // All edge planes along the second segment are negative where it begins.
-fn second_is_behind(t: &Tri, way: &Path) -> bool
-    requires { IsValidTri t.now }
-    ensures { result ≡ all_behind (λ p. side_after_first way.now p) (edge_planes t.now way.now.second) }
+fn second_is_behind(f: &NearTriangle, way: &Path) -> bool
+    ensures { result ≡ all_behind (λ p. side_after_first way.now p) (edge_planes f.now.tri way.now.second) }
 {
     let k = way.second;
+    let t = &f.tri;
+    if is_level(&f.support, k) {
+        return false;
+    }
     is_behind_after_first(way, &edge_plane(t, 0, k))
         && (is_behind_after_first(way, &edge_plane(t, 1, k))
             && is_behind_after_first(way, &edge_plane(t, 2, k)))
 }
 
-// All edge planes along the last segment are negative where it ends.
-fn last_is_behind(t: &Tri, way: &Path) -> bool
-    requires { IsValidTri t.now }
-    ensures { result ≡ all_behind (λ p. side_at_end way.now p) (edge_planes t.now way.now.main) }
+// The side at the end of the plane along an axis through an edge, times a sign.
+fn edge_side_at_end(u: &Corner, v: &Corner, k: Axis, s: i64, way: &Path) -> Sign
+    requires from { IsValidCorner u.now }
+    requires to { IsValidCorner v.now }
+    requires s { Small 1 s }
+    requires narrow { way.now.narrow ≡ true }
+    ensures { result ≡ side_at_end way.now (times_plane s (edge_through u.now v.now (unit k))) }
+{
+    match edge_side(u, v, k, s, &way.corner) {
+        Sign::Zero => match edge_side(u, v, k, s, &way.next) {
+            Sign::Zero => edge_side(u, v, k, s, &way.last),
+            side => side,
+        },
+        side => side,
+    }
+}
+
+fn edge_is_behind(u: &Corner, v: &Corner, k: Axis, s: i64, way: &Path) -> bool
+    requires from { IsValidCorner u.now }
+    requires to { IsValidCorner v.now }
+    requires s { Small 1 s }
+    requires narrow { way.now.narrow ≡ true }
+    ensures { result ≡ is_neg (side_at_end way.now (times_plane s (edge_through u.now v.now (unit k)))) }
+{
+    is_neg(edge_side_at_end(u, v, k, s, way))
+}
+
+// All edge planes along the last segment are negative where it ends, near narrow corners.
+fn narrow_last_is_behind(f: &NearTriangle, way: &Path) -> bool
+    requires { way.now.narrow ≡ true }
+    ensures { result ≡ all_behind (λ p. side_at_end way.now p) (edge_planes f.now.tri way.now.main) }
 {
     let k = way.main;
+    let t = &f.tri;
+    let s = slope_number(&f.support, k);
+    edge_is_behind(&t.a, &t.b, k, s, way)
+        && (edge_is_behind(&t.b, &t.c, k, s, way) && edge_is_behind(&t.c, &t.a, k, s, way))
+}
+
+// All edge planes along the last segment are negative where it ends.
+fn last_is_behind(f: &NearTriangle, way: &Path) -> bool
+    ensures { result ≡ all_behind (λ p. side_at_end way.now p) (edge_planes f.now.tri way.now.main) }
+{
+    let k = way.main;
+    let t = &f.tri;
+    if is_level(&f.support, k) {
+        return false;
+    }
+    if way.narrow {
+        return narrow_last_is_behind(f, way);
+    }
     is_behind_at_end(way, &edge_plane(t, 0, k))
         && (is_behind_at_end(way, &edge_plane(t, 1, k))
             && is_behind_at_end(way, &edge_plane(t, 2, k)))
@@ -125,44 +207,42 @@ fn is_on_first(f: &NearTriangle, way: &Path) -> bool
     contains_above(
         &interval_along(&f.aabb, way.second),
         coordinate(way.lo, way.second),
-    ) && first_is_behind(&f.tri, way)
+    ) && first_is_behind(f, way)
 }
 
 fn may_end_along_first(f: &NearTriangle, way: &Path, at: &Ends) -> bool
-    requires { at.now.first ≡ floor_at_end way.now way.now.first }
+    requires { AreEnds way.now at.now }
     ensures { result ≡ may_contain (interval_along f.now.aabb way.now.first) (floor_at_end way.now way.now.first) }
 {
     may_contain(&interval_along(&f.aabb, way.first), at.first)
 }
 
 fn may_end_along_second(f: &NearTriangle, way: &Path, at: &Ends) -> bool
-    requires { at.now.second ≡ floor_at_end way.now way.now.second }
+    requires { AreEnds way.now at.now }
     ensures { result ≡ may_contain (interval_along f.now.aabb way.now.second) (floor_at_end way.now way.now.second) }
 {
     may_contain(&interval_along(&f.aabb, way.second), at.second)
 }
 
 fn may_end(f: &NearTriangle, way: &Path, at: &Ends) -> bool
-    requires first { at.now.first ≡ floor_at_end way.now way.now.first }
-    requires second { at.now.second ≡ floor_at_end way.now way.now.second }
+    requires { AreEnds way.now at.now }
     ensures { result ≡ may_end way.now f.now }
 {
     may_end_along_first(f, way, at) && may_end_along_second(f, way, at)
 }
 
 fn is_on_second(f: &NearTriangle, way: &Path, at: &Ends) -> bool
-    requires { at.now.first ≡ floor_at_end way.now way.now.first }
+    requires { AreEnds way.now at.now }
     ensures { result ≡ is_on_second way.now f.now }
 {
-    may_end_along_first(f, way, at) && second_is_behind(&f.tri, way)
+    may_end_along_first(f, way, at) && second_is_behind(f, way)
 }
 
 fn is_on_last(f: &NearTriangle, way: &Path, at: &Ends) -> bool
-    requires first { at.now.first ≡ floor_at_end way.now way.now.first }
-    requires second { at.now.second ≡ floor_at_end way.now way.now.second }
+    requires { AreEnds way.now at.now }
     ensures { result ≡ is_on_last way.now f.now }
 {
-    may_end(f, way, at) && last_is_behind(&f.tri, way)
+    may_end(f, way, at) && last_is_behind(f, way)
 }
 
 fn first_segment(f: &NearTriangle, way: &Path) -> i32
@@ -177,7 +257,7 @@ fn first_segment(f: &NearTriangle, way: &Path) -> i32
 }
 
 fn second_segment(f: &NearTriangle, way: &Path, at: &Ends) -> i32
-    requires { at.now.first ≡ floor_at_end way.now way.now.first }
+    requires { AreEnds way.now at.now }
     ensures value { result ≡ second_segment way.now f.now }
     ensures small { Small 1 result }
 {
@@ -202,7 +282,7 @@ fn is_in_wall(f: &NearTriangle, way: &Path) -> bool
 
 // The crossings of the segments in the low wall of the main axis.
 fn segments_in_wall(f: &NearTriangle, way: &Path, at: &Ends) -> i32
-    requires { at.now.first ≡ floor_at_end way.now way.now.first }
+    requires { AreEnds way.now at.now }
     ensures value { result ≡ segments_in_wall way.now f.now }
     ensures small { Small 2 result }
 {
@@ -222,9 +302,8 @@ pub struct Crossings {
 }
 
 // The crossings of the last segments, one along each path.
-fn last_segments(f: &NearTriangle, way: &Path, at: &Ends) -> Crossings
-    requires first { at.now.first ≡ floor_at_end way.now way.now.first }
-    requires second { at.now.second ≡ floor_at_end way.now way.now.second }
+fn last_segments_by_sides(f: &NearTriangle, way: &Path, at: &Ends) -> Crossings
+    requires { AreEnds way.now at.now }
     ensures before { result.before ≡ last_segment way.now f.now (side_before f.now.support way.now.main (side_at_end way.now f.now.support)) }
     ensures after { result.after ≡ last_segment way.now f.now (side_after f.now.support way.now.main (side_at_end way.now f.now.support)) }
     ensures small { Small 1 result.before × Small 1 result.after }
@@ -243,10 +322,32 @@ fn last_segments(f: &NearTriangle, way: &Path, at: &Ends) -> Crossings
     }
 }
 
+fn lies_above(f: &NearTriangle, way: &Path, at: &Ends) -> bool
+    ensures { result ≡ int_lt at.now.top (interval_along f.now.aabb way.now.main).low }
+{
+    at.top < interval_along(&f.aabb, way.main).low
+}
+
+// The same, at once where the triangle lies above the end of the path.
+fn last_segments(f: &NearTriangle, way: &Path, at: &Ends) -> Crossings
+    requires { AreEnds way.now at.now }
+    ensures before { result.before ≡ last_segment way.now f.now (side_before f.now.support way.now.main (side_at_end way.now f.now.support)) }
+    ensures after { result.after ≡ last_segment way.now f.now (side_after f.now.support way.now.main (side_at_end way.now f.now.support)) }
+    ensures small { Small 1 result.before × Small 1 result.after }
+{
+    if lies_above(f, way, at) {
+        Crossings {
+            before: 0,
+            after: 0,
+        }
+    } else {
+        last_segments_by_sides(f, way, at)
+    }
+}
+
 /// The crossings of the paths with a triangle.
 pub fn crossings_of(f: &NearTriangle, way: &Path, at: &Ends) -> Crossings
-    requires first { at.now.first ≡ floor_at_end way.now way.now.first }
-    requires second { at.now.second ≡ floor_at_end way.now way.now.second }
+    requires { AreEnds way.now at.now }
     ensures before { result.before ≡ crossing_before way.now f.now }
     ensures after { result.after ≡ crossing_after way.now f.now }
     ensures small { Small 3 result.before × Small 3 result.after }

@@ -10,7 +10,7 @@ ghost use Rattle.ember_trace.specs.Crossings.{AreTraced, AreTracedBy};
 
 use crate::near::near_triangles;
 use crate::near_triangle::NearTriangle;
-use crate::segments::{crossings_of, ends_of};
+use crate::segments::{Crossings, crossings_of, ends_of};
 use crate::side_vectors::Sides;
 use crate::vertices::path_to;
 use ember_box::Cell;
@@ -30,6 +30,26 @@ fn take_from(v: &mut Vector, mesh: u32, less: i32)
     v.counts[mesh as usize - 1] -= less;
 }
 
+// Takes from both counts of a mesh what crosses the paths before and after a region: mostly nothing.
+fn take_crossings(sides: &mut Sides, mesh: u32, less: &Crossings)
+    requires first { 1 ≤ mesh }
+    requires last { mesh ≤ 64 }
+    requires less_before { Small 3 less.now.before }
+    requires less_after { Small 3 less.now.after }
+    requires room_before { All (Small 1073741823) sides.old.before.counts }
+    requires room_after { All (Small 1073741823) sides.old.after.counts }
+    ensures before { sides.new.before.counts ≡ with_more sides.old.before.counts mesh (neg_ℤ less.now.before) }
+    ensures after { sides.new.after.counts ≡ with_more sides.old.after.counts mesh (neg_ℤ less.now.after) }
+    ensures within_before { (m : ℕ) → All (Small m) sides.old.before.counts → All (Small (m + 3)) sides.new.before.counts }
+    ensures within_after { (m : ℕ) → All (Small m) sides.old.after.counts → All (Small (m + 3)) sides.new.after.counts }
+{
+    if less.before == 0 && less.after == 0 {
+        return;
+    }
+    take_from(&mut sides.before, mesh, less.before);
+    take_from(&mut sides.after, mesh, less.after);
+}
+
 /// The sides of a region of a box, from the winding numbers at the reference point of the box and
 /// the crossings of two paths from there to the region with the triangles near the box: the winding
 /// numbers directly before and after it, in every scene that fits what is known at the box.
@@ -43,14 +63,15 @@ pub fn sides_beside(near: &[NearTriangle], c: &Cell, v: &Vector, r: &Ring) -> Si
 {
     let way = path_to(c, r);
     let at = ends_of(&way);
-    let mut before = *v;
-    let mut after = *v;
+    let mut sides = Sides {
+        before: *v,
+        after: *v,
+    };
     for f in near {
         let less = crossings_of(f, &way, &at);
-        take_from(&mut before, f.tri.mesh, less.before);
-        take_from(&mut after, f.tri.mesh, less.after);
+        take_crossings(&mut sides, f.tri.mesh, &less);
     }
-    Sides { before, after }
+    sides
 }
 
 /// The sides of a region of a box, as `sides_beside` gives them for the triangles near the box.

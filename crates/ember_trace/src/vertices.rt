@@ -1,15 +1,17 @@
 // On which sides of a plane the vertices of a path lie.
-ghost use Rattle.std.specs.Prelude.{◌≡◌, ◌≤◌, All, length};
+ghost use Rattle.std.specs.Prelude.{◌≡◌, ◌≤◌, ◌<ℤ◌, ◌&&◌, true, pos, unsigned_abs, ◌<◌, ◌^◌, All, length};
+ghost use Rattle.std.specs.Int.{int_div_euclid};
 ghost use Rattle.ember_algebra.specs.Size.{Small};
 ghost use Rattle.ember_model.specs.Valid.{IsValidPlane};
 ghost use Rattle.ember_model.specs.Sizes.{IsSupportSized};
+ghost use Rattle.ember_point.specs.Points.{spot_of, is_narrow};
 ghost use Rattle.ember_trace.specs.Paths.{coordinate, inside_side, side_at_start, side_at_end, side_after_first, side_after_second, slid_to_start, floor_at_end, first_of, second_of, IsPathTo};
 
 use crate::path::Path;
 use ember_algebra::Sign;
 use ember_box::Cell;
 use ember_model::{Axis, Plane, main_axis};
-use ember_point::{Meet, side, slide};
+use ember_point::{Meet, is_narrow, narrow_side, side, slide};
 use ember_poly::{Ring, corners, support};
 use ember_ref::lex_side;
 
@@ -32,6 +34,12 @@ fn second_of(k: Axis) -> Axis
     }
 }
 
+fn are_narrow(first: &Meet, second: &Meet, third: &Meet) -> bool
+    ensures { result ≡ is_narrow (spot_of first.now) && (is_narrow (spot_of second.now) && is_narrow (spot_of third.now)) }
+{
+    is_narrow(first) && (is_narrow(second) && is_narrow(third))
+}
+
 /// The path from the reference point of the box to the region.
 pub fn path_to(c: &Cell, r: &Ring) -> Path
     ensures { IsPathTo c.now r.now result }
@@ -46,6 +54,7 @@ pub fn path_to(c: &Cell, r: &Ring) -> Path
         corner: at[0],
         next: at[1],
         last: at[2],
+        narrow: are_narrow(&at[0], &at[1], &at[2]),
     }
 }
 
@@ -77,6 +86,35 @@ pub fn inside_side(p: &Plane, first: &Meet, second: &Meet, third: &Meet) -> Sign
     }
 }
 
+// The same in fewer steps, for narrow corners.
+fn narrow_inside_side(p: &Plane, first: &Meet, second: &Meet, third: &Meet) -> Sign
+    requires plane { IsValidPlane p.now }
+    requires first { is_narrow (spot_of first.now) ≡ true }
+    requires second { is_narrow (spot_of second.now) ≡ true }
+    requires third { is_narrow (spot_of third.now) ≡ true }
+    ensures { result ≡ inside_side p.now first.now second.now third.now }
+{
+    match narrow_side(p, first) {
+        Sign::Zero => match narrow_side(p, second) {
+            Sign::Zero => narrow_side(p, third),
+            s => s,
+        },
+        s => s,
+    }
+}
+
+// The whole number at or below a fraction: in 64 bits where both numbers fit into them.
+fn floor(n: i128, w: i128) -> i128
+    requires { pos 0 <ℤ w }
+    ensures { result ≡ int_div_euclid n w }
+{
+    if n.unsigned_abs() < 4611686018427387904 && w < 4611686018427387904 {
+        (n as i64).div_euclid(w as i64) as i128
+    } else {
+        n.div_euclid(w)
+    }
+}
+
 // The plane with the coordinate along an axis fixed to that of the start.
 fn slid_to_start(w: &Path, k: Axis, p: &Plane) -> Plane
     requires plane { IsValidPlane p.now }
@@ -100,7 +138,11 @@ impl Path {
         requires { IsValidPlane p.now }
         ensures { result ≡ side_at_end self.now p.now }
     {
-        inside_side(p, &self.corner, &self.next, &self.last)
+        if self.narrow {
+            narrow_inside_side(p, &self.corner, &self.next, &self.last)
+        } else {
+            inside_side(p, &self.corner, &self.next, &self.last)
+        }
     }
 
     /// The side at the end of the first segment.
@@ -132,9 +174,9 @@ impl Path {
     {
         let m = &self.corner;
         match k {
-            Axis::X => m.x.div_euclid(m.w),
-            Axis::Y => m.y.div_euclid(m.w),
-            Axis::Z => m.z.div_euclid(m.w),
+            Axis::X => floor(m.x, m.w),
+            Axis::Y => floor(m.y, m.w),
+            Axis::Z => floor(m.z, m.w),
         }
     }
 }

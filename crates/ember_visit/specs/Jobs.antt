@@ -1,9 +1,10 @@
 -- The jobs of a scene: the root's, and those of the halves of a job
-use Rattle.std.specs.Prelude.{◌≡◌, ℕ, ℤ, pos, List, replicate}
+use Rattle.std.specs.Prelude.{◌≡◌, ℕ, true, false, ℤ, pos, Option, None, Some, List, replicate}
 use Rattle.ember_model.specs.declared.tri.Tri.{Tri}
 use Rattle.ember_model.specs.declared.point.Axis.{Axis}
 use Rattle.ember_box.specs.Boxes.{Cell, root, left_half, right_half}
 use Rattle.ember_box.specs.Near.{listed, near_indices, all_indices}
+use Rattle.ember_box.specs.Halving.{is_leaf, halving_axis}
 use Rattle.ember_box.specs.Reference.{vector_at}
 use Rattle.ember_ref.specs.References.{carried}
 use Rattle.ember_job.specs.declared.job.Job.{Job}
@@ -34,3 +35,9 @@ right_job ts j k = job_of (right_half j.cell k) (near_indices ts (right_half j.c
 pub record AreHalfJobs (ts : List Tri) (j : Job) (k : Axis) (low high : Job) : Type 0 where
   pub is_low : low ≡ left_job ts j k
   pub is_high : high ≡ right_job ts j k
+
+-- nothing for a leaf, and else the halves along the halving axis
+abbrev pub IsHalvedUnlessLeaf : List Tri → Job → Option (Job × Job) → Type 0
+IsHalvedUnlessLeaf ts j None = is_leaf (near_of ts j) j.cell ≡ true
+IsHalvedUnlessLeaf ts j (Some halves) =
+    (is_leaf (near_of ts j) j.cell ≡ false) × AreHalfJobs ts j (halving_axis (near_of ts j) j.cell) halves.0 halves.1

@@ -2,9 +2,10 @@
 ghost use Rattle.std.specs.Prelude.{◌≡◌, ◌<◌, ◌≤◌, length, All, IfOk};
 ghost use Rattle.ember_box.specs.Near.{listed};
 ghost use Rattle.ember_law.specs.Counts.{HasRoom};
-ghost use Rattle.ember_visit.specs.Jobs.{AreHalfJobs};
+ghost use Rattle.ember_box.specs.Halved.{AreNearLists};
+ghost use Rattle.ember_visit.specs.Jobs.{AreHalfJobs, IsHalvedUnlessLeaf};
 
-use ember_box::{halves, near_halves};
+use ember_box::{HalvedBox, halved, halves, near_halves};
 use ember_job::{Job, Numbers};
 use ember_model::{Axis, OutOfMemory, Scene, Tri};
 use ember_ref::shift_listed;
@@ -22,6 +23,36 @@ pub fn tris_at(alloc: Global, tris: &[Tri], list: &[u32]) -> Result<Vec<Tri>, Ou
     Ok(found)
 }
 
+// The jobs of the halves of a job along an axis, by the places of the triangles near each.
+fn jobs_of(s: &Scene, job: &Job, axis: Axis, near_low: Vec<u32>, near_high: Vec<u32>) -> (Job, Job)
+    requires side { 0 < job.now.cell.log axis }
+    requires places { All (λ i. i < length s.now.tris) job.now.list }
+    requires few { length job.now.list ≤ 262144 }
+    requires room { HasRoom job.now.at.counts }
+    requires lists { AreNearLists s.now.tris job.now.cell axis job.now.list near_low.items near_high.items }
+    ensures { AreHalfJobs s.now.tris job.now axis result.0 result.1 }
+{
+    let (left, right) = halves(&job.cell, axis);
+    let low = Job {
+        cell: left,
+        list: Numbers::of(near_low),
+        at: job.at,
+    };
+    let mut high = Job {
+        cell: right,
+        list: Numbers::of(near_high),
+        at: job.at,
+    };
+    shift_listed(
+        s.tris.items(),
+        job.list.items(),
+        &job.cell,
+        axis,
+        &mut high.at,
+    );
+    (low, high)
+}
+
 /// The two halves of a job along an axis, each with those of the job's triangles that are near it
 /// and with the winding numbers at its own reference point. The side along the axis is above 1,
 /// the list holds places of the scene's triangles, at most 262,144, and each count leaves room for
@@ -33,19 +64,25 @@ pub fn halve_job(alloc: Global, s: &Scene, job: &Job, axis: Axis) -> Result<(Job
     requires room { HasRoom job.now.at.counts }
     ensures { IfOk result (λ r. AreHalfJobs s.now.tris job.now axis r.0 r.1) }
 {
-    let list = job.list.items();
-    let (left, right) = halves(&job.cell, axis);
-    let (left_list, right_list) = near_halves(alloc, s, list, &job.cell, axis)?;
-    let low = Job {
-        cell: left,
-        list: Numbers::of(left_list),
-        at: job.at,
-    };
-    let mut high = Job {
-        cell: right,
-        list: Numbers::of(right_list),
-        at: job.at,
-    };
-    shift_listed(s.tris.items(), list, &job.cell, axis, &mut high.at);
-    Ok((low, high))
+    let (near_low, near_high) = near_halves(alloc, s, job.list.items(), &job.cell, axis)?;
+    Ok(jobs_of(s, job, axis, near_low, near_high))
+}
+
+/// None where the box of a job is a leaf, and else the two halves of the job along the halving axis
+/// of its box. The list holds places of the scene's triangles, at most 262,144, and each count
+/// leaves room for a crossing with each of them.
+pub fn halve_unless_leaf(
+    alloc: Global,
+    s: &Scene,
+    job: &Job,
+) -> Result<Option<(Job, Job)>, OutOfMemory>
+    requires places { All (λ i. i < length s.now.tris) job.now.list }
+    requires few { length job.now.list ≤ 262144 }
+    requires room { HasRoom job.now.at.counts }
+    ensures { IfOk result (λ r. IsHalvedUnlessLeaf s.now.tris job.now r) }
+{
+    match halved(alloc, s, job.list.items(), &job.cell)? {
+        None => Ok(None),
+        Some(HalvedBox { axis, low, high }) => Ok(Some(jobs_of(s, job, axis, low, high))),
+    }
 }

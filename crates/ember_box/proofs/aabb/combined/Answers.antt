@@ -1,7 +1,7 @@
 use mir.Syntax.{w32, w64}
-use Rattle.ember_algebra.proofs.Exact.{Code, input, stored, ◌⊠◌, ◌⊞◌, ◌&◌, done, exact, no_overflow}
+use Rattle.ember_algebra.proofs.Exact.{Code, input, stored, ◌⊠◌, ◌⊞◌, ◌&◌, done, exact, bounded, no_overflow}
 use Rattle.ember_box.proofs.aabb.combined.Goals as goal
-use Rattle.std.proofs.Common.{ℕ}
+use Rattle.std.proofs.Common.{ℕ, ◌^◌}
 
 -- a coefficient times a coordinate
 abbrev times : ℕ → ℕ → Code
@@ -33,6 +33,10 @@ pub overflow_add-result-2 : goal.overflow_add-result-2
 overflow_add-result-2 c =
     no_overflow (c.requires.plane.a & c.requires.x & c.requires.plane.b & c.requires.y & c.requires.plane.c & c.requires.z & done) w64 (stored w64 (stored w64 (times 0 1) ⊞ stored w64 (times 2 3)) ⊞ stored w64 (times 4 5)) tt
 
-pub returns : goal.returns
-returns c =
+pub returns-clause-value : goal.returns-clause-value
+returns-clause-value c =
     exact (c.requires.plane.a & c.requires.x & c.requires.plane.b & c.requires.y & c.requires.plane.c & c.requires.z & done) (stored w64 (stored w64 (stored w64 (times 0 1) ⊞ stored w64 (times 2 3)) ⊞ stored w64 (times 4 5))) tt
+
+pub returns-clause-small : goal.returns-clause-small
+returns-clause-small c =
+    bounded (c.requires.plane.a & c.requires.x & c.requires.plane.b & c.requires.y & c.requires.plane.c & c.requires.z & done) (2 ^ 38) (stored w64 (stored w64 (stored w64 (times 0 1) ⊞ stored w64 (times 2 3)) ⊞ stored w64 (times 4 5))) tt

@@ -33,7 +33,7 @@ loop-i-preserved c =
     let below : i < length list = omega arith in
     let here : i < length (listed tris list) = omega (arith, length-map list (λ j. tri_at tris j)) in
     let e : get_or (listed tris list) i no_tri ≡ t = get_or-map (λ j. tri_at tris j) list i 0 no_tri below in
-    let one = c.sums_of-more.ensures.sums cell c.parts_of-parts.ensures.value in let few = c.sums_of-more.ensures.few in
+    let one = c.sums_of-more.ensures.sums cell t (c.near_parts.ensures cell c.middles_of-middles.ensures.value) in let few = c.sums_of-more.ensures.few in
     sums_more (listed tris list) cell i c.loop-i.near c.loop-i.x_sum c.loop-i.y_sum c.loop-i.z_sum more.near more.x more.y more.z here c.loop-i.invariant (one.near ∙ ap (λ u. number (is_near cell u)) (sym e)) few.near (λ p. one.x p ∙ ap (near_halves cell X) (sym e)) few.x (λ p. one.y p ∙ ap (near_halves cell Y) (sym e)) few.y (λ p. one.z p ∙ ap (near_halves cell Z) (sym e)) few.z
 
 pub returns : goal.returns

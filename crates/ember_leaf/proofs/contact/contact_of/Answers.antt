@@ -1,8 +1,7 @@
-use Rattle.std.proofs.Common.{◌∙◌, ap, sym, subst, arith, get_or, take}
+use Rattle.std.proofs.Common.{◌∙◌, ap, sym}
 use Rattle.ember_leaf.specs.declared.heights.Heights.{Heights}
-use Rattle.ember_leaf.specs.Contact.{no_plane, HasParting, IsBehind}
 use Rattle.ember_leaf.specs.TriRelations.{none_behind}
-use Rattle.ember_leaf.proofs.Contacts.{behind_more, whole_behind}
+use Rattle.ember_leaf.proofs.Contacts.{behind_more}
 use Rattle.ember_leaf.proofs.contact.contact_of.Goals as goal
 
 pub loop-i-preserved : goal.loop-i-preserved

@@ -1,5 +1,5 @@
-use Rattle.std.proofs.Common.{◌∙◌, sym, subst}
-use Rattle.ember_leaf.specs.Cutters.{role_if, IsAdded}
+use Rattle.std.proofs.Common.{subst}
+use Rattle.ember_leaf.specs.Cutters.{IsAdded}
 use Rattle.ember_leaf.specs.Lower.{covers}
 use Rattle.ember_leaf.proofs.Lower.{coplanar_added, coplanar_lies, coplanar_blades}
 use Rattle.ember_leaf.proofs.Sharing.{coplanar_turned}

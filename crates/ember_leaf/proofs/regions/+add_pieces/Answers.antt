@@ -1,7 +1,5 @@
-use Rattle.std.proofs.Common.{◌-◌, arith, sym, subst, pos, List, ◌∷◌, length, take, drop, get_or}
+use Rattle.std.proofs.Common.{◌-◌, arith, sym, subst, pos, List, length, take, drop, get_or}
 use Rattle.ember_model.specs.declared.plane.Plane.{Plane}
-use Rattle.ember_model.specs.declared.tri.Tri.{Tri}
-use Rattle.ember_model.specs.declared.face.Face.{Face}
 use Rattle.ember_model.specs.Valid.{IsValidPlane}
 use Rattle.ember_leaf.specs.Written.{HasGrown}
 use Rattle.ember_leaf.specs.Cutters.{AreLast, AtEdges}

@@ -2,7 +2,6 @@ use Rattle.std.proofs.Common.{◌∙◌, ap, ◌&&◌}
 use Rattle.ember_algebra.specs.Sign.{is_zero}
 use Rattle.ember_model.specs.declared.plane.Plane.{Plane}
 use Rattle.ember_model.specs.Faces.{is_flat}
-use Rattle.ember_leaf.proofs.Deciding.{at_blade}
 use Rattle.ember_leaf.proofs.relation.is_flat.Goals as goal
 
 pub returns : goal.returns

@@ -4,8 +4,12 @@ use Rattle.ember_box.specs.Aabbs.{aabb_of_tri, aabbs_meet}
 use Rattle.ember_pairs.proofs.DisjointAabbs.{boxes_apart}
 use Rattle.ember_pairs.proofs.meetings.are_meeting.Goals as goal
 
-pub returns-else-aabbs_meet : goal.returns-else-aabbs_meet
-returns-else-aabbs_meet c =
+pub returns-then-not-aabbs_meet : goal.returns-then-not-aabbs_meet
+returns-then-not-aabbs_meet c =
     let t = c.args.t.now in let u = c.args.u.now in
-    let e : aabbs_meet (aabb_of_tri t) (aabb_of_tri u) ≡ false = (λ i. aabbs_meet (sym c.requires.facet i).aabb (sym c.requires.other_facet i).aabb) ∙ sym c.aabbs_meet.ensures ∙ c.if-aabbs_meet.false in
-    (λ r. absurd (false≢true (sym c.if-aabbs_meet.false ∙ r)), λ m. absurd (boxes_apart t u e m))
+    let e : aabbs_meet (aabb_of_tri t) (aabb_of_tri u) ≡ false = (λ i. aabbs_meet (sym c.requires.facet i).aabb (sym c.requires.other_facet i).aabb) ∙ sym c.aabbs_meet.ensures ∙ c.if-not-aabbs_meet.true in
+    (λ r. absurd (false≢true r), λ m. absurd (boxes_apart t u e m))
+
+pub returns-then-are_parted : goal.returns-then-are_parted
+returns-then-are_parted c =
+    (λ r. absurd (false≢true r), λ m. absurd (c.are_parted.ensures c.if-are_parted.true m))

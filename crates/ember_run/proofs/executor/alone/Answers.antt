@@ -1,4 +1,4 @@
-use Rattle.ember_run.proofs.Findings.{counts_found, fills_found, fills_root, kept_found, pairs_found}
+use Rattle.ember_run.proofs.Findings.{counts_found, fills_found, fills_root, texts_found, pairs_found}
 use Rattle.ember_run.proofs.executor.alone.Goals as goal
 
 pub results_alone-requires-in-Fills-clause-root : goal.results_alone-requires-in-Fills-clause-root
@@ -13,9 +13,9 @@ pub returns-in_ok-results_alone-in-Fills : goal.returns-in_ok-results_alone-in-F
 returns-in_ok-results_alone-in-Fills g c =
     fills_found _ _ _ _ _ _ c.in-Fills.is c.in_ok-root-in-Fills.ensures.value c.in_ok-results_alone-in-Fills.ensures.items
 
-pub returns-in_ok-results_alone-in-Kept : goal.returns-in_ok-results_alone-in-Kept
-returns-in_ok-results_alone-in-Kept g c =
-    kept_found _ _ _ _ _ c.in-Kept.is c.in_ok-root-in-Kept.ensures.value c.in_ok-results_alone-in-Kept.ensures.items c.in_ok-results_alone-in-Kept.ensures.journals
+pub returns-in_ok-results_alone-in-Texts : goal.returns-in_ok-results_alone-in-Texts
+returns-in_ok-results_alone-in-Texts g c =
+    texts_found _ _ _ _ _ c.in-Texts.is c.in_ok-root-in-Texts.ensures.value c.in_ok-results_alone-in-Texts.ensures.items c.in_ok-results_alone-in-Texts.ensures.journals
 
 pub returns-in_ok-results_alone-in-Counts : goal.returns-in_ok-results_alone-in-Counts
 returns-in_ok-results_alone-in-Counts g c =

@@ -1,19 +1,18 @@
-use Rattle.std.proofs.Common.{arith, ◌∙◌}
+use Rattle.std.proofs.Common.{arith, ◌≡◌, Err, IfErr, ap, rules, ◌∙◌}
 use Rattle.ember_run.proofs.Pieces.{rose_later}
-use Rattle.ember_run.proofs.SceneFiles.{more_parts, part_refused, part_unread}
-use Rattle.ember_run.proofs.Verdicts.{same_error}
+use Rattle.ember_run.specs.declared.status.Status.TheVariants.{OutOfMemory}
+use Rattle.ember_run.proofs.Stops.{memory_scene_stop}
+use Rattle.ember_run.proofs.SceneFiles.{more_parts, part_stop}
 use Rattle.ember_run.proofs.scene.read_parts.Goals as goal
 
-pub returns-in-Err-clause-refused : goal.returns-in-Err-clause-refused
-returns-in-Err-clause-refused g c =
-    let l = c.loop-file.invariant in
-    λ r next. part_refused _ _ _ _ _ _ _ _ _ _ next c.loop-file-test.true l.parts l.contents l.number (c.as_str.ensures ∙ c.file-item.is) (c.in-Err.ensures.refused r)
+pub returns-in-Err-clause-stop : goal.returns-in-Err-clause-stop
+returns-in-Err-clause-stop g c =
+    let l = c.loop-file.invariant in let e = c.in-Err.ensures in
+    part_stop _ _ _ _ _ _ _ _ _ _ c.loop-file-test.true l.parts l.contents l.number (c.as_str.ensures ∙ c.file-item.is) e.refused e.file (λ i f. let a = e.read_fault i (ap Err f) in (a.0, rose_later _ _ _ l.later a.1, a.2)) e.memory (λ f. e.no_other.0 (ap Err f), λ f. e.no_other.1 (ap Err f), λ f. e.no_other.2 (ap Err f))
 
-pub returns-in-Err-clause-read_fault : goal.returns-in-Err-clause-read_fault
-returns-in-Err-clause-read_fault g c =
-    let l = c.loop-file.invariant in
-    λ i e. let f = c.in-Err.ensures.read_fault i (same_error _ _ e) in
-    (rose_later _ _ _ l.later f.1, f.2, part_unread _ _ _ _ _ i _ c.loop-file-test.true l.parts l.number f.0)
+pub returns-in_err-push-clause-stop : goal.returns-in_err-push-clause-stop
+returns-in_err-push-clause-stop g c =
+    let short : IfErr c.from_residual.result (λ status. status ≡ OutOfMemory) = search rules in memory_scene_stop _ _ _ _ short
 
 pub loop-file-preserved : goal.loop-file-preserved
 loop-file-preserved g c =

@@ -1,11 +1,16 @@
-use Rattle.std.proofs.Common.{◌≡◌, length, rules}
-use Rattle.ember_run.proofs.SolidVerdicts.{is_solid, journals_fit}
+use Rattle.std.proofs.Common.{List, ap, ◌∙◌}
+use Rattle.ember_text.specs.Counted.{CountedText}
+use Rattle.ember_text.specs.Documents.{joined}
+use Rattle.ember_run.proofs.SolidVerdicts.{solid_report_of, solid_text_of, journals_fit}
 use Rattle.ember_run.proofs.solid.solid_of.Goals as goal
 
 pub report_of-report-requires : goal.report_of-report-requires
 report_of-report-requires g c = journals_fit _ _ _ c.in_ok-found.ensures.journals
 
-pub returns : goal.returns
-returns g c =
-    let count : c.len.result ≡ length c.in_ok-kept.kept.items = search rules in
-    is_solid _ _ _ _ _ _ _ c.visited_leaves_write_all.ensures c.in_ok-found.ensures.items c.in_ok-found.ensures.journals c.in_ok-kept.ensures c.report_of-report.ensures count
+pub returns-clause-text : goal.returns-clause-text
+returns-clause-text g c =
+    solid_text_of _ _ _ _ _ _ _ c.leaf_texts_join.ensures c.in_ok-found.ensures.items c.in_ok-found.ensures.journals c.report_of-report.ensures (c.in_ok-faces.ensures ∙ ap (λ (texts : List CountedText). (joined texts).count) c.deref.ensures.value) c.in_ok-text.ensures.document
+
+pub returns-clause-report : goal.returns-clause-report
+returns-clause-report g c =
+    solid_report_of _ _ _ _ _ _ c.leaf_texts_join.ensures c.in_ok-found.ensures.items c.in_ok-found.ensures.journals c.report_of-report.ensures (c.in_ok-faces.ensures ∙ ap (λ (texts : List CountedText). (joined texts).count) c.deref.ensures.value)

@@ -6,8 +6,8 @@ use Rattle.ember_trace.proofs.sides.sides_beside.Given as goal
 abbrev pub invariant-loop-f : goal.invariant-loop-f
 invariant-loop-f l =
     record {
-      before : AreWithinBound l.f-index l.fn.v.counts l.before.counts;
-      after : AreWithinBound l.f-index l.fn.v.counts l.after.counts;
-      traced_before : l.before.counts ≡ taken (crossing_before l.way) (take l.f-index l.near) l.fn.v.counts;
-      traced_after : l.after.counts ≡ taken (crossing_after l.way) (take l.f-index l.near) l.fn.v.counts;
+      before : AreWithinBound l.f-index l.fn.v.counts l.sides.before.counts;
+      after : AreWithinBound l.f-index l.fn.v.counts l.sides.after.counts;
+      traced_before : l.sides.before.counts ≡ taken (crossing_before l.way) (take l.f-index l.near) l.fn.v.counts;
+      traced_after : l.sides.after.counts ≡ taken (crossing_after l.way) (take l.f-index l.near) l.fn.v.counts;
     }

@@ -1,4 +1,7 @@
-use Rattle.std.proofs.Common.{◌≡◌, ◌∙◌, ap, [], ◌∷◌, sym, subst, ℕ, List, All, get_or, map, option_to_list}
+use Rattle.std.proofs.lemmas.List.{nil_from_length}
+use Rattle.std.proofs.lemmas.Bool.{eqb-true}
+use Rattle.ember_algebra.specs.Relations.{done}
+use Rattle.std.proofs.Common.{arith, ◌≡◌, ◌∙◌, ap, [], ◌∷◌, sym, subst, ℕ, List, All, get_or, map, option_to_list}
 use Rattle.ember_model.specs.declared.face.Face.{Face}
 use Rattle.ember_model.specs.Faces.{is_flat}
 use Rattle.ember_expr.specs.Formula.{formula_of}
@@ -48,6 +51,28 @@ regions-requires c =
     let near = c.args.self.now.near.now in let u = (get_or near c.args.i c.index-self-i.result).tri in let cs = c.find_cutters.new.list.items in
     let l = left_parts u (subst (λ o. IsClippedBy (map wall_of c.args.walls.now) u (option_to_list o)) c.in-Some.is c.in_ok-ring.ensures) in
     subst (All (λ v. CanCut v c.in-Some.ring)) (sym c.deref.ensures.value) (all_can u c.in-Some.ring cs l.0 c.in_ok-find_cutters.ensures.cutters)
+
+pub keep_one-requires-clause-regions : goal.keep_one-requires-clause-regions
+keep_one-requires-clause-regions c =
+    let s = c.args.self.now in let near = s.near.now in let ns = tris_of near in let i = c.args.i in let f = get_or near i c.index-self-i.result in
+    let ring = c.in-Some.ring in let b = c.common_spans-bounds.result in let cs = c.find_cutters.new.list.items in let k = c.in_ok-find_cutters.ensures in
+    let empty : cs ≡ [] = nil_from_length cs (sym c.find_cutters.new.list.ok.0 ∙ eqb-true _ _ (sym c.is_empty.ensures ∙ c.if-is_empty.true)) in
+    leaf_owned s.cell.now f ring ns i c.args.walls.now cs b (ring ∷ []) (own_is near i c.index-self-i.result c.requires.index) (listed_too near i c.requires.index) c.requires.walls (c.common_spans-bounds.ensures ∙ ap (common_of f.aabb) c.requires.aabb) (subst (λ o. IsClippedBy (map wall_of c.args.walls.now) f.tri (option_to_list o)) c.in-Some.is c.in_ok-ring.ensures) (k.cutting_planes c.if-branch.false) k.cutters (subst (AreLowerOrCovered ns i f.tri b (owners_in cs)) c.if-branch.false k.owners) (subst (λ us. AreCut us (ring ∷ []) (ring ∷ [])) (sym empty) done)
+
+pub keep_one-requires-clause-region : goal.keep_one-requires-clause-region
+keep_one-requires-clause-region c =
+    let s = c.args.self.now in let ring = c.in-Some.ring in
+    owned_planes s.cell.now (tris_of s.near.now) c.args.i (ring ∷ []) (keep_one-requires-clause-regions c) 0 ring (omega arith)
+
+pub keep_one-requires-clause-inside : goal.keep_one-requires-clause-inside
+keep_one-requires-clause-inside c =
+    let s = c.args.self.now in let ring = c.in-Some.ring in
+    owned_inside s.cell.now (tris_of s.near.now) c.args.i (ring ∷ []) (keep_one-requires-clause-regions c) 0 ring (omega arith)
+
+pub keep_one-requires-clause-owner : goal.keep_one-requires-clause-owner
+keep_one-requires-clause-owner c =
+    let s = c.args.self.now in let ring = c.in-Some.ring in
+    owned_each s.cell.now (tris_of s.near.now) c.args.i (ring ∷ []) (keep_one-requires-clause-regions c) 0 ring (omega arith)
 
 pub keep-requires-clause-regions : goal.keep-requires-clause-regions
 keep-requires-clause-regions c =

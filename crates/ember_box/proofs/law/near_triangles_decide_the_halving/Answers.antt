@@ -1,0 +1,8 @@
+use Rattle.ember_box.proofs.Lists.{halving_axis_near, is_leaf_near}
+use Rattle.ember_box.proofs.law.near_triangles_decide_the_halving.Goals as goal
+
+pub returns-clause-axis : goal.returns-clause-axis
+returns-clause-axis c = λ tris box. halving_axis_near tris box
+
+pub returns-clause-leaf : goal.returns-clause-leaf
+returns-clause-leaf c = λ tris box. is_leaf_near tris box

@@ -1,0 +1,16 @@
+-- A box with the triangles near its halves
+use Rattle.std.specs.Prelude.{◌≡◌, ℕ, Option, None, Some, List}
+use Rattle.ember_model.specs.declared.tri.Tri.{Tri}
+use Rattle.ember_model.specs.declared.point.Axis.{Axis}
+use Rattle.ember_box.specs.declared.looks.HalvedBox.{HalvedBox}
+use Rattle.ember_box.specs.Boxes.{Cell, left_half, right_half}
+use Rattle.ember_box.specs.Near.{near_indices}
+
+abbrev pub axis_of : Option HalvedBox → Option Axis
+axis_of None = None
+axis_of (Some h) = Some h.axis
+
+-- the places of the list at which triangles near the lower half stand, and those near the upper half
+pub record AreNearLists (ts : List Tri) (c : Cell) (k : Axis) (is low high : List ℕ) : Type 0 where
+  pub is_low : low ≡ near_indices ts (left_half c k) is
+  pub is_high : high ≡ near_indices ts (right_half c k) is

@@ -1,0 +1,77 @@
+-- Which halves of a box along each axis a triangle is near, and what is looked at to tell
+use Rattle.std.specs.Prelude.{◌≡◌, ℕ, ◌<◌, ℤ, ◌-ℤ◌, ◌*ℤ◌, neg_ℤ, false, if◌then◌else◌, List, length, slice_index_or}
+use Rattle.ember_algebra.specs.Size.{Small}
+use Rattle.ember_algebra.specs.Sign.{is_negative}
+use Rattle.ember_model.specs.declared.tri.Tri.{Tri}
+use Rattle.ember_model.specs.declared.plane.Plane.{Plane}
+use Rattle.ember_model.specs.declared.point.Axis.{Axis}
+use Rattle.ember_model.specs.declared.point.Axis.TheVariants.{X, Y, Z}
+use Rattle.ember_box.specs.declared.aabb.Aabb.{Aabb}
+use Rattle.ember_box.specs.declared.aabb.Margins.{Margins}
+use Rattle.ember_box.specs.declared.near_parts.Middle.{Middle}
+use Rattle.ember_box.specs.declared.near_parts.Middles.{Middles}
+use Rattle.ember_box.specs.declared.near_parts.NearPair.{NearPair}
+use Rattle.ember_box.specs.declared.near_parts.NearParts.{NearParts}
+use Rattle.ember_box.specs.Boxes.{Cell, low, left_half, right_half}
+use Rattle.ember_box.specs.Aabbs.{aabb_of_cell, least, greatest, IsAabbSized}
+use Rattle.ember_box.specs.Near.{is_near, tri_at}
+
+-- ---- the halves
+pub record IsMiddle (c : Cell) (k : Axis) (m : Middle) : Type 0 where
+  pub place : m.at ≡ low (right_half c k) k
+  pub length : m.half ≡ low (right_half c k) k -ℤ low c k
+
+pub record AreMiddles (c : Cell) (b : Middles) : Type 0 where
+  pub whole : b.whole ≡ aabb_of_cell c
+  pub x : 0 < c.log X → IsMiddle c X b.x
+  pub y : 0 < c.log Y → IsMiddle c Y b.y
+  pub z : 0 < c.log Z → IsMiddle c Z b.z
+
+pub record AreMiddlesSized (b : Middles) : Type 0 where
+  pub whole : IsAabbSized b.whole
+  pub x : Small 4096 b.x.half
+  pub y : Small 4096 b.y.half
+  pub z : Small 4096 b.z.half
+
+-- ---- a plane
+-- how far its constant lies above its least value over a box, and below its greatest
+pub record AreMargins (p : Plane) (b : Aabb) (m : Margins) : Type 0 where
+  pub above : m.above ≡ p.d -ℤ least p b
+  pub below : m.below ≡ greatest p b -ℤ p.d
+
+-- how much the value of a plane with the entry n of its normal grows over a half
+abbrev pub rise : ℤ → ℤ → ℤ
+rise n half = if is_negative n then neg_ℤ (n *ℤ half) else n *ℤ half
+
+-- the margin that the lower half has less of, and the upper one
+abbrev pub margin_of_low : ℤ → Margins → ℤ
+margin_of_low n m = if is_negative n then m.above else m.below
+
+abbrev pub margin_of_high : ℤ → Margins → ℤ
+margin_of_high n m = if is_negative n then m.below else m.above
+
+-- ---- what is told
+pub record IsNearPair (c : Cell) (k : Axis) (t : Tri) (p : NearPair) : Type 0 where
+  pub low : p.low ≡ is_near (left_half c k) t
+  pub high : p.high ≡ is_near (right_half c k) t
+
+pub record AreNearParts (c : Cell) (t : Tri) (p : NearParts) : Type 0 where
+  pub whole : p.whole ≡ is_near c t
+  pub x : 0 < c.log X → IsNearPair c X t p.x
+  pub y : 0 < c.log Y → IsNearPair c Y t p.y
+  pub z : 0 < c.log Z → IsNearPair c Z t p.z
+
+abbrev pub no_pair : NearPair
+no_pair = record { low = false; high = false }
+
+abbrev pub no_parts : NearParts
+no_parts = record { whole = false; x = no_pair; y = no_pair; z = no_pair }
+
+abbrev pub pair_on : Axis → NearParts → NearPair
+pair_on X p = p.x
+pair_on Y p = p.y
+pair_on Z p = p.z
+
+-- of the first places of a list, one after another
+pub record AreNearPartsAt (ts : List Tri) (c : Cell) (is : List ℕ) (ps : List NearParts) : Type 0 where
+  pub each : (i : ℕ) → i < length ps → AreNearParts c (tri_at ts (slice_index_or is i 0)) (slice_index_or ps i no_parts)

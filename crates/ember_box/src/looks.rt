@@ -1,0 +1,127 @@
+// A box with the triangles near its halves, by one look at each triangle.
+ghost use Rattle.std.specs.Prelude.{◌≡◌, ◌<◌, length, All, List, ℕ, None, Some, IfOk, IfSome, if◌then◌else◌};
+ghost use Rattle.ember_model.specs.Valid.{IsValidTri};
+ghost use Rattle.ember_model.specs.declared.tri.Tri.{Tri};
+ghost use Rattle.ember_box.specs.Boxes.{Cell as Box};
+ghost use Rattle.ember_box.specs.Near.{listed};
+ghost use Rattle.ember_box.specs.Sums.{AreSums};
+ghost use Rattle.ember_box.specs.NearParts.{AreNearPartsAt};
+ghost use Rattle.ember_box.specs.Halving as halvings;
+ghost use Rattle.ember_box.specs.Halved.{axis_of, AreNearLists};
+
+use crate::cell::Cell;
+use crate::near_parts::{NearParts, middles_of, near_parts, pair_on};
+use crate::nearness::push_if;
+use crate::sums::{Sums, is_few, is_leaf_by, least_axis, sums_of};
+use ember_model::{Axis, OutOfMemory, Scene, Tri};
+use std::alloc::Global;
+
+/// The axis along which a box is halved, and the triangles near its lower and its upper half.
+#[derive(Drop)]
+pub struct HalvedBox {
+    pub axis: Axis,
+    pub low: Vec<u32>,
+    pub high: Vec<u32>,
+}
+
+// What one look at each triangle of a list tells: of each, and the sums.
+#[derive(Drop)]
+struct Looks {
+    sums: Sums,
+    parts: Vec<NearParts>,
+}
+
+fn looks_at(alloc: Global, tris: &[Tri], list: &[u32], c: &Cell) -> Result<Looks, OutOfMemory>
+    requires valid { All IsValidTri tris.now }
+    requires places { All (λ i. i < length tris.now) list.now }
+    ensures sums { IfOk result (λ l. AreSums (listed tris.now list.now) c.now l.sums) }
+    ensures parts { IfOk result (λ l. AreNearPartsAt tris.now c.now list.now l.parts.items) }
+    ensures count { IfOk result (λ l. length l.parts.items ≡ length list.now) }
+{
+    let middles = middles_of(c);
+    let mut parts = Vec::with_capacity(alloc, list.len())?;
+    let mut near = 0;
+    let mut x_sum = 0;
+    let mut y_sum = 0;
+    let mut z_sum = 0;
+    for i in list {
+        let one = near_parts(&middles, &tris[*i as usize]);
+        let more = sums_of(&one);
+        near += more.near;
+        x_sum += more.x;
+        y_sum += more.y;
+        z_sum += more.z;
+        parts.push(one)?;
+    }
+    Ok(Looks {
+        sums: Sums {
+            near,
+            x: x_sum,
+            y: y_sum,
+            z: z_sum,
+        },
+        parts,
+    })
+}
+
+// Those of a list that are near the lower half along the axis, and those near the upper one, by
+// what was told of each.
+fn lists_of(
+    alloc: Global,
+    list: &[u32],
+    parts: &[NearParts],
+    axis: Axis,
+) -> Result<(Vec<u32>, Vec<u32>), OutOfMemory>
+    requires { length parts.now ≡ length list.now }
+    ensures { IfOk result (λ v. (ts : List Tri) (c : Box) → 0 < c.log axis → AreNearPartsAt ts c list.now parts.now → AreNearLists ts c axis list.now v.0.items v.1.items) }
+{
+    let mut low = Vec::with_capacity(alloc, list.len())?;
+    let mut high = Vec::with_capacity(alloc, list.len())?;
+    for i in 0..list.len() {
+        let pair = pair_on(&parts[i], axis);
+        push_if(pair.low, list[i], &mut low);
+        push_if(pair.high, list[i], &mut high);
+    }
+    Ok((low, high))
+}
+
+/// The same by the triangles.
+pub fn halved_of(
+    alloc: Global,
+    tris: &[Tri],
+    list: &[u32],
+    c: &Cell,
+) -> Result<Option<HalvedBox>, OutOfMemory>
+    requires valid { All IsValidTri tris.now }
+    requires places { All (λ i. i < length tris.now) list.now }
+    ensures answer { IfOk result (λ h. axis_of h ≡ (if halvings.is_leaf (listed tris.now list.now) c.now then None else Some (halvings.halving_axis (listed tris.now list.now) c.now))) }
+    ensures halvable { IfOk result (λ h. IfSome h (λ v. 0 < c.now.log v.axis)) }
+    ensures lists { IfOk result (λ h. IfSome h (λ v. AreNearLists tris.now c.now v.axis list.now v.low.items v.high.items)) }
+{
+    if is_few(list.len() as u64) {
+        return Ok(None);
+    }
+    let looks = looks_at(alloc, tris, list, c)?;
+    if is_leaf_by(c, &looks.sums) {
+        return Ok(None);
+    }
+    let axis = least_axis(c, &looks.sums);
+    let (low, high) = lists_of(alloc, list, &looks.parts, axis)?;
+    Ok(Some(HalvedBox { axis, low, high }))
+}
+
+/// None where the box is a leaf, and else the axis along which it is halved, with those of the
+/// listed triangles that are near its lower half and those that are near its upper half, in order.
+pub fn halved(
+    alloc: Global,
+    s: &Scene,
+    list: &[u32],
+    c: &Cell,
+) -> Result<Option<HalvedBox>, OutOfMemory>
+    requires { All (λ i. i < length s.now.tris) list.now }
+    ensures answer { IfOk result (λ h. axis_of h ≡ (if halvings.is_leaf (listed s.now.tris list.now) c.now then None else Some (halvings.halving_axis (listed s.now.tris list.now) c.now))) }
+    ensures halvable { IfOk result (λ h. IfSome h (λ v. 0 < c.now.log v.axis)) }
+    ensures lists { IfOk result (λ h. IfSome h (λ v. AreNearLists s.now.tris c.now v.axis list.now v.low.items v.high.items)) }
+{
+    halved_of(alloc, s.tris.items(), list, c)
+}

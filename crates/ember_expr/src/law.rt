@@ -1,0 +1,17 @@
+// The laws of the grammar: what is parsed is what the grammar derives, and it derives one tree.
+ghost use Rattle.std.specs.Prelude.{◌≡◌, ◌≢◌, ℕ, List, Ok, Err};
+ghost use Rattle.ember_expr.specs.declared.fault.ExprFault.TheVariants.{Syntax};
+ghost use Rattle.ember_expr.specs.declared.token.Word.{Word};
+ghost use Rattle.ember_expr.specs.Formula.{Formula};
+ghost use Rattle.ember_expr.specs.Grammar.{expr_of};
+ghost use Rattle.ember_expr.specs.Derivation.{Phrase, Derives, IsExpression, HasTree, words_of};
+
+/// A text is parsed as a tree exactly where it is within the limits and the grammar derives its
+/// words as this tree. A text whose words the grammar derives has no syntax fault, within the
+/// limits or not. The words of a phrase have one tree.
+pub fn texts_have_the_tree_of_the_grammar()
+    ensures derived { (text : List ℕ) (meshes : ℕ) (f : Formula) → expr_of text meshes ≡ Ok f → HasTree text meshes f }
+    ensures parsed { (text : List ℕ) (meshes : ℕ) (f : Formula) → HasTree text meshes f → expr_of text meshes ≡ Ok f }
+    ensures clean { (t : List ℕ) (n p : ℕ) (f : Formula) → IsExpression (words_of t) f → expr_of t n ≢ Err (Syntax p) }
+    ensures one { (p : Phrase) (ws : List Word) (f g : Formula) → Derives p ws f → Derives p ws g → f ≡ g }
+{}

@@ -1,0 +1,5 @@
+pub mod Fractions
+pub mod Values
+pub mod Texts
+pub mod Floats
+pub mod Quotients

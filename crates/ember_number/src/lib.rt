@@ -1,0 +1,16 @@
+//! Exact numbers as they stand in mesh files: decimals with any number of digits, binary floats and
+//! integers. Takes no memory.
+#![tactic(auto)]
+
+mod binary_sizes;
+mod decimal_sizes;
+mod digits;
+mod floats;
+mod floors;
+mod texts;
+mod values;
+
+pub use floats::{binary32, binary64, integer};
+pub use floors::{floor_times, is_below_limit};
+pub use texts::read_decimal;
+pub use values::{Binary, Decimal, Exponent, Number};

@@ -1,0 +1,86 @@
+// On which sides of a plane the corners of a triangle lie.
+ghost use Rattle.std.specs.Prelude.{◌≡◌, not, ◌&&◌, ◌||◌};
+ghost use Rattle.ember_algebra.specs.Sign.{is_negative, is_zero, is_positive};
+ghost use Rattle.ember_model.specs.Valid.{IsValidCorner, IsValidTri};
+ghost use Rattle.ember_model.specs.Sizes.{IsSupportSized};
+ghost use Rattle.ember_model.specs.Planes.{value_at};
+ghost use Rattle.ember_model.specs.Owners.{spot_of_corner};
+ghost use Rattle.ember_pairs.specs.Heights.{heights_of, all_in_front, all_behind, none_in_front, none_behind, all_on};
+
+use ember_model::{Corner, Plane, Tri};
+
+/// The values of a plane at the corners of a triangle.
+#[derive(Clone, Copy)]
+pub struct Heights {
+    pub a: i64,
+    pub b: i64,
+    pub c: i64,
+}
+
+#[tactic(none)]
+fn height(p: &Plane, u: &Corner) -> i64
+    requires plane { IsSupportSized p.now }
+    requires corner { IsValidCorner u.now }
+    ensures { result ≡ value_at p.now (spot_of_corner u.now) }
+{
+    p.a * u.x as i64 + p.b * u.y as i64 + p.c * u.z as i64 - p.d
+}
+
+/// Those of a triangle.
+pub fn heights_of(p: &Plane, t: &Tri) -> Heights
+    requires plane { IsSupportSized p.now }
+    requires tri { IsValidTri t.now }
+    ensures { result ≡ heights_of p.now t.now }
+{
+    Heights {
+        a: height(p, &t.a),
+        b: height(p, &t.b),
+        c: height(p, &t.c),
+    }
+}
+
+impl Heights {
+    fn all_in_front(&self) -> bool
+        ensures { result ≡ all_in_front self.now }
+    {
+        self.a > 0 && (self.b > 0 && self.c > 0)
+    }
+
+    fn all_behind(&self) -> bool
+        ensures { result ≡ all_behind self.now }
+    {
+        self.a < 0 && (self.b < 0 && self.c < 0)
+    }
+
+    fn none_in_front(&self) -> bool
+        ensures { result ≡ none_in_front self.now }
+    {
+        self.a <= 0 && (self.b <= 0 && self.c <= 0)
+    }
+
+    fn none_behind(&self) -> bool
+        ensures { result ≡ none_behind self.now }
+    {
+        self.a >= 0 && (self.b >= 0 && self.c >= 0)
+    }
+
+    fn all_on(&self) -> bool
+        ensures { result ≡ all_on self.now }
+    {
+        self.a == 0 && (self.b == 0 && self.c == 0)
+    }
+
+    /// All corners lie strictly on one side of the plane.
+    pub fn are_on_one_side(&self) -> bool
+        ensures { result ≡ (all_in_front self.now || all_behind self.now) }
+    {
+        self.all_in_front() || self.all_behind()
+    }
+
+    /// The corners lie on one side of the plane, but not all on it.
+    pub fn lean_to_one_side(&self) -> bool
+        ensures { result ≡ ((none_in_front self.now || none_behind self.now) && not (all_on self.now)) }
+    {
+        (self.none_in_front() || self.none_behind()) && !self.all_on()
+    }
+}

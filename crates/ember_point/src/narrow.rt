@@ -1,0 +1,39 @@
+// Points whose numbers fit into 64 bits: their sides take a third of the steps.
+ghost use Rattle.std.specs.Prelude.{◌≡◌, true, ◌*ℤ◌};
+ghost use Rattle.ember_algebra.specs.Size.{Small};
+ghost use Rattle.ember_algebra.specs.Sign.{sgn};
+ghost use Rattle.ember_model.specs.Valid.{IsValidPlane};
+ghost use Rattle.ember_model.specs.Planes.{value_at};
+ghost use Rattle.ember_point.specs.Points.{spot_of, is_narrow};
+
+use crate::meet_point::Meet;
+use ember_algebra::{Sign, sign_of};
+use ember_model::Plane;
+
+/// The sizes of the four numbers add up to less than 2^62.
+pub fn is_narrow(m: &Meet) -> bool
+    ensures { result ≡ is_narrow (spot_of m.now) }
+{
+    let coordinates = m.x.unsigned_abs() + m.y.unsigned_abs() + m.z.unsigned_abs();
+    coordinates + m.w.unsigned_abs() < 4611686018427387904
+}
+
+/// The product of a plane's entry and a coordinate of a narrow point, by 64 bits times 64.
+pub fn narrow_product(a: i64, x: i128) -> i128
+    requires a { Small 549755813887 a }
+    requires x { Small 4611686018427387903 x }
+    ensures value { result ≡ a *ℤ x }
+    ensures small { Small 2535301200451847116425223208961 result }
+{
+    a as i128 * (x as i64) as i128
+}
+
+/// The side of the plane on which a narrow point lies, as `side` tells it.
+pub fn narrow_side(p: &Plane, m: &Meet) -> Sign
+    requires plane { IsValidPlane p.now }
+    requires narrow { is_narrow (spot_of m.now) ≡ true }
+    ensures { result ≡ sgn (value_at p.now (spot_of m.now)) }
+{
+    let front = narrow_product(p.a, m.x) + narrow_product(p.b, m.y) + narrow_product(p.c, m.z);
+    sign_of(front - narrow_product(p.d, m.w))
+}

@@ -1,0 +1,150 @@
+// Faces that planes clip in place.
+ghost use Rattle.std.specs.Prelude.{◌≡◌, ◌<◌, false, length, IfOk, OnOk};
+ghost use Rattle.ember_model.specs.Valid.{IsValidTri, IsValidPlane};
+ghost use Rattle.ember_model.specs.Planes.{support_of};
+ghost use Rattle.ember_model.specs.Faces.{is_flat, face_of, below};
+ghost use Rattle.ember_poly.specs.Boundaries.{sides};
+ghost use Rattle.ember_poly.specs.Passages.{IsPassage};
+ghost use Rattle.ember_poly.specs.Cuts.{IsClip};
+ghost use Rattle.ember_poly.specs.Drafts.{face_in, HoldsRing};
+
+use crate::boundary::{Boundary, with_room};
+use crate::passage::{Passage, classify, find_passage};
+use crate::reach_cut::Reach;
+use crate::ring::{Ring, at_corner, main_edges};
+use ember_model::{OutOfMemory, Plane, Tri};
+use std::alloc::{AllocError, Global};
+
+/// A convex face with its corners, which planes clip in place. Its lists keep their room for the
+/// next face.
+#[derive(Drop)]
+pub struct Draft {
+    support: Plane,
+    planes: Vec<Plane>,
+    rim: Boundary,
+}
+
+// Puts other items into a list.
+fn refill<T: Copy>(list: &mut Vec<T>, items: &[T]) -> Result<(), AllocError>
+    ensures { OnOk result (list.new.items ≡ items.now) }
+{
+    list.clear();
+    list.extend_from_slice(items)
+}
+
+// The ring as a draft.
+pub fn draft_of(r: Ring) -> Draft
+    ensures ring { HoldsRing result }
+    ensures face { face_in result ≡ r }
+{
+    let Ring {
+        support,
+        planes,
+        rim,
+    } = r;
+    Draft {
+        support,
+        planes,
+        rim,
+    }
+}
+
+impl Draft {
+    /// A draft without a face.
+    pub fn new(alloc: Global) -> Draft {
+        Draft {
+            support: Plane {
+                a: 0,
+                b: 0,
+                c: 0,
+                d: 0,
+            },
+            planes: Vec::new(alloc),
+            rim: Boundary::new(alloc),
+        }
+    }
+
+    /// Begins with the face of a triangle that has this support plane.
+    pub fn begin(&mut self, t: &Tri, support: &Plane) -> Result<(), OutOfMemory>
+        requires tri { IsValidTri t.now }
+        requires normal { is_flat t.now ≡ false }
+        requires support { support.now ≡ support_of t.now }
+        ensures ring { OnOk result (HoldsRing self.new) }
+        ensures face { OnOk result (face_in self.new ≡ face_of t.now) }
+    {
+        let sides = main_edges(t, support);
+        let starts = [at_corner(&t.a), at_corner(&t.b), at_corner(&t.c)];
+        refill(&mut self.planes, &sides)?;
+        refill(&mut self.rim.edges, &sides)?;
+        refill(&mut self.rim.corners, &starts)?;
+        refill(&mut self.rim.plane_indices, &[0, 1, 2])?;
+        self.support = *support;
+        Ok(())
+    }
+
+    // Keeps the part below a plane that passes the ring.
+    fn keep_part(&mut self, p: &Plane, at: &Passage) -> Result<(), OutOfMemory>
+        requires plane { IsValidPlane p.now }
+        requires ring { HoldsRing self.old }
+        requires passage { IsPassage self.old.support p.now (sides self.old.rim) at.now }
+        requires kept { at.now.kept < length self.old.rim.edges.items }
+        ensures ring { OnOk result (HoldsRing self.new) }
+        ensures part { OnOk result (face_in self.new ≡ below (face_in self.old) p.now) }
+    {
+        let plane_index = self.planes.len();
+        self.planes.push(*p)?;
+        self.rim.close(at, *p, plane_index)?;
+        self.rim.rotate_to_oldest();
+        Ok(())
+    }
+
+    /// Keeps what a plane leaves of the face: the part below it where inside points are on both
+    /// sides, else all of it. Returns which of these it is.
+    pub fn clip(&mut self, plane: &Plane) -> Result<Reach, OutOfMemory>
+        requires plane { IsValidPlane plane.now }
+        requires ring { HoldsRing self.old }
+        ensures ring { OnOk result (HoldsRing self.new) }
+        ensures part { IfOk result (λ side. IsClip (face_in self.old) plane.now side (face_in self.new)) }
+    {
+        let at = classify(plane, self.rim.corners.as_slice());
+        match at.reach {
+            Reach::Both => {
+                let at = find_passage(&self.support, &self.rim, plane, &at);
+                self.keep_part(plane, &at)?;
+                Ok(Reach::Both)
+            }
+            other => Ok(other),
+        }
+    }
+
+    /// The face as a ring, with room for so many cuts.
+    pub fn ring(&self, alloc: Global, room: usize) -> Result<Ring, OutOfMemory>
+        requires { HoldsRing self.now }
+        ensures { IfOk result (λ r. r ≡ face_in self.now) }
+    {
+        let planes = with_room(alloc, self.planes.as_slice(), room)?;
+        let rim = self.rim.copy(alloc, room)?;
+        Ok(Ring {
+            support: self.support,
+            planes,
+            rim,
+        })
+    }
+
+    // The draft as a ring.
+    pub fn into_ring(self) -> Ring
+        requires { HoldsRing self }
+        ensures { result ≡ face_in self }
+    {
+        let Draft {
+            support,
+            planes,
+            rim,
+        } = self;
+        Ring {
+            support,
+            planes,
+            rim,
+        }
+    }
+}

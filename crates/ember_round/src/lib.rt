@@ -1,0 +1,8 @@
+//! Rounding of fractions to numbers that can be written.
+#![tactic(auto)]
+
+mod decimal;
+mod rounding;
+
+pub use decimal::put_decimal;
+pub use rounding::nearest;

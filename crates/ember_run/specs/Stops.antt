@@ -1,0 +1,50 @@
+-- Why a command has no answer
+use Rattle.std.specs.Prelude.{◌≡◌, ◌≢◌, ⊤, ℕ, ◌-◌, true, false, List, ◌++◌, length, map, take, drop, None, Some}
+use Rattle.ember_model.specs.declared.tri.Tri.{Tri}
+use Rattle.ember_run.specs.CallOutcome.{IsRefusal, hides_memory, is_before_files, is_refusal, refused_file}
+use Rattle.ember_run.specs.Devices.{ShelfCall, HasShelfFailed}
+use Rattle.ember_run.specs.Verdict.{Contents, Verdict, Unknown, Refused, after_scene, first_told}
+use Rattle.ember_run.specs.declared.status.Status.{Status}
+use Rattle.ember_run.specs.declared.status.Status.TheVariants.{Done, Words, ReadFault, WriteFault, ExprRefused, Unbounded, OutOfMemory}
+
+-- the contents of the first n files, and others after them
+abbrev pub with_others : ℕ → Contents → Contents → Contents
+with_others n contents others = take n contents ++ drop n others
+
+-- why files with these names give no answer; `verdict` is what is asked for, over any contents of them
+pub record IsStop (verdict : Contents → Verdict) (names : List (List ℕ)) (shelf : ShelfCall) (status : Status) : Type 0 where
+  -- what is refused is refused by the verdict
+  pub refused : is_refusal status ≡ true → IsRefusal status (verdict (map shelf.told names))
+  -- what rests on the words is refused with no file known
+  pub before_files : is_before_files status ≡ true → verdict (first_told 0 (map shelf.told names)) ≡ Refused status
+  -- what is refused in file i is refused whatever stands in the files after it
+  pub in_file : (i : ℕ) → refused_file status ≡ Some i → (others : Contents) → length others ≡ length names →
+      IsRefusal status (verdict (with_others i (map shelf.told names) others))
+  -- where file i can't be read, nothing is refused before it
+  pub read_fault : (i : ℕ) → status ≡ ReadFault i → HasShelfFailed shelf × (shelf.fault_at ≡ i) ×
+      (verdict (first_told (i - 1) (map shelf.told names)) ≡ Unknown)
+  pub memory : hides_memory status ≡ false
+  pub no_other : (status ≢ Done) × (status ≢ Words) × (status ≢ WriteFault)
+
+-- why files give no scene, whatever is asked of it
+abbrev pub IsSceneStop : ℕ → List (List ℕ) → ShelfCall → Status → Type 0
+IsSceneStop places names shelf status =
+    (next : List Tri → Verdict) → IsStop (λ contents. after_scene places contents next) names shelf status
+
+-- the refusals of an expression, and want of memory
+abbrev pub IsOfWords : Status → Type 0
+IsOfWords (ExprRefused fault) = hides_memory (ExprRefused fault) ≡ false
+IsOfWords Unbounded = ⊤
+IsOfWords OutOfMemory = ⊤
+IsOfWords _ = ⊥
+
+-- why words give no answer of which this is the verdict
+pub record IsWordsStop (verdict : Verdict) (status : Status) : Type 0 where
+  pub refused : is_refusal status ≡ true → verdict ≡ Refused status
+  pub of_words : IsOfWords status
+
+-- a status that comes after all files, and none of one file
+pub record IsAfterFiles (status : Status) : Type 0 where
+  pub not_before : is_before_files status ≡ false
+  pub no_file : refused_file status ≡ None
+  pub memory : hides_memory status ≡ false

@@ -1,0 +1,5 @@
+pub mod Floors
+pub mod Nearest
+pub mod NiceSteps
+pub mod SpanSteps
+pub mod Landings

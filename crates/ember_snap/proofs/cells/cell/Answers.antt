@@ -1,0 +1,35 @@
+use Rattle.std.proofs.Common.{◌≡◌, ◌*◌, ◌∙◌, pos, ◌+ℤ◌, ◌*ℤ◌, arith}
+use borrow.Author.Differences.{ints}
+use mir.Syntax.{w128}
+use mir.Val.{to_z, of_z}
+use Rattle.std.proofs.lemmas.Int.{to_z-of_z}
+use Rattle.ember_number.specs.Values.{value_of}
+use Rattle.ember_number.proofs.Denominators.{denominator_pos}
+use Rattle.ember_snap.specs.Cells.{cell_at, cell_of}
+use Rattle.ember_snap.proofs.Floors.{floor_chain}
+use Rattle.ember_snap.proofs.Nearest.{cell_nearest}
+use Rattle.ember_snap.proofs.cells.cell.Goals as goal
+
+stored : (c : goal.After-div_euclid) → to_z w128 (of_z w128 c.div_euclid.result) ≡ c.div_euclid.result
+stored c = to_z-of_z w128 c.div_euclid.result (record { sfits = c.div_euclid.type_inv })
+
+plain : (c : goal.After-div_euclid) → c.div_euclid.result ≡ cell_of c.args.step.now (value_of c.args.number.now)
+plain c =
+    let s = c.args.step.now in
+    let v = value_of c.args.number.now in
+    let twice = c.twice_floor-twice.result in
+    let numerator = c.from-numerator.result in
+    let sum : to_z w128 (of_z w128 (to_z w128 (of_z w128 twice) +ℤ to_z w128 (of_z w128 numerator))) ≡ twice +ℤ numerator =
+    omega (arith, ints, c.twice_floor-twice.ensures.small, c.from-numerator.ensures, c.requires.step.over_small) in
+    let product : to_z w128 (of_z w128 (pos 2 *ℤ to_z w128 (of_z w128 numerator))) ≡ pos 2 *ℤ numerator =
+    omega (arith, ints, c.from-numerator.ensures, c.requires.step.over_small) in
+    c.div_euclid.ensures ∙ rw (sum, product, c.twice_floor-twice.ensures.value, c.from-numerator.ensures)
+    (floor_chain (pos (2 * s.denominator) *ℤ v.numerator) v.denominator s.numerator (2 * s.numerator) (denominator_pos c.args.number.now) (omega (arith, c.requires.step.over_zero)))
+
+pub returns-clause-value : goal.returns-clause-value
+unfolding cell_at
+returns-clause-value c = stored c ∙ plain c
+
+pub returns-clause-nearest : goal.returns-clause-nearest
+returns-clause-nearest c =
+    rw (stored c, plain c) (cell_nearest c.args.step.now (value_of c.args.number.now) (denominator_pos c.args.number.now) c.requires.step.over_zero)

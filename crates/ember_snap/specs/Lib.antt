@@ -1,0 +1,4 @@
+pub mod Steps
+pub mod Cells
+pub mod Spans
+pub mod Offsets

@@ -1,0 +1,15 @@
+//! Places numbers on a grid of whole numbers: the step of the grid, the cell of a number, and where
+//! the grid lies. Takes no memory.
+#![tactic(auto)]
+
+mod cells;
+mod offsets;
+mod search;
+mod spans;
+mod steps;
+
+pub use cells::{cell, grid_number};
+pub use offsets::{Offset, offset_at};
+pub use search::{finest_step, nice_step};
+pub use spans::{Coordinates, are_coordinates};
+pub use steps::Step;

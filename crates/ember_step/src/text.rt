@@ -1,0 +1,66 @@
+// The text of what a box writes.
+ghost use Rattle.std.specs.Prelude.{IfOk};
+ghost use Rattle.ember_expr.specs.Formula.{formula_of};
+ghost use Rattle.ember_step.specs.Texts.{AnswersByText};
+ghost use Rattle.ember_visit.specs.Jobs.{IsJob};
+
+use crate::step::box_step;
+use ember_expr::Expr;
+use ember_job::{Job, OneItem, Outcome, Work};
+use ember_model::{OutOfMemory, Scene};
+use ember_text::{FacesText, faces_text};
+use std::alloc::Global;
+
+/// The Boolean of an expression over a scene as text: the work whose items are the texts of the
+/// written regions of the leaves.
+#[derive(Drop)]
+pub struct TextWork<'a> {
+    pub scene: &'a Scene,
+    pub expr: &'a Expr,
+}
+
+impl<'a> Work for TextWork<'a> {
+    ghost use Rattle.ember_expr.specs.Formula.{formula_of};
+    ghost use Rattle.ember_step.specs.Texts.{IsBoxText};
+    ghost use Rattle.ember_visit.specs.Jobs.{IsJob};
+    ghost use Rattle.ember_visit.specs.Values.{shape as shape_of};
+    ghost use Rattle.ember_visit.proofs.Laws.{halves_are_jobs, halves_are_split};
+
+    type Item = FacesText;
+
+    ghost valid = { λ w job. IsJob w.scene.now.tris job };
+
+    ghost shape = { λ w job. shape_of w.scene.now.tris (formula_of w.expr.now) job };
+
+    ghost item = { λ w job text. IsBoxText w.scene.now.tris (formula_of w.expr.now) job.cell text };
+
+    ghost halves_valid = { λ w job low high is e. halves_are_jobs w.scene.now.tris (formula_of w.expr.now) job low high w.scene.now.meshes w.scene.now.kept is e };
+
+    ghost halves_split = { λ w job low high is e. halves_are_split w.scene.now.tris (formula_of w.expr.now) job low high e };
+}
+
+impl<'a> OneItem for TextWork<'a> {
+    ghost use Rattle.ember_expr.specs.Formula.{formula_of};
+    ghost use Rattle.ember_leaf.proofs.OneList.{written_in_unique};
+    ghost use Rattle.ember_step.specs.Texts.{one_text};
+
+    ghost one_item = { λ w job one other a b. one_text (λ us vs. written_in_unique w.scene.now.tris (formula_of w.expr.now) w.scene.now.meshes w.scene.now.kept job.cell us vs) a b };
+}
+
+/// What becomes of a job, as by `box_step`, with the text of the written regions in place of the
+/// regions.
+pub fn text_step(
+    alloc: Global,
+    s: &Scene,
+    e: &Expr,
+    job: &Job,
+) -> Result<Outcome<FacesText>, OutOfMemory>
+    requires { IsJob s.now.tris job.now }
+    ensures { IfOk result (λ o. AnswersByText s.now.tris (formula_of e.now) job.now o) }
+{
+    match box_step(alloc, s, e, job)? {
+        Outcome::Halves(low, high) => Ok(Outcome::Halves(low, high)),
+        Outcome::Leaf(kept) => Ok(Outcome::Leaf(faces_text(alloc, kept.items())?)),
+        Outcome::Skipped => Ok(Outcome::Skipped),
+    }
+}

@@ -1,0 +1,87 @@
+// The lines of a face's support plane and of its edges.
+ghost use Rattle.std.specs.Prelude.{◌≡◌, ◌≤◌, ◌++◌, length, All, OnOk, OnErr};
+ghost use Rattle.ember_algebra.specs.Relations.{Each};
+ghost use Rattle.ember_leaf.specs.Written.{HasGrown};
+ghost use Rattle.ember_model.specs.Valid.{IsValidPlane};
+ghost use Rattle.ember_model.specs.FaceFiles.{support_line};
+ghost use Rattle.ember_poly.specs.Sides.{ring_edges};
+ghost use Rattle.ember_text.specs.Texts.{Extends, IsEdgeText, edge_with, turned};
+
+use crate::line::put_line;
+use ember_model::{OutOfMemory, Plane};
+use ember_point::{Meet, reduce};
+
+/// Appends the line of a support plane and the number of edges.
+pub fn put_support(n: &Plane, count: usize, out: &mut Vec<u8>) -> Result<(), OutOfMemory>
+    requires { IsValidPlane n.now }
+    ensures ok { OnOk result (out.new.items ≡ out.old.items ++ support_line n.now count) }
+    ensures err { OnErr result (out.new.items ≡ out.old.items) }
+{
+    let numbers = [
+        n.a as i128,
+        n.b as i128,
+        n.c as i128,
+        n.d as i128,
+        count as i128,
+    ];
+    put_line(b'f', &numbers, out)
+}
+
+// The line of an edge and its start corner, which it gives in lowest terms.
+fn put_edge(edge: &Plane, corner: &Meet, out: &mut Vec<u8>) -> Result<(), OutOfMemory>
+    requires { IsValidPlane edge.now }
+    ensures ok { OnOk result (
+        HasGrown (IsEdgeText (edge_with edge.now corner.now)) out.old.items out.new.items) }
+    ensures err { OnErr result (out.new.items ≡ out.old.items) }
+{
+    let start = reduce(corner);
+    let numbers = [
+        edge.a as i128,
+        edge.b as i128,
+        edge.c as i128,
+        edge.d as i128,
+        start.x,
+        start.y,
+        start.z,
+        start.w,
+    ];
+    put_line(b'e', &numbers, out)
+}
+
+/// Appends the lines of all edges, in order.
+pub fn put_edges(edges: &[Plane], corners: &[Meet], out: &mut Vec<u8>) -> Result<(), OutOfMemory>
+    requires paired { length corners.now ≡ length edges.now }
+    requires valid { All IsValidPlane edges.now }
+    ensures ok { OnOk result (
+        HasGrown (Each IsEdgeText (ring_edges edges.now corners.now)) out.old.items out.new.items) }
+    ensures err { OnErr result (Extends out.old.items out.new.items) }
+{
+    for i in 0..edges.len() {
+        put_edge(&edges[i], &corners[i], out)?;
+    }
+    Ok(())
+}
+
+/// Appends the lines of all edges as they go round seen from the other side: the first one first,
+/// and each starts where it ended.
+pub fn put_turned_edges(
+    edges: &[Plane],
+    corners: &[Meet],
+    out: &mut Vec<u8>,
+) -> Result<(), OutOfMemory>
+    requires paired { length corners.now ≡ length edges.now }
+    requires two { 2 ≤ length edges.now }
+    requires valid { All IsValidPlane edges.now }
+    ensures ok { OnOk result (
+        HasGrown (Each IsEdgeText (turned (ring_edges edges.now corners.now))) out.old.items out.new.items) }
+    ensures err { OnErr result (Extends out.old.items out.new.items) }
+{
+    put_edge(&edges[0], &corners[1], out)?;
+    let mut next = edges.len() - 1;
+    put_edge(&edges[next], &corners[0], out)?;
+    while next > 1 {
+        next -= 1;
+        put_edge(&edges[next], &corners[next + 1], out)?;
+    }
+    Ok(())
+}

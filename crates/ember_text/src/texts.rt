@@ -1,0 +1,66 @@
+// The texts of written regions, one after another.
+ghost use Rattle.std.specs.Prelude.{◌≡◌, map, IfOk, OnOk};
+ghost use Rattle.ember_leaf.specs.Written.{HasGrown};
+ghost use Rattle.ember_text.specs.Documents.{AreGoodTexts, IsTextOf, written_face};
+
+use crate::face::face_text;
+use ember_leaf::Kept;
+use ember_model::OutOfMemory;
+use std::alloc::Global;
+use std::marker::Model;
+
+/// The texts of some faces, one after another, and how many these are.
+#[derive(Drop)]
+pub struct FacesText {
+    bytes: Vec<u8>,
+    count: u64,
+}
+
+impl Model for FacesText {
+    ghost use Rattle.ember_text.specs.Counted.{CountedText};
+
+    ghost Value = { CountedText };
+
+    ghost view = { λ s. record { bytes = s.bytes.items; count = s.count } };
+}
+
+impl FacesText {
+    /// The texts.
+    pub fn bytes(&self) -> &[u8]
+        ensures { result.now ≡ self.now.bytes }
+    {
+        &self.bytes
+    }
+
+    /// How many they are.
+    pub fn count(&self) -> u64
+        ensures { result ≡ self.now.count }
+    {
+        self.count
+    }
+}
+
+/// Appends the texts of written regions, in order, each with the opposite front where it is flipped.
+pub fn put_faces(alloc: Global, kept: &[Kept], out: &mut Vec<u8>) -> Result<(), OutOfMemory>
+    ensures { OnOk result (
+        HasGrown (AreGoodTexts (map written_face kept.now)) out.old.items out.new.items) }
+{
+    for k in kept {
+        face_text(alloc, &k.ring, k.flipped, out)?;
+    }
+    Ok(())
+}
+
+/// The texts of written regions, in order, each with the opposite front where it is flipped.
+pub fn faces_text(alloc: Global, kept: &[Kept]) -> Result<FacesText, OutOfMemory>
+    ensures { IfOk result (λ text. IsTextOf (map written_face kept.now) text) }
+{
+    let mut bytes = Vec::new(alloc);
+    put_faces(alloc, kept, &mut bytes)?;
+    // Many texts wait side by side, so none keeps room that it doesn't need.
+    bytes.shrink_to_fit();
+    Ok(FacesText {
+        bytes,
+        count: kept.len() as u64,
+    })
+}

@@ -1,0 +1,84 @@
+-- A whole number that is moved into the root lies in the same bounding boxes as before.
+use Rattle.std.proofs.Common.{◌≡◌, refl, sym, ap, ◌∙◌, arith, Bool, true, false, ◌&&◌, cond, ℤ, pos, negsuc, ◌≤ℤ◌, ◌<ℤ◌, int_le, int_lt, unsigned_abs, subst, ◌≤◌}
+use borrow.Author.Differences.{ints}
+use Rattle.ember_algebra.specs.Size.{Small}
+use Rattle.ember_model.specs.declared.point.Axis.{Axis}
+use Rattle.ember_box.specs.declared.aabb.Interval.{Interval}
+use Rattle.ember_box.specs.declared.aabb.Aabb.{Aabb}
+use Rattle.ember_trace.specs.declared.near_triangle.NearTriangle.{NearTriangle}
+use Rattle.ember_trace.specs.Crossings.{interval_along, may_contain, in_root}
+use Rattle.ember_trace.proofs.SegmentsPast.{low_small, high_small}
+
+-- moved into the root, or already there
+pub data RootCase (z : ℤ) : Type 0 where
+  below : z <ℤ negsuc 2047 → in_root z ≡ negsuc 2047 → RootCase z
+  above : pos 2048 <ℤ z → in_root z ≡ pos 2048 → RootCase z
+  within : in_root z ≡ z → RootCase z
+
+pub root_case : (z : ℤ) → RootCase z
+root_case z = by (int_lt z (negsuc 2047)) (int_lt (pos 2048) z) refl refl
+  where
+    less : (a b : ℤ) → int_lt a b ≡ true → a <ℤ b
+    less a b e = grind (arith, ints)
+
+    by : (l h : Bool) → int_lt z (negsuc 2047) ≡ l → int_lt (pos 2048) z ≡ h → RootCase z
+    by true h el eh = below (less z (negsuc 2047) el) (ap (λ b. cond b (negsuc 2047) (cond (int_lt (pos 2048) z) (pos 2048) z)) el)
+    by false true el eh =
+        above (less (pos 2048) z eh) (ap (λ b. cond b (negsuc 2047) (cond (int_lt (pos 2048) z) (pos 2048) z)) el ∙ ap (λ b. cond b (pos 2048) z) eh)
+    by false false el eh =
+        within (ap (λ b. cond b (negsuc 2047) (cond (int_lt (pos 2048) z) (pos 2048) z)) el ∙ ap (λ b. cond b (pos 2048) z) eh)
+
+pub root_small : (z : ℤ) → Small 2048 (in_root z)
+root_small z = by (root_case z)
+  where
+    ends : (a : ℤ) → a ≡ in_root z → Small 2048 a → Small 2048 (in_root z)
+    ends a e s = subst (λ (b : ℤ). Small 2048 b) e s
+
+    middle : (l h : Bool) → int_lt z (negsuc 2047) ≡ l → int_lt (pos 2048) z ≡ h → in_root z ≡ z → Small 2048 (in_root z)
+    middle true h el eh e = ends (negsuc 2047) (sym (ap (λ b. cond b (negsuc 2047) (cond (int_lt (pos 2048) z) (pos 2048) z)) el)) (record { small = omega arith })
+    middle false true el eh e = ends (pos 2048) (sym (ap (λ b. cond b (negsuc 2047) (cond (int_lt (pos 2048) z) (pos 2048) z)) el ∙ ap (λ b. cond b (pos 2048) z) eh)) (record { small = omega arith })
+    middle false false el eh e = ends z (sym e) (record { small = at_most z el eh })
+      where
+        at_most : (z : ℤ) → int_lt z (negsuc 2047) ≡ false → int_lt (pos 2048) z ≡ false → unsigned_abs z ≤ 2048
+        at_most z el eh = grind (arith, ints)
+
+    by : RootCase z → Small 2048 (in_root z)
+    by (below o e) = ends (negsuc 2047) (sym e) (record { small = omega arith })
+    by (above o e) = ends (pos 2048) (sym e) (record { small = omega arith })
+    by (within e) = middle (int_lt z (negsuc 2047)) (int_lt (pos 2048) z) refl refl e
+
+same_contained : (s : Interval) (z : ℤ) → Small 2047 s.low → Small 2047 s.high → may_contain s (in_root z) ≡ may_contain s z
+same_contained s z l h = by (root_case z)
+  where
+    yes : (a b : ℤ) → a ≤ℤ b → int_le a b ≡ true
+    yes a b e = grind (arith, ints)
+
+    no : (a b : ℤ) → b <ℤ a → int_le a b ≡ false
+    no a b e = grind (arith, ints)
+
+    left : (x y : ℤ) → int_le s.low x ≡ false → int_le s.low y ≡ false → may_contain s x ≡ may_contain s y
+    left x y p q = (λ i. p i && int_le x s.high) ∙ sym (λ i. q i && int_le y s.high)
+
+    right : (x y : ℤ) → int_le s.low x ≡ true → int_le s.low y ≡ true → int_le x s.high ≡ false → int_le y s.high ≡ false → may_contain s x ≡ may_contain s y
+    right x y p q u v = (λ i. p i && u i) ∙ sym (λ i. q i && v i)
+
+    by : RootCase z → may_contain s (in_root z) ≡ may_contain s z
+    by (below o e) =
+        ap (λ x. may_contain s x) e ∙ left (negsuc 2047) z (no s.low (negsuc 2047) (omega (arith, ints, l.small))) (no s.low z (omega (arith, ints, l.small, o)))
+    by (above o e) =
+        ap (λ x. may_contain s x) e ∙ right (pos 2048) z (yes s.low (pos 2048) (omega (arith, ints, l.small))) (yes s.low z (omega (arith, ints, l.small, o))) (no (pos 2048) s.high (omega (arith, ints, h.small))) (no z s.high (omega (arith, ints, h.small, o)))
+    by (within e) = ap (λ x. may_contain s x) e
+
+-- of the bounding box of a near triangle
+pub contained_in_root : (f : NearTriangle) (k : Axis) (at z : ℤ) → at ≡ in_root z → may_contain (interval_along f.aabb k) at ≡ may_contain (interval_along f.aabb k) z
+contained_in_root f k at z e =
+    ap (λ x. may_contain (interval_along f.aabb k) x) e ∙ ap (λ (b : Aabb). may_contain (interval_along b k) (in_root z)) f.bounds ∙ same_contained _ z (low_small f.tri k f.valid) (high_small f.tri k f.valid) ∙ ap (λ (b : Aabb). may_contain (interval_along b k) z) (sym f.bounds)
+
+-- what lies below a low end as moved, lies below it
+pub below_in_root : (d z : ℤ) → Small 2047 d → in_root z <ℤ d → z <ℤ d
+below_in_root d z s l = by (root_case z)
+  where
+    by : RootCase z → z <ℤ d
+    by (below o e) = omega (arith, ints, s.small, o)
+    by (above o e) = absurd (omega (arith, ints, s.small, e, l))
+    by (within e) = omega (arith, ints, e, l)

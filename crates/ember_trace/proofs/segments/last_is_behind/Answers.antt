@@ -1,0 +1,6 @@
+use Rattle.std.proofs.Common.{sym, ◌∙◌}
+use Rattle.ember_trace.proofs.LevelTriangles.{level_last}
+use Rattle.ember_trace.proofs.segments.last_is_behind.Goals as goal
+
+pub returns-then-is_level : goal.returns-then-is_level
+returns-then-is_level c = sym (level_last c.args.way.now c.args.f.now (sym c.is_level.ensures ∙ c.if-is_level.true))
