@@ -1,0 +1,56 @@
+-- What a mesh file holds: points in their order, and triangles over them with their places
+use Rattle.std.specs.Prelude.{ℕ, ◌<◌, Bool, false, ◌&&◌, not, List, [], ◌∷◌, length, map, All, Option, Some, None, slice_get}
+use Rattle.std.specs.List.{list_any}
+use Rattle.ember_number.specs.Fractions.{Fraction, is_below_limit}
+use Rattle.ember_number.specs.Values.{value_of}
+use Rattle.ember_surface.specs.declared.surface.Vertex.{Vertex}
+use Rattle.ember_surface.specs.declared.surface.Facet.{Facet}
+use Rattle.ember_surface.specs.declared.surface.Surface.{Surface}
+
+-- a point with exact coordinates
+pub record Point : Type 0 where
+  pub x : Fraction
+  pub y : Fraction
+  pub z : Fraction
+
+abbrev pub point_of : Vertex → Point
+point_of v = record { x = value_of v.x; y = value_of v.y; z = value_of v.z }
+
+-- what a file says: its points and its triangles
+pub record Content : Type 0 where
+  pub points : List Point
+  pub facets : List Facet
+
+abbrev pub content_of : Surface → Content
+content_of s = record { points = map point_of s.vertices.items; facets = s.facets.items }
+
+-- each corner is a vertex
+abbrev pub IsSurface : Surface → Type 0
+IsSurface s = All (λ f. All (λ corner. corner < length s.vertices.items) f.corners) s.facets.items
+
+-- the triangles of one corner with each two neighbours of a row of corners
+abbrev pub fan_round : ℕ → ℕ → List ℕ → List Facet
+fan_round place first [] = []
+fan_round place first (p ∷ []) = []
+fan_round place first (p ∷ q ∷ more) = record { corners = first ∷ p ∷ q ∷ []; place = place } ∷ fan_round place first (q ∷ more)
+
+-- the triangles of a face with these corners
+abbrev pub fan : ℕ → List ℕ → List Facet
+fan place [] = []
+fan place (first ∷ others) = fan_round place first others
+
+-- ---- coordinates that no grid takes
+-- all coordinates are below 10^15 in size
+abbrev pub is_vertex_below : Vertex → Bool
+is_vertex_below v =
+    is_below_limit (value_of v.x) && is_below_limit (value_of v.y) && is_below_limit (value_of v.z)
+
+abbrev pub is_too_large : Option Vertex → Bool
+is_too_large None = false
+is_too_large (Some v) = not (is_vertex_below v)
+
+abbrev pub is_corner_too_large : List Vertex → ℕ → Bool
+is_corner_too_large vertices corner = is_too_large (slice_get vertices corner)
+
+abbrev pub is_facet_too_large : List Vertex → Facet → Bool
+is_facet_too_large vertices f = list_any (is_corner_too_large vertices) f.corners
