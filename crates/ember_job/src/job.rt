@@ -1,9 +1,8 @@
 // A box with what its step needs, and what the step answers.
 use crate::Numbers;
-use ember_box::{Cell, root};
+use ember_box::Cell;
 use ember_model::Vector;
-use std::alloc::{AllocError, Global};
-use std::default::MadeWith;
+use std::alloc::AllocError;
 
 /// The error of a call for which memory is short.
 pub type OutOfMemory = AllocError;
@@ -12,22 +11,14 @@ pub type OutOfMemory = AllocError;
 #[derive(Drop)]
 pub struct Job {
     pub cell: Cell,
+    /// The numbers of the triangles that the step looks at: in most commands those near the box.
     pub list: Numbers,
+    /// The winding numbers at the box's reference point.
     pub at: Vector,
 }
 
-// What stands in an unused place of a hand.
-impl MadeWith<Global> for Job {
-    fn made_with(alloc: Global) -> Job {
-        Job {
-            cell: root(),
-            list: Numbers::of(Vec::new(alloc)),
-            at: Vector { counts: [0; 64] },
-        }
-    }
-}
-
-/// What became of a box: its two halves come, it is a leaf with an item, or it is passed over.
+/// What a step makes of a box: its two halves are visited next, it is a leaf that gives an item, or
+/// nothing below it is visited.
 #[derive(Drop)]
 pub enum Outcome<I> {
     Halves(Job, Job),
@@ -35,7 +26,7 @@ pub enum Outcome<I> {
     Skipped,
 }
 
-/// What became of a box, without the rest.
+/// What was made of a box, without what it gave.
 #[derive(Clone, Copy, Debug, PartialEq, Eq)]
 pub enum Kind {
     Halved,
@@ -43,7 +34,7 @@ pub enum Kind {
     Passed,
 }
 
-/// A box that was ended.
+/// A visited box, by its path in the tree, and what was made of it.
 #[derive(Clone, Copy, Debug, PartialEq, Eq)]
 pub struct Entry {
     pub path: u64,

@@ -36,9 +36,6 @@ ended_least h (x ∷ xs) = omega (arith, ended_least h xs, at x.place) where
   at (Deque i) = omega arith
   at Ended = omega arith
 
-if_ended_none : (to : Place) (h : ℕ → ℕ) (p : ℕ) → 0 ≤ if_ended to (h p)
-if_ended_none to h p = omega arith
-
 one_same : (x y : ℕ) → y ≡ x → one x y ≡ 1
 one_same x y e = elim (eqb_tells y x) [ inl h ↦ rw h.0 refl | inr h ↦ absurd (h.1 e) ]
 

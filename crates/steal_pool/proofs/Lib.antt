@@ -5,7 +5,6 @@ pub mod LendingSteps
 pub mod StateLists
 pub mod JournalLists
 pub mod Trees
-pub mod Halvings
 pub mod Places
 pub mod Merging
 pub mod Owned

@@ -6,6 +6,5 @@ pub mod Owners
 pub mod States
 pub mod RunJournals
 pub mod Journals
-pub mod Halving
 pub mod CoreRuns
 pub mod Laws

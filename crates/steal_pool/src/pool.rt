@@ -311,6 +311,7 @@ fn run_states<
     let mut rest = Output { journal, parts };
     drain_all(rt, alloc, call, gate, owners, &mut rest)?;
     let Output { journal, parts } = rest;
+    // The root was given to the last state, and the journal with the root is to be the first, that of worker 0.
     journals.reverse();
     let left = journal.len() as u64;
     journals.push(journal)?;
