@@ -7,3 +7,5 @@ pub mod Checked
 pub mod Complete
 pub mod CompleteTrees
 pub mod OneTree
+pub mod Stops
+pub mod SumStops
