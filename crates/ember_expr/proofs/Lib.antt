@@ -9,3 +9,5 @@ pub mod CompleteTrees
 pub mod OneTree
 pub mod Stops
 pub mod SumStops
+pub mod TreeStops
+pub mod FirstBadToken

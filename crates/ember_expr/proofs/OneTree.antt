@@ -110,7 +110,7 @@ at_end : (f g : Formula) (rest : List Token) (place : ℕ) → words rest ≡ []
 at_end f g [] place none e = cc
 at_end f g (t ∷ ts) place none e = cc
 
-err_same : (a b : ExprFault) → ◌≡◌ {A = Result Formula ExprFault} (Err a) (Err b) → a ≡ b
+pub err_same : (a b : ExprFault) → ◌≡◌ {A = Result Formula ExprFault} (Err a) (Err b) → a ≡ b
 err_same a b e = cc
 
 not_misplaced : (f : Formula) (place : ℕ) (r : Result (Read Formula) ExprFault) → Accepts IsLimit f [] r → (r >>= λ e. ended e.part e.rest) ≡ Err (Syntax place) → ⊥
