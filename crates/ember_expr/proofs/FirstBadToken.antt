@@ -10,7 +10,7 @@ use Rattle.ember_expr.specs.Formula.{Formula}
 use Rattle.ember_expr.specs.Tokens.{tokens_of}
 use Rattle.ember_expr.specs.Grammar.{Read, ◌>>=◌, misplaced, or, not, ended, whole, expr_of}
 use Rattle.ember_expr.specs.Derivation.{IsExpression, words}
-use Rattle.ember_expr.specs.FirstBadToken.{IsBeginning, NoneGoesOn, place_of, IsFirstBadToken}
+use Rattle.ember_expr.specs.FirstBadToken.{IsPrefix, NoneGoesOn, place_of, IsFirstBadToken}
 use Rattle.ember_expr.proofs.OneTree.{IsLimit, err_same, whole_no_syntax, unplaced, unplaced_words}
 use Rattle.ember_expr.proofs.Stops.{SameFirst, by_same, Reads, StopsAs}
 use Rattle.ember_expr.proofs.TreeStops.{or_stops, not_stops}
@@ -25,7 +25,7 @@ record StopsShort (scope : Scope) (left : ℕ) (ts : List Token) (place : ℕ) :
   rest : List Token
   split : ts ≡ before ++ rest
   here : misplaced scope rest ≡ Syntax place
-  begins : IsBeginning (words before)
+  prefix : IsPrefix (words before)
   local : (us : List Token) → SameFirst rest us → whole scope left (before ++ us) ≡ Err (Syntax place)
 
 too_long : (scope : Scope) (left : ℕ) (ts : List Token) (place : ℕ) (f : Formula) (rest : List Token) → Reads IsExpression (λ us r. or (not scope left) us ≡ r) ts f rest → ended f rest ≡ Err (Syntax place) → StopsShort scope left ts place
@@ -36,7 +36,7 @@ too_long scope left ts place f (t ∷ rest) h e = record {
   rest = t ∷ rest;
   split = h.split;
   here = ap (λ p. Syntax p) (same_place t.place place e);
-  begins = record { others = []; tree = f; derived = subst (λ ws. IsExpression ws f) (sym (append-nil (words h.before))) h.holds };
+  prefix = record { others = []; tree = f; derived = subst (λ ws. IsExpression ws f) (sym (append-nil (words h.before))) h.holds };
   local = λ us same. ap (λ r. r >>= λ e. ended e.part e.rest) (h.local us same) ∙ by_same (λ vs. ended f vs ≡ Err (Syntax place)) t rest us same (λ vs. e);
 }
 
@@ -49,7 +49,7 @@ stops_short scope left ts place (Err fault) (inr k) e = record {
   rest = k.rest;
   split = k.split;
   here = k.here ∙ err_same fault (Syntax place) e;
-  begins = record { others = k.completes.more; tree = k.completes.part; derived = k.completes.holds };
+  prefix = record { others = k.completes.more; tree = k.completes.part; derived = k.completes.holds };
   local = λ us same. ap (λ r. r >>= λ e. ended e.part e.rest) (k.local us same) ∙ e;
 }
 
@@ -87,7 +87,7 @@ first_bad_by text meshes place true e =
       rest = stop.rest;
       split = stop.split;
       here = place_here scope stop.rest place stop.here;
-      begins = stop.begins;
+      prefix = stop.prefix;
       stuck = none_goes_on scope 64 place stop.before stop.rest stop.local;
     }
 first_bad_by text meshes place false e = cc
@@ -124,15 +124,15 @@ two_splits (x ∷ xs) r (y ∷ ys) s e =
     same_tail x y xs r ys s first (two_splits xs r ys s later)
 
 -- no text goes on where one does
-no_longer : (before longer rest : List Token) → GoesOnWith before longer rest → NoneGoesOn (words before) (words rest) → IsBeginning (words longer) → ⊥
+no_longer : (before longer rest : List Token) → GoesOnWith before longer rest → NoneGoesOn (words before) (words rest) → IsPrefix (words longer) → ⊥
 no_longer before longer rest g stuck b =
     let none : NoneGoesOn (words before) (words (g.first ∷ g.tail)) = subst (λ ts. NoneGoesOn (words before) (words ts)) g.is stuck in
     none (record { others = words g.more ++ b.others; tree = b.tree; derived = subst (λ ws. IsExpression ws b.tree) (one_word_more before g.more g.first b.others) (subst (λ ts. IsExpression (words ts ++ b.others) b.tree) g.split b.derived) })
 
 one_place_by : (text : List ℕ) (p q : ℕ) (a : IsFirstBadToken text p) (b : IsFirstBadToken text q) → (a.rest ≡ b.rest) ⊎ (GoesOnWith a.before b.before a.rest ⊎ GoesOnWith b.before a.before b.rest) → p ≡ q
 one_place_by text p q a b (inl e) = sym a.here ∙ (ap (λ ts. place_of (length text) ts) e ∙ b.here)
-one_place_by text p q a b (inr (inl g)) = absurd (no_longer a.before b.before a.rest g a.stuck b.begins)
-one_place_by text p q a b (inr (inr g)) = absurd (no_longer b.before a.before b.rest g b.stuck a.begins)
+one_place_by text p q a b (inr (inl g)) = absurd (no_longer a.before b.before a.rest g a.stuck b.prefix)
+one_place_by text p q a b (inr (inr g)) = absurd (no_longer b.before a.before b.rest g b.stuck a.prefix)
 
 -- a text has one first bad token
 pub first_bad_is_one : (text : List ℕ) (p q : ℕ) → IsFirstBadToken text p → IsFirstBadToken text q → p ≡ q

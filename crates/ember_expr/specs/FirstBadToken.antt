@@ -7,7 +7,7 @@ use Rattle.ember_expr.specs.Tokens.{tokens_of}
 use Rattle.ember_expr.specs.Derivation.{IsExpression, words}
 
 -- some text of the grammar begins with these words
-pub record IsBeginning (ws : List Word) : Type 0 where
+pub record IsPrefix (ws : List Word) : Type 0 where
   pub others : List Word
   pub tree : Formula
   pub derived : IsExpression (ws ++ others) tree
@@ -15,7 +15,7 @@ pub record IsBeginning (ws : List Word) : Type 0 where
 -- no text of the grammar goes on with the next word; where none is left, none ends here
 abbrev pub NoneGoesOn : List Word → List Word → Type 0
 NoneGoesOn before [] = (f : Formula) → IsExpression before f → ⊥
-NoneGoesOn before (w ∷ ws) = IsBeginning (before ++ w ∷ []) → ⊥
+NoneGoesOn before (w ∷ ws) = IsPrefix (before ++ w ∷ []) → ⊥
 
 -- the place of the first token; that of the text's end where none is left
 abbrev pub place_of : ℕ → List Token → ℕ
@@ -28,5 +28,5 @@ pub record IsFirstBadToken (text : List ℕ) (place : ℕ) : Type 0 where
   pub rest : List Token
   pub split : tokens_of text ≡ before ++ rest
   pub here : place_of (length text) rest ≡ place
-  pub begins : IsBeginning (words before)
+  pub prefix : IsPrefix (words before)
   pub stuck : NoneGoesOn (words before) (words rest)
