@@ -136,7 +136,7 @@ not_with_front : (scope : Scope) (left : ℕ) (inner : Option (Rule Formula)) �
 not_with_front scope left inner deeper [] = tt
 not_with_front scope left inner deeper (t ∷ ts) = not_at_front scope left inner deeper t t.word ts refl
 
-some_same : {A : Type 0} (a b : A) → ◌≡◌ {A = Option A} (Some a) (Some b) → a ≡ b
+pub some_same : {A : Type 0} (a b : A) → ◌≡◌ {A = Option A} (Some a) (Some b) → a ≡ b
 some_same a b e = cc
 
 not_front : (scope : Scope) (left : ℕ) → ReadsPhrase scope.meshes left grammar.not (not scope left)

@@ -7,3 +7,7 @@ pub mod Checked
 pub mod Complete
 pub mod CompleteTrees
 pub mod OneTree
+pub mod Stops
+pub mod SumStops
+pub mod TreeStops
+pub mod FirstBadToken

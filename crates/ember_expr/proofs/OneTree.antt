@@ -84,7 +84,7 @@ pub parsed_has_tree : (text : List ℕ) (meshes : ℕ) (f : Formula) → expr_of
 parsed_has_tree text meshes f e = parsed_by text meshes f (nat_le (length text) 4096) refl e
 
 -- ---- a text of the grammar has no fault but those of the limits
-abbrev IsLimit : ExprFault → Type 0
+abbrev pub IsLimit : ExprFault → Type 0
 IsLimit (Syntax place) = ⊥
 IsLimit _ = Unit {0}
 
@@ -100,7 +100,7 @@ mesh_limited : (scope : Scope) (place n : ℕ) (small exists : Bool) → PassesA
 mesh_limited scope place n true exists = existing_passes n _
 mesh_limited scope place n false exists = tt
 
-limits_pass : (scope : Scope) (w : Word) → Passes IsLimit (limits scope) w
+pub limits_pass : (scope : Scope) (w : Word) → Passes IsLimit (limits scope) w
 limits_pass scope (word.Number n) = λ place. limited_passes place n (nat_le n 1000000)
 limits_pass scope (word.Mesh n) = λ place. mesh_limited scope place n (nat_le n 1000000) true
 limits_pass scope (word.Wind n) = λ place. mesh_limited scope place n (nat_le n 1000000) true
@@ -110,14 +110,14 @@ at_end : (f g : Formula) (rest : List Token) (place : ℕ) → words rest ≡ []
 at_end f g [] place none e = cc
 at_end f g (t ∷ ts) place none e = cc
 
-err_same : (a b : ExprFault) → ◌≡◌ {A = Result Formula ExprFault} (Err a) (Err b) → a ≡ b
+pub err_same : (a b : ExprFault) → ◌≡◌ {A = Result Formula ExprFault} (Err a) (Err b) → a ≡ b
 err_same a b e = cc
 
 not_misplaced : (f : Formula) (place : ℕ) (r : Result (Read Formula) ExprFault) → Accepts IsLimit f [] r → (r >>= λ e. ended e.part e.rest) ≡ Err (Syntax place) → ⊥
 not_misplaced f place (Ok x) h e = at_end f x.part x.rest place h.1 e
 not_misplaced f place (Err fault) h e = subst IsLimit (err_same fault (Syntax place) e) h
 
-whole_no_syntax : (scope : Scope) (left : ℕ) (ts : List Token) (f : Formula) (place : ℕ) → IsExpression (words ts) f → whole scope left ts ≡ Err (Syntax place) → ⊥
+pub whole_no_syntax : (scope : Scope) (left : ℕ) (ts : List Token) (f : Formula) (place : ℕ) → IsExpression (words ts) f → whole scope left ts ≡ Err (Syntax place) → ⊥
 unfolding whole
 whole_no_syntax scope left ts f place d e =
     not_misplaced f place (or (not scope left) ts) (subst (λ rule. Accepts IsLimit f [] (or rule ts)) (sym (not_same scope left)) (text_accepts IsLimit (limits scope) scope left (words ts) f d (inr (λ place. tt)) (every_one (Passes IsLimit (limits scope)) (limits_pass scope) (words ts)) ts refl)) e
@@ -131,10 +131,10 @@ pub text_has_no_syntax_fault : (text : List ℕ) (meshes place : ℕ) (f : Formu
 text_has_no_syntax_fault text meshes place f d e = no_syntax_by text meshes place f (nat_le (length text) 4096) d e
 
 -- ---- one tree
-abbrev unplaced : List Word → List Token
+abbrev pub unplaced : List Word → List Token
 unplaced ws = map (λ w. record { word = w; place = 0 }) ws
 
-unplaced_words : (ws : List Word) → words (unplaced ws) ≡ ws
+pub unplaced_words : (ws : List Word) → words (unplaced ws) ≡ ws
 unplaced_words [] = refl
 unplaced_words (w ∷ ws) = ap (λ us. w ∷ us) (unplaced_words ws)
 

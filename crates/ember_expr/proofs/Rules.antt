@@ -30,7 +30,7 @@ next_term scope whole terms rest minus next after (suc count) enough same sign r
 pub one_term : (scope : Scope) (whole : Result (Read (List Term)) ExprFault) (terms : List Term) (rest : List Token) (minus : Bool) (next : Term) (after : List Token) → IsSumSoFar scope whole terms rest → sign_before rest ≡ Some minus → term scope minus (after_first rest) ≡ read next after → length after < length rest → IsSumSoFar scope whole (terms ++ next ∷ []) after
 one_term scope whole terms rest minus next after so_far = next_term scope whole terms rest minus next after so_far.count so_far.enough so_far.same
 
-last_term : (scope : Scope) (whole : Result (Read (List Term)) ExprFault) (terms : List Term) (rest : List Token) (count : ℕ) → whole ≡ more_terms scope count terms rest → sign_before rest ≡ None → whole ≡ read terms rest
+pub last_term : (scope : Scope) (whole : Result (Read (List Term)) ExprFault) (terms : List Term) (rest : List Token) (count : ℕ) → whole ≡ more_terms scope count terms rest → sign_before rest ≡ None → whole ≡ read terms rest
 last_term scope whole terms rest zero same sign = same
 last_term scope whole terms rest (suc count) same sign = same ∙ rw sign refl
 

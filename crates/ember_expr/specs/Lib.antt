@@ -3,3 +3,4 @@ pub mod Truth
 pub mod Tokens
 pub mod Grammar
 pub mod Derivation
+pub mod FirstBadToken

@@ -1,10 +1,12 @@
-// The laws of the grammar: what is parsed is what the grammar derives, and it derives one tree.
+// The laws of the grammar: what is parsed is what the grammar derives, it derives one tree, and a
+// fault of syntax stands where the grammar doesn't go on.
 ghost use Rattle.std.specs.Prelude.{◌≡◌, ◌≢◌, ℕ, List, Ok, Err};
 ghost use Rattle.ember_expr.specs.declared.fault.ExprFault.TheVariants.{Syntax};
 ghost use Rattle.ember_expr.specs.declared.token.Word.{Word};
 ghost use Rattle.ember_expr.specs.Formula.{Formula};
 ghost use Rattle.ember_expr.specs.Grammar.{expr_of};
 ghost use Rattle.ember_expr.specs.Derivation.{Phrase, Derives, IsExpression, HasTree, words_of};
+ghost use Rattle.ember_expr.specs.FirstBadToken.{IsFirstBadToken};
 
 /// A text is parsed as a tree exactly where it is within the limits and the grammar derives its
 /// words as this tree. A text whose words the grammar derives has no syntax fault, within the
@@ -14,4 +16,12 @@ pub fn texts_have_the_tree_of_the_grammar()
     ensures parsed { (text : List ℕ) (meshes : ℕ) (f : Formula) → HasTree text meshes f → expr_of text meshes ≡ Ok f }
     ensures clean { (t : List ℕ) (n p : ℕ) (f : Formula) → IsExpression (words_of t) f → expr_of t n ≢ Err (Syntax p) }
     ensures one { (p : Phrase) (ws : List Word) (f g : Formula) → Derives p ws f → Derives p ws g → f ≡ g }
+{}
+
+/// A fault of syntax stands at the first token that no text of the grammar has after the tokens
+/// before it. A text that begins one of the grammar and is none has it at its end. A text has at
+/// most one such place.
+pub fn syntax_faults_stand_at_the_first_bad_token()
+    ensures first { (t : List ℕ) (n p : ℕ) → expr_of t n ≡ Err (Syntax p) → IsFirstBadToken t p }
+    ensures one { (t : List ℕ) (p q : ℕ) → IsFirstBadToken t p → IsFirstBadToken t q → p ≡ q }
 {}

@@ -13,5 +13,5 @@ mod truth;
 pub use expression::{Expr, bounded, parse, tree, value};
 pub use fault::ExprFault;
 pub use formula::{Rel, Sum, Term, Tree};
-pub use law::texts_have_the_tree_of_the_grammar;
+pub use law::{syntax_faults_stand_at_the_first_bad_token, texts_have_the_tree_of_the_grammar};
 pub use truth::holds;

@@ -94,3 +94,45 @@ fn refused(rt: HostRuntime) -> Result<(), Fail> {
     }
     Ok(())
 }
+
+#[test]
+fn places_of_syntax_faults(rt: HostRuntime) {
+    let rows: [(&[u8], u32); 24] = [
+        // it ends too early
+        (b" ", 1),
+        (b"w1", 2),
+        (b"(m1 ", 4),
+        (b"odd(w1", 6),
+        (b"m1|", 3),
+        // what follows a whole expression
+        (b"m1 m2", 3),
+        (b"m1)", 2),
+        (b"m1=1", 2),
+        (b"1=1=1", 3),
+        // a sum has no parentheses, and its first sign stands alone
+        (b"(1+2)=3", 4),
+        (b"1=--1", 3),
+        (b"2*3=6", 2),
+        (b"w1*2=0", 2),
+        (b"odd(m1)", 4),
+        (b"odd w1", 4),
+        // the longest token is taken
+        (b"!!=1", 1),
+        (b"1 ! = 2", 2),
+        (b"w1<>2", 3),
+        (b"m1|odds", 6),
+        // an unknown byte, and a letter without a number
+        (b"m1\t", 2),
+        (b"m1&w", 3),
+        (b"m1 & M2", 5),
+        // a fault of syntax comes before the others of its token
+        (b"m1 m0", 3),
+        (b"m1 1000001", 3),
+    ];
+    for (text, place) in rows {
+        assert_eq!(rt;
+            parse(rt.alloc(), text, 2).err(),
+            Some(ExprFault::Syntax(place))
+        );
+    }
+}
