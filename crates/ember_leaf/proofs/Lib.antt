@@ -4,6 +4,7 @@ pub mod Cutting
 pub mod Deciding
 pub mod WrittenRegions
 pub mod LeafRegions
+pub mod LiteralRegions
 pub mod Leaving
 pub mod Lower
 pub mod OneList

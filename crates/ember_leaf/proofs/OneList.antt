@@ -48,6 +48,17 @@ pub hidden_owns_none : (near : List Tri) (c : Cell) (i : ℕ) (faces : List Face
 hidden_owns_none near c i faces r h =
     every_from (λ g. IsOwner near i g → ⊥) faces (λ j g e o. o.first h.index h.own h.cover h.before h.here h.there h.coplanar (record { holds = λ v w. h.contains.holds v (subst (λ (t : Tri). is_inside (face_of t) v ≡ true) (get_or_from_slice_get near i h.own no_tri h.there) (region_inside c near i j faces g r e v w)) }))
 
+module _ (scene : List Tri) (f : Formula) (c : Cell) (near : List Tri) where
+  none_owned : (i : ℕ) (g : Face) (ks : List Kept) → (IsOwner near i g → ⊥) → AtRegion scene f near i g ks → ks ≡ []
+  none_owned i g ks n (unowned m) = refl
+  none_owned i g ks n (even s e) = refl
+  none_owned i g ks n (written o s e) = absurd (n o)
+
+  -- so nothing is written of it
+  pub covered_writes_nothing : (i : ℕ) (ks : List Kept) → IsCovered near i → AreRegionsWritten scene f c near i ks → ks ≡ []
+  covered_writes_nothing i ks h r =
+      each_nothing (λ g. IsOwner near i g → ⊥) (λ g xs n p. none_owned i g xs n p) (hidden_owns_none near c i r.faces r.are_regions h) r.are_written
+
 -- ---- one list
 -- all sides of a region are equal
 abbrev pub SidesAreOne : List Tri → Face → Type 0
@@ -72,20 +83,11 @@ module _ (scene : List Tri) (f : Formula) (c : Cell) (near : List Tri) (one : (f
       let s = one g r a b p q x y in
       ap₂ (λ (v w : List ℤ). let k : Kept = record { tri = i; flipped = truth (front g v w) f; ring = g } in k ∷ []) s.0 s.1
 
-  none_owned : (i : ℕ) (g : Face) (ks : List Kept) → (IsOwner near i g → ⊥) → AtRegion scene f near i g ks → ks ≡ []
-  none_owned i g ks n (unowned m) = refl
-  none_owned i g ks n (even s e) = refl
-  none_owned i g ks n (written o s e) = absurd (n o)
-
-  none_hidden : (i : ℕ) (ks : List Kept) → IsCovered near i → AreRegionsWritten scene f c near i ks → ks ≡ []
-  none_hidden i ks h r =
-      each_nothing (λ g. IsOwner near i g → ⊥) (λ g xs n p. none_owned i g xs n p) (hidden_owns_none near c i r.faces r.are_regions h) r.are_written
-
   of_unique : (i : ℕ) (us vs : List Kept) → IsWrittenOf scene f c near i us → IsWrittenOf scene f c near i vs → us ≡ vs
   of_unique i us vs (regional u) (regional v) =
       each_unique_where (IsRegion near c) (λ g xs ys r p q. region_unique i g xs ys r p q) (each_region near c i u.faces u.are_regions) u.are_written (subst (λ (gs : List Face). Each (AtRegion scene f near i) gs vs) (sym (regions_unique c near i u.faces v.faces u.are_regions v.are_regions)) v.are_written)
-  of_unique i us vs (regional u) (hidden h) = none_hidden i us h u
-  of_unique i us vs (hidden h) (regional v) = sym (none_hidden i vs h v)
+  of_unique i us vs (regional u) (hidden h) = covered_writes_nothing scene f c near i us h u
+  of_unique i us vs (hidden h) (regional v) = sym (covered_writes_nothing scene f c near i vs h v)
   of_unique i us vs (hidden h) (hidden k) = refl
 
   -- the written regions of a leaf are one list

@@ -15,7 +15,7 @@ use Rattle.ember_leaf.specs.Written.{AtRegion, unowned, AreRegionsWritten, IsWri
 use Rattle.ember_leaf.proofs.OneList.{hidden_owns_none}
 
 -- ---- either it holds or it doesn't
-either : (P : Type 0) → ((P ⊎ (P → ⊥)) → ⊥) → ⊥
+pub either : (P : Type 0) → ((P ⊎ (P → ⊥)) → ⊥) → ⊥
 either P n = n (inr (λ p. n (inl p)))
 
 at_wall : (w : Wall) (f : Face) → ((fs : List Face) → AtWall w f fs → ⊥) → ⊥
@@ -41,16 +41,21 @@ at_blade b f n = either (Meets f b.face × Cuts f b.plane) by
     by (inr m) = n (f ∷ []) (whole (λ h c. m (h, c)))
 
 -- ---- lists
-some_each : {X Y : Type 0} {R : X → List Y → Type 0} → ((x : X) → ((ys : List Y) → R x ys → ⊥) → ⊥) → (xs : List X) → ((ys : List Y) → Each R xs ys → ⊥) → ⊥
+pub some_each : {X Y : Type 0} {R : X → List Y → Type 0} → ((x : X) → ((ys : List Y) → R x ys → ⊥) → ⊥) → (xs : List X) → ((ys : List Y) → Each R xs ys → ⊥) → ⊥
 some_each f [] n = n [] none
 some_each f (x ∷ xs) n = f x (λ ys r. some_each f xs (λ zs e. n (ys ++ zs) (more r e)))
+
+pub some_each_where : {X Y : Type 0} {R : X → List Y → Type 0} (P : X → Type 0) → ((x : X) → P x → ((ys : List Y) → R x ys → ⊥) → ⊥) → (xs : List X) → Every P xs → ((ys : List Y) → Each R xs ys → ⊥) → ⊥
+some_each_where P f [] h n = n [] none
+some_each_where P f (x ∷ xs) h n =
+    f x h.0 (λ ys r. some_each_where P f xs h.1 (λ zs e. n (ys ++ zs) (more r e)))
 
 some_chain : {X A : Type 0} {R : X → A → A → Type 0} → ((x : X) (a : A) → ((b : A) → R x a b → ⊥) → ⊥) → (xs : List X) (a : A) → ((b : A) → Chain R xs a b → ⊥) → ⊥
 some_chain f [] a n = n a done
 some_chain f (x ∷ xs) a n = f x a (λ b r. some_chain f xs b (λ c k. n c (step r k)))
 
 -- ---- regions
-some_regions : (c : Cell) (ts : List Tri) (i : ℕ) → ((fs : List Face) → IsRegions c ts i fs → ⊥) → ⊥
+pub some_regions : (c : Cell) (ts : List Tri) (i : ℕ) → ((fs : List Face) → IsRegions c ts i fs → ⊥) → ⊥
 some_regions c ts i n =
     some_chain (λ w fs. some_each (at_wall w) fs) (walls c) (elim (is_flat (tri_at ts i)) [ true ↦ [] | false ↦ face_of (tri_at ts i) ∷ [] ]) (λ start s. some_chain (λ b fs. some_each (at_blade b) fs) (cutting_planes ts i) start (λ fs k. n fs (record { start = start; is_start = s; cuts = k })))
 

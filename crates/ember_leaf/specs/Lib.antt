@@ -2,6 +2,7 @@ pub mod Contact
 pub mod Cutters
 pub mod LeafBoxes
 pub mod Leaves
+pub mod Literal
 pub mod Lower
 pub mod TriRelations
 pub mod Scenes

@@ -8,10 +8,12 @@ mod cutter;
 mod cutters;
 mod heights;
 mod kept;
+mod law;
 mod leaf;
 mod regions;
 mod relation;
 mod wall;
 
 pub use kept::{Kept, KeptList};
+pub use law::special_cases_are_the_literal_definition;
 pub use leaf::leaf_faces;

@@ -18,6 +18,7 @@ pub mod Roots
 pub mod RegionEnds
 pub mod SharedPlanes
 pub mod Slides
+pub mod SomeSides
 pub mod Tallies
 pub mod ThreeEdges
 pub mod TracedSides

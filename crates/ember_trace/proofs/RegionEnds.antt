@@ -66,7 +66,12 @@ stops_from k lo a b d q close small =
     record { close = close; large = omega arith; once = omega arith; twice = omega arith; valid_once = λ h i. slid_once h k _ i (small k); valid_twice = λ h i. slid_twice h (second_of k) k _ _ i (small (second_of k)) (small k) }
 
 -- ---- directly beside it
-along_small : (h : Plane) (k : Axis) → IsSupportSized h → Small 33554431 (along h k)
+pub flip_zero : (t : Sign) → flip t ≡ Zero → t ≡ Zero
+flip_zero Neg e = cc
+flip_zero Zero e = refl
+flip_zero Pos e = cc
+
+pub along_small : (h : Plane) (k : Axis) → IsSupportSized h → Small 33554431 (along h k)
 along_small h X i = i.a
 along_small h Y i = i.b
 along_small h Z i = i.c
@@ -83,8 +88,3 @@ module _ (k : Axis) (a b d : Meet) (q : Spot) (close : IsClose k a b d q) (s m :
   pub before_end : IsEnd k a b d flip (moved (scaled (pos m) q) k (neg_ℤ (pos s)))
   before_end =
       record { weight = weight (neg_ℤ (pos s)); side = λ h i. before_sign k q h (along_small h k i) m s ls lm ∙ ap (λ (t : Sign). or_sign t (flip (sgn (along h k)))) (close.at_end h (support_valid i)); level = refl; level_out = flip_zero }
-    where
-      flip_zero : (t : Sign) → flip t ≡ Zero → t ≡ Zero
-      flip_zero Neg e = cc
-      flip_zero Zero e = refl
-      flip_zero Pos e = cc

@@ -1,30 +1,26 @@
 -- The counts that the paths to a region give are the winding numbers directly before and after it.
-use Rattle.std.proofs.Common.{◌≡◌, refl, sym, ap, subst, ◌∙◌, arith, ℕ, true, cond, ◌&&◌, List, map, get_or, Some, slice_get, ℤ, pos, ◌+ℤ◌, ◌-ℤ◌, ◌*ℤ◌, neg_ℤ, ◌≤ℤ◌}
+use Rattle.std.proofs.Common.{◌≡◌, refl, sym, ap, subst, ◌∙◌, arith, ℕ, true, List, map, get_or, Some, slice_get, ℤ, pos, ◌+ℤ◌, ◌-ℤ◌, ◌*ℤ◌, neg_ℤ, ◌≤ℤ◌}
 use Rattle.ember_algebra.specs.Vector.{Vector}
 use Rattle.ember_algebra.specs.Size.{Small}
 use Rattle.ember_algebra.specs.declared.Sign.{Sign}
-use Rattle.ember_algebra.specs.Sign.{sign, sgn, flip, times, is_neg}
+use Rattle.ember_algebra.specs.Sign.{sgn, flip}
 use Rattle.ember_algebra.proofs.Laws.{linear}
 use Rattle.ember_algebra.proofs.Ring.{◌⊕◌, ◌⊖◌, ◌⊗◌, ◌≈◌, num, solve, cancels}
-use Rattle.ember_algebra.proofs.Signs.{sgn-mul}
 use Rattle.ember_model.specs.declared.point.Spot.{Spot}
 use Rattle.ember_model.specs.declared.point.Axis.{Axis}
 use Rattle.ember_model.specs.declared.point.Axis.TheVariants.{X, Y, Z}
 use Rattle.ember_model.specs.declared.plane.Plane.{Plane}
 use Rattle.ember_model.specs.declared.tri.Tri.{Tri}
 use Rattle.ember_model.specs.declared.face.Face.{Face}
-use Rattle.ember_model.specs.Planes.{value_at, along, main_axis, opposite, support_of}
+use Rattle.ember_model.specs.Planes.{value_at, along, main_axis, opposite}
 use Rattle.ember_model.specs.Points.{DifferAlong}
-use Rattle.ember_model.specs.Valid.{IsValidTri}
-use Rattle.ember_model.specs.Faces.{face_of, is_inside, crossing, leg}
+use Rattle.ember_model.specs.Faces.{face_of, is_inside, leg}
 use Rattle.ember_model.specs.Clear.{AreClear}
 use Rattle.ember_model.specs.Meshes.{faces_of, vector, IsScene}
 use Rattle.ember_model.specs.Sides.{IsSides}
-use Rattle.ember_model.proofs.FourSigns.{crossing_is}
 use Rattle.ember_model.proofs.Hits.{inside_parts}
-use Rattle.ember_model.proofs.PlaneSizes.{support_sized}
 use Rattle.ember_law.specs.Counts.{added, leg_vector}
-use Rattle.ember_law.proofs.FlatTriangles.{flat_crossing, flat_leg}
+use Rattle.ember_law.proofs.FlatTriangles.{flat_leg}
 use Rattle.ember_law.proofs.Tallies.{tally}
 use Rattle.ember_law.proofs.Vectors.{axes_law, legs_law}
 use Rattle.ember_point.specs.declared.meet_point.Meet.{Meet}
@@ -49,11 +45,12 @@ use Rattle.ember_trace.proofs.Places.{coordinate_small}
 use Rattle.ember_trace.proofs.PathVertices.{entries, differ_with, differ_last, opposite_value}
 use Rattle.ember_trace.proofs.VertexSides.{AreStops, stop_at_start, stop_after_first, stop_after_second, start_sign}
 use Rattle.ember_trace.proofs.Corners.{AreFirst, first_corners, none_at}
-use Rattle.ember_trace.proofs.SegmentCrossings.{IsEnd, edges_behind, differ_back, start_weight, first_legs, final_leg}
+use Rattle.ember_trace.proofs.SegmentCrossings.{IsEnd, differ_back, start_weight, first_legs, final_leg}
 use Rattle.ember_trace.proofs.RegionEnds.{find, far_out, stops_from, before_end, after_end}
 use Rattle.ember_trace.proofs.ClearVertices.{generic_clear, has_with, has_start, start_generic, first_generic, second_generic, end_generic}
 use Rattle.ember_trace.proofs.FarSegments.{last_far}
-use Rattle.ember_trace.proofs.MeshSums.{LeavesFlat, tally_same, tally_kept, tally_both, taken_legs}
+use Rattle.ember_trace.proofs.SomeSides.{vector_on_one_side}
+use Rattle.ember_trace.proofs.MeshSums.{LeavesFlat, tally_kept, tally_both, taken_legs}
 
 -- ---- in the box
 -- a plane across an axis
@@ -77,18 +74,10 @@ in_box c f q l i =
 -- ---- the vector at the start
 -- is the same at all points that are close enough to the corner
 module _ (k : Axis) (lo : Vector) (a b d : Meet) (q : Spot) (n : ℕ) (s : AreStops k lo a b d q n) where
-  start_crossing : (t : Tri) → IsValidTri t → crossing (face_of t) X (stop_at_start lo n) ≡ crossing (face_of t) X (reference_at lo)
-  start_crossing t v =
-      let p = stop_at_start lo n in let r = reference_at lo in let h = support_of t in
-      let e = start_sign k lo a b d q n s h (support_sized t v) in
-      let m = ap is_neg (sgn-mul (value_at h p) (along h X)) ∙ (λ i. is_neg (times (e i) (sgn (along h X)))) ∙ sym (ap is_neg (sgn-mul (value_at h r) (along h X))) in
-      let g = edges_behind (λ g. sgn (value_at g r)) t X p v (λ g i z. start_sign k lo a b d q n s g i) in
-      crossing_is X p t (start_weight lo n s.large) ∙ (λ i. cond (m i && g i) (sign (along h X)) (pos 0)) ∙ sym (crossing_is X r t (weight_at lo))
-
   start_vector : (ts : List Tri) → IsScene ts 64 → vector k ts (stop_at_start lo n) ≡ vector X ts (reference_at lo)
   start_vector ts i =
       let p = stop_at_start lo n in let r = reference_at lo in
-      axes_law ts 64 i p k X (start_weight lo n s.large) (generic_clear p ts (start_weight lo n s.large) (start_generic k lo a b d q n s) i.valid) ∙ tally_same (λ f. crossing f X p) (λ f. crossing f X r) (flat_crossing X p) (flat_crossing X r) ts (λ i' d' l. start_crossing (get_or ts i' d') (i.valid i' d' l))
+      axes_law ts 64 i p k X (start_weight lo n s.large) (generic_clear p ts (start_weight lo n s.large) (start_generic k lo a b d q n s) i.valid) ∙ vector_on_one_side X p r (start_weight lo n s.large) (weight_at lo) (λ h j. start_sign k lo a b d q n s h j) ts i.valid
 
 -- ---- the vector at the end
 module _ (ts ns : List Tri) (c : Cell) (counts : List ℤ) (fits : Fits ts ns c counts) (k : Axis) (v : Path) (e : v.lo ≡ entries c.lo) (q : Spot) (n : ℕ) (s : AreStops k c.lo v.corner v.next v.last q n) (has : HasPoint c q) (fs : List NearTriangle) (near_triangles : AreNearTriangles ns c fs) (turn : Sign → Sign) (p3 : Spot) (end : IsEnd k v.corner v.next v.last turn p3) (line : DifferAlong k (stop_after_second k c.lo q n) p3) where

@@ -1,0 +1,23 @@
+// The law of the special cases: without them the written regions are the same.
+ghost use Rattle.std.specs.Prelude.{ℕ, List};
+ghost use Rattle.ember_expr.specs.Formula.{Formula};
+ghost use Rattle.ember_box.specs.Boxes.{Cell};
+ghost use Rattle.ember_leaf.specs.declared.kept.Kept.{Kept};
+ghost use Rattle.ember_leaf.specs.Scenes.{HasOneValue, IsWritten};
+ghost use Rattle.ember_leaf.specs.Literal.{IsLiterallyWrittenOf, IsLiterallyWrittenIn, IsLiterallyWritten};
+ghost use Rattle.ember_leaf.specs.Literal.{InScenes, HasSome, IsNothing, CoveredWriteNothing, WrittenAreLiteral};
+
+/// The definition of what is written has two special cases: a triangle that an earlier coplanar one
+/// covers, and a leaf in which the expression has one value. Let the literal definition be the one
+/// without them. By it too a covered triangle and such a leaf write nothing. In a scene of closed
+/// meshes it can't fail to give a list: for a triangle, for a leaf, and for the scene. A list that it
+/// gives for a scene is the one that is written, and a list that is written can't fail to be literal.
+pub fn special_cases_are_the_literal_definition()
+    ensures covered { InScenes CoveredWriteNothing }
+    ensures one_value { InScenes (λ s f. (c : Cell) → HasOneValue s f c → IsNothing (IsLiterallyWrittenIn s f c)) }
+    ensures triangles { InScenes (λ s f. (c : Cell) (i : ℕ) → HasSome (IsLiterallyWrittenOf s f c i)) }
+    ensures leaves { InScenes (λ s f. (c : Cell) → HasSome (IsLiterallyWrittenIn s f c)) }
+    ensures scenes { InScenes (λ s f. HasSome (IsLiterallyWritten s f)) }
+    ensures written { InScenes (λ s f. (ks : List Kept) → IsLiterallyWritten s f ks → IsWritten s f ks) }
+    ensures literal { InScenes WrittenAreLiteral }
+{}
