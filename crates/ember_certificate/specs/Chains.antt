@@ -13,7 +13,7 @@ is_on plane line s = nat_eq plane s.plane && nat_eq line s.line
 abbrev pub reached : ℤ → ℤ → ℤ
 reached rank x = if is_negative (x -ℤ rank) then pos 0 else pos 1
 
--- 1 where the segment runs over the points just after x along the line, -1 where it runs over them backwards, 0 elsewhere
+-- 1 where the segment runs over the points just after x along the line, -1 where it runs back over them, 0 elsewhere
 abbrev pub coverage : (ℕ → ℤ) → ℤ → Segment → ℤ
 coverage rank x s = reached (rank s.start) x -ℤ reached (rank s.end) x
 
@@ -24,6 +24,10 @@ chain plane line rank x ss = total (coverage rank x) (filter (is_on plane line) 
 -- over each point of each line each plane has the same chain, whatever the order of the corners on the line
 pub record HaveSameChains (ss ts : List Segment) : Type 0 where
   pub each : (plane line : ℕ) (rank : ℕ → ℤ) (x : ℤ) → chain plane line rank x ss ≡ chain plane line rank x ts
+
+-- the sum of a quantity of the starts less that of the ends
+abbrev pub sum_on : ℕ → ℕ → (ℕ → ℤ) → List Segment → ℤ
+sum_on plane line f ss = total (λ s. f s.start -ℤ f s.end) (filter (is_on plane line) ss)
 
 -- ---- at corners
 -- 1 where both numbers are equal

@@ -1,7 +1,8 @@
 -- Triangles that face the front of a plane
-use Rattle.std.specs.Prelude.{◌≡◌, ℤ, pos, ◌-ℤ◌, ◌*ℤ◌, ◌<ℤ◌}
+use Rattle.std.specs.Prelude.{◌≡◌, Bool, ◌&&◌, ℤ, pos, ◌-ℤ◌, ◌*ℤ◌, ◌<ℤ◌}
 use Rattle.ember_algebra.specs.Vector.{Vector}
 use Rattle.ember_algebra.specs.Vector.{dot, cross}
+use Rattle.ember_algebra.specs.Sign.{is_zero}
 use Rattle.ember_algebra.specs.Det.{det3}
 use Rattle.ember_model.specs.declared.plane.Plane.{Plane}
 use Rattle.ember_model.specs.declared.point.Spot.{Spot}
@@ -43,3 +44,7 @@ rows a b c = det3 a.x a.y a.z b.x b.y b.z c.x c.y c.z
 -- positive where the three points turn to the left
 abbrev pub turn_along : Axis → Spot → Spot → Spot → ℤ
 turn_along k u v w = rows (seen_along k u) (seen_along k v) (seen_along k w)
+
+-- ---- as a test
+abbrev pub are_on : Plane → Spot → Spot → Spot → Bool
+are_on p u v w = is_zero (value_at p u) && (is_zero (value_at p v) && is_zero (value_at p w))

@@ -1,7 +1,8 @@
 // Whether triangles cut up faces.
 ghost use Rattle.std.specs.Prelude.{◌≡◌, ◌↔◌, [], ◌∷◌, ◌++◌, All, slice_get, IfOk, OnOk, IfSome, IsTrue};
 ghost use Rattle.ember_model.specs.Valid.{IsValidPlane};
-ghost use Rattle.ember_certificate.specs.Certificate.{is_round, FacesFrontOf, IsProper, edges_in, IsCertified};
+ghost use Rattle.ember_certificate.specs.Certificate.{leads_round, is_in_one_plane, is_round, FacesFrontOf};
+ghost use Rattle.ember_certificate.specs.Certificate.{IsProper, edges_in, IsCertified};
 
 use crate::chains::same_chains;
 use crate::closed::are_closed;
@@ -12,14 +13,22 @@ use crate::triangle::Triangle;
 use ember_model::{OutOfMemory, Plane};
 use std::alloc::Global;
 
+fn leads_round(t: &Triangle) -> bool
+    ensures { result ≡ leads_round t.now }
+{
+    t.first.end == t.second.start && t.second.end == t.third.start && t.third.end == t.first.start
+}
+
+fn is_in_one_plane(t: &Triangle) -> bool
+    ensures { result ≡ is_in_one_plane t.now }
+{
+    t.first.plane == t.second.plane && t.first.plane == t.third.plane
+}
+
 fn is_round(t: &Triangle) -> bool
     ensures { result ≡ is_round t.now }
 {
-    t.first.end == t.second.start
-        && t.second.end == t.third.start
-        && t.third.end == t.first.start
-        && t.first.plane == t.second.plane
-        && t.first.plane == t.third.plane
+    leads_round(t) && is_in_one_plane(t)
 }
 
 fn found_faces_front(

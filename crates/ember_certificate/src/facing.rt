@@ -1,10 +1,10 @@
 // Whether triangles lie on a plane and face its front.
-ghost use Rattle.std.specs.Prelude.{◌≡◌, ◌↔◌, ◌*ℤ◌, ◌&&◌, IsTrue};
+ghost use Rattle.std.specs.Prelude.{◌≡◌, ◌↔◌, ◌*ℤ◌, IsTrue};
 ghost use Rattle.ember_algebra.specs.Sign.{sgn, is_zero, is_positive};
 ghost use Rattle.ember_model.specs.Valid.{IsValidPlane};
 ghost use Rattle.ember_model.specs.Planes.{value_at, along, main_axis};
 ghost use Rattle.ember_point.specs.Points as meets;
-ghost use Rattle.ember_certificate.specs.Facing.{spot_of, seen_along, turn_along, FacesFront};
+ghost use Rattle.ember_certificate.specs.Facing.{spot_of, seen_along, turn_along, are_on, FacesFront};
 
 use crate::space_point::SpacePoint;
 use ember_algebra::{Sign, product_sign, sign_of};
@@ -74,7 +74,7 @@ fn turns_left(plane: &Plane, k: Axis, u: &SpacePoint, v: &SpacePoint, w: &SpaceP
 
 fn are_on(plane: &Plane, u: &SpacePoint, v: &SpacePoint, w: &SpacePoint) -> bool
     requires { IsValidPlane plane.now }
-    ensures { result ≡ (is_zero (value_at plane.now (spot_of u.now)) && (is_zero (value_at plane.now (spot_of v.now)) && is_zero (value_at plane.now (spot_of w.now)))) }
+    ensures { result ≡ are_on plane.now (spot_of u.now) (spot_of v.now) (spot_of w.now) }
 {
     is_on(plane, u) && is_on(plane, v) && is_on(plane, w)
 }

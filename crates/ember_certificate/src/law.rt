@@ -1,8 +1,7 @@
 // What chains and their boundaries say of each other.
-ghost use Rattle.std.specs.Prelude.{◌≡◌, ◌-ℤ◌, ℕ, ℤ, List, filter};
-ghost use Rattle.ember_algebra.specs.Sums.{total};
+ghost use Rattle.std.specs.Prelude.{◌≡◌, ℕ, ℤ, List};
 ghost use Rattle.ember_certificate.specs.declared.segment.Segment.{Segment};
-ghost use Rattle.ember_certificate.specs.Chains.{is_on, HaveSameBoundary, HaveSameChains};
+ghost use Rattle.ember_certificate.specs.Chains.{sum_on, HaveSameBoundary, HaveSameChains};
 
 /// Segments whose chains have the same boundary have the same chain over each point of each line,
 /// in whatever order the corners stand on the line.
@@ -18,5 +17,5 @@ pub fn one_chain_has_one_boundary()
 /// Segments whose chains have the same boundary have the same sum over a plane's segments on a line of
 /// any quantity of their starts less that of their ends.
 pub fn one_boundary_has_one_sum()
-    ensures { (ss ts : List Segment) → HaveSameBoundary ss ts → (plane line : ℕ) (f : ℕ → ℤ) → total (λ s. f s.start -ℤ f s.end) (filter (is_on plane line) ss) ≡ total (λ s. f s.start -ℤ f s.end) (filter (is_on plane line) ts) }
+    ensures { (ss ts : List Segment) → HaveSameBoundary ss ts → (p l : ℕ) (f : ℕ → ℤ) → sum_on p l f ss ≡ sum_on p l f ts }
 {}
