@@ -54,10 +54,12 @@ absent n m (x ∷ xs) l h =
     let e : eqb n x ≡ false = ne_eqb n x (λ p. omega (arith, l, h.0, p)) in
     let r = absent n m xs l h.1 in rw e (omega (arith, r))
 
-absent_below : (n x : ℕ) (xs : List ℕ) → n < x → Rises (x ∷ xs) → count n (x ∷ xs) ≡ 0
+-- a number below all of a list that rises stands nowhere in it
+pub absent_below : (n x : ℕ) (xs : List ℕ) → n < x → Rises (x ∷ xs) → count n (x ∷ xs) ≡ 0
 absent_below n x xs l r = absent n x (x ∷ xs) l (omega arith, r.0)
 
-own : (x : ℕ) (xs : List ℕ) → 0 < count x (x ∷ xs)
+-- the first number of a list stands in it
+pub own : (x : ℕ) (xs : List ℕ) → 0 < count x (x ∷ xs)
 own x xs = rw (eq-eqb x x refl) (omega arith)
 
 abbrev Outcome : Option ℕ → List ℕ → List ℕ → Type 0

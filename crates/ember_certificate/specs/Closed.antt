@@ -1,0 +1,12 @@
+-- Closed lists of segments
+use Rattle.std.specs.Prelude.{◌≡◌, ℕ, nat_eq, ◌&&◌, List}
+use Rattle.std.specs.List.{count_by}
+use Rattle.ember_certificate.specs.declared.segment.Segment.{Segment}
+
+-- how many of the segments run from the corner u to the corner v
+abbrev pub runs : ℕ → ℕ → List Segment → ℕ
+runs u v ss = count_by (λ s. nat_eq u s.start && nat_eq v s.end) ss
+
+-- from each corner to each other one run as many segments as back
+pub record IsClosed (ss : List Segment) : Type 0 where
+  pub each : (u v : ℕ) → runs u v ss ≡ runs v u ss

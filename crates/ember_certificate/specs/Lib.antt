@@ -1,0 +1,7 @@
+pub mod Segments
+pub mod Chains
+pub mod Closed
+pub mod Keys
+pub mod SpacePoints
+pub mod Facing
+pub mod Certificate

@@ -1,0 +1,33 @@
+// Numbers for the ends of segments.
+ghost use Rattle.std.specs.Prelude.{◌≡◌};
+ghost use Rattle.ember_certificate.specs.Keys.{start_key, end_key, edge_key, reverse_key};
+
+use crate::segment::Segment;
+
+/// The key of the segment's start, on its line of its plane.
+pub fn start_key(s: &Segment) -> u128
+    ensures { result ≡ start_key s.now }
+{
+    (s.plane as u128 * 4_294_967_296 + s.line as u128) * 4_294_967_296 + s.start as u128
+}
+
+/// The key of the segment's end, on its line of its plane.
+pub fn end_key(s: &Segment) -> u128
+    ensures { result ≡ end_key s.now }
+{
+    (s.plane as u128 * 4_294_967_296 + s.line as u128) * 4_294_967_296 + s.end as u128
+}
+
+/// The key of the segment's start and end.
+pub fn edge_key(s: &Segment) -> u128
+    ensures { result ≡ edge_key s.now }
+{
+    s.start as u128 * 4_294_967_296 + s.end as u128
+}
+
+/// The key of the segment's end and start.
+pub fn reverse_key(s: &Segment) -> u128
+    ensures { result ≡ reverse_key s.now }
+{
+    s.end as u128 * 4_294_967_296 + s.start as u128
+}

@@ -1,0 +1,23 @@
+//! The checker of triangles: whether triangles have the boundary of a document's faces, plane by plane,
+//! are closed, and face the front of their planes.
+#![tactic(auto)]
+
+mod certificate;
+mod chains;
+mod closed;
+mod facing;
+mod keys;
+mod law;
+mod order;
+mod segment;
+mod space_point;
+mod triangle;
+
+pub use certificate::is_certified;
+pub use chains::same_chains;
+pub use closed::are_closed;
+pub use facing::faces_front;
+pub use law::{one_boundary_has_one_chain, one_boundary_has_one_sum, one_chain_has_one_boundary};
+pub use segment::Segment;
+pub use space_point::SpacePoint;
+pub use triangle::Triangle;

@@ -1,0 +1,13 @@
+// Directed segments on lines of planes.
+ghost use Rattle.ember_certificate.specs.Segments.{AreNumbers};
+
+/// A directed segment on a line of an oriented plane. Planes, lines and corners are numbers:
+/// equal ones stand for one plane, one line, one corner.
+#[derive(Clone, Copy, Debug, PartialEq, Eq)]
+pub struct Segment {
+    pub plane: u32,
+    pub line: u32,
+    pub start: u32,
+    pub end: u32,
+    ghost sized: { AreNumbers plane line start end },
+}

@@ -1,0 +1,13 @@
+// Points of space in homogeneous coordinates.
+ghost use Rattle.ember_certificate.specs.SpacePoints.{IsSpacePoint};
+
+/// The point `(x / w, y / w, z / w)` of space: `1 <= w < 2^75`, and `x`, `y` and `z` are below 2^86 in
+/// size.
+#[derive(Clone, Copy, Debug, PartialEq, Eq)]
+pub struct SpacePoint {
+    pub x: i128,
+    pub y: i128,
+    pub z: i128,
+    pub w: i128,
+    ghost valid: { IsSpacePoint x y z w },
+}
