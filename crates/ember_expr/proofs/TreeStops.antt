@@ -1,5 +1,5 @@
 -- Where the rules of trees stop.
-use Rattle.std.proofs.Common.{◌≡◌, ℕ, zero, suc, Bool, true, false, List, [], ◌∷◌, ◌++◌, refl, sym, subst, Some, None, Err, Option}
+use Rattle.std.proofs.Common.{◌≡◌, ℕ, zero, suc, Bool, true, false, List, [], ◌∷◌, ◌++◌, refl, sym, subst, Some, None, Option}
 use Rattle.ember_expr.specs.declared.formula.Rel.{Rel}
 use Rattle.ember_expr.specs.declared.formula.Rel.TheVariants.{Equal}
 use Rattle.ember_expr.specs.declared.formula.Term.{Term}
@@ -10,12 +10,12 @@ use Rattle.ember_expr.specs.declared.grammar.Joint.{Joint}
 use Rattle.ember_expr.specs.declared.grammar.Joint.TheVariants as joint
 use Rattle.ember_expr.specs.declared.grammar.Scope.{Scope}
 use Rattle.ember_expr.specs.Formula.{Formula, Not, Mesh, Odd, Compare}
-use Rattle.ember_expr.specs.Grammar.{Read, read, Rule, ◌>>=◌, product, mesh_number, sum, begins_with, joins, join, more_parts, chain_of, part_of, or, closed, relation, comparison, inside, odd, not_with, deeper, not}
+use Rattle.ember_expr.specs.Grammar.{read, Rule, ◌>>=◌, product, mesh_number, sum, begins_with, joins, join, more_parts, chain_of, part_of, or, closed, relation, comparison, inside, odd, not_with, not}
 use Rattle.ember_expr.specs.Derivation.{IsSum, Derives, words}
 use Rattle.ember_expr.specs.Derivation as grammar
 use Rattle.ember_expr.proofs.DerivedTrees.{chain_phrase, part_phrase, joint_word, joint_at, some_same}
 use Rattle.ember_expr.proofs.OneTree.{limits_pass}
-use Rattle.ember_expr.proofs.Stops.{by_same, by_none, Completes, complete_now, Stops, both_stop, as_stops, step_stops, read_stops, read_after, fault_at_end, fault_at, like_at, check_stops, inside_stops, Turn, ends, goes, chain_stops}
+use Rattle.ember_expr.proofs.Stops.{by_same, by_none, Completes, complete_now, Stops, both_stop, as_stops, step_stops, read_after, fault_at_end, fault_at, like_at, check_stops, inside_stops, Turn, ends, goes, chain_stops}
 use Rattle.ember_expr.proofs.SumStops.{token, sum_stops}
 
 -- ---- chains
