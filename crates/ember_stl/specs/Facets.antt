@@ -1,0 +1,32 @@
+-- The triangles of a file: each has three points of its own, in order.
+use Rattle.std.specs.Prelude.{ℕ, ◌+◌, Bool, not, false, ◌&&◌, List, [], ◌∷◌, ◌++◌, length, Option, None, Some, slice_get}
+use Rattle.std.specs.List.{list_any, find}
+use Rattle.ember_number.specs.Fractions.{is_below_limit}
+use Rattle.ember_surface.specs.declared.surface.Facet.{Facet}
+use Rattle.ember_surface.specs.Surfaces.{Point, Content}
+
+abbrev pub nothing : Content
+nothing = record { points = []; facets = [] }
+
+-- with the triangle of this place and these corners
+abbrev pub with_triangle : ℕ → Point → Point → Point → Content → Content
+with_triangle place a b c content = record {
+  points = content.points ++ a ∷ b ∷ c ∷ [];
+  facets = content.facets ++ (record {
+    corners = length content.points ∷ (length content.points + 1) ∷ (length content.points + 2) ∷ [];
+    place = place;
+  }) ∷ [];
+}
+
+-- ---- coordinates that no grid takes
+-- a coordinate is 10^15 or more in size
+abbrev pub is_far : Option Point → Bool
+is_far None = false
+is_far (Some p) = not (is_below_limit p.x && is_below_limit p.y && is_below_limit p.z)
+
+abbrev pub is_facet_far : List Point → Facet → Bool
+is_facet_far points f = list_any (λ corner. is_far (slice_get points corner)) f.corners
+
+-- the first triangle with such a corner
+abbrev pub first_far : Content → Option Facet
+first_far content = find (is_facet_far content.points) content.facets

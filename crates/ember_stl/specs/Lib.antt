@@ -1,0 +1,5 @@
+pub mod Scan
+pub mod Facets
+pub mod Ascii
+pub mod Binary
+pub mod ReadStl

@@ -1,0 +1,158 @@
+// The lines and the words of a file, with their places in it.
+ghost use Rattle.std.specs.Prelude.{◌≡◌, ◌+◌, ◌^◌, ◌<◌, ◌≤◌, ◌==◌, slice_index, false, [], ◌∷◌, length, MatchOption, IfSome, Some, None};
+ghost use Rattle.std.specs.Str.{str_eq_ignore_ascii_case};
+ghost use Rattle.ember_stl.specs.Scan.{before, onward, is_blank, word_of, words_from, first_three, ended_lines, span_of};
+
+use crate::fault::Span;
+
+// A part of a file with the index of its first byte.
+#[derive(Clone, Copy)]
+pub(crate) struct Text<'a> {
+    pub(crate) start: usize,
+    pub(crate) bytes: &'a [u8],
+}
+
+// From where to where the text stands.
+pub(crate) fn span(text: Text) -> Span
+    requires { text.start + length text.bytes.now < 2 ^ 32 }
+    ensures { result ≡ span_of (word_of text.entry) }
+{
+    Span {
+        start: text.start,
+        end: text.start + text.bytes.len(),
+    }
+}
+
+// Whether the texts differ at most in case.
+pub(crate) fn is_same_word(one: &[u8], other: &[u8]) -> bool
+    ensures { result ≡ str_eq_ignore_ascii_case one.now other.now }
+{
+    one.eq_ignore_ascii_case(other)
+}
+
+// The bytes before the first line feed, and from it on.
+fn cut_line(bytes: &[u8]) -> (&[u8], &[u8])
+    ensures before { result.0.now ≡ before (λ b. b == 10) bytes.now }
+    ensures onward { result.1.now ≡ onward (λ b. b == 10) bytes.now }
+    ensures length { length result.0.now + length result.1.now ≡ length bytes.now }
+{
+    let mut end = 0;
+    while end < bytes.len() && bytes[end] != b'\n' {
+        end += 1;
+    }
+    bytes.split_at(end)
+}
+
+// The first line, and what is behind its line feed.
+fn cut_first_line(bytes: &[u8]) -> (&[u8], &[u8])
+    requires { 0 < length bytes.now }
+    ensures lines { ended_lines bytes.now ≡ result.0.now ∷ ended_lines result.1.now }
+    ensures shorter { length result.1.now < length bytes.now }
+    ensures length { length result.0.now + length result.1.now ≤ length bytes.now }
+{
+    let (line, rest) = cut_line(bytes);
+    match rest.split_first() {
+        None => (line, rest),
+        Some((_, after)) => (line, after),
+    }
+}
+
+// The first line, and the text behind its line feed.
+pub(crate) fn next_line<'a>(text: Text<'a>) -> Option<(Text<'a>, Text<'a>)>
+    requires { text.start + length text.bytes.now < 2 ^ 32 }
+    ensures lines { MatchOption result (ended_lines text.entry.bytes.now ≡ []) (λ p. ended_lines text.entry.bytes.now ≡ p.0.bytes.now ∷ ended_lines p.1.bytes.now) }
+    ensures start { IfSome result (λ p. p.0.start ≡ text.entry.start) }
+    ensures behind { IfSome result (λ p. p.1.start ≡ text.entry.start + length p.0.bytes.now + 1) }
+    ensures shorter { IfSome result (λ p. length p.1.bytes.now < length text.entry.bytes.now) }
+    ensures length { IfSome result (λ p. length p.0.bytes.now + length p.1.bytes.now ≤ length text.entry.bytes.now) }
+{
+    if text.bytes.is_empty() {
+        return None;
+    }
+    let (line, after) = cut_first_line(text.bytes);
+    let start = text.start + line.len() + 1;
+    Some((
+        Text {
+            start: text.start,
+            bytes: line,
+        },
+        Text {
+            start,
+            bytes: after,
+        },
+    ))
+}
+
+fn is_blank_byte(byte: u8) -> bool
+    ensures { result ≡ is_blank byte }
+{
+    byte == b' ' || (9 <= byte && byte <= 13)
+}
+
+// The bytes before the first blank, and from it on.
+fn cut_word(bytes: &[u8]) -> (&[u8], &[u8])
+    ensures before { result.0.now ≡ before is_blank bytes.now }
+    ensures onward { result.1.now ≡ onward is_blank bytes.now }
+    ensures length { length result.0.now + length result.1.now ≡ length bytes.now }
+{
+    let mut end = 0;
+    while end < bytes.len() && !is_blank_byte(bytes[end]) {
+        end += 1;
+    }
+    bytes.split_at(end)
+}
+
+// The text from its first byte on that is no blank.
+fn skip_blanks<'a>(text: Text<'a>) -> Text<'a>
+    requires { text.start + length text.bytes.now < 2 ^ 32 }
+    ensures words { words_from result.start result.bytes.now ≡ words_from text.entry.start text.entry.bytes.now }
+    ensures ends { result.start + length result.bytes.now ≡ text.entry.start + length text.entry.bytes.now }
+    ensures first { 0 < length result.bytes.now → is_blank (slice_index result.bytes.now 0) ≡ false }
+{
+    let start = text.start;
+    let bytes = text.bytes;
+    let mut blanks = 0;
+    while blanks < bytes.len() && is_blank_byte(bytes[blanks]) {
+        blanks += 1;
+    }
+    Text {
+        start: start + blanks,
+        bytes: bytes.split_at(blanks).1,
+    }
+}
+
+// The first word, and the text behind it.
+pub(crate) fn next_word<'a>(text: Text<'a>) -> Option<(Text<'a>, Text<'a>)>
+    requires { text.start + length text.bytes.now < 2 ^ 32 }
+    ensures words { MatchOption result (words_from text.entry.start text.entry.bytes.now ≡ []) (λ p. words_from text.entry.start text.entry.bytes.now ≡ word_of p.0 ∷ words_from p.1.start p.1.bytes.now) }
+    ensures within { IfSome result (λ p. p.0.start + length p.0.bytes.now ≤ text.entry.start + length text.entry.bytes.now) }
+    ensures ends { IfSome result (λ p. p.1.start + length p.1.bytes.now ≡ text.entry.start + length text.entry.bytes.now) }
+{
+    let begun = skip_blanks(text);
+    if begun.bytes.is_empty() {
+        return None;
+    }
+    let (word, rest) = cut_word(begun.bytes);
+    Some((
+        Text {
+            start: begun.start,
+            bytes: word,
+        },
+        Text {
+            start: begun.start + word.len(),
+            bytes: rest,
+        },
+    ))
+}
+
+// The first three words, where there are three or more.
+pub(crate) fn three_words<'a>(text: Text<'a>) -> Option<(Text<'a>, Text<'a>, Text<'a>)>
+    requires { text.start + length text.bytes.now < 2 ^ 32 }
+    ensures words { MatchOption result (first_three (words_from text.entry.start text.entry.bytes.now) ≡ None) (λ t. first_three (words_from text.entry.start text.entry.bytes.now) ≡ Some (word_of t.0, word_of t.1, word_of t.2)) }
+    ensures within { IfSome result (λ t. (t.0.start + length t.0.bytes.now < 2 ^ 32) × (t.1.start + length t.1.bytes.now < 2 ^ 32) × (t.2.start + length t.2.bytes.now < 2 ^ 32)) }
+{
+    let (a, rest) = next_word(text)?;
+    let (b, rest) = next_word(rest)?;
+    let (c, _) = next_word(rest)?;
+    Some((a, b, c))
+}
