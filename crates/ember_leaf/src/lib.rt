@@ -9,8 +9,10 @@ mod cutters;
 mod heights;
 mod kept;
 mod leaf;
+mod leaf_triangle;
 mod regions;
 mod relation;
+mod triangles;
 mod wall;
 
 pub use kept::{Kept, KeptList};
