@@ -1,7 +1,7 @@
 -- What a triangle leaves of one region.
-use Rattle.std.proofs.Common.{◌≡◌, ◌≢◌, suc, ◌-◌, ◌<◌, ◌≤◌, length, take, drop, get_or, refl, sym, ap, subst, ◌∙◌, arith, pos, ◌<ℤ◌, true, false, List, [], ◌∷◌, ◌++◌, append_assoc, All}
+use Rattle.std.proofs.Common.{◌≡◌, ◌≢◌, ℕ, suc, ◌+◌, ◌-◌, ◌<◌, ◌≤◌, length, take, drop, get_or, refl, sym, ap, subst, ◌∙◌, arith, pos, ◌<ℤ◌, true, false, List, [], ◌∷◌, ◌++◌, append_assoc, All}
 use Rattle.std.specs.List.{AllByRecursion}
-use Rattle.std.proofs.lemmas.List.{append-nil}
+use Rattle.std.proofs.lemmas.List.{append-nil, take_more}
 use Rattle.ember_algebra.specs.Relations.{Each, none, more, done, step}
 use Rattle.ember_algebra.proofs.Laws.{linear}
 use Rattle.ember_model.specs.declared.plane.Plane.{Plane}
@@ -9,13 +9,14 @@ use Rattle.ember_model.specs.declared.point.Spot.{Spot}
 use Rattle.ember_model.specs.declared.tri.Tri.{Tri}
 use Rattle.ember_model.specs.declared.face.Face.{Face}
 use Rattle.ember_model.specs.Planes.{value_at, support_of, opposite}
-use Rattle.ember_model.specs.Faces.{face_of, edges_of, is_flat, is_inside, Meets, below, above}
+use Rattle.ember_model.specs.Faces.{face_of, edges_of, is_flat, is_inside, Contains, Cuts, Meets, below, above}
 use Rattle.ember_model.proofs.SignTests.{negative_in, negative_out, positive_out, zero_out}
 use Rattle.ember_box.specs.Regions.{AtCuttingPlane}
 use Rattle.ember_poly.specs.Rings.{IsBelow}
-use Rattle.ember_poly.specs.Cuts.{AreParts, IsReach}
+use Rattle.ember_poly.specs.Cuts.{HasInside, IsWhole, AreParts, IsReach}
 use Rattle.ember_poly.specs.declared.reach_cut.Reach.{Reach}
 use Rattle.ember_poly.specs.declared.reach_cut.Reach.TheVariants.{Below, Above, On, Both}
+use Rattle.ember_poly.proofs.Chains.{each-push}
 use Rattle.ember_poly.proofs.FaceTests.{inside_in, inside_out, closed_out}
 use Rattle.ember_poly.proofs.ReachBySigns.{over_from_opposite}
 use Rattle.ember_ref.proofs.FarTriangles.{inside_closed}
@@ -25,7 +26,7 @@ use Rattle.ember_leaf.specs.declared.cutter.Role.{Role}
 use Rattle.ember_leaf.specs.declared.cutter.Role.TheVariants.{Across, Coplanar, Owner}
 use Rattle.ember_leaf.specs.TriRelations.{HasContaining}
 use Rattle.ember_leaf.specs.Written.{HasGrown}
-use Rattle.ember_leaf.specs.Cutters.{planes_as, owner_as, cutting_planes_with, owners_by, ended, left, dropped, AreDisjoint, IsFree, AreLeft, AtCutter, AtPlane, AtEdges, AreAround, AreLast, ShareAPlane, SharesAs, CanCut}
+use Rattle.ember_leaf.specs.Cutters.{planes_as, owner_as, cutting_planes_with, owners_by, ended, left, dropped, AreDisjoint, IsFree, AreLeft, AtCutter, AtPlane, IsUncut, AtEdges, AreAround, AreLast, ShareAPlane, SharesAs, CanCut}
 use Rattle.ember_leaf.proofs.WallClips.{inside_in_below}
 use Rattle.ember_leaf.proofs.RegionCuts.{take_all, region_parts, region_whole}
 use Rattle.ember_leaf.proofs.Leaving.{cuts_both, cuts_unmet, without_append, none_dropped}
@@ -139,6 +140,52 @@ whole_grown c p ps f k old new h r n g =
 pub parts_grown : (c : Cutter) (p : Plane) (ps : List Plane) (f low high : Face) (old mid new : List Face) → AreLast c.tri (p ∷ ps) f → AreParts f p low high → HasGrown (AtEdges c ps low) old mid → new ≡ mid ++ high ∷ [] → HasGrown (AtEdges c (p ∷ ps) f) old new
 parts_grown c p ps f low high old mid new h a g e =
     record { more = g.more ++ high ∷ []; is = e ∙ ap (λ (l : List Face). l ++ high ∷ []) g.is ∙ append_assoc old g.more (high ∷ []); holds = parts_left c.tri p ps f h c.role low high a g.holds }
+
+-- ---- planes that don't cut the region
+abbrev pub AreUncut : Face → List Plane → Type 0
+AreUncut f ps = AllByRecursion (IsUncut f) ps
+
+uncut_part : (f g : Face) (p : Plane) → Contains f g → HasInside g → IsUncut f p → IsUncut g p
+uncut_part f g p w s u = record { side = u.side; lies = by u.side u.lies u.uncut; uncut = u.uncut }
+  where
+    part : {P : Spot → Type 0} → IsWhole f P → IsWhole g P
+    part k =
+        record { somewhere = record { at = s.at; inside = s.inside; holds = k.everywhere.holds s.at (w.holds s.at s.inside) }; everywhere = record { holds = λ v i. k.everywhere.holds v (w.holds v i) } }
+
+    by : (k : Reach) → IsReach f p k → (k ≡ Both → ⊥) → IsReach g p k
+    by Below r n = part r
+    by Above r n = part r
+    by On r n = part r
+    by Both r n = absurd (n refl)
+
+uncut_parts : (f g : Face) (ps : List Plane) → Contains f g → HasInside g → AreUncut f ps → AreUncut g ps
+uncut_parts f g [] w s u = tt
+uncut_parts f g (p ∷ ps) w s u = (uncut_part f g p w s u.0, uncut_parts f g ps w s u.1)
+
+pub uncut_more : (f : Face) (ps : List Plane) (i : ℕ) (d : Plane) → i < length ps → AreUncut f (take i ps) → IsUncut f (get_or ps i d) → AreUncut f (take (i + 1) ps)
+uncut_more f ps i d l h u =
+    subst (AreUncut f) (sym (take_more ps i d l)) (each-push (IsUncut f) (take i ps) (get_or ps i d) h u)
+
+pub all_uncut : (f : Face) (ps : List Plane) (i : ℕ) → length ps ≤ i → AreUncut f (take i ps) → AreUncut f ps
+all_uncut f ps i l h = subst (AreUncut f) (take_all i ps l) h
+
+-- what the owner contains is left out
+owned_dropped : (c : Cutter) (ps : List Plane) (f : Face) (old : List Face) → c.role ≡ Owner → AreLast c.tri ps f → AreUncut f ps → HasGrown (AtEdges c ps f) old old
+owned_dropped c [] f old e h u = last_dropped c f old e h
+owned_dropped c (p ∷ ps) f old e h u =
+    whole_grown c p ps f u.0.side old old h u.0.lies u.0.uncut (owned_dropped c ps f old e (all_under c.tri p ps f h u.0.side u.0.lies u.0.uncut) u.1)
+
+-- a plane cuts the region, and its part below is the owner's
+pub above_grown : (c : Cutter) (p : Plane) (ps : List Plane) (f high : Face) (old new : List Face) → c.role ≡ Owner → AreLast c.tri (p ∷ ps) f → Cuts f p → AreUncut f ps → high ≡ above f p → new ≡ old ++ high ∷ [] → HasGrown (AtEdges c (p ∷ ps) f) old new
+above_grown c p ps f high old new e h k u a q =
+    parts_grown c p ps f (below f p) high old old new h (record { cuts = k; is_low = refl; is_high = a }) (owned_dropped c ps (below f p) old e (low_last c.tri p ps f h) (uncut_parts f (below f p) ps within some u)) q
+  where
+    within : Contains f (below f p)
+    within = record { holds = λ v i. (inside_below f p v i).0 }
+
+    some : HasInside (below f p)
+    some =
+        record { at = k.low.at; inside = inside_in_below f p k.low.at k.low.inside k.low.holds; holds = tt }
 
 -- ---- all edge planes
 around : (t : Tri) → AreAround t (edges_of t)

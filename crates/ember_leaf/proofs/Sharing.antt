@@ -1,6 +1,7 @@
 -- Faces and triangles of one plane: where they meet, they have inside points in common.
-use Rattle.std.proofs.Common.{◌≡◌, refl, ap, ◌∙◌, arith, Bool, true, false, ℕ, ℤ, pos, neg_ℤ, ◌+ℤ◌, ◌*ℤ◌, ◌<ℤ◌, ◌≤ℤ◌}
+use Rattle.std.proofs.Common.{◌≡◌, ◌↔◌, IsTrue, refl, ap, subst, ◌∙◌, arith, List, Bool, true, false, ℕ, ℤ, pos, neg_ℤ, ◌+ℤ◌, ◌*ℤ◌, ◌<ℤ◌, ◌≤ℤ◌}
 use borrow.Author.Differences.{ints}
+use Rattle.ember_algebra.specs.Sign.{is_zero}
 use Rattle.ember_algebra.specs.Large.{Eventually}
 use Rattle.ember_algebra.proofs.Large.{eventually_both, eventually_map, eventually_pos}
 use Rattle.ember_algebra.proofs.Laws.{linear}
@@ -10,12 +11,15 @@ use Rattle.ember_model.specs.declared.point.Spot.{Spot}
 use Rattle.ember_model.specs.declared.tri.Tri.{Tri}
 use Rattle.ember_model.specs.declared.face.Face.{Face}
 use Rattle.ember_model.specs.Planes.{value_at, support_of}
-use Rattle.ember_model.specs.Faces.{is_flat, face_of, is_inside, is_in_closed, Somewhere, Meets}
+use Rattle.ember_model.specs.ClearTest.{none_positive}
+use Rattle.ember_model.specs.Faces.{is_flat, face_of, edges_of, is_inside, is_in_closed, Somewhere, Meets}
 use Rattle.ember_model.specs.Owners.{is_coplanar}
 use Rattle.ember_poly.specs.Rings.{IsBelow, InFace}
 use Rattle.ember_poly.specs.Chords.{mixed2}
+use Rattle.ember_poly.specs.Cuts.{HasInside, IsWhole}
 use Rattle.ember_poly.proofs.Chains.{each_map}
-use Rattle.ember_poly.proofs.FaceTests.{inside_in, inside_out}
+use Rattle.ember_poly.proofs.FaceTests.{zero_in, inside_in, inside_out}
+use Rattle.ember_poly.proofs.InsideNotAbove.{met_on, met_free}
 use Rattle.ember_poly.proofs.InsidePoints.{inside_sum}
 use Rattle.ember_poly.proofs.InsideSigns.{mixed2_value, eventually_each}
 use Rattle.ember_poly.proofs.TriangleRing.{tri_sides}
@@ -23,8 +27,10 @@ use Rattle.ember_coplanar.proofs.Coplanar.{lies_on_both}
 use Rattle.ember_coplanar.proofs.Owning.{lies_by_support}
 use Rattle.ember_ref.proofs.FarTriangles.{inside_closed}
 use Rattle.ember_trace.proofs.FlatPlanes.{lies_flat, shared_face}
+use Rattle.ember_leaf.specs.declared.cutter.Cutter.{Cutter}
 use Rattle.ember_leaf.specs.Leaves.{IsRegionOf}
 use Rattle.ember_leaf.specs.Cutters.{AreDisjoint, ShareAPlane}
+use Rattle.ember_leaf.proofs.RegionCuts.{blade_face}
 use Rattle.ember_leaf.proofs.TriRelations.{coplanar_flats}
 use Rattle.ember_leaf.proofs.RegionOrder.{face_support}
 use Rattle.ember_leaf.proofs.TriFaces.{has_inside, inside_ring, closed_ring, ring_inside}
@@ -94,3 +100,15 @@ pub meets_inside : (t : Tri) (f : Face) → is_flat t ≡ false → ShareAPlane 
 meets_inside t f n s m =
     let u = has_inside t n in
     some_shared t f m.at u.at (inside_out f m.at m.inside) u.inside (s.triangle u.at (inside_closed (face_of t) u.at u.inside)) m.holds
+
+-- ---- by the edge planes of the triangle alone
+pub meets_flat : {b : Bool} (f : Face) (c : Cutter) (es : List Plane) → ShareAPlane c.tri f → HasInside f → c.support ≡ support_of c.tri → es ≡ edges_of c.tri → IsTrue b ↔ Somewhere f (λ v. none_positive es v ≡ true) → IsTrue b ↔ Meets f (face_of c.tri)
+meets_flat {b} f c es s i n e k =
+    subst (λ g. IsTrue b ↔ Meets f g) (blade_face c.tri n e) (λ t. met_on f c.support es flat (k.0 t), λ m. k.1 (met_free f es c.support m))
+  where
+    zero : (v : Spot) → is_inside f v ≡ true → is_zero (value_at c.support v) ≡ true
+    zero v j = zero_in (ap (λ (p : Plane). value_at p v) n ∙ s.face v j)
+
+    flat : IsWhole f (λ v. is_zero (value_at c.support v) ≡ true)
+    flat =
+        record { somewhere = record { at = i.at; inside = i.inside; holds = zero i.at i.inside }; everywhere = record { holds = λ v j. zero v j } }

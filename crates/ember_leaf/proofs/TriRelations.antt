@@ -1,5 +1,5 @@
 -- When two triangles have no common point, and when one lies in the other.
-use Rattle.std.proofs.Common.{◌≡◌, ◌⊎◌, inl, inr, refl, ap, subst, ◌∙◌, arith, ℕ, zero, suc, Bool, true, false, not, ◌&&◌, Some, None, slice_get, ℤ, pos, negsuc, neg_ℤ, ◌*ℤ◌, ◌<ℤ◌, ◌≤ℤ◌, int_le, sym}
+use Rattle.std.proofs.Common.{◌≡◌, ◌⊎◌, inl, inr, refl, ap, subst, ◌∙◌, arith, ℕ, ◌<◌, zero, suc, List, length, get_or, Bool, true, false, not, ◌&&◌, Some, None, slice_get, ℤ, pos, negsuc, neg_ℤ, ◌*ℤ◌, ◌<ℤ◌, ◌≤ℤ◌, int_le, sym}
 use Rattle.std.proofs.lemmas.Int.{clamps}
 use Rattle.std.proofs.lemmas.Bool.{and_from}
 use borrow.Author.Differences.{ints}
@@ -9,10 +9,11 @@ use Rattle.ember_algebra.proofs.Order.{cancel_le}
 use Rattle.ember_algebra.proofs.Ring.{◌⊗◌, neg, ◌≈◌, solve, cancels}
 use Rattle.ember_model.specs.declared.plane.Plane.{Plane}
 use Rattle.ember_model.specs.declared.point.Spot.{Spot}
+use Rattle.std.proofs.lemmas.Option.{slice_get-get_or}
 use Rattle.ember_model.specs.declared.point.Axis.{Axis}
 use Rattle.ember_model.specs.declared.point.Axis.TheVariants.{X, Y, Z}
 use Rattle.ember_model.specs.declared.tri.Tri.{Tri}
-use Rattle.ember_model.specs.Planes.{vector_of, value_at, support_of, opposite, main_axis, edge_planes}
+use Rattle.ember_model.specs.Planes.{vector_of, value_at, support_of, opposite}
 use Rattle.ember_model.specs.Faces.{is_flat, face_of, edges_of, is_in_closed, Everywhere, Contains, is_inside}
 use Rattle.ember_model.specs.Owners.{is_coplanar}
 use Rattle.ember_model.proofs.SignTests.{negative_out, positive_out, not_positive_out, zero_out, and_parts, not_true, clash, negative_in}
@@ -25,7 +26,7 @@ use Rattle.ember_poly.specs.Rings.{IsBelow, IsAbove, IsNotAbove, IsNotBelow, IsO
 use Rattle.ember_poly.proofs.InsideSigns.{opposite_plane}
 use Rattle.ember_poly.proofs.ReachBySigns.{under_opposite, closed_from_inside}
 use Rattle.ember_poly.proofs.TriangleRing.{tri_sides}
-use Rattle.ember_coplanar.proofs.Containing.{edge_at}
+use Rattle.ember_leaf.specs.Contact.{no_plane}
 use Rattle.ember_leaf.specs.declared.heights.Heights.{Heights}
 use Rattle.ember_leaf.specs.TriRelations.{IsBehindEdge, heights_of, none_behind, none_in_front, all_behind, all_in_front, all_on, AreDisjoint}
 use Rattle.ember_leaf.specs.Cutters.{IsWithinInterval}
@@ -245,10 +246,16 @@ module _ (f : Heights → Bool) where
   pub tested : (u : Tri) {p q : Plane} {h : Heights} {b v : Bool} → p ≡ q → h ≡ heights_of p u → b ≡ f h → b ≡ v → f (heights_of q u) ≡ v
   tested u {p} {q} {h} e k r s = sym (ap f (k ∙ ap (λ (p : Plane). heights_of p u) e)) ∙ sym r ∙ s
 
-pub parted_by : (t u : Tri) (i : ℕ) {s p : Plane} {k : Axis} {h : Heights} {b : Bool} → is_flat t ≡ false → is_flat u ≡ false → s ≡ support_of t → k ≡ main_axis s → slice_get (edge_planes t k) i ≡ Some p → h ≡ heights_of p u → b ≡ none_behind h && not (all_on h) → b ≡ true → AreDisjoint t u × AreDisjoint u t
-parted_by t u i {s} {p} {k} {h} n m e a g q r z =
+-- the edge plane of a triangle at a place of its list
+edge_here : (t : Tri) (es : List Plane) (i : ℕ) → es ≡ edges_of t → i < 3 → slice_get (edges_of t) i ≡ Some (get_or es i no_plane)
+edge_here t es i e l =
+    subst (λ us. slice_get us i ≡ Some (get_or es i no_plane)) e (slice_get-get_or es i no_plane (subst (λ us. i < length us) (sym e) l))
+
+pub parted_by : (t u : Tri) (es : List Plane) (i : ℕ) {h : Heights} {b : Bool} → is_flat t ≡ false → is_flat u ≡ false → es ≡ edges_of t → i < 3 → h ≡ heights_of (get_or es i no_plane) u → b ≡ none_behind h && not (all_on h) → b ≡ true → AreDisjoint t u × AreDisjoint u t
+parted_by t u es i {h} n m e l q r z =
+    let p = get_or es i no_plane in
     let x = and_parts (none_behind (heights_of p u)) (not (all_on (heights_of p u))) (tested (λ h. none_behind h && not (all_on h)) u {p = p} refl q r z) in
-    parted t u i p n m (edge_at t i e a g) x.0 (not_true (all_on (heights_of p u)) x.1)
+    parted t u i p n m (edge_here t es i e l) x.0 (not_true (all_on (heights_of p u)) x.1)
 
 module _ (t u : Tri) (n : is_flat t ≡ false) (m : is_flat u ≡ false) where
   pub own_in_front : {s : Plane} {h : Heights} {b : Bool} → s ≡ support_of u → h ≡ heights_of s t → b ≡ none_behind h && not (all_on h) → b ≡ true → AreDisjoint t u
@@ -266,11 +273,12 @@ module _ (t u : Tri) (n : is_flat t ≡ false) (m : is_flat u ≡ false) where
   coplanar_is = λ i. not (n i) && (not (m i) && all_on (heights_of (support_of t) u))
 
 -- the triangle u lies behind the plane of an edge of t
-pub behind_by : (t u : Tri) (i : ℕ) {s p : Plane} {k : Axis} {h : Heights} {b : Bool} → is_flat u ≡ false → s ≡ support_of t → k ≡ main_axis s → slice_get (edge_planes t k) i ≡ Some p → h ≡ heights_of p u → b ≡ none_in_front h && not (all_on h) → b ≡ true → IsBehindEdge t u i
-behind_by t u i {s} {p} {k} {h} m e a g q r z =
+pub behind_by : (t u : Tri) (es : List Plane) (i : ℕ) {h : Heights} {b : Bool} → is_flat u ≡ false → es ≡ edges_of t → i < 3 → h ≡ heights_of (get_or es i no_plane) u → b ≡ none_in_front h && not (all_on h) → b ≡ true → IsBehindEdge t u i
+behind_by t u es i {h} m e l q r z =
+    let p = get_or es i no_plane in
     let x = and_parts (none_in_front (heights_of p u)) (not (all_on (heights_of p u))) (tested (λ h. none_in_front h && not (all_on h)) u {p = p} refl q r z) in
     let w = behind_edge u p m x.0 (not_true (all_on (heights_of p u)) x.1) in
-    λ g' h'. subst (λ (q : Plane). Everywhere (face_of u) (λ v. is_negative (value_at q v) ≡ true)) (no_some (sym (edge_at t i e a g) ∙ h')) w
+    λ g' h'. subst (λ (q : Plane). Everywhere (face_of u) (λ v. is_negative (value_at q v) ≡ true)) (no_some (sym (edge_here t es i e l) ∙ h')) w
 
 pub covered_by : (t u : Tri) → is_coplanar t u ≡ true → IsBehindEdge t u 0 → IsBehindEdge t u 1 → IsBehindEdge t u 2 → Contains (face_of t) (face_of u)
 covered_by t u e a b c =

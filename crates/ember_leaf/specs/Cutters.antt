@@ -1,5 +1,5 @@
 -- What triangles leave of the regions of another one
-use Rattle.std.specs.Prelude.{◌≡◌, Bool, true, false, List, [], ◌∷◌, ◌++◌, map, flat_map, ℤ, pos, ◌*ℤ◌, ◌≤ℤ◌}
+use Rattle.std.specs.Prelude.{◌≡◌, ◌≢◌, Bool, true, false, List, [], ◌∷◌, ◌++◌, map, flat_map, ℤ, pos, ◌*ℤ◌, ◌≤ℤ◌}
 use Rattle.std.specs.List.{AllByRecursion}
 use Rattle.std.specs.Int.{int_min, int_max}
 use Rattle.ember_algebra.specs.Relations.{Each, Chain}
@@ -15,7 +15,9 @@ use Rattle.ember_box.specs.declared.aabb.Aabb.{Aabb}
 use Rattle.ember_box.specs.Aabbs.{interval_between}
 use Rattle.ember_box.specs.Regions.{CuttingPlane, AtCuttingPlane}
 use Rattle.ember_poly.specs.Rings.{IsBelow, IsNotAbove}
-use Rattle.ember_poly.specs.Cuts.{HasInside}
+use Rattle.ember_poly.specs.declared.reach_cut.Reach.{Reach}
+use Rattle.ember_poly.specs.declared.reach_cut.Reach.TheVariants.{Both}
+use Rattle.ember_poly.specs.Cuts.{HasInside, IsReach}
 use Rattle.ember_leaf.specs.declared.cutter.Role.{Role}
 use Rattle.ember_leaf.specs.declared.cutter.Role.TheVariants.{Across, Coplanar, Owner}
 use Rattle.ember_leaf.specs.declared.cutter.Cutter.{Cutter}
@@ -125,6 +127,12 @@ pub record AreLast (t : Tri) (ps : List Plane) (f : Face) : Type 0 where
 -- what a plane leaves of a region that meets the face of its triangle
 abbrev pub AtPlane : Plane → Face → List Face → Type 0
 AtPlane p f gs = (g : Face) → Meets f g → AtCuttingPlane (record { face = g; plane = p }) f gs
+
+-- the plane doesn't cut f
+pub record IsUncut (f : Face) (p : Plane) : Type 0 where
+  pub side : Reach
+  pub lies : IsReach f p side
+  pub uncut : side ≢ Both
 
 -- what the planes leave of a region
 abbrev pub AtEdges : Cutter → List Plane → Face → List Face → Type 0

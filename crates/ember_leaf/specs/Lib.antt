@@ -1,6 +1,7 @@
 pub mod Contact
 pub mod Cutters
 pub mod LeafBoxes
+pub mod LeafTriangles
 pub mod Leaves
 pub mod Literal
 pub mod Lower

@@ -11,11 +11,11 @@ ghost use Rattle.ember_poly.specs.Drafts.{face_in, HoldsRing};
 ghost use Rattle.ember_leaf.specs.Cutters.{common, common_of};
 ghost use Rattle.ember_leaf.specs.Walls.{wall_of, interval_along, level_by, IsLowRemainder, IsHighRemainder, IsRemainder, IsClippedBy};
 
+use crate::leaf_triangle::LeafTriangle;
 use crate::wall::Wall;
 use ember_box::{Aabb, Cell, Interval, aabb_of_cell};
 use ember_model::{Axis, OutOfMemory, Plane};
 use ember_poly::{Draft, Reach, Ring};
-use ember_trace::NearTriangle;
 use std::alloc::Global;
 
 fn span(b: &Aabb, k: Axis) -> Interval
@@ -159,7 +159,7 @@ fn remainder_at_high(s: &Interval, w: &Wall) -> Remainder
     }
 }
 
-fn remainder_at(w: &Wall, f: &NearTriangle) -> Remainder
+fn remainder_at(w: &Wall, f: &LeafTriangle) -> Remainder
     ensures { IsRemainder (wall_of w.now) f.now.tri result }
 {
     let s = span(&f.aabb, w.axis);
@@ -171,7 +171,7 @@ fn remainder_at(w: &Wall, f: &NearTriangle) -> Remainder
 }
 
 /// The first wall that may not leave the whole triangle leaves nothing of it.
-pub fn is_outside(walls: &[Wall], f: &NearTriangle) -> bool
+pub fn is_outside(walls: &[Wall], f: &LeafTriangle) -> bool
     requires { is_flat f.now.tri ≡ false }
     ensures { result ≡ true → IsClippedBy (map wall_of walls.now) f.now.tri [] }
 {
@@ -201,7 +201,7 @@ fn at_wall(draft: &mut Draft, w: &Wall) -> Result<bool, OutOfMemory>
 }
 
 // Keeps what the walls leave of the triangle's face. Returns whether anything is left.
-fn within_walls(draft: &mut Draft, f: &NearTriangle, walls: &[Wall]) -> Result<bool, OutOfMemory>
+fn within_walls(draft: &mut Draft, f: &LeafTriangle, walls: &[Wall]) -> Result<bool, OutOfMemory>
     requires normal { is_flat f.now.tri ≡ false }
     requires ring { HoldsRing draft.old }
     requires whole { face_in draft.old ≡ face_of f.now.tri }
@@ -227,7 +227,7 @@ fn within_walls(draft: &mut Draft, f: &NearTriangle, walls: &[Wall]) -> Result<b
 pub fn clip_to_box(
     alloc: Global,
     draft: &mut Draft,
-    f: &NearTriangle,
+    f: &LeafTriangle,
     walls: &[Wall],
     room: usize,
 ) -> Result<Option<Ring>, OutOfMemory>

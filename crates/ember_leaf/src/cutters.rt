@@ -3,26 +3,25 @@ ghost use Rattle.std.specs.Prelude.{◌≡◌, false, true, All, IfOk, OnOk};
 ghost use Rattle.ember_model.specs.Faces.{is_flat};
 ghost use Rattle.ember_model.specs.Owners.{is_coplanar};
 ghost use Rattle.ember_box.specs.Near.{tri_at};
-ghost use Rattle.ember_leaf.specs.Leaves.{tris_of};
+ghost use Rattle.ember_leaf.specs.LeafTriangles.{tris_in};
 ghost use Rattle.ember_leaf.specs.Cutters.{role_if, IsAdded, IsCutterOf};
 ghost use Rattle.ember_leaf.specs.Lower.{AddsBlades, AddsOwners};
 ghost use Rattle.ember_leaf.specs.Lower.{AddsBladesWithin, AddsOwnersWithin, AreBladesFound, AreOwnersFound};
 
 use crate::cutter::{Cutter, Role};
+use crate::leaf_triangle::LeafTriangle;
 use crate::relation::{Relation, covers, is_flat, relation_of};
 use ember_box::{Aabb, aabbs_meet};
 use ember_model::OutOfMemory;
-use ember_poly::main_edges;
-use ember_trace::NearTriangle;
 
-fn add_cutter(list: &mut Vec<Cutter>, g: &NearTriangle, role: Role) -> Result<(), OutOfMemory>
+fn add_cutter(list: &mut Vec<Cutter>, g: &LeafTriangle, role: Role) -> Result<(), OutOfMemory>
     requires { is_flat g.now.tri ≡ false }
     ensures { OnOk result (IsAdded g.now.tri role list.old.items list.new.items) }
 {
     list.push(Cutter {
         tri: g.tri,
         support: g.support,
-        edges: main_edges(&g.tri, &g.support),
+        edges: g.edges,
         role,
     })?;
     Ok(())
@@ -43,8 +42,8 @@ fn role_of(is_before: bool) -> Role
 // comes before that one and covers it.
 fn add_coplanar(
     list: &mut Vec<Cutter>,
-    own: &NearTriangle,
-    g: &NearTriangle,
+    own: &LeafTriangle,
+    g: &LeafTriangle,
     is_before: bool,
 ) -> Result<bool, OutOfMemory>
     requires normal { is_flat g.now.tri ≡ false }
@@ -66,8 +65,8 @@ fn add_coplanar(
 // before that one and covers it.
 fn add(
     list: &mut Vec<Cutter>,
-    own: &NearTriangle,
-    g: &NearTriangle,
+    own: &LeafTriangle,
+    g: &LeafTriangle,
     is_before: bool,
 ) -> Result<bool, OutOfMemory>
     requires own { is_flat own.now.tri ≡ false }
@@ -92,9 +91,9 @@ fn add(
 // The same, if its bounding box meets the bounds.
 fn add_near(
     list: &mut Vec<Cutter>,
-    own: &NearTriangle,
+    own: &LeafTriangle,
     bounds: &Aabb,
-    g: &NearTriangle,
+    g: &LeafTriangle,
     is_before: bool,
 ) -> Result<bool, OutOfMemory>
     requires own { is_flat own.now.tri ≡ false }
@@ -115,16 +114,16 @@ fn add_near(
 /// owns all its regions.
 pub fn find_cutters(
     list: &mut Vec<Cutter>,
-    own: &NearTriangle,
+    own: &LeafTriangle,
     bounds: &Aabb,
-    near: &[NearTriangle],
+    near: &[LeafTriangle],
     i: usize,
 ) -> Result<bool, OutOfMemory>
     requires normal { is_flat own.now.tri ≡ false }
-    requires own { own.now.tri ≡ tri_at (tris_of near.now) i }
+    requires own { own.now.tri ≡ tri_at (tris_in near.now) i }
     ensures cutters { OnOk result (All (IsCutterOf own.now.tri) list.new.items) }
-    ensures cutting_planes { IfOk result (AreBladesFound (tris_of near.now) i own.now.tri bounds.now list.new.items) }
-    ensures owners { IfOk result (AreOwnersFound (tris_of near.now) i own.now.tri bounds.now list.new.items) }
+    ensures cutting_planes { IfOk result (AreBladesFound (tris_in near.now) i own.now.tri bounds.now list.new.items) }
+    ensures owners { IfOk result (AreOwnersFound (tris_in near.now) i own.now.tri bounds.now list.new.items) }
 {
     list.clear();
     for j in 0..near.len() {

@@ -17,6 +17,7 @@ ghost use Rattle.ember_model.specs.Planes.{along, main_axis};
 ghost use Rattle.ember_expr.specs.Formula.{formula_of};
 ghost use Rattle.ember_leaf.specs.Written.{IsFlip, IsWrittenIn, AreOwned};
 ghost use Rattle.ember_leaf.specs.LeafBoxes.{WritesRegion, AddsWritten};
+ghost use Rattle.ember_leaf.specs.LeafTriangles.{tris_in};
 ghost use Rattle.ember_leaf.specs.Leaves.{IsRegionOf, IsKeptOf, ArePlaced, ArePlacedBelow, tris_of};
 
 use crate::clip::{clip_to_box, common_spans, is_outside, walls};
@@ -24,8 +25,10 @@ use crate::cutter::Cutter;
 use crate::cutters::find_cutters;
 use crate::heights::is_in_front;
 use crate::kept::{Kept, KeptList};
+use crate::leaf_triangle::LeafTriangle;
 use crate::regions::regions;
 use crate::relation::is_flat;
+use crate::triangles::leaf_triangles;
 use crate::wall::Wall;
 use ember_box::{Aabb, Cell, aabb_of_cell};
 use ember_expr::{Expr, value};
@@ -72,6 +75,7 @@ struct Leaf<'a> {
     cell: &'a Cell,
     aabb: &'a Aabb,
     near: &'a [NearTriangle],
+    triangles: &'a [LeafTriangle],
     at: &'a Vector,
 }
 
@@ -151,6 +155,7 @@ impl Leaf<'_> {
         draft: &mut Draft,
         kept: &mut Vec<Kept>,
     ) -> Result<(), OutOfMemory>
+        requires same { tris_in self.now.triangles.now ≡ tris_of self.now.near.now }
         requires few { length self.now.near.now ≤ 262144 }
         requires counts { AreBoxCounts self.now.at.now.counts }
         requires index { i < length self.now.near.now }
@@ -161,12 +166,12 @@ impl Leaf<'_> {
         ensures placed { OnOk result (ArePlacedBelow (tris_of self.now.near.now) (i + 1) kept.new.items) }
         ensures written { OnOk result (AddsWritten self.now i kept.old.items kept.new.items) }
     {
-        let own = &self.near[i];
+        let own = &self.triangles[i];
         if is_flat(own) || is_outside(walls, own) {
             return Ok(());
         }
         let bounds = common_spans(&own.aabb, self.aabb);
-        if find_cutters(cutters, own, &bounds, self.near, i)? {
+        if find_cutters(cutters, own, &bounds, self.triangles, i)? {
             return Ok(());
         }
         if let Some(ring) = clip_to_box(alloc, draft, own, walls, cutters.len().min(ROOM))? {
@@ -198,12 +203,14 @@ pub fn leaf_faces(
     ensures written { IfOk result (λ ks. (scene : List Corners) → Fits scene near.now c.now v.now.counts → IsWrittenIn scene (formula_of e.now) c.now near.now ks) }
 {
     let near_triangles = near_triangles(alloc, near, c)?;
+    let triangles = leaf_triangles(alloc, &near_triangles)?;
     let aabb = aabb_of_cell(c);
     let leaf = Leaf {
         expr: e,
         cell: c,
         aabb: &aabb,
         near: &near_triangles,
+        triangles: &triangles,
         at: v,
     };
     let walls = walls(c);

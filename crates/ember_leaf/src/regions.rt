@@ -1,18 +1,20 @@
 // The regions of a triangle: its start, cut by one triangle after another. A region that a triangle of
 // lower number contains is dropped as soon as that triangle has cut, so it costs nothing further.
-ghost use Rattle.std.specs.Prelude.{◌↔◌, IsTrue, [], ◌∷◌, ◌≤◌, length, take, drop};
+ghost use Rattle.std.specs.Prelude.{◌≡◌, ◌↔◌, IsTrue, true, [], ◌∷◌, ◌≤◌, length, take, drop};
 ghost use Rattle.std.specs.Prelude.{All, IfOk, OnOk};
+ghost use Rattle.std.specs.List.{AllByRecursion};
 ghost use Rattle.ember_model.specs.Valid.{IsValidPlane};
 ghost use Rattle.ember_model.specs.Faces.{face_of, Meets};
-ghost use Rattle.ember_leaf.specs.Cutters.{AtCutter, AtEdges, AtPlane, AreSplit, AreCut, IsSplitBehind};
+ghost use Rattle.ember_leaf.specs.Cutters.{AtCutter, AtEdges, AtPlane, IsUncut, AreSplit, AreCut, IsSplitBehind};
 ghost use Rattle.ember_leaf.specs.Cutters.{MeetsFirst, AreLast, ShareAPlane, CanCut};
+ghost use Rattle.ember_leaf.specs.declared.cutter.Role.TheVariants.{Owner};
 ghost use Rattle.ember_poly.specs.Cuts.{HasInside};
 ghost use Rattle.ember_leaf.specs.Written.{HasGrown};
 
 use crate::contact::{Contact, contact_of};
 use crate::cutter::{Cutter, Role};
 use ember_model::{OutOfMemory, Plane};
-use ember_poly::{Reach, Ring, meets_face, outline, parts, reach};
+use ember_poly::{Reach, Ring, above, meets_face, meets_within, outline, parts, reach};
 use std::alloc::Global;
 
 // Some inside point of the region lies in the closed face of a triangle of its plane. The triangle's
@@ -25,7 +27,7 @@ fn is_met_flat(r: &Ring, c: &Cutter) -> bool
     match contact_of(outline(r).0, &c.tri) {
         Contact::Apart => false,
         Contact::Met => true,
-        Contact::Unknown => meets_face(r, &c.support, &c.edges),
+        Contact::Unknown => meets_within(r, &c.edges),
     }
 }
 
@@ -71,8 +73,36 @@ fn add_sides(alloc: Global, r: Ring, p: &Plane, out: &mut Vec<Ring>) -> Result<(
     Ok(())
 }
 
+// None of the planes cuts the region.
+fn is_uncut(r: &Ring, planes: &[Plane]) -> bool
+    requires { All IsValidPlane planes.now }
+    ensures { result ≡ true → AllByRecursion (IsUncut r.now) planes.now }
+{
+    for p in planes {
+        match reach(r, p) {
+            Reach::Both => {
+                return false;
+            }
+            _ => {}
+        }
+    }
+    true
+}
+
+// None of the planes cuts the region, and the triangle owns what it contains.
+fn is_owned(r: &Ring, c: &Cutter, planes: &[Plane]) -> bool
+    requires { All IsValidPlane planes.now }
+    ensures { result ≡ true → (c.now.role ≡ Owner) × AllByRecursion (IsUncut r.now) planes.now }
+{
+    match c.role {
+        Role::Owner => is_uncut(r, planes),
+        _ => false,
+    }
+}
+
 // Cuts a region that overlaps the triangle by the rest of its edge planes. Adds the part inside the
-// triangle, unless the triangle owns it, and then the parts outside, the last one cut off first.
+// triangle, unless the triangle owns it, and then the parts outside, the last one cut off first. The
+// part inside an owner isn't made where no further plane would cut it.
 fn add_pieces(
     alloc: Global,
     r: Ring,
@@ -91,9 +121,13 @@ fn add_pieces(
         },
         [p, rest @ ..] => match reach(&r, p) {
             Reach::Both => {
-                let (low, high) = parts(alloc, r, p)?;
-                add_pieces(alloc, low, c, rest, out)?;
-                out.push(high)?;
+                if is_owned(&r, c, rest) {
+                    out.push(above(r, p)?)?;
+                } else {
+                    let (low, high) = parts(alloc, r, p)?;
+                    add_pieces(alloc, low, c, rest, out)?;
+                    out.push(high)?;
+                }
             }
             _ => add_pieces(alloc, r, c, rest, out)?,
         },

@@ -6,8 +6,8 @@ ghost use Rattle.ember_model.specs.Owners.{is_coplanar};
 ghost use Rattle.ember_leaf.specs.TriRelations.{AreDisjoint, IsBehindEdge, IsRelation};
 
 use crate::heights::heights_of;
-use ember_model::{Plane, edge_plane, main_axis};
-use ember_trace::NearTriangle;
+use crate::leaf_triangle::LeafTriangle;
+use ember_model::Plane;
 
 /// How a triangle lies to the closed face of another.
 #[derive(Clone, Copy)]
@@ -27,43 +27,37 @@ fn has_no_normal(p: &Plane) -> bool
 }
 
 /// The normal of the triangle is zero.
-pub fn is_flat(f: &NearTriangle) -> bool
+pub fn is_flat(f: &LeafTriangle) -> bool
     ensures { result ≡ is_flat f.now.tri }
 {
     has_no_normal(&f.support)
 }
 
 // The plane of an edge of the first triangle keeps the two apart.
-fn separates(f: &NearTriangle, g: &NearTriangle, edge: u8) -> bool
-    requires edge { edge < 3 }
+fn separates(f: &LeafTriangle, g: &LeafTriangle) -> bool
     requires first { is_flat f.now.tri ≡ false }
     requires second { is_flat g.now.tri ≡ false }
     ensures { result ≡ true → AreDisjoint f.now.tri g.now.tri × AreDisjoint g.now.tri f.now.tri }
 {
-    let k = main_axis(&f.support);
-    let p = edge_plane(&f.tri, edge, k);
-    heights_of(&p, &g.tri).lie_in_front()
-}
-
-// The plane of an edge of one of them keeps the two apart.
-fn are_separated(f: &NearTriangle, g: &NearTriangle) -> bool
-    requires first { is_flat f.now.tri ≡ false }
-    requires second { is_flat g.now.tri ≡ false }
-    ensures { result ≡ true → AreDisjoint f.now.tri g.now.tri }
-{
-    for edge in 0..3 {
-        if separates(f, g, edge) {
-            return true;
-        }
-        if separates(g, f, edge) {
+    for i in 0..3 {
+        if heights_of(&f.edges[i], &g.tri).lie_in_front() {
             return true;
         }
     }
     false
 }
 
+// The plane of an edge of one of them keeps the two apart.
+fn are_separated(f: &LeafTriangle, g: &LeafTriangle) -> bool
+    requires first { is_flat f.now.tri ≡ false }
+    requires second { is_flat g.now.tri ≡ false }
+    ensures { result ≡ true → AreDisjoint f.now.tri g.now.tri }
+{
+    separates(f, g) || separates(g, f)
+}
+
 // How a triangle lies to another one that lies in its plane.
-fn coplanar_relation(f: &NearTriangle, g: &NearTriangle) -> Relation
+fn coplanar_relation(f: &LeafTriangle, g: &LeafTriangle) -> Relation
     requires first { is_flat f.now.tri ≡ false }
     requires second { is_flat g.now.tri ≡ false }
     requires plane { is_coplanar f.now.tri g.now.tri ≡ true }
@@ -77,7 +71,7 @@ fn coplanar_relation(f: &NearTriangle, g: &NearTriangle) -> Relation
 }
 
 // How it lies to one that is not in its plane.
-fn crossing_relation(f: &NearTriangle, g: &NearTriangle) -> Relation
+fn crossing_relation(f: &LeafTriangle, g: &LeafTriangle) -> Relation
     requires first { is_flat f.now.tri ≡ false }
     requires second { is_flat g.now.tri ≡ false }
     requires plane { is_coplanar f.now.tri g.now.tri ≡ false }
@@ -94,7 +88,7 @@ fn crossing_relation(f: &NearTriangle, g: &NearTriangle) -> Relation
 }
 
 /// How a triangle lies to another one. Neither is flat.
-pub fn relation_of(f: &NearTriangle, g: &NearTriangle) -> Relation
+pub fn relation_of(f: &LeafTriangle, g: &LeafTriangle) -> Relation
     requires first { is_flat f.now.tri ≡ false }
     requires second { is_flat g.now.tri ≡ false }
     ensures { IsRelation f.now.tri g.now.tri result }
@@ -112,18 +106,16 @@ pub fn relation_of(f: &NearTriangle, g: &NearTriangle) -> Relation
 }
 
 // The second triangle lies behind the plane of an edge of the first.
-fn is_behind_edge(f: &NearTriangle, g: &NearTriangle, edge: u8) -> bool
+fn is_behind_edge(f: &LeafTriangle, g: &LeafTriangle, edge: usize) -> bool
     requires edge { edge < 3 }
     requires second { is_flat g.now.tri ≡ false }
     ensures { result ≡ true → IsBehindEdge f.now.tri g.now.tri edge }
 {
-    let k = main_axis(&f.support);
-    let p = edge_plane(&f.tri, edge, k);
-    heights_of(&p, &g.tri).lie_behind()
+    heights_of(&f.edges[edge], &g.tri).lie_behind()
 }
 
 /// The second triangle, which lies in the plane of the first, is covered by it.
-pub fn covers(f: &NearTriangle, g: &NearTriangle) -> bool
+pub fn covers(f: &LeafTriangle, g: &LeafTriangle) -> bool
     requires second { is_flat g.now.tri ≡ false }
     requires plane { is_coplanar f.now.tri g.now.tri ≡ true }
     ensures { result ≡ true → Contains (face_of f.now.tri) (face_of g.now.tri) }

@@ -147,6 +147,52 @@ module _ (f : Face) (hs : List Plane) where
       by true t = (λ e. all_low s t.low, λ o. refl)
       by false t = (λ e. absurd (differ e), λ o. absurd (none_met t.passed t.low o))
 
+-- ---- planes one after another, at most one of which cuts the face
+pub record Counted (f : Face) (is_cut is_cut_twice : Bool) (gs : List Plane) : Type 0 where
+  pub low : is_cut ≡ false → AllByRecursion (λ h. IsLow f h) gs
+  pub free : is_cut_twice ≡ false → Somewhere f (λ v. none_positive gs v ≡ true)
+
+pub counted_none : (f : Face) → HasInside f → Counted f false false []
+counted_none f s =
+    record { low = λ e. tt; free = λ e. record { at = s.at; inside = s.inside; holds = refl } }
+
+module _ (f : Face) (is_cut : Bool) (gs : List Plane) (h : Plane) where
+  free_push : (s : Somewhere f (λ v. none_positive gs v ≡ true)) → IsNotAbove h s.at → Somewhere f (λ v. none_positive (gs ++ h ∷ []) v ≡ true)
+  free_push s n =
+      record { at = s.at; inside = s.inside; holds = all_in (gs ++ h ∷ []) s.at (each-push (λ g. IsNotAbove g s.at) gs h (all_out gs s.at s.holds) n) }
+
+  counted_low : (is_cut_twice : Bool) → IsLow f h → Counted f is_cut is_cut_twice gs → Counted f is_cut is_cut_twice (gs ++ h ∷ [])
+  counted_low is_cut_twice l c =
+      record { low = λ e. each-push (λ h. IsLow f h) gs h (c.low e) l; free = λ e. (let s = c.free e in free_push s (record { at_most = not_positive_out (value_at h s.at) (l.holds s.at s.inside) })) }
+
+  counted_cut : (is_cut_twice : Bool) → Cuts f h → Counted f is_cut is_cut_twice gs → Counted f true is_cut (gs ++ h ∷ [])
+  counted_cut is_cut_twice k c =
+      record { low = λ e. absurd (differ e); free = λ e. free_push (below_all e) (record { at_most = most (negative_out (value_at h k.low.at) k.low.holds) }) }
+    where
+      differ : true ≡ false → ⊥
+      differ e = cc
+
+      most : {a : ℤ} → a <ℤ pos 0 → a ≤ℤ pos 0
+      most q = omega (arith, linear, q)
+
+      below_all : is_cut ≡ false → Somewhere f (λ v. none_positive gs v ≡ true)
+      below_all e =
+          record { at = k.low.at; inside = k.low.inside; holds = all_in gs k.low.at (each_map (λ h. IsLow f h) (λ h. IsNotAbove h k.low.at) gs (λ h l. record { at_most = not_positive_out (value_at h k.low.at) (l.holds k.low.at k.low.inside) }) (c.low e)) }
+
+-- the same at a place of a list
+module _ (f : Face) (hs : List Plane) (is_cut is_cut_twice : Bool) (i : ℕ) (d : Plane) (m : i < length hs) (c : Counted f is_cut is_cut_twice (take i hs)) where
+  pub counted_low_at : IsLow f (get_or hs i d) → Counted f is_cut is_cut_twice (take (i + 1) hs)
+  counted_low_at l =
+      subst (λ gs. Counted f is_cut is_cut_twice gs) (sym (take_more hs i d m)) (counted_low f is_cut (take i hs) (get_or hs i d) is_cut_twice l c)
+
+  pub counted_cut_at : Cuts f (get_or hs i d) → Counted f true is_cut (take (i + 1) hs)
+  counted_cut_at k =
+      subst (λ gs. Counted f true is_cut gs) (sym (take_more hs i d m)) (counted_cut f is_cut (take i hs) (get_or hs i d) is_cut_twice k c)
+
+pub counted_end : (f : Face) (hs : List Plane) (is_cut : Bool) (i : ℕ) → length hs ≤ i → Counted f is_cut false (take i hs) → Somewhere f (λ v. none_positive hs v ≡ true)
+counted_end f hs is_cut i m c =
+    (subst (λ gs. Counted f is_cut false gs) (take_all i hs m) c).free refl
+
 -- ---- a face in one plane with the other, or off it
 pub met_on : (f : Face) (n : Plane) (hs : List Plane) → IsWhole f (λ v. is_zero (value_at n v) ≡ true) → Somewhere f (λ v. none_positive hs v ≡ true) → Meets f (face_with n hs)
 met_on f n hs w s =

@@ -5,13 +5,15 @@ use Rattle.ember_model.specs.declared.point.Spot.{Spot}
 use Rattle.ember_model.specs.declared.tri.Tri.{Tri}
 use Rattle.ember_model.specs.Planes.{value_at}
 use Rattle.ember_model.specs.declared.face.Face.{Face}
-use Rattle.ember_model.specs.Faces.{Cuts, Meets as MeetsFace}
+use Rattle.ember_model.specs.Faces.{Somewhere, Cuts, Meets as MeetsFace}
 use Rattle.ember_model.specs.Owners.{spot_of_corner}
 use Rattle.ember_model.specs.ClearTest.{face_with, none_positive}
 use Rattle.ember_point.specs.Points.{spot_of}
 use Rattle.ember_poly.specs.declared.reach_cut.Reach.TheVariants as reach
 use Rattle.ember_poly.specs.declared.meeting.Crossing.{Crossing}
 use Rattle.ember_poly.specs.declared.meeting.Crossing.TheVariants as crossing
+use Rattle.ember_poly.specs.declared.meeting.Overlap.{Overlap}
+use Rattle.ember_poly.specs.declared.meeting.Overlap.TheVariants as overlap
 use Rattle.ember_poly.specs.declared.meeting.ChordPart.{ChordPart}
 use Rattle.ember_poly.specs.declared.meeting.ChordPart.TheVariants.{Whole, Split, Empty}
 use Rattle.ember_poly.specs.Cuts.{IsReach}
@@ -72,3 +74,9 @@ IsCrossing f p crossing.Below = IsReach f p reach.Below
 IsCrossing f p crossing.Above = IsReach f p reach.Above
 IsCrossing f p crossing.On = IsReach f p reach.On
 IsCrossing f p (crossing.Along y z) = IsChord f p (spot_of y) (spot_of z)
+
+-- what the sides of the planes on which f lies show of its inside points above none of them
+abbrev pub IsOverlap : Face → List Plane → Overlap → Type 0
+IsOverlap f hs overlap.Apart = Somewhere f (λ v. none_positive hs v ≡ true) → ⊥
+IsOverlap f hs overlap.Met = Somewhere f (λ v. none_positive hs v ≡ true)
+IsOverlap f hs overlap.Unknown = Unit {0}

@@ -2,7 +2,7 @@
 ghost use Rattle.std.specs.Prelude.{◌≡◌, IfOk};
 ghost use Rattle.ember_model.specs.Valid.{IsValidPlane};
 ghost use Rattle.ember_model.specs.Planes.{opposite};
-ghost use Rattle.ember_model.specs.Faces.{Cuts, below};
+ghost use Rattle.ember_model.specs.Faces.{Cuts, below, above};
 ghost use Rattle.ember_poly.specs.Cuts.{AreParts, IsClip, IsCut};
 
 use crate::draft::draft_of;
@@ -47,6 +47,15 @@ fn below(r: Ring, p: &Plane) -> Result<Ring, OutOfMemory>
     Ok(low)
 }
 
+/// The part above a plane that has inside points of the ring on both sides: it has the opposite plane.
+pub fn above(r: Ring, p: &Plane) -> Result<Ring, OutOfMemory>
+    requires plane { IsValidPlane p.now }
+    requires cuts { Cuts r p.now }
+    ensures { IfOk result (λ part. part ≡ above r p.now) }
+{
+    below(r, &opposite(p))
+}
+
 /// The parts below and above a plane that has inside points of the ring on both sides: the part
 /// above has the opposite plane.
 pub fn parts(alloc: Global, r: Ring, plane: &Plane) -> Result<(Ring, Ring), OutOfMemory>
@@ -54,7 +63,7 @@ pub fn parts(alloc: Global, r: Ring, plane: &Plane) -> Result<(Ring, Ring), OutO
     requires cuts { Cuts r plane.now }
     ensures { IfOk result (λ both. AreParts r plane.now both.0 both.1) }
 {
-    let high = below(copy(alloc, &r)?, &opposite(plane))?;
+    let high = above(copy(alloc, &r)?, plane)?;
     let low = below(r, plane)?;
     Ok((low, high))
 }

@@ -13,10 +13,10 @@ mod reach_cut;
 mod reaching;
 mod ring;
 
-pub use cutting::{clip, cut, parts};
+pub use cutting::{above, clip, cut, parts};
 pub use draft::Draft;
 pub use law::rings_are_valid_and_bounded;
-pub use meeting::{meets, meets_face};
+pub use meeting::{meets, meets_face, meets_within};
 pub use reach_cut::{Cut, Reach};
 pub use reaching::reach;
 pub use ring::{Ring, copy, corners, edges, main_edges, of_tri, outline, support};

@@ -9,10 +9,11 @@ ghost use Rattle.ember_model.specs.ClearTest.{face_with, none_positive};
 ghost use Rattle.ember_point.specs.Points.{spot_of};
 ghost use Rattle.ember_poly.specs.Cuts.{HasInside};
 ghost use Rattle.ember_model.specs.Owners.{spot_of_corner};
-ghost use Rattle.ember_poly.specs.Chords.{IsOnOneSide, IsCrossing, IsChordPart, IsLine, IsOpen, HasVertexWithin};
+ghost use Rattle.ember_poly.specs.Chords.{IsOnOneSide, IsCrossing, IsOverlap, IsChordPart, IsLine, IsOpen, HasVertexWithin};
 
 use crate::passage::{classify, find_passage};
 use crate::reach_cut::Reach;
+use crate::reaching::reach;
 use crate::ring;
 use crate::ring::{Ring, main_edges};
 use ember_algebra::Sign;
@@ -134,8 +135,8 @@ fn cross(r: &Ring, p: &Plane) -> Crossing
     }
 }
 
-// Some inside point is above no plane of the list.
-fn meets_within(r: &Ring, hs: &[Plane]) -> bool
+// Some inside point is above no plane of the list, by the chords in which planes cut the ring.
+fn meets_by_chords(r: &Ring, hs: &[Plane]) -> bool
     requires planes { All IsValidPlane hs.now }
     requires inside { HasInside r.now }
     ensures { IsTrue result ↔ Somewhere r.now (λ v. none_positive hs.now v ≡ true) }
@@ -158,6 +159,58 @@ fn meets_within(r: &Ring, hs: &[Plane]) -> bool
         }
     }
     free
+}
+
+// What the sides of planes on which a ring lies show of its inside points above none of them.
+#[derive(Clone, Copy)]
+enum Overlap {
+    // The ring lies above a plane: there is none.
+    Apart,
+    // At most one plane cuts the ring, and it lies above none: there is one.
+    Met,
+    // They show neither.
+    Unknown,
+}
+
+// By one pass over the corners for each plane, without a meet.
+fn overlap_of(r: &Ring, hs: &[Plane]) -> Overlap
+    requires planes { All IsValidPlane hs.now }
+    requires inside { HasInside r.now }
+    ensures { IsOverlap r.now hs.now result }
+{
+    let mut is_cut = false;
+    let mut is_cut_twice = false;
+    for h in hs {
+        match reach(r, h) {
+            Reach::Below => {}
+            Reach::On => {}
+            Reach::Above => {
+                return Overlap::Apart;
+            }
+            Reach::Both => {
+                is_cut_twice = is_cut;
+                is_cut = true;
+            }
+        }
+    }
+    if is_cut_twice {
+        Overlap::Unknown
+    } else {
+        Overlap::Met
+    }
+}
+
+/// Some inside point of the ring is above none of the planes.
+pub fn meets_within(r: &Ring, hs: &[Plane]) -> bool
+    requires planes { All IsValidPlane hs.now }
+    requires inside { HasInside r.now }
+    ensures { IsTrue result ↔ Somewhere r.now (λ v. none_positive hs.now v ≡ true) }
+{
+    match overlap_of(r, hs) {
+        Overlap::Apart => false,
+        Overlap::Met => true,
+        Overlap::Unknown => meets_by_chords(r, hs),
+    }
 }
 
 /// Some inside point of the ring lies in the closed face of a support plane and edge planes.

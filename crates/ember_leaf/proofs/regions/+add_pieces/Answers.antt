@@ -3,7 +3,8 @@ use Rattle.ember_model.specs.declared.plane.Plane.{Plane}
 use Rattle.ember_model.specs.Valid.{IsValidPlane}
 use Rattle.ember_leaf.specs.Written.{HasGrown}
 use Rattle.ember_leaf.specs.Cutters.{AreLast, AtEdges}
-use Rattle.ember_leaf.proofs.Pieces.{low_is_last, all_under, last_dropped, last_left, whole_grown, parts_grown, first_rest, rest_shorter, rest_all, no_first}
+use Rattle.ember_poly.specs.Cuts.{IsReach}
+use Rattle.ember_leaf.proofs.Pieces.{above_grown, low_is_last, all_under, last_dropped, last_left, whole_grown, parts_grown, first_rest, rest_shorter, rest_all, no_first}
 use Rattle.ember_leaf.proofs.regions.+add_pieces.Goals as goal
 
 abbrev no_plane : Plane
@@ -37,12 +38,24 @@ returns-in_ok-push-in_default t c =
     let u = c.args.c.now in let r = c.args.r in let old = c.args.out.now.items in let new = c.push.new.self.items in
     subst (λ ps. HasGrown (AtEdges u ps r) old new) (sym (no_first c.args.edges.now c.in-empty.len_below)) (last_left u r old new c.in_default.not-Owner c.in_ok-push-in_default.ensures.items)
 
+pub is_owned-requires : goal.is_owned-requires
+is_owned-requires t c =
+    rest_all IsValidPlane c.args.edges.now no_plane c.in-len1-up.len_at_least c.requires.valid
+
 pub returns-in_ok-push-in-Both : goal.returns-in_ok-push-in-Both
 returns-in_ok-push-in-Both t c =
+    let es = c.args.edges.now in let u = c.args.c.now in let r = c.args.r in let old = c.args.out.now.items in
+    let e = first_rest es no_plane c.in-len1-up.len_at_least in let h = subst (λ ps. AreLast u.tri ps r) (sym e) c.requires.last in
+    let w = c.is_owned.ensures c.if-is_owned.true in let k = subst (λ k. IsReach r (first es) k) c.in-Both.is c.reach.ensures in
+    let new = c.push-then-is_owned.new.self.items in
+    subst (λ ps. HasGrown (AtEdges u ps r) old new) e (above_grown u (first es) (rest es) r c.in_ok-above-in-Both.field-0 old new w.0 h k w.1 c.in_ok-above-in-Both.ensures c.in_ok-push-in-Both.ensures.items)
+
+pub returns-in_ok-push-in-Both-2 : goal.returns-in_ok-push-in-Both-2
+returns-in_ok-push-in-Both-2 t c =
     let es = c.args.edges.now in let u = c.args.c.now in let r = c.args.r in let old = c.args.out.now.items in let k = c.in_ok-low-in-Both in
     let e = first_rest es no_plane c.in-len1-up.len_at_least in let h = subst (λ ps. AreLast u.tri ps r) (sym e) c.requires.last in
-    let mid = c.add_pieces.new.out.items in let new = c.push-in-Both.new.self.items in
-    subst (λ ps. HasGrown (AtEdges u ps r) old new) e (parts_grown u (first es) (rest es) r k.low k.high old mid new h k.ensures c.in_ok-add_pieces-in-Both.ensures c.in_ok-push-in-Both.ensures.items)
+    let mid = c.add_pieces.new.out.items in let new = c.push-else-is_owned.new.self.items in
+    subst (λ ps. HasGrown (AtEdges u ps r) old new) e (parts_grown u (first es) (rest es) r k.low k.high old mid new h k.ensures c.in_ok-add_pieces-in-Both.ensures c.in_ok-push-in-Both-2.ensures.items)
 
 pub returns-in_ok-add_pieces-in_default-reach : goal.returns-in_ok-add_pieces-in_default-reach
 returns-in_ok-add_pieces-in_default-reach t c =

@@ -1,8 +1,8 @@
-use Rattle.std.proofs.Common.{◌↔◌, IsTrue, subst}
-use Rattle.ember_model.specs.Faces.{Meets}
+use Rattle.std.proofs.Common.{subst}
 use Rattle.ember_leaf.specs.Contact.{IsContact}
 use Rattle.ember_leaf.proofs.Contacts.{parting_unmet, contact_met}
-use Rattle.ember_leaf.proofs.RegionCuts.{blade_face, never, always}
+use Rattle.ember_leaf.proofs.RegionCuts.{never, always}
+use Rattle.ember_leaf.proofs.Sharing.{meets_flat}
 use Rattle.ember_leaf.proofs.regions.is_met_flat.Goals as goal
 
 pub returns-in-Apart : goal.returns-in-Apart
@@ -18,4 +18,4 @@ returns-in-Met c =
 pub returns-in-Unknown : goal.returns-in-Unknown
 returns-in-Unknown c =
     let u = c.args.c.now in
-    subst (λ f. IsTrue c.meets_face.result ↔ Meets c.args.r.now f) (blade_face u.tri u.face u.sides) c.meets_face.ensures
+    meets_flat c.args.r.now u u.edges c.requires.plane c.requires.somewhere u.face u.sides c.meets_within.ensures

@@ -4,8 +4,8 @@ use Rattle.ember_model.specs.declared.plane.Plane.{Plane}
 use Rattle.ember_point.specs.Points.{spot_of}
 use Rattle.ember_poly.specs.Chords.{IsLine, IsCrossing}
 use Rattle.ember_poly.proofs.InsideNotAbove.{Tested, low_below, low_on, low_at, cut_at, above_at, met_free, tested_end}
-use Rattle.ember_poly.proofs.meeting.meets_within.Goals.{in-Below, in-On, in-Along+else-meets_chord}
-use Rattle.ember_poly.proofs.meeting.meets_within.Goals as goal
+use Rattle.ember_poly.proofs.meeting.meets_by_chords.Goals.{in-Below, in-On, in-Along+else-meets_chord}
+use Rattle.ember_poly.proofs.meeting.meets_by_chords.Goals as goal
 
 differ : true ≡ false → ⊥
 differ e = cc

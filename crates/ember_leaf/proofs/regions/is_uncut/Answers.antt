@@ -1,0 +1,15 @@
+use Rattle.std.proofs.Common.{pos}
+use Rattle.ember_model.specs.declared.plane.Plane.{Plane}
+use Rattle.ember_leaf.proofs.Pieces.{uncut_more, all_uncut}
+use Rattle.ember_leaf.proofs.regions.is_uncut.Goals as goal
+
+abbrev no_plane : Plane
+no_plane = record { a = pos 0; b = pos 0; c = pos 0; d = pos 0 }
+
+pub loop-p-preserved : goal.loop-p-preserved
+loop-p-preserved c =
+    uncut_more c.args.r.now c.args.planes.now c.loop-p.p-index no_plane c.loop-p-test.true c.loop-p.invariant (record { side = c.reach.result; lies = c.reach.ensures; uncut = c.in_default.not-Both })
+
+pub returns : goal.returns
+returns c =
+    λ e. all_uncut c.args.r.now c.args.planes.now c.loop-p.p-index c.loop-p-test.false c.loop-p.invariant

@@ -1,0 +1,7 @@
+use Rattle.std.proofs.Common.{◌≡◌, take}
+use Rattle.ember_leaf.specs.Leaves.{tris_of}
+use Rattle.ember_leaf.specs.LeafTriangles.{tris_in}
+use Rattle.ember_leaf.proofs.triangles.leaf_triangles.Given as goal
+
+abbrev pub invariant-loop-f : goal.invariant-loop-f
+invariant-loop-f l = tris_in l.list.items ≡ tris_of (take l.f-index l.near)

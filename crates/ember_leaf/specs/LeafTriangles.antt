@@ -1,0 +1,10 @@
+-- The triangles of a leaf as the program keeps them
+use Rattle.std.specs.Prelude.{List, map}
+use Rattle.ember_model.specs.declared.tri.Tri.{Tri}
+use Rattle.ember_leaf.specs.declared.leaf_triangle.LeafTriangle.{LeafTriangle}
+
+abbrev pub tri_in : LeafTriangle → Tri
+tri_in f = f.tri
+
+abbrev pub tris_in : List LeafTriangle → List Tri
+tris_in fs = map tri_in fs

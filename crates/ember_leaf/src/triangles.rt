@@ -1,0 +1,35 @@
+// The triangles of a leaf, each with its edge planes.
+ghost use Rattle.std.specs.Prelude.{◌≡◌, IfOk};
+ghost use Rattle.ember_leaf.specs.Leaves.{tris_of};
+ghost use Rattle.ember_leaf.specs.LeafTriangles.{tris_in};
+
+use crate::leaf_triangle::LeafTriangle;
+use ember_model::OutOfMemory;
+use ember_poly::main_edges;
+use ember_trace::NearTriangle;
+use std::alloc::Global;
+
+fn leaf_triangle_of(f: &NearTriangle) -> LeafTriangle
+    ensures { result.tri ≡ f.now.tri }
+{
+    LeafTriangle {
+        tri: f.tri,
+        support: f.support,
+        edges: main_edges(&f.tri, &f.support),
+        aabb: f.aabb,
+    }
+}
+
+/// The same triangles, each with its edge planes, which all the others use again.
+pub fn leaf_triangles(
+    alloc: Global,
+    near: &[NearTriangle],
+) -> Result<Vec<LeafTriangle>, OutOfMemory>
+    ensures { IfOk result (λ list. tris_in list.items ≡ tris_of near.now) }
+{
+    let mut list = Vec::with_capacity(alloc, near.len())?;
+    for f in near {
+        list.push(leaf_triangle_of(f))?;
+    }
+    Ok(list)
+}

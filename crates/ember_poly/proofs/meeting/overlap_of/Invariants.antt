@@ -1,0 +1,6 @@
+use Rattle.std.proofs.Common.{take}
+use Rattle.ember_poly.proofs.InsideNotAbove.{Counted}
+use Rattle.ember_poly.proofs.meeting.overlap_of.Given as goal
+
+abbrev pub invariant-loop-h : goal.invariant-loop-h
+invariant-loop-h l = Counted l.r l.is_cut l.is_cut_twice (take l.h-index l.hs)
