@@ -136,13 +136,13 @@ once_level X lo h e = (e.1, e.2)
 once_level Y lo h e = (e.0, e.2)
 once_level Z lo h e = (e.0, e.1)
 
-or_zero : (s t : Sign) → s ≡ Zero → t ≡ or_sign s t
-or_zero s t e = sym (ap (λ (s : Sign). or_sign s t) e)
+pub or_next : (s t : Sign) → s ≡ Zero → t ≡ or_sign s t
+or_next s t e = sym (ap (λ (s : Sign). or_sign s t) e)
 
-or_other : (s t : Sign) → (s ≡ Zero → ⊥) → s ≡ or_sign s t
-or_other Neg t n = refl
-or_other Zero t n = absurd (n refl)
-or_other Pos t n = refl
+pub or_first : (s t : Sign) → (s ≡ Zero → ⊥) → s ≡ or_sign s t
+or_first Neg t n = refl
+or_first Zero t n = absurd (n refl)
+or_first Pos t n = refl
 
 -- a sign that is another one, or where that is zero a third
 either : (s r t : Sign) → ((r ≡ Zero → ⊥) → s ≡ r) → (r ≡ Zero → s ≡ t) → s ≡ or_sign r t

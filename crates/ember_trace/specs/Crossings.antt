@@ -23,7 +23,7 @@ use Rattle.ember_trace.specs.declared.path.Path.{Path}
 use Rattle.ember_trace.specs.declared.segments.Ends.{Ends}
 use Rattle.ember_trace.specs.declared.side_vectors.Sides.{Sides}
 use Rattle.ember_trace.specs.NearTriangles.{AreNearTriangles}
-use Rattle.ember_trace.specs.Paths.{coordinate, inside_side, side_at_start, side_at_end, side_after_first, side_after_second, floor_at_end, IsPathTo}
+use Rattle.ember_trace.specs.Paths.{coordinate, inside_side, side_at_start, side_at_end, side_after_first, side_after_second, floor_at_end, HasAxes, IsPathTo}
 
 -- a segment from one side of a plane to another passes it: 1 from behind to the front, -1 back
 abbrev pub signed_crossing : Sign → Sign → ℤ
@@ -53,6 +53,7 @@ in_root z = if int_lt z (negsuc 2047) then negsuc 2047 else if int_lt (pos 2048)
 
 -- the floors of a path's end along its axes; along the main axis no less than where the last segment begins
 pub record AreEnds (w : Path) (at : Ends) : Type 0 where
+  pub axes : HasAxes w
   pub first : at.first ≡ in_root (floor_at_end w w.first)
   pub second : at.second ≡ in_root (floor_at_end w w.second)
   pub top : at.top ≡ int_max (in_root (floor_at_end w w.main)) (coordinate w.lo w.main)

@@ -63,6 +63,11 @@ second_of X = Z
 second_of Y = Z
 second_of Z = Y
 
+-- the axes of a path are those of its last
+pub record HasAxes (w : Path) : Type 0 where
+  pub first : w.first ≡ first_of w.main
+  pub second : w.second ≡ second_of w.main
+
 -- the path from the reference point of the box to the region
 pub record IsPathTo (c : Cell) (r : Face) (w : Path) : Type 0 where
   pub lo : w.lo ≡ c.lo.x ∷ c.lo.y ∷ c.lo.z ∷ []

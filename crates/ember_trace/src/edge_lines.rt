@@ -1,13 +1,15 @@
 // The edges of a triangle seen along an axis: lines in the two other coordinates.
-ghost use Rattle.std.specs.Prelude.{◌≡◌, true, ◌*ℤ◌, ◌-ℤ◌};
+ghost use Rattle.std.specs.Prelude.{◌≡◌, true, ℤ, ◌*ℤ◌, ◌+ℤ◌, ◌-ℤ◌, neg_ℤ};
 ghost use Rattle.ember_algebra.specs.Size.{Small};
 ghost use Rattle.ember_algebra.specs.Sign.{sgn};
 ghost use Rattle.ember_model.specs.Valid.{IsValidCorner};
+ghost use Rattle.ember_model.specs.Sizes.{IsEdgeSized};
 ghost use Rattle.ember_model.specs.Planes.{value_at, unit, times_plane, edge_through};
-ghost use Rattle.ember_point.specs.Points.{spot_of, is_narrow};
+ghost use Rattle.ember_point.specs.Points.{spot_of, is_narrow, slid};
+ghost use Rattle.ember_trace.specs.Paths.{second_of};
 
 use ember_algebra::{Sign, sign_of};
-use ember_model::{Axis, Corner};
+use ember_model::{Axis, Corner, Plane};
 use ember_point::{Meet, narrow_product};
 
 // The line on which `a p - b q - d` is 0.
@@ -59,5 +61,114 @@ pub fn edge_side(u: &Corner, v: &Corner, k: Axis, s: i64, m: &Meet) -> Sign
         Axis::X => line_side(&line_through(u.y, u.z, v.y, v.z, s), m.y, m.z, m.w),
         Axis::Y => line_side(&line_through(u.z, u.x, v.z, v.x, s), m.z, m.x, m.w),
         Axis::Z => line_side(&line_through(u.x, u.y, v.x, v.y, s), m.x, m.y, m.w),
+    }
+}
+
+/// The plane along an axis through an edge, times a sign.
+pub fn edge_plane_times(u: &Corner, v: &Corner, k: Axis, s: i64) -> Plane
+    requires from { IsValidCorner u.now }
+    requires to { IsValidCorner v.now }
+    requires s { Small 1 s }
+    ensures value { result ≡ times_plane s (edge_through u.now v.now (unit k)) }
+    ensures small { IsEdgeSized result }
+{
+    match k {
+        Axis::X => {
+            let l = line_through(u.y, u.z, v.y, v.z, s);
+            Plane {
+                a: 0,
+                b: l.a,
+                c: -l.b,
+                d: l.d,
+            }
+        }
+        Axis::Y => {
+            let l = line_through(u.z, u.x, v.z, v.x, s);
+            Plane {
+                a: -l.b,
+                b: 0,
+                c: l.a,
+                d: l.d,
+            }
+        }
+        Axis::Z => {
+            let l = line_through(u.x, u.y, v.x, v.y, s);
+            Plane {
+                a: l.a,
+                b: -l.b,
+                c: 0,
+                d: l.d,
+            }
+        }
+    }
+}
+
+// The place on a line along an axis at which `n x - e` is 0.
+#[derive(Clone, Copy)]
+struct Mark {
+    n: i64,
+    e: i64,
+    ghost small_n: { Small 4094 n },
+    ghost small_e: { Small 25145348 e },
+}
+
+// Where the line has this first coordinate.
+fn mark_at_first(l: &Line, at: i32) -> Mark
+    requires { Small 2048 at }
+    ensures n { result.n ≡ neg_ℤ l.now.b }
+    ensures e { result.e ≡ l.now.d -ℤ l.now.a *ℤ at }
+{
+    Mark {
+        n: -l.b,
+        e: l.d - l.a * at as i64,
+    }
+}
+
+// Where it has this last coordinate.
+fn mark_at_last(l: &Line, at: i32) -> Mark
+    requires { Small 2048 at }
+    ensures n { result.n ≡ l.now.a }
+    ensures e { result.e ≡ l.now.d +ℤ l.now.b *ℤ at }
+{
+    Mark {
+        n: l.a,
+        e: l.d + l.b * at as i64,
+    }
+}
+
+fn mark_side(k: &Mark, x: i128, w: i128) -> Sign
+    requires x { Small 4611686018427387903 x }
+    requires w { Small 4611686018427387903 w }
+    ensures { result ≡ sgn (k.now.n *ℤ x -ℤ k.now.e *ℤ w) }
+{
+    sign_of(narrow_product(k.n, x) - narrow_product(k.e, w))
+}
+
+/// The side of the plane along the second axis through an edge, times a sign, on which a narrow point
+/// lies that is moved to this coordinate along the main axis.
+pub fn moved_edge_side(u: &Corner, v: &Corner, main: Axis, s: i64, at: i32, m: &Meet) -> Sign
+    requires from { IsValidCorner u.now }
+    requires to { IsValidCorner v.now }
+    requires s { Small 1 s }
+    requires at { Small 2048 at }
+    requires narrow { is_narrow (spot_of m.now) ≡ true }
+    ensures { (by : ℤ) → result ≡ sgn (value_at (slid (slid (times_plane s (edge_through u.now v.now (unit (second_of main)))) (second_of main) by) main at) (spot_of m.now)) }
+{
+    match main {
+        Axis::X => mark_side(
+            &mark_at_first(&line_through(u.x, u.y, v.x, v.y, s), at),
+            m.y,
+            m.w,
+        ),
+        Axis::Y => mark_side(
+            &mark_at_last(&line_through(u.x, u.y, v.x, v.y, s), at),
+            m.x,
+            m.w,
+        ),
+        Axis::Z => mark_side(
+            &mark_at_first(&line_through(u.z, u.x, v.z, v.x, s), at),
+            m.x,
+            m.w,
+        ),
     }
 }

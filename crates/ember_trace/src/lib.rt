@@ -3,6 +3,7 @@
 
 mod crossing_signs;
 mod edge_lines;
+mod edges;
 mod law;
 mod near;
 mod near_triangle;

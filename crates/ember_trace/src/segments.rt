@@ -1,23 +1,23 @@
 // Where the segments of a path cross a triangle.
-ghost use Rattle.std.specs.Prelude.{◌≡◌, true, int_le, int_lt, ◌&&◌};
+ghost use Rattle.std.specs.Prelude.{◌≡◌, int_lt};
 ghost use Rattle.std.specs.Int.{int_max};
 ghost use Rattle.ember_algebra.specs.Size.{Small};
 ghost use Rattle.ember_algebra.specs.declared.Sign.{Sign};
 ghost use Rattle.ember_algebra.specs.Sign.{is_neg};
-ghost use Rattle.ember_model.specs.Valid.{IsValidCorner, IsValidPlane};
+ghost use Rattle.ember_model.specs.Valid.{IsValidPlane};
 ghost use Rattle.ember_model.specs.Sizes.{IsSupportSized};
-ghost use Rattle.ember_model.specs.Planes.{edge_planes, edge_through, times_plane, unit};
-ghost use Rattle.ember_trace.specs.Paths.{coordinate, side_at_start, side_after_first, side_at_end, floor_at_end};
+ghost use Rattle.ember_model.specs.Planes.{edge_planes};
+ghost use Rattle.ember_trace.specs.Paths.{HasAxes, coordinate, side_at_start, side_after_first, side_at_end, floor_at_end};
 ghost use Rattle.ember_trace.specs.Crossings.{all_behind, interval_along, contains_above, may_contain, may_end, in_root, AreEnds, is_on_first, is_on_second, is_on_last, first_segment, second_segment, segments_in_wall, last_segment, side_before, side_after, crossing_before, crossing_after};
 
-use crate::crossing_signs::{is_level, side_after, side_before, signed_crossing, slope_number};
-use crate::edge_lines::edge_side;
+use crate::crossing_signs::{is_level, side_after, side_before, signed_crossing};
+use crate::edges::{edges_are_behind_at_start, narrow_last_is_behind, narrow_second_is_behind};
 use crate::near_triangle::NearTriangle;
 use crate::path::Path;
 use crate::vertices::coordinate;
 use ember_algebra::Sign;
 use ember_box::{Aabb, Interval};
-use ember_model::{Axis, Corner, Plane, edge_plane};
+use ember_model::{Axis, Plane, edge_plane};
 
 fn interval_along(s: &Aabb, k: Axis) -> Interval
     ensures { result ≡ interval_along s.now k }
@@ -82,6 +82,7 @@ fn top_of(way: &Path) -> i32
 
 /// Those of a path.
 pub fn ends_of(way: &Path) -> Ends
+    requires { HasAxes way.now }
     ensures { AreEnds way.now result }
 {
     let first = floor_in_root(way, way.first);
@@ -94,13 +95,6 @@ fn is_neg(s: Sign) -> bool
     ensures { result ≡ is_neg s }
 {
     matches!(s, Sign::Neg)
-}
-
-fn is_behind_at_start(way: &Path, p: &Plane) -> bool
-    requires { IsValidPlane p.now }
-    ensures { result ≡ is_neg (side_at_start way.now p.now) }
-{
-    is_neg(way.side_at_start(p))
 }
 
 fn is_behind_after_first(way: &Path, p: &Plane) -> bool
@@ -121,18 +115,15 @@ fn is_behind_at_end(way: &Path, p: &Plane) -> bool
 fn first_is_behind(f: &NearTriangle, way: &Path) -> bool
     ensures { result ≡ all_behind (λ p. side_at_start way.now p) (edge_planes f.now.tri way.now.first) }
 {
-    let k = way.first;
-    let t = &f.tri;
-    if is_level(&f.support, k) {
+    if is_level(&f.support, way.first) {
         return false;
     }
-    is_behind_at_start(way, &edge_plane(t, 0, k))
-        && (is_behind_at_start(way, &edge_plane(t, 1, k))
-            && is_behind_at_start(way, &edge_plane(t, 2, k)))
+    edges_are_behind_at_start(f, way)
 }
 
 // All edge planes along the second segment are negative where it begins.
 fn second_is_behind(f: &NearTriangle, way: &Path) -> bool
+    requires { HasAxes way.now }
     ensures { result ≡ all_behind (λ p. side_after_first way.now p) (edge_planes f.now.tri way.now.second) }
 {
     let k = way.second;
@@ -140,48 +131,12 @@ fn second_is_behind(f: &NearTriangle, way: &Path) -> bool
     if is_level(&f.support, k) {
         return false;
     }
+    if way.narrow {
+        return narrow_second_is_behind(f, way);
+    }
     is_behind_after_first(way, &edge_plane(t, 0, k))
         && (is_behind_after_first(way, &edge_plane(t, 1, k))
             && is_behind_after_first(way, &edge_plane(t, 2, k)))
-}
-
-// The side at the end of the plane along an axis through an edge, times a sign.
-fn edge_side_at_end(u: &Corner, v: &Corner, k: Axis, s: i64, way: &Path) -> Sign
-    requires from { IsValidCorner u.now }
-    requires to { IsValidCorner v.now }
-    requires s { Small 1 s }
-    requires narrow { way.now.narrow ≡ true }
-    ensures { result ≡ side_at_end way.now (times_plane s (edge_through u.now v.now (unit k))) }
-{
-    match edge_side(u, v, k, s, &way.corner) {
-        Sign::Zero => match edge_side(u, v, k, s, &way.next) {
-            Sign::Zero => edge_side(u, v, k, s, &way.last),
-            side => side,
-        },
-        side => side,
-    }
-}
-
-fn edge_is_behind(u: &Corner, v: &Corner, k: Axis, s: i64, way: &Path) -> bool
-    requires from { IsValidCorner u.now }
-    requires to { IsValidCorner v.now }
-    requires s { Small 1 s }
-    requires narrow { way.now.narrow ≡ true }
-    ensures { result ≡ is_neg (side_at_end way.now (times_plane s (edge_through u.now v.now (unit k)))) }
-{
-    is_neg(edge_side_at_end(u, v, k, s, way))
-}
-
-// All edge planes along the last segment are negative where it ends, near narrow corners.
-fn narrow_last_is_behind(f: &NearTriangle, way: &Path) -> bool
-    requires { way.now.narrow ≡ true }
-    ensures { result ≡ all_behind (λ p. side_at_end way.now p) (edge_planes f.now.tri way.now.main) }
-{
-    let k = way.main;
-    let t = &f.tri;
-    let s = slope_number(&f.support, k);
-    edge_is_behind(&t.a, &t.b, k, s, way)
-        && (edge_is_behind(&t.b, &t.c, k, s, way) && edge_is_behind(&t.c, &t.a, k, s, way))
 }
 
 // All edge planes along the last segment are negative where it ends.

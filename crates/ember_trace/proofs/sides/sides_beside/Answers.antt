@@ -1,12 +1,17 @@
-use Rattle.std.proofs.Common.{refl, ap, map, ◌∙◌, ◌+◌, ◌*◌, arith, List}
+use Rattle.std.proofs.Common.{refl, sym, ap, map, ◌∙◌, ◌+◌, ◌*◌, arith, List}
 use Rattle.std.proofs.lemmas.List.{take_all}
 use Rattle.ember_trace.specs.declared.near_triangle.NearTriangle.{NearTriangle}
 use Rattle.ember_law.proofs.CountBounds.{all_within}
 use Rattle.ember_trace.specs.Crossings.{taken, crossing_before, crossing_after}
 use Rattle.ember_trace.proofs.Tallies.{taken_more}
 use Rattle.ember_trace.specs.NearTriangles.{tri_of}
+use Rattle.ember_trace.specs.Paths.{first_of, second_of}
 use Rattle.ember_trace.proofs.TracedSides.{are_sides}
 use Rattle.ember_trace.proofs.sides.sides_beside.Goals as goal
+
+pub ends_of-at-requires : goal.ends_of-at-requires
+ends_of-at-requires c =
+    let e = c.path_to-way.ensures in record { first = e.first ∙ sym (ap first_of e.main); second = e.second ∙ sym (ap second_of e.main) }
 
 pub take_crossings-requires-clause-room_before : goal.take_crossings-requires-clause-room_before
 take_crossings-requires-clause-room_before c =

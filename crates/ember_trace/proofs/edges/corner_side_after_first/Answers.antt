@@ -1,0 +1,15 @@
+use Rattle.std.proofs.Common.{sym, ◌∙◌}
+use mir.Syntax.{w32}
+use Rattle.ember_algebra.specs.Sign.{sgn}
+use Rattle.ember_algebra.proofs.Exact.{input, stored, narrow, ◌&◌, done, exact}
+use Rattle.ember_model.specs.Planes.{value_at, times_plane, edge_through, unit}
+use Rattle.ember_point.specs.Points.{spot_of, slid}
+use Rattle.ember_trace.specs.Paths.{coordinate}
+use Rattle.ember_trace.proofs.edges.corner_side_after_first.Goals as goal
+
+pub returns : goal.returns
+returns c =
+    let w = c.args.way.now in let u = c.args.u.now in let v = c.args.v.now in let r = c.requires in let k = sym r.axes.second in
+    let s = exact (r.s & done) (narrow 0) tt in
+    let at = exact (c.coordinate.ensures.small & done) (stored w32 (input 0)) tt ∙ c.coordinate.ensures.value in
+    c.moved_edge_side.ensures (coordinate w.lo w.second) ∙ (λ i. sgn (value_at (slid (slid (times_plane (s i) (edge_through u v (unit (k i)))) (k i) (coordinate w.lo w.second)) w.main (at i)) (spot_of c.args.m.now)))
