@@ -234,7 +234,7 @@ pub fn clip_to_box(
     requires { is_flat f.now.tri ≡ false }
     ensures { IfOk result (λ out. IsClippedBy (map wall_of walls.now) f.now.tri (option_to_list out)) }
 {
-    draft.begin(&f.tri, &f.support)?;
+    draft.begin(&f.tri, &f.support, &f.edges)?;
     if within_walls(draft, f, walls)? {
         Ok(Some(draft.ring(alloc, room)?))
     } else {

@@ -1,8 +1,8 @@
 // Faces that planes clip in place.
-ghost use Rattle.std.specs.Prelude.{◌≡◌, ◌<◌, false, length, IfOk, OnOk};
+ghost use Rattle.std.specs.Prelude.{◌≡◌, ◌<◌, false, length, All, IfOk, OnOk};
 ghost use Rattle.ember_model.specs.Valid.{IsValidTri, IsValidPlane};
 ghost use Rattle.ember_model.specs.Planes.{support_of};
-ghost use Rattle.ember_model.specs.Faces.{is_flat, face_of, below};
+ghost use Rattle.ember_model.specs.Faces.{is_flat, face_of, edges_of, below};
 ghost use Rattle.ember_poly.specs.Boundaries.{sides};
 ghost use Rattle.ember_poly.specs.Passages.{IsPassage};
 ghost use Rattle.ember_poly.specs.Cuts.{IsClip};
@@ -11,7 +11,7 @@ ghost use Rattle.ember_poly.specs.Drafts.{face_in, HoldsRing};
 use crate::boundary::{Boundary, with_room};
 use crate::passage::{Passage, classify, find_passage};
 use crate::reach_cut::Reach;
-use crate::ring::{Ring, at_corner, main_edges};
+use crate::ring::{Ring, at_corner};
 use ember_model::{OutOfMemory, Plane, Tri};
 use std::alloc::{AllocError, Global};
 
@@ -64,18 +64,19 @@ impl Draft {
         }
     }
 
-    /// Begins with the face of a triangle that has this support plane.
-    pub fn begin(&mut self, t: &Tri, support: &Plane) -> Result<(), OutOfMemory>
+    /// Begins with the face of a triangle that has this support plane and these edge planes.
+    pub fn begin(&mut self, t: &Tri, support: &Plane, edges: &[Plane]) -> Result<(), OutOfMemory>
         requires tri { IsValidTri t.now }
         requires normal { is_flat t.now ≡ false }
         requires support { support.now ≡ support_of t.now }
+        requires edges { edges.now ≡ edges_of t.now }
+        requires sized { All IsValidPlane edges.now }
         ensures ring { OnOk result (HoldsRing self.new) }
         ensures face { OnOk result (face_in self.new ≡ face_of t.now) }
     {
-        let sides = main_edges(t, support);
         let starts = [at_corner(&t.a), at_corner(&t.b), at_corner(&t.c)];
-        refill(&mut self.planes, &sides)?;
-        refill(&mut self.rim.edges, &sides)?;
+        refill(&mut self.planes, edges)?;
+        refill(&mut self.rim.edges, edges)?;
         refill(&mut self.rim.corners, &starts)?;
         refill(&mut self.rim.plane_indices, &[0, 1, 2])?;
         self.support = *support;

@@ -1,10 +1,6 @@
-use Rattle.std.proofs.Common.{pos}
-use Rattle.ember_model.specs.declared.plane.Plane.{Plane}
+use Rattle.ember_leaf.specs.Contact.{no_plane}
 use Rattle.ember_leaf.proofs.Pieces.{uncut_more, all_uncut}
 use Rattle.ember_leaf.proofs.regions.is_uncut.Goals as goal
-
-abbrev no_plane : Plane
-no_plane = record { a = pos 0; b = pos 0; c = pos 0; d = pos 0 }
 
 pub loop-p-preserved : goal.loop-p-preserved
 loop-p-preserved c =
