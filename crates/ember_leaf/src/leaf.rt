@@ -34,7 +34,7 @@ use ember_box::{Aabb, Cell, aabb_of_cell};
 use ember_expr::{Expr, value};
 use ember_model::{Axis, OutOfMemory, Plane, Tri, Vector, main_axis};
 use ember_poly::{Draft, Ring, support};
-use ember_trace::{NearTriangle, Sides, near_triangles, sides_beside};
+use ember_trace::{NearTriangle, Sides, near_triangles, put_sides_beside};
 use std::alloc::Global;
 
 // For how many cuts a triangle's start has room at most.
@@ -81,7 +81,7 @@ struct Leaf<'a> {
 
 impl Leaf<'_> {
     // The region as it is written, if it is.
-    fn kept(&self, i: usize, ring: Ring) -> Option<Kept>
+    fn kept(&self, i: usize, ring: Ring, sides: &mut Sides) -> Option<Kept>
         requires few { length self.now.near.now ≤ 262144 }
         requires counts { AreBoxCounts self.now.at.now.counts }
         requires index { i < length self.now.near.now }
@@ -92,8 +92,8 @@ impl Leaf<'_> {
         ensures placed { IfSome result (IsKeptOf (tri_at (tris_of self.now.near.now) i) i) }
         ensures written { WritesRegion self.now i ring (option_to_list result) }
     {
-        let sides = sides_beside(self.near, self.cell, self.at, &ring);
-        match flip_of(self.expr, &sides, &ring) {
+        put_sides_beside(self.near, self.cell, self.at, &ring, sides);
+        match flip_of(self.expr, sides, &ring) {
             Some(flipped) => Some(Kept {
                 tri: i as u32,
                 flipped,
@@ -104,7 +104,13 @@ impl Leaf<'_> {
     }
 
     // Adds the one region of triangle `i`, if it is written.
-    fn keep_one(&self, ring: Ring, i: usize, kept: &mut Vec<Kept>) -> Result<(), OutOfMemory>
+    fn keep_one(
+        &self,
+        ring: Ring,
+        i: usize,
+        sides: &mut Sides,
+        kept: &mut Vec<Kept>,
+    ) -> Result<(), OutOfMemory>
         requires few { length self.now.near.now ≤ 262144 }
         requires counts { AreBoxCounts self.now.at.now.counts }
         requires index { i < length self.now.near.now }
@@ -117,14 +123,20 @@ impl Leaf<'_> {
         ensures placed { OnOk result (ArePlacedBelow (tris_of self.now.near.now) (i + 1) kept.new.items) }
         ensures written { OnOk result (AddsWritten self.now i kept.old.items kept.new.items) }
     {
-        if let Some(k) = self.kept(i, ring) {
+        if let Some(k) = self.kept(i, ring, sides) {
             kept.push(k)?;
         }
         Ok(())
     }
 
     // Adds the written ones of the regions that triangle `i` owns.
-    fn keep(&self, list: Vec<Ring>, i: usize, kept: &mut Vec<Kept>) -> Result<(), OutOfMemory>
+    fn keep(
+        &self,
+        list: Vec<Ring>,
+        i: usize,
+        sides: &mut Sides,
+        kept: &mut Vec<Kept>,
+    ) -> Result<(), OutOfMemory>
         requires few { length self.now.near.now ≤ 262144 }
         requires counts { AreBoxCounts self.now.at.now.counts }
         requires index { i < length self.now.near.now }
@@ -138,7 +150,7 @@ impl Leaf<'_> {
         ensures written { OnOk result (AddsWritten self.now i kept.old.items kept.new.items) }
     {
         for ring in list {
-            if let Some(k) = self.kept(i, ring) {
+            if let Some(k) = self.kept(i, ring, sides) {
                 kept.push(k)?;
             }
         }
@@ -153,6 +165,7 @@ impl Leaf<'_> {
         i: usize,
         cutters: &mut Vec<Cutter>,
         draft: &mut Draft,
+        sides: &mut Sides,
         kept: &mut Vec<Kept>,
     ) -> Result<(), OutOfMemory>
         requires same { tris_in self.now.triangles.now ≡ tris_of self.now.near.now }
@@ -176,10 +189,10 @@ impl Leaf<'_> {
         }
         if let Some(ring) = clip_to_box(alloc, draft, own, walls, cutters.len().min(ROOM))? {
             if cutters.is_empty() {
-                self.keep_one(ring, i, kept)?;
+                self.keep_one(ring, i, sides, kept)?;
             } else {
                 let list = regions(alloc, ring, cutters)?;
-                self.keep(list, i, kept)?;
+                self.keep(list, i, sides, kept)?;
             }
         }
         Ok(())
@@ -216,9 +229,21 @@ pub fn leaf_faces(
     let walls = walls(c);
     let mut cutters = Vec::new(alloc);
     let mut draft = Draft::new(alloc);
+    let mut sides = Sides {
+        before: *v,
+        after: *v,
+    };
     let mut kept = Vec::new(alloc);
     for i in 0..near_triangles.len() {
-        leaf.write_triangle(alloc, &walls, i, &mut cutters, &mut draft, &mut kept)?;
+        leaf.write_triangle(
+            alloc,
+            &walls,
+            i,
+            &mut cutters,
+            &mut draft,
+            &mut sides,
+            &mut kept,
+        )?;
     }
     Ok(KeptList::of(kept))
 }

@@ -1,4 +1,5 @@
 pub mod Boxed
 pub mod Crossings
+pub mod Edges
 pub mod NearTriangles
 pub mod Paths

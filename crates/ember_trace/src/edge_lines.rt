@@ -4,9 +4,8 @@ ghost use Rattle.ember_algebra.specs.Size.{Small};
 ghost use Rattle.ember_algebra.specs.Sign.{sgn};
 ghost use Rattle.ember_model.specs.Valid.{IsValidCorner};
 ghost use Rattle.ember_model.specs.Sizes.{IsEdgeSized};
-ghost use Rattle.ember_model.specs.Planes.{value_at, unit, times_plane, edge_through};
-ghost use Rattle.ember_point.specs.Points.{spot_of, is_narrow, slid};
-ghost use Rattle.ember_trace.specs.Paths.{second_of};
+ghost use Rattle.ember_point.specs.Points.{spot_of, is_narrow};
+ghost use Rattle.ember_trace.specs.Edges.{edge_times, fixed_edge, side_at};
 
 use ember_algebra::{Sign, sign_of};
 use ember_model::{Axis, Corner, Plane};
@@ -55,7 +54,7 @@ pub fn edge_side(u: &Corner, v: &Corner, k: Axis, s: i64, m: &Meet) -> Sign
     requires to { IsValidCorner v.now }
     requires s { Small 1 s }
     requires narrow { is_narrow (spot_of m.now) ≡ true }
-    ensures { result ≡ sgn (value_at (times_plane s (edge_through u.now v.now (unit k))) (spot_of m.now)) }
+    ensures { result ≡ side_at (edge_times u.now v.now k s) m.now }
 {
     match k {
         Axis::X => line_side(&line_through(u.y, u.z, v.y, v.z, s), m.y, m.z, m.w),
@@ -69,7 +68,7 @@ pub fn edge_plane_times(u: &Corner, v: &Corner, k: Axis, s: i64) -> Plane
     requires from { IsValidCorner u.now }
     requires to { IsValidCorner v.now }
     requires s { Small 1 s }
-    ensures value { result ≡ times_plane s (edge_through u.now v.now (unit k)) }
+    ensures value { result ≡ edge_times u.now v.now k s }
     ensures small { IsEdgeSized result }
 {
     match k {
@@ -152,7 +151,7 @@ pub fn moved_edge_side(u: &Corner, v: &Corner, main: Axis, s: i64, at: i32, m: &
     requires s { Small 1 s }
     requires at { Small 2048 at }
     requires narrow { is_narrow (spot_of m.now) ≡ true }
-    ensures { (by : ℤ) → result ≡ sgn (value_at (slid (slid (times_plane s (edge_through u.now v.now (unit (second_of main)))) (second_of main) by) main at) (spot_of m.now)) }
+    ensures { (by : ℤ) → result ≡ side_at (fixed_edge u.now v.now main s by at) m.now }
 {
     match main {
         Axis::X => mark_side(

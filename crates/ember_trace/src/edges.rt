@@ -1,11 +1,12 @@
 // Behind which edges of a triangle the segments of a path run, near narrow corners.
 ghost use Rattle.std.specs.Prelude.{◌≡◌, true};
 ghost use Rattle.ember_algebra.specs.Size.{Small};
-ghost use Rattle.ember_algebra.specs.Sign.{sgn, is_neg};
+ghost use Rattle.ember_algebra.specs.Sign.{is_neg};
 ghost use Rattle.ember_model.specs.Valid.{IsValidCorner};
-ghost use Rattle.ember_model.specs.Planes.{value_at, edge_planes, edge_through, times_plane, unit};
+ghost use Rattle.ember_model.specs.Planes.{edge_planes};
 ghost use Rattle.ember_point.specs.Points.{spot_of, is_narrow};
-ghost use Rattle.ember_trace.specs.Paths.{side_at_start, side_at_end, side_after_first, slid_to_start, HasAxes};
+ghost use Rattle.ember_trace.specs.Edges.{edge_times, edge_after_first, side_at};
+ghost use Rattle.ember_trace.specs.Paths.{side_at_start, side_at_end, side_after_first, HasAxes};
 ghost use Rattle.ember_trace.specs.Crossings.{all_behind};
 
 use crate::crossing_signs::slope_number;
@@ -23,7 +24,7 @@ fn edge_side_at_end(u: &Corner, v: &Corner, k: Axis, s: i64, way: &Path) -> Sign
     requires to { IsValidCorner v.now }
     requires s { Small 1 s }
     requires narrow { way.now.narrow ≡ true }
-    ensures { result ≡ side_at_end way.now (times_plane s (edge_through u.now v.now (unit k))) }
+    ensures { result ≡ side_at_end way.now (edge_times u.now v.now k s) }
 {
     match edge_side(u, v, k, s, &way.corner) {
         Sign::Zero => match edge_side(u, v, k, s, &way.next) {
@@ -39,7 +40,7 @@ fn edge_is_behind(u: &Corner, v: &Corner, k: Axis, s: i64, way: &Path) -> bool
     requires to { IsValidCorner v.now }
     requires s { Small 1 s }
     requires narrow { way.now.narrow ≡ true }
-    ensures { result ≡ is_neg (side_at_end way.now (times_plane s (edge_through u.now v.now (unit k)))) }
+    ensures { result ≡ is_neg (side_at_end way.now (edge_times u.now v.now k s)) }
 {
     matches!(edge_side_at_end(u, v, k, s, way), Sign::Neg)
 }
@@ -64,19 +65,19 @@ fn corner_side_after_first(u: &Corner, v: &Corner, s: i64, way: &Path, m: &Meet)
     requires s { Small 1 s }
     requires axes { HasAxes way.now }
     requires narrow { is_narrow (spot_of m.now) ≡ true }
-    ensures { result ≡ sgn (value_at (slid_to_start way.now way.now.main (slid_to_start way.now way.now.second (times_plane s (edge_through u.now v.now (unit way.now.second))))) (spot_of m.now)) }
+    ensures { result ≡ side_at (edge_after_first way.now u.now v.now s) m.now }
 {
     moved_edge_side(u, v, way.main, s, coordinate(way.lo, way.main), m)
 }
 
-// The same of the inside point, but for the places on the plane itself.
+// The side on which the inside point lies, moved there. It is `Zero` where all three corners are on the plane.
 fn told_side_after_first(u: &Corner, v: &Corner, s: i64, way: &Path) -> Sign
     requires from { IsValidCorner u.now }
     requires to { IsValidCorner v.now }
     requires s { Small 1 s }
     requires axes { HasAxes way.now }
     requires narrow { way.now.narrow ≡ true }
-    ensures { result ≡ side_at_end way.now (slid_to_start way.now way.now.main (slid_to_start way.now way.now.second (times_plane s (edge_through u.now v.now (unit way.now.second))))) }
+    ensures { result ≡ side_at_end way.now (edge_after_first way.now u.now v.now s) }
 {
     match corner_side_after_first(u, v, s, way, &way.corner) {
         Sign::Zero => match corner_side_after_first(u, v, s, way, &way.next) {
@@ -94,7 +95,7 @@ fn edge_side_after_first(u: &Corner, v: &Corner, s: i64, way: &Path) -> Sign
     requires s { Small 1 s }
     requires axes { HasAxes way.now }
     requires narrow { way.now.narrow ≡ true }
-    ensures { result ≡ side_after_first way.now (times_plane s (edge_through u.now v.now (unit way.now.second))) }
+    ensures { result ≡ side_after_first way.now (edge_times u.now v.now way.now.second s) }
 {
     match told_side_after_first(u, v, s, way) {
         Sign::Zero => way.side_at_start(&edge_plane_times(u, v, way.second, s)),
@@ -108,7 +109,7 @@ fn edge_is_behind_after_first(u: &Corner, v: &Corner, s: i64, way: &Path) -> boo
     requires s { Small 1 s }
     requires axes { HasAxes way.now }
     requires narrow { way.now.narrow ≡ true }
-    ensures { result ≡ is_neg (side_after_first way.now (times_plane s (edge_through u.now v.now (unit way.now.second)))) }
+    ensures { result ≡ is_neg (side_after_first way.now (edge_times u.now v.now way.now.second s)) }
 {
     matches!(edge_side_after_first(u, v, s, way), Sign::Neg)
 }
@@ -131,7 +132,7 @@ fn edge_is_behind_at_start(u: &Corner, v: &Corner, k: Axis, s: i64, way: &Path) 
     requires from { IsValidCorner u.now }
     requires to { IsValidCorner v.now }
     requires s { Small 1 s }
-    ensures { result ≡ is_neg (side_at_start way.now (times_plane s (edge_through u.now v.now (unit k)))) }
+    ensures { result ≡ is_neg (side_at_start way.now (edge_times u.now v.now k s)) }
 {
     matches!(way.side_at_start(&edge_plane_times(u, v, k, s)), Sign::Neg)
 }

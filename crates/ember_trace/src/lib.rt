@@ -18,5 +18,5 @@ pub use law::slid_support_planes_are_valid;
 pub use near::near_triangles;
 pub use near_triangle::NearTriangle;
 pub use side_vectors::Sides;
-pub use sides::{sides_beside, sides_traced};
+pub use sides::{put_sides_beside, sides_beside, sides_traced};
 pub use whole_rays::{sides_by_rays, sides_whole};

@@ -50,9 +50,29 @@ fn take_crossings(sides: &mut Sides, mesh: u32, less: &Crossings)
     take_from(&mut sides.after, mesh, less.after);
 }
 
-/// The sides of a region of a box, from the winding numbers at the reference point of the box and
-/// the crossings of two paths from there to the region with the triangles near the box: the winding
-/// numbers directly before and after it, in every scene that fits what is known at the box.
+/// Puts the sides of a region of a box in place of other ones, from the winding numbers at the
+/// reference point of the box and the crossings of two paths from there to the region with the
+/// triangles near the box: the winding numbers directly before and after it, in every scene that
+/// fits what is known at the box.
+pub fn put_sides_beside(near: &[NearTriangle], c: &Cell, v: &Vector, r: &Ring, sides: &mut Sides)
+    requires few { length near.now ≤ 262144 }
+    requires counts { AreBoxCounts v.now.counts }
+    ensures traced { AreTraced c.now near.now v.now.counts r.now sides.new }
+    ensures sides { All (HasReferenceSide c.now) near.now → AreSides (map tri_of near.now) c.now v.now.counts r.now sides.new }
+    ensures before { AreWithinBound (length near.now) v.now.counts sides.new.before.counts }
+    ensures after { AreWithinBound (length near.now) v.now.counts sides.new.after.counts }
+{
+    let way = path_to(c, r);
+    let at = ends_of(&way);
+    sides.before = *v;
+    sides.after = *v;
+    for f in near {
+        let less = crossings_of(f, &way, &at);
+        take_crossings(sides, f.tri.mesh, &less);
+    }
+}
+
+/// The sides of a region of a box, as `put_sides_beside` puts them.
 pub fn sides_beside(near: &[NearTriangle], c: &Cell, v: &Vector, r: &Ring) -> Sides
     requires few { length near.now ≤ 262144 }
     requires counts { AreBoxCounts v.now.counts }
@@ -61,16 +81,11 @@ pub fn sides_beside(near: &[NearTriangle], c: &Cell, v: &Vector, r: &Ring) -> Si
     ensures before { AreWithinBound (length near.now) v.now.counts result.before.counts }
     ensures after { AreWithinBound (length near.now) v.now.counts result.after.counts }
 {
-    let way = path_to(c, r);
-    let at = ends_of(&way);
     let mut sides = Sides {
         before: *v,
         after: *v,
     };
-    for f in near {
-        let less = crossings_of(f, &way, &at);
-        take_crossings(&mut sides, f.tri.mesh, &less);
-    }
+    put_sides_beside(near, c, v, r, &mut sides);
     sides
 }
 

@@ -8,17 +8,17 @@ use Rattle.ember_leaf.proofs.leaf.Leaf.kept.Goals as goal
 pub flip_of-requires-clause-before : goal.flip_of-requires-clause-before
 flip_of-requires-clause-before c =
     let l = c.requires.few in
-    all_within c.sides_beside-sides.result.before.counts (omega arith) (c.sides_beside-sides.ensures.before 9437184 c.requires.counts)
+    all_within c.put_sides_beside.new.sides.before.counts (omega arith) (c.put_sides_beside.ensures.before 9437184 c.requires.counts)
 
 pub flip_of-requires-clause-after : goal.flip_of-requires-clause-after
 flip_of-requires-clause-after c =
     let l = c.requires.few in
-    all_within c.sides_beside-sides.result.after.counts (omega arith) (c.sides_beside-sides.ensures.after 9437184 c.requires.counts)
+    all_within c.put_sides_beside.new.sides.after.counts (omega arith) (c.put_sides_beside.ensures.after 9437184 c.requires.counts)
 
 pub returns-in-Some-clause-written : goal.returns-in-Some-clause-written
 returns-in-Some-clause-written c =
-    λ scene h. is_written scene (formula_of c.args.self.now.expr.now) (tris_of c.args.self.now.near.now) c.args.i c.args.ring _ _ (c.sides_beside-sides.ensures.sides c.requires.starts c.requires.inside scene h) c.flip_of.result c.in-Some.flipped c.requires.owner c.flip_of.ensures c.in-Some.is
+    λ scene h. is_written scene (formula_of c.args.self.now.expr.now) (tris_of c.args.self.now.near.now) c.args.i c.args.ring _ _ (c.put_sides_beside.ensures.sides c.requires.starts c.requires.inside scene h) c.flip_of.result c.in-Some.flipped c.requires.owner c.flip_of.ensures c.in-Some.is
 
 pub returns-in-None-clause-written : goal.returns-in-None-clause-written
 returns-in-None-clause-written c =
-    λ scene h. is_even scene (formula_of c.args.self.now.expr.now) (tris_of c.args.self.now.near.now) c.args.i c.args.ring _ _ (c.sides_beside-sides.ensures.sides c.requires.starts c.requires.inside scene h) c.flip_of.result c.flip_of.ensures c.in-None.is
+    λ scene h. is_even scene (formula_of c.args.self.now.expr.now) (tris_of c.args.self.now.near.now) c.args.i c.args.ring _ _ (c.put_sides_beside.ensures.sides c.requires.starts c.requires.inside scene h) c.flip_of.result c.flip_of.ensures c.in-None.is

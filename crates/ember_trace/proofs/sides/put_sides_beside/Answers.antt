@@ -7,7 +7,7 @@ use Rattle.ember_trace.proofs.Tallies.{taken_more}
 use Rattle.ember_trace.specs.NearTriangles.{tri_of}
 use Rattle.ember_trace.specs.Paths.{first_of, second_of}
 use Rattle.ember_trace.proofs.TracedSides.{are_sides}
-use Rattle.ember_trace.proofs.sides.sides_beside.Goals as goal
+use Rattle.ember_trace.proofs.sides.put_sides_beside.Goals as goal
 
 pub ends_of-at-requires : goal.ends_of-at-requires
 ends_of-at-requires c =

@@ -1,7 +1,7 @@
 use Rattle.std.proofs.Common.{◌≡◌, take}
 use Rattle.ember_trace.specs.NearTriangles.{AreWithinBound}
 use Rattle.ember_trace.specs.Crossings.{taken, crossing_before, crossing_after}
-use Rattle.ember_trace.proofs.sides.sides_beside.Given as goal
+use Rattle.ember_trace.proofs.sides.put_sides_beside.Given as goal
 
 abbrev pub invariant-loop-f : goal.invariant-loop-f
 invariant-loop-f l =

@@ -1,0 +1,27 @@
+-- The planes through the edges of a triangle, as a path sees them
+use Rattle.std.specs.Prelude.{ℤ}
+use Rattle.ember_algebra.specs.declared.Sign.{Sign}
+use Rattle.ember_algebra.specs.Sign.{sgn}
+use Rattle.ember_model.specs.declared.plane.Plane.{Plane}
+use Rattle.ember_model.specs.declared.point.Axis.{Axis}
+use Rattle.ember_model.specs.declared.point.Corner.{Corner}
+use Rattle.ember_model.specs.Planes.{value_at, unit, times_plane, edge_through}
+use Rattle.ember_point.specs.declared.meet_point.Meet.{Meet}
+use Rattle.ember_point.specs.Points.{spot_of, slid}
+use Rattle.ember_trace.specs.declared.path.Path.{Path}
+use Rattle.ember_trace.specs.Paths.{second_of, slid_to_start}
+
+-- the plane along an axis through an edge, times a sign
+abbrev pub edge_times : Corner → Corner → Axis → ℤ → Plane
+edge_times u v k s = times_plane s (edge_through u v (unit k))
+
+abbrev pub side_at : Plane → Meet → Sign
+side_at p m = sgn (value_at p (spot_of m))
+
+-- the plane along the second axis, with the coordinates along this axis and along the main axis fixed
+abbrev pub fixed_edge : Corner → Corner → Axis → ℤ → ℤ → ℤ → Plane
+fixed_edge u v main s by at = slid (slid (edge_times u v (second_of main) s) (second_of main) by) main at
+
+-- the same with the coordinates of a path's start
+abbrev pub edge_after_first : Path → Corner → Corner → ℤ → Plane
+edge_after_first w u v s = slid_to_start w w.main (slid_to_start w w.second (edge_times u v w.second s))
