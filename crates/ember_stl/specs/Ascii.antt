@@ -1,5 +1,5 @@
 -- What the lines of an ASCII STL stand for.
-use Rattle.std.specs.Prelude.{ℕ, Bool, ◌||◌, List, [], ◌∷◌, ◌++◌, map, Option, None, Some, Result, Ok, Err, if◌then◌else◌, codes}
+use Rattle.std.specs.Prelude.{ℕ, ◌+◌, Bool, ◌||◌, List, [], ◌∷◌, ◌++◌, length, map, Option, None, Some, Result, Ok, Err, if◌then◌else◌, codes}
 use Rattle.std.specs.Option.{option_map}
 use Rattle.std.specs.Str.{str_eq_ignore_ascii_case}
 use Rattle.ember_number.specs.Fractions.{Fraction}
@@ -38,7 +38,8 @@ abbrev pub coordinate_of : ℕ → Word → Result Fraction StlFault
 coordinate_of line word = value_or_fault line word (value_of_text word.text)
 
 -- the point of three coordinates, or the fault of the first that has one
-abbrev pub point_of_three : Result Fraction StlFault → Result Fraction StlFault → Result Fraction StlFault → Result Point StlFault
+abbrev pub point_of_three :
+    Result Fraction StlFault → Result Fraction StlFault → Result Fraction StlFault → Result Point StlFault
 point_of_three (Ok x) (Ok y) (Ok z) = Ok (record { x = x; y = y; z = z })
 point_of_three (Ok x) (Ok y) (Err fault) = Err fault
 point_of_three (Ok x) (Err fault) z = Err fault
@@ -67,6 +68,10 @@ state_of r = record {
   opened = option_map (λ line. record { line = line; corners = map point_of r.corners.items }) r.opened;
 }
 
+-- how many vertices a reader holds
+abbrev pub vertex_count : Reader → ℕ
+vertex_count r = length r.surface.vertices.items + length r.corners.items
+
 -- in a facet that opens anew, what stood before in a facet without an end is dropped
 abbrev pub with_facet : ℕ → State → State
 with_facet line state = record state { opened = Some (record { line = line; corners = [] }) }
@@ -76,23 +81,29 @@ with_corner state opened (Err fault) = Err fault
 with_corner state opened (Ok p) =
     Ok (record state { opened = Some (record { line = opened.line; corners = opened.corners ++ p ∷ [] }) })
 
-abbrev pub with_vertex : ℕ → List Word → State → Option Opened → Result State StlFault
-with_vertex line words state None = Err (VertexOutside line)
-with_vertex line words state (Some opened) = with_corner state opened (vertex_in line (first_three words))
+abbrev pub with_vertex_in : ℕ → List Word → State → Option Opened → Result State StlFault
+with_vertex_in line words state None = Err (VertexOutside line)
+with_vertex_in line words state (Some opened) = with_corner state opened (vertex_in line (first_three words))
+
+abbrev pub with_vertex : ℕ → List Word → State → Result State StlFault
+with_vertex line words state = with_vertex_in line words state state.opened
 
 abbrev pub with_corners : ℕ → State → ℕ → List Point → Result State StlFault
 with_corners line state place (a ∷ b ∷ c ∷ []) =
     Ok (record { content = with_triangle place a b c state.content; opened = None })
 with_corners line state place other = Err (NotThreeVertices line)
 
-abbrev pub with_end : ℕ → State → Option Opened → Result State StlFault
-with_end line state None = Err (NotThreeVertices line)
-with_end line state (Some opened) = with_corners line state opened.line opened.corners
+abbrev pub with_end_of : ℕ → State → Option Opened → Result State StlFault
+with_end_of line state None = Err (NotThreeVertices line)
+with_end_of line state (Some opened) = with_corners line state opened.line opened.corners
+
+abbrev pub with_end : ℕ → State → Result State StlFault
+with_end line state = with_end_of line state state.opened
 
 abbrev pub after_keyword : ℕ → Word → List Word → State → Keyword → Result State StlFault
 after_keyword line word words state keyword.Facet = Ok (with_facet line state)
-after_keyword line word words state keyword.Vertex = with_vertex line words state state.opened
-after_keyword line word words state keyword.EndFacet = with_end line state state.opened
+after_keyword line word words state keyword.Vertex = with_vertex line words state
+after_keyword line word words state keyword.EndFacet = with_end line state
 after_keyword line word words state keyword.Passed = Ok state
 after_keyword line word words state keyword.Unknown = Err (UnknownWord line (span_of word))
 
@@ -111,9 +122,12 @@ abbrev pub at_end : Content → Option Opened → Result Content StlFault
 at_end content None = Ok content
 at_end content (Some opened) = Err (EndsInFacet opened.line)
 
+abbrev pub state_ended : State → Result Content StlFault
+state_ended state = at_end state.content state.opened
+
 abbrev pub ended : Result State StlFault → Result Content StlFault
 ended (Err fault) = Err fault
-ended (Ok state) = at_end state.content state.opened
+ended (Ok state) = state_ended state
 
 -- the triangles of an ASCII STL, or its first fault
 abbrev pub ascii_of : List ℕ → Result Content StlFault

@@ -10,7 +10,10 @@ use Rattle.ember_stl.specs.Facets.{nothing, with_triangle}
 -- the number of four bytes from this index on, the lowest byte first
 abbrev pub number_at : List ℕ → ℕ → ℕ
 number_at bytes at =
-    slice_index bytes at + slice_index bytes (at + 1) * 256 + slice_index bytes (at + 2) * 65536 + slice_index bytes (at + 3) * 16777216
+    slice_index bytes at
+    + slice_index bytes (at + 1) * 256
+    + slice_index bytes (at + 2) * 65536
+    + slice_index bytes (at + 3) * 16777216
 
 -- the point of three coordinates, if all three are finite
 abbrev pub finite_point : Option Fraction → Option Fraction → Option Fraction → Option Point
@@ -20,7 +23,10 @@ finite_point x y z = None
 -- the point of the three binary32 from this index on
 unfoldable pub point_at : List ℕ → ℕ → Option Point
 point_at bytes at =
-    finite_point (binary32_value (number_at bytes at)) (binary32_value (number_at bytes (at + 4))) (binary32_value (number_at bytes (at + 8)))
+    finite_point
+    (binary32_value (number_at bytes at))
+    (binary32_value (number_at bytes (at + 4)))
+    (binary32_value (number_at bytes (at + 8)))
 
 abbrev pub with_points : ℕ → Content → Option Point → Option Point → Option Point → Result Content StlFault
 with_points place content (Some a) (Some b) (Some c) = Ok (with_triangle place a b c content)
@@ -30,7 +36,12 @@ with_points place content a b c = Err (NotFinite place)
 abbrev pub with_facet_at : List ℕ → ℕ → Result Content StlFault → Result Content StlFault
 with_facet_at bytes k (Err fault) = Err fault
 with_facet_at bytes k (Ok content) =
-    with_points (k + 1) content (point_at bytes (50 * k + 96)) (point_at bytes (50 * k + 108)) (point_at bytes (50 * k + 120))
+    with_points
+    (k + 1)
+    content
+    (point_at bytes (50 * k + 96))
+    (point_at bytes (50 * k + 108))
+    (point_at bytes (50 * k + 120))
 
 -- the first so many facets, or the first fault in them
 abbrev pub first_facets : List ℕ → ℕ → Result Content StlFault

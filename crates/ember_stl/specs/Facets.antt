@@ -1,9 +1,15 @@
 -- The triangles of a file: each has three points of its own, in order.
-use Rattle.std.specs.Prelude.{ℕ, ◌+◌, Bool, not, false, ◌&&◌, List, [], ◌∷◌, ◌++◌, length, Option, None, Some, slice_get}
+use Rattle.std.specs.Prelude.{ℕ, ◌+◌, Bool, not, false, ◌&&◌, List, [], ◌∷◌, ◌++◌, length, Option, None, Some, slice_get, Result, Err, ◌≡◌, ◌⊎◌}
 use Rattle.std.specs.List.{list_any, find}
 use Rattle.ember_number.specs.Fractions.{is_below_limit}
 use Rattle.ember_surface.specs.declared.surface.Facet.{Facet}
 use Rattle.ember_surface.specs.Surfaces.{Point, Content}
+use Rattle.ember_stl.specs.declared.fault.StlFault.{StlFault}
+use Rattle.ember_stl.specs.declared.fault.StlFault.TheVariants.{OutOfMemory}
+
+-- an error that a reading which ends so may give: its fault, or want of memory
+abbrev pub IsErrorOf : {X : Type 0} → Result X StlFault → StlFault → Type 0
+IsErrorOf reading e = (e ≡ OutOfMemory) ⊎ (reading ≡ Err e)
 
 abbrev pub nothing : Content
 nothing = record { points = []; facets = [] }

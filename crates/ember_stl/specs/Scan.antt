@@ -1,5 +1,5 @@
 -- The lines and the words of a file, each with the index of its first byte in the file.
-use Rattle.std.specs.Prelude.{ℕ, ◌+◌, Bool, ◌||◌, ◌&&◌, List, [], ◌∷◌, if◌then◌else◌, ◌==◌, nat_le, length, Option, None, Some}
+use Rattle.std.specs.Prelude.{ℕ, ◌+◌, ◌^◌, ◌<◌, Bool, ◌||◌, ◌&&◌, List, [], ◌∷◌, if◌then◌else◌, ◌==◌, nat_le, length, Option, None, Some}
 use Rattle.ember_stl.specs.declared.fault.Span.{Span}
 use Rattle.ember_stl.specs.declared.scan.Text.{Text}
 
@@ -46,6 +46,14 @@ words_from at [] = []
 words_from at (b ∷ bs) =
     if is_blank b then words_from (at + 1) bs else put_before at b bs (words_from (at + 1) bs)
 
+-- the words of a part of the file
+abbrev pub words_in : Text → List Word
+words_in t = words_from t.start t.bytes.now
+
+-- the part ends where a file can end
+abbrev pub EndsWithinFile : Text → Type 0
+EndsWithinFile t = t.start + length t.bytes.now < 2 ^ 32
+
 -- the first three, where there are three or more
 abbrev pub first_three : List Word → Option (Word × Word × Word)
 first_three [] = None
@@ -73,7 +81,8 @@ pub record Line : Type 0 where
 abbrev pub numbered : ℕ → ℕ → List (List ℕ) → List Line
 numbered number start [] = []
 numbered number start (text ∷ texts) =
-    (record { number = number; words = words_from start text }) ∷ numbered (number + 1) (start + length text + 1) texts
+    (record { number = number; words = words_from start text })
+    ∷ numbered (number + 1) (start + length text + 1) texts
 
 -- the lines of a file
 abbrev pub lines_of : List ℕ → List Line

@@ -1,9 +1,11 @@
 // The lines of an ASCII STL.
-ghost use Rattle.std.specs.Prelude.{◌≡◌, ◌≢◌, ◌⊎◌, ◌+◌, ◌^◌, ◌<◌, ◌≤◌, [], ◌∷◌, length, Ok, Err, OnOk, IfOk, IfErr, MatchOption};
+ghost use Rattle.std.specs.Prelude.{◌≡◌, ◌≢◌, ◌+◌, ◌^◌, ◌<◌, ◌≤◌, [], ◌∷◌, length, Ok, Err, OnOk, IfOk, IfErr, MatchOption};
 ghost use Rattle.ember_number.specs.Values.{value_of};
 ghost use Rattle.ember_surface.specs.Surfaces.{point_of, content_of, IsSurface};
-ghost use Rattle.ember_stl.specs.Scan.{word_of, words_from, first_three};
-ghost use Rattle.ember_stl.specs.Ascii.{state_of, coordinate_of, vertex_in, with_vertex, with_end, after_words, at_end, ascii_of};
+ghost use Rattle.ember_stl.specs.Scan.{EndsWithinFile, word_of, words_in, first_three};
+ghost use Rattle.ember_stl.specs.Facets.{IsErrorOf};
+ghost use Rattle.ember_stl.specs.Ascii.{state_of, coordinate_of, vertex_in, with_vertex, with_end};
+ghost use Rattle.ember_stl.specs.Ascii.{after_words, state_ended, vertex_count, ascii_of};
 
 use crate::facets::push_triangle;
 use crate::fault::StlFault;
@@ -14,7 +16,7 @@ use ember_surface::{Surface, Vertex};
 use std::alloc::Global;
 
 fn read_coordinate<'a>(line: u32, word: Text<'a>) -> Result<Number<'a>, StlFault>
-    requires { word.start + length word.bytes.now < 2 ^ 32 }
+    requires { EndsWithinFile word }
     ensures ok { IfOk result (λ n. coordinate_of line (word_of word.entry) ≡ Ok (value_of n)) }
     ensures err { IfErr result (λ e. coordinate_of line (word_of word.entry) ≡ Err e) }
 {
@@ -26,9 +28,9 @@ fn read_coordinate<'a>(line: u32, word: Text<'a>) -> Result<Number<'a>, StlFault
 
 // The vertex that the words of a text give.
 fn read_vertex<'a>(line: u32, words: Text<'a>) -> Result<Vertex<'a>, StlFault>
-    requires { words.start + length words.bytes.now < 2 ^ 32 }
-    ensures ok { IfOk result (λ v. vertex_in line (first_three (words_from words.entry.start words.entry.bytes.now)) ≡ Ok (point_of v)) }
-    ensures err { IfErr result (λ e. vertex_in line (first_three (words_from words.entry.start words.entry.bytes.now)) ≡ Err e) }
+    requires { EndsWithinFile words }
+    ensures ok { IfOk result (λ v. vertex_in line (first_three (words_in words.entry)) ≡ Ok (point_of v)) }
+    ensures err { IfErr result (λ e. vertex_in line (first_three (words_in words.entry)) ≡ Err e) }
 {
     let Some((x, y, z)) = three_words(words) else {
         return Err(StlFault::FewCoordinates(line));
@@ -63,9 +65,9 @@ struct Reader<'a> {
 
 impl<'a> Reader<'a> {
     fn add_vertex(&mut self, line: u32, words: Text<'a>) -> Result<(), StlFault>
-        requires text { words.start + length words.bytes.now < 2 ^ 32 }
-        ensures ok { OnOk result (with_vertex line (words_from words.entry.start words.entry.bytes.now) (state_of self.old) (state_of self.old).opened ≡ Ok (state_of self.new)) }
-        ensures err { IfErr result (λ e. (e ≡ StlFault.OutOfMemory) ⊎ (with_vertex line (words_from words.entry.start words.entry.bytes.now) (state_of self.old) (state_of self.old).opened ≡ Err e)) }
+        requires text { EndsWithinFile words }
+        ensures ok { OnOk result (with_vertex line (words_in words.entry) (state_of self.old) ≡ Ok (state_of self.new)) }
+        ensures err { IfErr result (IsErrorOf (with_vertex line (words_in words.entry) (state_of self.old))) }
         ensures surface { self.new.surface ≡ self.old.surface }
         ensures count { OnOk result (length self.new.corners.items ≡ length self.old.corners.items + 1) }
     {
@@ -83,10 +85,10 @@ impl<'a> Reader<'a> {
     fn close_facet(&mut self, line: u32) -> Result<(), StlFault>
         requires few { length self.old.surface.vertices.items + 3 < 2 ^ 32 }
         requires surface { IsSurface self.old.surface }
-        ensures ok { OnOk result (with_end line (state_of self.old) (state_of self.old).opened ≡ Ok (state_of self.new)) }
-        ensures err { IfErr result (λ e. (e ≡ StlFault.OutOfMemory) ⊎ (with_end line (state_of self.old) (state_of self.old).opened ≡ Err e)) }
+        ensures ok { OnOk result (with_end line (state_of self.old) ≡ Ok (state_of self.new)) }
+        ensures err { IfErr result (IsErrorOf (with_end line (state_of self.old))) }
         ensures surface { OnOk result (IsSurface self.new.surface) }
-        ensures count { OnOk result (length self.new.surface.vertices.items + length self.new.corners.items ≡ length self.old.surface.vertices.items + length self.old.corners.items) }
+        ensures count { OnOk result (vertex_count self.new ≡ vertex_count self.old) }
     {
         let Some(place) = self.opened else {
             return Err(StlFault::NotThreeVertices(line));
@@ -104,13 +106,13 @@ impl<'a> Reader<'a> {
 
     // Reads one line.
     fn add_line(&mut self, line: u32, text: Text<'a>) -> Result<(), StlFault>
-        requires text { text.start + length text.bytes.now < 2 ^ 32 }
-        requires few { length self.old.surface.vertices.items + length self.old.corners.items + 4 < 2 ^ 32 }
+        requires text { EndsWithinFile text }
+        requires few { vertex_count self.old + 4 < 2 ^ 32 }
         requires surface { IsSurface self.old.surface }
-        ensures ok { OnOk result (after_words line (state_of self.old) (words_from text.entry.start text.entry.bytes.now) ≡ Ok (state_of self.new)) }
-        ensures err { IfErr result (λ e. (e ≡ StlFault.OutOfMemory) ⊎ (after_words line (state_of self.old) (words_from text.entry.start text.entry.bytes.now) ≡ Err e)) }
+        ensures ok { OnOk result (after_words line (state_of self.old) (words_in text.entry) ≡ Ok (state_of self.new)) }
+        ensures err { IfErr result (IsErrorOf (after_words line (state_of self.old) (words_in text.entry))) }
         ensures surface { OnOk result (IsSurface self.new.surface) }
-        ensures count { OnOk result (length self.new.surface.vertices.items + length self.new.corners.items ≤ length self.old.surface.vertices.items + length self.old.corners.items + 1) }
+        ensures count { OnOk result (vertex_count self.new ≤ vertex_count self.old + 1) }
     {
         let Some((word, words)) = next_word(text) else {
             return Ok(());
@@ -131,8 +133,8 @@ impl<'a> Reader<'a> {
     // What is read, where no facet is open.
     fn end(self) -> Result<Surface<'a>, StlFault>
         requires { IsSurface self.surface }
-        ensures ok { IfOk result (λ s. at_end (content_of self.entry.surface) (state_of self.entry).opened ≡ Ok (content_of s)) }
-        ensures err { IfErr result (λ e. at_end (content_of self.entry.surface) (state_of self.entry).opened ≡ Err e) }
+        ensures ok { IfOk result (λ s. state_ended (state_of self.entry) ≡ Ok (content_of s)) }
+        ensures err { IfErr result (λ e. state_ended (state_of self.entry) ≡ Err e) }
         ensures surface { IfOk result (λ s. IsSurface s) }
     {
         match self.opened {
@@ -147,7 +149,7 @@ impl<'a> Reader<'a> {
 pub(crate) fn read_ascii(alloc: Global, bytes: &[u8]) -> Result<Surface<'_>, StlFault>
     requires { length bytes.now ≤ 268435456 }
     ensures ok { IfOk result (λ s. ascii_of bytes.now ≡ Ok (content_of s)) }
-    ensures err { IfErr result (λ e. (e ≡ StlFault.OutOfMemory) ⊎ (ascii_of bytes.now ≡ Err e)) }
+    ensures err { IfErr result (IsErrorOf (ascii_of bytes.now)) }
     ensures surface { IfOk result (λ s. IsSurface s) }
 {
     let mut reader = Reader {

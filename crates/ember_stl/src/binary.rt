@@ -1,9 +1,9 @@
 // The facets of a binary STL.
-ghost use Rattle.std.specs.Prelude.{◌≡◌, ◌⊎◌, ◌+◌, ◌*◌, ◌^◌, ◌<◌, ◌≤◌, length, Ok, Err, OnOk, IfOk, IfErr};
+ghost use Rattle.std.specs.Prelude.{◌≡◌, ◌+◌, ◌*◌, ◌^◌, ◌<◌, ◌≤◌, length, Ok, Err, OnOk, IfOk, IfErr};
 ghost use Rattle.std.specs.Option.{option_map};
 ghost use Rattle.ember_surface.specs.Surfaces.{point_of, content_of, IsSurface};
 ghost use Rattle.ember_stl.specs.Binary.{number_at, point_at, with_facet_at, binary_of};
-ghost use Rattle.ember_stl.specs.Facets.{nothing};
+ghost use Rattle.ember_stl.specs.Facets.{IsErrorOf, nothing};
 
 use crate::facets::push_triangle;
 use crate::fault::StlFault;
@@ -30,8 +30,9 @@ fn add_facet(surface: &mut Surface, bytes: &[u8], facet: u32) -> Result<(), StlF
     requires few { length surface.old.vertices.items + 3 < 2 ^ 32 }
     requires surface { IsSurface surface.old }
     requires facet { facet + 1 < 2 ^ 32 }
-    ensures ok { OnOk result (with_facet_at bytes.now facet (Ok (content_of surface.old)) ≡ Ok (content_of surface.new)) }
-    ensures err { IfErr result (λ e. (e ≡ StlFault.OutOfMemory) ⊎ (with_facet_at bytes.now facet (Ok (content_of surface.old)) ≡ Err e)) }
+    ensures ok { let before = Ok (content_of surface.old) in
+        OnOk result (with_facet_at bytes.now facet before ≡ Ok (content_of surface.new)) }
+    ensures err { IfErr result (IsErrorOf (with_facet_at bytes.now facet (Ok (content_of surface.old)))) }
     ensures surface { OnOk result (IsSurface surface.new) }
     ensures count { OnOk result (length surface.new.vertices.items ≡ length surface.old.vertices.items + 3) }
 {
@@ -70,7 +71,7 @@ pub(crate) fn read_binary<'a>(alloc: Global, bytes: &'a [u8]) -> Result<Surface<
     requires length { length bytes.now ≡ 84 + 50 * number_at bytes.now 80 }
     requires bytes { length bytes.now ≤ 268435456 }
     ensures ok { IfOk result (λ s. binary_of bytes.now ≡ Ok (content_of s)) }
-    ensures err { IfErr result (λ e. (e ≡ StlFault.OutOfMemory) ⊎ (binary_of bytes.now ≡ Err e)) }
+    ensures err { IfErr result (IsErrorOf (binary_of bytes.now)) }
     ensures surface { IfOk result (λ s. IsSurface s) }
 {
     let count = read_number(bytes, COUNT_AT);

@@ -16,7 +16,8 @@ pub(crate) fn push_triangle<'a>(
 ) -> Result<(), AllocError>
     requires few { length surface.old.vertices.items + 3 < 2 ^ 32 }
     requires surface { IsSurface surface.old }
-    ensures content { OnOk result (content_of surface.new ≡ with_triangle place (point_of a.entry) (point_of b.entry) (point_of c.entry) (content_of surface.old)) }
+    ensures content { let more = with_triangle place (point_of a.entry) (point_of b.entry) (point_of c.entry) in
+        OnOk result (content_of surface.new ≡ more (content_of surface.old)) }
     ensures count { OnOk result (length surface.new.vertices.items ≡ length surface.old.vertices.items + 3) }
     ensures surface { OnOk result (IsSurface surface.new) }
 {

@@ -1,6 +1,7 @@
 // An STL file of either form.
-ghost use Rattle.std.specs.Prelude.{◌≡◌, ◌⊎◌, ◌≤◌, Ok, Err, length, IfOk, IfErr};
+ghost use Rattle.std.specs.Prelude.{◌≡◌, ◌≤◌, Ok, Err, length, IfOk, IfErr};
 ghost use Rattle.ember_surface.specs.Surfaces.{content_of, IsSurface};
+ghost use Rattle.ember_stl.specs.Facets.{IsErrorOf};
 ghost use Rattle.ember_stl.specs.ReadStl as spec;
 
 use crate::ascii::read_ascii;
@@ -37,7 +38,7 @@ fn checked<'a>(surface: Surface<'a>, binary: bool) -> Result<Surface<'a>, StlFau
 pub fn read_stl(alloc: Global, bytes: &[u8]) -> Result<Surface<'_>, StlFault>
     requires { length bytes.now ≤ 268435456 }
     ensures ok { IfOk result (λ s. spec.read_stl_of bytes.now ≡ Ok (content_of s)) }
-    ensures fault { IfErr result (λ e. (e ≡ StlFault.OutOfMemory) ⊎ (spec.read_stl_of bytes.now ≡ Err e)) }
+    ensures fault { IfErr result (IsErrorOf (spec.read_stl_of bytes.now)) }
     ensures surface { IfOk result (λ s. IsSurface s) }
 {
     if is_binary_stl(bytes) {

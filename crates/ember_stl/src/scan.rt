@@ -1,7 +1,7 @@
 // The lines and the words of a file, with their places in it.
 ghost use Rattle.std.specs.Prelude.{◌≡◌, ◌+◌, ◌^◌, ◌<◌, ◌≤◌, ◌==◌, slice_index, false, [], ◌∷◌, length, MatchOption, IfSome, Some, None};
 ghost use Rattle.std.specs.Str.{str_eq_ignore_ascii_case};
-ghost use Rattle.ember_stl.specs.Scan.{before, onward, is_blank, word_of, words_from, first_three, ended_lines, span_of};
+ghost use Rattle.ember_stl.specs.Scan.{before, onward, is_blank, word_of, words_in, first_three, ended_lines, span_of, EndsWithinFile};
 
 use crate::fault::Span;
 
@@ -14,7 +14,7 @@ pub(crate) struct Text<'a> {
 
 // From where to where the text stands.
 pub(crate) fn span(text: Text) -> Span
-    requires { text.start + length text.bytes.now < 2 ^ 32 }
+    requires { EndsWithinFile text }
     ensures { result ≡ span_of (word_of text.entry) }
 {
     Span {
@@ -59,8 +59,9 @@ fn cut_first_line(bytes: &[u8]) -> (&[u8], &[u8])
 
 // The first line, and the text behind its line feed.
 pub(crate) fn next_line<'a>(text: Text<'a>) -> Option<(Text<'a>, Text<'a>)>
-    requires { text.start + length text.bytes.now < 2 ^ 32 }
-    ensures lines { MatchOption result (ended_lines text.entry.bytes.now ≡ []) (λ p. ended_lines text.entry.bytes.now ≡ p.0.bytes.now ∷ ended_lines p.1.bytes.now) }
+    requires { EndsWithinFile text }
+    ensures lines { let lines = ended_lines text.entry.bytes.now in
+        MatchOption result (lines ≡ []) (λ p. lines ≡ p.0.bytes.now ∷ ended_lines p.1.bytes.now) }
     ensures start { IfSome result (λ p. p.0.start ≡ text.entry.start) }
     ensures behind { IfSome result (λ p. p.1.start ≡ text.entry.start + length p.0.bytes.now + 1) }
     ensures shorter { IfSome result (λ p. length p.1.bytes.now < length text.entry.bytes.now) }
@@ -104,8 +105,8 @@ fn cut_word(bytes: &[u8]) -> (&[u8], &[u8])
 
 // The text from its first byte on that is no blank.
 fn skip_blanks<'a>(text: Text<'a>) -> Text<'a>
-    requires { text.start + length text.bytes.now < 2 ^ 32 }
-    ensures words { words_from result.start result.bytes.now ≡ words_from text.entry.start text.entry.bytes.now }
+    requires { EndsWithinFile text }
+    ensures words { words_in result ≡ words_in text.entry }
     ensures ends { result.start + length result.bytes.now ≡ text.entry.start + length text.entry.bytes.now }
     ensures first { 0 < length result.bytes.now → is_blank (slice_index result.bytes.now 0) ≡ false }
 {
@@ -123,10 +124,10 @@ fn skip_blanks<'a>(text: Text<'a>) -> Text<'a>
 
 // The first word, and the text behind it.
 pub(crate) fn next_word<'a>(text: Text<'a>) -> Option<(Text<'a>, Text<'a>)>
-    requires { text.start + length text.bytes.now < 2 ^ 32 }
-    ensures words { MatchOption result (words_from text.entry.start text.entry.bytes.now ≡ []) (λ p. words_from text.entry.start text.entry.bytes.now ≡ word_of p.0 ∷ words_from p.1.start p.1.bytes.now) }
-    ensures within { IfSome result (λ p. p.0.start + length p.0.bytes.now ≤ text.entry.start + length text.entry.bytes.now) }
-    ensures ends { IfSome result (λ p. p.1.start + length p.1.bytes.now ≡ text.entry.start + length text.entry.bytes.now) }
+    requires { EndsWithinFile text }
+    ensures words { let words = words_in text.entry in
+        MatchOption result (words ≡ []) (λ p. words ≡ word_of p.0 ∷ words_in p.1) }
+    ensures within { IfSome result (λ p. EndsWithinFile p.0 × EndsWithinFile p.1) }
 {
     let begun = skip_blanks(text);
     if begun.bytes.is_empty() {
@@ -147,9 +148,10 @@ pub(crate) fn next_word<'a>(text: Text<'a>) -> Option<(Text<'a>, Text<'a>)>
 
 // The first three words, where there are three or more.
 pub(crate) fn three_words<'a>(text: Text<'a>) -> Option<(Text<'a>, Text<'a>, Text<'a>)>
-    requires { text.start + length text.bytes.now < 2 ^ 32 }
-    ensures words { MatchOption result (first_three (words_from text.entry.start text.entry.bytes.now) ≡ None) (λ t. first_three (words_from text.entry.start text.entry.bytes.now) ≡ Some (word_of t.0, word_of t.1, word_of t.2)) }
-    ensures within { IfSome result (λ t. (t.0.start + length t.0.bytes.now < 2 ^ 32) × (t.1.start + length t.1.bytes.now < 2 ^ 32) × (t.2.start + length t.2.bytes.now < 2 ^ 32)) }
+    requires { EndsWithinFile text }
+    ensures words { let three = first_three (words_in text.entry) in
+        MatchOption result (three ≡ None) (λ t. three ≡ Some (word_of t.0, word_of t.1, word_of t.2)) }
+    ensures within { IfSome result (λ t. EndsWithinFile t.0 × EndsWithinFile t.1 × EndsWithinFile t.2) }
 {
     let (a, rest) = next_word(text)?;
     let (b, rest) = next_word(rest)?;
