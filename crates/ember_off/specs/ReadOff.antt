@@ -44,7 +44,8 @@ abbrev pub coordinate_in : ℕ → Piece → Result Fraction OffFault
 coordinate_in line word = coordinate_or_fault line word (value_of_text word.text)
 
 -- the point with three coordinates, or the fault of the first that has one
-abbrev pub point_of_three : Result Fraction OffFault → Result Fraction OffFault → Result Fraction OffFault → Result Point OffFault
+abbrev pub point_of_three :
+    Result Fraction OffFault → Result Fraction OffFault → Result Fraction OffFault → Result Point OffFault
 point_of_three (Err fault) y z = Err fault
 point_of_three (Ok x) (Err fault) z = Err fault
 point_of_three (Ok x) (Ok y) (Err fault) = Err fault
@@ -77,7 +78,8 @@ with_corner (Some corner) (Some corners) = Some (corner ∷ corners)
 abbrev pub indices : ℕ → ℕ → List Piece → Option (List ℕ)
 indices vertices zero words = Some []
 indices vertices (suc left) [] = None
-indices vertices (suc left) (word ∷ words) = with_corner (below vertices (number_of word.text)) (indices vertices left words)
+indices vertices (suc left) (word ∷ words) =
+    with_corner (below vertices (number_of word.text)) (indices vertices left words)
 
 -- the corners of a face with so many, at least three
 abbrev pub corners_of_size : ℕ → Option ℕ → List Piece → Option (List ℕ)

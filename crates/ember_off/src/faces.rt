@@ -37,7 +37,8 @@ fn read_indices<'a>(
     words: Part<'a>,
 ) -> Result<(), NoCorners>
     ensures ok { OnOk result (indices vertices size (words_in words.entry) ≡ Some corners.new.items) }
-    ensures fault { IfErr result (λ e. (e ≡ NoCorners.OutOfMemory) ⊎ (indices vertices size (words_in words.entry) ≡ None)) }
+    ensures fault { IfErr result (λ e. (e ≡ NoCorners.OutOfMemory)
+        ⊎ (indices vertices size (words_in words.entry) ≡ None)) }
 {
     corners.clear();
     let mut rest = words;
@@ -61,7 +62,8 @@ fn read_indices<'a>(
 // Puts the corners of a face into `corners`, in place of what it holds.
 fn read_corners<'a>(corners: &mut Vec<u32>, vertices: u32, row: Row<'a>) -> Result<(), NoCorners>
     ensures ok { OnOk result (corners_of vertices (words_of_row row.entry).words ≡ Some corners.new.items) }
-    ensures fault { IfErr result (λ e. (e ≡ NoCorners.OutOfMemory) ⊎ (corners_of vertices (words_of_row row.entry).words ≡ None)) }
+    ensures fault { IfErr result (λ e. (e ≡ NoCorners.OutOfMemory)
+        ⊎ (corners_of vertices (words_of_row row.entry).words ≡ None)) }
 {
     let Some(size) = number_in(row.first.bytes) else {
         return Err(NoCorners::BadWord);
@@ -79,8 +81,10 @@ fn add_face<'a>(
     vertices: u32,
     row: Row<'a>,
 ) -> Result<(), OffFault>
-    ensures ok { OnOk result (joined (Ok facets.old.items) (facets_in vertices (words_of_row row.entry)) ≡ Ok facets.new.items) }
-    ensures fault { IfErr result (λ e. (e ≡ OffFault.OutOfMemory) ⊎ (facets_in vertices (words_of_row row.entry) ≡ Err e)) }
+    ensures ok { OnOk result
+        (joined (Ok facets.old.items) (facets_in vertices (words_of_row row.entry)) ≡ Ok facets.new.items) }
+    ensures fault { IfErr result (λ e. (e ≡ OffFault.OutOfMemory)
+        ⊎ (facets_in vertices (words_of_row row.entry) ≡ Err e)) }
 {
     match read_corners(corners, vertices, row) {
         Ok(()) => {}
@@ -103,7 +107,8 @@ pub(crate) fn read_faces<'a>(
     requires numbered { rows.number ≤ rows.rest.start + 1 }
     requires rows { count ≤ length (rows_in rows) }
     ensures ok { IfOk result (λ facets. facets_of vertices (take count (rows_in rows.entry)) ≡ Ok facets.items) }
-    ensures fault { IfErr result (λ e. (e ≡ OffFault.OutOfMemory) ⊎ (facets_of vertices (take count (rows_in rows.entry)) ≡ Err e)) }
+    ensures fault { IfErr result (λ e. (e ≡ OffFault.OutOfMemory)
+        ⊎ (facets_of vertices (take count (rows_in rows.entry)) ≡ Err e)) }
 {
     let Ok(mut facets) = Vec::with_capacity(alloc, count) else {
         return Err(OffFault::OutOfMemory);

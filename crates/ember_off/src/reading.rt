@@ -24,8 +24,12 @@ fn read_lists<'a>(
 ) -> Result<Surface<'a>, OffFault>
     requires numbered { rows.number ≤ rows.rest.start + 1 }
     requires rows { vertices + faces ≤ length (rows_in rows) }
-    ensures ok { IfOk result (λ s. whole (points_of (take vertices (rows_in rows.entry))) (facets_of vertices (take faces (drop vertices (rows_in rows.entry)))) ≡ Ok (content_of s)) }
-    ensures fault { IfErr result (λ e. (e ≡ OffFault.OutOfMemory) ⊎ (whole (points_of (take vertices (rows_in rows.entry))) (facets_of vertices (take faces (drop vertices (rows_in rows.entry)))) ≡ Err e)) }
+    ensures ok { IfOk result (λ s. whole
+        (points_of (take vertices (rows_in rows.entry)))
+        (facets_of vertices (take faces (drop vertices (rows_in rows.entry)))) ≡ Ok (content_of s)) }
+    ensures fault { IfErr result (λ e. (e ≡ OffFault.OutOfMemory) ⊎ (whole
+        (points_of (take vertices (rows_in rows.entry)))
+        (facets_of vertices (take faces (drop vertices (rows_in rows.entry)))) ≡ Err e)) }
 {
     let (list, rest) = read_vertices(alloc, rows, vertices as usize)?;
     let facets = read_faces(alloc, rest, vertices, faces)?;
@@ -43,8 +47,10 @@ fn read_counted<'a>(
     rows: Rows<'a>,
 ) -> Result<Surface<'a>, OffFault>
     requires { rows.number ≤ rows.rest.start + 1 }
-    ensures ok { IfOk result (λ s. counted (counts_of (piece_of first.entry ∷ words_in others.entry)) (rows_in rows.entry) ≡ Ok (content_of s)) }
-    ensures fault { IfErr result (λ e. (e ≡ OffFault.OutOfMemory) ⊎ (counted (counts_of (piece_of first.entry ∷ words_in others.entry)) (rows_in rows.entry) ≡ Err e)) }
+    ensures ok { IfOk result (λ s.
+        counted (counts_of (piece_of first.entry ∷ words_in others.entry)) (rows_in rows.entry) ≡ Ok (content_of s)) }
+    ensures fault { IfErr result (λ e. (e ≡ OffFault.OutOfMemory)
+        ⊎ (counted (counts_of (piece_of first.entry ∷ words_in others.entry)) (rows_in rows.entry) ≡ Err e)) }
 {
     let Some((vertices, faces)) = counts_in(first, others) else {
         return Err(OffFault::NoCounts);
@@ -59,7 +65,8 @@ fn read_counted<'a>(
 fn read_behind<'a>(alloc: Global, words: Part<'a>, rows: Rows<'a>) -> Result<Surface<'a>, OffFault>
     requires { rows.number ≤ rows.rest.start + 1 }
     ensures ok { IfOk result (λ s. behind_keyword (words_in words.entry) (rows_in rows.entry) ≡ Ok (content_of s)) }
-    ensures fault { IfErr result (λ e. (e ≡ OffFault.OutOfMemory) ⊎ (behind_keyword (words_in words.entry) (rows_in rows.entry) ≡ Err e)) }
+    ensures fault { IfErr result (λ e. (e ≡ OffFault.OutOfMemory)
+        ⊎ (behind_keyword (words_in words.entry) (rows_in rows.entry) ≡ Err e)) }
 {
     if let Some((first, others)) = next_word(words) {
         return read_counted(alloc, first, others, rows);

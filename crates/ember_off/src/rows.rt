@@ -8,7 +8,8 @@ use ember_scan::{next_line, next_word, without_comment};
 // The first row, and what follows it.
 pub(crate) fn next_row<'a>(rows: Rows<'a>) -> Option<(Row<'a>, Rows<'a>)>
     requires { rows.number ≤ rows.rest.start + 1 }
-    ensures rows { MatchOption result (rows_in rows.entry ≡ []) (λ p. rows_in rows.entry ≡ words_of_row p.0 ∷ rows_in p.1) }
+    ensures rows { MatchOption result (rows_in rows.entry ≡ [])
+        (λ p. rows_in rows.entry ≡ words_of_row p.0 ∷ rows_in p.1) }
     ensures shorter { IfSome result (λ p. length p.1.rest.bytes.now < length rows.entry.rest.bytes.now) }
     ensures numbered { IfSome result (λ p. p.1.number ≤ p.1.rest.start + 1) }
 {

@@ -27,7 +27,8 @@ fn read_coordinate<'a>(line: u32, word: Part<'a>) -> Result<Number<'a>, OffFault
 // The second and third word of a row.
 fn two_more<'a>(row: Row<'a>) -> Option<(Part<'a>, Part<'a>)>
     ensures { MatchOption result (first_three (words_of_row row.entry).words ≡ None)
-        (λ t. first_three (words_of_row row.entry).words ≡ Some (piece_of row.entry.first, piece_of t.0, piece_of t.1)) }
+        (λ t. first_three (words_of_row row.entry).words
+        ≡ Some (piece_of row.entry.first, piece_of t.0, piece_of t.1)) }
 {
     let (second, rest) = next_word(row.others)?;
     let (third, _) = next_word(rest)?;
@@ -50,7 +51,9 @@ fn read_vertex<'a>(row: Row<'a>) -> Result<Vertex<'a>, OffFault>
 // Appends the vertex of a row.
 #[tactic(auto, using(crate::proofs::Joins::point_added))]
 fn add_vertex<'a>(vertices: &mut Vec<Vertex<'a>>, row: Row<'a>) -> Result<(), OffFault>
-    ensures ok { OnOk result (joined (Ok (map point_of vertices.old.items)) (one (point_in (words_of_row row.entry))) ≡ Ok (map point_of vertices.new.items)) }
+    ensures ok { OnOk result
+        (joined (Ok (map point_of vertices.old.items)) (one (point_in (words_of_row row.entry)))
+        ≡ Ok (map point_of vertices.new.items)) }
     ensures fault { IfErr result (λ e. (e ≡ OffFault.OutOfMemory) ⊎ (one (point_in (words_of_row row.entry)) ≡ Err e)) }
 {
     let vertex = read_vertex(row)?;
@@ -71,7 +74,8 @@ pub(crate) fn read_vertices<'a>(
     ensures ok { IfOk result (λ r. points_of (take count (rows_in rows.entry)) ≡ Ok (map point_of r.0.items)) }
     ensures rest { IfOk result (λ r. rows_in r.1 ≡ drop count (rows_in rows.entry)) }
     ensures numbered { IfOk result (λ r. r.1.number ≤ r.1.rest.start + 1) }
-    ensures fault { IfErr result (λ e. (e ≡ OffFault.OutOfMemory) ⊎ (points_of (take count (rows_in rows.entry)) ≡ Err e)) }
+    ensures fault { IfErr result (λ e. (e ≡ OffFault.OutOfMemory)
+        ⊎ (points_of (take count (rows_in rows.entry)) ≡ Err e)) }
 {
     let Ok(mut vertices) = Vec::with_capacity(alloc, count) else {
         return Err(OffFault::OutOfMemory);

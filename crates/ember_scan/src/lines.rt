@@ -7,7 +7,8 @@ use crate::part::Part;
 
 /// The first line, without the line feed that ends it, and what follows. None where no byte is left.
 pub fn next_line<'a>(part: Part<'a>) -> Option<(Part<'a>, Part<'a>)>
-    ensures lines { MatchOption result (lines_in part.entry ≡ []) (λ p. lines_in part.entry ≡ piece_of p.0 ∷ lines_in p.1) }
+    ensures lines { MatchOption result (lines_in part.entry ≡ [])
+        (λ p. lines_in part.entry ≡ piece_of p.0 ∷ lines_in p.1) }
     ensures shorter { IfSome result (λ p. length p.1.bytes.now < length part.entry.bytes.now) }
     ensures further { IfSome result (λ p. part.entry.start < p.1.start) }
 {

@@ -19,7 +19,8 @@ impl<'a> Part<'a> {
     pub(crate) fn split_at(self, count: usize) -> (Part<'a>, Part<'a>)
         requires { count ≤ length self.bytes.now }
         ensures first { (result.0.start ≡ self.entry.start) × (result.0.bytes.now ≡ take count self.entry.bytes.now) }
-        ensures second { (result.1.start ≡ self.entry.start + count) × (result.1.bytes.now ≡ drop count self.entry.bytes.now) }
+        ensures second { (result.1.start ≡ self.entry.start + count)
+            × (result.1.bytes.now ≡ drop count self.entry.bytes.now) }
     {
         let (first, second) = self.bytes.split_at(count);
         (

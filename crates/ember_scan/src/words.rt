@@ -40,7 +40,8 @@ fn skip_separators<'a>(part: Part<'a>) -> Part<'a>
 
 /// The first word, and what follows it. Words stand between spaces, tabs and carriage returns.
 pub fn next_word<'a>(part: Part<'a>) -> Option<(Part<'a>, Part<'a>)>
-    ensures words { MatchOption result (words_in part.entry ≡ []) (λ p. words_in part.entry ≡ piece_of p.0 ∷ words_in p.1) }
+    ensures words { MatchOption result (words_in part.entry ≡ [])
+        (λ p. words_in part.entry ≡ piece_of p.0 ∷ words_in p.1) }
     ensures shorter { IfSome result (λ p. length p.1.bytes.now < length part.entry.bytes.now) }
 {
     let start = skip_separators(part);
