@@ -4,15 +4,16 @@ ghost use Rattle.std.specs.List.{list_all};
 ghost use Rattle.std.specs.Char.{is_ascii_digit};
 ghost use Rattle.ember_dec.specs.Decimal.{number_from};
 
-pub(crate) fn are_digits(text: &[u8]) -> bool
+/// Whether all bytes are digits.
+pub fn are_digits(text: &[u8]) -> bool
     ensures { result ≡ list_all is_ascii_digit text.now }
 {
     text.iter().all(|b| b.is_ascii_digit())
 }
 
-// The number with these digits behind those of `start`, or the limit where it is larger.
+/// The number with these digits behind those of `start`, or the limit where it is larger.
 #[tactic(auto, using(ember_dec::proofs::Capped::capped))]
-pub(crate) fn append_digits(start: u64, digits: &[u8], limit: u64) -> u64
+pub fn append_digits(start: u64, digits: &[u8], limit: u64) -> u64
     requires digits { list_all is_ascii_digit digits.now ≡ true }
     requires start { start ≤ limit }
     requires limit { limit ≤ 10 ^ 15 }

@@ -10,6 +10,7 @@ mod floors;
 mod texts;
 mod values;
 
+pub use digits::{append_digits, are_digits};
 pub use floats::{binary32, binary64, integer};
 pub use floors::{floor_times, is_below_limit};
 pub use texts::read_decimal;

@@ -1,6 +1,7 @@
 -- What a mesh file holds: points in their order, and triangles over them with their places
 use Rattle.std.specs.Prelude.{ℕ, ◌<◌, Bool, false, ◌&&◌, not, List, [], ◌∷◌, length, map, All, Option, Some, None, slice_get}
-use Rattle.std.specs.List.{list_any}
+use Rattle.std.specs.List.{list_any, find}
+use Rattle.std.specs.Option.{option_map}
 use Rattle.ember_number.specs.Fractions.{Fraction, is_below_limit}
 use Rattle.ember_number.specs.Values.{value_of}
 use Rattle.ember_surface.specs.declared.surface.Vertex.{Vertex}
@@ -54,3 +55,19 @@ is_corner_too_large vertices corner = is_too_large (slice_get vertices corner)
 
 abbrev pub is_facet_too_large : List Vertex → Facet → Bool
 is_facet_too_large vertices f = list_any (is_corner_too_large vertices) f.corners
+
+-- ---- the same of what a file says
+abbrev pub is_point_below : Point → Bool
+is_point_below p = is_below_limit p.x && is_below_limit p.y && is_below_limit p.z
+
+abbrev pub is_far_point : Option Point → Bool
+is_far_point None = false
+is_far_point (Some p) = not (is_point_below p)
+
+-- a corner of the triangle is 10^15 or more in size
+abbrev pub is_far : List Point → Facet → Bool
+is_far points f = list_any (λ corner. is_far_point (slice_get points corner)) f.corners
+
+-- the place of the first triangle with such a corner
+abbrev pub first_far : Content → Option ℕ
+first_far content = option_map (λ f. f.place) (find (is_far content.points) content.facets)

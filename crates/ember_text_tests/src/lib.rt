@@ -22,6 +22,8 @@ mod numbers;
 #[cfg(test)]
 mod objects;
 #[cfg(test)]
+mod off_files;
+#[cfg(test)]
 mod reports;
 #[cfg(test)]
 mod roundings;

@@ -1,0 +1,4 @@
+pub mod Joins
+pub mod Corners
+pub mod RowCounts
+pub mod Soundness

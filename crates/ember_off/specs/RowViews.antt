@@ -1,0 +1,12 @@
+-- The rows that code has in hand
+use Rattle.std.specs.Prelude.{List, ◌∷◌}
+use Rattle.ember_scan.specs.Parts.{piece_of, lines_in, words_in}
+use Rattle.ember_off.specs.declared.row.Row.{Row}
+use Rattle.ember_off.specs.declared.row.Rows.{Rows}
+use Rattle.ember_off.specs.Rows as rows
+
+abbrev pub words_of_row : Row → rows.Words
+words_of_row row = record { line = row.line; words = piece_of row.first ∷ words_in row.others }
+
+abbrev pub rows_in : Rows → List rows.Words
+rows_in r = rows.rows_from r.number (lines_in r.rest)

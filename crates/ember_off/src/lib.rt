@@ -1,0 +1,14 @@
+//! Reads the vertices and triangles of an OFF file.
+#![tactic(auto)]
+
+mod counts;
+mod faces;
+mod fault;
+mod numbers;
+mod reading;
+mod row;
+mod rows;
+mod vertices;
+
+pub use fault::OffFault;
+pub use reading::read_off;
