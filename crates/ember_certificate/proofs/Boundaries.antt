@@ -20,7 +20,8 @@ ends ss = map (λ s. s.end) ss
 abbrev pub ended_at : ℕ → Segment → ℤ
 ended_at c s = one_at c s.end -ℤ one_at c s.start
 
-numbers_are_equal : IsEquality ℕ eqb
+-- equal numbers, as a test
+pub numbers_are_equal : IsEquality ℕ eqb
 numbers_are_equal = record { sound = eqb-true; reflexive = λ x. eq-eqb x x refl }
 
 -- ---- from boundaries to chains

@@ -4,3 +4,4 @@ pub mod Keyed
 pub mod ClosedKeys
 pub mod SeenFromFront
 pub mod Triangles
+pub mod Cancels

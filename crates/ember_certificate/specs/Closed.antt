@@ -1,5 +1,5 @@
 -- Closed lists of segments
-use Rattle.std.specs.Prelude.{◌≡◌, ℕ, nat_eq, ◌&&◌, List}
+use Rattle.std.specs.Prelude.{◌≡◌, ℕ, nat_eq, ◌&&◌, ℤ, neg_ℤ, List}
 use Rattle.std.specs.List.{count_by}
 use Rattle.ember_certificate.specs.declared.segment.Segment.{Segment}
 
@@ -10,3 +10,7 @@ runs u v ss = count_by (λ s. nat_eq u s.start && nat_eq v s.end) ss
 -- from each corner to each other one run as many segments as back
 pub record IsClosed (ss : List Segment) : Type 0 where
   pub each : (u v : ℕ) → runs u v ss ≡ runs v u ss
+
+-- f changes its sign with the direction
+pub record IsOdd (f : ℕ → ℕ → ℤ) : Type 0 where
+  pub each : (u v : ℕ) → f v u ≡ neg_ℤ (f u v)

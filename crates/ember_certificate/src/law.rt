@@ -1,6 +1,8 @@
 // What chains and their boundaries say of each other.
-ghost use Rattle.std.specs.Prelude.{◌≡◌, ℕ, ℤ, List};
+ghost use Rattle.std.specs.Prelude.{◌≡◌, ℕ, ℤ, pos, List};
+ghost use Rattle.ember_algebra.specs.Sums.{total};
 ghost use Rattle.ember_certificate.specs.declared.segment.Segment.{Segment};
+ghost use Rattle.ember_certificate.specs.Closed.{IsClosed, IsOdd};
 ghost use Rattle.ember_certificate.specs.Chains.{sum_on, HaveSameBoundary, HaveSameChains};
 
 /// Segments whose chains have the same boundary have the same chain over each point of each line,
@@ -18,4 +20,9 @@ pub fn one_chain_has_one_boundary()
 /// any quantity of their starts less that of their ends.
 pub fn one_boundary_has_one_sum()
     ensures { (ss ts : List Segment) → HaveSameBoundary ss ts → (p l : ℕ) (f : ℕ → ℤ) → sum_on p l f ss ≡ sum_on p l f ts }
+{}
+
+/// Over closed segments any quantity that changes its sign with the direction of a segment adds up to 0.
+pub fn closed_segments_cancel()
+    ensures { (ss : List Segment) → IsClosed ss → (f : ℕ → ℕ → ℤ) → IsOdd f → total (λ s. f s.start s.end) ss ≡ pos 0 }
 {}

@@ -17,7 +17,10 @@ pub use certificate::is_certified;
 pub use chains::same_chains;
 pub use closed::are_closed;
 pub use facing::faces_front;
-pub use law::{one_boundary_has_one_chain, one_boundary_has_one_sum, one_chain_has_one_boundary};
+pub use law::{
+    closed_segments_cancel, one_boundary_has_one_chain, one_boundary_has_one_sum,
+    one_chain_has_one_boundary,
+};
 pub use segment::Segment;
 pub use space_point::SpacePoint;
 pub use triangle::Triangle;
