@@ -2,11 +2,12 @@
 ghost use Rattle.ember_visit.specs.Jobs.{IsJob};
 
 use crate::scenes::{expression, scene_of_files};
-use crate::texts::TETRA;
+use crate::texts::{TETRA, TETRA_TEXT};
 use ember_expr::Expr;
 use ember_job::Job;
 use ember_leaf::{Kept, KeptList, leaf_faces};
 use ember_model::{OutOfMemory, Scene};
+use ember_text::{document_of, faces_text};
 use ember_visit::{root_job, tris_at};
 use std::alloc::Global;
 use std::test::Fail;
@@ -37,5 +38,9 @@ fn a_tetrahedron_is_written_whole(rt: HostRuntime) -> Result<(), Fail> {
     let job = root_job(alloc, &scene)?;
     let kept = regions(alloc, &scene, &e, &job)?;
     assert!(rt; are_all_four(kept.items()));
+    let text = faces_text(alloc, kept.items())?;
+    assert_eq!(rt; text.count(), 4);
+    let file = document_of(alloc, vec![in alloc; text]?)?;
+    assert_eq!(rt; file.as_slice(), TETRA_TEXT);
     Ok(())
 }

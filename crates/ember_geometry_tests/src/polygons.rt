@@ -5,10 +5,10 @@ ghost use Rattle.ember_model.specs.Valid.{IsValidPlane, IsValidTri};
 
 use crate::shapes::{is_at, plane, tetra, triangle};
 use crate::texts::TETRA_TEXT;
-use ember_model::{Face, OutOfMemory, Plane, Tri};
+use ember_model::{Face, OutOfMemory, Plane, Tri, support_of};
 use ember_poly::{
-    Cut, Reach, Ring, clip, copy, corners, cut, edges, meets, meets_face, of_tri, outline, parts,
-    reach, support,
+    Cut, Draft, Reach, Ring, clip, copy, corners, cut, edges, meets, meets_face, of_tri, outline,
+    parts, reach, support,
 };
 use ember_reread::read_faces;
 use std::alloc::Global;
@@ -119,6 +119,40 @@ fn a_cut_triangle(rt: HostRuntime) -> Result<(), Fail> {
 #[test]
 fn a_clipped_triangle(rt: HostRuntime) -> Result<(), Fail> {
     let (side, low) = clip(unit_ring(rt.alloc())?, &plane([2, 0, 0, 1]))?;
+    assert_eq!(rt; side, Reach::Both);
+    check(&rt, &low, &LOW_PLANES, &LOW_STARTS);
+    Ok(())
+}
+
+// What a plane leaves of a triangle in a draft, and on which sides of the plane the triangle lies.
+fn clipped_in_a_draft(alloc: Global, t: &Tri, p: &Plane) -> Result<(Reach, Ring), OutOfMemory>
+    requires tri { IsValidTri t.now }
+    requires normal { is_flat t.now ≡ false }
+    requires plane { IsValidPlane p.now }
+{
+    let mut draft = Draft::new(alloc);
+    draft.begin(t, &support_of(t))?;
+    let side = draft.clip(p)?;
+    Ok((side, draft.ring(alloc, 0)?))
+}
+
+// The same of a triangle that may be flat, which gives nothing.
+fn left_in_a_draft(alloc: Global, t: &Tri, p: &Plane) -> Result<Option<(Reach, Ring)>, OutOfMemory>
+    requires tri { IsValidTri t.now }
+    requires plane { IsValidPlane p.now }
+{
+    match of_tri(alloc, t)? {
+        Some(_) => Ok(Some(clipped_in_a_draft(alloc, t, p)?)),
+        None => Ok(None),
+    }
+}
+
+#[test]
+fn a_triangle_clipped_in_a_draft(rt: HostRuntime) -> Result<(), Fail> {
+    let tri = triangle([[1, 0, 0], [0, 1, 0], [0, 0, 1]]);
+    let Some((side, low)) = left_in_a_draft(rt.alloc(), &tri, &plane([2, 0, 0, 1]))? else {
+        return Err(Fail::from("a flat triangle"));
+    };
     assert_eq!(rt; side, Reach::Both);
     check(&rt, &low, &LOW_PLANES, &LOW_STARTS);
     Ok(())

@@ -8,7 +8,7 @@ use ember_expr::Expr;
 use ember_gen::scene_of;
 use ember_job::Job;
 use ember_model::{Axis, OutOfMemory, Scene, Tri};
-use ember_visit::{box_value, halve_job, root_job, tris_at};
+use ember_visit::{box_value, halve_job, halve_unless_leaf, root_job, tris_at};
 use std::alloc::Global;
 use std::test::Fail;
 
@@ -68,6 +68,41 @@ fn the_halves_of_the_root_part_its_triangles(rt: HostRuntime) -> Result<(), Fail
     assert_eq!(rt; (low.cell.path(), high.cell.path()), (2, 3));
     assert_eq!(rt; low.list.items(), [2, 3].as_slice());
     assert_eq!(rt; high.list.items(), [0, 1].as_slice());
+    assert!(rt; low.at == root.at && high.at == root.at);
+    Ok(())
+}
+
+// The jobs of the halves, unless the box is a leaf.
+fn halves_unless_leaf(
+    alloc: Global,
+    s: &Scene,
+    job: &Job,
+) -> Result<Option<(Job, Job)>, OutOfMemory>
+    requires { IsJob s.now.tris job.now }
+{
+    halve_unless_leaf(alloc, s, job)
+}
+
+#[test]
+fn a_box_that_is_no_leaf_has_halves(rt: HostRuntime) -> Result<(), Fail> {
+    let alloc = rt.alloc();
+    let leaf = scene_of_files(alloc, &[TETRA])?;
+    let root = root_job(alloc, &leaf)?;
+    assert!(rt; halves_unless_leaf(alloc, &leaf, &root)?.is_none());
+    let scene = scene_of_files(alloc, &[APART, APART, APART, APART, APART])?;
+    let root = root_job(alloc, &scene)?;
+    let Some((low, high)) = halves_unless_leaf(alloc, &scene, &root)? else {
+        return Err(Fail::from("a leaf"));
+    };
+    assert_eq!(rt; (low.cell.path(), high.cell.path()), (2, 3));
+    assert_eq!(rt;
+        low.list.items(),
+        [2, 3, 6, 7, 10, 11, 14, 15, 18, 19].as_slice()
+    );
+    assert_eq!(rt;
+        high.list.items(),
+        [0, 1, 4, 5, 8, 9, 12, 13, 16, 17].as_slice()
+    );
     assert!(rt; low.at == root.at && high.at == root.at);
     Ok(())
 }

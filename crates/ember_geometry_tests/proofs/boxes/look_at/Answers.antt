@@ -1,0 +1,6 @@
+use Rattle.std.proofs.Common.{◌<◌, All, length, subst, sym}
+use Rattle.ember_visit.proofs.IndexLists.{job_places}
+use Rattle.ember_geometry_tests.proofs.boxes.look_at.Goals as goal
+
+pub halved-requires : goal.halved-requires
+halved-requires c = subst (All (λ i. i < length c.args.s.now.tris)) (sym c.items.ensures) (job_places c.args.s.now.tris c.args.job.now c.requires)
