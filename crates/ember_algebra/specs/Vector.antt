@@ -45,7 +45,9 @@ vector_part v = record { x = v.x; y = v.y; z = v.z }
 -- the point on three planes, whose weight is the determinant of their normals
 abbrev pub meet_of : Tuple → Tuple → Tuple → Tuple
 meet_of p q r =
-    let m = plus_v (plus_v (scale_v p.w (cross (vector_part q) (vector_part r))) (scale_v q.w (cross (vector_part r) (vector_part p)))) (scale_v r.w (cross (vector_part p) (vector_part q))) in
+    let m = plus_v (plus_v (scale_v p.w (cross (vector_part q) (vector_part r)))
+    (scale_v q.w (cross (vector_part r) (vector_part p))))
+    (scale_v r.w (cross (vector_part p) (vector_part q))) in
     record { x = m.x; y = m.y; z = m.z; w = det (vector_part p) (vector_part q) (vector_part r) }
 
 -- the value of the plane p at the point v

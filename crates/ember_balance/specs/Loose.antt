@@ -48,4 +48,5 @@ pub record IsLeastLoose (ts : List Tri) (l : Loose) : Type 0 where
   pub there : l.there ≡ edge_count (edge_of l) (edges_in ts)
   pub back : l.back ≡ edge_count (reversed (edge_of l)) (edges_in ts)
   pub more : l.back < l.there
-  pub least : (e : Edge) → comes_before e (edge_of l) ≡ true → edge_count e (edges_in ts) ≤ edge_count (reversed e) (edges_in ts)
+  pub least : (e : Edge) → comes_before e (edge_of l) ≡ true →
+      edge_count e (edges_in ts) ≤ edge_count (reversed e) (edges_in ts)

@@ -6,4 +6,6 @@ use Rattle.ember_balance.specs.Numbers.{has_one_end}
 
 -- but for what the tally counts, each edge with two ends has one direction as often as the other
 pub record IsTallied (ks : List ℕ) (t : Tally) : Type 0 where
-  pub each : (n : ℕ) → has_one_end n ≡ false → count (2 * n) ks + (if nat_eq n t.number then t.back else 0) ≡ count (2 * n + 1) ks + (if nat_eq n t.number then t.there else 0)
+  pub each : (n : ℕ) → has_one_end n ≡ false →
+      count (2 * n) ks + (if nat_eq n t.number then t.back else 0) ≡ count (2 * n + 1) ks + (if nat_eq n t.number
+      then t.there else 0)

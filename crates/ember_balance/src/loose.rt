@@ -32,8 +32,10 @@ impl Numbers {
     fn push(&mut self, from: &Corner, to: &Corner) -> Result<(), OutOfMemory>
         requires from { IsValidCorner from.now }
         requires to { IsValidCorner to.now }
-        ensures there { OnOk result (self.new.there.items ≡ self.old.there.items ++ edge_number (record { from = from.now; to = to.now }) ∷ []) }
-        ensures back { OnOk result (self.new.back.items ≡ self.old.back.items ++ edge_number (record { from = to.now; to = from.now }) ∷ []) }
+        ensures there { OnOk result (self.new.there.items ≡ self.old.there.items ++
+            edge_number (record { from = from.now; to = to.now }) ∷ []) }
+        ensures back { OnOk result (self.new.back.items ≡ self.old.back.items ++
+            edge_number (record { from = to.now; to = from.now }) ∷ []) }
     {
         self.there.push(edge_number(from, to))?;
         self.back.push(edge_number(to, from))?;
@@ -42,8 +44,10 @@ impl Numbers {
 
     fn push_edges(&mut self, t: &Tri) -> Result<(), OutOfMemory>
         requires { IsValidTri t.now }
-        ensures there { OnOk result (self.new.there.items ≡ self.old.there.items ++ map edge_number (edges_in (t.now ∷ []))) }
-        ensures back { OnOk result (self.new.back.items ≡ self.old.back.items ++ map edge_number (map reversed (edges_in (t.now ∷ [])))) }
+        ensures there { OnOk result (self.new.there.items ≡ self.old.there.items ++
+            map edge_number (edges_in (t.now ∷ []))) }
+        ensures back { OnOk result (self.new.back.items ≡ self.old.back.items ++
+            map edge_number (map reversed (edges_in (t.now ∷ [])))) }
     {
         self.push(&t.a, &t.b)?;
         self.push(&t.b, &t.c)?;

@@ -24,7 +24,8 @@ impl Tally {
     // After one edge more. None where that is another edge and the one before isn't even.
     fn after(&self, two_way: u128) -> Option<Tally>
         requires { self.now.there + self.now.back ≤ 786432 }
-        ensures tallied { IfSome result (λ t. (ks : List ℕ) → IsTallied ks self.now → IsTallied (ks ++ two_way ∷ []) t) }
+        ensures tallied { IfSome result (λ t. (ks : List ℕ) → IsTallied ks self.now →
+            IsTallied (ks ++ two_way ∷ []) t) }
         ensures bound { IfSome result (λ t. t.there + t.back ≤ self.now.there + self.now.back + 1) }
     {
         let number = two_way / 2;

@@ -18,7 +18,11 @@ interval_between l h = record { low = l; high = h }
 -- the closed box
 abbrev pub aabb_of_cell : Cell → Aabb
 aabb_of_cell c =
-    record { x = interval_between (low c X) (high c X); y = interval_between (low c Y) (high c Y); z = interval_between (low c Z) (high c Z) }
+    record {
+      x = interval_between (low c X) (high c X);
+      y = interval_between (low c Y) (high c Y);
+      z = interval_between (low c Z) (high c Z);
+    }
 
 -- from the least of three numbers to the greatest
 abbrev pub interval_over : ℤ → ℤ → ℤ → Interval
@@ -27,7 +31,12 @@ interval_over a b c = interval_between (int_min (int_min a b) c) (int_max (int_m
 -- the bounding box of a triangle
 abbrev pub aabb_of_tri : Tri → Aabb
 aabb_of_tri t =
-    record { x = interval_over t.a.x t.b.x t.c.x; y = interval_over t.a.y t.b.y t.c.y; z = interval_over t.a.z t.b.z t.c.z }
+    record {
+      x = interval_over t.a.x t.b.x t.c.x;
+      y = interval_over t.a.y t.b.y t.c.y;
+      z = interval_over t.a.z t.b.z
+          t.c.z;
+    }
 
 -- its interval along an axis
 abbrev pub interval_on : Axis → Aabb → Interval

@@ -34,7 +34,11 @@ abbrev pub high : Cell → Axis → ℤ
 high c k = low c k +ℤ side c k
 
 abbrev pub root : Cell
-root = record { lo = record { x = neg_ℤ (pos 2048); y = neg_ℤ (pos 2048); z = neg_ℤ (pos 2048) }; log = λ k. 12; path = 1 }
+root = record {
+  lo = record { x = neg_ℤ (pos 2048); y = neg_ℤ (pos 2048); z = neg_ℤ (pos 2048) };
+  log = λ k. 12;
+  path = 1;
+}
 
 -- how many halvings a box may still have
 abbrev pub halvings_left : Cell → ℕ
@@ -58,7 +62,12 @@ left_half c k = record { lo = c.lo; log = put k (pred (c.log k)) c.log; path = 2
 
 abbrev pub right_half : Cell → Axis → Cell
 right_half c k =
-    record { lo = shifted_by k (pos (2 ^ pred (c.log k))) c.lo; log = put k (pred (c.log k)) c.log; path = 2 * c.path + 1 }
+    record {
+      lo = shifted_by k (pos (2 ^ pred (c.log k))) c.lo;
+      log = put k (pred (c.log k)) c.log;
+      path = 2 *
+          c.path + 1;
+    }
 
 -- along an axis a box has one of the places of its side in the root's
 pub record IsOnGrid (low : ℤ) (log : ℕ) : Type 0 where
@@ -89,7 +98,11 @@ same_log f Z = refl
 -- a box is stored as its seven numbers
 abbrev pub cell_code : Coded Cell
 cell_code =
-    code_by (ℤ × (ℤ × (ℤ × (ℕ × (ℕ × (ℕ × ℕ)))))) (coded× coded_ℤ (coded× coded_ℤ (coded× coded_ℤ (coded× coded_ℕ (coded× coded_ℕ (coded× coded_ℕ coded_ℕ)))))) (λ c. (c.lo.x, (c.lo.y, (c.lo.z, (c.log X, (c.log Y, (c.log Z, c.path))))))) (λ p. cell_with p.0 p.1.0 p.1.1.0 p.1.1.1.0 p.1.1.1.1.0 p.1.1.1.1.1.0 p.1.1.1.1.1.1) (λ c. ap (λ f. record { lo = c.lo; log = f; path = c.path }) (fun_ext (same_log c.log)))
+    code_by (ℤ × (ℤ × (ℤ × (ℕ × (ℕ × (ℕ × ℕ))))))
+    (coded× coded_ℤ (coded× coded_ℤ (coded× coded_ℤ (coded× coded_ℕ (coded× coded_ℕ (coded× coded_ℕ coded_ℕ))))))
+    (λ c. (c.lo.x, (c.lo.y, (c.lo.z, (c.log X, (c.log Y, (c.log Z, c.path))))))) (λ p.
+    cell_with p.0 p.1.0 p.1.1.0 p.1.1.1.0 p.1.1.1.1.0 p.1.1.1.1.1.0 p.1.1.1.1.1.1) (λ c.
+    ap (λ f. record { lo = c.lo; log = f; path = c.path }) (fun_ext (same_log c.log)))
 
 -- a coordinate that is counted from the corner of the root box
 abbrev pub coordinate : ℕ → ℤ
@@ -98,7 +111,9 @@ coordinate n = pos n -ℤ pos 2048
 -- the box of three such coordinates and three logarithms, in the order of the axes
 abbrev pub cell_of : List ℕ → List ℕ → ℕ → Cell
 cell_of from log path =
-    cell_with (coordinate (slice_index_or from 0 0)) (coordinate (slice_index_or from 1 0)) (coordinate (slice_index_or from 2 0)) (slice_index_or log 0 0) (slice_index_or log 1 0) (slice_index_or log 2 0) path
+    cell_with (coordinate (slice_index_or from 0 0)) (coordinate (slice_index_or from 1 0))
+    (coordinate (slice_index_or from 2 0)) (slice_index_or log 0 0) (slice_index_or log 1 0)
+    (slice_index_or log 2 0) path
 
 -- the place of an axis in that order
 abbrev pub axis_index : Axis → ℕ

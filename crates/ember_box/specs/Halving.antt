@@ -38,7 +38,11 @@ is_leaf ts c =
 abbrev pub leaves_within : List Tri → ℕ → Cell → List Cell
 leaves_within ts zero c = c ∷ []
 leaves_within ts (suc n) c =
-    elim (is_leaf ts c) [ true ↦ c ∷ [] | false ↦ leaves_within ts n (left_half c (halving_axis ts c)) ++ leaves_within ts n (right_half c (halving_axis ts c)) ]
+    elim (is_leaf ts c) [
+      | true ↦ c ∷ []
+      | false ↦ leaves_within ts n (left_half c (halving_axis ts c)) ++
+          leaves_within ts n (right_half c (halving_axis ts c))
+    ]
 
 abbrev pub leaves : List Tri → Cell → List Cell
 leaves ts c = leaves_within ts (halvings_left c) c

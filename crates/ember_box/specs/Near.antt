@@ -15,7 +15,10 @@ use Rattle.ember_box.specs.Boxes.{Cell, along, side, low, high}
 -- along the axis the triangle's bounding box meets the closed box
 abbrev pub spans_meet : Cell → Tri → Axis → Bool
 spans_meet c t k =
-    (int_le (along k (vector_of t.a)) (high c k) || (int_le (along k (vector_of t.b)) (high c k) || int_le (along k (vector_of t.c)) (high c k))) && (int_le (low c k) (along k (vector_of t.a)) || (int_le (low c k) (along k (vector_of t.b)) || int_le (low c k) (along k (vector_of t.c))))
+    (int_le (along k (vector_of t.a)) (high c k) ||
+    (int_le (along k (vector_of t.b)) (high c k) || int_le (along k (vector_of t.c)) (high c k))) &&
+    (int_le (low c k) (along k (vector_of t.a)) ||
+    (int_le (low c k) (along k (vector_of t.b)) || int_le (low c k) (along k (vector_of t.c))))
 
 abbrev pub boxes_meet : Cell → Tri → Bool
 boxes_meet c t = spans_meet c t X && (spans_meet c t Y && spans_meet c t Z)
@@ -27,12 +30,15 @@ spot_of_vector v = record { x = v.x; y = v.y; z = v.z; w = pos 1 }
 abbrev pub corners : Cell → List Spot
 corners c =
     let x = side c X in let y = side c Y in let z = side c Z in let o = spot_of_vector c.lo in
-    o ∷ moved o X x ∷ moved o Y y ∷ moved (moved o Y y) X x ∷ moved o Z z ∷ moved (moved o Z z) X x ∷ moved (moved o Z z) Y y ∷ moved (moved (moved o Z z) Y y) X x ∷ []
+    o ∷ moved o X x ∷ moved o Y y ∷ moved (moved o Y y) X x ∷ moved o Z z ∷ moved (moved o Z z) X x ∷
+    moved (moved o Z z) Y y ∷ moved (moved (moved o Z z) Y y) X x ∷ []
 
--- the bounding box meets the closed box, and the corners of the box aren't all strictly on one side of the support plane
+-- the bounding box meets the closed box, and the corners of the box aren't all strictly on one side of the support
+-- plane
 unfoldable pub is_near : Cell → Tri → Bool
 is_near c t =
-    boxes_meet c t && (not (list_all (λ v. is_positive (value_at (support_of t) v)) (corners c)) && not (list_all (λ v. is_negative (value_at (support_of t) v)) (corners c)))
+    boxes_meet c t && (not (list_all (λ v. is_positive (value_at (support_of t) v)) (corners c)) &&
+    not (list_all (λ v. is_negative (value_at (support_of t) v)) (corners c)))
 
 -- those triangles of a list that are near a box, in order
 abbrev pub near : List Tri → Cell → List Tri

@@ -44,7 +44,8 @@ pub data AtWall (w : Wall) (f : Face) : List Face → Type 0 where
   cut : Cuts f w.plane → AtWall w f (below f w.plane ∷ [])
   outside : FaceIsAbove f w.plane → AtWall w f []
   in_high : w.is_high ≡ true → FaceLiesOn f w.plane → AtWall w f []
-  stays : (Cuts f w.plane → ⊥) → (FaceIsAbove f w.plane → ⊥) → (w.is_high ≡ true → FaceLiesOn f w.plane → ⊥) → AtWall w f (f ∷ [])
+  stays : (Cuts f w.plane → ⊥) → (FaceIsAbove f w.plane → ⊥) → (w.is_high ≡ true → FaceLiesOn f w.plane → ⊥) →
+      AtWall w f (f ∷ [])
 
 -- the start of a triangle in a box: one face, or none
 abbrev pub IsStart : Cell → Tri → List Face → Type 0
@@ -60,7 +61,11 @@ pub record CuttingPlane : Type 0 where
 -- the cutting planes that u has for the regions of t
 abbrev pub cutting_planes_of : Tri → Tri → List CuttingPlane
 cutting_planes_of t u =
-    elim (is_flat u) [ true ↦ [] | false ↦ map (λ p. record { face = face_of u; plane = p }) (elim (is_coplanar t u) [ true ↦ edges_of u | false ↦ support_of u ∷ [] ]) ]
+    elim (is_flat u) [
+      | true ↦ []
+      | false ↦ map (λ p. record { face = face_of u; plane = p })
+          (elim (is_coplanar t u) [ true ↦ edges_of u | false ↦ support_of u ∷ [] ])
+    ]
 
 -- what a cutting plane leaves of a face
 pub data AtCuttingPlane (b : CuttingPlane) (f : Face) : List Face → Type 0 where

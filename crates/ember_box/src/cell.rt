@@ -7,7 +7,9 @@ ghost use Rattle.ember_box.specs.Boxes.{IsCell};
 use ember_model::Axis;
 use std::marker::Model;
 
-/// The half-open box from its least corner `lo` on, with the side `2^log` along each axis. Its depth is 36 less the sum of the three logs: the number of halvings that made it of the root. Its path has one binary digit more than its depth.
+/// The half-open box from its least corner `lo` on, with the side `2^log` along each axis. Its depth is 36 less the
+/// sum of the three logs: the number of halvings that made it of the root. Its path has one binary digit more than
+/// its depth.
 #[derive(Drop)]
 pub struct Cell {
     // the least corner, counted from the corner of the root box
@@ -158,7 +160,8 @@ fn right_half(c: &Cell, k: Axis) -> Cell
     }
 }
 
-/// The two halves of a box along an axis, the one with the smaller coordinates first. Its side along that axis is above 1.
+/// The two halves of a box along an axis, the one with the smaller coordinates first. Its side along that axis is
+/// above 1.
 pub fn halves(c: &Cell, k: Axis) -> (Cell, Cell)
     requires { 0 < c.now.log k }
     ensures { (result.0 ≡ boxes.left_half c.now k) × (result.1 ≡ boxes.right_half c.now k) }

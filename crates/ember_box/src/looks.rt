@@ -73,7 +73,8 @@ fn lists_of(
     axis: Axis,
 ) -> Result<(Vec<u32>, Vec<u32>), OutOfMemory>
     requires { length parts.now ≡ length list.now }
-    ensures { IfOk result (λ v. (ts : List Tri) (c : Box) → 0 < c.log axis → AreNearPartsAt ts c list.now parts.now → AreNearLists ts c axis list.now v.0.items v.1.items) }
+    ensures { IfOk result (λ v. (ts : List Tri) (c : Box) → 0 < c.log axis → AreNearPartsAt ts c list.now parts.now →
+        AreNearLists ts c axis list.now v.0.items v.1.items) }
 {
     let mut low = Vec::with_capacity(alloc, list.len())?;
     let mut high = Vec::with_capacity(alloc, list.len())?;
@@ -94,9 +95,11 @@ pub fn halved_of(
 ) -> Result<Option<HalvedBox>, OutOfMemory>
     requires valid { All IsValidTri tris.now }
     requires places { All (λ i. i < length tris.now) list.now }
-    ensures answer { IfOk result (λ h. axis_of h ≡ (if halvings.is_leaf (listed tris.now list.now) c.now then None else Some (halvings.halving_axis (listed tris.now list.now) c.now))) }
+    ensures answer { IfOk result (λ h. axis_of h ≡ (if halvings.is_leaf (listed tris.now list.now) c.now then None
+        else Some (halvings.halving_axis (listed tris.now list.now) c.now))) }
     ensures halvable { IfOk result (λ h. IfSome h (λ v. 0 < c.now.log v.axis)) }
-    ensures lists { IfOk result (λ h. IfSome h (λ v. AreNearLists tris.now c.now v.axis list.now v.low.items v.high.items)) }
+    ensures lists { IfOk result (λ h.
+        IfSome h (λ v. AreNearLists tris.now c.now v.axis list.now v.low.items v.high.items)) }
 {
     if is_few(list.len() as u64) {
         return Ok(None);
@@ -119,9 +122,11 @@ pub fn halved(
     c: &Cell,
 ) -> Result<Option<HalvedBox>, OutOfMemory>
     requires { All (λ i. i < length s.now.tris) list.now }
-    ensures answer { IfOk result (λ h. axis_of h ≡ (if halvings.is_leaf (listed s.now.tris list.now) c.now then None else Some (halvings.halving_axis (listed s.now.tris list.now) c.now))) }
+    ensures answer { IfOk result (λ h. axis_of h ≡ (if halvings.is_leaf (listed s.now.tris list.now) c.now then None
+        else Some (halvings.halving_axis (listed s.now.tris list.now) c.now))) }
     ensures halvable { IfOk result (λ h. IfSome h (λ v. 0 < c.now.log v.axis)) }
-    ensures lists { IfOk result (λ h. IfSome h (λ v. AreNearLists s.now.tris c.now v.axis list.now v.low.items v.high.items)) }
+    ensures lists { IfOk result (λ h.
+        IfSome h (λ v. AreNearLists s.now.tris c.now v.axis list.now v.low.items v.high.items)) }
 {
     halved_of(alloc, s.tris.items(), list, c)
 }

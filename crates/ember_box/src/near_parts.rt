@@ -103,7 +103,8 @@ fn pair_by_span(h: &Middle, span: &Interval) -> NearPair
 // Of a triangle whose bounding box meets the box, and whose plane crosses each half that its bounding
 // box meets.
 fn parts_by_spans(b: &Middles, spans: &Aabb) -> NearParts
-    ensures { (c : Box) (t : Tri) → AreMiddles c b.now → spans.now ≡ aabb_of_tri t → aabbs_meet spans.now b.now.whole ≡ true → IsPlaneOf b.now.whole t None → AreNearParts c t result }
+    ensures { (c : Box) (t : Tri) → AreMiddles c b.now → spans.now ≡ aabb_of_tri t →
+        aabbs_meet spans.now b.now.whole ≡ true → IsPlaneOf b.now.whole t None → AreNearParts c t result }
 {
     NearParts {
         whole: true,
@@ -159,8 +160,10 @@ impl Slope {
 
 // The halves that the interval reaches and that a plane crosses, which crosses the box.
 fn pair_by_plane(h: &Middle, span: &Interval, s: &Slope, m: &Margins) -> NearPair
-    ensures low { result.low ≡ int_le span.now.low h.now.at && int_le s.now.rise (if s.now.falls then m.now.above else m.now.below) }
-    ensures high { result.high ≡ int_le h.now.at span.now.high && int_le s.now.rise (if s.now.falls then m.now.below else m.now.above) }
+    ensures low { result.low ≡ int_le span.now.low h.now.at && int_le s.now.rise (if s.now.falls then m.now.above
+        else m.now.below) }
+    ensures high { result.high ≡ int_le h.now.at span.now.high && int_le s.now.rise (if s.now.falls then m.now.below
+        else m.now.above) }
 {
     NearPair {
         low: span.low <= h.at && s.rise <= s.margin_of_low(m),
@@ -172,7 +175,8 @@ fn pair_by_plane(h: &Middle, span: &Interval, s: &Slope, m: &Margins) -> NearPai
 fn parts_by_plane(b: &Middles, spans: &Aabb, p: &Plane) -> NearParts
     requires sized { AreMiddlesSized b.now }
     requires plane { IsSupportSized p.now }
-    ensures { (c : Box) (t : Tri) → AreMiddles c b.now → spans.now ≡ aabb_of_tri t → aabbs_meet spans.now b.now.whole ≡ true → p.now ≡ support_of t → AreNearParts c t result }
+    ensures { (c : Box) (t : Tri) → AreMiddles c b.now → spans.now ≡ aabb_of_tri t →
+        aabbs_meet spans.now b.now.whole ≡ true → p.now ≡ support_of t → AreNearParts c t result }
 {
     let m = margins_of(p, &b.whole);
     if !m.are_both() {

@@ -39,7 +39,8 @@ fn is_crossed(b: &Aabb, spans: &Aabb, t: &Tri) -> bool
     requires tri { IsValidTri t.now }
     requires spans { spans.now ≡ aabb_of_tri t.now }
     requires sized { IsAabbSized b.now }
-    ensures { (c : Box) → b.now ≡ aabb_of_cell c → aabbs_meet (aabb_of_tri t.now) b.now ≡ true → result ≡ crosses (support_of t.now) b.now }
+    ensures { (c : Box) → b.now ≡ aabb_of_cell c → aabbs_meet (aabb_of_tri t.now) b.now ≡ true →
+        result ≡ crosses (support_of t.now) b.now }
 {
     if is_level(spans) || holds(b, &t.a) {
         return true;
@@ -109,7 +110,8 @@ pub fn push_if(belongs: bool, i: u32, list: &mut Vec<u32>)
 fn near_each(whole: &Aabb, h: &HalfBoxes, k: Axis, t: &Tri) -> (bool, bool)
     requires valid { IsValidTri t.now }
     requires sized { AreHalvesSized h.now }
-    ensures { (c : Box) → 0 < c.log k → whole.now ≡ aabb_of_cell c → AreHalves c k h.now → (result.0 ≡ is_near (left_half c k) t.now) × (result.1 ≡ is_near (right_half c k) t.now) }
+    ensures { (c : Box) → 0 < c.log k → whole.now ≡ aabb_of_cell c → AreHalves c k h.now →
+        (result.0 ≡ is_near (left_half c k) t.now) × (result.1 ≡ is_near (right_half c k) t.now) }
 {
     let spans = aabb_of_tri(t);
     if aabbs_meet(&spans, whole) {
@@ -133,7 +135,8 @@ pub fn near_halves_among(
     requires valid { All IsValidTri tris.now }
     requires places { All (λ i. i < length tris.now) list.now }
     requires side { 0 < c.now.log axis }
-    ensures { IfOk result (λ v. (v.0.items ≡ near_indices tris.now (left_half c.now axis) list.now) × (v.1.items ≡ near_indices tris.now (right_half c.now axis) list.now)) }
+    ensures { IfOk result (λ v. (v.0.items ≡ near_indices tris.now (left_half c.now axis) list.now) ×
+        (v.1.items ≡ near_indices tris.now (right_half c.now axis) list.now)) }
 {
     let whole = aabb_of_cell(c);
     let halves = halves_of(c, axis);
@@ -158,7 +161,8 @@ pub fn near_halves(
 ) -> Result<(Vec<u32>, Vec<u32>), OutOfMemory>
     requires places { All (λ i. i < length s.now.tris) list.now }
     requires side { 0 < c.now.log axis }
-    ensures { IfOk result (λ v. (v.0.items ≡ near_indices s.now.tris (left_half c.now axis) list.now) × (v.1.items ≡ near_indices s.now.tris (right_half c.now axis) list.now)) }
+    ensures { IfOk result (λ v. (v.0.items ≡ near_indices s.now.tris (left_half c.now axis) list.now) ×
+        (v.1.items ≡ near_indices s.now.tris (right_half c.now axis) list.now)) }
 {
     near_halves_among(alloc, s.tris.items(), list, c, axis)
 }

@@ -169,7 +169,8 @@ pub fn is_leaf(s: &Scene, list: &[u32], c: &Cell) -> bool
 /// None where the box is a leaf, and else the axis along which it is halved.
 pub fn halving(s: &Scene, list: &[u32], c: &Cell) -> Option<Axis>
     requires { All (λ i. i < length s.now.tris) list.now }
-    ensures answer { result ≡ (if halvings.is_leaf (listed s.now.tris list.now) c.now then None else Some (halvings.halving_axis (listed s.now.tris list.now) c.now)) }
+    ensures answer { result ≡ (if halvings.is_leaf (listed s.now.tris list.now) c.now then None
+        else Some (halvings.halving_axis (listed s.now.tris list.now) c.now)) }
     ensures halvable { IfSome result (λ k. 0 < c.now.log k) }
 {
     halving_of(s.tris.items(), list, c)
@@ -180,7 +181,8 @@ pub fn halving(s: &Scene, list: &[u32], c: &Cell) -> Option<Axis>
 pub fn halving_of(tris: &[Tri], list: &[u32], c: &Cell) -> Option<Axis>
     requires valid { All IsValidTri tris.now }
     requires places { All (λ i. i < length tris.now) list.now }
-    ensures answer { result ≡ (if halvings.is_leaf (listed tris.now list.now) c.now then None else Some (halvings.halving_axis (listed tris.now list.now) c.now)) }
+    ensures answer { result ≡ (if halvings.is_leaf (listed tris.now list.now) c.now then None
+        else Some (halvings.halving_axis (listed tris.now list.now) c.now)) }
     ensures halvable { IfSome result (λ k. 0 < c.now.log k) }
 {
     if is_few(list.len() as u64) {

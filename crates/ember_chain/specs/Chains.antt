@@ -58,7 +58,8 @@ IsClosed es =
 abbrev pub reached : Vector → Spot → Spot → ℤ
 reached d u x = cond (is_negative (dot (displacement u x) d)) (pos 0) (pos 1)
 
--- 1 where the edge runs along d over the points just after x on the line through x, -1 where it runs against d, 0 elsewhere
+-- 1 where the edge runs along d over the points just after x on the line through x, -1 where it runs against d, 0
+-- elsewhere
 abbrev pub coverage : Spot → Vector → DirectedEdge → ℤ
 coverage x d e =
     if is_parallel d e && is_on_line x d e.from then reached d e.from x -ℤ reached d e.to x else pos 0
@@ -86,12 +87,14 @@ pub record IsUnbroken (x y : Spot) (e : DirectedEdge) : Type 0 where
 -- the edge runs on their line in the direction from x to y, starts at x or before it, and ends at y or after it
 abbrev pub leads_over : Spot → Spot → DirectedEdge → Bool
 leads_over x y e =
-    is_parallel (displacement x y) e && is_on_line x (displacement x y) e.from && (not (is_ahead x (displacement x y) e.from) && not (is_ahead e.to (displacement x y) y))
+    is_parallel (displacement x y) e && is_on_line x (displacement x y) e.from &&
+    (not (is_ahead x (displacement x y) e.from) && not (is_ahead e.to (displacement x y) y))
 
 -- each piece of a line that no edge starts or ends within is led over as often one way as the other
 abbrev pub ArePiecesPaired : List DirectedEdge → Type 0
 ArePiecesPaired es =
-    (x y : Spot) → pos 0 <ℤ x.w → pos 0 <ℤ y.w → is_same_point x y ≡ false → AllByRecursion (IsUnbroken x y) es → count_by (leads_over x y) es ≡ count_by (leads_over y x) es
+    (x y : Spot) → pos 0 <ℤ x.w → pos 0 <ℤ y.w → is_same_point x y ≡ false → AllByRecursion
+    (IsUnbroken x y) es → count_by (leads_over x y) es ≡ count_by (leads_over y x) es
 
 -- ---- written faces
 -- the edges of an outline, each from its start corner to that of the next, the last to the corner `end`

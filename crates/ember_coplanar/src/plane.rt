@@ -35,7 +35,8 @@ fn has_normal(p: &Plane) -> bool
 fn lies_on(p: &Plane, t: &Tri) -> bool
     requires plane { IsSupportSized p.now }
     requires tri { IsValidTri t.now }
-    ensures { result ≡ is_zero (value_at p.now (spot_of_corner t.now.a)) && (is_zero (value_at p.now (spot_of_corner t.now.b)) && is_zero (value_at p.now (spot_of_corner t.now.c))) }
+    ensures { result ≡ is_zero (value_at p.now (spot_of_corner t.now.a)) &&
+        (is_zero (value_at p.now (spot_of_corner t.now.b)) && is_zero (value_at p.now (spot_of_corner t.now.c))) }
 {
     is_on(value_at_corner(p, &t.a))
         && (is_on(value_at_corner(p, &t.b)) && is_on(value_at_corner(p, &t.c)))

@@ -32,7 +32,8 @@ behind_point (b ∷ bs) = if b == 46 then bs else behind_point bs
 
 -- digits alone, with at least one in all
 abbrev pub is_decimal : List ℕ → List ℕ → Bool
-is_decimal whole fraction = (list_all is_ascii_digit whole && list_all is_ascii_digit fraction) && nat_lt 0 (length whole + length fraction)
+is_decimal whole fraction =
+    (list_all is_ascii_digit whole && list_all is_ascii_digit fraction) && nat_lt 0 (length whole + length fraction)
 
 -- the digits behind the point, cut or filled up with zeros to as many as there are places
 abbrev pub filled : ℕ → List ℕ → List ℕ
@@ -50,9 +51,11 @@ in_range minus size = if nat_le size 2047 then Ok (if minus then neg_ℤ (pos si
 abbrev pub value_in_units : Bool → ℕ → List ℕ → List ℕ → Result ℤ DecFault
 value_in_units minus places whole fraction =
     if is_decimal whole fraction
-    then (if list_all (λ b. b == 48) (drop places fraction) then in_range minus (units places whole fraction) else Err Fraction)
+    then (if list_all (λ b. b == 48) (drop places fraction) then in_range minus (units places whole fraction)
+    else Err Fraction)
     else Err Malformed
 
 -- the coordinate that a text spells, or its first fault
 abbrev pub coordinate_of : ℕ → List ℕ → Result ℤ DecFault
-coordinate_of places text = value_in_units (is_minus text) places (before_point (unsigned text)) (behind_point (unsigned text))
+coordinate_of places text =
+    value_in_units (is_minus text) places (before_point (unsigned text)) (behind_point (unsigned text))

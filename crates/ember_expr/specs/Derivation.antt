@@ -21,8 +21,10 @@ pub data IsTerm (minus : Bool) : List Word → Term → Type 0 where
 pub data IsSum : List Word → List Term → Type 0 where
   first : {ws : List Word} {t : Term} → IsTerm false ws t → IsSum ws (t ∷ [])
   negative : {ws : List Word} {t : Term} → IsTerm true ws t → IsSum (Minus ∷ ws) (t ∷ [])
-  plus : {vs ws : List Word} {ts : List Term} {t : Term} → IsSum vs ts → IsTerm false ws t → IsSum (vs ++ Plus ∷ ws) (ts ++ t ∷ [])
-  minus : {vs ws : List Word} {ts : List Term} {t : Term} → IsSum vs ts → IsTerm true ws t → IsSum (vs ++ Minus ∷ ws) (ts ++ t ∷ [])
+  plus : {vs ws : List Word} {ts : List Term} {t : Term} → IsSum vs ts → IsTerm false ws t →
+      IsSum (vs ++ Plus ∷ ws) (ts ++ t ∷ [])
+  minus : {vs ws : List Word} {ts : List Term} {t : Term} → IsSum vs ts → IsTerm true ws t →
+      IsSum (vs ++ Minus ∷ ws) (ts ++ t ∷ [])
 
 -- the rules of the grammar that give an expression
 pub data Phrase : Type 0 where
@@ -39,10 +41,12 @@ pub data Derives : Phrase → List Word → Formula → Type 0 where
   bar : {vs ws : List Word} {a b : Formula} → Derives or vs a → Derives xor ws b → Derives or (vs ++ Bar ∷ ws) (Or a b)
   -- xor = and { "^" and }
   one_and : {ws : List Word} {a : Formula} → Derives and ws a → Derives xor ws a
-  hat : {vs ws : List Word} {a b : Formula} → Derives xor vs a → Derives and ws b → Derives xor (vs ++ Hat ∷ ws) (Xor a b)
+  hat : {vs ws : List Word} {a b : Formula} → Derives xor vs a → Derives and ws b →
+      Derives xor (vs ++ Hat ∷ ws) (Xor a b)
   -- and = not { "&" not }
   one_not : {ws : List Word} {a : Formula} → Derives not ws a → Derives and ws a
-  amp : {vs ws : List Word} {a b : Formula} → Derives and vs a → Derives not ws b → Derives and (vs ++ Amp ∷ ws) (And a b)
+  amp : {vs ws : List Word} {a b : Formula} → Derives and vs a → Derives not ws b →
+      Derives and (vs ++ Amp ∷ ws) (And a b)
   -- not = "!" not | atom
   bang : {ws : List Word} {a : Formula} → Derives not ws a → Derives not (Bang ∷ ws) (Not a)
   one_atom : {ws : List Word} {a : Formula} → Derives atom ws a → Derives not ws a
@@ -50,7 +54,8 @@ pub data Derives : Phrase → List Word → Formula → Type 0 where
   parentheses : {ws : List Word} {a : Formula} → Derives or ws a → Derives atom (Open ∷ ws ++ Close ∷ []) a
   mesh : {n : ℕ} → Derives atom (word.Mesh n ∷ []) (Mesh n)
   odd : {ws : List Word} {s : List Term} → IsSum ws s → Derives atom (word.Odd ∷ Open ∷ ws ++ Close ∷ []) (Odd s)
-  comparison : {vs ws : List Word} {s t : List Term} {rel : Rel} → IsSum vs s → IsSum ws t → Derives atom (vs ++ word.Compare rel ∷ ws) (Compare s rel t)
+  comparison : {vs ws : List Word} {s t : List Term} {rel : Rel} → IsSum vs s → IsSum ws t →
+      Derives atom (vs ++ word.Compare rel ∷ ws) (Compare s rel t)
 
 -- these words are an expression with this tree
 abbrev pub IsExpression : List Word → Formula → Type 0

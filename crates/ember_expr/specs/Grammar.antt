@@ -70,7 +70,8 @@ product minus factor mesh = record { minus = minus; factor = factor; mesh = mesh
 abbrev pub scaled : Scope → Bool → ℕ → Rule Term
 scaled scope minus factor [] = read (product minus factor 0) []
 scaled scope minus factor (t ∷ ts) =
-    if is_star t.word then (wind scope ts >>= λ w. read (product minus factor w.part) w.rest) else read (product minus factor 0) (t ∷ ts)
+    if is_star t.word then (wind scope ts >>= λ w. read (product minus factor w.part) w.rest)
+    else read (product minus factor 0) (t ∷ ts)
 
 abbrev pub term_at : Scope → Bool → Token → Word → List Token → Result (Read Term) ExprFault
 term_at scope minus t (word.Number n) ts = do
@@ -108,7 +109,8 @@ where_some (Some x) end go = go x
 abbrev pub more_terms : Scope → ℕ → List Term → Rule (List Term)
 more_terms scope zero terms tokens = read terms tokens
 more_terms scope (suc count) terms tokens =
-    where_some (sign_before tokens) (read terms tokens) (λ minus. term scope minus (after_first tokens) >>= λ next. more_terms scope count (terms ++ next.part ∷ []) next.rest)
+    where_some (sign_before tokens) (read terms tokens) (λ minus. term scope minus (after_first tokens) >>= λ next.
+    more_terms scope count (terms ++ next.part ∷ []) next.rest)
 
 abbrev pub is_minus : Option Bool → Bool
 is_minus (Some true) = true
@@ -143,7 +145,9 @@ join joint.And a b = And a b
 abbrev pub more_parts : Joint → Rule Formula → ℕ → Formula → Rule Formula
 more_parts kind part zero tree tokens = read tree tokens
 more_parts kind part (suc count) tree tokens =
-    if begins_with kind tokens then (part (after_first tokens) >>= λ next. more_parts kind part count (join kind tree next.part) next.rest) else read tree tokens
+    if begins_with kind tokens
+    then (part (after_first tokens) >>= λ next. more_parts kind part count (join kind tree next.part) next.rest)
+    else read tree tokens
 
 abbrev pub chain_of : Joint → Rule Formula → Rule Formula
 chain_of kind part tokens = do
@@ -198,12 +202,14 @@ inside (Some inner) place go = go inner
 abbrev pub odd : {A : Type 0} → Scope → Option A → Rule Formula
 odd scope inner [] = Err (Syntax scope.end)
 odd scope inner (t ∷ ts) =
-    if is_open t.word then inside inner t.place (λ _. sum scope ts >>= λ s. closed scope s.rest >>= λ rest. read (Odd s.part) rest) else Err (Syntax t.place)
+    if is_open t.word then inside inner t.place (λ _. sum scope ts >>= λ s. closed scope s.rest >>= λ rest.
+    read (Odd s.part) rest) else Err (Syntax t.place)
 
 -- not = "!" not | "(" or ")" | mN | odd | comparison; `inner` is the rule of `not` one place deeper
 abbrev pub not_at : Scope → Option (Rule Formula) → Token → Word → List Token → Result (Read Formula) ExprFault
 not_at scope inner t word.Bang ts = inside inner t.place (λ not. not ts >>= λ a. read (Not a.part) a.rest)
-not_at scope inner t word.Open ts = inside inner t.place (λ not. or not ts >>= λ a. closed scope a.rest >>= λ rest. read a.part rest)
+not_at scope inner t word.Open ts =
+    inside inner t.place (λ not. or not ts >>= λ a. closed scope a.rest >>= λ rest. read a.part rest)
 not_at scope inner t (word.Mesh n) ts = mesh_number scope t.place n >>= λ mesh. read (Mesh mesh) ts
 not_at scope inner t word.Odd ts = odd scope inner ts
 not_at scope inner t _ ts = comparison scope (t ∷ ts)
@@ -232,4 +238,5 @@ whole scope left tokens = or (not scope left) tokens >>= λ e. ended e.part e.re
 -- the tree of a text, or its first fault
 abbrev pub expr_of : List ℕ → ℕ → Result Formula ExprFault
 expr_of text meshes =
-    if nat_le (length text) 4096 then whole (record { meshes = meshes; end = length text }) 64 (tokens_of text) else Err Long
+    if nat_le (length text) 4096 then whole (record { meshes = meshes; end = length text }) 64 (tokens_of text)
+    else Err Long

@@ -38,23 +38,32 @@ odd_in (b ∷ c ∷ bs) = if b == 100 && c == 100 then record { word = Odd; more
 -- a sign, which a `=` directly after it turns into the other one
 abbrev pub before_equals : Word → Rel → List ℕ → Lexeme
 before_equals plain joined [] = record { word = plain; more = 0 }
-before_equals plain joined (b ∷ bs) = if b == 61 then record { word = Compare joined; more = 1 } else record { word = plain; more = 0 }
+before_equals plain joined (b ∷ bs) =
+    if b == 61 then record { word = Compare joined; more = 1 } else record { word = plain; more = 0 }
 
 abbrev pub sign_of : ℕ → Word
 sign_of b =
-    if b == 124 then Bar else if b == 94 then Hat else if b == 38 then Amp else if b == 40 then Open else if b == 41 then Close else if b == 43 then Plus else if b == 45 then Minus else if b == 42 then Star else if b == 61 then Compare Equal else Unknown
+    if b == 124 then Bar else if b == 94 then Hat else if b == 38 then Amp else if b == 40 then Open else if b == 41
+    then Close else if b == 43 then Plus else if b == 45 then Minus else if b == 42 then Star else if b == 61
+    then Compare Equal else Unknown
 
 -- the longest token at the front of a text, by its first byte: 109 is `m`, 119 `w`, 111 `o`, 33 `!`, 60 `<`, 62 `>`
 abbrev pub lexeme_of : ℕ → List ℕ → Lexeme
 lexeme_of b bs =
-    if is_ascii_digit b then record { word = Number (number_from (b - 48) bs); more = length (digit_run bs) } else if b == 109 then named_by (Mesh (number_from 0 bs)) (length (digit_run bs)) else if b == 119 then named_by (Wind (number_from 0 bs)) (length (digit_run bs)) else if b == 111 then odd_in bs else if b == 33 then before_equals Bang NotEqual bs else if b == 60 then before_equals (Compare Less) LessEqual bs else if b == 62 then before_equals (Compare Greater) GreaterEqual bs else record { word = sign_of b; more = 0 }
+    if is_ascii_digit b then record { word = Number (number_from (b - 48) bs); more = length (digit_run bs) }
+    else if b == 109 then named_by (Mesh (number_from 0 bs)) (length (digit_run bs)) else if b == 119
+    then named_by (Wind (number_from 0 bs)) (length (digit_run bs)) else if b == 111 then odd_in bs
+    else if b == 33 then before_equals Bang NotEqual bs else if b == 60
+    then before_equals (Compare Less) LessEqual bs else if b == 62
+    then before_equals (Compare Greater) GreaterEqual bs else record { word = sign_of b; more = 0 }
 
 -- the tokens from a place on, where the first `within` bytes are part of the token before
 abbrev pub tokens_from : ℕ → ℕ → List ℕ → List Token
 tokens_from within place [] = []
 tokens_from (suc within) place (b ∷ bs) = tokens_from within (place + 1) bs
 tokens_from zero place (b ∷ bs) =
-    if b == 32 then tokens_from zero (place + 1) bs else record { word = (lexeme_of b bs).word; place = place } ∷ tokens_from (lexeme_of b bs).more (place + 1) bs
+    if b == 32 then tokens_from zero (place + 1) bs else record { word = (lexeme_of b bs).word; place = place } ∷
+    tokens_from (lexeme_of b bs).more (place + 1) bs
 
 abbrev pub tokens_of : List ℕ → List Token
 tokens_of text = tokens_from 0 0 text

@@ -69,7 +69,8 @@ fn mesh_number(scope: Scope, place: u32, number: u32) -> Result<u32, ExprFault>
 
 // wN
 fn wind(scope: Scope, tokens: &[Token]) -> Result<(u32, &[Token]), ExprFault>
-    ensures read { MatchResult result (λ r. wind scope tokens.now ≡ read r.0 r.1.now) (λ e. wind scope tokens.now ≡ Err e) }
+    ensures read { MatchResult result (λ r. wind scope tokens.now ≡ read r.0 r.1.now) (λ e. wind scope tokens.now ≡
+        Err e) }
     ensures exists { IfOk result (λ r. IsMeshNumber scope.meshes r.0) }
     ensures shorter { IfOk result (λ r. length r.1.now < length tokens.now) }
 {
@@ -95,7 +96,8 @@ fn scaled(
     tokens: &[Token],
 ) -> Result<(Term, &[Token]), ExprFault>
     requires { factor ≤ 1000000 }
-    ensures read { MatchResult result (λ r. scaled scope minus factor tokens.now ≡ read r.0 r.1.now) (λ e. scaled scope minus factor tokens.now ≡ Err e) }
+    ensures read { MatchResult result (λ r. scaled scope minus factor tokens.now ≡ read r.0 r.1.now) (λ e.
+        scaled scope minus factor tokens.now ≡ Err e) }
     ensures fit { IfOk result (λ r. IsFitTerm scope.meshes r.0) }
     ensures shorter { IfOk result (λ r. length r.1.now ≤ length tokens.now) }
 {
@@ -132,7 +134,8 @@ fn scaled(
 
 // term = number [ "*" wN ] | wN
 fn term(scope: Scope, minus: bool, tokens: &[Token]) -> Result<(Term, &[Token]), ExprFault>
-    ensures read { MatchResult result (λ r. term scope minus tokens.now ≡ read r.0 r.1.now) (λ e. term scope minus tokens.now ≡ Err e) }
+    ensures read { MatchResult result (λ r. term scope minus tokens.now ≡ read r.0 r.1.now) (λ e.
+        term scope minus tokens.now ≡ Err e) }
     ensures fit { IfOk result (λ r. IsFitTerm scope.meshes r.0) }
     ensures shorter { IfOk result (λ r. length r.1.now < length tokens.now) }
 {
@@ -173,7 +176,8 @@ fn sign_before(tokens: &[Token]) -> Option<bool>
 
 // [ "-" ] term
 fn first_term(scope: Scope, tokens: &[Token]) -> Result<(Term, &[Token]), ExprFault>
-    ensures read { MatchResult result (λ r. first_term scope tokens.now ≡ read r.0 r.1.now) (λ e. first_term scope tokens.now ≡ Err e) }
+    ensures read { MatchResult result (λ r. first_term scope tokens.now ≡ read r.0 r.1.now) (λ e.
+        first_term scope tokens.now ≡ Err e) }
     ensures fit { IfOk result (λ r. IsFitTerm scope.meshes r.0) }
     ensures shorter { IfOk result (λ r. length r.1.now < length tokens.now) }
 {
@@ -232,7 +236,8 @@ fn closed(scope: Scope, tokens: &[Token]) -> Result<&[Token], ExprFault>
 }
 
 fn relation(scope: Scope, tokens: &[Token]) -> Result<(Rel, &[Token]), ExprFault>
-    ensures read { MatchResult result (λ r. relation scope tokens.now ≡ read r.0 r.1.now) (λ e. relation scope tokens.now ≡ Err e) }
+    ensures read { MatchResult result (λ r. relation scope tokens.now ≡ read r.0 r.1.now) (λ e.
+        relation scope tokens.now ≡ Err e) }
     ensures shorter { IfOk result (λ r. length r.1.now < length tokens.now) }
 {
     match tokens.split_first() {
@@ -265,7 +270,9 @@ fn comparison(alloc: Global, scope: Scope, tokens: &[Token]) -> Result<(Tree, &[
 
 // How many parentheses and signs `!` may come inside this one, where `left` with this one may.
 fn one_deeper(left: u32, place: u32) -> Result<u32, ExprFault>
-    ensures inner { (scope : Scope) → MatchResult result (λ less. deeper scope left ≡ Some (not scope less)) (λ e. (deeper scope left ≡ None) × (e ≡ Deep place)) }
+    ensures inner { (scope : Scope) →
+        MatchResult result (λ less. deeper scope left ≡ Some (not scope less)) (λ e. (deeper scope left ≡ None) ×
+        (e ≡ Deep place)) }
     ensures less { IfOk result (λ less. less + 1 ≡ left) }
 {
     if left == 0 {
@@ -362,8 +369,10 @@ fn chain(
     tokens: &[Token],
 ) -> Result<(Tree, &[Token]), ExprFault>
     requires { length tokens.now ≤ 4096 }
-    ensures read { IfOk result (λ r. chain_of kind (part_of kind (not scope left)) tokens.now ≡ read (formula_of r.0) r.1.now) }
-    ensures fault { IfErr result (λ e. (e ≡ OutOfMemory) ⊎ (chain_of kind (part_of kind (not scope left)) tokens.now ≡ Err e)) }
+    ensures read { IfOk result (λ r. chain_of kind (part_of kind (not scope left)) tokens.now ≡
+        read (formula_of r.0) r.1.now) }
+    ensures fault { IfErr result (λ e. (e ≡ OutOfMemory) ⊎
+        (chain_of kind (part_of kind (not scope left)) tokens.now ≡ Err e)) }
     ensures fit { IfOk result (λ r. IsFit scope.meshes (formula_of r.0)) }
     ensures shorter { IfOk result (λ r. length r.1.now < length tokens.now) }
 {

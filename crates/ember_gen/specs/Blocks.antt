@@ -12,7 +12,11 @@ low_of i =
 
 abbrev pub high_of : ℕ → Corner
 high_of i =
-    record { x = (low_of i).x +ℤ pos (side (draw (6 * i + 4))); y = (low_of i).y +ℤ pos (side (draw (6 * i + 5))); z = (low_of i).z +ℤ pos (side (draw (6 * i + 6))) }
+    record {
+      x = (low_of i).x +ℤ pos (side (draw (6 * i + 4)));
+      y = (low_of i).y +ℤ pos (side (draw (6 * i + 5)));
+      z = (low_of i).z +ℤ pos (side (draw (6 * i + 6)));
+    }
 
 unfoldable pub block_of : ℕ → Block
 block_of i = record { low = low_of i; high = high_of i }
@@ -24,7 +28,8 @@ quad m a b c d = record { a = a; b = b; c = c; mesh = m } ∷ record { a = a; b 
 -- the faces of a box with the corners c1 to c4 below and c5 to c8 above, in their order round it
 abbrev pub faces_of : ℕ → Corner → Corner → Corner → Corner → Corner → Corner → Corner → Corner → List Tri
 faces_of m c1 c2 c3 c4 c5 c6 c7 c8 =
-    quad m c1 c4 c3 c2 ++ quad m c5 c6 c7 c8 ++ quad m c1 c2 c6 c5 ++ quad m c2 c3 c7 c6 ++ quad m c3 c4 c8 c7 ++ quad m c4 c1 c5 c8
+    quad m c1 c4 c3 c2 ++ quad m c5 c6 c7 c8 ++ quad m c1 c2 c6 c5 ++ quad m c2 c3 c7 c6 ++ quad m c3 c4 c8 c7 ++
+    quad m c4 c1 c5 c8
 
 abbrev pub corner : ℤ → ℤ → ℤ → Corner
 corner x y z = record { x = x; y = y; z = z }
@@ -33,4 +38,5 @@ unfoldable pub triangles_of : ℕ → Block → List Tri
 triangles_of m b =
     let p = b.low in
     let q = b.high in
-    faces_of m (corner p.x p.y p.z) (corner q.x p.y p.z) (corner q.x q.y p.z) (corner p.x q.y p.z) (corner p.x p.y q.z) (corner q.x p.y q.z) (corner q.x q.y q.z) (corner p.x q.y q.z)
+    faces_of m (corner p.x p.y p.z) (corner q.x p.y p.z) (corner q.x q.y p.z) (corner p.x q.y p.z)
+    (corner p.x p.y q.z) (corner q.x p.y q.z) (corner q.x q.y q.z) (corner p.x q.y q.z)

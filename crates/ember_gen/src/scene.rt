@@ -18,8 +18,10 @@ struct Meshes {
 impl Meshes {
     // Box i belongs to the first mesh where i is even, and else to the second.
     fn push(&mut self, i: u32, block: &Block) -> Result<(), OutOfMemory>
-        ensures first { OnOk result (self.new.first.items ≡ self.old.first.items ++ (if is_even i then triangles_of 1 block.now else [])) }
-        ensures second { OnOk result (self.new.second.items ≡ self.old.second.items ++ (if not (is_even i) then triangles_of 2 block.now else [])) }
+        ensures first { OnOk result (self.new.first.items ≡ self.old.first.items ++
+            (if is_even i then triangles_of 1 block.now else [])) }
+        ensures second { OnOk result (self.new.second.items ≡ self.old.second.items ++ (if not (is_even i)
+            then triangles_of 2 block.now else [])) }
     {
         if i % 2 == 0 {
             push_block(block, 1, &mut self.first)

@@ -4,7 +4,8 @@ ghost use Rattle.ember_io.specs.Files.{named, first_of, first_or_empty, bytes_at
 
 // The place of the first file of that name.
 pub fn file_index_of(files: &[(String, Vec<u8>)], name: &str) -> Option<usize>
-    ensures { MatchOption result (first_of (named files.now) name.now ≡ None) (λ i. first_of (named files.now) name.now ≡ Some (bytes_at (named files.now) i)) }
+    ensures { MatchOption result (first_of (named files.now) name.now ≡ None) (λ i.
+        first_of (named files.now) name.now ≡ Some (bytes_at (named files.now) i)) }
 {
     for (i, file) in files.iter().enumerate() {
         if file.0.as_str() == name {

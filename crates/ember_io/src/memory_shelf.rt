@@ -36,7 +36,16 @@ impl Model for MemoryShelf {
 
     ghost Value = { ShelfState };
 
-    ghost view = { λ s. record { files = s.files; piece = s.piece; failing = s.failing; calls = s.calls; unread = drop s.at (bytes_at s.files s.file_index); begun = s.begun; fault_at = s.fault_at; faults = s.faults } };
+    ghost view = { λ s. record {
+      files = s.files;
+      piece = s.piece;
+      failing = s.failing;
+      calls = s.calls;
+      unread = drop s.at (bytes_at s.files s.file_index);
+      begun = s.begun;
+      fault_at = s.fault_at;
+      faults = s.faults;
+    } };
 
     ghost invariant = { λ s. 0 < s.piece };
 }
@@ -51,7 +60,16 @@ impl MemoryShelf {
         failing: Calls,
     ) -> Result<MemoryShelf, OutOfMemory>
         requires { 0 < piece }
-        ensures { IfOk result (λ s. s ≡ record { files = files; piece = piece; failing = failing; calls = 0; unread = []; begun = 0; fault_at = 0; faults = 0 }) }
+        ensures { IfOk result (λ s. s ≡ record {
+          files = files;
+          piece = piece;
+          failing = failing;
+          calls = 0;
+          unread = [];
+          begun = 0;
+          fault_at = 0;
+          faults = 0;
+        }) }
     {
         let file_index = past_files(files.items());
         Ok(MemoryShelf {

@@ -31,7 +31,15 @@ impl Model for MemorySink {
 
     ghost Value = { SinkState };
 
-    ghost view = { λ s. record { bytes = s.bytes.items; room = s.room; piece = s.piece; failing = s.failing; calls = s.calls; flushed = s.flushed; faults = s.faults } };
+    ghost view = { λ s. record {
+      bytes = s.bytes.items;
+      room = s.room;
+      piece = s.piece;
+      failing = s.failing;
+      calls = s.calls;
+      flushed = s.flushed;
+      faults = s.faults;
+    } };
 
     ghost invariant = { λ s. (0 < s.piece) × (s.room ≤ vec_capacity s.bytes) × (vec_len s.bytes ≤ s.room) };
 }
@@ -46,7 +54,15 @@ impl MemorySink {
         failing: Calls,
     ) -> Result<MemorySink, OutOfMemory>
         requires { 0 < piece }
-        ensures { IfOk result (λ s. s ≡ record { bytes = []; room = room; piece = piece; failing = failing; calls = 0; flushed = 0; faults = 0 }) }
+        ensures { IfOk result (λ s. s ≡ record {
+          bytes = [];
+          room = room;
+          piece = piece;
+          failing = failing;
+          calls = 0;
+          flushed = 0;
+          faults = 0;
+        }) }
     {
         let bytes = Vec::with_capacity(alloc, room)?;
         Ok(MemorySink {
@@ -85,7 +101,8 @@ impl Sink for MemorySink {
         // It fails exactly at the chosen calls and where the room is used up, and else takes as
         // much as there is room for, up to a piece.
         ensures fails { IsErr result ↔ FailsToWrite self.old piece.now }
-        ensures count { IfOk result (λ n. n ≡ min self.old.piece (min (length piece.now) (self.old.room - length self.old.bytes))) }
+        ensures count { IfOk result (λ n. n ≡
+            min self.old.piece (min (length piece.now) (self.old.room - length self.old.bytes))) }
         ensures still { self.new.flushed ≡ self.old.flushed }
         ensures counts { CountsFault self.old.faults self.new.faults result }
         ensures calls { self.new.calls ≡ counted self.old.calls }

@@ -28,7 +28,11 @@ impl Model for SafeShelf {
 
     ghost Value = { SafeState };
 
-    ghost view = { λ s. record { files = s.files; unread = drop s.at (bytes_at s.files s.file_index); begun = s.begun } };
+    ghost view = { λ s. record {
+      files = s.files;
+      unread = drop s.at (bytes_at s.files s.file_index);
+      begun = s.begun;
+    } };
 }
 
 impl SafeShelf {

@@ -87,7 +87,8 @@ pub fn read_all<S: Shelf>(
     ensures unmarked { ¬ (IsErrOf result ReadEnd.ReadFault) → S.fault_at shelf.new ≡ S.fault_at shelf.old }
 
     ensures too_long { (n : ℕ) → IsErrOf result (ReadEnd.TooLong n) → (n ≡ most + 1) }
-    ensures told_longer { (n : ℕ) → IsErrOf result (ReadEnd.TooLong n) → TellsMore (S.contents shelf.old name.now) most }
+    ensures told_longer { (n : ℕ) → IsErrOf result (ReadEnd.TooLong n) →
+        TellsMore (S.contents shelf.old name.now) most }
 {
     let Ok(()) = shelf.begin(name, number) else {
         return Err(ReadEnd::ReadFault);

@@ -10,8 +10,10 @@ use Rattle.ember_job.specs.Works.{Shape, halved, leafed, passed}
 -- the root is visited, and so are the two halves of each visited job that is halved
 pub data IsVisited (shape : Job → Shape) (root : Job) : Job → Type 0 where
   root_visited : IsVisited shape root root
-  left_visited : (job low high : Job) → IsVisited shape root job → shape job ≡ halved low high → IsVisited shape root low
-  right_visited : (job low high : Job) → IsVisited shape root job → shape job ≡ halved low high → IsVisited shape root high
+  left_visited : (job low high : Job) → IsVisited shape root job → shape job ≡ halved low high →
+      IsVisited shape root low
+  right_visited : (job low high : Job) → IsVisited shape root job → shape job ≡ halved low high →
+      IsVisited shape root high
 
 abbrev pub kind_of : Shape → Kind
 kind_of (halved low high) = Halved

@@ -28,7 +28,8 @@ pub record IsSplit (whole low high : Cell) : Type 0 where
 
 -- what a work's laws say of the two halves that answer a valid job
 abbrev pub Splits : (Job → Shape) → (Job → Type 0) → Type 0
-Splits shape valid = (job low high : Job) → valid job → shape job ≡ halved low high → (valid low × valid high) × IsSplit job.cell low.cell high.cell
+Splits shape valid = (job low high : Job) → valid job → shape job ≡ halved low high →
+    (valid low × valid high) × IsSplit job.cell low.cell high.cell
 
 -- an outcome answers a job where it has the job's shape and its item answers the job
 abbrev pub Answers : {I : Type 0} → (Job → Shape) → (Job → I → Type 0) → Job → Outcome I → Type 0
@@ -37,6 +38,9 @@ Answers shape item job (Leaf it) = (shape job ≡ leafed) × item job it
 Answers shape item job Skipped = shape job ≡ passed
 
 -- the call may be made at each valid job, and each Ok of it answers that job
-pub record AnswersAll {W I F : Type 0} (valid : W → Job → Type 0) (shape : W → Job → Shape) (item : W → Job → I → Type 0) (pre : F → Bor Job → Type 0) (post : F → Bor Job → Result (Outcome I) AllocError → Type 0) (work : W) (call : F) : Type 0 where
+pub record AnswersAll {W I F : Type 0} (valid : W → Job → Type 0) (shape : W → Job → Shape)
+    (item : W → Job → I → Type 0) (pre : F → Bor Job → Type 0)
+    (post : F → Bor Job → Result (Outcome I) AllocError → Type 0) (work : W) (call : F) : Type 0 where
   pub runs : (p : Bor Job) → valid work p.now → pre call p
-  pub answers_each : (p : Bor Job) (r : Result (Outcome I) AllocError) → valid work p.now → post call p r → IfOk r (λ o. Answers (shape work) (item work) p.now o)
+  pub answers_each : (p : Bor Job) (r : Result (Outcome I) AllocError) → valid work p.now → post call p r →
+      IfOk r (λ o. Answers (shape work) (item work) p.now o)

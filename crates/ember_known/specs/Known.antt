@@ -45,4 +45,5 @@ known undecided counts (And a b) = known_and (known undecided counts a) (known u
 known undecided counts (Not a) = known_not (known undecided counts a)
 known undecided counts (Mesh n) = plain_unless (undecided n) (truth counts (Mesh n))
 known undecided counts (Odd sum) = plain_unless (mentions undecided sum) (truth counts (Odd sum))
-known undecided counts (Compare left rel right) = plain_unless (mentions undecided left || mentions undecided right) (truth counts (Compare left rel right))
+known undecided counts (Compare left rel right) =
+    plain_unless (mentions undecided left || mentions undecided right) (truth counts (Compare left rel right))

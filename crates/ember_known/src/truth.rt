@@ -80,8 +80,10 @@ fn known_in(tree: &Tree, v: &Vector, m: Mask) -> Option<bool>
 pub fn known(e: &Expr, v: &Vector, m: &Mask) -> Option<bool>
     requires { AreCounts v.now.counts }
     ensures value { result ≡ three_valued.known (is_in m.now.0) v.now.counts (formula_of e.now) }
-    ensures same { (undecided : ℕ → Bool) → ((n : ℕ) → IsMeshNumber 64 n → is_in m.now.0 n ≡ undecided n) → result ≡ three_valued.known undecided v.now.counts (formula_of e.now) }
-    ensures law { IfSome result (λ b. (others : List ℤ) → AgreeOutside (is_in m.now.0) v.now.counts others → truth others (formula_of e.now) ≡ b) }
+    ensures same { (undecided : ℕ → Bool) → ((n : ℕ) → IsMeshNumber 64 n → is_in m.now.0 n ≡ undecided n) →
+        result ≡ three_valued.known undecided v.now.counts (formula_of e.now) }
+    ensures law { IfSome result (λ b. (others : List ℤ) → AgreeOutside (is_in m.now.0) v.now.counts others →
+        truth others (formula_of e.now) ≡ b) }
 {
     known_in(tree(e), v, *m)
 }
@@ -89,5 +91,6 @@ pub fn known(e: &Expr, v: &Vector, m: &Mask) -> Option<bool>
 /// Where the truth is decided, it is the truth at each vector that agrees with this one at all
 /// meshes but the undecided ones.
 pub fn decided_is_true()
-    ensures { (undecided : ℕ → Bool) (counts others : List ℤ) (f : Formula) (b : Bool) → IsFit 64 f → AgreeOutside undecided counts others → three_valued.known undecided counts f ≡ Some b → truth others f ≡ b }
+    ensures { (undecided : ℕ → Bool) (counts others : List ℤ) (f : Formula) (b : Bool) → IsFit 64 f →
+        AgreeOutside undecided counts others → three_valued.known undecided counts f ≡ Some b → truth others f ≡ b }
 {}

@@ -20,7 +20,8 @@ AxesAgree ts = (p : Spot) (a b : Axis) → pos 0 <ℤ p.w → AreClear (faces_of
 -- second with the crossings of the segment from the first to the second
 abbrev pub SegmentsGiveDifference : List Tri → Type 0
 SegmentsGiveDifference ts =
-    (a b : Axis) (p q : Spot) → pos 0 <ℤ p.w → pos 0 <ℤ q.w → DifferAlong a p q → AreClear (faces_of ts) p → AreClear (faces_of ts) q → vector b ts p ≡ added (vector b ts q) (leg_vector ts p q)
+    (a b : Axis) (p q : Spot) → pos 0 <ℤ p.w → pos 0 <ℤ q.w → DifferAlong a p q → AreClear (faces_of ts) p → AreClear
+    (faces_of ts) q → vector b ts p ≡ added (vector b ts q) (leg_vector ts p q)
 
 -- no point of the segment from p to q lies in the closed face
 abbrev pub MissesFace : Spot → Spot → Face → Type 0
@@ -30,4 +31,5 @@ MissesFace p q f =
 -- two clear points whose segment meets no face have one vector
 abbrev pub ClearSegmentsKeepVectors : List Tri → Type 0
 ClearSegmentsKeepVectors ts =
-    (a b : Axis) (p q : Spot) → pos 0 <ℤ p.w → pos 0 <ℤ q.w → AreClear (faces_of ts) p → AreClear (faces_of ts) q → AllByRecursion (MissesFace p q) (faces_of ts) → vector a ts p ≡ vector b ts q
+    (a b : Axis) (p q : Spot) → pos 0 <ℤ p.w → pos 0 <ℤ q.w → AreClear (faces_of ts) p → AreClear
+    (faces_of ts) q → AllByRecursion (MissesFace p q) (faces_of ts) → vector a ts p ≡ vector b ts q

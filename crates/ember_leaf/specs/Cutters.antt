@@ -173,7 +173,8 @@ pub record IsBounded (t : Tri) (b : Aabb) (f : Face) : Type 0 where
 pub data OmitsUnmet (P : Face → Type 0) : List CuttingPlane → List CuttingPlane → Type 0 where
   all_seen : OmitsUnmet P [] []
   stays : {b : CuttingPlane} {xs ys : List CuttingPlane} → OmitsUnmet P xs ys → OmitsUnmet P (b ∷ xs) (b ∷ ys)
-  goes : {b : CuttingPlane} {xs ys : List CuttingPlane} → ((f : Face) → P f → Meets f b.face → ⊥) → OmitsUnmet P xs ys → OmitsUnmet P (b ∷ xs) ys
+  goes : {b : CuttingPlane} {xs ys : List CuttingPlane} → ((f : Face) → P f → Meets f b.face → ⊥) →
+      OmitsUnmet P xs ys → OmitsUnmet P (b ∷ xs) ys
 
 -- a list has grown by these cutting planes, but for such
 abbrev pub AddsCuttingPlanes : (Face → Type 0) → List CuttingPlane → List Cutter → List Cutter → Type 0

@@ -27,7 +27,8 @@ pub record ContainsPart (t : Tri) (b : Aabb) (u : Tri) (f : Face) : Type 0 where
 
 -- what a triangle adds to the list of those before t in its plane; true where it covers t
 pub data AddsLower (t u : Tri) (b : Aabb) (is_before : Bool) (old : List Tri) : Bool → List Tri → Type 0 where
-  covers : {new : List Tri} → is_before ≡ true → is_coplanar u t ≡ true → Contains (face_of u) (face_of t) → AddsLower t u b is_before old true new
+  covers : {new : List Tri} → is_before ≡ true → is_coplanar u t ≡ true → Contains (face_of u) (face_of t) →
+      AddsLower t u b is_before old true new
   joins : is_before ≡ true → is_coplanar u t ≡ true → AddsLower t u b is_before old false (old ++ u ∷ [])
   misses : ((f : Face) → ContainsPart t b u f → ⊥) → AddsLower t u b is_before old false old
   follows : is_before ≡ false → AddsLower t u b is_before old false old
@@ -56,16 +57,19 @@ pub record DecidesOwner (lower : List Tri) (ts : List Tri) (i : ℕ) (f : Face) 
 
 -- ---- what is known of the list of triangles that may cut the regions of t, after one more or all
 abbrev pub AddsBladesWithin : Aabb → Tri → Tri → List Cutter → List Cutter → Bool → Type 0
-AddsBladesWithin b t u old new covered = covered ≡ false → AddsCuttingPlanes (IsBounded t b) (cutting_planes_of t u) old new
+AddsBladesWithin b t u old new covered =
+    covered ≡ false → AddsCuttingPlanes (IsBounded t b) (cutting_planes_of t u) old new
 
 abbrev pub AddsBlades : Tri → Tri → List Cutter → List Cutter → Bool → Type 0
-AddsBlades t u old new covered = covered ≡ false → (b : Aabb) → AddsCuttingPlanes (IsBounded t b) (cutting_planes_of t u) old new
+AddsBlades t u old new covered =
+    covered ≡ false → (b : Aabb) → AddsCuttingPlanes (IsBounded t b) (cutting_planes_of t u) old new
 
 abbrev pub AddsOwnersWithin : Aabb → Tri → Tri → Bool → List Cutter → List Cutter → Bool → Type 0
 AddsOwnersWithin b t u is_before old new covered = AddsLower t u b is_before (owners_in old) covered (owners_in new)
 
 abbrev pub AddsOwners : Tri → Tri → Bool → List Cutter → List Cutter → Bool → Type 0
-AddsOwners t u is_before old new covered = (b : Aabb) → AddsLower t u b is_before (owners_in old) covered (owners_in new)
+AddsOwners t u is_before old new covered =
+    (b : Aabb) → AddsLower t u b is_before (owners_in old) covered (owners_in new)
 
 abbrev pub AreBladesFound : List Tri → ℕ → Tri → Aabb → List Cutter → Bool → Type 0
 AreBladesFound ts i t b cs covered = covered ≡ false → OmitsUnmet (IsBounded t b) (cutting_planes ts i) (blades_in cs)

@@ -20,7 +20,8 @@ use Rattle.ember_leaf.specs.Written.{IsWrittenIn}
 -- the expression has this value at all clear points directly beside v: those at which a step along
 -- an axis ends, if it is small
 pub record IsBeside (scene : List Tri) (f : Formula) (v : Spot) (value : Bool) : Type 0 where
-  pub steps : (k : Axis) (by : ℤ) → Eventually (λ m. AreClear (faces_of scene) (moved (scaled (pos m) v) k by) → (a : Axis) → truth (vector a scene (moved (scaled (pos m) v) k by)) f ≡ value)
+  pub steps : (k : Axis) (by : ℤ) → Eventually (λ m. AreClear (faces_of scene) (moved (scaled (pos m) v) k by) →
+      (a : Axis) → truth (vector a scene (moved (scaled (pos m) v) k by)) f ≡ value)
 
 -- it has one value at all clear points in the closed box and directly beside it
 pub record HasOneValue (scene : List Tri) (f : Formula) (c : Cell) : Type 0 where

@@ -14,7 +14,12 @@ use Rattle.ember_leaf.specs.declared.relation.Relation.TheVariants.{Apart, Acros
 
 abbrev pub heights_of : Plane → Tri → Heights
 heights_of p t =
-    record { a = value_at p (spot_of_corner t.a); b = value_at p (spot_of_corner t.b); c = value_at p (spot_of_corner t.c) }
+    record {
+      a = value_at p (spot_of_corner t.a);
+      b = value_at p (spot_of_corner t.b);
+      c = value_at p
+          (spot_of_corner t.c);
+    }
 
 -- no corner is behind the plane, none is in front of it, all are on one side, all are on it
 abbrev pub none_behind : Heights → Bool

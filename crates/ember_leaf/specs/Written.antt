@@ -27,11 +27,15 @@ front f before after =
 -- expression is false
 pub data AtRegion (scene : List Tri) (f : Formula) (near : List Tri) (i : ℕ) (face : Face) : List Kept → Type 0 where
   unowned : (IsOwner near i face → ⊥) → AtRegion scene f near i face []
-  even : {before after : List ℤ} → IsSides scene face before after → truth before f ≡ truth after f → AtRegion scene f near i face []
-  written : {before after : List ℤ} → IsOwner near i face → IsSides scene face before after → truth before f ≢ truth after f → AtRegion scene f near i face (record { tri = i; flipped = truth (front face before after) f; ring = face } ∷ [])
+  even : {before after : List ℤ} → IsSides scene face before after → truth before f ≡ truth after f →
+      AtRegion scene f near i face []
+  written : {before after : List ℤ} → IsOwner near i face → IsSides scene face before after →
+      truth before f ≢ truth after f →
+      AtRegion scene f near i face (record { tri = i; flipped = truth (front face before after) f; ring = face } ∷ [])
 
 -- the regions of triangle i of a leaf with these near triangles, and what is written of each
-pub record AreRegionsWritten (scene : List Tri) (f : Formula) (c : Cell) (near : List Tri) (i : ℕ) (ks : List Kept) : Type 0 where
+pub record AreRegionsWritten (scene : List Tri) (f : Formula) (c : Cell) (near : List Tri) (i : ℕ)
+    (ks : List Kept) : Type 0 where
   pub faces : List Face
   pub are_regions : IsRegions c near i faces
   pub are_written : Each (AtRegion scene f near i) faces ks

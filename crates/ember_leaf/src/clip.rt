@@ -189,7 +189,8 @@ pub fn is_outside(walls: &[Wall], f: &LeafTriangle) -> bool
 fn at_wall(draft: &mut Draft, w: &Wall) -> Result<bool, OutOfMemory>
     requires { HoldsRing draft.old }
     ensures ring { OnOk result (HoldsRing draft.new) }
-    ensures left { IfOk result (λ some. AtWall (wall_of w.now) (face_in draft.old) (if some then face_in draft.new ∷ [] else [])) }
+    ensures left { IfOk result (λ some. AtWall (wall_of w.now) (face_in draft.old) (if some
+        then face_in draft.new ∷ [] else [])) }
 {
     let side = draft.clip(&plane_of(w))?;
     match side {
@@ -206,7 +207,8 @@ fn within_walls(draft: &mut Draft, f: &LeafTriangle, walls: &[Wall]) -> Result<b
     requires ring { HoldsRing draft.old }
     requires whole { face_in draft.old ≡ face_of f.now.tri }
     ensures ring { OnOk result (HoldsRing draft.new) }
-    ensures left { IfOk result (λ some. IsClippedBy (map wall_of walls.now) f.now.tri (if some then face_in draft.new ∷ [] else [])) }
+    ensures left { IfOk result (λ some. IsClippedBy (map wall_of walls.now) f.now.tri (if some
+        then face_in draft.new ∷ [] else [])) }
 {
     for w in walls {
         match remainder_at(w, f) {

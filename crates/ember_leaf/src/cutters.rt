@@ -99,8 +99,10 @@ fn add_near(
     requires own { is_flat own.now.tri ≡ false }
     requires cutters { All (IsCutterOf own.now.tri) list.old.items }
     ensures cutters { OnOk result (All (IsCutterOf own.now.tri) list.new.items) }
-    ensures cutting_planes { IfOk result (AddsBladesWithin bounds.now own.now.tri g.now.tri list.old.items list.new.items) }
-    ensures owners { IfOk result (AddsOwnersWithin bounds.now own.now.tri g.now.tri is_before list.old.items list.new.items) }
+    ensures cutting_planes { IfOk result
+        (AddsBladesWithin bounds.now own.now.tri g.now.tri list.old.items list.new.items) }
+    ensures owners { IfOk result
+        (AddsOwnersWithin bounds.now own.now.tri g.now.tri is_before list.old.items list.new.items) }
 {
     if aabbs_meet(bounds, &g.aabb) {
         add(list, own, g, is_before)

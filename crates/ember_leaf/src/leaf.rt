@@ -213,7 +213,8 @@ pub fn leaf_faces(
     requires few { length near.now ≤ 262144 }
     requires counts { AreBoxCounts v.now.counts }
     ensures placed { IfOk result (λ ks. ArePlaced near.now ks) }
-    ensures written { IfOk result (λ ks. (scene : List Corners) → Fits scene near.now c.now v.now.counts → IsWrittenIn scene (formula_of e.now) c.now near.now ks) }
+    ensures written { IfOk result (λ ks. (scene : List Corners) → Fits scene near.now c.now v.now.counts →
+        IsWrittenIn scene (formula_of e.now) c.now near.now ks) }
 {
     let near_triangles = near_triangles(alloc, near, c)?;
     let triangles = leaf_triangles(alloc, &near_triangles)?;

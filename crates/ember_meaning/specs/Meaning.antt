@@ -28,7 +28,8 @@ HasMeaning scene x faces a b p = wind a faces p ≡ one_if (truth (vector b scen
 -- the same at each point that is clear of the scene's faces and of these faces, for all axes
 abbrev pub HaveMeaning : List Tri → Formula → List Face → Type 0
 HaveMeaning scene x faces =
-    (a b : Axis) (p : Spot) → pos 0 <ℤ p.w → AreClear (faces_of scene) p → AreClear faces p → HasMeaning scene x faces a b p
+    (a b : Axis) (p : Spot) → pos 0 <ℤ p.w → AreClear
+    (faces_of scene) p → AreClear faces p → HasMeaning scene x faces a b p
 
 -- the bytes are a face file; the edges of its faces are their outlines, the faces have the meaning, and
 -- they are a closed surface

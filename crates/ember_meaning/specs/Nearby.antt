@@ -25,13 +25,15 @@ HaveMeaningNearby scene x faces =
 -- the same of a point that is clear of the scene's faces, whose own winding numbers are meant
 abbrev pub WindNearbyAsHere : List Tri → Formula → List Face → Type 0
 WindNearbyAsHere scene x faces =
-    (p : Spot) → pos 0 <ℤ p.w → AreClear (faces_of scene) p → WhereShifted p (λ q. (a b : Axis) → wind a faces q ≡ one_if (truth (vector b scene p) x))
+    (p : Spot) → pos 0 <ℤ p.w → AreClear (faces_of scene) p → WhereShifted p
+    (λ q. (a b : Axis) → wind a faces q ≡ one_if (truth (vector b scene p) x))
 
 -- ---- a point that is clear of the faces alone
 -- there they wind once where the expression holds at the shifted point, and not at all elsewhere
 abbrev pub WindHereAsNearby : List Tri → Formula → List Face → Type 0
 WindHereAsNearby scene x faces =
-    (p : Spot) → pos 0 <ℤ p.w → AreClear faces p → WhereShifted p (λ q. (a b : Axis) → wind a faces p ≡ one_if (truth (vector b scene q) x))
+    (p : Spot) → pos 0 <ℤ p.w → AreClear faces p → WhereShifted p
+    (λ q. (a b : Axis) → wind a faces p ≡ one_if (truth (vector b scene q) x))
 
 -- there they wind once along all axes, or along none
 abbrev pub WindOnceAtMost : List Face → Type 0
@@ -42,4 +44,5 @@ WindOnceAtMost faces =
 -- they have one value at the winding numbers of each point that is clear of the scene's faces
 abbrev pub AgreeOver : List Tri → Formula → Formula → Type 0
 AgreeOver scene x y =
-    (a : Axis) (p : Spot) → pos 0 <ℤ p.w → AreClear (faces_of scene) p → truth (vector a scene p) x ≡ truth (vector a scene p) y
+    (a : Axis) (p : Spot) → pos 0 <ℤ p.w → AreClear (faces_of scene) p → truth (vector a scene p) x ≡ truth
+    (vector a scene p) y

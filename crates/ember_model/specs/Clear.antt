@@ -11,7 +11,8 @@ use Rattle.ember_model.specs.Faces.{is_inside, is_in_closed, is_flat, face_of}
 -- p is not in the closed face, and a point of an axis ray from p, p + s / (m * w), that is in the closed face is inside
 pub record IsClear (f : Face) (p : Spot) : Type 0 where
   pub outside : is_in_closed f p ≡ false
-  pub rays : (a : Axis) (m s : ℤ) → pos 0 <ℤ m → pos 0 ≤ℤ s → is_in_closed f (moved (scaled m p) a s) ≡ true → is_inside f (moved (scaled m p) a s) ≡ true
+  pub rays : (a : Axis) (m s : ℤ) → pos 0 <ℤ m → pos 0 ≤ℤ s → is_in_closed f (moved (scaled m p) a s) ≡ true →
+      is_inside f (moved (scaled m p) a s) ≡ true
 
 -- a flat triangle has no face
 abbrev pub IsClearOf : Tri → Spot → Type 0

@@ -34,7 +34,9 @@ enters es a p = list_any (is_entry es a p) es
 -- no boundary point lies on the ray from p along a; p is not in the closed face
 abbrev pub is_ray_clear : Face → Axis → Spot → Bool
 is_ray_clear f a p =
-    if is_zero (along f.support a) then (if is_zero (value_at f.support p) then not (enters f.edges a p) else true) else (if is_negative (value_at f.support p *ℤ along f.support a) && none_positive f.edges (hit f.support a p) then all_negative f.edges (hit f.support a p) else true)
+    if is_zero (along f.support a) then (if is_zero (value_at f.support p) then not (enters f.edges a p) else true)
+    else (if is_negative (value_at f.support p *ℤ along f.support a) && none_positive f.edges (hit f.support a p)
+    then all_negative f.edges (hit f.support a p) else true)
 
 abbrev pub is_clear : Face → Spot → Bool
 is_clear f p = not (is_in_closed f p) && (is_ray_clear f X p && (is_ray_clear f Y p && is_ray_clear f Z p))

@@ -19,7 +19,8 @@ line_of keyword zs = keyword ++ fields zs ++ codes "\n"
 -- the line of an edge: its plane and its start corner
 abbrev pub edge_line : RingEdge → List ℕ
 edge_line e =
-    line_of (codes "e") (e.plane.a ∷ e.plane.b ∷ e.plane.c ∷ e.plane.d ∷ e.start.x ∷ e.start.y ∷ e.start.z ∷ e.start.w ∷ [])
+    line_of (codes "e") (e.plane.a ∷ e.plane.b ∷ e.plane.c ∷ e.plane.d ∷ e.start.x ∷ e.start.y ∷ e.start.z ∷
+    e.start.w ∷ [])
 
 -- the line of a support plane and the number of edges
 abbrev pub support_line : Plane → ℕ → List ℕ
@@ -37,7 +38,8 @@ ending n = codes "end " ++ decimal n ++ codes "\n"
 
 -- 1 is the only common divisor of the four numbers
 pub record IsLowest (v : Spot) : Type 0 where
-  pub lowest : (k : ℕ) → k ∣ unsigned_abs v.x → k ∣ unsigned_abs v.y → k ∣ unsigned_abs v.z → k ∣ unsigned_abs v.w → k ≡ 1
+  pub lowest : (k : ℕ) → k ∣ unsigned_abs v.x → k ∣ unsigned_abs v.y → k ∣ unsigned_abs v.z → k ∣ unsigned_abs v.w →
+      k ≡ 1
 
 -- ---- writing
 -- the text of f: its outline with corners in lowest terms

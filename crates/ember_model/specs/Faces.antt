@@ -54,7 +54,8 @@ hit n a p = moved (scaled (size (along n a)) p) a (neg_ℤ (sign (along n a) *�
 -- the signed crossing of the ray from p along a with the inside of the face
 unfoldable pub crossing : Face → Axis → Spot → ℤ
 crossing f a p =
-    if is_negative (value_at f.support p *ℤ along f.support a) && is_inside f (hit f.support a p) then sign (along f.support a) else pos 0
+    if is_negative (value_at f.support p *ℤ along f.support a) && is_inside f (hit f.support a p)
+    then sign (along f.support a) else pos 0
 
 -- ---- segments
 -- the point at which the segment from p to q meets the support plane
@@ -64,7 +65,8 @@ between n p q = plus_s (scaled (size (value_at n q)) p) (scaled (size (value_at 
 -- the signed crossing of the segment from p to q: 1 where the segment from p to q leaves through the front
 unfoldable pub leg : Face → Spot → Spot → ℤ
 leg f p q =
-    if is_negative (value_at f.support p *ℤ value_at f.support q) && is_inside f (between f.support p q) then sign (value_at f.support q) else pos 0
+    if is_negative (value_at f.support p *ℤ value_at f.support q) && is_inside f (between f.support p q)
+    then sign (value_at f.support q) else pos 0
 
 -- ---- cuts
 -- the parts of f below and above a plane, and the same face with the opposite front

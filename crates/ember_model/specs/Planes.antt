@@ -44,7 +44,8 @@ support_of t = plane_through (cross (side_of t.a t.b) (side_of t.a t.c)) t.a
 -- the axis of the largest entry of the normal, the first in a tie
 abbrev pub main_axis : Plane → Axis
 main_axis p =
-    if leb (unsigned_abs p.b) (unsigned_abs p.a) && leb (unsigned_abs p.c) (unsigned_abs p.a) then X else if leb (unsigned_abs p.c) (unsigned_abs p.b) then Y else Z
+    if leb (unsigned_abs p.b) (unsigned_abs p.a) && leb (unsigned_abs p.c) (unsigned_abs p.a) then X
+    else if leb (unsigned_abs p.c) (unsigned_abs p.b) then Y else Z
 
 -- the plane through the edge from u to v along a direction, without the triangle's sign
 abbrev pub edge_through : Corner → Corner → Vector → Plane
@@ -53,7 +54,8 @@ edge_through u v f = plane_through (cross (side_of u v) f) u
 abbrev pub edge_planes : Tri → Axis → List Plane
 edge_planes t k =
     let s = sign (along (support_of t) k) in
-    times_plane s (edge_through t.a t.b (unit k)) ∷ times_plane s (edge_through t.b t.c (unit k)) ∷ times_plane s (edge_through t.c t.a (unit k)) ∷ []
+    times_plane s (edge_through t.a t.b (unit k)) ∷ times_plane s (edge_through t.b t.c (unit k)) ∷
+    times_plane s (edge_through t.c t.a (unit k)) ∷ []
 
 -- the same plane with the opposite front
 abbrev pub opposite : Plane → Plane

@@ -21,7 +21,13 @@ plus_s p q = record { x = p.x +ℤ q.x; y = p.y +ℤ q.y; z = p.z +ℤ q.z; w = 
 -- p shifted a little, most along x and least along z, where m is large
 abbrev pub shifted : Spot → ℤ → Spot
 shifted p m =
-    record { x = m *ℤ m *ℤ m *ℤ p.x +ℤ m *ℤ m; y = m *ℤ m *ℤ m *ℤ p.y +ℤ m; z = m *ℤ m *ℤ m *ℤ p.z +ℤ pos 1; w = m *ℤ m *ℤ m *ℤ p.w }
+    record {
+      x = m *ℤ m *ℤ m *ℤ p.x +ℤ m *ℤ m;
+      y = m *ℤ m *ℤ m *ℤ p.y +ℤ m;
+      z = m *ℤ m *ℤ m *ℤ p.z +ℤ pos 1;
+      w = m *ℤ
+          m *ℤ m *ℤ p.w;
+    }
 
 -- as rational points p and q differ at most in one coordinate
 abbrev pub DifferAlong : Axis → Spot → Spot → Type 0

@@ -21,5 +21,7 @@ pub record IsSides (ts : List Tri) (f : Face) (before after : List ℤ) : Type 0
   pub at : Spot
   pub inside : is_inside f at ≡ true
   pub bound : ℕ
-  pub sees_before : (s m : ℕ) → 1 ≤ s → bound * s < m → HasWindings ts (main_axis f.support) (moved (scaled (pos m) at) (main_axis f.support) (neg_ℤ (pos s))) before
-  pub sees_after : (s m : ℕ) → 1 ≤ s → bound * s < m → HasWindings ts (main_axis f.support) (moved (scaled (pos m) at) (main_axis f.support) (pos s)) after
+  pub sees_before : (s m : ℕ) → 1 ≤ s → bound * s < m →
+      HasWindings ts (main_axis f.support) (moved (scaled (pos m) at) (main_axis f.support) (neg_ℤ (pos s))) before
+  pub sees_after : (s m : ℕ) → 1 ≤ s → bound * s < m →
+      HasWindings ts (main_axis f.support) (moved (scaled (pos m) at) (main_axis f.support) (pos s)) after

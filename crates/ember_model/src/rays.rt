@@ -106,7 +106,8 @@ fn all_behind(slope: i64, e: i128, f: i128, g: i128) -> bool
     requires e { Small (2 ^ 66) e }
     requires f { Small (2 ^ 66) f }
     requires g { Small (2 ^ 66) g }
-    ensures { result ≡ is_negative (sign slope *ℤ e) && (is_negative (sign slope *ℤ f) && is_negative (sign slope *ℤ g)) }
+    ensures { result ≡ is_negative (sign slope *ℤ e) &&
+        (is_negative (sign slope *ℤ f) && is_negative (sign slope *ℤ g)) }
 {
     if slope > 0 {
         e < 0 && (f < 0 && g < 0)

@@ -34,13 +34,15 @@ corner_of (Err fault) y z = Err fault
 abbrev pub corner_in : ℕ → ℕ → Option (List ℕ × List ℕ × List ℕ) → Result Corner ObjFault
 corner_in places line None = Err (Word line)
 corner_in places line (Some t) =
-    corner_of (coordinate_at line (coordinate_of places t.0)) (coordinate_at line (coordinate_of places t.1)) (coordinate_at line (coordinate_of places t.2))
+    corner_of (coordinate_at line (coordinate_of places t.0)) (coordinate_at line (coordinate_of places t.1))
+    (coordinate_at line (coordinate_of places t.2))
 
 -- with one vertex more, of which there are at most 262,144
 abbrev pub with_vertex : ℕ → Table → Result Corner ObjFault → Result Table ObjFault
 with_vertex line table (Err fault) = Err fault
 with_vertex line table (Ok corner) =
-    if nat_le 262144 (length table.vertices) then Err (TooMany line) else Ok (record table { vertices = table.vertices ++ corner ∷ [] })
+    if nat_le 262144 (length table.vertices) then Err (TooMany line)
+    else Ok (record table { vertices = table.vertices ++ corner ∷ [] })
 
 -- with more triangles, of which there are at most 262,144
 abbrev pub with_tris : ℕ → Table → List Tri → Result Table ObjFault
@@ -52,7 +54,8 @@ with_tris line table tris =
 -- with the face of these corners, of which there are at least three
 abbrev pub with_face : ℕ → ℕ → Table → Result (List Corner) ObjFault → Result Table ObjFault
 with_face mesh line table (Err fault) = Err fault
-with_face mesh line table (Ok corners) = if nat_lt (length corners) 3 then Err (FewCorners line) else with_tris line table (fan mesh corners)
+with_face mesh line table (Ok corners) =
+    if nat_lt (length corners) 3 then Err (FewCorners line) else with_tris line table (fan mesh corners)
 
 abbrev pub after_keyword : ℕ → ℕ → ℕ → Table → Keyword → List (List ℕ) → Result Table ObjFault
 after_keyword places mesh line table Vertex fields = with_vertex line table (corner_in places line (first_three fields))
@@ -66,7 +69,8 @@ after_fields places mesh line table (key ∷ fields) = after_keyword places mesh
 -- what is read after one line more
 abbrev pub after_line : ℕ → ℕ → Table → Line → Result Table ObjFault
 after_line places mesh table line =
-    if nat_lt 65536 (length line.text) then Err (LongLine line.number) else after_fields places mesh line.number table (fields_of line.text)
+    if nat_lt 65536 (length line.text) then Err (LongLine line.number)
+    else after_fields places mesh line.number table (fields_of line.text)
 
 -- what is read after all these lines: a fault stays the file's fault
 abbrev pub after_lines : ℕ → ℕ → Result Table ObjFault → List Line → Result Table ObjFault
@@ -80,7 +84,8 @@ faces_of (Ok table) = Ok (record { tris = table.tris; lines = table.lines })
 
 -- the table of a file
 abbrev pub table_of : ℕ → ℕ → List ℕ → Result Table ObjFault
-table_of places mesh bytes = after_lines places mesh (Ok (record { vertices = []; tris = []; lines = [] })) (lines_from 1 (unmarked bytes))
+table_of places mesh bytes =
+    after_lines places mesh (Ok (record { vertices = []; tris = []; lines = [] })) (lines_from 1 (unmarked bytes))
 
 -- the triangles of a file with their lines, or its first fault
 abbrev pub read_obj_of : ℕ → ℕ → List ℕ → Result Faces ObjFault

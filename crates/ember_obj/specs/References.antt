@@ -33,7 +33,8 @@ named_or_fault line (Some corner) = Ok corner
 abbrev pub vertex_at : ℕ → List Corner → List ℕ → Result Corner ObjFault
 vertex_at line vertices index =
     if is_number (size_digits index)
-    then named_or_fault line (counted (if is_minus index then reverse vertices else vertices) (number_from 0 (size_digits index)))
+    then named_or_fault line (counted (if is_minus index then reverse vertices
+    else vertices) (number_from 0 (size_digits index)))
     else Err (Word line)
 
 -- the vertex that a reference names by what stands before its first slash
@@ -52,13 +53,15 @@ with_corner (Ok corner) rest = in_front (corner ∷ []) rest
 -- the vertices that references name, or the first fault among them
 abbrev pub corners_of : ℕ → List Corner → List (List ℕ) → Result (List Corner) ObjFault
 corners_of line vertices [] = Ok []
-corners_of line vertices (reference ∷ references) = with_corner (vertex_named line vertices reference) (corners_of line vertices references)
+corners_of line vertices (reference ∷ references) =
+    with_corner (vertex_named line vertices reference) (corners_of line vertices references)
 
 -- the triangles of one corner with each two neighbours of a row of corners
 abbrev pub fan_round : ℕ → Corner → List Corner → List Tri
 fan_round mesh first [] = []
 fan_round mesh first (p ∷ []) = []
-fan_round mesh first (p ∷ q ∷ more) = (record { a = first; b = p; c = q; mesh = mesh }) ∷ fan_round mesh first (q ∷ more)
+fan_round mesh first (p ∷ q ∷ more) =
+    (record { a = first; b = p; c = q; mesh = mesh }) ∷ fan_round mesh first (q ∷ more)
 
 -- the triangles of a face with these corners
 abbrev pub fan : ℕ → List Corner → List Tri

@@ -23,7 +23,8 @@ closed (b ∷ bs) fields = (b ∷ bs) ∷ fields
 -- the fields of a text, where `begun` is the field that is open
 abbrev pub fields_from : List ℕ → List ℕ → List (List ℕ)
 fields_from [] begun = closed begun []
-fields_from (b ∷ bs) begun = if is_separator b then closed begun (fields_from bs []) else fields_from bs (begun ++ b ∷ [])
+fields_from (b ∷ bs) begun =
+    if is_separator b then closed begun (fields_from bs []) else fields_from bs (begun ++ b ∷ [])
 
 -- the fields of a line
 abbrev pub fields_of : List ℕ → List (List ℕ)

@@ -36,7 +36,8 @@ fn trim_return(line: &[u8]) -> &[u8]
 
 // The first physical line, and what follows it.
 pub(crate) fn next_line(bytes: &[u8]) -> Option<(&[u8], &[u8])>
-    ensures lines { MatchOption result (physical_lines bytes.now ≡ []) (λ p. physical_lines bytes.now ≡ p.0.now ∷ physical_lines p.1.now) }
+    ensures lines { MatchOption result (physical_lines bytes.now ≡ []) (λ p. physical_lines bytes.now ≡ p.0.now ∷
+        physical_lines p.1.now) }
     ensures shorter { IfSome result (λ p. length p.1.now < length bytes.now) }
 {
     if bytes.is_empty() {
@@ -72,7 +73,8 @@ pub(crate) fn skip_comment(line: &[u8]) -> &[u8]
 // Appends a part of the joined line with this number.
 fn append(text: &mut Vec<u8>, number: u32, part: &[u8]) -> Result<(), ObjFault>
     ensures ok { OnOk result (text.new.items ≡ text.old.items ++ part.now) }
-    ensures err { IfErr result (λ e. (e ≡ ObjFault.OutOfMemory) ⊎ ((e ≡ ObjFault.LongLine number) × (MOST_BYTES < length (text.old.items ++ part.now)))) }
+    ensures err { IfErr result (λ e. (e ≡ ObjFault.OutOfMemory) ⊎
+        ((e ≡ ObjFault.LongLine number) × (MOST_BYTES < length (text.old.items ++ part.now)))) }
 {
     if part.len() > MOST_BYTES.saturating_sub(text.len()) {
         return Err(ObjFault::LongLine(number));
@@ -87,7 +89,8 @@ fn append(text: &mut Vec<u8>, number: u32, part: &[u8]) -> Result<(), ObjFault>
 fn append_continued(text: &mut Vec<u8>, number: u32, line: &[u8]) -> Result<(), ObjFault>
     requires { 0 < length line.now }
     ensures ok { OnOk result (text.new.items ≡ text.old.items ++ with_space line.now) }
-    ensures err { IfErr result (λ e. (e ≡ ObjFault.OutOfMemory) ⊎ ((e ≡ ObjFault.LongLine number) × (MOST_BYTES < length (text.old.items ++ with_space line.now)))) }
+    ensures err { IfErr result (λ e. (e ≡ ObjFault.OutOfMemory) ⊎
+        ((e ≡ ObjFault.LongLine number) × (MOST_BYTES < length (text.old.items ++ with_space line.now)))) }
 {
     append(text, number, line.split_at(line.len() - 1).0)?;
     append(text, number, b" ")
@@ -103,10 +106,13 @@ fn append_rest<'a>(
     bytes: &'a [u8],
 ) -> Result<(u32, &'a [u8]), ObjFault>
     requires { next + length bytes.now < 2 ^ 32 }
-    ensures ok { IfOk result (λ p. joined_to number text.old.items (lines_from next bytes.now) ≡ (record { number = number; text = text.new.items }) ∷ lines_from p.0 p.1.now) }
+    ensures ok { IfOk result (λ p. joined_to number text.old.items (lines_from next bytes.now) ≡
+        (record { number = number; text = text.new.items }) ∷ lines_from p.0 p.1.now) }
     ensures shorter { IfOk result (λ p. length p.1.now ≤ length bytes.now) }
     ensures numbers { IfOk result (λ p. p.0 + length p.1.now ≤ next + length bytes.now) }
-    ensures err { IfErr result (λ e. (e ≡ ObjFault.OutOfMemory) ⊎ ((e ≡ ObjFault.LongLine number) × BeginsLong number (joined_to number text.old.items (lines_from next bytes.now)))) }
+    ensures err { IfErr result (λ e. (e ≡ ObjFault.OutOfMemory) ⊎
+        ((e ≡ ObjFault.LongLine number) ×
+        BeginsLong number (joined_to number text.old.items (lines_from next bytes.now)))) }
 {
     let mut next = next;
     let mut rest = bytes;
@@ -133,10 +139,13 @@ pub(crate) fn join<'a>(
 ) -> Result<(u32, &'a [u8]), ObjFault>
     requires continued { is_continued line.now ≡ true }
     requires numbers { number + 1 + length after.now < 2 ^ 32 }
-    ensures ok { IfOk result (λ p. joined_lines number (line.now ∷ physical_lines after.now) ≡ (record { number = number; text = text.new.items }) ∷ lines_from p.0 p.1.now) }
+    ensures ok { IfOk result (λ p. joined_lines number (line.now ∷ physical_lines after.now) ≡
+        (record { number = number; text = text.new.items }) ∷ lines_from p.0 p.1.now) }
     ensures shorter { IfOk result (λ p. length p.1.now ≤ length after.now) }
     ensures numbers { IfOk result (λ p. p.0 + length p.1.now ≤ number + 1 + length after.now) }
-    ensures err { IfErr result (λ e. (e ≡ ObjFault.OutOfMemory) ⊎ ((e ≡ ObjFault.LongLine number) × BeginsLong number (joined_lines number (line.now ∷ physical_lines after.now)))) }
+    ensures err { IfErr result (λ e. (e ≡ ObjFault.OutOfMemory) ⊎
+        ((e ≡ ObjFault.LongLine number) ×
+        BeginsLong number (joined_lines number (line.now ∷ physical_lines after.now)))) }
 {
     text.clear();
     append_continued(text, number, line)?;

@@ -68,8 +68,10 @@ impl Reader {
 
     fn add_vertex(&mut self, places: u8, line: u32, fields: &[u8]) -> Result<(), ObjFault>
         requires { places ≤ 3 }
-        ensures ok { OnOk result (with_vertex line self.old (corner_in places line (first_three (fields_of fields.now))) ≡ Ok self.new) }
-        ensures err { IfErr result (λ e. (e ≡ ObjFault.OutOfMemory) ⊎ (with_vertex line self.old (corner_in places line (first_three (fields_of fields.now))) ≡ Err e)) }
+        ensures ok { OnOk result
+            (with_vertex line self.old (corner_in places line (first_three (fields_of fields.now))) ≡ Ok self.new) }
+        ensures err { IfErr result (λ e. (e ≡ ObjFault.OutOfMemory) ⊎
+            (with_vertex line self.old (corner_in places line (first_three (fields_of fields.now))) ≡ Err e)) }
     {
         let corner = read_vertex(places, line, fields)?;
         if self.vertices.len() >= MOST_VERTICES {
@@ -83,8 +85,10 @@ impl Reader {
 
     #[tactic(auto, using(crate::proofs::Joins::length_fan))]
     fn add_face(&mut self, mesh: u32, line: u32, fields: &[u8]) -> Result<(), ObjFault>
-        ensures ok { OnOk result (with_face mesh line self.old (corners_of line self.old.vertices (fields_of fields.now)) ≡ Ok self.new) }
-        ensures err { IfErr result (λ e. (e ≡ ObjFault.OutOfMemory) ⊎ (with_face mesh line self.old (corners_of line self.old.vertices (fields_of fields.now)) ≡ Err e)) }
+        ensures ok { OnOk result
+            (with_face mesh line self.old (corners_of line self.old.vertices (fields_of fields.now)) ≡ Ok self.new) }
+        ensures err { IfErr result (λ e. (e ≡ ObjFault.OutOfMemory) ⊎
+            (with_face mesh line self.old (corners_of line self.old.vertices (fields_of fields.now)) ≡ Err e)) }
     {
         read_corners(&mut self.corners, line, &self.vertices, fields)?;
         if self.corners.len() < 3 {
@@ -102,8 +106,10 @@ impl Reader {
     // Reads one line, joined and without comments.
     fn add_line(&mut self, places: u8, mesh: u32, number: u32, text: &[u8]) -> Result<(), ObjFault>
         requires { places ≤ 3 }
-        ensures ok { OnOk result (after_line places mesh self.old (record { number = number; text = text.now }) ≡ Ok self.new) }
-        ensures err { IfErr result (λ e. (e ≡ ObjFault.OutOfMemory) ⊎ (after_line places mesh self.old (record { number = number; text = text.now }) ≡ Err e)) }
+        ensures ok { OnOk result (after_line places mesh self.old (record { number = number; text = text.now }) ≡
+            Ok self.new) }
+        ensures err { IfErr result (λ e. (e ≡ ObjFault.OutOfMemory) ⊎
+            (after_line places mesh self.old (record { number = number; text = text.now }) ≡ Err e)) }
     {
         if text.len() > MOST_BYTES {
             return Err(ObjFault::LongLine(number));
@@ -132,10 +138,14 @@ impl Reader {
     ) -> Result<(u32, &'a [u8]), ObjFault>
         requires places { places ≤ 3 }
         requires numbers { number + 1 + length after.now < 2 ^ 32 }
-        ensures ok { IfOk result (λ p. after_lines places mesh (Ok self.old) (joined_lines number (line.now ∷ physical_lines after.now)) ≡ after_lines places mesh (Ok self.new) (lines_from p.0 p.1.now)) }
+        ensures ok { IfOk result (λ p.
+            after_lines places mesh (Ok self.old) (joined_lines number (line.now ∷ physical_lines after.now)) ≡
+            after_lines places mesh (Ok self.new) (lines_from p.0 p.1.now)) }
         ensures shorter { IfOk result (λ p. length p.1.now ≤ length after.now) }
         ensures numbers { IfOk result (λ p. p.0 + length p.1.now ≤ number + 1 + length after.now) }
-        ensures err { IfErr result (λ e. (e ≡ ObjFault.OutOfMemory) ⊎ (after_lines places mesh (Ok self.old) (joined_lines number (line.now ∷ physical_lines after.now)) ≡ Err e)) }
+        ensures err { IfErr result (λ e. (e ≡ ObjFault.OutOfMemory) ⊎
+            (after_lines places mesh (Ok self.old) (joined_lines number (line.now ∷ physical_lines after.now)) ≡
+            Err e)) }
     {
         if !continues(line) {
             self.add_line(places, mesh, number, skip_comment(line))?;
@@ -157,7 +167,8 @@ impl Reader {
 pub fn read_obj(alloc: Global, bytes: &[u8], places: u8, mesh: u32) -> Result<Soup, ObjFault>
     requires places { places ≤ 3 }
     requires bytes { length bytes.now ≤ 268435456 }
-    ensures ok { IfOk result (λ soup. read_obj_of places mesh bytes.now ≡ Ok (record { tris = soup.tris; lines = soup.lines })) }
+    ensures ok { IfOk result (λ soup. read_obj_of places mesh bytes.now ≡
+        Ok (record { tris = soup.tris; lines = soup.lines })) }
     ensures fault { IfErr result (λ e. (e ≡ ObjFault.OutOfMemory) ⊎ (read_obj_of places mesh bytes.now ≡ Err e)) }
     ensures few { IfOk result (λ soup. length soup.tris ≤ 262144) }
     ensures mesh { IfOk result (λ soup. All (λ t. t.mesh ≡ mesh) soup.tris) }

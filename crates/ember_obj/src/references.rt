@@ -80,7 +80,8 @@ pub(crate) fn read_corners(
     fields: &[u8],
 ) -> Result<(), ObjFault>
     ensures ok { OnOk result (corners_of line vertices.now (fields_of fields.now) ≡ Ok corners.new.items) }
-    ensures err { IfErr result (λ e. (e ≡ ObjFault.OutOfMemory) ⊎ (corners_of line vertices.now (fields_of fields.now) ≡ Err e)) }
+    ensures err { IfErr result (λ e. (e ≡ ObjFault.OutOfMemory) ⊎
+        (corners_of line vertices.now (fields_of fields.now) ≡ Err e)) }
 {
     corners.clear();
     let mut rest = fields;

@@ -49,7 +49,8 @@ fn skip_separators(bytes: &[u8]) -> &[u8]
 
 // The first field, and what follows it.
 pub(crate) fn next_field(bytes: &[u8]) -> Option<(&[u8], &[u8])>
-    ensures fields { MatchOption result (fields_of bytes.now ≡ []) (λ p. fields_of bytes.now ≡ p.0.now ∷ fields_of p.1.now) }
+    ensures fields { MatchOption result (fields_of bytes.now ≡ []) (λ p. fields_of bytes.now ≡ p.0.now ∷
+        fields_of p.1.now) }
     ensures shorter { IfSome result (λ p. length p.1.now < length bytes.now) }
 {
     let start = skip_separators(bytes);
@@ -61,7 +62,8 @@ pub(crate) fn next_field(bytes: &[u8]) -> Option<(&[u8], &[u8])>
 
 // The first three fields, where there are three or more.
 pub(crate) fn three_fields(bytes: &[u8]) -> Option<(&[u8], &[u8], &[u8])>
-    ensures { MatchOption result (first_three (fields_of bytes.now) ≡ None) (λ t. first_three (fields_of bytes.now) ≡ Some (t.0.now, t.1.now, t.2.now)) }
+    ensures { MatchOption result (first_three (fields_of bytes.now) ≡ None) (λ t. first_three (fields_of bytes.now) ≡
+        Some (t.0.now, t.1.now, t.2.now)) }
 {
     let (a, rest) = next_field(bytes)?;
     let (b, rest) = next_field(rest)?;

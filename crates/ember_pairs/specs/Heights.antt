@@ -9,7 +9,12 @@ use Rattle.ember_pairs.specs.declared.heights.Heights.{Heights}
 
 abbrev pub heights_of : Plane → Tri → Heights
 heights_of p t =
-    record { a = value_at p (spot_of_corner t.a); b = value_at p (spot_of_corner t.b); c = value_at p (spot_of_corner t.c) }
+    record {
+      a = value_at p (spot_of_corner t.a);
+      b = value_at p (spot_of_corner t.b);
+      c = value_at p
+          (spot_of_corner t.c);
+    }
 
 abbrev pub all_in_front : Heights → Bool
 all_in_front h = is_positive h.a && (is_positive h.b && is_positive h.c)

@@ -33,21 +33,46 @@ are_halves : (ts : List Tri) (job low high : Job) → pairs_shape ts job ≡ hal
 unfolding pairs_shape
 are_halves ts job low high e = by (nat_lt (length job.list) 2) (is_leaf ts job.cell) refl e
   where
-    by : (few leaf : Bool) → is_leaf ts job.cell ≡ leaf → (if few then passed else (if leaf then leafed else halved (job_at ts (left_half job.cell (halving_axis ts job.cell))) (job_at ts (right_half job.cell (halving_axis ts job.cell))))) ≡ halved low high → AreHalvesOf ts job low high
+    by : (few leaf : Bool) → is_leaf ts job.cell ≡ leaf →
+        (if few then passed else (if leaf then leafed
+        else halved (job_at ts (left_half job.cell (halving_axis ts job.cell)))
+        (job_at ts (right_half job.cell (halving_axis ts job.cell))))) ≡ halved low high → AreHalvesOf ts job low high
     by true leaf q e = absurd (true≢false (sym (ap is_halved e)))
     by false true q e = absurd (true≢false (sym (ap is_halved e)))
     by false false q e =
-        record { may_halve = halvable_unless_leaf ts job.cell q; is_low = ap (low_of job) (sym e); is_high = ap (high_of job) (sym e) }
+        record {
+          may_halve = halvable_unless_leaf ts job.cell q;
+          is_low = ap (low_of job) (sym e);
+          is_high = ap
+              (high_of job) (sym e);
+        }
 
-pub halves_are_valid : (ts : List Tri) (job low high : Job) → IsPairsJob ts job → pairs_shape ts job ≡ halved low high → IsPairsJob ts low × IsPairsJob ts high
+pub halves_are_valid : (ts : List Tri) (job low high : Job) → IsPairsJob ts job →
+    pairs_shape ts job ≡ halved low high → IsPairsJob ts low × IsPairsJob ts high
 halves_are_valid ts job low high v e =
-    let h = are_halves ts job low high e in
-    (subst (λ (j : Job). IsPairsJob ts j) (sym h.is_low) (record { from_root = low_half job.cell v.from_root h.may_halve; is = refl }), subst (λ (j : Job). IsPairsJob ts j) (sym h.is_high) (record { from_root = high_half job.cell v.from_root h.may_halve; is = refl }))
+    let h = are_halves ts job low high e in (
+      subst (λ (j : Job). IsPairsJob ts j) (sym h.is_low)
+          (record {
+            from_root = low_half job.cell v.from_root h.may_halve;
+            is = refl;
+          }),
+      subst (λ (j : Job). IsPairsJob ts j) (sym h.is_high) (record {
+        from_root =
+            high_half job.cell v.from_root h.may_halve;
+        is = refl;
+      }),
+    )
 
-pub halves_are_split : (ts : List Tri) (job low high : Job) → IsPairsJob ts job → pairs_shape ts job ≡ halved low high → IsSplit job.cell low.cell high.cell
+pub halves_are_split : (ts : List Tri) (job low high : Job) → IsPairsJob ts job →
+    pairs_shape ts job ≡ halved low high → IsSplit job.cell low.cell high.cell
 halves_are_split ts job low high v e =
     let h = are_halves ts job low high e in
-    record { axis = halving_axis ts job.cell; may_halve = h.may_halve; is_low = ap (λ (j : Job). j.cell) h.is_low; is_high = ap (λ (j : Job). j.cell) h.is_high }
+    record {
+      axis = halving_axis ts job.cell;
+      may_halve = h.may_halve;
+      is_low = ap (λ (j : Job). j.cell) h.is_low;
+      is_high = ap (λ (j : Job). j.cell) h.is_high;
+    }
 
 -- ---- one list of meeting pairs
 one_at : (ts : List Tri) (p : Pair) (ys zs : List Pair) → AtPair ts p ys → AtPair ts p zs → ys ≡ zs
@@ -56,5 +81,6 @@ one_at ts p ys zs (meeting m) (apart n) = absurd (n m)
 one_at ts p ys zs (apart m) (meeting n) = absurd (m n)
 one_at ts p ys zs (apart m) (apart n) = refl
 
-pub one_list : (ts : List Tri) (is : List ℕ) (ps qs : List Pair) → AreMeetingPairs ts is ps → AreMeetingPairs ts is qs → ps ≡ qs
+pub one_list : (ts : List Tri) (is : List ℕ) (ps qs : List Pair) → AreMeetingPairs ts is ps →
+    AreMeetingPairs ts is qs → ps ≡ qs
 one_list ts is ps qs e d = each_unique (one_at ts) e d

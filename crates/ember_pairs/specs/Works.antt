@@ -11,8 +11,10 @@ use Rattle.ember_job.specs.Works.{Shape, halved, leafed, passed}
 -- the boxes that come from the root by halvings along the halving axis
 pub data IsFromRoot (ts : List Tri) : Cell → Type 0 where
   at_root : IsFromRoot ts root
-  low_half : (c : Cell) → IsFromRoot ts c → 0 < c.log (halving_axis ts c) → IsFromRoot ts (left_half c (halving_axis ts c))
-  high_half : (c : Cell) → IsFromRoot ts c → 0 < c.log (halving_axis ts c) → IsFromRoot ts (right_half c (halving_axis ts c))
+  low_half : (c : Cell) → IsFromRoot ts c → 0 < c.log (halving_axis ts c) →
+      IsFromRoot ts (left_half c (halving_axis ts c))
+  high_half : (c : Cell) → IsFromRoot ts c → 0 < c.log (halving_axis ts c) →
+      IsFromRoot ts (right_half c (halving_axis ts c))
 
 abbrev pub no_windings : Vector
 no_windings = record { counts = replicate 64 (pos 0) }
@@ -28,4 +30,7 @@ pub record IsPairsJob (ts : List Tri) (job : Job) : Type 0 where
 -- what becomes of a box: it is passed over with fewer than two near triangles, else it is a leaf or halved
 unfoldable pub pairs_shape : List Tri → Job → Shape
 pairs_shape ts job =
-    if nat_lt (length job.list) 2 then passed else (if is_leaf ts job.cell then leafed else halved (job_at ts (left_half job.cell (halving_axis ts job.cell))) (job_at ts (right_half job.cell (halving_axis ts job.cell))))
+    if nat_lt (length job.list) 2 then passed
+    else (if is_leaf ts job.cell then leafed
+    else halved (job_at ts (left_half job.cell (halving_axis ts job.cell)))
+    (job_at ts (right_half job.cell (halving_axis ts job.cell))))

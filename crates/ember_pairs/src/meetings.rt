@@ -148,7 +148,8 @@ fn meet_in(
     requires candidates { candidates.now ≡ candidates_at tris.now list.now }
     requires one { a < length list.now }
     requires other { b < length list.now }
-    ensures { IfOk result (λ m. IsTrue m ↔ AreMeeting (tri_at tris.now (slice_index list.now a)) (tri_at tris.now (slice_index list.now b))) }
+    ensures { IfOk result (λ m. IsTrue m ↔
+        AreMeeting (tri_at tris.now (slice_index list.now a)) (tri_at tris.now (slice_index list.now b))) }
 {
     let t = tris[list[a] as usize];
     let u = tris[list[b] as usize];
@@ -178,7 +179,9 @@ fn push_row(
     requires places { All (λ i. i < length tris.now) list.now }
     requires candidates { candidates.now ≡ candidates_at tris.now list.now }
     requires index { a < length list.now }
-    ensures { OnOk result ((all later : List Pair) → Completes tris.now all (row (slice_index list.now a) (drop (a + 1) list.now) ++ later) out.old.items → Completes tris.now all later out.new.items) }
+    ensures { OnOk result ((all later : List Pair) →
+        Completes tris.now all (row (slice_index list.now a) (drop (a + 1) list.now) ++ later) out.old.items →
+        Completes tris.now all later out.new.items) }
 {
     for b in a + 1..list.len() {
         let pair = Pair {

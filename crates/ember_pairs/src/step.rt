@@ -89,7 +89,8 @@ fn job_of(cell: Cell, near: Vec<u32>) -> Job
 /// the halving axis, each with the triangles near it.
 pub fn pair_step(alloc: Global, s: &Scene, job: &Job) -> Result<Outcome<PairList>, OutOfMemory>
     requires { IsPairsJob s.now.tris job.now }
-    ensures { IfOk result (λ o. Answers (λ j. pairs_shape s.now.tris j) (λ j ps. AreMeetingPairs s.now.tris j.list ps) job.now o) }
+    ensures { IfOk result (λ o.
+        Answers (λ j. pairs_shape s.now.tris j) (λ j ps. AreMeetingPairs s.now.tris j.list ps) job.now o) }
 {
     let list = job.list.items();
     if list.len() < 2 {

@@ -36,7 +36,13 @@ for_z p = record { x = p.a; y = p.b; z = p.d }
 -- the four determinants
 abbrev pub determinants : Plane → Plane → Plane → Spot
 determinants p q r =
-    record { x = det (for_x p) (for_x q) (for_x r); y = det (for_y p) (for_y q) (for_y r); z = det (for_z p) (for_z q) (for_z r); w = weight p q r }
+    record {
+      x = det (for_x p) (for_x q) (for_x r);
+      y = det (for_y p) (for_y q) (for_y r);
+      z = det (for_z p)
+          (for_z q) (for_z r);
+      w = weight p q r;
+    }
 
 -- with the sign turned where the weight is negative
 abbrev pub meet_of : Plane → Plane → Plane → Spot
@@ -66,4 +72,5 @@ pub record IsGreatestDivisor (v : Spot) (d : ℤ) : Type 0 where
   pub y : unsigned_abs d ∣ unsigned_abs v.y
   pub z : unsigned_abs d ∣ unsigned_abs v.z
   pub w : unsigned_abs d ∣ unsigned_abs v.w
-  pub greatest : (k : ℕ) → k ∣ unsigned_abs v.x → k ∣ unsigned_abs v.y → k ∣ unsigned_abs v.z → k ∣ unsigned_abs v.w → k ∣ unsigned_abs d
+  pub greatest : (k : ℕ) → k ∣ unsigned_abs v.x → k ∣ unsigned_abs v.y → k ∣ unsigned_abs v.z →
+      k ∣ unsigned_abs v.w → k ∣ unsigned_abs d

@@ -7,5 +7,6 @@ ghost use Rattle.ember_model.specs.Valid.{IsValidMeet, IsValidPlane};
 
 /// The value of a valid plane at a meet is below 2^119 in size.
 pub fn values_at_meets_are_small()
-    ensures { (p : Plane) (m : Spot) → IsValidPlane p → IsValidMeet m → Small 664613997892457936451903530140172287 (value_at p m) }
+    ensures { (p : Plane) (m : Spot) → IsValidPlane p → IsValidMeet m →
+        Small 664613997892457936451903530140172287 (value_at p m) }
 {}

@@ -42,10 +42,12 @@ with_start_at k v xs = take k xs ++ with_first_start v (drop k xs)
 -- the sides that a passage keeps, from the entry to the exit, and the closing side behind them
 abbrev pub part_sides : List Side → Passage → Plane → ℕ → List Side
 part_sides xs at p plane_index =
-    with_first_start (spot_of at.entry) (take (at.kept + 1) (rotated at.first xs)) ++ closing_side p (spot_of at.exit) plane_index ∷ []
+    with_first_start (spot_of at.entry) (take (at.kept + 1) (rotated at.first xs)) ++
+    closing_side p (spot_of at.exit) plane_index ∷ []
 
 -- these sides, rotated
-pub record IsPartOfBoundary (old : Boundary) (at : Passage) (p : Plane) (plane_index : ℕ) (new : Boundary) : Type 0 where
+pub record IsPartOfBoundary (old : Boundary) (at : Passage) (p : Plane) (plane_index : ℕ)
+    (new : Boundary) : Type 0 where
   pub index : ℕ
   pub order : sides new ≡ rotated index (part_sides (sides old) at p plane_index)
   pub paired : HasEqualLengths new

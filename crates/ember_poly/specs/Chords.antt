@@ -59,7 +59,8 @@ pub record IsLine (n p : Plane) (y z : Spot) : Type 0 where
 -- the triangle lies strictly on one side of the plane
 abbrev pub IsOnOneSide : Plane → Tri → Type 0
 IsOnOneSide p t =
-    (IsAbove p (spot_of_corner t.a) × IsAbove p (spot_of_corner t.b) × IsAbove p (spot_of_corner t.c)) ⊎ (IsBelow p (spot_of_corner t.a) × IsBelow p (spot_of_corner t.b) × IsBelow p (spot_of_corner t.c))
+    (IsAbove p (spot_of_corner t.a) × IsAbove p (spot_of_corner t.b) × IsAbove p (spot_of_corner t.c)) ⊎
+    (IsBelow p (spot_of_corner t.a) × IsBelow p (spot_of_corner t.b) × IsBelow p (spot_of_corner t.c))
 
 -- the plane cuts f, and y and z are the ends of what it has in f
 pub record IsChord (f : Face) (p : Plane) (y z : Spot) : Type 0 where

@@ -43,4 +43,5 @@ point_at Z t u v w = record { x = u; y = v; z = t; w = w }
 -- the meet of the two lines
 abbrev pub level_meet : Axis → ℤ → Plane → Plane → Spot
 level_meet k at p q =
-    point_at k (at *ℤ turn_at k p q) (line_d k at p *ℤ line_b k q -ℤ line_b k p *ℤ line_d k at q) (line_d k at q *ℤ line_a k p -ℤ line_a k q *ℤ line_d k at p) (turn_at k p q)
+    point_at k (at *ℤ turn_at k p q) (line_d k at p *ℤ line_b k q -ℤ line_b k p *ℤ line_d k at q)
+    (line_d k at q *ℤ line_a k p -ℤ line_a k q *ℤ line_d k at p) (turn_at k p q)

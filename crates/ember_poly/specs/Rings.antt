@@ -21,7 +21,12 @@ orientation n g h = det (normal n) (normal g) (normal h)
 -- the point of the segment from a to b that p meets
 abbrev pub mix : Plane → Spot → Spot → Spot
 mix p a b =
-    record { x = value_at p b *ℤ a.x -ℤ value_at p a *ℤ b.x; y = value_at p b *ℤ a.y -ℤ value_at p a *ℤ b.y; z = value_at p b *ℤ a.z -ℤ value_at p a *ℤ b.z; w = value_at p b *ℤ a.w -ℤ value_at p a *ℤ b.w }
+    record {
+      x = value_at p b *ℤ a.x -ℤ value_at p a *ℤ b.x;
+      y = value_at p b *ℤ a.y -ℤ value_at p a *ℤ b.y;
+      z = value_at p b *ℤ a.z -ℤ value_at p a *ℤ b.z;
+      w = value_at p b *ℤ a.w -ℤ value_at p a *ℤ b.w;
+    }
 
 pub record IsBelow (p : Plane) (v : Spot) : Type 0 where
   pub under : value_at p v <ℤ pos 0
@@ -39,7 +44,8 @@ pub record IsCornerOf (n g : Plane) (s : Side) : Type 0 where
 abbrev pub IsSideChain : Plane → Plane → List Side → Type 0
 IsSideChain n g [] = Unit {0}
 IsSideChain n g (s ∷ xs) =
-    IsCornerOf n g s × AllByRecursion (λ t. IsBelow g t.corner) xs × AllByRecursion (λ t. IsBelow t.plane s.corner) xs × IsSideChain n s.plane xs
+    IsCornerOf n g s × AllByRecursion (λ t. IsBelow g t.corner) xs ×
+    AllByRecursion (λ t. IsBelow t.plane s.corner) xs × IsSideChain n s.plane xs
 
 abbrev pub Long : List Side → Type 0
 Long [] = ⊥

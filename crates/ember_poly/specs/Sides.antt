@@ -32,7 +32,8 @@ pub record HasPlaneIndex (index : ℕ) (xs : List Side) : Type 0 where
 -- the plane is 0 at one place of the closed ring at most
 abbrev pub IsZeroAtOnePoint : Plane → List Side → Plane → Type 0
 IsZeroAtOnePoint n xs h =
-    (u v : Spot) → IsInClosedRing n xs u → IsInClosedRing n xs v → value_at h u ≡ pos 0 → value_at h v ≡ pos 0 → SamePoint u v
+    (u v : Spot) → IsInClosedRing n xs u → IsInClosedRing n xs v → value_at h u ≡ pos 0 → value_at h v ≡ pos 0 →
+    SamePoint u v
 
 -- each plane of the face is that of a side, or its edge does not count
 abbrev pub AllAreEdges : Plane → List Plane → List Side → Type 0

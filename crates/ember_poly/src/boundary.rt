@@ -132,7 +132,9 @@ impl Boundary {
         requires order { from ≤ to }
         requires within { to ≤ length self.old.edges.items }
         requires paired { HasEqualLengths self.old }
-        ensures order { OnOk result (sides self.new ≡ replace_between from to (closing_side side.plane (spot_of side.corner) side.plane_index) (sides self.old)) }
+        ensures order { OnOk result (sides self.new ≡
+            replace_between from to (closing_side side.plane (spot_of side.corner) side.plane_index)
+            (sides self.old)) }
         ensures some { OnOk result (0 < length self.new.edges.items) }
         ensures paired { OnOk result (HasEqualLengths self.new) }
     {

@@ -15,7 +15,8 @@ use ember_point::{Meet, side};
 
 // With one more corner, on this side.
 fn with_corner(seen: Reach, at: Sign) -> Reach
-    ensures { (p : Plane) (ms : List Meet) (m : Meet) → AreSigns p ms seen → at ≡ sgn (value_at p (spot_of m)) → AreSigns p (ms ++ m ∷ []) result }
+    ensures { (p : Plane) (ms : List Meet) (m : Meet) → AreSigns p ms seen → at ≡ sgn (value_at p (spot_of m)) →
+        AreSigns p (ms ++ m ∷ []) result }
 {
     match at {
         Sign::Zero => seen,

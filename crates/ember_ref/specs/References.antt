@@ -14,7 +14,11 @@ use Rattle.ember_box.specs.Reference.{reference_at, reference, vector_at, Fits}
 
 -- three coordinates, in the order of the axes
 abbrev pub corner_of : List ℤ → Vector
-corner_of cs = record { x = slice_index_or cs 0 (pos 0); y = slice_index_or cs 1 (pos 0); z = slice_index_or cs 2 (pos 0) }
+corner_of cs = record {
+  x = slice_index_or cs 0 (pos 0);
+  y = slice_index_or cs 1 (pos 0);
+  z = slice_index_or cs 2 (pos 0);
+}
 
 -- the coordinates of boxes' corners are at most 2048 in size
 pub record IsBoxCorner (v : Vector) : Type 0 where

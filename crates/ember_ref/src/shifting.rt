@@ -118,7 +118,8 @@ fn segment_back(c: &Cell, k: Axis) -> AxisSegment
 fn crossing_on(t: &Tri, w: &AxisSegment) -> i32
     requires tri { IsValidTri t.now }
     requires straight { IsAlongAxis w.now }
-    ensures value { (c : Box) (k : Axis) → 0 < c.log k → IsSegmentBack c k w.now → result ≡ leg (face_of t.now) (reference (right_half c k)) (reference c) }
+    ensures value { (c : Box) (k : Axis) → 0 < c.log k → IsSegmentBack c k w.now →
+        result ≡ leg (face_of t.now) (reference (right_half c k)) (reference c) }
     ensures small { Small 1 result }
 {
     if aabbs_meet_beside(t, &w.aabb, w.axis) {
@@ -134,7 +135,9 @@ fn carry(t: &Tri, w: &AxisSegment, v: &mut Vector)
     requires numbered { HasMesh 64 t.now }
     requires straight { IsAlongAxis w.now }
     requires room { All (Small 1073741823) v.old.counts }
-    ensures value { (c : Box) (k : Axis) → 0 < c.log k → IsSegmentBack c k w.now → v.new.counts ≡ with_more v.old.counts t.now.mesh (leg (face_of t.now) (reference (right_half c k)) (reference c)) }
+    ensures value { (c : Box) (k : Axis) → 0 < c.log k → IsSegmentBack c k w.now →
+        v.new.counts ≡ with_more v.old.counts t.now.mesh
+        (leg (face_of t.now) (reference (right_half c k)) (reference c)) }
     ensures within { (m : ℕ) → All (Small m) v.old.counts → All (Small (m + 1)) v.new.counts }
 {
     add_count(v, t.mesh, crossing_on(t, w));

@@ -25,8 +25,15 @@ is_skipped e = is_passed e.kind
 -- the entries of all journals, the leaves among them, and those that were passed over
 abbrev pub report_from : List (List Entry) → ℕ → Report
 report_from journals faces =
-    record { boxes = sum_by length journals; leaves = sum_by (count_by is_leaf) journals; skipped = sum_by (count_by is_skipped) journals; faces = faces }
+    record {
+      boxes = sum_by length journals;
+      leaves = sum_by (count_by is_leaf) journals;
+      skipped = sum_by
+          (count_by is_skipped) journals;
+      faces = faces;
+    }
 
 abbrev pub line_of : Report → List ℕ
 line_of r =
-    codes "boxes " ++ decimal r.boxes ++ codes " leaves " ++ decimal r.leaves ++ codes " skipped " ++ decimal r.skipped ++ codes " faces " ++ decimal r.faces ++ codes "\n"
+    codes "boxes " ++ decimal r.boxes ++ codes " leaves " ++ decimal r.leaves ++ codes " skipped " ++
+    decimal r.skipped ++ codes " faces " ++ decimal r.faces ++ codes "\n"

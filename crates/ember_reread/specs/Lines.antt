@@ -33,7 +33,12 @@ pub record IsPlane (p : Plane) (bytes rest : List ℕ) : Type 0 where
   pub fields : AreFields 33554431 549755813887 (record { x = p.a; y = p.b; z = p.c; w = p.d }) bytes rest
 
 pub record IsCorner (v : Spot) (bytes rest : List ℕ) : Type 0 where
-  pub fields : AreFields 4951760157141521099596496895 302231454903657293676543 (record { x = v.x; y = v.y; z = v.z; w = v.w }) bytes rest
+  pub fields : AreFields 4951760157141521099596496895 302231454903657293676543 (record {
+    x = v.x;
+    y = v.y;
+    z = v.z;
+    w = v.w;
+  }) bytes rest
   pub written : IsWrittenCorner v
 
 -- ---- lines

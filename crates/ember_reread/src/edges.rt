@@ -12,7 +12,8 @@ use std::alloc::Global;
 
 // The plane of an edge's line, and what follows the line.
 fn take_edge(bytes: &[u8]) -> Option<(Plane, &[u8])>
-    ensures { MatchOption result ((e : RingEdge) (rest : List ℕ) → IsEdgeLine e bytes.now rest → ⊥) (λ t. HasEdge t.0 bytes.now t.1.now) }
+    ensures { MatchOption result ((e : RingEdge) (rest : List ℕ) → IsEdgeLine e bytes.now rest →
+        ⊥) (λ t. HasEdge t.0 bytes.now t.1.now) }
 {
     let (plane, rest) = take_plane(skip_byte(bytes, b'e')?)?;
     let rest = skip_byte(skip_corner(rest)?, b'\n')?;
@@ -22,7 +23,8 @@ fn take_edge(bytes: &[u8]) -> Option<(Plane, &[u8])>
 // The planes of that many edges' lines, and what follows.
 fn take_edges(alloc: Global, bytes: &[u8], count: usize) -> Result<(Vec<Plane>, &[u8]), RereadFault>
     ensures ok { IfOk result (λ t. HasEdges count t.0.items bytes.now t.1.now) }
-    ensures form { IfErr result (λ e. (e ≡ RereadFault.OutOfMemory) ⊎ ((ps : List Plane) (rest : List ℕ) → HasEdges count ps bytes.now rest → ⊥)) }
+    ensures form { IfErr result (λ e. (e ≡ RereadFault.OutOfMemory) ⊎ ((ps : List Plane) (rest : List ℕ) →
+        HasEdges count ps bytes.now rest → ⊥)) }
 {
     let mut planes = Vec::new(alloc);
     let mut rest = bytes;
@@ -38,7 +40,8 @@ fn take_edges(alloc: Global, bytes: &[u8], count: usize) -> Result<(Vec<Plane>, 
 
 // A face's first line: its support plane and the number of its edges. And what follows the line.
 fn take_support(bytes: &[u8]) -> Option<(Plane, usize, &[u8])>
-    ensures line { MatchOption result ((n : Plane) (count : ℕ) (rest : List ℕ) → count ≤ length bytes.now → IsSupportLine n count bytes.now rest → ⊥) (λ t. IsSupportLine t.0 t.1 bytes.now t.2.now) }
+    ensures line { MatchOption result ((n : Plane) (count : ℕ) (rest : List ℕ) → count ≤ length bytes.now →
+        IsSupportLine n count bytes.now rest → ⊥) (λ t. IsSupportLine t.0 t.1 bytes.now t.2.now) }
     ensures fits { IfSome result (λ t. t.1 ≤ length bytes.now) }
 {
     let (support, rest) = take_plane(skip_byte(bytes, b'f')?)?;
@@ -52,7 +55,8 @@ fn take_support(bytes: &[u8]) -> Option<(Plane, usize, &[u8])>
 // The face of the lines of a face, and what follows them.
 pub(crate) fn take_face(alloc: Global, bytes: &[u8]) -> Result<(Face, &[u8]), RereadFault>
     ensures ok { IfOk result (λ t. HasFace t.0 bytes.now t.1.now) }
-    ensures form { IfErr result (λ e. (e ≡ RereadFault.OutOfMemory) ⊎ ((w : WrittenFace) (rest : List ℕ) → IsFaceLines w bytes.now rest → ⊥)) }
+    ensures form { IfErr result (λ e. (e ≡ RereadFault.OutOfMemory) ⊎ ((w : WrittenFace) (rest : List ℕ) →
+        IsFaceLines w bytes.now rest → ⊥)) }
 {
     let Some((support, count, rest)) = take_support(bytes) else {
         return Err(RereadFault::Form);

@@ -58,7 +58,8 @@ fn faces_in(alloc: Global, bytes: &[u8]) -> Result<FaceList, RereadFault>
 /// dropped.
 pub fn read_faces(alloc: Global, bytes: &[u8]) -> Result<FaceList, RereadFault>
     ensures faces { IfOk result (λ list. IsFaceFile bytes.now list) }
-    ensures form { IfErr result (λ e. (e ≡ RereadFault.OutOfMemory) ⊎ ((fs : List Face) → IsFaceFile bytes.now fs → ⊥)) }
+    ensures form { IfErr result (λ e. (e ≡ RereadFault.OutOfMemory) ⊎ ((fs : List Face) → IsFaceFile bytes.now fs →
+        ⊥)) }
     ensures valid { IfOk result (λ list. All IsValidFace list) }
     ensures few { IfOk result (λ list. length list ≤ length bytes.now) }
 {

@@ -57,7 +57,8 @@ fn size_in(digits: &[u8], most: u128) -> Option<u128>
 // The number that a minus and these digits spell, where its size is at most `most`.
 fn negative_in(digits: &[u8], most: u128) -> Option<i128>
     requires { most < 2 ^ 124 }
-    ensures { MatchOption result ((z : ℤ) → IsNumber most z (45 ∷ digits.now) → ⊥) (λ z. IsNumber most z (45 ∷ digits.now)) }
+    ensures { MatchOption result ((z : ℤ) → IsNumber most z (45 ∷ digits.now) →
+        ⊥) (λ z. IsNumber most z (45 ∷ digits.now)) }
 {
     let size = size_in(digits, most)?;
     if size == 0 {

@@ -25,7 +25,8 @@ pub(crate) fn skip_byte(bytes: &[u8], byte: u8) -> Option<&[u8]>
 
 // What follows the text, where the bytes begin with it.
 pub(crate) fn skip_bytes<'a>(bytes: &'a [u8], text: &[u8]) -> Option<&'a [u8]>
-    ensures { MatchOption result ((rest : List ℕ) → bytes.now ≡ text.now ++ rest → ⊥) (λ rest. bytes.now ≡ text.now ++ rest.now) }
+    ensures { MatchOption result ((rest : List ℕ) → bytes.now ≡ text.now ++ rest →
+        ⊥) (λ rest. bytes.now ≡ text.now ++ rest.now) }
 {
     bytes.strip_prefix(text)
 }
@@ -45,7 +46,8 @@ fn cut_word(bytes: &[u8]) -> (&[u8], &[u8])
 // A space and a number of at most this size, and what follows.
 pub(crate) fn take_number(bytes: &[u8], most: u128) -> Option<(i128, &[u8])>
     requires { most < 2 ^ 124 }
-    ensures { MatchOption result ((z : ℤ) (rest : List ℕ) → IsField most z bytes.now rest → ⊥) (λ p. IsField most p.0 bytes.now p.1.now) }
+    ensures { MatchOption result ((z : ℤ) (rest : List ℕ) → IsField most z bytes.now rest →
+        ⊥) (λ p. IsField most p.0 bytes.now p.1.now) }
 {
     let (word, rest) = cut_word(skip_byte(bytes, b' ')?);
     Some((number_in(word, most)?, rest))
@@ -55,7 +57,8 @@ pub(crate) fn take_number(bytes: &[u8], most: u128) -> Option<(i128, &[u8])>
 fn take_four(bytes: &[u8], most: u128, last: u128) -> Option<(Four, &[u8])>
     requires most { most < 2 ^ 124 }
     requires last { last < 2 ^ 124 }
-    ensures { MatchOption result ((v : Four) (rest : List ℕ) → AreFields most last v bytes.now rest → ⊥) (λ p. AreFields most last p.0 bytes.now p.1.now) }
+    ensures { MatchOption result ((v : Four) (rest : List ℕ) → AreFields most last v bytes.now rest →
+        ⊥) (λ p. AreFields most last p.0 bytes.now p.1.now) }
 {
     let (x, rest) = take_number(bytes, most)?;
     let (y, rest) = take_number(rest, most)?;
@@ -76,7 +79,8 @@ const MOST_WEIGHT: u128 = (1 << 78) - 1;
 
 // A valid plane, and what follows.
 pub(crate) fn take_plane(bytes: &[u8]) -> Option<(Plane, &[u8])>
-    ensures { MatchOption result ((p : Plane) (rest : List ℕ) → IsPlane p bytes.now rest → ⊥) (λ t. IsPlane t.0 bytes.now t.1.now) }
+    ensures { MatchOption result ((p : Plane) (rest : List ℕ) → IsPlane p bytes.now rest →
+        ⊥) (λ t. IsPlane t.0 bytes.now t.1.now) }
 {
     let (four, rest) = take_four(bytes, MOST_NORMAL, MOST_CONSTANT)?;
     let plane = Plane {
@@ -96,7 +100,8 @@ fn is_lowest(corner: &Meet) -> bool
 
 // What follows a corner in lowest terms.
 pub(crate) fn skip_corner(bytes: &[u8]) -> Option<&[u8]>
-    ensures { MatchOption result ((v : Spot) (rest : List ℕ) → IsCorner v bytes.now rest → ⊥) (λ rest. (v : Spot) × IsCorner v bytes.now rest.now) }
+    ensures { MatchOption result ((v : Spot) (rest : List ℕ) → IsCorner v bytes.now rest →
+        ⊥) (λ rest. (v : Spot) × IsCorner v bytes.now rest.now) }
 {
     let (four, rest) = take_four(bytes, MOST_COORDINATE, MOST_WEIGHT)?;
     if four.w < 1 {

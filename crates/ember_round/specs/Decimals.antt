@@ -17,4 +17,5 @@ fraction_text places part = if part == 0 then [] else 46 ∷ fraction_digits pla
 
 -- size / 10 ^ places
 abbrev pub decimal_text : Bool → ℕ → ℕ → List ℕ
-decimal_text negative size places = sign_text negative size ++ (decimal (size / 10 ^ places) ++ fraction_text places (size % 10 ^ places))
+decimal_text negative size places =
+    sign_text negative size ++ (decimal (size / 10 ^ places) ++ fraction_text places (size % 10 ^ places))

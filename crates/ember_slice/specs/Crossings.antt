@@ -20,7 +20,8 @@ orientation u v p =
 abbrev pub passing : (Spot → ℤ) → Spot → Directed → ℤ
 passing c p s =
     if (is_lower c s.first p && is_lower c p s.last) && is_positive (orientation s.first s.last p) then pos 1
-    else (if (is_lower c s.last p && is_lower c p s.first) && is_negative (orientation s.first s.last p) then negsuc 0 else pos 0)
+    else (if (is_lower c s.last p && is_lower c p s.first) && is_negative (orientation s.first s.last p)
+    then negsuc 0 else pos 0)
 
 -- the signed crossing of the ray from p along x: 1 where y grows from the first end to the last
 abbrev pub ray_x : Spot → Directed → ℤ

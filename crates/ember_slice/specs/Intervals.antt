@@ -55,7 +55,8 @@ pub record AreEnds (n : Plane) (at : ℤ) (s : LineInterval) : Type 0 where
 -- the new span is what the plane leaves of the old one
 pub record IsNarrowed (n : Plane) (at : ℤ) (p : Plane) (old new : LineInterval) : Type 0 where
   pub ends : AreEnds n at new
-  pub left : (v : Spot) → is_on_line n at v ≡ true → is_in_interval n new v ≡ is_in_interval n old v && is_negative (value_at p v)
+  pub left : (v : Spot) → is_on_line n at v ≡ true →
+      is_in_interval n new v ≡ is_in_interval n old v && is_negative (value_at p v)
 
 -- the span is the part of the line behind the planes
 pub record IsInterval (n : Plane) (at : ℤ) (ps : List Plane) (s : LineInterval) : Type 0 where

@@ -22,7 +22,8 @@ pub record IsSegment (f : Face) (at : ℤ) (u v : Spot) : Type 0 where
   pub first : is_on_line f.support at u ≡ true
   pub last : is_on_line f.support at v ≡ true
   pub leads : is_before f.support u v ≡ true
-  pub between : (p : Spot) → is_on_line f.support at p ≡ true → is_cut f at p ≡ is_before f.support u p && is_before f.support p v
+  pub between : (p : Spot) → is_on_line f.support at p ≡ true →
+      is_cut f at p ≡ is_before f.support u p && is_before f.support p v
   pub first_lowest : IsLowest u
   pub last_lowest : IsLowest v
 
@@ -32,10 +33,12 @@ GivesNone f at = IsFlat f.support ⊎ ((p : Spot) → is_cut f at p ≡ false)
 
 -- some inside point at the level lies beyond each point of the line
 abbrev pub IsUnboundedAhead : Face → ℤ → Type 0
-IsUnboundedAhead f at = (u : Spot) → is_on_line f.support at u ≡ true → (p : Spot) × (is_cut f at p ≡ true) × (is_before f.support u p ≡ true)
+IsUnboundedAhead f at = (u : Spot) → is_on_line f.support at u ≡ true → (p : Spot) × (is_cut f at p ≡ true) ×
+    (is_before f.support u p ≡ true)
 
 abbrev pub IsUnboundedBack : Face → ℤ → Type 0
-IsUnboundedBack f at = (u : Spot) → is_on_line f.support at u ≡ true → (p : Spot) × (is_cut f at p ≡ true) × (is_before f.support p u ≡ true)
+IsUnboundedBack f at = (u : Spot) → is_on_line f.support at u ≡ true → (p : Spot) × (is_cut f at p ≡ true) ×
+    (is_before f.support p u ≡ true)
 
 -- the inside points at the level aren't bounded
 pub record IsEndless (f : Face) (at : ℤ) : Type 0 where

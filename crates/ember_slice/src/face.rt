@@ -19,7 +19,9 @@ use ember_point::{reduce, side};
 
 // The segment from one end to the other, where the first comes before the last.
 fn between(first: &End, last: &End) -> Option<Segment>
-    ensures { let test = is_negative (value_at last.now.plane (spot_of first.now.point)) in MatchOption result (test ≡ false) (λ s. (test ≡ true) × Joins (spot_of first.now.point) (spot_of last.now.point) s) }
+    ensures { let test = is_negative (value_at last.now.plane (spot_of first.now.point)) in
+        MatchOption result (test ≡ false) (λ s. (test ≡ true) ×
+        Joins (spot_of first.now.point) (spot_of last.now.point) s) }
 {
     match side(&last.plane, &first.point) {
         Sign::Neg => Some(Segment {
@@ -32,7 +34,8 @@ fn between(first: &End, last: &End) -> Option<Segment>
 
 // The segment from the first end to the last, where there are both.
 fn segment_between_ends(interval: &LineInterval) -> Result<Option<Segment>, Endless>
-    ensures { (f : Face) (at : ℤ) → (IsFlat f.support → ⊥) → IsInterval f.support at f.edges interval.now → IsAnswer f at result }
+    ensures { (f : Face) (at : ℤ) → (IsFlat f.support → ⊥) → IsInterval f.support at f.edges interval.now →
+        IsAnswer f at result }
 {
     let Some(first) = interval.first else {
         return Err(Endless);

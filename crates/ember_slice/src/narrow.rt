@@ -25,7 +25,8 @@ fn is_in_front(p: &Plane, point: &Meet) -> bool
 
 // Of two ends on the same side the one that leaves less of the line.
 fn tighter(end: Option<End>, new: End) -> End
-    ensures { MatchOption end (result ≡ new) (λ e. result ≡ (if is_positive (value_at new.plane (spot_of e.point)) then new else e)) }
+    ensures { MatchOption end (result ≡ new) (λ e. result ≡ (if is_positive (value_at new.plane (spot_of e.point))
+        then new else e)) }
 {
     match end {
         None => new,
@@ -42,7 +43,8 @@ fn tighter(end: Option<End>, new: End) -> End
 // What is left of the span after the point, where the line passes to behind the plane.
 fn left_after(interval: LineInterval, plane: &Plane, point: Meet) -> LineInterval
     requires { IsValidPlane plane.now }
-    ensures { (n : Plane) (at : ℤ) → AreEnds n at interval → Enters n at plane.now (spot_of point) → IsNarrowed n at plane.now interval result }
+    ensures { (n : Plane) (at : ℤ) → AreEnds n at interval → Enters n at plane.now (spot_of point) →
+        IsNarrowed n at plane.now interval result }
 {
     let end = End {
         plane: *plane,
@@ -57,7 +59,8 @@ fn left_after(interval: LineInterval, plane: &Plane, point: Meet) -> LineInterva
 // What is left of the span before the point, where the line passes back to the plane's front.
 fn left_before(interval: LineInterval, plane: &Plane, point: Meet) -> LineInterval
     requires { IsValidPlane plane.now }
-    ensures { (n : Plane) (at : ℤ) → AreEnds n at interval → Leaves n at plane.now (spot_of point) → IsNarrowed n at plane.now interval result }
+    ensures { (n : Plane) (at : ℤ) → AreEnds n at interval → Leaves n at plane.now (spot_of point) →
+        IsNarrowed n at plane.now interval result }
 {
     let end = End {
         plane: *plane,
@@ -95,7 +98,8 @@ pub(crate) fn span_behind(support: &Plane, at: i32, planes: &[Plane]) -> Option<
     requires high { at ≤ℤ pos 2047 }
     requires planes { All IsValidPlane planes.now }
     requires tilted { IsFlat support.now → ⊥ }
-    ensures { MatchOption result ((v : Spot) → is_on_line support.now at v ≡ true → is_behind planes.now v ≡ false) (IsInterval support.now at planes.now) }
+    ensures { MatchOption result ((v : Spot) → is_on_line support.now at v ≡ true →
+        is_behind planes.now v ≡ false) (IsInterval support.now at planes.now) }
 {
     let mut interval = LineInterval {
         first: None,

@@ -37,7 +37,8 @@ fn put_line(keyword: &[u8], numbers: &[i128], out: &mut Vec<u8>) -> Result<(), O
 }
 
 fn put_segment(s: &Segment, out: &mut Vec<u8>) -> Result<(), OutOfMemory>
-    ensures { OnOk result (out.new.items ≡ out.old.items ++ segment_line (record { first = spot_of s.now.first; last = spot_of s.now.last })) }
+    ensures { OnOk result (out.new.items ≡ out.old.items ++
+        segment_line (record { first = spot_of s.now.first; last = spot_of s.now.last })) }
 {
     let numbers = [
         s.first.x, s.first.y, s.first.z, s.first.w, s.last.x, s.last.y, s.last.z, s.last.w,
@@ -53,7 +54,8 @@ fn put_face(face: &Face, number: u32, at: i32, out: &mut Vec<u8>) -> Result<u32,
     requires high { at ≤ℤ pos 2047 }
     ensures ok { IfOk result (λ count. AddsSegment face.now at count out.old.items out.new.items) }
     ensures one { IfOk result (λ count. count ≤ 1) }
-    ensures endless { IfErr result (λ e. (e ≡ SliceFault.OutOfMemory) ⊎ ((e ≡ SliceFault.Endless number) × IsEndless face.now at)) }
+    ensures endless { IfErr result (λ e. (e ≡ SliceFault.OutOfMemory) ⊎
+        ((e ≡ SliceFault.Endless number) × IsEndless face.now at)) }
 {
     match segment(face, at) {
         Ok(None) => Ok(0),
@@ -74,7 +76,8 @@ pub fn slice_text(alloc: Global, faces: &FaceList, at: i32) -> Result<Vec<u8>, S
     requires low { negsuc 2047 ≤ℤ at }
     requires high { at ≤ℤ pos 2047 }
     ensures text { IfOk result (λ text. IsSliceText faces.now at text.items) }
-    ensures endless { IfErr result (λ e. (e ≡ SliceFault.OutOfMemory) ⊎ ((n : ℕ) × (e ≡ SliceFault.Endless n) × IsFirstEndless faces.now at n)) }
+    ensures endless { IfErr result (λ e. (e ≡ SliceFault.OutOfMemory) ⊎
+        ((n : ℕ) × (e ≡ SliceFault.Endless n) × IsFirstEndless faces.now at n)) }
 {
     let mut text = Vec::new(alloc);
     put_line(b"slice", &[i128::from(at)], &mut text)?;

@@ -8,5 +8,6 @@ pub record IsCount {X : Type 0} (Has : List X → Type 0) (n : ℕ) : Type 0 whe
   pub count : n ≡ length items
 
 -- lists with a property that one list has are counted alike
-pub one_count : {X : Type 0} {Has : List X → Type 0} {m n : ℕ} → ((xs ys : List X) → Has xs → Has ys → xs ≡ ys) → IsCount Has m → IsCount Has n → m ≡ n
+pub one_count : {X : Type 0} {Has : List X → Type 0} {m n : ℕ} → ((xs ys : List X) → Has xs → Has ys → xs ≡ ys) →
+    IsCount Has m → IsCount Has n → m ≡ n
 one_count one a b = a.count ∙ ap length (one a.items b.items a.has b.has) ∙ sym b.count

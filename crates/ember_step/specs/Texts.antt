@@ -59,6 +59,8 @@ faces_one fs s t a b =
     λ i. record { bytes = each_unique good_one a.are_texts b.are_texts i; count = (a.count ∙ sym b.count) i }
 
 -- so regions have one text, where one list has the property
-pub one_text : {Has : List Kept → Type 0} {s t : CountedText} → ((xs ys : List Kept) → Has xs → Has ys → xs ≡ ys) → IsRegionsText Has s → IsRegionsText Has t → s ≡ t
+pub one_text : {Has : List Kept → Type 0} {s t : CountedText} → ((xs ys : List Kept) → Has xs → Has ys → xs ≡ ys) →
+    IsRegionsText Has s → IsRegionsText Has t → s ≡ t
 one_text {s = s} {t = t} one a b =
-    faces_one (map written_face b.kept) s t (subst (λ (ks : List Kept). IsTextOf (map written_face ks) s) (one a.kept b.kept a.has b.has) a.text_of) b.text_of
+    faces_one (map written_face b.kept) s t (subst (λ (ks : List Kept). IsTextOf (map written_face ks) s)
+    (one a.kept b.kept a.has b.has) a.text_of) b.text_of

@@ -37,11 +37,14 @@ impl<'a> Work for CountWork<'a> {
 
     ghost shape = { λ w job. shape_of w.scene.now.tris (formula_of w.expr.now) job };
 
-    ghost item = { λ w job n. IsCount (IsWrittenIn w.scene.now.tris (formula_of w.expr.now) job.cell (near w.scene.now.tris job.cell)) n };
+    ghost item = { λ w job n.
+        IsCount (IsWrittenIn w.scene.now.tris (formula_of w.expr.now) job.cell (near w.scene.now.tris job.cell)) n };
 
-    ghost halves_valid = { λ w job low high is e. halves_are_jobs w.scene.now.tris (formula_of w.expr.now) job low high w.scene.now.meshes w.scene.now.kept is e };
+    ghost halves_valid = { λ w job low high is e. halves_are_jobs w.scene.now.tris
+        (formula_of w.expr.now) job low high w.scene.now.meshes w.scene.now.kept is e };
 
-    ghost halves_split = { λ w job low high is e. halves_are_split w.scene.now.tris (formula_of w.expr.now) job low high e };
+    ghost halves_split = { λ w job low high is e. halves_are_split w.scene.now.tris
+        (formula_of w.expr.now) job low high e };
 }
 
 impl<'a> OneItem for CountWork<'a> {
@@ -49,7 +52,9 @@ impl<'a> OneItem for CountWork<'a> {
     ghost use Rattle.ember_leaf.proofs.OneList.{written_in_unique};
     ghost use Rattle.ember_step.specs.Counts.{one_count};
 
-    ghost one_item = { λ w job one other a b. one_count (λ us vs. written_in_unique w.scene.now.tris (formula_of w.expr.now) w.scene.now.meshes w.scene.now.kept job.cell us vs) a b };
+    ghost one_item = { λ w job one other a b. one_count (λ us vs.
+        written_in_unique w.scene.now.tris
+        (formula_of w.expr.now) w.scene.now.meshes w.scene.now.kept job.cell us vs) a b };
 }
 
 /// What becomes of a job, as by `box_step`, with the number of written regions in place of the
@@ -61,7 +66,9 @@ pub fn count_step(
     job: &Job,
 ) -> Result<Outcome<u64>, OutOfMemory>
     requires { IsJob s.now.tris job.now }
-    ensures { IfOk result (λ o. Answers (shape s.now.tris (formula_of e.now)) (λ j n. IsCount (IsWrittenIn s.now.tris (formula_of e.now) j.cell (near s.now.tris j.cell)) n) job.now o) }
+    ensures { IfOk result (λ o.
+        Answers (shape s.now.tris (formula_of e.now)) (λ j n.
+        IsCount (IsWrittenIn s.now.tris (formula_of e.now) j.cell (near s.now.tris j.cell)) n) job.now o) }
 {
     match box_step(alloc, s, e, job)? {
         Outcome::Halves(low, high) => Ok(Outcome::Halves(low, high)),

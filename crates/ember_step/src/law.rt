@@ -25,15 +25,22 @@ use ember_model::Scene;
 /// Where the value of a box is known, the expression has one value in the box and directly beside
 /// it: on both sides of each region of a leaf in it, so that none is written.
 pub fn known_boxes_write_nothing()
-    ensures value { (ts : List Tri) (meshes : ℕ) (f : Formula) (job : Job) (known : Bool) → IsScene ts meshes → IsFit 64 f → IsJob ts job → box_value ts f job ≡ Some known → HasOneValue ts f job.cell }
-    ensures sides { (ts : List Tri) (meshes : ℕ) (f : Formula) (c : Cell) (one : HasOneValue ts f c) (region : Face) (before after : List ℤ) → IsScene ts meshes → IsRegion (near ts c) c region → IsSides ts region before after → (truth before f ≡ one.value) × (truth after f ≡ one.value) }
-    ensures nothing { (ts : List Tri) (meshes : ℕ) (f : Formula) (c : Cell) (kept : List Kept) → IsScene ts meshes → HasOneValue ts f c → IsWrittenIn ts f c (near ts c) kept → kept ≡ [] }
+    ensures value { (ts : List Tri) (meshes : ℕ) (f : Formula) (job : Job) (known : Bool) → IsScene ts meshes →
+        IsFit 64 f → IsJob ts job → box_value ts f job ≡ Some known → HasOneValue ts f job.cell }
+    ensures sides { (ts : List Tri) (meshes : ℕ) (f : Formula) (c : Cell) (one : HasOneValue ts f c) (region : Face)
+        (before after : List ℤ) → IsScene ts meshes → IsRegion (near ts c) c region →
+        IsSides ts region before after → (truth before f ≡ one.value) × (truth after f ≡ one.value) }
+    ensures nothing { (ts : List Tri) (meshes : ℕ) (f : Formula) (c : Cell) (kept : List Kept) → IsScene ts meshes →
+        HasOneValue ts f c → IsWrittenIn ts f c (near ts c) kept → kept ≡ [] }
 {}
 
 /// What the visited leaves of a Boolean write, one after another, is what the leaves of the full
 /// tree write.
 pub fn visited_leaves_write_all(_s: &Scene, e: &Expr)
-    ensures { (kept : List Kept) → Each (λ job ks. IsWrittenIn _s.now.tris (formula_of e.now) job.cell (near _s.now.tris job.cell) ks) (leaves (shape _s.now.tris (formula_of e.now)) (root_job _s.now.tris)) kept → IsWritten _s.now.tris (formula_of e.now) kept }
+    ensures { (kept : List Kept) →
+        Each (λ job ks. IsWrittenIn _s.now.tris (formula_of e.now) job.cell (near _s.now.tris job.cell) ks)
+        (leaves (shape _s.now.tris (formula_of e.now)) (root_job _s.now.tris)) kept →
+        IsWritten _s.now.tris (formula_of e.now) kept }
 {
     tree(e);
 }
@@ -48,6 +55,8 @@ pub fn leaf_texts_join(_s: &Scene, e: &Expr)
 
 /// The written regions of a leaf are one list, and so are those of a scene.
 pub fn written_regions_are_one_list()
-    ensures leaf { (ts : List Tri) (meshes : ℕ) (f : Formula) (c : Cell) (one other : List Kept) → IsScene ts meshes → IsWrittenIn ts f c (near ts c) one → IsWrittenIn ts f c (near ts c) other → one ≡ other }
-    ensures scene { (ts : List Tri) (meshes : ℕ) (f : Formula) (one other : List Kept) → IsScene ts meshes → IsWritten ts f one → IsWritten ts f other → one ≡ other }
+    ensures leaf { (ts : List Tri) (meshes : ℕ) (f : Formula) (c : Cell) (one other : List Kept) →
+        IsScene ts meshes → IsWrittenIn ts f c (near ts c) one → IsWrittenIn ts f c (near ts c) other → one ≡ other }
+    ensures scene { (ts : List Tri) (meshes : ℕ) (f : Formula) (one other : List Kept) → IsScene ts meshes →
+        IsWritten ts f one → IsWritten ts f other → one ≡ other }
 {}

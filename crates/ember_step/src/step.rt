@@ -36,24 +36,29 @@ impl<'a> Work for BoolWork<'a> {
 
     ghost shape = { λ w job. shape_of w.scene.now.tris (formula_of w.expr.now) job };
 
-    ghost item = { λ w job kept. IsWrittenIn w.scene.now.tris (formula_of w.expr.now) job.cell (near w.scene.now.tris job.cell) kept };
+    ghost item = { λ w job kept.
+        IsWrittenIn w.scene.now.tris (formula_of w.expr.now) job.cell (near w.scene.now.tris job.cell) kept };
 
-    ghost halves_valid = { λ w job low high is e. halves_are_jobs w.scene.now.tris (formula_of w.expr.now) job low high w.scene.now.meshes w.scene.now.kept is e };
+    ghost halves_valid = { λ w job low high is e. halves_are_jobs w.scene.now.tris
+        (formula_of w.expr.now) job low high w.scene.now.meshes w.scene.now.kept is e };
 
-    ghost halves_split = { λ w job low high is e. halves_are_split w.scene.now.tris (formula_of w.expr.now) job low high e };
+    ghost halves_split = { λ w job low high is e. halves_are_split w.scene.now.tris
+        (formula_of w.expr.now) job low high e };
 }
 
 impl<'a> OneItem for BoolWork<'a> {
     ghost use Rattle.ember_expr.specs.Formula.{formula_of};
     ghost use Rattle.ember_leaf.proofs.OneList.{written_in_unique};
 
-    ghost one_item = { λ w job one other a b. written_in_unique w.scene.now.tris (formula_of w.expr.now) w.scene.now.meshes w.scene.now.kept job.cell one other a b };
+    ghost one_item = { λ w job one other a b. written_in_unique w.scene.now.tris
+        (formula_of w.expr.now) w.scene.now.meshes w.scene.now.kept job.cell one other a b };
 }
 
 // The written regions of a leaf.
 fn kept_in(alloc: Global, s: &Scene, e: &Expr, job: &Job) -> Result<KeptList, OutOfMemory>
     requires { IsJob s.now.tris job.now }
-    ensures { IfOk result (λ kept. IsWrittenIn s.now.tris (formula_of e.now) job.now.cell (near s.now.tris job.now.cell) kept) }
+    ensures { IfOk result (λ kept.
+        IsWrittenIn s.now.tris (formula_of e.now) job.now.cell (near s.now.tris job.now.cell) kept) }
 {
     let near = tris_at(alloc, s.tris.items(), job.list.items())?;
     leaf_faces(alloc, e, &job.cell, &near, &job.at)
@@ -68,7 +73,8 @@ pub fn box_step(
     job: &Job,
 ) -> Result<Outcome<KeptList>, OutOfMemory>
     requires { IsJob s.now.tris job.now }
-    ensures { IfOk result (λ o. Answers (shape s.now.tris (formula_of e.now)) (λ j kept. IsWrittenIn s.now.tris (formula_of e.now) j.cell (near s.now.tris j.cell) kept) job.now o) }
+    ensures { IfOk result (λ o. Answers (shape s.now.tris (formula_of e.now)) (λ j kept.
+        IsWrittenIn s.now.tris (formula_of e.now) j.cell (near s.now.tris j.cell) kept) job.now o) }
 {
     if box_value(e, s, job).is_some() {
         return Ok(Outcome::Skipped);

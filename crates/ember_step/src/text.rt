@@ -34,9 +34,11 @@ impl<'a> Work for TextWork<'a> {
 
     ghost item = { λ w job text. IsBoxText w.scene.now.tris (formula_of w.expr.now) job.cell text };
 
-    ghost halves_valid = { λ w job low high is e. halves_are_jobs w.scene.now.tris (formula_of w.expr.now) job low high w.scene.now.meshes w.scene.now.kept is e };
+    ghost halves_valid = { λ w job low high is e. halves_are_jobs w.scene.now.tris
+        (formula_of w.expr.now) job low high w.scene.now.meshes w.scene.now.kept is e };
 
-    ghost halves_split = { λ w job low high is e. halves_are_split w.scene.now.tris (formula_of w.expr.now) job low high e };
+    ghost halves_split = { λ w job low high is e. halves_are_split w.scene.now.tris
+        (formula_of w.expr.now) job low high e };
 }
 
 impl<'a> OneItem for TextWork<'a> {
@@ -44,7 +46,9 @@ impl<'a> OneItem for TextWork<'a> {
     ghost use Rattle.ember_leaf.proofs.OneList.{written_in_unique};
     ghost use Rattle.ember_step.specs.Texts.{one_text};
 
-    ghost one_item = { λ w job one other a b. one_text (λ us vs. written_in_unique w.scene.now.tris (formula_of w.expr.now) w.scene.now.meshes w.scene.now.kept job.cell us vs) a b };
+    ghost one_item = { λ w job one other a b. one_text (λ us vs.
+        written_in_unique w.scene.now.tris
+        (formula_of w.expr.now) w.scene.now.meshes w.scene.now.kept job.cell us vs) a b };
 }
 
 /// What becomes of a job, as by `box_step`, with the text of the written regions in place of the

@@ -33,7 +33,8 @@ IsSurface s = All (λ f. All (λ corner. corner < length s.vertices.items) f.cor
 abbrev pub fan_round : ℕ → ℕ → List ℕ → List Facet
 fan_round place first [] = []
 fan_round place first (p ∷ []) = []
-fan_round place first (p ∷ q ∷ more) = record { corners = first ∷ p ∷ q ∷ []; place = place } ∷ fan_round place first (q ∷ more)
+fan_round place first (p ∷ q ∷ more) =
+    record { corners = first ∷ p ∷ q ∷ []; place = place } ∷ fan_round place first (q ∷ more)
 
 -- the triangles of a face with these corners
 abbrev pub fan : ℕ → List ℕ → List Facet

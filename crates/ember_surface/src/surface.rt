@@ -54,7 +54,8 @@ fn is_far(vertices: &[Vertex], facet: &Facet) -> bool
 /// The place of the first triangle with a coordinate of 10^15 or more in size. Vertices of no
 /// triangle don't count.
 pub fn first_too_large(surface: &Surface) -> Option<u32>
-    ensures { result ≡ option_map (λ f. f.place) (find (is_facet_too_large surface.now.vertices.items) surface.now.facets.items) }
+    ensures { result ≡ option_map (λ f.
+        f.place) (find (is_facet_too_large surface.now.vertices.items) surface.now.facets.items) }
 {
     let vertices = surface.vertices.as_slice();
     let found = surface.facets.iter().find(|facet| is_far(vertices, facet));

@@ -18,7 +18,9 @@ fn place(path: u64) -> u64
     path * (1u64 << path.leading_zeros())
 }
 
-/// The items in the order of the tree, left half first. No path is the beginning of another, read as binary digits, and each is from 1 to `2^37 - 1`; so the order of the parts has no part in the answer. Its one error is want of memory.
+/// The items in the order of the tree, left half first. No path is the beginning of another, read as binary digits,
+/// and each is from 1 to `2^37 - 1`; so the order of the parts has no part in the answer. Its one error is want of
+/// memory.
 pub fn merge<I: Drop>(alloc: Global, parts: Vec<Part<I>>) -> Result<Vec<I>, OutOfMemory>
     ensures { IfOk result (λ v. IsMerged parts.items v.items) }
 {

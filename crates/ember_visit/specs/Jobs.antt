@@ -25,12 +25,14 @@ pub record IsJob (ts : List Tri) (j : Job) : Type 0 where
 abbrev pub root_job : List Tri → Job
 root_job ts = job_of root (near_indices ts root (all_indices ts)) (replicate 64 (pos 0))
 
--- the halves of a job along an axis, each with the triangles near it; the reference point of the left half is that of the whole
+-- the halves of a job along an axis, each with the triangles near it; the reference point of the left half is that of
+-- the whole
 abbrev pub left_job : List Tri → Job → Axis → Job
 left_job ts j k = job_of (left_half j.cell k) (near_indices ts (left_half j.cell k) j.list) j.at.counts
 
 abbrev pub right_job : List Tri → Job → Axis → Job
-right_job ts j k = job_of (right_half j.cell k) (near_indices ts (right_half j.cell k) j.list) (carried (near_of ts j) j.cell k j.at.counts)
+right_job ts j k = job_of (right_half j.cell k) (near_indices ts (right_half j.cell k) j.list)
+    (carried (near_of ts j) j.cell k j.at.counts)
 
 pub record AreHalfJobs (ts : List Tri) (j : Job) (k : Axis) (low high : Job) : Type 0 where
   pub is_low : low ≡ left_job ts j k

@@ -16,7 +16,8 @@ abbrev pub has_mesh : List Tri → ℕ → Bool
 has_mesh [] n = false
 has_mesh (t ∷ ts) n = n == t.mesh || has_mesh ts n
 
--- the value of a box, where it is known: the meshes that have a triangle near the box are undecided, and the others count as at its reference point
+-- the value of a box, where it is known: the meshes that have a triangle near the box are undecided, and the others
+-- count as at its reference point
 unfoldable pub box_value : List Tri → Formula → Job → Option Bool
 box_value ts f j = known (has_mesh (near_of ts j)) j.at.counts f
 
@@ -37,4 +38,5 @@ leaf_or false s = s
 unfoldable pub shape : List Tri → Formula → Job → Shape
 shape ts f j =
     let k = halving_axis (near_of ts j) j.cell in
-    unless_known (box_value ts f j) (leaf_or (is_leaf (near_of ts j) j.cell) (halved (left_job ts j k) (right_job ts j k)))
+    unless_known (box_value ts f j)
+    (leaf_or (is_leaf (near_of ts j) j.cell) (halved (left_job ts j k) (right_job ts j k)))

@@ -16,11 +16,14 @@ ghost use Rattle.ember_visit.specs.Values.{box_value, HasCorner};
 /// and so have the halves of such a job along each axis along which it may be halved.
 pub fn halves_of_a_job_are_jobs()
     ensures root { (ts : List Tri) (meshes : ℕ) → IsScene ts meshes → IsJob ts (root_job ts) }
-    ensures halves { (ts : List Tri) (meshes : ℕ) (job : Job) (k : Axis) → IsScene ts meshes → IsJob ts job → 0 < job.cell.log k → IsJob ts (left_job ts job k) × IsJob ts (right_job ts job k) }
+    ensures halves { (ts : List Tri) (meshes : ℕ) (job : Job) (k : Axis) → IsScene ts meshes → IsJob ts job →
+        0 < job.cell.log k → IsJob ts (left_job ts job k) × IsJob ts (right_job ts job k) }
 {}
 
 /// What is known of a box is true in it: at the winding numbers at the reference point of each
 /// corner in the box.
 pub fn known_values_are_true()
-    ensures { (ts : List Tri) (meshes : ℕ) (f : Formula) (job : Job) (known : Bool) (v : Vector) → IsScene ts meshes → IsFit 64 f → IsJob ts job → box_value ts f job ≡ Some known → HasCorner job.cell v → truth (vector X ts (reference_at v)) f ≡ known }
+    ensures { (ts : List Tri) (meshes : ℕ) (f : Formula) (job : Job) (known : Bool) (v : Vector) →
+        IsScene ts meshes → IsFit 64 f → IsJob ts job → box_value ts f job ≡ Some known → HasCorner job.cell v →
+        truth (vector X ts (reference_at v)) f ≡ known }
 {}

@@ -36,7 +36,9 @@ pub fn box_value(e: &Expr, s: &Scene, job: &Job) -> Option<bool>
     requires places { All (λ i. i < length s.now.tris) job.now.list }
     requires counts { AreCounts job.now.at.counts }
     ensures value { result ≡ values.box_value s.now.tris (formula_of e.now) job.now }
-    ensures law { IfSome result (λ b. (others : List ℤ) → AgreeOutside (has_mesh (near_of s.now.tris job.now)) job.now.at.counts others → truth others (formula_of e.now) ≡ b) }
+    ensures law { IfSome result (λ b. (others : List ℤ) →
+        AgreeOutside (has_mesh (near_of s.now.tris job.now)) job.now.at.counts others →
+        truth others (formula_of e.now) ≡ b) }
 {
     known(e, &job.at, &meshes_of(s.tris.items(), job.list.items()))
 }

@@ -5,7 +5,10 @@ use Rattle.ember_box.specs.Boxes.{Cell, cell_code}
 use Rattle.ember_voxel.specs.declared.fill.Fill.{Fill}
 
 abbrev pub fill_code : Coded Fill
-fill_code = code_by (Cell × Bool) (coded× cell_code coded_bool) (λ f. (f.cell, f.bit)) (λ p. record { cell = p.0; bit = p.1 }) (λ _. refl)
+fill_code = code_by (Cell × Bool) (coded× cell_code coded_bool) (λ f. (f.cell, f.bit)) (λ p. record {
+  cell = p.0;
+  bit = p.1;
+}) (λ _. refl)
 
 abbrev pub fills_code : Coded (List Fill)
 fills_code = coded_list fill_code

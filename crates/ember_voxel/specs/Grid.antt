@@ -47,7 +47,8 @@ header_of size n = codes "voxels " ++ decimal size ++ codes " " ++ decimal n ++ 
 pub record IsTextOfBits (size : ℕ) (bit : ℕ → ℕ → ℕ → Bool) (text : List ℕ) : Type 0 where
   pub rows : List ℕ
   pub grid : IsGrid (2 ^ (12 - size)) bit rows
-  pub is : text ≡ header_of size (2 ^ (12 - size)) ++ rows ++ (codes "end " ++ decimal (count_by is_one rows) ++ codes "\n")
+  pub is : text ≡ header_of size (2 ^ (12 - size)) ++ rows ++
+      (codes "end " ++ decimal (count_by is_one rows) ++ codes "\n")
 
 -- the text of the cells that these boxes have
 abbrev pub IsGridText : ℕ → List Fill → List ℕ → Type 0

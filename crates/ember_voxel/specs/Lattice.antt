@@ -13,7 +13,8 @@ use Rattle.ember_visit.specs.Values.{box_value, leaf_or}
 -- the axis of the longest side, the first one in a tie
 abbrev pub longest : Cell → Axis
 longest c =
-    if nat_le (c.log Y) (c.log X) && nat_le (c.log Z) (c.log X) then X else (if nat_le (c.log Z) (c.log Y) then Y else Z)
+    if nat_le (c.log Y) (c.log X) && nat_le (c.log Z) (c.log X) then X
+    else (if nat_le (c.log Z) (c.log Y) then Y else Z)
 
 -- boxes that come from the root by halving the longest side
 pub data IsHalvedByLongest : Cell → Type 0 where
@@ -39,4 +40,5 @@ ends (Some b) last = true
 -- and else it is halved along its longest side
 unfoldable pub shape : List Tri → Formula → ℕ → Job → Shape
 shape ts f size j =
-    leaf_or (ends (box_value ts f j) (is_lattice_cell size j.cell)) (halved (left_job ts j (longest j.cell)) (right_job ts j (longest j.cell)))
+    leaf_or (ends (box_value ts f j) (is_lattice_cell size j.cell))
+    (halved (left_job ts j (longest j.cell)) (right_job ts j (longest j.cell)))

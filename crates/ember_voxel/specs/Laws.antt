@@ -28,21 +28,34 @@ not_last None last e = e
 not_last (Some b) last e = absurd (cc)
 
 module _ (ts : List Tri) (f : Formula) (size : ℕ) (j l r : Job) where
-  into : shape ts f size j ≡ halved l r → HalvedInto (ends (box_value ts f j) (is_lattice_cell size j.cell)) (left_job ts j (longest j.cell)) (right_job ts j (longest j.cell)) l r
+  into : shape ts f size j ≡ halved l r →
+      HalvedInto (ends (box_value ts f j) (is_lattice_cell size j.cell)) (left_job ts j (longest j.cell))
+      (right_job ts j (longest j.cell)) l r
   unfolding shape
-  into e = halved_into (ends (box_value ts f j) (is_lattice_cell size j.cell)) (left_job ts j (longest j.cell)) (right_job ts j (longest j.cell)) l r e
+  into e = halved_into (ends (box_value ts f j) (is_lattice_cell size j.cell)) (left_job ts j (longest j.cell))
+      (right_job ts j (longest j.cell)) l r e
 
   goes_above : IsVoxelJob ts size j → shape ts f size j ≡ halved l r → size < j.cell.log (longest j.cell)
-  goes_above h e = longest_above j.cell size h.sides (not_last (box_value ts f j) (is_lattice_cell size j.cell) (into e).goes_on)
+  goes_above h e = longest_above j.cell size h.sides (not_last (box_value ts f j) (is_lattice_cell size j.cell)
+      (into e).goes_on)
 
-  pub halves_are_jobs : (n : ℕ) → IsScene ts n → IsVoxelJob ts size j → shape ts f size j ≡ halved l r → IsVoxelJob ts size l × IsVoxelJob ts size r
+  pub halves_are_jobs : (n : ℕ) → IsScene ts n → IsVoxelJob ts size j → shape ts f size j ≡ halved l r →
+      IsVoxelJob ts size l × IsVoxelJob ts size r
   halves_are_jobs n s h e =
       let i = into e in let k = longest j.cell in
       let above : size < j.cell.log k = goes_above h e in
       let may : 0 < j.cell.log k = omega (arith, above) in
       let sides = sides_of_halves j.cell size h.sides above in (
-        subst (IsVoxelJob ts size) i.is_low (record { job = left_is_job ts n s j h.job k may; even = low j.cell h.even may; sides = sides }),
-        subst (IsVoxelJob ts size) i.is_high (record { job = right_is_job ts n s j h.job k may; even = high j.cell h.even may; sides = sides }),
+        subst (IsVoxelJob ts size) i.is_low (record {
+          job = left_is_job ts n s j h.job k may;
+          even = low j.cell h.even may;
+          sides = sides;
+        }),
+        subst (IsVoxelJob ts size) i.is_high (record {
+          job = right_is_job ts n s j h.job k may;
+          even = high j.cell h.even may;
+          sides = sides;
+        }),
       )
 
   pub halves_are_split : IsVoxelJob ts size j → shape ts f size j ≡ halved l r → IsSplit j.cell l.cell r.cell
@@ -62,16 +75,22 @@ pub root_is_voxel_job : (ts : List Tri) (n size : ℕ) → IsScene ts n → size
 root_is_voxel_job ts n size s le = record { job = root_is_job ts n s; even = whole; sides = λ k. le }
 
 -- ---- what a step answers
-pub leaf_by : (ts : List Tri) (f : Formula) (size : ℕ) (j : Job) → true ≡ ends (box_value ts f j) (is_lattice_cell size j.cell) → shape ts f size j ≡ leafed
+pub leaf_by : (ts : List Tri) (f : Formula) (size : ℕ) (j : Job) →
+    true ≡ ends (box_value ts f j) (is_lattice_cell size j.cell) → shape ts f size j ≡ leafed
 unfolding shape
-leaf_by ts f size j e = ap (λ b. leaf_or b (halved (left_job ts j (longest j.cell)) (right_job ts j (longest j.cell)))) (sym e)
+leaf_by ts f size j e =
+    ap (λ b. leaf_or b (halved (left_job ts j (longest j.cell)) (right_job ts j (longest j.cell)))) (sym e)
 
-pub halved_by : (ts : List Tri) (f : Formula) (size : ℕ) (j l r : Job) → false ≡ ends (box_value ts f j) (is_lattice_cell size j.cell) → l ≡ left_job ts j (longest j.cell) → r ≡ right_job ts j (longest j.cell) → shape ts f size j ≡ halved l r
+pub halved_by : (ts : List Tri) (f : Formula) (size : ℕ) (j l r : Job) →
+    false ≡ ends (box_value ts f j) (is_lattice_cell size j.cell) → l ≡ left_job ts j (longest j.cell) →
+    r ≡ right_job ts j (longest j.cell) → shape ts f size j ≡ halved l r
 unfolding shape
 halved_by ts f size j l r e is_l is_r =
-    ap (λ b. leaf_or b (halved (left_job ts j (longest j.cell)) (right_job ts j (longest j.cell)))) (sym e) ∙ ap₂ halved (sym is_l) (sym is_r)
+    ap (λ b. leaf_or b (halved (left_job ts j (longest j.cell)) (right_job ts j (longest j.cell))))
+    (sym e) ∙ ap₂ halved (sym is_l) (sym is_r)
 
 -- a box that goes on may be halved along its longest side
-pub may_halve : (ts : List Tri) (f : Formula) (size : ℕ) (j : Job) → IsVoxelJob ts size j → false ≡ ends (box_value ts f j) (is_lattice_cell size j.cell) → 0 < j.cell.log (longest j.cell)
+pub may_halve : (ts : List Tri) (f : Formula) (size : ℕ) (j : Job) → IsVoxelJob ts size j →
+    false ≡ ends (box_value ts f j) (is_lattice_cell size j.cell) → 0 < j.cell.log (longest j.cell)
 may_halve ts f size j h e =
     omega (arith, longest_above j.cell size h.sides (not_last (box_value ts f j) (is_lattice_cell size j.cell) (sym e)))

@@ -11,18 +11,31 @@ use Rattle.ember_voxel.specs.Lattice.{longest, is_lattice_cell}
 abbrev Most : (Axis → ℕ) → Axis → Type 0
 Most f m = (f X ≤ f m) × (f Y ≤ f m) × (f Z ≤ f m)
 
-most : (f : Axis → ℕ) (a b c : Bool) → nat_le (f Y) (f X) ≡ a → nat_le (f Z) (f X) ≡ b → nat_le (f Z) (f Y) ≡ c → Most f (if a && b then X else (if c then Y else Z))
+most : (f : Axis → ℕ) (a b c : Bool) → nat_le (f Y) (f X) ≡ a → nat_le (f Z) (f X) ≡ b → nat_le (f Z) (f Y) ≡ c →
+    Most f (if a && b then X else (if c then Y else Z))
 most f true true c p q r = (omega arith, leb-true (f Y) (f X) p, leb-true (f Z) (f X) q)
-most f true false true p q r = absurd (omega (arith, leb-true (f Y) (f X) p, leb-false (f Z) (f X) q, leb-true (f Z) (f Y) r))
-most f true false false p q r = (omega (arith, leb-false (f Z) (f X) q), omega (arith, leb-false (f Z) (f Y) r), omega arith)
+most f true false true p q r =
+    absurd (omega (arith, leb-true (f Y) (f X) p, leb-false (f Z) (f X) q, leb-true (f Z) (f Y) r))
+most f true false false p q r =
+    (omega (arith, leb-false (f Z) (f X) q), omega (arith, leb-false (f Z) (f Y) r), omega arith)
 most f false b true p q r = (omega (arith, leb-false (f Y) (f X) p), omega arith, leb-true (f Z) (f Y) r)
-most f false b false p q r = (omega (arith, leb-false (f Y) (f X) p, leb-false (f Z) (f Y) r), omega (arith, leb-false (f Z) (f Y) r), omega arith)
+most f false b false p q r = (
+  omega (arith, leb-false (f Y) (f X) p, leb-false (f Z) (f Y) r),
+  omega (
+    arith,
+    leb-false (f Z)
+        (f Y) r,
+  ),
+  omega arith,
+)
 
 longest_most : (c : Cell) → Most c.log (longest c)
-longest_most c = most c.log (nat_le (c.log Y) (c.log X)) (nat_le (c.log Z) (c.log X)) (nat_le (c.log Z) (c.log Y)) refl refl refl
+longest_most c = most c.log (nat_le (c.log Y) (c.log X)) (nat_le (c.log Z) (c.log X))
+    (nat_le (c.log Z) (c.log Y)) refl refl refl
 
 -- where no side is below 2 ^ size and some is above, the longest is
-pub longest_above : (c : Cell) (size : ℕ) → ((k : Axis) → size ≤ c.log k) → is_lattice_cell size c ≡ false → size < c.log (longest c)
+pub longest_above : (c : Cell) (size : ℕ) → ((k : Axis) → size ≤ c.log k) → is_lattice_cell size c ≡ false →
+    size < c.log (longest c)
 longest_above c size sides e = at (nat_le (c.log (longest c)) size) refl where
   at : (b : Bool) → nat_le (c.log (longest c)) size ≡ b → size < c.log (longest c)
   at false p = leb-false (c.log (longest c)) size p
@@ -34,7 +47,8 @@ longest_above c size sides e = at (nat_le (c.log (longest c)) size) refl where
       let z : (c.log Z == size) ≡ true = eq-eqb (c.log Z) size (omega (arith, l, m.2, sides Z)) in
       absurd (clash (λ i. x i && (y i && z i)) e)
 
-put_above : (m : Axis) (n size : ℕ) (f : Axis → ℕ) → size ≤ n → ((k : Axis) → size ≤ f k) → (k : Axis) → size ≤ put m n f k
+put_above : (m : Axis) (n size : ℕ) (f : Axis → ℕ) → size ≤ n → ((k : Axis) → size ≤ f k) → (k : Axis) →
+    size ≤ put m n f k
 put_above X n size f l s X = l
 put_above X n size f l s Y = s Y
 put_above X n size f l s Z = s Z
@@ -50,5 +64,7 @@ at_most_pred m zero l = absurd (omega arith)
 at_most_pred m (suc n) l = omega arith
 
 -- the sides of the halves
-pub sides_of_halves : (c : Cell) (size : ℕ) → ((k : Axis) → size ≤ c.log k) → size < c.log (longest c) → (k : Axis) → size ≤ put (longest c) (pred (c.log (longest c))) c.log k
-sides_of_halves c size s l = put_above (longest c) (pred (c.log (longest c))) size c.log (at_most_pred size (c.log (longest c)) l) s
+pub sides_of_halves : (c : Cell) (size : ℕ) → ((k : Axis) → size ≤ c.log k) → size < c.log (longest c) → (k : Axis) →
+    size ≤ put (longest c) (pred (c.log (longest c))) c.log k
+sides_of_halves c size s l =
+    put_above (longest c) (pred (c.log (longest c))) size c.log (at_most_pred size (c.log (longest c)) l) s

@@ -71,7 +71,8 @@ fn set_row(rows: &mut [u8], n: usize, r: usize, x: &Extent)
     requires row { r < n * n }
     requires x { IsExtent n x.now }
     ensures len { length rows.new ≡ length rows.old }
-    ensures cells { (q i : ℕ) → i < n → char_at n rows.new q i ≡ (if q == r && between x.now i then 49 else char_at n rows.old q i) }
+    ensures cells { (q i : ℕ) → i < n →
+        char_at n rows.new q i ≡ (if q == r && between x.now i then 49 else char_at n rows.old q i) }
     ensures feeds { KeepsFeeds n rows.old rows.new }
 {
     let start = row_start(n, r);
@@ -88,7 +89,9 @@ fn set_layer(rows: &mut [u8], n: usize, l: usize, x: &Extent, y: &Extent)
     requires x { IsExtent n x.now }
     requires y { IsExtent n y.now }
     ensures len { length rows.new ≡ length rows.old }
-    ensures cells { (i j m : ℕ) → i < n → j < n → m < n → char_at n rows.new (m * n + j) i ≡ (if m == l && (between y.now j && between x.now i) then 49 else char_at n rows.old (m * n + j) i) }
+    ensures cells { (i j m : ℕ) → i < n → j < n → m < n →
+        char_at n rows.new (m * n + j) i ≡ (if m == l && (between y.now j && between x.now i) then 49
+        else char_at n rows.old (m * n + j) i) }
     ensures feeds { KeepsFeeds n rows.old rows.new }
 {
     for j in y.from..y.end {
@@ -104,7 +107,9 @@ fn set_block(rows: &mut [u8], n: usize, b: &Block)
     requires y { IsExtent n b.now.y }
     requires z { IsExtent n b.now.z }
     ensures len { length rows.new ≡ length rows.old }
-    ensures cells { (i j m : ℕ) → i < n → j < n → m < n → char_at n rows.new (m * n + j) i ≡ (if between b.now.z m && (between b.now.y j && between b.now.x i) then 49 else char_at n rows.old (m * n + j) i) }
+    ensures cells { (i j m : ℕ) → i < n → j < n → m < n →
+        char_at n rows.new (m * n + j) i ≡ (if between b.now.z m && (between b.now.y j && between b.now.x i) then 49
+        else char_at n rows.old (m * n + j) i) }
     ensures feeds { KeepsFeeds n rows.old rows.new }
 {
     for l in b.z.from..b.z.end {
@@ -151,7 +156,8 @@ fn block_of(size: u8, c: &Cell) -> Block
     ensures x { IsExtent (2 ^ (12 - size)) result.x }
     ensures y { IsExtent (2 ^ (12 - size)) result.y }
     ensures z { IsExtent (2 ^ (12 - size)) result.z }
-    ensures cells { (i j l : ℕ) → (between result.z l && (between result.y j && between result.x i)) ≡ contains_cell size c.now i j l }
+    ensures cells { (i j l : ℕ) →
+        (between result.z l && (between result.y j && between result.x i)) ≡ contains_cell size c.now i j l }
 {
     Block {
         x: extent_along(size, c, Axis::X),
@@ -166,7 +172,9 @@ fn set_fill(rows: &mut [u8], size: u8, n: usize, fill: &Fill)
     requires cells { n ≡ 2 ^ (12 - size) }
     requires size { length rows.old ≡ n * n * (n + 1) }
     ensures len { length rows.new ≡ length rows.old }
-    ensures cells { (i j m : ℕ) → i < n → j < n → m < n → char_at n rows.new (m * n + j) i ≡ (if sets_cell size i j m fill.now then 49 else char_at n rows.old (m * n + j) i) }
+    ensures cells { (i j m : ℕ) → i < n → j < n → m < n →
+        char_at n rows.new (m * n + j) i ≡ (if sets_cell size i j m fill.now then 49
+        else char_at n rows.old (m * n + j) i) }
     ensures feeds { KeepsFeeds n rows.old rows.new }
 {
     if fill.bit {
@@ -179,7 +187,9 @@ fn set_fills(rows: &mut [u8], size: u8, n: usize, fills: &[Fill])
     requires cells { n ≡ 2 ^ (12 - size) }
     requires size { length rows.old ≡ n * n * (n + 1) }
     ensures len { length rows.new ≡ length rows.old }
-    ensures cells { (i j m : ℕ) → i < n → j < n → m < n → char_at n rows.new (m * n + j) i ≡ (if is_set size fills.now i j m then 49 else char_at n rows.old (m * n + j) i) }
+    ensures cells { (i j m : ℕ) → i < n → j < n → m < n →
+        char_at n rows.new (m * n + j) i ≡ (if is_set size fills.now i j m then 49
+        else char_at n rows.old (m * n + j) i) }
     ensures feeds { KeepsFeeds n rows.old rows.new }
 {
     for fill in fills {

@@ -13,12 +13,15 @@ use ember_model::Scene;
 /// own reference point: what is known of a box is true at each cell's, and a box of which nothing
 /// is known is one cell.
 pub fn each_cell_has_its_value(_s: &Scene, e: &Expr)
-    ensures { (size : ℕ) (fills : List Fill) (text : List ℕ) → size ≤ 12 → fills ≡ leaf_fills _s.now.tris (formula_of e.now) size → IsGridText size fills text → IsVoxelText _s.now.tris (formula_of e.now) size text }
+    ensures { (size : ℕ) (fills : List Fill) (text : List ℕ) → size ≤ 12 →
+        fills ≡ leaf_fills _s.now.tris (formula_of e.now) size → IsGridText size fills text →
+        IsVoxelText _s.now.tris (formula_of e.now) size text }
 {
     tree(e);
 }
 
 /// The bits of its cells give a lattice one text.
 pub fn bits_have_one_text()
-    ensures { (size : ℕ) (bit : ℕ → ℕ → ℕ → Bool) (text other : List ℕ) → IsTextOfBits size bit text → IsTextOfBits size bit other → text ≡ other }
+    ensures { (size : ℕ) (bit : ℕ → ℕ → ℕ → Bool) (text other : List ℕ) → IsTextOfBits size bit text →
+        IsTextOfBits size bit other → text ≡ other }
 {}

@@ -40,9 +40,11 @@ impl<'a> Work for VoxelWork<'a> {
 
     ghost item = { λ w job fill. IsFill (formula_of w.expr.now) job fill };
 
-    ghost halves_valid = { λ w job low high is e. halves_are_jobs w.scene.now.tris (formula_of w.expr.now) w.size job low high w.scene.now.meshes w.scene.now.kept is e };
+    ghost halves_valid = { λ w job low high is e. halves_are_jobs w.scene.now.tris
+        (formula_of w.expr.now) w.size job low high w.scene.now.meshes w.scene.now.kept is e };
 
-    ghost halves_split = { λ w job low high is e. halves_are_split w.scene.now.tris (formula_of w.expr.now) w.size job low high is e };
+    ghost halves_split = { λ w job low high is e. halves_are_split w.scene.now.tris
+        (formula_of w.expr.now) w.size job low high is e };
 }
 
 impl<'a> OneItem for VoxelWork<'a> {
@@ -79,7 +81,8 @@ fn is_lattice_cell(c: &Cell, size: u8) -> bool
 fn bit_of(e: &Expr, s: &Scene, size: u8, job: &Job) -> Option<bool>
     requires places { All (λ i. i < length s.now.tris) job.now.list }
     requires counts { AreCounts job.now.at.counts }
-    ensures ends { is_some result ≡ ends (values.box_value s.now.tris (formula_of e.now) job.now) (lattice.is_lattice_cell size job.now.cell) }
+    ensures ends { is_some result ≡
+        ends (values.box_value s.now.tris (formula_of e.now) job.now) (lattice.is_lattice_cell size job.now.cell) }
     ensures bit { IfSome result (λ b. b ≡ truth job.now.at.counts (formula_of e.now)) }
 {
     match box_value(e, s, job) {
@@ -105,7 +108,8 @@ pub fn voxel_step(
     job: &Job,
 ) -> Result<Outcome<Fill>, OutOfMemory>
     requires { IsVoxelJob s.now.tris size job.now }
-    ensures { IfOk result (λ o. Answers (shape s.now.tris (formula_of e.now) size) (IsFill (formula_of e.now)) job.now o) }
+    ensures { IfOk result (λ o.
+        Answers (shape s.now.tris (formula_of e.now) size) (IsFill (formula_of e.now)) job.now o) }
 {
     match bit_of(e, s, size, job) {
         Some(bit) => Ok(Outcome::Leaf(Fill {

@@ -52,12 +52,15 @@ pub data Line : Type 0 where
 abbrev pub arguments_of : Line → List Text
 arguments_of (faces_line places file) = option_words (codes "places") places ++ (file ∷ [])
 arguments_of (at_line point expr places file more) =
-    ((given_words (codes "point") point ++ option_words (codes "expr") expr) ++ option_words (codes "places") places) ++ (file ∷ more)
+    ((given_words (codes "point") point ++ option_words (codes "expr") expr) ++
+    option_words (codes "places") places) ++ (file ∷ more)
 arguments_of (bool_line expr workers places report file more) =
-    (((given_words (codes "expr") expr ++ option_words (codes "workers") workers) ++ option_words (codes "places") places) ++ flag_words (codes "report") report) ++ (file ∷ more)
+    (((given_words (codes "expr") expr ++ option_words (codes "workers") workers) ++
+    option_words (codes "places") places) ++ flag_words (codes "report") report) ++ (file ∷ more)
 arguments_of (demo_line workers boxes) = option_words (codes "workers") workers ++ (boxes ∷ [])
 arguments_of (voxels_line expr size workers places file more) =
-    (((given_words (codes "expr") expr ++ given_words (codes "size") size) ++ option_words (codes "workers") workers) ++ option_words (codes "places") places) ++ (file ∷ more)
+    (((given_words (codes "expr") expr ++ given_words (codes "size") size) ++
+    option_words (codes "workers") workers) ++ option_words (codes "places") places) ++ (file ∷ more)
 arguments_of (pairs_line workers places file more) =
     (option_words (codes "workers") workers ++ option_words (codes "places") places) ++ (file ∷ more)
 arguments_of (slice_line height file) = given_words (codes "at") height ++ (file ∷ [])
@@ -81,12 +84,15 @@ AreFiles file more = (is_minus file ≡ false) × ArePlain more × (length more 
 -- each value and each last word is spelled as it should be
 abbrev pub IsCanonical : Line → Type 0
 IsCanonical (faces_line places file) = IsSpelledIfGiven places × (is_minus file ≡ false)
-IsCanonical (at_line point expr places file more) = IsSpelled point × IsSpelledIfGiven expr × IsSpelledIfGiven places × AreFiles file more
-IsCanonical (bool_line expr workers places report file more) = IsSpelled expr × IsSpelledIfGiven workers × IsSpelledIfGiven places × AreFiles file more
+IsCanonical (at_line point expr places file more) =
+    IsSpelled point × IsSpelledIfGiven expr × IsSpelledIfGiven places × AreFiles file more
+IsCanonical (bool_line expr workers places report file more) =
+    IsSpelled expr × IsSpelledIfGiven workers × IsSpelledIfGiven places × AreFiles file more
 IsCanonical (demo_line workers boxes) = IsSpelledIfGiven workers × (is_minus boxes ≡ false)
 IsCanonical (voxels_line expr size workers places file more) =
     IsSpelled expr × IsSpelled size × IsSpelledIfGiven workers × IsSpelledIfGiven places × AreFiles file more
-IsCanonical (pairs_line workers places file more) = IsSpelledIfGiven workers × IsSpelledIfGiven places × AreFiles file more
+IsCanonical (pairs_line workers places file more) =
+    IsSpelledIfGiven workers × IsSpelledIfGiven places × AreFiles file more
 IsCanonical (slice_line height file) = IsSpelled height × (is_minus file ≡ false)
 
 abbrev pub workers_of : Option Given → Option ℕ
@@ -102,11 +108,14 @@ value_of (Some g) = Some g.value
 -- the command of the values, None where one of them is past its limits
 abbrev pub command_with : Line → Option Command
 command_with (faces_line places file) = faces_with (places_of places) (nonempty_of file)
-command_with (at_line point expr places file more) = at_with (point_of point.value) (optional_of (value_of expr)) (places_of places) (names_of (file ∷ more))
+command_with (at_line point expr places file more) =
+    at_with (point_of point.value) (optional_of (value_of expr)) (places_of places) (names_of (file ∷ more))
 command_with (bool_line expr workers places report file more) =
     bool_with (nonempty_of expr.value) (workers_of workers) (places_of places) report (names_of (file ∷ more))
 command_with (demo_line workers boxes) = demo_with (number_of 1 20000 boxes) (workers_of workers)
 command_with (voxels_line expr size workers places file more) =
-    voxels_with (nonempty_of expr.value) (number_of 4 12 size.value) (workers_of workers) (places_of places) (names_of (file ∷ more))
-command_with (pairs_line workers places file more) = pairs_with (workers_of workers) (places_of places) (names_of (file ∷ more))
+    voxels_with (nonempty_of expr.value) (number_of 4 12 size.value) (workers_of workers) (places_of places)
+    (names_of (file ∷ more))
+command_with (pairs_line workers places file more) =
+    pairs_with (workers_of workers) (places_of places) (names_of (file ∷ more))
 command_with (slice_line height file) = slice_with (height_of height.value) (nonempty_of file)

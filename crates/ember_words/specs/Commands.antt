@@ -50,12 +50,14 @@ faces_app = with_rule (with_rule (new_app (codes "faces")) places) file
 -- `at --point X,Y,Z,W [--expr E] [--places K] FILE...`
 abbrev pub at_app : App
 at_app =
-    with_rule (with_rule (with_rule (with_rule (new_app (codes "at")) (wanted (codes "point"))) (optional (codes "expr"))) places) files
+    with_rule (with_rule (with_rule (with_rule (new_app (codes "at")) (wanted (codes "point")))
+    (optional (codes "expr"))) places) files
 
 -- `bool --expr E [--workers N] [--places K] [--report] FILE...`
 abbrev pub bool_app : App
 bool_app =
-    with_rule (with_rule (with_rule (with_rule (with_rule (new_app (codes "bool")) expr) workers) places) (flag (codes "report"))) files
+    with_rule (with_rule (with_rule (with_rule (with_rule (new_app (codes "bool")) expr) workers) places)
+    (flag (codes "report"))) files
 
 -- `demo [--workers N] BOXES`
 abbrev pub demo_app : App
@@ -64,7 +66,8 @@ demo_app = with_rule (with_rule (new_app (codes "demo")) workers) (one_word (cod
 -- `voxels --expr E --size S [--workers N] [--places K] FILE...`
 abbrev pub voxels_app : App
 voxels_app =
-    with_rule (with_rule (with_rule (with_rule (with_rule (new_app (codes "voxels")) expr) (wanted (codes "size"))) workers) places) files
+    with_rule (with_rule (with_rule (with_rule (with_rule (new_app (codes "voxels")) expr) (wanted (codes "size")))
+    workers) places) files
 
 -- `pairs [--workers N] [--places K] FILE...`
 abbrev pub pairs_app : App

@@ -64,7 +64,8 @@ abbrev pub is_small_number : ℤ → Bool
 is_small_number z = nat_le (unsigned_abs z) 1099511627775
 
 abbrev pub is_valid_spot : Spot → Bool
-is_valid_spot p = is_small_number p.x && (is_small_number p.y && (is_small_number p.z && (is_small_number p.w && int_lt (pos 0) p.w)))
+is_valid_spot p = is_small_number p.x &&
+    (is_small_number p.y && (is_small_number p.z && (is_small_number p.w && int_lt (pos 0) p.w)))
 
 abbrev pub as_spot : Spot → Option Spot
 as_spot p = if is_valid_spot p then Some p else None

@@ -58,7 +58,8 @@ at_with (Some point) (Some expr) (Some places) (Some files) = Some (command.At p
 at_with _ _ _ _ = None
 
 abbrev pub bool_with : Option Text → Option ℕ → Option ℕ → Bool → Option (List Text) → Option Command
-bool_with (Some expr) (Some workers) (Some places) report (Some files) = Some (command.Boole expr workers places report files)
+bool_with (Some expr) (Some workers) (Some places) report (Some files) =
+    Some (command.Boole expr workers places report files)
 bool_with _ _ _ _ _ = None
 
 abbrev pub demo_with : Option ℕ → Option ℕ → Option Command
@@ -66,7 +67,8 @@ demo_with (Some boxes) (Some workers) = Some (command.Demo boxes workers)
 demo_with _ _ = None
 
 abbrev pub voxels_with : Option Text → Option ℕ → Option ℕ → Option ℕ → Option (List Text) → Option Command
-voxels_with (Some expr) (Some size) (Some workers) (Some places) (Some files) = Some (command.Voxels expr size workers places files)
+voxels_with (Some expr) (Some size) (Some workers) (Some places) (Some files) =
+    Some (command.Voxels expr size workers places files)
 voxels_with _ _ _ _ _ = None
 
 abbrev pub pairs_with : Option ℕ → Option ℕ → Option (List Text) → Option Command
@@ -82,18 +84,21 @@ faces_of rows = faces_with (places_in rows) (text_in (codes "file") rows)
 
 abbrev pub at_of : List Row → Option Command
 at_of rows =
-    at_with (option_and_then point_of (first_of (codes "point") rows)) (optional_of (first_of (codes "expr") rows)) (places_in rows) (files_in rows)
+    at_with (option_and_then point_of (first_of (codes "point") rows)) (optional_of (first_of (codes "expr") rows))
+    (places_in rows) (files_in rows)
 
 abbrev pub bool_of : List Row → Option Command
 bool_of rows =
-    bool_with (text_in (codes "expr") rows) (workers_in rows) (places_in rows) (is_set (first_of (codes "report") rows)) (files_in rows)
+    bool_with (text_in (codes "expr") rows) (workers_in rows) (places_in rows)
+    (is_set (first_of (codes "report") rows)) (files_in rows)
 
 abbrev pub demo_of : List Row → Option Command
 demo_of rows = demo_with (number_in 1 20000 (codes "boxes") rows) (workers_in rows)
 
 abbrev pub voxels_of : List Row → Option Command
 voxels_of rows =
-    voxels_with (text_in (codes "expr") rows) (number_in 4 12 (codes "size") rows) (workers_in rows) (places_in rows) (files_in rows)
+    voxels_with (text_in (codes "expr") rows) (number_in 4 12 (codes "size") rows) (workers_in rows) (places_in rows)
+    (files_in rows)
 
 abbrev pub pairs_of : List Row → Option Command
 pairs_of rows = pairs_with (workers_in rows) (places_in rows) (files_in rows)

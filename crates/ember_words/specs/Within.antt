@@ -16,9 +16,12 @@ AreNames names = (length names ≤ 64) × All IsNonempty names
 -- the numbers are within their limits, the point is valid, and no text is empty
 abbrev pub IsWithinLimits : Command → Type 0
 IsWithinLimits (command.Faces places file) = (places ≤ 3) × IsNonempty file
-IsWithinLimits (command.At point expr places files) = IsValidSpot point × IfSome expr IsNonempty × (places ≤ 3) × AreNames files
-IsWithinLimits (command.Boole expr workers places report files) = IsNonempty expr × IsInRange 1 64 workers × (places ≤ 3) × AreNames files
+IsWithinLimits (command.At point expr places files) =
+    IsValidSpot point × IfSome expr IsNonempty × (places ≤ 3) × AreNames files
+IsWithinLimits (command.Boole expr workers places report files) =
+    IsNonempty expr × IsInRange 1 64 workers × (places ≤ 3) × AreNames files
 IsWithinLimits (command.Demo boxes workers) = IsInRange 1 20000 boxes × IsInRange 1 64 workers
-IsWithinLimits (command.Voxels expr size workers places files) = IsNonempty expr × IsInRange 4 12 size × IsInRange 1 64 workers × (places ≤ 3) × AreNames files
+IsWithinLimits (command.Voxels expr size workers places files) =
+    IsNonempty expr × IsInRange 4 12 size × IsInRange 1 64 workers × (places ≤ 3) × AreNames files
 IsWithinLimits (command.Pairs workers places files) = IsInRange 1 64 workers × (places ≤ 3) × AreNames files
 IsWithinLimits (command.Slice height file) = (neg_ℤ (pos 2048) ≤ℤ height) × (height ≤ℤ pos 2047) × IsNonempty file

@@ -72,7 +72,8 @@ pub fn height(text: &str) -> Option<i32>
 
 // The part before the first comma, and what stands after it.
 fn part(text: &str) -> (&str, Option<&str>)
-    ensures { MatchOption result.1 (parts_of text.now ≡ result.0.now ∷ []) (λ rest. parts_of text.now ≡ result.0.now ∷ parts_of rest.now) }
+    ensures { MatchOption result.1 (parts_of text.now ≡ result.0.now ∷ []) (λ rest. parts_of text.now ≡
+        result.0.now ∷ parts_of rest.now) }
 {
     match text.split_once(',') {
         Some((part, rest)) => (part, Some(rest)),
@@ -97,7 +98,8 @@ fn is_valid(point: &Spot) -> bool
 // The four parts between three commas.
 #[tactic(auto, using(crate::proofs::Parts::too_many))]
 fn four_parts(text: &str) -> Option<(&str, &str, &str, &str)>
-    ensures { MatchOption result (four_of (parts_of text.now) ≡ None) (λ t. four_of (parts_of text.now) ≡ Some (t.0.now, t.1.now, t.2.now, t.3.now)) }
+    ensures { MatchOption result (four_of (parts_of text.now) ≡ None) (λ t. four_of (parts_of text.now) ≡
+        Some (t.0.now, t.1.now, t.2.now, t.3.now)) }
 {
     let (x, Some(rest)) = part(text) else {
         return None;

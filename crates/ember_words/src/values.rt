@@ -23,7 +23,8 @@ pub fn first<'a>(matches: &ArgMatches<'a>, id: &str) -> Option<&'a str>
 // All values of an argument.
 #[tactic(auto, using(crate::proofs::Getters::raw_values_rows))]
 pub fn all<'m, 'a>(matches: &'m ArgMatches<'a>, id: &str) -> Option<&'m [&'a str]>
-    ensures { option_map (λ texts. map (λ text. text.now) texts.now) result ≡ all_of id.now (rows_of (found_of matches.now)) }
+    ensures { option_map (λ texts. map (λ text. text.now) texts.now) result ≡
+        all_of id.now (rows_of (found_of matches.now)) }
 {
     matches.get_strs(id)
 }
@@ -89,7 +90,8 @@ fn are_file_names(names: &[&str]) -> bool
 }
 
 fn all_copied(alloc: Global, texts: &[&str]) -> Result<Texts, WordsFault>
-    ensures { MatchResult result (λ copies. copies ≡ map (λ text. text.now) texts.now) (λ fault. fault ≡ WordsFault.OutOfMemory) }
+    ensures { MatchResult result (λ copies. copies ≡ map (λ text. text.now) texts.now) (λ fault. fault ≡
+        WordsFault.OutOfMemory) }
 {
     let mut copies = Vec::with_capacity(alloc, texts.len())?;
     for text in texts {

@@ -6,7 +6,8 @@ use Rattle.steal_core.specs.declared.place.Placed.{Placed}
 use Rattle.steal_core.specs.declared.place.Event.{Event}
 use Rattle.steal_core.specs.declared.place.Event.TheVariants.{Push, Hold, Pop, Steal, Drain, Finish}
 
--- a state: the number of workers, how many boxes it has room for, and each box with its place, in the order in which they came
+-- a state: the number of workers, how many boxes it has room for, and each box with its place, in the order in which
+-- they came
 pub record Core : Type 0 where
   pub workers : ℕ
   pub room : ℕ
@@ -45,17 +46,20 @@ HasNone P (s ∷ ss) = (P s ≡ false) × HasNone P ss
 
 -- the first, and the last, for which it is true
 abbrev pub FirstAt : (Placed → Bool) → List Placed → ℕ → Type 0
-FirstAt P boxes i = (front back : List Placed) × (s : Placed) × (boxes ≡ front ++ s ∷ back) × (P s ≡ true) × HasNone P front × (i ≡ length front)
+FirstAt P boxes i = (front back : List Placed) × (s : Placed) × (boxes ≡ front ++ s ∷ back) × (P s ≡ true) ×
+    HasNone P front × (i ≡ length front)
 
 abbrev pub LastAt : (Placed → Bool) → List Placed → ℕ → Type 0
-LastAt P boxes i = (front back : List Placed) × (s : Placed) × (boxes ≡ front ++ s ∷ back) × (P s ≡ true) × HasNone P back × (i ≡ length front)
+LastAt P boxes i = (front back : List Placed) × (s : Placed) × (boxes ≡ front ++ s ∷ back) × (P s ≡ true) ×
+    HasNone P back × (i ≡ length front)
 
 -- each event's step
 pub record Halves (by path : ℕ) (right : Place) (old new : Core) : Type 0 where
   pub front : List Placed
   pub back : List Placed
   pub old_boxes : old.boxes ≡ front ++ placed (Hand by) path ∷ back
-  pub is_new : new ≡ core old.workers old.room ((front ++ placed Ended path ∷ back) ++ placed (Hand by) (2 * path) ∷ placed right (2 * path + 1) ∷ [])
+  pub is_new : new ≡ core old.workers old.room ((front ++ placed Ended path ∷ back) ++ placed (Hand by) (2 * path) ∷
+      placed right (2 * path + 1) ∷ [])
 
 pub record Moves (from to : Place) (path : ℕ) (front back : List Placed) (old new : Core) : Type 0 where
   pub old_boxes : old.boxes ≡ front ++ placed from path ∷ back
@@ -64,10 +68,14 @@ pub record Moves (from to : Place) (path : ℕ) (front back : List Placed) (old 
 abbrev pub Steps : Event → Core → Core → Type 0
 Steps (Push by path) old new = (by < old.workers) × Halves by path (Deque by) old new
 Steps (Hold by path) old new = (by ≤ old.workers) × Halves by path (Hand by) old new
-Steps (Pop by) old new = (by < old.workers) × (path : ℕ) × (front back : List Placed) × Moves (Deque by) (Hand by) path front back old new × HasNone (is_queued by) back
-Steps (Steal by from) old new = (by < old.workers) × (from < old.workers) × (path : ℕ) × (front back : List Placed) × Moves (Deque from) (Hand by) path front back old new × HasNone (is_queued from) front
-Steps (Drain from) old new = (from < old.workers) × (path : ℕ) × (front back : List Placed) × Moves (Deque from) (Hand old.workers) path front back old new × HasNone (is_queued from) back
-Steps (Finish by path) old new = (by ≤ old.workers) × (front back : List Placed) × Moves (Hand by) Ended path front back old new
+Steps (Pop by) old new = (by < old.workers) × (path : ℕ) × (front back : List Placed) ×
+    Moves (Deque by) (Hand by) path front back old new × HasNone (is_queued by) back
+Steps (Steal by from) old new = (by < old.workers) × (from < old.workers) × (path : ℕ) × (front back : List Placed) ×
+    Moves (Deque from) (Hand by) path front back old new × HasNone (is_queued from) front
+Steps (Drain from) old new = (from < old.workers) × (path : ℕ) × (front back : List Placed) ×
+    Moves (Deque from) (Hand old.workers) path front back old new × HasNone (is_queued from) back
+Steps (Finish by path) old new =
+    (by ≤ old.workers) × (front back : List Placed) × Moves (Hand by) Ended path front back old new
 
 abbrev pub NoStep : Event → Core → Type 0
 NoStep e old = (new : Core) → Steps e old new → ⊥
@@ -87,8 +95,10 @@ OnAnswer false e old new = (new ≡ old) × NoStep e old
 -- the states after a list of events
 pub data Reached (workers room : ℕ) : List Event → Core → Type 0 where
   at_start : Reached workers room [] (begin workers room)
-  stepped : (es : List Event) (e : Event) (old new : Core) → Reached workers room es old → Steps e old new → Reached workers room (es ++ e ∷ []) new
-  refused : (es : List Event) (e : Event) (old : Core) → Reached workers room es old → NoStep e old → Reached workers room (es ++ e ∷ []) old
+  stepped : (es : List Event) (e : Event) (old new : Core) → Reached workers room es old → Steps e old new →
+      Reached workers room (es ++ e ∷ []) new
+  refused : (es : List Event) (e : Event) (old : Core) → Reached workers room es old → NoStep e old →
+      Reached workers room (es ++ e ∷ []) old
 
 -- a hand, a deque, and the ended boxes, as lists of paths
 abbrev pub is_in_hand : ℕ → Placed → Bool

@@ -20,7 +20,8 @@ pub data Tree : Type 0 where
 -- the rules of journals, where `owner path` is the number of the journal in which the box stands
 abbrev pub Rules : ℕ → (ℕ → ℕ) → Tree → ℕ → Type 0
 Rules n owner rests p = owner p ≤ n
-Rules n owner (halved l r) p = (owner p ≤ n) × (owner (2 * p) ≡ owner p) × (owner p ≡ n → owner (2 * p + 1) ≡ n) × Rules n owner l (2 * p) × Rules n owner r (2 * p + 1)
+Rules n owner (halved l r) p = (owner p ≤ n) × (owner (2 * p) ≡ owner p) × (owner p ≡ n → owner (2 * p + 1) ≡ n) ×
+    Rules n owner l (2 * p) × Rules n owner r (2 * p + 1)
 
 abbrev pub keep : ℕ → ℕ → ℕ → List ℕ → List ℕ
 keep k i p ps = if i == k then p ∷ ps else ps

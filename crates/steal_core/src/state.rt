@@ -100,7 +100,8 @@ fn find_last(boxes: &[Placed], from: u32) -> Option<usize>
 }
 
 impl State {
-    /// The start: worker 0 holds box 1, and all else is empty. It reserves room for this many `boxes`, in hands, deques and ended together; there are 1 to 64 `workers`. Its one error is want of memory.
+    /// The start: worker 0 holds box 1, and all else is empty. It reserves room for this many `boxes`, in hands,
+    /// deques and ended together; there are 1 to 64 `workers`. Its one error is want of memory.
     pub fn new(alloc: Global, workers: u32, boxes: u32) -> Result<State, OutOfMemory>
         requires { (1 ≤ workers) × (workers ≤ 64) × (1 ≤ boxes) }
         ensures { IfOk result (λ s. s ≡ begin workers boxes) }
@@ -120,7 +121,8 @@ impl State {
     // Puts the box at i somewhere else.
     fn relocate(&mut self, i: usize, to: Place)
         requires { i < length self.old.boxes }
-        ensures { (front back : List Placed) (s : Placed) → self.old.boxes ≡ front ++ s ∷ back → i ≡ length front → self.new ≡ core self.old.workers self.old.room (front ++ placed to s.path ∷ back) }
+        ensures { (front back : List Placed) (s : Placed) → self.old.boxes ≡ front ++ s ∷ back → i ≡ length front →
+            self.new ≡ core self.old.workers self.old.room (front ++ placed to s.path ∷ back) }
     {
         let path = self.boxes[i].path;
         self.boxes[i] = Placed { place: to, path };
@@ -226,7 +228,8 @@ impl State {
         true
     }
 
-    /// Does the event's step. It answers false exactly where the event is no step, and then nothing changes. A Push or a Hold needs room for two more boxes, and a path below 2^36. It takes no memory.
+    /// Does the event's step. It answers false exactly where the event is no step, and then nothing changes. A Push
+    /// or a Hold needs room for two more boxes, and a path below 2^36. It takes no memory.
     pub fn apply(&mut self, event: Event) -> bool
         requires { Fits event self.old }
         ensures { OnAnswer result event self.old self.new }

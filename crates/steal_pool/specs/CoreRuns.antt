@@ -22,7 +22,8 @@ unless_halved_at path e = unless_halved e.kind (one path e.path)
 abbrev pub times_finished : ℕ → List Entry → ℕ
 times_finished path journal = weigh (unless_halved_at path) journal
 
--- a list of steps of the core from the start, after which every hand and deque is empty, in which each number ended by Push or Hold just the halved boxes of its journal, and by Finish just the others
+-- a list of steps of the core from the start, after which every hand and deque is empty, in which each number ended
+-- by Push or Hold just the halved boxes of its journal, and by Finish just the others
 pub record IsCoreRun (workers room : ℕ) (journals : List (List Entry)) : Type 0 where
   pub events : List Event
   pub last : List Placed

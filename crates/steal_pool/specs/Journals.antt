@@ -24,19 +24,24 @@ journal_of k [] = []
 journal_of zero (j ∷ js) = j
 journal_of (suc k) (j ∷ js) = journal_of k js
 
--- the rules of journals: each visited box stands in one journal, once, with its kind, and nothing else stands in any; box 1 stands in that of worker 0; the left half of a halved box stands in its journal, and so does the right half of a box in the caller's
+-- the rules of journals: each visited box stands in one journal, once, with its kind, and nothing else stands in any;
+-- box 1 stands in that of worker 0; the left half of a halved box stands in its journal, and so does the right half
+-- of a box in the caller's
 pub record KeepRules (shape : Job → Shape) (root : Job) (workers : ℕ) (journals : List (List Entry)) : Type 0 where
   pub once : (h : Entry → ℕ) → weigh (weigh h) journals ≡ weigh h (map (entry_of shape) (visited shape root))
   pub begun : 0 < times 1 (journal_of 0 journals)
-  pub lefts : (k path : ℕ) → 0 < times_halved path (journal_of k journals) → 0 < times (2 * path) (journal_of k journals)
-  pub rights : (path : ℕ) → 0 < times_halved path (journal_of workers journals) → 0 < times (2 * path + 1) (journal_of workers journals)
+  pub lefts : (k path : ℕ) → 0 < times_halved path (journal_of k journals) →
+      0 < times (2 * path) (journal_of k journals)
+  pub rights : (path : ℕ) → 0 < times_halved path (journal_of workers journals) →
+      0 < times (2 * path + 1) (journal_of workers journals)
 
 -- an item answers a job that is a leaf
 abbrev pub AnswersLeaf : {I : Type 0} → (Job → Shape) → (Job → I → Type 0) → Job → I → Type 0
 AnswersLeaf shape item job it = (shape job ≡ leafed) × item job it
 
 -- the parts are for each leaf among the visited boxes, once, its path and an item that answers its job
-pub record AreParts {I : Type 0} (shape : Job → Shape) (item : Job → I → Type 0) (root : Job) (parts : List (Part I)) : Type 0 where
+pub record AreParts {I : Type 0} (shape : Job → Shape) (item : Job → I → Type 0) (root : Job)
+    (parts : List (Part I)) : Type 0 where
   pub once : (g : ℕ → ℕ) → weigh (by_path g) parts ≡ weigh (at_job g) (leaves shape root)
   pub items : All (IsPart (IsVisited shape root) (AnswersLeaf shape item)) parts
 

@@ -13,12 +13,17 @@ use Rattle.steal_pool.specs.CoreRuns.{IsCoreRun}
 
 -- the merged items of a run's parts answer the leaves of the visited tree, in its order
 abbrev pub MergedAnswerLeaves : {I : Type 0} → (Job → Type 0) → (Job → Shape) → (Job → I → Type 0) → Type 0
-MergedAnswerLeaves {I} valid shape item = (root : Job) (parts : List (Part I)) (items : List I) → valid root → root.cell ≡ boxes.root → AreParts shape item root parts → IsMerged parts items → EachAnswers item (leaves shape root) items
+MergedAnswerLeaves {I} valid shape item = (root : Job) (parts : List (Part I)) (items : List I) → valid root →
+    root.cell ≡ boxes.root → AreParts shape item root parts → IsMerged parts items →
+    EachAnswers item (leaves shape root) items
 
 -- items that answer the same jobs are the same items
 abbrev pub AnswersAreEqual : {I : Type 0} → (Job → I → Type 0) → Type 0
-AnswersAreEqual {I} item = (jobs : List Job) (items others : List I) → EachAnswers item jobs items → EachAnswers item jobs others → items ≡ others
+AnswersAreEqual {I} item = (jobs : List Job) (items others : List I) → EachAnswers item jobs items →
+    EachAnswers item jobs others → items ≡ others
 
 -- journals that keep the rules are a run of the core
 abbrev pub JournalsAreCoreRuns : (Job → Type 0) → (Job → Shape) → Type 0
-JournalsAreCoreRuns valid shape = (root : Job) (workers room : ℕ) (journals : List (List Entry)) → valid root → root.cell ≡ boxes.root → KeepRules shape root workers journals → length journals ≡ workers + 1 → IsCoreRun workers room journals
+JournalsAreCoreRuns valid shape = (root : Job) (workers room : ℕ) (journals : List (List Entry)) → valid root →
+    root.cell ≡ boxes.root → KeepRules shape root workers journals → length journals ≡ workers + 1 →
+    IsCoreRun workers room journals

@@ -13,7 +13,8 @@ use Rattle.steal_pool.specs.Protocol.{handle, new_pass, with_one_lent}
 use Rattle.steal_pool.specs.Steps.{Weight, EachPass, all_taken, ended}
 
 -- each owner's end is of the deque at its place, and its view is like this
-abbrev pub EachOwner : {P : Type 0} → (HandleView → Type 0) → List (Stealer Job Global HandleView P) → List (Worker Job Global HandleView P) → Type 0
+abbrev pub EachOwner : {P : Type 0} → (HandleView → Type 0) → List (Stealer Job Global HandleView P) →
+    List (Worker Job Global HandleView P) → Type 0
 EachOwner Q [] [] = Unit {0}
 EachOwner Q [] (o ∷ os) = ⊥
 EachOwner Q (t ∷ ts) [] = ⊥
@@ -35,18 +36,23 @@ all_popped h [] = 0
 all_popped h (o ∷ os) = weigh h (worker_view o).taken + all_popped h os
 
 -- the first i owners have made one pass more
-abbrev pub Lending : {P : Type 0} → ℕ → ℕ → List (Stealer Job Global HandleView P) → List (Worker Job Global HandleView P) → List (Pass Job HandleView Global) → Type 0
+abbrev pub Lending : {P : Type 0} → ℕ → ℕ → List (Stealer Job Global HandleView P) →
+    List (Worker Job Global HandleView P) → List (Pass Job HandleView Global) → Type 0
 Lending lent zero ts os [] = EachOwner (Fresh lent) ts os
 Lending lent zero ts os (p ∷ ps) = ⊥
-Lending lent (suc i) (t ∷ ts) (o ∷ os) (p ∷ ps) = ((worker_deque o ≡ stealer_deque t) × Fresh (lent + 1) (worker_view o) × IsPassOf (stealer_deque t) p × (view p ≡ new_pass)) × Lending lent i ts os ps
+Lending lent (suc i) (t ∷ ts) (o ∷ os) (p ∷ ps) =
+    ((worker_deque o ≡ stealer_deque t) × Fresh (lent + 1) (worker_view o) × IsPassOf (stealer_deque t) p ×
+    (view p ≡ new_pass)) × Lending lent i ts os ps
 Lending lent (suc i) [] os ps = ⊥
 Lending lent (suc i) (t ∷ ts) [] ps = ⊥
 Lending lent (suc i) (t ∷ ts) (o ∷ os) [] = ⊥
 
 -- the first i owners have taken in one pass more
-abbrev pub Absorbing : {P : Type 0} → ℕ → ℕ → List (Stealer Job Global HandleView P) → List (Worker Job Global HandleView P) → List (Pass Job HandleView Global) → Type 0
+abbrev pub Absorbing : {P : Type 0} → ℕ → ℕ → List (Stealer Job Global HandleView P) →
+    List (Worker Job Global HandleView P) → List (Pass Job HandleView Global) → Type 0
 Absorbing lent zero ts os ps = EachOwner (Lent (lent + 1)) ts os × EachPass ts ps
-Absorbing lent (suc i) (t ∷ ts) (o ∷ os) ps = ((worker_deque o ≡ stealer_deque t) × Lent lent (worker_view o)) × Absorbing lent i ts os ps
+Absorbing lent (suc i) (t ∷ ts) (o ∷ os) ps =
+    ((worker_deque o ≡ stealer_deque t) × Lent lent (worker_view o)) × Absorbing lent i ts os ps
 Absorbing lent (suc i) [] os ps = ⊥
 Absorbing lent (suc i) (t ∷ ts) [] ps = ⊥
 
@@ -56,11 +62,13 @@ AllBack [] = Unit {0}
 AllBack (o ∷ os) = Lent 0 (worker_view o) × AllBack os
 
 -- the passes of each row are those of all deques
-abbrev pub EachRow : {P : Type 0} → List (Stealer Job Global HandleView P) → List (Vec (Pass Job HandleView Global) Global) → Type 0
+abbrev pub EachRow : {P : Type 0} → List (Stealer Job Global HandleView P) →
+    List (Vec (Pass Job HandleView Global) Global) → Type 0
 EachRow ts rows = All (λ r. EachPass ts r.items) rows
 
 -- these passes, one on each deque, have taken nothing
-pub record NewRow {P : Type 0} (ts : List (Stealer Job Global HandleView P)) (passes : List (Pass Job HandleView Global)) : Type 0 where
+pub record NewRow {P : Type 0} (ts : List (Stealer Job Global HandleView P))
+    (passes : List (Pass Job HandleView Global)) : Type 0 where
   pub each : EachPass ts passes
   pub taken : (h : Job → ℕ) → all_taken h passes ≡ 0
 
@@ -69,7 +77,8 @@ abbrev pub rows_taken : (Job → ℕ) → List (Vec (Pass Job HandleView Global)
 rows_taken h rows = weigh (λ r. all_taken h r.items) rows
 
 -- an owner made a pass on its deque
-pub record Lends {P : Type 0} (old new : Worker Job Global HandleView P) (pass : Pass Job HandleView Global) : Type 0 where
+pub record Lends {P : Type 0} (old new : Worker Job Global HandleView P)
+    (pass : Pass Job HandleView Global) : Type 0 where
   pub deque : worker_deque new ≡ worker_deque old
   pub of_deque : IsPassOf (worker_deque old) pass
   pub view_is : worker_view new ≡ with_one_lent (worker_view old)
@@ -77,8 +86,11 @@ pub record Lends {P : Type 0} (old new : Worker Job Global HandleView P) (pass :
 
 -- what was pushed and not taken was run to its end, where nothing is left
 abbrev pub AddsDrained : {I : Type 0} → Weight → HandleView → Output I → Output I → Type 0
-AddsDrained weight v old new = (h : Entry → ℕ) (g : ℕ → ℕ) → ended h g new + weigh (weight h g) v.taken ≡ ended h g old + weigh (weight h g) v.pushed
+AddsDrained weight v old new = (h : Entry → ℕ) (g : ℕ → ℕ) →
+    ended h g new + weigh (weight h g) v.taken ≡ ended h g old + weigh (weight h g) v.pushed
 
 -- the same for all deques
-abbrev pub AddsAllDrained : {P I : Type 0} → Weight → List (Worker Job Global HandleView P) → Output I → Output I → Type 0
-AddsAllDrained weight os old new = (h : Entry → ℕ) (g : ℕ → ℕ) → ended h g new + all_popped (weight h g) os ≡ ended h g old + all_pushed (weight h g) os
+abbrev pub AddsAllDrained : {P I : Type 0} → Weight → List (Worker Job Global HandleView P) → Output I → Output I →
+    Type 0
+AddsAllDrained weight os old new = (h : Entry → ℕ) (g : ℕ → ℕ) →
+    ended h g new + all_popped (weight h g) os ≡ ended h g old + all_pushed (weight h g) os

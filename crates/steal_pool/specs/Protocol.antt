@@ -49,7 +49,8 @@ guest_lent false n = n
 abbrev pub Fits : ℕ → ℕ → HandleView → Type 0
 Fits owner port v = (v.owns ≡ true → port ≡ owner) × (port ≢ owner → (v.pushed ≡ []) × (v.lent ≡ 0 → v.taken ≡ []))
 
--- the invariant of a deque: each job is that of a visited box; what was pushed is what was taken and what the deque holds, however jobs are weighed; the owner knows how many passes are out
+-- the invariant of a deque: each job is that of a visited box; what was pushed is what was taken and what the deque
+-- holds, however jobs are weighed; the owner knows how many passes are out
 pub record JobsConserved (visited : Job → Type 0) (items : List Job) (views : List HandleView) : Type 0 where
   pub owner : ℕ
   pub visited_all : All visited items

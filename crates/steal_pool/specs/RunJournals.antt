@@ -33,10 +33,12 @@ abbrev pub EachStays : {K I : Type 0} → List (WorkerState K I) → List (List 
 EachStays [] [] = Unit {0}
 EachStays [] (j ∷ js) = ⊥
 EachStays (s ∷ ss) [] = ⊥
-EachStays (s ∷ ss) (j ∷ js) = ((h : ℕ → ℕ) → weigh (at_job h) s.hand.items + weigh (at_left h) j ≤ weigh (at_entry h) j) × EachStays ss js
+EachStays (s ∷ ss) (j ∷ js) =
+    ((h : ℕ → ℕ) → weigh (at_job h) s.hand.items + weigh (at_left h) j ≤ weigh (at_entry h) j) × EachStays ss js
 
 -- the journals of these workers, the last worker's first, and then the caller's
-pub record WorkerJournals {K I : Type 0} (states : List (WorkerState K I)) (journals : List (List Entry)) (left : ℕ) : Type 0 where
+pub record WorkerJournals {K I : Type 0} (states : List (WorkerState K I)) (journals : List (List Entry))
+    (left : ℕ) : Type 0 where
   pub ended : List (List Entry)
   pub caller : List Entry
   pub is : journals ≡ reverse ended ++ caller ∷ []

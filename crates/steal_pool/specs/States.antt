@@ -16,32 +16,40 @@ use Rattle.steal_pool.specs.Steps.{Weight, EachPass, IsPart, by_path}
 use Rattle.steal_pool.specs.Owners.{EachOwner, all_pushed, all_popped, rows_taken}
 use Rattle.steal_pool.specs.Workers.{IsReady, IsIdle, all_held, all_received}
 
-abbrev pub EachState : {K I : Type 0} → (HandleView → Type 0) → List (Stealer Job Global HandleView (JobProtocol K)) → List (WorkerState K I) → Type 0
+abbrev pub EachState : {K I : Type 0} → (HandleView → Type 0) →
+    List (Stealer Job Global HandleView (JobProtocol K)) → List (WorkerState K I) → Type 0
 EachState Q [] [] = Unit {0}
 EachState Q [] (s ∷ ss) = ⊥
 EachState Q (t ∷ ts) [] = ⊥
 EachState Q (t ∷ ts) (s ∷ ss) = ((worker_deque s.owner ≡ stealer_deque t) × Q (worker_view s.owner)) × EachState Q ts ss
 
 -- some states were made from their owners' ends, in order
-abbrev pub MakingStates : {K I : Type 0} → (HandleView → Type 0) → List (Stealer Job Global HandleView (JobProtocol K)) → List (WorkerState K I) → List (Worker Job Global HandleView (JobProtocol K)) → Type 0
+abbrev pub MakingStates : {K I : Type 0} → (HandleView → Type 0) →
+    List (Stealer Job Global HandleView (JobProtocol K)) → List (WorkerState K I) →
+    List (Worker Job Global HandleView (JobProtocol K)) → Type 0
 MakingStates Q ts [] os = EachOwner Q ts os
 MakingStates Q [] (s ∷ ss) os = ⊥
-MakingStates Q (t ∷ ts) (s ∷ ss) os = ((worker_deque s.owner ≡ stealer_deque t) × Q (worker_view s.owner)) × MakingStates Q ts ss os
+MakingStates Q (t ∷ ts) (s ∷ ss) os =
+    ((worker_deque s.owner ≡ stealer_deque t) × Q (worker_view s.owner)) × MakingStates Q ts ss os
 
 -- some states were taken apart, in order
-abbrev pub TakingStates : {K I : Type 0} → (HandleView → Type 0) → List (Stealer Job Global HandleView (JobProtocol K)) → List (Worker Job Global HandleView (JobProtocol K)) → List (WorkerState K I) → Type 0
+abbrev pub TakingStates : {K I : Type 0} → (HandleView → Type 0) →
+    List (Stealer Job Global HandleView (JobProtocol K)) → List (Worker Job Global HandleView (JobProtocol K)) →
+    List (WorkerState K I) → Type 0
 TakingStates Q ts [] ss = EachState Q ts ss
 TakingStates Q [] (o ∷ os) ss = ⊥
 TakingStates Q (t ∷ ts) (o ∷ os) ss = ((worker_deque o ≡ stealer_deque t) × Q (worker_view o)) × TakingStates Q ts os ss
 
 -- a worker hands over what it has: its hand is empty
-pub record MayLeave {P K I : Type 0} (visited : Job → Type 0) (answers : Job → I → Type 0) (stealers : List (Stealer Job Global HandleView P)) (s : WorkerState K I) : Type 0 where
+pub record MayLeave {P K I : Type 0} (visited : Job → Type 0) (answers : Job → I → Type 0)
+    (stealers : List (Stealer Job Global HandleView P)) (s : WorkerState K I) : Type 0 where
   pub each : EachPass stealers s.passes.items
   pub hand : s.hand.items ≡ []
   pub found_all : All (IsPart visited answers) s.output.parts.items
 
 -- a new state: it is ready, and nothing was given to it
-pub record IsNew {P K I : Type 0} (visited : Job → Type 0) (answers : Job → I → Type 0) (weight : Weight) (stealers : List (Stealer Job Global HandleView P)) (s : WorkerState K I) : Type 0 where
+pub record IsNew {P K I : Type 0} (visited : Job → Type 0) (answers : Job → I → Type 0) (weight : Weight)
+    (stealers : List (Stealer Job Global HandleView P)) (s : WorkerState K I) : Type 0 where
   pub ready : IsReady visited answers stealers s
   pub idle : IsIdle weight s
 
@@ -49,10 +57,15 @@ abbrev pub journals_of : {K I : Type 0} → List (WorkerState K I) → List (Lis
 journals_of states = map (λ s. s.output.journal.items) states
 
 -- what is handed over: the workers' journals in their order, and all that they hold and have received
-pub record HandsOver {K I : Type 0} (weight : Weight) (states : List (WorkerState K I)) (outputs : WorkerOutputs K I) : Type 0 where
+pub record HandsOver {K I : Type 0} (weight : Weight) (states : List (WorkerState K I))
+    (outputs : WorkerOutputs K I) : Type 0 where
   pub journals : map (λ j. j.items) outputs.journals.items ≡ journals_of states
-  pub held : (h : Entry → ℕ) (g : ℕ → ℕ) → weigh (λ j. weigh h j.items) outputs.journals.items + weigh (by_path g) outputs.parts.items + all_pushed (weight h g) outputs.owners.items ≡ all_held weight h g states
-  pub received : (h : Entry → ℕ) (g : ℕ → ℕ) → all_popped (weight h g) outputs.owners.items + rows_taken (weight h g) outputs.rows.items ≡ all_received weight h g states
+  pub held : (h : Entry → ℕ) (g : ℕ → ℕ) →
+      weigh (λ j. weigh h j.items) outputs.journals.items + weigh (by_path g) outputs.parts.items +
+      all_pushed (weight h g) outputs.owners.items ≡ all_held weight h g states
+  pub received : (h : Entry → ℕ) (g : ℕ → ℕ) →
+      all_popped (weight h g) outputs.owners.items + rows_taken (weight h g) outputs.rows.items ≡
+      all_received weight h g states
 
 -- the root alone is held
 pub record HoldRoot {K I : Type 0} (weight : Weight) (root : Job) (states : List (WorkerState K I)) : Type 0 where
@@ -61,8 +74,10 @@ pub record HoldRoot {K I : Type 0} (weight : Weight) (root : Job) (states : List
 
 -- all that the workers held at the start stands in the journals and among the parts
 abbrev pub Conserves : {K I : Type 0} → Weight → List (WorkerState K I) → List (List Entry) → List (Part I) → Type 0
-Conserves weight states journals parts = (h : Entry → ℕ) (g : ℕ → ℕ) → weigh (weigh h) journals + weigh (by_path g) parts + all_received weight h g states ≡ all_held weight h g states
+Conserves weight states journals parts = (h : Entry → ℕ) (g : ℕ → ℕ) →
+    weigh (weigh h) journals + weigh (by_path g) parts + all_received weight h g states ≡ all_held weight h g states
 
 -- the whole tree below a box stands in the journals and among the parts
 abbrev pub HoldsTree : {I : Type 0} → Weight → Job → List (List Entry) → List (Part I) → Type 0
-HoldsTree weight root journals parts = (h : Entry → ℕ) (g : ℕ → ℕ) → weigh (weigh h) journals + weigh (by_path g) parts ≡ weight h g root
+HoldsTree weight root journals parts =
+    (h : Entry → ℕ) (g : ℕ → ℕ) → weigh (weigh h) journals + weigh (by_path g) parts ≡ weight h g root

@@ -29,14 +29,21 @@ Weight = (Entry → ℕ) → (ℕ → ℕ) → Job → ℕ
 
 -- what the outcome of a visited box is
 abbrev pub OutcomeFits : {I : Type 0} → (Job → Type 0) → (Job → I → Type 0) → Weight → Job → Outcome I → Type 0
-OutcomeFits visited answers weight j (Halves l r) = visited l × visited r × (l.cell.path ≡ 2 * j.cell.path) × (r.cell.path ≡ 2 * j.cell.path + 1) × (halvings_left l.cell + 1 ≡ halvings_left j.cell) × (halvings_left r.cell + 1 ≡ halvings_left j.cell) × ((h : Entry → ℕ) (g : ℕ → ℕ) → weight h g j ≡ h (entry j.cell.path Halved) + weight h g l + weight h g r)
-OutcomeFits visited answers weight j (Leaf item) = answers j item × ((h : Entry → ℕ) (g : ℕ → ℕ) → weight h g j ≡ h (entry j.cell.path Leafed) + g j.cell.path)
+OutcomeFits visited answers weight j (Halves l r) = visited l × visited r × (l.cell.path ≡ 2 * j.cell.path) ×
+    (r.cell.path ≡ 2 * j.cell.path + 1) × (halvings_left l.cell + 1 ≡ halvings_left j.cell) ×
+    (halvings_left r.cell + 1 ≡ halvings_left j.cell) × ((h : Entry → ℕ) (g : ℕ → ℕ) →
+    weight h g j ≡ h (entry j.cell.path Halved) + weight h g l + weight h g r)
+OutcomeFits visited answers weight j (Leaf item) =
+    answers j item × ((h : Entry → ℕ) (g : ℕ → ℕ) → weight h g j ≡ h (entry j.cell.path Leafed) + g j.cell.path)
 OutcomeFits visited answers weight j Skipped = (h : Entry → ℕ) (g : ℕ → ℕ) → weight h g j ≡ h (entry j.cell.path Passed)
 
 -- the call may be made at each visited box, and its outcome fits it
-pub record RunsVisited {I F : Type 0} (visited : Job → Type 0) (answers : Job → I → Type 0) (weight : Weight) (pre : F → Bor Job → Type 0) (post : F → Bor Job → Result (Outcome I) AllocError → Type 0) (call : F) : Type 0 where
+pub record RunsVisited {I F : Type 0} (visited : Job → Type 0) (answers : Job → I → Type 0) (weight : Weight)
+    (pre : F → Bor Job → Type 0) (post : F → Bor Job → Result (Outcome I) AllocError → Type 0)
+    (call : F) : Type 0 where
   pub may_run : (p : Bor Job) → visited p.now → pre call p
-  pub fits : (p : Bor Job) (r : Result (Outcome I) AllocError) → visited p.now → post call p r → IfOk r (λ o. OutcomeFits visited answers weight p.now o)
+  pub fits : (p : Bor Job) (r : Result (Outcome I) AllocError) → visited p.now → post call p r →
+      IfOk r (λ o. OutcomeFits visited answers weight p.now o)
 
 -- the item of a part answers the visited job of its path
 pub record IsPart {I : Type 0} (visited : Job → Type 0) (answers : Job → I → Type 0) (p : Part I) : Type 0 where
@@ -82,7 +89,9 @@ ended h g o = weigh h o.journal.items + weigh (by_path g) o.parts.items
 -- the halves of a visited box are those of visited boxes, and may be halved once less
 abbrev pub AreHalves : (Job → Type 0) → Job → Option BoxHalves → Type 0
 AreHalves visited j None = Unit {0}
-AreHalves visited j (Some b) = visited b.low × visited b.high × (halvings_left b.low.cell + 1 ≡ halvings_left j.cell) × (halvings_left b.high.cell + 1 ≡ halvings_left j.cell)
+AreHalves visited j (Some b) =
+    visited b.low × visited b.high × (halvings_left b.low.cell + 1 ≡ halvings_left j.cell) ×
+    (halvings_left b.high.cell + 1 ≡ halvings_left j.cell)
 
 abbrev pub low_job : Option BoxHalves → List Job
 low_job None = []
@@ -93,11 +102,15 @@ half_jobs None = []
 half_jobs (Some b) = b.low ∷ b.high ∷ []
 
 -- a box ended: its entry was written, its item was added if it is a leaf, and its halves, if any, are still to be run
-pub record EndsBox {I : Type 0} (weight : Weight) (job : Job) (old new : Output I) (halves : Option BoxHalves) : Type 0 where
-  pub sums : (h : Entry → ℕ) (g : ℕ → ℕ) → ended h g new + weigh (weight h g) (half_jobs halves) ≡ ended h g old + weight h g job
+pub record EndsBox {I : Type 0} (weight : Weight) (job : Job) (old new : Output I)
+    (halves : Option BoxHalves) : Type 0 where
+  pub sums : (h : Entry → ℕ) (g : ℕ → ℕ) →
+      ended h g new + weigh (weight h g) (half_jobs halves) ≡ ended h g old + weight h g job
   pub path : (h : ℕ → ℕ) → weigh (at_entry h) new.journal.items ≡ weigh (at_entry h) old.journal.items + h job.cell.path
-  pub low : (h : ℕ → ℕ) → weigh (at_left h) new.journal.items ≡ weigh (at_left h) old.journal.items + weigh (at_job h) (low_job halves)
-  pub both : (h : ℕ → ℕ) → weigh (at_halves h) new.journal.items ≡ weigh (at_halves h) old.journal.items + weigh (at_job h) (half_jobs halves)
+  pub low : (h : ℕ → ℕ) → weigh (at_left h) new.journal.items ≡ weigh (at_left h) old.journal.items +
+      weigh (at_job h) (low_job halves)
+  pub both : (h : ℕ → ℕ) → weigh (at_halves h) new.journal.items ≡ weigh (at_halves h) old.journal.items +
+      weigh (at_job h) (half_jobs halves)
 
 -- a box was run with all below it
 abbrev pub AddsBox : {I : Type 0} → Weight → Job → Output I → Output I → Type 0
@@ -105,15 +118,21 @@ AddsBox weight job old new = (h : Entry → ℕ) (g : ℕ → ℕ) → ended h g
 
 -- both halves of each box that was halved since then stand in the journal
 abbrev pub KeepsHalves : {I : Type 0} → Output I → Output I → Type 0
-KeepsHalves old new = (h : ℕ → ℕ) → weigh (at_entry h) old.journal.items + weigh (at_halves h) new.journal.items ≤ weigh (at_entry h) new.journal.items + weigh (at_halves h) old.journal.items
+KeepsHalves old new = (h : ℕ → ℕ) → weigh (at_entry h) old.journal.items + weigh (at_halves h) new.journal.items ≤
+    weigh (at_entry h) new.journal.items + weigh (at_halves h) old.journal.items
 
 -- and so does this box
 abbrev pub KeepsHalvesAnd : {I : Type 0} → ℕ → Output I → Output I → Type 0
-KeepsHalvesAnd path old new = (h : ℕ → ℕ) → weigh (at_entry h) old.journal.items + weigh (at_halves h) new.journal.items + h path ≤ weigh (at_entry h) new.journal.items + weigh (at_halves h) old.journal.items
+KeepsHalvesAnd path old new = (h : ℕ → ℕ) →
+    weigh (at_entry h) old.journal.items + weigh (at_halves h) new.journal.items + h path ≤
+    weigh (at_entry h) new.journal.items + weigh (at_halves h) old.journal.items
 
 -- a steal takes a visited job by one of these passes, or changes nothing
-abbrev pub StealsOne : (Job → Type 0) → Option Job → List (Pass Job HandleView Global) → List (Pass Job HandleView Global) → Type 0
-StealsOne visited r old new = MatchOption r ((h : Job → ℕ) → all_taken h new ≡ all_taken h old) (λ x. visited x × ((h : Job → ℕ) → all_taken h new ≡ all_taken h old + h x))
+abbrev pub StealsOne : (Job → Type 0) → Option Job → List (Pass Job HandleView Global) →
+    List (Pass Job HandleView Global) → Type 0
+StealsOne visited r old new =
+    MatchOption r ((h : Job → ℕ) → all_taken h new ≡ all_taken h old) (λ x. visited x ×
+    ((h : Job → ℕ) → all_taken h new ≡ all_taken h old + h x))
 
 -- a job went to the deque or to the hand
 pub record Shares (job : Job) (old new : HandleView) (hand new_hand : Vec Job Global) : Type 0 where
@@ -121,4 +140,5 @@ pub record Shares (job : Job) (old new : HandleView) (hand new_hand : Vec Job Gl
   pub lent : new.lent ≡ old.lent
   pub taken : new.taken ≡ old.taken
   pub stays : (h : Job → ℕ) → weigh h hand.items ≤ weigh h new_hand.items
-  pub sums : (h : Job → ℕ) → weigh h new_hand.items + weigh h new.pushed ≡ weigh h hand.items + weigh h old.pushed + h job
+  pub sums : (h : Job → ℕ) → weigh h new_hand.items + weigh h new.pushed ≡ weigh h hand.items + weigh h old.pushed +
+      h job

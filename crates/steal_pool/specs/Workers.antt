@@ -40,8 +40,11 @@ left_paths h a = weigh (at_left h) a.output.journal.items
 -- all that came in, these jobs among it, is ended, held or pushed, and the left half of what was halved stays here
 pub record Balances {I : Type 0} (weight : Weight) (jobs : List Job) (old new : Account I) : Type 0 where
   pub lent : new.owner.lent ≡ old.owner.lent
-  pub sums : (h : Entry → ℕ) (g : ℕ → ℕ) → held weight h g new + received weight h g old ≡ held weight h g old + received weight h g new + weigh (weight h g) jobs
-  pub stays : (h : ℕ → ℕ) → own_paths h old + left_paths h new + weigh (at_job h) jobs ≤ own_paths h new + left_paths h old
+  pub sums : (h : Entry → ℕ) (g : ℕ → ℕ) →
+      held weight h g new + received weight h g old ≡ held weight h g old + received weight h g new +
+      weigh (weight h g) jobs
+  pub stays : (h : ℕ → ℕ) → own_paths h old + left_paths h new + weigh (at_job h) jobs ≤ own_paths h new +
+      left_paths h old
 
 abbrev pub EmptyIfNone : Option Job → List Job → Type 0
 EmptyIfNone None hand = hand ≡ []
@@ -52,17 +55,22 @@ pub record Releases {I : Type 0} (weight : Weight) (job : Option Job) (old new :
   pub lent : new.owner.lent ≡ old.owner.lent
   pub output : new.output ≡ old.output
   pub empty : EmptyIfNone job new.hand
-  pub sums : (h : Entry → ℕ) (g : ℕ → ℕ) → held weight h g new + received weight h g old + weigh (weight h g) (option_to_list job) ≡ held weight h g old + received weight h g new
-  pub stays : (h : ℕ → ℕ) → weigh (at_job h) old.hand ≤ weigh (at_job h) new.hand + weigh (at_job h) (option_to_list job)
+  pub sums : (h : Entry → ℕ) (g : ℕ → ℕ) →
+      held weight h g new + received weight h g old + weigh (weight h g) (option_to_list job) ≡ held weight h g old +
+      received weight h g new
+  pub stays : (h : ℕ → ℕ) →
+      weigh (at_job h) old.hand ≤ weigh (at_job h) new.hand + weigh (at_job h) (option_to_list job)
 
 -- it owns its deque, and has jobs of visited boxes and items that answer
-pub record IsSound {K I : Type 0} (visited : Job → Type 0) (answers : Job → I → Type 0) (s : WorkerState K I) : Type 0 where
+pub record IsSound {K I : Type 0} (visited : Job → Type 0) (answers : Job → I → Type 0)
+    (s : WorkerState K I) : Type 0 where
   pub owns : (worker_view s.owner).owns ≡ true
   pub visited_all : All visited s.hand.items
   pub found_all : All (IsPart visited answers) s.output.parts.items
 
 -- it may begin
-pub record IsReady {P K I : Type 0} (visited : Job → Type 0) (answers : Job → I → Type 0) (stealers : List (Stealer Job Global HandleView P)) (s : WorkerState K I) : Type 0 where
+pub record IsReady {P K I : Type 0} (visited : Job → Type 0) (answers : Job → I → Type 0)
+    (stealers : List (Stealer Job Global HandleView P)) (s : WorkerState K I) : Type 0 where
   pub each : EachPass stealers s.passes.items
   pub sound : IsSound visited answers s
   pub no_journal : s.output.journal.items ≡ []
@@ -73,7 +81,8 @@ pub record IsIdle {K I : Type 0} (weight : Weight) (s : WorkerState K I) : Type 
   pub received_none : (h : Entry → ℕ) (g : ℕ → ℕ) → received weight h g (account s) ≡ 0
 
 -- it has ended all that came into its hand
-pub record HasFinished {P K I : Type 0} (visited : Job → Type 0) (answers : Job → I → Type 0) (weight : Weight) (stealers : List (Stealer Job Global HandleView P)) (old new : WorkerState K I) : Type 0 where
+pub record HasFinished {P K I : Type 0} (visited : Job → Type 0) (answers : Job → I → Type 0) (weight : Weight)
+    (stealers : List (Stealer Job Global HandleView P)) (old new : WorkerState K I) : Type 0 where
   pub deque : worker_deque new.owner ≡ worker_deque old.owner
   pub each : EachPass stealers new.passes.items
   pub sound : IsSound visited answers new
@@ -81,21 +90,27 @@ pub record HasFinished {P K I : Type 0} (visited : Job → Type 0) (answers : Jo
   pub balance : Balances weight [] (account old) (account new)
 
 -- it has, or it says that it is not done
-pub record FinishesIfDone {P K I : Type 0} (visited : Job → Type 0) (answers : Job → I → Type 0) (weight : Weight) (stealers : List (Stealer Job Global HandleView P)) (old new : WorkerState K I) : Type 0 where
+pub record FinishesIfDone {P K I : Type 0} (visited : Job → Type 0) (answers : Job → I → Type 0) (weight : Weight)
+    (stealers : List (Stealer Job Global HandleView P)) (old new : WorkerState K I) : Type 0 where
   pub finished : new.done ≡ true → HasFinished visited answers weight stealers old new
 
 -- each worker, before and after its run
-abbrev pub EachFinishesIfDone : {P K I : Type 0} → (Job → Type 0) → (Job → I → Type 0) → Weight → List (Stealer Job Global HandleView P) → List (WorkerState K I) → List (WorkerState K I) → Type 0
-EachFinishesIfDone visited answers weight stealers ss vs = (i : ℕ) (d : WorkerState _ _) → i < length ss → FinishesIfDone visited answers weight stealers (slice_index_or ss i d) (slice_index_or vs i d)
+abbrev pub EachFinishesIfDone : {P K I : Type 0} → (Job → Type 0) → (Job → I → Type 0) → Weight →
+    List (Stealer Job Global HandleView P) → List (WorkerState K I) → List (WorkerState K I) → Type 0
+EachFinishesIfDone visited answers weight stealers ss vs = (i : ℕ) (d : WorkerState _ _) → i < length ss →
+    FinishesIfDone visited answers weight stealers (slice_index_or ss i d) (slice_index_or vs i d)
 
 -- all workers have finished, one by one
-abbrev pub EachFinished : {P K I : Type 0} → (Job → Type 0) → (Job → I → Type 0) → Weight → List (Stealer Job Global HandleView P) → List (WorkerState K I) → List (WorkerState K I) → Type 0
+abbrev pub EachFinished : {P K I : Type 0} → (Job → Type 0) → (Job → I → Type 0) → Weight →
+    List (Stealer Job Global HandleView P) → List (WorkerState K I) → List (WorkerState K I) → Type 0
 EachFinished visited answers weight stealers [] [] = Unit {0}
 EachFinished visited answers weight stealers [] (v ∷ vs) = ⊥
 EachFinished visited answers weight stealers (s ∷ ss) [] = ⊥
-EachFinished visited answers weight stealers (s ∷ ss) (v ∷ vs) = HasFinished visited answers weight stealers s v × EachFinished visited answers weight stealers ss vs
+EachFinished visited answers weight stealers (s ∷ ss) (v ∷ vs) =
+    HasFinished visited answers weight stealers s v × EachFinished visited answers weight stealers ss vs
 
-abbrev pub AllFinish : {P K I : Type 0} → (Job → Type 0) → (Job → I → Type 0) → Weight → List (Stealer Job Global HandleView P) → Vec (WorkerState K I) Global → Vec (WorkerState K I) Global → Type 0
+abbrev pub AllFinish : {P K I : Type 0} → (Job → Type 0) → (Job → I → Type 0) → Weight →
+    List (Stealer Job Global HandleView P) → Vec (WorkerState K I) Global → Vec (WorkerState K I) Global → Type 0
 AllFinish visited answers weight stealers old new = EachFinished visited answers weight stealers old.items new.items
 
 -- what all workers together hold, and have received

@@ -69,7 +69,8 @@ fn run_each<
     let one = move |_: usize, state: &mut WorkerState<K, I>|
         requires call { RunsVisited K.is_visited K.answers K.weight F.pre F.post call.now }
         requires ready { IsReady K.is_visited K.answers stealers.now.items state.now }
-        ensures { FinishesIfDone K.is_visited K.answers K.weight stealers.entry.now.items state.entry.now state.exit.now }
+        ensures { FinishesIfDone K.is_visited K.answers K.weight stealers.entry.now.items state.entry.now
+            state.exit.now }
     { run_worker(rt, alloc, call, gate, stealers, progress, state) };
     thread::for_each_mut(rt, workers, workers.len().max(1), &one);
 }
