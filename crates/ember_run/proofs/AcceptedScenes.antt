@@ -41,15 +41,15 @@ use Rattle.ember_run.proofs.OneTexts.{output_one, report_one, slice_one}
 
 -- ---- the meshes of a scene, one after another
 -- the triangles of so many closed meshes
-record AreMeshes (ts : List Tri) (count : ℕ) : Type 0 where
-  valid : All IsValidTri ts
-  numbered : All (HasMesh count) ts
-  balanced : (m : ℕ) → IsBalanced (of_mesh m ts)
+pub record AreMeshes (ts : List Tri) (count : ℕ) : Type 0 where
+  pub valid : All IsValidTri ts
+  pub numbered : All (HasMesh count) ts
+  pub balanced : (m : ℕ) → IsBalanced (of_mesh m ts)
 
-no_meshes : AreMeshes [] 0
+pub no_meshes : AreMeshes [] 0
 no_meshes = record { valid = All-nil IsValidTri; numbered = All-nil (HasMesh 0); balanced = λ m. balanced-nil }
 
-mesh_more : (ts mesh : List Tri) (count : ℕ) → AreMeshes ts count → All IsValidTri mesh → All (λ t. t.mesh ≡ count + 1) mesh → IsBalanced mesh → AreMeshes (ts ++ mesh) (count + 1)
+pub mesh_more : (ts mesh : List Tri) (count : ℕ) → AreMeshes ts count → All IsValidTri mesh → All (λ t. t.mesh ≡ count + 1) mesh → IsBalanced mesh → AreMeshes (ts ++ mesh) (count + 1)
 mesh_more ts mesh count are valid of balanced = record {
   valid = All-append IsValidTri ts mesh are.valid valid;
   numbered = All-append (HasMesh (count + 1)) ts mesh (λ i d l. let h = are.numbered i d l in let first = h.first in let last = h.last in record { first = first; last = omega (arith, last) }) (λ i d l. let e = of i d l in record { first = omega (arith, e); last = omega (arith, e) });

@@ -14,7 +14,7 @@ use Rattle.ember_run.specs.Lines.{line_on_err, text_on_err}
 use Rattle.ember_run.specs.Messages.{AppendsUntilFault}
 use Rattle.ember_run.specs.Reported.{IsErrText, IsReportIf, asks_report}
 use Rattle.ember_run.specs.Serves.{IsReply, Serves}
-use Rattle.ember_run.specs.Stops.{IsStop, with_others}
+use Rattle.ember_run.specs.Stops.{IsFileIn, IsStop, with_others}
 use Rattle.ember_run.specs.Slices.{IsFaceFault, IsSliceRefusal, IsSliceable}
 use Rattle.ember_run.specs.Verdict.{Contents, Verdict, Unknown, Refused, Writes, Slices, first_told, names_of, told_verdict, verdict_before, verdict_of}
 use Rattle.ember_run.specs.declared.status.FaceFault.{FaceFault}
@@ -123,10 +123,11 @@ pub record Rows (command : Option Command) (shelf : ShelfCall) (out : SinkCall) 
   pub out_later : out.faults ≤ out.faults_after
   pub done : status ≡ Done → IsWritten (told_verdict command shelf.told) out.taken out.taken_after × IsFlushed out.taken_after out.flushed
   pub refused : is_refusal status ≡ true → IsRefusal status (told_verdict command shelf.told)
-  pub read_fault : (i : ℕ) → status ≡ ReadFault i → HasShelfFailed shelf × (shelf.fault_at ≡ i) × (verdict_before i command shelf.told ≡ Unknown)
+  pub read_fault : (i : ℕ) → status ≡ ReadFault i → HasShelfFailed shelf × (shelf.fault_at ≡ i) × (verdict_before i command shelf.told ≡ Unknown) × IsFileIn (names_of command) i
   pub words : status ≡ Words → command ≡ None
   pub before_files : is_before_files status ≡ true → verdict_before 1 command shelf.told ≡ Refused status
   pub in_file : (i : ℕ) → refused_file status ≡ Some i → (others : Contents) → length others ≡ length (names_of command) → IsRefusal status (verdict_of command (with_others i (map shelf.told (names_of command)) others))
+  pub one_of : (i : ℕ) → refused_file status ≡ Some i → IsFileIn (names_of command) i
   pub memory : hides_memory status ≡ false
   pub write_fault : status ≡ WriteFault → HasSinkFailed out × IsBegun (told_verdict command shelf.told) out.taken out.taken_after
   pub untouched : status ≢ Done → status ≢ WriteFault → out.taken_after ≡ out.taken
@@ -160,6 +161,7 @@ served command shelf out err status text rows is said =
       before_files = rows.before_files;
       before_files_given = before_given command shelf out status rows;
       in_file = rows.in_file;
+      one_of = rows.one_of;
       memory = rows.memory;
       read_fault = rows.read_fault;
       write_fault = rows.write_fault;
@@ -202,6 +204,7 @@ answered command shelf out err status reply text line same later out_later is t 
       words = λ e. absurd (not_refusal status either (ap is_refusal e));
       before_files = λ b. absurd (not_refusal status either (before_is_refusal status b));
       in_file = λ i e. absurd (not_refusal status either (file_is_refusal status i e));
+      one_of = λ i e. absurd (not_refusal status either (file_is_refusal status i e));
       memory = ended_memory status either;
       read_fault = λ i e. absurd (not_read_fault status i either e);
       write_fault = λ e. let f = fault e in (f.0, (text, is_text, f.1));
@@ -223,6 +226,7 @@ stopped command shelf out err status same later out_later untouched stop said =
       words = λ e. absurd (stop.no_other.1 e);
       before_files = stop.before_files;
       in_file = stop.in_file;
+      one_of = stop.one_of;
       memory = stop.memory;
       read_fault = stop.read_fault;
       write_fault = λ e. absurd (stop.no_other.2 e);
@@ -244,6 +248,7 @@ words_refused shelf out err same later out_later untouched said =
       words = λ e. refl;
       before_files = λ b. refl;
       in_file = λ i e. absurd (none_some e);
+      one_of = λ i e. absurd (none_some e);
       memory = refl;
       read_fault = λ i e. absurd (cc);
       write_fault = λ e. absurd (cc);
@@ -264,6 +269,7 @@ memory_short command shelf out err same later out_later untouched said =
       words = λ e. absurd (cc);
       before_files = λ b. absurd (cc);
       in_file = λ i e. absurd (none_some e);
+      one_of = λ i e. absurd (none_some e);
       memory = refl;
       read_fault = λ i e. absurd (cc);
       write_fault = λ e. absurd (cc);

@@ -25,4 +25,6 @@ pub mod Complete
 pub mod OneTexts
 pub mod NoneLoose
 pub mod AcceptedScenes
+pub mod ZeroVector
+pub mod AcceptedInputs
 pub mod OneSolid

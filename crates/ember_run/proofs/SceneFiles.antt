@@ -17,7 +17,7 @@ use Rattle.ember_run.specs.declared.status.Status.TheVariants.{Done, Words, Read
 use Rattle.ember_run.specs.CallOutcome.{IsRefusal, IsSameIfTold, hides_memory, is_refusal, refused_file}
 use Rattle.ember_run.specs.Devices.{ShelfCall, HasShelfFailed}
 use Rattle.ember_run.specs.Scenes.{HasParts}
-use Rattle.ember_run.specs.Stops.{IsAfterFiles, IsSceneStop, with_others}
+use Rattle.ember_run.specs.Stops.{IsAfterFiles, IsFileIn, IsSceneStop, with_others}
 use Rattle.ember_run.specs.Verdict.{Contents, Verdict, Unknown, after_balance, after_file, after_files, after_mesh, after_scene, after_total, first_told}
 use Rattle.ember_run.proofs.Stops.{after_stop, before_is_refusal, before_no_file, file_is_refusal, same_number}
 use Rattle.ember_run.proofs.Verdicts.{same_self, same_then, refusal_then, untold_then, above}
@@ -107,6 +107,9 @@ take_told told zero (file ∷ files) = refl
 take_told told (suc n) [] = refl
 take_told told (suc n) (file ∷ files) = ap (λ (xs : Contents). told file ∷ xs) (take_told told n files)
 
+this_file : (files : List (List ℕ)) (k i : ℕ) → k < length files → i ≡ k + 1 → IsFileIn files i
+this_file files k i l e = record { first = omega (arith, e); last = omega (arith, e, l) }
+
 -- the files up to this one, and others after them
 with_part : (told : List ℕ → Option (List ℕ)) (files : List (List ℕ)) (k : ℕ) (d : List ℕ) (others : Contents) → k < length files → with_others (k + 1) (map told files) others ≡ map told (take k files) ++ told (get_or files k d) ∷ drop (k + 1) others
 with_part told files k d others l =
@@ -127,7 +130,8 @@ part_stop places now files k number d name parts shelf status l h t e n refused 
           subst (λ (i : ℕ). IsRefusal status (after_scene places (with_others i (map told files) others) next)) (sym at)
           (subst (λ (contents : Contents). IsRefusal status (after_scene places contents next)) (sym (with_part told files k d others l))
           (part_refused places told now files k number d name parts status (drop (k + 1) others) next l h t e n (refused is)));
-      read_fault = λ i f. let a = read_fault i f in (a.1, a.2, part_unread places told files k i parts next l h (a.0 ∙ e));
+      one_of = λ i f. this_file files k i l (same_number i number (sym f ∙ file (file_is_refusal status i f)) ∙ e);
+      read_fault = λ i f. let a = read_fault i f in (a.1, a.2, part_unread places told files k i parts next l h (a.0 ∙ e), this_file files k i l (a.0 ∙ e));
       memory = memory;
       no_other = no_other;
     }

@@ -10,7 +10,9 @@ use Rattle.ember_meaning.specs.Meaning.{HaveMeaning, IsFalseOutside}
 use Rattle.ember_meaning.proofs.ReadFaces.{document_reads}
 use Rattle.ember_model.specs.declared.face.Face.{Face}
 use Rattle.ember_model.specs.declared.scene.Scene.{Scene}
+use Rattle.ember_model.specs.declared.tri.Tri.{Tri}
 use Rattle.ember_model.specs.FaceFiles.{WrittenFace}
+use Rattle.ember_model.specs.Meshes.{IsScene}
 use Rattle.ember_reread.proofs.OneReading.{face_file_is_read_once}
 use Rattle.ember_run.specs.declared.status.Status.TheVariants.{ExprRefused, Unbounded}
 use Rattle.ember_run.specs.Outputs.{SolidFaces}
@@ -42,12 +44,16 @@ false_outside text m formula read = by (expr_of text m) read
     by (Ok given) read = given_bounded formula given (truth (replicate 64 (pos 0)) given) refl read
 
 -- ---- the file
-pub solid_file : (text : List ℕ) (m : ℕ) (formula : Formula) (scene : Scene) (bytes : List ℕ) → ExprRead (after_solid text) m formula → IsSolidText scene.tris formula bytes → IsSolidFile scene.tris formula bytes
-solid_file text m formula scene bytes read is =
-    let r = document_reads scene.tris scene.meshes formula is.kept bytes scene.kept is.solid.written (false_outside text m formula read) is.text in
+pub document_is_output : (tris : List Tri) (meshes : ℕ) (formula : Formula) (bytes : List ℕ) → IsScene tris meshes → IsFalseOutside formula → IsSolidText tris formula bytes → IsSolidFile tris formula bytes
+document_is_output tris meshes formula bytes scene outside is =
+    let r = document_reads tris meshes formula is.kept bytes scene is.solid.written outside is.text in
     record {
       text = is;
       reads = r;
-      means = λ faces f. subst (λ (faces : List Face). HaveMeaning scene.tris formula faces) (one_reading bytes r.faces faces r.read f) r.meaning;
+      means = λ faces f. subst (λ (faces : List Face). HaveMeaning tris formula faces) (one_reading bytes r.faces faces r.read f) r.meaning;
       closed = λ faces f. subst (λ (written : List WrittenFace). IsClosedSurface written) (face_file_is_read_once bytes r.faces faces r.read f) r.closed;
     }
+
+pub solid_file : (text : List ℕ) (m : ℕ) (formula : Formula) (scene : Scene) (bytes : List ℕ) → ExprRead (after_solid text) m formula → IsSolidText scene.tris formula bytes → IsSolidFile scene.tris formula bytes
+solid_file text m formula scene bytes read is =
+    document_is_output scene.tris scene.meshes formula bytes scene.kept (false_outside text m formula read) is

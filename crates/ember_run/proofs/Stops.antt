@@ -9,7 +9,7 @@ use Rattle.ember_obj.specs.declared.fault.ObjFault.{ObjFault}
 use Rattle.ember_obj.specs.declared.fault.ObjFault.TheVariants as obj
 use Rattle.ember_run.specs.CallOutcome.{IsRefusal, hides_memory, is_before_files, is_refusal, refused_file}
 use Rattle.ember_run.specs.Devices.{ShelfCall, HasShelfFailed}
-use Rattle.ember_run.specs.Stops.{IsAfterFiles, IsOfWords, IsSceneStop, IsStop, IsWordsStop, with_others}
+use Rattle.ember_run.specs.Stops.{IsAfterFiles, IsFileIn, IsOfWords, IsSceneStop, IsStop, IsWordsStop, with_others}
 use Rattle.ember_run.specs.Verdict.{Contents, Verdict, Unknown, Refused, after_scene, first_told, file_at}
 use Rattle.ember_run.specs.declared.status.LimitKind.TheVariants.{Triangles}
 use Rattle.ember_run.specs.declared.status.Status.{Status}
@@ -132,6 +132,7 @@ memory_is_stop verdict names shelf = record {
   refused = λ r. absurd (cc);
   before_files = λ b. absurd (cc);
   in_file = λ i e. absurd (none_some e);
+  one_of = λ i e. absurd (none_some e);
   read_fault = λ i e. absurd (cc);
   memory = refl;
   no_other = (λ e. absurd (cc), λ e. absurd (cc), λ e. absurd (cc));
@@ -181,6 +182,7 @@ words_stop after next places m names shelf status count stop =
       refused = λ r. subst (λ (v : Verdict). IsRefusal status v) (sym (words_refuse after next places m status stop r contents all)) refl;
       before_files = λ b. words_refuse after next places m status stop (before_is_refusal status b) (first_told 0 contents) (length_told 0 contents ∙ all);
       in_file = λ i e. absurd (words_no_file status i kind e);
+      one_of = λ i e. absurd (words_no_file status i kind e);
       read_fault = λ i e. absurd (subst (λ (status : Status). IsOfWords status) e kind);
       memory = words_memory status kind;
       no_other = (λ e. subst (λ (status : Status). IsOfWords status) e kind, λ e. subst (λ (status : Status). IsOfWords status) e kind, λ e. subst (λ (status : Status). IsOfWords status) e kind);
@@ -199,7 +201,8 @@ scene_stop after next places m names shelf status t count given stop =
       refused = λ r. subst (λ (v : Verdict). IsRefusal status v) (sym (scene_asked after next places m t given contents (all ∙ count))) (s.refused r);
       before_files = λ b. scene_asked after next places m t given (first_told 0 contents) (length_told 0 contents ∙ all ∙ count) ∙ s.before_files b;
       in_file = λ i e others l. subst (λ (v : Verdict). IsRefusal status v) (sym (scene_asked after next places m t given (with_others i contents others) (length_others i contents others (l ∙ sym all) ∙ all ∙ count))) (s.in_file i e others l);
-      read_fault = λ i e. let f = s.read_fault i e in (f.0, f.1, scene_asked after next places m t given (first_told (i - 1) contents) (length_told (i - 1) contents ∙ all ∙ count) ∙ f.2);
+      one_of = s.one_of;
+      read_fault = λ i e. let f = s.read_fault i e in (f.0, f.1, scene_asked after next places m t given (first_told (i - 1) contents) (length_told (i - 1) contents ∙ all ∙ count) ∙ f.2, f.3);
       memory = s.memory;
       no_other = s.no_other;
     }
@@ -210,12 +213,16 @@ after_stop verdict names shelf status kind refused only no_other = record {
   refused = refused;
   before_files = λ b. let h : true ≡ false = sym b ∙ kind.not_before in absurd (cc);
   in_file = λ i e. absurd (none_some (sym kind.no_file ∙ e));
+  one_of = λ i e. absurd (none_some (sym kind.no_file ∙ e));
   read_fault = λ i e. absurd (only i e);
   memory = kind.memory;
   no_other = no_other;
 }
 
 -- ---- one file
+only_file : (name : List ℕ) (i : ℕ) → 1 ≡ i → IsFileIn (name ∷ []) i
+only_file name i e = record { first = omega (arith, e); last = omega (arith, e) }
+
 pub file_stop : (verdict : Option (List ℕ) → Verdict) (name : List ℕ) (shelf : ShelfCall) (status : Status) → verdict None ≡ Unknown → (is_refusal status ≡ true → IsRefusal status (verdict (shelf.told name))) → (is_refusal status ≡ true → refused_file status ≡ Some 1) → ((i : ℕ) → status ≡ ReadFault i → (i ≡ 1) × HasShelfFailed shelf × (shelf.fault_at ≡ i)) → hides_memory status ≡ false → (status ≢ Done) × (status ≢ Words) × (status ≢ WriteFault) → IsStop (λ contents. verdict (file_at contents 1)) (name ∷ []) shelf status
 file_stop verdict name shelf status unknown refused file read_fault memory no_other = record {
   refused = refused;
@@ -223,9 +230,10 @@ file_stop verdict name shelf status unknown refused file read_fault memory no_ot
   in_file = λ i e others l.
       let r = file_is_refusal status i e in
       subst (λ (n : ℕ). IsRefusal status (verdict (file_at (with_others n (shelf.told name ∷ []) others) 1))) (same_number 1 i (sym (file r) ∙ e)) (refused r);
+  one_of = λ i e. only_file name i (same_number 1 i (sym (file (file_is_refusal status i e)) ∙ e));
   read_fault = λ i e.
       let f = read_fault i e in
-      (f.1, f.2, subst (λ (n : ℕ). verdict (file_at (first_told (n - 1) (shelf.told name ∷ [])) 1) ≡ Unknown) (sym f.0) unknown);
+      (f.1, f.2, subst (λ (n : ℕ). verdict (file_at (first_told (n - 1) (shelf.told name ∷ [])) 1) ≡ Unknown) (sym f.0) unknown, only_file name i (sym f.0));
   memory = memory;
   no_other = no_other;
 }
@@ -236,6 +244,7 @@ no_file_stop verdict shelf status stop = record {
   refused = λ r. subst (λ (v : Verdict). IsRefusal status v) (sym (stop.refused r)) refl;
   before_files = λ b. stop.refused (before_is_refusal status b);
   in_file = λ i e. absurd (words_no_file status i stop.of_words e);
+  one_of = λ i e. absurd (words_no_file status i stop.of_words e);
   read_fault = λ i e. absurd (subst (λ (status : Status). IsOfWords status) e stop.of_words);
   memory = words_memory status stop.of_words;
   no_other = (λ e. subst (λ (status : Status). IsOfWords status) e stop.of_words, λ e. subst (λ (status : Status). IsOfWords status) e stop.of_words, λ e. subst (λ (status : Status). IsOfWords status) e stop.of_words);

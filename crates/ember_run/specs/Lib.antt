@@ -10,6 +10,7 @@ pub mod Outputs
 pub mod OfScenes
 pub mod Slices
 pub mod Verdict
+pub mod Accepted
 pub mod CallOutcome
 pub mod Reported
 pub mod Devices

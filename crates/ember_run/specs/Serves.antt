@@ -9,7 +9,7 @@ use Rattle.ember_run.specs.CallOutcome.{AsksOutput, AsksRefusal, IsBegun, IsRefu
 use Rattle.ember_run.specs.Devices.{ShelfCall, SinkCall, HasShelfFailed, HasSinkFailed}
 use Rattle.ember_run.specs.Messages.{AppendsUntilFault}
 use Rattle.ember_run.specs.Reported.{IsErrText, IsReportIf, asks_report}
-use Rattle.ember_run.specs.Stops.{with_others}
+use Rattle.ember_run.specs.Stops.{IsFileIn, with_others}
 use Rattle.ember_run.specs.Verdict.{Contents, Unknown, Refused, names_of, told_verdict, verdict_before, verdict_of}
 use Rattle.ember_run.specs.declared.reply.Reply.{Reply}
 use Rattle.ember_run.specs.declared.status.Status.{Status}
@@ -46,11 +46,13 @@ pub record Serves (command : Option Command) (shelf : ShelfCall) (out err : Sink
   pub in_file : (i : ℕ) → refused_file status ≡ Some i → (others : Contents) →
       length others ≡ length (names_of command) →
       IsRefusal status (verdict_of command (with_others i (map shelf.told (names_of command)) others))
+  -- file i is one that the command names
+  pub one_of : (i : ℕ) → refused_file status ≡ Some i → IsFileIn (names_of command) i
   -- want of memory stands in no other status
   pub memory : hides_memory status ≡ false
-  -- the shelf failed at file i, and nothing before it is refused
+  -- the shelf failed at file i of the command, and nothing before it is refused
   pub read_fault : (i : ℕ) → status ≡ ReadFault i → HasShelfFailed shelf × (shelf.fault_at ≡ i) ×
-      (verdict_before i command shelf.told ≡ Unknown)
+      (verdict_before i command shelf.told ≡ Unknown) × IsFileIn (names_of command) i
   -- out failed, and took a prefix of the output
   pub write_fault : status ≡ WriteFault → HasSinkFailed out ×
       IsBegun (told_verdict command shelf.told) out.taken out.taken_after

@@ -1,5 +1,5 @@
 -- Why a command has no answer
-use Rattle.std.specs.Prelude.{◌≡◌, ◌≢◌, ⊤, ℕ, ◌-◌, true, false, List, ◌++◌, length, map, take, drop, None, Some}
+use Rattle.std.specs.Prelude.{◌≡◌, ◌≢◌, ◌≤◌, ⊤, ℕ, ◌-◌, true, false, List, ◌++◌, length, map, take, drop, None, Some}
 use Rattle.ember_model.specs.declared.tri.Tri.{Tri}
 use Rattle.ember_run.specs.CallOutcome.{IsRefusal, hides_memory, is_before_files, is_refusal, refused_file}
 use Rattle.ember_run.specs.Devices.{ShelfCall, HasShelfFailed}
@@ -11,6 +11,11 @@ use Rattle.ember_run.specs.declared.status.Status.TheVariants.{Done, Words, Read
 abbrev pub with_others : ℕ → Contents → Contents → Contents
 with_others n contents others = take n contents ++ drop n others
 
+-- file i, from 1, is one of the files with these names
+pub record IsFileIn (names : List (List ℕ)) (i : ℕ) : Type 0 where
+  pub first : 1 ≤ i
+  pub last : i ≤ length names
+
 -- why files with these names give no answer; `verdict` is what is asked for, over any contents of them
 pub record IsStop (verdict : Contents → Verdict) (names : List (List ℕ)) (shelf : ShelfCall) (status : Status) : Type 0 where
   -- what is refused is refused by the verdict
@@ -20,9 +25,10 @@ pub record IsStop (verdict : Contents → Verdict) (names : List (List ℕ)) (sh
   -- what is refused in file i is refused whatever stands in the files after it
   pub in_file : (i : ℕ) → refused_file status ≡ Some i → (others : Contents) → length others ≡ length names →
       IsRefusal status (verdict (with_others i (map shelf.told names) others))
+  pub one_of : (i : ℕ) → refused_file status ≡ Some i → IsFileIn names i
   -- where file i can't be read, nothing is refused before it
   pub read_fault : (i : ℕ) → status ≡ ReadFault i → HasShelfFailed shelf × (shelf.fault_at ≡ i) ×
-      (verdict (first_told (i - 1) (map shelf.told names)) ≡ Unknown)
+      (verdict (first_told (i - 1) (map shelf.told names)) ≡ Unknown) × IsFileIn names i
   pub memory : hides_memory status ≡ false
   pub no_other : (status ≢ Done) × (status ≢ Words) × (status ≢ WriteFault)
 

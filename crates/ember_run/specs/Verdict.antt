@@ -23,7 +23,7 @@ use Rattle.ember_run.specs.declared.status.LimitKind.TheVariants.{Bytes, Triangl
 use Rattle.ember_run.specs.declared.status.Status.{Status}
 use Rattle.ember_run.specs.declared.status.Status.TheVariants.{Words, ObjRefused, MeshRefused, ExprRefused, Unbounded, Limit, NotClear}
 
--- the first refusal, or the output; Untold where it rests on contents that aren't told
+-- the first refusal, or the output; Unknown where it rests on contents that aren't told
 pub data Verdict : Type 0 where
   Unknown : Verdict
   Refused : Status → Verdict
@@ -156,6 +156,6 @@ first_told n [] = []
 first_told zero (told ∷ more) = None ∷ first_told zero more
 first_told (suc n) (told ∷ more) = told ∷ first_told n more
 
--- the verdict where no contents are told from file i on: Untold where nothing is refused before it is read
+-- the verdict where no contents are told from file i on: Unknown where nothing is refused before it is read
 abbrev pub verdict_before : ℕ → Option Command → (List ℕ → Option (List ℕ)) → Verdict
 verdict_before i command told = verdict_of command (first_told (i - 1) (map told (names_of command)))

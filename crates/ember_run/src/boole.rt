@@ -44,7 +44,8 @@ fn reply_of_solid<C: Fn(&Query) -> Result<Answer, OutOfMemory>>(
 ) -> Result<Reply, OutOfMemory>
     requires { IsExecutor C.pre C.post executor.now }
     ensures text { IfOk result (λ reply. IsSolidText scene.now.tris (formula_of expr.now) reply.text.items) }
-    ensures report { IfOk result (λ reply. IsReportLine reported scene.now.tris (formula_of expr.now) reply.report.items) }
+    ensures report { IfOk result
+        (λ reply. IsReportLine reported scene.now.tris (formula_of expr.now) reply.report.items) }
 {
     let solid = solid_of(alloc, scene, expr, executor)?;
     let report = report_if(alloc, reported, &solid.report)?;

@@ -15,8 +15,10 @@ use std::alloc::Global;
 #[tactic(auto, using(crate::proofs::Expressions::fault_stop, crate::proofs::Stops::memory_words_stop))]
 pub fn parse_text(alloc: Global, text: &Text, meshes: u32) -> Result<Expr, Status>
     requires { meshes ≤ 64 }
-    ensures expr { IfOk result (λ expr. (next : Formula → Verdict) → after_expr text.now meshes next ≡ next (formula_of expr)) }
-    ensures stop { IfErr result (λ status. (next : Formula → Verdict) → IsWordsStop (after_expr text.now meshes next) status) }
+    ensures expr { IfOk result (λ expr. (next : Formula → Verdict) →
+        after_expr text.now meshes next ≡ next (formula_of expr)) }
+    ensures stop { IfErr result (λ status. (next : Formula → Verdict) →
+        IsWordsStop (after_expr text.now meshes next) status) }
 {
     match parse(alloc, text.as_str().as_bytes(), meshes) {
         Ok(expr) => Ok(expr),
@@ -44,8 +46,10 @@ pub fn parse_given(alloc: Global, text: &Option<Text>, meshes: u32) -> Result<Op
 #[tactic(auto, using(crate::proofs::SolidVerdicts::bounded_read, crate::proofs::SolidVerdicts::unbounded_stop))]
 pub fn parse_bounded(alloc: Global, text: &Text, meshes: u32) -> Result<Expr, Status>
     requires { meshes ≤ 64 }
-    ensures expr { IfOk result (λ expr. (next : Formula → Verdict) → after_solid text.now meshes next ≡ next (formula_of expr)) }
-    ensures stop { IfErr result (λ status. (next : Formula → Verdict) → IsWordsStop (after_solid text.now meshes next) status) }
+    ensures expr { IfOk result (λ expr. (next : Formula → Verdict) →
+        after_solid text.now meshes next ≡ next (formula_of expr)) }
+    ensures stop { IfErr result (λ status. (next : Formula → Verdict) →
+        IsWordsStop (after_solid text.now meshes next) status) }
 {
     let expr = match parse_text(alloc, text, meshes) {
         Ok(expr) => expr,
@@ -60,8 +64,10 @@ pub fn parse_bounded(alloc: Global, text: &Text, meshes: u32) -> Result<Expr, St
 /// The union of two meshes.
 #[tactic(auto, using(crate::proofs::Expressions::fault_stop, crate::proofs::Stops::memory_words_stop))]
 pub fn parse_union(alloc: Global) -> Result<Expr, Status>
-    ensures expr { IfOk result (λ expr. (next : Formula → Verdict) → after_expr (codes "m1|m2") 2 next ≡ next (formula_of expr)) }
-    ensures stop { IfErr result (λ status. (next : Formula → Verdict) → IsWordsStop (after_expr (codes "m1|m2") 2 next) status) }
+    ensures expr { IfOk result (λ expr. (next : Formula → Verdict) →
+        after_expr (codes "m1|m2") 2 next ≡ next (formula_of expr)) }
+    ensures stop { IfErr result (λ status. (next : Formula → Verdict) →
+        IsWordsStop (after_expr (codes "m1|m2") 2 next) status) }
 {
     match parse(alloc, b"m1|m2", 2) {
         Ok(expr) => Ok(expr),

@@ -4,6 +4,7 @@ ghost use Rattle.std.specs.Prelude.{◌≡◌, ◌≢◌, ◌↔◌, ℕ, ℤ, p
 ghost use Rattle.std.specs.List.{list_all};
 ghost use Rattle.std.specs.declared.option.Option.{Option};
 ghost use Rattle.ember_expr.specs.Formula.{Formula};
+ghost use Rattle.ember_meaning.specs.Meaning.{IsFalseOutside};
 ghost use Rattle.ember_model.specs.declared.face.Face.{Face};
 ghost use Rattle.ember_model.specs.declared.point.Axis.{Axis};
 ghost use Rattle.ember_model.specs.declared.point.Spot.{Spot};
@@ -19,34 +20,53 @@ ghost use Rattle.ember_run.specs.Outputs.{FaceTexts, IsOutput, Output, SolidFace
 ghost use Rattle.ember_run.specs.Reported.{IsErrText};
 ghost use Rattle.ember_run.specs.CallOutcome.{IsText};
 ghost use Rattle.ember_run.specs.Slices.{IsSlice};
-ghost use Rattle.ember_run.specs.Solids.{IsClosedFile};
+ghost use Rattle.ember_run.specs.Solids.{IsClosedFile, IsSolidText};
 ghost use Rattle.ember_run.specs.Verdict.{Unknown, told_verdict};
 ghost use Rattle.ember_run.specs.declared.status.Status.{Status};
 
 /// The solid of an expression over the triangles of a scene has one document: its written regions
-/// are one list, and faces have one text.
+/// are one list, and faces have one text. Where the expression is false outside, the document is the
+/// output, and each output is the document.
 pub fn solids_have_one_document()
-    ensures { (tris : List Tri) (meshes : ℕ) (formula : Formula) (one other : List ℕ) → IsScene tris meshes → IsOutput (SolidFaces tris formula) one → IsOutput (SolidFaces tris formula) other → one ≡ other }
+    ensures document { (tris : List Tri) (meshes : ℕ) (formula : Formula) (one other : List ℕ) → IsScene tris meshes →
+        IsSolidText tris formula one → IsSolidText tris formula other → one ≡ other }
+    ensures output { (tris : List Tri) (meshes : ℕ) (formula : Formula) (one other : List ℕ) → IsScene tris meshes →
+        IsOutput (SolidFaces tris formula) one → IsOutput (SolidFaces tris formula) other → one ≡ other }
+    ensures same { (tris : List Tri) (meshes : ℕ) (formula : Formula) (bytes : List ℕ) → IsScene tris meshes →
+        IsFalseOutside formula → IsSolidText tris formula bytes ↔ IsOutput (SolidFaces tris formula) bytes }
 {}
 
 /// Each accepted input has one text, and one text on err for each status: the words and the
 /// contents of their files tell all of its bytes.
 pub fn accepted_inputs_have_one_text()
-    ensures out { (words : List (List ℕ)) (told : List ℕ → Option (List ℕ)) (one other : List ℕ) → told_verdict (command_of words) told ≢ Unknown → IsText (told_verdict (command_of words) told) one → IsText (told_verdict (command_of words) told) other → one ≡ other }
-    ensures err { (words : List (List ℕ)) (told : List ℕ → Option (List ℕ)) (status : Status) (one other : List ℕ) → told_verdict (command_of words) told ≢ Unknown → IsErrText (command_of words) told status one → IsErrText (command_of words) told status other → one ≡ other }
+    ensures out { (words : List (List ℕ)) (told : List ℕ → Option (List ℕ)) (one other : List ℕ) →
+        told_verdict (command_of words) told ≢ Unknown → IsText (told_verdict (command_of words) told) one →
+        IsText (told_verdict (command_of words) told) other → one ≡ other }
+    ensures err { (words : List (List ℕ)) (told : List ℕ → Option (List ℕ)) (status : Status) (one other : List ℕ) →
+        told_verdict (command_of words) told ≢ Unknown → IsErrText (command_of words) told status one →
+        IsErrText (command_of words) told status other → one ≡ other }
 {}
 
 /// The number of workers changes no verdict, so the text is one for every number of them.
 pub fn workers_change_no_verdict()
-    ensures boole { (expr : List ℕ) (workers others places : ℕ) (report : Bool) (files : List (List ℕ)) (told : List ℕ → Option (List ℕ)) → told_verdict (Some (Boole expr workers places report files)) told ≡ told_verdict (Some (Boole expr others places report files)) told }
-    ensures demo { (boxes workers others : ℕ) (told : List ℕ → Option (List ℕ)) → told_verdict (Some (Demo boxes workers)) told ≡ told_verdict (Some (Demo boxes others)) told }
-    ensures voxels { (expr : List ℕ) (size workers others places : ℕ) (files : List (List ℕ)) (told : List ℕ → Option (List ℕ)) → told_verdict (Some (Voxels expr size workers places files)) told ≡ told_verdict (Some (Voxels expr size others places files)) told }
-    ensures pairs { (workers others places : ℕ) (files : List (List ℕ)) (told : List ℕ → Option (List ℕ)) → told_verdict (Some (Pairs workers places files)) told ≡ told_verdict (Some (Pairs others places files)) told }
+    ensures boole { (expr : List ℕ) (workers others places : ℕ) (report : Bool) (files : List (List ℕ))
+        (told : List ℕ → Option (List ℕ)) →
+        told_verdict (Some (Boole expr workers places report files)) told ≡
+        told_verdict (Some (Boole expr others places report files)) told }
+    ensures demo { (boxes workers others : ℕ) (told : List ℕ → Option (List ℕ)) →
+        told_verdict (Some (Demo boxes workers)) told ≡ told_verdict (Some (Demo boxes others)) told }
+    ensures voxels { (expr : List ℕ) (size workers others places : ℕ) (files : List (List ℕ))
+        (told : List ℕ → Option (List ℕ)) →
+        told_verdict (Some (Voxels expr size workers places files)) told ≡
+        told_verdict (Some (Voxels expr size others places files)) told }
+    ensures pairs { (workers others places : ℕ) (files : List (List ℕ)) (told : List ℕ → Option (List ℕ)) →
+        told_verdict (Some (Pairs workers places files)) told ≡ told_verdict (Some (Pairs others places files)) told }
 {}
 
 /// Each output has one text: what its definition says of the bytes tells all of them.
 pub fn outputs_have_one_text()
-    ensures { (output : Output) (one other : List ℕ) → IsOfScene output → IsOutput output one → IsOutput output other → one ≡ other }
+    ensures { (output : Output) (one other : List ℕ) → IsOfScene output → IsOutput output one → IsOutput output other →
+        one ≡ other }
 {}
 
 /// The slice of a file at a level has one text.
@@ -57,24 +77,30 @@ pub fn slices_of_files_have_one_text()
 /// What `faces` writes for the triangles holds their faces and no other list of faces, so each
 /// winding number of the faces read back is that of the triangles.
 pub fn faces_wind_as_read()
-    ensures only { (tris : List Tri) (bytes : List ℕ) (faces : List Face) → IsOutput (FaceTexts tris) bytes → IsFaceFile bytes faces → faces ≡ faces_of tris }
-    ensures wind { (tris : List Tri) (bytes : List ℕ) (faces : List Face) → IsOutput (FaceTexts tris) bytes → IsFaceFile bytes faces → (axis : Axis) (point : Spot) → wind axis faces point ≡ wind axis (faces_of tris) point }
+    ensures only { (tris : List Tri) (bytes : List ℕ) (faces : List Face) → IsOutput (FaceTexts tris) bytes →
+        IsFaceFile bytes faces → faces ≡ faces_of tris }
+    ensures wind { (tris : List Tri) (bytes : List ℕ) (faces : List Face) → IsOutput (FaceTexts tris) bytes →
+        IsFaceFile bytes faces → (axis : Axis) (point : Spot) →
+        wind axis faces point ≡ wind axis (faces_of tris) point }
 {}
 
 /// The file of a solid is a closed surface: on each line, each point is as often the start of a
 /// written edge as the end of one.
 pub fn solids_are_closed()
-    ensures { (tris : List Tri) (f : Formula) (bytes : List ℕ) → IsOutput (SolidFaces tris f) bytes → IsClosedFile bytes }
+    ensures { (tris : List Tri) (f : Formula) (bytes : List ℕ) → IsOutput (SolidFaces tris f) bytes →
+        IsClosedFile bytes }
 {}
 
 /// What `faces` writes for a closed mesh is a closed surface too.
 pub fn faces_of_closed_meshes_are_closed()
-    ensures { (tris : List Tri) (bytes : List ℕ) → IsBalanced tris → IsOutput (FaceTexts tris) bytes → IsClosedFile bytes }
+    ensures { (tris : List Tri) (bytes : List ℕ) → IsBalanced tris → IsOutput (FaceTexts tris) bytes →
+        IsClosedFile bytes }
 {}
 
 /// A list of bytes is the face file of one list of faces at most.
 pub fn face_files_have_one_reading()
-    ensures { (bytes : List ℕ) (faces others : List Face) → IsFaceFile bytes faces → IsFaceFile bytes others → faces ≡ others }
+    ensures { (bytes : List ℕ) (faces others : List Face) → IsFaceFile bytes faces → IsFaceFile bytes others →
+        faces ≡ others }
 {}
 
 /// The test by which `at` refuses a point finds exactly the points that are clear of a triangle.
@@ -84,5 +110,7 @@ pub fn clear_points_are_found()
 
 /// At a point that `at` takes the winding numbers are the same along all axes.
 pub fn counts_along_all_axes_agree()
-    ensures { (tris : List Tri) (meshes : ℕ) → IsScene tris meshes → (point : Spot) → pos 0 <ℤ point.w → list_all (λ t. is_clear_of t point) tris ≡ true → (axis other : Axis) → vector axis tris point ≡ vector other tris point }
+    ensures { (tris : List Tri) (meshes : ℕ) → IsScene tris meshes → (point : Spot) → pos 0 <ℤ point.w →
+        list_all (λ t. is_clear_of t point) tris ≡ true → (axis other : Axis) →
+        vector axis tris point ≡ vector other tris point }
 {}

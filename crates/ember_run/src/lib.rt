@@ -1,6 +1,7 @@
 //! The top call: from words and files to the output, the line on err and the exit status.
 #![tactic(auto)]
 
+mod accepted;
 mod at;
 mod boole;
 mod executor;
@@ -20,6 +21,7 @@ mod status;
 mod top;
 mod voxels;
 
+pub use accepted::{accepted_files_are_a_scene, inputs_are_accepted_where_they_have_an_output};
 pub use law::{
     accepted_inputs_have_one_text, clear_points_are_found, counts_along_all_axes_agree,
     face_files_have_one_reading, faces_of_closed_meshes_are_closed, faces_wind_as_read,

@@ -18,7 +18,8 @@ use itoa::Buffer;
 
 // Writes the pieces one after another, up to the first fault.
 fn say<E: Sink>(err: &mut E, pieces: &[&[u8]])
-    ensures { AppendsUntilFault (E.faults err.old) (E.faults err.new) (E.taken err.old) (E.taken err.new) (flat_map (λ p. p.now) pieces.now) }
+    ensures { AppendsUntilFault (E.faults err.old) (E.faults err.new) (E.taken err.old) (E.taken err.new)
+        (flat_map (λ p. p.now) pieces.now) }
 {
     for piece in pieces {
         let Ok(()) = write_all(err, piece) else {
@@ -73,7 +74,8 @@ fn name_at(command: &Command, number: u32) -> &[u8]
 }
 
 fn say_fault<E: Sink>(err: &mut E, name: &[u8], line: u32, fault: &[u8])
-    ensures { AppendsUntilFault (E.faults err.old) (E.faults err.new) (E.taken err.old) (E.taken err.new) (fault_line name.now line fault.now) }
+    ensures { AppendsUntilFault (E.faults err.old) (E.faults err.new) (E.taken err.old) (E.taken err.new)
+        (fault_line name.now line fault.now) }
 {
     let mut buffer = Buffer::new();
     let line = buffer.format(line).as_bytes();
@@ -85,7 +87,8 @@ fn say_fault<E: Sink>(err: &mut E, name: &[u8], line: u32, fault: &[u8])
 
 // The line of a file's first fault.
 fn say_obj_fault<E: Sink>(err: &mut E, name: &[u8], fault: &ObjFault)
-    ensures { AppendsUntilFault (E.faults err.old) (E.faults err.new) (E.taken err.old) (E.taken err.new) (obj_line name.now fault.now) }
+    ensures { AppendsUntilFault (E.faults err.old) (E.faults err.new) (E.taken err.old) (E.taken err.new)
+        (obj_line name.now fault.now) }
 {
     match fault {
         ObjFault::Word(line) => say_fault(err, name, *line, b"word"),
@@ -124,7 +127,8 @@ fn count_digits(buffer: &mut Buffer, count: u32) -> &[u8]
 
 // The line of an edge that stands more often than its reverse.
 fn say_loose<E: Sink>(err: &mut E, name: &[u8], loose: &Loose)
-    ensures { AppendsUntilFault (E.faults err.old) (E.faults err.new) (E.taken err.old) (E.taken err.new) (loose_line name.now loose.now) }
+    ensures { AppendsUntilFault (E.faults err.old) (E.faults err.new) (E.taken err.old) (E.taken err.new)
+        (loose_line name.now loose.now) }
 {
     let (mut x, mut y, mut z) = (Buffer::new(), Buffer::new(), Buffer::new());
     let (mut u, mut v, mut w) = (Buffer::new(), Buffer::new(), Buffer::new());
@@ -157,7 +161,8 @@ fn say_loose<E: Sink>(err: &mut E, name: &[u8], loose: &Loose)
 
 // The line of a mesh that isn't closed.
 fn say_mesh_fault<E: Sink>(err: &mut E, name: &[u8], fault: &MeshFault)
-    ensures { AppendsUntilFault (E.faults err.old) (E.faults err.new) (E.taken err.old) (E.taken err.new) (mesh_line name.now fault.now) }
+    ensures { AppendsUntilFault (E.faults err.old) (E.faults err.new) (E.taken err.old) (E.taken err.new)
+        (mesh_line name.now fault.now) }
 {
     match fault {
         MeshFault::Unbalanced(loose) => say_loose(err, name, loose),
@@ -166,7 +171,8 @@ fn say_mesh_fault<E: Sink>(err: &mut E, name: &[u8], fault: &MeshFault)
 }
 
 fn say_place<E: Sink>(err: &mut E, fault: &[u8], place: u32)
-    ensures { AppendsUntilFault (E.faults err.old) (E.faults err.new) (E.taken err.old) (E.taken err.new) (place_line fault.now place) }
+    ensures { AppendsUntilFault (E.faults err.old) (E.faults err.new) (E.taken err.old) (E.taken err.new)
+        (place_line fault.now place) }
 {
     let mut buffer = Buffer::new();
     let place = buffer.format(place).as_bytes();
@@ -174,7 +180,8 @@ fn say_place<E: Sink>(err: &mut E, fault: &[u8], place: u32)
 }
 
 fn say_no_mesh<E: Sink>(err: &mut E, number: u32)
-    ensures { AppendsUntilFault (E.faults err.old) (E.faults err.new) (E.taken err.old) (E.taken err.new) (no_mesh_line number) }
+    ensures { AppendsUntilFault (E.faults err.old) (E.faults err.new) (E.taken err.old) (E.taken err.new)
+        (no_mesh_line number) }
 {
     let mut buffer = Buffer::new();
     let number = buffer.format(number).as_bytes();
@@ -183,7 +190,8 @@ fn say_no_mesh<E: Sink>(err: &mut E, number: u32)
 
 // The line of an expression's first fault.
 fn say_expr_fault<E: Sink>(err: &mut E, fault: &ExprFault)
-    ensures { AppendsUntilFault (E.faults err.old) (E.faults err.new) (E.taken err.old) (E.taken err.new) (expr_line fault.now) }
+    ensures { AppendsUntilFault (E.faults err.old) (E.faults err.new) (E.taken err.old) (E.taken err.new)
+        (expr_line fault.now) }
 {
     match fault {
         ExprFault::Syntax(place) => say_place(err, b"syntax", *place),
@@ -196,7 +204,8 @@ fn say_expr_fault<E: Sink>(err: &mut E, fault: &ExprFault)
 }
 
 fn say_endless<E: Sink>(err: &mut E, name: &[u8], number: u32)
-    ensures { AppendsUntilFault (E.faults err.old) (E.faults err.new) (E.taken err.old) (E.taken err.new) (endless_line name.now number) }
+    ensures { AppendsUntilFault (E.faults err.old) (E.faults err.new) (E.taken err.old) (E.taken err.new)
+        (endless_line name.now number) }
 {
     let mut buffer = Buffer::new();
     let number = buffer.format(number).as_bytes();
@@ -204,14 +213,16 @@ fn say_endless<E: Sink>(err: &mut E, name: &[u8], number: u32)
 }
 
 fn say_no_face_file<E: Sink>(err: &mut E, name: &[u8])
-    ensures { AppendsUntilFault (E.faults err.old) (E.faults err.new) (E.taken err.old) (E.taken err.new) (face_line name.now FaceFault.Form) }
+    ensures { AppendsUntilFault (E.faults err.old) (E.faults err.new) (E.taken err.old) (E.taken err.new)
+        (face_line name.now FaceFault.Form) }
 {
     say(err, &[b"ember: ", name, b": not a face file\n"]);
 }
 
 // The line of a face file's fault.
 fn say_face_fault<E: Sink>(err: &mut E, name: &[u8], fault: &FaceFault)
-    ensures { AppendsUntilFault (E.faults err.old) (E.faults err.new) (E.taken err.old) (E.taken err.new) (face_line name.now fault.now) }
+    ensures { AppendsUntilFault (E.faults err.old) (E.faults err.new) (E.taken err.old) (E.taken err.new)
+        (face_line name.now fault.now) }
 {
     match fault {
         FaceFault::Form => say_no_face_file(err, name),
@@ -220,7 +231,8 @@ fn say_face_fault<E: Sink>(err: &mut E, name: &[u8], fault: &FaceFault)
 }
 
 fn say_triangles<E: Sink>(err: &mut E, count: u64)
-    ensures { AppendsUntilFault (E.faults err.old) (E.faults err.new) (E.taken err.old) (E.taken err.new) (triangles_line count) }
+    ensures { AppendsUntilFault (E.faults err.old) (E.faults err.new) (E.taken err.old) (E.taken err.new)
+        (triangles_line count) }
 {
     let mut buffer = Buffer::new();
     let count = buffer.format(count).as_bytes();
@@ -229,7 +241,8 @@ fn say_triangles<E: Sink>(err: &mut E, count: u64)
 
 // Too many bytes, or too many triangles.
 fn say_limit<E: Sink>(err: &mut E, command: &Command, kind: LimitKind, count: u64)
-    ensures { AppendsUntilFault (E.faults err.old) (E.faults err.new) (E.taken err.old) (E.taken err.new) (line_on_err (names_of (Some command.now)) (Status.Limit kind count)) }
+    ensures { AppendsUntilFault (E.faults err.old) (E.faults err.new) (E.taken err.old) (E.taken err.new)
+        (line_on_err (names_of (Some command.now)) (Status.Limit kind count)) }
 {
     match kind {
         LimitKind::Bytes(i) => {
@@ -242,14 +255,16 @@ fn say_limit<E: Sink>(err: &mut E, command: &Command, kind: LimitKind, count: u6
 
 /// Writes the line of refused words to err.
 pub fn say_words_refused<E: Sink>(err: &mut E)
-    ensures { AppendsUntilFault (E.faults err.old) (E.faults err.new) (E.taken err.old) (E.taken err.new) (line_on_err [] Status.Words) }
+    ensures { AppendsUntilFault (E.faults err.old) (E.faults err.new) (E.taken err.old) (E.taken err.new)
+        (line_on_err [] Status.Words) }
 {
     say(err, &[b"ember: words refused\n"]);
 }
 
 /// Writes the line of want of memory to err.
 pub fn say_out_of_memory<E: Sink>(err: &mut E)
-    ensures { AppendsUntilFault (E.faults err.old) (E.faults err.new) (E.taken err.old) (E.taken err.new) (line_on_err [] Status.OutOfMemory) }
+    ensures { AppendsUntilFault (E.faults err.old) (E.faults err.new) (E.taken err.old) (E.taken err.new)
+        (line_on_err [] Status.OutOfMemory) }
 {
     say(err, &[b"ember: out of memory\n"]);
 }
@@ -257,7 +272,8 @@ pub fn say_out_of_memory<E: Sink>(err: &mut E)
 /// Writes the status's line to err, or the report after success. A fault of err ends the line, and
 /// changes nothing else.
 pub fn say_status<E: Sink>(err: &mut E, command: &Command, status: &Status, report: &[u8])
-    ensures { AppendsUntilFault (E.faults err.old) (E.faults err.new) (E.taken err.old) (E.taken err.new) (text_on_err (names_of (Some command.now)) status.now report.now) }
+    ensures { AppendsUntilFault (E.faults err.old) (E.faults err.new) (E.taken err.old) (E.taken err.new)
+        (text_on_err (names_of (Some command.now)) status.now report.now) }
 {
     match status {
         Status::Done => say(err, &[report]),

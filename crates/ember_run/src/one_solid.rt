@@ -20,15 +20,19 @@ ghost use Rattle.ember_run.specs.Slices.{IsSlice};
 /// all axes by little enough. Where a point is clear of the scene's faces, of these faces or not,
 /// they wind so at the shifted point as the expression says at the point itself.
 pub fn solids_wind_once_at_most()
-    ensures once { (tris : List Tri) (formula : Formula) (file : List ℕ) → IsOutput (SolidFaces tris formula) file → (faces : List Face) → IsFaceFile file faces → WindOnceAtMost faces }
-    ensures alone { (tris : List Tri) (formula : Formula) (file : List ℕ) → IsOutput (SolidFaces tris formula) file → (faces : List Face) → IsFaceFile file faces → WindHereAsNearby tris formula faces }
-    ensures scene { (tris : List Tri) (formula : Formula) (file : List ℕ) → IsOutput (SolidFaces tris formula) file → (faces : List Face) → IsFaceFile file faces → WindNearbyAsHere tris formula faces }
+    ensures once { (tris : List Tri) (formula : Formula) (file : List ℕ) → IsOutput (SolidFaces tris formula) file →
+        (faces : List Face) → IsFaceFile file faces → WindOnceAtMost faces }
+    ensures alone { (tris : List Tri) (formula : Formula) (file : List ℕ) → IsOutput (SolidFaces tris formula) file →
+        (faces : List Face) → IsFaceFile file faces → WindHereAsNearby tris formula faces }
+    ensures scene { (tris : List Tri) (formula : Formula) (file : List ℕ) → IsOutput (SolidFaces tris formula) file →
+        (faces : List Face) → IsFaceFile file faces → WindNearbyAsHere tris formula faces }
 {}
 
 /// Two expressions have the same document over a scene exactly where they have one value at the
 /// winding numbers of each point that is clear of the scene's faces.
 pub fn solids_are_one_where_expressions_agree()
-    ensures { (tris : List Tri) (meshes : ℕ) (f g : Formula) (one other : List ℕ) → IsScene tris meshes → IsOutput (SolidFaces tris f) one → IsOutput (SolidFaces tris g) other → (one ≡ other) ↔ AgreeOver tris f g }
+    ensures { (tris : List Tri) (meshes : ℕ) (f g : Formula) (one other : List ℕ) → IsScene tris meshes →
+        IsOutput (SolidFaces tris f) one → IsOutput (SolidFaces tris g) other → (one ≡ other) ↔ AgreeOver tris f g }
 {}
 
 /// The segments of a slice of a solid's document are crossed once in sum, along x and along y alike,
@@ -36,14 +40,20 @@ pub fn solids_are_one_where_expressions_agree()
 /// is clear of the scene's faces and of the document's. At each one that is clear of the document's
 /// alone they are crossed once, or not at all.
 pub fn slices_of_solids_mean_the_expression()
-    ensures clear { (tris : List Tri) (formula : Formula) (file : List ℕ) → IsOutput (SolidFaces tris formula) file → (at : ℤ) (text : List ℕ) (slice : IsSlice at file text) → SegmentsHaveMeaning tris formula at slice.0 slice.2.segments }
-    ensures once { (tris : List Tri) (formula : Formula) (file : List ℕ) → IsOutput (SolidFaces tris formula) file → (at : ℤ) (text : List ℕ) (slice : IsSlice at file text) → SegmentsCrossOnceAtMost at slice.0 slice.2.segments }
+    ensures clear { (tris : List Tri) (formula : Formula) (file : List ℕ) → IsOutput (SolidFaces tris formula) file →
+        (at : ℤ) (text : List ℕ) (slice : IsSlice at file text) →
+        SegmentsHaveMeaning tris formula at slice.0 slice.2.segments }
+    ensures once { (tris : List Tri) (formula : Formula) (file : List ℕ) → IsOutput (SolidFaces tris formula) file →
+        (at : ℤ) (text : List ℕ) (slice : IsSlice at file text) → SegmentsCrossOnceAtMost at slice.0 slice.2.segments }
 {}
 
 /// The value that `at` writes for a point that it takes is the number of times that the faces of the
 /// solid wind there, where the point is clear of them, and beside it in any case.
 pub fn values_at_points_are_of_the_solid()
-    ensures { (tris : List Tri) (formula : Formula) (file : List ℕ) → IsOutput (SolidFaces tris formula) file → (faces : List Face) → IsFaceFile file faces → (point : Spot) (meshes : ℕ) (told : List ℕ) → pos 0 <ℤ point.w → list_all (λ t. is_clear_of t point) tris ≡ true → IsOutput (Counts point meshes tris (Some formula)) told → ValueIsOfFaces told faces point }
+    ensures { (tris : List Tri) (formula : Formula) (file : List ℕ) → IsOutput (SolidFaces tris formula) file →
+        (faces : List Face) → IsFaceFile file faces → (point : Spot) (meshes : ℕ) (told : List ℕ) → pos 0 <ℤ point.w →
+        list_all (λ t. is_clear_of t point) tris ≡ true → IsOutput (Counts point meshes tris (Some formula)) told →
+        ValueIsOfFaces told faces point }
 {}
 
 /// Where a cell's reference point is clear of the faces of the solid, they wind there along all axes
@@ -51,6 +61,12 @@ pub fn values_at_points_are_of_the_solid()
 /// but not always of the document's. Shifted along all axes by little enough it is, and there they
 /// wind as the bit says without exception.
 pub fn lattices_sample_the_solid()
-    ensures clear { (tris : List Tri) (meshes : ℕ) → IsScene tris meshes → (formula : Formula) (file : List ℕ) → IsOutput (SolidFaces tris formula) file → (faces : List Face) → IsFaceFile file faces → (size : ℕ) (text : List ℕ) (lattice : IsLatticeText tris formula size text) → BitsAreOfFaces size lattice.rows faces }
-    ensures nearby { (tris : List Tri) (meshes : ℕ) → IsScene tris meshes → (formula : Formula) (file : List ℕ) → IsOutput (SolidFaces tris formula) file → (faces : List Face) → IsFaceFile file faces → (size : ℕ) (text : List ℕ) (lattice : IsLatticeText tris formula size text) → BitsAreOfFacesNearby size lattice.rows faces }
+    ensures clear { (tris : List Tri) (meshes : ℕ) → IsScene tris meshes → (formula : Formula) (file : List ℕ) →
+        IsOutput (SolidFaces tris formula) file → (faces : List Face) → IsFaceFile file faces →
+        (size : ℕ) (text : List ℕ) (lattice : IsLatticeText tris formula size text) →
+        BitsAreOfFaces size lattice.rows faces }
+    ensures nearby { (tris : List Tri) (meshes : ℕ) → IsScene tris meshes → (formula : Formula) (file : List ℕ) →
+        IsOutput (SolidFaces tris formula) file → (faces : List Face) → IsFaceFile file faces →
+        (size : ℕ) (text : List ℕ) (lattice : IsLatticeText tris formula size text) →
+        BitsAreOfFacesNearby size lattice.rows faces }
 {}

@@ -46,7 +46,8 @@ pub fn pairs_output<S: Shelf, C: Fn(&Query) -> Result<Answer, OutOfMemory>>(
     requires executor { IsExecutor C.pre C.post executor.now }
     ensures contents { S.contents shelf.new ≡ S.contents shelf.old }
     ensures later { S.faults shelf.old ≤ S.faults shelf.new }
-    ensures text { IfOk result (λ text. IsText (pairs_verdict places (map (S.contents shelf.old) files.now)) text.items) }
+    ensures text { IfOk result
+        (λ text. IsText (pairs_verdict places (map (S.contents shelf.old) files.now)) text.items) }
     ensures stop { IfErr result
         (IsStop (pairs_verdict places) files.now
         (shelf_call S.contents S.faults S.fault_at shelf.old shelf.new)) }

@@ -1,4 +1,6 @@
-// What the boxes of a scene are run for, and what comes of it.
+// What the boxes of a scene are run for, and what comes of it. The `executor` of a call here is a closure that
+// `run` or `run_one` makes. It runs the boxes by `by_workers` or `alone` of executor.rt; the macro `finds!` there
+// takes the root's job and the step of each query.
 ghost use Rattle.std.specs.Prelude.{◌≤◌, IfOk};
 ghost use Rattle.ember_expr.specs.Formula.{formula_of};
 ghost use Rattle.ember_run.specs.Lattices.{AreFills};

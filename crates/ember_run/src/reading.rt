@@ -30,7 +30,8 @@ pub fn read_bytes<S: Shelf>(
         IsRefusal status (after_bytes number (S.contents shelf.old name.now) next)) }
     ensures file { IfErr result (λ status. is_refusal status ≡ true → refused_file status ≡ Some number) }
     ensures memory { IfErr result (λ status. hides_memory status ≡ false) }
-    ensures read_fault { (i : ℕ) → result ≡ Err (Status.ReadFault i) → (i ≡ number) × Rose (S.faults shelf.old) (S.faults shelf.new) ×
+    ensures read_fault { (i : ℕ) → result ≡ Err (Status.ReadFault i) →
+        (i ≡ number) × Rose (S.faults shelf.old) (S.faults shelf.new) ×
         (S.fault_at shelf.new ≡ i) }
     ensures no_other { (result ≢ Err Status.Done) × (result ≢ Err Status.Words) × (result ≢ Err Status.WriteFault) }
 {
@@ -62,7 +63,8 @@ pub fn read_file<S: Shelf>(
         IsRefusal status (after_file places number (S.contents shelf.old name.now) next)) }
     ensures file { IfErr result (λ status. is_refusal status ≡ true → refused_file status ≡ Some number) }
     ensures memory { IfErr result (λ status. hides_memory status ≡ false) }
-    ensures read_fault { (i : ℕ) → result ≡ Err (Status.ReadFault i) → (i ≡ number) × Rose (S.faults shelf.old) (S.faults shelf.new) ×
+    ensures read_fault { (i : ℕ) → result ≡ Err (Status.ReadFault i) →
+        (i ≡ number) × Rose (S.faults shelf.old) (S.faults shelf.new) ×
         (S.fault_at shelf.new ≡ i) }
     ensures no_other { (result ≢ Err Status.Done) × (result ≢ Err Status.Words) × (result ≢ Err Status.WriteFault) }
 {

@@ -22,7 +22,8 @@ fn faces_in(alloc: Global, bytes: &[u8]) -> Result<FaceList, Status>
     ensures faces { IfOk result (λ faces. IsFaceFile bytes.now faces) }
     ensures valid { IfOk result (λ faces. All IsValidFace faces) }
     ensures count { IfOk result (λ faces. length faces ≤ 268435456) }
-    ensures refused { (at : ℤ) → IfErr result (λ status. is_refusal status ≡ true → IsSliceRefusal at bytes.now status) }
+    ensures refused { (at : ℤ) → IfErr result (λ status. is_refusal status ≡ true →
+        IsSliceRefusal at bytes.now status) }
     ensures only { (i : ℕ) → result ≢ Err (Status.ReadFault i) }
     ensures no_other { (result ≢ Err Status.Done) × (result ≢ Err Status.Words) × (result ≢ Err Status.WriteFault) }
 {

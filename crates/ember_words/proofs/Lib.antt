@@ -5,3 +5,4 @@ pub mod Refusals
 pub mod OptionWalk
 pub mod Taken
 pub mod Limited
+pub mod NamedFiles

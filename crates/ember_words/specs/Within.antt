@@ -1,5 +1,5 @@
 -- What a command that was read keeps
-use Rattle.std.specs.Prelude.{◌<◌, ◌≤◌, ◌≤ℤ◌, pos, neg_ℤ, List, length, All, IfSome}
+use Rattle.std.specs.Prelude.{⊤, ◌<◌, ◌≤◌, ◌≤ℤ◌, pos, neg_ℤ, List, length, All, IfSome}
 use Rattle.std.specs.Int.{IsInRange}
 use Rattle.clap.specs.Walk.{Text}
 use Rattle.ember_model.specs.Valid.{IsValidSpot}
@@ -25,3 +25,13 @@ IsWithinLimits (command.Voxels expr size workers places files) =
     IsNonempty expr × IsInRange 4 12 size × IsInRange 1 64 workers × (places ≤ 3) × AreNames files
 IsWithinLimits (command.Pairs workers places files) = IsInRange 1 64 workers × (places ≤ 3) × AreNames files
 IsWithinLimits (command.Slice height file) = (neg_ℤ (pos 2048) ≤ℤ height) × (height ≤ℤ pos 2047) × IsNonempty file
+
+-- where a command may name several files, it names one at least
+abbrev pub NamesFiles : Command → Type 0
+NamesFiles (command.Faces places file) = ⊤
+NamesFiles (command.At point expr places files) = 1 ≤ length files
+NamesFiles (command.Boole expr workers places report files) = 1 ≤ length files
+NamesFiles (command.Demo boxes workers) = ⊤
+NamesFiles (command.Voxels expr size workers places files) = 1 ≤ length files
+NamesFiles (command.Pairs workers places files) = 1 ≤ length files
+NamesFiles (command.Slice height file) = ⊤

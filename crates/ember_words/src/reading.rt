@@ -6,7 +6,7 @@ ghost use Rattle.clap.specs.Simple.{app_of};
 ghost use Rattle.clap.specs.Values.{kind_of};
 ghost use Rattle.clap.specs.Faults.{is_simple_and_free};
 ghost use Rattle.ember_words.specs.Limits.{height_of, point_of};
-ghost use Rattle.ember_words.specs.Within.{IsWithinLimits};
+ghost use Rattle.ember_words.specs.Within.{IsWithinLimits, NamesFiles};
 ghost use Rattle.ember_words.specs.Canonical.{IsCanonical, Line, command_with, words_of};
 ghost use Rattle.ember_words.specs.Meaning.{app_for, values_for};
 ghost use Rattle.ember_words.specs.Meaning.{workers_in, places_in, Reads, Parses, taken_by, faces_of, at_of, bool_of, demo_of, voxels_of, pairs_of, slice_of, command_of};
@@ -212,14 +212,15 @@ fn read(alloc: Global, words: &[String]) -> Result<Command, WordsFault>
 /// The first word names the command, by its bytes; clap reads the words after it, and the values
 /// that it finds are within the limits. `WordsFault::Words` comes exactly where the first word is
 /// missing or names no command, where clap refuses the words for another cause than memory,
-/// or where a value is past its limits. Words in the canonical spelling are read as the command of
-/// their values, and refused only where one of these is past its limits.
-#[tactic(auto, using(crate::proofs::Taken::canonical_reads, crate::proofs::Limited::read_limits))]
+/// or where a value is past its limits. A command that may name several files names one at least.
+/// Words in the canonical spelling are read as the command of their values, and refused only where
+/// one of these is past its limits.
+#[tactic(auto, using(crate::proofs::Taken::canonical_reads, crate::proofs::Limited::read_limits, crate::proofs::NamedFiles::read_files))]
 pub fn read_words(alloc: Global, words: &[String]) -> Result<Command, WordsFault>
     ensures command { Reads (command_of (map string_bytes words.now)) result }
     ensures limits { IfOk result IsWithinLimits }
-    ensures canonical { (line : Line) → IsCanonical line → map string_bytes words.now ≡ words_of line →
-        Reads (command_with line) result }
+    ensures files { IfOk result NamesFiles }
+    ensures canonical { (line : Line) → IsCanonical line → map string_bytes words.now ≡ words_of line → Reads (command_with line) result }
 {
     read(alloc, words)
 }
