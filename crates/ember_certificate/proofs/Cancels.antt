@@ -1,5 +1,5 @@
 -- Closed segments: what changes its sign with the direction cancels
-use Rattle.std.proofs.Common.{◌≡◌, ℕ, ◌+◌, ◌*◌, ◌/◌, ◌%◌, List, map, ℤ, pos, neg_ℤ, sym, ap, ◌∙◌, arith, eqb}
+use Rattle.std.proofs.Common.{◌≡◌, ℕ, ◌/◌, ◌%◌, List, map, ℤ, pos, neg_ℤ, sym, ◌∙◌, arith, eqb}
 use Rattle.ember_algebra.specs.Sums.{total}
 use Rattle.ember_algebra.proofs.Laws.{linear}
 use Rattle.ember_algebra.proofs.Sums.{total-map, total-neg, total_same, total_same_occurrences}

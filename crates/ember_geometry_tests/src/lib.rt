@@ -6,6 +6,8 @@ mod balance;
 #[cfg(test)]
 mod boxes;
 #[cfg(test)]
+mod certificates;
+#[cfg(test)]
 mod coplanar;
 #[cfg(test)]
 mod faces;
