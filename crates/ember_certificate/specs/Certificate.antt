@@ -43,7 +43,8 @@ edges_in [] = []
 edges_in (t ∷ ts) = t.first ∷ t.second ∷ t.third ∷ edges_in ts
 
 -- each triangle is proper, in each plane they have the chain of the faces, and together they are closed
-pub record IsCertified (ps : List Plane) (cs : List SpacePoint) (faces : List Segment) (ts : List Triangle) : Type 0 where
+pub record IsCertified (ps : List Plane) (cs : List SpacePoint) (faces : List Segment)
+    (ts : List Triangle) : Type 0 where
   pub proper : All (IsProper ps cs) ts
   pub chains : HaveSameChains faces (edges_in ts)
   pub closed : IsClosed (edges_in ts)

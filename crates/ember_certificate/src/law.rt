@@ -19,7 +19,8 @@ pub fn one_chain_has_one_boundary()
 /// Segments whose chains have the same boundary have the same sum over a plane's segments on a line of
 /// any quantity of their starts less that of their ends.
 pub fn one_boundary_has_one_sum()
-    ensures { (ss ts : List Segment) → HaveSameBoundary ss ts → (p l : ℕ) (f : ℕ → ℤ) → sum_on p l f ss ≡ sum_on p l f ts }
+    ensures { (ss ts : List Segment) → HaveSameBoundary ss ts → (p l : ℕ) (f : ℕ → ℤ) →
+        sum_on p l f ss ≡ sum_on p l f ts }
 {}
 
 /// Over closed segments any quantity that changes its sign with the direction of a segment adds up to 0.

@@ -64,7 +64,10 @@ after_corner c rest =
 
 abbrev pub loose_line : List ℕ → Loose → List ℕ
 loose_line name loose =
-    codes "ember: " ++ (name ++ (codes ": edge " ++ after_corner loose.from (codes " to " ++ after_corner loose.to (codes " stands " ++ (decimal loose.there ++ (codes " times and " ++ (decimal loose.back ++ codes " times reversed\n")))))))
+    codes "ember: " ++ (name ++
+    (codes ": edge " ++ after_corner loose.from (codes " to " ++
+    after_corner loose.to (codes " stands " ++
+    (decimal loose.there ++ (codes " times and " ++ (decimal loose.back ++ codes " times reversed\n")))))))
 
 abbrev pub mesh_line : List ℕ → MeshFault → List ℕ
 mesh_line name (mesh.Unbalanced loose) = loose_line name loose
@@ -106,7 +109,8 @@ line_on_err names (ObjRefused i fault) = obj_line (name_of names i) fault
 line_on_err names (MeshRefused i fault) = mesh_line (name_of names i) fault
 line_on_err names (ExprRefused fault) = expr_line fault
 line_on_err names Unbounded = codes "ember: expression holds outside all meshes\n"
-line_on_err names (Limit (Bytes i) count) = codes "ember: " ++ (name_of names i ++ codes ": more than 268435456 bytes\n")
+line_on_err names (Limit (Bytes i) count) =
+    codes "ember: " ++ (name_of names i ++ codes ": more than 268435456 bytes\n")
 line_on_err names (Limit Triangles count) = triangles_line count
 line_on_err names NotClear = codes "ember: point not clear\n"
 line_on_err names (FaceRefused fault) = face_line (name_of names 1) fault

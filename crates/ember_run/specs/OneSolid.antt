@@ -39,7 +39,8 @@ pub record CrossOnceIf (inside : Bool) (segments : List Directed) (p : Spot) : T
 -- at each point of the level that is clear of the scene and of the faces they do where the expression holds
 abbrev pub SegmentsHaveMeaning : List Tri → Formula → ℤ → List Face → List Directed → Type 0
 SegmentsHaveMeaning tris formula at faces segments =
-    (axis : Axis) (p : Spot) → IsAtLevel at p → AreClear (faces_of tris) p → AreClear faces p → CrossOnceIf (truth (vector axis tris p) formula) segments p
+    (axis : Axis) (p : Spot) → IsAtLevel at p → AreClear (faces_of tris) p → AreClear faces p → CrossOnceIf
+    (truth (vector axis tris p) formula) segments p
 
 -- at each point of the level that is clear of the faces alone they do or don't
 abbrev pub SegmentsCrossOnceAtMost : ℤ → List Face → List Directed → Type 0
@@ -78,9 +79,11 @@ bit_at size rows i j l = is_one (char_at (2 ^ (12 - size)) rows (l * 2 ^ (12 - s
 -- the faces wind as the bits say, at each reference point that is clear of them
 abbrev pub BitsAreOfFaces : ℕ → List ℕ → List Face → Type 0
 BitsAreOfFaces size rows faces =
-    (i j l : ℕ) → IsCell size i j l → AreClear faces (cell_point size i j l) → WindOnceIf (bit_at size rows i j l) faces (cell_point size i j l)
+    (i j l : ℕ) → IsCell size i j l → AreClear faces (cell_point size i j l) → WindOnceIf
+    (bit_at size rows i j l) faces (cell_point size i j l)
 
 -- and at every reference point, shifted by little enough
 abbrev pub BitsAreOfFacesNearby : ℕ → List ℕ → List Face → Type 0
 BitsAreOfFacesNearby size rows faces =
-    (i j l : ℕ) → IsCell size i j l → WhereShifted (cell_point size i j l) (λ q. WindOnceIf (bit_at size rows i j l) faces q)
+    (i j l : ℕ) → IsCell size i j l → WhereShifted (cell_point size i j l)
+    (λ q. WindOnceIf (bit_at size rows i j l) faces q)

@@ -22,19 +22,27 @@ IsQuery (query.Counts scene expr) = ⊤
 -- this is what the query asks for
 abbrev pub IsAnswer : Query → Answer → Type 0
 IsAnswer (query.Pairs scene) (finds.Pairs items) = ArePairsOfLeaves scene.now.tris items.items
-IsAnswer (query.Fills scene expr size) (finds.Fills fills) = AreFills scene.now.tris (formula_of expr.now) size fills.items
+IsAnswer (query.Fills scene expr size) (finds.Fills fills) =
+    AreFills scene.now.tris (formula_of expr.now) size fills.items
 IsAnswer (query.Texts scene expr) (finds.Texts found) =
-    AreLeafTexts scene.now.tris (formula_of expr.now) found.items.items × HoldRun scene.now.tris (formula_of expr.now) found.journals
+    AreLeafTexts scene.now.tris (formula_of expr.now) found.items.items ×
+    HoldRun scene.now.tris (formula_of expr.now) found.journals
 IsAnswer (query.Counts scene expr) (finds.Counts found) =
-    AreRegionCounts scene.now.tris (formula_of expr.now) found.items.items × HoldRun scene.now.tris (formula_of expr.now) found.journals
+    AreRegionCounts scene.now.tris (formula_of expr.now) found.items.items ×
+    HoldRun scene.now.tris (formula_of expr.now) found.journals
 IsAnswer _ _ = ⊥
 
 -- the call may be made at each query, and each Ok of it is what the query asks for
-pub record IsExecutor {C : Type 0} (pre : C → Bor Query → Type 0) (post : C → Bor Query → Result Answer AllocError → Type 0) (call : C) : Type 0 where
+pub record IsExecutor {C : Type 0} (pre : C → Bor Query → Type 0)
+    (post : C → Bor Query → Result Answer AllocError → Type 0) (call : C) : Type 0 where
   pub runs : (query : Bor Query) → IsQuery query.now → pre call query
-  pub answers_each : (query : Bor Query) (r : Result Answer AllocError) → IsQuery query.now → post call query r → IfOk r (IsAnswer query.now)
+  pub answers_each : (query : Bor Query) (r : Result Answer AllocError) → IsQuery query.now → post call query r →
+      IfOk r (IsAnswer query.now)
 
 -- so it is with each number of workers, 1 to 64
-pub record IsExecutorOfAny {C : Type 0} (pre : C → ℕ → Bor Query → Type 0) (post : C → ℕ → Bor Query → Result Answer AllocError → Type 0) (call : C) : Type 0 where
-  pub runs : (workers : ℕ) (query : Bor Query) → (1 ≤ workers) × (workers ≤ 64) → IsQuery query.now → pre call workers query
-  pub answers_each : (workers : ℕ) (query : Bor Query) (r : Result Answer AllocError) → (1 ≤ workers) × (workers ≤ 64) → IsQuery query.now → post call workers query r → IfOk r (IsAnswer query.now)
+pub record IsExecutorOfAny {C : Type 0} (pre : C → ℕ → Bor Query → Type 0)
+    (post : C → ℕ → Bor Query → Result Answer AllocError → Type 0) (call : C) : Type 0 where
+  pub runs : (workers : ℕ) (query : Bor Query) → (1 ≤ workers) × (workers ≤ 64) → IsQuery query.now →
+      pre call workers query
+  pub answers_each : (workers : ℕ) (query : Bor Query) (r : Result Answer AllocError) →
+      (1 ≤ workers) × (workers ≤ 64) → IsQuery query.now → post call workers query r → IfOk r (IsAnswer query.now)

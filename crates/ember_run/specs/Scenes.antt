@@ -6,9 +6,11 @@ use Rattle.ember_model.specs.declared.tri.Tri.{Tri}
 use Rattle.ember_run.specs.CallOutcome.{IsSameIfTold}
 use Rattle.ember_run.specs.Verdict.{Contents, Verdict, after_files, after_scene}
 
--- the files with these contents were read as these meshes; with whatever more files, their triangles decide what follows
+-- the files with these contents were read as these meshes; with whatever more files, their triangles decide what
+-- follows
 pub record HasParts (places : ℕ) (read : Contents) (parts : List Closed) : Type 0 where
   pub count : length parts ≡ length read
   pub numbered : AreNumbered 1 parts
   pub same : (more : Contents) (next : List Tri → Verdict) →
-      IsSameIfTold (after_scene places (read ++ more) next) (after_files places (length read + 1) (triangles_of parts) more next)
+      IsSameIfTold (after_scene places (read ++ more) next)
+      (after_files places (length read + 1) (triangles_of parts) more next)

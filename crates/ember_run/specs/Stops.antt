@@ -17,7 +17,8 @@ pub record IsFileIn (names : List (List ℕ)) (i : ℕ) : Type 0 where
   pub last : i ≤ length names
 
 -- why files with these names give no answer; `verdict` is what is asked for, over any contents of them
-pub record IsStop (verdict : Contents → Verdict) (names : List (List ℕ)) (shelf : ShelfCall) (status : Status) : Type 0 where
+pub record IsStop (verdict : Contents → Verdict) (names : List (List ℕ)) (shelf : ShelfCall)
+    (status : Status) : Type 0 where
   -- what is refused is refused by the verdict
   pub refused : is_refusal status ≡ true → IsRefusal status (verdict (map shelf.told names))
   -- what rests on the words is refused with no file known

@@ -38,7 +38,8 @@ Contents = List (Option (List ℕ))
 -- ---- a file; `next` is what follows on its bytes, or on its triangles
 abbrev pub after_bytes : ℕ → Option (List ℕ) → (List ℕ → Verdict) → Verdict
 after_bytes i None next = Unknown
-after_bytes i (Some bytes) next = if nat_le (length bytes) 268435456 then next bytes else Refused (Limit (Bytes i) 268435457)
+after_bytes i (Some bytes) next =
+    if nat_le (length bytes) 268435456 then next bytes else Refused (Limit (Bytes i) 268435457)
 
 abbrev pub after_triangles : ℕ → Result Faces ObjFault → (List Tri → Verdict) → Verdict
 after_triangles i (Err fault) next = Refused (ObjRefused i fault)
@@ -100,11 +101,13 @@ counts_verdict point meshes expr tris = after_clear point tris (Writes (Counts p
 
 abbrev pub at_verdict : Spot → Option (List ℕ) → ℕ → Contents → Verdict
 at_verdict point expr places contents =
-    after_given expr (length contents) (λ formula. after_scene places contents (counts_verdict point (length contents) formula))
+    after_given expr (length contents) (λ formula.
+    after_scene places contents (counts_verdict point (length contents) formula))
 
 abbrev pub voxels_verdict : List ℕ → ℕ → ℕ → Contents → Verdict
 voxels_verdict expr size places contents =
-    after_expr expr (length contents) (λ formula. after_scene places contents (λ tris. Writes (Lattice tris formula size)))
+    after_expr expr (length contents) (λ formula.
+    after_scene places contents (λ tris. Writes (Lattice tris formula size)))
 
 -- an expression that holds where all counts are 0 bounds nothing
 abbrev pub after_bounded : Formula → Verdict → Verdict
@@ -115,7 +118,8 @@ after_solid text meshes next = after_expr text meshes (λ formula. after_bounded
 
 abbrev pub bool_verdict : List ℕ → ℕ → Contents → Verdict
 bool_verdict expr places contents =
-    after_solid expr (length contents) (λ formula. after_scene places contents (λ tris. Writes (SolidFaces tris formula)))
+    after_solid expr (length contents) (λ formula.
+    after_scene places contents (λ tris. Writes (SolidFaces tris formula)))
 
 -- the union of the two meshes
 abbrev pub demo_verdict : ℕ → Verdict

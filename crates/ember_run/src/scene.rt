@@ -36,7 +36,8 @@ fn read_mesh<S: Shelf>(
         IsRefusal status (after_mesh places number (S.contents shelf.old name.now) next)) }
     ensures file { IfErr result (λ status. is_refusal status ≡ true → refused_file status ≡ Some number) }
     ensures memory { IfErr result (λ status. hides_memory status ≡ false) }
-    ensures read_fault { (i : ℕ) → result ≡ Err (Status.ReadFault i) → (i ≡ number) × Rose (S.faults shelf.old) (S.faults shelf.new) ×
+    ensures read_fault { (i : ℕ) → result ≡ Err (Status.ReadFault i) →
+        (i ≡ number) × Rose (S.faults shelf.old) (S.faults shelf.new) ×
         (S.fault_at shelf.new ≡ i) }
     ensures no_other { (result ≢ Err Status.Done) × (result ≢ Err Status.Words) × (result ≢ Err Status.WriteFault) }
 {

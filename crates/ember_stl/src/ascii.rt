@@ -66,7 +66,8 @@ struct Reader<'a> {
 impl<'a> Reader<'a> {
     fn add_vertex(&mut self, line: u32, words: Text<'a>) -> Result<(), StlFault>
         requires text { EndsWithinFile words }
-        ensures ok { OnOk result (with_vertex line (words_in words.entry) (state_of self.old) ≡ Ok (state_of self.new)) }
+        ensures ok { OnOk result (with_vertex line (words_in words.entry) (state_of self.old) ≡
+            Ok (state_of self.new)) }
         ensures err { IfErr result (IsErrorOf (with_vertex line (words_in words.entry) (state_of self.old))) }
         ensures surface { self.new.surface ≡ self.old.surface }
         ensures count { OnOk result (length self.new.corners.items ≡ length self.old.corners.items + 1) }

@@ -62,16 +62,19 @@ pub record AreEnds (w : Path) (at : Ends) : Type 0 where
 -- seen along a segment, it runs through the triangle
 abbrev pub is_on_first : Path → NearTriangle → Bool
 is_on_first w f =
-    contains_above (interval_along f.aabb w.second) (coordinate w.lo w.second) && all_behind (λ p. side_at_start w p) (edge_planes f.tri w.first)
+    contains_above (interval_along f.aabb w.second) (coordinate w.lo w.second) &&
+    all_behind (λ p. side_at_start w p) (edge_planes f.tri w.first)
 
 abbrev pub is_on_second : Path → NearTriangle → Bool
 is_on_second w f =
-    may_contain (interval_along f.aabb w.first) (floor_at_end w w.first) && all_behind (λ p. side_after_first w p) (edge_planes f.tri w.second)
+    may_contain (interval_along f.aabb w.first) (floor_at_end w w.first) &&
+    all_behind (λ p. side_after_first w p) (edge_planes f.tri w.second)
 
 -- the end of the path can be within the bounding box
 abbrev pub may_end : Path → NearTriangle → Bool
 may_end w f =
-    may_contain (interval_along f.aabb w.first) (floor_at_end w w.first) && may_contain (interval_along f.aabb w.second) (floor_at_end w w.second)
+    may_contain (interval_along f.aabb w.first) (floor_at_end w w.first) &&
+    may_contain (interval_along f.aabb w.second) (floor_at_end w w.second)
 
 abbrev pub is_on_last : Path → NearTriangle → Bool
 is_on_last w f = may_end w f && all_behind (λ p. side_at_end w p) (edge_planes f.tri w.main)
@@ -86,7 +89,8 @@ second_segment w f =
 -- both run in the low wall of the main axis
 abbrev pub segments_in_wall : Path → NearTriangle → ℤ
 segments_in_wall w f =
-    if contains_above (interval_along f.aabb w.main) (coordinate w.lo w.main) then first_segment w f +ℤ second_segment w f else pos 0
+    if contains_above (interval_along f.aabb w.main) (coordinate w.lo w.main)
+    then first_segment w f +ℤ second_segment w f else pos 0
 
 abbrev pub last_segment : Path → NearTriangle → Sign → ℤ
 last_segment w f end = if is_on_last w f then signed_crossing (side_after_second w f.support) end else pos 0
@@ -130,11 +134,15 @@ is_pierced t k u v w = all_behind (λ p. inside_side p u v w) (edge_planes t k)
 -- the crossing of the ray that begins directly before the inside point, or directly after it
 abbrev pub ray_before : Tri → Axis → Meet → Meet → Meet → ℤ
 ray_before t k u v w =
-    if is_pierced t k u v w then signed_crossing (side_before (support_of t) k (inside_side (support_of t) u v w)) (sgn (along (support_of t) k)) else pos 0
+    if is_pierced t k u v w
+    then signed_crossing (side_before (support_of t) k (inside_side (support_of t) u v w))
+    (sgn (along (support_of t) k)) else pos 0
 
 abbrev pub ray_after : Tri → Axis → Meet → Meet → Meet → ℤ
 ray_after t k u v w =
-    if is_pierced t k u v w then signed_crossing (side_after (support_of t) k (inside_side (support_of t) u v w)) (sgn (along (support_of t) k)) else pos 0
+    if is_pierced t k u v w
+    then signed_crossing (side_after (support_of t) k (inside_side (support_of t) u v w))
+    (sgn (along (support_of t) k)) else pos 0
 
 abbrev pub counted : (Tri → ℤ) → List Tri → List ℤ → List ℤ
 counted more ts counts = fold (λ (vs : List ℤ) (t : Tri). with_more vs t.mesh (more t)) counts ts
@@ -149,5 +157,7 @@ pub record AreRayCounts (ts : List Tri) (r : Face) (s : Sides) : Type 0 where
   pub is_first : slice_get corners 0 ≡ Some first
   pub is_second : slice_get corners 1 ≡ Some second
   pub is_third : slice_get corners 2 ≡ Some third
-  pub before : s.before.counts ≡ counted (λ t. ray_before t (main_axis r.support) first second third) ts (replicate 64 (pos 0))
-  pub after : s.after.counts ≡ counted (λ t. ray_after t (main_axis r.support) first second third) ts (replicate 64 (pos 0))
+  pub before : s.before.counts ≡
+      counted (λ t. ray_before t (main_axis r.support) first second third) ts (replicate 64 (pos 0))
+  pub after : s.after.counts ≡
+      counted (λ t. ray_after t (main_axis r.support) first second third) ts (replicate 64 (pos 0))

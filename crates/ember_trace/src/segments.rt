@@ -74,7 +74,8 @@ fn floor_in_root(way: &Path, k: Axis) -> i32
 
 // Above this along the main axis lies what is above both ends of the last segment.
 fn top_of(way: &Path) -> i32
-    ensures value { result ≡ int_max (in_root (floor_at_end way.now way.now.main)) (coordinate way.now.lo way.now.main) }
+    ensures value { result ≡
+        int_max (in_root (floor_at_end way.now way.now.main)) (coordinate way.now.lo way.now.main) }
     ensures small { Small 2048 result }
 {
     floor_in_root(way, way.main).max(coordinate(way.lo, way.main))
@@ -259,8 +260,10 @@ pub struct Crossings {
 // The crossings of the last segments, one along each path.
 fn last_segments_by_sides(f: &NearTriangle, way: &Path, at: &Ends) -> Crossings
     requires { AreEnds way.now at.now }
-    ensures before { result.before ≡ last_segment way.now f.now (side_before f.now.support way.now.main (side_at_end way.now f.now.support)) }
-    ensures after { result.after ≡ last_segment way.now f.now (side_after f.now.support way.now.main (side_at_end way.now f.now.support)) }
+    ensures before { result.before ≡
+        last_segment way.now f.now (side_before f.now.support way.now.main (side_at_end way.now f.now.support)) }
+    ensures after { result.after ≡
+        last_segment way.now f.now (side_after f.now.support way.now.main (side_at_end way.now f.now.support)) }
     ensures small { Small 1 result.before × Small 1 result.after }
 {
     if !is_on_last(f, way, at) {
@@ -286,8 +289,10 @@ fn lies_above(f: &NearTriangle, way: &Path, at: &Ends) -> bool
 // The same, at once where the triangle lies above the end of the path.
 fn last_segments(f: &NearTriangle, way: &Path, at: &Ends) -> Crossings
     requires { AreEnds way.now at.now }
-    ensures before { result.before ≡ last_segment way.now f.now (side_before f.now.support way.now.main (side_at_end way.now f.now.support)) }
-    ensures after { result.after ≡ last_segment way.now f.now (side_after f.now.support way.now.main (side_at_end way.now f.now.support)) }
+    ensures before { result.before ≡
+        last_segment way.now f.now (side_before f.now.support way.now.main (side_at_end way.now f.now.support)) }
+    ensures after { result.after ≡
+        last_segment way.now f.now (side_after f.now.support way.now.main (side_at_end way.now f.now.support)) }
     ensures small { Small 1 result.before × Small 1 result.after }
 {
     if lies_above(f, way, at) {

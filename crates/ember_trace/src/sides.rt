@@ -40,7 +40,8 @@ fn take_crossings(sides: &mut Sides, mesh: u32, less: &Crossings)
     requires room_after { All (Small 1073741823) sides.old.after.counts }
     ensures before { sides.new.before.counts ≡ with_more sides.old.before.counts mesh (neg_ℤ less.now.before) }
     ensures after { sides.new.after.counts ≡ with_more sides.old.after.counts mesh (neg_ℤ less.now.after) }
-    ensures within_before { (m : ℕ) → All (Small m) sides.old.before.counts → All (Small (m + 3)) sides.new.before.counts }
+    ensures within_before { (m : ℕ) → All (Small m) sides.old.before.counts →
+        All (Small (m + 3)) sides.new.before.counts }
     ensures within_after { (m : ℕ) → All (Small m) sides.old.after.counts → All (Small (m + 3)) sides.new.after.counts }
 {
     if less.before == 0 && less.after == 0 {
@@ -58,7 +59,8 @@ pub fn put_sides_beside(near: &[NearTriangle], c: &Cell, v: &Vector, r: &Ring, s
     requires few { length near.now ≤ 262144 }
     requires counts { AreBoxCounts v.now.counts }
     ensures traced { AreTraced c.now near.now v.now.counts r.now sides.new }
-    ensures sides { All (HasReferenceSide c.now) near.now → AreSides (map tri_of near.now) c.now v.now.counts r.now sides.new }
+    ensures sides { All (HasReferenceSide c.now) near.now →
+        AreSides (map tri_of near.now) c.now v.now.counts r.now sides.new }
     ensures before { AreWithinBound (length near.now) v.now.counts sides.new.before.counts }
     ensures after { AreWithinBound (length near.now) v.now.counts sides.new.after.counts }
 {
@@ -77,7 +79,8 @@ pub fn sides_beside(near: &[NearTriangle], c: &Cell, v: &Vector, r: &Ring) -> Si
     requires few { length near.now ≤ 262144 }
     requires counts { AreBoxCounts v.now.counts }
     ensures traced { AreTraced c.now near.now v.now.counts r.now result }
-    ensures sides { All (HasReferenceSide c.now) near.now → AreSides (map tri_of near.now) c.now v.now.counts r.now result }
+    ensures sides { All (HasReferenceSide c.now) near.now →
+        AreSides (map tri_of near.now) c.now v.now.counts r.now result }
     ensures before { AreWithinBound (length near.now) v.now.counts result.before.counts }
     ensures after { AreWithinBound (length near.now) v.now.counts result.after.counts }
 {

@@ -35,7 +35,8 @@ fn second_of(k: Axis) -> Axis
 }
 
 fn are_narrow(first: &Meet, second: &Meet, third: &Meet) -> bool
-    ensures { result ≡ is_narrow (spot_of first.now) && (is_narrow (spot_of second.now) && is_narrow (spot_of third.now)) }
+    ensures { result ≡ is_narrow (spot_of first.now) &&
+        (is_narrow (spot_of second.now) && is_narrow (spot_of third.now)) }
 {
     is_narrow(first) && (is_narrow(second) && is_narrow(third))
 }

@@ -114,7 +114,8 @@ pub fn sides_by_rays(tris: &[Tri], r: &Ring) -> Sides
 pub fn sides_whole(_alloc: Global, s: &Scene, r: &Ring) -> Result<Sides, OutOfMemory>
     ensures counted { IfOk result (λ x. AreRayCounts s.now.tris r.now x) }
     ensures sides { IfOk result (λ x. IsSides s.now.tris r.now x.before.counts x.after.counts) }
-    ensures only { IfOk result (λ x. (c : Cell) → IsRegion (near s.now.tris c) c r.now → AreAllSides s.now.tris r.now x) }
+    ensures only { IfOk result (λ x. (c : Cell) → IsRegion (near s.now.tris c) c r.now →
+        AreAllSides s.now.tris r.now x) }
     ensures before { IfOk result (λ x. All (Small (length s.now.tris)) x.before.counts) }
     ensures after { IfOk result (λ x. All (Small (length s.now.tris)) x.after.counts) }
 {

@@ -220,7 +220,8 @@ pub fn read_words(alloc: Global, words: &[String]) -> Result<Command, WordsFault
     ensures command { Reads (command_of (map string_bytes words.now)) result }
     ensures limits { IfOk result IsWithinLimits }
     ensures files { IfOk result NamesFiles }
-    ensures canonical { (line : Line) → IsCanonical line → map string_bytes words.now ≡ words_of line → Reads (command_with line) result }
+    ensures canonical { (line : Line) → IsCanonical line → map string_bytes words.now ≡ words_of line →
+        Reads (command_with line) result }
 {
     read(alloc, words)
 }
