@@ -34,4 +34,6 @@ mod sinks;
 #[cfg(test)]
 mod slices;
 #[cfg(test)]
+mod stl_files;
+#[cfg(test)]
 mod texts;
