@@ -36,4 +36,6 @@ mod sinks;
 #[cfg(test)]
 mod slices;
 #[cfg(test)]
+mod stl_files;
+#[cfg(test)]
 mod texts;
