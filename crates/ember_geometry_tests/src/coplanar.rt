@@ -60,7 +60,8 @@ fn holds_and_owns_face(
     }
 }
 
-// The triangle in the plane z = 0, with a triangle of another plane and one of another place before it, and the same turned behind it.
+// The triangle in the plane z = 0, with a triangle of another plane and one of another place before it, and the same
+// turned behind it.
 const NEAR: &[u8] = b"\
 v 0 0 0\nv 1 0 0\nv 0 1 0\nv 0 1 1\nv 4 4 0\nf 1 2 4\nf 1 5 3\nf 1 2 3\nf 3 2 1\n";
 

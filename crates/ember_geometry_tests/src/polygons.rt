@@ -7,8 +7,8 @@ use crate::shapes::{is_at, plane, tetra, triangle};
 use crate::texts::TETRA_TEXT;
 use ember_model::{Face, OutOfMemory, Plane, Tri, support_of};
 use ember_poly::{
-    Cut, Draft, Reach, Ring, clip, copy, corners, cut, edges, meets, meets_face, of_tri, outline,
-    parts, reach, support,
+    Cut, Draft, Reach, Ring, clip, copy, corners, cut, edges, main_edges, meets, meets_face,
+    of_tri, outline, parts, reach, support,
 };
 use ember_reread::read_faces;
 use std::alloc::Global;
@@ -131,7 +131,8 @@ fn clipped_in_a_draft(alloc: Global, t: &Tri, p: &Plane) -> Result<(Reach, Ring)
     requires plane { IsValidPlane p.now }
 {
     let mut draft = Draft::new(alloc);
-    draft.begin(t, &support_of(t))?;
+    let support = support_of(t);
+    draft.begin(t, &support, &main_edges(t, &support))?;
     let side = draft.clip(p)?;
     Ok((side, draft.ring(alloc, 0)?))
 }

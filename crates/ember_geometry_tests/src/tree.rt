@@ -27,7 +27,9 @@ fn parts_of(alloc: Global, s: &Scene, e: &Expr) -> Result<Vec<Part<KeptList>>, O
         BoolWork { scene: s, expr: e },
         |job: &Job| -> Result<Outcome<KeptList>, OutOfMemory>
             requires { IsJob s.now.tris job.now }
-            ensures { IfOk result (λ o. Answers (shape s.entry.now.tris (formula_of e.entry.now)) (λ j kept. IsWrittenIn s.entry.now.tris (formula_of e.entry.now) j.cell (near s.entry.now.tris j.cell) kept) job.now o) }
+            ensures { IfOk result (λ o. Answers (shape s.entry.now.tris (formula_of e.entry.now)) (λ j kept.
+                IsWrittenIn s.entry.now.tris (formula_of e.entry.now) j.cell (near s.entry.now.tris j.cell) kept)
+                job.now o) }
         { box_step(alloc, s, e, job) },
     );
     let harvest = run_alone(alloc, root, &step, &OpenGate)?;

@@ -34,7 +34,8 @@ high_of j (halved l r) = r
 high_of j leafed = j
 high_of j passed = j
 
-split_at : (n floor : ℕ) (j l r : Job) → j.cell.log X ≡ n → (b : Bool) → leb n floor ≡ b → shape_by b j ≡ halved l r → IsSplit j.cell l.cell r.cell
+split_at : (n floor : ℕ) (j l r : Job) → j.cell.log X ≡ n → (b : Bool) → leb n floor ≡ b →
+    shape_by b j ≡ halved l r → IsSplit j.cell l.cell r.cell
 split_at n floor j l r at true by e = absurd (true≢false (sym (ap is_halved e)))
 split_at zero floor j l r at false by e = absurd (true≢false (sym (leb-zero floor) ∙ by))
 split_at (suc n) floor j l r at false by e = record {
