@@ -31,11 +31,23 @@ fn off_files_that_are_read(rt: HostRuntime) {
             b"# a\n\nCoFF # b\r\n# c\r\n3 1 0 # d\r\n0 0 0 9 9\r\n\r\n1 0 0\r\n0 1 0\r\n3 0 1 2 7 7\r\n",
             (3, 1),
         ),
-        (b"NOFF\n4 1\n0 0 0\n1 0 0\n1 1 0\n0 1 0\n4 0 1 2 3\n", (4, 2)),
-        (b"OFF\n3 1\n0 0 0\n1 0 0\n0 1 0\n3 0 1 2\nand more\n", (3, 1)),
+        (
+            b"NOFF\n4 1\n0 0 0\n1 0 0\n1 1 0\n0 1 0\n4 0 1 2 3\n",
+            (4, 2),
+        ),
+        (
+            b"OFF\n3 1\n0 0 0\n1 0 0\n0 1 0\n3 0 1 2\nand more\n",
+            (3, 1),
+        ),
         (b"OFF\n3 1\n0 0 0\n1 0 0\n0 1 0\n3 2 2 2\n", (3, 1)),
-        (b"OFF\n003 01\n-1.5e3 .5 5.\n1 0 0\n0 1 0\n03 00 01 02\n", (3, 1)),
-        (b"OFF\n4 1\n0 0 0\n1 0 0\n0 1 0\n1e15 0 0\n3 0 1 2\n", (4, 1)),
+        (
+            b"OFF\n003 01\n-1.5e3 .5 5.\n1 0 0\n0 1 0\n03 00 01 02\n",
+            (3, 1),
+        ),
+        (
+            b"OFF\n4 1\n0 0 0\n1 0 0\n0 1 0\n1e15 0 0\n3 0 1 2\n",
+            (4, 1),
+        ),
     ];
     for (bytes, want) in rows {
         assert_eq!(rt; count(rt.alloc(), bytes), Ok(want));
@@ -63,7 +75,10 @@ fn off_files_that_are_refused(rt: HostRuntime) {
             OffFault::NotANumber(2, Span { start: 10, end: 13 }),
         ),
         (b"OFF 3 1\n0 0 0\n1 0 0\n0 1 0\n2 0 1\n", OffFault::Face(5)),
-        (b"OFF 3 1\n0 0 0\n1 0 0\n0 1 0\n3 0 1 3\n", OffFault::Face(5)),
+        (
+            b"OFF 3 1\n0 0 0\n1 0 0\n0 1 0\n3 0 1 3\n",
+            OffFault::Face(5),
+        ),
         (b"OFF 3 1\n0 0 0\n1 0 0\n0 1 0\n3 0 1\n", OffFault::Face(5)),
         (
             b"OFF 3 1\n0 0 0\n1 0 0\n0 1 0\n99999999999999999999 0 1 2\n",
