@@ -14,6 +14,8 @@ mod expressions;
 #[cfg(test)]
 mod face_files;
 #[cfg(test)]
+mod fans;
+#[cfg(test)]
 mod grids;
 #[cfg(test)]
 mod lists;
