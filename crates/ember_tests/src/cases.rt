@@ -1,6 +1,6 @@
 // Cases of commands: words and files, and what comes of them.
 use ember_io::{Calls, FileSet, MemoryShelf, MemorySink};
-use ember_run::{Status, run, run_one};
+use ember_run::{Status, run};
 use std::alloc::Global;
 use std::process::Abort;
 use std::sync::Wait;
@@ -87,15 +87,6 @@ pub fn give<R: Threads + Wait + Sync>(
     Ok(Given { status, out, err })
 }
 
-// The same by the calling thread alone.
-fn give_alone(alloc: Global, words: &[String], files: &[(&str, &[u8])]) -> Result<Given, Fail> {
-    let mut shelf = shelf_of(alloc, files)?;
-    let mut out = sink_of(alloc, 100_000)?;
-    let mut err = sink_of(alloc, 1000)?;
-    let status = run_one(alloc, words, &mut shelf, &mut out, &mut err, &OpenGate);
-    Ok(Given { status, out, err })
-}
-
 // The output is as it is wanted.
 fn is_wanted<R: Threads + Wait + Sync>(
     rt: &R,
@@ -114,24 +105,7 @@ fn is_wanted<R: Threads + Wait + Sync>(
     }
 }
 
-// The case came out as it is stated.
-fn check_given<R: Abort + Threads + Wait + Sync>(
-    rt: &R,
-    alloc: Global,
-    given: &Given,
-    case: &Case,
-) -> Result<(), Fail> {
-    assert_eq!(rt; given.status.number(), case.status, "{}", case.words);
-    assert_eq!(rt; given.err.bytes(), case.err, "{}", case.words);
-    assert!(rt;
-        is_wanted(rt, alloc, given.out.bytes(), case)?,
-        "{}",
-        case.words
-    );
-    Ok(())
-}
-
-/// Each case comes out as it is stated, by `run` and by `run_one`.
+/// Each case comes out as it is stated.
 pub fn check<R: Abort + Threads + Wait + Sync>(
     rt: &R,
     alloc: Global,
@@ -139,8 +113,14 @@ pub fn check<R: Abort + Threads + Wait + Sync>(
 ) -> Result<(), Fail> {
     for case in cases {
         let words = words_of(alloc, case.words)?;
-        check_given(rt, alloc, &give(rt, alloc, &words, case.files)?, case)?;
-        check_given(rt, alloc, &give_alone(alloc, &words, case.files)?, case)?;
+        let given = give(rt, alloc, &words, case.files)?;
+        assert_eq!(rt; given.status.number(), case.status, "{}", case.words);
+        assert_eq!(rt; given.err.bytes(), case.err, "{}", case.words);
+        assert!(rt;
+            is_wanted(rt, alloc, given.out.bytes(), case)?,
+            "{}",
+            case.words
+        );
     }
     Ok(())
 }
