@@ -5,7 +5,7 @@ ghost use Rattle.ember_model.specs.declared.tri.Tri.{Tri};
 ghost use Rattle.ember_model.specs.declared.point.Axis.{Axis};
 ghost use Rattle.ember_model.specs.declared.point.Axis.TheVariants.{X, Y, Z};
 ghost use Rattle.ember_box.specs.Boxes.{Cell as Box};
-ghost use Rattle.ember_box.specs.Near.{listed};
+ghost use Rattle.ember_box.specs.Near.{all_indices, listed, near_indices};
 ghost use Rattle.ember_box.specs.Halving as halvings;
 ghost use Rattle.ember_box.specs.Sums.{number, AreSumsOfOne, AreFew, AreSums};
 ghost use Rattle.ember_box.specs.NearParts.{AreNearParts};
@@ -147,21 +147,27 @@ pub fn is_leaf_by(c: &Cell, sums: &Sums) -> bool
 
 /// The axis along which the box is halved: the one with the least sum, the first of them in a tie,
 /// of those along which the side is above 1. The sum of an axis is the number of listed triangles
-/// near the lower half plus the number near the upper half. Some side is above 1.
+/// near the lower half plus the number near the upper half. Some side is above 1. If the list has all
+/// triangles near the box, in order, this is the axis that all triangles of the scene give.
 #[tactic(auto, using(crate::proofs::Halvable::halvable_along))]
 pub fn split_axis(s: &Scene, list: &[u32], c: &Cell) -> Axis
     requires { All (λ i. i < length s.now.tris) list.now }
     ensures axis { result ≡ halvings.halving_axis (listed s.now.tris list.now) c.now }
+    ensures near { list.now ≡ near_indices s.now.tris c.now (all_indices s.now.tris) →
+        result ≡ halvings.halving_axis s.now.tris c.now }
     ensures halvable { (k : Axis) → 0 < c.now.log k → 0 < c.now.log result }
 {
     least_axis(c, &half_sums(s.tris.items(), list, c))
 }
 
 /// The box is a leaf: at most 16 listed triangles are near it, or all sides are 1, or for every
-/// axis with a side above 1 four times the sum is at least seven times the number near the box.
+/// axis with a side above 1 four times the sum is at least seven times the number near the box. If
+/// the list has all triangles near the box, in order, all triangles of the scene give the same.
 pub fn is_leaf(s: &Scene, list: &[u32], c: &Cell) -> bool
     requires { All (λ i. i < length s.now.tris) list.now }
-    ensures { result ≡ halvings.is_leaf (listed s.now.tris list.now) c.now }
+    ensures leaf { result ≡ halvings.is_leaf (listed s.now.tris list.now) c.now }
+    ensures near { list.now ≡ near_indices s.now.tris c.now (all_indices s.now.tris) →
+        result ≡ halvings.is_leaf s.now.tris c.now }
 {
     halving(s, list, c).is_none()
 }

@@ -14,6 +14,8 @@ mod faces;
 #[cfg(test)]
 mod generated;
 #[cfg(test)]
+mod keys;
+#[cfg(test)]
 mod known;
 #[cfg(test)]
 mod lattice;

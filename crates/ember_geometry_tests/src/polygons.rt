@@ -7,7 +7,7 @@ use crate::shapes::{is_at, plane, tetra, triangle};
 use crate::texts::TETRA_TEXT;
 use ember_model::{Face, OutOfMemory, Plane, Tri, support_of};
 use ember_poly::{
-    Cut, Draft, Reach, Ring, clip, copy, corners, cut, edges, main_edges, meets, meets_face,
+    Cut, Draft, Reach, Ring, above, clip, copy, corners, cut, edges, main_edges, meets, meets_face,
     of_tri, outline, parts, reach, support,
 };
 use ember_reread::read_faces;
@@ -176,6 +176,25 @@ fn the_parts_of_a_triangle(rt: HostRuntime) -> Result<(), Fail> {
         return Err(Fail::from("one part"));
     };
     check(&rt, &low, &LOW_PLANES, &LOW_STARTS);
+    check(&rt, &high, &HIGH_PLANES, &HIGH_STARTS);
+    Ok(())
+}
+
+// The part of a ring above a plane, if there are both parts.
+fn part_above(r: Ring, p: &Plane) -> Result<Option<Ring>, OutOfMemory>
+    requires { IsValidPlane p.now }
+{
+    match reach(&r, p) {
+        Reach::Both => Ok(Some(above(r, p)?)),
+        _ => Ok(None),
+    }
+}
+
+#[test]
+fn the_part_of_a_triangle_above_a_plane(rt: HostRuntime) -> Result<(), Fail> {
+    let Some(high) = part_above(unit_ring(rt.alloc())?, &plane([2, 0, 0, 1]))? else {
+        return Err(Fail::from("one part"));
+    };
     check(&rt, &high, &HIGH_PLANES, &HIGH_STARTS);
     Ok(())
 }

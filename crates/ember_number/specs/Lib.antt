@@ -3,3 +3,4 @@ pub mod Values
 pub mod Texts
 pub mod Floats
 pub mod Quotients
+pub mod Naturals

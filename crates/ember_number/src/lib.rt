@@ -7,11 +7,13 @@ mod decimal_sizes;
 mod digits;
 mod floats;
 mod floors;
+mod naturals;
 mod texts;
 mod values;
 
 pub use digits::{append_digits, are_digits};
 pub use floats::{binary32, binary64, integer};
 pub use floors::{floor_times, is_below_limit};
+pub use naturals::{MOST, number_below, number_in};
 pub use texts::read_decimal;
 pub use values::{Binary, Decimal, Exponent, Number};

@@ -5,7 +5,8 @@ use Rattle.std.specs.Option.{option_map}
 use Rattle.std.proofs.lemmas.Bool.{cases_Bool, leb-true, leb-false, lt-ltb, le-ltb}
 use Rattle.std.proofs.lemmas.List.{append-nil}
 use Rattle.ember_scan.specs.Parts.{Piece}
-use Rattle.ember_off.specs.ReadOff.{number_of, below, with_corner, indices, corners_of_size}
+use Rattle.ember_number.specs.Naturals.{number_of, below}
+use Rattle.ember_off.specs.ReadOff.{with_corner, indices, corners_of_size}
 
 -- corners in front of those that follow
 abbrev pub corners_front : List ℕ → Option (List ℕ) → Option (List ℕ)

@@ -7,17 +7,16 @@ use Rattle.std.proofs.lemmas.List.Elements.{All-nil, All-cons, All-head, All-tai
 use Rattle.ember_scan.specs.Parts.{Piece}
 use Rattle.ember_surface.specs.declared.surface.Facet.{Facet}
 use Rattle.ember_surface.specs.declared.surface.Surface.{Surface}
-use Rattle.ember_surface.specs.Surfaces.{Point, Content, point_of, content_of, IsSurface, fan, fan_round, first_far}
+use Rattle.ember_surface.specs.Surfaces.{Point, Content, point_of, content_of, IsWithin, IsSurface, first_far}
+use Rattle.ember_surface.proofs.Fans.{fan_within}
 use Rattle.ember_off.specs.declared.fault.OffFault.{OffFault}
 use Rattle.ember_off.specs.declared.fault.OffFault.TheVariants.{NoOff, FewLines}
 use Rattle.ember_off.specs.Rows.{Words, rows_of}
-use Rattle.ember_off.specs.ReadOff.{number_of, below, joined, point_in, one, points_of, with_corner, indices, corners_of_size, corners_of, fan_or_fault, facets_in, facets_of, Counts, counts_of, whole, counted, behind_keyword, is_keyword, with_keyword, content_in, near_or_fault, with_triangles, as_mesh, read_off_of}
-
-abbrev IsBelow : ℕ → Facet → Type 0
-IsBelow v f = All (λ c. c < v) f.corners
+use Rattle.ember_number.specs.Naturals.{number_of, below}
+use Rattle.ember_off.specs.ReadOff.{joined, point_in, one, points_of, with_corner, indices, corners_of_size, corners_of, fan_or_fault, facets_in, facets_of, Counts, counts_of, whole, counted, behind_keyword, is_keyword, with_keyword, content_in, near_or_fault, with_triangles, as_mesh, read_off_of}
 
 abbrev IsSound : Content → Type 0
-IsSound c = All (IsBelow (length c.points)) c.facets
+IsSound c = All (IsWithin (length c.points)) c.facets
 
 limited : (v : ℕ) (n : Option ℕ) → IfSome (below v n) (λ c. c < v)
 limited v None = tt
@@ -45,30 +44,17 @@ corners_sound : (v : ℕ) (words : List Piece) → IfSome (corners_of v words) (
 corners_sound v [] = tt
 corners_sound v (word ∷ words) = size_sound v (number_of word.text) words
 
-fan_round_sound : (v place first : ℕ) (others : List ℕ) → first < v → All (λ c. c < v) others → All (IsBelow v) (fan_round place first others)
-fan_round_sound v place first [] h hs = All-nil (IsBelow v)
-fan_round_sound v place first (p ∷ []) h hs = All-nil (IsBelow v)
-fan_round_sound v place first (p ∷ q ∷ more) h hs =
-    let rest : All (λ c. c < v) (q ∷ more) = All-tail (λ c. c < v) p (q ∷ more) hs in
-    let third : All (λ c. c < v) (q ∷ []) = All-cons (λ c. c < v) q [] (All-head (λ c. c < v) q more rest) (All-nil (λ c. c < v)) in
-    let second : All (λ c. c < v) (p ∷ q ∷ []) = All-cons (λ c. c < v) p (q ∷ []) (All-head (λ c. c < v) p (q ∷ more) hs) third in
-    All-cons (IsBelow v) (record { corners = first ∷ p ∷ q ∷ []; place = place }) (fan_round place first (q ∷ more)) (All-cons (λ c. c < v) first (p ∷ q ∷ []) h second) (fan_round_sound v place first (q ∷ more) h rest)
-
-fan_sound : (v place : ℕ) (corners : List ℕ) → All (λ c. c < v) corners → All (IsBelow v) (fan place corners)
-fan_sound v place [] hs = All-nil (IsBelow v)
-fan_sound v place (first ∷ others) hs = fan_round_sound v place first others (All-head (λ c. c < v) first others hs) (All-tail (λ c. c < v) first others hs)
-
-face_sound : (v line : ℕ) (corners : Option (List ℕ)) → IfSome corners (All (λ c. c < v)) → IfOk (fan_or_fault line corners) (All (IsBelow v))
+face_sound : (v line : ℕ) (corners : Option (List ℕ)) → IfSome corners (All (λ c. c < v)) → IfOk (fan_or_fault line corners) (All (IsWithin v))
 face_sound v line None h = tt
-face_sound v line (Some corners) h = fan_sound v line corners h
+face_sound v line (Some corners) h = fan_within v line corners h
 
-joined_sound : (v : ℕ) (r rest : Result (List Facet) OffFault) → IfOk r (All (IsBelow v)) → IfOk rest (All (IsBelow v)) → IfOk (joined r rest) (All (IsBelow v))
+joined_sound : (v : ℕ) (r rest : Result (List Facet) OffFault) → IfOk r (All (IsWithin v)) → IfOk rest (All (IsWithin v)) → IfOk (joined r rest) (All (IsWithin v))
 joined_sound v (Err fault) rest h hs = tt
 joined_sound v (Ok xs) (Err fault) h hs = tt
-joined_sound v (Ok xs) (Ok ys) h hs = All-append (IsBelow v) xs ys h hs
+joined_sound v (Ok xs) (Ok ys) h hs = All-append (IsWithin v) xs ys h hs
 
-facets_sound : (v : ℕ) (rows : List Words) → IfOk (facets_of v rows) (All (IsBelow v))
-facets_sound v [] = All-nil (IsBelow v)
+facets_sound : (v : ℕ) (rows : List Words) → IfOk (facets_of v rows) (All (IsWithin v))
+facets_sound v [] = All-nil (IsWithin v)
 facets_sound v (row ∷ rows) = joined_sound v (facets_in v row) (facets_of v rows) (face_sound v row.line (corners_of v row.words) (corners_sound v row.words)) (facets_sound v rows)
 
 joined_count : (n : ℕ) (p : Result Point OffFault) (rest : Result (List Point) OffFault) → IfOk rest (λ ps. length ps ≡ n) → IfOk (joined (one p) rest) (λ ps. length ps ≡ suc n)
@@ -81,10 +67,10 @@ points_count : (rows : List Words) → IfOk (points_of rows) (λ ps. length ps �
 points_count [] = refl
 points_count (row ∷ rows) = joined_count (length rows) (point_in row) (points_of rows) (points_count rows)
 
-whole_sound : (v : ℕ) (points : Result (List Point) OffFault) (facets : Result (List Facet) OffFault) → IfOk points (λ ps. length ps ≡ v) → IfOk facets (All (IsBelow v)) → IfOk (whole points facets) IsSound
+whole_sound : (v : ℕ) (points : Result (List Point) OffFault) (facets : Result (List Facet) OffFault) → IfOk points (λ ps. length ps ≡ v) → IfOk facets (All (IsWithin v)) → IfOk (whole points facets) IsSound
 whole_sound v (Err fault) facets h hs = tt
 whole_sound v (Ok points) (Err fault) h hs = tt
-whole_sound v (Ok points) (Ok facets) h hs = subst (λ n. All (IsBelow n) facets) (sym h) hs
+whole_sound v (Ok points) (Ok facets) h hs = subst (λ n. All (IsWithin n) facets) (sym h) hs
 
 counted_sound : (counts : Option Counts) (rows : List Words) → IfOk (counted counts rows) IsSound
 counted_sound None rows = tt
@@ -131,7 +117,7 @@ sound bytes = mesh_sound (content_in (rows_of bytes)) (content_sound (rows_of by
 surface_of : (bytes : List ℕ) (s : Surface) → read_off_of bytes ≡ Ok (content_of s) → IsSurface s
 surface_of bytes s e =
     let h : IsSound (content_of s) = subst (λ (r : Result Content OffFault). IfOk r IsSound) e (sound bytes) in
-    subst (λ n. All (IsBelow n) s.facets.items) (length-map s.vertices.items point_of) h
+    subst (λ n. All (IsWithin n) s.facets.items) (length-map s.vertices.items point_of) h
 
 -- what is read is a surface
 pub reads_surface : (bytes : List ℕ) (r : Result Surface OffFault) → IfOk r (λ s. read_off_of bytes ≡ Ok (content_of s)) → IfOk r IsSurface

@@ -1,10 +1,8 @@
 -- What the bytes of an OFF file stand for: points and triangles, or the first fault
-use Rattle.std.specs.Prelude.{codes, ℕ, ◌+◌, Bool, ◌&&◌, ◌||◌, List, [], ◌∷◌, ◌++◌, if◌then◌else◌, nat_lt, nat_le, length, take, drop, zero, suc, Option, None, Some, Result, Ok, Err}
-use Rattle.std.specs.List.{list_all}
-use Rattle.std.specs.Char.{is_ascii_digit}
+use Rattle.std.specs.Prelude.{codes, ℕ, ◌+◌, Bool, ◌||◌, List, [], ◌∷◌, ◌++◌, if◌then◌else◌, nat_lt, nat_le, length, take, drop, zero, suc, Option, None, Some, Result, Ok, Err}
 use Rattle.std.specs.Str.{str_eq_ignore_ascii_case}
-use Rattle.ember_dec.specs.Decimal.{number_from}
 use Rattle.ember_number.specs.Fractions.{Fraction}
+use Rattle.ember_number.specs.Naturals.{number_of, below}
 use Rattle.ember_number.specs.Texts.{value_of_text}
 use Rattle.ember_scan.specs.Parts.{Piece, span_of, first_three}
 use Rattle.ember_surface.specs.declared.surface.Facet.{Facet}
@@ -12,16 +10,6 @@ use Rattle.ember_surface.specs.Surfaces.{Point, Content, fan, first_far}
 use Rattle.ember_off.specs.declared.fault.OffFault.{OffFault}
 use Rattle.ember_off.specs.declared.fault.OffFault.TheVariants.{NoOff, NoCounts, FewLines, FewCoordinates, NotANumber, Face, NoTriangles, TooLarge}
 use Rattle.ember_off.specs.Rows.{Words, rows_of}
-
--- ---- numbers
--- the number that digits spell
-abbrev pub number_of : List ℕ → Option ℕ
-number_of text = if nat_lt 0 (length text) && list_all is_ascii_digit text then Some (number_from 0 text) else None
-
--- a number that is below a limit
-abbrev pub below : ℕ → Option ℕ → Option ℕ
-below limit None = None
-below limit (Some n) = if nat_lt n limit then Some n else None
 
 -- ---- rows in order, up to the first fault
 -- what is read in front of what follows it

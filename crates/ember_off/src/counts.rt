@@ -5,7 +5,7 @@ ghost use Rattle.ember_scan.specs.Parts.{piece_of, words_in};
 ghost use Rattle.ember_off.specs.ReadOff.{counts_of};
 ghost use Rattle.ember_off.specs.Limits.{capped};
 
-use crate::numbers::{MOST, number_in};
+use ember_number::{MOST, number_in};
 use ember_scan::{Part, next_word};
 
 // The counts of a row with this first word, each the limit where it is larger.

@@ -5,17 +5,20 @@ ghost use Rattle.ember_off.specs.RowViews.{words_of_row, rows_in};
 ghost use Rattle.ember_off.specs.ReadOff.{indices, corners_of, joined, facets_in, facets_of};
 
 use crate::fault::OffFault;
-use crate::numbers::{number_below, number_in};
 use crate::row::{Row, Rows};
 use crate::rows::next_row;
+use ember_number::{number_below, number_in};
 use ember_scan::{Part, next_word};
 use ember_surface::{Facet, push_fan};
 use std::alloc::Global;
+use thiserror::Error;
 
 // Why there are no corners.
-#[derive(Clone, Copy)]
+#[derive(Clone, Copy, Debug, Error)]
 enum NoCorners {
+    #[error("bad word")]
     BadWord,
+    #[error("out of memory")]
     OutOfMemory,
 }
 

@@ -4,7 +4,6 @@
 mod counts;
 mod faces;
 mod fault;
-mod numbers;
 mod reading;
 mod row;
 mod rows;

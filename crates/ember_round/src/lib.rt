@@ -5,4 +5,4 @@ mod decimal;
 mod rounding;
 
 pub use decimal::put_decimal;
-pub use rounding::nearest;
+pub use rounding::{divide, nearest};

@@ -7,6 +7,7 @@ use ember_expr::ExprFault;
 use ember_mesh::MeshFault;
 use ember_obj::ObjFault;
 use std::alloc::{AllocError, AllocFailed};
+use thiserror::Error;
 
 /// What there is too much of.
 #[derive(Clone, Copy, Debug, PartialEq, Eq)]
@@ -18,11 +19,13 @@ pub enum LimitKind {
 }
 
 /// Why a face file can't be sliced.
-#[derive(Clone, Copy, Debug, PartialEq, Eq)]
+#[derive(Clone, Copy, Debug, PartialEq, Eq, Error)]
 pub enum FaceFault {
     /// The bytes aren't a face file.
+    #[error("not a face file")]
     Form,
     /// The face with this number, from 1, meets the plane of the slice without bound.
+    #[error("face {0} endless")]
     Endless(u32),
 }
 

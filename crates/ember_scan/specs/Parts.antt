@@ -1,5 +1,5 @@
 -- Parts of a file: its lines and their words, each with its place
-use Rattle.std.specs.Prelude.{ℕ, ◌+◌, ◌-◌, Bool, ◌||◌, List, [], ◌∷◌, ◌++◌, if◌then◌else◌, ◌==◌, length, Option, None, Some}
+use Rattle.std.specs.Prelude.{ℕ, ◌+◌, ◌-◌, Bool, ◌||◌, List, [], ◌∷◌, ◌++◌, if◌then◌else◌, ◌==◌, length, drop, zero, suc, Option, None, Some}
 use Rattle.ember_scan.specs.declared.part.Part.{Part}
 use Rattle.ember_scan.specs.declared.part.Span.{Span}
 
@@ -40,6 +40,15 @@ lines_from start (b ∷ bs) =
 
 abbrev pub lines_in : Part → List Piece
 lines_in p = lines_from p.start p.bytes.now
+
+-- what follows the first line
+abbrev pub after_line : List ℕ → List ℕ
+after_line text = drop 1 (onward (λ b. b == 10) text)
+
+-- what follows the first so many lines
+abbrev pub after_lines : ℕ → List ℕ → List ℕ
+after_lines zero text = text
+after_lines (suc count) text = after_line (after_lines count text)
 
 abbrev pub is_hash : ℕ → Bool
 is_hash b = b == 35

@@ -4,8 +4,8 @@ ghost use Rattle.ember_scan.specs.Parts.{before, onward};
 
 use crate::part::Part;
 
-// The bytes before the first `stop`, and from it on.
-pub(crate) fn cut_before<'a>(part: Part<'a>, stop: u8) -> (Part<'a>, Part<'a>)
+/// The bytes before the first `stop`, and from it on.
+pub fn cut_before<'a>(part: Part<'a>, stop: u8) -> (Part<'a>, Part<'a>)
     ensures before { result.0.bytes.now ≡ before (λ b. b == stop) part.entry.bytes.now }
     ensures onward { result.1.bytes.now ≡ onward (λ b. b == stop) part.entry.bytes.now }
     ensures start { result.0.start ≡ part.entry.start }

@@ -7,6 +7,7 @@ mod part;
 mod split;
 mod words;
 
+pub use cut::cut_before;
 pub use lines::{next_line, without_comment};
 pub use part::{Part, Span};
 pub use words::{next_word, three_words};

@@ -1,6 +1,6 @@
 // Lines, and lines without their comments.
 ghost use Rattle.std.specs.Prelude.{◌≡◌, ◌+◌, ◌<◌, ◌≤◌, [], ◌∷◌, length, MatchOption, IfSome};
-ghost use Rattle.ember_scan.specs.Parts.{piece_of, lines_in, uncommented};
+ghost use Rattle.ember_scan.specs.Parts.{piece_of, lines_in, after_line, uncommented};
 
 use crate::cut::cut_before;
 use crate::part::Part;
@@ -9,6 +9,9 @@ use crate::part::Part;
 pub fn next_line<'a>(part: Part<'a>) -> Option<(Part<'a>, Part<'a>)>
     ensures lines { MatchOption result (lines_in part.entry ≡ [])
         (λ p. lines_in part.entry ≡ piece_of p.0 ∷ lines_in p.1) }
+    ensures rest { IfSome result (λ p. p.1.bytes.now ≡ after_line part.entry.bytes.now) }
+    ensures within { IfSome result (λ p.
+        length p.0.bytes.now + length p.1.bytes.now ≤ length part.entry.bytes.now) }
     ensures shorter { IfSome result (λ p. length p.1.bytes.now < length part.entry.bytes.now) }
     ensures further { IfSome result (λ p. part.entry.start < p.1.start) }
 {

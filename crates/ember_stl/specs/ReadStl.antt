@@ -14,9 +14,10 @@ use Rattle.ember_stl.specs.Binary.{number_at, binary_of}
 abbrev pub is_binary : List ℕ → Bool
 is_binary bytes = nat_le 84 (length bytes) && length bytes == 84 + 50 * number_at bytes 80
 
-abbrev pub begins_solid : List Word → Bool
-begins_solid [] = false
-begins_solid (word ∷ words) = str_eq_ignore_ascii_case word.text (codes "solid")
+-- the first word is this one, in any case
+abbrev pub begins_with : List ℕ → List Word → Bool
+begins_with name [] = false
+begins_with name (word ∷ words) = str_eq_ignore_ascii_case word.text name
 
 -- the name stands somewhere in a text, in any case
 abbrev pub has_name : List ℕ → List ℕ → Bool
@@ -26,7 +27,7 @@ has_name name (b ∷ bs) = str_eq_ignore_ascii_case (take (length name) (b ∷ b
 -- the first word is `solid`, and `facet` or `endsolid` stands in the first 4,096 bytes
 abbrev pub is_ascii : List ℕ → Bool
 is_ascii bytes =
-    begins_solid (words_from 0 bytes)
+    begins_with (codes "solid") (words_from 0 bytes)
     && (has_name (codes "facet") (take 4096 bytes) || has_name (codes "endsolid") (take 4096 bytes))
 
 -- how many facets the file says that it has, where it is long enough to say so

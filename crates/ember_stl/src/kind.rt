@@ -4,7 +4,7 @@ ghost use Rattle.std.specs.Bool.{OnTrue};
 ghost use Rattle.std.specs.Str.{str_eq_ignore_ascii_case};
 ghost use Rattle.ember_stl.specs.Scan.{words_from};
 ghost use Rattle.ember_stl.specs.Binary.{number_at};
-ghost use Rattle.ember_stl.specs.ReadStl.{is_binary, is_ascii, begins_solid, has_name, facets_said};
+ghost use Rattle.ember_stl.specs.ReadStl.{is_binary, is_ascii, begins_with, has_name, facets_said};
 
 use crate::scan::{Text, is_same_word, next_word};
 
@@ -78,12 +78,14 @@ fn has(text: &[u8], name: &[u8]) -> bool
     false
 }
 
-fn is_solid_first(bytes: &[u8]) -> bool
+/// Whether the first word of a file is this one, in any case. Blanks are spaces and all bytes from tab to
+/// carriage return.
+pub fn begins_with_word(bytes: &[u8], name: &[u8]) -> bool
     requires { length bytes.now ≤ 268435456 }
-    ensures { result ≡ begins_solid (words_from 0 bytes.now) }
+    ensures { result ≡ begins_with name.now (words_from 0 bytes.now) }
 {
     match next_word(Text { start: 0, bytes }) {
-        Some((word, _)) => is_same_word(word.bytes, b"solid"),
+        Some((word, _)) => is_same_word(word.bytes, name),
         None => false,
     }
 }
@@ -95,5 +97,5 @@ pub fn is_ascii_stl(bytes: &[u8]) -> bool
     ensures { result ≡ is_ascii bytes.now }
 {
     let first = front(bytes, FIRST_BYTES);
-    is_solid_first(bytes) && (has(first, b"facet") || has(first, b"endsolid"))
+    begins_with_word(bytes, b"solid") && (has(first, b"facet") || has(first, b"endsolid"))
 }

@@ -11,5 +11,5 @@ mod reading;
 mod scan;
 
 pub use fault::{Span, StlFault};
-pub use kind::{is_ascii_stl, is_binary_stl};
+pub use kind::{begins_with_word, is_ascii_stl, is_binary_stl};
 pub use reading::read_stl;

@@ -1,1 +1,2 @@
 pub mod FarPoints
+pub mod Fans

@@ -25,9 +25,13 @@ pub record Content : Type 0 where
 abbrev pub content_of : Surface → Content
 content_of s = record { points = map point_of s.vertices.items; facets = s.facets.items }
 
+-- each corner of a triangle is among so many vertices
+abbrev pub IsWithin : ℕ → Facet → Type 0
+IsWithin vertices f = All (λ corner. corner < vertices) f.corners
+
 -- each corner is a vertex
 abbrev pub IsSurface : Surface → Type 0
-IsSurface s = All (λ f. All (λ corner. corner < length s.vertices.items) f.corners) s.facets.items
+IsSurface s = All (IsWithin (length s.vertices.items)) s.facets.items
 
 -- the triangles of one corner with each two neighbours of a row of corners
 abbrev pub fan_round : ℕ → ℕ → List ℕ → List Facet

@@ -1,6 +1,6 @@
 // Cases of commands: words and files, and what comes of them.
 use ember_io::{Calls, FileSet, MemoryShelf, MemorySink};
-use ember_run::{Status, run};
+use ember_run::{Status, run, run_one};
 use std::alloc::Global;
 use std::process::Abort;
 use std::sync::Wait;
@@ -87,6 +87,26 @@ pub fn give<R: Threads + Wait + Sync>(
     Ok(Given { status, out, err })
 }
 
+/// What the words of a line give over these files by the calling thread alone.
+pub fn give_alone(alloc: Global, line: &str, files: &[(&str, &[u8])]) -> Result<Given, Fail> {
+    let words = words_of(alloc, line)?;
+    let mut shelf = shelf_of(alloc, files)?;
+    let mut out = sink_of(alloc, 100_000)?;
+    let mut err = sink_of(alloc, 1000)?;
+    let status = run_one(alloc, &words, &mut shelf, &mut out, &mut err, &OpenGate);
+    Ok(Given { status, out, err })
+}
+
+// The calling thread alone gives the same for the case.
+fn is_same_alone(alloc: Global, given: &Given, case: &Case) -> Result<bool, Fail> {
+    let alone = give_alone(alloc, case.words, case.files)?;
+    Ok(
+        alone.status == given.status
+            && alone.out.bytes() == given.out.bytes()
+            && alone.err.bytes() == given.err.bytes(),
+    )
+}
+
 // The output is as it is wanted.
 fn is_wanted<R: Threads + Wait + Sync>(
     rt: &R,
@@ -105,7 +125,7 @@ fn is_wanted<R: Threads + Wait + Sync>(
     }
 }
 
-/// Each case comes out as it is stated.
+/// Each case comes out as it is stated, by `run` and by `run_one`.
 pub fn check<R: Abort + Threads + Wait + Sync>(
     rt: &R,
     alloc: Global,
@@ -121,6 +141,7 @@ pub fn check<R: Abort + Threads + Wait + Sync>(
             "{}",
             case.words
         );
+        assert!(rt; is_same_alone(alloc, &given, case)?, "{}", case.words);
     }
     Ok(())
 }

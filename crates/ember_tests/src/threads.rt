@@ -1,12 +1,12 @@
 // Runs by several workers.
-use crate::cases::{Given, Named, give, shelf_of, sink_of, words_of};
+use crate::cases::{Given, Named, give, give_alone, shelf_of, sink_of, words_of};
 use crate::texts::{C, D};
-use ember_run::{Status, run, run_one};
+use ember_run::{Status, run};
 use std::alloc::Global;
 use std::sync::Wait;
 use std::test::Fail;
 use std::thread::Threads;
-use steal_pool::{DepthGate, OpenGate};
+use steal_pool::DepthGate;
 
 const CUBES: Named = &[("c.obj", C), ("d.obj", D)];
 
@@ -25,16 +25,6 @@ fn give_at<R: Threads + Wait + Sync>(
     Ok(Given { status, out, err })
 }
 
-// What they give by this thread alone.
-fn give_alone(alloc: Global, line: &str) -> Result<Given, Fail> {
-    let words = words_of(alloc, line)?;
-    let mut shelf = shelf_of(alloc, CUBES)?;
-    let mut out = sink_of(alloc, 100_000)?;
-    let mut err = sink_of(alloc, 1000)?;
-    let status = run_one(alloc, &words, &mut shelf, &mut out, &mut err, &OpenGate);
-    Ok(Given { status, out, err })
-}
-
 // The worker that comes to one half of the root waits there until another has come to the other
 // half. One thread alone would wait until the gate is tired. What is written is the same.
 #[test]
@@ -49,7 +39,7 @@ fn two_workers_share_the_halves_of_the_root(rt: HostRuntime) -> Result<(), Fail>
         let given = give_at(&rt, alloc, line, &gate)?;
         assert_eq!(rt; given.status, Status::Done, "{line}");
         assert!(rt; !gate.was_tired(), "{line}");
-        let alone = give_alone(alloc, line)?;
+        let alone = give_alone(alloc, line, CUBES)?;
         assert_eq!(rt; given.out.bytes(), alone.out.bytes(), "{line}");
     }
     Ok(())
@@ -58,7 +48,7 @@ fn two_workers_share_the_halves_of_the_root(rt: HostRuntime) -> Result<(), Fail>
 #[test]
 fn a_union_is_the_same_by_any_number_of_workers(rt: HostRuntime) -> Result<(), Fail> {
     let alloc = rt.alloc();
-    let alone = give_alone(alloc, "bool --expr m1|m2 --report c.obj d.obj")?;
+    let alone = give_alone(alloc, "bool --expr m1|m2 --report c.obj d.obj", CUBES)?;
     assert_eq!(rt; alone.status, Status::Done);
     assert!(rt; alone.out.bytes().ends_with(b"end 26\n"));
     let report = b"boxes 55 leaves 4 skipped 24 faces 26\n".as_slice();

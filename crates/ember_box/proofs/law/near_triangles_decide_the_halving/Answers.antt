@@ -1,5 +1,8 @@
-use Rattle.ember_box.proofs.Lists.{halving_axis_near, is_leaf_near}
+use Rattle.ember_box.proofs.Lists.{listed_near_all, halving_axis_near, is_leaf_near}
 use Rattle.ember_box.proofs.law.near_triangles_decide_the_halving.Goals as goal
+
+pub returns-clause-list : goal.returns-clause-list
+returns-clause-list c = λ tris box. listed_near_all tris box
 
 pub returns-clause-axis : goal.returns-clause-axis
 returns-clause-axis c = λ tris box. halving_axis_near tris box

@@ -1,6 +1,7 @@
 use Rattle.std.proofs.Common.{◌≡◌, ◌<◌, length, [], arith}
 use Rattle.ember_scan.specs.Parts.{words_in}
-use Rattle.ember_off.specs.ReadOff.{number_of, corners_of_size, indices}
+use Rattle.ember_number.specs.Naturals.{number_of}
+use Rattle.ember_off.specs.ReadOff.{corners_of_size, indices}
 use Rattle.ember_off.proofs.Corners.{size_read}
 use Rattle.ember_off.proofs.RowCounts.{few_words_from}
 use Rattle.ember_off.proofs.faces.read_corners.Goals as goal

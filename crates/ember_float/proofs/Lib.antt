@@ -1,0 +1,6 @@
+pub mod Gaps
+pub mod Powers
+pub mod Signs
+pub mod Bits
+pub mod NearestFloats
+pub mod Scales

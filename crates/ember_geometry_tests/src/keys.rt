@@ -1,0 +1,94 @@
+// Keys of planes and of lines; the expected ones are from a program in another language.
+ghost use Rattle.ember_algebra.specs.Size.{Small};
+ghost use Rattle.ember_model.specs.Valid.{IsValidPlane};
+
+use ember_key::{LineKey, line_key, plane_key};
+use ember_model::Plane;
+use std::test::Fail;
+
+// The number, or 0 in place of one that no normal has.
+fn entry(x: i64) -> i64
+    ensures { Small 33554431 result }
+{
+    if x > 33554431 || x < -33554431 { 0 } else { x }
+}
+
+// The number, or 0 in place of one that no constant is.
+fn constant(x: i64) -> i64
+    ensures { Small 549755813887 result }
+{
+    if x > 549755813887 || x < -549755813887 {
+        0
+    } else {
+        x
+    }
+}
+
+fn plane(numbers: [i64; 4]) -> Plane
+    ensures { IsValidPlane result }
+{
+    Plane {
+        a: entry(numbers[0]),
+        b: entry(numbers[1]),
+        c: entry(numbers[2]),
+        d: constant(numbers[3]),
+    }
+}
+
+#[test]
+fn keys_of_planes(rt: HostRuntime) {
+    let rows = [
+        ([2, 4, 6, 8], [1, 2, 3, 4]),
+        ([-2, -4, -6, -8], [-1, -2, -3, -4]),
+        ([6, 0, 0, 9], [2, 0, 0, 3]),
+        ([0, 0, -7, 0], [0, 0, -1, 0]),
+        ([33554430, 0, 0, 549755813886], [5592405, 0, 0, 91625968981]),
+        (
+            [33554431, 0, 0, 549755813887],
+            [33554431, 0, 0, 549755813887],
+        ),
+        ([0, 0, 0, 0], [0, 0, 0, 0]),
+    ];
+    for (numbers, want) in rows {
+        assert_eq!(rt; plane_key(&plane(numbers)), plane(want), "{numbers:?}");
+    }
+}
+
+#[test]
+fn keys_of_lines(rt: HostRuntime) -> Result<(), Fail> {
+    let rows = [
+        ([1, 0, 0, 0], [0, 1, 0, 0], [0, 0, 1], [0, 0, 0]),
+        ([0, 1, 0, 0], [1, 0, 0, 0], [0, 0, 1], [0, 0, 0]),
+        ([2, 0, 0, 4], [0, 3, 0, 9], [0, 0, 1], [3, -2, 0]),
+        ([0, -3, 0, -9], [2, 0, 0, 4], [0, 0, 1], [3, -2, 0]),
+        ([1, 1, 1, 1], [1, -1, 0, 0], [1, 1, -2], [-1, 1, 0]),
+        ([0, 2, 4, 6], [3, 0, 0, 3], [0, 2, -1], [-3, 1, 2]),
+        (
+            [33554431, 33554430, 0, 549755813887],
+            [-33554431, 33554431, 33554431, -549755813887],
+            [1125899806179330, -1125899839733761, 2251799645913091],
+            [0, -36893486498084552707, -18446743523920183297],
+        ),
+    ];
+    for (first, second, direction, moment) in rows {
+        let Some(key) = line_key(&plane(first), &plane(second)) else {
+            return Err(Fail::from("no line"));
+        };
+        let want = LineKey {
+            dx: direction[0],
+            dy: direction[1],
+            dz: direction[2],
+            mx: moment[0],
+            my: moment[1],
+            mz: moment[2],
+        };
+        assert_eq!(rt; key, want, "{first:?} {second:?}");
+    }
+    Ok(())
+}
+
+#[test]
+fn parallel_planes_have_no_line(rt: HostRuntime) {
+    assert!(rt; line_key(&plane([1, 2, 3, 4]), &plane([-2, -4, -6, 5])).is_none());
+    assert!(rt; line_key(&plane([1, 2, 3, 4]), &plane([0, 0, 0, 1])).is_none());
+}

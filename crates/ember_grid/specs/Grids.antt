@@ -1,0 +1,57 @@
+-- The grid of a scene, and why there is none
+use Rattle.std.specs.Prelude.{◌≡◌, List, [], None}
+use Rattle.std.specs.List.{find}
+use Rattle.ember_snap.specs.declared.steps.Step.{Step}
+use Rattle.ember_snap.specs.declared.spans.Coordinates.{Coordinates}
+use Rattle.ember_snap.specs.Steps.{IsStep, nice_of, fine_of}
+use Rattle.ember_snap.specs.Spans.{FitsAll, IsLeast}
+use Rattle.ember_snap.specs.Offsets.{IsOffset}
+use Rattle.ember_surface.specs.declared.surface.Surface.{Surface}
+use Rattle.ember_surface.specs.Surfaces.{is_facet_too_large}
+use Rattle.ember_grid.specs.declared.grid.Grid.{Grid}
+use Rattle.ember_grid.specs.declared.choice.Wanted.{Wanted}
+use Rattle.ember_grid.specs.declared.choice.Wanted.TheVariants.{Nice, Finest, Given}
+use Rattle.ember_grid.specs.declared.fault.GridFault.{GridFault}
+use Rattle.ember_grid.specs.declared.fault.GridFault.TheVariants.{NoTriangles, StepTooSmall, OutOfMemory}
+use Rattle.ember_grid.specs.Corners.{corners_in, HasCoordinates}
+
+-- no triangle has a coordinate of 10^15 or more in size
+abbrev pub IsWithinLimit : Surface → Type 0
+IsWithinLimit s = find (is_facet_too_large s.vertices.items) s.facets.items ≡ None
+
+-- a given step is in range
+abbrev pub IsChoice : Wanted → Type 0
+IsChoice Nice = Unit {0}
+IsChoice Finest = Unit {0}
+IsChoice (Given step) = IsStep step
+
+-- the least nice step at which the coordinates fit, the finest one, or the given one
+abbrev pub IsWantedStep : Wanted → Coordinates → Step → Type 0
+IsWantedStep Nice c step = IsLeast nice_of c step
+IsWantedStep Finest c step = IsLeast fine_of c step
+IsWantedStep (Given given) c step = step ≡ given
+
+-- the step is as wanted, and the offset is that of all corners
+pub record IsGrid (surfaces : List Surface) (wanted : Wanted) (g : Grid) : Type 0 where
+  pub coordinates : Coordinates
+  pub of_corners : HasCoordinates surfaces coordinates
+  pub step : IsWantedStep wanted coordinates g.step
+  pub offset : IsOffset g.step coordinates g.offset
+
+-- the coordinates don't fit at the given step, and `finest` is the least at which they do
+pub record IsTooSmall (c : Coordinates) (wanted : Wanted) (finest : Step) : Type 0 where
+  pub given : Step
+  pub is_given : wanted ≡ Given given
+  pub too_small : FitsAll given c → ⊥
+  pub least : IsLeast fine_of c finest
+
+abbrev pub IsStepFault : Coordinates → Wanted → GridFault → Type 0
+IsStepFault c wanted NoTriangles = ⊥
+IsStepFault c wanted (StepTooSmall finest) = IsTooSmall c wanted finest
+IsStepFault c wanted OutOfMemory = ⊥
+
+abbrev pub IsGridFault : List Surface → Wanted → GridFault → Type 0
+IsGridFault surfaces wanted NoTriangles = corners_in surfaces ≡ []
+IsGridFault surfaces wanted (StepTooSmall finest) =
+    (c : Coordinates) × HasCoordinates surfaces c × IsTooSmall c wanted finest
+IsGridFault surfaces wanted OutOfMemory = Unit {0}

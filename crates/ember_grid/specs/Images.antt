@@ -1,0 +1,51 @@
+-- Triangles under a map of their corners
+use Rattle.std.specs.Prelude.{◌≡◌, ℕ, Bool, not, ◌||◌, List, map, filter, length, slice_index, All}
+use Rattle.ember_surface.specs.declared.surface.Facet.{Facet}
+use Rattle.ember_model.specs.declared.point.Corner.{Corner}
+use Rattle.ember_model.specs.declared.tri.Tri.{Tri}
+use Rattle.ember_model.specs.Valid.{IsValidTri}
+use Rattle.ember_model.specs.Meshes.{same_corner}
+use Rattle.ember_model.specs.Faces.{is_flat}
+use Rattle.ember_grid.specs.declared.snapping.Snapping.{Snapping}
+
+-- the triangle where the map takes its corners
+abbrev pub image : (ℕ → Corner) → ℕ → Facet → Tri
+image at mesh f = record {
+  a = at (slice_index f.corners 0);
+  b = at (slice_index f.corners 1);
+  c = at (slice_index f.corners 2);
+  mesh = mesh;
+}
+
+-- two of its corners are equal
+abbrev pub has_equal_corners : Tri → Bool
+has_equal_corners t = same_corner t.a t.b || (same_corner t.b t.c || same_corner t.c t.a)
+
+-- a triangle vanishes where the map takes two corners to one
+abbrev pub vanishes : (ℕ → Corner) → Facet → Bool
+vanishes at f = has_equal_corners (image at 0 f)
+
+abbrev pub vanished : (ℕ → Corner) → List Facet → List Facet
+vanished at fs = filter (vanishes at) fs
+
+abbrev pub kept : (ℕ → Corner) → List Facet → List Facet
+kept at fs = filter (λ f. not (vanishes at f)) fs
+
+-- the images of the others, in order
+abbrev pub images : (ℕ → Corner) → ℕ → List Facet → List Tri
+images at mesh fs = map (image at mesh) (kept at fs)
+
+abbrev pub places_of : List Facet → List ℕ
+places_of fs = map (λ f. f.place) fs
+
+-- those of them that have no area
+abbrev pub flat_ones : List Tri → List Tri
+flat_ones ts = filter is_flat ts
+
+-- what is kept of the triangles that were looked at
+pub record AreSnapped (at : ℕ → Corner) (mesh : ℕ) (fs : List Facet) (s : Snapping) : Type 0 where
+  pub valid : All IsValidTri s.tris.items
+  pub tris : s.tris.items ≡ images at mesh fs
+  pub places : s.places.items ≡ places_of (kept at fs)
+  pub vanished : s.vanished ≡ length (vanished at fs)
+  pub flat : s.flat ≡ length (flat_ones (images at mesh fs))

@@ -1,0 +1,37 @@
+// What makes a scene no grid, and a surface no mesh.
+ghost use Rattle.std.specs.Prelude.{◌≡◌};
+ghost use Rattle.ember_grid.specs.declared.fault.SnapFault.TheVariants.{OutOfMemory};
+
+use ember_snap::Step;
+use std::alloc::AllocError;
+use thiserror::Error;
+
+/// There is no grid as it is wanted, or no memory.
+#[derive(Clone, Copy, Debug, PartialEq, Eq, Error)]
+pub enum GridFault {
+    #[error("no triangles")]
+    NoTriangles,
+    /// The surfaces don't fit on a grid with the given step. This one is the finest at which they do.
+    #[error("the step is too small")]
+    StepTooSmall(Step),
+    #[error("out of memory")]
+    OutOfMemory,
+}
+
+/// A surface has too many triangles, or there is no memory.
+#[derive(Clone, Copy, Debug, PartialEq, Eq, Error)]
+pub enum SnapFault {
+    /// This many triangles are left on the grid: more than 262,144.
+    #[error("{0} triangles")]
+    TooManyTriangles(u64),
+    #[error("out of memory")]
+    OutOfMemory,
+}
+
+impl From<AllocError> for SnapFault {
+    ghost from_gives = { λ _ fault. fault ≡ OutOfMemory };
+
+    fn from(_error: AllocError) -> SnapFault {
+        SnapFault::OutOfMemory
+    }
+}

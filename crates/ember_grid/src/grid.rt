@@ -1,0 +1,9 @@
+// A grid.
+use ember_snap::{Offset, Step};
+
+/// A grid of whole numbers: along each axis the number g stands for (g + offset) steps.
+#[derive(Clone, Copy, Debug, PartialEq, Eq)]
+pub struct Grid {
+    pub step: Step,
+    pub offset: Offset,
+}

@@ -1,0 +1,19 @@
+//! Puts the surfaces of a scene on one grid: its step and its offset, and the triangles of each surface
+//! with their corners on it.
+#![tactic(auto)]
+
+mod choice;
+mod coordinates;
+mod corners;
+mod fault;
+mod grid;
+mod laws;
+mod places;
+mod snapping;
+
+pub use choice::{Wanted, grid_of};
+pub use fault::{GridFault, SnapFault};
+pub use grid::Grid;
+pub use laws::maps_keep_meshes_closed;
+pub use places::place_of_edge;
+pub use snapping::{Snapped, snap_surface};

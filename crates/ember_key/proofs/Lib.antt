@@ -1,0 +1,6 @@
+pub mod Divisors
+pub mod Quotients
+pub mod Vectors
+pub mod Signs
+pub mod PlaneLaws
+pub mod LineLaws

@@ -1,0 +1,47 @@
+// Greatest common divisors.
+ghost use Rattle.std.specs.Prelude.{◌≡◌, ◌≢◌, [], ◌∷◌, unsigned_abs};
+ghost use Rattle.std.specs.Int.{IsGcd};
+ghost use Rattle.ember_key.specs.Divisors.{IsGreatestDivisor};
+
+fn gcd(a: u64, b: u64) -> u64
+    ensures { IsGcd a b result }
+{
+    if a == 1 {
+        return 1;
+    }
+    let mut x = a;
+    let mut y = b;
+    while y != 0 {
+        let rest = x % y;
+        x = y;
+        y = rest;
+    }
+    x
+}
+
+// 0 where all three are 0.
+pub fn divisor_of_three(a: i64, b: i64, c: i64) -> u64
+    ensures { IsGreatestDivisor (a ∷ b ∷ c ∷ []) result }
+{
+    let first = gcd(a.unsigned_abs(), b.unsigned_abs());
+    gcd(first, c.unsigned_abs())
+}
+
+// 0 where all four are 0.
+pub fn divisor_of_four(a: i64, b: i64, c: i64, d: i64) -> u64
+    ensures { IsGreatestDivisor (a ∷ b ∷ c ∷ d ∷ []) result }
+{
+    gcd(divisor_of_three(a, b, c), d.unsigned_abs())
+}
+
+// By one remainder of 128 bits, which is less than the divisor.
+pub fn divisor_with(divisor: u64, large: i128) -> u64
+    requires { divisor ≢ 0 }
+    ensures { IsGcd divisor (unsigned_abs large) result }
+{
+    if divisor == 1 {
+        return 1;
+    }
+    let rest = large.unsigned_abs() % divisor as u128;
+    gcd(divisor, rest as u64)
+}

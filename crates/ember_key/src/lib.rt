@@ -1,0 +1,12 @@
+//! Keys of planes and of lines: equal keys exactly for one oriented plane, and for one line.
+#![tactic(auto)]
+
+mod division;
+mod divisor;
+mod law;
+mod lines;
+mod planes;
+
+pub use law::{line_keys_are_lines, plane_keys_are_oriented_planes};
+pub use lines::{LineKey, line_key};
+pub use planes::plane_key;

@@ -1,0 +1,20 @@
+//! Reads the vertices and triangles of a PLY file.
+#![tactic(auto)]
+
+mod cursor;
+mod declarations;
+mod elements;
+mod entries;
+mod fault;
+mod header;
+mod names;
+mod place;
+mod properties;
+mod reading;
+mod row;
+mod row_reading;
+mod scalars;
+mod words;
+
+pub use fault::PlyFault;
+pub use reading::read_ply;

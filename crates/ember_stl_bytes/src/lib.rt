@@ -1,0 +1,10 @@
+//! Writes triangles as a binary STL.
+#![tactic(auto)]
+
+mod fault;
+mod triangle;
+mod writing;
+
+pub use fault::StlWriteFault;
+pub use triangle::{FloatPoint, WrittenTriangle};
+pub use writing::stl_bytes;

@@ -1,0 +1,91 @@
+// The bytes of a binary STL.
+ghost use Rattle.std.specs.Prelude.{◌≡◌, ◌↔◌, ◌^◌, ◌≤◌, ◌++◌, length, flat_map, Err, IfOk, OnOk};
+ghost use Rattle.ember_stl_bytes.specs.declared.fault.StlWriteFault.TheVariants.{TooManyTriangles};
+ghost use Rattle.ember_stl_bytes.specs.Written.{header, number_bytes, point_bytes, triangle_bytes, stl_bytes_of};
+ghost use Rattle.ember_stl_bytes.specs.ReadBack.{IsReadBack};
+
+use crate::fault::StlWriteFault;
+use crate::triangle::{FloatPoint, WrittenTriangle};
+use std::alloc::{AllocError, Global};
+
+const HEADER: &[u8; 80] =
+    b"ember-mesh: rounded from an exact result                                        ";
+
+#[tactic(auto, unfolding(crate::specs::Written::header))]
+fn put_header(out: &mut Vec<u8>) -> Result<(), AllocError>
+    ensures { OnOk result (out.new.items ≡ out.old.items ++ header) }
+{
+    out.extend_from_slice(HEADER)
+}
+
+#[tactic(auto, unfolding(crate::specs::Written::number_bytes))]
+fn put_number(number: u32, out: &mut Vec<u8>) -> Result<(), AllocError>
+    ensures { OnOk result (out.new.items ≡ out.old.items ++ number_bytes number) }
+{
+    out.extend_from_slice(&[
+        (number % 256) as u8,
+        (number / 256 % 256) as u8,
+        (number / 65_536 % 256) as u8,
+        (number / 16_777_216) as u8,
+    ])
+}
+
+#[tactic(auto, unfolding(crate::specs::Written::point_bytes))]
+fn put_point(point: &FloatPoint, out: &mut Vec<u8>) -> Result<(), AllocError>
+    ensures { OnOk result (out.new.items ≡ out.old.items ++ point_bytes point.now) }
+{
+    put_number(point.x, out)?;
+    put_number(point.y, out)?;
+    put_number(point.z, out)
+}
+
+#[tactic(auto, unfolding(crate::specs::Written::triangle_bytes))]
+fn put_triangle(triangle: &WrittenTriangle, out: &mut Vec<u8>) -> Result<(), AllocError>
+    ensures { OnOk result (out.new.items ≡ out.old.items ++ triangle_bytes triangle.now) }
+{
+    put_point(&triangle.normal, out)?;
+    put_point(&triangle.a, out)?;
+    put_point(&triangle.b, out)?;
+    put_point(&triangle.c, out)?;
+    out.extend_from_slice(&[0, 0])
+}
+
+fn put_triangles(triangles: &[WrittenTriangle], out: &mut Vec<u8>) -> Result<(), AllocError>
+    ensures { OnOk result (out.new.items ≡ out.old.items ++ flat_map triangle_bytes triangles.now) }
+{
+    for triangle in triangles {
+        put_triangle(triangle, out)?;
+    }
+    Ok(())
+}
+
+fn all_bytes(
+    alloc: Global,
+    triangles: &[WrittenTriangle],
+    count: u32,
+) -> Result<Vec<u8>, AllocError>
+    requires { count ≡ length triangles.now }
+    ensures { IfOk result (λ bytes. bytes.items ≡ stl_bytes_of triangles.now) }
+{
+    let mut bytes = Vec::new(alloc);
+    put_header(&mut bytes)?;
+    put_number(count, &mut bytes)?;
+    put_triangles(triangles, &mut bytes)?;
+    Ok(bytes)
+}
+
+/// The bytes of the binary STL with these triangles, in their order. Reading them gives their corners again, where
+/// all coordinates are finite. Refused are 2^32 triangles or more; the other fault is want of memory.
+pub fn stl_bytes(alloc: Global, triangles: &[WrittenTriangle]) -> Result<Vec<u8>, StlWriteFault>
+    ensures bytes { IfOk result (λ bytes. bytes.items ≡ stl_bytes_of triangles.now) }
+    ensures read_back { IfOk result (λ bytes. IsReadBack triangles.now bytes.items) }
+    ensures many { result ≡ Err TooManyTriangles ↔ 2 ^ 32 ≤ length triangles.now }
+{
+    let Ok(count) = u32::try_from(triangles.len()) else {
+        return Err(StlWriteFault::TooManyTriangles);
+    };
+    match all_bytes(alloc, triangles, count) {
+        Ok(bytes) => Ok(bytes),
+        Err(_) => Err(StlWriteFault::OutOfMemory),
+    }
+}

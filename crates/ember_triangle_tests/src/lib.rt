@@ -1,0 +1,5 @@
+//! Tests of the crates that make triangles of a document's faces: each subject by calls from outside.
+#![tactic(auto)]
+
+#[cfg(test)]
+mod cuts;

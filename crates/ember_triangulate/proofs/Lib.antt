@@ -1,0 +1,4 @@
+pub mod Corners
+pub mod NextLines
+pub mod Tables
+pub mod NamedTriangles

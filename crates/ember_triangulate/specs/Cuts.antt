@@ -1,0 +1,17 @@
+-- What becomes of the part inside a boundary
+use Rattle.std.specs.Prelude.{◌≡◌, ◌≢◌, ℕ, List, All, Contains}
+use Rattle.ember_certificate.specs.declared.segment.Segment.{Segment}
+use Rattle.ember_triangulate.specs.declared.cut.Cut.{Cut}
+use Rattle.ember_triangulate.specs.declared.cut.Cut.TheVariants.{Triangles, Touch, NotFound}
+use Rattle.ember_triangulate.specs.Corners.{IsCornerOf, HasCornersOf}
+
+-- a segment on the line neither starts nor ends at the corner
+abbrev pub IsInsideLine : List Segment → ℕ → ℕ → Type 0
+IsInsideLine ss corner line =
+    (s : Segment) × Contains ss s × (s.line ≡ line) × (s.start ≢ corner) × (s.end ≢ corner)
+
+-- triangles have corners of the boundary, and so does a touch, on a line where the boundary has a segment
+abbrev pub IsCutOf : List Segment → Cut → Type 0
+IsCutOf ss (Triangles ts) = All (HasCornersOf ss) ts.items
+IsCutOf ss (Touch corner line) = IsCornerOf ss corner × IsInsideLine ss corner line
+IsCutOf ss NotFound = Unit {0}

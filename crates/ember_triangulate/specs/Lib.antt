@@ -1,0 +1,4 @@
+pub mod Corners
+pub mod Cuts
+pub mod Diagonals
+pub mod Lines

@@ -1,0 +1,24 @@
+// Why a sweep ends early.
+use std::alloc::{AllocError, AllocFailed};
+
+/// Why a sweep ends early.
+#[derive(Clone, Copy, Debug, PartialEq, Eq)]
+pub enum Stop {
+    OutOfMemory,
+    /// A corner has no point, or isn't where a segment starts.
+    NotFound,
+    /// The corner where the segment `corner` starts lies inside the segment `edge`.
+    Touch { corner: usize, edge: usize },
+}
+
+impl From<AllocError> for Stop {
+    fn from(_e: AllocError) -> Stop {
+        Stop::OutOfMemory
+    }
+}
+
+impl<T: Drop> From<AllocFailed<T>> for Stop {
+    fn from(_e: AllocFailed<T>) -> Stop {
+        Stop::OutOfMemory
+    }
+}

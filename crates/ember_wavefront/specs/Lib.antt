@@ -1,0 +1,4 @@
+pub mod Rows
+pub mod RowViews
+pub mod Faults
+pub mod ReadWavefront
