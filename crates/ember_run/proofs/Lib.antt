@@ -9,11 +9,7 @@ pub mod ClearFaces
 pub mod AtVerdict
 pub mod SliceVerdict
 pub mod SceneVerdicts
-pub mod Reports
-pub mod KeptLists
-pub mod Counts
 pub mod SolidVerdicts
-pub mod Findings
 pub mod ReadBack
 pub mod FaceLists
 pub mod CanonicalWords

@@ -18,6 +18,7 @@ use Rattle.ember_model.specs.declared.face.Face.{Face}
 use Rattle.ember_model.specs.declared.point.Axis.TheVariants.{X, Y}
 use Rattle.ember_model.specs.declared.point.Spot.{Spot}
 use Rattle.ember_model.specs.declared.tri.Tri.{Tri}
+use Rattle.ember_query.specs.Runs.{run_report}
 use Rattle.ember_ref.proofs.ClearReferences.{clear_references}
 use Rattle.ember_ref.proofs.ReferenceLegs.{weight_at}
 use Rattle.ember_slice.proofs.Passing.{crossed_along_x, crossed_along_y}
@@ -28,7 +29,6 @@ use Rattle.ember_voxel.specs.Voxels.{cell_value, least_corner}
 use Rattle.ember_run.specs.Lattices.{IsLatticeText}
 use Rattle.ember_run.specs.OneSolid.{SegmentsHaveMeaning, SegmentsCrossOnceAtMost, ValueIsOfFaces, IsCell, bit_at, BitsAreOfFaces, BitsAreOfFacesNearby}
 use Rattle.ember_run.specs.Outputs.{Counts, IsOutput, count_lines}
-use Rattle.ember_run.specs.Runs.{run_report}
 use Rattle.ember_run.specs.Slices.{IsSlice}
 use Rattle.ember_run.specs.Solids.{IsSolidFile}
 use Rattle.ember_run.proofs.ClearFaces.{clear_faces}

@@ -12,6 +12,8 @@ use Rattle.ember_leaf.proofs.OneList.{written_unique}
 use Rattle.ember_pairs.specs.declared.pair.Pair.{Pair}
 use Rattle.ember_pairs.specs.Pairs.{AtPair, meeting, apart}
 use Rattle.ember_pairs.specs.Texts.{pairs_text}
+use Rattle.ember_query.specs.Runs.{run_report}
+use Rattle.ember_query.specs.Solids.{IsSolidText}
 use Rattle.ember_report.specs.Reports.{line_of}
 use Rattle.ember_reread.proofs.OneOutline.{text_one, texts_one}
 use Rattle.ember_slice.specs.Segments.{IsSliceText}
@@ -24,9 +26,8 @@ use Rattle.ember_voxel.specs.Voxels.{cell_value}
 use Rattle.ember_run.specs.OfScenes.{IsOfScene}
 use Rattle.ember_run.specs.Outputs.{Output, FaceTexts, Counts, MeetingPairs, Lattice, SolidFaces, SolidReport, IsOutput}
 use Rattle.ember_run.specs.PairLists.{IsPairsText}
-use Rattle.ember_run.specs.Runs.{run_report}
 use Rattle.ember_run.specs.Slices.{IsSlice}
-use Rattle.ember_run.specs.Solids.{IsSolidText, IsReportText}
+use Rattle.ember_run.specs.Solids.{IsReportText}
 use Rattle.ember_run.proofs.OneReading.{one_reading}
 
 -- ---- solids

@@ -3,7 +3,6 @@ use Rattle.std.proofs.Common.{◌≡◌, ℕ, ◌≤◌, List, [], ◌∷◌, ma
 use Rattle.ember_expr.specs.Formula.{Formula}
 use Rattle.ember_job.specs.declared.job.Job.{Job}
 use Rattle.ember_job.specs.Visited.{leaves}
-use Rattle.ember_model.specs.declared.scene.Scene.{Scene}
 use Rattle.ember_model.specs.declared.tri.Tri.{Tri}
 use Rattle.ember_pairs.specs.declared.pair.Pair.{Pair}
 use Rattle.ember_pairs.specs.Gathering.{AreGathered}
@@ -11,16 +10,16 @@ use Rattle.ember_pairs.specs.Pairs.{ArePairs}
 use Rattle.ember_pairs.specs.Texts.{pairs_text}
 use Rattle.ember_pairs.specs.Whole.{AreItems, leaf_jobs}
 use Rattle.ember_job.specs.Items.{EachAnswers}
+use Rattle.ember_query.specs.Leaves.{AreFills, ArePairsOfLeaves}
 use Rattle.ember_visit.specs.Jobs.{root_job}
 use Rattle.ember_voxel.specs.declared.fill.Fill.{Fill}
 use Rattle.ember_voxel.specs.Fills.{IsFill, fill_of, leaf_fills}
 use Rattle.ember_voxel.specs.Grid.{IsGridText}
-use Rattle.ember_voxel.specs.Lattice.{IsVoxelJob, shape}
+use Rattle.ember_voxel.specs.Lattice.{shape}
 use Rattle.ember_voxel.specs.Voxels.{IsVoxelText}
-use Rattle.ember_voxel.specs.Laws.{root_is_voxel_job}
-use Rattle.ember_run.specs.Lattices.{AreFills, IsLatticeText}
+use Rattle.ember_run.specs.Lattices.{IsLatticeText}
 use Rattle.ember_run.specs.Outputs.{Lattice, MeetingPairs}
-use Rattle.ember_run.specs.PairLists.{ArePairsOfLeaves, IsPairsText}
+use Rattle.ember_run.specs.PairLists.{IsPairsText}
 use Rattle.ember_run.specs.CallOutcome.{IsSameIfTold, IsText}
 use Rattle.ember_run.specs.Verdict.{Contents, Verdict, Writes, after_expr, after_scene, pairs_verdict, voxels_verdict}
 use Rattle.ember_run.proofs.Verdicts.{text_then}
@@ -54,9 +53,6 @@ module _ (after : ℕ → (Formula → Verdict) → Verdict) (places m : ℕ) (c
       (text_then bytes (after_scene places contents (next formula)) (next formula tris) (scene (next formula)) is)
 
 -- ---- a lattice
-pub root_is_valid : (scene : Scene) (size : ℕ) (job : Job) → size ≤ 12 → job ≡ root_job scene.tris → IsVoxelJob scene.tris size job
-root_is_valid scene size job le e = subst (IsVoxelJob scene.tris size) (sym e) (root_is_voxel_job scene.tris scene.meshes size scene.kept le)
-
 -- the boxes of one value, as the law of the cells takes them
 fills_are : (formula : Formula) (jobs : List Job) (fills : List Fill) → EachAnswers (IsFill formula) jobs fills → fills ≡ map (fill_of formula) jobs
 fills_are formula [] [] h = refl

@@ -13,10 +13,11 @@ use Rattle.ember_model.specs.declared.scene.Scene.{Scene}
 use Rattle.ember_model.specs.declared.tri.Tri.{Tri}
 use Rattle.ember_model.specs.FaceFiles.{WrittenFace}
 use Rattle.ember_model.specs.Meshes.{IsScene}
+use Rattle.ember_query.specs.Solids.{IsSolidText}
 use Rattle.ember_reread.proofs.OneReading.{face_file_is_read_once}
 use Rattle.ember_run.specs.declared.status.Status.TheVariants.{ExprRefused, Unbounded}
 use Rattle.ember_run.specs.Outputs.{SolidFaces}
-use Rattle.ember_run.specs.Solids.{IsSolidFile, IsSolidText}
+use Rattle.ember_run.specs.Solids.{IsSolidFile}
 use Rattle.ember_run.specs.Verdict.{Verdict, Unknown, Refused, Writes, after_bounded, after_parse, after_solid}
 use Rattle.ember_run.proofs.OneReading.{one_reading}
 use Rattle.ember_run.proofs.SceneVerdicts.{ExprRead}

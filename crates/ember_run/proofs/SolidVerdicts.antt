@@ -1,20 +1,12 @@
 -- The verdicts of `bool` and `demo`, step by step.
-use Rattle.std.proofs.Common.{◌≡◌, ◌<◌, ◌^◌, ℕ, Bool, true, false, not, List, [], flat_map, length, pos, Some, Vec, Global, refl, sym, ap, subst, ◌∙◌}
-use Rattle.std.specs.Prelude.{codes, map, replicate, if◌then◌else◌}
+use Rattle.std.proofs.Common.{◌≡◌, ℕ, Bool, true, false, not, List, [], length, pos, Some, Vec, Global, refl, sym, ap, subst, ◌∙◌}
+use Rattle.std.specs.Prelude.{codes, replicate, if◌then◌else◌}
 use Rattle.ember_expr.specs.Formula.{Formula}
 use Rattle.ember_expr.specs.Truth.{truth}
-use Rattle.ember_job.specs.declared.job.Job.{Job}
-use Rattle.ember_job.specs.Visited.{leaves}
-use Rattle.ember_leaf.specs.Scenes.{IsWritten}
-use Rattle.ember_algebra.specs.Relations.{Each}
-use Rattle.ember_run.proofs.Counts.{are_counted, all_counted}
-use Rattle.ember_run.proofs.KeptLists.{all_given}
-use Rattle.ember_model.specs.declared.scene.Scene.{Scene}
 use Rattle.ember_model.specs.declared.tri.Tri.{Tri}
+use Rattle.ember_query.specs.Solids.{IsSolidReport}
 use Rattle.ember_report.specs.declared.report.Report.{Report}
 use Rattle.ember_report.specs.Reports.{line_of}
-use Rattle.ember_visit.specs.Jobs.{IsJob, root_job}
-use Rattle.ember_visit.proofs.Laws.{root_is_job}
 use Rattle.ember_run.specs.declared.status.Status.{Status}
 use Rattle.ember_run.specs.declared.status.Status.TheVariants.{Done, Words, ReadFault, WriteFault, ObjRefused, MeshRefused, ExprRefused, Unbounded, Limit, NotClear, FaceRefused, OutOfMemory}
 use Rattle.ember_run.specs.Outputs.{SolidFaces, SolidReport}
@@ -26,67 +18,10 @@ use Rattle.ember_words.specs.declared.command.Command.{Command}
 use Rattle.std.specs.declared.option.Option.{Option}
 use Rattle.ember_run.specs.CallOutcome.{IsSameIfTold, IsText}
 use Rattle.ember_run.specs.Stops.{IsWordsStop}
-use Rattle.ember_job.specs.declared.job.Entry.{Entry}
-use Rattle.ember_report.specs.Reports.{report_from}
-use Rattle.ember_visit.specs.Values.{shape}
-use Rattle.std.specs.List.{sum, sum_by}
-use Rattle.ember_run.specs.Runs.{HoldEntries, run_report}
-use Rattle.ember_run.proofs.Reports.{entries_fit, same_report}
-use Rattle.ember_step.specs.Texts.{AreLeafTexts, IsSceneText, LeafTextsJoin}
-use Rattle.ember_text.specs.Counted.{CountedText}
-use Rattle.ember_model.specs.declared.face.Face.{Face}
-use Rattle.std.proofs.lemmas.List.{length-map}
-use Rattle.ember_run.specs.Solids.{AreRegionCounts, HoldRun, IsReportLine, IsReportText, IsSolid, IsSolidFile, IsSolidReport, IsSolidText, IsWrittenAt, report_lines}
+use Rattle.ember_run.specs.Solids.{IsReportLine, IsReportText, IsSolidFile, report_lines}
 use Rattle.ember_gen.specs.Scene.{scene_of}
-use Rattle.ember_leaf.specs.declared.kept.Kept.{Kept}
-use Rattle.ember_text.specs.Documents.{IsDocumentText, IsTextOf, joined, written_face}
 use Rattle.ember_run.specs.Verdict.{Contents, Verdict, Unknown, Refused, Writes, Slices, after_bounded, after_expr, after_scene, after_solid, bool_verdict, demo_verdict, names_of, told_verdict}
 use Rattle.ember_run.proofs.SceneVerdicts.{ExprRead, SceneRead, after_read, scene_text}
-
-pub root_is_valid : (scene : Scene) (job : Job) → job ≡ root_job scene.tris → IsJob scene.tris job
-root_is_valid scene job e = subst (IsJob scene.tris) (sym e) (root_is_job scene.tris scene.meshes scene.kept)
-
--- ---- the run
-pub journals_fit : (tris : List Tri) (formula : Formula) (journals : List (List Entry)) → HoldEntries (shape tris formula) (root_job tris) journals → sum_by length journals < 2 ^ 64
-journals_fit tris formula journals holds = entries_fit (shape tris formula) (root_job tris) journals refl holds
-
-of_run : (tris : List Tri) (formula : Formula) (journals : List (List Entry)) (faces count : ℕ) (report : Report) → HoldRun tris formula journals → report ≡ report_from journals faces → faces ≡ count → report ≡ run_report (shape tris formula) (root_job tris) count
-of_run tris formula journals faces count report holds e f =
-    e ∙ same_report (shape tris formula) (root_job tris) journals faces holds ∙ ap (run_report (shape tris formula) (root_job tris)) f
-
--- the visited leaves write what the scene does
-abbrev pub VisitedWriteAll : List Tri → Formula → Type 0
-VisitedWriteAll tris formula =
-    (kept : List Kept) → Each (IsWrittenAt tris formula) (leaves (shape tris formula) (root_job tris)) kept → IsWritten tris formula kept
-
-pub is_solid_report : (tris : List Tri) (formula : Formula) (counts : List ℕ) (journals : List (List Entry)) (faces : ℕ) (report : Report) → VisitedWriteAll tris formula → AreRegionCounts tris formula counts → HoldRun tris formula journals → report ≡ report_from journals faces → faces ≡ sum counts → IsSolidReport tris formula report
-is_solid_report tris formula counts journals faces report law are holds e f =
-    let jobs = leaves (shape tris formula) (root_job tris) in
-    let lists = are_counted (IsWrittenAt tris formula) jobs counts are in
-    let kept = flat_map (λ ks. ks) lists.items in
-    record {
-      kept = kept;
-      solid = record {
-        written = law kept (all_given (IsWrittenAt tris formula) jobs lists.items lists.answer);
-        report_is = of_run tris formula journals faces (length kept) report holds e (f ∙ all_counted counts lists.items lists.lengths);
-      };
-    }
-
--- ---- the texts of the leaves
-scene_solid : (tris : List Tri) (formula : Formula) (text : CountedText) (journals : List (List Entry)) (faces : ℕ) (report : Report) → HoldRun tris formula journals → report ≡ report_from journals faces → faces ≡ text.count → (is : IsSceneText tris formula text) → IsSolid tris formula is.kept report
-scene_solid tris formula text journals faces report holds e f is = record {
-  written = is.has;
-  report_is = of_run tris formula journals faces (length is.kept) report holds e (f ∙ is.text_of.count ∙ length-map is.kept written_face);
-}
-
-pub solid_text_of : (tris : List Tri) (formula : Formula) (texts : List CountedText) (journals : List (List Entry)) (faces : ℕ) (report : Report) (bytes : List ℕ) → LeafTextsJoin tris formula → AreLeafTexts tris formula texts → HoldRun tris formula journals → report ≡ report_from journals faces → faces ≡ (joined texts).count → ((fs : List Face) → IsTextOf fs (joined texts) → IsDocumentText fs bytes) → IsSolidText tris formula bytes
-solid_text_of tris formula texts journals faces report bytes law are holds e f file =
-    let is = law texts are in
-    record { kept = is.kept; report = report; solid = scene_solid tris formula (joined texts) journals faces report holds e f is; text = file (map written_face is.kept) is.text_of }
-
-pub solid_report_of : (tris : List Tri) (formula : Formula) (texts : List CountedText) (journals : List (List Entry)) (faces : ℕ) (report : Report) → LeafTextsJoin tris formula → AreLeafTexts tris formula texts → HoldRun tris formula journals → report ≡ report_from journals faces → faces ≡ (joined texts).count → IsSolidReport tris formula report
-solid_report_of tris formula texts journals faces report law are holds e f =
-    let is = law texts are in record { kept = is.kept; solid = scene_solid tris formula (joined texts) journals faces report holds e f is }
 
 -- ---- bounded expressions
 not_true : (b : Bool) → true ≡ not b → b ≡ false

@@ -2,10 +2,8 @@ pub mod Messages
 pub mod Lines
 pub mod FaceTexts
 pub mod PairLists
-pub mod Runs
 pub mod Solids
 pub mod Lattices
-pub mod Queries
 pub mod Outputs
 pub mod OfScenes
 pub mod Slices

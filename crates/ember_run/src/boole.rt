@@ -1,24 +1,24 @@
 // The commands `bool` and `demo`.
 ghost use Rattle.std.specs.Prelude.{◌≡◌, ◌≤◌, length, map, IfOk, IfErr};
 ghost use Rattle.ember_expr.specs.Formula.{formula_of};
+ghost use Rattle.ember_query.specs.Queries.{IsExecutor};
+ghost use Rattle.ember_query.specs.Solids.{IsSolidText};
 ghost use Rattle.ember_run.specs.Reported.{IsReportIf};
 ghost use Rattle.ember_run.specs.CallOutcome.{IsText};
 ghost use Rattle.ember_run.specs.Devices.{shelf_call};
 ghost use Rattle.ember_run.specs.Stops.{IsStop, IsWordsStop};
-ghost use Rattle.ember_run.specs.Solids.{IsReportLine, IsReportText, IsSolidText, report_lines};
-ghost use Rattle.ember_run.specs.Queries.{IsExecutor};
+ghost use Rattle.ember_run.specs.Solids.{IsReportLine, IsReportText, report_lines};
 ghost use Rattle.ember_run.specs.Verdict.{bool_verdict, demo_verdict};
 
 use crate::expression::{parse_bounded, parse_union};
-use crate::query::{Answer, Query};
 use crate::reply::Reply;
 use crate::scene::read_scene;
-use crate::solid::{report_by, solid_of};
 use crate::status::Status;
 use ember_expr::Expr;
 use ember_gen::scene_of;
 use ember_io::Shelf;
 use ember_model::{OutOfMemory, Scene};
+use ember_query::{Answer, Query, report_by, solid_of};
 use ember_report::{Report, report_line};
 use ember_words::{Text, Texts};
 use std::alloc::Global;

@@ -13,6 +13,7 @@ ghost use Rattle.ember_model.specs.FaceFiles.{IsFaceFile};
 ghost use Rattle.ember_model.specs.Clear.{IsClearOf};
 ghost use Rattle.ember_model.specs.ClearTest.{is_clear_of};
 ghost use Rattle.ember_model.specs.Meshes.{IsBalanced, IsScene, faces_of, vector, wind};
+ghost use Rattle.ember_query.specs.Solids.{IsSolidText};
 ghost use Rattle.ember_words.specs.declared.command.Command.TheVariants.{Boole, Demo, Pairs, Voxels};
 ghost use Rattle.ember_words.specs.Meaning.{command_of};
 ghost use Rattle.ember_run.specs.OfScenes.{IsOfScene};
@@ -20,7 +21,7 @@ ghost use Rattle.ember_run.specs.Outputs.{FaceTexts, IsOutput, Output, SolidFace
 ghost use Rattle.ember_run.specs.Reported.{IsErrText};
 ghost use Rattle.ember_run.specs.CallOutcome.{IsText};
 ghost use Rattle.ember_run.specs.Slices.{IsSlice};
-ghost use Rattle.ember_run.specs.Solids.{IsClosedFile, IsSolidText};
+ghost use Rattle.ember_run.specs.Solids.{IsClosedFile};
 ghost use Rattle.ember_run.specs.Verdict.{Unknown, told_verdict};
 ghost use Rattle.ember_run.specs.declared.status.Status.{Status};
 

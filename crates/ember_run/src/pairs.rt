@@ -1,18 +1,18 @@
 // The command `pairs`.
 ghost use Rattle.std.specs.Prelude.{◌≡◌, ◌≤◌, length, map, IfOk, IfErr};
+ghost use Rattle.ember_query.specs.Queries.{IsExecutor};
 ghost use Rattle.ember_run.specs.PairLists.{IsPairsText};
 ghost use Rattle.ember_run.specs.CallOutcome.{IsText};
 ghost use Rattle.ember_run.specs.Devices.{shelf_call};
 ghost use Rattle.ember_run.specs.Stops.{IsStop};
-ghost use Rattle.ember_run.specs.Queries.{IsExecutor};
 ghost use Rattle.ember_run.specs.Verdict.{pairs_verdict};
 
-use crate::query::{Answer, Query, pairs_by};
 use crate::scene::read_scene;
 use crate::status::Status;
 use ember_io::Shelf;
 use ember_model::{OutOfMemory, Scene};
 use ember_pairs::{gather, gathered_pairs_are_all, pairs_text};
+use ember_query::{Answer, Query, pairs_by};
 use ember_words::Texts;
 use std::alloc::Global;
 

@@ -1,20 +1,20 @@
 // The command `voxels`.
 ghost use Rattle.std.specs.Prelude.{◌≡◌, ◌≤◌, length, map, IfOk, IfErr};
 ghost use Rattle.ember_expr.specs.Formula.{formula_of};
+ghost use Rattle.ember_query.specs.Queries.{IsExecutor};
 ghost use Rattle.ember_run.specs.Lattices.{IsLatticeText};
 ghost use Rattle.ember_run.specs.CallOutcome.{IsText};
 ghost use Rattle.ember_run.specs.Devices.{shelf_call};
 ghost use Rattle.ember_run.specs.Stops.{IsStop};
-ghost use Rattle.ember_run.specs.Queries.{IsExecutor};
 ghost use Rattle.ember_run.specs.Verdict.{voxels_verdict};
 
 use crate::expression::parse_text;
-use crate::query::{Answer, Query, fills_by};
 use crate::scene::read_scene;
 use crate::status::Status;
 use ember_expr::Expr;
 use ember_io::Shelf;
 use ember_model::{OutOfMemory, Scene};
+use ember_query::{Answer, Query, fills_by};
 use ember_voxel::{each_cell_has_its_value, grid_text};
 use ember_words::{Text, Texts};
 use std::alloc::Global;

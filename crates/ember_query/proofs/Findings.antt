@@ -14,18 +14,18 @@ use Rattle.ember_visit.specs.Values as values
 use Rattle.ember_voxel.specs.declared.fill.Fill.{Fill}
 use Rattle.ember_voxel.specs.Fills.{IsFill}
 use Rattle.ember_voxel.specs.Lattice as lattice
+use Rattle.ember_voxel.specs.Laws.{root_is_voxel_job}
 use Rattle.ember_step.specs.Counts.{IsCount}
 use Rattle.ember_step.specs.Texts.{IsBoxText}
 use Rattle.ember_text.specs.Counted.{CountedText}
 use Rattle.ember_job.specs.Items.{EachAnswers}
-use Rattle.ember_run.specs.declared.query.Answer.TheVariants as finds
-use Rattle.ember_run.specs.declared.query.RunResult.{RunResult}
-use Rattle.ember_run.specs.declared.query.Query.{Query}
-use Rattle.ember_run.specs.declared.query.Query.TheVariants as query
-use Rattle.ember_run.specs.Runs.{HoldEntries}
-use Rattle.ember_run.specs.Solids.{IsWrittenAt}
-use Rattle.ember_run.specs.Queries.{IsAnswer, IsQuery}
-use Rattle.ember_run.proofs.SceneVerdicts.{root_is_valid}
+use Rattle.ember_query.specs.declared.query.Answer.TheVariants as finds
+use Rattle.ember_query.specs.declared.query.RunResult.{RunResult}
+use Rattle.ember_query.specs.declared.query.Query.{Query}
+use Rattle.ember_query.specs.declared.query.Query.TheVariants as query
+use Rattle.ember_query.specs.Runs.{HoldEntries}
+use Rattle.ember_query.specs.Leaves.{IsWrittenAt}
+use Rattle.ember_query.specs.Queries.{IsAnswer, IsQuery}
 
 pub pairs_found : (asked : Query) (scene : Bor Scene) (root : Job) (items : Vec (List Pair) Global) → asked ≡ query.Pairs scene → root ≡ job_at scene.now.tris boxes.root → EachAnswers (λ job ps. AreMeetingPairs scene.now.tris job.list ps) (leaves (λ job. pairs_shape scene.now.tris job) root) items.items → IsAnswer asked (finds.Pairs items)
 pairs_found asked scene root items e f are =
@@ -34,7 +34,7 @@ pairs_found asked scene root items e f are =
 pub fills_root : (asked : Query) (scene : Bor Scene) (expr : Bor Tree) (size : ℕ) (root : Job) → IsQuery asked → asked ≡ query.Fills scene expr size → root ≡ root_job scene.now.tris → lattice.IsVoxelJob scene.now.tris size root
 fills_root asked scene expr size root may e f =
     let sized : (4 ≤ size) × (size ≤ 12) = subst IsQuery e may in
-    root_is_valid scene.now size root sized.1 f
+    subst (lattice.IsVoxelJob scene.now.tris size) (sym f) (root_is_voxel_job scene.now.tris scene.now.meshes size scene.now.kept sized.1)
 
 pub fills_found : (asked : Query) (scene : Bor Scene) (expr : Bor Tree) (size : ℕ) (root : Job) (fills : Vec Fill Global) → asked ≡ query.Fills scene expr size → root ≡ root_job scene.now.tris → EachAnswers (IsFill (formula_of expr.now)) (leaves (lattice.shape scene.now.tris (formula_of expr.now) size) root) fills.items → IsAnswer asked (finds.Fills fills)
 fills_found asked scene expr size root fills e f are =

@@ -1,5 +1,5 @@
-use Rattle.ember_run.proofs.Reports.{holds_alone}
-use Rattle.ember_run.proofs.executor.results_alone.Goals as goal
+use Rattle.ember_query.proofs.Reports.{holds_alone}
+use Rattle.ember_query.proofs.executor.results_alone.Goals as goal
 
 pub returns-clause-journals : goal.returns-clause-journals
 returns-clause-journals g c =

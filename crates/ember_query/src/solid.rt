@@ -2,8 +2,8 @@
 ghost use Rattle.std.specs.Prelude.{◌≡◌, IfOk};
 ghost use Rattle.std.specs.List.{sum};
 ghost use Rattle.ember_expr.specs.Formula.{formula_of};
-ghost use Rattle.ember_run.specs.Solids.{IsSolidReport, IsSolidText};
-ghost use Rattle.ember_run.specs.Queries.{IsExecutor};
+ghost use Rattle.ember_query.specs.Solids.{IsSolidReport, IsSolidText};
+ghost use Rattle.ember_query.specs.Queries.{IsExecutor};
 
 use crate::query::{Answer, Query, counts_by, texts_by};
 use ember_expr::Expr;

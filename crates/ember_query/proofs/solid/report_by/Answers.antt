@@ -1,7 +1,7 @@
 use Rattle.std.proofs.Common.{ap, ◌∙◌}
 use Rattle.std.specs.List.{sum}
-use Rattle.ember_run.proofs.SolidVerdicts.{is_solid_report, journals_fit}
-use Rattle.ember_run.proofs.solid.report_by.Goals as goal
+use Rattle.ember_query.proofs.SolidRuns.{is_solid_report, journals_fit}
+use Rattle.ember_query.proofs.solid.report_by.Goals as goal
 
 pub report_of-requires : goal.report_of-requires
 report_of-requires g c = journals_fit _ _ _ c.in_ok-found.ensures.journals

@@ -3,8 +3,8 @@ ghost use Rattle.std.specs.Prelude.{◌≡◌, ◌≤◌, IfOk};
 ghost use Rattle.ember_box.specs.Boxes as boxes;
 ghost use Rattle.ember_job.specs.Visited.{leaves};
 ghost use Rattle.ember_job.specs.Works.{AnswersAll};
-ghost use Rattle.ember_run.specs.Runs.{HoldEntries};
-ghost use Rattle.ember_run.specs.Queries.{IsAnswer, IsQuery};
+ghost use Rattle.ember_query.specs.Runs.{HoldEntries};
+ghost use Rattle.ember_query.specs.Queries.{IsAnswer, IsQuery};
 ghost use Rattle.ember_job.specs.Items.{EachAnswers};
 
 use crate::query::{Answer, Query, RunResult};
@@ -117,7 +117,7 @@ macro_rules! finds {
     };
 }
 
-/// What comes of a query, where this thread alone runs the boxes.
+/// What comes of a query, where this thread alone runs the boxes. It calls the gate before each box.
 pub fn alone<G: Gate>(alloc: Global, gate: &G, query: &Query) -> Result<Answer, OutOfMemory>
     requires { IsQuery query.now }
     ensures { IfOk result (IsAnswer query.now) }
@@ -129,8 +129,8 @@ pub fn alone<G: Gate>(alloc: Global, gate: &G, query: &Query) -> Result<Answer, 
     )
 }
 
-/// What comes of a query, where 1 to 64 workers run the boxes. One worker is this thread: it makes
-/// no deque and starts no thread.
+/// What comes of a query, where 1 to 64 workers run the boxes. Each calls the gate before each box.
+/// One worker is this thread: it makes no deque and starts no thread.
 pub fn by_workers<R: Threads + Wait + Sync, G: Gate + Sync>(
     rt: &R,
     alloc: Global,

@@ -3,14 +3,13 @@ use Rattle.std.specs.Prelude.{◌≤◌, ⊤, ℕ, Result, IfOk}
 use Rattle.std.specs.Borrow.{Bor}
 use Rattle.std.specs.declared.alloc.AllocError.{AllocError}
 use Rattle.ember_expr.specs.Formula.{formula_of}
-use Rattle.ember_run.specs.declared.query.Answer.{Answer}
-use Rattle.ember_run.specs.declared.query.Answer.TheVariants as finds
-use Rattle.ember_run.specs.declared.query.Query.{Query}
-use Rattle.ember_run.specs.declared.query.Query.TheVariants as query
-use Rattle.ember_run.specs.Lattices.{AreFills}
-use Rattle.ember_run.specs.PairLists.{ArePairsOfLeaves}
+use Rattle.ember_query.specs.declared.query.Answer.{Answer}
+use Rattle.ember_query.specs.declared.query.Answer.TheVariants as finds
+use Rattle.ember_query.specs.declared.query.Query.{Query}
+use Rattle.ember_query.specs.declared.query.Query.TheVariants as query
+use Rattle.ember_query.specs.Leaves.{AreFills, ArePairsOfLeaves, AreRegionCounts}
+use Rattle.ember_query.specs.Solids.{HoldRun}
 use Rattle.ember_step.specs.Texts.{AreLeafTexts}
-use Rattle.ember_run.specs.Solids.{AreRegionCounts, HoldRun}
 
 -- the queries that may be asked: cells have a side of 2 ^ 4 to 2 ^ 12
 abbrev pub IsQuery : Query → Type 0

@@ -1,8 +1,8 @@
 use Rattle.std.proofs.Common.{List, ap, ◌∙◌}
 use Rattle.ember_text.specs.Counted.{CountedText}
 use Rattle.ember_text.specs.Documents.{joined}
-use Rattle.ember_run.proofs.SolidVerdicts.{solid_report_of, solid_text_of, journals_fit}
-use Rattle.ember_run.proofs.solid.solid_of.Goals as goal
+use Rattle.ember_query.proofs.SolidRuns.{solid_report_of, solid_text_of, journals_fit}
+use Rattle.ember_query.proofs.solid.solid_of.Goals as goal
 
 pub report_of-report-requires : goal.report_of-report-requires
 report_of-report-requires g c = journals_fit _ _ _ c.in_ok-found.ensures.journals

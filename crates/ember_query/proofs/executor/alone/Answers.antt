@@ -1,5 +1,5 @@
-use Rattle.ember_run.proofs.Findings.{counts_found, fills_found, fills_root, texts_found, pairs_found}
-use Rattle.ember_run.proofs.executor.alone.Goals as goal
+use Rattle.ember_query.proofs.Findings.{counts_found, fills_found, fills_root, texts_found, pairs_found}
+use Rattle.ember_query.proofs.executor.alone.Goals as goal
 
 pub results_alone-requires-in-Fills-clause-root : goal.results_alone-requires-in-Fills-clause-root
 results_alone-requires-in-Fills-clause-root g c =

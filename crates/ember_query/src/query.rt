@@ -1,13 +1,12 @@
-// What the boxes of a scene are run for, and what comes of it. The `executor` of a call here is a closure that
-// `run` or `run_one` makes. It runs the boxes by `by_workers` or `alone` of executor.rt; the macro `finds!` there
-// takes the root's job and the step of each query.
+// What the boxes of a scene are run for, and what comes of it. The `executor` of a call here is a closure of its
+// caller. It runs the boxes by `by_workers` or `alone` of executor.rt; the macro `finds!` there takes the root's job
+// and the step of each query.
 ghost use Rattle.std.specs.Prelude.{◌≤◌, IfOk};
 ghost use Rattle.ember_expr.specs.Formula.{formula_of};
-ghost use Rattle.ember_run.specs.Lattices.{AreFills};
-ghost use Rattle.ember_run.specs.PairLists.{ArePairsOfLeaves};
+ghost use Rattle.ember_query.specs.Leaves.{AreFills, ArePairsOfLeaves, AreRegionCounts};
+ghost use Rattle.ember_query.specs.Queries.{IsExecutor};
+ghost use Rattle.ember_query.specs.Solids.{HoldRun};
 ghost use Rattle.ember_step.specs.Texts.{AreLeafTexts};
-ghost use Rattle.ember_run.specs.Solids.{AreRegionCounts, HoldRun};
-ghost use Rattle.ember_run.specs.Queries.{IsExecutor};
 
 use ember_expr::Expr;
 use ember_job::Journals;

@@ -1,0 +1,5 @@
+pub mod Reports
+pub mod KeptLists
+pub mod Counts
+pub mod SolidRuns
+pub mod Findings

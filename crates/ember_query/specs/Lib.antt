@@ -1,0 +1,4 @@
+pub mod Leaves
+pub mod Runs
+pub mod Solids
+pub mod Queries

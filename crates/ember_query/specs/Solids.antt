@@ -1,0 +1,33 @@
+-- The written regions of a solid, and what is reported of its run
+use Rattle.std.specs.Prelude.{◌≡◌, ℕ, List, length, map}
+use Rattle.ember_expr.specs.Formula.{Formula}
+use Rattle.ember_job.specs.declared.job.Entry.{Entry}
+use Rattle.ember_leaf.specs.declared.kept.Kept.{Kept}
+use Rattle.ember_leaf.specs.Scenes.{IsWritten}
+use Rattle.ember_model.specs.declared.tri.Tri.{Tri}
+use Rattle.ember_report.specs.declared.report.Report.{Report}
+use Rattle.ember_text.specs.Documents.{IsDocumentText, written_face}
+use Rattle.ember_visit.specs.Jobs.{root_job}
+use Rattle.ember_visit.specs.Values.{shape}
+use Rattle.ember_query.specs.Runs.{HoldEntries, run_report}
+
+-- the journals hold the boxes that are visited for the solid
+abbrev pub HoldRun : List Tri → Formula → List (List Entry) → Type 0
+HoldRun tris formula journals = HoldEntries (shape tris formula) (root_job tris) journals
+
+-- the written regions of the scene, and the numbers of the run that wrote so many
+pub record IsSolid (tris : List Tri) (formula : Formula) (kept : List Kept) (report : Report) : Type 0 where
+  pub written : IsWritten tris formula kept
+  pub report_is : report ≡ run_report (shape tris formula) (root_job tris) (length kept)
+
+-- these are the numbers of the run that gives the solid
+pub record IsSolidReport (tris : List Tri) (formula : Formula) (report : Report) : Type 0 where
+  pub kept : List Kept
+  pub solid : IsSolid tris formula kept report
+
+-- the bytes are the face file of the solid's written regions
+pub record IsSolidText (tris : List Tri) (formula : Formula) (bytes : List ℕ) : Type 0 where
+  pub kept : List Kept
+  pub report : Report
+  pub solid : IsSolid tris formula kept report
+  pub text : IsDocumentText (map written_face kept) bytes
