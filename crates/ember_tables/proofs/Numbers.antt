@@ -1,7 +1,6 @@
 -- Keys beside entries
-use Rattle.std.proofs.Common.{◌≡◌, ◌⊎◌, inl, inr, ℕ, ◌+◌, ◌<◌, ◌≤◌, Bool, true, false, true≢false, not, if◌then◌else◌, ◌&&◌, List, [], ◌∷◌, ◌++◌, length, map, get_or, Some, slice_get, refl, sym, ap, subst, ◌∙◌, arith, length-append}
+use Rattle.std.proofs.Common.{◌≡◌, ◌⊎◌, inl, inr, ℕ, ◌<◌, ◌≤◌, Bool, true, false, true≢false, not, if◌then◌else◌, List, [], ◌∷◌, ◌++◌, map, Some, slice_get, sym, ap, subst, ◌∙◌, arith}
 use Rattle.std.specs.Bool.{Decides}
-use Rattle.std.specs.Ordering.{int_eq}
 use Rattle.std.specs.List.{IsDistinct}
 use Rattle.std.proofs.lemmas.Bool.{cases_lt}
 use Rattle.std.proofs.lemmas.Bool.Decides.{Decides-like, Decides-and, Decides-int_eq}
@@ -9,7 +8,7 @@ use Rattle.std.proofs.lemmas.List.{map-append}
 use Rattle.std.proofs.lemmas.Option.{get_or_from_slice_get, slice_get_within}
 use Rattle.std.proofs.lemmas.Map.Keys.{apart_from_distinct}
 use Rattle.ember_tables.specs.declared.hash_key.HashKey.{HashKey}
-use Rattle.ember_tables.specs.Numberings.{HasEntry, AreDistinct, same_key, IsNumbering, IsKeptOrPut}
+use Rattle.ember_tables.specs.Numberings.{HasEntry, AreDistinct, same_key, IsNumbering}
 use Rattle.ember_tables.proofs.Lists.{entry_of_map, mapped_entry}
 
 same_six : {k l : HashKey} → k.a ≡ l.a → k.b ≡ l.b → k.c ≡ l.c → k.d ≡ l.d → k.e ≡ l.e → k.f ≡ l.f → k ≡ l

@@ -1,5 +1,5 @@
 -- Tables of some edges
-use Rattle.std.specs.Prelude.{ℕ, ◌+◌, ◌<◌, ◌≤◌, List, length, All}
+use Rattle.std.specs.Prelude.{◌+◌, ◌<◌, ◌≤◌, List, length, All}
 use Rattle.std.specs.List.{AllZip}
 use Rattle.ember_model.specs.Valid.{IsValidPlane}
 use Rattle.ember_tables.specs.declared.face_edge.FaceEdge.{FaceEdge}

@@ -1,5 +1,5 @@
 -- The tables of faces
-use Rattle.std.specs.Prelude.{◌≡◌, ◌≢◌, ◌⊎◌, ℕ, ◌<◌, pos, List, length, All, Contains}
+use Rattle.std.specs.Prelude.{◌≡◌, ◌≢◌, ◌⊎◌, ◌<◌, pos, List, length, All, Contains}
 use Rattle.std.specs.List.{AllZip}
 use Rattle.ember_algebra.specs.Vector.{zero_v}
 use Rattle.ember_model.specs.declared.plane.Plane.{Plane}

@@ -4,8 +4,8 @@ ghost use Rattle.ember_tables.specs.Edges.{IsValidEdge};
 ghost use Rattle.ember_tables.specs.Tables.{IsKeyed, IsEdgeFault};
 
 use crate::corner::corner_of;
-use crate::fault::TableFault;
 use crate::face_edge::FaceEdge;
+use crate::fault::TableFault;
 use ember_certificate::SpacePoint;
 use ember_key::{LineKey, line_key, plane_key};
 use ember_model::Plane;

@@ -7,11 +7,11 @@ ghost use Rattle.ember_tables.specs.Edges.{edges_of, IsValidEdge};
 ghost use Rattle.ember_tables.specs.Tables.{IsKeyed, IsFault, AreTables};
 ghost use Rattle.ember_tables.specs.Drafts.{IsDraft, HasRoom};
 
+use crate::face_edge::{FaceEdge, edges_of};
 use crate::fault::TableFault;
 use crate::hash_key::{corner_numbers, line_numbers, plane_numbers};
 use crate::keyed::{Keyed, keys_of};
 use crate::numbering::Numbering;
-use crate::face_edge::{FaceEdge, edges_of};
 use ember_certificate::{Segment, SpacePoint};
 use ember_key::LineKey;
 use ember_model::{Face, Plane};
@@ -55,9 +55,13 @@ impl Draft {
             OnOk result (IsDraft (done ++ edge ∷ []) self.new) }
         ensures err { IfErr result (λ e. e ≡ OutOfMemory) }
     {
-        let plane = self.planes.number(plane_numbers(&keyed.plane), keyed.plane)?;
+        let plane = self
+            .planes
+            .number(plane_numbers(&keyed.plane), keyed.plane)?;
         let line = self.lines.number(line_numbers(&keyed.line), keyed.line)?;
-        let start = self.corners.number(corner_numbers(&keyed.start), keyed.start)?;
+        let start = self
+            .corners
+            .number(corner_numbers(&keyed.start), keyed.start)?;
         let end = self.corners.number(corner_numbers(&keyed.end), keyed.end)?;
         self.segments.push(Segment {
             plane,
