@@ -1,0 +1,5 @@
+pub mod Lists
+pub mod Numbers
+pub mod Rounds
+pub mod Segments
+pub mod Drafts

@@ -1,0 +1,82 @@
+-- Sides round faces
+use Rattle.std.proofs.Common.{◌≡◌, ℕ, ◌+◌, ◌-◌, ◌<◌, ◌≤◌, List, [], ◌∷◌, ◌++◌, length, drop, get_or, slice_get, Some, None, refl, sym, ap, ◌∙◌, append_assoc, arith}
+use Rattle.std.specs.List.{All}
+use Rattle.std.proofs.lemmas.List.{append-nil, drop_more, drop_all, nil_from_length}
+use Rattle.std.proofs.lemmas.List.Elements.{All-nil, All-cons, All-head, All-tail, All-append}
+use Rattle.std.proofs.lemmas.Option.{none-some, same_Some}
+use Rattle.ember_model.specs.declared.plane.Plane.{Plane}
+use Rattle.ember_model.specs.declared.face.Face.{Face}
+use Rattle.ember_model.specs.Valid.{IsValidPlane, IsValidFace}
+use Rattle.ember_tables.specs.declared.face_edge.FaceEdge.{FaceEdge}
+use Rattle.ember_tables.specs.Edges.{first_or, last_or, edges_behind, edges_round, edges_of, IsValidEdge}
+
+-- ---- the last plane
+last_found : (e : Plane) (es : List Plane) → slice_get (e ∷ es) (length es) ≡ Some (last_or e es)
+last_found e [] = refl
+last_found e (d ∷ ds) = last_found d ds
+
+one_less : (e : Plane) (es : List Plane) → length (e ∷ es) - 1 ≡ length es
+one_less e es = omega arith
+
+pub last_is : (p : Plane) (es : List Plane) (x : Plane) → Some x ≡ slice_get es (length es - 1) → x ≡ last_or p es
+last_is p [] x h = absurd (none-some x (sym h))
+last_is p (e ∷ es) x h = same_Some x (last_or e es) (h ∙ ap (slice_get (e ∷ es)) (one_less e es) ∙ last_found e es)
+
+pub last_is_none : (p : Plane) (es : List Plane) → None ≡ slice_get es (length es - 1) → p ≡ last_or p es
+last_is_none p [] h = refl
+last_is_none p (e ∷ es) h = absurd (none-some (last_or e es) (h ∙ ap (slice_get (e ∷ es)) (one_less e es) ∙ last_found e es))
+
+-- ---- round one face
+module _ (face : ℕ) (n first : Plane) where
+  pub begin : (edges others : List Plane) (before : Plane) (items : List FaceEdge) → edges ≡ first ∷ others → before ≡ last_or first others → items ++ edges_behind face n first before edges ≡ items ++ edges_round face n edges
+  begin edges others before items e b =
+      ap (λ (p : Plane). items ++ edges_behind face n first p edges) b ∙ ap (λ (es : List Plane). items ++ edges_behind face n first (last_or first others) es) e ∙ sym (ap (λ (es : List Plane). items ++ edges_round face n es) e)
+
+  abbrev edge_with : Plane → Plane → Plane → FaceEdge
+  edge_with before plane after = record { face = face; support = n; before = before; plane = plane; after = after }
+
+  pub walk : (rest behind : List Plane) (before edge after : Plane) (items more total : List FaceEdge) → rest ≡ edge ∷ behind → after ≡ first_or first behind → more ≡ items ++ record { face = face; support = n; before = before; plane = edge; after = after } ∷ [] → items ++ edges_behind face n first before rest ≡ total → more ++ edges_behind face n first edge behind ≡ total
+  walk rest behind before edge after items more total e a m h =
+      ap (λ (is : List FaceEdge). is ++ edges_behind face n first edge behind) m ∙ append_assoc items (edge_with before edge after ∷ []) (edges_behind face n first edge behind) ∙ ap (λ (p : Plane). items ++ edge_with before edge p ∷ edges_behind face n first edge behind) a ∙ sym (ap (λ (es : List Plane). items ++ edges_behind face n first before es) e) ∙ h
+
+  pub end : (rest : List Plane) (before : Plane) (items total : List FaceEdge) → length rest ≡ 0 → items ++ edges_behind face n first before rest ≡ total → items ≡ total
+  end rest before items total z h =
+      sym (append-nil items) ∙ sym (ap (λ (es : List Plane). items ++ edges_behind face n first before es) (nil_from_length rest z)) ∙ h
+
+-- ---- one face after another
+pub next_face : (faces : List Face) (i : ℕ) (f : Face) (items more total : List FaceEdge) → i < length faces → f ≡ get_or faces i f → more ≡ items ++ edges_round i f.support f.edges → items ++ edges_of i (drop i faces) ≡ total → more ++ edges_of (i + 1) (drop (i + 1) faces) ≡ total
+next_face faces i f items more total l e m h =
+    let d = drop_more faces i f l ∙ ap (λ (g : Face). g ∷ drop (i + 1) faces) (sym e) in
+    let rest = edges_of (i + 1) (drop (i + 1) faces) in
+    ap (λ (is : List FaceEdge). is ++ rest) m ∙ append_assoc items (edges_round i f.support f.edges) rest ∙ sym (ap (λ (fs : List Face). items ++ edges_of i fs) d) ∙ h
+
+pub last_face : (faces : List Face) (i : ℕ) (items total : List FaceEdge) → length faces ≤ i → items ++ edges_of i (drop i faces) ≡ total → items ≡ total
+last_face faces i items total l h =
+    sym (append-nil items) ∙ sym (ap (λ (fs : List Face). items ++ edges_of i fs) (drop_all i faces l)) ∙ h
+
+-- ---- valid edges
+valid_first : (p : Plane) (es : List Plane) → IsValidPlane p → All IsValidPlane es → IsValidPlane (first_or p es)
+valid_first p [] v h = v
+valid_first p (e ∷ es) v h = All-head IsValidPlane e es h
+
+valid_last : (p : Plane) (es : List Plane) → IsValidPlane p → All IsValidPlane es → IsValidPlane (last_or p es)
+valid_last p [] v h = v
+valid_last p (e ∷ es) v h = valid_last e es (All-head IsValidPlane e es h) (All-tail IsValidPlane e es h)
+
+valid_behind : (face : ℕ) (n first before : Plane) (es : List Plane) → IsValidPlane n → IsValidPlane first → IsValidPlane before → All IsValidPlane es → All IsValidEdge (edges_behind face n first before es)
+valid_behind face n first before [] vn vf vb h = All-nil IsValidEdge
+valid_behind face n first before (e ∷ es) vn vf vb h =
+    let ve = All-head IsValidPlane e es h in let vs = All-tail IsValidPlane e es h in
+    All-cons IsValidEdge _ (edges_behind face n first e es) (record { support = vn; before = vb; plane = ve; after = valid_first first es vf vs }) (valid_behind face n first e es vn vf ve vs)
+
+valid_round : (face : ℕ) (n : Plane) (es : List Plane) → IsValidPlane n → All IsValidPlane es → All IsValidEdge (edges_round face n es)
+valid_round face n [] vn h = All-nil IsValidEdge
+valid_round face n (e ∷ es) vn h =
+    let ve = All-head IsValidPlane e es h in
+    valid_behind face n e (last_or e es) (e ∷ es) vn ve (valid_last e es ve (All-tail IsValidPlane e es h)) h
+
+pub valid_edges : (face : ℕ) (fs : List Face) → All IsValidFace fs → All IsValidEdge (edges_of face fs)
+valid_edges face [] h = All-nil IsValidEdge
+valid_edges face (f ∷ fs) h =
+    let v = All-head IsValidFace f fs h in
+    All-append IsValidEdge (edges_round face f.support f.edges) (edges_of (face + 1) fs) (valid_round face f.support f.edges v.support v.edges) (valid_edges (face + 1) fs (All-tail IsValidFace f fs h))

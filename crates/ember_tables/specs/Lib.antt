@@ -1,0 +1,4 @@
+pub mod Edges
+pub mod Numberings
+pub mod Tables
+pub mod Drafts
