@@ -144,7 +144,7 @@ sign-neg (negsuc n) = refl
 pub sign_scaled : {c : ℤ} (a : ℤ) → pos 0 <ℤ c → sign (c *ℤ a) ≡ sign a
 sign_scaled {c} a p = sign-mul c a ∙ rw (sign_pos p) (omega (arith, linear, one-*ℤ (sign a)))
 
--- ---- a large factor: the sign of a * M + v is that of a, or of v where a is 0
+-- ---- a large factor: the sign of a * M + v is that of a, or of v if a is 0
 pub large_pos : {m n : ℕ} {a v : ℤ} → Small m v → m < n → pos 0 <ℤ a → pos 0 <ℤ (a *ℤ pos n +ℤ v)
 large_pos {m} {n} {a} {v} s l p = by a p
   where

@@ -44,7 +44,7 @@ every_append P [] ys h k = k
 every_append P (x ∷ xs) ys h k = (h.0, every_append P xs ys h.1 k)
 
 -- ---- sums
--- where each member of xs gives g of it to the count, the list made has the sum
+-- if each member of xs gives g of it to the count, the list made has the sum
 pub each_count : {X Y : Type 0} {R : X → List Y → Type 0} (p : Y → Bool) (g : X → ℕ) (Q : X → Type 0) (P : Y → Type 0) → ((x : X) (ys : List Y) → Q x → R x ys → Every P ys × (count_by p ys ≡ g x)) → {xs : List X} {ys : List Y} → Each R xs ys → Every Q xs → Every P ys × (count_by p ys ≡ sum_by g xs)
 each_count p g Q P f none q = (tt, refl)
 each_count p g Q P f (more {x = x} {xs = xs} {ys = ys} {zs = zs} r e) q =

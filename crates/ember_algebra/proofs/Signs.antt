@@ -169,7 +169,7 @@ zero_sum a b c = may_sum a b (flip c)
 abbrev pub sum3 : Sign → Sign → Sign → Sign → Bool
 sum3 a b c r = may_sum a b Neg and may_sum Neg c r or may_sum a b Zero and may_sum Zero c r or may_sum a b Pos and may_sum Pos c r
 
--- where c is 0, a and b have one sign
+-- if c is 0, a and b have one sign
 abbrev pub level_if_null : Sign → Sign → Sign → Bool
 level_if_null a b c = is_nil c ⇒ same_sgn a b
 

@@ -106,7 +106,7 @@ pub occurrences-append : {U : Type 0} (same : U → U → Bool) (x : U) (ys zs :
 occurrences-append same x [] zs = omega arith
 occurrences-append same x (y ∷ ys) zs = let r = occurrences-append same x ys zs in omega (arith, r)
 
--- where g is undone by h, the element x occurs under g as often as h x before
+-- if g is undone by h, the element x occurs under g as often as h x before
 pub occurrences-map : {U : Type 0} (same : U → U → Bool) (g h : U → U) → ((x y : U) → same x (g y) ≡ same (h x) y) → (x : U) (ys : List U) → occurrences same x (map g ys) ≡ occurrences same (h x) ys
 occurrences-map same g h e x [] = refl
 occurrences-map same g h e x (y ∷ ys) =
@@ -145,7 +145,7 @@ module _ {U : Type 0} (same : U → U → Bool) (eq : IsEquality U same) where
       let rest = total_same_occurrences f xs (without x ys) (λ z. let r = h z in let t = occurrences-without z x ys some in omega (arith, r, t)) in
       ap (λ (t : ℤ). f x +ℤ t) rest ∙ sym (total-without f x ys some)
 
-  -- where each element occurs as often as its image under turn, a term that turn negates adds up to 0
+  -- if each element occurs as often as its image under turn, a term that turn negates adds up to 0
   pub total_odd : (f : U → ℤ) (turn : U → U) → ((x : U) → f (turn x) ≡ neg_ℤ (f x)) → ((x y : U) → same x (turn y) ≡ same (turn x) y) → (xs : List U) → ((z : U) → occurrences same z xs ≡ occurrences same (turn z) xs) → total f xs ≡ pos 0
   total_odd f turn odd swaps xs h =
       let e = total_same_occurrences f xs (map turn xs) (λ z. h z ∙ sym (occurrences-map same turn turn swaps z xs)) in

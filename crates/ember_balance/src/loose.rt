@@ -124,7 +124,7 @@ fn two_way_numbers(alloc: Global, tris: &[Tri]) -> Result<Vec<u128>, OutOfMemory
     Ok(numbers)
 }
 
-// The triangles are balanced. This takes one list in order, where the least loose edge takes two.
+// The triangles are balanced. This takes one list in order; the least loose edge takes two.
 fn are_balanced(alloc: Global, tris: &[Tri]) -> Result<bool, OutOfMemory>
     requires valid { All IsValidTri tris.now }
     requires few { length tris.now ≤ 262144 }
@@ -148,8 +148,8 @@ fn least_loose(alloc: Global, tris: &[Tri]) -> Result<Option<Loose>, OutOfMemory
     }
 }
 
-/// `None` exactly where the triangles are balanced: each directed edge stands as often as its
-/// reverse. Else the least edge, by x, y and z of `from` and then of `to`, that stands more often
+/// `None` exactly if the triangles are balanced: each directed edge stands as often as its
+/// reverse. Otherwise the least edge, by x, y and z of `from` and then of `to`, that stands more often
 /// than its reverse.
 pub fn balance(alloc: Global, tris: &[Tri]) -> Result<Option<Loose>, OutOfMemory>
     requires valid { All IsValidTri tris.now }

@@ -21,7 +21,7 @@ impl Tally {
         self.there == self.back || has_one_end(self.number)
     }
 
-    // After one edge more. None where that is another edge and the one before isn't even.
+    // After one edge more. None if that is another edge and the one before isn't even.
     fn after(&self, two_way: u128) -> Option<Tally>
         requires { self.now.there + self.now.back ≤ 786432 }
         ensures tallied { IfSome result (λ t. (ks : List ℕ) → IsTallied ks self.now →
@@ -49,7 +49,7 @@ impl Tally {
     }
 }
 
-/// Each edge with two ends has one direction as often as the other, by the two-way numbers. Where
+/// Each edge with two ends has one direction as often as the other, by the two-way numbers. If
 /// they aren't in order, it may be overlooked.
 pub fn are_two_way(numbers: &[u128]) -> bool
     requires { length numbers.now ≤ 786432 }

@@ -1,4 +1,4 @@
--- A plane's least and greatest value over a box: a plane crosses a box where the box's corners aren't
+-- A plane's least and greatest value over a box: a plane crosses a box if the box's corners aren't
 -- all strictly on one side of it.
 use Rattle.std.proofs.Common.{◌≡◌, zero, suc, refl, sym, arith, Bool, true, false, not, ◌&&◌, if◌then◌else◌, ℤ, pos, negsuc, ◌+ℤ◌, ◌*ℤ◌, neg_ℤ, ◌≤ℤ◌, ◌<ℤ◌, int_le, [], ◌∷◌}
 use Rattle.std.specs.List.{list_all}

@@ -1,4 +1,4 @@
--- A plane that crosses a box crosses a half of it where its constant lies far enough from the plane's least
+-- A plane that crosses a box crosses a half of it if its constant lies far enough from the plane's least
 -- or greatest value over the box.
 use Rattle.std.proofs.Common.{◌≡◌, refl, sym, ap, ◌∙◌, arith, ◌^◌, ◌<◌, pred, Bool, true, false, ◌&&◌, if◌then◌else◌, ℤ, pos, ◌+ℤ◌, ◌-ℤ◌, ◌*ℤ◌, neg_ℤ, int_le}
 use Rattle.std.proofs.lemmas.Bool.{and_parts}
@@ -36,7 +36,7 @@ with_true false t e = refl
 true_with : (b t : Bool) → t ≡ true → b ≡ t && b
 true_with b t e = sym (ap (λ (s : Bool). s && b) e)
 
--- a plane crosses a box where neither margin is negative
+-- a plane crosses a box if neither margin is negative
 pub margins_cross : (p : Plane) (b : Aabb) (m : Margins) → AreMargins p b m → int_le (pos 0) m.above && int_le (pos 0) m.below ≡ crosses p b
 unfolding crosses
 margins_cross p b m a =

@@ -85,7 +85,7 @@ module _ (c : Cell) (t : Tri) (o : aabbs_meet (aabb_of_tri t) (aabb_of_cell c) �
   far_halves k above = λ i. number (far_low k above i) + number (far_high k above i)
 
 -- ---- a list of places
--- one more is looked at, and kept where the test holds
+-- one more is looked at, and kept if the test holds
 pub kept_more : (p : ℕ → Bool) (list : List ℕ) (i : ℕ) (old new : List ℕ) (b : Bool) → i < length list → old ≡ filter p (take i list) → b ≡ p (get_or list i 0) → new ≡ (if b then old ++ get_or list i 0 ∷ [] else old) → new ≡ filter p (take (i + 1) list)
 kept_more p list i old new b l o t n = n ∙ by b ∙ (λ j. o j ++ (if t j then get_or list i 0 ∷ [] else [])) ∙ sym (filter_more p list i 0 l)
   where

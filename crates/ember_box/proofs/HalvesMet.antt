@@ -1,4 +1,4 @@
--- What meets a box meets a half of it where it reaches the middle.
+-- What meets a box meets a half of it if it reaches the middle.
 use Rattle.std.proofs.Common.{◌≡◌, refl, sym, ap, ◌∙◌, arith, ◌<◌, Bool, true, false, ◌&&◌, ℤ, ◌≤ℤ◌, int_le}
 use borrow.Author.Differences.{ints}
 use Rattle.ember_model.specs.declared.point.Axis.{Axis}

@@ -132,7 +132,7 @@ are_inside b t e =
       of_c = record { on_x = x.1.1; on_y = y.1.1; on_z = z.1.1 };
     }
 
--- a half is crossed where the triangle lies in the box and its bounding box meets the half
+-- a half is crossed if the triangle lies in the box and its bounding box meets the half
 some_left : (c : Cell) (k : Axis) (t : Tri) → AreInside (aabb_of_cell c) t → int_le (along k (vector_of t.a)) (high (left_half c k) k) || (int_le (along k (vector_of t.b)) (high (left_half c k) k) || int_le (along k (vector_of t.c)) (high (left_half c k) k)) ≡ true → crosses (support_of t) (aabb_of_cell (left_half c k)) ≡ true
 some_left c k t i e =
     let h = high (left_half c k) k in

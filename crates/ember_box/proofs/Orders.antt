@@ -33,7 +33,7 @@ one_of_three true t u e = inl refl
 one_of_three false true u e = inr (inl refl)
 one_of_three false false u e = inr (inr e)
 
--- the least is at most h where one of them is
+-- the least is at most h if one of them is
 at_most_one : (a b h : ℤ) → int_le (int_min a b) h ≡ (int_le a h || int_le b h)
 at_most_one a b h = by (int_lt b a) refl
   where

@@ -10,7 +10,7 @@ abbrev pub axis_of : Option HalvedBox → Option Axis
 axis_of None = None
 axis_of (Some h) = Some h.axis
 
--- the places of the list at which triangles near the lower half stand, and those near the upper half
+-- the indices of the list whose triangles are near the lower half, and those near the upper half
 pub record AreNearLists (ts : List Tri) (c : Cell) (k : Axis) (is low high : List ℕ) : Type 0 where
   pub is_low : low ≡ near_indices ts (left_half c k) is
   pub is_high : high ≡ near_indices ts (right_half c k) is

@@ -44,7 +44,7 @@ is_near c t =
 abbrev pub near : List Tri → Cell → List Tri
 near ts c = filter (λ t. is_near c t) ts
 
--- ---- by their places in a scene
+-- ---- by their indices in a scene
 -- what stands past the end
 abbrev pub no_tri : Tri
 no_tri =
@@ -56,7 +56,7 @@ tri_at ts i = slice_index_or ts i no_tri
 abbrev pub listed : List Tri → List ℕ → List Tri
 listed ts is = map (λ i. tri_at ts i) is
 
--- the places of a list at which a triangle near the box stands
+-- the indices of a list whose triangle is near the box
 abbrev pub near_indices : List Tri → Cell → List ℕ → List ℕ
 near_indices ts c is = filter (λ i. is_near c (tri_at ts i)) is
 

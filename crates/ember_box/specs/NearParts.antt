@@ -72,6 +72,6 @@ pair_on X p = p.x
 pair_on Y p = p.y
 pair_on Z p = p.z
 
--- of the first places of a list, one after another
+-- of the first indices of a list, one after another
 pub record AreNearPartsAt (ts : List Tri) (c : Cell) (is : List ℕ) (ps : List NearParts) : Type 0 where
   pub each : (i : ℕ) → i < length ps → AreNearParts c (tri_at ts (slice_index_or is i 0)) (slice_index_or ps i no_parts)

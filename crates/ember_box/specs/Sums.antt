@@ -19,7 +19,7 @@ abbrev pub number : Bool → ℕ
 number b = if b then 1 else 0
 
 -- ---- one triangle
--- the plane that is looked at: none where the triangle lies in the box or across an axis
+-- the plane that is looked at: none if the triangle lies in the box or across an axis
 abbrev pub IsPlaneOf : Aabb → Tri → Option Plane → Type 0
 IsPlaneOf whole t None = is_level (aabb_of_tri t) || within whole (aabb_of_tri t) ≡ true
 IsPlaneOf whole t (Some p) = p ≡ support_of t
@@ -42,7 +42,7 @@ pub record AreHalvesSized (h : HalfBoxes) : Type 0 where
   pub sized_low : IsAabbSized h.low
   pub sized_high : IsAabbSized h.high
 
--- what meets the box meets a half where its interval along the axis reaches the middle
+-- what meets the box meets a half if its interval along the axis reaches the middle
 abbrev pub meets_left : HalfBoxes → Interval → Option Plane → Bool
 meets_left h a None = int_le a.low h.middle
 meets_left h a (Some p) = int_le a.low h.middle && crosses p h.low

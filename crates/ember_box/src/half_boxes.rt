@@ -8,7 +8,7 @@ use crate::aabb::{Aabb, Interval, aabb_of_cell, crosses, is_level, within};
 use crate::cell::{Cell, halves};
 use ember_model::{Axis, Plane, Tri, support_of};
 
-// The plane of a triangle with this bounding box. There is none where the triangle lies in the box
+// The plane of a triangle with this bounding box. There is none if the triangle lies in the box
 // or across an axis: there it is near each half that its bounding box meets.
 pub fn plane_of(whole: &Aabb, spans: &Aabb, t: &Tri) -> Option<Plane>
     requires valid { IsValidTri t.now }

@@ -86,7 +86,7 @@ fn lists_of(
     Ok((low, high))
 }
 
-/// The same by the triangles.
+/// The same as `halved`, for a list of triangles in place of a scene.
 pub fn halved_of(
     alloc: Global,
     tris: &[Tri],
@@ -113,7 +113,7 @@ pub fn halved_of(
     Ok(Some(HalvedBox { axis, low, high }))
 }
 
-/// None where the box is a leaf, and else the axis along which it is halved, with those of the
+/// None if the box is a leaf, and otherwise the axis along which it is halved, with those of the
 /// listed triangles that are near its lower half and those that are near its upper half, in order.
 pub fn halved(
     alloc: Global,

@@ -24,7 +24,7 @@ pub fn near_tri(c: &Cell, t: &Tri) -> bool
     is_near(&aabb_of_cell(c), t)
 }
 
-// The same by the bounding box of the closed box.
+// Whether the triangle is near the box that has this bounding box.
 fn is_near(b: &Aabb, t: &Tri) -> bool
     requires tri { IsValidTri t.now }
     requires spans { IsAabbSized b.now }
@@ -65,7 +65,7 @@ fn near_at(tris: &[Tri], b: &Aabb, i: u32) -> bool
     is_near(b, &tris[i as usize])
 }
 
-/// Those of the listed places of the triangles that are near the box, in order.
+/// Those of the listed indices whose triangles are near the box, in order.
 pub fn near_among(
     alloc: Global,
     tris: &[Tri],
@@ -94,7 +94,7 @@ pub fn near_list(alloc: Global, s: &Scene, list: &[u32], c: &Cell) -> Result<Vec
     near_among(alloc, s.tris.items(), list, c)
 }
 
-// A place more, if it belongs to the list, which has room for it.
+// Appends the index if it belongs to the list, which has room for it.
 pub fn push_if(belongs: bool, i: u32, list: &mut Vec<u32>)
     requires { vec_len list.old < vec_capacity list.old }
     ensures items { list.new.items ≡ (if belongs then list.old.items ++ i ∷ [] else list.old.items) }
@@ -123,7 +123,7 @@ fn near_each(whole: &Aabb, h: &HalfBoxes, k: Axis, t: &Tri) -> (bool, bool)
     }
 }
 
-/// Those of the listed places of the triangles that are near the lower half of the box along the
+/// Those of the listed indices whose triangles are near the lower half of the box along the
 /// axis, and those that are near the upper half, in order.
 pub fn near_halves_among(
     alloc: Global,

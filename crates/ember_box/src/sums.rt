@@ -172,7 +172,7 @@ pub fn is_leaf(s: &Scene, list: &[u32], c: &Cell) -> bool
     halving(s, list, c).is_none()
 }
 
-/// None where the box is a leaf, and else the axis along which it is halved.
+/// None if the box is a leaf, and otherwise the axis along which it is halved.
 pub fn halving(s: &Scene, list: &[u32], c: &Cell) -> Option<Axis>
     requires { All (λ i. i < length s.now.tris) list.now }
     ensures answer { result ≡ (if halvings.is_leaf (listed s.now.tris list.now) c.now then None
@@ -182,7 +182,7 @@ pub fn halving(s: &Scene, list: &[u32], c: &Cell) -> Option<Axis>
     halving_of(s.tris.items(), list, c)
 }
 
-/// The same by the triangles.
+/// The same as `halving`, for a list of triangles in place of a scene.
 #[tactic(auto, using(crate::proofs::Halvable::halvable_unless_leaf))]
 pub fn halving_of(tris: &[Tri], list: &[u32], c: &Cell) -> Option<Axis>
     requires valid { All IsValidTri tris.now }

@@ -37,7 +37,7 @@ module _ (place : Segment → ℕ) (small : (s : Segment) → place s < 42949672
       by true e r = λ i. cond (e i) 1 0 + r i
       by false e r = rw e (omega (arith, r))
 
--- where a number is too large, no segment has it
+-- if a number is too large, no segment has it
 module _ (p l c : ℕ) (large : l < 4294967296 → c < 4294967296 → ⊥) where
   outside : (ss : List Segment) → total (ended_at c) (filter (is_on p l) ss) ≡ pos 0
   outside [] = refl

@@ -27,7 +27,7 @@ one_list (x ∷ xs) (y ∷ ys) p q h = let r = one_list xs ys p.1 q.1 rest in λ
     rest n = let e = h n in let a = ap {B = ℕ} (λ (z : ℕ). cond (eqb n z) 1 0) same in omega (arith, e, a)
 
 module _ (us vs xs ys : List ℕ) (p : IsPermutation us xs) (q : IsPermutation vs ys) where
-  -- where the lists in order are one, each number stands as often before they were sorted
+  -- if the lists in order are one, each number stands as often before they were sorted
   pub counts_from_one_list : xs ≡ ys → (n : ℕ) → count n us ≡ count n vs
   counts_from_one_list e n =
       sym (count_permutation n us xs p) ∙ ap (count n) e ∙ count_permutation n vs ys q

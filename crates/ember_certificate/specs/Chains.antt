@@ -9,11 +9,11 @@ abbrev pub is_on : ℕ → ℕ → Segment → Bool
 is_on plane line s = nat_eq plane s.plane && nat_eq line s.line
 
 -- ---- over points
--- 1 where the rank of a corner is at most that of the point x
+-- 1 if the rank of a corner is at most that of the point x
 abbrev pub reached : ℤ → ℤ → ℤ
 reached rank x = if is_negative (x -ℤ rank) then pos 0 else pos 1
 
--- 1 where the segment runs over the points just after x along the line, -1 where it runs back over them, 0 elsewhere
+-- 1 if the segment runs over the points just after x along the line, -1 if it runs back over them, 0 otherwise
 abbrev pub coverage : (ℕ → ℤ) → ℤ → Segment → ℤ
 coverage rank x s = reached (rank s.start) x -ℤ reached (rank s.end) x
 
@@ -30,7 +30,7 @@ abbrev pub sum_on : ℕ → ℕ → (ℕ → ℤ) → List Segment → ℤ
 sum_on plane line f ss = total (λ s. f s.start -ℤ f s.end) (filter (is_on plane line) ss)
 
 -- ---- at corners
--- 1 where both numbers are equal
+-- 1 if both numbers are equal
 abbrev pub one_at : ℕ → ℕ → ℤ
 one_at corner n = if nat_eq corner n then pos 1 else pos 0
 

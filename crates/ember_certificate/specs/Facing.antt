@@ -41,7 +41,7 @@ seen_along Z s = record { x = s.x; y = s.y; z = s.w }
 abbrev pub rows : Vector → Vector → Vector → ℤ
 rows a b c = det3 a.x a.y a.z b.x b.y b.z c.x c.y c.z
 
--- positive where the three points turn to the left
+-- positive if the three points turn to the left
 abbrev pub turn_along : Axis → Spot → Spot → Spot → ℤ
 turn_along k u v w = rows (seen_along k u) (seen_along k v) (seen_along k w)
 

@@ -42,7 +42,7 @@ pub displacement_value : (h : Plane) (u v : Spot) → u.w *ℤ value_at h v -ℤ
 displacement_value h u v =
     identity (tuple ∷ tuple ∷ tuple ∷ []) (λ h u v. u.w ⊗ valueE h v ⊖ v.w ⊗ valueE h u ≈ dotE (normalE h) (displacementE u v)) cancels (plane_tuple h) (spot_tuple u) (spot_tuple v)
 
--- a plane that is 0 at u is 0 where its normal has no product with the way
+-- a plane that is 0 at u is 0 if its normal has no product with the way
 pub zero_carried : (h : Plane) (u v : Spot) → pos 0 <ℤ u.w → value_at h u ≡ pos 0 → dot (normal h) (displacement u v) ≡ pos 0 → value_at h v ≡ pos 0
 zero_carried h u v w zu o =
     cancel_zero u.w (value_at h v) w (drop (displacement_value h u v ∙ o) (zero_scaled v.w (value_at h u) zu))

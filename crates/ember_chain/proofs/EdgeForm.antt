@@ -31,7 +31,7 @@ use Rattle.ember_chain.proofs.Setting.{IsGeneral, IsGeneralFace, IsOffEnds, edge
 use Rattle.ember_chain.proofs.Displacements.{displacementE, none_parallel, displacement_value, zero_carried, parallel_onward, Parallel, parallel_swap, parallel_orthogonal, parallel_both, square_positive, dot_swap, zero_vector_in, zero_vector_out, zero_not, orthogonal_to_none}
 
 -- ---- numbers
--- 1 where a number isn't negative
+-- 1 if a number isn't negative
 abbrev pub is_past : ℤ → ℤ
 is_past a = cond (is_negative a) (pos 0) (pos 1)
 
@@ -156,7 +156,7 @@ module _ (f : Face) (e : RingEdge) (end : Spot) (edge : IsEdge f e end) where
         let o = parallel_orthogonal (normal h) d (displacement e.start end) runs_nonzero (parallel_swap (displacement e.start end) d p) (flat_displacement h e.start end hu hv) in
         zero_carried h e.start t start_on.closed.weight hu (parallel_orthogonal (normal h) (displacement e.start t) d nd q o)
 
-    -- where t is on the edge, the edge leads over it
+    -- if t is on the edge, the edge leads over it
     on_edge : is_on_edge f e.plane t ≡ true → IsGeneral d t f.support → IsGeneral d t e.plane → IsOffEnds d t whole → coverage t d whole ≡ sign (dot course d)
     on_edge h gn gg off =
         let on = edge_out f e.plane t h in
@@ -186,7 +186,7 @@ module _ (f : Face) (e : RingEdge) (end : Spot) (edge : IsEdge f e end) where
         gap u q =
             ap (λ (z : ℤ). z *ℤ dot d d) (displacement_value h u t) ∙ parallel_products (normal h) d (displacement u t) d q ∙ ap (λ (z : ℤ). dot (normal h) d *ℤ z) (dot_swap d (displacement u t))
 
-    -- where t isn't on the edge, the edge doesn't lead over it
+    -- if t isn't on the edge, the edge doesn't lead over it
     off_edge : is_on_edge f e.plane t ≡ false → coverage t d whole ≡ pos 0
     off_edge h =
         by (is_parallel d whole && is_on_line t d e.start) refl

@@ -43,7 +43,7 @@ loops_are_legs : (c : Axis) (t : Spot) (m : ℤ) (fs : List Face) → total (loo
 loops_are_legs c t m [] = refl
 loops_are_legs c t m (f ∷ fs) = let r = loops_are_legs c t m fs in omega (arith, linear, r)
 
--- where all axes count alike at the corners, they cancel
+-- if all axes count alike at the corners, they cancel
 loops_cancel : (ts : List Tri) (ws : List WrittenFace) (c : Axis) (t : Spot) (m : ℤ) → AxesAgreeOffScene ts (map face_from ws) → IsClearCorner ts ws (corner c t m (pos 1) (negsuc 0)) → IsClearCorner ts ws (corner c t m (pos 1) (pos 1)) → IsClearCorner ts ws (corner c t m (negsuc 0) (pos 1)) → IsClearCorner ts ws (corner c t m (negsuc 0) (negsuc 0)) → total (loop c t m) (map face_from ws) ≡ pos 0
 loops_cancel ts ws c t m agree k1 k2 k3 k4 =
     let fs = map face_from ws in let a = next c in let b = next (next c) in

@@ -130,7 +130,7 @@ module _ (x : Spot) (d : Vector) (t : Spot) (c : Axis) (sa sb : ℤ) (heavy : po
   clear_all [] lines r = record { from = 0; holds = λ m l. tt }
   clear_all (w ∷ ws) lines r = eventually_map (λ m h. (h.0, h.1)) (eventually_both (clear_face w lines.0 r.0) (clear_all ws lines.1 r.1))
 
-  -- where t is ready, its corners are clear
+  -- if t is ready, its corners are clear
   pub clear_corner : (ts : List Tri) (ws : List WrittenFace) → AllByRecursion IsOutlined ws → IsReady x d ts ws t → Eventually (λ m. IsClearCorner ts ws (corner c t (pos m) sa sb))
   clear_corner ts ws lines r =
       eventually_map (λ m h. record { weight = h.0; scene = clear_faces (corner c t (pos m) sa sb) ts h.1.0; faces = h.1.1 }) (eventually_both weights (eventually_both (eventually_each (λ u m. IsClearOf u (corner c t (pos m) sa sb)) ts (each_map (λ u. IsReadyTri d t u) (λ u. Eventually (λ m. IsClearOf u (corner c t (pos m) sa sb))) ts clear_tri r.tris)) (clear_all ws lines r.faces)))

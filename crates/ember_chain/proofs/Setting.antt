@@ -15,7 +15,7 @@ use Rattle.ember_model.specs.Edges.{RingEdge, normal, is_on_edge}
 use Rattle.ember_chain.specs.Chains.{DirectedEdge, displacement}
 
 -- ---- on a line
--- the point a little ahead of x along d, where m is large
+-- the point a little ahead of x along d, if m is large
 abbrev pub ahead : Spot → Vector → ℤ → Spot
 ahead x d m =
     record { x = m *ℤ x.x +ℤ d.x; y = m *ℤ x.y +ℤ d.y; z = m *ℤ x.z +ℤ d.z; w = m *ℤ x.w }

@@ -54,11 +54,11 @@ IsClosed es =
     (x : Spot) (d : Vector) → pos 0 <ℤ x.w → is_zero_vector d ≡ false → starts_at x d es ≡ ends_at x d es
 
 -- ---- coverage
--- 1 where x doesn't lie before u along d
+-- 1 if x doesn't lie before u along d
 abbrev pub reached : Vector → Spot → Spot → ℤ
 reached d u x = cond (is_negative (dot (displacement u x) d)) (pos 0) (pos 1)
 
--- 1 where the edge runs along d over the points just after x on the line through x, -1 where it runs against d, 0
+-- 1 if the edge runs along d over the points just after x on the line through x, -1 if it runs against d, 0
 -- elsewhere
 abbrev pub coverage : Spot → Vector → DirectedEdge → ℤ
 coverage x d e =

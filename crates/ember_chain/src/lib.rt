@@ -1,4 +1,4 @@
-//! Closed surfaces: where the winding numbers of faces agree along all axes, the edges of their
+//! Closed surfaces: if the winding numbers of faces agree along all axes, the edges of their
 //! outlines are closed.
 #![tactic(auto)]
 

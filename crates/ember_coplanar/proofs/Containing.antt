@@ -1,4 +1,4 @@
--- A face of the plane of a triangle lies in the triangle exactly where it is below the three edge planes
+-- A face of the plane of a triangle lies in the triangle exactly if it is below the three edge planes
 use Rattle.std.proofs.Common.{◌≡◌, ℕ, refl, sym, ap, subst, ◌∙◌, Bool, true, false, Option, Some, None, List, [], ◌∷◌, slice_get, zero, suc, ℤ, pos, negsuc}
 use Rattle.std.specs.List.{list_all}
 use Rattle.std.proofs.lemmas.Bool.{and_parts, and_from}

@@ -1,4 +1,4 @@
--- A triangle owns a face where none before it contains the face
+-- A triangle owns a face if none before it contains the face
 use Rattle.std.proofs.Common.{◌≡◌, ◌⊎◌, inl, inr, ℕ, ◌+◌, ◌<◌, ◌≤◌, refl, sym, ap, subst, ◌∙◌, arith, Bool, true, false, cond, None, Some, pos, List, length, length-take, take, get_or, slice_get}
 use Rattle.std.specs.Option.{IfSome}
 use Rattle.std.proofs.lemmas.Bool.{cases_lt, and_parts}

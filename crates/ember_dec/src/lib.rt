@@ -11,7 +11,7 @@ use thiserror::Error;
 /// Why a text is no coordinate.
 #[derive(Clone, Copy, Debug, PartialEq, Eq, Error)]
 pub enum DecFault {
-    /// It isn't a sign, where there is one, and digits with at most one point among them.
+    /// It isn't a sign, if there is one, and digits with at most one point among them.
     #[error("malformed")]
     Malformed = 1,
     /// A digit past the places isn't 0.
@@ -37,7 +37,7 @@ fn are_zeros(text: &[u8]) -> bool
     text.iter().all(|b| *b == b'0')
 }
 
-// The number with these digits behind those of `start`, or the limit where it is larger.
+// The number with these digits behind those of `start`, or the limit if it is larger.
 #[tactic(auto, using(crate::proofs::Capped::capped))]
 fn append_digits(start: u32, digits: &[u8]) -> u32
     requires digits { list_all is_ascii_digit digits.now ≡ true }
@@ -52,7 +52,7 @@ fn append_digits(start: u32, digits: &[u8]) -> u32
     value
 }
 
-// The number with this many zeros behind the digits of `start`, or the limit where it is larger.
+// The number with this many zeros behind the digits of `start`, or the limit if it is larger.
 fn append_zeros(start: u32, count: usize) -> u32
     requires { start ≤ LIMIT }
     ensures value { result ≡ min LIMIT (number_from start (replicate count 48)) }
@@ -77,7 +77,7 @@ fn split_places(fraction: &[u8], places: usize) -> (&[u8], &[u8])
     }
 }
 
-// The size in units, or the limit where it is larger.
+// The size in units, or the limit if it is larger.
 #[tactic(auto, using(crate::proofs::Capped::capped_parts))]
 fn capped_units(places: usize, whole: &[u8], fraction: &[u8]) -> u32
     requires whole { list_all is_ascii_digit whole.now ≡ true }
@@ -127,7 +127,7 @@ fn split_point(text: &[u8]) -> (&[u8], &[u8])
 ///
 /// A coordinate is an optional `+` or `-`, then digits, then optionally a point and digits, with at
 /// least one digit in all; every other text is [`Malformed`](DecFault::Malformed). A digit past the
-/// places that isn't 0 gives [`Fraction`](DecFault::Fraction), and else a size above 2047 units gives
+/// places that isn't 0 gives [`Fraction`](DecFault::Fraction), and otherwise a size above 2047 units gives
 /// [`Range`](DecFault::Range). Takes no memory.
 pub fn coordinate(text: &[u8], places: u8) -> Result<i32, DecFault>
     requires { places ≤ 3 }

@@ -12,12 +12,13 @@ pub record IsPrefix (ws : List Word) : Type 0 where
   pub tree : Formula
   pub derived : IsExpression (ws ++ others) tree
 
--- no text of the grammar goes on with the next word; where none is left, none ends here
+-- no text of the grammar begins with the words before and the next one; if there is no next word, the words
+-- before are no text of the grammar
 abbrev pub NoneGoesOn : List Word → List Word → Type 0
 NoneGoesOn before [] = (f : Formula) → IsExpression before f → ⊥
 NoneGoesOn before (w ∷ ws) = IsPrefix (before ++ w ∷ []) → ⊥
 
--- the place of the first token; that of the text's end where none is left
+-- the place of the first token, or of the text's end if no token is left
 abbrev pub place_of : ℕ → List Token → ℕ
 place_of end [] = end
 place_of end (t ∷ ts) = t.place

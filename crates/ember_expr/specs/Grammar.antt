@@ -31,7 +31,7 @@ abbrev pub ◌>>=◌ : {A B : Type 0} → Result A ExprFault → (A → Result B
 Ok x >>= go = go x
 Err fault >>= go = Err fault
 
--- no text has this token here; where none is left, the text ends too early
+-- no text has this token here; if none is left, the text ends too early
 abbrev pub misplaced : Scope → List Token → ExprFault
 misplaced scope [] = Syntax scope.end
 misplaced scope (t ∷ ts) = Syntax t.place
@@ -193,7 +193,7 @@ comparison scope tokens = do
   right ← sum scope rel.rest
   read (Compare left.part rel.part right.part) right.rest
 
--- goes on inside a parenthesis or a `!`, where these are not too many
+-- goes on inside a parenthesis or a `!`, if these are not too many
 abbrev pub inside : {A B : Type 0} → Option A → ℕ → (A → Result B ExprFault) → Result B ExprFault
 inside None place go = Err (Deep place)
 inside (Some inner) place go = go inner
@@ -218,7 +218,7 @@ abbrev pub not_with : Scope → Option (Rule Formula) → Rule Formula
 not_with scope inner [] = Err (Syntax scope.end)
 not_with scope inner (t ∷ ts) = not_at scope inner t t.word ts
 
--- the rule of `not` inside one more parenthesis or `!`, where at most `left` may still come
+-- the rule of `not` inside one more parenthesis or `!`, if at most `left` may still come
 abbrev pub deeper : Scope → ℕ → Option (Rule Formula)
 deeper scope zero = None
 deeper scope (suc left) = Some (not_with scope (deeper scope left))

@@ -76,7 +76,7 @@ pub fn tree(e: &Expr) -> &Tree
     &e.formula
 }
 
-/// Whether the expression doesn't hold where all winding numbers are 0.
+/// Whether the expression is false if all winding numbers are 0.
 pub fn bounded(e: &Expr) -> bool
     ensures { result ≡ not (truth (replicate 64 (pos 0)) (formula_of e.now)) }
 {

@@ -8,7 +8,7 @@ use thiserror::Error;
 /// Why a text is no expression. Places are those of a token's first byte, counted from 0.
 #[derive(Clone, Copy, Debug, PartialEq, Eq, Error)]
 pub enum ExprFault {
-    /// The token at this place can't stand there; the text's length where it ends too early.
+    /// The token at this place can't stand there; the text's length if it ends too early.
     #[error("syntax at {0}")]
     Syntax(u32),
     /// The `(` or `!` at this place stands inside 64 others.

@@ -14,7 +14,7 @@ pub enum Rel {
     Greater,
 }
 
-/// The product of `factor` and the winding number of the mesh, subtracted where `minus` holds.
+/// The product of `factor` and the winding number of the mesh, subtracted if `minus` holds.
 /// Mesh 0 stands for a plain number, the factor alone. Meshes are numbered from 1.
 #[derive(Clone, Copy, Debug, PartialEq, Eq)]
 pub struct Term {

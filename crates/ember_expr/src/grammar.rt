@@ -268,7 +268,7 @@ fn comparison(alloc: Global, scope: Scope, tokens: &[Token]) -> Result<(Tree, &[
     Ok((Tree::Compare(left, rel, right), rest))
 }
 
-// How many parentheses and signs `!` may come inside this one, where `left` with this one may.
+// How many parentheses and signs `!` may come inside this one, if `left` with this one may.
 fn one_deeper(left: u32, place: u32) -> Result<u32, ExprFault>
     ensures inner { (scope : Scope) →
         MatchResult result (λ less. deeper scope left ≡ Some (not scope less)) (λ e. (deeper scope left ≡ None) ×
@@ -343,7 +343,7 @@ fn join(alloc: Global, kind: Joint, a: Tree, b: Tree) -> Result<Tree, ExprFault>
     }
 }
 
-/// The tree of a text of these tokens, where at most `left` parentheses and signs `!` may stand
+/// The tree of a text of these tokens, if at most `left` parentheses and signs `!` may stand
 /// inside one another.
 #[tactic(auto, unfolding(crate::specs::Grammar::whole))]
 pub fn formula(alloc: Global, scope: Scope, left: u32, tokens: &[Token]) -> Result<Tree, ExprFault>

@@ -8,7 +8,7 @@ ghost use Rattle.ember_expr.specs.Grammar.{expr_of};
 ghost use Rattle.ember_expr.specs.Derivation.{Phrase, Derives, IsExpression, HasTree, words_of};
 ghost use Rattle.ember_expr.specs.FirstBadToken.{IsFirstBadToken};
 
-/// A text is parsed as a tree exactly where it is within the limits and the grammar derives its
+/// A text is parsed as a tree exactly if it is within the limits and the grammar derives its
 /// words as this tree. A text whose words the grammar derives has no syntax fault, within the
 /// limits or not. The words of a phrase have one tree.
 pub fn texts_have_the_tree_of_the_grammar()

@@ -19,7 +19,7 @@ pub enum Word {
     Star,
     Compare(Rel),
     Odd,
-    /// A number, or 1,000,001 where it is above 1,000,000.
+    /// A number, or 1,000,001 if it is above 1,000,000.
     Number(u32),
     /// `m` and a number.
     Mesh(u32),

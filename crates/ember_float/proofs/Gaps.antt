@@ -45,7 +45,7 @@ module _ (x d m : ℕ) (near : IsNearest x d m) where
       (λ l. nearer_below x d (m * d) (k * d) (multiple_above k m d l) from)
       (λ h. by_lt m k (λ l. nearer_above x d (m * d) (k * d) (multiple_above m k d l) to) (λ l. same_multiple x d k m l h))
 
-  -- where another is as near, it is an even one
+  -- if another is as near, it is an even one
   pub nearest_of_two : (k : ℕ) → 0 < d → (k ≡ m → ⊥) → gap x (k * d) ≤ gap x (m * d) → m % 2 ≡ 0
   nearest_of_two k p other as_near =
       by_lt k m

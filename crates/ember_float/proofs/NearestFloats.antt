@@ -140,7 +140,7 @@ module _ (n d place m : ℕ) (p : 0 < d) (scaled : IsScaled n d place m) (below 
   pub is_finite : place * 8388608 + m < 255 * 8388608
   is_finite = by_lt place 253 (λ l. omega (arith, most, l)) (λ h. let k : m < 16777216 = at_top (omega arith) in omega (arith, k, top))
 
-  -- a float of this sign, or of the other where it is 0
+  -- a float of this sign, or of the other if it is 0
   module _ (minus sign : Bool) (bits : ℕ) (same : number sign (m * 2 ^ place) ≡ number minus (m * 2 ^ place)) (is : bits ≡ sign_bit sign + (place * 8388608 + m)) where
     near_any : (w : Fraction) → Float w → distance (signed minus n) d (number minus (m * 2 ^ place)) ≤ distance (signed minus n) d w
     near_any w f = rw f.3.is (either_sign (λ (b : Bool). distance (signed minus n) d (number minus (m * 2 ^ place)) ≤ distance (signed minus n) d (number b (f.1 * 2 ^ f.2))) minus f.0 (near_same n d place m p scaled minus f.1 f.2 f.3.short) (near_other n d place m p scaled minus (f.1 * 2 ^ f.2)))

@@ -7,7 +7,7 @@ use Rattle.ember_number.specs.Floats.{binary32_value}
 abbrev pub distance : ℤ → ℕ → Fraction → ℕ
 distance n d v = unsigned_abs (n *ℤ pos v.denominator -ℤ v.numerator *ℤ pos d)
 
--- these are the bits of a finite number; no other is nearer to n / d, and their significand is even where one is as
+-- these are the bits of a finite number; no other is nearer to n / d, and their significand is even if one is as
 -- near. They aren't those of -0.
 pub record IsNearestBinary32 (n : ℤ) (d bits : ℕ) : Type 0 where
   pub value : Fraction

@@ -31,7 +31,7 @@ fn joined(n: &Wide, d: u128, place: u32, significand: u32) -> u32
 }
 
 /// The bits of the binary32 (an IEEE 754 float of 32 bits) that is nearest to `n / d`; of two, the one with the even
-/// significand. It is never -0. None where the size of the fraction is 2^128 - 2^103 or more, which rounds to infinity.
+/// significand. It is never -0. None if the size of the fraction is 2^128 - 2^103 or more, which rounds to infinity.
 /// The denominator is from 1 to 2^127 - 1.
 pub fn nearest_binary32(n: &Wide, d: u128) -> Option<u32>
     requires positive { 0 < d }

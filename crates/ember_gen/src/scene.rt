@@ -16,7 +16,7 @@ struct Meshes {
 }
 
 impl Meshes {
-    // Box i belongs to the first mesh where i is even, and else to the second.
+    // Box i belongs to the first mesh if i is even, and otherwise to the second.
     fn push(&mut self, i: u32, block: &Block) -> Result<(), OutOfMemory>
         ensures first { OnOk result (self.new.first.items ≡ self.old.first.items ++
             (if is_even i then triangles_of 1 block.now else [])) }

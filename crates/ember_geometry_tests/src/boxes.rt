@@ -99,7 +99,7 @@ fn triangles_that_touch_the_middle_are_near_each_half_of_the_root(
     check_near(&rt, rt.alloc(), &[STAR, STAR, STAR, STAR, STAR], 20)
 }
 
-// The axis along which a job's box is halved, or none where it is a leaf; whether it is a leaf;
+// The axis along which a job's box is halved, or none if it is a leaf; whether it is a leaf;
 // and the axis that is best.
 fn halving_of(s: &Scene, job: &Job) -> (Option<Axis>, bool, Axis)
     requires { IsJob s.now.tris job.now }

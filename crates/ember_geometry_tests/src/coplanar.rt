@@ -28,7 +28,7 @@ fn triangles_of_one_plane(rt: HostRuntime) {
 }
 
 // A triangle of a list is coplanar with `own`, in whose plane the ring lies: whether it contains
-// the ring, and whether it owns it. None where it isn't coplanar.
+// the ring, and whether it owns it. None if it isn't coplanar.
 fn holds_and_owns(near: &[Tri], i: u32, own: &Tri, ring: &Ring) -> Option<(bool, bool)>
     requires valid { All IsValidTri near.now }
     requires place { i < length near.now }

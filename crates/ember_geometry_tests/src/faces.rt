@@ -51,7 +51,7 @@ fn faces_of_the_tetrahedron(rt: HostRuntime) -> Result<(), Fail> {
     Ok(())
 }
 
-// Whether the point is clear of the triangle, or none where it is otherwise for its face.
+// Whether the point is clear of the triangle, or none if it is otherwise for its face.
 fn clear_by_both(alloc: Global, p: &Spot, t: &Tri) -> Result<Option<bool>, OutOfMemory>
     requires spot { IsValidSpot p.now }
     requires tri { IsValidTri t.now }
@@ -63,7 +63,7 @@ fn clear_by_both(alloc: Global, p: &Spot, t: &Tri) -> Result<Option<bool>, OutOf
     }
 }
 
-// The crossing of the ray with the triangle, or none where there is no face or that with it is
+// The crossing of the ray with the triangle, or none if there is no face or that with it is
 // another.
 fn crossing_by_both(alloc: Global, p: &Spot, k: Axis, t: &Tri) -> Result<Option<i32>, OutOfMemory>
     requires spot { IsValidSpot p.now }

@@ -1,4 +1,4 @@
-// The truth of expressions where the winding numbers of some meshes are undecided.
+// The truth of expressions if the winding numbers of some meshes are undecided.
 ghost use Rattle.ember_expr.specs.Truth.{AreCounts};
 
 use crate::scenes::expression;

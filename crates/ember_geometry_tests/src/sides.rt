@@ -54,7 +54,7 @@ fn sides_by_each_way(
     Ok([traced, beside, whole])
 }
 
-// The sides of the region, or none where the ways differ.
+// The sides of the region, or none if the ways differ.
 fn sides_of(alloc: Global, s: &Scene, job: &Job, ring: &Ring) -> Result<Option<Sides>, OutOfMemory>
     requires { IsJob s.now.tris job.now }
 {

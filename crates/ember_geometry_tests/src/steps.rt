@@ -1,4 +1,4 @@
-// One box of a Boolean: passed, a leaf or halves.
+// One box of a Boolean: skipped, a leaf or halves.
 use crate::scenes::{expression, scene_of_files};
 use crate::texts::{C, D, TETRA, TETRA_TEXT};
 use ember_gen::scene_of;

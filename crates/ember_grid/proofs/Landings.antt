@@ -153,7 +153,7 @@ pub surfaces_land : (ss : List Surface) (g : Grid) (c : Coordinates) → All IsW
 surfaces_land ss g c h k lands i d l =
     surface_lands g (get_or ss i d) (all_out (IsOnGrid g) (λ s. flat_map (corners_of s.vertices.items) s.facets.items) ss (corners_land ss g c h k lands) i d l)
 
--- the same where there is a grid
+-- the same if there is a grid
 pub surfaces_land_if : (ss : List Surface) (c : Coordinates) (r : Result Grid GridFault) → All IsWithinLimit ss → HasCoordinates ss c → IfOk r (λ g. LandsOnGrid g.step c g.offset) → IfOk r (λ g. All (Lands g) ss)
 surfaces_land_if ss c (Ok g) h k lands = surfaces_land ss g c h k lands
 surfaces_land_if ss c (Err e) h k lands = tt

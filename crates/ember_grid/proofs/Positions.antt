@@ -53,9 +53,9 @@ unfolding cell_at
 same_corner_on g v w s h =
     let p = and_parts _ _ h in
     let q = and_parts _ _ p.1 in
-    let x = same_cell g.step (value_of v.x) (value_of w.x) s.over_zero (denominator_pos v.x) (denominator_pos w.x) p.0 in
-    let y = same_cell g.step (value_of v.y) (value_of w.y) s.over_zero (denominator_pos v.y) (denominator_pos w.y) q.0 in
-    let z = same_cell g.step (value_of v.z) (value_of w.z) s.over_zero (denominator_pos v.z) (denominator_pos w.z) q.1 in
+    let x = same_cell g.step (value_of v.x) (value_of w.x) s.numerator_positive (denominator_pos v.x) (denominator_pos w.x) p.0 in
+    let y = same_cell g.step (value_of v.y) (value_of w.y) s.numerator_positive (denominator_pos v.y) (denominator_pos w.y) q.0 in
+    let z = same_cell g.step (value_of v.z) (value_of w.z) s.numerator_positive (denominator_pos v.z) (denominator_pos w.z) q.1 in
     λ i. record { x = x i -ℤ g.offset.x; y = y i -ℤ g.offset.y; z = z i -ℤ g.offset.z }
 
 -- ---- the first vertex at a position

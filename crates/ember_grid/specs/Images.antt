@@ -21,7 +21,7 @@ image at mesh f = record {
 abbrev pub has_equal_corners : Tri → Bool
 has_equal_corners t = same_corner t.a t.b || (same_corner t.b t.c || same_corner t.c t.a)
 
--- a triangle vanishes where the map takes two corners to one
+-- a triangle vanishes if the map takes two corners to one
 abbrev pub vanishes : (ℕ → Corner) → Facet → Bool
 vanishes at f = has_equal_corners (image at 0 f)
 

@@ -134,7 +134,7 @@ impl Shelf for MemoryShelf {
         ensures cause { HasCause self.old.faults self.new.faults result }
         ensures mark { MarksFault self.old.fault_at self.new.fault_at self.old.begun result }
 
-        // It fails exactly at the chosen calls, and else gives as much as fits, up to a piece.
+        // It fails exactly at the chosen calls, and otherwise gives as much as fits, up to a piece.
         ensures fails { IsErr result ↔ Contains self.old.failing (counted self.old.calls) }
         ensures count { IfOk result (λ n. n ≡ min self.old.piece (min (length buf.old) (length self.old.unread))) }
         ensures counts { CountsFault self.old.faults self.new.faults result }

@@ -98,7 +98,7 @@ impl Sink for MemorySink {
         ensures flushed { self.new.flushed ≤ self.old.flushed }
         ensures cause { HasCause self.old.faults self.new.faults result }
 
-        // It fails exactly at the chosen calls and where the room is used up, and else takes as
+        // It fails exactly at the chosen calls and if the room is used up, and otherwise takes as
         // much as there is room for, up to a piece.
         ensures fails { IsErr result ↔ FailsToWrite self.old piece.now }
         ensures count { IfOk result (λ n. n ≡

@@ -46,7 +46,7 @@ impl<'a, R: Files> FileShelf<'a, R> {
 impl<'a, R: Files> Shelf for FileShelf<'a, R> {
     ghost contents = { λ _ _. None };
 
-    // None are unread where no file is open, and else they aren't told.
+    // None are unread if no file is open, and otherwise they aren't told.
     ghost unread = { λ s. option_map_or (λ _. None) s.file (Some []) };
 
     ghost begun = { λ s. s.begun };

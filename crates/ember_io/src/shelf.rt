@@ -13,10 +13,10 @@ use thiserror::Error;
 /// Files by name, of which the one begun last is read. At the start no bytes are unread, and the
 /// numbers of the last `begin` and of the last fault are 0.
 pub trait Shelf {
-    /// The bytes of each name, where they are told.
+    /// The bytes of each name, if they are told.
     ghost contents: { Self → List ℕ → Option (List ℕ) };
 
-    /// The bytes of the file begun last that are still unread, where they are told.
+    /// The bytes of the file begun last that are still unread, if they are told.
     ghost unread: { Self → Option (List ℕ) };
 
     /// The number that the last `begin` was given.

@@ -11,7 +11,7 @@ use thiserror::Error;
 
 /// A place that takes bytes, some of which are flushed.
 pub trait Sink {
-    /// The bytes taken so far, where they are told.
+    /// The bytes taken so far, if they are told.
     ghost taken: { Self → Option (List ℕ) };
 
     /// How many of them are flushed.

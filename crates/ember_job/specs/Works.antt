@@ -31,7 +31,7 @@ abbrev pub Splits : (Job → Shape) → (Job → Type 0) → Type 0
 Splits shape valid = (job low high : Job) → valid job → shape job ≡ halved low high →
     (valid low × valid high) × IsSplit job.cell low.cell high.cell
 
--- an outcome answers a job where it has the job's shape and its item answers the job
+-- an outcome answers a job if it has the job's shape and its item answers the job
 abbrev pub Answers : {I : Type 0} → (Job → Shape) → (Job → I → Type 0) → Job → Outcome I → Type 0
 Answers shape item job (Halves low high) = shape job ≡ halved low high
 Answers shape item job (Leaf it) = (shape job ≡ leafed) × item job it

@@ -5,7 +5,7 @@ ghost use Rattle.ember_job.specs.Works.{Shape, halved, IsSplit, Answers, Answers
 
 use crate::{Job, OutOfMemory, Outcome};
 
-/// What a run does at its boxes. An outcome answers a job where it has the job's shape and, for a
+/// What a run does at its boxes. An outcome answers a job if it has the job's shape and, for a
 /// leaf, an item that answers the job.
 pub trait Work {
     /// What a leaf gives.
@@ -14,7 +14,7 @@ pub trait Work {
     /// Which jobs are valid.
     ghost valid: { Self → Job → Type 0 };
 
-    /// The shape of a job: its two halves, a leaf, or passed over.
+    /// The shape of a job: its two halves, a leaf, or skipped.
     ghost shape: { Self → Job → Shape };
 
     /// Which items answer a job that is a leaf.

@@ -110,7 +110,7 @@ quotients_are_lowest g d vs us i e l m =
     one_divides : (k : ℕ) → 1 ∣ k
     one_divides k = subst (λ n. 1 ∣ n) (omega arith) (dvd-mul_right 1 k)
 
--- they are where the greatest common divisor is 1
+-- they are if the greatest common divisor is 1
 pub lowest_where_one : (us : List ℤ) (g : ℕ) → IsGreatestDivisor us g → g ≡ 1 → AreLowest us
 lowest_where_one us g i e =
     record { lowest = λ k p. dvd_antisymm (subst (λ (n : ℕ). k ∣ n) e (i.greatest k p)) (subst (λ n. 1 ∣ n) (omega arith) (dvd-mul_right 1 k)) }

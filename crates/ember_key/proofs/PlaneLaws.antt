@@ -154,7 +154,7 @@ by_size zero l f g = f refl
 by_size (suc zero) l f g = g refl
 by_size (suc (suc n)) l f g = absurd (omega arith)
 
--- nothing is to divide where the greatest common divisor is at most 1
+-- nothing is to divide if the greatest common divisor is at most 1
 pub own_key : (p : Plane) (d : ℤ) → IsGreatestDivisor (coefficients p) (unsigned_abs d) → pos 0 ≤ℤ d → d ≤ℤ pos 1 → IsPlaneKey p p
 own_key p d i n l =
     record { same = same_oriented_self p; lowest = λ some. by_size (unsigned_abs d) (omega (arith, ints)) (λ e. let z = all_zero (coefficients p) (subst (λ (k : ℕ). Divides k (coefficients p)) e i.divides) in absurd (some (same_plane z.0 z.1.0 z.1.1.0 z.1.1.1.0))) (λ e. lowest_where_one (coefficients p) (unsigned_abs d) i e) }

@@ -30,7 +30,7 @@ first_sign_scaled f (u ∷ us) (v ∷ vs) n m =
     some : u ≢ pos 0 → first_sign (v ∷ vs) ≡ sign f *ℤ first_sign (u ∷ us)
     some k = first_nonzero v vs (λ z. ⊎_elim n k (zero_product (m.0 ∙ z))) ∙ ap sign (sym m.0) ∙ sign-mul f u ∙ ap (λ (z : ℤ). sign f *ℤ z) (sym (first_nonzero u us k))
 
--- the factor turns the first sign to 1 where it has that sign
+-- the factor turns the first sign to 1 if it has that sign
 pub forward_where_same_sign : (f : ℤ) (us vs : List ℤ) → f ≢ pos 0 → AreMultiples f us vs → sign f ≡ first_sign vs → first_sign us ≡ pos 1
 forward_where_same_sign f us vs n m e =
     by_sign f

@@ -12,7 +12,7 @@ pub fn quotient(n: i64, divisor: i64) -> i64
     if divisor == 1 { n } else { n / divisor }
 }
 
-// In 64 bits where the number fits into them.
+// In 64 bits if the number fits into them.
 pub fn large_quotient(n: i128, divisor: i64) -> i128
     requires nonzero { divisor ≢ pos 0 }
     requires divides { unsigned_abs divisor ∣ unsigned_abs n }

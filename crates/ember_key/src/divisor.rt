@@ -19,7 +19,7 @@ fn gcd(a: u64, b: u64) -> u64
     x
 }
 
-// 0 where all three are 0.
+// 0 if all three are 0.
 pub fn divisor_of_three(a: i64, b: i64, c: i64) -> u64
     ensures { IsGreatestDivisor (a ∷ b ∷ c ∷ []) result }
 {
@@ -27,7 +27,7 @@ pub fn divisor_of_three(a: i64, b: i64, c: i64) -> u64
     gcd(first, c.unsigned_abs())
 }
 
-// 0 where all four are 0.
+// 0 if all four are 0.
 pub fn divisor_of_four(a: i64, b: i64, c: i64, d: i64) -> u64
     ensures { IsGreatestDivisor (a ∷ b ∷ c ∷ d ∷ []) result }
 {

@@ -127,7 +127,7 @@ fn divided(line: &LineKey, divisor: i64) -> LineKey
 }
 
 /// The line in which two planes meet, by coordinates that are the same for each two planes that meet in it: in lowest
-/// terms, the first entry of the direction that isn't 0 being positive. `None` where the normals are parallel.
+/// terms, the first entry of the direction that isn't 0 being positive. `None` if the normals are parallel.
 pub fn line_key(plane: &Plane, edge: &Plane) -> Option<LineKey>
     requires plane { IsValidPlane plane.now }
     requires edge { IsValidPlane edge.now }

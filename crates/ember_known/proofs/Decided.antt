@@ -1,4 +1,4 @@
--- Where the three-valued truth is decided, it is the truth, whatever the undecided meshes count.
+-- If the three-valued truth is decided, it is the truth, whatever the undecided meshes count.
 use Rattle.std.proofs.Common.{◌≡◌, ℕ, suc, ◌≤◌, ◌==◌, ℤ, pos, int_le, ◌+ℤ◌, ◌*ℤ◌, Bool, true, false, not, ◌&&◌, ◌||◌, inl, inr, List, [], ◌∷◌, All, Option, Some, None, IfSome, refl, sym, ap, ap₂, ◌∙◌, subst, arith}
 use Rattle.std.proofs.lemmas.Bool.Decides.{eqb_tells}
 use Rattle.ember_expr.specs.declared.formula.Term.{Term}
@@ -7,7 +7,7 @@ use Rattle.ember_expr.specs.Truth.{counted, signed, value_of, sum_from, is_odd, 
 use Rattle.ember_known.specs.Known.{mentions, plain_unless, known_and, known_or, known_xor, known_not, known}
 use Rattle.ember_known.specs.Law.{AgreeOutside}
 
--- where it is decided, it is this truth
+-- if it is decided, it is this truth
 abbrev pub Tells : Option Bool → Bool → Type 0
 Tells (Some x) t = t ≡ x
 Tells None t = Unit {0}

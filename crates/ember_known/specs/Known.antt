@@ -12,7 +12,7 @@ mentions undecided (t ∷ ts) = not (t.mesh == 0) && undecided t.mesh || mention
 abbrev pub plain_unless : Bool → Bool → Option Bool
 plain_unless undecided value = if undecided then None else Some value
 
--- false where one part is false, true where both are true
+-- false if one part is false, true if both are true
 abbrev pub known_and : Option Bool → Option Bool → Option Bool
 known_and (Some true) b = b
 known_and (Some false) b = Some false
@@ -20,7 +20,7 @@ known_and None (Some false) = Some false
 known_and None (Some true) = None
 known_and None None = None
 
--- true where one part is true, false where both are false
+-- true if one part is true, false if both are false
 abbrev pub known_or : Option Bool → Option Bool → Option Bool
 known_or (Some false) b = b
 known_or (Some true) b = Some true
@@ -37,7 +37,7 @@ abbrev pub known_not : Option Bool → Option Bool
 known_not None = None
 known_not (Some a) = Some (not a)
 
--- the value of an expression at these counts, where it is decided
+-- the value of an expression at these counts, if it is decided
 abbrev pub known : (ℕ → Bool) → List ℤ → Formula → Option Bool
 known undecided counts (Or a b) = known_or (known undecided counts a) (known undecided counts b)
 known undecided counts (Xor a b) = known_xor (known undecided counts a) (known undecided counts b)

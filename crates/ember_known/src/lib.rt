@@ -1,4 +1,4 @@
-//! The three-valued truth of an expression, where the winding numbers of some meshes are
+//! The three-valued truth of an expression if the winding numbers of some meshes are
 //! undecided.
 #![tactic(auto)]
 

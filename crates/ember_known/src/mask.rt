@@ -3,7 +3,7 @@ ghost use Rattle.std.specs.Prelude.{◌≡◌, ℕ, true, false, ◌==◌, ◌||
 ghost use Rattle.ember_expr.specs.Formula.{IsMeshNumber};
 ghost use Rattle.ember_known.specs.Masks.{is_in};
 
-/// The meshes that are undecided: bit `i - 1` is set where mesh `i` is.
+/// The meshes that are undecided: bit `i - 1` is set if mesh `i` is.
 #[derive(Clone, Copy, Debug, PartialEq, Eq)]
 pub struct Mask(pub u64);
 

@@ -76,7 +76,7 @@ fn known_in(tree: &Tree, v: &Vector, m: Mask) -> Option<bool>
 }
 
 /// The truth of the expression at these winding numbers, each of which is at most 2^24 in size,
-/// where the meshes of `m` are undecided: `None` exactly where the truth is undecided with them.
+/// if the meshes of `m` are undecided: `None` exactly if the truth is undecided with them.
 pub fn known(e: &Expr, v: &Vector, m: &Mask) -> Option<bool>
     requires { AreCounts v.now.counts }
     ensures value { result ≡ three_valued.known (is_in m.now.0) v.now.counts (formula_of e.now) }
@@ -88,7 +88,7 @@ pub fn known(e: &Expr, v: &Vector, m: &Mask) -> Option<bool>
     known_in(tree(e), v, *m)
 }
 
-/// Where the truth is decided, it is the truth at each vector that agrees with this one at all
+/// If the truth is decided, it is the truth at each vector that agrees with this one at all
 /// meshes but the undecided ones.
 pub fn decided_is_true()
     ensures { (undecided : ℕ → Bool) (counts others : List ℤ) (f : Formula) (b : Bool) → IsFit 64 f →

@@ -100,7 +100,7 @@ generic_clear p t w off o =
         inside_on (face_of t) r (ray_weight a p m s lm w) x.1 ∙ l
 
 -- ---- near every point there are clear points
--- an edge along the axis has its plane's normal 0 only where the axis lies in the triangle's plane
+-- an edge along the axis has its plane's normal 0 only if the axis lies in the triangle's plane
 edge_normal : (t : Tri) (a : Axis) (p : Spot) → IsOff (unit a) p t → along (support_of t) a ≢ pos 0 → OffEdges a p t
 edge_normal t a p m nz =
     let f = unit a in let n = support_of t in let s = vector ∷ vector ∷ vector ∷ vector ∷ [] in

@@ -171,7 +171,7 @@ low_from w nk gx x lw h lx =
     omega (arith, linear, a, b, c, d, solve 3 (λ w s g. w ⊗ w ⊗ (s ⊗ g) ≈ s ⊗ (w ⊗ w ⊗ g)) cancels w (sign nk) gx, solve 3 (λ s n x. s ⊗ neg (n ⊗ x) ≈ neg (s ⊗ n ⊗ x)) cancels (sign nk) nk x)))
     (λ u. u)
 
--- the same where the signs are the other way round
+-- the same if the signs are the other way round
 edge_at : (n g : Plane) (p q : Spot) (k : Axis) (x y : ℤ) → pos 0 <ℤ p.w → p.w *ℤ p.w *ℤ value_at g (between n p q) ≡ neg_ℤ (along n k *ℤ y) → pos 0 <ℤ y → value_at (times_plane (sign (along n k)) g) (between n p q) ≤ℤ pos 0
 edge_at n g p q k x y w h l =
     let e = value_times (sign (along n k)) g (between n p q) in let r = low_from p.w (along n k) (value_at g (between n p q)) y w h l in omega (arith, linear, e, r)

@@ -27,6 +27,6 @@ leg_wind fs p q = total (λ f. leg f p q) fs
 abbrev pub leg_vector : List Tri → Spot → Spot → List ℤ
 leg_vector ts p q = map (λ m. leg_wind (faces_of (of_mesh m ts)) p q) meshes
 
--- counts that stay within 2^24 where each triangle of a scene changes one of them by 1
+-- counts that stay within 2^24 if each triangle of a scene changes one of them by 1
 abbrev pub HasRoom : List ℤ → Type 0
 HasRoom counts = All (Small 16515072) counts

@@ -74,7 +74,7 @@ mosts_out : (gs : List Plane) (v : Spot) → Every (λ b. Solves 4 b (point v)) 
 mosts_out [] v h = tt
 mosts_out (g ∷ gs) v h = (most_out g v h.0, mosts_out gs v h.1)
 
--- negative where the weight is positive
+-- negative if the weight is positive
 abbrev weight : Plane
 weight = record { a = pos 0; b = pos 0; c = pos 0; d = pos 1 }
 

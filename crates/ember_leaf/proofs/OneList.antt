@@ -32,7 +32,7 @@ every_from : {X : Type 0} (P : X → Type 0) (xs : List X) → ((j : ℕ) (x : X
 every_from P [] h = tt
 every_from P (x ∷ xs) h = (h 0 x refl, every_from P xs (λ j y e. h (suc j) y e))
 
--- where no member gives anything, all give nothing
+-- if no member gives anything, all give nothing
 each_nothing : {X Y : Type 0} {R : X → List Y → Type 0} (Q : X → Type 0) → ((x : X) (ys : List Y) → Q x → R x ys → ys ≡ []) → {xs : List X} {ys : List Y} → Every Q xs → Each R xs ys → ys ≡ []
 each_nothing Q f h none = refl
 each_nothing Q f h (more {x = x} {ys = ys} {zs = zs} r e) =
@@ -94,7 +94,7 @@ module _ (scene : List Tri) (f : Formula) (c : Cell) (near : List Tri) (one : (f
   pub leaf_unique : (us vs : List Kept) → IsWrittenIn scene f c near us → IsWrittenIn scene f c near vs → us ≡ vs
   leaf_unique us vs u v = each_unique of_unique u v
 
--- ---- where the expression has one value
+-- ---- if the expression has one value
 module _ (scene : List Tri) (f : Formula) (c : Cell) (one : HasOneValue scene f c) where
   both_sides : (g : Face) (before after : List ℤ) (s : IsSides scene g before after) → HasPoint c s.at → (truth before f ≡ one.value) × (truth after f ≡ one.value)
   both_sides g before after s has =
@@ -134,7 +134,7 @@ module _ (scene : List Tri) (f : Formula) (meshes : ℕ) (is : IsScene scene mes
   pub written_in_unique : (c : Cell) (us vs : List Kept) → IsWrittenIn scene f c (near scene c) us → IsWrittenIn scene f c (near scene c) vs → us ≡ vs
   written_in_unique c us vs u v = leaf_unique scene f c (near scene c) (sides_one c) us vs u v
 
-  -- where the expression has one value, it has that value on both sides of each region
+  -- if the expression has one value, it has that value on both sides of each region
   pub value_on_sides : (c : Cell) (h : HasOneValue scene f c) (g : Face) (before after : List ℤ) → IsRegion (near scene c) c g → IsSides scene g before after → (truth before f ≡ h.value) × (truth after f ≡ h.value)
   value_on_sides c h g before after r s = both_sides scene f c h g before after s (has_region c g r s.at s.inside)
 

@@ -88,7 +88,7 @@ module _ (t : Tri) (p : Plane) (ps : List Plane) (f : Face) (h : AreLast t (p �
   high_unmet m =
       let o = high_over m.at m.inside in let a = (h.around.closed m.at m.holds).0.at_most in omega (arith, linear, o, a)
 
-  -- where the plane doesn't cut the region, all of the region is below it
+  -- if the plane doesn't cut the region, all of the region is below it
   pub all_under : (k : Reach) → IsReach f p k → (k ≡ Both → ⊥) → AreLast t ps f
   all_under Below r n =
       record { around = rest_around; shared = h.shared; within = λ v i us. h.within v i (record { under = negative_out (value_at p v) (r.everywhere.holds v i) }, us) }

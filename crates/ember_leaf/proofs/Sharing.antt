@@ -1,4 +1,4 @@
--- Faces and triangles of one plane: where they meet, they have inside points in common.
+-- Faces and triangles of one plane: if they meet, they have inside points in common.
 use Rattle.std.proofs.Common.{◌≡◌, ◌↔◌, IsTrue, refl, ap, subst, ◌∙◌, arith, List, Bool, true, false, ℕ, ℤ, pos, neg_ℤ, ◌+ℤ◌, ◌*ℤ◌, ◌<ℤ◌, ◌≤ℤ◌}
 use borrow.Author.Differences.{ints}
 use Rattle.ember_algebra.specs.Sign.{is_zero}

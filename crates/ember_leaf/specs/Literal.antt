@@ -34,11 +34,11 @@ InScenes P = (scene : List Tri) (meshes : ℕ) (f : Formula) → IsScene scene m
 abbrev pub CannotFail : Type 0 → Type 0
 CannotFail P = (P → ⊥) → ⊥
 
--- it can't be that no list has the property
+-- it is impossible that no list has the property; which list has it isn't said
 abbrev pub HasSome : (List Kept → Type 0) → Type 0
 HasSome P = ((ks : List Kept) → P ks → ⊥) → ⊥
 
--- no other list than the empty one has it
+-- only the empty list can have the property
 abbrev pub IsNothing : (List Kept → Type 0) → Type 0
 IsNothing P = (ks : List Kept) → P ks → ks ≡ []
 

@@ -12,7 +12,7 @@ use Rattle.ember_leaf.specs.declared.cutter.Cutter.{Cutter}
 use Rattle.ember_leaf.specs.Cutters.{blades_in, owners_in, IsBounded, OmitsUnmet, AddsCuttingPlanes}
 use Rattle.ember_leaf.specs.TriRelations.{HasContaining}
 
--- it stands in the list before place i
+-- it stands in the list before index i
 pub record IsListedBefore (ts : List Tri) (i : ℕ) (u : Tri) : Type 0 where
   pub index : ℕ
   pub before : index < i
@@ -25,7 +25,7 @@ pub record ContainsPart (t : Tri) (b : Aabb) (u : Tri) (f : Face) : Type 0 where
   pub somewhere : HasInside f
   pub within : Contains (face_of u) f
 
--- what a triangle adds to the list of those before t in its plane; true where it covers t
+-- what a triangle adds to the list of those before t in its plane; true if it covers t
 pub data AddsLower (t u : Tri) (b : Aabb) (is_before : Bool) (old : List Tri) : Bool → List Tri → Type 0 where
   covers : {new : List Tri} → is_before ≡ true → is_coplanar u t ≡ true → Contains (face_of u) (face_of t) →
       AddsLower t u b is_before old true new
@@ -33,13 +33,13 @@ pub data AddsLower (t u : Tri) (b : Aabb) (is_before : Bool) (old : List Tri) : 
   misses : ((f : Face) → ContainsPart t b u f → ⊥) → AddsLower t u b is_before old false old
   follows : is_before ≡ false → AddsLower t u b is_before old false old
 
--- of the first n triangles, all before place i that hold such a part, or a part of which another
+-- of the first n triangles, all before index i that hold such a part, or a part of which another
 -- one holds
 pub record AreLower (ts : List Tri) (i : ℕ) (t : Tri) (b : Aabb) (n : ℕ) (lower : List Tri) : Type 0 where
   pub stand : All (IsListedBefore ts i) lower
   pub held : (m : ℕ) → m < n → m < i → (f : Face) → ContainsPart t b (tri_at ts m) f → HasContaining lower f
 
--- one before place i, in the plane of t, covers it
+-- one before index i, in the plane of t, covers it
 pub record HasCover (ts : List Tri) (i : ℕ) (t : Tri) : Type 0 where
   pub cover : Tri
   pub stands : IsListedBefore ts i cover

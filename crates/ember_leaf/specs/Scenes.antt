@@ -28,7 +28,7 @@ pub record HasOneValue (scene : List Tri) (f : Formula) (c : Cell) : Type 0 wher
   pub value : Bool
   pub beside : (v : Spot) → HasPoint c v → IsBeside scene f v value
 
--- what a leaf gives: its written regions, and nothing where the expression has one value in it
+-- what a leaf gives: its written regions, and nothing if the expression has one value in it
 pub data LeafGives (scene : List Tri) (f : Formula) (c : Cell) : List Kept → Type 0 where
   regions : {ks : List Kept} → IsWrittenIn scene f c (near scene c) ks → LeafGives scene f c ks
   nothing : HasOneValue scene f c → LeafGives scene f c []

@@ -41,7 +41,7 @@ all_on h = is_zero h.a && (is_zero h.b && is_zero h.c)
 abbrev pub AreDisjoint : Tri → Tri → Type 0
 AreDisjoint t u = Everywhere (face_of t) (λ v. is_in_closed (face_of u) v ≡ false)
 
--- the inside of u lies behind the edge plane of t at this place
+-- the inside of u lies behind the edge plane of t with this index
 abbrev pub IsBehindEdge : Tri → Tri → ℕ → Type 0
 IsBehindEdge t u i =
     (p : Plane) → slice_get (edges_of t) i ≡ Some p → Everywhere (face_of u) (λ v. is_negative (value_at p v) ≡ true)

@@ -22,8 +22,8 @@ abbrev pub front : Face → List ℤ → List ℤ → List ℤ
 front f before after =
     if is_positive (along f.support (main_axis f.support)) then after else before
 
--- what is written of a region of triangle i: nothing where another triangle owns it or where the
--- expression has one value on both sides; else the region, its normal on the side where the
+-- what is written of a region of triangle i: nothing if another triangle owns it or if the
+-- expression has one value on both sides; otherwise the region, its normal on the side where the
 -- expression is false
 pub data AtRegion (scene : List Tri) (f : Formula) (near : List Tri) (i : ℕ) (face : Face) : List Kept → Type 0 where
   unowned : (IsOwner near i face → ⊥) → AtRegion scene f near i face []

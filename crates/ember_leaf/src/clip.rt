@@ -37,7 +37,7 @@ fn common(a: &Interval, b: &Interval) -> Interval
     }
 }
 
-/// What two boxes have in common.
+/// What two bounding boxes have in common. An interval is empty if its low end is above its high end.
 pub fn common_spans(a: &Aabb, b: &Aabb) -> Aabb
     ensures { result ≡ common_of a.now b.now }
 {
@@ -127,11 +127,15 @@ fn plane_of(w: &Wall) -> Plane
     }
 }
 
-// What a bounding box tells of what the wall leaves of a triangle and of its parts.
+// What the bounding box of a triangle alone says of clipping at a wall. It holds of each part of the
+// triangle too.
 #[derive(Clone, Copy)]
 enum Remainder {
+    // The wall cuts nothing off.
     Whole,
+    // The wall cuts all of it off.
     Nothing,
+    // The bounding box reaches to both sides of the wall.
     Unknown,
 }
 
@@ -170,7 +174,8 @@ fn remainder_at(w: &Wall, f: &LeafTriangle) -> Remainder
     }
 }
 
-/// The first wall that may not leave the whole triangle leaves nothing of it.
+/// Whether bounding boxes alone show that no part of the triangle belongs to the box: the first wall that
+/// may cut something off cuts all of it off. `false` shows nothing.
 pub fn is_outside(walls: &[Wall], f: &LeafTriangle) -> bool
     requires { is_flat f.now.tri ≡ false }
     ensures { result ≡ true → IsClippedBy (map wall_of walls.now) f.now.tri [] }
@@ -185,7 +190,8 @@ pub fn is_outside(walls: &[Wall], f: &LeafTriangle) -> bool
     false
 }
 
-// Keeps what the wall leaves of a face. Returns whether anything is left.
+// Clips a face at the wall. Returns whether anything is left. A face in the plane of a wall belongs to the
+// box of which that is the low wall.
 fn at_wall(draft: &mut Draft, w: &Wall) -> Result<bool, OutOfMemory>
     requires { HoldsRing draft.old }
     ensures ring { OnOk result (HoldsRing draft.new) }
@@ -201,7 +207,7 @@ fn at_wall(draft: &mut Draft, w: &Wall) -> Result<bool, OutOfMemory>
     }
 }
 
-// Keeps what the walls leave of the triangle's face. Returns whether anything is left.
+// Clips the face of a triangle at the walls, one after another. Returns whether anything is left.
 fn within_walls(draft: &mut Draft, f: &LeafTriangle, walls: &[Wall]) -> Result<bool, OutOfMemory>
     requires normal { is_flat f.now.tri ≡ false }
     requires ring { HoldsRing draft.old }
@@ -224,8 +230,9 @@ fn within_walls(draft: &mut Draft, f: &LeafTriangle, walls: &[Wall]) -> Result<b
     Ok(true)
 }
 
-/// The part of a triangle that isn't flat that belongs to the box with these walls, if there is any, with room
-/// for so many cuts. The draft is left with any face.
+/// The part of a triangle that belongs to the box with these walls, or None if there is no such part. The
+/// triangle isn't flat. The lists of the ring have room for `room` cuts. The draft is only working room: its
+/// face afterwards says nothing.
 pub fn clip_to_box(
     alloc: Global,
     draft: &mut Draft,

@@ -40,7 +40,7 @@ impl Behind {
     }
 }
 
-/// By the edge planes of the region's outline.
+/// What the corners of the triangle show of a region, given the edge planes of its outline.
 pub fn contact_of(edges: &[Plane], t: &Tri) -> Contact
     requires edges { All IsValidPlane edges.now }
     requires tri { IsValidTri t.now }

@@ -88,7 +88,8 @@ fn add(
     }
 }
 
-// The same, if its bounding box meets the bounds.
+// Adds a triangle whose bounding box meets the bounds, if it may meet the regions of another one. Returns
+// `true`, and adds nothing, if it comes before that one and covers it.
 fn add_near(
     list: &mut Vec<Cutter>,
     own: &LeafTriangle,

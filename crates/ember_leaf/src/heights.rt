@@ -25,7 +25,7 @@ fn height(p: &Plane, u: &Corner) -> i64
     p.a * u.x as i64 + p.b * u.y as i64 + p.c * u.z as i64 - p.d
 }
 
-/// Those of a triangle.
+/// The heights of the triangle's corners over the plane.
 pub fn heights_of(p: &Plane, t: &Tri) -> Heights
     requires plane { IsValidPlane p.now }
     requires tri { IsValidTri t.now }

@@ -4,8 +4,8 @@ ghost use Rattle.std.specs.Prelude.{◌≡◌};
 use ember_poly::Ring;
 use std::marker::Model;
 
-/// A written region: the place of its triangle among the triangles near its leaf, from 0, and
-/// whether its normal is the negative of the triangle's.
+/// A written region: the index of its triangle among the triangles near its leaf, and whether its
+/// normal is the negative of the triangle's.
 #[derive(Drop)]
 pub struct Kept {
     pub tri: u32,

@@ -51,7 +51,7 @@ fn faces_on(p: &Plane) -> bool
     }
 }
 
-// None where the expression has one value on both sides. Else whether it holds in front.
+// None if the expression has one value on both sides. Otherwise whether it holds in front.
 fn flip_of(e: &Expr, sides: &Sides, r: &Ring) -> Option<bool>
     requires before { AreSideCounts sides.now.before.counts }
     requires after { AreSideCounts sides.now.after.counts }

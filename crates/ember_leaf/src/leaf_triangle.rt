@@ -1,4 +1,4 @@
-// A triangle near a leaf, with what is asked of it for each of the others.
+// A triangle near a leaf, with what each test against another one needs.
 ghost use Rattle.std.specs.Prelude.{◌≡◌, All};
 ghost use Rattle.ember_model.specs.Valid.{IsValidTri, IsValidPlane};
 ghost use Rattle.ember_model.specs.Planes.{support_of};

@@ -102,7 +102,7 @@ fn is_owned(r: &Ring, c: &Cutter, planes: &[Plane]) -> bool
 
 // Cuts a region that overlaps the triangle by the rest of its edge planes. Adds the part inside the
 // triangle, unless the triangle owns it, and then the parts outside, the last one cut off first. The
-// part inside an owner isn't made where no further plane would cut it.
+// part inside an owner isn't made if no further plane would cut it.
 fn add_pieces(
     alloc: Global,
     r: Ring,

@@ -20,7 +20,8 @@ fn leaf_triangle_of(f: &NearTriangle) -> LeafTriangle
     }
 }
 
-/// The same triangles, each with its edge planes, which all the others use again.
+/// The triangles near a leaf, each with its edge planes. They are computed once, and used in each test of two
+/// triangles.
 pub fn leaf_triangles(
     alloc: Global,
     near: &[NearTriangle],

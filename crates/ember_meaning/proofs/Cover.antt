@@ -142,7 +142,7 @@ walls_step x s w fs gs o h r =
     let k = each_count (λ g. is_inside g x) (λ f. cond (passes x w && is_inside f x) 1 0) (λ f. f.support ≡ s) (λ g. g.support ≡ s) (λ f ys e q. wall_count x s w o f ys e q) r h in
     (k.0, k.1 ∙ sum_tested (passes x w) x fs)
 
--- the count of a start: that of the face where x passes all walls, else none
+-- the count of a start: that of the face where x passes all walls, otherwise none
 pub start_count : (x : Spot) (s : Plane) (ws : List Wall) (fs gs : List Face) → Every (λ w. IsOff x s w.plane) ws → HaveSupport s fs → Chain (λ w. Each (AtWall w)) ws fs gs → HaveSupport s gs × (hits x gs ≡ cond (list_all (λ w. passes x w) ws) (hits x fs) 0)
 start_count x s [] fs gs o h done = (h, refl)
 start_count x s (w ∷ ws) fs gs o h (step {b = us} r e) =

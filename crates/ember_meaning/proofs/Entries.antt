@@ -96,8 +96,8 @@ units : {X : Type 0} (xs : List X) → Every (λ x. Unit {0}) xs
 units [] = tt
 units (x ∷ xs) = (tt, units xs)
 
--- the regions of place t in one leaf that hold x: one where the leaf holds x and the triangle's
--- face has it inside, else none
+-- the regions of place t in one leaf that hold x: one if the leaf holds x and the triangle's
+-- face has it inside, otherwise none
 pub regions_count : (scene : List Tri) (x : Spot) (t : ℕ) (c : Cell) (es : List Entry) → IsFairAt scene x c → IsEntriesIn scene c es → count_by (is_entry_at x t) es ≡ number (is_in_box c x && has_inside (near scene c) t x)
 regions_count scene x t c es fair r =
     let ts = near scene c in
@@ -127,7 +127,7 @@ le_sum p q (x ∷ xs) =
     less true false = omega arith
     less false b = omega arith
 
--- where at most one passes p, the sum of p and q is 1 or 0
+-- if at most one passes p, the sum of p and q is 1 or 0
 sum_any : {X : Type 0} (p q : X → Bool) (xs : List X) → count_by p xs ≤ 1 → sum_by (λ x. number (p x && q x)) xs ≡ number (list_any (λ x. p x && q x) xs)
 sum_any p q [] h = refl
 sum_any p q (x ∷ xs) h =
@@ -138,8 +138,8 @@ sum_any p q (x ∷ xs) h =
     by true false e f = let l : count_by p xs ≤ 1 = omega arith in omega (arith, f l)
     by false b e f = let l : count_by p xs ≤ 1 = omega arith in omega (arith, f l)
 
--- of all regions of place t, one holds x where in the leaf of x that triangle's face has x inside,
--- else none
+-- of all regions of place t, one holds x if in the leaf of x that triangle's face has x inside,
+-- otherwise none
 pub entries_count : (scene : List Tri) (cs : List Cell) (x : Spot) (t : ℕ) (es : List Entry) → count_by (λ c. is_in_box c x) cs ≤ 1 → IsFairInAll scene cs x → IsEntries scene cs es → count_by (is_entry_at x t) es ≡ number (is_hit_at scene cs x t)
 entries_count scene cs x t es one fair r =
     entries_sum scene x t cs es fair r ∙ sum_any (λ c. is_in_box c x) (λ c. has_inside (near scene c) t x) cs one

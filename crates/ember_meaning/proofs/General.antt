@@ -203,7 +203,7 @@ module _ (scene : List Tri) (x : Formula) (ks : List Kept) (cs : List Cell) (es 
       seen_after : Eventually (λ m. vector k scene (moved (scaled (pos m) at) k (pos 1)) ≡ beyond_seen)
       seen_after = after_place scene k p (face_of t) crossed
 
-      -- where a listed leaf holds the place, t is near it
+      -- if a listed leaf holds the place, t is near it
       near_hit : (c : Cell) → In c cs → is_in_box c at ≡ true → SomeHit scene x k p cs es t
       near_hit c j h =
           let n = near_point c t at flat (has_point c at positive h) closed in

@@ -1,5 +1,5 @@
--- In one leaf: the regions of a triangle that have x inside are one where x is in the half-open box
--- and inside the face, else none.
+-- In one leaf: the regions of a triangle that have x inside are one if x is in the half-open box
+-- and inside the face, otherwise none.
 use Rattle.std.proofs.Common.{◌≡◌, ℕ, ◌+◌, refl, ap, ◌∙◌, sym, subst, List, [], ◌∷◌, Bool, true, false, ◌&&◌, ◌||◌, cond, zero, suc, ℤ, pos, negsuc, ◌-ℤ◌, ◌*ℤ◌, ◌<ℤ◌, ◌≤ℤ◌, arith}
 use borrow.Author.Differences.{ints}
 use Rattle.std.specs.Prelude.{int_le, int_lt}

@@ -76,7 +76,7 @@ parts : (a b : Bool) → (a || b) ≡ false → (a ≡ false) × (b ≡ false)
 parts true b h = absurd (false≢true (sym h))
 parts false b h = (refl, h)
 
--- where some member passes and none of the listed does, one that passes isn't listed
+-- if some member passes and none of the listed does, one that passes isn't listed
 pub lost : {X : Type 0} {P : X → Type 0} (p : X → Bool) {xs ys : List X} → Without P xs ys → 0 < count_by p xs → list_any p ys ≡ false → Lost P p
 lost p ends l h = absurd (omega arith)
 lost p (keeps {x = x} {xs = xs} {ys = ys} w) l h =

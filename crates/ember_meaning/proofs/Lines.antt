@@ -19,7 +19,7 @@ pub data In {X : Type 0} : X → List X → Type 0 where
 pub record IsOrder {K : Type 0} (before : K → K → Bool) : Type 0 where
   pub irreflexive : (a : K) → before a a ≡ false
   pub transitive : (a b c : K) → before a b ≡ true → before b c ≡ true → before a c ≡ true
-  -- where a is before c, each b is after a or before c
+  -- if a is before c, each b is after a or before c
   pub between : (a b c : K) → before a c ≡ true → (before a b ≡ true) ⊎ (before b c ≡ true)
 
 -- the sum of the amounts of those that pass

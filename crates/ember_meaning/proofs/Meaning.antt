@@ -133,7 +133,7 @@ module _ (scene : List Tri) (x : Formula) (k : Axis) (p : Spot) (cs : List Cell)
     amount_of f n true = amount-turned k f
     amount_of f n false = refl
 
-    -- an entry gives the jump where it is owned and holds the place, else nothing
+    -- an entry gives the jump if it is owned and holds the place, otherwise nothing
     entry_total : (e : Entry) (us : List Kept) → In e es → AtRegion scene x (near scene e.cell) e.tri e.face us → total_of (λ w. amount k (written_face w)) passes_here us ≡ cond (has e && owned e) jump (pos 0)
     entry_total e us i (unowned n) =
         by (has e) (list_any (λ j. is_hit_at scene cs at j) (range_with_len 0 e.tri)) (λ h l. n (r.first_owner e i h (none_below (λ j. is_hit_at scene cs at j) e.tri l)))

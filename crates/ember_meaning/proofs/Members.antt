@@ -111,7 +111,7 @@ passing p (x ∷ xs) h = by (cases_Bool (p x)) (λ g. passing p xs g)
         let q = f (sym (ap (λ b. b || list_any p xs) e) ∙ h) in
         record { at = q.at; member = there q.member; holds = q.holds }
 
--- where at most one passes, two that do are one
+-- if at most one passes, two that do are one
 pub only_one : {X : Type 0} (p : X → Bool) (xs : List X) (x y : X) → count_by p xs ≤ 1 → In x xs → In y xs → p x ≡ true → p y ≡ true → x ≡ y
 only_one p [] x y l i j h k = elim i [ ]
 only_one p (a ∷ xs) x y l here here h k = refl

@@ -19,9 +19,9 @@ count_in p es e (there {y = y} {xs = xs} i) h =
 
 module _ {E : Type 0} (tri : E → ℕ) (has owned : E → Bool) (hit : ℕ → Bool) (es : List E) where
   pub record IsCovered : Type 0 where
-    -- the regions of triangle t that have x inside: one where its face has, else none
+    -- the regions of triangle t that have x inside: one if its face has, otherwise none
     pub cover : (t : ℕ) → count_by (λ e. eqb (tri e) t && has e) es ≡ number (hit t)
-    -- of those, one is owned where no lower triangle's face has x inside
+    -- of those, one is owned if no lower triangle's face has x inside
     pub owned_if : (e : E) → In e es → has e ≡ true → ((j : ℕ) → j < tri e → hit j ≡ false) → owned e ≡ true
     pub not_owned_if : (e : E) (j : ℕ) → In e es → has e ≡ true → j < tri e → hit j ≡ true → owned e ≡ false
 
@@ -38,7 +38,7 @@ module _ {E : Type 0} (tri : E → ℕ) (has owned : E → Bool) (hit : ℕ → 
             let p = count_in (λ d. eqb (tri d) (tri e) && has d) es e i (both _ _ (eq-eqb (tri e) (tri e) refl) h) in
             omega (arith, p, c.cover (tri e), ap number f)
 
-    -- where t is the lowest triangle whose face has x inside, exactly one region has x inside and
+    -- if t is the lowest triangle whose face has x inside, exactly one region has x inside and
     -- is owned
     pub one_owned : (t : ℕ) → hit t ≡ true → ((j : ℕ) → j < t → hit j ≡ false) → count_by (λ e. has e && owned e) es ≡ 1
     one_owned t h least =
@@ -83,7 +83,7 @@ total-append : {W : Type 0} (amount : W → ℤ) (p : W → Bool) (us vs : List 
 total-append amount p [] vs = omega (arith, linear)
 total-append amount p (u ∷ us) vs = omega (arith, linear, total-append amount p us vs)
 
--- where each member of es gives the amount g if q, and else nothing, all give g as often as q holds
+-- if each member of es gives the amount g if q, and else nothing, all give g as often as q holds
 pub each_total : {E W : Type 0} {R : E → List W → Type 0} (amount : W → ℤ) (p : W → Bool) (q : E → Bool) (g : ℤ) {es : List E} {ws : List W} → ((e : E) (us : List W) → In e es → R e us → total_of amount p us ≡ cond (q e) g (pos 0)) → Each R es ws → total_of amount p ws ≡ pos (count_by q es) *ℤ g
 each_total amount p q g f none = omega (arith, ints)
 each_total amount p q g f (more {x = e} {xs = es} {ys = us} {zs = vs} r d) =
@@ -124,7 +124,7 @@ least hit t h = up t 0 (λ j l. absurd (omega arith)) h (omega arith)
         by (inl e) g = record { at = k; is = e; first = f }
         by (inr e) g = g e
 
--- where some triangle's face has the place inside, what is written there is what the one owned
+-- if some triangle's face has the place inside, what is written there is what the one owned
 -- region gives
 pub jump_at : {E W : Type 0} {R : E → List W → Type 0} (tri : E → ℕ) (has owned : E → Bool) (hit : ℕ → Bool) (amount : W → ℤ) (p : W → Bool) (g : ℤ) (es : List E) (ws : List W) → IsCovered tri has owned hit es → ((e : E) (us : List W) → In e es → R e us → total_of amount p us ≡ cond (has e && owned e) g (pos 0)) → Each R es ws → (t : ℕ) → hit t ≡ true → total_of amount p ws ≡ g
 jump_at tri has owned hit amount p g es ws c f r t h =
@@ -135,7 +135,7 @@ jump_at tri has owned hit amount p g es ws c f r t h =
     one_time : (g : ℤ) → pos 1 *ℤ g ≡ g
     one_time g = omega (arith, ints)
 
--- and nothing where no triangle's face has
+-- and nothing if no triangle's face has
 pub still_at : {E W : Type 0} {R : E → List W → Type 0} (tri : E → ℕ) (has owned : E → Bool) (hit : ℕ → Bool) (amount : W → ℤ) (p : W → Bool) (g : ℤ) (es : List E) (ws : List W) → IsCovered tri has owned hit es → ((e : E) (us : List W) → In e es → R e us → total_of amount p us ≡ cond (has e && owned e) g (pos 0)) → Each R es ws → ((t : ℕ) → hit t ≡ false) → total_of amount p ws ≡ pos 0
 still_at tri has owned hit amount p g es ws c f r h =
     each_total amount p (λ e. has e && owned e) g f r ∙ ap (λ (n : ℕ). pos n *ℤ g) (none_owned tri has owned hit es c h) ∙ zero_times g

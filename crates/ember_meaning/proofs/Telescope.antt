@@ -33,7 +33,7 @@ total_none : {W : Type 0} (amount : W → ℤ) (p : W → Bool) (ws : List W) �
 total_none amount p [] f = refl
 total_none amount p (w ∷ ws) f = rw (f w here) (rw (total_none amount p ws (λ g i. f g (there i))) refl)
 
--- where p is q or r, and never both, its total is theirs
+-- if p is q or r, and never both, its total is theirs
 total_parts : {W : Type 0} (amount : W → ℤ) (p q r : W → Bool) (ws : List W) → ((w : W) → In w ws → ((p w ≡ q w) × (r w ≡ false)) ⊎ ((p w ≡ r w) × (q w ≡ false))) → total_of amount p ws ≡ total_of amount q ws +ℤ total_of amount r ws
 total_parts amount p q r [] f = refl
 total_parts amount p q r (w ∷ ws) f =

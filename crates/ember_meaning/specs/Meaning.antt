@@ -16,12 +16,12 @@ use Rattle.ember_chain.specs.Chains.{IsClosedSurface, IsOutlined}
 abbrev pub one_if : Bool → ℤ
 one_if b = cond b (pos 1) (pos 0)
 
--- the expression is false where all winding numbers are 0
+-- the expression is false if all winding numbers are 0
 abbrev pub IsFalseOutside : Formula → Type 0
 IsFalseOutside x = truth (replicate 64 (pos 0)) x ≡ false
 
--- at p the faces wind once along a where the expression holds of the winding numbers along b, and
--- not at all elsewhere
+-- at p the faces wind once along a if the expression holds of the winding numbers along b, and
+-- otherwise not at all
 abbrev pub HasMeaning : List Tri → Formula → List Face → Axis → Axis → Spot → Type 0
 HasMeaning scene x faces a b p = wind a faces p ≡ one_if (truth (vector b scene p) x)
 

@@ -29,7 +29,7 @@ WindNearbyAsHere scene x faces =
     (λ q. (a b : Axis) → wind a faces q ≡ one_if (truth (vector b scene p) x))
 
 -- ---- a point that is clear of the faces alone
--- there they wind once where the expression holds at the shifted point, and not at all elsewhere
+-- there they wind once if the expression holds at the shifted point, and otherwise not at all
 abbrev pub WindHereAsNearby : List Tri → Formula → List Face → Type 0
 WindHereAsNearby scene x faces =
     (p : Spot) → pos 0 <ℤ p.w → AreClear faces p → WhereShifted p

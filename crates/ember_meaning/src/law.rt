@@ -12,7 +12,7 @@ ghost use Rattle.ember_model.specs.Meshes.{IsScene};
 ghost use Rattle.ember_model.specs.declared.tri.Tri.{Tri};
 ghost use Rattle.ember_text.specs.Documents.{IsDocumentText, written_face};
 
-/// Let an expression be false where all winding numbers are 0. At each point that is clear of the
+/// Let an expression be false if all winding numbers are 0. At each point that is clear of the
 /// faces of a scene and of its written regions, these wind once along any axis where the expression
 /// holds, and not at all elsewhere; the expression has its value along any axis too.
 pub fn written_regions_have_their_meaning()
@@ -29,8 +29,8 @@ pub fn documents_read_with_their_meaning()
 
 /// Let the written edges of each face be its outline, and let the faces have the meaning of an
 /// expression over a scene. Then they have it near every point, clear or not: at the point shifted
-/// along all axes by little enough. So where a point is clear of the scene alone, the expression at
-/// its winding numbers is what the faces wind beside it. Where a point is clear of these faces
+/// along all axes by little enough. So if a point is clear of the scene alone, the expression at
+/// its winding numbers is what the faces wind beside it. If a point is clear of these faces
 /// alone, they wind along all axes alike, once or not at all, as the expression says beside it.
 pub fn outlined_faces_have_their_meaning_nearby()
     ensures nearby { (scene : List Tri) (f : Formula) (ws : List WrittenFace) → AllByRecursion IsOutlined ws → HaveMeaning scene f (map face_from ws) → HaveMeaningNearby scene f (map face_from ws) }

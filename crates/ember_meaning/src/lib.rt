@@ -1,5 +1,5 @@
 //! What the written regions of a scene mean: at each point that is clear of all faces they wind
-//! once where the expression holds, and not at all elsewhere. The faces that are read back from
+//! once where the expression is true, and not at all elsewhere. The faces that are read back from
 //! their document mean the same, and are a closed surface.
 #![tactic(auto)]
 

@@ -6,17 +6,17 @@ use ember_balance::Loose;
 use std::alloc::AllocError;
 use thiserror::Error;
 
-/// The triangles of a file aren't closed, or want of memory.
+/// The triangles of a file aren't closed, or memory is short.
 #[derive(Clone, Copy, Debug, PartialEq, Eq, Error)]
 pub enum MeshFault {
-    /// This edge is the least that stands more often than its reverse.
+    /// This edge is the least that occurs more often than its reverse.
     #[error("an edge stands more often than its reverse")]
     Unbalanced(Loose),
     #[error("out of memory")]
     OutOfMemory,
 }
 
-/// All files together have too many triangles, or want of memory.
+/// All files together have too many triangles, or memory is short.
 #[derive(Clone, Copy, Debug, PartialEq, Eq, Error)]
 pub enum JoinFault {
     /// There are this many triangles: more than 262,144.

@@ -30,8 +30,8 @@ fn all_triangles(alloc: Global, parts: &[Closed], count: usize) -> Result<Vec<Tr
     Ok(tris)
 }
 
-/// The scene of the meshes' triangles, mesh after mesh. All triangles of the mesh at place `i`,
-/// from 0, have the number `i + 1`.
+/// The scene of the meshes' triangles, mesh after mesh. All triangles of the mesh with the index `i`
+/// have the number `i + 1`.
 pub fn join(alloc: Global, parts: Parts) -> Result<Scene, JoinFault>
     requires few { length parts ≤ 64 }
     requires numbered { AreNumbered 1 parts }

@@ -1,4 +1,4 @@
-// The states of a file's triangles: read, few enough, closed.
+// The states of a file's triangles: at most 262,144 of them, and then closed too.
 ghost use Rattle.std.specs.Prelude.{◌≡◌, ◌≤◌, None, length, All, IfOk, IfErr, OnOk};
 ghost use Rattle.ember_model.specs.Valid.{IsValidTri};
 ghost use Rattle.ember_model.specs.Meshes.{IsBalanced};
@@ -12,7 +12,7 @@ use std::alloc::Global;
 use std::marker::Model;
 
 /// The triangles of a file, at most 262,144 of them, and for each the line of the face that it
-/// comes from.
+/// comes from. They needn't be closed: [`balanced`] tells whether they are.
 #[derive(Drop)]
 pub struct Solid {
     pub tris: Tris,
@@ -71,7 +71,8 @@ impl Parts {
     }
 }
 
-/// The same triangles and lines, which are few enough.
+/// Hands on the triangles and lines of a file with at most 262,144 triangles. It tests nothing, since its
+/// caller counted them.
 pub fn check(soup: Soup) -> Solid
     requires { length soup.tris ≤ 262144 }
     ensures tris { result.tris ≡ soup.tris }
@@ -83,7 +84,7 @@ pub fn check(soup: Soup) -> Solid
     }
 }
 
-/// The same triangles and lines, where they are closed. Each refusal hands them back unchanged.
+/// Accepts triangles that are closed: they and their lines stay the same. A refusal hands them back unchanged.
 pub fn balanced(alloc: Global, solid: Solid) -> Result<Closed, (Solid, MeshFault)>
     ensures tris { IfOk result (λ closed. closed.tris ≡ solid.tris) }
     ensures lines { IfOk result (λ closed. closed.lines ≡ solid.lines) }

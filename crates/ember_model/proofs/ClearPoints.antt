@@ -23,7 +23,7 @@ use Rattle.ember_model.proofs.Hits.{Scales, scales, same_all_negative, same_none
 use Rattle.ember_model.proofs.LastZero.{none_positive_member, all_negative_member, After, last_zero}
 
 -- ---- a ray in the plane
--- where a point of the ray is in all half-spaces and p is not, the ray enters through an edge
+-- if a point of the ray is in all half-spaces and p is not, the ray enters through an edge
 entry_low : (vg gg vh gh m s : ℤ) → pos 0 <ℤ s → (vg *ℤ neg_ℤ (m *ℤ vh +ℤ s *ℤ gh)) ≤ℤ (vh *ℤ neg_ℤ (m *ℤ vg +ℤ s *ℤ gg)) → (neg_ℤ gh *ℤ vg +ℤ vh *ℤ gg) ≤ℤ pos 0
 entry_low vg gg vh gh m s l h =
     by_lt_z (pos 0) (neg_ℤ gh *ℤ vg +ℤ vh *ℤ gg) (λ u. absurd (let q = pos_mul l u in omega (arith, linear, q, h, solve 6 (λ vg gg vh gh m s. vh ⊗ neg (m ⊗ vg ⊕ s ⊗ gg) ⊖ vg ⊗ neg (m ⊗ vh ⊕ s ⊗ gh) ≈ neg (s ⊗ (neg gh ⊗ vg ⊕ vh ⊗ gg))) cancels vg gg vh gh m s))) (λ u. u)

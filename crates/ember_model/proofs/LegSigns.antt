@@ -56,7 +56,7 @@ turned_place : (n : Plane) (p q : Spot) → Scales (pos 1) (between n p q) (betw
 turned_place n p q g =
     value_between g n q p ∙ +ℤ_comm (size (value_at n p) *ℤ value_at g q) (size (value_at n q) *ℤ value_at g p) ∙ sym (value_between g n p q) ∙ sym (one-*ℤ (value_at g (between n p q)))
 
--- where the signs differ, the point between is the place of the hit
+-- if the signs differ, the point between is the place of the hit
 forward_place : (n : Plane) (es : List Plane) (a : Axis) (p : Spot) (c : ℤ) → pos 0 <ℤ c → is_negative (value_at n p *ℤ value_at n (moved p a c)) ≡ true → all_negative es (between n p (moved p a c)) ≡ all_negative es (hit n a p)
 forward_place n es a p c l e = by (leg_cases (value_at n p) (along n a) (value_at n (moved p a c)) c l (value_moved n p a c))
   where

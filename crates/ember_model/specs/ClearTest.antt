@@ -23,7 +23,7 @@ all_negative es x = list_all (λ e. is_negative (value_at e x)) es
 abbrev pub entry_point : Plane → Axis → Spot → Spot
 entry_point h a p = moved (scaled (neg_ℤ (along h a)) p) a (value_at h p)
 
--- the ray passes from the front of h to its back where no plane of the list is positive
+-- the ray passes from the front of h to its back at a point where no plane of the list is positive
 abbrev pub is_entry : List Plane → Axis → Spot → Plane → Bool
 is_entry es a p h = is_negative (along h a) && (is_positive (value_at h p) && none_positive es (entry_point h a p))
 

@@ -62,7 +62,7 @@ crossing f a p =
 abbrev pub between : Plane → Spot → Spot → Spot
 between n p q = plus_s (scaled (size (value_at n q)) p) (scaled (size (value_at n p)) q)
 
--- the signed crossing of the segment from p to q: 1 where the segment from p to q leaves through the front
+-- the signed crossing of the segment from p to q: 1 if the segment from p to q leaves through the front
 unfoldable pub leg : Face → Spot → Spot → ℤ
 leg f p q =
     if is_negative (value_at f.support p *ℤ value_at f.support q) && is_inside f (between f.support p q)

@@ -23,7 +23,7 @@ lies_in_plane_of t u =
 unfoldable pub is_coplanar : Tri → Tri → Bool
 is_coplanar t u = not (is_flat t) && (not (is_flat u) && lies_in_plane_of t u)
 
--- the triangle at place i owns f: no triangle before it that is coplanar with it contains the inside of f
+-- the triangle with the index i owns f: no triangle before it that is coplanar with it contains the inside of f
 pub record IsOwner (ts : List Tri) (i : ℕ) (f : Face) : Type 0 where
   pub first : (j : ℕ) (t u : Tri) → j < i → slice_get ts j ≡ Some u → slice_get ts i ≡ Some t →
       is_coplanar u t ≡ true → Contains (face_of u) f → ⊥

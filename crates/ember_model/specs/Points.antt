@@ -4,7 +4,7 @@ use Rattle.ember_model.specs.declared.point.Spot.{Spot}
 use Rattle.ember_model.specs.declared.point.Axis.{Axis}
 use Rattle.ember_model.specs.declared.point.Axis.TheVariants.{X, Y, Z}
 
--- the same place, where k is positive
+-- the same point, if k is positive
 abbrev pub scaled : ℤ → Spot → Spot
 scaled k s = record { x = k *ℤ s.x; y = k *ℤ s.y; z = k *ℤ s.z; w = k *ℤ s.w }
 
@@ -18,7 +18,7 @@ moved s Z by = record s { z = s.z +ℤ by }
 abbrev pub plus_s : Spot → Spot → Spot
 plus_s p q = record { x = p.x +ℤ q.x; y = p.y +ℤ q.y; z = p.z +ℤ q.z; w = p.w +ℤ q.w }
 
--- p shifted a little, most along x and least along z, where m is large
+-- p shifted a little, most along x and least along z, if m is large
 abbrev pub shifted : Spot → ℤ → Spot
 shifted p m =
     record {
@@ -35,6 +35,6 @@ DifferAlong X p q = (q.w *ℤ p.y ≡ p.w *ℤ q.y) × (q.w *ℤ p.z ≡ p.w *�
 DifferAlong Y p q = (q.w *ℤ p.x ≡ p.w *ℤ q.x) × (q.w *ℤ p.z ≡ p.w *ℤ q.z)
 DifferAlong Z p q = (q.w *ℤ p.x ≡ p.w *ℤ q.x) × (q.w *ℤ p.y ≡ p.w *ℤ q.y)
 
--- p shifted a little, along b and less along c, where m is large
+-- p shifted a little, along b and less along c, if m is large
 abbrev pub shifted_two : Axis → Axis → Spot → ℤ → Spot
 shifted_two b c p m = moved (moved (scaled (m *ℤ m) p) b m) c (pos 1)

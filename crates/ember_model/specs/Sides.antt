@@ -16,7 +16,7 @@ pub record HasWindings (ts : List Tri) (k : Axis) (v : Spot) (counts : List ℤ)
   pub counts_are : vector k ts v ≡ counts
 
 -- an inside point of f, from which every small step back along the main axis sees `before`, and every
--- small step on sees `after`; the step is s / (m * w), small where m is above s times the bound
+-- small step on sees `after`; the step is s / (m * w), small if m is above s times the bound
 pub record IsSides (ts : List Tri) (f : Face) (before after : List ℤ) : Type 0 where
   pub at : Spot
   pub inside : is_inside f at ≡ true

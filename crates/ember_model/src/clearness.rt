@@ -46,7 +46,7 @@ fn in_closed(p: &Spot, n: &Plane, es: &[Plane]) -> bool
         )
 }
 
-// The ray passes from the front of h to its back where no plane of the list is positive.
+// The ray passes from the front of h to its back at a point where no plane of the list is positive.
 fn is_entry(p: &Spot, a: Axis, h: &Plane, es: &[Plane]) -> bool
     requires spot { IsValidSpot p.now }
     requires plane { IsValidPlane h.now }

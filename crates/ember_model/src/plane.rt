@@ -4,7 +4,7 @@ ghost use Rattle.std.specs.Prelude.{◌≡◌};
 use std::marker::Model;
 
 /// The plane `a x + b y + c z = d`; its front is where the left side is greater. It is valid
-/// where its normal `(a, b, c)` is below 2^25 and its constant `d` below 2^39 in size.
+/// if its normal `(a, b, c)` is below 2^25 and its constant `d` below 2^39 in size.
 #[derive(Clone, Copy, Debug, PartialEq, Eq)]
 pub struct Plane {
     pub a: i64,

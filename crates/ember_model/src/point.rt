@@ -8,7 +8,7 @@ pub enum Axis {
     Z,
 }
 
-/// A corner of a triangle, in the scaled unit. It is valid where each coordinate is at most
+/// A corner of a triangle, in the scaled unit. It is valid if each coordinate is at most
 /// 2047 in size.
 #[derive(Clone, Copy, Debug, PartialEq, Eq)]
 pub struct Corner {
@@ -17,7 +17,7 @@ pub struct Corner {
     pub z: i32,
 }
 
-/// The rational point `(x / w, y / w, z / w)`. It is valid where the coordinates are below 2^40
+/// The rational point `(x / w, y / w, z / w)`. It is valid if the coordinates are below 2^40
 /// in size and `1 <= w < 2^40`.
 #[derive(Clone, Copy, Debug, PartialEq, Eq)]
 pub struct Spot {

@@ -40,7 +40,7 @@ pub fn hit_on_ray(front: i128, slope: i64, axis: Axis) -> RayPoint
 }
 
 /// The signed crossing of the ray from `p` along the axis with the inside of the face: 1, -1
-/// or 0, and 1 where the ray leaves through the front.
+/// or 0, and 1 if the ray leaves through the front.
 pub fn face_crossing(p: &Spot, a: Axis, f: &Face) -> i32
     requires spot { IsValidSpot p.now }
     requires face { IsValidFace f.now }
@@ -77,7 +77,7 @@ fn all_above(s: i128, e: i128, f: i128, g: i128) -> bool
 }
 
 /// The signed crossing of the ray from `p` along the axis with the inside of the triangle's
-/// face: 1, -1 or 0, and 1 where the ray leaves through the front. A triangle whose normal is
+/// face: 1, -1 or 0, and 1 if the ray leaves through the front. A triangle whose normal is
 /// zero has no inside.
 pub fn crossing(p: &Spot, a: Axis, t: &Tri) -> i32
     requires spot { IsValidSpot p.now }
@@ -101,7 +101,7 @@ pub fn crossing(p: &Spot, a: Axis, t: &Tri) -> i32
 }
 
 // The planes through the edges, with the sign that the triangle's edge planes along the axis have
-// where its normal has the entry `slope` there, are negative.
+// if its normal has the entry `slope` there, are negative.
 fn all_behind(slope: i64, e: i128, f: i128, g: i128) -> bool
     requires e { Small (2 ^ 66) e }
     requires f { Small (2 ^ 66) f }
@@ -135,7 +135,7 @@ fn signed_crossing(start: i128, end: i128) -> i32
 }
 
 /// The signed crossing of the segment from `p` to `q` with the inside of the triangle's face: 1
-/// where the segment from `p` to `q` leaves through the front, -1 where it enters through it, else 0.
+/// if the segment from `p` to `q` leaves through the front, -1 if it enters through it, otherwise 0.
 /// As points of space `p` and `q` differ at most in the coordinate of the axis.
 pub fn leg(p: &Spot, q: &Spot, a: Axis, t: &Tri) -> i32
     requires from { IsValidSpot p.now }

@@ -70,7 +70,7 @@ fn side_plane(u: &Corner, v: &Corner, k: Axis, s: i64) -> Plane
     plane_with(&edge_normal(&step, k, s), u)
 }
 
-/// The plane along `k` of an edge of the triangle, negative on the triangle's side of it where
+/// The plane along `k` of an edge of the triangle, negative on the triangle's side of it if
 /// the triangle's normal has an entry along `k`. Edges 0, 1 and 2 go from `a` to `b`, from `b`
 /// to `c` and from `c` to `a`.
 pub fn edge_plane(t: &Tri, edge: u8, k: Axis) -> Plane
@@ -110,7 +110,7 @@ pub fn main_edges(t: &Tri, support: &Plane) -> [Plane; 3]
     ]
 }
 
-/// The triangle's face: its support plane and its edge planes along the main axis. None where
+/// The triangle's face: its support plane and its edge planes along the main axis. None if
 /// the triangle's normal is zero.
 pub fn face_of(alloc: Global, t: &Tri) -> Result<Option<Face>, OutOfMemory>
     requires { IsValidTri t.now }

@@ -19,7 +19,7 @@ times_signed false m n = omega (arith, ints)
 times_signed true m zero = let none : m * 0 ≡ 0 = omega arith in rw none refl
 times_signed true m (suc n) = refl
 
--- the floor of a quotient has the size of the quotient, rounded up where there is a minus
+-- the floor of a quotient has the size of the quotient, rounded up if there is a minus
 floor_signed : (minus : Bool) (n d : ℕ) → 0 < d → int_div_euclid (signed minus n) (pos d) ≡ signed minus (quotient minus n d)
 floor_signed false n d p = refl
 floor_signed true zero d p = ap (λ (n : ℕ). pos n) (div-eq_of_lt p) ∙ sym (ap (λ (n : ℕ). neg_ℤ (pos n)) (quotient_of_zero true d p))

@@ -24,7 +24,7 @@ exponent_of_digits minus digits =
     if list_all is_ascii_digit digits && (nat_lt 0 (length digits) && nat_lt (number_from 0 digits) 10000)
     then Some (record { minus = minus; size = number_from 0 digits }) else None
 
--- the exponent behind the first e, or 0 where there is no e
+-- the exponent behind the first e, or 0 if there is no e
 abbrev pub exponent_of : List ℕ → Option Exponent
 exponent_of [] = Some (record { minus = false; size = 0 })
 exponent_of (b ∷ bs) = if begins_exponent b then exponent_of_digits (is_minus bs) (unsigned bs) else exponent_of bs

@@ -54,7 +54,7 @@ fn lowered(significand: u64, places: u32, factor: u64, up: bool) -> Option<u128>
     }
 }
 
-// The size of the multiple of a binary number, rounded up where there is a minus and down else.
+// The size of the multiple of a binary number, rounded up if there is a minus, and otherwise down.
 pub(crate) fn binary_multiple(b: &Binary, factor: u64) -> Option<u128>
     requires { factor < 2 ^ 41 }
     ensures value { let over = b.now.significand * 2 ^ b.now.power in

@@ -3,7 +3,7 @@ ghost use Rattle.std.specs.Prelude.{◌≡◌, true};
 ghost use Rattle.std.specs.List.{list_all};
 ghost use Rattle.std.specs.Char.{is_ascii_digit};
 
-/// A power of ten: 10 to the power of `size`, or of `-size` where there is a minus.
+/// A power of ten: 10 to the power of `size`, or of `-size` if there is a minus.
 #[derive(Clone, Copy, Debug, PartialEq, Eq)]
 pub struct Exponent {
     pub minus: bool,

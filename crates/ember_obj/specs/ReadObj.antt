@@ -30,7 +30,7 @@ corner_of (Ok x) (Ok y) (Err fault) = Err fault
 corner_of (Ok x) (Err fault) z = Err fault
 corner_of (Err fault) y z = Err fault
 
--- the vertex of a line with these three fields, where there are that many
+-- the vertex of a line with these three fields, if there are that many
 abbrev pub corner_in : ℕ → ℕ → Option (List ℕ × List ℕ × List ℕ) → Result Corner ObjFault
 corner_in places line None = Err (Word line)
 corner_in places line (Some t) =

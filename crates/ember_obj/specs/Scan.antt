@@ -30,7 +30,7 @@ fields_from (b ∷ bs) begun =
 abbrev pub fields_of : List ℕ → List (List ℕ)
 fields_of line = fields_from line []
 
--- the first three, where there are three or more
+-- the first three, if there are three or more
 abbrev pub first_three : List (List ℕ) → Option (List ℕ × List ℕ × List ℕ)
 first_three [] = None
 first_three (a ∷ []) = None

@@ -17,7 +17,7 @@ fn are_digits(text: &[u8]) -> bool
     text.iter().all(|b| b.is_ascii_digit())
 }
 
-// The number that these digits spell, where it fits.
+// The number that these digits spell, if it fits.
 #[tactic(auto, using(crate::proofs::Numbered::too_large, crate::proofs::Numbered::too_large_so_far))]
 fn number_in(digits: &[u8]) -> Option<usize>
     requires { list_all is_ascii_digit digits.now ≡ true }

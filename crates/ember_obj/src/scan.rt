@@ -60,7 +60,7 @@ pub(crate) fn next_field(bytes: &[u8]) -> Option<(&[u8], &[u8])>
     Some(cut_field(start))
 }
 
-// The first three fields, where there are three or more.
+// The first three fields, if there are three or more.
 pub(crate) fn three_fields(bytes: &[u8]) -> Option<(&[u8], &[u8], &[u8])>
     ensures { MatchOption result (first_three (fields_of bytes.now) ≡ None) (λ t. first_three (fields_of bytes.now) ≡
         Some (t.0.now, t.1.now, t.2.now)) }

@@ -2,6 +2,6 @@
 use Rattle.std.specs.Prelude.{ℕ, min}
 use Rattle.ember_off.specs.ReadOff.{Counts}
 
--- both counts, each the limit where it is larger
+-- both counts, each the limit if it is larger
 abbrev pub capped : ℕ → Counts → ℕ × ℕ
 capped limit c = (min limit c.vertices, min limit c.faces)

@@ -120,7 +120,7 @@ counted (Some c) rows =
     then whole (points_of (take c.vertices rows)) (facets_of c.vertices (take c.faces (drop c.vertices rows)))
     else Err FewLines
 
--- the counts stand behind the first word, or else in the next row
+-- the counts stand behind the first word, or otherwise in the next row
 abbrev pub behind_keyword : List Piece → List Words → Result Content OffFault
 behind_keyword [] [] = Err NoCounts
 behind_keyword [] (row ∷ rows) = counted (counts_of row.words) rows

@@ -6,7 +6,7 @@ use thiserror::Error;
 #[derive(Clone, Copy, Debug, PartialEq, Eq, Error)]
 pub enum OffFault {
     /// The first word isn't `OFF`, `COFF` or `NOFF`.
-    #[error("line 1: no OFF")]
+    #[error("no OFF at the beginning")]
     NoOff,
     /// Two numbers don't follow that word, in its line or the next.
     #[error("OFF has no counts")]
@@ -23,7 +23,7 @@ pub enum OffFault {
     /// This line isn't a face: a number of corners, at least three, and as many indices of vertices.
     #[error("line {0}: face not understood")]
     Face(u32),
-    /// No face has a triangle.
+    /// There are no faces.
     #[error("no triangles in it")]
     NoTriangles,
     /// The face in this line is the first with a coordinate of 10^15 or more in size.

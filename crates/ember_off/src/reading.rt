@@ -130,7 +130,7 @@ fn read_mesh<'a>(alloc: Global, bytes: &'a [u8]) -> Result<Surface<'a>, OffFault
 ///
 /// Lines are counted from 1, and a `#` and what follows it in its line don't count. The first word is
 /// `OFF`, `COFF` or `NOFF`, in any case. The numbers of vertices and of faces follow it in its line, or
-/// else stand in the next line with a word. Each further line with a word is a vertex, of which the
+/// otherwise stand in the next line with a word. Each further line with a word is a vertex, of which the
 /// first three words are decimals, or then a face: a number of corners, and as many indices of vertices,
 /// from 0. What follows them isn't read. A face is cut into triangles from its first corner, and its
 /// line is their place.

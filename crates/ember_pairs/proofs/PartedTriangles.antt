@@ -107,7 +107,7 @@ strictly_apart : (t u : Tri) → is_flat u ≡ false → all_in_front (heights_o
 unfolding face_of
 strictly_apart t u n e m = one_side_meets_not (face_of t) (support_of t) u refl n (one_side (support_of t) u e) m
 
--- where those of t lie on one side of the plane of u, and not all on it
+-- if those of t lie on one side of the plane of u, and not all on it
 leaning_apart : (t u : Tri) → is_flat t ≡ false → (none_in_front (heights_of (support_of u) t) || none_behind (heights_of (support_of u) t)) && not (all_on (heights_of (support_of u) t)) ≡ true → Meets (face_of t) (face_of u) → ⊥
 unfolding face_of
 leaning_apart t u n e m =

@@ -20,7 +20,7 @@ completes_none ts all = record { completed = λ rest e. e }
 pub completes_all : (ts : List Tri) (all out : List Pair) → Completes ts all [] out → Each (AtPair ts) all out
 completes_all ts all out c = subst (λ (l : List Pair). Each (AtPair ts) all l) (append-nil out) (c.completed [] none)
 
--- what is appended where the test of a pair is exact
+-- what is appended if the test of a pair is exact
 tested : (ts : List Tri) (p : Pair) (meet : Bool) → (IsTrue meet ↔ AreMeeting (tri_at ts p.low) (tri_at ts p.high)) → AtPair ts p (if meet then p ∷ [] else [])
 tested ts p true e = meeting (e.0 refl)
 tested ts p false e = apart (λ m. absurd (false≢true (e.1 m)))

@@ -16,7 +16,7 @@ pub record AreMeeting (t u : Tri) : Type 0 where
 abbrev pub pair : ℕ → ℕ → Pair
 pair i j = record { low = i; high = j }
 
--- what a pair of places gives: itself where its triangles meet, and else nothing
+-- what a pair of indices gives: itself if its triangles meet, and otherwise nothing
 pub data AtPair (ts : List Tri) (p : Pair) : List Pair → Type 0 where
   meeting : AreMeeting (tri_at ts p.low) (tri_at ts p.high) → AtPair ts p (p ∷ [])
   apart : (AreMeeting (tri_at ts p.low) (tri_at ts p.high) → ⊥) → AtPair ts p []
@@ -30,7 +30,7 @@ abbrev pub pairs_of : List ℕ → List Pair
 pairs_of [] = []
 pairs_of (i ∷ is) = row i is ++ pairs_of is
 
--- the pairs among these places whose triangles meet, in order
+-- the pairs among these indices whose triangles meet, in order
 abbrev pub AreMeetingPairs : List Tri → List ℕ → List Pair → Type 0
 AreMeetingPairs ts is ps = Each (AtPair ts) (pairs_of is) ps
 

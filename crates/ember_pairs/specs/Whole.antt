@@ -9,7 +9,7 @@ use Rattle.ember_pairs.specs.declared.pair.Pair.{Pair}
 use Rattle.ember_pairs.specs.Pairs.{AreMeetingPairs}
 use Rattle.ember_pairs.specs.Works.{job_at, pairs_shape}
 
--- each item has the meeting pairs of the job at its place
+-- each item has the meeting pairs of the job with its index
 abbrev pub AreItems : List Tri → List Job → List (List Pair) → Type 0
 AreItems ts jobs items = EachAnswers (λ job ps. AreMeetingPairs ts job.list ps) jobs items
 

@@ -27,7 +27,7 @@ pub record IsPairsJob (ts : List Tri) (job : Job) : Type 0 where
   pub from_root : IsFromRoot ts job.cell
   pub is : job ≡ job_at ts job.cell
 
--- what becomes of a box: it is passed over with fewer than two near triangles, else it is a leaf or halved
+-- what becomes of a box: it is skipped with fewer than two near triangles, otherwise it is a leaf or halved
 unfoldable pub pairs_shape : List Tri → Job → Shape
 pairs_shape ts job =
     if nat_lt (length job.list) 2 then passed

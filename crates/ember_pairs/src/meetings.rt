@@ -64,7 +64,7 @@ fn rings_meet(r: &Option<Ring>, t: &Tri, q: &Option<Ring>, u: &Tri) -> bool
     }
 }
 
-// The same, by their faces.
+// Whether two triangles meet, by their faces.
 fn faces_meet(alloc: Global, t: &Tri, u: &Tri) -> Result<bool, OutOfMemory>
     requires one { IsValidTri t.now }
     requires other { IsValidTri u.now }
@@ -75,7 +75,7 @@ fn faces_meet(alloc: Global, t: &Tri, u: &Tri) -> Result<bool, OutOfMemory>
     Ok(rings_meet(&r, t, &q, u))
 }
 
-// The same. Faces are made only where neither bounding boxes nor corners tell that the two are apart.
+// Whether two triangles meet. Faces are made only if neither bounding boxes nor corners show that the two are apart.
 fn are_meeting(
     alloc: Global,
     f: &Candidate,
@@ -98,7 +98,7 @@ fn are_meeting(
     faces_meet(alloc, t, u)
 }
 
-/// The same by the triangles.
+/// The same as `meeting`, for a list of triangles in place of a scene.
 pub fn meet_at(alloc: Global, tris: &[Tri], i: u32, j: u32) -> Result<bool, OutOfMemory>
     requires valid { All IsValidTri tris.now }
     requires one { i < length tris.now }
@@ -134,7 +134,7 @@ fn candidates_at(alloc: Global, tris: &[Tri], list: &[u32]) -> Result<Vec<Candid
     Ok(candidates)
 }
 
-// The triangles at places a and b of the list meet.
+// The triangles with the indices `list[a]` and `list[b]` meet.
 fn meet_in(
     alloc: Global,
     tris: &[Tri],
@@ -156,7 +156,7 @@ fn meet_in(
     are_meeting(alloc, &candidates[a], &t, &candidates[b], &u)
 }
 
-// Appends a pair where its triangles meet.
+// Appends a pair if its triangles meet.
 fn push_if(meet: bool, p: Pair, out: &mut Vec<Pair>) -> Result<(), OutOfMemory>
     ensures { OnOk result (out.new.items ≡ out.old.items ++ (if meet then p ∷ [] else [])) }
 {
@@ -166,7 +166,7 @@ fn push_if(meet: bool, p: Pair, out: &mut Vec<Pair>) -> Result<(), OutOfMemory>
     Ok(())
 }
 
-// Appends the meeting pairs of the place a with all later ones of the list.
+// Appends the meeting pairs of `list[a]` with all later ones of the list.
 fn push_row(
     alloc: Global,
     tris: &[Tri],

@@ -73,7 +73,7 @@ pub fn root_pairs(alloc: Global, s: &Scene) -> Result<Job, OutOfMemory>
     root_job(alloc, s)
 }
 
-// The job of a box with the places of the triangles near it.
+// The job of a box with the indices of the triangles near it.
 fn job_of(cell: Cell, near: Vec<u32>) -> Job
     ensures { result ≡ record { cell = cell; list = near.items; at = no_windings } }
 {
@@ -84,8 +84,8 @@ fn job_of(cell: Cell, near: Vec<u32>) -> Job
     }
 }
 
-/// What becomes of a job: it is passed over where its list has fewer than two triangles; else a
-/// leaf, with the pairs of its list that meet, where its box is a leaf; else its box's halves along
+/// What becomes of a job: it is skipped if its list has fewer than two triangles; otherwise a
+/// leaf, with the pairs of its list that meet, if its box is a leaf; otherwise its box's halves along
 /// the halving axis, each with the triangles near it.
 pub fn pair_step(alloc: Global, s: &Scene, job: &Job) -> Result<Outcome<PairList>, OutOfMemory>
     requires { IsPairsJob s.now.tris job.now }

@@ -76,7 +76,7 @@ are_corners Face name = is_either name (codes "vertex_indices") (codes "vertex_i
 are_corners Other name = false
 
 -- ---- lines
--- words of a line, where there are no others
+-- words of a line, if there are no others
 abbrev pub two_of : List Piece → Option (Piece × Piece)
 two_of [] = None
 two_of (a ∷ []) = None

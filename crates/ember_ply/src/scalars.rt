@@ -41,7 +41,7 @@ fn natural(number: i64) -> Option<u64>
     Some((number as u64).min(MOST))
 }
 
-// The scalar as an index or as a size, the limit where it is larger.
+// The scalar as an index or as a size, the limit if it is larger.
 pub(crate) fn scalar_number<'a>(scalar: Scalar<'a>) -> Option<u64>
     ensures { result ≡ option_map (min MOST) (number_of_scalar (scalar_of scalar.entry)) }
 {

@@ -82,7 +82,7 @@ quotient_lowest {u} {v} {d} g q =
         let l : 0 < unsigned_abs d = omega (arith, g.positive, ints) in
         dvd_of_mul-dvd-mul_right k l (subst (λ n. (k * unsigned_abs d) ∣ n) (omega arith) h)
 
--- it is one already where nothing but 1 divides it
+-- it is one already if nothing but 1 divides it
 pub lowest_if_one : {u : Spot} {d : ℤ} → IsGreatestDivisor u d → d ≡ pos 1 → IsLowest u
 lowest_if_one {u} {d} g e =
     record { lowest = λ k x y z w. dvd_antisymm (subst (λ (n : ℤ). k ∣ unsigned_abs n) e (g.greatest k x y z w)) (one_dvd k) }

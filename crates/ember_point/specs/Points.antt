@@ -44,7 +44,7 @@ determinants p q r =
       w = weight p q r;
     }
 
--- with the sign turned where the weight is negative
+-- with the sign turned if the weight is negative
 abbrev pub meet_of : Plane → Plane → Plane → Spot
 meet_of p q r = scaled (sign (weight p q r)) (determinants p q r)
 

@@ -53,7 +53,7 @@ fn common_divisor(m: &Meet) -> i128
     third as i128
 }
 
-// In 64 bits where both numbers fit into them.
+// In 64 bits if both numbers fit into them.
 fn quotient(n: i128, divisor: i128) -> i128
     requires positive { pos 0 <ℤ divisor }
     requires small { unsigned_abs n < 2 ^ 92 }

@@ -55,7 +55,7 @@ fn combination(a: i64, x: i64, b: i64, y: i64, c: i64, z: i64) -> i128
     a as i128 * x as i128 + b as i128 * y as i128 + c as i128 * z as i128
 }
 
-/// The one point of three planes, or `None` where there is none or more than one.
+/// The one point of three planes, or `None` if there is none or more than one.
 pub fn meet(p: &Plane, q: &Plane, r: &Plane) -> Option<Meet>
     requires valid_p { IsValidPlane p.now }
     requires valid_q { IsValidPlane q.now }

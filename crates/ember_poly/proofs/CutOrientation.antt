@@ -21,7 +21,7 @@ swap_last n g p = identity (tuple ∷ tuple ∷ tuple ∷ []) (λ n g p. turnE n
 pub in_turn : (n p g : Plane) → orientation n p g ≡ orientation g n p
 in_turn n p g = identity (tuple ∷ tuple ∷ tuple ∷ []) (λ n p g. turnE n p g ≈ turnE g n p) cancels (plane_tuple n) (plane_tuple p) (plane_tuple g)
 
--- the places identity where two planes vanish at both points
+-- the identity of places, if two planes vanish at both points
 pub slope : (n g p a : Plane) (c d : Spot) → value_at n c ≡ pos 0 → value_at n d ≡ pos 0 → value_at g c ≡ pos 0 → value_at g d ≡ pos 0 → orientation n g p *ℤ (c.w *ℤ value_at a d -ℤ d.w *ℤ value_at a c) ≡ neg_ℤ (orientation n a g *ℤ (c.w *ℤ value_at p d -ℤ d.w *ℤ value_at p c))
 slope n g p a c d nc nd gc gd =
     places n g p a c d ∙ rw (both_zero c.w d.w nd nc, both_zero c.w d.w gd gc, swap a n g) (last (orientation a g p) (orientation a p n) (orientation n a g) (c.w *ℤ value_at p d -ℤ d.w *ℤ value_at p c))

@@ -41,7 +41,7 @@ rises t s v w a b d pt ps pv pa eb e =
         let z : t *ℤ (v *ℤ a -ℤ w *ℤ b) ≡ neg_ℤ (t *ℤ (v *ℤ neg_ℤ a)) = rw eb (solve 4 (λ t v w a. t ⊗ (v ⊗ a ⊖ w ⊗ num (pos 0)) ≈ neg (t ⊗ (v ⊗ neg a))) cancels t v w a) in
         absurd (omega (arith, linear, nonneg_mul pt (nonneg_mul pv m), mul_pos_neg ps l, z, e))
 
--- the edge g doesn't come before a point at which it meets q, where q turns to g
+-- the edge g doesn't come before a point at which it meets q, if q turns to g
 pub no_earlier : (n q g : Plane) (u x : Spot) → pos 0 <ℤ orientation n q g → value_at n u ≡ pos 0 → value_at n x ≡ pos 0 → value_at g u ≡ pos 0 → value_at g x ≡ pos 0 → value_at q u ≡ pos 0 → value_at q x ≤ℤ pos 0 → pos 0 <ℤ u.w → IsNotHigher (along n g) u x
 no_earlier n q g u x t nu nx gu gx qu qx w =
     let z = along n g in

@@ -14,7 +14,7 @@ use Rattle.ember_poly.specs.Rings.{IsBelow, IsNotAbove, InFace, InClosedFace}
 pub and_in : {a b : Bool} → a ≡ true → b ≡ true → (a && b) ≡ true
 and_in p q = rw (p, q) refl
 
--- two tests of which each passes where the other does
+-- two tests of which each passes if the other does
 pub same_test : (a b : Bool) → (a ≡ true → b ≡ true) → (b ≡ true → a ≡ true) → a ≡ b
 same_test true b p q = sym (p refl)
 same_test false true p q = q refl

@@ -37,7 +37,7 @@ pub corner_closed : (n : Plane) (xs : List Side) (s : Side) (ys : List Side) →
 corner_closed n xs s ys h =
     closed_turned n s.corner (s ∷ ys) xs (head_closed n s (ys ++ xs) (turned_by n xs (s ∷ ys) h))
 
--- ---- i u + j v is inside, where u is closed and v is inside
+-- ---- i u + j v is inside, if u is closed and v is inside
 pub scaled_under : (i j : ℤ) (u v : Spot) (e : Plane) → pos 0 ≤ℤ i → pos 0 <ℤ j → IsNotAbove e u → IsBelow e v → IsBelow e (mixed2 i j u v)
 scaled_under i j u v e p q a b =
     record { under = rw (mixed2_value i j u v e) (sum p q a.at_most b.under) }

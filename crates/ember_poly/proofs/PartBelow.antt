@@ -40,9 +40,9 @@ take_front xs ys k e = ap (λ j. take j (xs ++ ys)) e ∙ by xs ys
     by (x ∷ xs) ys = ap (λ zs. x ∷ zs) (by xs ys)
 
 -- the kept sides
-kept_sides : (n p : Plane) (xs : List Side) (at : Passage) (q : IsPassage n p xs at) → take (at.kept + 1) (rotated at.first xs) ≡ q.head ∷ (q.front ++ q.last ∷ [])
+kept_sides : (n p : Plane) (xs : List Side) (at : Passage) (q : IsPassage n p xs at) → take (at.below_count + 1) (rotated at.first xs) ≡ q.head ∷ (q.front ++ q.last ∷ [])
 kept_sides n p xs at q =
-    ap (λ zs. take (at.kept + 1) zs) q.turned ∙ take_front (q.head ∷ (q.front ++ q.last ∷ [])) q.others (at.kept + 1) (omega (arith, q.count, length_push q.front q.last))
+    ap (λ zs. take (at.below_count + 1) zs) q.turned ∙ take_front (q.head ∷ (q.front ++ q.last ∷ [])) q.others (at.below_count + 1) (omega (arith, q.count, length_push q.front q.last))
 
 part_is : (n p : Plane) (xs : List Side) (at : Passage) (q : IsPassage n p xs at) (b : ℕ) → part_sides xs at p b ≡ with_start q.head (spot_of at.entry) ∷ (q.front ++ q.last ∷ []) ++ closing_side p (spot_of at.exit) b ∷ []
 part_is n p xs at q b =

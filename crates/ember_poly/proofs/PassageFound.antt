@@ -75,7 +75,7 @@ plane_at (e ∷ es) (m ∷ ms) (b ∷ bs) (f ∷ front) l behind d h =
     rest : {s t : Side} {xs ys : List Side} → s ∷ xs ≡ t ∷ ys → xs ≡ ys
     rest q = cc
 
--- ---- behind the kept sides
+-- ---- behind the sides below the plane
 abbrev NextHigh : Plane → List Side → Type 0
 NextHigh p [] = Unit {0}
 NextHigh p (s ∷ xs) = IsNotBelow p s.corner
@@ -93,7 +93,7 @@ leaves_by p f ks (d ∷ []) u h n =
     (h, by_lt_z (pos 0) (value_at p f.corner) (λ l. inl (record { over = l })) (λ l. by_lt_z (pos 0) (value_at p d.corner) (λ k. inr (inl (record { over = k }))) (λ k. absurd (n (record { at_most = l }, each-join (λ s. IsNotAbove p s.corner) ks (d ∷ []) (each_map (λ s. IsBelow p s.corner) (λ s. IsNotAbove p s.corner) ks (λ s q. weak q) u) (record { at_most = k }, tt))))))
 leaves_by p f ks (d ∷ e ∷ ds) u h n = (h, inr (inr tt))
 
--- not all that is left behind the kept sides lies on the plane
+-- not all that is left behind the sides below the plane lies on the plane
 pub passes : (p : Plane) (f d : Side) (ds : List Side) → Leaves p f (d ∷ ds) → (pos 0 <ℤ value_at p f.corner) ⊎ ((pos 0 <ℤ value_at p d.corner) ⊎ Long ds)
 passes p f d ds q = ⊎_elim (λ a. inl a.over) (λ r. inr (⊎_elim (λ a. inl a.over) (λ a. inr a) r)) q.1
 
@@ -199,7 +199,7 @@ module _ (n p : Plane) (es : List Plane) (ms : List Meet) (bs : List ℕ) (k c r
     pub exit_turns : (d : Plane) → pos 0 <ℤ orientation n (get_or es r d) p
     exit_turns d = subst (λ g. pos 0 <ℤ orientation n g p) (sym (last_plane d)) turns.0
 
-    pub passage_is : (y z : Meet) (d g : Plane) → IsMeet (get_or es k d) n p (spot_of z) → IsMeet n (get_or es r g) p (spot_of y) → IsPassage n p xs (record { first = k; kept = c; entry = z; exit = y })
+    pub passage_is : (y z : Meet) (d g : Plane) → IsMeet (get_or es k d) n p (spot_of z) → IsMeet n (get_or es r g) p (spot_of y) → IsPassage n p xs (record { first = k; below_count = c; entry = z; exit = y })
     passage_is y z d g mz my =
         record {
           head = head;

@@ -98,18 +98,18 @@ module _ (xs : List Side) (at : Passage) (p : Plane) (plane_index : ℕ) where
   tail = drop at.first xs
 
   -- in the ring begun at the entry
-  pub part_of_rotated : (n : ℕ) → n ≡ length xs → {ys zs : List Side} → ys ≡ rotated at.first xs → zs ≡ with_start_at 0 first ys → replace_between (at.kept + 1) n last zs ≡ rotated 0 (part_sides xs at p plane_index)
+  pub part_of_rotated : (n : ℕ) → n ≡ length xs → {ys zs : List Side} → ys ≡ rotated at.first xs → zs ≡ with_start_at 0 first ys → replace_between (at.below_count + 1) n last zs ≡ rotated 0 (part_sides xs at p plane_index)
   part_of_rotated n e {ys} {zs} ey ez =
-      ap (λ us. replace_between (at.kept + 1) n last us) (ez ∙ ap (λ us. with_first_start first us) ey) ∙ (λ i. starting_take first at.kept (rotated at.first xs) i ++ last ∷ none i) ∙ sym (append-nil (part_sides xs at p plane_index))
+      ap (λ us. replace_between (at.below_count + 1) n last us) (ez ∙ ap (λ us. with_first_start first us) ey) ∙ (λ i. starting_take first at.below_count (rotated at.first xs) i ++ last ∷ none i) ∙ sym (append-nil (part_sides xs at p plane_index))
     where
       none : drop n (with_first_start first (rotated at.first xs)) ≡ []
       none =
           drop_all n (with_first_start first (rotated at.first xs)) (omega (arith, e, starting_length first (rotated at.first xs), begun_length at.first xs))
 
-  -- in the ring as it is, where the kept sides go on at its start
-  pub kept_around : (ahead : ℕ) → ahead + at.first ≡ length xs → 0 < ahead → at.kept < length xs → ahead ≤ at.kept → {zs : List Side} → zs ≡ with_start_at at.first first xs → replace_between (at.kept + 1 - ahead) at.first last zs ≡ rotated ahead (part_sides xs at p plane_index)
+  -- in the ring as it is, if the sides below the plane go on at its start
+  pub kept_around : (ahead : ℕ) → ahead + at.first ≡ length xs → 0 < ahead → at.below_count < length xs → ahead ≤ at.below_count → {zs : List Side} → zs ≡ with_start_at at.first first xs → replace_between (at.below_count + 1 - ahead) at.first last zs ≡ rotated ahead (part_sides xs at p plane_index)
   kept_around ahead e some within long {zs} ez =
-      ap (λ us. replace_between (at.kept + 1 - ahead) at.first last us) ez ∙ (λ i. front i ++ last ∷ back i) ∙ sym (append_assoc (take (at.kept + 1 - ahead) head) (last ∷ []) (with_first_start first tail)) ∙ sym (turn_split (with_first_start first tail) (take (at.kept + 1 - ahead) head ++ last ∷ []) ahead count) ∙ sym (ap (λ us. rotated ahead us) part)
+      ap (λ us. replace_between (at.below_count + 1 - ahead) at.first last us) ez ∙ (λ i. front i ++ last ∷ back i) ∙ sym (append_assoc (take (at.below_count + 1 - ahead) head) (last ∷ []) (with_first_start first tail)) ∙ sym (turn_split (with_first_start first tail) (take (at.below_count + 1 - ahead) head ++ last ∷ []) ahead count) ∙ sym (ap (λ us. rotated ahead us) part)
     where
       long_head : length head ≡ at.first
       long_head = length-take-le at.first xs (omega arith)
@@ -120,17 +120,17 @@ module _ (xs : List Side) (at : Passage) (p : Plane) (plane_index : ℕ) where
       count : ahead ≡ length (with_first_start first tail)
       count = sym (starting_length first tail ∙ long_tail)
 
-      front : take (at.kept + 1 - ahead) (head ++ with_first_start first tail) ≡ take (at.kept + 1 - ahead) head
-      front = take-append-le (at.kept + 1 - ahead) head (with_first_start first tail) (omega (arith, long_head, e, within, long))
+      front : take (at.below_count + 1 - ahead) (head ++ with_first_start first tail) ≡ take (at.below_count + 1 - ahead) head
+      front = take-append-le (at.below_count + 1 - ahead) head (with_first_start first tail) (omega (arith, long_head, e, within, long))
 
       back : drop at.first (head ++ with_first_start first tail) ≡ with_first_start first tail
       back =
           ap (λ k. drop k (head ++ with_first_start first tail)) (sym long_head) ∙ drop-append_seam head (with_first_start first tail)
 
-      kept : take (at.kept + 1) (tail ++ head) ≡ tail ++ take (at.kept + 1 - ahead) head
+      kept : take (at.below_count + 1) (tail ++ head) ≡ tail ++ take (at.below_count + 1 - ahead) head
       kept =
-          ap (λ k. take k (tail ++ head)) (omega (arith, long_tail, long)) ∙ take-append-add tail head (at.kept + 1 - ahead)
+          ap (λ k. take k (tail ++ head)) (omega (arith, long_tail, long)) ∙ take-append-add tail head (at.below_count + 1 - ahead)
 
-      part : part_sides xs at p plane_index ≡ with_first_start first tail ++ (take (at.kept + 1 - ahead) head ++ last ∷ [])
+      part : part_sides xs at p plane_index ≡ with_first_start first tail ++ (take (at.below_count + 1 - ahead) head ++ last ∷ [])
       part =
-          ap (λ us. with_first_start first us ++ last ∷ []) kept ∙ ap (λ us. us ++ last ∷ []) (starting_append first tail (take (at.kept + 1 - ahead) head) (omega (arith, long_tail, some))) ∙ append_assoc (with_first_start first tail) (take (at.kept + 1 - ahead) head) (last ∷ [])
+          ap (λ us. with_first_start first us ++ last ∷ []) kept ∙ ap (λ us. us ++ last ∷ []) (starting_append first tail (take (at.below_count + 1 - ahead) head) (omega (arith, long_tail, some))) ∙ append_assoc (with_first_start first tail) (take (at.below_count + 1 - ahead) head) (last ∷ [])

@@ -1,4 +1,4 @@
--- Planes with one edge have one sign where both are negative at some point.
+-- Planes with one edge have one sign if both are negative at some point.
 use Rattle.std.proofs.Common.{◌≡◌, ⊎_elim, ◌∙◌, arith, [], ◌∷◌, ℤ, pos, ◌+ℤ◌, ◌-ℤ◌, ◌*ℤ◌, neg_ℤ, ◌<ℤ◌}
 use Rattle.ember_algebra.proofs.Laws.{linear}
 use Rattle.ember_algebra.proofs.Ring.{◌⊕◌, ◌⊖◌, ◌⊗◌, neg, num, ◌≈◌, solve, cancels}

@@ -101,7 +101,7 @@ square p e = rw e (pos_mul p p)
 one : pos 0 <ℤ pos 1
 one = omega (arith, linear)
 
--- the three edges of a triangle, where s times the normal's product with f is positive
+-- the three edges of a triangle, if s times the normal's product with f is positive
 pub triangle : (s : ℤ) (f : Vector) (u v w : Corner) → pos 0 <ℤ (s *ℤ dot (normal_of u v w) f) → IsConvexRing (support_plane u v w) (side_along s f u v 0 ∷ side_along s f v w 1 ∷ side_along s f w u 2 ∷ [])
 triangle s f u v w p =
     let at_u : IsCornerOf (support_plane u v w) (edge_along s f w u) (side_along s f u v 0) = record { flat = flat_u s f u v w; weight = one; before = ends s f w u v; after = starts s f u v w; turns = square p (turn_u s f u v w) } in

@@ -31,18 +31,18 @@ LeastFirst (b ∷ bs) = AllByRecursion (λ c. b ≤ c) bs
 abbrev pub rotated : {X : Type 0} → ℕ → List X → List X
 rotated k xs = drop k xs ++ take k xs
 
--- a list with an item in the place of those from one place to another
+-- a list with an item in place of those with the indices from to to - 1
 abbrev pub replace_between : {X : Type 0} → ℕ → ℕ → X → List X → List X
 replace_between from to x xs = take from xs ++ x ∷ drop to xs
 
--- the edge at this place starts at v
+-- the edge with this index starts at v
 abbrev pub with_start_at : ℕ → Spot → List Side → List Side
 with_start_at k v xs = take k xs ++ with_first_start v (drop k xs)
 
--- the sides that a passage keeps, from the entry to the exit, and the closing side behind them
+-- the sides below the plane, from the entry to the exit, and the closing side behind them
 abbrev pub part_sides : List Side → Passage → Plane → ℕ → List Side
 part_sides xs at p plane_index =
-    with_first_start (spot_of at.entry) (take (at.kept + 1) (rotated at.first xs)) ++
+    with_first_start (spot_of at.entry) (take (at.below_count + 1) (rotated at.first xs)) ++
     closing_side p (spot_of at.exit) plane_index ∷ []
 
 -- these sides, rotated

@@ -69,7 +69,7 @@ pub record IsChord (f : Face) (p : Plane) (y z : Spot) : Type 0 where
   pub meets : (hs : List Plane) → IsOpen hs y z → MeetsFace f (face_with p hs)
   pub opens : (hs : List Plane) → MeetsFace f (face_with p hs) → IsOpen hs y z
 
--- on which sides of the plane f lies, and the chord where the plane cuts it
+-- on which sides of the plane f lies, and the chord if the plane cuts it
 abbrev pub IsCrossing : Face → Plane → Crossing → Type 0
 IsCrossing f p crossing.Below = IsReach f p reach.Below
 IsCrossing f p crossing.Above = IsReach f p reach.Above

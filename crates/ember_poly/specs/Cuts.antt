@@ -27,7 +27,7 @@ IsReach f p reach.Above = IsWhole f (λ v. is_positive (value_at p v) ≡ true)
 IsReach f p reach.On = IsWhole f (λ v. is_zero (value_at p v) ≡ true)
 IsReach f p reach.Both = Cuts f p
 
--- on which sides of the plane f lies, and what is left of it: the part below where the plane cuts it
+-- on which sides of the plane f lies, and what is left of it: the part below if the plane cuts it
 abbrev pub IsClip : Face → Plane → Reach → Face → Type 0
 IsClip f p reach.Below g = IsReach f p reach.Below × (g ≡ f)
 IsClip f p reach.Above g = IsReach f p reach.Above × (g ≡ f)

@@ -9,4 +9,5 @@ face_in d = record { support = d.support; edges = d.planes.items }
 
 -- the lists are those of a ring
 abbrev pub HoldsRing : Draft → Type 0
-HoldsRing d = IsRing d.support d.planes.items d.rim.edges.items d.rim.corners.items d.rim.plane_indices.items
+HoldsRing d =
+    IsRing d.support d.planes.items d.boundary.edges.items d.boundary.corners.items d.boundary.plane_indices.items

@@ -30,7 +30,7 @@ line_b Z p = p.b
 abbrev pub line_d : Axis → ℤ → Plane → ℤ
 line_d k at p = p.d -ℤ along p k *ℤ at
 
--- greater than 0 where the line of p turns to that of q counter-clockwise, seen from above
+-- greater than 0 if the line of p turns to that of q counter-clockwise, seen from above
 abbrev pub turn_at : Axis → Plane → Plane → ℤ
 turn_at k p q = line_a k p *ℤ line_b k q -ℤ line_b k p *ℤ line_a k q
 

@@ -34,7 +34,7 @@ AreSigns p ms Above =
 AreSigns p ms On = AllByRecursion (λ m. IsOnPlane p (spot_of m)) ms
 AreSigns p ms Both = HasSome (λ m. IsBelow p (spot_of m)) ms × HasSome (λ m. IsAbove p (spot_of m)) ms
 
--- the same by the number of corners below the plane that are known, and by whether some are above
+-- of these corners, `low` are known to be below the plane, and `high` says whether some are above
 pub record AreClassified (p : Plane) (low : ℕ) (high : Bool) (ms : List Meet) : Type 0 where
   pub under : 0 < low → HasSome (λ m. IsBelow p (spot_of m)) ms
   pub least : low ≡ 0 → AllByRecursion (λ m. IsNotBelow p (spot_of m)) ms
@@ -78,21 +78,21 @@ Enters p [] = ⊥
 Enters p (m ∷ []) = ⊥
 Enters p (m ∷ c ∷ ms) = (is_under p m ≡ false) × (is_under p c ≡ true)
 
--- begun at this place, the corners enter the plane's negative side, and so many are below it
-pub record EntersAt (p : Plane) (ms : List Meet) (first kept : ℕ) : Type 0 where
+-- begun at this index, the corners enter the plane's negative side, and so many are below it
+pub record EntersAt (p : Plane) (ms : List Meet) (first below_count : ℕ) : Type 0 where
   pub within : first < length ms
   pub enters : Enters p (drop first ms ++ take first ms)
-  pub run : IsOneSidedRun p true (drop (first + 1) ms ++ take first ms) kept
+  pub run : IsOneSidedRun p true (drop (first + 1) ms ++ take first ms) below_count
 
 -- ---- the passage
--- behind the kept sides: the next corner is not below the plane, and not all that is left lies on it
+-- behind the sides below the plane: the next corner is not below the plane, and not all that is left lies on it
 abbrev pub Leaves : Plane → Side → List Side → Type 0
 Leaves p f [] = IsAbove p f.corner
 Leaves p f (d ∷ ds) =
     IsNotBelow p d.corner × (IsAbove p f.corner ⊎ (IsAbove p d.corner ⊎ Long ds))
 
 -- the ring begun where the plane's negative side is entered: the side on whose edge that is, the
--- kept sides, whose corners lie below the plane, and the others; and the two ends of the chord
+-- sides whose corners lie below the plane, and the others; and the two ends of the chord
 pub record IsPassage (n p : Plane) (xs : List Side) (at : Passage) : Type 0 where
   pub head : Side
   pub front : List Side
@@ -100,7 +100,7 @@ pub record IsPassage (n p : Plane) (xs : List Side) (at : Passage) : Type 0 wher
   pub others : List Side
   pub within : at.first < length xs
   pub turned : drop at.first xs ++ take at.first xs ≡ head ∷ (front ++ last ∷ []) ++ others
-  pub count : at.kept ≡ suc (length front)
+  pub count : at.below_count ≡ suc (length front)
   pub under : AllByRecursion (λ s. IsBelow p s.corner) (front ++ last ∷ [])
   pub enters : IsNotBelow p head.corner
   pub leaves : Leaves p head others

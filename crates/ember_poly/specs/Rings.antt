@@ -8,13 +8,13 @@ use Rattle.ember_model.specs.declared.point.Spot.{Spot}
 use Rattle.ember_model.specs.Planes.{value_at}
 use Rattle.ember_model.specs.Edges.{normal}
 
--- an edge plane, the corner where its edge starts, and the place of the plane in the face's list
+-- an edge plane, the corner where its edge starts, and the index of the plane in the face's list
 pub record Side : Type 0 where
   pub plane : Plane
   pub corner : Spot
   pub plane_index : ℕ
 
--- greater than 0 where g turns to h counter-clockwise, seen from the front of n
+-- greater than 0 if g turns to h counter-clockwise, seen from the front of n
 abbrev pub orientation : Plane → Plane → Plane → ℤ
 orientation n g h = det (normal n) (normal g) (normal h)
 

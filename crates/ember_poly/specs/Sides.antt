@@ -22,14 +22,14 @@ abbrev pub FirstPlaneFirst : List Side → Type 0
 FirstPlaneFirst [] = Unit {0}
 FirstPlaneFirst (s ∷ xs) = AllByRecursion (λ r. s.plane_index ≤ r.plane_index) xs
 
--- some side's plane is the one at this place
+-- some side's plane is the one with this index
 pub record HasPlaneIndex (index : ℕ) (xs : List Side) : Type 0 where
   pub at : ℕ
   pub side : Side
   pub here : slice_get xs at ≡ Some side
   pub plane_index : side.plane_index ≡ index
 
--- the plane is 0 at one place of the closed ring at most
+-- the plane is 0 at one corner of the closed ring at most
 abbrev pub IsZeroAtOnePoint : Plane → List Side → Plane → Type 0
 IsZeroAtOnePoint n xs h =
     (u v : Spot) → IsInClosedRing n xs u → IsInClosedRing n xs v → value_at h u ≡ pos 0 → value_at h v ≡ pos 0 →

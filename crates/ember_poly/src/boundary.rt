@@ -10,7 +10,7 @@ use ember_point::Meet;
 use std::alloc::{AllocError, Global};
 
 /// The planes whose edges count, in their order round the face, with the corner where each edge
-/// starts and its place among all planes of the face.
+/// starts and its index among all planes of the face.
 #[derive(Drop)]
 pub struct Boundary {
     pub edges: Vec<Plane>,
@@ -26,7 +26,7 @@ struct ClosingSide {
     plane_index: usize,
 }
 
-// Puts an item into a list, in the place of the items from one place to another.
+// Puts an item into a list, in place of the items with the indices `from` to `to - 1`.
 fn replace_between<T: Copy>(
     items: &mut Vec<T>,
     from: usize,
@@ -48,7 +48,7 @@ fn replace_between<T: Copy>(
     Ok(())
 }
 
-// Begins a closed list at another place. The library's rotation by several places clears a room on
+// Begins a closed list at another index. The library's rotation by several indices clears a room on
 // the stack, which takes longer than three reversals of a list as short as these.
 fn begin_at<T>(items: &mut Vec<T>, index: usize)
     requires { index ≤ length items.old.items }
@@ -64,7 +64,7 @@ fn begin_at<T>(items: &mut Vec<T>, index: usize)
     items.reverse();
 }
 
-// The list, with room for so many more items.
+// A copy of the list, with room for this many more items.
 pub fn with_room<T: Copy>(alloc: Global, items: &[T], room: usize) -> Result<Vec<T>, AllocError>
     ensures { IfOk result (λ list. list.items ≡ items.now) }
 {
@@ -83,7 +83,7 @@ impl Boundary {
         }
     }
 
-    // The same sides, with room for so many more.
+    // A copy, with room for this many more sides.
     pub fn copy(&self, alloc: Global, room: usize) -> Result<Boundary, OutOfMemory>
         ensures edges { IfOk result (λ r. r.edges.items ≡ self.now.edges.items) }
         ensures corners { IfOk result (λ r. r.corners.items ≡ self.now.corners.items) }
@@ -99,7 +99,7 @@ impl Boundary {
         })
     }
 
-    // Begins the sides at another place.
+    // Begins the sides at another index.
     fn rotate(&mut self, index: usize)
         requires index { index ≤ length self.old.edges.items }
         requires paired { HasEqualLengths self.old }
@@ -127,7 +127,7 @@ impl Boundary {
         self.corners[index] = corner;
     }
 
-    // Puts a side in the place of the sides from one place to another.
+    // Puts a side in place of the sides with the indices `from` to `to - 1`.
     fn put(&mut self, from: usize, to: usize, side: ClosingSide) -> Result<(), OutOfMemory>
         requires order { from ≤ to }
         requires within { to ≤ length self.old.edges.items }
@@ -144,8 +144,8 @@ impl Boundary {
         Ok(())
     }
 
-    // Leaves the sides that a passage keeps, from the entry to the exit, and puts the closing
-    // side behind them.
+    // Leaves the sides below the plane, from the entry to the exit, and puts the closing side behind
+    // them.
     pub fn close(
         &mut self,
         at: &Passage,
@@ -153,7 +153,7 @@ impl Boundary {
         plane_index: usize,
     ) -> Result<(), OutOfMemory>
         requires first { at.now.first < length self.old.edges.items }
-        requires kept { at.now.kept < length self.old.edges.items }
+        requires below_count { at.now.below_count < length self.old.edges.items }
         requires paired { HasEqualLengths self.old }
         ensures part { OnOk result (IsPartOfBoundary self.old at.now plane plane_index self.new) }
         ensures some { OnOk result (0 < length self.new.edges.items) }
@@ -165,14 +165,14 @@ impl Boundary {
         };
         let len = self.edges.len();
         let ahead = len - at.first;
-        if at.kept < ahead {
+        if at.below_count < ahead {
             self.rotate(at.first);
             self.set_start(0, at.entry);
-            self.put(at.kept + 1, len, side)?;
+            self.put(at.below_count + 1, len, side)?;
             Ok(())
         } else {
             self.set_start(at.first, at.entry);
-            self.put(at.kept + 1 - ahead, at.first, side)?;
+            self.put(at.below_count + 1 - ahead, at.first, side)?;
             Ok(())
         }
     }
@@ -190,7 +190,7 @@ impl Boundary {
     }
 }
 
-// The place of the least number.
+// The index of the least number.
 fn least(numbers: &[usize]) -> usize
     requires { 0 < length numbers.now }
     ensures within { result < length numbers.now }

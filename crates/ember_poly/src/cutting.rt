@@ -26,8 +26,8 @@ fn opposite(p: &Plane) -> Plane
     }
 }
 
-/// What a plane leaves of a ring: the part below it where inside points are on both sides, the
-/// ring itself where they are on one side or on the plane, and which of these it is.
+/// What a plane leaves of a ring: the part below it if inside points are on both sides, the
+/// ring itself if they are on one side or on the plane, and which of these it is.
 pub fn clip(r: Ring, plane: &Plane) -> Result<(Reach, Ring), OutOfMemory>
     requires { IsValidPlane plane.now }
     ensures { IfOk result (λ left. IsClip r plane.now left.0 left.1) }

@@ -21,7 +21,7 @@ use std::alloc::{AllocError, Global};
 pub struct Draft {
     support: Plane,
     planes: Vec<Plane>,
-    rim: Boundary,
+    boundary: Boundary,
 }
 
 // Puts other items into a list.
@@ -40,12 +40,12 @@ pub fn draft_of(r: Ring) -> Draft
     let Ring {
         support,
         planes,
-        rim,
+        boundary,
     } = r;
     Draft {
         support,
         planes,
-        rim,
+        boundary,
     }
 }
 
@@ -60,7 +60,7 @@ impl Draft {
                 d: 0,
             },
             planes: Vec::new(alloc),
-            rim: Boundary::new(alloc),
+            boundary: Boundary::new(alloc),
         }
     }
 
@@ -76,9 +76,9 @@ impl Draft {
     {
         let starts = [at_corner(&t.a), at_corner(&t.b), at_corner(&t.c)];
         refill(&mut self.planes, edges)?;
-        refill(&mut self.rim.edges, edges)?;
-        refill(&mut self.rim.corners, &starts)?;
-        refill(&mut self.rim.plane_indices, &[0, 1, 2])?;
+        refill(&mut self.boundary.edges, edges)?;
+        refill(&mut self.boundary.corners, &starts)?;
+        refill(&mut self.boundary.plane_indices, &[0, 1, 2])?;
         self.support = *support;
         Ok(())
     }
@@ -87,30 +87,30 @@ impl Draft {
     fn keep_part(&mut self, p: &Plane, at: &Passage) -> Result<(), OutOfMemory>
         requires plane { IsValidPlane p.now }
         requires ring { HoldsRing self.old }
-        requires passage { IsPassage self.old.support p.now (sides self.old.rim) at.now }
-        requires kept { at.now.kept < length self.old.rim.edges.items }
+        requires passage { IsPassage self.old.support p.now (sides self.old.boundary) at.now }
+        requires below_count { at.now.below_count < length self.old.boundary.edges.items }
         ensures ring { OnOk result (HoldsRing self.new) }
         ensures part { OnOk result (face_in self.new ≡ below (face_in self.old) p.now) }
     {
         let plane_index = self.planes.len();
         self.planes.push(*p)?;
-        self.rim.close(at, *p, plane_index)?;
-        self.rim.rotate_to_oldest();
+        self.boundary.close(at, *p, plane_index)?;
+        self.boundary.rotate_to_oldest();
         Ok(())
     }
 
-    /// Keeps what a plane leaves of the face: the part below it where inside points are on both
-    /// sides, else all of it. Returns which of these it is.
+    /// Keeps what a plane leaves of the face: the part below it if inside points are on both
+    /// sides, otherwise all of it. Returns which of these it is.
     pub fn clip(&mut self, plane: &Plane) -> Result<Reach, OutOfMemory>
         requires plane { IsValidPlane plane.now }
         requires ring { HoldsRing self.old }
         ensures ring { OnOk result (HoldsRing self.new) }
         ensures part { IfOk result (λ side. IsClip (face_in self.old) plane.now side (face_in self.new)) }
     {
-        let at = classify(plane, self.rim.corners.as_slice());
+        let at = classify(plane, self.boundary.corners.as_slice());
         match at.reach {
             Reach::Both => {
-                let at = find_passage(&self.support, &self.rim, plane, &at);
+                let at = find_passage(&self.support, &self.boundary, plane, &at);
                 self.keep_part(plane, &at)?;
                 Ok(Reach::Both)
             }
@@ -118,17 +118,17 @@ impl Draft {
         }
     }
 
-    /// The face as a ring, with room for so many cuts.
+    /// The face as a ring, with room for this many cuts.
     pub fn ring(&self, alloc: Global, room: usize) -> Result<Ring, OutOfMemory>
         requires { HoldsRing self.now }
         ensures { IfOk result (λ r. r ≡ face_in self.now) }
     {
         let planes = with_room(alloc, self.planes.as_slice(), room)?;
-        let rim = self.rim.copy(alloc, room)?;
+        let boundary = self.boundary.copy(alloc, room)?;
         Ok(Ring {
             support: self.support,
             planes,
-            rim,
+            boundary,
         })
     }
 
@@ -140,12 +140,12 @@ impl Draft {
         let Draft {
             support,
             planes,
-            rim,
+            boundary,
         } = self;
         Ring {
             support,
             planes,
-            rim,
+            boundary,
         }
     }
 }

@@ -31,7 +31,7 @@ enum ChordPart {
     Empty,
 }
 
-// By the signs of the plane at the two points.
+// What a plane leaves of the chord, by its signs at the two points.
 fn chord_part_of(y: Sign, z: Sign) -> ChordPart
     ensures { (a b : ℤ) → y ≡ sgn a → z ≡ sgn b → IsChordPart a b result }
 {
@@ -123,13 +123,13 @@ fn cross(r: &Ring, p: &Plane) -> Crossing
     requires { IsValidPlane p.now }
     ensures { IsCrossing r.now p.now result }
 {
-    let entry = classify(p, r.rim.corners.as_slice());
+    let entry = classify(p, r.boundary.corners.as_slice());
     match entry.reach {
         Reach::Below => Crossing::Below,
         Reach::Above => Crossing::Above,
         Reach::On => Crossing::On,
         Reach::Both => {
-            let at = find_passage(&r.support, &r.rim, p, &entry);
+            let at = find_passage(&r.support, &r.boundary, p, &entry);
             Crossing::Along(at.exit, at.entry)
         }
     }
@@ -172,7 +172,7 @@ enum Overlap {
     Unknown,
 }
 
-// By one pass over the corners for each plane, without a meet.
+// What the sides of the planes show, by one pass over the corners for each plane. It computes no meet.
 fn overlap_of(r: &Ring, hs: &[Plane]) -> Overlap
     requires planes { All IsValidPlane hs.now }
     requires inside { HasInside r.now }

@@ -19,23 +19,23 @@ use ember_algebra::{Sign, sign_of};
 use ember_model::{Axis, Plane};
 use ember_point::{Meet, meet, side};
 
-// How a ring's corners lie to a plane and, where they lie on both sides of it, how its negative
-// side is entered.
+// On which sides of a plane a ring's corners lie. If they lie on both, also where the boundary comes
+// below the plane, and for how many corners.
 #[derive(Clone, Copy)]
 pub struct Classification {
     pub reach: Reach,
-    // The side on whose edge the plane's negative side is entered.
+    // The index of the last corner before those below the plane. On its edge the boundary comes below.
     pub first: usize,
-    // How many corners behind it lie below the plane.
-    pub kept: usize,
+    // How many corners after it lie below the plane.
+    pub below_count: usize,
 }
 
-// Where a plane passes a ring that has corners on both sides of it: the first side and the number
-// of kept ones, and the ends of the chord.
+// Where a plane passes a ring that has corners on both sides of it: the edge on which the boundary comes
+// below the plane, by its index, the number of corners below the plane, and the ends of the chord.
 #[derive(Clone, Copy)]
 pub struct Passage {
     pub first: usize,
-    pub kept: usize,
+    pub below_count: usize,
     pub entry: Meet,
     pub exit: Meet,
 }
@@ -101,10 +101,10 @@ fn is_above(p: &Plane, axis: Option<Axis>, m: &Meet) -> bool
     side_along(p, axis, m) == Sign::Pos
 }
 
-// How many corners at the front lie below the plane, where some at the front are known to, and
-// whether the next one is above it.
+// Length of the leading run of corners below the plane (the first `known` are known to be), and whether the
+// next corner is above it.
 #[inline(always)]
-fn run(p: &Plane, axis: Option<Axis>, corners: &[Meet], known: usize) -> (usize, bool)
+fn count_below(p: &Plane, axis: Option<Axis>, corners: &[Meet], known: usize) -> (usize, bool)
     requires plane { IsValidPlane p.now }
     requires axis { IfSome axis (λ k. IsAlong k p.now) }
     requires known { AllByRecursion (λ m. is_under p.now m ≡ true) (take known corners.now) }
@@ -121,8 +121,8 @@ fn run(p: &Plane, axis: Option<Axis>, corners: &[Meet], known: usize) -> (usize,
     (corners.len(), false)
 }
 
-// How many corners at the front do not lie below the plane, as the first of them does not, and
-// whether one of them is above it.
+// Length of the leading run of corners not below the plane, and whether one of them is above it. The first
+// corner isn't below; `first` says whether it is above.
 fn count_not_below(p: &Plane, axis: Option<Axis>, corners: &[Meet], first: bool) -> (usize, bool)
     requires plane { IsValidPlane p.now }
     requires axis { IfSome axis (λ k. IsAlong k p.now) }
@@ -140,7 +140,7 @@ fn count_not_below(p: &Plane, axis: Option<Axis>, corners: &[Meet], first: bool)
     (corners.len(), high)
 }
 
-// One of these corners is above the plane, where no other is known to be.
+// Whether a corner of the ring is above the plane: one that is already known to be, or one of these.
 fn is_some_above(p: &Plane, axis: Option<Axis>, corners: &[Meet], known: bool) -> bool
     requires plane { IsValidPlane p.now }
     requires axis { IfSome axis (λ k. IsAlong k p.now) }
@@ -158,7 +158,7 @@ fn is_some_above(p: &Plane, axis: Option<Axis>, corners: &[Meet], known: bool) -
     false
 }
 
-// By the number of corners below a plane, and by whether some are above it.
+// The reach of a ring with this many corners below a plane, known so far, and with corners above it or none.
 fn reach_by(low: usize, high: bool) -> Reach
     ensures { (p : Plane) (ms : List Meet) → AreClassified p low high ms → AreSigns p ms result }
 {
@@ -171,36 +171,40 @@ fn reach_by(low: usize, high: bool) -> Reach
     }
 }
 
-// How the corners lie to the plane, with the sign of each found once.
+// Sorts the corners by their sides of the plane, and computes each side once. The ring is convex, so its
+// corners form one run below the plane and one run not below it. Seen from the first corner, either
+// may be in two parts: `leading` corners below, `rising` ones that aren't, `falling` ones below again, and
+// others that aren't. `turn` is the index of the first falling corner.
 pub fn classify(plane: &Plane, corners: &[Meet]) -> Classification
     requires { IsValidPlane plane.now }
     ensures signs { AreSigns plane.now corners.now result.reach }
-    ensures entry { result.reach ≡ reach.Both → EntersAt plane.now corners.now result.first result.kept }
+    ensures entry { result.reach ≡ reach.Both → EntersAt plane.now corners.now result.first result.below_count }
 {
     let axis = axis_of(plane);
-    let (down, next) = run(plane, axis, corners, 0);
-    let (up, some_high) = count_not_below(plane, axis, &corners[down..], next);
-    let end = down + up;
-    let (count, _) = run(plane, axis, &corners[end..], 1);
-    let high = is_some_above(plane, axis, &corners[end + count..], some_high);
-    let reach = reach_by(down + count, high);
-    let first = end.saturating_sub(1);
-    if end + count < corners.len() {
+    let (leading, next) = count_below(plane, axis, corners, 0);
+    let (rising, some_high) = count_not_below(plane, axis, &corners[leading..], next);
+    let turn = leading + rising;
+    let (falling, _) = count_below(plane, axis, &corners[turn..], 1);
+    let high = is_some_above(plane, axis, &corners[turn + falling..], some_high);
+    let reach = reach_by(leading + falling, high);
+    let first = turn.saturating_sub(1);
+    if turn + falling < corners.len() {
         Classification {
             reach,
             first,
-            kept: count,
+            below_count: falling,
         }
     } else {
+        // The falling corners end the list, and go on with the leading ones.
         Classification {
             reach,
             first,
-            kept: count + down,
+            below_count: falling + leading,
         }
     }
 }
 
-// The place that many places ahead, round the ring.
+// The index of the corner that is `count` corners ahead of another, round the ring.
 fn ahead(first: usize, count: usize, len: usize) -> usize
     requires first { first < len }
     requires count { count < len }
@@ -215,7 +219,7 @@ fn ahead(first: usize, count: usize, len: usize) -> usize
     }
 }
 
-// The point of three planes that turn counter-clockwise, by small numbers where the third is a level.
+// The point of three planes that turn counter-clockwise. If the third is a level, small numbers suffice.
 fn point_of(p: &Plane, q: &Plane, r: &Plane, level: Option<Level>) -> Meet
     requires valid_p { IsValidPlane p.now }
     requires valid_q { IsValidPlane q.now }
@@ -240,25 +244,30 @@ fn point_of(p: &Plane, q: &Plane, r: &Plane, level: Option<Level>) -> Meet
 }
 
 // Where the plane passes the ring.
-pub fn find_passage(support: &Plane, rim: &Boundary, plane: &Plane, at: &Classification) -> Passage
+pub fn find_passage(
+    support: &Plane,
+    boundary: &Boundary,
+    plane: &Plane,
+    at: &Classification,
+) -> Passage
     requires support { IsValidPlane support.now }
-    requires edges { All IsValidPlane rim.now.edges.items }
+    requires edges { All IsValidPlane boundary.now.edges.items }
     requires plane { IsValidPlane plane.now }
-    requires paired { HasEqualLengths rim.now }
-    requires sound { IsConvexRing support.now (sides rim.now) }
-    requires straddles { Straddles plane.now rim.now.corners.items }
-    requires entry { EntersAt plane.now rim.now.corners.items at.now.first at.now.kept }
-    ensures passage { IsPassage support.now plane.now (sides rim.now) result }
-    ensures kept { result.kept < length rim.now.edges.items }
+    requires paired { HasEqualLengths boundary.now }
+    requires sound { IsConvexRing support.now (sides boundary.now) }
+    requires straddles { Straddles plane.now boundary.now.corners.items }
+    requires entry { EntersAt plane.now boundary.now.corners.items at.now.first at.now.below_count }
+    ensures passage { IsPassage support.now plane.now (sides boundary.now) result }
+    ensures below_count { result.below_count < length boundary.now.edges.items }
 {
     let first = at.first;
-    let kept = at.kept;
-    let last = ahead(first, kept, rim.corners.len());
+    let below_count = at.below_count;
+    let last = ahead(first, below_count, boundary.corners.len());
     let level = level_of(plane);
     Passage {
         first,
-        kept,
-        entry: point_of(&rim.edges[first], support, plane, level),
-        exit: point_of(support, &rim.edges[last], plane, level),
+        below_count,
+        entry: point_of(&boundary.edges[first], support, plane, level),
+        exit: point_of(support, &boundary.edges[last], plane, level),
     }
 }

@@ -59,5 +59,5 @@ pub fn reach(r: &Ring, p: &Plane) -> Reach
     requires { IsValidPlane p.now }
     ensures { IsReach r.now p.now result }
 {
-    signs_of(p, r.rim.corners.as_slice())
+    signs_of(p, r.boundary.corners.as_slice())
 }

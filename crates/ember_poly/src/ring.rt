@@ -21,7 +21,7 @@ pub struct Ring {
     pub(crate) support: Plane,
     // All edge planes of the face, the earliest first.
     pub(crate) planes: Vec<Plane>,
-    pub(crate) rim: Boundary,
+    pub(crate) boundary: Boundary,
 }
 
 impl Model for Ring {
@@ -33,7 +33,7 @@ impl Model for Ring {
     ghost view = { λ r. record { support = r.support; edges = r.planes.items } };
 
     ghost invariant = { λ r. IsRing r.support r.planes.items
-        r.rim.edges.items r.rim.corners.items r.rim.plane_indices.items };
+        r.boundary.edges.items r.boundary.corners.items r.boundary.plane_indices.items };
 }
 
 // For how many cuts a ring has room at first.
@@ -73,7 +73,7 @@ pub fn main_edges(t: &Tri, support: &Plane) -> [Plane; 3]
     ]
 }
 
-/// The triangle's face, and `None` exactly where the triangle's normal is zero.
+/// The triangle's face, and `None` exactly if the triangle's normal is zero.
 pub fn of_tri(alloc: Global, t: &Tri) -> Result<Option<Ring>, OutOfMemory>
     requires { IsValidTri t.now }
     ensures { IfOk result (λ r. r ≡ (if is_flat t.now then None else Some (face_of t.now))) }
@@ -91,7 +91,7 @@ pub fn of_tri(alloc: Global, t: &Tri) -> Result<Option<Ring>, OutOfMemory>
     Ok(Some(Ring {
         support,
         planes,
-        rim: Boundary {
+        boundary: Boundary {
             edges,
             corners,
             plane_indices,
@@ -99,16 +99,16 @@ pub fn of_tri(alloc: Global, t: &Tri) -> Result<Option<Ring>, OutOfMemory>
     }))
 }
 
-/// The same ring.
+/// A copy of the ring.
 pub fn copy(alloc: Global, r: &Ring) -> Result<Ring, OutOfMemory>
     ensures { IfOk result (λ c. c ≡ r.now) }
 {
     let planes = with_room(alloc, r.planes.as_slice(), ROOM)?;
-    let rim = r.rim.copy(alloc, ROOM)?;
+    let boundary = r.boundary.copy(alloc, ROOM)?;
     Ok(Ring {
         support: r.support,
         planes,
-        rim,
+        boundary,
     })
 }
 
@@ -125,14 +125,14 @@ pub fn support(r: &Ring) -> Plane
 pub fn edges(r: &Ring) -> &[Plane]
     ensures { AreEdges r.now result.now }
 {
-    &r.rim.edges
+    &r.boundary.edges
 }
 
 /// The corners at which these edges start, in the same order.
 pub fn corners(r: &Ring) -> &[Meet]
     ensures { AreCorners r.now result.now }
 {
-    &r.rim.corners
+    &r.boundary.corners
 }
 
 /// The edges that count, in order round the face, and the corners at which they start.
@@ -142,5 +142,5 @@ pub fn outline(r: &Ring) -> (&[Plane], &[Meet])
     ensures three { 3 ≤ length result.0.now }
     ensures valid { All IsValidPlane result.0.now }
 {
-    (&r.rim.edges, &r.rim.corners)
+    (&r.boundary.edges, &r.boundary.corners)
 }

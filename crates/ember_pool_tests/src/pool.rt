@@ -88,7 +88,7 @@ fn halve_step(
     Ok(Outcome::Halves(left, right))
 }
 
-// A run by this many workers, or by one caller alone where they are none.
+// A run by this many workers, or by one caller alone if they are none.
 fn run<R: Threads + Wait + Sync, G: Gate + Sync>(
     rt: &R,
     alloc: Global,

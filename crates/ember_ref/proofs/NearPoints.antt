@@ -90,7 +90,7 @@ corner_is X u = refl
 corner_is Y u = refl
 corner_is Z u = refl
 
--- where all corners lie past a coordinate, so does each point of the closed face
+-- if all corners lie past a coordinate, so does each point of the closed face
 corner_value : (k : Axis) (s d : ℤ) (u : Corner) → d ≤ℤ (s *ℤ along k (vector_of u)) → pos 0 ≤ℤ value_at (axis_plane k s d) (spot_of_corner u)
 corner_value k s d u l =
     let e = axis_value k s d (spot_of_corner u) in let f = ap (λ (x : ℤ). s *ℤ x) (corner_is k u) in let g : d *ℤ pos 1 ≡ d = omega (arith, ints) in omega (arith, linear, e, f, g, l)

@@ -43,7 +43,7 @@ sign_near n p v l a b c =
 pub sign_at_reference : {m : ℕ} (p : Plane) (v : Vector) → m < 2 ^ 27 → Small m p.a → Small m p.b → Small m p.c → sgn (value_at p (reference_at v)) ≡ sign_beside p v
 sign_at_reference p v l a b c = sign_near (2 ^ 27) p v l a b c
 
--- ---- it is zero only where the normal is
+-- ---- it is zero only if the normal is
 both_zero : (s t : Sign) → or_sign s t ≡ Zero → (s ≡ Zero) × (t ≡ Zero)
 both_zero Neg t e = absurd (clash e)
   where

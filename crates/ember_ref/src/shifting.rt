@@ -113,7 +113,7 @@ fn segment_back(c: &Cell, k: Axis) -> AxisSegment
     }
 }
 
-// The signed crossing of the segment with the inside of the triangle's face. There is none where the
+// The signed crossing of the segment with the inside of the triangle's face. There is none if the
 // triangle's bounding box lies beside the segment.
 fn crossing_on(t: &Tri, w: &AxisSegment) -> i32
     requires tri { IsValidTri t.now }
@@ -162,7 +162,7 @@ pub fn shift(near: &[Tri], c: &Cell, k: Axis, v: &mut Vector)
     }
 }
 
-/// The same by the places of those triangles in a list of all.
+/// The same as `shift`; `list` has the indices of the near triangles in `tris`.
 pub fn shift_listed(tris: &[Tri], list: &[u32], c: &Cell, axis: Axis, v: &mut Vector)
     requires valid { All IsValidTri tris.now }
     requires numbered { All (HasMesh 64) tris.now }

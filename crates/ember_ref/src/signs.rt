@@ -41,7 +41,7 @@ fn lead_sign(p: &Plane) -> Sign
     or_sign(a, or_sign(b, c))
 }
 
-// The sign at the corner, or where that is 0 the one beside it.
+// The sign at the corner, or if that is 0 the one beside it.
 fn or_lead(at: Sign, p: &Plane) -> Sign
     ensures { result ≡ or_sign at (or_sign (sgn p.now.a) (or_sign (sgn p.now.b) (sgn p.now.c))) }
 {
@@ -52,7 +52,7 @@ fn or_lead(at: Sign, p: &Plane) -> Sign
 }
 
 /// The sign of the plane at the reference point of a box with the least corner `lo`. It is never
-/// `Zero` where the plane has a normal: the first of the plane's value at the corner and the
+/// `Zero` if the plane has a normal: the first of the plane's value at the corner and the
 /// entries of its normal that isn't 0 decides.
 pub fn lex_side(p: &Plane, lo: [i32; 3]) -> Sign
     requires plane { IsValidPlane p.now }

@@ -46,7 +46,7 @@ fn skipped_in(journal: &[Entry]) -> u64
 }
 
 /// The numbers of a run with these journals that wrote so many faces: the entries of all journals,
-/// those that are leaves, and those that were passed over. All journals together have fewer than
+/// those that are leaves, and those that were skipped. All journals together have fewer than
 /// 2^64 entries.
 pub fn report_of(journals: &Journals, faces: u64) -> Report
     requires { sum_by length journals.now < 2 ^ 64 }

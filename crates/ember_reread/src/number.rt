@@ -26,7 +26,7 @@ fn is_numeral(digits: &[u8]) -> bool
     !has_padding(digits) && are_digits(digits)
 }
 
-// The number with these digits, where it is at most `most`.
+// The number with these digits, if it is at most `most`.
 #[tactic(auto, using(crate::proofs::Digits::too_large))]
 fn value_of(digits: &[u8], most: u128) -> Option<u128>
     requires digits { list_all is_ascii_digit digits.now ≡ true }
@@ -43,7 +43,7 @@ fn value_of(digits: &[u8], most: u128) -> Option<u128>
     Some(value)
 }
 
-// The number that these digits spell, where it is at most `most`.
+// The number that these digits spell, if it is at most `most`.
 fn size_in(digits: &[u8], most: u128) -> Option<u128>
     requires { most < 2 ^ 124 }
     ensures { MatchOption result ((n : ℕ) → IsSize most n digits.now → ⊥) (λ n. IsSize most n digits.now) }
@@ -54,7 +54,7 @@ fn size_in(digits: &[u8], most: u128) -> Option<u128>
     value_of(digits, most)
 }
 
-// The number that a minus and these digits spell, where its size is at most `most`.
+// The number that a minus and these digits spell, if its size is at most `most`.
 fn negative_in(digits: &[u8], most: u128) -> Option<i128>
     requires { most < 2 ^ 124 }
     ensures { MatchOption result ((z : ℤ) → IsNumber most z (45 ∷ digits.now) →
@@ -67,7 +67,7 @@ fn negative_in(digits: &[u8], most: u128) -> Option<i128>
     Some(-(size as i128))
 }
 
-// The number that the word spells, where its size is at most `most`.
+// The number that the word spells, if its size is at most `most`.
 pub(crate) fn number_in(word: &[u8], most: u128) -> Option<i128>
     requires { most < 2 ^ 124 }
     ensures { MatchOption result ((z : ℤ) → IsNumber most z word.now → ⊥) (λ z. IsNumber most z word.now) }

@@ -13,7 +13,7 @@ use crate::number::number_in;
 use ember_model::Plane;
 use ember_point::{Meet, reduce};
 
-// What follows the byte, where the bytes begin with it.
+// What follows the byte, if the bytes begin with it.
 pub(crate) fn skip_byte(bytes: &[u8], byte: u8) -> Option<&[u8]>
     ensures { MatchOption result ((rest : List ℕ) → bytes.now ≡ byte ∷ rest → ⊥) (λ rest. bytes.now ≡ byte ∷ rest.now) }
 {
@@ -23,7 +23,7 @@ pub(crate) fn skip_byte(bytes: &[u8], byte: u8) -> Option<&[u8]>
     }
 }
 
-// What follows the text, where the bytes begin with it.
+// What follows the text, if the bytes begin with it.
 pub(crate) fn skip_bytes<'a>(bytes: &'a [u8], text: &[u8]) -> Option<&'a [u8]>
     ensures { MatchOption result ((rest : List ℕ) → bytes.now ≡ text.now ++ rest →
         ⊥) (λ rest. bytes.now ≡ text.now ++ rest.now) }

@@ -16,7 +16,7 @@ pub no_digits : (k : ℕ) → fraction_digits k 0 ≡ []
 no_digits zero = refl
 no_digits (suc k) = refl
 
--- where something is left, a place is
+-- if something is left, a place is
 pub places_left : (left r : ℕ) → r < 10 ^ left → (r ≡ 0 → ⊥) → 0 < left
 places_left zero r l n = absurd (n (omega arith))
 places_left (suc k) r l n = omega arith

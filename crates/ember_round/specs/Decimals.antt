@@ -11,7 +11,7 @@ fraction_digits zero part = []
 fraction_digits (suc places) zero = []
 fraction_digits (suc places) (suc n) = (48 + suc n / 10 ^ places) ∷ fraction_digits places (suc n % 10 ^ places)
 
--- and with the point, where there are digits behind it
+-- and with the point, if there are digits behind it
 abbrev pub fraction_text : ℕ → ℕ → List ℕ
 fraction_text places part = if part == 0 then [] else 46 ∷ fraction_digits places part
 

@@ -1,4 +1,4 @@
-// The laws of what is accepted: an input has an output exactly where it is accepted.
+// The laws of what is accepted: an input has an output exactly if it is accepted.
 ghost use Rattle.std.specs.Prelude.{◌≡◌, ◌↔◌, ℕ, ℤ, List, Some, length, map};
 ghost use Rattle.std.specs.declared.option.Option.{Option};
 ghost use Rattle.ember_model.specs.Meshes.{IsScene};
@@ -11,8 +11,8 @@ ghost use Rattle.ember_run.specs.CallOutcome.{AsksOutput};
 ghost use Rattle.ember_run.specs.Outputs.{Output};
 ghost use Rattle.ember_run.specs.Verdict.{Contents, Writes, names_of, told_verdict};
 
-/// Words ask for an output exactly where their command accepts what they give: files, expression and
-/// point. The output is that of the accepted triangles and tree. A slice is asked for exactly where the
+/// Words ask for an output exactly if their command accepts what they give: files, expression and
+/// point. The output is that of the accepted triangles and tree. A slice is asked for exactly if the
 /// face file is accepted at the level.
 pub fn inputs_are_accepted_where_they_have_an_output()
     ensures outputs { (words : List (List ℕ)) (command : Command) → command_of words ≡ Some command →

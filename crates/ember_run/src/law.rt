@@ -26,7 +26,7 @@ ghost use Rattle.ember_run.specs.Verdict.{Unknown, told_verdict};
 ghost use Rattle.ember_run.specs.declared.status.Status.{Status};
 
 /// The solid of an expression over the triangles of a scene has one document: its written regions
-/// are one list, and faces have one text. Where the expression is false outside, the document is the
+/// are one list, and faces have one text. If the expression is false outside, the document is the
 /// output, and each output is the document.
 pub fn solids_have_one_document()
     ensures document { (tris : List Tri) (meshes : ℕ) (formula : Formula) (one other : List ℕ) → IsScene tris meshes →

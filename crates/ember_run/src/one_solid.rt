@@ -16,8 +16,8 @@ ghost use Rattle.ember_run.specs.Outputs.{Counts, IsOutput, SolidFaces};
 ghost use Rattle.ember_run.specs.Slices.{IsSlice};
 
 /// At each point that is clear of the faces of a solid, of the scene's faces or not, they wind along
-/// all axes alike, once or not at all: once where the expression holds at the point shifted along
-/// all axes by little enough. Where a point is clear of the scene's faces, of these faces or not,
+/// all axes alike, once or not at all: once if the expression is true at the point shifted along
+/// all axes by little enough. If a point is clear of the scene's faces, of these faces or not,
 /// they wind so at the shifted point as the expression says at the point itself.
 pub fn solids_wind_once_at_most()
     ensures once { (tris : List Tri) (formula : Formula) (file : List ℕ) → IsOutput (SolidFaces tris formula) file →
@@ -28,7 +28,7 @@ pub fn solids_wind_once_at_most()
         (faces : List Face) → IsFaceFile file faces → WindNearbyAsHere tris formula faces }
 {}
 
-/// Two expressions have the same document over a scene exactly where they have one value at the
+/// Two expressions have the same document over a scene exactly if they have one value at the
 /// winding numbers of each point that is clear of the scene's faces.
 pub fn solids_are_one_where_expressions_agree()
     ensures { (tris : List Tri) (meshes : ℕ) (f g : Formula) (one other : List ℕ) → IsScene tris meshes →
@@ -48,7 +48,7 @@ pub fn slices_of_solids_mean_the_expression()
 {}
 
 /// The value that `at` writes for a point that it takes is the number of times that the faces of the
-/// solid wind there, where the point is clear of them, and beside it in any case.
+/// solid wind there, if the point is clear of them, and beside it in any case.
 pub fn values_at_points_are_of_the_solid()
     ensures { (tris : List Tri) (formula : Formula) (file : List ℕ) → IsOutput (SolidFaces tris formula) file →
         (faces : List Face) → IsFaceFile file faces → (point : Spot) (meshes : ℕ) (told : List ℕ) → pos 0 <ℤ point.w →
@@ -56,7 +56,7 @@ pub fn values_at_points_are_of_the_solid()
         ValueIsOfFaces told faces point }
 {}
 
-/// Where a cell's reference point is clear of the faces of the solid, they wind there along all axes
+/// If a cell's reference point is clear of the faces of the solid, they wind there along all axes
 /// as often as the cell's bit in the lattice says. A reference point is clear of the scene's faces
 /// but not always of the document's. Shifted along all axes by little enough it is, and there they
 /// wind as the bit says without exception.

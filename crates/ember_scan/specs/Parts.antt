@@ -82,7 +82,7 @@ words_of line = words_from line.start line.text []
 abbrev pub words_in : Part → List Piece
 words_in p = words_of (piece_of p)
 
--- the first three, where there are three or more
+-- the first three, if there are three or more
 abbrev pub first_three : List Piece → Option (Piece × Piece × Piece)
 first_three [] = None
 first_three (a ∷ []) = None

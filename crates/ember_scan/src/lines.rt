@@ -5,7 +5,7 @@ ghost use Rattle.ember_scan.specs.Parts.{piece_of, lines_in, after_line, uncomme
 use crate::cut::cut_before;
 use crate::part::Part;
 
-/// The first line, without the line feed that ends it, and what follows. None where no byte is left.
+/// The first line, without the line feed that ends it, and what follows. None if no byte is left.
 pub fn next_line<'a>(part: Part<'a>) -> Option<(Part<'a>, Part<'a>)>
     ensures lines { MatchOption result (lines_in part.entry ≡ [])
         (λ p. lines_in part.entry ≡ piece_of p.0 ∷ lines_in p.1) }

@@ -51,7 +51,7 @@ pub fn next_word<'a>(part: Part<'a>) -> Option<(Part<'a>, Part<'a>)>
     Some(cut_word(start))
 }
 
-/// The first three words, where there are three or more.
+/// The first three words, if there are three or more.
 pub fn three_words<'a>(part: Part<'a>) -> Option<(Part<'a>, Part<'a>, Part<'a>)>
     ensures { MatchOption result (first_three (words_in part.entry) ≡ None)
         (λ t. first_three (words_in part.entry) ≡ Some (piece_of t.0, piece_of t.1, piece_of t.2)) }

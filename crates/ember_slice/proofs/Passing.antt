@@ -94,7 +94,7 @@ twice h = omega (arith, linear, h)
 turned_above : {a : ℤ} → a <ℤ pos 0 → pos 0 <ℤ neg_ℤ a
 turned_above h = omega (arith, linear, h)
 
--- k * x = m * y, where k and m are positive
+-- k * x = m * y, if k and m are positive
 same_sign : (k m x y : ℤ) → pos 0 <ℤ k → pos 0 <ℤ m → k *ℤ x ≡ m *ℤ y → sgn x ≡ sgn y
 same_sign k m x y p q e = sym (sgn_scaled x p) ∙ ap sgn e ∙ sgn_scaled y q
 

@@ -17,7 +17,7 @@ IsFlat n = (n.a ≡ pos 0) × (n.b ≡ pos 0)
 abbrev pub is_on_line : Plane → ℤ → Spot → Bool
 is_on_line n at v = is_positive v.w && (is_zero (value_at n v) && is_zero (value_at (level at) v))
 
--- how far v lies along (-b, a, 0), times its weight, where n has the normal (a, b, c)
+-- how far v lies along (-b, a, 0), times its weight, if n has the normal (a, b, c)
 abbrev pub along_line : Plane → Spot → ℤ
 along_line n v = n.a *ℤ v.y -ℤ n.b *ℤ v.x
 

@@ -5,7 +5,7 @@ use Rattle.ember_model.specs.declared.face.Face.{Face}
 use Rattle.ember_model.specs.FaceFiles.{line_of}
 use Rattle.ember_slice.specs.Segments.{Directed, GivesSegments, segment_line}
 
--- the line of the face's segment was added, where it gives one, and their number is that
+-- the line of the face's segment was added, if it gives one, and their number is that
 pub record AddsSegment (f : Face) (at : ℤ) (count : ℕ) (old new : List ℕ) : Type 0 where
   pub segments : List Directed
   pub gives : GivesSegments at f segments

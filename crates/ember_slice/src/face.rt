@@ -17,7 +17,7 @@ use ember_algebra::Sign;
 use ember_model::Face;
 use ember_point::{reduce, side};
 
-// The segment from one end to the other, where the first comes before the last.
+// The segment from one end to the other, if the first comes before the last.
 fn between(first: &End, last: &End) -> Option<Segment>
     ensures { let test = is_negative (value_at last.now.plane (spot_of first.now.point)) in
         MatchOption result (test ≡ false) (λ s. (test ≡ true) ×
@@ -32,7 +32,7 @@ fn between(first: &End, last: &End) -> Option<Segment>
     }
 }
 
-// The segment from the first end to the last, where there are both.
+// The segment from the first end to the last, if there are both.
 fn segment_between_ends(interval: &LineInterval) -> Result<Option<Segment>, Endless>
     ensures { (f : Face) (at : ℤ) → (IsFlat f.support → ⊥) → IsInterval f.support at f.edges interval.now →
         IsAnswer f at result }
@@ -46,7 +46,7 @@ fn segment_between_ends(interval: &LineInterval) -> Result<Option<Segment>, Endl
     Ok(between(&first, &last))
 }
 
-/// The segment of the face in the plane z = at + 1/2, where it gives one: the inside points there,
+/// The segment of the face in the plane z = at + 1/2, if it gives one: the inside points there,
 /// in the direction (-b, a, 0) of the support plane's normal (a, b, c), from their first end to
 /// their last one, both in lowest terms. Takes no memory.
 pub fn segment(f: &Face, at: i32) -> Result<Option<Segment>, Endless>

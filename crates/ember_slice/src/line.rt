@@ -10,7 +10,7 @@ use ember_model::Plane;
 use ember_point::{Meet, meet, side};
 
 /// The part of a line that lies behind a plane. The line is that of a support plane at a level, and
-/// goes along (-b, a, 0) where that plane has the normal (a, b, c).
+/// goes along (-b, a, 0) if that plane has the normal (a, b, c).
 pub(crate) enum HalfLine {
     Nothing,
     Everything,

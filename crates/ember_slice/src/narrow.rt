@@ -40,7 +40,7 @@ fn tighter(end: Option<End>, new: End) -> End
     }
 }
 
-// What is left of the span after the point, where the line passes to behind the plane.
+// What is left of the span after the point, if the line passes to behind the plane.
 fn left_after(interval: LineInterval, plane: &Plane, point: Meet) -> LineInterval
     requires { IsValidPlane plane.now }
     ensures { (n : Plane) (at : ℤ) → AreEnds n at interval → Enters n at plane.now (spot_of point) →
@@ -56,7 +56,7 @@ fn left_after(interval: LineInterval, plane: &Plane, point: Meet) -> LineInterva
     }
 }
 
-// What is left of the span before the point, where the line passes back to the plane's front.
+// What is left of the span before the point, if the line passes back to the plane's front.
 fn left_before(interval: LineInterval, plane: &Plane, point: Meet) -> LineInterval
     requires { IsValidPlane plane.now }
     ensures { (n : Plane) (at : ℤ) → AreEnds n at interval → Leaves n at plane.now (spot_of point) →
@@ -72,7 +72,7 @@ fn left_before(interval: LineInterval, plane: &Plane, point: Meet) -> LineInterv
     }
 }
 
-// What is left of the span behind the plane, where any of the line is.
+// What is left of the span behind the plane, if any of the line is.
 fn narrowed(support: &Plane, at: i32, interval: LineInterval, p: &Plane) -> Option<LineInterval>
     requires support { IsValidPlane support.now }
     requires low { negsuc 2047 ≤ℤ at }
@@ -90,7 +90,7 @@ fn narrowed(support: &Plane, at: i32, interval: LineInterval, p: &Plane) -> Opti
     }
 }
 
-/// What is left of the line behind all the planes. `None` where one of them has all of the line on
+/// What is left of the line behind all the planes. `None` if one of them has all of the line on
 /// its front.
 pub(crate) fn span_behind(support: &Plane, at: i32, planes: &[Plane]) -> Option<LineInterval>
     requires support { IsValidPlane support.now }

@@ -17,7 +17,7 @@ is_central span = int_le (negsuc 2046) span.least && int_le span.greatest (pos 2
 abbrev pub middle_of : Span → ℤ
 middle_of span = int_div_euclid (span.least +ℤ span.greatest) (pos 2)
 
--- no offset where none is needed
+-- no offset if none is needed
 abbrev pub offset_of : Spans → Offset
 offset_of spans =
     if is_central spans.x && is_central spans.y && is_central spans.z then record { x = pos 0; y = pos 0; z = pos 0 }

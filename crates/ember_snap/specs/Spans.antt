@@ -15,7 +15,7 @@ use Rattle.ember_snap.specs.Cells.{cell_at, IsBetween}
 abbrev pub Fits : Step → List Number → Type 0
 Fits s xs = (least : ℤ) × All (λ x. IsBetween least (cell_at s x) (least +ℤ pos 4094)) xs
 
--- the same along all axes
+-- along all axes
 pub record FitsAll (s : Step) (c : Coordinates) : Type 0 where
   pub x : Fits s c.x.now
   pub y : Fits s c.y.now
@@ -68,7 +68,7 @@ pub record IsLeast (steps : ℕ → Step) (c : Coordinates) (s : Step) : Type 0 
   pub fits : FitsAll s c
   pub least : (lower : ℕ) → lower < rank → FitsAll (steps lower) c → ⊥
 
--- two places in a list
+-- two indices of a list
 pub record AreEnds (xs : List Number) (ends : Ends) : Type 0 where
   pub low : ends.low < length xs
   pub high : ends.high < length xs

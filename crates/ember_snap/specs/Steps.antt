@@ -4,10 +4,10 @@ use Rattle.ember_snap.specs.declared.steps.Step.{Step}
 
 -- numerator and denominator are in range
 pub record IsStep (s : Step) : Type 0 where
-  pub over_zero : 0 < s.numerator
-  pub under_zero : 0 < s.denominator
-  pub over_small : s.numerator < 2 ^ 40
-  pub under_small : s.denominator < 2 ^ 40
+  pub numerator_positive : 0 < s.numerator
+  pub denominator_positive : 0 < s.denominator
+  pub numerator_small : s.numerator < 2 ^ 40
+  pub denominator_small : s.denominator < 2 ^ 40
 
 -- 1, 2, 5 and again 1
 abbrev pub nice_digit : ℕ → ℕ

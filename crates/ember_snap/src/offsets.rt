@@ -43,8 +43,8 @@ fn offset_of(spans: &Spans) -> Offset
     }
 }
 
-/// The offset of the grid with this step: 0 along all axes where all cells are at most 2047 in size, else
-/// the middle of the least and the greatest cell along each. None where the coordinates don't fit.
+/// The offset of the grid with this step: 0 along all axes if all cells are at most 2047 in size, otherwise
+/// the middle of the least and the greatest cell along each. None if the coordinates don't fit.
 ///
 /// There are coordinates along each axis, and each is below 10^15 in size. All of them land on the grid, at
 /// most 2047 from its zero.

@@ -8,7 +8,7 @@ use crate::spans::{Coordinates, MOST, fitting_spans};
 use crate::steps::{FINE_STEPS, FINEST, NICE_STEPS, Step, fine, nice};
 use ember_number::Number;
 
-// The places in a list of two numbers that lie far apart: a step at which these don't fit is refused
+// The indices of two numbers of a list that lie far apart: a step at which these don't fit is refused
 // without a look at the others.
 #[derive(Clone, Copy)]
 pub(crate) struct Ends {

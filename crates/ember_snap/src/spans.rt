@@ -92,7 +92,7 @@ pub(crate) fn fitting_span(numbers: &[Number], step: &Step) -> Option<Span>
     Some(span)
 }
 
-// The same along all axes.
+// The least and the greatest cell along each axis, if the cells fit on a grid along all of them.
 pub(crate) fn fitting_spans(coordinates: &Coordinates, step: &Step) -> Option<Spans>
     requires step { IsStep step.now }
     requires coordinates { AreCoordinates coordinates.now }

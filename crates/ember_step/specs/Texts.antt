@@ -58,7 +58,7 @@ faces_one : (fs : List Face) (s t : CountedText) → IsTextOf fs s → IsTextOf 
 faces_one fs s t a b =
     λ i. record { bytes = each_unique good_one a.are_texts b.are_texts i; count = (a.count ∙ sym b.count) i }
 
--- so regions have one text, where one list has the property
+-- so regions have one text, if one list has the property
 pub one_text : {Has : List Kept → Type 0} {s t : CountedText} → ((xs ys : List Kept) → Has xs → Has ys → xs ≡ ys) →
     IsRegionsText Has s → IsRegionsText Has t → s ≡ t
 one_text {s = s} {t = t} one a b =

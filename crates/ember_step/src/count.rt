@@ -57,8 +57,7 @@ impl<'a> OneItem for CountWork<'a> {
         (formula_of w.expr.now) w.scene.now.meshes w.scene.now.kept job.cell us vs) a b };
 }
 
-/// What becomes of a job, as by `box_step`, with the number of written regions in place of the
-/// regions.
+/// The same as `box_step`, but a leaf gives the number of its written regions.
 pub fn count_step(
     alloc: Global,
     s: &Scene,

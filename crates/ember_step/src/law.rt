@@ -22,7 +22,7 @@ ghost use Rattle.ember_visit.specs.Values.{box_value, shape};
 use ember_expr::{Expr, tree};
 use ember_model::Scene;
 
-/// Where the value of a box is known, the expression has one value in the box and directly beside
+/// If the value of a box is known, the expression has one value in the box and directly beside
 /// it: on both sides of each region of a leaf in it, so that none is written.
 pub fn known_boxes_write_nothing()
     ensures value { (ts : List Tri) (meshes : ℕ) (f : Formula) (job : Job) (known : Bool) → IsScene ts meshes →

@@ -1,5 +1,5 @@
-//! One box of a Boolean's tree: passed where the expression's value is known in it, else a leaf
-//! with its written regions, else its two halves.
+//! One box of a Boolean's tree: skipped if the expression's value is known in it, otherwise a leaf
+//! with its written regions, or its two halves.
 #![tactic(auto)]
 
 mod count;

@@ -64,8 +64,8 @@ fn kept_in(alloc: Global, s: &Scene, e: &Expr, job: &Job) -> Result<KeptList, Ou
     leaf_faces(alloc, e, &job.cell, &near, &job.at)
 }
 
-/// What becomes of a job: it is passed over where the expression's value is known in the whole
-/// box, and else it is a leaf with the written regions, or it is halved.
+/// What becomes of a job: it is skipped if the expression's value is known in the whole
+/// box, and otherwise it is a leaf with the written regions, or it is halved.
 pub fn box_step(
     alloc: Global,
     s: &Scene,

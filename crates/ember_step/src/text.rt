@@ -51,8 +51,7 @@ impl<'a> OneItem for TextWork<'a> {
         (formula_of w.expr.now) w.scene.now.meshes w.scene.now.kept job.cell us vs) a b };
 }
 
-/// What becomes of a job, as by `box_step`, with the text of the written regions in place of the
-/// regions.
+/// The same as `box_step`, but a leaf gives the text of its written regions.
 pub fn text_step(
     alloc: Global,
     s: &Scene,

@@ -36,7 +36,7 @@ pub facet_refused : (bytes : List ℕ) (k n : ℕ) (content : Content) (fault : 
 facet_refused bytes k n content fault is one within =
     fault_stays bytes (k + 1) n fault (next_facet bytes k ∙ ap (with_facet_at bytes k) is ∙ one) (omega arith)
 
--- a vertex is too large where its point is far
+-- a vertex is too large if its point is far
 same_vertex : (v : Option Vertex) → is_too_large v ≡ is_far (option_map point_of v)
 same_vertex None = refl
 same_vertex (Some v) = refl

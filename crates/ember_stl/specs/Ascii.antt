@@ -45,7 +45,7 @@ point_of_three (Ok x) (Ok y) (Err fault) = Err fault
 point_of_three (Ok x) (Err fault) z = Err fault
 point_of_three (Err fault) y z = Err fault
 
--- the point of three words, where there are that many
+-- the point of three words, if there are that many
 abbrev pub vertex_in : ℕ → Option (Word × Word × Word) → Result Point StlFault
 vertex_in line None = Err (FewCoordinates line)
 vertex_in line (Some t) =

@@ -10,7 +10,7 @@ use Rattle.ember_stl.specs.Facets.{first_far}
 use Rattle.ember_stl.specs.Ascii.{ascii_of}
 use Rattle.ember_stl.specs.Binary.{number_at, binary_of}
 
--- the length is that of a binary STL with as many facets as it says, also where its header begins with `solid`
+-- the length is that of a binary STL with as many facets as it says, even if its header begins with `solid`
 abbrev pub is_binary : List ℕ → Bool
 is_binary bytes = nat_le 84 (length bytes) && length bytes == 84 + 50 * number_at bytes 80
 
@@ -30,7 +30,7 @@ is_ascii bytes =
     begins_with (codes "solid") (words_from 0 bytes)
     && (has_name (codes "facet") (take 4096 bytes) || has_name (codes "endsolid") (take 4096 bytes))
 
--- how many facets the file says that it has, where it is long enough to say so
+-- how many facets the file says that it has, if it is long enough to say so
 abbrev pub facets_said : List ℕ → ℕ
 facets_said bytes = if nat_le 84 (length bytes) then number_at bytes 80 else 0
 

@@ -54,7 +54,7 @@ words_in t = words_from t.start t.bytes.now
 abbrev pub EndsWithinFile : Text → Type 0
 EndsWithinFile t = t.start + length t.bytes.now < 2 ^ 32
 
--- the first three, where there are three or more
+-- the first three, if there are three or more
 abbrev pub first_three : List Word → Option (Word × Word × Word)
 first_three [] = None
 first_three (a ∷ []) = None

@@ -41,7 +41,7 @@ fn read_vertex<'a>(line: u32, words: Text<'a>) -> Result<Vertex<'a>, StlFault>
     Ok(Vertex { x, y, z })
 }
 
-// The corners, where there are exactly three.
+// The corners, if there are exactly three.
 fn exactly_three<'a>(corners: &[Vertex<'a>]) -> Option<(Vertex<'a>, Vertex<'a>, Vertex<'a>)>
     ensures { MatchOption result (length corners.now ≢ 3) (λ t. corners.now ≡ t.0 ∷ t.1 ∷ t.2 ∷ []) }
 {
@@ -131,7 +131,7 @@ impl<'a> Reader<'a> {
         }
     }
 
-    // What is read, where no facet is open.
+    // What is read if no facet is open.
     fn end(self) -> Result<Surface<'a>, StlFault>
         requires { IsSurface self.surface }
         ensures ok { IfOk result (λ s. state_ended (state_of self.entry) ≡ Ok (content_of s)) }

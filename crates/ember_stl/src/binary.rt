@@ -12,7 +12,7 @@ use ember_number::binary32;
 use ember_surface::{Surface, Vertex};
 use std::alloc::{AllocError, Global};
 
-// The three coordinates from this byte on, where all are finite.
+// The three coordinates from this byte on, if all are finite.
 #[tactic(auto, unfolding(crate::specs::Binary::point_at))]
 fn read_point(bytes: &[u8], at: usize) -> Option<Vertex<'static>>
     requires { at + 12 ≤ length bytes.now }

@@ -11,7 +11,7 @@ pub struct Span {
 /// The first fault of a file, with its line or facet from 1, or want of memory.
 #[derive(Clone, Copy, Debug, PartialEq, Eq, Error)]
 pub enum StlFault {
-    /// Neither ASCII nor binary STL. As binary STL it says that it has this number of facets, 0 where
+    /// Neither ASCII nor binary STL. As binary STL it says that it has this number of facets, 0 if
     /// it is too short to say so. For n facets it needs 84 + 50 n bytes.
     #[error("neither ASCII STL nor binary STL of {0} facets")]
     CutOff(u32),

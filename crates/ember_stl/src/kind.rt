@@ -28,7 +28,7 @@ pub(crate) fn read_number(bytes: &[u8], at: usize) -> u32
         + u32::from(bytes[at + 3]) * 16_777_216
 }
 
-// How many facets the file says that it has, or 0 where it is too short to say so.
+// How many facets the file says that it has, or 0 if it is too short to say so.
 pub(crate) fn count_facets(bytes: &[u8]) -> u32
     ensures { result ≡ facets_said bytes.now }
 {

@@ -11,7 +11,7 @@ use crate::kind::{count_facets, is_ascii_stl, is_binary_stl};
 use ember_surface::{Surface, first_too_large};
 use std::alloc::Global;
 
-// The same surface, where it has triangles and none is too far out.
+// The same surface, if it has triangles and none is too far out.
 #[tactic(auto, using(crate::proofs::Triangles::same_first_far))]
 fn checked<'a>(surface: Surface<'a>, binary: bool) -> Result<Surface<'a>, StlFault>
     requires { IsSurface surface }
@@ -30,10 +30,12 @@ fn checked<'a>(surface: Surface<'a>, binary: bool) -> Result<Surface<'a>, StlFau
 }
 
 /// The triangles of an STL file, each with its facet or its line from 1, or the file's first fault.
-/// Each triangle has three vertices of its own, in the file's order. A text borrows from the bytes.
+/// Each triangle has three vertices of its own, in the file's order. Coordinates in ASCII borrow their text
+/// from the bytes.
 ///
-/// A file of exactly 84 + 50 n bytes for its count n is binary. Else it is ASCII if its first word is
-/// `solid` and `facet` or `endsolid` stands in its first 4,096 bytes. Else it is cut off. Normals,
+/// A file of exactly 84 + 50 n bytes for its count n is binary. Otherwise it is ASCII if its first word is
+/// `solid` and `facet` or `endsolid` stands in its first 4,096 bytes. Any other file
+/// is refused as a binary STL that was cut off. Normals,
 /// names and attributes are passed over, and several solids are one mesh.
 pub fn read_stl(alloc: Global, bytes: &[u8]) -> Result<Surface<'_>, StlFault>
     requires { length bytes.now ≤ 268435456 }

@@ -146,7 +146,7 @@ pub(crate) fn next_word<'a>(text: Text<'a>) -> Option<(Text<'a>, Text<'a>)>
     ))
 }
 
-// The first three words, where there are three or more.
+// The first three words, if there are three or more.
 pub(crate) fn three_words<'a>(text: Text<'a>) -> Option<(Text<'a>, Text<'a>, Text<'a>)>
     requires { EndsWithinFile text }
     ensures words { let three = first_three (words_in text.entry) in

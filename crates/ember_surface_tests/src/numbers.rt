@@ -7,7 +7,7 @@ use ember_number::{
 
 const GREATEST: u64 = (1 << 41) - 1;
 
-// The floor of a multiple of a number, or none where there is no number or it is too large.
+// The floor of a multiple of a number, or none if there is no number or it is too large.
 fn floor_of(number: Option<Number<'_>>, factor: u64) -> Option<i128>
     requires { factor < 2 ^ 41 }
 {

@@ -57,7 +57,7 @@ fn put_seen(r: &Ring, flipped: bool, out: &mut Vec<u8>) -> Result<(), OutOfMemor
 }
 
 /// Appends the lines of the face: its support plane, and then its edges in order with their start
-/// corners in lowest terms. Flipped, it is the face with the opposite front. Where memory is short,
+/// corners in lowest terms. Flipped, it is the face with the opposite front. If memory is short,
 /// nothing is appended.
 pub fn face_text(
     _alloc: Global,

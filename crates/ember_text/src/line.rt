@@ -26,7 +26,7 @@ fn write_size(n: u128, line: &mut [u8], end: usize) -> usize
     write_digits(left as u64, line, at)
 }
 
-// The number, with its sign where it is negative.
+// The number, with its sign if it is negative.
 fn write_signed(n: i128, line: &mut [u8], end: usize) -> usize
     requires { (40 ≤ end) × (end ≤ length line.old) }
     ensures start { (result ≤ end) × (end ≤ result + 40) }
@@ -51,7 +51,7 @@ fn write_field(n: i128, line: &mut [u8], end: usize) -> usize
     start - 1
 }
 
-/// Appends the line of the keyword and the numbers, eight at most. Where memory is short, nothing
+/// Appends the line of the keyword and the numbers, eight at most. If memory is short, nothing
 /// is appended.
 pub fn put_line(keyword: u8, numbers: &[i128], out: &mut Vec<u8>) -> Result<(), OutOfMemory>
     requires { length numbers.now ≤ 8 }

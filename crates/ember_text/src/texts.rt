@@ -40,7 +40,7 @@ impl FacesText {
     }
 }
 
-/// Appends the texts of written regions, in order, each with the opposite front where it is flipped.
+/// Appends the texts of written regions, in order, each with the opposite front if it is flipped.
 pub fn put_faces(alloc: Global, kept: &[Kept], out: &mut Vec<u8>) -> Result<(), OutOfMemory>
     ensures { OnOk result (
         HasGrown (AreGoodTexts (map written_face kept.now)) out.old.items out.new.items) }
@@ -51,7 +51,7 @@ pub fn put_faces(alloc: Global, kept: &[Kept], out: &mut Vec<u8>) -> Result<(), 
     Ok(())
 }
 
-/// The texts of written regions, in order, each with the opposite front where it is flipped.
+/// The texts of written regions, in order, each with the opposite front if it is flipped.
 pub fn faces_text(alloc: Global, kept: &[Kept]) -> Result<FacesText, OutOfMemory>
     ensures { IfOk result (λ text. IsTextOf (map written_face kept.now) text) }
 {

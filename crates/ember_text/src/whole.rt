@@ -12,7 +12,7 @@ use std::alloc::{AllocError, Global};
 const LONGEST_ENDING: usize = 25;
 
 /// The face file of written regions: the header, their faces in order, each with the opposite
-/// front where it is flipped, and the last line with their number.
+/// front if it is flipped, and the last line with their number.
 pub fn document(alloc: Global, kept: &[Kept]) -> Result<Vec<u8>, OutOfMemory>
     ensures { IfOk result (λ text. IsDocumentText (map written_face kept.now) text.items) }
 {
@@ -22,7 +22,7 @@ pub fn document(alloc: Global, kept: &[Kept]) -> Result<Vec<u8>, OutOfMemory>
     Ok(text)
 }
 
-/// How many faces these texts have together. Memory is short where 64 bits are too few.
+/// How many faces these texts have together. Memory is short if 64 bits are too few.
 pub fn face_count(texts: &[FacesText]) -> Result<u64, OutOfMemory>
     ensures { IfOk result (λ count. count ≡ (joined texts.now).count) }
 {

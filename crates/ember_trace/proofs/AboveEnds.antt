@@ -60,7 +60,7 @@ not_flat t k nz = by (flat_case t) k nz
     by (inl e) Y nz = let f = flat_out t e in absurd (nz f.b)
     by (inl e) Z nz = let f = flat_out t e in absurd (nz f.c)
 
--- its value at the support plane is at most as for a level triangle at the coordinate d, where the triangle lies above that
+-- its value at the support plane is at most as for a level triangle at the coordinate d, if the triangle lies above that
 support_at_most : (t : Tri) (k : Axis) (d : ℤ) (p : Spot) → LiesBefore (across k (pos 1) d) t → pos 0 <ℤ p.w → all_negative (edge_planes t k) p ≡ true → (sign (along (support_of t) k) *ℤ value_at (support_of t) p) ≤ℤ (size (along (support_of t) k) *ℤ value_at (across k (pos 1) d) p)
 unfolding face_of
 support_at_most t k d p b w e =
@@ -77,7 +77,7 @@ value_slid n X at p = solve 9 (λ a b c d x y z w t. num (pos 0) ⊗ x ⊕ b ⊗
 value_slid n Y at p = solve 9 (λ a b c d x y z w t. a ⊗ x ⊕ num (pos 0) ⊗ y ⊕ c ⊗ z ⊖ (d ⊖ b ⊗ t) ⊗ w ≈ a ⊗ x ⊕ b ⊗ y ⊕ c ⊗ z ⊖ d ⊗ w ⊖ b ⊗ (y ⊖ t ⊗ w)) cancels n.a n.b n.c n.d p.x p.y p.z p.w at
 value_slid n Z at p = solve 9 (λ a b c d x y z w t. a ⊗ x ⊕ b ⊗ y ⊕ num (pos 0) ⊗ z ⊖ (d ⊖ c ⊗ t) ⊗ w ≈ a ⊗ x ⊕ b ⊗ y ⊕ c ⊗ z ⊖ d ⊗ w ⊖ c ⊗ (z ⊖ t ⊗ w)) cancels n.a n.b n.c n.d p.x p.y p.z p.w at
 
--- where d lies above the point and above the place, both values have one sign
+-- if d lies above the point and above the place, both values have one sign
 support_behind : (t : Tri) (k : Axis) (d at : ℤ) (p : Spot) → LiesBefore (across k (pos 1) d) t → pos 0 <ℤ p.w → all_negative (edge_planes t k) p ≡ true → value_at (across k (pos 1) d) p <ℤ pos 0 → (sign (along (support_of t) k) *ℤ value_at (support_of t) p) <ℤ pos 0
 support_behind t k d at p b w e l =
     let s = size_positive (along (support_of t) k) (entry_along t k p e) in let m = mul_pos_neg s l in let u = support_at_most t k d p b w e in omega (arith, linear, m, u)
@@ -163,7 +163,7 @@ module _ (w : Path) (f : NearTriangle) where
   at_second =
       ap (λ (p : Plane). side_at_end w (slid_to_start w k p)) f.plane ∙ sym (at_q (slid (support_of t) k (coordinate w.lo k)) (slid_once (support_of t) k (coordinate w.lo k) sized (coordinate_small 2048 w.lo k w.small)))
 
-  -- where the triangle lies above the end and above the start
+  -- if the triangle lies above the end and above the start
   pub above_end : floor_at_end w k <ℤ d → coordinate w.lo k <ℤ d → (turn : Sign) → last_segment w f (or_sign (side_at_end w f.support) turn) ≡ pos 0
   above_end l s turn = by (is_on_last w f) refl
     where

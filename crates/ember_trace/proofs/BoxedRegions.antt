@@ -19,7 +19,7 @@ use Rattle.ember_box.specs.Regions.{Wall, walls, AtWall, cut, outside, in_high, 
 use Rattle.ember_trace.specs.Boxed.{LiesIn}
 use Rattle.ember_trace.proofs.FilledFaces.{inside_below, fills}
 
--- what holds of what each member gives, where the member has a property
+-- what holds of what each member gives, if the member has a property
 pub each_every : {X Y : Type 0} {R : X → List Y → Type 0} (P : X → Type 0) (Q : Y → Type 0) → ((x : X) (ys : List Y) → P x → R x ys → Every Q ys) → {xs : List X} {ys : List Y} → Each R xs ys → Every P xs → Every Q ys
 each_every P Q f none h = tt
 each_every P Q f (more {x = x} {xs = xs} {ys = ys} {zs = zs} r e) h = every_append Q ys zs (f x ys h.0 r) (each_every P Q f e h.1)

@@ -185,7 +185,7 @@ module _ (f : Face) (g h : Plane) (u v w : Spot) (j : Joins f g h u v w) where
   leads_on : pos 0 <ℤ orientation (way v w) n h
   leads_on = let e = way_turn n h v w in let l = j.second.leads.before in omega (arith, linear, e, l)
 
-  -- the second edge turns from the first: else they would be one
+  -- the second edge turns from the first: otherwise they would be one
   turns : orientation n g h ≢ pos 0
   turns t = j.apart (λ x. by x (is_in_closed f x) refl)
     where

@@ -47,7 +47,7 @@ blades_keep P k done h = h
 blades_keep P k (step {x = b} r c) h = blades_keep P k c (each_every P P (λ f fs e a. blade_keeps P k b f fs e a) r h)
 
 -- ---- after the turn of a cutting plane
--- where an inside point of g lies in the closed face of the cutting plane, its plane doesn't cut g
+-- if an inside point of g lies in the closed face of the cutting plane, its plane doesn't cut g
 abbrev pub IsUncut : CuttingPlane → Face → Type 0
 IsUncut b g = (v : Spot) → is_inside g v ≡ true → is_in_closed b.face v ≡ true → Cuts g b.plane → ⊥
 

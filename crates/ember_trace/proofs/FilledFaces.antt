@@ -1,4 +1,4 @@
--- Inside points fill a face: where one lies on a plane and another above it, the plane cuts the
+-- Inside points fill a face: if one lies on a plane and another above it, the plane cuts the
 -- face.
 use Rattle.std.proofs.Common.{◌≡◌, refl, sym, ◌∙◌, arith, ℕ, le_refl, true, ◌&&◌, List, [], ◌∷◌, pos, ◌+ℤ◌, ◌-ℤ◌, ◌*ℤ◌, neg_ℤ, ◌<ℤ◌}
 use Rattle.std.proofs.lemmas.List.Folds.{list_all-append}
@@ -45,7 +45,7 @@ edges_past (e ∷ es) y x h =
     below_zero n q =
         omega (arith, linear, q, value_past e n y x, solve 2 (λ a m. neg a ⊗ m ≈ neg (a ⊗ m)) cancels (value_at e y) (pos n))
 
--- for all large n it is inside where y and x are
+-- for all large n it is inside if y and x are
 inside_past : (f : Face) (x y : Spot) → is_inside f x ≡ true → is_inside f y ≡ true → Eventually (λ n. is_inside f (past n y x) ≡ true)
 inside_past f x y hx hy =
     let i = inside_parts f x hx in let j = inside_parts f y hy in
@@ -57,7 +57,7 @@ fills f p x y hx hy px zy =
     let e = value_past p n y x in let z = zero_times (value_at p y) (pos n) zy in
     record { low = record { at = past n y x; inside = far.holds n (le_refl n); holds = negative_in (omega (arith, linear, e, z, px)) }; high = record { at = x; inside = hx; holds = positive_in px } }
 
--- what a plane doesn't cut lies on it where one inside point does
+-- what a plane doesn't cut lies on it if one inside point does
 pub uncut_flat : (f : Face) (p : Plane) → (Cuts f p → ⊥) → (v : Spot) → is_inside f v ≡ true → value_at p v ≡ pos 0 → Everywhere f (λ u. value_at p u ≡ pos 0)
 uncut_flat f p uncut v i z =
     record { holds = λ u j. by_sign (value_at p u) (λ l. absurd (uncut (fills f p u v j i l z))) (λ e. e) (λ l. absurd (uncut (turned (fills f (opposite p) u v j i (let e = opposite_value p u in omega (arith, linear, e, l)) (let e = opposite_value p v in omega (arith, linear, e, z)))))) }

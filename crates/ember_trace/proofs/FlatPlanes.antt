@@ -70,7 +70,7 @@ parallel f p v h z =
       z = omega (arith, linear, c, solve 5 (λ a b c n m. a ⊗ m ⊕ b ⊗ neg n ⊕ c ⊗ num (pos 0) ≈ m ⊗ a ⊖ n ⊗ b) cancels p.a p.b p.c n.a n.b);
     }
 
--- a point of the second plane lies on the first, where some point lies on both
+-- a point of the second plane lies on the first, if some point lies on both
 module _ (n p : Plane) (v q : Spot) (l : Parallel n p) (w : pos 0 <ℤ v.w) (nv : value_at n v ≡ pos 0) (pv : value_at p v ≡ pos 0) (pq : value_at p q ≡ pos 0) where
   by_entry : (d a r s : ℤ) → d ≢ pos 0 → r ≡ pos 0 → s ≡ pos 0 → (y z : ℤ) → d *ℤ (v.w *ℤ value_at n q -ℤ q.w *ℤ value_at n v) ≡ a *ℤ (v.w *ℤ value_at p q -ℤ q.w *ℤ value_at p v) +ℤ r *ℤ y +ℤ s *ℤ z → value_at n q ≡ pos 0
   by_entry d a r s nz er es y z e =
@@ -134,7 +134,7 @@ self_coplanar t ft =
     let x = ap is_zero (corner_a t) in let y = ap is_zero (corner_b t) in let w = ap is_zero (corner_c t) in
     λ i. not (ft i) && (not (ft i) && (x i && (y i && w i)))
 
--- where the two are coplanar, the plane of the first is 0 at the closed face of the second
+-- if the two are coplanar, the plane of the first is 0 at the closed face of the second
 pub shared_face : (t u : Tri) (x : Spot) → is_coplanar t u ≡ true → is_in_closed (face_of u) x ≡ true → value_at (support_of t) x ≡ pos 0
 unfolding is_coplanar
 shared_face t u x e h =

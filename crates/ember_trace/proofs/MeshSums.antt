@@ -75,7 +75,7 @@ module _ (g : Face → ℤ) (flat : LeavesFlat g) where
   pushed old t ts m =
       ap (λ (vs : List ℤ). added vs (tally g ts)) (one_more old t m) ∙ added_twice old (λ m. total g (faces_of (of_mesh m (t ∷ [])))) (λ m. total g (faces_of (of_mesh m ts))) meshes ∙ ap (λ (vs : List ℤ). added old vs) (map_same (λ m. total g (faces_of (of_mesh m (t ∷ []))) +ℤ total g (faces_of (of_mesh m ts))) (λ m. total g (faces_of (of_mesh m (t ∷ ts)))) (λ m. at_front m t ts) meshes)
 
-  -- the counts that the code takes, where each triangle takes what g counts back
+  -- the counts that the code takes, if each triangle takes what g counts back
   pub taken_legs : (less : NearTriangle → ℤ) (fs : List NearTriangle) → All (λ f. g (face_of f.tri) ≡ neg_ℤ (less f)) fs → (old : List ℤ) → taken less fs old ≡ added old (tally g (map tri_of fs))
   taken_legs less [] h old = sym (tally_none g old)
   taken_legs less (f ∷ fs) h old =

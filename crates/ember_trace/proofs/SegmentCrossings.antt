@@ -1,5 +1,5 @@
 -- The crossings of the segments of a path with a triangle, as the code counts them: by the sides of its
--- planes on which the vertices lie, and only where the bounding box lets a segment cross it.
+-- planes on which the vertices lie, and only if the bounding box lets a segment cross it.
 use Rattle.std.proofs.Common.{◌≡◌, refl, sym, ap, ◌∙◌, arith, ℕ, ◌^◌, ◌≤◌, Bool, true, false, ◌&&◌, cond, ℤ, pos, ◌+ℤ◌, ◌-ℤ◌, ◌*ℤ◌, neg_ℤ, ◌<ℤ◌, ◌≤ℤ◌}
 use Rattle.std.specs.Int.{int_div_euclid}
 use borrow.Author.Differences.{ints}
@@ -123,7 +123,7 @@ pub edge_support : {p : Plane} → IsEdgeSized p → IsSupportSized p
 edge_support s =
     record { a = small_within (omega arith) s.a; b = small_within (omega arith) s.b; c = small_within (omega arith) s.c; d = small_within (omega arith) s.d }
 
--- all edge planes are negative at p where the sides say so
+-- all edge planes are negative at p if the sides say so
 pub edges_behind : (side : Plane → Sign) (t : Tri) (k : Axis) (p : Spot) → IsValidTri t → ((h : Plane) → IsSupportSized h → along h k ≡ pos 0 → sgn (value_at h p) ≡ side h) → all_negative (edge_planes t k) p ≡ all_behind side (edge_planes t k)
 edges_behind side t k p v f =
     let x = each t.a t.b v.a v.b in let y = each t.b t.c v.b v.c in let z = each t.c t.a v.c v.a in λ i. is_neg (x i) && (is_neg (y i) && (is_neg (z i) && true))

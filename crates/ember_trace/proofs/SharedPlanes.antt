@@ -1,5 +1,5 @@
 -- Triangles in the plane of a face: their edge planes aren't parallel to it, so what isn't cut by
--- them lies inside such a triangle where one of its points lies in the closed face.
+-- them lies inside such a triangle if one of its points lies in the closed face.
 use Rattle.std.proofs.Common.{◌≡◌, ◌≢◌, ⊎_elim, sym, ap, subst, ◌∙◌, arith, true, false, not, ◌&&◌, [], ◌∷◌, ℤ, pos, ◌*ℤ◌, neg_ℤ, ◌<ℤ◌, ◌≤ℤ◌}
 use borrow.Author.Differences.{ints}
 use Rattle.ember_algebra.specs.Vector.{Vector, dot, cross}
@@ -107,7 +107,7 @@ one_side f h v w uncut off iv lv iw =
     strict : (x : ℤ) → x ≤ℤ pos 0 → (x ≡ pos 0 → ⊥) → x <ℤ pos 0
     strict x l n = by_sign x (λ p. absurd (omega (arith, linear, p, l))) (λ z. absurd (n z)) (λ p. p)
 
--- what isn't cut by the edge planes of a coplanar triangle lies inside it where one point lies in
+-- what isn't cut by the edge planes of a coplanar triangle lies inside it if one point lies in
 -- its closed face
 pub shared_inside : (t u : Tri) (f : Face) (v w : Spot) → f.support ≡ support_of t → is_coplanar t u ≡ true → (Cuts f (times_plane (sign (along (support_of u) (main_axis (support_of u)))) (edge_through u.a u.b (unit (main_axis (support_of u))))) → ⊥) → (Cuts f (times_plane (sign (along (support_of u) (main_axis (support_of u)))) (edge_through u.b u.c (unit (main_axis (support_of u))))) → ⊥) → (Cuts f (times_plane (sign (along (support_of u) (main_axis (support_of u)))) (edge_through u.c u.a (unit (main_axis (support_of u))))) → ⊥) → is_inside f v ≡ true → is_in_closed (face_of u) v ≡ true → is_inside f w ≡ true → is_inside (face_of u) w ≡ true
 unfolding face_of

@@ -144,7 +144,7 @@ or_first Neg t n = refl
 or_first Zero t n = absurd (n refl)
 or_first Pos t n = refl
 
--- a sign that is another one, or where that is zero a third
+-- a sign that is another one, or if that is zero a third
 either : (s r t : Sign) → ((r ≡ Zero → ⊥) → s ≡ r) → (r ≡ Zero → s ≡ t) → s ≡ or_sign r t
 either s Neg t f g = f clash
   where
@@ -206,7 +206,7 @@ module _ (k : Axis) (lo : Vector) (a b c : Meet) (q : Spot) (n : ℕ) (s : AreSt
           ap sgn (level_with h (second_of k) (stop_after_first k lo q n) q l.1) ∙ sgn_scaled (value_at h (stop_after_first k lo q n)) s.close.weight ∙ ap sgn (level_with h (first_of k) start q l.0) ∙ sgn_scaled (value_at h start) s.close.weight ∙ start_sign h i
 
 -- ---- directly beside the end
--- m v + s n, where m is large
+-- m v + s n, if m is large
 beside : (m s : ℕ) (v n : ℤ) → Small 33554431 n → 1 ≤ s → 33554431 * s < m → sgn (pos m *ℤ v +ℤ pos s *ℤ n) ≡ or_sign (sgn v) (sgn n)
 beside m s v n i ls l =
     let e = *ℤ_comm (pos m) v in let f : pos m *ℤ v +ℤ pos s *ℤ n ≡ v *ℤ pos m +ℤ pos s *ℤ n = omega (arith, linear, e) in

@@ -14,7 +14,7 @@ use Rattle.ember_trace.specs.declared.side_vectors.Sides.{Sides}
 abbrev pub LiesIn : Cell → Face → Type 0
 LiesIn c f = Everywhere f (λ v. none_positive (map (λ w. w.plane) (walls c)) v ≡ true)
 
--- where the inside of the region lies in the box, they are its sides in each scene that fits what
+-- if the inside of the region lies in the box, they are its sides in each scene that fits what
 -- is known at the box
 abbrev pub AreSides : List Tri → Cell → List ℤ → Face → Sides → Type 0
 AreSides near c counts f s =

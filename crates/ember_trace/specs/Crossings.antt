@@ -39,11 +39,11 @@ interval_along s X = s.x
 interval_along s Y = s.y
 interval_along s Z = s.z
 
--- a place a little above the whole number is strictly within
+-- a coordinate a little above the whole number is strictly within
 abbrev pub contains_above : Interval → ℤ → Bool
 contains_above s at = int_le s.low at && int_lt at s.high
 
--- a place from this whole number to the next can be within
+-- a coordinate from this whole number to the next can be within
 abbrev pub may_contain : Interval → ℤ → Bool
 may_contain s floor = int_le s.low floor && int_le floor s.high
 

@@ -22,6 +22,6 @@ side_at p m = sgn (value_at p (spot_of m))
 abbrev pub fixed_edge : Corner → Corner → Axis → ℤ → ℤ → ℤ → Plane
 fixed_edge u v main s by at = slid (slid (edge_times u v (second_of main) s) (second_of main) by) main at
 
--- the same with the coordinates of a path's start
+-- the plane along the second axis, with those two coordinates fixed to the path's start
 abbrev pub edge_after_first : Path → Corner → Corner → ℤ → Plane
 edge_after_first w u v s = slid_to_start w w.main (slid_to_start w w.second (edge_times u v w.second s))

@@ -16,7 +16,7 @@ use Rattle.ember_box.specs.Boxes.{Cell}
 use Rattle.ember_ref.specs.References.{reference_of, or_sign}
 use Rattle.ember_trace.specs.declared.path.Path.{Path}
 
--- the coordinate of a place along an axis
+-- the coordinate of a point along an axis
 abbrev pub coordinate : List ℤ → Axis → ℤ
 coordinate at X = slice_index_or at 0 (pos 0)
 coordinate at Y = slice_index_or at 1 (pos 0)

@@ -76,14 +76,14 @@ pub fn slope_number(p: &Plane, k: Axis) -> i64
     }
 }
 
-/// The side of the plane directly before a point, along an axis, where that of the point is this.
+/// The side of the plane directly before a point, along an axis, if the point itself is on this side.
 pub fn side_before(p: &Plane, k: Axis, at: Sign) -> Sign
     ensures { result ≡ side_before p.now k at }
 {
     or_sign(at, flipped(slope(p, k)))
 }
 
-/// The side directly after it.
+/// The side directly after the point.
 pub fn side_after(p: &Plane, k: Axis, at: Sign) -> Sign
     ensures { result ≡ side_after p.now k at }
 {

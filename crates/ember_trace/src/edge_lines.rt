@@ -22,7 +22,7 @@ struct Line {
     ghost small_d: { Small 16760836 d },
 }
 
-// Through two places, times a sign.
+// The line through two points of the plane, times a sign.
 fn line_through(from_p: i32, from_q: i32, to_p: i32, to_q: i32, s: i64) -> Line
     requires from_p { Small 2047 from_p }
     requires from_q { Small 2047 from_q }
@@ -102,7 +102,7 @@ pub fn edge_plane_times(u: &Corner, v: &Corner, k: Axis, s: i64) -> Plane
     }
 }
 
-// The place on a line along an axis at which `n x - e` is 0.
+// The point of a line along an axis at which `n x - e` is 0.
 #[derive(Clone, Copy)]
 struct Mark {
     n: i64,
@@ -111,7 +111,7 @@ struct Mark {
     ghost small_e: { Small 25145348 e },
 }
 
-// Where the line has this first coordinate.
+// The point of the line that has this first coordinate.
 fn mark_at_first(l: &Line, at: i32) -> Mark
     requires { Small 2048 at }
     ensures n { result.n ≡ neg_ℤ l.now.b }
@@ -123,7 +123,7 @@ fn mark_at_first(l: &Line, at: i32) -> Mark
     }
 }
 
-// Where it has this last coordinate.
+// The point of the line that has this last coordinate.
 fn mark_at_last(l: &Line, at: i32) -> Mark
     requires { Small 2048 at }
     ensures n { result.n ≡ l.now.a }

@@ -70,7 +70,7 @@ fn corner_side_after_first(u: &Corner, v: &Corner, s: i64, way: &Path, m: &Meet)
     moved_edge_side(u, v, way.main, s, coordinate(way.lo, way.main), m)
 }
 
-// The side on which the inside point lies, moved there. It is `Zero` where all three corners are on the plane.
+// The side on which the inside point lies, moved there. It is `Zero` if all three corners are on the plane.
 fn told_side_after_first(u: &Corner, v: &Corner, s: i64, way: &Path) -> Sign
     requires from { IsValidCorner u.now }
     requires to { IsValidCorner v.now }

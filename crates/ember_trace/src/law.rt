@@ -1,4 +1,4 @@
-// The law of slid planes: a support plane stays valid where one or two coordinates are fixed.
+// The law of slid planes: a support plane stays valid if one or two coordinates are fixed.
 ghost use Rattle.std.specs.Prelude.{ℤ};
 ghost use Rattle.ember_algebra.specs.Size.{Small};
 ghost use Rattle.ember_model.specs.declared.plane.Plane.{Plane};
@@ -8,8 +8,7 @@ ghost use Rattle.ember_model.specs.Valid.{IsValidPlane};
 ghost use Rattle.ember_point.specs.Points.{slid};
 
 /// A support plane with one coordinate fixed has a constant below 2^38 in size, and with two fixed a constant below
-/// 2^39. So
-/// both are valid planes.
+/// 2^39. So both are valid planes.
 pub fn slid_support_planes_are_valid()
     ensures once { (p : Plane) (k : Axis) (at : ℤ) → IsSupportSized p → Small 2048 at → IsValidPlane (slid p k at) }
     ensures constant { (p : Plane) (k : Axis) (at : ℤ) → IsSupportSized p → Small 2048 at →

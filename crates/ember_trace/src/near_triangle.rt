@@ -1,4 +1,4 @@
-// Triangles near a box, with what is asked of them again and again.
+// Triangles near a box, with what each path needs of them.
 ghost use Rattle.std.specs.Prelude.{◌≡◌};
 ghost use Rattle.ember_model.specs.Valid.{IsValidTri};
 ghost use Rattle.ember_model.specs.Sizes.{IsSupportSized};

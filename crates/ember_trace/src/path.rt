@@ -1,6 +1,11 @@
-// The path from the reference point of a box to a region: along one axis after another, the
-// region's main axis last, to a point beside an inside point of the region. That inside point is
-// close to the first corner, and of the places near it closest to the line to the second.
+// The path from the reference point s of a box to a point e of a region: three segments along the axes, the
+// last one along the region's main axis. With the coordinates in the order of the path's axes, it leads
+//
+//     (s1, s2, s3) -> (e1, s2, s3) -> (e1, e2, s3) -> (e1, e2, e3).
+//
+// It ends directly before or directly after e. For e take the inside point a + h (b - a) + h^2 (c - a) of the
+// region, with its first three corners a, b, c and any h > 0 that is small enough. So e lies on the side of a
+// plane on which the first of these corners lies that isn't on the plane.
 ghost use Rattle.std.specs.Prelude.{◌≡◌, ◌&&◌, All};
 ghost use Rattle.ember_algebra.specs.Size.{Small};
 ghost use Rattle.ember_point.specs.Points.{spot_of, is_narrow};
@@ -8,8 +13,9 @@ ghost use Rattle.ember_point.specs.Points.{spot_of, is_narrow};
 use ember_model::Axis;
 use ember_point::Meet;
 
-/// Where a path begins, its axes in order, and the first three corners of the region. It is narrow
-/// where these three are.
+/// A path begins beside the corner `lo` of its box, at the reference point. Its segments run along `first`,
+/// `second` and `main`. `corner`, `next` and `last` are the first three corners of the region. `narrow` says
+/// whether all three are narrow points.
 #[derive(Clone, Copy)]
 pub struct Path {
     pub lo: [i32; 3],

@@ -29,14 +29,14 @@ fn interval_along(s: &Aabb, k: Axis) -> Interval
     }
 }
 
-// A place a little above the whole number is strictly within.
+// A coordinate a little above the whole number is strictly within.
 fn contains_above(s: &Interval, at: i32) -> bool
     ensures { result ≡ contains_above s.now at }
 {
     s.low <= at && at < s.high
 }
 
-// A place from this whole number to the next can be within.
+// A coordinate from this whole number to the next can be within.
 fn may_contain(s: &Interval, floor: i32) -> bool
     ensures { result ≡ may_contain s.now floor }
 {
@@ -81,7 +81,7 @@ fn top_of(way: &Path) -> i32
     floor_in_root(way, way.main).max(coordinate(way.lo, way.main))
 }
 
-/// Those of a path.
+/// The ends of a path.
 pub fn ends_of(way: &Path) -> Ends
     requires { HasAxes way.now }
     ensures { AreEnds way.now result }
@@ -286,7 +286,7 @@ fn lies_above(f: &NearTriangle, way: &Path, at: &Ends) -> bool
     at.top < interval_along(&f.aabb, way.main).low
 }
 
-// The same, at once where the triangle lies above the end of the path.
+// The crossings of the last segments, known at once if the triangle lies above the end of the path.
 fn last_segments(f: &NearTriangle, way: &Path, at: &Ends) -> Crossings
     requires { AreEnds way.now at.now }
     ensures before { result.before ≡

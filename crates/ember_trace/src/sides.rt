@@ -51,7 +51,7 @@ fn take_crossings(sides: &mut Sides, mesh: u32, less: &Crossings)
     take_from(&mut sides.after, mesh, less.after);
 }
 
-/// Puts the sides of a region of a box in place of other ones, from the winding numbers at the
+/// Overwrites `sides` with the sides of a region of a box, from the winding numbers at the
 /// reference point of the box and the crossings of two paths from there to the region with the
 /// triangles near the box: the winding numbers directly before and after it, in every scene that
 /// fits what is known at the box.

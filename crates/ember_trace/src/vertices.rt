@@ -59,7 +59,7 @@ pub fn path_to(c: &Cell, r: &Ring) -> Path
     }
 }
 
-/// The coordinate of a place along an axis.
+/// The coordinate of a point along an axis.
 pub fn coordinate(at: [i32; 3], k: Axis) -> i32
     requires { All (Small 2048) at }
     ensures value { result ≡ coordinate at k }
@@ -87,7 +87,7 @@ pub fn inside_side(p: &Plane, first: &Meet, second: &Meet, third: &Meet) -> Sign
     }
 }
 
-// The same in fewer steps, for narrow corners.
+// The side of the plane on which the inside point lies, in fewer steps, for narrow corners.
 fn narrow_inside_side(p: &Plane, first: &Meet, second: &Meet, third: &Meet) -> Sign
     requires plane { IsValidPlane p.now }
     requires first { is_narrow (spot_of first.now) ≡ true }
@@ -104,7 +104,7 @@ fn narrow_inside_side(p: &Plane, first: &Meet, second: &Meet, third: &Meet) -> S
     }
 }
 
-// The whole number at or below a fraction: in 64 bits where both numbers fit into them.
+// The whole number at or below a fraction: in 64 bits if both numbers fit into them.
 fn floor(n: i128, w: i128) -> i128
     requires { pos 0 <ℤ w }
     ensures { result ≡ int_div_euclid n w }

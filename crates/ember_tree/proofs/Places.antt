@@ -8,8 +8,8 @@ use Rattle.ember_tree.specs.Order.{tree_key}
 pub few_zeros : (p : ℕ) → 0 < p → p < 2 ^ 64 → leading_zeros w64 p < 64
 few_zeros p above fits = omega (arith, (leading_top 64 p above fits).1)
 
-pub place_fits : (p : ℕ) → 0 < p → p < 2 ^ 64 → p * (1 * 2 ^ leading_zeros w64 p % 2 ^ 64) < 2 ^ 64
-place_fits p above fits =
+pub sort_key_fits : (p : ℕ) → 0 < p → p < 2 ^ 64 → p * (1 * 2 ^ leading_zeros w64 p % 2 ^ 64) < 2 ^ 64
+sort_key_fits p above fits =
     let t = leading_top 64 p above (omega (arith, fits)) in
     let same : 1 * 2 ^ leading_zeros w64 p % 2 ^ 64 ≡ 2 ^ leading_zeros w64 p = omega (arith, pow_below (leading_zeros w64 p) 64 (few_zeros p above (omega (arith, fits)))) in
     let sum : suc t.0 + leading_zeros w64 p ≡ 64 = omega (arith, t.1) in

@@ -4,7 +4,7 @@ use Rattle.std.specs.Int.{leading_zeros, w64}
 use Rattle.std.specs.List.Sorted.{IsPermutation, IsNonDecreasingBy}
 use Rattle.ember_tree.specs.declared.part.Part.{Part}
 
--- a path with its first digit moved to the front of 64: a box's left half keeps its place, and all of the right half
+-- a path with its first digit moved to the front of 64: a box's left half keeps its key, and all of the right half
 -- comes after all of the left one
 abbrev pub tree_key : ℕ → ℕ
 tree_key path = path * 2 ^ leading_zeros w64 path

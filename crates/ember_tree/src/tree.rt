@@ -8,8 +8,8 @@ use std::alloc::{AllocError, Global};
 /// The error of a call for which memory is short.
 pub type OutOfMemory = AllocError;
 
-// The path with its first digit moved to the front of 64 binary digits.
-fn place(path: u64) -> u64
+// The sort key of a path: its first digit moved to the front of 64 binary digits.
+fn sort_key(path: u64) -> u64
     ensures { result ≡ tree_key path }
 {
     if path == 0 {
@@ -19,8 +19,8 @@ fn place(path: u64) -> u64
 }
 
 /// The items in the order of the tree, left half first. No path is the beginning of another, read as binary digits,
-/// and each is from 1 to `2^37 - 1`; so the order of the parts has no part in the answer. Its one error is want of
-/// memory.
+/// and each is from 1 to `2^37 - 1`; so the result doesn't depend on the order of the parts. Its one error is
+/// out-of-memory.
 pub fn merge<I: Drop>(alloc: Global, parts: Vec<Part<I>>) -> Result<Vec<I>, OutOfMemory>
     ensures { IfOk result (λ v. IsMerged parts.items v.items) }
 {
@@ -28,7 +28,7 @@ pub fn merge<I: Drop>(alloc: Global, parts: Vec<Part<I>>) -> Result<Vec<I>, OutO
     sorted.sort_by_key(
         |part: &Part<I>| -> u64
             ensures { result ≡ tree_key part.now.path }
-        { place(part.path) },
+        { sort_key(part.path) },
     )?;
     let mut items = Vec::with_capacity(alloc, sorted.len())?;
     sorted.reverse();

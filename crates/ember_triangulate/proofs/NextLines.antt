@@ -12,7 +12,7 @@ module _ (before after : ℕ → Option ℕ) (key line : ℕ) (put : (q : ℕ) �
   pub put_elsewhere : (q : ℕ) → (key ≡ q → ⊥) → after q ≡ before q
   put_elsewhere q ne = put q ∙ rw (ne_eqb key q ne) refl
 
-  -- no key loses its line where the key had none
+  -- no key loses its line if the key had none
   pub put_keeps : before key ≡ None → (q l : ℕ) → before q ≡ Some l → after q ≡ Some l
   put_keeps none q l e = by (cases_eq key q)
     where

@@ -53,7 +53,7 @@ pub record AreLinesOf (ss : List Segment) (lines : ℕ → Option ℕ) : Type 0 
 abbrev pub boundary_line : Lines → ℕ → Option ℕ
 boundary_line ls key = get nat_eq ls.boundary key
 
--- the line of an edge, in the table of the boundary or else in that of the diagonals
+-- the line of an edge, in the table of the boundary or otherwise in that of the diagonals
 abbrev pub IsLineIn : Lines → ℕ → ℕ → ℕ → Type 0
 IsLineIn ls start end line =
     (boundary_line ls (edge_key start end) ≡ Some line) ⊎

@@ -39,7 +39,7 @@ impl Diagonals {
         }
     }
 
-    /// The line of the key: its own, or else the next one. None if the lines have run out.
+    /// The line of the key: its own, or otherwise the next one. None if the lines have run out.
     pub fn line_of(&mut self, key: u64) -> Result<Option<u32>, OutOfMemory>
         ensures line { IfOk result (λ line. IfSome line (λ l. line_at self.new key ≡ Some l)) }
         ensures extended { OnOk result (AreExtended self.old self.new) }

@@ -38,7 +38,7 @@ pub record AreHalfJobs (ts : List Tri) (j : Job) (k : Axis) (low high : Job) : T
   pub is_low : low ≡ left_job ts j k
   pub is_high : high ≡ right_job ts j k
 
--- nothing for a leaf, and else the halves along the halving axis
+-- nothing for a leaf, and otherwise the halves along the halving axis
 abbrev pub IsHalvedUnlessLeaf : List Tri → Job → Option (Job × Job) → Type 0
 IsHalvedUnlessLeaf ts j None = is_leaf (near_of ts j) j.cell ≡ true
 IsHalvedUnlessLeaf ts j (Some halves) =

@@ -16,7 +16,7 @@ abbrev pub has_mesh : List Tri → ℕ → Bool
 has_mesh [] n = false
 has_mesh (t ∷ ts) n = n == t.mesh || has_mesh ts n
 
--- the value of a box, where it is known: the meshes that have a triangle near the box are undecided, and the others
+-- the value of a box, if it is known: the meshes that have a triangle near the box are undecided, and the others
 -- count as at its reference point
 unfoldable pub box_value : List Tri → Formula → Job → Option Bool
 box_value ts f j = known (has_mesh (near_of ts j)) j.at.counts f
@@ -34,7 +34,7 @@ abbrev pub leaf_or : Bool → Shape → Shape
 leaf_or true s = leafed
 leaf_or false s = s
 
--- a box is passed where its value is known, and else it is a leaf or is halved along its axis
+-- a box is skipped if its value is known, and otherwise it is a leaf or is halved along its axis
 unfoldable pub shape : List Tri → Formula → Job → Shape
 shape ts f j =
     let k = halving_axis (near_of ts j) j.cell in

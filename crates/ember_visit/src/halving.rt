@@ -23,7 +23,7 @@ pub fn tris_at(alloc: Global, tris: &[Tri], list: &[u32]) -> Result<Vec<Tri>, Ou
     Ok(found)
 }
 
-// The jobs of the halves of a job along an axis, by the places of the triangles near each.
+// The jobs of the halves of a job along an axis, by the indices of the triangles near each.
 fn jobs_of(s: &Scene, job: &Job, axis: Axis, near_low: Vec<u32>, near_high: Vec<u32>) -> (Job, Job)
     requires side { 0 < job.now.cell.log axis }
     requires places { All (λ i. i < length s.now.tris) job.now.list }
@@ -55,7 +55,7 @@ fn jobs_of(s: &Scene, job: &Job, axis: Axis, near_low: Vec<u32>, near_high: Vec<
 
 /// The two halves of a job along an axis, each with those of the job's triangles that are near it
 /// and with the winding numbers at its own reference point. The side along the axis is above 1,
-/// the list holds places of the scene's triangles, at most 262,144, and each count leaves room for
+/// the list holds indices of the scene's triangles, at most 262,144, and each count leaves room for
 /// a crossing with each of them.
 pub fn halve_job(alloc: Global, s: &Scene, job: &Job, axis: Axis) -> Result<(Job, Job), OutOfMemory>
     requires side { 0 < job.now.cell.log axis }
@@ -68,8 +68,8 @@ pub fn halve_job(alloc: Global, s: &Scene, job: &Job, axis: Axis) -> Result<(Job
     Ok(jobs_of(s, job, axis, near_low, near_high))
 }
 
-/// None where the box of a job is a leaf, and else the two halves of the job along the halving axis
-/// of its box. The list holds places of the scene's triangles, at most 262,144, and each count
+/// None if the box of a job is a leaf, and otherwise the two halves of the job along the halving axis
+/// of its box. The list holds indices of the scene's triangles, at most 262,144, and each count
 /// leaves room for a crossing with each of them.
 pub fn halve_unless_leaf(
     alloc: Global,

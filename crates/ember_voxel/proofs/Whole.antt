@@ -50,7 +50,7 @@ module _ (ts : List Tri) (n : ℕ) (s : IsScene ts n) (f : Formula) (fit : IsFit
   lit_append xs ys =
       ap (λ fills. is_set size fills i j l) (map-append (fill_of f) xs ys) ∙ list_any-append (sets_cell size i j l) (map (fill_of f) xs) (map (fill_of f) ys)
 
-  -- the leaves under the job give the cell its value where its box has the cell
+  -- the leaves under the job give the cell its value if its box has the cell
   abbrev Has : ℕ → Job → Type 0
   Has depth job = lit_by (under of depth job) ≡ (contains_cell size job.cell i j l && cell_value ts f size i j l)
 

@@ -32,12 +32,12 @@ pub record IsVoxelJob (ts : List Tri) (size : ℕ) (j : Job) : Type 0 where
 abbrev pub is_lattice_cell : ℕ → Cell → Bool
 is_lattice_cell size c = c.log X == size && (c.log Y == size && c.log Z == size)
 
--- a box is a leaf where its value is known, or where it is a cell of the lattice
+-- a box is a leaf if its value is known, or if it is a cell of the lattice
 abbrev pub ends : Option Bool → Bool → Bool
 ends None last = last
 ends (Some b) last = true
 
--- and else it is halved along its longest side
+-- and otherwise it is halved along its longest side
 unfoldable pub shape : List Tri → Formula → ℕ → Job → Shape
 shape ts f size j =
     leaf_or (ends (box_value ts f j) (is_lattice_cell size j.cell))

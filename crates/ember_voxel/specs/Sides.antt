@@ -33,7 +33,7 @@ longest_most : (c : Cell) → Most c.log (longest c)
 longest_most c = most c.log (nat_le (c.log Y) (c.log X)) (nat_le (c.log Z) (c.log X))
     (nat_le (c.log Z) (c.log Y)) refl refl refl
 
--- where no side is below 2 ^ size and some is above, the longest is
+-- if no side is below 2 ^ size and some is above, the longest is
 pub longest_above : (c : Cell) (size : ℕ) → ((k : Axis) → size ≤ c.log k) → is_lattice_cell size c ≡ false →
     size < c.log (longest c)
 longest_above c size sides e = at (nat_le (c.log (longest c)) size) refl where

@@ -166,7 +166,7 @@ fn block_of(size: u8, c: &Cell) -> Block
     }
 }
 
-// Sets the cells of the box where its value is 1.
+// Sets the cells of the box if its value is 1.
 fn set_fill(rows: &mut [u8], size: u8, n: usize, fill: &Fill)
     requires few { size ≤ 12 }
     requires cells { n ≡ 2 ^ (12 - size) }

@@ -97,8 +97,8 @@ fn bit_of(e: &Expr, s: &Scene, size: u8, job: &Job) -> Option<bool>
     }
 }
 
-/// What becomes of a job: a leaf with the box and the expression's value, where that is known in
-/// the whole box or where the box is a cell of the lattice; else its halves along the longest
+/// What becomes of a job: a leaf with the box and the expression's value, if that is known in
+/// the whole box or if the box is a cell of the lattice; otherwise its halves along the longest
 /// side, the first one in a tie.
 pub fn voxel_step(
     alloc: Global,

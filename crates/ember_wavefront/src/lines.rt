@@ -35,7 +35,7 @@ fn has_comment(line: &[u8]) -> bool
     line.iter().any(|b| *b == b'#')
 }
 
-// What stands before the backslash at the end of the line, where the next line is joined to this one.
+// What stands before the backslash at the end of the line, if the next line is joined to this one.
 pub(crate) fn before_backslash(line: &[u8]) -> Option<&[u8]>
     ensures joined { MatchOption result
         (is_continued (without_return line.now) ≡ false)

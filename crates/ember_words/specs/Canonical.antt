@@ -105,7 +105,7 @@ abbrev pub value_of : Option Given → Option Text
 value_of None = None
 value_of (Some g) = Some g.value
 
--- the command of the values, None where one of them is past its limits
+-- the command of the values, None if one of them is past its limits
 abbrev pub command_with : Line → Option Command
 command_with (faces_line places file) = faces_with (places_of places) (nonempty_of file)
 command_with (at_line point expr places file more) =

@@ -17,7 +17,7 @@ use Rattle.ember_words.specs.declared.verb.Verb.TheVariants as verb
 use Rattle.ember_words.specs.Limits.{height_of, is_set, names_of, nonempty_of, number_of, optional_of, point_of}
 use Rattle.ember_words.specs.Commands.{faces_app, at_app, bool_app, demo_app, voxels_app, pairs_app, slice_app}
 
--- the result is the value; or the words are refused, where there is none; or memory ran out
+-- the result is the value; or the words are refused, if there is none; or memory ran out
 abbrev pub Reads : {T : Type 0} → Option T → Result T WordsFault → Type 0
 Reads value (Ok x) = value ≡ Some x
 Reads value (Err Words) = value ≡ None
@@ -133,7 +133,7 @@ app_for verb.Voxels = voxels_app
 app_for verb.Pairs = pairs_app
 app_for verb.Slice = slice_app
 
--- the command, where the values are within the limits
+-- the command, if the values are within the limits
 abbrev pub values_for : Verb → List Row → Option Command
 values_for verb.Faces = faces_of
 values_for verb.At = at_of
@@ -147,7 +147,7 @@ values_for verb.Slice = slice_of
 abbrev pub taken_by : Verb → List Text → Option Command
 taken_by v words = unless_refused (fault_of (app_for v) words) (values_for v (matches_of (app_for v) words))
 
--- the command that the words give, None where they are refused
+-- the command that the words give, None if they are refused
 abbrev pub command_of : List Text → Option Command
 command_of [] = None
 command_of (name ∷ words) = option_and_then (λ v. taken_by v (name ∷ words)) (verb_of name)

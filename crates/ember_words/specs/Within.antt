@@ -26,7 +26,7 @@ IsWithinLimits (command.Voxels expr size workers places files) =
 IsWithinLimits (command.Pairs workers places files) = IsInRange 1 64 workers × (places ≤ 3) × AreNames files
 IsWithinLimits (command.Slice height file) = (neg_ℤ (pos 2048) ≤ℤ height) × (height ≤ℤ pos 2047) × IsNonempty file
 
--- where a command may name several files, it names one at least
+-- if a command may name several files, it names one at least
 abbrev pub NamesFiles : Command → Type 0
 NamesFiles (command.Faces places file) = ⊤
 NamesFiles (command.At point expr places files) = 1 ≤ length files

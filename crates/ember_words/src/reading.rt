@@ -210,10 +210,10 @@ fn read(alloc: Global, words: &[String]) -> Result<Command, WordsFault>
 /// The command that the words after the program's name give.
 ///
 /// The first word names the command, by its bytes; clap reads the words after it, and the values
-/// that it finds are within the limits. `WordsFault::Words` comes exactly where the first word is
-/// missing or names no command, where clap refuses the words for another cause than memory,
-/// or where a value is past its limits. A command that may name several files names one at least.
-/// Words in the canonical spelling are read as the command of their values, and refused only where
+/// that it finds are within the limits. `WordsFault::Words` comes exactly if the first word is
+/// missing or names no command, if clap refuses the words for another cause than memory,
+/// or if a value is past its limits. A command that may name several files names one at least.
+/// Words in the canonical spelling are read as the command of their values, and refused only if
 /// one of these is past its limits.
 #[tactic(auto, using(crate::proofs::Taken::canonical_reads, crate::proofs::Limited::read_limits, crate::proofs::NamedFiles::read_files))]
 pub fn read_words(alloc: Global, words: &[String]) -> Result<Command, WordsFault>

@@ -60,7 +60,7 @@ pub fn text_value(alloc: Global, matches: &ArgMatches<'_>, id: &str) -> Result<T
     }
 }
 
-// A text with a byte, where the option was given.
+// A text with a byte, if the option was given.
 pub fn optional_value(
     alloc: Global,
     matches: &ArgMatches<'_>,

@@ -56,7 +56,7 @@ held_is by path s e = let b = both_true (in_hand by s.place) (s.path == path) e 
 pub queued_is : (from : ℕ) (s : Placed) → is_queued from s ≡ true → s ≡ placed (Deque from) s.path
 queued_is from s e = ap (λ p. placed p s.path) (deque_is from s.place e)
 
--- where nothing is found, there is no step
+-- if nothing is found, there is no step
 no_held : (by path : ℕ) (boxes front back : List Placed) → HasNone (is_held by path) boxes → boxes ≡ front ++ placed (Hand by) path ∷ back → ⊥
 no_held by path boxes front back none is = true≢false (sym (held_self by path) ∙ none_at (is_held by path) front back (placed (Hand by) path) (subst (HasNone (is_held by path)) is none))
 

@@ -17,7 +17,7 @@ pub fn ended_boxes_come_in_pairs()
         ended_times (2 * path) core.boxes ≡ ended_times (2 * path + 1) core.boxes }
 {}
 
-/// Journals of a tree of boxes are a run of the core where box 1 is worker 0's, a left half stands in its parent's
+/// Journals of a tree of boxes are a run of the core if box 1 is worker 0's, a left half stands in its parent's
 /// journal, and a right half of the caller's box stands in the caller's. `owner` gives each path the number of its
 /// journal.
 pub fn journals_are_a_run()

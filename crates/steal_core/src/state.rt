@@ -228,7 +228,7 @@ impl State {
         true
     }
 
-    /// Does the event's step. It answers false exactly where the event is no step, and then nothing changes. A Push
+    /// Does the event's step. It answers false exactly if the event is no step, and then nothing changes. A Push
     /// or a Hold needs room for two more boxes, and a path below 2^36. It takes no memory.
     pub fn apply(&mut self, event: Event) -> bool
         requires { Fits event self.old }

@@ -12,7 +12,7 @@ use Rattle.ember_job.specs.declared.job.Entry.{Entry}
 use Rattle.steal_pool.specs.Protocol.{handle, new_pass, with_one_lent}
 use Rattle.steal_pool.specs.Steps.{Weight, EachPass, all_taken, ended}
 
--- each owner's end is of the deque at its place, and its view is like this
+-- each owner's end is of the deque with its index, and its view is like this
 abbrev pub EachOwner : {P : Type 0} → (HandleView → Type 0) → List (Stealer Job Global HandleView P) →
     List (Worker Job Global HandleView P) → Type 0
 EachOwner Q [] [] = Unit {0}
@@ -84,7 +84,7 @@ pub record Lends {P : Type 0} (old new : Worker Job Global HandleView P)
   pub view_is : worker_view new ≡ with_one_lent (worker_view old)
   pub pass_is : view pass ≡ new_pass
 
--- what was pushed and not taken was run to its end, where nothing is left
+-- what was pushed and not taken was run to its end, if nothing is left
 abbrev pub AddsDrained : {I : Type 0} → Weight → HandleView → Output I → Output I → Type 0
 AddsDrained weight v old new = (h : Entry → ℕ) (g : ℕ → ℕ) →
     ended h g new + weigh (weight h g) v.taken ≡ ended h g old + weigh (weight h g) v.pushed

@@ -1,4 +1,4 @@
--- The states of all workers, each at the place of its deque, before and after their runs.
+-- The states of all workers, each with the index of its deque, before and after their runs.
 use Rattle.std.specs.Prelude.{◌≡◌, ℕ, ◌+◌, List, [], ◌∷◌, All, map}
 use Rattle.std.specs.declared.alloc.Global.{Global}
 use Rattle.crossbeam_deque.specs.Handles.{worker_deque, worker_view, stealer_deque}

@@ -52,7 +52,7 @@ pub record IsPart {I : Type 0} (visited : Job → Type 0) (answers : Job → I �
   pub path : p.path ≡ job.cell.path
   pub item : answers job p.item
 
--- each pass is of the deque at its place, and is not spent
+-- each pass is of the deque with its index, and is not spent
 abbrev pub EachPass : {P : Type 0} → List (Stealer Job Global HandleView P) → List (Pass Job HandleView Global) → Type 0
 EachPass [] [] = Unit {0}
 EachPass [] (p ∷ ps) = ⊥

@@ -50,7 +50,7 @@ abbrev pub EmptyIfNone : Option Job → List Job → Type 0
 EmptyIfNone None hand = hand ≡ []
 EmptyIfNone (Some j) hand = Unit {0}
 
--- the job that is run next leaves the hand or a deque; where there is none, the hand is empty
+-- the job that is run next leaves the hand or a deque; if there is none, the hand is empty
 pub record Releases {I : Type 0} (weight : Weight) (job : Option Job) (old new : Account I) : Type 0 where
   pub lent : new.owner.lent ≡ old.owner.lent
   pub output : new.output ≡ old.output

@@ -102,7 +102,7 @@ pub fn run_below<
     run_below::<K, I, F, G>(alloc, call, gate, halves.high, output)
 }
 
-// Pops the job that was pushed last, where all passes came back.
+// Pops the job that was pushed last, if all passes came back.
 fn drain_next<K: VisitedJobs>(owner: &mut Owner<K>) -> Option<BoxedJob>
     requires { Lent 0 (worker_view owner.old) }
     ensures { IsDrain K.is_visited result (worker_view owner.old) (worker_view owner.new) }

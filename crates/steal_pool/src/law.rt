@@ -9,7 +9,7 @@ pub fn merged_items_answer_the_leaves<W: Work>(_work: &W)
     ensures { MergedAnswerLeaves (W.valid _work.now) (W.shape _work.now) (W.item _work.now) }
 {}
 
-/// Where a job has one answer, items that answer the same jobs are the same items. So the merged
+/// If a job has one answer, items that answer the same jobs are the same items. So the merged
 /// items of a run don't depend on the number of workers, nor on the schedule.
 pub fn items_that_answer_are_equal<W: OneItem>(_work: &W)
     ensures { AnswersAreEqual (W.item _work.now) }

@@ -1,7 +1,6 @@
 // Ghost words of one run: which jobs it visits, and what a box weighs. Private functions take them as a type parameter
 // `K` of no size, so that their contracts can speak of the run. `run_alone` and `run_tree` put in `Brand`, a type for
-// which
-// each call of theirs has its own meaning of these words.
+// which each call of theirs has its own meaning of these words.
 ghost use Rattle.std.specs.Prelude.{ℕ};
 ghost use Rattle.ember_job.specs.declared.job.Job.{Job};
 ghost use Rattle.ember_job.specs.declared.job.Entry.{Entry};

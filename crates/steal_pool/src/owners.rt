@@ -31,7 +31,7 @@ fn absorb<K: VisitedJobs>(owner: &mut Owner<K>, pass: Pass<BoxedJob, HandleView>
     owner.absorb::<ForStealer>(pass);
 }
 
-// A pass on each deque, where `lent` were made on each before.
+// A pass on each deque, after `lent` were made on each.
 pub fn lend_each<K: VisitedJobs>(
     alloc: Global,
     stealers: &Vec<JobStealer<K>>,
@@ -62,7 +62,7 @@ fn first_pass(passes: &mut Vec<Pass<BoxedJob, HandleView>>) -> Option<Pass<Boxed
     Some(passes.remove(0))
 }
 
-// Takes in a worker's passes, where `lent + 1` are out on each deque.
+// Takes in a worker's passes, while `lent + 1` are out on each deque.
 pub fn absorb_each<K: VisitedJobs>(
     stealers: &Vec<JobStealer<K>>,
     owners: &mut Vec<Owner<K>>,

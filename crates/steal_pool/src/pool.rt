@@ -26,7 +26,7 @@ use std::alloc::Global;
 use std::sync::Wait;
 use std::thread::Threads;
 
-// The room of a new deque, which grows where it is full.
+// The room of a new deque, which grows when it is full.
 const DEQUE_ROOM: usize = 64;
 
 // The room of a hand, so that holding a box takes no memory.

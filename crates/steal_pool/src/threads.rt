@@ -15,7 +15,7 @@ use std::sync::Wait;
 use std::thread;
 use std::thread::Threads;
 
-// A worker's run, which stops the others where memory is short.
+// A worker's run, which stops the others if memory is short.
 fn run_worker<
     R: Wait,
     K: VisitedJobs + BoxWeight<I>,
@@ -45,7 +45,7 @@ fn run_worker<
 }
 
 // Runs all workers at once, half of them in a new thread at each step, so that the stack grows as the logarithm of
-// their number. The last one runs in this thread, and first where no thread can be made.
+// their number. The last one runs in this thread, and first if no thread can be made.
 fn run_each<
     R: Threads + Wait + Sync,
     K: VisitedJobs + BoxWeight<I> + Send + Sync,
@@ -87,7 +87,7 @@ fn are_done<K: VisitedJobs, I>(workers: &[WorkerState<K, I>]) -> bool
     true
 }
 
-// Runs all workers to their end. It fails where memory is short in one of them.
+// Runs all workers to their end. It fails if memory is short in one of them.
 pub fn run_workers<
     R: Threads + Wait + Sync,
     K: VisitedJobs + BoxWeight<I> + Send + Sync,

@@ -72,7 +72,7 @@ fn steal_from<K: VisitedJobs>(
     steal(stealer, pass)
 }
 
-// Pushes a job, or keeps it in hand where the deque can't grow.
+// Pushes a job, or keeps it in hand if the deque can't grow.
 #[tactic(auto, using(crate::proofs::DequeSteps::weigh_append))]
 fn share<K: VisitedJobs>(
     owner: &mut Owner<K>,
@@ -155,7 +155,7 @@ fn next_deque(from: usize, count: usize) -> usize {
     if next < count { next } else { 0 }
 }
 
-// Runs boxes until all are ended. It fails where memory is short here or elsewhere.
+// Runs boxes until all are ended. It fails if memory is short here or elsewhere.
 #[tactic(auto, using(crate::proofs::AccountSums::balances_then, crate::proofs::AccountSums::released_balances, crate::proofs::AccountSums::none_balances))]
 pub fn work<
     R: Wait,

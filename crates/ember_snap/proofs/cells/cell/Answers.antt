@@ -20,11 +20,11 @@ plain c =
     let twice = c.twice_floor-twice.result in
     let numerator = c.from-numerator.result in
     let sum : to_z w128 (of_z w128 (to_z w128 (of_z w128 twice) +ℤ to_z w128 (of_z w128 numerator))) ≡ twice +ℤ numerator =
-    omega (arith, ints, c.twice_floor-twice.ensures.small, c.from-numerator.ensures, c.requires.step.over_small) in
+    omega (arith, ints, c.twice_floor-twice.ensures.small, c.from-numerator.ensures, c.requires.step.numerator_small) in
     let product : to_z w128 (of_z w128 (pos 2 *ℤ to_z w128 (of_z w128 numerator))) ≡ pos 2 *ℤ numerator =
-    omega (arith, ints, c.from-numerator.ensures, c.requires.step.over_small) in
+    omega (arith, ints, c.from-numerator.ensures, c.requires.step.numerator_small) in
     c.div_euclid.ensures ∙ rw (sum, product, c.twice_floor-twice.ensures.value, c.from-numerator.ensures)
-    (floor_chain (pos (2 * s.denominator) *ℤ v.numerator) v.denominator s.numerator (2 * s.numerator) (denominator_pos c.args.number.now) (omega (arith, c.requires.step.over_zero)))
+    (floor_chain (pos (2 * s.denominator) *ℤ v.numerator) v.denominator s.numerator (2 * s.numerator) (denominator_pos c.args.number.now) (omega (arith, c.requires.step.numerator_positive)))
 
 pub returns-clause-value : goal.returns-clause-value
 unfolding cell_at
@@ -32,4 +32,4 @@ returns-clause-value c = stored c ∙ plain c
 
 pub returns-clause-nearest : goal.returns-clause-nearest
 returns-clause-nearest c =
-    rw (stored c, plain c) (cell_nearest c.args.step.now (value_of c.args.number.now) (denominator_pos c.args.number.now) c.requires.step.over_zero)
+    rw (stored c, plain c) (cell_nearest c.args.step.now (value_of c.args.number.now) (denominator_pos c.args.number.now) c.requires.step.numerator_positive)

@@ -17,10 +17,10 @@ returns-in_ok-put-clause-part c =
 pub returns-in_ok-put-2-clause-part : goal.returns-in_ok-put-2-clause-part
 returns-in_ok-put-2-clause-part c =
     let a = c.args in let r = a.self.now in let q = c.requires.paired in let at = a.at.now in
-    let ahead = c.len-len.result - at.first in let first = c.requires.first in let kept = c.requires.kept in
+    let ahead = c.len-len.result - at.first in let first = c.requires.first in let kept = c.requires.below_count in
     let same = length-sides_of r.edges.items r.corners.items r.plane_indices.items q.corners q.plane_indices in
     let count : c.len-len.result ≡ length r.edges.items = c.len-len.ensures ∙ r.edges.ok.0 in
-    let long : ahead ≤ at.kept = c.if-at-ahead.false in
+    let long : ahead ≤ at.below_count = c.if-at-ahead.false in
     record {
       index = ahead;
       order = c.in_ok-put-2.ensures.order ∙ kept_around (sides r) at a.plane a.plane_index ahead (omega (arith, count, same, first)) (omega (arith, count, first)) (omega (arith, same, kept)) long c.set_start-else-at-ahead.ensures.order;

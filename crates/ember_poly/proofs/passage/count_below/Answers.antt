@@ -2,7 +2,7 @@ use Rattle.ember_model.specs.Planes.{value_at}
 use Rattle.ember_point.specs.Points.{spot_of}
 use Rattle.ember_poly.proofs.CornerSigns.{neg_out, zero_out, pos_out, zero_least, above_least}
 use Rattle.ember_poly.proofs.Classification.{run_next, run_stops, run_ends, next_zero, next_over, next_none}
-use Rattle.ember_poly.proofs.passage.run.Goals as goal
+use Rattle.ember_poly.proofs.passage.count_below.Goals as goal
 
 pub loop-i-preserved : goal.loop-i-preserved
 loop-i-preserved c =

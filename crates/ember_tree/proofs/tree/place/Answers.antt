@@ -1,6 +1,0 @@
-use Rattle.std.proofs.Common.{arith}
-use Rattle.ember_tree.proofs.Places.{place_fits}
-use Rattle.ember_tree.proofs.tree.place.Goals as goal
-
-pub overflow_mul-result : goal.overflow_mul-result
-overflow_mul-result c = let fits = place_fits c.args.path (omega (arith, c.if-path-eq0.false)) (omega (arith, c.ranges.path.fits)) in omega (arith, fits)
