@@ -99,7 +99,8 @@ impl Walk {
         self.end_stretch(corner, &mut boundaries.segments)?;
         self.last = corner;
         self.stretch.extend_from_slice(&changes)?;
-        self.stretch = summed(alloc, &mut self.stretch)?;
+        let stretch = summed(alloc, &mut self.stretch)?;
+        self.stretch = stretch;
         Ok(())
     }
 
