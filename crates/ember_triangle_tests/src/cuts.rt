@@ -8,7 +8,7 @@ use std::alloc::Global;
 use std::test::Fail;
 
 // The plane with this normal and constant.
-fn plane(numbers: [i16; 4]) -> Plane
+pub(crate) fn plane(numbers: [i16; 4]) -> Plane
     ensures { IsValidPlane result }
 {
     Plane {
@@ -36,7 +36,7 @@ const SHEETS: [[[i16; 4]; 2]; 3] = [
 ];
 
 // The point with these coordinates, in thirds.
-fn thirds(x: i32, y: i32, z: i32) -> SpacePoint {
+pub(crate) fn thirds(x: i32, y: i32, z: i32) -> SpacePoint {
     SpacePoint {
         x: i128::from(x),
         y: i128::from(y),

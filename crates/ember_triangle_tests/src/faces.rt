@@ -1,0 +1,207 @@
+// Faces become certified triangles.
+ghost use Rattle.std.specs.Prelude.{All};
+ghost use Rattle.ember_model.specs.Valid.{IsValidPlane};
+
+use crate::cuts::{plane, thirds};
+use ember_certificate::{Segment, SpacePoint};
+use ember_key::LineKey;
+use ember_model::Plane;
+use ember_triangles::{MeshFault, certified_triangles};
+use std::alloc::Global;
+use std::test::Fail;
+
+// A line with this direction, wherever it lies.
+fn line(direction: (i64, i64, i64)) -> LineKey {
+    let (dx, dy, dz) = direction;
+    LineKey {
+        dx,
+        dy,
+        dz,
+        mx: 0,
+        my: 0,
+        mz: 0,
+    }
+}
+
+// How many triangles the faces become.
+fn count_of(
+    alloc: Global,
+    planes: &[Plane],
+    directions: &[(i64, i64, i64)],
+    corners: &[SpacePoint],
+    segments: &[Segment],
+) -> Result<usize, MeshFault>
+    requires { All IsValidPlane planes.now }
+{
+    let mut lines = Vec::new(alloc);
+    for direction in directions {
+        lines.push(line(*direction))?;
+    }
+    let triangles = certified_triangles(alloc, planes, &lines, corners, segments)?;
+    Ok(triangles.len())
+}
+
+// The corners of a sheet in the plane z = 0.
+const PLACES: [(i32, i32); 15] = [
+    (0, 0),
+    (2, 0),
+    (4, 0),
+    (4, 2),
+    (2, 2),
+    (0, 2),
+    (1, 1),
+    (3, 1),
+    (10, 10),
+    (12, 10),
+    (11, 12),
+    (9, 12),
+    (8, 10),
+    (9, 8),
+    (11, 8),
+];
+
+// The directions of the lines on which the sheet has edges.
+const DIRECTIONS: [(i64, i64, i64); 14] = [
+    (1, 0, 0),
+    (1, 0, 0),
+    (0, 1, 0),
+    (0, 1, 0),
+    (0, 1, 0),
+    (1, -1, 0),
+    (1, 0, 0),
+    (1, 1, 0),
+    (1, 0, 0),
+    (1, 2, 0),
+    (1, -2, 0),
+    (1, -2, 0),
+    (1, 2, 0),
+    (1, 0, 0),
+];
+
+// Adds a ring on the sheet's first side, and its reverse on the second side if that isn't open. Each edge
+// is given by its line and its end.
+fn push_ring(
+    segments: &mut Vec<Segment>,
+    ring: &[(u32, u32)],
+    is_open: bool,
+) -> Result<(), MeshFault> {
+    let Some((_, mut start)) = ring.last().copied() else {
+        return Ok(());
+    };
+    for edge in ring {
+        let (line, end) = *edge;
+        segments.push(Segment {
+            plane: 0,
+            line,
+            start,
+            end,
+        })?;
+        if !is_open {
+            segments.push(Segment {
+                plane: 1,
+                line,
+                start: end,
+                end: start,
+            })?;
+        }
+        start = end;
+    }
+    Ok(())
+}
+
+// How many triangles the two sides of a sheet become.
+fn sheet_count(alloc: Global, rings: &[&[(u32, u32)]], is_open: bool) -> Result<usize, MeshFault> {
+    let planes = [plane([0, 0, 1, 0]), plane([0, 0, -1, 0])];
+    let mut corners = Vec::new(alloc);
+    for (x, y) in PLACES {
+        corners.push(thirds(x, y, 0))?;
+    }
+    let mut segments = Vec::new(alloc);
+    for ring in rings {
+        push_ring(&mut segments, ring, is_open)?;
+    }
+    count_of(alloc, &planes, &DIRECTIONS, &corners, &segments)
+}
+
+#[test]
+fn sheets(rt: HostRuntime) {
+    let left: &[(u32, u32)] = &[(0, 1), (3, 4), (1, 5), (2, 0)];
+    let right: &[(u32, u32)] = &[(0, 2), (4, 3), (1, 4), (3, 1)];
+    let both: &[(u32, u32)] = &[(0, 2), (4, 3), (1, 5), (2, 0)];
+    let hole: &[(u32, u32)] = &[(5, 6), (6, 7), (7, 1)];
+    let east: &[(u32, u32)] = &[(8, 9), (11, 10), (9, 8)];
+    let west: &[(u32, u32)] = &[(10, 11), (12, 12), (8, 8)];
+    let south: &[(u32, u32)] = &[(9, 13), (13, 14), (10, 8)];
+    let overlap = MeshFault::Overlap { plane: 0, line: 0 };
+    let rows: [(&[&[(u32, u32)]], bool, Result<usize, MeshFault>); 7] = [
+        (&[], false, Ok(0)),
+        // The side that two squares have in common cancels.
+        (&[left], false, Ok(4)),
+        (&[left, right], false, Ok(4)),
+        (&[left, right], true, Err(MeshFault::NotClosed(0))),
+        (&[left, left], false, Err(overlap)),
+        // A corner of the hole lies inside an edge.
+        (&[both, hole], false, Ok(12)),
+        // Three edges of the boundary cross in a corner, where none of them changes.
+        (&[east, west, south], false, Ok(6)),
+    ];
+    for (rings, is_open, want) in rows {
+        assert_eq!(rt; sheet_count(rt.alloc(), rings, is_open), want);
+    }
+}
+
+// The edges of the tetrahedron with the corners (0, 0, 0), (1, 0, 0), (0, 1, 0) and (0, 0, 1): their planes, lines
+// and ends.
+const TETRAHEDRON: [(u32, u32, u32, u32); 12] = [
+    (0, 1, 0, 2),
+    (0, 3, 2, 1),
+    (0, 0, 1, 0),
+    (1, 0, 0, 1),
+    (1, 4, 1, 3),
+    (1, 2, 3, 0),
+    (2, 2, 0, 3),
+    (2, 5, 3, 2),
+    (2, 1, 2, 0),
+    (3, 3, 1, 2),
+    (3, 5, 2, 3),
+    (3, 4, 3, 1),
+];
+
+#[test]
+fn faces_of_a_tetrahedron(rt: HostRuntime) -> Result<(), Fail> {
+    let planes = [
+        plane([0, 0, -1, 0]),
+        plane([0, -1, 0, 0]),
+        plane([-1, 0, 0, 0]),
+        plane([1, 1, 1, 1]),
+    ];
+    let directions = [
+        (1, 0, 0),
+        (0, 1, 0),
+        (0, 0, 1),
+        (1, -1, 0),
+        (1, 0, -1),
+        (0, 1, -1),
+    ];
+    let corners = [
+        thirds(0, 0, 0),
+        thirds(3, 0, 0),
+        thirds(0, 3, 0),
+        thirds(0, 0, 3),
+    ];
+    let mut segments = Vec::new(rt.alloc());
+    for (plane, line, start, end) in TETRAHEDRON {
+        segments.push(Segment {
+            plane,
+            line,
+            start,
+            end,
+        })?;
+    }
+    let count = count_of(rt.alloc(), &planes, &directions, &corners, &segments);
+    assert_eq!(rt; count, Ok(4));
+    let _ = segments.pop();
+    let open = count_of(rt.alloc(), &planes, &directions, &corners, &segments);
+    assert_eq!(rt; open, Err(MeshFault::NotClosed(4)));
+    Ok(())
+}

@@ -1,0 +1,37 @@
+// Faces as certified triangles.
+ghost use Rattle.std.specs.Prelude.{All, IfOk};
+ghost use Rattle.ember_model.specs.Valid.{IsValidPlane};
+ghost use Rattle.ember_certificate.specs.Certificate.{IsCertified};
+
+use crate::fault::MeshFault;
+use crate::rounds::found_triangles;
+use crate::tables::Tables;
+use ember_certificate::{Segment, SpacePoint, Triangle, is_certified};
+use ember_key::LineKey;
+use ember_model::Plane;
+use std::alloc::Global;
+
+/// Triangles that cut up the faces whose edges are the segments. `planes`, `lines` and `corners` are what
+/// the segments' numbers stand for; of a line only its direction counts. It is a fault if faces of one
+/// plane overlap, if the faces aren't closed along a line, or if no certified triangles are found.
+pub fn certified_triangles(
+    alloc: Global,
+    planes: &[Plane],
+    lines: &[LineKey],
+    corners: &[SpacePoint],
+    segments: &[Segment],
+) -> Result<Vec<Triangle>, MeshFault>
+    requires { All IsValidPlane planes.now }
+    ensures { IfOk result (λ ts. IsCertified planes.now corners.now segments.now ts.items) }
+{
+    let tables = Tables {
+        planes,
+        lines,
+        corners,
+    };
+    let triangles = found_triangles(alloc, &tables, segments)?;
+    if !is_certified(alloc, planes, corners, segments, &triangles)? {
+        return Err(MeshFault::NotCertified);
+    }
+    Ok(triangles)
+}

@@ -1,0 +1,47 @@
+// Why faces get no triangles.
+use std::alloc::{AllocError, AllocFailed};
+use thiserror::Error;
+
+/// Why faces get no certified triangles. Planes, lines and corners are given by their numbers.
+#[derive(Clone, Copy, Debug, PartialEq, Eq, Error)]
+pub enum MeshFault {
+    /// A plane, a line or a corner of a segment isn't in its table.
+    #[error("plane {0} isn't in the table of planes")]
+    UnknownPlane(u32),
+    #[error("line {0} isn't in the table of lines")]
+    UnknownLine(u32),
+    #[error("corner {0} isn't in the table of corners")]
+    UnknownCorner(u32),
+    /// Somewhere on the line two faces of the plane are on the same side of it.
+    #[error("faces of plane {plane} overlap along line {line}")]
+    Overlap { plane: u32, line: u32 },
+    /// Somewhere on the line more segments run one way than the other.
+    #[error("the faces aren't closed along line {0}")]
+    NotClosed(u32),
+    /// The boundary of the plane's part surrounds no part.
+    #[error("no triangles were found in plane {0}")]
+    NoTriangles(u32),
+    /// Splitting lines at corners came to no end.
+    #[error("no triangles were found")]
+    NoEnd,
+    /// There are segments on the line 2^32 - 1, or too many diagonals.
+    #[error("no number is left for a diagonal's line")]
+    NoLineLeft,
+    /// Triangles were found that don't cut up the faces.
+    #[error("the triangles don't cut up the faces")]
+    NotCertified,
+    #[error("out of memory")]
+    OutOfMemory,
+}
+
+impl From<AllocError> for MeshFault {
+    fn from(_error: AllocError) -> MeshFault {
+        MeshFault::OutOfMemory
+    }
+}
+
+impl<T: Drop> From<AllocFailed<T>> for MeshFault {
+    fn from(_error: AllocFailed<T>) -> MeshFault {
+        MeshFault::OutOfMemory
+    }
+}

@@ -1,0 +1,25 @@
+// Corners at which lines are split.
+use ember_model::OutOfMemory;
+
+/// A corner at which the segments of all planes on a line are split.
+#[derive(Clone, Copy, Debug, PartialEq, Eq, PartialOrd, Ord)]
+pub struct Split {
+    pub line: u32,
+    pub corner: u32,
+}
+
+/// Adds splits to those in order, and says whether one of them is new.
+pub fn add_splits(splits: &mut Vec<Split>, more: &[Split]) -> Result<bool, OutOfMemory> {
+    let before = splits.len();
+    splits.extend_from_slice(more)?;
+    splits.sort_unstable();
+    splits.dedup();
+    Ok(before < splits.len())
+}
+
+/// The splits of the line among those in order.
+pub fn splits_on(splits: &[Split], line: u32) -> &[Split] {
+    let first = splits.partition_point(|s| s.line < line);
+    let behind = splits.partition_point(|s| s.line <= line);
+    splits.get(first..behind).unwrap_or(&[])
+}
