@@ -5,3 +5,5 @@
 mod cuts;
 #[cfg(test)]
 mod faces;
+#[cfg(test)]
+mod tables;
