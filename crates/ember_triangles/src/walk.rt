@@ -73,6 +73,15 @@ fn is_split(marks: &[Mark]) -> bool {
     marks.iter().any(|m| m.what == What::Split)
 }
 
+fn segment(plane: u32, line: u32, start: u32, end: u32) -> Segment {
+    Segment {
+        plane,
+        line,
+        start,
+        end,
+    }
+}
+
 impl Walk {
     /// A walk that begins.
     pub fn along(alloc: Global, line: u32) -> Walk {
@@ -127,21 +136,13 @@ impl Walk {
 
     // The plane's segment over the stretch that ends at the corner.
     fn segment(&self, c: &Coefficient, corner: u32) -> Result<Segment, MeshFault> {
-        let (start, end) = match c.value {
-            1 => (self.last, corner),
-            -1 => (corner, self.last),
-            _ => {
-                return Err(MeshFault::Overlap {
-                    plane: c.plane,
-                    line: self.line,
-                });
-            }
-        };
-        Ok(Segment {
-            plane: c.plane,
-            line: self.line,
-            start,
-            end,
-        })
+        match c.value {
+            1 => Ok(segment(c.plane, self.line, self.last, corner)),
+            -1 => Ok(segment(c.plane, self.line, corner, self.last)),
+            _ => Err(MeshFault::Overlap {
+                plane: c.plane,
+                line: self.line,
+            }),
+        }
     }
 }
