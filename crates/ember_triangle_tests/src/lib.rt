@@ -6,4 +6,6 @@ mod cuts;
 #[cfg(test)]
 mod faces;
 #[cfg(test)]
+mod solids;
+#[cfg(test)]
 mod tables;

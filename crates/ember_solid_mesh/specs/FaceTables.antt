@@ -1,0 +1,26 @@
+-- The tables of the faces of a face file
+use Rattle.std.specs.Prelude.{◌≢◌, ℕ, List}
+use Rattle.ember_model.specs.declared.face.Face.{Face}
+use Rattle.ember_model.specs.FaceFiles.{IsFaceFile}
+use Rattle.ember_tables.specs.declared.fault.TableFault.{TableFault}
+use Rattle.ember_tables.specs.declared.fault.TableFault.TheVariants.{OutOfMemory}
+use Rattle.ember_tables.specs.declared.tables.Tables.{Tables}
+use Rattle.ember_tables.specs.Edges.{edges_of}
+use Rattle.ember_tables.specs.Tables.{AreTables, IsFault}
+
+-- the bytes are a face file
+abbrev pub HoldsFaces : List ℕ → Type 0
+HoldsFaces bytes = (faces : List Face) × IsFaceFile bytes faces
+
+-- the bytes are a face file, and the tables are those of its faces
+pub record AreTablesIn (bytes : List ℕ) (tables : Tables) : Type 0 where
+  pub faces : List Face
+  pub read : IsFaceFile bytes faces
+  pub are_tables : AreTables (edges_of 0 faces) tables
+
+-- the bytes are a face file whose faces have this fault, and it isn't want of memory
+pub record HaveTableFault (bytes : List ℕ) (fault : TableFault) : Type 0 where
+  pub faces : List Face
+  pub read : IsFaceFile bytes faces
+  pub is_fault : IsFault (edges_of 0 faces) fault
+  pub of_faces : fault ≢ OutOfMemory

@@ -1,0 +1,3 @@
+pub mod FaceTables
+pub mod Faults
+pub mod Meshes

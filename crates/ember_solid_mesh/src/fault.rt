@@ -1,0 +1,52 @@
+// Why a solid gets no mesh.
+ghost use Rattle.std.specs.Prelude.{◌≡◌};
+ghost use Rattle.ember_solid_mesh.specs.declared.fault.SolidFault.TheVariants.{OutOfMemory};
+ghost use Rattle.ember_solid_mesh.specs.Faults.{of_table_fault, of_mesh_fault};
+
+use ember_tables::TableFault;
+use ember_triangles::MeshFault;
+use std::alloc::AllocError;
+use thiserror::Error;
+
+/// Why a solid gets no mesh.
+#[derive(Clone, Copy, Debug, PartialEq, Eq, Error)]
+pub enum SolidFault {
+    /// The faces of the solid have no tables of planes, lines and corners. Never `TableFault::OutOfMemory`.
+    #[error(transparent)]
+    NoTables(TableFault),
+    /// No certified triangles were found for the faces. Never `MeshFault::OutOfMemory`.
+    #[error(transparent)]
+    NotCut(MeshFault),
+    #[error("out of memory")]
+    OutOfMemory,
+}
+
+impl From<AllocError> for SolidFault {
+    ghost from_gives = { λ _ e. e ≡ OutOfMemory };
+
+    fn from(_e: AllocError) -> SolidFault {
+        SolidFault::OutOfMemory
+    }
+}
+
+impl From<TableFault> for SolidFault {
+    ghost from_gives = { λ fault e. e ≡ of_table_fault fault };
+
+    fn from(fault: TableFault) -> SolidFault {
+        match fault {
+            TableFault::OutOfMemory => SolidFault::OutOfMemory,
+            fault => SolidFault::NoTables(fault),
+        }
+    }
+}
+
+impl From<MeshFault> for SolidFault {
+    ghost from_gives = { λ fault e. e ≡ of_mesh_fault fault };
+
+    fn from(fault: MeshFault) -> SolidFault {
+        match fault {
+            MeshFault::OutOfMemory => SolidFault::OutOfMemory,
+            fault => SolidFault::NotCut(fault),
+        }
+    }
+}
