@@ -1,0 +1,4 @@
+pub mod WordArguments
+pub mod Parts
+pub mod Signs
+pub mod Spellings

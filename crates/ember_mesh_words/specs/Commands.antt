@@ -1,0 +1,101 @@
+-- What command the words give
+use Rattle.std.specs.Prelude.{◌≡◌, ◌≤◌, ⊤, ℕ, Bool, true, List, [], ◌∷◌, length, Option, Some, None, Result, Ok, Err, IfSome, if◌then◌else◌}
+use Rattle.std.specs.List.{list_any}
+use Rattle.std.specs.Int.{IsInRange}
+use Rattle.ember_number.specs.Texts.{value_of_text}
+use Rattle.ember_mesh_words.specs.declared.command.Command.{Command}
+use Rattle.ember_mesh_words.specs.declared.command.Command.TheVariants as command
+use Rattle.ember_mesh_words.specs.declared.command.Request.{Request}
+use Rattle.ember_mesh_words.specs.declared.command.OutputFormat.{OutputFormat}
+use Rattle.ember_mesh_words.specs.declared.command.WantedStep.{WantedStep}
+use Rattle.ember_mesh_words.specs.declared.command.WantedStep.TheVariants as step
+use Rattle.ember_mesh_words.specs.declared.faults.Refusal.{Refusal}
+use Rattle.ember_mesh_words.specs.declared.faults.Refusal.TheVariants.{NoCommand, UnknownCommand}
+use Rattle.ember_mesh_words.specs.declared.faults.WordsFault.{WordsFault}
+use Rattle.ember_mesh_words.specs.declared.faults.WordsFault.TheVariants.{Refused, OutOfMemory}
+use Rattle.ember_mesh_words.specs.declared.arguments.Argument.{Argument}
+use Rattle.ember_mesh_words.specs.declared.names.Operation.{Operation}
+use Rattle.ember_mesh_words.specs.declared.names.Setting.TheVariants as setting
+use Rattle.ember_mesh_words.specs.declared.names.Verb.{Verb}
+use Rattle.ember_mesh_words.specs.declared.names.Verb.TheVariants as verb
+use Rattle.ember_mesh_words.specs.Names.{Text, operator_of, verb_of}
+use Rattle.ember_mesh_words.specs.Arguments.{asks_help, is_quiet, arguments_from, names_in, value_in}
+use Rattle.ember_mesh_words.specs.Values.{digits_of, expression_of, files_of, format_of, is_above_zero, output_of, step_of, workers_of}
+
+-- the result is the value or the refusal, or memory ran out
+abbrev pub Reads : {T : Type 0} → Result T Refusal → Result T WordsFault → Type 0
+Reads value (Ok x) = value ≡ Ok x
+Reads value (Err (Refused why)) = value ≡ Err why
+Reads value (Err OutOfMemory) = ⊤
+
+-- ---- a Boolean
+abbrev pub format_from : Result Text Refusal → Result OutputFormat Refusal
+format_from (Err why) = Err why
+format_from (Ok name) = format_of name
+
+-- the request of these values, or the first refusal among them
+abbrev pub request_of_values : List Text → Bool → Result Text Refusal → Result Text Refusal →
+    Result OutputFormat Refusal → Result WantedStep Refusal → Result ℕ Refusal → Result (Option ℕ) Refusal →
+    Result Request Refusal
+request_of_values files quiet (Err why) o m s w d = Err why
+request_of_values files quiet (Ok e) (Err why) m s w d = Err why
+request_of_values files quiet (Ok e) (Ok o) (Err why) s w d = Err why
+request_of_values files quiet (Ok e) (Ok o) (Ok m) (Err why) w d = Err why
+request_of_values files quiet (Ok e) (Ok o) (Ok m) (Ok s) (Err why) d = Err why
+request_of_values files quiet (Ok e) (Ok o) (Ok m) (Ok s) (Ok w) (Err why) = Err why
+request_of_values files quiet (Ok e) (Ok o) (Ok m) (Ok s) (Ok w) (Ok d) =
+    Ok (record { expression = e; output = o; format = m; step = s; workers = w; quiet = quiet; digits = d; files = files })
+
+abbrev pub request_with : Operation → List Argument → Result (List Text) Refusal → Result Request Refusal
+request_with operation arguments (Err why) = Err why
+request_with operation arguments (Ok files) =
+    request_of_values files (list_any is_quiet arguments)
+    (expression_of (operator_of operation) (length files) (value_in setting.Expression arguments))
+    (output_of (value_in setting.Output arguments)) (format_from (output_of (value_in setting.Output arguments)))
+    (step_of (value_in setting.Step arguments)) (workers_of (value_in setting.Workers arguments))
+    (digits_of (value_in setting.Digits arguments))
+
+abbrev pub request_of : Operation → List Argument → Result Request Refusal
+request_of operation arguments = request_with operation arguments (files_of (names_in arguments))
+
+-- ---- a command
+abbrev pub as_command : Result Request Refusal → Result Command Refusal
+as_command (Err why) = Err why
+as_command (Ok request) = Ok (command.Boole request)
+
+-- a Boolean, unless the arguments ask for help
+abbrev pub command_with : Operation → Result (List Argument) Refusal → Result Command Refusal
+command_with operation (Err why) = Err why
+command_with operation (Ok arguments) =
+    if list_any asks_help arguments then Ok command.Help else as_command (request_of operation arguments)
+
+-- the words behind `help` and `--version` mean nothing
+abbrev pub command_by : Option Verb → List Text → Result Command Refusal
+command_by None words = Err UnknownCommand
+command_by (Some verb.Help) words = Ok command.Help
+command_by (Some verb.Version) words = Ok command.Version
+command_by (Some (verb.Compute operation)) words = command_with operation (arguments_from 1 None words)
+
+-- the command that the words give, or why they are refused
+abbrev pub command_of : List Text → Result Command Refusal
+command_of [] = Err NoCommand
+command_of (name ∷ words) = command_by (verb_of name) words
+
+-- ---- what a command that was read keeps
+-- a decimal is above 0
+abbrev pub IsValidStep : WantedStep → Type 0
+IsValidStep step.Nice = ⊤
+IsValidStep step.Finest = ⊤
+IsValidStep (step.Decimal text) = is_above_zero (value_of_text text) ≡ true
+
+-- the numbers are within their limits, and there are 1 to 64 files
+pub record IsWithinLimits (request : Request) : Type 0 where
+  pub step : IsValidStep request.step
+  pub workers : IsInRange 1 64 request.workers
+  pub digits : IfSome request.digits (λ n. n ≤ 17)
+  pub files : IsInRange 1 64 (length request.files)
+
+abbrev pub HasLimits : Command → Type 0
+HasLimits (command.Boole request) = IsWithinLimits request
+HasLimits command.Help = ⊤
+HasLimits command.Version = ⊤

@@ -1,0 +1,5 @@
+pub mod Names
+pub mod Arguments
+pub mod Values
+pub mod Commands
+pub mod Spelling

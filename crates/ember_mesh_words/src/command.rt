@@ -1,0 +1,53 @@
+// The commands of the second program.
+use ember_words::{Text, Texts};
+
+/// What the words ask for.
+#[derive(Drop)]
+pub enum Command {
+    /// Write the mesh of a Boolean.
+    Boole(Request),
+    /// Print the usage.
+    Help,
+    /// Print the version.
+    Version,
+}
+
+/// A Boolean of meshes. There are 1 to 64 files.
+#[derive(Drop)]
+pub struct Request {
+    /// An expression over the files in their order, not yet parsed.
+    pub expression: Text,
+    /// The name of the output; it ends as its format says.
+    pub output: Text,
+    pub format: OutputFormat,
+    pub step: WantedStep,
+    /// From 1 to 64.
+    pub workers: u32,
+    /// Whether only a refusal is told.
+    pub quiet: bool,
+    /// The decimal places of OBJ, PLY and OFF, up to 17. If there is no number, the step decides.
+    pub digits: Option<u32>,
+    /// The names of the mesh files.
+    pub files: Texts,
+}
+
+/// How the mesh is written.
+#[derive(Clone, Copy, Debug, PartialEq, Eq)]
+pub enum OutputFormat {
+    /// Binary STL.
+    Stl,
+    Obj,
+    Ply,
+    Off,
+}
+
+/// The step of the grid that is asked for.
+#[derive(Drop)]
+pub enum WantedStep {
+    /// The least nice step at which the scene fits.
+    Nice,
+    /// The least fine step at which it fits.
+    Finest,
+    /// A decimal above 0, as `read_decimal` of ember_number reads it, in the unit of the files.
+    Decimal(Text),
+}

@@ -1,0 +1,105 @@
+// Reading the words.
+ghost use Rattle.std.specs.Prelude.{◌≡◌, ◌∷◌, IfOk, List, None, Ok, map, string_bytes};
+ghost use Rattle.ember_mesh_words.specs.Commands.{Reads, request_of, command_with, command_by, command_of, IsWithinLimits, HasLimits};
+ghost use Rattle.ember_mesh_words.specs.Arguments.{arguments_from};
+ghost use Rattle.ember_mesh_words.specs.Spelling.{name_of, spelling_of, AreSpelled};
+
+use crate::arguments::{Argument, are_quiet, arguments_of, ask_help, names_in, value_in};
+use crate::command::{Command, Request};
+use crate::faults::{Refusal, WordsFault};
+use crate::names::{Operation, Setting, Verb};
+use crate::values::{counted, digits, expression, format_of, output, step, workers};
+use std::alloc::Global;
+
+// The Boolean of these arguments.
+fn request_of(
+    alloc: Global,
+    operation: Operation,
+    arguments: &[Argument],
+) -> Result<Request, WordsFault>
+    ensures value { Reads (request_of operation arguments.now) result }
+    ensures limits { IfOk result IsWithinLimits }
+{
+    let files = counted(names_in(alloc, arguments)?)?;
+    let given = value_in(arguments, Setting::Expression);
+    let expression = expression(alloc, operation, files.items().len(), given)?;
+    let output = output(alloc, value_in(arguments, Setting::Output))?;
+    let format = format_of(output.as_str())?;
+    let step = step(alloc, value_in(arguments, Setting::Step))?;
+    let workers = workers(value_in(arguments, Setting::Workers))?;
+    let digits = digits(value_in(arguments, Setting::Digits))?;
+    Ok(Request {
+        expression,
+        output,
+        format,
+        step,
+        workers,
+        quiet: are_quiet(arguments),
+        digits,
+        files,
+    })
+}
+
+// The command of an operation and the words behind its name.
+fn command_with(
+    alloc: Global,
+    operation: Operation,
+    words: &[String],
+) -> Result<Command, WordsFault>
+    ensures value { Reads (command_with operation (arguments_from 1 None (map string_bytes words.now))) result }
+    ensures limits { IfOk result HasLimits }
+{
+    let arguments = arguments_of(alloc, words)?;
+    if ask_help(&arguments) {
+        return Ok(Command::Help);
+    }
+    Ok(Command::Boole(request_of(alloc, operation, &arguments)?))
+}
+
+// The command of this verb and the words behind its name.
+fn command_by(alloc: Global, verb: Option<Verb>, words: &[String]) -> Result<Command, WordsFault>
+    ensures value { Reads (command_by verb (map string_bytes words.now)) result }
+    ensures limits { IfOk result HasLimits }
+{
+    match verb {
+        Some(Verb::Compute(operation)) => command_with(alloc, operation, words),
+        Some(Verb::Help) => Ok(Command::Help),
+        Some(Verb::Version) => Ok(Command::Version),
+        None => Err(WordsFault::Refused(Refusal::UnknownCommand)),
+    }
+}
+
+// The command that the first word names.
+fn read(alloc: Global, words: &[String]) -> Result<Command, WordsFault>
+    ensures command { Reads (command_of (map string_bytes words.now)) result }
+    ensures limits { IfOk result HasLimits }
+{
+    match words.split_first() {
+        Some((name, others)) => command_by(alloc, Verb::named(name), others),
+        None => Err(WordsFault::Refused(Refusal::NoCommand)),
+    }
+}
+
+/// The command that the words after the program's name give.
+///
+/// The first word names the command. Behind it stand options and file names in any order. An option's
+/// value is the next word, whatever this is, or follows an equals sign, as in `--step=0.02`; of several
+/// values of one option the last one counts. Any other word that begins with a hyphen is refused.
+///
+/// `help`, `--help` and `-h` ask for help, as the first word or behind the name of a command.
+/// `--version` is a first word alone. The words behind these first words aren't read.
+///
+/// The first refusal counts: of the first word; of the words in their order; and then of the files, the
+/// expression, the output, the step, the workers and the digits.
+///
+/// Arguments that are spelled as words, with each value in a word of its own and no hyphen at the beginning
+/// of a file name, are read as these arguments.
+pub fn read_words(alloc: Global, words: &[String]) -> Result<Command, WordsFault>
+    ensures command { Reads (command_of (map string_bytes words.now)) result }
+    ensures limits { IfOk result HasLimits }
+    ensures spelled { (operation : Operation) (arguments : List Argument) → AreSpelled arguments →
+        map string_bytes words.now ≡ name_of operation ∷ spelling_of arguments → Reads (command_with operation (Ok arguments))
+        result }
+{
+    read(alloc, words)
+}

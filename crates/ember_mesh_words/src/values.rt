@@ -1,0 +1,135 @@
+// The values of a Boolean's options.
+ghost use Rattle.std.specs.Prelude.{◌≡◌, ◌≤◌, ◌-◌, IfOk, IfSome, drop, length, option_map};
+ghost use Rattle.std.specs.Int.{IsInRange};
+ghost use Rattle.ember_mesh_words.specs.Names.{operator_of};
+ghost use Rattle.ember_mesh_words.specs.Values.{files_of, expression_of, output_of, ends_in, format_of, step_of, workers_of, digits_of};
+ghost use Rattle.ember_mesh_words.specs.Commands.{Reads, IsValidStep};
+
+use crate::command::{OutputFormat, WantedStep};
+use crate::expressions::joined;
+use crate::faults::{Refusal, WordsFault};
+use crate::names::Operation;
+use crate::numbers::is_above_zero;
+use crate::texts::copied;
+use ember_number::number_below;
+use ember_words::{Text, Texts};
+use std::alloc::Global;
+
+// These names, unless there are none or too many.
+pub fn counted(names: Texts) -> Result<Texts, Refusal>
+    ensures value { result ≡ files_of names }
+    ensures range { IfOk result (λ files. IsInRange 1 64 (length files)) }
+{
+    let count = names.items().len();
+    if count == 0 {
+        return Err(Refusal::NoFiles);
+    }
+    if count > 64 {
+        return Err(Refusal::TooManyFiles);
+    }
+    Ok(names)
+}
+
+// The expression of this number of meshes.
+pub fn expression(
+    alloc: Global,
+    operation: Operation,
+    meshes: usize,
+    given: Option<&Text>,
+) -> Result<Text, WordsFault>
+    requires { IsInRange 1 64 meshes }
+    ensures { Reads (expression_of (operator_of operation) meshes (option_map (λ text. text.now) given.entry)) result }
+{
+    match (operation.operator(), given) {
+        (None, None) => Err(WordsFault::Refused(Refusal::NoExpression)),
+        (None, Some(text)) => Ok(copied(alloc, text.as_str())?),
+        (Some(_), Some(_)) => Err(WordsFault::Refused(Refusal::NeedlessExpression)),
+        (Some(operator), None) => Ok(Text::of(joined(alloc, operator, meshes - 1)?)),
+    }
+}
+
+// The name of the output.
+pub fn output(alloc: Global, given: Option<&Text>) -> Result<Text, WordsFault>
+    ensures { Reads (output_of (option_map (λ text. text.now) given.entry)) result }
+{
+    match given {
+        Some(name) => Ok(copied(alloc, name.as_str())?),
+        None => Err(WordsFault::Refused(Refusal::NoOutput)),
+    }
+}
+
+// Whether a name ends in these four bytes, in any case.
+fn ends_in(ending: &[u8], name: &[u8]) -> bool
+    ensures { result ≡ ends_in ending.now name.now }
+{
+    let end = name.split_at(name.len().saturating_sub(4)).1;
+    end.eq_ignore_ascii_case(ending)
+}
+
+// The format that the output's name shows.
+pub fn format_of(name: &str) -> Result<OutputFormat, Refusal>
+    ensures { result ≡ format_of name.now }
+{
+    let name = name.as_bytes();
+    if ends_in(b".stl", name) {
+        Ok(OutputFormat::Stl)
+    } else if ends_in(b".obj", name) {
+        Ok(OutputFormat::Obj)
+    } else if ends_in(b".ply", name) {
+        Ok(OutputFormat::Ply)
+    } else if ends_in(b".off", name) {
+        Ok(OutputFormat::Off)
+    } else {
+        Err(Refusal::OutputEnding)
+    }
+}
+
+// The step that is asked for.
+pub fn step(alloc: Global, given: Option<&Text>) -> Result<WantedStep, WordsFault>
+    ensures value { Reads (step_of (option_map (λ text. text.now) given.entry)) result }
+    ensures above { IfOk result IsValidStep }
+{
+    let Some(text) = given else {
+        return Ok(WantedStep::Nice);
+    };
+    let text = text.as_str();
+    if text == "nice" {
+        return Ok(WantedStep::Nice);
+    }
+    if text == "finest" {
+        return Ok(WantedStep::Finest);
+    }
+    if is_above_zero(text) {
+        return Ok(WantedStep::Decimal(copied(alloc, text)?));
+    }
+    Err(WordsFault::Refused(Refusal::NotAStep))
+}
+
+// From 1 to 64.
+pub fn workers(given: Option<&Text>) -> Result<u32, Refusal>
+    ensures value { result ≡ workers_of (option_map (λ text. text.now) given.entry) }
+    ensures range { IfOk result (λ n. IsInRange 1 64 n) }
+{
+    let Some(text) = given else {
+        return Ok(4);
+    };
+    match number_below(65, text.as_str().as_bytes()) {
+        Some(0) => Err(Refusal::Workers),
+        Some(number) => Ok(number),
+        None => Err(Refusal::Workers),
+    }
+}
+
+// At most 17, if it is given.
+pub fn digits(given: Option<&Text>) -> Result<Option<u32>, Refusal>
+    ensures value { result ≡ digits_of (option_map (λ text. text.now) given.entry) }
+    ensures range { IfOk result (λ digits. IfSome digits (λ n. n ≤ 17)) }
+{
+    let Some(text) = given else {
+        return Ok(None);
+    };
+    match number_below(18, text.as_str().as_bytes()) {
+        Some(number) => Ok(Some(number)),
+        None => Err(Refusal::Digits),
+    }
+}
