@@ -1,0 +1,9 @@
+//! Tests of calls that take or make whole scenes: queries of a scene, and its solid.
+#![tactic(auto)]
+
+#[cfg(test)]
+mod queries;
+#[cfg(test)]
+mod scenes;
+#[cfg(test)]
+mod texts;

@@ -1,0 +1,27 @@
+// Files of the cases.
+
+/// No triangles.
+pub const EMPTY: &[u8] = b"";
+
+/// The tetrahedron with the corners 0 and the unit points, outward.
+pub const TETRA: &[u8] = b"\
+v 0 0 0\nv 1 0 0\nv 0 1 0\nv 0 0 1\nf 1 3 2\nf 1 2 4\nf 1 4 3\nf 2 3 4\n";
+
+/// The cube from 0 to 4 on each axis.
+pub const CUBE: &[u8] = b"\
+v 0 0 0\nv 4 0 0\nv 4 4 0\nv 0 4 0\nv 0 0 4\nv 4 0 4\nv 4 4 4\nv 0 4 4\nf 1 4 3 2\n\
+f 5 6 7 8\nf 1 2 6 5\nf 2 3 7 6\nf 3 4 8 7\nf 4 1 5 8\n";
+
+/// The cube from 2 to 6 on each axis.
+pub const SHIFTED_CUBE: &[u8] = b"\
+v 2 2 2\nv 6 2 2\nv 6 6 2\nv 2 6 2\nv 2 2 6\nv 6 2 6\nv 6 6 6\nv 2 6 6\nf 1 4 3 2\n\
+f 5 6 7 8\nf 1 2 6 5\nf 2 3 7 6\nf 3 4 8 7\nf 4 1 5 8\n";
+
+/// The face file of the tetrahedron.
+pub const TETRA_TEXT: &[u8] = b"\
+ember 1\n\
+f 0 0 -1 0 3\ne -1 0 0 0 0 0 0 1\ne 1 1 0 1 0 1 0 1\ne 0 -1 0 0 1 0 0 1\n\
+f 0 -1 0 0 3\ne 0 0 -1 0 0 0 0 1\ne 1 0 1 1 1 0 0 1\ne -1 0 0 0 0 0 1 1\n\
+f -1 0 0 0 3\ne 0 -1 0 0 0 0 0 1\ne 0 1 1 1 0 0 1 1\ne 0 0 -1 0 0 1 0 1\n\
+f 1 1 1 1 3\ne 0 0 -1 0 1 0 0 1\ne 0 1 1 1 0 1 0 1\ne 0 -1 0 0 0 0 1 1\n\
+end 4\n";
