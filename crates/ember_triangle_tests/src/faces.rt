@@ -78,6 +78,16 @@ const DIRECTIONS: [(i64, i64, i64); 14] = [
     (1, 0, 0),
 ];
 
+// An edge of a face, by the numbers of its plane, line and corners.
+fn edge_of(plane: u32, line: u32, start: u32, end: u32) -> Segment {
+    Segment {
+        plane,
+        line,
+        start,
+        end,
+    }
+}
+
 // Adds a ring on the sheet's first side, and its reverse on the second side if that isn't open. Each edge
 // is given by its line and its end.
 fn push_ring(
@@ -90,19 +100,9 @@ fn push_ring(
     };
     for edge in ring {
         let (line, end) = *edge;
-        segments.push(Segment {
-            plane: 0,
-            line,
-            start,
-            end,
-        })?;
+        segments.push(edge_of(0, line, start, end))?;
         if !is_open {
-            segments.push(Segment {
-                plane: 1,
-                line,
-                start: end,
-                end: start,
-            })?;
+            segments.push(edge_of(1, line, end, start))?;
         }
         start = end;
     }
@@ -191,12 +191,7 @@ fn faces_of_a_tetrahedron(rt: HostRuntime) -> Result<(), Fail> {
     ];
     let mut segments = Vec::new(rt.alloc());
     for (plane, line, start, end) in TETRAHEDRON {
-        segments.push(Segment {
-            plane,
-            line,
-            start,
-            end,
-        })?;
+        segments.push(edge_of(plane, line, start, end))?;
     }
     let count = count_of(rt.alloc(), &planes, &directions, &corners, &segments);
     assert_eq!(rt; count, Ok(4));
