@@ -167,8 +167,8 @@ const TETRAHEDRON: [(u32, u32, u32, u32); 12] = [
     (3, 4, 3, 1),
 ];
 
-#[test]
-fn faces_of_a_tetrahedron(rt: HostRuntime) -> Result<(), Fail> {
+// How many triangles these edges of the tetrahedron's faces become.
+fn tetrahedron_count(alloc: Global, segments: &[Segment]) -> Result<usize, MeshFault> {
     let planes = [
         plane([0, 0, -1, 0]),
         plane([0, -1, 0, 0]),
@@ -189,14 +189,19 @@ fn faces_of_a_tetrahedron(rt: HostRuntime) -> Result<(), Fail> {
         thirds(0, 3, 0),
         thirds(0, 0, 3),
     ];
+    count_of(alloc, &planes, &directions, &corners, segments)
+}
+
+#[test]
+fn faces_of_a_tetrahedron(rt: HostRuntime) -> Result<(), Fail> {
     let mut segments = Vec::new(rt.alloc());
     for (plane, line, start, end) in TETRAHEDRON {
         segments.push(edge_of(plane, line, start, end))?;
     }
-    let count = count_of(rt.alloc(), &planes, &directions, &corners, &segments);
+    let count = tetrahedron_count(rt.alloc(), &segments);
     assert_eq!(rt; count, Ok(4));
     let _ = segments.pop();
-    let open = count_of(rt.alloc(), &planes, &directions, &corners, &segments);
+    let open = tetrahedron_count(rt.alloc(), &segments);
     assert_eq!(rt; open, Err(MeshFault::NotClosed(4)));
     Ok(())
 }
