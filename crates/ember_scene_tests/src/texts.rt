@@ -25,3 +25,19 @@ f 0 -1 0 0 3\ne 0 0 -1 0 0 0 0 1\ne 1 0 1 1 1 0 0 1\ne -1 0 0 0 0 0 1 1\n\
 f -1 0 0 0 3\ne 0 -1 0 0 0 0 0 1\ne 0 1 1 1 0 0 1 1\ne 0 0 -1 0 0 1 0 1\n\
 f 1 1 1 1 3\ne 0 0 -1 0 1 0 0 1\ne 0 1 1 1 0 1 0 1\ne 0 -1 0 0 0 0 1 1\n\
 end 4\n";
+
+/// A tetrahedron with fractions, up to 3.125 along z.
+pub const FRACTIONS: &[u8] = b"\
+v 0 0 0\nv 1.5 0 0\nv 0 2.25 0\nv 0 0 3.125\nf 1 3 2\nf 1 2 4\nf 1 4 3\nf 2 3 4\n";
+
+/// A larger one, with fractions that its nice step doesn't have.
+pub const LARGER: &[u8] = b"\
+v 0 0 0\nv 9.0004 0 0\nv 0 9.0025 0\nv 0 0 -0.0125\nf 1 3 2\nf 1 2 4\nf 1 4 3\nf 2 3 4\n";
+
+/// A tetrahedron of this size whose last corner is near the first one.
+pub const NARROW: &[u8] = b"\
+v 0 0 0\nv 9 0 0\nv 0 9 0\nv 1e-3 .001 .001\nf 1 3 2\nf 1 2 4\nf 1 4 3\nf 2 3 4\n";
+
+/// The same whose last corner is near the middle of an edge.
+pub const THIN: &[u8] = b"\
+v 0 0 0\nv 9 0 0\nv 0 9 0\nv 4.5 .001 .001\nf 1 3 2\nf 1 2 4\nf 1 4 3\nf 2 3 4\n";
