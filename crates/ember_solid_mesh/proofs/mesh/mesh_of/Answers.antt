@@ -1,0 +1,14 @@
+use Rattle.std.proofs.Common.{refl}
+use Rattle.ember_solid_mesh.proofs.SolidSteps.{certified_of}
+use Rattle.ember_solid_mesh.proofs.mesh.mesh_of.Goals as goal
+
+pub returns-clause-mesh : goal.returns-clause-mesh
+returns-clause-mesh c =
+    record {
+      planes = refl;
+      corners = refl;
+      certified = certified_of c.in_ok-triangles.triangles.items c.deref.ensures.value c.deref-3.ensures.value c.deref-4.ensures.value c.in_ok-triangles.ensures;
+    }
+
+pub returns-clause-report : goal.returns-clause-report
+returns-clause-report c = refl
