@@ -1,1 +1,6 @@
--- No lemmas.
+pub mod Totals
+pub mod BoundarySums
+pub mod Strands
+pub mod MarkSums
+pub mod Walks
+pub mod Lines

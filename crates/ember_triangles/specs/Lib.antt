@@ -1,1 +1,3 @@
--- No definitions.
+pub mod Strands
+pub mod Marks
+pub mod Walks

@@ -1,4 +1,8 @@
 // The boundaries of the planes' parts.
+ghost use Rattle.std.specs.Prelude.{◌≡◌, ◌≤◌, [], ◌∷◌, length, take, All, IfOk, OnOk, IsTrue};
+ghost use Rattle.ember_certificate.specs.Chains.{HaveSameChains};
+ghost use Rattle.ember_triangles.specs.Walks.{AddsBoundary};
+
 use crate::fault::MeshFault;
 use crate::marks::marks_of;
 use crate::split::{Split, splits_on};
@@ -8,16 +12,26 @@ use ember_certificate::Segment;
 use std::alloc::Global;
 
 // Whether each of the two runs back over the other.
-fn are_opposite(s: &Segment, t: &Segment) -> bool {
+fn are_opposite(s: &Segment, t: &Segment) -> bool
+    ensures start { IsTrue result → s.now.start ≡ t.now.end }
+    ensures end { IsTrue result → s.now.end ≡ t.now.start }
+{
     s.start == t.end && s.end == t.start
 }
 
 // Opposite segments of one plane cancel, those of two planes stay.
-fn push_opposite(s: &Segment, t: &Segment, boundaries: &mut Boundaries) -> Result<(), MeshFault> {
-    if s.plane != t.plane {
-        boundaries.segments.push(*s)?;
-        boundaries.segments.push(*t)?;
+fn push_opposite(s: &Segment, t: &Segment, boundaries: &mut Boundaries) -> Result<(), MeshFault>
+    requires line { s.now.line ≡ t.now.line }
+    requires start { s.now.start ≡ t.now.end }
+    requires end { s.now.end ≡ t.now.start }
+    ensures { OnOk result (AddsBoundary boundaries.old.segments.items (s.now ∷ t.now ∷ [])
+        boundaries.new.segments.items) }
+{
+    if s.plane == t.plane {
+        return Ok(());
     }
+    boundaries.segments.push(*s)?;
+    boundaries.segments.push(*t)?;
     Ok(())
 }
 
@@ -29,32 +43,46 @@ fn walk_along(
     segments: &[Segment],
     splits: &[Split],
     boundaries: &mut Boundaries,
-) -> Result<(), MeshFault> {
+) -> Result<(), MeshFault>
+    requires { All (λ s. s.line ≡ line) segments.now }
+    ensures { OnOk result (AddsBoundary boundaries.old.segments.items segments.now boundaries.new.segments.items) }
+{
     let marks = marks_of(alloc, tables, line, segments, splits)?;
     let mut walk = Walk::along(alloc, line);
-    for same in marks.chunk_by(|m, n| m.corner == n.corner) {
-        if let Some(m) = same.first() {
-            walk.pass(alloc, m.corner, same, boundaries)?;
-        }
+    for m in &marks {
+        walk.pass(m, boundaries)?;
     }
-    Ok(())
+    walk.settle(boundaries)
 }
 
 fn push_line(
     alloc: Global,
     tables: &Tables,
+    line: u32,
     segments: &[Segment],
     splits: &[Split],
     boundaries: &mut Boundaries,
-) -> Result<(), MeshFault> {
-    let Some(first) = segments.first() else {
-        return Ok(());
-    };
-    let here = splits_on(splits, first.line);
+) -> Result<(), MeshFault>
+    requires { All (λ s. s.line ≡ line) segments.now }
+    ensures { OnOk result (AddsBoundary boundaries.old.segments.items segments.now boundaries.new.segments.items) }
+{
     match segments {
-        [s, t] if here.is_empty() && are_opposite(s, t) => push_opposite(s, t, boundaries),
-        _ => walk_along(alloc, tables, first.line, segments, here, boundaries),
+        [s, t] if splits.is_empty() && are_opposite(s, t) => push_opposite(s, t, boundaries),
+        _ => walk_along(alloc, tables, line, segments, splits, boundaries),
     }
+}
+
+// How many of the first segments are on the line.
+fn count_on(segments: &[Segment], line: u32) -> usize
+    ensures within { result ≤ length segments.now }
+    ensures on { All (λ s. s.line ≡ line) (take result segments.now) }
+{
+    for (count, s) in segments.iter().enumerate() {
+        if s.line != line {
+            return count;
+        }
+    }
+    segments.len()
 }
 
 /// The boundaries of the planes' parts, in order of planes, from the segments in order of lines: in each
@@ -65,13 +93,26 @@ pub fn boundaries_of(
     tables: &Tables,
     by_line: &[Segment],
     splits: &[Split],
-) -> Result<Boundaries, MeshFault> {
+) -> Result<Boundaries, MeshFault>
+    ensures { IfOk result (λ boundaries. HaveSameChains by_line.now boundaries.segments.items) }
+{
     let mut boundaries = Boundaries {
         segments: Vec::new(alloc),
         through: Vec::new(alloc),
     };
-    for on_line in by_line.chunk_by(|s, t| s.line == t.line) {
-        push_line(alloc, tables, on_line, splits, &mut boundaries)?;
+    let mut rest = by_line;
+    while let Some((first, behind)) = rest.split_first() {
+        let line = first.line;
+        let (here, after) = rest.split_at(count_on(behind, line) + 1);
+        push_line(
+            alloc,
+            tables,
+            line,
+            here,
+            splits_on(splits, line),
+            &mut boundaries,
+        )?;
+        rest = after;
     }
     boundaries
         .segments

@@ -10,6 +10,7 @@ mod marks;
 mod parts;
 mod rounds;
 mod split;
+mod strand;
 mod tables;
 mod through;
 mod walk;

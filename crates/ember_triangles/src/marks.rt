@@ -1,4 +1,8 @@
 // What is at the corners of a line.
+ghost use Rattle.std.specs.Prelude.{◌≡◌, ℕ, List, [], ◌∷◌, ◌++◌, All, IfOk, OnOk};
+ghost use Rattle.ember_certificate.specs.declared.segment.Segment.{Segment};
+ghost use Rattle.ember_triangles.specs.Marks.{AreMarks};
+
 use crate::fault::MeshFault;
 use crate::split::Split;
 use crate::tables::Tables;
@@ -59,20 +63,40 @@ fn mark_order(axis: Axis, m: &Mark, n: &Mark) -> Ordering {
     }
 }
 
-fn push_mark(
-    marks: &mut Vec<Mark>,
-    corners: &[SpacePoint],
-    corner: u32,
-    what: What,
-) -> Result<(), MeshFault> {
+fn mark_at(corners: &[SpacePoint], corner: u32, what: What) -> Result<Mark, MeshFault>
+    ensures corner { IfOk result (λ m. m.corner ≡ corner) }
+    ensures what { IfOk result (λ m. m.what ≡ what) }
+{
     let Some(point) = corners.get(corner as usize).copied() else {
         return Err(MeshFault::UnknownCorner(corner));
     };
-    marks.push(Mark {
+    Ok(Mark {
         corner,
         what,
         point,
-    })?;
+    })
+}
+
+fn push_ends(marks: &mut Vec<Mark>, corners: &[SpacePoint], s: &Segment) -> Result<(), MeshFault>
+    ensures { (line : ℕ) (done : List Segment) → s.now.line ≡ line → AreMarks line done marks.old.items →
+        OnOk result (AreMarks line (done ++ s.now ∷ []) marks.new.items) }
+{
+    marks.push(mark_at(corners, s.start, What::Start(s.plane))?)?;
+    marks.push(mark_at(corners, s.end, What::End(s.plane))?)?;
+    Ok(())
+}
+
+fn push_splits(
+    marks: &mut Vec<Mark>,
+    corners: &[SpacePoint],
+    splits: &[Split],
+) -> Result<(), MeshFault>
+    ensures { (line : ℕ) (done : List Segment) → AreMarks line done marks.old.items →
+        OnOk result (AreMarks line done marks.new.items) }
+{
+    for s in splits {
+        marks.push(mark_at(corners, s.corner, What::Split)?)?;
+    }
     Ok(())
 }
 
@@ -83,19 +107,19 @@ pub fn marks_of(
     line: u32,
     segments: &[Segment],
     splits: &[Split],
-) -> Result<Vec<Mark>, MeshFault> {
+) -> Result<Vec<Mark>, MeshFault>
+    requires { All (λ s. s.line ≡ line) segments.now }
+    ensures { IfOk result (λ marks. AreMarks line segments.now marks.items) }
+{
     let Some(key) = tables.lines.get(line as usize) else {
         return Err(MeshFault::UnknownLine(line));
     };
     let axis = axis_of(key);
     let mut marks = Vec::new(alloc);
     for s in segments {
-        push_mark(&mut marks, tables.corners, s.start, What::Start(s.plane))?;
-        push_mark(&mut marks, tables.corners, s.end, What::End(s.plane))?;
+        push_ends(&mut marks, tables.corners, s)?;
     }
-    for s in splits {
-        push_mark(&mut marks, tables.corners, s.corner, What::Split)?;
-    }
+    push_splits(&mut marks, tables.corners, splits)?;
     marks.sort_unstable_by(|m, n| mark_order(axis, m, n));
     Ok(marks)
 }

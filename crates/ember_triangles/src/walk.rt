@@ -1,17 +1,15 @@
 // Walks along a line.
+ghost use Rattle.std.specs.Prelude.{◌≡◌, ℕ, List, [], ◌∷◌, ◌++◌, OnOk};
+ghost use Rattle.ember_certificate.specs.declared.segment.Segment.{Segment};
+ghost use Rattle.ember_triangles.specs.declared.marks.Mark.{Mark};
+ghost use Rattle.ember_triangles.specs.Walks.{IsWalked, AddsStretch};
+
 use crate::fault::MeshFault;
 use crate::marks::{Mark, What};
+use crate::strand::{Strand, add_strand, are_balanced, doubled, move_strands};
 use crate::through::Through;
 use ember_certificate::Segment;
 use std::alloc::Global;
-
-// The coefficient of a plane's chain: how often its segments run over a stretch of a line, less how often
-// they run back over it; or how this changes at a corner.
-#[derive(Clone, Copy)]
-struct Coefficient {
-    plane: u32,
-    value: i64,
-}
 
 /// The boundaries of the planes' parts, and the corners that they run through.
 #[derive(Drop)]
@@ -20,60 +18,24 @@ pub struct Boundaries {
     pub through: Vec<Through>,
 }
 
-/// A walk along a line: its last corner that wasn't run through, and the coefficients of the stretch
-/// behind it, those that aren't 0, in order of planes.
+/// A walk along a line: the corner at which it is, what changes there so far, and the strands of the
+/// stretch that ends there, with the corner at which they start. Strands are in order of planes.
 #[derive(Drop)]
 pub struct Walk {
     line: u32,
     last: u32,
-    stretch: Vec<Coefficient>,
+    stretch: Vec<Strand>,
+    here: u32,
+    changes: Vec<Strand>,
+    is_split: bool,
 }
 
-fn sum_of(coefficients: &[Coefficient]) -> i64 {
-    let mut sum: i64 = 0;
-    for c in coefficients {
-        sum = sum.saturating_add(c.value);
-    }
-    sum
-}
-
-// One coefficient for each plane, the sum of its coefficients, where that isn't 0.
-fn summed(
-    alloc: Global,
-    coefficients: &mut Vec<Coefficient>,
-) -> Result<Vec<Coefficient>, MeshFault> {
-    coefficients.sort_unstable_by_key(|c| c.plane);
-    let mut sums = Vec::new(alloc);
-    for same in coefficients.chunk_by(|c, d| c.plane == d.plane) {
-        let value = sum_of(same);
-        if let Some(c) = same.first()
-            && value != 0
-        {
-            let plane = c.plane;
-            sums.push(Coefficient { plane, value })?;
-        }
-    }
-    Ok(sums)
-}
-
-// How the coefficients change at a corner with these marks.
-fn changes_at(alloc: Global, marks: &[Mark]) -> Result<Vec<Coefficient>, MeshFault> {
-    let mut changes = Vec::new(alloc);
-    for m in marks {
-        match m.what {
-            What::Start(plane) => changes.push(Coefficient { plane, value: 1 })?,
-            What::End(plane) => changes.push(Coefficient { plane, value: -1 })?,
-            What::Split => (),
-        }
-    }
-    summed(alloc, &mut changes)
-}
-
-fn is_split(marks: &[Mark]) -> bool {
-    marks.iter().any(|m| m.what == What::Split)
-}
-
-fn segment(plane: u32, line: u32, start: u32, end: u32) -> Segment {
+fn segment_on(line: u32, plane: u32, start: u32, end: u32) -> Segment
+    ensures line { result.line ≡ line }
+    ensures plane { result.plane ≡ plane }
+    ensures start { result.start ≡ start }
+    ensures end { result.end ≡ end }
+{
     Segment {
         plane,
         line,
@@ -84,65 +46,111 @@ fn segment(plane: u32, line: u32, start: u32, end: u32) -> Segment {
 
 impl Walk {
     /// A walk that begins.
-    pub fn along(alloc: Global, line: u32) -> Walk {
+    pub fn along(alloc: Global, line: u32) -> Walk
+        ensures { (before : List Segment) → IsWalked line [] before result before }
+    {
         Walk {
             line,
             last: 0,
             stretch: Vec::new(alloc),
+            here: 0,
+            changes: Vec::new(alloc),
+            is_split: false,
         }
     }
 
-    /// Goes on to the next corner of the line, which has these marks. It is run through if no coefficient
-    /// changes and the line isn't split there.
-    pub fn pass(
-        &mut self,
-        alloc: Global,
-        corner: u32,
-        marks: &[Mark],
-        boundaries: &mut Boundaries,
-    ) -> Result<(), MeshFault> {
-        let changes = changes_at(alloc, marks)?;
-        if changes.is_empty() && !is_split(marks) {
-            return self.run_through(corner, &mut boundaries.through);
+    /// Goes on to the corner of the next mark.
+    pub fn pass(&mut self, m: &Mark, boundaries: &mut Boundaries) -> Result<(), MeshFault>
+        ensures { (line : ℕ) (done : List Mark) (before : List Segment) →
+            IsWalked line done before self.old boundaries.old.segments.items →
+            OnOk result (IsWalked line (done ++ m.now ∷ []) before self.new boundaries.new.segments.items) }
+    {
+        self.go_to(m.corner, boundaries)?;
+        self.change(m.what)
+    }
+
+    fn go_to(&mut self, corner: u32, boundaries: &mut Boundaries) -> Result<(), MeshFault>
+        ensures walked { (line : ℕ) (done : List Mark) (before : List Segment) →
+            IsWalked line done before self.old boundaries.old.segments.items →
+            OnOk result (IsWalked line done before self.new boundaries.new.segments.items) }
+        ensures here { OnOk result (self.new.here ≡ corner) }
+    {
+        if corner == self.here {
+            return Ok(());
         }
-        self.end_stretch(corner, &mut boundaries.segments)?;
-        self.last = corner;
-        self.stretch.extend_from_slice(&changes)?;
-        let stretch = summed(alloc, &mut self.stretch)?;
-        self.stretch = stretch;
+        self.settle(boundaries)?;
+        self.here = corner;
         Ok(())
     }
 
-    fn run_through(&self, corner: u32, through: &mut Vec<Through>) -> Result<(), MeshFault> {
-        for c in &self.stretch {
+    // Adds what is at the corner.
+    fn change(&mut self, what: What) -> Result<(), MeshFault>
+        ensures { (line : ℕ) (done : List Mark) (before after : List Segment) (m : Mark) →
+            IsWalked line done before self.old after → m.corner ≡ self.old.here → m.what ≡ what →
+            OnOk result (IsWalked line (done ++ m ∷ []) before self.new after) }
+    {
+        match what {
+            What::Start(plane) => add_strand(&mut self.changes, Strand::Over(plane)),
+            What::End(plane) => add_strand(&mut self.changes, Strand::Back(plane)),
+            What::Split => {
+                self.is_split = true;
+                Ok(())
+            }
+        }
+    }
+
+    /// Leaves the corner. It is run through if no coefficient changes and the line isn't split there;
+    /// otherwise a stretch ends there and another one begins.
+    pub fn settle(&mut self, boundaries: &mut Boundaries) -> Result<(), MeshFault>
+        ensures walked { (line : ℕ) (done : List Mark) (before : List Segment) →
+            IsWalked line done before self.old boundaries.old.segments.items →
+            OnOk result (IsWalked line done before self.new boundaries.new.segments.items) }
+        ensures settled { OnOk result (self.new.changes.items ≡ []) }
+    {
+        if self.changes.is_empty() && !self.is_split {
+            return self.run_through(&mut boundaries.through);
+        }
+        self.end_stretch(&mut boundaries.segments)?;
+        move_strands(&mut self.changes, &mut self.stretch)?;
+        self.last = self.here;
+        self.is_split = false;
+        Ok(())
+    }
+
+    fn run_through(&self, through: &mut Vec<Through>) -> Result<(), MeshFault> {
+        for s in &self.stretch {
             through.push(Through {
-                plane: c.plane,
-                corner,
+                plane: s.plane(),
+                corner: self.here,
                 line: self.line,
             })?;
         }
         Ok(())
     }
 
-    fn end_stretch(&self, corner: u32, segments: &mut Vec<Segment>) -> Result<(), MeshFault> {
-        if sum_of(&self.stretch) != 0 {
-            return Err(MeshFault::NotClosed(self.line));
+    fn end_stretch(&self, segments: &mut Vec<Segment>) -> Result<(), MeshFault>
+        ensures { OnOk result (AddsStretch self.now self.now.stretch.items segments.old.items segments.new.items) }
+    {
+        let line = self.line;
+        if !are_balanced(&self.stretch) {
+            return Err(MeshFault::NotClosed(line));
         }
-        for c in &self.stretch {
-            segments.push(self.segment(c, corner)?)?;
+        if let Some(plane) = doubled(&self.stretch) {
+            return Err(MeshFault::Overlap { plane, line });
+        }
+        for s in &self.stretch {
+            segments.push(self.segment(s))?;
         }
         Ok(())
     }
 
-    // The plane's segment over the stretch that ends at the corner.
-    fn segment(&self, c: &Coefficient, corner: u32) -> Result<Segment, MeshFault> {
-        match c.value {
-            1 => Ok(segment(c.plane, self.line, self.last, corner)),
-            -1 => Ok(segment(c.plane, self.line, corner, self.last)),
-            _ => Err(MeshFault::Overlap {
-                plane: c.plane,
-                line: self.line,
-            }),
+    // The strand's segment, between the two ends of the stretch.
+    fn segment(&self, strand: &Strand) -> Segment
+        ensures { (before : List Segment) → AddsStretch self.now (strand.now ∷ []) before (before ++ result ∷ []) }
+    {
+        match *strand {
+            Strand::Over(plane) => segment_on(self.line, plane, self.last, self.here),
+            Strand::Back(plane) => segment_on(self.line, plane, self.here, self.last),
         }
     }
 }
