@@ -22,8 +22,8 @@ pub record AddsStretch (w : Walk) (strands : List Strand) (before after : List S
   pub others : (plane line corner : ℕ) → nat_eq line w.line ≡ false →
       boundary plane line corner after ≡ boundary plane line corner before
 
--- the walk along the line has passed these marks. At each corner the segments that came in lack the changes of
--- these marks, but for the strands that go on: those of the stretch from its start, the others from here
+-- the walk along the line has passed these marks. What the segments that came in still lack of the marks' boundary
+-- are the strands of the stretch, which start at its start, and those that start here
 pub record IsWalked (line : ℕ) (done : List Mark) (before : List Segment) (w : Walk)
     (after : List Segment) : Type 0 where
   pub on : w.line ≡ line
