@@ -1,5 +1,5 @@
 -- A list of rounded corners that grows.
-use Rattle.std.proofs.Common.{◌≡◌, ℕ, ◌+◌, ◌<◌, List, [], ◌∷◌, ◌++◌, length, get_or, subst, sym, ◌∙◌, arith}
+use Rattle.std.proofs.Common.{◌≡◌, ℕ, ◌+◌, ◌<◌, List, [], ◌∷◌, ◌++◌, length, get_or, subst, sym, arith}
 use Rattle.std.proofs.lemmas.List.{get_or_read, get_or_push, get_or_append_left}
 use Rattle.ember_number.proofs.Rounding.{by_lt}
 

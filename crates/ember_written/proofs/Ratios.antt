@@ -1,5 +1,5 @@
 -- Ratios as fractions.
-use Rattle.std.proofs.Common.{◌≡◌, ℕ, ◌-◌, ◌*◌, ◌^◌, ◌≤◌, Option, None, subst, sym, ap}
+use Rattle.std.proofs.Common.{◌≡◌, ℕ, ◌-◌, ◌*◌, ◌^◌, ◌≤◌, Option, None, subst, sym}
 use Rattle.std.specs.Prelude.{◌↔◌, IfSome}
 use Rattle.ember_number.specs.Fractions.{Fraction}
 use Rattle.ember_wide.specs.Whole.{size_of, value_of}

@@ -1,7 +1,6 @@
 -- Sizes of wide numbers, and of what they are made of.
-use Rattle.std.proofs.Common.{◌≡◌, ℕ, ◌+◌, ◌*◌, ◌^◌, ◌<◌, ◌≤◌, ℤ, pos, ◌+ℤ◌, ◌*ℤ◌, ◌<ℤ◌, unsigned_abs, to_z, of_z, to_z-of_z, mul-le-mul, refl, ap, ◌∙◌, arith}
+use Rattle.std.proofs.Common.{◌≡◌, ℕ, ◌*◌, ◌^◌, ◌<◌, ◌≤◌, ℤ, pos, ◌+ℤ◌, ◌*ℤ◌, unsigned_abs, to_z, of_z, to_z-of_z, mul-le-mul, refl, ap, ◌∙◌, arith}
 use Rattle.std.proofs.Math.IntN.{*ℤ-one}
-use borrow.Author.Differences.{ints}
 use mir.Syntax.{w128}
 use Rattle.ember_algebra.proofs.Exact.{kept, ◌&◌, done, exact}
 use Rattle.ember_wide.specs.declared.whole.Wide.{Wide}
