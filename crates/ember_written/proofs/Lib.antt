@@ -1,0 +1,6 @@
+pub mod Sizes
+pub mod Ratios
+pub mod Points
+pub mod Kept
+pub mod Proper
+pub mod Signs

@@ -1,0 +1,5 @@
+pub mod Places
+pub mod Floats
+pub mod Normals
+pub mod Triangles
+pub mod Decimals
