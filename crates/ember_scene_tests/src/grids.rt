@@ -57,7 +57,7 @@ fn grid_for(alloc: Global, surface: &Surface, wanted: Wanted) -> Result<Grid, Gr
 }
 
 // A file's surface on the grid of its own with the least nice step.
-fn snapped(alloc: Global, bytes: &[u8]) -> Result<(Grid, Snapped), Fail> {
+fn snapped_file(alloc: Global, bytes: &[u8]) -> Result<(Grid, Snapped), Fail> {
     let surface = surface_of(alloc, bytes)?;
     let Ok(grid) = grid_for(alloc, &surface, Wanted::Nice) else {
         return Err(Fail::from("no grid"));
@@ -68,7 +68,7 @@ fn snapped(alloc: Global, bytes: &[u8]) -> Result<(Grid, Snapped), Fail> {
     }
 }
 
-fn grid(numerator: u64, denominator: u64, offset: [i128; 3]) -> Grid {
+fn grid_with(numerator: u64, denominator: u64, offset: [i128; 3]) -> Grid {
     let [x, y, z] = offset;
     Grid {
         step: Step {
@@ -97,8 +97,8 @@ fn check_corners(rt: &impl Abort, tris: &[Tri], want: &[[[i32; 3]; 3]]) {
 
 #[test]
 fn a_tetrahedron_with_fractions_is_on_its_grid(rt: HostRuntime) -> Result<(), Fail> {
-    let (found, snapped) = snapped(rt.alloc(), FRACTIONS)?;
-    assert_eq!(rt; found, grid(1, 1000, [750, 1125, 1562]));
+    let (found, snapped) = snapped_file(rt.alloc(), FRACTIONS)?;
+    assert_eq!(rt; found, grid_with(1, 1000, [750, 1125, 1562]));
     let o = [-750, -1125, -1562];
     let x = [750, -1125, -1562];
     let y = [-750, 1125, -1562];
@@ -112,8 +112,8 @@ fn a_tetrahedron_with_fractions_is_on_its_grid(rt: HostRuntime) -> Result<(), Fa
 
 #[test]
 fn a_larger_tetrahedron_needs_a_coarser_step(rt: HostRuntime) -> Result<(), Fail> {
-    let (found, snapped) = snapped(rt.alloc(), LARGER)?;
-    assert_eq!(rt; found, grid(5, 1000, [0, 0, 0]));
+    let (found, snapped) = snapped_file(rt.alloc(), LARGER)?;
+    assert_eq!(rt; found, grid_with(5, 1000, [0, 0, 0]));
     let [o, x, y, z] = [[0, 0, 0], [1800, 0, 0], [0, 1801, 0], [0, 0, -2]];
     let want = [[o, y, x], [o, x, z], [o, z, y], [x, y, z]];
     check_corners(&rt, snapped.soup.tris.items(), &want);
@@ -124,7 +124,7 @@ fn a_larger_tetrahedron_needs_a_coarser_step(rt: HostRuntime) -> Result<(), Fail
 fn triangles_vanish_or_lose_their_area(rt: HostRuntime) -> Result<(), Fail> {
     let rows: [(&[u8], u64, u64); 3] = [(LARGER, 0, 0), (NARROW, 2, 0), (THIN, 0, 1)];
     for (bytes, vanished, flat) in rows {
-        let (_, found) = snapped(rt.alloc(), bytes)?;
+        let (_, found) = snapped_file(rt.alloc(), bytes)?;
         assert_eq!(rt; (found.vanished, found.flat), (vanished, flat));
     }
     Ok(())
