@@ -1,0 +1,202 @@
+// Words of the second program's command line, and the commands that they give.
+use ember_mesh_words::{
+    Command, OutputFormat, Refusal, Request, WantedStep, WordsFault, read_words,
+};
+use std::alloc::Global;
+use std::test::Fail;
+
+fn read(alloc: Global, words: &[&str]) -> Result<Result<Command, WordsFault>, Fail> {
+    let mut strings = Vec::new(alloc);
+    for word in words {
+        strings.push(String::from_str(alloc, word)?)?;
+    }
+    Ok(read_words(alloc, &strings))
+}
+
+// The Boolean of words that give one.
+fn request_of(alloc: Global, words: &[&str]) -> Result<Request, Fail> {
+    match read(alloc, words)? {
+        Ok(Command::Boole(request)) => Ok(request),
+        _ => Err(Fail::from("no Boolean")),
+    }
+}
+
+#[test]
+fn a_union_of_defaults(rt: HostRuntime) -> Result<(), Fail> {
+    let request = request_of(
+        rt.alloc(),
+        &["union", "-o", "u.STL", "a.stl", "b.obj", "a.stl"],
+    )?;
+    assert_eq!(rt; request.expression.as_str(), "m1|m2|m3");
+    assert_eq!(rt;
+        (request.output.as_str(), request.format),
+        ("u.STL", OutputFormat::Stl)
+    );
+    assert!(rt; matches!(&request.step, WantedStep::Nice));
+    assert_eq!(rt;
+        (request.workers, request.quiet, request.digits),
+        (4, false, None)
+    );
+    let names = ["a.stl", "b.obj", "a.stl"];
+    assert_eq!(rt; request.files.items().len(), names.len());
+    for (file, name) in request.files.items().iter().zip(&names) {
+        assert_eq!(rt; file.as_str(), *name);
+    }
+    Ok(())
+}
+
+#[test]
+fn options_between_and_behind_files(rt: HostRuntime) -> Result<(), Fail> {
+    let words = [
+        "bool",
+        "a.off",
+        "--expr",
+        "-w1<0",
+        "--step=0.02",
+        "--workers",
+        "64",
+        "b.off",
+        "--quiet",
+        "--digits=17",
+        "--step",
+        "1e-3",
+        "-o=d/x.y.oFf",
+    ];
+    let request = request_of(rt.alloc(), &words)?;
+    assert_eq!(rt; request.expression.as_str(), "-w1<0");
+    assert_eq!(rt;
+        (request.output.as_str(), request.format),
+        ("d/x.y.oFf", OutputFormat::Off)
+    );
+    assert!(rt; matches!(&request.step, WantedStep::Decimal(text) if text.as_str() == "1e-3"));
+    assert_eq!(rt;
+        (request.workers, request.quiet, request.digits),
+        (64, true, Some(17))
+    );
+    assert_eq!(rt; request.files.items().len(), 2);
+    Ok(())
+}
+
+#[test]
+fn expressions_of_operators(rt: HostRuntime) -> Result<(), Fail> {
+    let rows = [
+        ("union", "m1|m2|m3|m4|m5|m6|m7|m8|m9|m10|m11"),
+        ("difference", "m1&!m2&!m3&!m4&!m5&!m6&!m7&!m8&!m9&!m10&!m11"),
+        ("intersection", "m1&m2&m3&m4&m5&m6&m7&m8&m9&m10&m11"),
+    ];
+    for (name, want) in rows {
+        let words = [
+            name, "-o", ".ply", "a", "b", "c", "d", "e", "f", "g", "h", "i", "j", "k",
+        ];
+        let request = request_of(rt.alloc(), &words)?;
+        assert_eq!(rt;
+            (request.expression.as_str(), request.format),
+            (want, OutputFormat::Ply)
+        );
+        let one = request_of(rt.alloc(), &[name, "-o", "x.obj", "a"])?;
+        assert_eq!(rt;
+            (one.expression.as_str(), one.format),
+            ("m1", OutputFormat::Obj)
+        );
+    }
+    Ok(())
+}
+
+#[test]
+fn words_that_ask_for_help_or_the_version(rt: HostRuntime) -> Result<(), Fail> {
+    let helping: [&[&str]; 5] = [
+        &["help"],
+        &["help", "union"],
+        &["-h", "--x"],
+        &["--help"],
+        &["union", "a.stl", "--help"],
+    ];
+    for words in helping {
+        assert!(rt; matches!(read(rt.alloc(), words)?, Ok(Command::Help)));
+    }
+    assert!(rt; matches!(read(rt.alloc(), &["--version"])?, Ok(Command::Version)));
+    Ok(())
+}
+
+fn refusal(alloc: Global, words: &[&str]) -> Result<Option<Refusal>, Fail> {
+    match read(alloc, words)? {
+        Err(WordsFault::Refused(why)) => Ok(Some(why)),
+        _ => Ok(None),
+    }
+}
+
+#[test]
+fn words_that_are_refused(rt: HostRuntime) -> Result<(), Fail> {
+    let rows: [(&[&str], Refusal); 24] = [
+        (&[], Refusal::NoCommand),
+        (&["snap", "a.stl"], Refusal::UnknownCommand),
+        (&["Union"], Refusal::UnknownCommand),
+        (
+            &["union", "a", "--view", "p.html"],
+            Refusal::UnknownOption(2),
+        ),
+        (&["union", "-"], Refusal::UnknownOption(1)),
+        (&["union", "--steps=1"], Refusal::UnknownOption(1)),
+        (&["union", "--quiet=1", "-o"], Refusal::UnknownOption(1)),
+        (&["union", "a", "-o"], Refusal::NoValue),
+        (&["union", "-o", "--help"], Refusal::NoFiles),
+        (&["bool", "-o", "x.stl", "a"], Refusal::NoExpression),
+        (&["union", "--expr", "m1", "a"], Refusal::NeedlessExpression),
+        (&["union", "a"], Refusal::NoOutput),
+        (&["union", "-o", "x.glb", "a"], Refusal::OutputEnding),
+        (&["union", "-o", "stl", "a"], Refusal::OutputEnding),
+        (
+            &["union", "-o", "x.stl", "--step", "0.00e3", "a"],
+            Refusal::NotAStep,
+        ),
+        (
+            &["union", "-o", "x.stl", "--step", "-1", "a"],
+            Refusal::NotAStep,
+        ),
+        (
+            &["union", "-o", "x.stl", "--step", "Nice", "a"],
+            Refusal::NotAStep,
+        ),
+        (&["union", "-o", "x.stl", "--step=", "a"], Refusal::NotAStep),
+        (
+            &["union", "-o", "x.stl", "--workers", "0", "a"],
+            Refusal::Workers,
+        ),
+        (
+            &["union", "-o", "x.stl", "--workers=65", "a"],
+            Refusal::Workers,
+        ),
+        (
+            &["union", "-o", "x.stl", "--workers", "+4", "a"],
+            Refusal::Workers,
+        ),
+        (
+            &["union", "-o", "x.stl", "--digits", "18", "a"],
+            Refusal::Digits,
+        ),
+        (
+            &["union", "-o", "x.stl", "--digits", "-1", "a"],
+            Refusal::Digits,
+        ),
+        (&["union", "-o", "x.stl", "--digits=", "a"], Refusal::Digits),
+    ];
+    for (words, want) in rows {
+        assert_eq!(rt; refusal(rt.alloc(), words)?, Some(want));
+    }
+    Ok(())
+}
+
+#[test]
+fn at_most_64_files(rt: HostRuntime) -> Result<(), Fail> {
+    let mut words = Vec::new(rt.alloc());
+    for word in ["union", "-o", "x.stl"] {
+        words.push(word)?;
+    }
+    for _file in 0..64 {
+        words.push("a")?;
+    }
+    assert_eq!(rt; request_of(rt.alloc(), &words)?.files.items().len(), 64);
+    words.push("a")?;
+    assert_eq!(rt; refusal(rt.alloc(), &words)?, Some(Refusal::TooManyFiles));
+    Ok(())
+}
