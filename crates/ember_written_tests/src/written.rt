@@ -1,0 +1,168 @@
+// Corners in the user's unit, as floats and as decimals.
+use ember_certificate::{Segment, SpacePoint, Triangle};
+use ember_model::{Axis, Plane};
+use ember_snap::{Offset, Step};
+use ember_stl_bytes::{FloatPoint, WrittenTriangle};
+use ember_written::{PlaceFault, float_place, float_triangles, have_corners, put_place};
+use std::test::Fail;
+
+const UNIT: Step = Step {
+    numerator: 1,
+    denominator: 1,
+};
+
+const TENTH: Step = Step {
+    numerator: 1,
+    denominator: 10,
+};
+
+const AT_ZERO: Offset = Offset { x: 0, y: 0, z: 0 };
+
+// 2^24 units up.
+const UP: Offset = Offset {
+    x: 0,
+    y: 0,
+    z: 16_777_216,
+};
+
+const TENTHS: SpacePoint = SpacePoint {
+    x: 5,
+    y: -3,
+    z: 0,
+    w: 1,
+};
+
+const THIRDS: SpacePoint = SpacePoint {
+    x: 1,
+    y: -2,
+    z: 3,
+    w: 3,
+};
+
+#[test]
+fn corners_are_rounded(rt: HostRuntime) -> Result<(), Fail> {
+    let rows: [(SpacePoint, Axis, Step, Offset, u32, &[u8]); 6] = [
+        (TENTHS, Axis::X, TENTH, AT_ZERO, 0x3f00_0000, b"0.5"),
+        (TENTHS, Axis::Y, TENTH, AT_ZERO, 0xbe99_999a, b"-0.3"),
+        (TENTHS, Axis::Z, TENTH, AT_ZERO, 0, b"0"),
+        (THIRDS, Axis::X, UNIT, UP, 0x3eaa_aaab, b"0.333333"),
+        (THIRDS, Axis::Y, UNIT, UP, 0xbf2a_aaab, b"-0.666667"),
+        (THIRDS, Axis::Z, UNIT, UP, 0x4b80_0000, b"16777217"),
+    ];
+    for (corner, axis, step, offset, bits, text) in rows {
+        assert!(rt; 0 < step.numerator && step.numerator < 1 << 40);
+        assert!(rt; 0 < step.denominator && step.denominator < 1 << 40);
+        assert_eq!(rt; float_place(&corner, axis, &step, &offset), Some(bits));
+        let mut out = Vec::new(rt.alloc());
+        put_place(&corner, axis, &step, &offset, 6, &mut out)?;
+        assert_eq!(rt; out.as_slice(), text);
+    }
+    Ok(())
+}
+
+#[test]
+fn a_corner_too_far_out(rt: HostRuntime) {
+    let step = Step {
+        numerator: 1_000_000_000_000,
+        denominator: 1,
+    };
+    let offset = Offset {
+        x: i128::MIN,
+        y: 0,
+        z: 1_000_000_000,
+    };
+    let mut out = Vec::new(rt.alloc());
+    assert_eq!(rt; float_place(&TENTHS, Axis::X, &step, &offset), None);
+    let far = put_place(&TENTHS, Axis::X, &step, &offset, 6, &mut out);
+    assert_eq!(rt; far, Err(PlaceFault::TooFar));
+    let long = put_place(&TENTHS, Axis::Z, &step, &offset, 6, &mut out);
+    assert_eq!(rt; long, Err(PlaceFault::TooFar));
+    assert!(rt; out.is_empty());
+}
+
+// An edge of a triangle, on a line that doesn't matter.
+fn edge(plane: u32, start: u32, end: u32) -> Segment {
+    Segment {
+        plane,
+        line: 0,
+        start,
+        end,
+    }
+}
+
+fn triangle(plane: u32, a: u32, b: u32, c: u32) -> Triangle {
+    Triangle {
+        first: edge(plane, a, b),
+        second: edge(plane, b, c),
+        third: edge(plane, c, a),
+    }
+}
+
+fn corner(x: i16, y: i16, z: i16) -> SpacePoint {
+    SpacePoint {
+        x: i128::from(x),
+        y: i128::from(y),
+        z: i128::from(z),
+        w: 1,
+    }
+}
+
+fn plane(a: i64, b: i64, c: i64, d: i64) -> Plane {
+    Plane { a, b, c, d }
+}
+
+// 2^30 units up floats are 128 apart.
+const HIGH: Offset = Offset {
+    x: 0,
+    y: 0,
+    z: 1_073_741_824,
+};
+
+const HEIGHT: u32 = 0x4e80_0000;
+
+const TEN: u32 = 0x4120_0000;
+
+fn float_point(x: u32, y: u32, z: u32) -> FloatPoint {
+    FloatPoint { x, y, z }
+}
+
+// A tetrahedron whose lowest and highest corner become equal.
+#[test]
+fn two_triangles_of_four_vanish(rt: HostRuntime) -> Result<(), Fail> {
+    let corners = [
+        corner(0, 0, 0),
+        corner(10, 0, 0),
+        corner(0, 10, 0),
+        corner(0, 0, 1),
+    ];
+    let planes = [
+        plane(0, 0, -1, 0),
+        plane(0, -1, 0, 0),
+        plane(-1, 0, 0, 0),
+        plane(1, 1, 10, 10),
+    ];
+    let triangles = [
+        triangle(0, 0, 2, 1),
+        triangle(1, 0, 1, 3),
+        triangle(2, 0, 3, 2),
+        triangle(3, 1, 2, 3),
+    ];
+    assert!(rt; have_corners(&triangles, corners.len()));
+    let written = float_triangles(rt.alloc(), &planes, &corners, &triangles, &UNIT, &HIGH)?;
+    let want = [
+        WrittenTriangle {
+            normal: float_point(0, 0, 0xbf80_0000),
+            a: float_point(0, 0, HEIGHT),
+            b: float_point(0, TEN, HEIGHT),
+            c: float_point(TEN, 0, HEIGHT),
+        },
+        WrittenTriangle {
+            normal: float_point(0x3dca_c83f, 0x3dca_c83f, 0x3f7d_7a4f),
+            a: float_point(TEN, 0, HEIGHT),
+            b: float_point(0, TEN, HEIGHT),
+            c: float_point(0, 0, HEIGHT),
+        },
+    ];
+    assert_eq!(rt; written.as_slice(), want.as_slice());
+    Ok(())
+}
