@@ -49,8 +49,8 @@ impl Tally {
     }
 }
 
-/// Each edge with two ends has one direction as often as the other, by the two-way numbers. If
-/// they aren't in order, it may be overlooked.
+/// Shows, by the two-way numbers of edges, that each edge with two ends runs one way as often as
+/// the other. `false` shows nothing: if the numbers aren't in order, it may be so all the same.
 pub fn are_two_way(numbers: &[u128]) -> bool
     requires { length numbers.now ≤ 786432 }
     ensures { IsTrue result → AreTwoWay numbers.now }

@@ -128,10 +128,10 @@ pub fn is_few(near: u64) -> bool
 }
 
 // There are few triangles, or no axis is worth a halving.
-fn ends(is_few: bool, x_spreads: bool, y_spreads: bool, z_spreads: bool) -> bool
-    ensures { result ≡ (is_few || x_spreads && y_spreads && z_spreads) }
+fn ends(is_few: bool, x_unprofitable: bool, y_unprofitable: bool, z_unprofitable: bool) -> bool
+    ensures { result ≡ (is_few || x_unprofitable && y_unprofitable && z_unprofitable) }
 {
-    is_few || x_spreads && y_spreads && z_spreads
+    is_few || x_unprofitable && y_unprofitable && z_unprofitable
 }
 
 pub fn is_leaf_by(c: &Cell, sums: &Sums) -> bool

@@ -8,7 +8,7 @@ use Rattle.ember_job.specs.declared.job.Job.{Job}
 use Rattle.ember_job.specs.declared.job.Outcome.{Outcome}
 use Rattle.ember_job.specs.declared.job.Outcome.TheVariants.{Halves, Leaf, Skipped}
 
--- what becomes of a job: two halves come, it is a leaf, or it is passed over
+-- what becomes of a job: it is halved, it is a leaf, or it is skipped
 pub data Shape : Type 0 where
   halved : Job → Job → Shape
   leafed : Shape

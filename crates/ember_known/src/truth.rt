@@ -24,7 +24,7 @@ fn mentions(terms: &[Term], m: Mask) -> bool
     false
 }
 
-// The truth of a tree that rests on decided meshes alone.
+// The truth of the tree at these winding numbers, or None if it mentions an undecided mesh.
 fn plain_unless(undecided: bool, tree: &Tree, v: &Vector) -> Option<bool>
     requires fit { IsFit 64 (formula_of tree.now) }
     requires counts { AreCounts v.now.counts }

@@ -13,7 +13,7 @@ use Rattle.ember_leaf.specs.TriRelations.{heights_of, none_behind}
 abbrev pub no_plane : Plane
 no_plane = record { a = pos 0; b = pos 0; c = pos 0; d = pos 0 }
 
--- no corner is behind some plane of the list
+-- some plane of the list has no corner behind it
 pub record HasParting (es : List Plane) (t : Tri) : Type 0 where
   pub index : ℕ
   pub before : index < length es

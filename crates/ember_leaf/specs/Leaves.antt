@@ -10,7 +10,8 @@ use Rattle.ember_trace.specs.declared.near_triangle.NearTriangle.{NearTriangle}
 use Rattle.ember_trace.specs.NearTriangles.{tri_of}
 use Rattle.ember_leaf.specs.declared.kept.Kept.{Kept}
 
--- in the plane of a triangle that is not flat
+-- a face in the plane of the triangle, which is not flat; nothing says that it is one of its
+-- regions
 pub record IsRegionOf (t : Tri) (f : Face) : Type 0 where
   pub normal : is_flat t ≡ false
   pub support : f.support ≡ support_of t

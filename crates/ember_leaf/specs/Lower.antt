@@ -33,8 +33,9 @@ pub data AddsLower (t u : Tri) (b : Aabb) (is_before : Bool) (old : List Tri) : 
   misses : ((f : Face) → ContainsPart t b u f → ⊥) → AddsLower t u b is_before old false old
   follows : is_before ≡ false → AddsLower t u b is_before old false old
 
--- of the first n triangles, all before index i that hold such a part, or a part of which another
--- one holds
+-- the triangles of the list stand before index i; and if one of the first n triangles, before index
+-- i, lies in the plane of t and contains a part of t within the bounds, then one of the list
+-- contains that part
 pub record AreLower (ts : List Tri) (i : ℕ) (t : Tri) (b : Aabb) (n : ℕ) (lower : List Tri) : Type 0 where
   pub stand : All (IsListedBefore ts i) lower
   pub held : (m : ℕ) → m < n → m < i → (f : Face) → ContainsPart t b (tri_at ts m) f → HasContaining lower f

@@ -37,7 +37,8 @@ all_in_front h = is_positive h.a && (is_positive h.b && is_positive h.c)
 abbrev pub all_on : Heights → Bool
 all_on h = is_zero h.a && (is_zero h.b && is_zero h.c)
 
--- no inside point of t lies in the closed face of u
+-- no inside point of t lies in the closed face of u; of boundary points of t it says nothing, so t
+-- and u can't be exchanged
 abbrev pub AreDisjoint : Tri → Tri → Type 0
 AreDisjoint t u = Everywhere (face_of t) (λ v. is_in_closed (face_of u) v ≡ false)
 

@@ -10,7 +10,7 @@ use ember_model::{Plane, Tri};
 /// What the corners of a triangle show of a region in its plane.
 #[derive(Clone, Copy)]
 pub enum Contact {
-    /// No corner is behind some edge of the region: the two don't meet.
+    /// Some edge of the region has no corner behind it: the two don't meet.
     Apart,
     /// A corner is behind all edges of the region, so inside it: they meet.
     Met,

@@ -38,14 +38,14 @@ pub fn heights_of(p: &Plane, t: &Tri) -> Heights
     }
 }
 
-/// The height of a point behind the plane.
+/// Whether a point of this height is behind the plane.
 pub fn is_behind(height: i64) -> bool
     ensures { result ≡ is_negative height }
 {
     height < 0
 }
 
-/// The height of a point in front.
+/// Whether a point of this height is in front of the plane.
 pub fn is_in_front(height: i64) -> bool
     ensures { result ≡ is_positive height }
 {

@@ -68,7 +68,9 @@ fn flip_of(e: &Expr, sides: &Sides, r: &Ring) -> Option<bool>
     }
 }
 
-// A leaf box, with the triangles near it and the winding numbers at its reference point.
+// What is known at a leaf box: the expression, the near triangles without edge planes (`near`) and
+// with them (`triangles`), in one order, and the winding numbers at the box's reference point
+// (`at`).
 #[derive(Clone, Copy)]
 struct Leaf<'a> {
     expr: &'a Expr,
@@ -200,7 +202,9 @@ impl Leaf<'_> {
 }
 
 /// The written regions of a leaf box, by their triangles in order, and for each triangle in the
-/// order of its regions. Meshes are numbered from 1 to 64.
+/// order of its regions. `near` has the triangles near the box, and `v` the winding numbers at its
+/// reference point; the result is right in every scene that fits these. Meshes are numbered from 1
+/// to 64, and at most 262,144 triangles are near.
 pub fn leaf_faces(
     alloc: Global,
     e: &Expr,

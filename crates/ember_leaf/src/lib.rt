@@ -1,5 +1,5 @@
-//! The written regions of a leaf box: its near triangles, clipped by the box and cut by one
-//! another, where a Boolean's value changes.
+//! The written regions of a leaf box: its near triangles are clipped by the box and cut by one
+//! another, and a piece is written if the expression differs on its two sides.
 #![tactic(auto)]
 
 mod clip;

@@ -42,7 +42,7 @@ fn is_met(r: &Ring, c: &Cutter) -> bool
     }
 }
 
-// Length of the leading run of regions that don't meet the triangle.
+// How many regions at the front of the list don't meet the triangle.
 fn apart(list: &[Ring], c: &Cutter) -> usize
     requires { All (CanCut c.now) list.now }
     ensures fits { result ≤ length list.now }
@@ -58,7 +58,7 @@ fn apart(list: &[Ring], c: &Cutter) -> usize
 }
 
 // Adds the two parts of a region that a plane cuts, or the region itself.
-fn add_sides(alloc: Global, r: Ring, p: &Plane, out: &mut Vec<Ring>) -> Result<(), OutOfMemory>
+fn add_parts(alloc: Global, r: Ring, p: &Plane, out: &mut Vec<Ring>) -> Result<(), OutOfMemory>
     requires { IsValidPlane p.now }
     ensures { OnOk result (HasGrown (AtPlane p.now r) out.old.items out.new.items) }
 {
@@ -89,7 +89,8 @@ fn is_uncut(r: &Ring, planes: &[Plane]) -> bool
     true
 }
 
-// None of the planes cuts the region, and the triangle owns what it contains.
+// Whether the part of the region below the plane that cuts it needn't be made: the triangle owns
+// what it contains, and none of the planes that are still to come cuts the region.
 fn is_owned(r: &Ring, c: &Cutter, planes: &[Plane]) -> bool
     requires { All IsValidPlane planes.now }
     ensures { result ≡ true → (c.now.role ≡ Owner) × AllByRecursion (IsUncut r.now) planes.now }
@@ -142,7 +143,7 @@ fn add_cut(alloc: Global, r: Ring, c: &Cutter, out: &mut Vec<Ring>) -> Result<()
     ensures { OnOk result (HasGrown (AtCutter c.now r) out.old.items out.new.items) }
 {
     match c.role {
-        Role::Across => add_sides(alloc, r, &c.support, out),
+        Role::Across => add_parts(alloc, r, &c.support, out),
         _ => add_pieces(alloc, r, c, &c.edges, out),
     }
 }

@@ -114,7 +114,8 @@ fn is_behind_edge(f: &LeafTriangle, g: &LeafTriangle, edge: usize) -> bool
     heights_of(&f.edges[edge], &g.tri).lie_behind()
 }
 
-/// The second triangle, which lies in the plane of the first, is covered by it.
+/// Shows that the first triangle contains the second, which lies in its plane. `false` shows
+/// nothing.
 pub fn covers(f: &LeafTriangle, g: &LeafTriangle) -> bool
     requires second { is_flat g.now.tri ≡ false }
     requires plane { is_coplanar f.now.tri g.now.tri ≡ true }

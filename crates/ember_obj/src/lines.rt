@@ -96,8 +96,9 @@ fn append_continued(text: &mut Vec<u8>, number: u32, line: &[u8]) -> Result<(), 
     append(text, number, b" ")
 }
 
-// Appends what is joined to the beginning of the joined line with this number, where `bytes` begins
-// with the physical line `next`. Gives the number of the physical line behind, and the bytes from it on.
+// `text` has the beginning of the joined line with this number. Appends the rest of the line:
+// `bytes` begins with the physical line `next`. Gives the number of the first physical line after
+// the joined one, and the bytes from it on.
 #[tactic(auto, using(crate::proofs::Joins::joined_twice, crate::proofs::Joins::begins_long))]
 fn append_rest<'a>(
     text: &mut Vec<u8>,

@@ -84,12 +84,12 @@ module _ (p : Plane) where
 
   pub rise_stops : (high : Bool) (ms : List Meet) (i : ℕ) (m : Meet) → i < length ms → m ≡ get_or ms i m → value_at p (spot_of m) <ℤ pos 0 → AreNotBelow p high (take i ms) → IsRunNotBelow p ms i high
   rise_stops high ms i m l e v r =
-      record { run = record { has_vertex_within = omega (arith, l); all = r.all; stops = stops_at p false ms i m l (subst (λ n. is_under p n ≡ true) e (negative_in v)) }; risen = r }
+      record { run = record { at_most_all = omega (arith, l); all = r.all; stops = stops_at p false ms i m l (subst (λ n. is_under p n ≡ true) e (negative_in v)) }; risen = r }
 
   pub rise_ends : (high : Bool) (ms : List Meet) (i : ℕ) → length ms ≤ i → AreNotBelow p high (take i ms) → IsRunNotBelow p ms (length ms) high
   rise_ends high ms i l r =
       let q = subst (λ ns. AreNotBelow p high ns) (whole ms i l) r in
-      record { run = record { has_vertex_within = omega arith; all = q.all; stops = stops_end p false ms (length ms) (omega arith) }; risen = q }
+      record { run = record { at_most_all = omega arith; all = q.all; stops = stops_end p false ms (length ms) (omega arith) }; risen = q }
 
   -- ---- a run, corner by corner
   abbrev Lower : Meet → Type 0
@@ -101,11 +101,11 @@ module _ (p : Plane) where
 
   pub run_stops : (ms : List Meet) (i : ℕ) (m : Meet) → i < length ms → m ≡ get_or ms i m → pos 0 ≤ℤ value_at p (spot_of m) → AllByRecursion Lower (take i ms) → IsOneSidedRun p true ms i
   run_stops ms i m l e v h =
-      record { has_vertex_within = omega (arith, l); all = h; stops = stops_at p true ms i m l (subst (λ n. is_under p n ≡ false) e (negative_not (value_at p (spot_of m)) v)) }
+      record { at_most_all = omega (arith, l); all = h; stops = stops_at p true ms i m l (subst (λ n. is_under p n ≡ false) e (negative_not (value_at p (spot_of m)) v)) }
 
   pub run_ends : (ms : List Meet) (i : ℕ) → length ms ≤ i → AllByRecursion Lower (take i ms) → IsOneSidedRun p true ms (length ms)
   run_ends ms i l h =
-      record { has_vertex_within = omega arith; all = subst (λ ns. AllByRecursion Lower ns) (whole ms i l) h; stops = stops_end p true ms (length ms) (omega arith) }
+      record { at_most_all = omega arith; all = subst (λ ns. AllByRecursion Lower ns) (whole ms i l) h; stops = stops_end p true ms (length ms) (omega arith) }
 
   -- the corner behind a run
   next_is : (high : Bool) (ms : List Meet) (i : ℕ) (m : Meet) → i < length ms → m ≡ get_or ms i m → AreNotBelow p high (m ∷ []) → AreNotBelow p high (take 1 (drop i ms))
@@ -146,16 +146,16 @@ module _ (p : Plane) where
 -- ---- all corners
 has_run : (p : Plane) (ms : List Meet) (k : ℕ) → IsOneSidedRun p true ms k → 0 < k → HasSome (λ m. IsBelow p (spot_of m)) ms
 has_run p ms zero r l = absurd (omega (arith, l))
-has_run p [] (suc k) r l = absurd (omega (arith, r.has_vertex_within))
+has_run p [] (suc k) r l = absurd (omega (arith, r.at_most_all))
 has_run p (m ∷ ms) (suc k) r l = inl (under_out p m r.all.0)
 
 -- a run within the first ones
 run_front : (p : Plane) (b : Bool) (ms : List Meet) (k f : ℕ) → k ≤ f → IsOneSidedRun p b ms k → IsOneSidedRun p b (take f ms) k
-run_front p b ms zero zero l r = record { has_vertex_within = omega arith; all = tt; stops = tt }
-run_front p b [] zero (suc f) l r = record { has_vertex_within = omega arith; all = tt; stops = tt }
-run_front p b (m ∷ ms) zero (suc f) l r = record { has_vertex_within = omega arith; all = tt; stops = r.stops }
+run_front p b ms zero zero l r = record { at_most_all = omega arith; all = tt; stops = tt }
+run_front p b [] zero (suc f) l r = record { at_most_all = omega arith; all = tt; stops = tt }
+run_front p b (m ∷ ms) zero (suc f) l r = record { at_most_all = omega arith; all = tt; stops = r.stops }
 run_front p b ms (suc k) zero l r = absurd (omega (arith, l))
-run_front p b [] (suc k) (suc f) l r = absurd (omega (arith, r.has_vertex_within))
+run_front p b [] (suc k) (suc f) l r = absurd (omega (arith, r.at_most_all))
 run_front p b (m ∷ ms) (suc k) (suc f) l r =
     run_more p b m (take f ms) k r.all.0 (run_front p b ms k f (omega (arith, l)) (run_rest p b m ms k r))
 

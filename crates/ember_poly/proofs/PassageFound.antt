@@ -153,11 +153,11 @@ module _ (n p : Plane) (es : List Plane) (ms : List Meet) (bs : List ℕ) (k c r
   enters' : Enters p (m.at ∷ ms')
   enters' = subst (λ zs. Enters p zs) (sym begun_m) enters
 
-  has_vertex_within : c ≤ length ys
-  has_vertex_within = subst (λ j. c ≤ j) (sym (length-sides_of es' ms' bs' em' eb' ∙ sym em')) run.has_vertex_within
+  at_most_all : c ≤ length ys
+  at_most_all = subst (λ j. c ≤ j) (sym (length-sides_of es' ms' bs' em' eb' ∙ sym em')) run.at_most_all
 
   w : LastOfFirst c ys
-  w = last_of_first c ys (run_positive p m.at ms' c enters' run) has_vertex_within
+  w = last_of_first c ys (run_positive p m.at ms' c enters' run) at_most_all
 
   whole : ys ≡ (w.front ++ w.last ∷ []) ++ w.behind
   whole = w.whole ∙ sym (append_assoc w.front (w.last ∷ []) w.behind)
@@ -187,7 +187,7 @@ module _ (n p : Plane) (es : List Plane) (ms : List Meet) (bs : List ℕ) (k c r
   module _ (in_r : r < length ms) (index : (r ≡ k + c) ⊎ (r + length ms ≡ k + c)) where
     last_plane : (d : Plane) → get_or es r d ≡ w.last.plane
     last_plane d =
-        let lc : c < length es = omega (arith, run.has_vertex_within, turned_length k ms within, em) in
+        let lc : c < length es = omega (arith, run.at_most_all, turned_length k ms within, em) in
         let lr : r < length es = subst (λ j. r < j) em in_r in
         let pl : (r ≡ k + c) ⊎ (r + length es ≡ k + c) = subst (λ j. (r ≡ k + c) ⊎ (r + j ≡ k + c)) em index in
         sym (turned_get es k c r d in_es lc lr pl) ∙ ap (λ zs. get_or zs c d) (sym begun_e) ∙ ap (λ j. get_or (e.at ∷ es') j d) w.count ∙ plane_at (e.at ∷ es') (m.at ∷ ms') (b.at ∷ bs') (head ∷ w.front) w.last w.behind d (ap (λ zs. head ∷ zs) w.whole)

@@ -128,19 +128,19 @@ module _ (n p : Plane) (f l : Side) (y z : Spot) (b : ℕ) (pf : pos 0 <ℤ valu
   pub below_all : (ks : List Side) → IsConvexRing n (f ∷ (ks ++ l ∷ [])) → AllByRecursion (λ r. IsBelow p r.corner) (ks ++ l ∷ []) → Outcome n p (with_start f z ∷ (ks ++ l ∷ []) ++ closing_side p y b ∷ []) l.corner f.corner y (head_of l ks).corner f.corner z
   below_all [] h q = absurd h.0
   below_all (m ∷ ks) h q =
-      let has_vertex_within : pos 0 ≤ℤ value_at p f.corner = omega (arith, linear, pf) in
+      let not_below : pos 0 ≤ℤ value_at p f.corner = omega (arith, linear, pf) in
       let pl : value_at p l.corner <ℤ pos 0 = (each-back (λ r. IsBelow p r.corner) (m ∷ ks) (l ∷ []) q).0.under in
       let own = chain_ends n m.plane ks l [] h.1.3 in
       let past = ends_under n m.plane ks l f (chain_ends n m.plane (ks ++ l ∷ []) f [] h.2) in
       let j : IsCornerOf n l.plane f = past.2 in
       let root = rooted j in
       let here = ends_rooted n m.plane ks l own in
-      let s = exit_turn n m.plane ks l p f.corner own past.0 past.1 j.flat j.before j.weight pl has_vertex_within in
-      let c = crossing n l.plane p l.corner f.corner y (not_zero s) here.flat j.flat here.after j.before here.weight j.weight pl has_vertex_within my.first my.second my.third my.weight in
+      let s = exit_turn n m.plane ks l p f.corner own past.0 past.1 j.flat j.before j.weight pl not_below in
+      let c = crossing n l.plane p l.corner f.corner y (not_zero s) here.flat j.flat here.after j.before here.weight j.weight pl not_below my.first my.second my.third my.weight in
       let u = exit_under n m.plane ks l p f.corner y own past.0 past.1 c in
       let front : IsBelow f.plane y = under_first c f.plane pf (each-back (λ r. IsBelow f.plane r.corner) ks (l ∷ []) h.1.1).0 (at_most j.after) in
-      let t = entry_turn n p f m root h.1.0 past.0 has_vertex_within q.0.under in
-      let k = entry_crossing n p z f m root h.1.0 past.0 has_vertex_within q.0.under mz in
+      let t = entry_turn n p f m root h.1.0 past.0 not_below q.0.under in
+      let k = entry_crossing n p z f m root h.1.0 past.0 not_below q.0.under mz in
       let ahead = each-front (λ r. IsBelow r.plane m.corner) ks (l ∷ []) h.1.2 in
       let last : IsBelow l.plane z = under_first k l.plane pf (each-back (λ r. IsBelow r.plane m.corner) ks (l ∷ []) h.1.2).0 (at_most j.before) in
       record {
@@ -166,7 +166,7 @@ turns_some n p f l d ds (m ∷ ks) pf pd h q =
 pub turns_all : (n p : Plane) (f l : Side) (ks : List Side) → pos 0 <ℤ value_at p f.corner → IsConvexRing n (f ∷ (ks ++ l ∷ [])) → AllByRecursion (λ r. IsBelow p r.corner) (ks ++ l ∷ []) → (pos 0 <ℤ orientation n l.plane p) × (pos 0 <ℤ orientation n p f.plane)
 turns_all n p f l [] pf h q = absurd h.0
 turns_all n p f l (m ∷ ks) pf h q =
-    let has_vertex_within : pos 0 ≤ℤ value_at p f.corner = omega (arith, linear, pf) in
+    let not_below : pos 0 ≤ℤ value_at p f.corner = omega (arith, linear, pf) in
     let past = ends_under n m.plane ks l f (chain_ends n m.plane (ks ++ l ∷ []) f [] h.2) in
     let j : IsCornerOf n l.plane f = past.2 in
-    (exit_turn n m.plane ks l p f.corner (chain_ends n m.plane ks l [] h.1.3) past.0 past.1 j.flat j.before j.weight (each-back (λ r. IsBelow p r.corner) (m ∷ ks) (l ∷ []) q).0.under has_vertex_within, entry_turn n p f m (rooted j) h.1.0 past.0 has_vertex_within q.0.under)
+    (exit_turn n m.plane ks l p f.corner (chain_ends n m.plane ks l [] h.1.3) past.0 past.1 j.flat j.before j.weight (each-back (λ r. IsBelow p r.corner) (m ∷ ks) (l ∷ []) q).0.under not_below, entry_turn n p f m (rooted j) h.1.0 past.0 not_below q.0.under)

@@ -42,15 +42,15 @@ pub stops_end : (p : Plane) (b : Bool) (ms : List Meet) (i : ℕ) → length ms 
 stops_end p b ms i l = subst (λ ys. Stops p b ys) (sym (drop_all i ms l)) tt
 
 pub run_rest : (p : Plane) (b : Bool) (m : Meet) (ms : List Meet) (k : ℕ) → IsOneSidedRun p b (m ∷ ms) (suc k) → IsOneSidedRun p b ms k
-run_rest p b m ms k r = record { has_vertex_within = omega (arith, r.has_vertex_within); all = r.all.1; stops = r.stops }
+run_rest p b m ms k r = record { at_most_all = omega (arith, r.at_most_all); all = r.all.1; stops = r.stops }
 
 pub run_more : (p : Plane) (b : Bool) (m : Meet) (ms : List Meet) (k : ℕ) → is_under p m ≡ b → IsOneSidedRun p b ms k → IsOneSidedRun p b (m ∷ ms) (suc k)
-run_more p b m ms k e r = record { has_vertex_within = omega (arith, r.has_vertex_within); all = (e, r.all); stops = r.stops }
+run_more p b m ms k e r = record { at_most_all = omega (arith, r.at_most_all); all = (e, r.all); stops = r.stops }
 
 -- a run that ends before the list does
 pub run_short : (p : Plane) (b : Bool) (us bs : List Meet) (k : ℕ) → k < length us → IsOneSidedRun p b us k → IsOneSidedRun p b (us ++ bs) k
 run_short p b [] bs k l r = absurd (omega (arith, l))
-run_short p b (m ∷ us) bs zero l r = record { has_vertex_within = omega arith; all = tt; stops = r.stops }
+run_short p b (m ∷ us) bs zero l r = record { at_most_all = omega arith; all = tt; stops = r.stops }
 run_short p b (m ∷ us) bs (suc k) l r =
     run_more p b m (us ++ bs) k r.all.0 (run_short p b us bs k (omega (arith, l)) (run_rest p b m us k r))
 
@@ -60,7 +60,7 @@ run_long p b [] bs zero h l r s = subst (λ j. IsOneSidedRun p b bs j) (none h) 
   where
     none : (h : ℕ) → h ≡ 0 + h
     none h = omega arith
-run_long p b [] bs (suc k) h l r s = absurd (omega (arith, r.has_vertex_within))
+run_long p b [] bs (suc k) h l r s = absurd (omega (arith, r.at_most_all))
 run_long p b (m ∷ us) bs zero h l r s = absurd (omega (arith, l))
 run_long p b (m ∷ us) bs (suc k) h l r s =
     subst (λ j. IsOneSidedRun p b (m ∷ (us ++ bs)) j) (one k h) (run_more p b m (us ++ bs) (k + h) r.all.0 (run_long p b us bs k h (omega (arith, l)) (run_rest p b m us k r) s))
@@ -139,15 +139,15 @@ module _ (p : Plane) where
     up_positive = first_positive (take d ms) (drop d ms) u down.all down.stops up.stops apart
 
     pub entry_within : d + u - 1 < length ms
-    entry_within = omega (arith, up_positive, up.has_vertex_within, down.has_vertex_within, length-drop d ms)
+    entry_within = omega (arith, up_positive, up.at_most_all, down.at_most_all, length-drop d ms)
 
     pub entry_enters : Enters p (drop (d + u - 1) ms ++ take (d + u - 1) ms)
     entry_enters =
-        let w = last_of_first u (drop d ms) up_positive up.has_vertex_within in
+        let w = last_of_first u (drop d ms) up_positive up.at_most_all in
         let high = subst (λ zs. AllByRecursion IsHigh zs) w.taken up.all in
         let e = enters_at (take d ms) w.front w.last w.behind down.all (each-front IsHigh w.front (w.last ∷ []) high) (each-back IsHigh w.front (w.last ∷ []) high).0 (subst (λ zs. Stops p false zs) w.left up.stops) (subst (λ zs. Straddles p (take d ms ++ zs)) w.whole apart) in
         let whole : ms ≡ (take d ms ++ w.front) ++ w.last ∷ w.behind = sym (take-append-drop d ms) ∙ ap (λ zs. take d ms ++ zs) w.whole ∙ sym (append_assoc (take d ms) w.front (w.last ∷ w.behind)) in
-        let count : d + u - 1 ≡ length (take d ms ++ w.front) = ap (λ k. d + k - 1) w.count ∙ less d (length w.front) ∙ sym (length-append (take d ms) w.front ∙ ap (λ k. k + length w.front) (length-take-le d ms down.has_vertex_within)) in
+        let count : d + u - 1 ≡ length (take d ms ++ w.front) = ap (λ k. d + k - 1) w.count ∙ less d (length w.front) ∙ sym (length-append (take d ms) w.front ∙ ap (λ k. k + length w.front) (length-take-le d ms down.at_most_all)) in
         subst (λ zs. Enters p zs) (sym ((λ i. drop (d + u - 1) (whole i) ++ take (d + u - 1) (whole i)) ∙ turn_split (take d ms ++ w.front) (w.last ∷ w.behind) (d + u - 1) count)) e
       where
         less : (d k : ℕ) → d + suc k - 1 ≡ d + k

@@ -57,7 +57,7 @@ Stops p below (m ∷ ms) = is_under p m ≡ not below
 
 -- the first k corners lie below the plane, or none of them does, and the next one is on the other side
 pub record IsOneSidedRun (p : Plane) (below : Bool) (ms : List Meet) (k : ℕ) : Type 0 where
-  pub has_vertex_within : k ≤ length ms
+  pub at_most_all : k ≤ length ms
   pub all : AllByRecursion (λ m. is_under p m ≡ below) (take k ms)
   pub stops : Stops p below (drop k ms)
 

@@ -31,7 +31,8 @@ mix p a b =
 pub record IsBelow (p : Plane) (v : Spot) : Type 0 where
   pub under : value_at p v <ℤ pos 0
 
--- the plane g ends at the side s, in the plane n
+-- in the plane n the edge of g ends at the corner of s, where the edge of s turns from it
+-- counter-clockwise
 pub record IsCornerOf (n g : Plane) (s : Side) : Type 0 where
   pub flat : value_at n s.corner ≡ pos 0
   pub weight : pos 0 <ℤ s.corner.w
@@ -76,7 +77,7 @@ pub record IsInClosedRing (n : Plane) (xs : List Side) (v : Spot) : Type 0 where
   pub weight : pos 0 <ℤ v.w
   pub within : AllByRecursion (λ s. IsNotAbove s.plane v) xs
 
--- a plane is greatest at the corner of s
+-- the plane is no greater at v than at s
 pub record IsNotHigher (p : Plane) (v s : Spot) : Type 0 where
   pub not_above : (value_at p v *ℤ s.w) ≤ℤ (value_at p s *ℤ v.w)
 

@@ -83,7 +83,7 @@ impl Draft {
         Ok(())
     }
 
-    // Keeps the part below a plane that passes the ring.
+    // Keeps the part below a plane that cuts the ring.
     fn keep_part(&mut self, p: &Plane, at: &Passage) -> Result<(), OutOfMemory>
         requires plane { IsValidPlane p.now }
         requires ring { HoldsRing self.old }

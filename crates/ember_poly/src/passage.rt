@@ -30,8 +30,8 @@ pub struct Classification {
     pub below_count: usize,
 }
 
-// Where a plane passes a ring that has corners on both sides of it: the edge on which the boundary comes
-// below the plane, by its index, the number of corners below the plane, and the ends of the chord.
+// Where a plane cuts a ring: the edge on which the boundary comes below the plane, by its index,
+// the number of corners below the plane, and the ends of the chord.
 #[derive(Clone, Copy)]
 pub struct Passage {
     pub first: usize,

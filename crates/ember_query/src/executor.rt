@@ -43,7 +43,8 @@ where
     Ok(RunResult { items, journals })
 }
 
-// What they give, run by 1 to 64 workers. One worker is this thread.
+// What the leaves below the root give, run by 1 to 64 workers. With one worker this thread runs all
+// boxes.
 fn results_by_workers<
     R: Threads + Wait + Sync,
     W: Work + Sync,

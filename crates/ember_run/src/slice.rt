@@ -69,7 +69,8 @@ fn slice_of(alloc: Global, bytes: &[u8], at: i32) -> Result<Vec<u8>, Status>
     }
 }
 
-/// The text of `slice`: the segments of a face file in the plane z = at + 1/2, for -2048 to 2047.
+/// The text of `slice`: the segments in which the faces of a face file meet the plane z = at + 1/2,
+/// for an `at` from -2048 to 2047.
 pub fn slice_output<S: Shelf>(
     alloc: Global,
     at: i32,

@@ -195,8 +195,9 @@ fn run_by<S: Shelf, O: Sink, E: Sink, C: Fn(u32, &Query) -> Result<Answer, OutOf
     }
 }
 
-/// Does what the words ask for, with one worker whatever they say, and writes the status's line to
-/// err. It waits for nobody, and takes all words that `run` takes.
+/// Does what the words ask for, with one worker whatever they say: writes the output to `out`, and
+/// the report or the status's line to `err`. It waits for nobody, and takes all words that `run`
+/// takes.
 pub fn run_one<S: Shelf, O: Sink, E: Sink, G: Gate>(
     alloc: Global,
     words: &[String],
@@ -225,8 +226,9 @@ pub fn run_one<S: Shelf, O: Sink, E: Sink, G: Gate>(
     )
 }
 
-/// Does what the words ask for, with as many workers as they say, and writes the status's line to
-/// err. What is written doesn't depend on the number of workers. One worker is the calling thread.
+/// Does what the words ask for, with as many workers as they say: writes the output to `out`, and
+/// the report or the status's line to `err`. What is written doesn't depend on the number of
+/// workers. With one worker, the calling thread does everything.
 pub fn run<R: Threads + Wait + Sync, S: Shelf, O: Sink, E: Sink, G: Gate + Sync>(
     rt: &R,
     alloc: Global,

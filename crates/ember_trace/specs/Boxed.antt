@@ -37,7 +37,7 @@ abbrev pub AreRegionSides : List Tri → Cell → List ℤ → Face → Sides �
 AreRegionSides near c counts f s =
     IsRegion near c f → (scene : List Tri) → Fits scene near c counts → IsSides scene f s.before.counts s.after.counts
 
--- and so has each scene that fits no other sides of the region
+-- in each scene that fits, the region has no other sides
 abbrev pub AreOnlySides : List Tri → Cell → List ℤ → Face → Sides → Type 0
 AreOnlySides near c counts f s =
     IsRegion near c f → (scene : List Tri) → Fits scene near c counts → AreAllSides scene f s

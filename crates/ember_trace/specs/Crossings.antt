@@ -123,7 +123,7 @@ pub record AreTraced (c : Cell) (fs : List NearTriangle) (counts : List ℤ) (r 
 -- those by the triangles near the box
 pub record AreTracedBy (near : List Tri) (c : Cell) (counts : List ℤ) (r : Face) (s : Sides) : Type 0 where
   pub near_triangles : List NearTriangle
-  pub are_facets : AreNearTriangles near c near_triangles
+  pub are_near : AreNearTriangles near c near_triangles
   pub traced : AreTraced c near_triangles counts r s
 
 -- ---- whole rays

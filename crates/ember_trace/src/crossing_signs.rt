@@ -9,7 +9,8 @@ ghost use Rattle.ember_trace.specs.Crossings.{signed_crossing, side_before, side
 use ember_algebra::{Sign, sign_of};
 use ember_model::{Axis, Plane};
 
-/// A segment from one side of a plane to another passes it: 1 from behind to the front, -1 back.
+/// How a segment from one side of a plane to another crosses it: 1 from behind to the front, -1
+/// back, otherwise 0.
 pub fn signed_crossing(from: Sign, to: Sign) -> i32
     ensures value { result ≡ signed_crossing from to }
     ensures small { Small 1 result }
@@ -90,7 +91,7 @@ pub fn side_after(p: &Plane, k: Axis, at: Sign) -> Sign
     or_sign(at, slope(p, k))
 }
 
-/// The passage of a ray from one side of the plane along an axis.
+/// How a ray along an axis crosses the plane, if it begins on this side of it.
 pub fn signed_crossing_along(from: Sign, p: &Plane, k: Axis) -> i32
     ensures value { result ≡ signed_crossing from (sgn (along p.now k)) }
     ensures small { Small 1 result }

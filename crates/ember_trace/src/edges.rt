@@ -70,7 +70,8 @@ fn corner_side_after_first(u: &Corner, v: &Corner, s: i64, way: &Path, m: &Meet)
     moved_edge_side(u, v, way.main, s, coordinate(way.lo, way.main), m)
 }
 
-// The side on which the inside point lies, moved there. It is `Zero` if all three corners are on the plane.
+// The side of that plane on which the inside point lies if it is moved to where the first segment
+// ends. It is `Zero` if all three corners are on the plane when they are moved there.
 fn told_side_after_first(u: &Corner, v: &Corner, s: i64, way: &Path) -> Sign
     requires from { IsValidCorner u.now }
     requires to { IsValidCorner v.now }
@@ -127,7 +128,7 @@ pub fn narrow_second_is_behind(f: &NearTriangle, way: &Path) -> bool
             && edge_is_behind_after_first(&t.c, &t.a, s, way))
 }
 
-// The side of the plane along an axis through an edge, times a sign, on which the path begins.
+// Whether the path begins behind the plane along an axis through an edge, times a sign.
 fn edge_is_behind_at_start(u: &Corner, v: &Corner, k: Axis, s: i64, way: &Path) -> bool
     requires from { IsValidCorner u.now }
     requires to { IsValidCorner v.now }

@@ -30,7 +30,8 @@ fn near_triangle_of(t: &Tri, lo: [i32; 3]) -> NearTriangle
     }
 }
 
-/// The triangles near a box, in order, each with its planes. Meshes are numbered from 1 to 64.
+/// The triangles near a box, in order, each with its support plane, its bounding box, and the side
+/// of the plane on which the box's reference point lies. Meshes are numbered from 1 to 64.
 pub fn near_triangles(
     alloc: Global,
     near: &[Tri],

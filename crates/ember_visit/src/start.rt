@@ -20,8 +20,8 @@ fn numbers_below(alloc: Global, count: u32) -> Result<Vec<u32>, OutOfMemory>
     Ok(numbers)
 }
 
-/// The root box with the triangles near it, and with no windings: its reference point lies outside
-/// all meshes.
+/// The root box with the triangles near it and with all winding numbers 0, since its reference
+/// point lies outside all meshes.
 pub fn root_job(alloc: Global, s: &Scene) -> Result<Job, OutOfMemory>
     ensures value { IfOk result (λ job. job ≡ jobs.root_job s.now.tris) }
     ensures valid { IfOk result (λ job. IsJob s.now.tris job) }

@@ -50,7 +50,8 @@ pub enum Command {
         places: u32,
         files: Texts,
     },
-    /// Write the segments in the plane z = at + 1/2, for -2048 to 2047, of a face file.
+    /// Write the segments in which the faces of a face file meet the plane z = at + 1/2, for an
+    /// `at` from -2048 to 2047.
     Slice {
         at: i32,
         file: Text,

@@ -51,7 +51,7 @@ fn faces(alloc: Global, matches: &ArgMatches<'_>) -> Result<Command, WordsFault>
     Ok(Command::Faces { places, file })
 }
 
-// The plane of `slice`.
+// The level of `slice`.
 fn height_value(matches: &ArgMatches<'_>) -> Result<i32, WordsFault>
     ensures { Reads (option_and_then height_of (first_of (codes "at") (rows_of (found_of matches.now)))) result }
 {

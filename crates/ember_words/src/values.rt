@@ -50,7 +50,7 @@ fn copied(alloc: Global, text: &str) -> Result<Text, WordsFault>
     Ok(Text::of(String::from_str(alloc, text)?))
 }
 
-// A text with a byte.
+// A text that isn't empty.
 pub fn text_value(alloc: Global, matches: &ArgMatches<'_>, id: &str) -> Result<Text, WordsFault>
     ensures { Reads (text_in id.now (rows_of (found_of matches.now))) result }
 {
@@ -60,7 +60,7 @@ pub fn text_value(alloc: Global, matches: &ArgMatches<'_>, id: &str) -> Result<T
     }
 }
 
-// A text with a byte, if the option was given.
+// A text that isn't empty, or none if the option wasn't given.
 pub fn optional_value(
     alloc: Global,
     matches: &ArgMatches<'_>,

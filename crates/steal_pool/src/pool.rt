@@ -322,8 +322,8 @@ fn run_states<
     })
 }
 
-// The run of a root by 1 or more workers. The work stands among the arguments, since the names of a run are picked
-// from them.
+// The run of a root by 1 or more workers. It doesn't use the work. The work is an argument only
+// because the meaning of the ghost words of names.rt is picked from the arguments.
 pub fn run_named<
     R: Threads + Wait + Sync,
     K: VisitedJobs + BoxWeight<I> + Send + Sync,

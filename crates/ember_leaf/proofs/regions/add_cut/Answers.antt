@@ -10,4 +10,4 @@ add_pieces-requires c =
 pub returns-in-Across : goal.returns-in-Across
 returns-in-Across c =
     let u = c.args.c.now in
-    on_ok c.add_sides.result c.add_sides.ensures (λ g. across_left u u.support c.args.r c.in-Across.is u.face c.requires.met g)
+    on_ok c.add_parts.result c.add_parts.ensures (λ g. across_left u u.support c.args.r c.in-Across.is u.face c.requires.met g)

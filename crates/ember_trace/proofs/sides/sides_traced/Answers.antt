@@ -23,7 +23,7 @@ pub returns-clause-traced : goal.returns-clause-traced
 returns-clause-traced c =
     record {
       near_triangles = c.in_ok-near.near.items;
-      are_facets = c.in_ok-near.ensures;
+      are_near = c.in_ok-near.ensures;
       traced = subst (λ (fs : List NearTriangle). AreTraced c.args.c.now fs c.args.v.now.counts c.args.r.now c.sides_beside.result) c.as_slice.ensures.value c.sides_beside.ensures.traced;
     }
 

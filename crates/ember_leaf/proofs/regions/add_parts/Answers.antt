@@ -1,5 +1,5 @@
 use Rattle.ember_leaf.proofs.Pieces.{plane_parts, plane_whole}
-use Rattle.ember_leaf.proofs.regions.add_sides.Goals as goal
+use Rattle.ember_leaf.proofs.regions.add_parts.Goals as goal
 
 pub returns-in_ok-push-in-Both-2 : goal.returns-in_ok-push-in-Both-2
 returns-in_ok-push-in-Both-2 c =
