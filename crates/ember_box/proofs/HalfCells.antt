@@ -1,11 +1,15 @@
 -- The halves of a box are boxes, and what the code writes is those halves.
-use Rattle.std.proofs.Common.{◌≡◌, ℕ, zero, suc, pred, ◌+◌, ◌-◌, ◌*◌, ◌^◌, ◌<◌, ◌≤◌, List, [], ◌∷◌, ℤ, pos, ◌+ℤ◌, ◌-ℤ◌, unsigned_abs, length, slice_index_or, slice_set, refl, sym, ap, ap₂, ◌∙◌, subst, arith}
+use Rattle.std.proofs.Common.{◌≡◌, ℕ, zero, suc, pred, ◌+◌, ◌-◌, ◌*◌, ◌^◌, ◌<◌, ◌≤◌, List, [], ◌∷◌, ℤ, pos, negsuc, ◌+ℤ◌, unsigned_abs, to_z, of_z, to_z-of_z, SFits, length, slice_index_or, slice_set, refl, sym, ap, ap₂, ◌∙◌, subst, arith}
 use Rattle.std.proofs.Math.Path.{fun_ext}
 use Rattle.std.proofs.Math.Nat.{pow-succ'}
-use Rattle.ember_algebra.proofs.Ring.{solve, ◌⊕◌, ◌⊖◌, ◌≈◌, cancels}
+use mir.Syntax.{w32}
+use Rattle.ember_algebra.specs.Size.{Small}
+use Rattle.ember_algebra.proofs.Size.{fits_small, small_add}
+use Rattle.ember_algebra.proofs.Laws.{linear}
+use Rattle.ember_algebra.proofs.Ring.{solve, ◌⊕◌, ◌≈◌, cancels}
 use Rattle.ember_model.specs.declared.point.Axis.{Axis}
 use Rattle.ember_model.specs.declared.point.Axis.TheVariants.{X, Y, Z}
-use Rattle.ember_box.specs.Boxes.{Cell, low, halvings_left, put, left_half, right_half, IsOnGrid, IsCell, three, coordinate, cell_of, axis_index}
+use Rattle.ember_box.specs.Boxes.{Cell, low, halvings_left, put, left_half, right_half, IsOnGrid, IsCell, three, cell_of, axis_index}
 
 minus_pred : (a : ℕ) → a - 1 ≡ pred a
 minus_pred zero = refl
@@ -32,23 +36,20 @@ lowered (a ∷ b ∷ d ∷ []) Z e Y = refl
 lowered (a ∷ b ∷ d ∷ []) Z e Z = minus_pred d
 lowered (a ∷ b ∷ d ∷ x ∷ log) k e i = absurd (omega arith)
 
-pub is_lower : (lo log : List ℕ) (path : ℕ) (k : Axis) → length log ≡ 3 → cell_of lo (slice_set log (axis_index k) (slice_index_or log (axis_index k) 0 - 1)) (2 * path) ≡ left_half (cell_of lo log path) k
-is_lower lo log path k e = ap (λ f. record { lo = record { x = coordinate (slice_index_or lo 0 0); y = coordinate (slice_index_or lo 1 0); z = coordinate (slice_index_or lo 2 0) }; log = f; path = 2 * path }) (fun_ext (lowered log k e))
+pub is_lower : (lo : List ℤ) (log : List ℕ) (path : ℕ) (k : Axis) → length log ≡ 3 → cell_of lo (slice_set log (axis_index k) (slice_index_or log (axis_index k) 0 - 1)) (2 * path) ≡ left_half (cell_of lo log path) k
+is_lower lo log path k e = ap (λ f. record { lo = record { x = slice_index_or lo 0 (pos 0); y = slice_index_or lo 1 (pos 0); z = slice_index_or lo 2 (pos 0) }; log = f; path = 2 * path }) (fun_ext (lowered log k e))
 
--- a coordinate that much further on
-further : (a b h : ℤ) → a +ℤ h -ℤ b ≡ a -ℤ b +ℤ h
-further = solve 3 (λ a b h. a ⊕ h ⊖ b ≈ a ⊖ b ⊕ h) cancels
+-- half a side further on
+onward : (x : ℤ) (a : ℕ) → x +ℤ pos (2 ^ (a - 1)) ≡ x +ℤ pos (2 ^ pred a)
+onward x a = ap (λ k. x +ℤ pos (2 ^ k)) (minus_pred a)
 
-onward : (x n m : ℕ) → m ≡ n → coordinate (x + 2 ^ m) ≡ coordinate x +ℤ pos (2 ^ n)
-onward x n m e = further (pos x) (pos 2048) (pos (2 ^ m)) ∙ ap (λ k. coordinate x +ℤ pos (2 ^ k)) e
-
-pub is_upper : (lo log : List ℕ) (path : ℕ) (k : Axis) → length lo ≡ 3 → length log ≡ 3 → cell_of (slice_set lo (axis_index k) (slice_index_or lo (axis_index k) 0 + 2 ^ (slice_index_or log (axis_index k) 0 - 1))) (slice_set log (axis_index k) (slice_index_or log (axis_index k) 0 - 1)) (2 * path + 1) ≡ right_half (cell_of lo log path) k
+pub is_upper : (lo : List ℤ) (log : List ℕ) (path : ℕ) (k : Axis) → length lo ≡ 3 → length log ≡ 3 → cell_of (slice_set lo (axis_index k) (slice_index_or lo (axis_index k) (pos 0) +ℤ pos (2 ^ (slice_index_or log (axis_index k) 0 - 1)))) (slice_set log (axis_index k) (slice_index_or log (axis_index k) 0 - 1)) (2 * path + 1) ≡ right_half (cell_of lo log path) k
 is_upper [] log path k e l = absurd (omega arith)
 is_upper (x ∷ []) log path k e l = absurd (omega arith)
 is_upper (x ∷ y ∷ []) log path k e l = absurd (omega arith)
-is_upper (x ∷ y ∷ z ∷ []) log path X e l = ap₂ (λ n f. record { lo = record { x = n; y = coordinate y; z = coordinate z }; log = f; path = 2 * path + 1 }) (onward x (pred (slice_index_or log 0 0)) (slice_index_or log 0 0 - 1) (minus_pred (slice_index_or log 0 0))) (fun_ext (lowered log X l))
-is_upper (x ∷ y ∷ z ∷ []) log path Y e l = ap₂ (λ n f. record { lo = record { x = coordinate x; y = n; z = coordinate z }; log = f; path = 2 * path + 1 }) (onward y (pred (slice_index_or log 1 0)) (slice_index_or log 1 0 - 1) (minus_pred (slice_index_or log 1 0))) (fun_ext (lowered log Y l))
-is_upper (x ∷ y ∷ z ∷ []) log path Z e l = ap₂ (λ n f. record { lo = record { x = coordinate x; y = coordinate y; z = n }; log = f; path = 2 * path + 1 }) (onward z (pred (slice_index_or log 2 0)) (slice_index_or log 2 0 - 1) (minus_pred (slice_index_or log 2 0))) (fun_ext (lowered log Z l))
+is_upper (x ∷ y ∷ z ∷ []) log path X e l = ap₂ (λ n f. record { lo = record { x = n; y = y; z = z }; log = f; path = 2 * path + 1 }) (onward x (slice_index_or log 0 0)) (fun_ext (lowered log X l))
+is_upper (x ∷ y ∷ z ∷ []) log path Y e l = ap₂ (λ n f. record { lo = record { x = x; y = n; z = z }; log = f; path = 2 * path + 1 }) (onward y (slice_index_or log 1 0)) (fun_ext (lowered log Y l))
+is_upper (x ∷ y ∷ z ∷ []) log path Z e l = ap₂ (λ n f. record { lo = record { x = x; y = y; z = n }; log = f; path = 2 * path + 1 }) (onward z (slice_index_or log 2 0)) (fun_ext (lowered log Z l))
 is_upper (x ∷ y ∷ z ∷ w ∷ lo) log path k e l = absurd (omega arith)
 
 -- twice as many of half the size
@@ -138,39 +139,34 @@ right_is_cell c k above s =
     at Z a Y = s.sits Y
     at Z a Z = upper_sits c.lo.z (c.log Z) a (s.sits Z)
 
--- what the code may add to a coordinate
-back : (a b : ℤ) → a -ℤ b +ℤ b ≡ a
-back = solve 2 (λ a b. a ⊖ b ⊕ b ≈ a) cancels
-
-offset : (x n : ℕ) → coordinate x +ℤ pos 2048 ≡ pos n → x ≡ n
-offset x n e = ap unsigned_abs (sym (back (pos x) (pos 2048)) ∙ e)
-
-room : (x n : ℕ) → 0 < n → IsOnGrid (coordinate x) n → x + 2 ^ (n - 1) ≤ 4096
-room x zero above s = absurd (omega arith)
-room x (suc m) above s = subst (λ n. x + 2 ^ n ≤ 4096) (sym (minus_pred (suc m))) (omega (arith, offset x (s.index * 2 ^ suc m) s.at, s.within, double s.index m, double (s.index + 1) m, next s.index (2 ^ m)))
-
-pub may_move : (from log : List ℕ) (path : ℕ) (k : Axis) → 0 < slice_index_or log (axis_index k) 0 → IsCell (cell_of from log path) → (slice_index_or from (axis_index k) 0 + 2 ^ (slice_index_or log (axis_index k) 0 - 1) ≤ 4096) × (slice_index_or log (axis_index k) 0 ≤ 12)
-may_move from log path X above s = (room (slice_index_or from 0 0) (slice_index_or log 0 0) above (s.sits X), (s.sits X).small)
-may_move from log path Y above s = (room (slice_index_or from 1 0) (slice_index_or log 1 0) above (s.sits Y), (s.sits Y).small)
-may_move from log path Z above s = (room (slice_index_or from 2 0) (slice_index_or log 2 0) above (s.sits Z), (s.sits Z).small)
-
 -- a box lies in the root
-within : (x n : ℕ) → IsOnGrid (coordinate x) n → x ≤ 4096
-within x n s =
-    omega (arith, offset x (s.index * 2 ^ n) s.at, s.within, next s.index (2 ^ n))
+between : (x : ℤ) (n : ℕ) → n ≤ 4096 → x +ℤ pos 2048 ≡ pos n → Small 2048 x
+between (pos k) n l e = record { small = omega (arith, l, ap unsigned_abs e) }
+between (negsuc k) n l e = record { small = omega (arith, linear, e) }
 
-pub lies : (from log : List ℕ) (path : ℕ) (k : Axis) → IsCell (cell_of from log path) → (slice_index_or from (axis_index k) 0 ≤ 4096) × (slice_index_or log (axis_index k) 0 ≤ 12)
-lies from log path X s =
-    (within (slice_index_or from 0 0) (slice_index_or log 0 0) (s.sits X), (s.sits X).small)
-lies from log path Y s =
-    (within (slice_index_or from 1 0) (slice_index_or log 1 0) (s.sits Y), (s.sits Y).small)
-lies from log path Z s =
-    (within (slice_index_or from 2 0) (slice_index_or log 2 0) (s.sits Z), (s.sits Z).small)
+within : (x : ℤ) (n : ℕ) → IsOnGrid x n → Small 2048 x
+within x n s = between x (s.index * 2 ^ n) (omega (arith, s.within, next s.index (2 ^ n))) s.at
 
-pub low_of : (from log : List ℕ) (path : ℕ) (k : Axis) → coordinate (slice_index_or from (axis_index k) 0) ≡ low (cell_of from log path) k
-low_of from log path X = refl
-low_of from log path Y = refl
-low_of from log path Z = refl
+pub lies : (lo : List ℤ) (log : List ℕ) (path : ℕ) (k : Axis) → IsCell (cell_of lo log path) → Small 2048 (slice_index_or lo (axis_index k) (pos 0)) × (slice_index_or log (axis_index k) 0 ≤ 12)
+lies lo log path X s = (within (slice_index_or lo 0 (pos 0)) (slice_index_or log 0 0) (s.sits X), (s.sits X).small)
+lies lo log path Y s = (within (slice_index_or lo 1 (pos 0)) (slice_index_or log 1 0) (s.sits Y), (s.sits Y).small)
+lies lo log path Z s = (within (slice_index_or lo 2 (pos 0)) (slice_index_or log 2 0) (s.sits Z), (s.sits Z).small)
 
-pub log_of : (from log : List ℕ) (path : ℕ) (k : Axis) → (cell_of from log path).log k ≡ slice_index_or log (axis_index k) 0
-log_of from log path k = log_at log k
+pub low_small : (lo : List ℤ) (log : List ℕ) (path : ℕ) (k : Axis) {i : ℕ} → i ≡ axis_index k → IsCell (cell_of lo log path) → Small 2048 (slice_index_or lo i (pos 0))
+low_small lo log path k e s = subst (λ j. Small 2048 (slice_index_or lo j (pos 0))) (sym e) (lies lo log path k s).0
+
+-- a coordinate and a side are stored as they are, and so is their sum
+pub side_stored : {h : ℤ} → Small 4096 h → to_z w32 (of_z w32 h) ≡ h
+side_stored s = to_z-of_z (fits_small w32 s tt)
+
+pub sum_fits : {x h : ℤ} → Small 2048 x → Small 4096 h → SFits w32 (to_z w32 (of_z w32 x) +ℤ to_z w32 (of_z w32 h))
+sum_fits r s =
+    subst (λ (y : ℤ). SFits w32 y) (sym (ap₂ (λ u v. u +ℤ v) (to_z-of_z (fits_small w32 r tt)) (side_stored s)))
+    (fits_small w32 (small_add r s) tt)
+
+pub sum_stored : {x h : ℤ} → Small 2048 x → Small 4096 h → to_z w32 (of_z w32 (to_z w32 (of_z w32 x) +ℤ to_z w32 (of_z w32 h))) ≡ x +ℤ h
+sum_stored r s =
+    to_z-of_z (sum_fits r s) ∙ ap₂ (λ u v. u +ℤ v) (to_z-of_z (fits_small w32 r tt)) (side_stored s)
+
+pub log_of : (lo : List ℤ) (log : List ℕ) (path : ℕ) (k : Axis) → (cell_of lo log path).log k ≡ slice_index_or log (axis_index k) 0
+log_of lo log path k = log_at log k

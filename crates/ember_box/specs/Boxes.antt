@@ -1,5 +1,5 @@
 -- Boxes: the root, its halves, and the paths that name them.
-use Rattle.std.specs.Prelude.{◌≡◌, ℕ, pred, ◌+◌, ◌*◌, ◌^◌, ◌≤◌, List, ℤ, pos, ◌+ℤ◌, ◌-ℤ◌, neg_ℤ, refl, slice_index_or}
+use Rattle.std.specs.Prelude.{◌≡◌, ℕ, pred, ◌+◌, ◌*◌, ◌^◌, ◌≤◌, List, ℤ, pos, ◌+ℤ◌, neg_ℤ, refl, slice_index_or}
 use Rattle.std.specs.Coded.{Coded, code_by, coded×, coded_ℕ, coded_ℤ}
 use Rattle.std.proofs.Common.{ap}
 use Rattle.std.proofs.Math.Path.{fun_ext}
@@ -104,16 +104,11 @@ cell_code =
     cell_with p.0 p.1.0 p.1.1.0 p.1.1.1.0 p.1.1.1.1.0 p.1.1.1.1.1.0 p.1.1.1.1.1.1) (λ c.
     ap (λ f. record { lo = c.lo; log = f; path = c.path }) (fun_ext (same_log c.log)))
 
--- a coordinate that is counted from the corner of the root box
-abbrev pub coordinate : ℕ → ℤ
-coordinate n = pos n -ℤ pos 2048
-
--- the box of three such coordinates and three logarithms, in the order of the axes
-abbrev pub cell_of : List ℕ → List ℕ → ℕ → Cell
-cell_of from log path =
-    cell_with (coordinate (slice_index_or from 0 0)) (coordinate (slice_index_or from 1 0))
-    (coordinate (slice_index_or from 2 0)) (slice_index_or log 0 0) (slice_index_or log 1 0)
-    (slice_index_or log 2 0) path
+-- the box of three coordinates and three logarithms, in the order of the axes
+abbrev pub cell_of : List ℤ → List ℕ → ℕ → Cell
+cell_of lo log path =
+    cell_with (slice_index_or lo 0 (pos 0)) (slice_index_or lo 1 (pos 0)) (slice_index_or lo 2 (pos 0))
+    (slice_index_or log 0 0) (slice_index_or log 1 0) (slice_index_or log 2 0) path
 
 -- the place of an axis in that order
 abbrev pub axis_index : Axis → ℕ

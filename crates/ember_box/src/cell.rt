@@ -1,5 +1,5 @@
 // A box that came from the root by halving.
-ghost use Rattle.std.specs.Prelude.{◌≡◌, ◌<◌, ◌≤◌, ◌^◌, [], ◌∷◌, All};
+ghost use Rattle.std.specs.Prelude.{◌≡◌, ◌<◌, ◌≤◌, ◌^◌, [], ◌∷◌, All, pos};
 ghost use Rattle.ember_algebra.specs.Size.{Small};
 ghost use Rattle.ember_box.specs.Boxes as boxes;
 ghost use Rattle.ember_box.specs.Boxes.{IsCell};
@@ -9,13 +9,13 @@ use std::marker::Model;
 
 /// The half-open box from its least corner `lo` on, with the side `2^log` along each axis. Its depth is 36 less the
 /// sum of the three logs: the number of halvings that made it of the root. Its path has one binary digit more than
-/// its depth.
+/// its depth. Along each axis `lo`, in the scaled unit and counted from the corner of the root, is a multiple of the
+/// side.
 #[derive(Drop)]
 pub struct Cell {
-    // the least corner, counted from the corner of the root box
-    from: [u32; 3],
-    log: [u8; 3],
-    path: u64,
+    pub lo: [i32; 3],
+    pub log: [u8; 3],
+    pub path: u64,
 }
 
 impl Model for Cell {
@@ -25,9 +25,9 @@ impl Model for Cell {
 
     ghost coded = { cell_code };
 
-    ghost view = { λ a. cell_of a.from a.log a.path };
+    ghost view = { λ a. cell_of a.lo a.log a.path };
 
-    ghost invariant = { λ a. IsCell (cell_of a.from a.log a.path) };
+    ghost invariant = { λ a. IsCell (cell_of a.lo a.log a.path) };
 }
 
 /// The root box, `[-2048, 2048)^3`, with path 1.
@@ -35,7 +35,7 @@ pub fn root() -> Cell
     ensures { result ≡ boxes.root }
 {
     Cell {
-        from: [0, 0, 0],
+        lo: [-2048, -2048, -2048],
         log: [12, 12, 12],
         path: 1,
     }
@@ -47,7 +47,7 @@ impl Cell {
         ensures { result ≡ self.now }
     {
         Cell {
-            from: self.from,
+            lo: self.lo,
             log: self.log,
             path: self.path,
         }
@@ -74,14 +74,14 @@ impl Cell {
         ensures small { Small 2048 result }
         ensures kept { IsCell self.now }
     {
-        coordinate_of(self.from[axis_index(axis)])
+        self.lo[axis_index(axis)]
     }
 
     /// Its side along an axis, a power of two up to 4096.
     pub fn side(&self, axis: Axis) -> i32
         ensures { result ≡ boxes.side self.now axis }
     {
-        side_of(self.log[axis_index(axis)]) as i32
+        side_of(self.log[axis_index(axis)])
     }
 
     /// The logarithm of its side along an axis.
@@ -96,15 +96,6 @@ impl Cell {
     }
 }
 
-// A coordinate that is counted from the corner of the root box, counted from 0.
-fn coordinate_of(from: u32) -> i32
-    requires { from ≤ 4096 }
-    ensures value { result ≡ boxes.coordinate from }
-    ensures small { Small 2048 result }
-{
-    from as i32 - 2048
-}
-
 // The place of an axis in the order x, y, z.
 fn axis_index(k: Axis) -> usize
     ensures axis_index { result ≡ boxes.axis_index k }
@@ -117,13 +108,21 @@ fn axis_index(k: Axis) -> usize
     }
 }
 
-// The side with this logarithm.
-fn side_of(log: u8) -> u32
+fn power_of_two(log: u8) -> u32
     requires { log ≤ 12 }
     ensures value { result ≡ 2 ^ log }
     ensures bound { result ≤ 4096 }
 {
     1u32 << log
+}
+
+// The side with this logarithm.
+fn side_of(log: u8) -> i32
+    requires { log ≤ 12 }
+    ensures value { result ≡ pos (2 ^ log) }
+    ensures small { Small 4096 result }
+{
+    power_of_two(log) as i32
 }
 
 // The half of a box with the smaller coordinates.
@@ -135,7 +134,7 @@ fn left_half(c: &Cell, k: Axis) -> Cell
     let mut log = c.log;
     log[i] -= 1;
     Cell {
-        from: c.from,
+        lo: c.lo,
         log,
         path: 2 * c.path,
     }
@@ -148,13 +147,13 @@ fn right_half(c: &Cell, k: Axis) -> Cell
 {
     let i = axis_index(k);
     let half = c.log[i] - 1;
-    let at = c.from[i] + side_of(half);
+    let at = c.lo[i] + side_of(half);
     let mut log = c.log;
     log[i] = half;
-    let mut from = c.from;
-    from[i] = at;
+    let mut lo = c.lo;
+    lo[i] = at;
     Cell {
-        from,
+        lo,
         log,
         path: 2 * c.path + 1,
     }

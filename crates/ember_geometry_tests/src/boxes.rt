@@ -38,6 +38,21 @@ fn the_root_is_halved_along_each_axis(rt: HostRuntime) {
     }
 }
 
+// The upper half of the root along an axis has these fields.
+fn check_upper_half(rt: &impl Abort, k: Axis, lo: [i32; 3], log: [u8; 3]) {
+    let (_, upper) = halves(&root(), k);
+    assert_eq!(rt; upper.lo, lo);
+    assert_eq!(rt; upper.log, log);
+    assert_eq!(rt; upper.path, 3);
+}
+
+#[test]
+fn a_box_shows_its_fields(rt: HostRuntime) {
+    check_upper_half(&rt, Axis::X, [0, -2048, -2048], [11, 12, 12]);
+    check_upper_half(&rt, Axis::Y, [-2048, 0, -2048], [12, 11, 12]);
+    check_upper_half(&rt, Axis::Z, [-2048, -2048, 0], [12, 12, 11]);
+}
+
 // The box of side 1 with the least corner 0.
 fn unit_box() -> Cell {
     let mut c = root();
