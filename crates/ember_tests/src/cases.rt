@@ -73,8 +73,8 @@ pub fn words_of(alloc: Global, line: &str) -> Result<Vec<String>, Fail> {
     Ok(words)
 }
 
-/// What these words give over these files.
-pub fn give<R: Threads + Wait + Sync>(
+// What these words give over these files by `run`.
+fn give_by_run<R: Threads + Wait + Sync>(
     rt: &R,
     alloc: Global,
     words: &[String],
@@ -87,24 +87,35 @@ pub fn give<R: Threads + Wait + Sync>(
     Ok(Given { status, out, err })
 }
 
-/// What the words of a line give over these files by the calling thread alone.
-pub fn give_alone(alloc: Global, line: &str, files: &[(&str, &[u8])]) -> Result<Given, Fail> {
-    let words = words_of(alloc, line)?;
+/// What these words give over these files by `run_one`, so by the calling thread alone.
+pub fn give_alone(alloc: Global, words: &[String], files: &[(&str, &[u8])]) -> Result<Given, Fail> {
     let mut shelf = shelf_of(alloc, files)?;
     let mut out = sink_of(alloc, 100_000)?;
     let mut err = sink_of(alloc, 1000)?;
-    let status = run_one(alloc, &words, &mut shelf, &mut out, &mut err, &OpenGate);
+    let status = run_one(alloc, words, &mut shelf, &mut out, &mut err, &OpenGate);
     Ok(Given { status, out, err })
 }
 
-// The calling thread alone gives the same for the case.
-fn is_same_alone(alloc: Global, given: &Given, case: &Case) -> Result<bool, Fail> {
-    let alone = give_alone(alloc, case.words, case.files)?;
-    Ok(
-        alone.status == given.status
-            && alone.out.bytes() == given.out.bytes()
-            && alone.err.bytes() == given.err.bytes(),
-    )
+// Both give the same.
+fn are_same(given: &Given, other: &Given) -> bool {
+    given.status == other.status
+        && given.out.bytes() == other.out.bytes()
+        && given.err.bytes() == other.err.bytes()
+}
+
+/// What these words give over these files, by `run` and by `run_one` alike.
+pub fn give<R: Threads + Wait + Sync>(
+    rt: &R,
+    alloc: Global,
+    words: &[String],
+    files: &[(&str, &[u8])],
+) -> Result<Given, Fail> {
+    let given = give_by_run(rt, alloc, words, files)?;
+    if are_same(&given, &give_alone(alloc, words, files)?) {
+        Ok(given)
+    } else {
+        Err(Fail::from("run_one gives something else"))
+    }
 }
 
 // The output is as it is wanted.
@@ -141,7 +152,6 @@ pub fn check<R: Abort + Threads + Wait + Sync>(
             "{}",
             case.words
         );
-        assert!(rt; is_same_alone(alloc, &given, case)?, "{}", case.words);
     }
     Ok(())
 }

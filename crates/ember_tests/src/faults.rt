@@ -2,7 +2,7 @@
 use crate::cases::{Named, file_set, give, shelf_of, sink_of, words_of};
 use crate::texts::{C, D};
 use ember_io::{Calls, MemoryShelf, MemorySink, Shelf, Sink};
-use ember_run::{Status, run};
+use ember_run::{Status, run, run_one};
 use std::alloc::Global;
 use std::sync::Wait;
 use std::test::Fail;
@@ -25,16 +25,34 @@ fn err_sink(alloc: Global, fails: bool) -> Result<MemorySink, Fail> {
     Ok(MemorySink::new(alloc, 1000, 10, Calls::of(calls))?)
 }
 
-// What the words of the union give over these devices.
+// By which call, and whether each call of err fails.
+#[derive(Clone, Copy)]
+struct Way {
+    alone: bool,
+    err_fails: bool,
+}
+
+// The four ways, one after the other.
+fn way_of(turn: usize) -> Way {
+    Way {
+        alone: turn % 4 >= 2,
+        err_fails: turn % 2 == 1,
+    }
+}
+
+// What the words of the union give over these devices, by `run` or by `run_one`.
 fn unite<R: Threads + Wait + Sync, S: Shelf, O: Sink>(
     rt: &R,
     alloc: Global,
     shelf: &mut S,
     out: &mut O,
-    err_fails: bool,
+    way: Way,
 ) -> Result<Status, Fail> {
     let words = words_of(alloc, UNION)?;
-    let mut err = err_sink(alloc, err_fails)?;
+    let mut err = err_sink(alloc, way.err_fails)?;
+    if way.alone {
+        return Ok(run_one(alloc, &words, shelf, out, &mut err, &OpenGate));
+    }
     Ok(run(rt, alloc, &words, shelf, out, &mut err, &OpenGate))
 }
 
@@ -57,12 +75,12 @@ fn each_call_of_the_shelf_fails_in_turn(rt: HostRuntime) -> Result<(), Fail> {
     let whole = document(&rt, alloc)?;
     let first = calls_for(C.len());
     let all = first.saturating_add(calls_for(D.len()));
-    for turn in 0..200u64 {
-        let call = turn / 2 + 1;
+    for turn in 0..400usize {
+        let call = (turn / 4) as u64 + 1;
         let failing = Calls::of(vec![in alloc; call]?);
         let mut shelf = MemoryShelf::new(alloc, file_set(alloc, FILES)?, 64, failing)?;
         let mut out = sink_of(alloc, 100_000)?;
-        let status = unite(&rt, alloc, &mut shelf, &mut out, turn % 2 == 1)?;
+        let status = unite(&rt, alloc, &mut shelf, &mut out, way_of(turn))?;
         if call > all {
             assert_eq!(rt; status, Status::Done, "call {call}");
             assert_eq!(rt; out.bytes(), whole.as_slice());
@@ -80,12 +98,12 @@ fn each_call_of_the_output_fails_in_turn(rt: HostRuntime) -> Result<(), Fail> {
     let alloc = rt.alloc();
     let whole = document(&rt, alloc)?;
     let pieces = whole.len().div_ceil(100);
-    for turn in 0..1000usize {
-        let before = turn / 2;
+    for turn in 0..2000usize {
+        let before = turn / 4;
         let failing = Calls::of(vec![in alloc; (before as u64).saturating_add(1)]?);
         let mut shelf = shelf_of(alloc, FILES)?;
         let mut out = MemorySink::new(alloc, 100_000, 100, failing)?;
-        let status = unite(&rt, alloc, &mut shelf, &mut out, turn % 2 == 1)?;
+        let status = unite(&rt, alloc, &mut shelf, &mut out, way_of(turn))?;
         let taken = whole.len().min(before.saturating_mul(100));
         assert_eq!(rt; out.bytes(), &whole[..taken]);
         if before > pieces {
@@ -101,10 +119,10 @@ fn each_call_of_the_output_fails_in_turn(rt: HostRuntime) -> Result<(), Fail> {
 fn an_output_with_little_room(rt: HostRuntime) -> Result<(), Fail> {
     let alloc = rt.alloc();
     let whole = document(&rt, alloc)?;
-    for err_fails in [false, true] {
+    for turn in 0..4usize {
         let mut shelf = shelf_of(alloc, FILES)?;
         let mut out = sink_of(alloc, 100)?;
-        let status = unite(&rt, alloc, &mut shelf, &mut out, err_fails)?;
+        let status = unite(&rt, alloc, &mut shelf, &mut out, way_of(turn))?;
         assert_eq!(rt; status, Status::WriteFault);
         assert_eq!(rt; out.bytes().len(), 100);
         assert!(rt; whole.starts_with(out.bytes()));

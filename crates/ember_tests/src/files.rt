@@ -1,8 +1,11 @@
 // Files of the tests, and the devices that hold them.
+use crate::cases::words_of;
 use ember_io::{Calls, FileSet, MemoryShelf, MemorySink, SafeShelf, Shelf};
-use ember_run::{Status, run_one};
+use ember_run::{Status, run, run_one};
 use std::alloc::Global;
+use std::sync::Wait;
 use std::test::Fail;
+use std::thread::Threads;
 use steal_pool::OpenGate;
 
 /// A tetrahedron without its last face.
@@ -10,11 +13,6 @@ pub const OPEN: &[u8] = b"v 0 0 0\nv 1 0 0\nv 0 1 0\nv 0 0 1\nf 1 3 2\nf 1 2 4\n
 
 /// The first three lines of what `faces` writes of the tetrahedron.
 pub const TETRA_LINES: &[u8] = b"ember 1\nf 0 0 -1 0 3\ne -1 0 0 0 0 0 0 1\n";
-
-// The words before the names of files.
-pub const FACES: &[&str] = &["faces"];
-
-pub const AT: &[&str] = &["at", "--point", "1,2,3,16"];
 
 /// One file of that name.
 pub fn file(alloc: Global, name: &str, bytes: &[u8]) -> Result<FileSet, Fail> {
@@ -43,21 +41,19 @@ pub fn failing_sink(alloc: Global, call: u64) -> Result<MemorySink, Fail> {
     Ok(MemorySink::new(alloc, 1000, 10, Calls::of(vec![in alloc; call]?))?)
 }
 
-/// What the words and then these names of files ask for.
-pub fn answer<S: Shelf>(
+/// What the words of a line ask for, by `run_one` or by `run`.
+pub fn answer<R: Threads + Wait + Sync, S: Shelf>(
+    rt: &R,
+    alone: bool,
     alloc: Global,
-    words: &[&str],
-    names: &[&str],
+    line: &str,
     shelf: &mut S,
     out: &mut MemorySink,
     err: &mut MemorySink,
 ) -> Result<Status, Fail> {
-    let mut all = Vec::new(alloc);
-    for word in words {
-        all.push(String::from_str(alloc, word)?)?;
+    let words = words_of(alloc, line)?;
+    if alone {
+        return Ok(run_one(alloc, &words, shelf, out, err, &OpenGate));
     }
-    for name in names {
-        all.push(String::from_str(alloc, name)?)?;
-    }
-    Ok(run_one(alloc, &all, shelf, out, err, &OpenGate))
+    Ok(run(rt, alloc, &words, shelf, out, err, &OpenGate))
 }

@@ -1,9 +1,13 @@
 // Every prefix of a file.
-use crate::files::{AT, FACES, answer, failing_sink, safe_shelf};
+use crate::files::{answer, failing_sink, safe_shelf};
 use crate::texts::TETRA;
 use ember_obj::ObjFault;
 use ember_run::Status;
+use std::alloc::Global;
+use std::process::Abort;
+use std::sync::Wait;
 use std::test::Fail;
+use std::thread::Threads;
 
 // The answer of the reading at the first so many bytes; each line of the file has eight.
 fn reading_of(bytes: u32) -> Status {
@@ -30,24 +34,47 @@ fn ending_of(bytes: u32) -> &'static [u8] {
     }
 }
 
+// What `faces` and `at` give of the first so many bytes of the file, by `run_one` or by `run`.
+fn check_prefix<R: Abort + Threads + Wait + Sync>(
+    rt: &R,
+    alloc: Global,
+    alone: bool,
+    bytes: u32,
+) -> Result<(), Fail> {
+    let end = TETRA.len().min(bytes as usize);
+    let mut shelf = safe_shelf(alloc, &TETRA[..end])?;
+    let mut out = failing_sink(alloc, 0)?;
+    let mut err = failing_sink(alloc, 0)?;
+    let faces = answer(
+        rt,
+        alone,
+        alloc,
+        "faces a.obj",
+        &mut shelf,
+        &mut out,
+        &mut err,
+    )?;
+    let wanted = reading_of(bytes);
+    assert!(rt; faces == wanted);
+    let is_written = out.bytes().ends_with(ending_of(bytes));
+    assert_eq!(rt; is_written, wanted == Status::Done);
+    let line = "at --point 1,2,3,16 a.obj";
+    let at = answer(rt, alone, alloc, line, &mut shelf, &mut out, &mut err)?;
+    let is_open = bytes > 38 && bytes < 63;
+    if wanted == Status::Done && is_open {
+        assert!(rt; matches!(&at, Status::MeshRefused(1, _)));
+    } else {
+        assert!(rt; at == wanted);
+    }
+    Ok(())
+}
+
 #[test]
 fn every_prefix_is_read_or_refused(rt: HostRuntime) -> Result<(), Fail> {
     let alloc = rt.alloc();
-    for bytes in 0..65usize {
-        let mut shelf = safe_shelf(alloc, &TETRA[..bytes])?;
-        let mut out = failing_sink(alloc, 0)?;
-        let mut err = failing_sink(alloc, 0)?;
-        let status = answer(alloc, FACES, &["a.obj"], &mut shelf, &mut out, &mut err)?;
-        assert_eq!(rt; status, reading_of(bytes as u32));
-        let wanted = reading_of(bytes as u32);
-        let is_written = out.bytes().ends_with(ending_of(bytes as u32));
-        assert_eq!(rt; is_written, wanted == Status::Done);
-        let status = answer(alloc, AT, &["a.obj"], &mut shelf, &mut out, &mut err)?;
-        let is_open = bytes > 38 && bytes < 63;
-        if wanted == Status::Done && is_open {
-            assert!(rt; matches!(&status, Status::MeshRefused(1, _)));
-        } else {
-            assert_eq!(rt; status, wanted);
+    for bytes in 0..65u32 {
+        for alone in [false, true] {
+            check_prefix(&rt, alloc, alone, bytes)?;
         }
     }
     Ok(())

@@ -39,7 +39,7 @@ fn two_workers_share_the_halves_of_the_root(rt: HostRuntime) -> Result<(), Fail>
         let given = give_at(&rt, alloc, line, &gate)?;
         assert_eq!(rt; given.status, Status::Done, "{line}");
         assert!(rt; !gate.was_tired(), "{line}");
-        let alone = give_alone(alloc, line, CUBES)?;
+        let alone = give_alone(alloc, &words_of(alloc, line)?, CUBES)?;
         assert_eq!(rt; given.out.bytes(), alone.out.bytes(), "{line}");
     }
     Ok(())
@@ -48,7 +48,8 @@ fn two_workers_share_the_halves_of_the_root(rt: HostRuntime) -> Result<(), Fail>
 #[test]
 fn a_union_is_the_same_by_any_number_of_workers(rt: HostRuntime) -> Result<(), Fail> {
     let alloc = rt.alloc();
-    let alone = give_alone(alloc, "bool --expr m1|m2 --report c.obj d.obj", CUBES)?;
+    let words = words_of(alloc, "bool --expr m1|m2 --report c.obj d.obj")?;
+    let alone = give_alone(alloc, &words, CUBES)?;
     assert_eq!(rt; alone.status, Status::Done);
     assert!(rt; alone.out.bytes().ends_with(b"end 26\n"));
     let report = b"boxes 55 leaves 4 skipped 24 faces 26\n".as_slice();
