@@ -77,6 +77,7 @@ pub fn tree(e: &Expr) -> &Tree
 }
 
 /// Whether the expression is false if all winding numbers are 0.
+#[tactic(none)]
 pub fn bounded(e: &Expr) -> bool
     ensures { result ≡ not (truth (replicate 64 (pos 0)) (formula_of e.now)) }
 {

@@ -25,6 +25,7 @@ pub enum Joint {
 }
 
 // The fault of the first token, which can't stand here.
+#[tactic(none)]
 fn misplaced(scope: Scope, tokens: &[Token]) -> ExprFault
     ensures { result ≡ misplaced scope tokens.now }
 {
@@ -45,6 +46,7 @@ fn after_first(tokens: &[Token]) -> &[Token]
     }
 }
 
+#[tactic(none)]
 fn limited(place: u32, number: u32) -> Result<u32, ExprFault>
     ensures { result ≡ limited place number }
 {
@@ -59,11 +61,11 @@ fn mesh_number(scope: Scope, place: u32, number: u32) -> Result<u32, ExprFault>
     ensures number { result ≡ mesh_number scope place number }
     ensures exists { IfOk result (λ n. IsMeshNumber scope.meshes n) }
 {
-    let number = limited(place, number)?;
-    if number >= 1 && number <= scope.meshes {
-        Ok(number)
+    let mesh = limited(place, number)?;
+    if mesh >= 1 && mesh <= scope.meshes {
+        Ok(mesh)
     } else {
-        Err(ExprFault::NoMesh(number))
+        Err(ExprFault::NoMesh(mesh))
     }
 }
 

@@ -100,6 +100,7 @@ fn is_ray_clear(p: &Spot, a: Axis, n: &Plane, es: &[Plane]) -> bool
     }
 }
 
+#[tactic(none)]
 fn clear_of(p: &Spot, n: &Plane, es: &[Plane]) -> bool
     requires spot { IsValidSpot p.now }
     requires support { IsValidPlane n.now }

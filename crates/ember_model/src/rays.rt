@@ -56,6 +56,7 @@ pub fn face_crossing(p: &Spot, a: Axis, f: &Face) -> i32
     }
 }
 
+#[tactic(none)]
 fn all_below(s: i128, e: i128, f: i128, g: i128) -> bool
     requires s { Small (2 ^ 80) s }
     requires e { Small (2 ^ 66) e }

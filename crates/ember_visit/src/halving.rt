@@ -24,6 +24,7 @@ pub fn tris_at(alloc: Global, tris: &[Tri], list: &[u32]) -> Result<Vec<Tri>, Ou
 }
 
 // The jobs of the halves of a job along an axis, by the indices of the triangles near each.
+#[tactic(none)]
 fn jobs_of(s: &Scene, job: &Job, axis: Axis, near_low: Vec<u32>, near_high: Vec<u32>) -> (Job, Job)
     requires side { 0 < job.now.cell.log axis }
     requires places { All (λ i. i < length s.now.tris) job.now.list }

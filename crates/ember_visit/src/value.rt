@@ -32,6 +32,7 @@ fn meshes_of(tris: &[Tri], list: &[u32]) -> Mask
 /// triangle in the job's list is undecided, and each other mesh counts as in the job's vector. It
 /// is the truth at each vector with the same counts of those other meshes. The list holds indices
 /// of the scene's triangles, and each count is at most 2^24 in size.
+#[tactic(none)]
 pub fn box_value(e: &Expr, s: &Scene, job: &Job) -> Option<bool>
     requires places { All (λ i. i < length s.now.tris) job.now.list }
     requires counts { AreCounts job.now.at.counts }

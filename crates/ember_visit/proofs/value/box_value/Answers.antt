@@ -1,11 +1,24 @@
-use Rattle.std.proofs.Common.{◌≡◌, ℕ, Option, None, Some, IfSome, ◌∙◌, sym, List, ℤ, Bool}
+use Rattle.std.proofs.Common.{◌≡◌, ℕ, Option, None, Some, IfSome, ◌∙◌, sym, subst, All, rules, List, ℤ, Bool}
+use Rattle.ember_model.specs.Meshes.{HasMesh}
 use Rattle.ember_expr.specs.Formula.{Formula, formula_of, IsMeshNumber}
 use Rattle.ember_expr.specs.Truth.{truth}
 use Rattle.ember_known.specs.Masks.{is_in}
 use Rattle.ember_known.specs.Law.{AgreeOutside}
 use Rattle.ember_box.specs.Near.{listed}
 use Rattle.ember_visit.specs.Values.{has_mesh, box_value}
+use Rattle.ember_visit.proofs.IndexLists.{numbered_less}
 use Rattle.ember_visit.proofs.value.box_value.Goals as goal
+
+pub meshes_of-requires-clause-numbered : goal.meshes_of-requires-clause-numbered
+meshes_of-requires-clause-numbered c =
+    let kept = c.args.s.now.kept in
+    subst (All (HasMesh 64)) (sym c.items.ensures) (numbered_less c.args.s.now.meshes c.args.s.now.tris kept.few_meshes kept.numbered)
+
+pub meshes_of-requires-clause-places : goal.meshes_of-requires-clause-places
+meshes_of-requires-clause-places c = search rules
+
+pub known-requires : goal.known-requires
+known-requires c = c.requires.counts
 
 same_meshes : (c : goal.After-known) (n : ℕ) → IsMeshNumber 64 n → is_in c.meshes_of.result.0 n ≡ has_mesh (listed c.args.s.now.tris c.args.job.now.list) n
 same_meshes c n fit = c.meshes_of.ensures n fit ∙ (λ i. has_mesh (listed (c.items.ensures i) (c.items-2.ensures i)) n)
