@@ -15,11 +15,15 @@ returns-then-length-most-clause-told_longer g c =
 
 pub loop-count-preserved : goal.loop-count-preserved
 loop-count-preserved g c =
-    let i = c.loop-count.invariant in record {
+    let i = c.loop-count.invariant in
+    let piece = take c.in-Ok-read.count c.read.new.buf in
+    let went = sym c.is_err.ensures.value ∙ c.if-is_err.false in
+    let longer = appended c.extend_from_slice.result c.loop-count.bytes.items piece c.extend_from_slice.new.self.items went c.extend_from_slice.ensures.items in
+    let told = g.S.Shelf.contents c.args.shelf.now c.args.name.now in record {
       contents = c.in-Ok-read.ensures.contents ∙ i.contents;
       begun = c.in-Ok-read.ensures.begun ∙ i.begun;
       fault_at = c.in-Ok-read.ensures.mark ∙ i.fault_at;
       later = omega arith;
-      read = subst (λ xs. Consumes (g.S.Shelf.contents c.args.shelf.now c.args.name.now) (g.S.Shelf.unread c.read.new.self) xs) (sym (appended c.extend_from_slice.result c.loop-count.bytes.items (take c.in-Ok-read.count c.read.new.buf) c.extend_from_slice.new.self.items (sym c.is_err.ensures.value ∙ c.if-is_err.false) c.extend_from_slice.ensures.items)) (Consumes-append _ _ _ _ _ i.read c.in-Ok-read.ensures.bytes.0);
+      read = subst (λ xs. Consumes told (g.S.Shelf.unread c.read.new.self) xs) (sym longer) (Consumes-append _ _ _ _ _ i.read c.in-Ok-read.ensures.bytes.0);
       most = search rules;
     }
