@@ -15,6 +15,7 @@ pub struct Report {
     pub faces: u64,
 }
 
+#[tactic(none)]
 fn is_leaf(entry: &Entry) -> bool
     ensures { result ≡ is_leaf entry.now }
 {
@@ -24,6 +25,7 @@ fn is_leaf(entry: &Entry) -> bool
     }
 }
 
+#[tactic(none)]
 fn is_skipped(entry: &Entry) -> bool
     ensures { result ≡ is_skipped entry.now }
 {

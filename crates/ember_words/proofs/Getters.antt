@@ -1,5 +1,5 @@
 -- What the getters of clap's matches give, as values of its rows
-use Rattle.std.proofs.Common.{◌≡◌, Bool, true, false, ◌&&◌, refl, length, ◌≤◌, arith, List, map, not, option_map}
+use Rattle.std.proofs.Common.{◌≡◌, Bool, true, false, ◌&&◌, refl, length, ◌<◌, ◌≤◌, arith, List, map, not, option_map}
 use Rattle.std.specs.Borrow.{Bor}
 use Rattle.std.specs.List.{list_all}
 use Rattle.std.specs.Prelude.{nat_le}
@@ -23,6 +23,12 @@ names_held names few =
     let same = list_all-map (λ name. not (is_empty name)) (λ (name : Bor Text). name.now) names in
     let fits : nat_le (length (map (λ (name : Bor Text). name.now) names)) 64 ≡ true = simp length-map (grind (arith, nat_tests)) in
     rw (fits, same) refl
+
+pub too_many_names : (names : List (Bor Text)) → 64 < length names → nat_le (length names) 64 ≡ are_names (map (λ name. name.now) names)
+too_many_names names many =
+    let few : nat_le (length names) 64 ≡ false = grind (arith, nat_tests) in
+    let fits : nat_le (length (map (λ (name : Bor Text). name.now) names)) 64 ≡ false = simp length-map few in
+    rw (few, fits) refl
 
 pub first_half : (a b : Bool) → (a && b) ≡ true → a ≡ true
 first_half true b h = refl
