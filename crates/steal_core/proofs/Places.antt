@@ -24,7 +24,7 @@ none_at : (P : Placed → Bool) (front back : List Placed) (x : Placed) → HasN
 none_at P [] back x h = h.0
 none_at P (y ∷ front) back x h = none_at P front back x h.1
 
-equal_self : (n : ℕ) → (n == n) ≡ true
+pub equal_self : (n : ℕ) → (n == n) ≡ true
 equal_self n = elim (eqb_tells n n) [ inl h ↦ h.0 | inr h ↦ absurd (h.1 refl) ]
 
 held_self : (by path : ℕ) → is_held by path (placed (Hand by) path) ≡ true
@@ -44,6 +44,10 @@ hand_is : (by : ℕ) (place : Place) → in_hand by place ≡ true → place ≡
 hand_is by (Hand i) e = ap Hand (equal_true i by e)
 hand_is by (Deque i) e = absurd (true≢false (sym e))
 hand_is by Ended e = absurd (true≢false (sym e))
+
+-- a box in a hand of another number isn't held there
+pub in_another_hand : (hand by path : ℕ) (s : Placed) → s.place ≡ Hand hand → (hand ≡ by → ⊥) → (hand == by) ≡ is_held by path s
+in_another_hand hand by path s is other = elim (eqb_tells hand by) [ inl h ↦ absurd (other h.1) | inr h ↦ rw (is, h.0) refl ]
 
 deque_is : (from : ℕ) (place : Place) → in_deque from place ≡ true → place ≡ Deque from
 deque_is from (Hand i) e = absurd (true≢false (sym e))
@@ -143,6 +147,13 @@ at_seam [] back s d zero e = refl
 at_seam [] back s d (suc i) e = absurd (omega arith)
 at_seam (z ∷ front) back s d zero e = absurd (omega arith)
 at_seam (z ∷ front) back s d (suc i) e = at_seam front back s d i (omega arith)
+
+-- what is found stands in the list
+pub first_below : (P : Placed → Bool) (boxes : List Placed) (i : ℕ) → FirstAt P boxes i → i < length boxes
+first_below P boxes i at = omega (arith, at.6, ap length at.3, length-append at.0 (at.2 ∷ at.1))
+
+pub last_below : (P : Placed → Bool) (boxes : List Placed) (i : ℕ) → LastAt P boxes i → i < length boxes
+last_below P boxes i at = omega (arith, at.6, ap length at.3, length-append at.0 (at.2 ∷ at.1))
 
 pub seen : (P : Placed → Bool) (xs ys : List Placed) → HasNone P xs → xs ≡ ys → HasNone P ys
 seen P xs ys h e = subst (HasNone P) e h

@@ -32,6 +32,7 @@ impl Model for State {
 }
 
 // Whether this is that box in that hand.
+#[tactic(none)]
 fn held(placed: &Placed, by: u32, path: u64) -> bool
     ensures { result ≡ is_held by path placed.now }
 {
@@ -102,6 +103,7 @@ fn find_last(boxes: &[Placed], from: u32) -> Option<usize>
 impl State {
     /// The start: worker 0 holds box 1, and all else is empty. It reserves room for this many `boxes`, in hands,
     /// deques and ended together; there are 1 to 64 `workers`. Its one error is want of memory.
+    #[tactic(none)]
     pub fn new(alloc: Global, workers: u32, boxes: u32) -> Result<State, OutOfMemory>
         requires { (1 ≤ workers) × (workers ≤ 64) × (1 ≤ boxes) }
         ensures { IfOk result (λ s. s ≡ begin workers boxes) }
@@ -189,6 +191,7 @@ impl State {
         true
     }
 
+    #[tactic(none)]
     fn steal(&mut self, by: u32, from: u32) -> bool
         ensures { OnAnswer result (Steal by from) self.old self.new }
     {
@@ -202,6 +205,7 @@ impl State {
         true
     }
 
+    #[tactic(none)]
     fn drain(&mut self, from: u32) -> bool
         ensures { OnAnswer result (Drain from) self.old self.new }
     {
@@ -230,6 +234,7 @@ impl State {
 
     /// Does the event's step. It answers false exactly if the event is no step, and then nothing changes. A Push
     /// or a Hold needs room for two more boxes, and a path below 2^36. It takes no memory.
+    #[tactic(none)]
     pub fn apply(&mut self, event: Event) -> bool
         requires { Fits event self.old }
         ensures { OnAnswer result event self.old self.new }

@@ -1,4 +1,5 @@
 pub mod DequeSteps
+pub mod EndedBoxes
 pub mod PassLists
 pub mod AccountSums
 pub mod LendingSteps
