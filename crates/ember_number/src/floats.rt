@@ -21,6 +21,7 @@ const SCALE_32: u16 = 149;
 const SCALE_64: u16 = 1074;
 
 /// The value of the binary32 (an IEEE 754 float of 32 bits) with these bits; none of infinity and NaN.
+#[tactic(none)]
 pub fn binary32(bits: u32) -> Option<Number<'static>>
     ensures { option_map value_of result ≡ binary32_value bits }
 {
@@ -67,6 +68,7 @@ pub fn binary64(bits: u64) -> Option<Number<'static>>
 }
 
 /// A whole number.
+#[tactic(none)]
 pub fn integer(value: i64) -> Number<'static>
     ensures { value_of result ≡ whole_number value }
 {

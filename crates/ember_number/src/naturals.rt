@@ -10,6 +10,7 @@ pub const MOST: u64 = 1_000_000_000_000_000;
 
 /// The number that a text of digits spells, or [`MOST`] if it is larger. None if the text has another
 /// byte than digits, or no byte.
+#[tactic(none)]
 pub fn number_in(text: &[u8]) -> Option<u64>
     ensures { result ≡ option_map (min MOST) (number_of text.now) }
 {
@@ -20,6 +21,7 @@ pub fn number_in(text: &[u8]) -> Option<u64>
 }
 
 /// The number that a text of digits spells, if it is below this limit.
+#[tactic(none)]
 pub fn number_below(limit: u32, text: &[u8]) -> Option<u32>
     ensures { result ≡ below limit (number_of text.now) }
 {

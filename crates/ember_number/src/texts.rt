@@ -39,6 +39,7 @@ fn split_point(text: &[u8]) -> (&[u8], &[u8])
     }
 }
 
+#[tactic(none)]
 fn read_exponent(minus: bool, digits: &[u8]) -> Option<Exponent>
     ensures { result ≡ exponent_of_digits minus digits.now }
 {
@@ -56,6 +57,7 @@ fn read_exponent(minus: bool, digits: &[u8]) -> Option<Exponent>
 }
 
 // The part of a text before its first `e` or `E`, and the exponent behind it.
+#[tactic(none)]
 fn split_exponent(text: &[u8]) -> (&[u8], Option<Exponent>)
     ensures mantissa { result.0.now ≡ mantissa text.now }
     ensures exponent { result.1 ≡ exponent_of text.now }
@@ -81,6 +83,7 @@ fn split_exponent(text: &[u8]) -> (&[u8], Option<Exponent>)
 }
 
 // The decimal with this sign, these digits before and behind the point, and this exponent.
+#[tactic(none)]
 fn decimal_of_parts<'a>(
     minus: bool,
     whole: &'a [u8],

@@ -9,7 +9,7 @@ use ember_number::{MOST, number_in};
 use ember_scan::{Part, next_word};
 
 // The counts of a row with this first word, each the limit if it is larger.
-#[tactic(auto, using(crate::proofs::RowCounts::counts_both, crate::proofs::RowCounts::counts_no_first, crate::proofs::RowCounts::counts_no_second))]
+#[tactic(none)]
 pub(crate) fn counts_in<'a>(first: Part<'a>, others: Part<'a>) -> Option<(u64, u64)>
     ensures value { result ≡ option_map (capped MOST) (counts_of (piece_of first.entry ∷ words_in others.entry)) }
     ensures small { IfSome result (λ c. (c.0 ≤ MOST) × (c.1 ≤ MOST)) }

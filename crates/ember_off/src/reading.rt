@@ -101,7 +101,7 @@ fn read_rows<'a>(alloc: Global, rows: Rows<'a>) -> Result<Surface<'a>, OffFault>
 }
 
 // The surface, if it is a mesh.
-#[tactic(auto, using(ember_surface::proofs::FarPoints::far_by_content))]
+#[tactic(none)]
 fn checked<'a>(surface: Surface<'a>) -> Result<Surface<'a>, OffFault>
     ensures ok { IfOk result (λ s. as_mesh (Ok (content_of surface.entry)) ≡ Ok (content_of s)) }
     ensures fault { IfErr result (λ e. as_mesh (Ok (content_of surface.entry)) ≡ Err e) }
@@ -116,6 +116,7 @@ fn checked<'a>(surface: Surface<'a>) -> Result<Surface<'a>, OffFault>
 }
 
 // The surface of a file, if it is a mesh.
+#[tactic(none)]
 fn read_mesh<'a>(alloc: Global, bytes: &'a [u8]) -> Result<Surface<'a>, OffFault>
     requires { length bytes.now ≤ 268435456 }
     ensures ok { IfOk result (λ s. read_off_of bytes.now ≡ Ok (content_of s)) }

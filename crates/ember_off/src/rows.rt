@@ -6,6 +6,7 @@ use crate::row::{Row, Rows};
 use ember_scan::{next_line, next_word, without_comment};
 
 // The first row, and what follows it.
+#[tactic(none)]
 pub(crate) fn next_row<'a>(rows: Rows<'a>) -> Option<(Row<'a>, Rows<'a>)>
     requires { rows.number ≤ rows.rest.start + 1 }
     ensures rows { MatchOption result (rows_in rows.entry ≡ [])
@@ -33,6 +34,7 @@ pub(crate) fn next_row<'a>(rows: Rows<'a>) -> Option<(Row<'a>, Rows<'a>)>
 }
 
 // Whether there are as many rows.
+#[tactic(none)]
 pub(crate) fn are_rows<'a>(rows: Rows<'a>, count: usize) -> bool
     requires { rows.number ≤ rows.rest.start + 1 }
     ensures { result ≡ nat_le count (length (rows_in rows.entry)) }

@@ -14,6 +14,7 @@ use ember_scan::{Part, next_word};
 use ember_surface::Vertex;
 use std::alloc::Global;
 
+#[tactic(none)]
 fn read_coordinate<'a>(line: u32, word: Part<'a>) -> Result<Number<'a>, OffFault>
     ensures ok { IfOk result (λ n. coordinate_in line (piece_of word.entry) ≡ Ok (value_of n)) }
     ensures fault { IfErr result (λ e. coordinate_in line (piece_of word.entry) ≡ Err e) }
@@ -35,6 +36,7 @@ fn two_more<'a>(row: Row<'a>) -> Option<(Part<'a>, Part<'a>)>
     Some((second, third))
 }
 
+#[tactic(none)]
 fn read_vertex<'a>(row: Row<'a>) -> Result<Vertex<'a>, OffFault>
     ensures ok { IfOk result (λ v. point_in (words_of_row row.entry) ≡ Ok (point_of v)) }
     ensures fault { IfErr result (λ e. point_in (words_of_row row.entry) ≡ Err e) }

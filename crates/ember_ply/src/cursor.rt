@@ -38,6 +38,7 @@ pub(crate) fn first_cursor<'a>(encoding: Encoding, body: &'a [u8]) -> Cursor<'a>
 }
 
 // The first line that has a word, and what follows it.
+#[tactic(none)]
 fn next_filled<'a>(later: Part<'a>) -> Option<(Part<'a>, Part<'a>)>
     ensures rows { MatchOption result (rows_of (lines_in later.entry) ≡ [])
         (λ p. rows_of (lines_in later.entry) ≡ words_in p.0 ∷ rows_of (lines_in p.1)) }

@@ -41,6 +41,7 @@ fn add_vertex<'a>(surface: &mut Surface<'a>, number: u32, row: &Row<'a>) -> Resu
 }
 
 // Appends the triangles of a row.
+#[tactic(none)]
 fn add_face<'a>(surface: &mut Surface<'a>, number: u32, row: &Row<'a>) -> Result<(), PlyFault>
     ensures ok { OnOk result
         (with_row ElementKind.Face number (content_of surface.old) (row_of row.now) ≡ Ok (content_of surface.new)) }
@@ -124,6 +125,7 @@ fn read_rows<'a>(
 }
 
 // Why an element without properties isn't read.
+#[tactic(none)]
 fn fault_without_properties(element: Element) -> Option<PlyFault>
     ensures { result ≡ bare_fault element.kind element.count }
 {

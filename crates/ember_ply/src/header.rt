@@ -18,6 +18,7 @@ pub(crate) struct Header {
     pub declarations: Vec<Declaration>,
 }
 
+#[tactic(none)]
 fn add_declaration(header: &mut Header, declaration: Declaration) -> Result<(), PlyFault>
     ensures ok { OnOk result (header_of header.new ≡ with_entry (header_of header.old) (Entry.Declared declaration)) }
     ensures fault { IfErr result (λ e. e ≡ PlyFault.OutOfMemory) }

@@ -87,6 +87,7 @@ pub(crate) fn element_kind(name: &[u8]) -> ElementKind
     ElementKind::Other
 }
 
+#[tactic(none)]
 fn axis_with_name(name: &[u8]) -> Option<Axis>
     ensures { result ≡ axis_of_name name.now }
 {

@@ -56,7 +56,7 @@ fn read_content<'a>(alloc: Global, bytes: &'a [u8]) -> Result<Surface<'a>, PlyFa
 }
 
 // The surface, if it is a mesh.
-#[tactic(auto, using(ember_surface::proofs::FarPoints::far_by_content))]
+#[tactic(none)]
 fn checked<'a>(surface: Surface<'a>) -> Result<Surface<'a>, PlyFault>
     ensures ok { IfOk result (λ s. as_mesh (Ok (content_of surface.entry)) ≡ Ok (content_of s)) }
     ensures fault { IfErr result (λ e. as_mesh (Ok (content_of surface.entry)) ≡ Err e) }

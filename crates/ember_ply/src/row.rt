@@ -30,6 +30,7 @@ pub(crate) fn clear_row<'a>(row: &mut Row<'a>)
 }
 
 // Puts a scalar into the row, if it is a coordinate.
+#[tactic(none)]
 pub(crate) fn put_scalar<'a>(
     row: &mut Row<'a>,
     place: RowPlace,

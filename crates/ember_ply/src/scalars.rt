@@ -53,6 +53,7 @@ pub(crate) fn scalar_number<'a>(scalar: Scalar<'a>) -> Option<u64>
 }
 
 // The scalar as an index below this limit.
+#[tactic(none)]
 pub(crate) fn index_below<'a>(limit: u32, scalar: Scalar<'a>) -> Option<u32>
     ensures { result ≡ below limit (number_of_scalar (scalar_of scalar.entry)) }
 {
@@ -64,7 +65,7 @@ pub(crate) fn index_below<'a>(limit: u32, scalar: Scalar<'a>) -> Option<u32>
 }
 
 // The number of the first two bytes, and what follows them.
-#[tactic(auto, unfolding(crate::specs::Scalars::bits_of))]
+#[tactic(none)]
 fn split_u16(order: ByteOrder, bytes: &[u8]) -> Option<(u16, &[u8])>
     ensures { MatchOption result (length bytes.now < 2) (λ p.
         (p.0 ≡ bits_of order w16 (take 2 bytes.now)) × (p.1.now ≡ drop 2 bytes.now) × (2 ≤ length bytes.now)) }

@@ -6,6 +6,7 @@ ghost use Rattle.ember_ply.specs.Header.{two_of, four_of};
 use ember_scan::{Part, next_word};
 
 // The words, if there are two.
+#[tactic(none)]
 pub(crate) fn two_words<'a>(words: Part<'a>) -> Option<(Part<'a>, Part<'a>)>
     ensures { MatchOption result (two_of (words_in words.entry) ≡ None)
         (λ t. two_of (words_in words.entry) ≡ Some (piece_of t.0, piece_of t.1)) }

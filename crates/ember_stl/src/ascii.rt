@@ -42,6 +42,7 @@ fn read_vertex<'a>(line: u32, words: Text<'a>) -> Result<Vertex<'a>, StlFault>
 }
 
 // The corners, if there are exactly three.
+#[tactic(none)]
 fn exactly_three<'a>(corners: &[Vertex<'a>]) -> Option<(Vertex<'a>, Vertex<'a>, Vertex<'a>)>
     ensures { MatchOption result (length corners.now ≢ 3) (λ t. corners.now ≡ t.0 ∷ t.1 ∷ t.2 ∷ []) }
 {
@@ -106,6 +107,7 @@ impl<'a> Reader<'a> {
     }
 
     // Reads one line.
+    #[tactic(none)]
     fn add_line(&mut self, line: u32, text: Text<'a>) -> Result<(), StlFault>
         requires text { EndsWithinFile text }
         requires few { vertex_count self.old + 4 < 2 ^ 32 }

@@ -13,7 +13,7 @@ use ember_surface::{Surface, Vertex};
 use std::alloc::{AllocError, Global};
 
 // The three coordinates from this byte on, if all are finite.
-#[tactic(auto, unfolding(crate::specs::Binary::point_at))]
+#[tactic(none)]
 fn read_point(bytes: &[u8], at: usize) -> Option<Vertex<'static>>
     requires { at + 12 ≤ length bytes.now }
     ensures { option_map point_of result ≡ point_at bytes.now at }
@@ -25,6 +25,7 @@ fn read_point(bytes: &[u8], at: usize) -> Option<Vertex<'static>>
 }
 
 // Appends the facet of this index.
+#[tactic(none)]
 fn add_facet(surface: &mut Surface, bytes: &[u8], facet: u32) -> Result<(), StlFault>
     requires bytes { 50 * facet + 134 ≤ length bytes.now }
     requires few { length surface.old.vertices.items + 3 < 2 ^ 32 }

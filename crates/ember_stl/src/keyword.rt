@@ -13,6 +13,7 @@ pub(crate) enum Keyword {
     Unknown,
 }
 
+#[tactic(none)]
 fn is_passed_over(word: &[u8]) -> bool
     ensures { result ≡ is_passed word.now }
 {

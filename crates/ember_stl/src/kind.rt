@@ -18,6 +18,7 @@ pub(crate) const COUNT_AT: usize = 80;
 const FIRST_BYTES: usize = 4096;
 
 // The number of four bytes, the lowest byte first.
+#[tactic(none)]
 pub(crate) fn read_number(bytes: &[u8], at: usize) -> u32
     requires { at + 4 ≤ length bytes.now }
     ensures { result ≡ number_at bytes.now at }
@@ -41,6 +42,7 @@ pub(crate) fn count_facets(bytes: &[u8]) -> u32
 
 /// Whether the length is that of a binary STL: exactly 84 + 50 n bytes, where the four bytes from
 /// byte 80 on are n, the lowest byte first. The header may begin with `solid`.
+#[tactic(none)]
 pub fn is_binary_stl(bytes: &[u8]) -> bool
     ensures kind { result ≡ is_binary bytes.now }
     ensures length { OnTrue result (length bytes.now ≡ 84 + 50 * number_at bytes.now 80) }

@@ -12,7 +12,7 @@ use ember_surface::{Surface, first_too_large};
 use std::alloc::Global;
 
 // The same surface, if it has triangles and none is too far out.
-#[tactic(auto, using(crate::proofs::Triangles::same_first_far))]
+#[tactic(none)]
 fn checked<'a>(surface: Surface<'a>, binary: bool) -> Result<Surface<'a>, StlFault>
     requires { IsSurface surface }
     ensures ok { IfOk result (λ s. spec.checked binary (Ok (content_of surface.entry)) ≡ Ok (content_of s)) }

@@ -13,6 +13,7 @@ pub(crate) struct Text<'a> {
 }
 
 // From where to where the text stands.
+#[tactic(none)]
 pub(crate) fn span(text: Text) -> Span
     requires { EndsWithinFile text }
     ensures { result ≡ span_of (word_of text.entry) }

@@ -1,0 +1,63 @@
+use Rattle.std.proofs.Common.{rules, arith}
+use Rattle.std.proofs.lemmas.Grind.{common_steps}
+use Rattle.ember_stl.proofs.binary.add_facet.Goals as goal
+
+pub overflow_mul-start : goal.overflow_mul-start
+overflow_mul-start c = first_of (search rules, grind (arith, common_steps))
+
+pub overflow_add-start : goal.overflow_add-start
+overflow_add-start c = first_of (search rules, grind (arith, common_steps))
+
+pub read_point-requires : goal.read_point-requires
+read_point-requires c = first_of (search rules, grind (arith, common_steps))
+
+pub overflow_add-result : goal.overflow_add-result
+overflow_add-result c = first_of (search rules, grind (arith, common_steps))
+
+pub returns-in_default-clause-err : goal.returns-in_default-clause-err
+returns-in_default-clause-err c = first_of (search rules, grind (arith, common_steps))
+
+pub overflow_add-start-2 : goal.overflow_add-start-2
+overflow_add-start-2 c = first_of (search rules, grind (arith, common_steps))
+
+pub read_point-requires-2 : goal.read_point-requires-2
+read_point-requires-2 c = first_of (search rules, grind (arith, common_steps))
+
+pub overflow_add-result-in_default-read_point : goal.overflow_add-result-in_default-read_point
+overflow_add-result-in_default-read_point c = first_of (search rules, grind (arith, common_steps))
+
+pub returns-in_default-read_point-clause-err : goal.returns-in_default-read_point-clause-err
+returns-in_default-read_point-clause-err c = first_of (search rules, grind (arith, common_steps))
+
+pub overflow_add-start-3 : goal.overflow_add-start-3
+overflow_add-start-3 c = first_of (search rules, grind (arith, common_steps))
+
+pub read_point-requires-3 : goal.read_point-requires-3
+read_point-requires-3 c = first_of (search rules, grind (arith, common_steps))
+
+pub overflow_add-result-in_default-read_point-2 : goal.overflow_add-result-in_default-read_point-2
+overflow_add-result-in_default-read_point-2 c = first_of (search rules, grind (arith, common_steps))
+
+pub returns-in_default-read_point-2-clause-err : goal.returns-in_default-read_point-2-clause-err
+returns-in_default-read_point-2-clause-err c = first_of (search rules, grind (arith, common_steps))
+
+pub overflow_add-facet : goal.overflow_add-facet
+overflow_add-facet c = first_of (search rules, grind (arith, common_steps))
+
+pub push_triangle-requires-clause-few : goal.push_triangle-requires-clause-few
+push_triangle-requires-clause-few c = first_of (search rules, grind (arith, common_steps))
+
+pub push_triangle-requires-clause-surface : goal.push_triangle-requires-clause-surface
+push_triangle-requires-clause-surface c = first_of (search rules, grind (arith, common_steps))
+
+pub returns-then-is_err-clause-err : goal.returns-then-is_err-clause-err
+returns-then-is_err-clause-err c = first_of (search rules, grind (arith, common_steps))
+
+pub returns-clause-ok : goal.returns-clause-ok
+returns-clause-ok c = first_of (search rules, grind (arith, common_steps))
+
+pub returns-clause-surface : goal.returns-clause-surface
+returns-clause-surface c = first_of (search rules, grind (arith, common_steps))
+
+pub returns-clause-count : goal.returns-clause-count
+returns-clause-count c = first_of (search rules, grind (arith, common_steps))

@@ -1,0 +1,20 @@
+use Rattle.std.proofs.Common.{rules, arith}
+use Rattle.std.proofs.lemmas.Grind.{common_steps}
+use Rattle.ember_stl.specs.ReadStl as spec
+use Rattle.ember_stl.proofs.Triangles.{same_first_far}
+use Rattle.ember_stl.proofs.reading.checked.Goals as goal
+
+pub returns-then-is_empty-clause-err : goal.returns-then-is_empty-clause-err
+returns-then-is_empty-clause-err c = first_of (search rules, grind (arith, same_first_far), grind (arith, common_steps))
+
+pub returns-in-Some-clause-err : goal.returns-in-Some-clause-err
+returns-in-Some-clause-err c = first_of (search rules, grind (arith, same_first_far), grind (arith, common_steps))
+
+pub returns-in-Some-2-clause-err : goal.returns-in-Some-2-clause-err
+returns-in-Some-2-clause-err c = first_of (search rules, grind (arith, same_first_far), grind (arith, common_steps))
+
+pub returns-clause-ok : goal.returns-clause-ok
+returns-clause-ok c = first_of (search rules, grind (arith, same_first_far), grind (arith, common_steps))
+
+pub returns-clause-surface : goal.returns-clause-surface
+returns-clause-surface c = first_of (search rules, grind (arith, same_first_far), grind (arith, common_steps))
