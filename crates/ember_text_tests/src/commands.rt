@@ -20,28 +20,129 @@ fn command(alloc: Global, words: &[&str]) -> Result<Command, Fail> {
     }
 }
 
-fn check_names(rt: &impl Abort, files: &Texts, names: &[&str]) {
-    assert_eq!(rt; files.items().len(), names.len());
-    for (file, name) in files.items().iter().zip(names) {
-        assert_eq!(rt; file.as_str(), *name);
+// A command is looked at by reference, since parts that are taken out of it cost seconds of proof.
+
+fn name_of(command: &Command) -> &'static str {
+    match command {
+        Command::Faces { .. } => "faces",
+        Command::At { .. } => "at",
+        Command::Boole { .. } => "bool",
+        Command::Demo { .. } => "demo",
+        Command::Voxels { .. } => "voxels",
+        Command::Pairs { .. } => "pairs",
+        Command::Slice { .. } => "slice",
     }
+}
+
+// Its numbers, in the order in which they stand in `Command`; a report is 1, and what it lacks is 0.
+fn numbers_of(command: &Command) -> [i64; 5] {
+    match command {
+        Command::Faces { places, .. } => [i64::from(*places), 0, 0, 0, 0],
+        Command::At { point, places, .. } => {
+            [point.x, point.y, point.z, point.w, i64::from(*places)]
+        }
+        Command::Boole {
+            workers,
+            places,
+            report,
+            ..
+        } => [
+            i64::from(*workers),
+            i64::from(*places),
+            i64::from(*report),
+            0,
+            0,
+        ],
+        Command::Demo { boxes, workers } => [i64::from(*boxes), i64::from(*workers), 0, 0, 0],
+        Command::Voxels {
+            size,
+            workers,
+            places,
+            ..
+        } => [
+            i64::from(*size),
+            i64::from(*workers),
+            i64::from(*places),
+            0,
+            0,
+        ],
+        Command::Pairs {
+            workers,
+            places,
+            ..
+        } => { [i64::from(*workers), i64::from(*places), 0, 0, 0] }
+        Command::Slice { at, .. } => [i64::from(*at), 0, 0, 0, 0],
+    }
+}
+
+// Its expression, if it has one.
+fn expr_of(command: &Command) -> Option<&str> {
+    match command {
+        Command::At {
+            expr: Some(expr),
+            ..
+        }
+        | Command::Boole { expr, .. }
+        | Command::Voxels { expr, .. } => Some(expr.as_str()),
+        _ => None,
+    }
+}
+
+fn are(texts: &[Text], names: &[&str]) -> bool {
+    if texts.len() != names.len() {
+        return false;
+    }
+    for i in 0..names.len() {
+        if texts[i].as_str() != names[i] {
+            return false;
+        }
+    }
+    true
+}
+
+// Its files have these names.
+fn has_files(command: &Command, names: &[&str]) -> bool {
+    match command {
+        Command::Faces { file, .. } | Command::Slice { file, .. } => names
+            == [file.as_str()].as_slice(),
+        Command::At { files, .. }
+        | Command::Boole { files, .. }
+        | Command::Voxels { files, .. }
+        | Command::Pairs { files, .. } => are(files.items(), names),
+        Command::Demo { .. } => names.is_empty(),
+    }
+}
+
+// The words give a command with this name, these numbers, this expression and these files.
+fn check(
+    rt: &impl Abort,
+    alloc: Global,
+    words: &[&str],
+    name: &str,
+    numbers: [i64; 5],
+    expr: Option<&str>,
+    files: &[&str],
+) -> Result<(), Fail> {
+    let command = command(alloc, words)?;
+    assert_eq!(rt; name_of(&command), name);
+    assert_eq!(rt; numbers_of(&command), numbers);
+    assert_eq!(rt; expr_of(&command), expr);
+    assert!(rt; has_files(&command, files));
+    Ok(())
 }
 
 #[test]
 fn words_of_faces(rt: HostRuntime) -> Result<(), Fail> {
     let words = ["faces", "--places", "02", "a.obj"];
-    let Command::Faces { places, file } = command(rt.alloc(), &words)? else {
-        return Err(Fail::from("another command"));
-    };
-    assert_eq!(rt; (places, file.as_str()), (2, "a.obj"));
-    Ok(())
-}
-
-fn has_text(text: &Option<Text>, want: &str) -> bool {
-    match text {
-        Some(text) => text.as_str() == want,
-        None => false,
-    }
+    check(
+        &rt,
+        rt.alloc(),
+        &words,
+        "faces",
+        [2, 0, 0, 0, 0],
+        None,
+        &["a.obj"],
+    )
 }
 
 #[test]
@@ -54,20 +155,16 @@ fn words_of_at(rt: HostRuntime) -> Result<(), Fail> {
         "c.obj",
         "d.obj",
     ];
-    let Command::At {
-        point,
-        expr,
-        places,
-        files,
-    } = command(rt.alloc(), &words)?
-    else {
-        return Err(Fail::from("another command"));
-    };
-    assert_eq!(rt; (point.x, point.y, point.z, point.w), (-10, 0, 13, 4));
-    assert!(rt; has_text(&expr, "m1&!m2"));
-    assert_eq!(rt; places, 0);
-    check_names(&rt, &files, &["c.obj", "d.obj"]);
-    Ok(())
+    let files = ["c.obj", "d.obj"];
+    check(
+        &rt,
+        rt.alloc(),
+        &words,
+        "at",
+        [-10, 0, 13, 4, 0],
+        Some("m1&!m2"),
+        &files,
+    )
 }
 
 #[test]
@@ -81,75 +178,72 @@ fn words_of_bool(rt: HostRuntime) -> Result<(), Fail> {
         "c.obj",
         "d.obj",
     ];
-    let Command::Boole {
-        expr,
-        workers,
-        places,
-        report,
-        files,
-    } = command(rt.alloc(), &words)?
-    else {
-        return Err(Fail::from("another command"));
-    };
-    assert_eq!(rt; expr.as_str(), "m1|m2");
-    assert_eq!(rt; (workers, places, report), (7, 0, true));
-    check_names(&rt, &files, &["c.obj", "d.obj"]);
-    Ok(())
+    let files = ["c.obj", "d.obj"];
+    check(
+        &rt,
+        rt.alloc(),
+        &words,
+        "bool",
+        [7, 0, 1, 0, 0],
+        Some("m1|m2"),
+        &files,
+    )
 }
 
 #[test]
 fn words_of_demo(rt: HostRuntime) -> Result<(), Fail> {
     let words = ["demo", "--workers", "64", "20000"];
-    let Command::Demo { boxes, workers } = command(rt.alloc(), &words)? else {
-        return Err(Fail::from("another command"));
-    };
-    assert_eq!(rt; (boxes, workers), (20000, 64));
-    Ok(())
+    check(
+        &rt,
+        rt.alloc(),
+        &words,
+        "demo",
+        [20000, 64, 0, 0, 0],
+        None,
+        &[],
+    )
 }
 
 #[test]
 fn words_of_voxels(rt: HostRuntime) -> Result<(), Fail> {
     let words = ["voxels", "--expr", "m1", "--size", "11", "c.obj"];
-    let Command::Voxels {
-        expr,
-        size,
-        workers,
-        places,
-        files,
-    } = command(rt.alloc(), &words)?
-    else {
-        return Err(Fail::from("another command"));
-    };
-    assert_eq!(rt; expr.as_str(), "m1");
-    assert_eq!(rt; (size, workers, places), (11, 1, 0));
-    check_names(&rt, &files, &["c.obj"]);
-    Ok(())
+    check(
+        &rt,
+        rt.alloc(),
+        &words,
+        "voxels",
+        [11, 1, 0, 0, 0],
+        Some("m1"),
+        &["c.obj"],
+    )
 }
 
 #[test]
 fn words_of_pairs(rt: HostRuntime) -> Result<(), Fail> {
     let words = ["pairs", "--workers", "2", "c.obj", "d.obj"];
-    let Command::Pairs {
-        workers,
-        places,
-        files,
-    } = command(rt.alloc(), &words)?
-    else {
-        return Err(Fail::from("another command"));
-    };
-    assert_eq!(rt; (workers, places), (2, 0));
-    check_names(&rt, &files, &["c.obj", "d.obj"]);
-    Ok(())
+    check(
+        &rt,
+        rt.alloc(),
+        &words,
+        "pairs",
+        [2, 0, 0, 0, 0],
+        None,
+        &["c.obj", "d.obj"],
+    )
 }
 
 #[test]
 fn words_of_slice(rt: HostRuntime) -> Result<(), Fail> {
     let words = ["slice", "--at=-2048", "t1"];
-    let Command::Slice { at, file } = command(rt.alloc(), &words)? else {
-        return Err(Fail::from("another command"));
-    };
-    assert_eq!(rt; (at, file.as_str()), (-2048, "t1"));
-    Ok(())
+    check(
+        &rt,
+        rt.alloc(),
+        &words,
+        "slice",
+        [-2048, 0, 0, 0, 0],
+        None,
+        &["t1"],
+    )
 }
 
 #[test]

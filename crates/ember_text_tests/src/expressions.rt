@@ -56,9 +56,10 @@ fn the_tree_of_a_mesh(rt: HostRuntime) -> Result<(), Fail> {
 }
 
 fn check_terms(rt: &impl Abort, sum: &Sum, want: &[(bool, u32, u32)]) {
-    assert_eq!(rt; sum.items().len(), want.len());
-    for (term, want) in sum.items().iter().zip(want) {
-        assert_eq!(rt; (term.minus, term.factor, term.mesh), *want);
+    let terms = sum.items();
+    assert_eq!(rt; terms.len(), want.len());
+    for i in 0..want.len() {
+        assert_eq!(rt; (terms[i].minus, terms[i].factor, terms[i].mesh), want[i]);
     }
 }
 

@@ -109,9 +109,10 @@ fn check(
         return Err(Fail::from("refused"));
     };
     assert_eq!(rt; soup.lines.items(), lines);
-    assert_eq!(rt; soup.tris.items().len(), want.len());
-    for (found, want) in soup.tris.items().iter().zip(want) {
-        assert_eq!(rt; *found, triangle(*want));
+    let tris = soup.tris.items();
+    assert_eq!(rt; tris.len(), want.len());
+    for i in 0..want.len() {
+        assert_eq!(rt; tris[i], triangle(want[i]));
     }
     Ok(())
 }
