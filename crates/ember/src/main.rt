@@ -7,16 +7,20 @@ use std::process::ExitCode;
 use std::{env, io};
 use steal_pool::OpenGate;
 
+// The exit status if a word of the command line isn't text. All others are those of
+// `Status::number` in ember_run.
 const NO_WORDS: u8 = 13;
 
+// The exit status of `Status::OutOfMemory`, for the time before `run`.
 const NO_MEMORY: u8 = 12;
 
-// The stack in bytes that any command may need, with room to spare: the deepest expression takes about 150 kB.
+// The stack in bytes that any command may need, with some to spare: the deepest expression takes
+// about 150 kB.
 const STACK: usize = 192 * 1024;
 
-// Takes the whole stack before any file is read. The system ends a program by a signal if it can't let the stack grow,
-// so no later want of memory may meet a stack that still has to grow. The place is one that the compiler doesn't know,
-// so that it keeps the room.
+// Touches the whole stack before any file is read. If the stack had to grow later and memory were
+// short, the system would kill the program. It always returns `true`. `place` and the result only
+// keep the optimizer from removing the array.
 #[inline(never)]
 fn claim_stack(place: usize) -> bool {
     let room = [0u8; STACK];

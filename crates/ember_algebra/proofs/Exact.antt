@@ -127,10 +127,3 @@ kept i = stored w128 (input i)
 -- and one of 64 bits that is passed on
 abbrev pub narrow : ℕ → Code
 narrow i = stored w64 (input i)
-
--- the determinants, as code
-abbrev pub code_det2 : Code → Code → Code → Code → Code
-code_det2 a b c d = a ⊠ d ⊟ b ⊠ c
-
-abbrev pub code_det3 : Code → Code → Code → Code → Code → Code → Code → Code → Code → Code
-code_det3 a b c d e f g h i = a ⊠ code_det2 e f h i ⊟ b ⊠ code_det2 d f g i ⊞ c ⊠ code_det2 d e g h

@@ -56,6 +56,7 @@ along_from u v w f h p =
     (both _ _ (same_products (dot h u -ℤ dot h w) (dot f (cross v w)) (dot h w -ℤ dot h v) (dot f (cross w u)) (slopes v w u f h q))
     (same_products (dot h v -ℤ dot h u) (dot f (cross w u)) (dot h u -ℤ dot h w) (dot f (cross u v)) (slopes w u v f h (flat_turn q))))
 
+-- the terms of the three edges of a flat triangle, for two directions f and g, add up to 0
 pub flat : (u v w f g h : Vector) → Flat u v w → edge_term h f g u v +ℤ edge_term h f g v w +ℤ edge_term h f g w u ≡ pos 0
 flat u v w f g h p =
     let a = dot h v -ℤ dot h u in let b = dot h w -ℤ dot h v in let c = dot h u -ℤ dot h w in

@@ -4,24 +4,6 @@ use Rattle.ember_algebra.specs.Sign.{Sign, flip, times, number, is_pos, is_neg, 
 use Rattle.ember_algebra.proofs.Signs.{◌and◌, ◌or◌, same_z, same_z_out, pick, may_sum, zero_sum, sum3, level_if_null, signs, every, given, use_given, ◌⇒◌, use_if}
 
 -- ---- the plane lemma, of two points (x1, y1), (x2, y2) off the axes and d = y1 x2 - x1 y2
-abbrev pub in_quadrant : Sign → Sign → ℤ
-in_quadrant x y = pick (is_pos x and is_pos y) (pos 1)
-
--- the signed crossing of the segment with the positive x-axis, and with the positive y-axis
-abbrev pub over_x : Sign → Sign → Sign → ℤ
-over_x y1 y2 d = pick (is_neg (times y1 y2) and is_pos (times y1 d)) (number y1)
-
-abbrev pub over_y : Sign → Sign → Sign → ℤ
-over_y x1 x2 d = pick (is_neg (times x1 x2) and is_neg (times x1 d)) (number (flip x1))
-
-abbrev plane_may : Sign → Sign → Sign → Sign → Sign → Bool
-plane_may x1 y1 x2 y2 d =
-    not (is_nil x1) and not (is_nil y1) and not (is_nil x2) and not (is_nil y2) and (is_neg (times x1 x2) ⇒ not (is_nil d)) and may_sum (times y1 x2) (flip (times x1 y2)) d
-
-pub plane_lemma : (x1 y1 x2 y2 d : Sign) → T (plane_may x1 y1 x2 y2 d) → in_quadrant x1 y1 -ℤ in_quadrant x2 y2 ≡ over_x y1 y2 d -ℤ over_y x1 x2 d
-plane_lemma x1 y1 x2 y2 d p =
-    same_z_out (in_quadrant x1 y1 -ℤ in_quadrant x2 y2) (over_x y1 y2 d -ℤ over_y x1 x2 d)
-    (use_if (plane_may x1 y1 x2 y2 d) (same_z (in_quadrant x1 y1 -ℤ in_quadrant x2 y2) (over_x y1 y2 d -ℤ over_y x1 x2 d)) (signs 5 (λ x1 y1 x2 y2 d. plane_may x1 y1 x2 y2 d ⇒ same_z (in_quadrant x1 y1 -ℤ in_quadrant x2 y2) (over_x y1 y2 d -ℤ over_y x1 x2 d)) tt x1 y1 x2 y2 d) p)
 
 -- ---- the quadrant law
 -- for corners u, v, w, directions f, g and h = f × g: d is the sign of det u v w, n that of a normal's product with a direction,
@@ -72,6 +54,7 @@ first hu hv hw d =
 all_first : (hu hv hw d : Sign) → T (first hu hv hw d)
 all_first = signs 4 (λ hu hv hw d. first hu hv hw d) tt
 
+-- for all signs that the identities allow, both sides of the quadrant law are equal
 pub quadrant_law : (hu hv hw d uf vf tf nf ug vg tg ng : Sign) → T (may_h hu hv hw d) → T (may_f hu hv hw uf vf tf nf) → T (may_f hu hv hw ug vg tg ng and may_both hu hv hw d uf vf tf ug vg tg) → left d uf vf tf nf ug vg tg ng ≡ right hu hv hw uf vf tf ug vg tg
 quadrant_law hu hv hw d uf vf tf nf ug vg tg ng p q r =
     let a = use_given (may_h hu hv hw d) (λ e. every 4 (λ uf vf tf nf. second hu hv hw d uf vf tf nf)) (all_first hu hv hw d) p in

@@ -12,18 +12,9 @@ use Rattle.ember_algebra.proofs.Laws.{linear}
 use Rattle.ember_algebra.proofs.Ring.{◌⊕◌, ◌⊖◌, ◌⊗◌, ◌≈◌, num, cancels}
 use Rattle.ember_algebra.proofs.Vectors.{vector, identity, dotE, crossE, detE, minusE, normalE}
 use Rattle.ember_algebra.proofs.Signs.{◌and◌, ◌⇒◌, sum_may, sgn-mul, sgn-neg, neg_from_sgn, both, products_may, zero_sum_from, sum3_from, level_from, null_from, not_null, zero_from_sgn}
-use Rattle.ember_algebra.proofs.Quadrant.{in_quadrant, over_x, over_y, plane_lemma, crossing, edge, may_f, may_both, quadrant_law}
+use Rattle.ember_algebra.proofs.Quadrant.{crossing, edge, may_f, may_both, quadrant_law}
 
 -- ---- the plane lemma
--- the segment from (x1, y1) to (x2, y2) leaves the open quadrant over one half-axis or the other
-pub plane_law : (x1 y1 x2 y2 : ℤ) → x1 ≢ pos 0 → y1 ≢ pos 0 → x2 ≢ pos 0 → y2 ≢ pos 0 → ((x1 *ℤ x2) <ℤ pos 0 → y1 *ℤ x2 -ℤ x1 *ℤ y2 ≢ pos 0) → in_quadrant (sgn x1) (sgn y1) -ℤ in_quadrant (sgn x2) (sgn y2) ≡ over_x (sgn y1) (sgn y2) (sgn (y1 *ℤ x2 -ℤ x1 *ℤ y2)) -ℤ over_y (sgn x1) (sgn x2) (sgn (y1 *ℤ x2 -ℤ x1 *ℤ y2))
-plane_law x1 y1 x2 y2 a b c d apart =
-    let turn = rw (sgn-mul y1 x2, sgn-neg (x1 *ℤ y2), sgn-mul x1 y2) at (sum_may (y1 *ℤ x2) (neg_ℤ (x1 *ℤ y2))) in
-    plane_lemma _ _ _ _ _ (both _ _ (not_null x1 a) (both _ _ (not_null y1 b) (both _ _ (not_null x2 c) (both _ _ (not_null y2 d) (both _ _ (implied (is_neg (times (sgn x1) (sgn x2))) _ (λ t. not_null _ (apart (neg_from_sgn (x1 *ℤ x2) (rw (sgn-mul x1 x2) t))))) turn)))))
-  where
-    implied : (p q : Bool) → (T p → T q) → T (p ⇒ q)
-    implied true q f = f tt
-    implied false q f = tt
 
 -- ---- the quadrant law
 -- the crossing along f of the triangle with corners u, v, w, seen from the origin
@@ -81,8 +72,8 @@ level_g u v f g p z =
     let q = identity (vector ∷ vector ∷ vector ∷ vector ∷ []) (λ u v f g. dotE (crossE f g) u ⊖ dotE (crossE f g) v ≈ dotE f (crossE (minusE v u) g)) cancels u v f g in
     omega (arith, linear, q, dot_zero f (cross (minus_v v u) g) (p.x z) (p.y z) (p.z z))
 
-pub turn : (u v w a : Vector) → dot a (normal u v w) ≡ dot a (normal v w u)
-turn =
+normal_turned : (u v w a : Vector) → dot a (normal u v w) ≡ dot a (normal v w u)
+normal_turned =
     identity (vector ∷ vector ∷ vector ∷ vector ∷ []) (λ u v w a. dotE a (normalE u v w) ≈ dotE a (normalE v w u)) cancels
 
 both_out : (a b : Bool) → T (a and b) → T a × T b
@@ -111,12 +102,13 @@ pub record GenericAll (u v w f : Vector) : Type 0 where
   pub second : Generic v w f
   pub third : Generic w u f
 
+-- the crossings of a triangle along two directions differ by the terms of its three edges
 pub quadrant : (u v w f g : Vector) → det u v w ≢ pos 0 → ((cross f g).x ≡ pos 0 → (cross f g).y ≡ pos 0 → (cross f g).z ≡ pos 0 → ⊥) → GenericAll u v w f → GenericAll u v w g → crossing_along f u v w -ℤ crossing_along g u v w ≡ edge_term (cross f g) f g u v +ℤ edge_term (cross f g) f g v w +ℤ edge_term (cross f g) f g w u
 quadrant u v w f g nd nh a b =
     let of_ = identity (vector ∷ vector ∷ []) (λ f g. dotE (crossE f g) f ≈ num (pos 0)) cancels f g in
     let og = identity (vector ∷ vector ∷ []) (λ f g. dotE (crossE f g) g ≈ num (pos 0)) cancels f g in
-    let t2 = λ (x : Vector). turn u v w x in
-    let t3 = λ (x : Vector). turn u v w x ∙ turn v w u x in
+    let t2 = λ (x : Vector). normal_turned u v w x in
+    let t3 = λ (x : Vector). normal_turned u v w x ∙ normal_turned v w u x in
     let p = may_dir u v w f (cross f g) of_ (generic_level u v f g (cross f g) refl a.first) (generic_level v w f g (cross f g) refl a.second) (generic_level w u f g (cross f g) refl a.third) (generic_normal u v w f (normal u v w) (λ x. refl) a.first) (generic_normal v w u f (normal u v w) t2 a.second) (generic_normal w u v f (normal u v w) t3 a.third) in
     let q = may_dir u v w g (cross f g) og (level_g u v f g b.first) (level_g v w f g b.second) (level_g w u f g b.third) (generic_normal u v w g (normal u v w) (λ x. refl) b.first) (generic_normal v w u g (normal u v w) t2 b.second) (generic_normal w u v g (normal u v w) t3 b.third) in
     quadrant_law _ _ _ _ _ _ _ _ _ _ _ _ (both _ _ (not_null (det u v w) nd) (not_all_level u v w (cross f g) nd nh)) p (both _ _ q (may_pair u v w f g))

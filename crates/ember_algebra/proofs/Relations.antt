@@ -6,39 +6,47 @@ use Rattle.std.proofs.lemmas.List.{append-nil}
 use Rattle.ember_algebra.specs.Relations.{Each, none, more, Chain, done, step, Every}
 
 -- ---- one result
+-- if R gives each member only one list, Each gives a list only one result
 pub each_unique : {X Y : Type 0} {R : X → List Y → Type 0} → ((x : X) (ys zs : List Y) → R x ys → R x zs → ys ≡ zs) → {xs : List X} {ys zs : List Y} → Each R xs ys → Each R xs zs → ys ≡ zs
 each_unique f none none = refl
 each_unique f (more {x = x} r e) (more q d) =
     let p = f x _ _ r q in let t = each_unique f e d in cc
 
+-- the same if R gives only one list to each member with a property that all members have
 pub each_unique_where : {X Y : Type 0} {R : X → List Y → Type 0} (Q : X → Type 0) → ((x : X) (ys zs : List Y) → Q x → R x ys → R x zs → ys ≡ zs) → {xs : List X} {ys zs : List Y} → Every Q xs → Each R xs ys → Each R xs zs → ys ≡ zs
 each_unique_where Q f h none none = refl
 each_unique_where Q f h (more {x = x} r e) (more q d) =
     let p = f x _ _ h.0 r q in let t = each_unique_where Q f h.1 e d in cc
 
+-- if each step has one result, a chain has one
 pub chain_unique : {X A : Type 0} {R : X → A → A → Type 0} → ((x : X) (a b c : A) → R x a b → R x a c → b ≡ c) → {xs : List X} {a b c : A} → Chain R xs a b → Chain R xs a c → b ≡ c
 chain_unique f done done = refl
 chain_unique {R = R} f (step {x = x} {xs = xs} {b = b} {c = c} r e) (step q d) =
     chain_unique f (subst (λ z. Chain R xs z c) (f x _ _ _ r q) e) d
 
 -- ---- built from the front to the back, as a loop does
+-- the result for two lists together is that for the first, and then that for the second
 pub each_append : {X Y : Type 0} {R : X → List Y → Type 0} {xs us : List X} {ys vs : List Y} → Each R xs ys → Each R us vs → Each R (xs ++ us) (ys ++ vs)
 each_append none d = d
 each_append {R = R} {us = us} {vs = vs} (more {x = x} {xs = xs} {ys = ys} {zs = zs} r e) d =
     subst (λ l. Each R (x ∷ xs ++ us) l) (sym (append_assoc ys zs vs)) (more r (each_append e d))
 
+-- one more member at the end, with what it gives
 pub each_push : {X Y : Type 0} {R : X → List Y → Type 0} {xs : List X} {ys : List Y} {u : X} {vs : List Y} → Each R xs ys → R u vs → Each R (xs ++ u ∷ []) (ys ++ vs)
 each_push {R = R} {xs = xs} {ys = ys} {u = u} {vs = vs} e r =
     subst (λ l. Each R (xs ++ u ∷ []) (ys ++ l)) (append-nil vs) (each_append e (more r none))
 
+-- a chain behind a chain is a chain
 pub chain_append : {X A : Type 0} {R : X → A → A → Type 0} {xs us : List X} {a b c : A} → Chain R xs a b → Chain R us b c → Chain R (xs ++ us) a c
 chain_append done d = d
 chain_append (step r e) d = step r (chain_append e d)
 
+-- one more step at the end of a chain
 pub chain_push : {X A : Type 0} {R : X → A → A → Type 0} {xs : List X} {u : X} {a b c : A} → Chain R xs a b → R u b c → Chain R (xs ++ u ∷ []) a c
 chain_push e r = chain_append e (step r done)
 
 -- ---- what holds of all members
+-- what holds of all members of two lists holds of all members of both together
 pub every_append : {X : Type 0} (P : X → Type 0) (xs ys : List X) → Every P xs → Every P ys → Every P (xs ++ ys)
 every_append P [] ys h k = k
 every_append P (x ∷ xs) ys h k = (h.0, every_append P xs ys h.1 k)

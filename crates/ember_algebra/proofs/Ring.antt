@@ -15,11 +15,13 @@ pub data Expr : Type 0 where
   ◌⊗◌ : Expr → Expr → Expr
   neg : Expr → Expr
 
+-- the value of the variable with this index
 abbrev pub at : List ℤ → ℕ → ℤ
 at [] i = pos 0
 at (x ∷ xs) zero = x
 at (x ∷ xs) (suc i) = at xs i
 
+-- the value of an expression, if its variables have these values
 abbrev pub eval : List ℤ → Expr → ℤ
 eval env (var i) = at env i
 eval env (num c) = c
@@ -75,6 +77,7 @@ place c m k none = term c m (k none)
 place c m k (term d n s) =
     elim (cmpM m n) [ Ordering.lt ↦ term c m (k (term d n s)) | Ordering.eq ↦ put (c +ℤ d) m (k s) | Ordering.gt ↦ term d n (place c m k s) ]
 
+-- the sum of two sums
 abbrev pub addS : Sum → Sum → Sum
 addS none q = q
 addS (term c m p) q = place c m (addS p) q
@@ -83,14 +86,17 @@ abbrev pub scale : ℤ → List ℕ → Sum → Sum
 scale c m none = none
 scale c m (term d n s) = term (c *ℤ d) (mulM m n) (scale c m s)
 
+-- the product of two sums
 abbrev pub mulS : Sum → Sum → Sum
 mulS none q = none
 mulS (term c m p) q = addS (scale c m q) (mulS p q)
 
+-- the negative of a sum
 abbrev pub negS : Sum → Sum
 negS none = none
 negS (term c m s) = term (neg_ℤ c) m (negS s)
 
+-- the normal form of an expression: a sum of monomials
 abbrev pub norm : Expr → Sum
 norm (var i) = term (pos 1) (i ∷ []) none
 norm (num c) = put c [] none
@@ -208,9 +214,11 @@ abbrev pub at_vars : (n i : ℕ) → Of n → Equation
 at_vars zero i q = q
 at_vars (suc n) i f = at_vars n (suc i) (f (var i))
 
+-- the normal form of the left side less the right side
 abbrev pub difference : Equation → Sum
 difference (e ≈ f) = norm (e ⊖ f)
 
+-- both sides of the equation have the same value, if the variables have these values
 abbrev pub Meaning : List ℤ → Equation → Type 0
 Meaning env (e ≈ f) = eval env e ≡ eval env f
 
@@ -219,11 +227,12 @@ abbrev pub ForAll : ℕ → List ℤ → Equation → Type 0
 ForAll zero env q = Meaning (reverse env) q
 ForAll (suc n) env q = (x : ℤ) → ForAll n (x ∷ env) q
 
-pub meant : (env : List ℤ) (q : Equation) → Cancels (difference q) → Meaning env q
-meant env (e ≈ f) t = ring env e f t
+-- an equation whose difference cancels holds for all values of its variables
+pub cancelled_equation_holds : (env : List ℤ) (q : Equation) → Cancels (difference q) → Meaning env q
+cancelled_equation_holds env (e ≈ f) t = ring env e f t
 
 for_all : (n : ℕ) (env : List ℤ) (q : Equation) → Cancels (difference q) → ForAll n env q
-for_all zero env q t = meant (reverse env) q t
+for_all zero env q t = cancelled_equation_holds (reverse env) q t
 for_all (suc n) env q t = λ x. for_all n (x ∷ env) q t
 
 -- `solve 2 (λ a b. (a ⊕ b) ⊗ (a ⊖ b) ≈ a ⊗ a ⊖ b ⊗ b) cancels` proves it for all a and b

@@ -7,6 +7,7 @@ use Rattle.ember_algebra.proofs.Order.{by_sign, pos_mul, mul_pos_neg, mul_neg_po
 use Rattle.ember_algebra.proofs.Laws.{linear}
 
 -- ---- what a sign says
+-- the sign of a positive integer
 pub sgn_pos : {a : ℤ} → pos 0 <ℤ a → sgn a ≡ Pos
 sgn_pos {a} p = by a p
   where
@@ -15,6 +16,7 @@ sgn_pos {a} p = by a p
     by (pos (suc n)) p = refl
     by (negsuc n) p = absurd (omega (arith, ints))
 
+-- the sign of a negative number is Neg
 pub sgn_neg : {a : ℤ} → a <ℤ pos 0 → sgn a ≡ Neg
 sgn_neg {a} p = by a p
   where
@@ -22,21 +24,25 @@ sgn_neg {a} p = by a p
     by (pos n) p = absurd (omega (arith, ints))
     by (negsuc n) p = refl
 
+-- a number with the sign Pos is positive
 pub pos_from_sgn : (a : ℤ) → T (is_pos (sgn a)) → pos 0 <ℤ a
 pos_from_sgn (pos zero) t = absurd t
 pos_from_sgn (pos (suc n)) t = omega (arith, ints)
 pos_from_sgn (negsuc n) t = absurd t
 
+-- a number with the sign Neg is negative
 pub neg_from_sgn : (a : ℤ) → T (is_neg (sgn a)) → a <ℤ pos 0
 neg_from_sgn (pos zero) t = absurd t
 neg_from_sgn (pos (suc n)) t = absurd t
 neg_from_sgn (negsuc n) t = omega (arith, ints)
 
+-- a number with the sign Zero is 0
 pub zero_from_sgn : (a : ℤ) → T (is_nil (sgn a)) → a ≡ pos 0
 zero_from_sgn (pos zero) t = refl
 zero_from_sgn (pos (suc n)) t = absurd t
 zero_from_sgn (negsuc n) t = absurd t
 
+-- the sign of a product is the product of the signs
 pub sgn-mul : (a b : ℤ) → sgn (a *ℤ b) ≡ times (sgn a) (sgn b)
 sgn-mul a b =
     by_sign a
@@ -55,6 +61,7 @@ sgn-mul a b =
     left : a ≡ pos 0 → sgn (a *ℤ b) ≡ times (sgn a) (sgn b)
     left z = rw z (ap sgn (zero-*ℤ b))
 
+-- the sign of -a is the opposite of the sign of a
 pub sgn-neg : (a : ℤ) → sgn (neg_ℤ a) ≡ flip (sgn a)
 sgn-neg (pos zero) = refl
 sgn-neg (pos (suc n)) = refl
@@ -70,11 +77,12 @@ may_sum Pos Neg r = true
 may_sum Pos Zero r = is_pos r
 may_sum Pos Pos r = is_pos r
 
-pub same_self : (s : Sign) → T (same_sgn s s)
+same_self : (s : Sign) → T (same_sgn s s)
 same_self Neg = tt
 same_self Zero = tt
 same_self Pos = tt
 
+-- the sign of a sum is one that the signs of its terms allow
 pub sum_may : (a b : ℤ) → T (may_sum (sgn a) (sgn b) (sgn (a +ℤ b)))
 sum_may a b =
     by_sign a
@@ -88,6 +96,7 @@ abbrev pub ◌⇒◌ : Bool → Bool → Bool
 true ⇒ b = b
 false ⇒ b = true
 
+-- the conclusion of a Boolean implication whose premise holds
 pub use_if : (a b : Bool) → T (a ⇒ b) → T a → T b
 use_if true b t s = t
 use_if false b t s = absurd s
@@ -97,6 +106,7 @@ abbrev pub given : Bool → (Unit {0} → Bool) → Bool
 given true f = f tt
 given false f = true
 
+-- what is given under a condition that holds
 pub use_given : (a : Bool) (f : Unit {0} → Bool) → T (given a f) → T a → T (f tt)
 use_given true f t s = t
 use_given false f t s = absurd s
@@ -152,6 +162,7 @@ same_z (pos a) (negsuc b) = false
 same_z (negsuc a) (pos b) = false
 same_z (negsuc a) (negsuc b) = eqb a b
 
+-- numbers that the test takes to be equal are equal
 pub same_z_out : (a b : ℤ) → T (same_z a b) → a ≡ b
 same_z_out (pos a) (pos b) t = ap pos (eqb→eq a b t)
 same_z_out (pos a) (negsuc b) t = absurd t
@@ -174,44 +185,54 @@ abbrev pub level_if_null : Sign → Sign → Sign → Bool
 level_if_null a b c = is_nil c ⇒ same_sgn a b
 
 -- ---- from equations to what signs may be
+-- two true values are both true
 pub both : (a b : Bool) → T a → T b → T (a and b)
 both true b s t = t
 both false b s t = absurd s
 
+-- the signs of a b - c d = e k fit together
 pub products_may : (a b c d e k : ℤ) → a *ℤ b -ℤ c *ℤ d ≡ e *ℤ k → T (may_sum (times (sgn a) (sgn b)) (flip (times (sgn c) (sgn d))) (times (sgn e) (sgn k)))
 products_may a b c d e k h =
     rw (← sgn-mul a b, ← sgn-mul c d, ← sgn-mul e k, ← sgn-neg (c *ℤ d), ← h) (sum_may (a *ℤ b) (neg_ℤ (c *ℤ d)))
 
+-- the signs of three products that add up to 0 fit together
 pub zero_sum_from : (a b c d e k : ℤ) → a *ℤ b +ℤ c *ℤ d +ℤ e *ℤ k ≡ pos 0 → T (zero_sum (times (sgn a) (sgn b)) (times (sgn c) (sgn d)) (times (sgn e) (sgn k)))
 zero_sum_from a b c d e k h =
     let m : neg_ℤ (e *ℤ k) ≡ a *ℤ b +ℤ c *ℤ d = omega (arith, linear) in
     rw (← sgn-mul a b, ← sgn-mul c d, ← sgn-mul e k, ← sgn-neg (e *ℤ k), m) (sum_may (a *ℤ b) (c *ℤ d))
 
+-- the sign of a sum of three numbers fits their signs
 pub sum3_from : (a b c n : ℤ) → a +ℤ b +ℤ c ≡ n → T (sum3 (sgn a) (sgn b) (sgn c) (sgn n))
 sum3_from a b c n h =
     let f = signs 5 (λ a b c r m. may_sum a b m ⇒ may_sum m c r ⇒ sum3 a b c r) tt (sgn a) (sgn b) (sgn c) (sgn (a +ℤ b +ℤ c)) (sgn (a +ℤ b)) in
     rw (← h) (use_if _ _ (use_if _ _ f (sum_may a b)) (sum_may (a +ℤ b) c))
 
+-- the signs fit together if a = b whenever c is 0
 pub level_from : (a b c : ℤ) → (c ≡ pos 0 → a ≡ b) → T (level_if_null (sgn a) (sgn b) (sgn c))
 level_from a b (pos zero) f = rw (f refl) (same_self (sgn b))
 level_from a b (pos (suc n)) f = tt
 level_from a b (negsuc n) f = tt
 
+-- if c is 0 only if n is 0 too, their signs say so
 pub null_from : (c n : ℤ) → (c ≡ pos 0 → n ≡ pos 0) → T (is_nil (sgn c) ⇒ is_nil (sgn n))
 null_from (pos zero) n f = rw (f refl) tt
 null_from (pos (suc c)) n f = tt
 null_from (negsuc c) n f = tt
 
+-- the sign of a number other than 0 isn't Zero
 pub not_null : (a : ℤ) → a ≢ pos 0 → T (not (is_nil (sgn a)))
 not_null (pos zero) n = absurd (n refl)
 not_null (pos (suc k)) n = tt
 not_null (negsuc k) n = tt
 
+-- the signs of x, y - x and y fit together
 pub step_may : (x y : ℤ) → T (may_sum (sgn x) (sgn (y -ℤ x)) (sgn y))
 step_may x y = let e : x +ℤ (y -ℤ x) ≡ y = omega (arith, linear) in rw e at (sum_may x (y -ℤ x))
 
+-- equal products have equal signs
 pub same_products : (a b c d : ℤ) → a *ℤ b ≡ c *ℤ d → T (same_sgn (times (sgn a) (sgn b)) (times (sgn c) (sgn d)))
 same_products a b c d e = rw (← sgn-mul a b, ← sgn-mul c d, e) (same_self (sgn (c *ℤ d)))
 
+-- the sign of a product, from the signs of its factors
 pub times_is_product : {s t : Sign} (x y : ℤ) → sgn x ≡ s → sgn y ≡ t → sgn (x *ℤ y) ≡ times s t
 times_is_product x y p q = sgn-mul x y ∙ rw (p, q) refl

@@ -1,7 +1,7 @@
 -- Identities of vectors and tuples: `identity (vector ∷ vector ∷ []) (λ u v. dotE u v ≈ dotE v u) cancels`.
 use Rattle.std.proofs.Common.{◌≡◌, ℕ, ◌+◌, List, [], ◌∷◌, reverse, ℤ}
 use Rattle.ember_algebra.specs.Vector.{Vector, Tuple}
-use Rattle.ember_algebra.proofs.Ring.{Expr, var, ◌⊕◌, ◌⊖◌, ◌⊗◌, Equation, Meaning, meant, difference, Cancels, cancels, Sum, none, norm, eval, ring}
+use Rattle.ember_algebra.proofs.Ring.{Expr, var, ◌⊕◌, ◌⊖◌, ◌⊗◌, Equation, Meaning, cancelled_equation_holds, difference, Cancels, cancels, Sum, none, norm, eval, ring}
 
 pub data Shape : Type 0 where
   scalar : Shape
@@ -57,9 +57,10 @@ ForAll [] env q = Meaning (reverse env) q
 ForAll (s ∷ ss) env q = (x : Value s) → ForAll ss (push s x env) q
 
 for_all : (ss : List Shape) (env : List ℤ) (q : Equation) → Cancels (difference q) → ForAll ss env q
-for_all [] env q t = meant (reverse env) q t
+for_all [] env q t = cancelled_equation_holds (reverse env) q t
 for_all (s ∷ ss) env q t = λ x. for_all ss (push s x env) q t
 
+-- `identity shapes (λ u v. left ≈ right) cancels` proves an identity of numbers and vectors
 pub identity : (ss : List Shape) (f : Of ss) → Cancels (difference (at_args ss 0 f)) → ForAll ss [] (at_args ss 0 f)
 identity ss f t = for_all ss [] (at_args ss 0 f) t
 
@@ -92,12 +93,8 @@ normalE u v w = plusE (plusE (crossE u v) (crossE v w)) (crossE w u)
 abbrev pub vector_partE : TupleE → VectorE
 vector_partE v = record { x = v.x; y = v.y; z = v.z }
 
-abbrev pub meet_ofE : TupleE → TupleE → TupleE → TupleE
-meet_ofE p q r =
-    let m = plusE (plusE (scaleE p.w (crossE (vector_partE q) (vector_partE r))) (scaleE q.w (crossE (vector_partE r) (vector_partE p)))) (scaleE r.w (crossE (vector_partE p) (vector_partE q))) in
-    record { x = m.x; y = m.y; z = m.z; w = detE (vector_partE p) (vector_partE q) (vector_partE r) }
-
 -- ---- vectors are equal entry by entry
+-- vectors with equal coordinates are equal
 pub same_v : {u v : Vector} → u.x ≡ v.x → u.y ≡ v.y → u.z ≡ v.z → u ≡ v
 same_v {u} {v} p q r = λ i. record { x = p i; y = q i; z = r i }
 
@@ -142,5 +139,6 @@ for_all_v : (ss : List Shape) (env : List ℤ) (q : EquationV) → VectorCancels
 for_all_v [] env q t = meant_v (reverse env) q t
 for_all_v (s ∷ ss) env q t = λ x. for_all_v ss (push s x env) q t
 
+-- the same for an identity whose two sides are vectors
 pub vector_identity : (ss : List Shape) (f : OfV ss) → VectorCancels (at_args_v ss 0 f) → ForAllV ss [] (at_args_v ss 0 f)
 vector_identity ss f t = for_all_v ss [] (at_args_v ss 0 f) t

@@ -2,6 +2,7 @@
 use Rattle.std.specs.Prelude.{ℕ, ◌≤◌, List, [], ◌∷◌, ℤ, pos, negsuc, zero, suc, ◌+ℤ◌, ◌*ℤ◌}
 use Rattle.ember_algebra.specs.Size.{Small}
 
+-- P holds of all numbers from some number on
 pub record Eventually (P : ℕ → Type 0) : Type 0 where
   pub from : ℕ
   pub holds : (n : ℕ) → from ≤ n → P n
@@ -18,6 +19,7 @@ first_sign (pos zero ∷ vs) = first_sign vs
 first_sign (pos (suc n) ∷ vs) = pos 1
 first_sign (negsuc n ∷ vs) = negsuc 0
 
+-- all members are at most m in size
 abbrev pub EachSmall : ℕ → List ℤ → Type 0
 EachSmall m [] = Unit {0}
 EachSmall m (v ∷ vs) = Small m v × EachSmall m vs

@@ -3,21 +3,25 @@ use Rattle.std.specs.Prelude.{zero, suc, ℤ, pos, negsuc, Bool, true, false}
 pub use Rattle.ember_algebra.specs.declared.Sign.{Sign}
 pub use Rattle.ember_algebra.specs.declared.Sign.TheVariants.{Neg, Zero, Pos}
 
+-- the sign of an integer as a number: -1, 0 or 1
 abbrev pub sign : ℤ → ℤ
 sign (pos zero) = pos 0
 sign (pos (suc n)) = pos 1
 sign (negsuc n) = negsuc 0
 
+-- the sign of an integer
 abbrev pub sgn : ℤ → Sign
 sgn (pos zero) = Zero
 sgn (pos (suc n)) = Pos
 sgn (negsuc n) = Neg
 
+-- the sign of the negative
 abbrev pub flip : Sign → Sign
 flip Neg = Pos
 flip Zero = Zero
 flip Pos = Neg
 
+-- the sign of a product
 abbrev pub times : Sign → Sign → Sign
 times Neg s = flip s
 times Zero s = Zero

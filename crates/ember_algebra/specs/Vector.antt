@@ -37,19 +37,3 @@ det u v w = dot u (cross v w)
 -- the normal of the triangle with these corners: their cross products in turn
 abbrev pub normal : Vector → Vector → Vector → Vector
 normal u v w = plus_v (plus_v (cross u v) (cross v w)) (cross w u)
-
--- a plane's normal, or a point's numerators
-abbrev pub vector_part : Tuple → Vector
-vector_part v = record { x = v.x; y = v.y; z = v.z }
-
--- the point on three planes, whose weight is the determinant of their normals
-abbrev pub meet_of : Tuple → Tuple → Tuple → Tuple
-meet_of p q r =
-    let m = plus_v (plus_v (scale_v p.w (cross (vector_part q) (vector_part r)))
-    (scale_v q.w (cross (vector_part r) (vector_part p))))
-    (scale_v r.w (cross (vector_part p) (vector_part q))) in
-    record { x = m.x; y = m.y; z = m.z; w = det (vector_part p) (vector_part q) (vector_part r) }
-
--- the value of the plane p at the point v
-abbrev pub value : Tuple → Tuple → ℤ
-value p v = p.x *ℤ v.x +ℤ p.y *ℤ v.y +ℤ p.z *ℤ v.z -ℤ p.w *ℤ v.w

@@ -1,4 +1,5 @@
-// The signs of integers. The crate's proofs are the algebra that the crates above stand on: README.md has a list.
+//! The signs of integers. The crate's proofs are the algebra that all other crates use: README.md
+//! has a list.
 #![tactic(auto)]
 
 ghost use Rattle.std.specs.Prelude.{◌≡◌, ℤ, ◌*ℤ◌};
@@ -28,7 +29,8 @@ pub fn sign_of(x: i128) -> Sign
     }
 }
 
-/// The sign of the product of a number of sign `s` and one of sign `t`: for factors too large to be multiplied.
+/// The sign of the product of a number of sign `s` and one of sign `t`: for factors too large to be
+/// multiplied.
 #[tactic(auto, using(crate::proofs::Signs::times_is_product))]
 pub fn product_sign(s: Sign, t: Sign) -> Sign
     ensures value { result ≡ times s t }

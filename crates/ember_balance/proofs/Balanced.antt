@@ -8,9 +8,11 @@ use Rattle.ember_model.specs.declared.tri.Tri.{Tri}
 use Rattle.ember_model.specs.Meshes.{reversed, edges_in, same_edge, edge_count, of_mesh, IsBalanced}
 use Rattle.ember_balance.proofs.Edges.{edges_in-append}
 
+-- no triangles are balanced
 pub balanced-nil : IsBalanced []
 balanced-nil e = refl
 
+-- balanced triangles together with balanced triangles are balanced
 pub balanced-append : (ts us : List Tri) → IsBalanced ts → IsBalanced us → IsBalanced (ts ++ us)
 balanced-append ts us p q e =
     ap (edge_count e) (edges_in-append ts us) ∙ occurrences-append same_edge e (edges_in ts) (edges_in us) ∙ (λ i. p e i + q e i) ∙ sym (occurrences-append same_edge (reversed e) (edges_in ts) (edges_in us)) ∙ sym (ap (edge_count (reversed e)) (edges_in-append ts us))
@@ -27,6 +29,7 @@ none_of_mesh m k (t ∷ ts) d h =
     let e = All-head (λ t. t.mesh ≡ k) t ts h in
     rw (ne_eqb t.mesh m (λ p. d (sym e ∙ p))) (none_of_mesh m k ts d (All-tail (λ t. t.mesh ≡ k) t ts h))
 
+-- the triangles of one mesh, of balanced triangles of one mesh, are balanced
 pub balanced_of_mesh : (m k : ℕ) (ts : List Tri) → All (λ t. t.mesh ≡ k) ts → IsBalanced ts → IsBalanced (of_mesh m ts)
 balanced_of_mesh m k ts h b = by (cases_eq k m)
   where

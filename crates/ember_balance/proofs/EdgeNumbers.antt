@@ -16,18 +16,19 @@ use Rattle.ember_model.proofs.SignTests.{negative_out, zero_out, clash}
 use Rattle.ember_balance.specs.Numbers.{digit, corner_number, edge_number, IsValidEdge}
 use Rattle.ember_balance.specs.Loose.{precedes, coordinates, comes_before}
 
-pub digit_small : {z : ℤ} → Small 2047 z → digit z < 4096
+digit_small : {z : ℤ} → Small 2047 z → digit z < 4096
 digit_small {z} p = omega (arith, ints, p.small)
 
-pub digit_less : {x y : ℤ} → Small 2047 x → Small 2047 y → x <ℤ y → digit x < digit y
+digit_less : {x y : ℤ} → Small 2047 x → Small 2047 y → x <ℤ y → digit x < digit y
 digit_less {x} {y} p q l = omega (arith, ints, p.small, q.small, l)
 
 digit_same : {x y : ℤ} → Small 2047 x → Small 2047 y → digit x ≡ digit y → x ≡ y
 digit_same {x} {y} p q e = omega (arith, ints, p.small, q.small, e)
 
-pub corner_small : {c : Corner} → IsValidCorner c → corner_number c < 2 ^ 36
+corner_small : {c : Corner} → IsValidCorner c → corner_number c < 2 ^ 36
 corner_small {c} v = omega (arith, digit_small v.x, digit_small v.y, digit_small v.z)
 
+-- valid corners with one number are equal
 pub same_corners : {c d : Corner} → IsValidCorner c → IsValidCorner d → corner_number c ≡ corner_number d → c ≡ d
 same_corners {c} {d} v w e =
     let p = same_from_place (digit c.x * 4096 + digit c.y) (digit c.z) (digit d.x * 4096 + digit d.y) (digit d.z) 4096 (digit_small v.z) (digit_small w.z) e in
@@ -35,9 +36,11 @@ same_corners {c} {d} v w e =
     let x = digit_same v.x w.x q.0 in let y = digit_same v.y w.y q.1 in let z = digit_same v.z w.z p.1 in
     λ i. record { x = x i; y = y i; z = z i }
 
+-- the number of a valid edge is below 2^72
 pub edge_small : {e : Edge} → IsValidEdge e → edge_number e < 2 ^ 72
 edge_small {e} v = omega (arith, corner_small v.from, corner_small v.to)
 
+-- valid edges with one number are equal
 pub same_edges : {e f : Edge} → IsValidEdge e → IsValidEdge f → edge_number e ≡ edge_number f → e ≡ f
 same_edges {e} {f} v w h =
     let p = same_from_place (corner_number e.from) (corner_number e.to) (corner_number f.from) (corner_number f.to) (2 ^ 36) (corner_small v.to) (corner_small w.to) h in
@@ -74,6 +77,7 @@ corners_rise c d r v w e = by_x (first_difference c.x d.x _ e)
         let k = digit_less v.x w.x l in let y = digit_small v.y in let z = digit_small v.z in inl (omega (arith, k, y, z))
     by_x (inr t) = by_y (ap digit t.0) (first_difference c.y d.y _ t.1)
 
+-- an edge that comes before another has the lower number
 pub edges_rise : (e f : Edge) → IsValidEdge e → IsValidEdge f → comes_before e f ≡ true → edge_number e < edge_number f
 edges_rise e f v w h = by (corners_rise e.from f.from (corner_precedes e.to f.to false) v.from w.from h)
   where
@@ -109,12 +113,14 @@ same_lists (x ∷ xs) (y ∷ ys) l p q =
     after : (x y : ℤ) (xs ys : List ℤ) → x -ℤ y ≡ pos 0 → is_zero (x -ℤ y) && precedes xs ys ≡ false → precedes xs ys ≡ false
     after x y xs ys e h = sym (ap (λ (z : ℤ). is_zero z && precedes xs ys) e) ∙ h
 
+-- two edges, neither of them before the other, are equal
 pub one_edge : (e f : Edge) → comes_before e f ≡ false → comes_before f e ≡ false → e ≡ f
 one_edge e f p q =
     let c = same_lists (coordinates e) (coordinates f) refl p q in
     λ i. record { from = record { x = get_or (c i) 0 (pos 0); y = get_or (c i) 1 (pos 0); z = get_or (c i) 2 (pos 0) }; to = record { x = get_or (c i) 3 (pos 0); y = get_or (c i) 4 (pos 0); z = get_or (c i) 5 (pos 0) } }
 
 -- ---- read back
+-- the coordinate that the code reads from its digit
 pub read_digit : (z : ℤ) (n : ℕ) → Small 2047 z → n ≡ digit z → to_z w32 (of_z w32 (to_z w32 n -ℤ pos 2047)) ≡ z
 read_digit z n p e =
     let l = digit_small p in
@@ -123,12 +129,14 @@ read_digit z n p e =
     same : pos n -ℤ pos 2047 ≡ z
     same = omega (arith, ints, e, p.small)
 
+-- the three digits of a corner's number are those of its coordinates
 pub digits_of : (c : Corner) → IsValidCorner c → (n : ℕ) → corner_number c ≡ n → (n / 16777216 ≡ digit c.x) × (n / 4096 % 4096 ≡ digit c.y) × (n % 4096 ≡ digit c.z)
 digits_of c v n e =
     let x = digit_small v.x in let y = digit_small v.y in let z = digit_small v.z in
     let a : n / 4096 ≡ digit c.x * 4096 + digit c.y = rw (sym e) (div-mul-add (digit c.x * 4096 + digit c.y) 4096 (digit c.z) z) in
     (omega (arith, e, x, y, z), rw a (mod-mul-add (digit c.x) 4096 (digit c.y) y), rw (sym e) (mod-mul-add (digit c.x * 4096 + digit c.y) 4096 (digit c.z) z))
 
+-- the quotient and the rest of an edge's number by 2^36 are the numbers of its ends
 pub ends_from : (e : Edge) → IsValidEdge e → (n : ℕ) → edge_number e ≡ n → (corner_number e.from ≡ n / 2 ^ 36) × (corner_number e.to ≡ n % 2 ^ 36)
 ends_from e v n h =
     let l = corner_small v.to in

@@ -1,4 +1,4 @@
--- Edges that are one, how often they stand, and lists of them
+-- Edges that are equal, how often they occur, and lists of them
 use Rattle.std.proofs.Common.{◌≡◌, ◌⊎◌, inl, inr, ℕ, ◌+◌, ◌*◌, ◌<◌, Bool, true, false, cond, ◌&&◌, List, [], ◌∷◌, ◌++◌, map, length, take, get_or, refl, sym, ap, subst, ◌∙◌, arith, eqb, ℤ, pos, ◌-ℤ◌}
 use Rattle.std.specs.List.{All, AllByRecursion}
 use Rattle.std.proofs.lemmas.List.{take_more, map-append}
@@ -42,6 +42,7 @@ same_edge_out e f h =
 same_edge-refl : (e : Edge) → same_edge e e ≡ true
 same_edge-refl e = and_from _ _ (same_corner-refl e.from) (same_corner-refl e.to)
 
+-- the test of two edges is their equality
 pub edges_are_equal : IsEquality Edge same_edge
 edges_are_equal = record { sound = same_edge_out; reflexive = same_edge-refl }
 
@@ -54,6 +55,7 @@ and_swapped false false = refl
 same_reversed : (e f : Edge) → same_edge e (reversed f) ≡ same_edge (reversed e) f
 same_reversed e f = and_swapped (same_corner e.from f.to) (same_corner e.to f.from)
 
+-- an edge is as often a reverse as its own reverse is an edge
 pub times_reversed : (e : Edge) (es : List Edge) → edge_count e (map reversed es) ≡ edge_count (reversed e) es
 times_reversed = occurrences-map same_edge reversed reversed same_reversed
 
@@ -67,6 +69,7 @@ module _ (number : Edge → ℕ) (one : (e f : Edge) → IsValidEdge e → IsVal
       by false h =
           sym (ne_eqb _ _ (λ n. clash (subst (λ (g : Edge). same_edge e g ≡ true) (one e f v w n) (same_edge-refl e)) h))
 
+  -- an edge occurs as often as its number among the numbers
   pub times_is_count : (e : Edge) → IsValidEdge e → (es : List Edge) → AllByRecursion IsValidEdge es → edge_count e es ≡ count (number e) (map number es)
   times_is_count e v [] a = refl
   times_is_count e v (f ∷ es) a =
@@ -75,20 +78,24 @@ module _ (number : Edge → ℕ) (one : (e f : Edge) → IsValidEdge e → IsVal
       λ i. cond (s i) 1 0 + t i
 
 -- ---- the edges of triangles
+-- the edges of valid triangles are valid
 pub valid_edges : (ts : List Tri) → All IsValidTri ts → AllByRecursion IsValidEdge (edges_in ts)
 valid_edges [] h = tt
 valid_edges (t ∷ ts) h =
     let v = All-head IsValidTri t ts h in
     (record { from = v.a; to = v.b }, (record { from = v.b; to = v.c }, (record { from = v.c; to = v.a }, valid_edges ts (All-tail IsValidTri t ts h))))
 
+-- the reverses of valid edges are valid
 pub valid_reversed : (es : List Edge) → AllByRecursion IsValidEdge es → AllByRecursion IsValidEdge (map reversed es)
 valid_reversed [] a = tt
 valid_reversed (e ∷ es) a = (record { from = a.0.to; to = a.0.from }, valid_reversed es a.1)
 
+-- triangles have three edges each
 pub length-edges_in : (ts : List Tri) → length (edges_in ts) ≡ 3 * length ts
 length-edges_in [] = refl
 length-edges_in (t ∷ ts) = omega (arith, length-edges_in ts)
 
+-- the edges of two lists of triangles are those of the first, and then those of the second
 pub edges_in-append : (ts us : List Tri) → edges_in (ts ++ us) ≡ edges_in ts ++ edges_in us
 edges_in-append [] us = refl
 edges_in-append (t ∷ ts) us = let r = edges_in-append ts us in λ i. record { from = t.a; to = t.b } ∷ record { from = t.b; to = t.c } ∷ record { from = t.c; to = t.a } ∷ r i
@@ -102,17 +109,21 @@ more f h ts i d ns ms l e g =
     let laid : f (edges_in (take (i + 1) ts)) ≡ f (edges_in (take i ts)) ++ f (edges_in t) = ap (λ (us : List Tri). f (edges_in us)) (take_more ts i d l) ∙ ap f (edges_in-append (take i ts) t) ∙ h (edges_in (take i ts)) (edges_in t) in
     g ∙ ap (λ (ks : List ℕ). ks ++ f (edges_in t)) e ∙ sym laid
 
+-- the numbers of the edges of one triangle more
 pub there_more : (ts : List Tri) (i : ℕ) (d : Tri) (ns ms : List ℕ) → i < length ts → ns ≡ map edge_number (edges_in (take i ts)) → ms ≡ ns ++ map edge_number (edges_in (get_or ts i d ∷ [])) → ms ≡ map edge_number (edges_in (take (i + 1) ts))
 there_more = more (map edge_number) (map-append edge_number)
 
+-- the two-way numbers of the edges of one triangle more
 pub two_way_more : (ts : List Tri) (i : ℕ) (d : Tri) (ns ms : List ℕ) → i < length ts → ns ≡ map two_way_number (edges_in (take i ts)) → ms ≡ ns ++ map two_way_number (edges_in (get_or ts i d ∷ [])) → ms ≡ map two_way_number (edges_in (take (i + 1) ts))
 two_way_more = more (map two_way_number) (map-append two_way_number)
 
+-- the numbers of the reversed edges of one triangle more
 pub back_more : (ts : List Tri) (i : ℕ) (d : Tri) (ns ms : List ℕ) → i < length ts → ns ≡ map edge_number (map reversed (edges_in (take i ts))) → ms ≡ ns ++ map edge_number (map reversed (edges_in (get_or ts i d ∷ []))) → ms ≡ map edge_number (map reversed (edges_in (take (i + 1) ts)))
 back_more =
     more (λ es. map edge_number (map reversed es)) (λ es gs. ap (map edge_number) (map-append reversed es gs) ∙ map-append edge_number (map reversed es) (map reversed gs))
 
 -- ---- members
+-- an edge that occurs at least once is a member
 pub member_from_times : (e : Edge) (es : List Edge) → 0 < edge_count e es → In e es
 member_from_times e [] l = absurd (omega (arith, l))
 member_from_times e (f ∷ es) l = by (same_edge e f) refl l (member_from_times e es)
@@ -121,6 +132,7 @@ member_from_times e (f ∷ es) l = by (same_edge e f) refl l (member_from_times 
     by true h l k = inl (same_edge_out e f h)
     by false h l k = inr (k (omega (arith, l)))
 
+-- a member of a list of valid edges is valid
 pub valid_member : (e : Edge) (es : List Edge) → In e es → AllByRecursion IsValidEdge es → IsValidEdge e
 valid_member e [] m a = absurd m
 valid_member e (f ∷ es) (inl p) a = subst IsValidEdge (sym p) a.0
@@ -131,6 +143,7 @@ pub record Numbered (k : ℕ) (es : List Edge) : Type 0 where
   pub member : In edge es
   pub number : edge_number edge ≡ k
 
+-- a number that occurs among the edges' numbers is that of some edge
 pub member_from_count : (k : ℕ) (es : List Edge) → 0 < count k (map edge_number es) → Numbered k es
 member_from_count k [] l = absurd (omega (arith, l))
 member_from_count k (f ∷ es) l = by (eqb k (edge_number f)) refl l (member_from_count k es)

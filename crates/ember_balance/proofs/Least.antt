@@ -68,6 +68,7 @@ least_of_is : (es fs : List Edge) (e : Edge) → In e fs → NoneBefore e fs →
 least_of_is es [] e m h = absurd m
 least_of_is es (f ∷ fs) e m h = ap (λ (k : Edge). Some (with_counts es k)) (least_is e f fs m h)
 
+-- balanced triangles have no loose edge
 pub loose_of_balanced : (ts : List Tri) → IsBalanced ts → loose_of ts ≡ None
 unfolding loose_of
 loose_of_balanced ts h =
@@ -99,11 +100,12 @@ module _ (ts : List Tri) (l : Loose) (h : IsLeastLoose ts l) where
   first f m =
       false_from_ne_true _ (λ b. let more = ltb-true (edge_count (reversed f) es) (edge_count f es) (passes_member (is_loose es) f es m) in let most = h.least f b in omega (arith, more, most))
 
-  pub loose_of_least : loose_of ts ≡ Some l
+  loose_of_least : loose_of ts ≡ Some l
   unfolding loose_of
   loose_of_least =
       least_of_is es (filter (is_loose es) es) e (member_passes (is_loose es) e es loose standing) first ∙ ap Some counts
 
+-- the least loose edge is the one that the definition gives
 pub loose_is : (ts : List Tri) (o : Option Loose) → MatchOption o (IsBalanced ts) (λ l. IsLeastLoose ts l) → o ≡ loose_of ts
 loose_is ts None h = sym (loose_of_balanced ts h)
 loose_is ts (Some l) h = sym (loose_of_least ts l h)

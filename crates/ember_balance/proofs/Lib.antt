@@ -1,4 +1,4 @@
-pub mod Walk
+pub mod SortedSurplus
 pub mod EdgeNumbers
 pub mod Edges
 pub mod Sorted

@@ -12,18 +12,20 @@ use Rattle.ember_balance.specs.Counts.{count, HasNoSurplus, IsFirstSurplus}
 use Rattle.ember_balance.specs.Loose.{comes_before, with_counts, edge_of, IsLeastLoose}
 use Rattle.ember_balance.specs.Numbers.{edge_number, IsValidEdge, AreNumbers}
 use Rattle.ember_balance.proofs.EdgeNumbers.{edges_rise, edge_small, same_edges}
-use Rattle.ember_balance.proofs.Walk.{count_permutation}
+use Rattle.ember_balance.proofs.SortedSurplus.{count_permutation}
 use Rattle.ember_balance.proofs.Edges.{times_is_count, times_reversed, valid_edges, valid_reversed, length-edges_in, member_from_times, valid_member, Numbered, member_from_count}
 
+-- there are three numbers of edges for each triangle
 pub few_there : (ts : List Tri) (there back : List ℕ) → AreNumbers ts there back → length there ≡ 3 * length ts
 few_there ts there back s =
     length_permutation _ _ s.there ∙ length-map (edges_in ts) edge_number ∙ length-edges_in ts
 
+-- there are three numbers of reversed edges for each triangle
 pub few_back : (ts : List Tri) (there back : List ℕ) → AreNumbers ts there back → length back ≡ 3 * length ts
 few_back ts there back s =
     length_permutation _ _ s.back ∙ length-map (map reversed (edges_in ts)) edge_number ∙ length-map (edges_in ts) reversed ∙ length-edges_in ts
 
--- an edge that stands somewhere is valid
+-- an edge that occurs is valid
 pub by_standing : (ts : List Tri) (valid : All IsValidTri ts) (e : Edge) → (IsValidEdge e → edge_count e (edges_in ts) ≤ edge_count (reversed e) (edges_in ts)) → edge_count e (edges_in ts) ≤ edge_count (reversed e) (edges_in ts)
 by_standing ts valid e k = by (cases_lt 0 (edge_count e (edges_in ts)))
   where
@@ -32,11 +34,11 @@ by_standing ts valid e k = by (cases_lt 0 (edge_count e (edges_in ts)))
     by (inr z) = omega (arith, z)
 
 module _ (ts : List Tri) (valid : All IsValidTri ts) (there back : List ℕ) (s : AreNumbers ts there back) where
-  pub count_there : (e : Edge) → IsValidEdge e → count (edge_number e) there ≡ edge_count e (edges_in ts)
+  count_there : (e : Edge) → IsValidEdge e → count (edge_number e) there ≡ edge_count e (edges_in ts)
   count_there e v =
       count_permutation _ _ _ s.there ∙ sym (times_is_count edge_number (λ e f v w. same_edges v w) e v (edges_in ts) (valid_edges ts valid))
 
-  pub count_back : (e : Edge) → IsValidEdge e → count (edge_number e) back ≡ edge_count (reversed e) (edges_in ts)
+  count_back : (e : Edge) → IsValidEdge e → count (edge_number e) back ≡ edge_count (reversed e) (edges_in ts)
   count_back e v =
       count_permutation _ _ _ s.back ∙ sym (times_is_count edge_number (λ e f v w. same_edges v w) e v (map reversed (edges_in ts)) (valid_reversed (edges_in ts) (valid_edges ts valid))) ∙ times_reversed e (edges_in ts)
 
@@ -44,21 +46,22 @@ module _ (ts : List Tri) (valid : All IsValidTri ts) (there back : List ℕ) (s 
   at_most h e =
       by_standing ts valid e (λ v. let a = count_there e v in let b = count_back e v in let c = h.none (edge_number e) in omega (arith, a, b, c))
 
+  -- triangles whose edges have no surplus over their reverses are balanced
   pub balanced_from : HasNoSurplus there back → IsBalanced ts
   balanced_from h e =
       let a = at_most h e in
       let b : edge_count (reversed e) (edges_in ts) ≤ edge_count e (edges_in ts) = at_most h (reversed e) in
       omega (arith, a, b)
 
-  pub found_from : (k : ℕ) → IsFirstSurplus k there back → Numbered k (edges_in ts)
+  found_from : (k : ℕ) → IsFirstSurplus k there back → Numbered k (edges_in ts)
   found_from k h =
       let e = count_permutation k _ _ s.there in
       member_from_count k (edges_in ts) (omega (arith, e, h.more))
 
-  pub valid_found : {k : ℕ} (n : Numbered k (edges_in ts)) → IsValidEdge n.edge
+  valid_found : {k : ℕ} (n : Numbered k (edges_in ts)) → IsValidEdge n.edge
   valid_found n = valid_member n.edge (edges_in ts) n.member (valid_edges ts valid)
 
-  pub least_from_first : (e : Edge) → IsValidEdge e → IsFirstSurplus (edge_number e) there back → IsLeastLoose ts (with_counts (edges_in ts) e)
+  least_from_first : (e : Edge) → IsValidEdge e → IsFirstSurplus (edge_number e) there back → IsLeastLoose ts (with_counts (edges_in ts) e)
   least_from_first e v h =
       record { there = refl; back = refl; more = more; least = least }
     where
@@ -69,6 +72,7 @@ module _ (ts : List Tri) (valid : All IsValidTri ts) (there back : List ℕ) (s 
       least f l =
           by_standing ts valid f (λ w. let a = count_there f w in let b = count_back f w in let c = h.first (edge_number f) (edges_rise f e w v l) in omega (arith, a, b, c))
 
+  -- the first surplus is the least loose edge
   pub least_loose_from : (l : Loose) (k : ℕ) → IsFirstSurplus k there back → ((e : Edge) → IsValidEdge e → edge_number e ≡ k → edge_of l ≡ e) → l.there ≡ count k there → l.back ≡ count k back → IsLeastLoose ts l
   least_loose_from l k h edge a b =
       let n = found_from k h in let v = valid_found n in let q = edge n.edge v n.number in
@@ -82,10 +86,12 @@ module _ (ts : List Tri) (valid : All IsValidTri ts) (there back : List ℕ) (s 
   found_small k h =
       let n = found_from k h in let l = edge_small (valid_found n) in omega (arith, l, n.number)
 
+-- equal lists have no surplus alike
 pub none_at : {ns rs xs ys : List ℕ} → xs ≡ ns → ys ≡ rs → HasNoSurplus xs ys → HasNoSurplus ns rs
 none_at {ns} {rs} {xs} {ys} p q h =
     subst (λ (us : List ℕ). HasNoSurplus us rs) p (subst (λ (us : List ℕ). HasNoSurplus xs us) q h)
 
+-- the first surplus of equal lists
 pub first_at : {ns rs xs ys : List ℕ} (k : ℕ) → xs ≡ ns → ys ≡ rs → IsFirstSurplus k xs ys → IsFirstSurplus k ns rs
 first_at {ns} {rs} {xs} {ys} k p q h =
     subst (λ (us : List ℕ). IsFirstSurplus k us rs) p (subst (λ (us : List ℕ). IsFirstSurplus k xs us) q h)

@@ -15,7 +15,7 @@ use Rattle.ember_balance.specs.Tallies.{IsTallied}
 use Rattle.ember_balance.proofs.EdgeNumbers.{same_corners, same_edges, ends_from}
 use Rattle.ember_balance.proofs.Edges.{times_is_count, valid_edges}
 use Rattle.ember_balance.proofs.Sorted.{by_standing}
-use Rattle.ember_balance.proofs.Walk.{count_permutation}
+use Rattle.ember_balance.proofs.SortedSurplus.{count_permutation}
 
 -- ---- one more number
 count_push : (n : ℕ) (ks : List ℕ) (k : ℕ) → count n (ks ++ k ∷ []) ≡ count n ks + cond (eqb n k) 1 0
@@ -48,7 +48,7 @@ module _ (ks : List ℕ) (t : Tally) (k : ℕ) (h : IsTallied ks t) where
           let a = count_push (2 * n) ks k in let d = count_push (2 * n + 1) ks k in omega (arith, a, d, r, s)
 
   -- an even tally has nothing to keep
-  pub even_counts : eqb t.there t.back || has_one_end t.number ≡ true → (n : ℕ) → has_one_end n ≡ false → count (2 * n) ks ≡ count (2 * n + 1) ks
+  even_counts : eqb t.there t.back || has_one_end t.number ≡ true → (n : ℕ) → has_one_end n ≡ false → count (2 * n) ks ≡ count (2 * n + 1) ks
   even_counts e n two = by (eqb n t.number) refl (h.each n two)
     where
       same : n ≡ t.number → (eqb t.there t.back ≡ true) ⊎ (has_one_end t.number ≡ true) → t.there ≡ t.back
@@ -71,12 +71,7 @@ module _ (ks : List ℕ) (t : Tally) (k : ℕ) (h : IsTallied ks t) where
       by n false r s =
           let a = count_push (2 * n) ks k in let d = count_push (2 * n + 1) ks k in omega (arith, a, d, r, s)
 
-pub tallied_none : IsTallied [] (record { number = 0; there = 0; back = 0 })
-tallied_none = record { each = λ n two. by (eqb n 0) }
-  where
-    by : (b : Bool) → 0 + cond b 0 0 ≡ 0 + cond b 0 0
-    by b = refl
-
+-- if the last tallied edge is balanced too, all are
 pub two_way_from : (ks : List ℕ) (t : Tally) → IsTallied ks t → eqb t.there t.back || has_one_end t.number ≡ true → AreTwoWay ks
 two_way_from ks t h e = record { each = even_counts ks t 0 h e }
 

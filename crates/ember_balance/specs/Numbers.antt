@@ -15,6 +15,7 @@ digit z = unsigned_abs (z +ℤ pos 2047)
 abbrev pub corner_number : Corner → ℕ
 corner_number c = (digit c.x * 4096 + digit c.y) * 4096 + digit c.z
 
+-- the number of an edge: those of its start and its end, 36 bits each
 abbrev pub edge_number : Edge → ℕ
 edge_number e = corner_number e.from * 2 ^ 36 + corner_number e.to
 
@@ -31,6 +32,7 @@ has_one_end n = nat_eq (n / 2 ^ 36) (n % 2 ^ 36)
 pub record AreTwoWay (ks : List ℕ) : Type 0 where
   pub each : (n : ℕ) → has_one_end n ≡ false → count (2 * n) ks ≡ count (2 * n + 1) ks
 
+-- both ends are valid
 pub record IsValidEdge (e : Edge) : Type 0 where
   pub from : IsValidCorner e.from
   pub to : IsValidCorner e.to

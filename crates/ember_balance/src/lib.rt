@@ -1,4 +1,4 @@
-//! Whether triangles are closed: no directed edge stands more often than its reverse.
+//! Whether triangles are closed: no directed edge occurs more often than its reverse.
 #![tactic(auto)]
 
 mod loose;

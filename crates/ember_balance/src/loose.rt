@@ -1,4 +1,4 @@
-// Edges that stand more often than their reverse.
+// Edges that occur more often than their reverse.
 ghost use Rattle.std.specs.Prelude.{◌≡◌, ◌<◌, ◌≤◌, ◌^◌, [], ◌∷◌, ◌++◌, length, map, All, IfOk, OnOk, IsTrue, MatchOption};
 ghost use Rattle.ember_model.specs.Valid.{IsValidCorner, IsValidTri};
 ghost use Rattle.ember_model.specs.Meshes.{Edge, reversed, edges_in, IsBalanced};
@@ -12,7 +12,7 @@ use crate::two_way::are_two_way;
 use ember_model::{Corner, OutOfMemory, Tri};
 use std::alloc::Global;
 
-/// A directed edge, how often it stands `there`, and how often its reverse stands, `back`.
+/// A directed edge. It occurs `there` times, and its reverse `back` times.
 #[derive(Clone, Copy, Debug, PartialEq, Eq)]
 pub struct Loose {
     pub from: Corner,
@@ -21,7 +21,7 @@ pub struct Loose {
     pub back: u32,
 }
 
-// The numbers of edges and of their reverses.
+// The numbers of edges (`there`) and of their reverses (`back`).
 #[derive(Drop)]
 struct Numbers {
     there: Vec<u128>,
@@ -83,7 +83,7 @@ fn sorted_numbers(alloc: Global, tris: &[Tri]) -> Result<Numbers, OutOfMemory>
     Ok(numbers)
 }
 
-// The edge with this number, and how often it and its reverse stand.
+// The edge with this number, and how often it and its reverse occur.
 fn loose_with(number: u128, numbers: &Numbers) -> Loose
     requires number { number < 2 ^ 72 }
     requires there { length numbers.now.there.items ≤ 786432 }
@@ -124,7 +124,8 @@ fn two_way_numbers(alloc: Global, tris: &[Tri]) -> Result<Vec<u128>, OutOfMemory
     Ok(numbers)
 }
 
-// The triangles are balanced. This takes one list in order; the least loose edge takes two.
+// `true` only if the triangles are balanced; `false` shows nothing. Sorts one list, and
+// `least_loose` sorts two.
 fn are_balanced(alloc: Global, tris: &[Tri]) -> Result<bool, OutOfMemory>
     requires valid { All IsValidTri tris.now }
     requires few { length tris.now ≤ 262144 }
@@ -135,6 +136,7 @@ fn are_balanced(alloc: Global, tris: &[Tri]) -> Result<bool, OutOfMemory>
     Ok(are_two_way(&numbers))
 }
 
+// The least loose edge, or `None` exactly if the triangles are balanced.
 fn least_loose(alloc: Global, tris: &[Tri]) -> Result<Option<Loose>, OutOfMemory>
     requires valid { All IsValidTri tris.now }
     requires few { length tris.now ≤ 262144 }
@@ -148,9 +150,9 @@ fn least_loose(alloc: Global, tris: &[Tri]) -> Result<Option<Loose>, OutOfMemory
     }
 }
 
-/// `None` exactly if the triangles are balanced: each directed edge stands as often as its
-/// reverse. Otherwise the least edge, by x, y and z of `from` and then of `to`, that stands more often
-/// than its reverse.
+/// The least loose edge: of the edges that occur more often than their reverse, the least by x, y
+/// and z of `from` and then of `to`. `None` exactly if the triangles are balanced: each directed
+/// edge occurs as often as its reverse.
 pub fn balance(alloc: Global, tris: &[Tri]) -> Result<Option<Loose>, OutOfMemory>
     requires valid { All IsValidTri tris.now }
     requires few { length tris.now ≤ 262144 }

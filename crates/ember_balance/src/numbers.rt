@@ -1,4 +1,4 @@
-// Directed edges as numbers. They rise by x, y and z of the start and then of the end.
+// Directed edges as numbers, in the order of x, y and z of the start and then of the end.
 ghost use Rattle.std.specs.Prelude.{◌≡◌, ◌<◌, ◌+◌, ◌*◌, ◌^◌};
 ghost use Rattle.ember_model.specs.declared.point.Corner.{Corner};
 ghost use Rattle.ember_model.specs.Valid.{IsValidCorner};
@@ -7,7 +7,7 @@ ghost use Rattle.ember_balance.specs.Numbers.{corner_number, edge_number, two_wa
 
 use ember_model::Corner;
 
-// Of the 36 bits each coordinate takes 12.
+// The number of a corner, of 36 bits: 12 for each coordinate.
 fn corner_number(c: &Corner) -> u64
     requires { IsValidCorner c.now }
     ensures value { result ≡ corner_number c.now }
@@ -35,8 +35,8 @@ fn joined(from: u64, to: u64) -> u128
     from as u128 * 68_719_476_736 + to as u128
 }
 
-/// The number of the edge from the corner of lower number to the other one, doubled, and one more
-/// where the edge runs the other way: of 73 bits.
+/// A number of 73 bits: 2n for an edge that goes from the corner of lower number to the other one
+/// and has the number n, and 2n + 1 for its reverse.
 pub fn two_way_number(from: &Corner, to: &Corner) -> u128
     requires from { IsValidCorner from.now }
     requires to { IsValidCorner to.now }
@@ -51,7 +51,7 @@ pub fn two_way_number(from: &Corner, to: &Corner) -> u128
     }
 }
 
-/// Both ends of the edge with this number are one corner.
+/// Whether both ends of the edge with this number are one corner.
 pub fn has_one_end(number: u128) -> bool
     ensures { result ≡ has_one_end number }
 {

@@ -3,7 +3,7 @@ ghost use Rattle.std.specs.Prelude.{◌≡◌, ◌≤◌, ℕ, length, MatchOpti
 ghost use Rattle.std.specs.List.Sorted.{IsNonDecreasing};
 ghost use Rattle.ember_balance.specs.Counts.{count, IsFirstSurplus, HasNoSurplus};
 
-/// How often the number stands in the list.
+/// How often the number occurs in the list.
 pub fn count(number: u128, numbers: &[u128]) -> u32
     requires { length numbers.now ≤ 786432 }
     ensures { result ≡ count number numbers.now }
@@ -17,7 +17,8 @@ pub fn count(number: u128, numbers: &[u128]) -> u32
     found
 }
 
-/// The least number that stands more often in the first list than in the second.
+/// The least number that occurs more often in the first list than in the second. Both lists are
+/// sorted.
 pub fn first_surplus(there: &[u128], back: &[u128]) -> Option<u128>
     requires there { IsNonDecreasing there.now }
     requires back { IsNonDecreasing back.now }

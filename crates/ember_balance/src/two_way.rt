@@ -1,11 +1,11 @@
-// Whether each edge stands as often as its reverse: found in one pass over numbers in order.
+// Whether each edge occurs as often as its reverse: found in one pass over sorted numbers.
 ghost use Rattle.std.specs.Prelude.{◌≡◌, ◌+◌, ◌≤◌, ◌||◌, nat_eq, List, [], ◌∷◌, ◌++◌, ℕ, length, IfSome, IsTrue};
 ghost use Rattle.ember_balance.specs.Numbers.{has_one_end, AreTwoWay};
 ghost use Rattle.ember_balance.specs.Tallies.{IsTallied};
 
 use crate::numbers::has_one_end;
 
-// An edge's number, and how often the edge and its reverse stood.
+// An edge's number, and how often the edge and its reverse occurred so far.
 #[derive(Clone, Copy)]
 struct Tally {
     number: u128,
@@ -14,14 +14,14 @@ struct Tally {
 }
 
 impl Tally {
-    // The edge stood as often as its reverse, or is its own reverse.
+    // Whether the edge occurred as often as its reverse, or is its own reverse.
     fn is_even(&self) -> bool
         ensures { result ≡ (nat_eq self.now.there self.now.back || has_one_end self.now.number) }
     {
         self.there == self.back || has_one_end(self.number)
     }
 
-    // After one edge more. None if that is another edge and the one before isn't even.
+    // The tally after one edge more. None if that is another edge and the one before isn't even.
     fn after(&self, two_way: u128) -> Option<Tally>
         requires { self.now.there + self.now.back ≤ 786432 }
         ensures tallied { IfSome result (λ t. (ks : List ℕ) → IsTallied ks self.now →
@@ -49,8 +49,8 @@ impl Tally {
     }
 }
 
-/// Shows, by the two-way numbers of edges, that each edge with two ends runs one way as often as
-/// the other. `false` shows nothing: if the numbers aren't in order, it may be so all the same.
+/// `true` only if, by the two-way numbers of edges, each edge with two different ends occurs as
+/// often as its reverse. `false` proves nothing unless the numbers are sorted.
 pub fn are_two_way(numbers: &[u128]) -> bool
     requires { length numbers.now ≤ 786432 }
     ensures { IsTrue result → AreTwoWay numbers.now }

@@ -26,6 +26,7 @@ none_yet ts c k = refl
 abbrev pub sums_of : ℕ → ℕ → ℕ → ℕ → Sums
 sums_of n x y z = record { near = n; x = x; y = y; z = z }
 
+-- the sums of no triangles are 0
 pub sums_none : (ts : List Tri) (c : Cell) → AreSums (take 0 ts) c (sums_of 0 0 0 0)
 sums_none ts c = record { near = refl; bound = omega arith; x = at X; y = at Y; z = at Z }
   where
@@ -39,6 +40,7 @@ sum_more ts c k i n d l s e b =
       bound = omega (arith, s.bound, length-take i ts, length-take (i + 1) ts);
     }
 
+-- one more triangle, with what it adds to the sums
 pub sums_more : (ts : List Tri) (c : Cell) (i n x y z m dx dy dz : ℕ) → i < length ts → AreSums (take i ts) c (sums_of n x y z) → m ≡ number (is_near c (get_or ts i no_tri)) → m ≤ 1 → (0 < c.log X → dx ≡ near_halves c X (get_or ts i no_tri)) → dx ≤ 2 → (0 < c.log Y → dy ≡ near_halves c Y (get_or ts i no_tri)) → dy ≤ 2 → (0 < c.log Z → dz ≡ near_halves c Z (get_or ts i no_tri)) → dz ≤ 2 → AreSums (take (i + 1) ts) c (sums_of (n + m) (x + dx) (y + dy) (z + dz))
 sums_more ts c i n x y z m dx dy dz l s em bm ex bx ey by' ez bz =
     record {
@@ -49,11 +51,12 @@ sums_more ts c i n x y z m dx dy dz l s em bm ex bx ey by' ez bz =
       z = sum_more ts c Z i z dz l s.z ez bz;
     }
 
+-- the sums of all that were looked at are those of the list
 pub sums_all : (ts : List Tri) (c : Cell) (i : ℕ) (s : Sums) → length ts ≤ i → AreSums (take i ts) c s → AreSums ts c s
 sums_all ts c i s l a = subst (λ xs. AreSums xs c s) (take_all i ts l) a
 
 -- ---- what is decided by the sums
-pub no_better : (ts : List Tri) (c : Cell) (j k : Axis) (a b : ℕ) → IsSumOf ts c j a → IsSumOf ts c k b → (not (nat_lt 0 (c.log k)) || (nat_lt 0 (c.log j) && nat_le a b)) ≡ is_no_better ts c j k
+no_better : (ts : List Tri) (c : Cell) (j k : Axis) (a b : ℕ) → IsSumOf ts c j a → IsSumOf ts c k b → (not (nat_lt 0 (c.log k)) || (nat_lt 0 (c.log j) && nat_le a b)) ≡ is_no_better ts c j k
 no_better ts c j k a b s t =
     by (nat_lt 0 (c.log k)) (nat_lt 0 (c.log j)) (λ e. t.value (positive (c.log k) e)) (λ e. s.value (positive (c.log j) e))
   where
@@ -65,8 +68,8 @@ no_better ts c j k a b s t =
     by true false f g = refl
     by true true f g = λ i. nat_le (g refl i) (f refl i)
 
-pub spread : (ts : List Tri) (c : Cell) (k : Axis) (n a : ℕ) → n ≡ length (near ts c) → IsSumOf ts c k a → (not (nat_lt 0 (c.log k)) || nat_le (7 * n) (4 * a)) ≡ is_unprofitable ts c k
-spread ts c k n a e s = by (nat_lt 0 (c.log k)) (λ p. s.value (positive (c.log k) p))
+unprofitable_by_counts : (ts : List Tri) (c : Cell) (k : Axis) (n a : ℕ) → n ≡ length (near ts c) → IsSumOf ts c k a → (not (nat_lt 0 (c.log k)) || nat_le (7 * n) (4 * a)) ≡ is_unprofitable ts c k
+unprofitable_by_counts ts c k n a e s = by (nat_lt 0 (c.log k)) (λ p. s.value (positive (c.log k) p))
   where
     positive : (n : ℕ) → nat_lt 0 n ≡ true → 0 < n
     positive n e = grind arith
@@ -75,6 +78,7 @@ spread ts c k n a e s = by (nat_lt 0 (c.log k)) (λ p. s.value (positive (c.log 
     by false f = refl
     by true f = λ i. nat_le (7 * e i) (4 * f refl i)
 
+-- the code's comparisons of the sums give the halving axis
 pub halving_axis_is : (ts : List Tri) (c : Cell) (s : Sums) (p q r : Bool) → AreSums ts c s → p ≡ (not (nat_lt 0 (c.log Y)) || (nat_lt 0 (c.log X) && nat_le s.x s.y)) → q ≡ (not (nat_lt 0 (c.log Z)) || (nat_lt 0 (c.log X) && nat_le s.x s.z)) → r ≡ (not (nat_lt 0 (c.log Z)) || (nat_lt 0 (c.log Y) && nat_le s.y s.z)) → (if p && q then X else (if r then Y else Z)) ≡ halving_axis ts c
 unfolding halving_axis
 halving_axis_is ts c s p q r a e f g =
@@ -82,12 +86,13 @@ halving_axis_is ts c s p q r a e f g =
     let yz = g ∙ no_better ts c Y Z s.y s.z a.y a.z in
     λ i. if xy i && xz i then X else (if yz i then Y else Z)
 
+-- the code's comparisons of the sums say whether the box is a leaf
 pub is_leaf_is : (ts : List Tri) (c : Cell) (s : Sums) (few x y z : Bool) → AreSums ts c s → few ≡ nat_le s.near 16 → x ≡ (not (nat_lt 0 (c.log X)) || nat_le (7 * s.near) (4 * s.x)) → y ≡ (not (nat_lt 0 (c.log Y)) || nat_le (7 * s.near) (4 * s.y)) → z ≡ (not (nat_lt 0 (c.log Z)) || nat_le (7 * s.near) (4 * s.z)) → (few || x && y && z) ≡ is_leaf ts c
 unfolding is_leaf
 is_leaf_is ts c s few x y z a e ex ey ez =
     let n = e ∙ ap (λ m. nat_le m 16) a.near in
-    let px = ex ∙ spread ts c X s.near s.x a.near a.x in let py = ey ∙ spread ts c Y s.near s.y a.near a.y in
-    let pz = ez ∙ spread ts c Z s.near s.z a.near a.z in
+    let px = ex ∙ unprofitable_by_counts ts c X s.near s.x a.near a.x in let py = ey ∙ unprofitable_by_counts ts c Y s.near s.y a.near a.y in
+    let pz = ez ∙ unprofitable_by_counts ts c Z s.near s.z a.near a.z in
     λ i. n i || px i && py i && pz i
 
 -- a list of few triangles has few near ones

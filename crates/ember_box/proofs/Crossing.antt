@@ -27,7 +27,7 @@ pub record IsBetween (s : Interval) (x : ℤ) : Type 0 where
   pub from : s.low ≤ℤ x
   pub to : x ≤ℤ s.high
 
-pub least_term : (n x : ℤ) (s : Interval) → IsBetween s x → (n *ℤ least_end n s) ≤ℤ (n *ℤ x)
+least_term : (n x : ℤ) (s : Interval) → IsBetween s x → (n *ℤ least_end n s) ≤ℤ (n *ℤ x)
 least_term (pos zero) x s b =
     let z : pos 0 ≤ℤ pos zero = omega (arith, ints) in mul_le z b.from
 least_term (pos (suc n)) x s b =
@@ -38,7 +38,7 @@ least_term (negsuc n) x s b =
     let m = mul_le z b.to in
     omega (arith, linear, m, solve 2 (λ a x. neg a ⊗ x ≈ neg (a ⊗ x)) cancels (pos (suc n)) x, solve 2 (λ a x. neg a ⊗ x ≈ neg (a ⊗ x)) cancels (pos (suc n)) s.high)
 
-pub greatest_term : (n x : ℤ) (s : Interval) → IsBetween s x → (n *ℤ x) ≤ℤ (n *ℤ greatest_end n s)
+greatest_term : (n x : ℤ) (s : Interval) → IsBetween s x → (n *ℤ x) ≤ℤ (n *ℤ greatest_end n s)
 greatest_term (pos zero) x s b =
     let z : pos 0 ≤ℤ pos zero = omega (arith, ints) in mul_le z b.to
 greatest_term (pos (suc n)) x s b =
@@ -55,11 +55,11 @@ pub record IsIn (b : Aabb) (x y z : ℤ) : Type 0 where
   pub on_y : IsBetween b.y y
   pub on_z : IsBetween b.z z
 
-pub least_at : (p : Plane) (b : Aabb) (x y z : ℤ) → IsIn b x y z → least p b ≤ℤ (p.a *ℤ x +ℤ p.b *ℤ y +ℤ p.c *ℤ z)
+least_at : (p : Plane) (b : Aabb) (x y z : ℤ) → IsIn b x y z → least p b ≤ℤ (p.a *ℤ x +ℤ p.b *ℤ y +ℤ p.c *ℤ z)
 least_at p b x y z i =
     omega (arith, linear, least_term p.a x b.x i.on_x, least_term p.b y b.y i.on_y, least_term p.c z b.z i.on_z)
 
-pub greatest_at : (p : Plane) (b : Aabb) (x y z : ℤ) → IsIn b x y z → (p.a *ℤ x +ℤ p.b *ℤ y +ℤ p.c *ℤ z) ≤ℤ greatest p b
+greatest_at : (p : Plane) (b : Aabb) (x y z : ℤ) → IsIn b x y z → (p.a *ℤ x +ℤ p.b *ℤ y +ℤ p.c *ℤ z) ≤ℤ greatest p b
 greatest_at p b x y z i =
     omega (arith, linear, greatest_term p.a x b.x i.on_x, greatest_term p.b y b.y i.on_y, greatest_term p.c z b.z i.on_z)
 
@@ -110,6 +110,7 @@ end_in : (l : ℤ) (n : ℤ) (s : Bool) → pos 0 ≤ℤ n → IsBetween (record
 end_in l n true p = record { from = omega (arith, linear); to = omega (arith, linear) }
 end_in l n false p = record { from = omega (arith, linear); to = omega (arith, linear) }
 
+-- each corner of a box lies in its bounding box
 pub corner_in : (c : Cell) (s t u : Bool) → IsIn (aabb_of_cell c) (if s then high c X else low c X) (if t then high c Y else low c Y) (if u then high c Z else low c Z)
 corner_in c s t u =
     record {
@@ -152,6 +153,7 @@ greatest_under c p e =
     turned true l h = refl
     turned false l h = refl
 
+-- a plane crosses a box if its corners are neither all above nor all below
 pub crosses_is : (c : Cell) (p : Plane) → (not (list_all (λ v. is_positive (value_at p v)) (corners c)) && not (list_all (λ v. is_negative (value_at p v)) (corners c))) ≡ crosses p (aabb_of_cell c)
 unfolding crosses
 crosses_is c p =

@@ -71,6 +71,7 @@ one_of false true r e = inr (inl refl)
 one_of false false true e = inr (inr refl)
 one_of false false false e = cc
 
+-- a triangle in a plane across an axis whose bounding box meets a box crosses the box by its plane
 pub level_crossed : (c : Cell) (t : Tri) → is_level (aabb_of_tri t) ≡ true → aabbs_meet (aabb_of_tri t) (aabb_of_cell c) ≡ true → crosses (support_of t) (aabb_of_cell c) ≡ true
 level_crossed c t l o =
     let b = aabb_of_cell c in let p = support_of t in let w = corner_in c false false false in

@@ -36,6 +36,7 @@ lowered (a ∷ b ∷ d ∷ []) Z e Y = refl
 lowered (a ∷ b ∷ d ∷ []) Z e Z = minus_pred d
 lowered (a ∷ b ∷ d ∷ x ∷ log) k e i = absurd (omega arith)
 
+-- what the code writes is the left half
 pub is_lower : (lo : List ℤ) (log : List ℕ) (path : ℕ) (k : Axis) → length log ≡ 3 → cell_of lo (slice_set log (axis_index k) (slice_index_or log (axis_index k) 0 - 1)) (2 * path) ≡ left_half (cell_of lo log path) k
 is_lower lo log path k e = ap (λ f. record { lo = record { x = slice_index_or lo 0 (pos 0); y = slice_index_or lo 1 (pos 0); z = slice_index_or lo 2 (pos 0) }; log = f; path = 2 * path }) (fun_ext (lowered log k e))
 
@@ -43,6 +44,7 @@ is_lower lo log path k e = ap (λ f. record { lo = record { x = slice_index_or l
 onward : (x : ℤ) (a : ℕ) → x +ℤ pos (2 ^ (a - 1)) ≡ x +ℤ pos (2 ^ pred a)
 onward x a = ap (λ k. x +ℤ pos (2 ^ k)) (minus_pred a)
 
+-- the fields that the code sets are those of the right half
 pub is_upper : (lo : List ℤ) (log : List ℕ) (path : ℕ) (k : Axis) → length lo ≡ 3 → length log ≡ 3 → cell_of (slice_set lo (axis_index k) (slice_index_or lo (axis_index k) (pos 0) +ℤ pos (2 ^ (slice_index_or log (axis_index k) 0 - 1)))) (slice_set log (axis_index k) (slice_index_or log (axis_index k) 0 - 1)) (2 * path + 1) ≡ right_half (cell_of lo log path) k
 is_upper [] log path k e l = absurd (omega arith)
 is_upper (x ∷ []) log path k e l = absurd (omega arith)
@@ -99,6 +101,7 @@ path_from p (suc l) m e low high =
     let same : m ≡ l = omega (arith, e) in
     rw same (omega (arith, low, double p l), omega (arith, high, double (p + 1) l, next p (2 ^ l)))
 
+-- the left half of a box is a box
 pub left_is_cell : (c : Cell) (k : Axis) → 0 < c.log k → IsCell c → IsCell (left_half c k)
 left_is_cell c k above s =
     let m : ℕ = halvings_left (left_half c k) in
@@ -119,6 +122,7 @@ left_is_cell c k above s =
     at Z a Y = s.sits Y
     at Z a Z = lower_sits c.lo.z (c.log Z) a (s.sits Z)
 
+-- the right half of a box is a box
 pub right_is_cell : (c : Cell) (k : Axis) → 0 < c.log k → IsCell c → IsCell (right_half c k)
 right_is_cell c k above s =
     let m : ℕ = halvings_left (left_half c k) in
@@ -139,7 +143,7 @@ right_is_cell c k above s =
     at Z a Y = s.sits Y
     at Z a Z = upper_sits c.lo.z (c.log Z) a (s.sits Z)
 
--- a box lies in the root
+-- a box cell_side_is_small in the root
 between : (x : ℤ) (n : ℕ) → n ≤ 4096 → x +ℤ pos 2048 ≡ pos n → Small 2048 x
 between (pos k) n l e = record { small = omega (arith, l, ap unsigned_abs e) }
 between (negsuc k) n l e = record { small = omega (arith, linear, e) }
@@ -147,26 +151,31 @@ between (negsuc k) n l e = record { small = omega (arith, linear, e) }
 within : (x : ℤ) (n : ℕ) → IsOnGrid x n → Small 2048 x
 within x n s = between x (s.index * 2 ^ n) (omega (arith, s.within, next s.index (2 ^ n))) s.at
 
-pub lies : (lo : List ℤ) (log : List ℕ) (path : ℕ) (k : Axis) → IsCell (cell_of lo log path) → Small 2048 (slice_index_or lo (axis_index k) (pos 0)) × (slice_index_or log (axis_index k) 0 ≤ 12)
-lies lo log path X s = (within (slice_index_or lo 0 (pos 0)) (slice_index_or log 0 0) (s.sits X), (s.sits X).small)
-lies lo log path Y s = (within (slice_index_or lo 1 (pos 0)) (slice_index_or log 1 0) (s.sits Y), (s.sits Y).small)
-lies lo log path Z s = (within (slice_index_or lo 2 (pos 0)) (slice_index_or log 2 0) (s.sits Z), (s.sits Z).small)
+-- the least coordinate and the side of a box are small
+pub cell_side_is_small : (lo : List ℤ) (log : List ℕ) (path : ℕ) (k : Axis) → IsCell (cell_of lo log path) → Small 2048 (slice_index_or lo (axis_index k) (pos 0)) × (slice_index_or log (axis_index k) 0 ≤ 12)
+cell_side_is_small lo log path X s = (within (slice_index_or lo 0 (pos 0)) (slice_index_or log 0 0) (s.sits X), (s.sits X).small)
+cell_side_is_small lo log path Y s = (within (slice_index_or lo 1 (pos 0)) (slice_index_or log 1 0) (s.sits Y), (s.sits Y).small)
+cell_side_is_small lo log path Z s = (within (slice_index_or lo 2 (pos 0)) (slice_index_or log 2 0) (s.sits Z), (s.sits Z).small)
 
+-- the least coordinates of a box are small
 pub low_small : (lo : List ℤ) (log : List ℕ) (path : ℕ) (k : Axis) {i : ℕ} → i ≡ axis_index k → IsCell (cell_of lo log path) → Small 2048 (slice_index_or lo i (pos 0))
-low_small lo log path k e s = subst (λ j. Small 2048 (slice_index_or lo j (pos 0))) (sym e) (lies lo log path k s).0
+low_small lo log path k e s = subst (λ j. Small 2048 (slice_index_or lo j (pos 0))) (sym e) (cell_side_is_small lo log path k s).0
 
 -- a coordinate and a side are stored as they are, and so is their sum
 pub side_stored : {h : ℤ} → Small 4096 h → to_z w32 (of_z w32 h) ≡ h
 side_stored s = to_z-of_z (fits_small w32 s tt)
 
+-- a coordinate plus a side fits into 32 bits
 pub sum_fits : {x h : ℤ} → Small 2048 x → Small 4096 h → SFits w32 (to_z w32 (of_z w32 x) +ℤ to_z w32 (of_z w32 h))
 sum_fits r s =
     subst (λ (y : ℤ). SFits w32 y) (sym (ap₂ (λ u v. u +ℤ v) (to_z-of_z (fits_small w32 r tt)) (side_stored s)))
     (fits_small w32 (small_add r s) tt)
 
+-- a coordinate and a half side don't leave 32 bits
 pub sum_stored : {x h : ℤ} → Small 2048 x → Small 4096 h → to_z w32 (of_z w32 (to_z w32 (of_z w32 x) +ℤ to_z w32 (of_z w32 h))) ≡ x +ℤ h
 sum_stored r s =
     to_z-of_z (sum_fits r s) ∙ ap₂ (λ u v. u +ℤ v) (to_z-of_z (fits_small w32 r tt)) (side_stored s)
 
+-- the logarithm along an axis is the one in the list
 pub log_of : (lo : List ℤ) (log : List ℕ) (path : ℕ) (k : Axis) → (cell_of lo log path).log k ≡ slice_index_or log (axis_index k) 0
 log_of lo log path k = log_at log k

@@ -20,7 +20,7 @@ use Rattle.ember_box.proofs.NearByAabbs.{halves_end}
 
 -- ---- tests
 -- two tests with one difference are one
-pub same_le : (a b x y : ℤ) → b -ℤ a ≡ y -ℤ x → int_le a b ≡ int_le x y
+same_le : (a b x y : ℤ) → b -ℤ a ≡ y -ℤ x → int_le a b ≡ int_le x y
 same_le a b x y e = same_test (int_le a b) (int_le x y) onward backward
   where
     onward : int_le a b ≡ true → int_le x y ≡ true

@@ -1,4 +1,4 @@
--- What is looked at of a triangle tells whether it is near a box and near its halves.
+-- What decides whether a triangle is near a box and near its halves.
 use Rattle.std.proofs.Common.{◌≡◌, refl, sym, ap, ◌∙◌, Bool, true, false, ◌&&◌, ◌||◌, if◌then◌else◌, ℕ, ◌+◌, ◌<◌, int_le, List, [], ◌∷◌, ◌++◌, filter, length, take, get_or, None, Some, Option}
 use Rattle.std.proofs.lemmas.List.Elements.{filter_more}
 use Rattle.ember_model.specs.declared.tri.Tri.{Tri}
@@ -10,7 +10,7 @@ use Rattle.ember_box.specs.declared.half_boxes.HalfBoxes.{HalfBoxes}
 use Rattle.ember_box.specs.Boxes.{Cell, low, left_half, right_half}
 use Rattle.ember_box.specs.Near.{is_near}
 use Rattle.ember_box.specs.Aabbs.{interval_on, aabb_of_cell, aabb_of_tri, aabbs_meet, within, is_level, crosses}
-use Rattle.ember_box.specs.Sums.{number, IsPlaneOf, may_cross, AreHalves, meets_left, meets_right, halves_met, near_halves}
+use Rattle.ember_box.specs.Sums.{number, IsPlaneOf, may_cross, AreHalves, meets_left, meets_right, near_halves}
 use Rattle.ember_box.proofs.FlatAlongAxis.{level_crossed}
 use Rattle.ember_box.proofs.Orders.{and_implied}
 use Rattle.ember_box.proofs.NearByAabbs.{near_is, AreInside, are_inside, inside_crossed, left_crossed, right_crossed}
@@ -39,6 +39,7 @@ module _ (c : Cell) (t : Tri) (p : Option Plane) (o : aabbs_meet (aabb_of_tri t)
   seen_whole =
       sym (ap (λ b. b && may_cross (aabb_of_cell c) p) o) ∙ crossed_by (aabb_of_cell c) c t p plane (λ i _. inside_crossed t (aabb_of_cell c) i)
 
+  -- whether the left half is met is whether the triangle is near it
   pub seen_low : (k : Axis) (h : HalfBoxes) → 0 < c.log k → AreHalves c k h → meets_left h (interval_on k (aabb_of_tri t)) p ≡ is_near (left_half c k) t
   seen_low k h above are =
       parts p ∙ (λ i. meets i && may_cross (are.is_low i) p) ∙ crossed_by (aabb_of_cell c) (left_half c k) t p plane (left_crossed c k t)
@@ -51,6 +52,7 @@ module _ (c : Cell) (t : Tri) (p : Option Plane) (o : aabbs_meet (aabb_of_tri t)
       meets =
           (λ i. sym o i && int_le (interval_on k (aabb_of_tri t)).low (are.is_middle i)) ∙ left_meets c k (aabb_of_tri t) above
 
+  -- whether the right half is met is whether the triangle is near it
   pub seen_high : (k : Axis) (h : HalfBoxes) → 0 < c.log k → AreHalves c k h → meets_right h (interval_on k (aabb_of_tri t)) p ≡ is_near (right_half c k) t
   seen_high k h above are =
       parts p ∙ (λ i. meets i && may_cross (are.is_high i) p) ∙ crossed_by (aabb_of_cell c) (right_half c k) t p plane (right_crossed c k t above)
@@ -62,10 +64,6 @@ module _ (c : Cell) (t : Tri) (p : Option Plane) (o : aabbs_meet (aabb_of_tri t)
       meets : int_le h.middle (interval_on k (aabb_of_tri t)).high ≡ aabbs_meet (aabb_of_tri t) (aabb_of_cell (right_half c k))
       meets =
           (λ i. sym o i && int_le (are.is_middle i) (interval_on k (aabb_of_tri t)).high) ∙ right_meets c k (aabb_of_tri t) above
-
-  pub seen_halves : (k : Axis) (h : HalfBoxes) → 0 < c.log k → AreHalves c k h → halves_met h (interval_on k (aabb_of_tri t)) p ≡ near_halves c k t
-  unfolding near_halves
-  seen_halves k h above are = λ i. number (seen_low k h above are i) + number (seen_high k h above are i)
 
 -- ---- where it misses the box
 module _ (c : Cell) (t : Tri) (o : aabbs_meet (aabb_of_tri t) (aabb_of_cell c) ≡ false) where
@@ -79,10 +77,6 @@ module _ (c : Cell) (t : Tri) (o : aabbs_meet (aabb_of_tri t) (aabb_of_cell c) �
   pub far_high : (k : Axis) → 0 < c.log k → is_near (right_half c k) t ≡ false
   far_high k above =
       near_is (right_half c k) t ∙ ap (λ b. b && crosses (support_of t) (aabb_of_cell (right_half c k))) (sym (right_meets c k (aabb_of_tri t) above) ∙ ap (λ b. b && int_le (low (right_half c k) k) (interval_on k (aabb_of_tri t)).high) o)
-
-  pub far_halves : (k : Axis) → 0 < c.log k → near_halves c k t ≡ 0
-  unfolding near_halves
-  far_halves k above = λ i. number (far_low k above i) + number (far_high k above i)
 
 -- ---- a list of places
 -- one more is looked at, and kept if the test holds

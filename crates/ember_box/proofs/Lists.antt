@@ -10,15 +10,16 @@ use Rattle.ember_model.specs.Valid.{IsValidTri}
 use Rattle.ember_box.specs.Boxes.{Cell, root, left_half, right_half}
 use Rattle.ember_box.specs.Near.{is_near, near, no_tri, tri_at, listed, near_indices, all_indices}
 use Rattle.ember_box.specs.Halving.{half_sum, is_no_better, halving_axis, is_unprofitable, is_leaf}
-use Rattle.ember_box.proofs.NearByAabbs.{left_near, right_near, near_root}
+use Rattle.ember_box.proofs.NearByAabbs.{left_near, right_near}
 
 -- ---- filters
+-- what implies something false is false
 pub false_by : (s t : Bool) → (s ≡ true → t ≡ true) → t ≡ false → s ≡ false
 false_by true t f e = sym (f refl) ∙ e
 false_by false t f e = refl
 
 -- what passes p passes q
-pub filter_within : {X : Type 0} (p q : X → Bool) → ((x : X) → p x ≡ true → q x ≡ true) → (xs : List X) → filter p (filter q xs) ≡ filter p xs
+filter_within : {X : Type 0} (p q : X → Bool) → ((x : X) → p x ≡ true → q x ≡ true) → (xs : List X) → filter p (filter q xs) ≡ filter p xs
 filter_within {X} p q f [] = refl
 filter_within {X} p q f (x ∷ xs) = by (q x) refl (filter_within p q f xs)
   where
@@ -26,7 +27,7 @@ filter_within {X} p q f (x ∷ xs) = by (q x) refl (filter_within p q f xs)
     by true e h = ap (λ (l : List X). cond (p x) (x ∷ l) l) h
     by false e h = h ∙ ap (λ (b : Bool). cond b (x ∷ filter p xs) (filter p xs)) (sym (false_by (p x) (q x) (f x) e))
 
-pub map-filter : {X Y : Type 0} (f : X → Y) (p : Y → Bool) (xs : List X) → map f (filter (λ x. p (f x)) xs) ≡ filter p (map f xs)
+map-filter : {X Y : Type 0} (f : X → Y) (p : Y → Bool) (xs : List X) → map f (filter (λ x. p (f x)) xs) ≡ filter p (map f xs)
 map-filter f p [] = refl
 map-filter {X} {Y} f p (x ∷ xs) = by (p (f x)) (map-filter f p xs)
   where
@@ -35,18 +36,20 @@ map-filter {X} {Y} f p (x ∷ xs) = by (p (f x)) (map-filter f p xs)
     by false h = h
 
 -- ---- a half of a box
-pub left_list : (ts : List Tri) (c : Cell) (k : Axis) → 0 < c.log k → near (near ts c) (left_half c k) ≡ near ts (left_half c k)
+left_list : (ts : List Tri) (c : Cell) (k : Axis) → 0 < c.log k → near (near ts c) (left_half c k) ≡ near ts (left_half c k)
 left_list ts c k p =
     filter_within (λ t. is_near (left_half c k) t) (λ t. is_near c t) (λ t. left_near c k t p) ts
 
-pub right_list : (ts : List Tri) (c : Cell) (k : Axis) → 0 < c.log k → near (near ts c) (right_half c k) ≡ near ts (right_half c k)
+right_list : (ts : List Tri) (c : Cell) (k : Axis) → 0 < c.log k → near (near ts c) (right_half c k) ≡ near ts (right_half c k)
 right_list ts c k p =
     filter_within (λ t. is_near (right_half c k) t) (λ t. is_near c t) (λ t. right_near c k t p) ts
 
+-- what is near the left half is found among what is near the box
 pub left_places : (ts : List Tri) (c : Cell) (k : Axis) (is : List ℕ) → 0 < c.log k → near_indices ts (left_half c k) (near_indices ts c is) ≡ near_indices ts (left_half c k) is
 left_places ts c k is p =
     filter_within (λ i. is_near (left_half c k) (tri_at ts i)) (λ i. is_near c (tri_at ts i)) (λ i. left_near c k (tri_at ts i) p) is
 
+-- what is near the right half is found among what is near the box
 pub right_places : (ts : List Tri) (c : Cell) (k : Axis) (is : List ℕ) → 0 < c.log k → near_indices ts (right_half c k) (near_indices ts c is) ≡ near_indices ts (right_half c k) is
 right_places ts c k is p =
     filter_within (λ i. is_near (right_half c k) (tri_at ts i)) (λ i. is_near c (tri_at ts i)) (λ i. right_near c k (tri_at ts i) p) is
@@ -78,18 +81,20 @@ spreads_near ts c k = by (nat_lt 0 (c.log k)) (λ e. half_sum_near ts c k (posit
     by false f = refl
     by true f = λ i. nat_le (7 * length (near_again ts c i)) (4 * f refl i)
 
+-- the near triangles give the halving axis that all triangles give
 pub halving_axis_near : (ts : List Tri) (c : Cell) → halving_axis (near ts c) c ≡ halving_axis ts c
 unfolding halving_axis
 halving_axis_near ts c =
     λ i. if no_better_near ts c X Y i && no_better_near ts c X Z i then X else (if no_better_near ts c Y Z i then Y else Z)
 
+-- the near triangles decide as all triangles whether the box is a leaf
 pub is_leaf_near : (ts : List Tri) (c : Cell) → is_leaf (near ts c) c ≡ is_leaf ts c
 unfolding is_leaf
 is_leaf_near ts c =
     λ i. nat_le (length (near_again ts c i)) 16 || spreads_near ts c X i && spreads_near ts c Y i && spreads_near ts c Z i
 
 -- ---- by places
-pub listed_near : (ts : List Tri) (c : Cell) (is : List ℕ) → listed ts (near_indices ts c is) ≡ near (listed ts is) c
+listed_near : (ts : List Tri) (c : Cell) (is : List ℕ) → listed ts (near_indices ts c is) ≡ near (listed ts is) c
 listed_near ts c is = map-filter (λ i. tri_at ts i) (λ t. is_near c t) is
 
 from_place : (ts : List Tri) (ks : List Tri) (n : ℕ) → ((i : ℕ) → tri_at ks (n + i) ≡ tri_at ts i) → map (λ i. tri_at ks i) (range_with_len n (length ts)) ≡ ts
@@ -104,32 +109,23 @@ from_place (t ∷ ts) ks n h =
     onward i = omega arith
 
 -- all places list all triangles
-pub listed_all : (ts : List Tri) → listed ts (all_indices ts) ≡ ts
+listed_all : (ts : List Tri) → listed ts (all_indices ts) ≡ ts
 listed_all ts = from_place ts ts 0 (λ i. let e : 0 + i ≡ i = omega arith in ap (λ m. tri_at ts m) e)
 
+-- the triangles that the near indices list are the near triangles
 pub listed_near_all : (ts : List Tri) (c : Cell) → listed ts (near_indices ts c (all_indices ts)) ≡ near ts c
 listed_near_all ts c = listed_near ts c (all_indices ts) ∙ ap (λ us. near us c) (listed_all ts)
 
+-- the listed near triangles give the halving axis of the scene
 pub halving_axis_listed : (ts : List Tri) (c : Cell) → halving_axis (listed ts (near_indices ts c (all_indices ts))) c ≡ halving_axis ts c
 halving_axis_listed ts c = ap (λ us. halving_axis us c) (listed_near_all ts c) ∙ halving_axis_near ts c
 
+-- the listed near triangles decide as the scene whether the box is a leaf
 pub is_leaf_listed : (ts : List Tri) (c : Cell) → is_leaf (listed ts (near_indices ts c (all_indices ts))) c ≡ is_leaf ts c
 is_leaf_listed ts c = ap (λ us. is_leaf us c) (listed_near_all ts c) ∙ is_leaf_near ts c
 
+-- near indices are indices of the list
 pub near_in_range : (ts : List Tri) (c : Cell) (is : List ℕ) → All (λ i. i < length ts) is → All (λ i. i < length ts) (near_indices ts c is)
 near_in_range ts c is a = All-filter (λ i. is_near c (tri_at ts i)) (λ i. i < length ts) is a
 
 -- ---- the root
-pub filter_all : {X : Type 0} (p : X → Bool) (xs : List X) → All (λ x. p x ≡ true) xs → filter p xs ≡ xs
-filter_all p [] a = refl
-filter_all {X} p (x ∷ xs) a =
-    let rest : filter p xs ≡ xs = filter_all p xs (All-tail (λ x. p x ≡ true) x xs a) in
-    λ j. cond (All-head (λ x. p x ≡ true) x xs a j) (x ∷ rest j) (rest j)
-
-pub root_list : (ts : List Tri) → All IsValidTri ts → near ts root ≡ ts
-root_list ts a =
-    filter_all (λ t. is_near root t) ts (All-weaker IsValidTri (λ t. is_near root t ≡ true) (λ t v. near_root t v) ts a)
-
-pub root_places : (ts : List Tri) (is : List ℕ) → All IsValidTri ts → All (λ i. i < length ts) is → near_indices ts root is ≡ is
-root_places ts is a b =
-    filter_all (λ i. is_near root (tri_at ts i)) is (All-weaker (λ i. i < length ts) (λ i. is_near root (tri_at ts i) ≡ true) (λ i l. near_root (tri_at ts i) (All-get_or IsValidTri ts i no_tri l a)) is b)

@@ -22,6 +22,7 @@ use Rattle.ember_box.specs.Aabbs.{aabb_of_cell, interval_over, aabb_of_tri, inte
 use Rattle.ember_box.proofs.Orders.{le_in, le_out, and_assoc, one_of_three, least_of, greatest_of, reaches_is, All3, all3, from3}
 use Rattle.ember_box.proofs.Crossing.{IsBetween, IsIn, IsWithin, crosses_at, crosses_is, crosses_more}
 
+-- a triangle is near a box if their bounding boxes meet and its plane crosses the box
 pub near_is : (c : Cell) (t : Tri) → is_near c t ≡ aabbs_meet (aabb_of_tri t) (aabb_of_cell c) && crosses (support_of t) (aabb_of_cell c)
 unfolding is_near
 near_is c t =
@@ -46,6 +47,7 @@ on_plane_c : (t : Tri) → (support_of t).a *ℤ t.c.x +ℤ (support_of t).b *�
 on_plane_c t =
     solve 9 (λ u v w l m n x y z. ((m ⊖ v) ⊗ (z ⊖ w) ⊖ (n ⊖ w) ⊗ (y ⊖ v)) ⊗ x ⊕ ((n ⊖ w) ⊗ (x ⊖ u) ⊖ (l ⊖ u) ⊗ (z ⊖ w)) ⊗ y ⊕ ((l ⊖ u) ⊗ (y ⊖ v) ⊖ (m ⊖ v) ⊗ (x ⊖ u)) ⊗ z ≈ ((m ⊖ v) ⊗ (z ⊖ w) ⊖ (n ⊖ w) ⊗ (y ⊖ v)) ⊗ u ⊕ ((n ⊖ w) ⊗ (x ⊖ u) ⊖ (l ⊖ u) ⊗ (z ⊖ w)) ⊗ v ⊕ ((l ⊖ u) ⊗ (y ⊖ v) ⊖ (m ⊖ v) ⊗ (x ⊖ u)) ⊗ w) cancels t.a.x t.a.y t.a.z t.b.x t.b.y t.b.z t.c.x t.c.y t.c.z
 
+-- the plane of a triangle crosses a bounding box that has the triangle's first corner
 pub crossed_a : (t : Tri) (b : Aabb) → IsInside b t.a → crosses (support_of t) b ≡ true
 crossed_a t b i = crosses_at (support_of t) b t.a.x t.a.y t.a.z i (on_plane_a t)
 
@@ -60,33 +62,14 @@ between_out s x e =
     let r = and_parts (int_le s.low x) (int_le x s.high) e in
     record { from = le_out s.low x r.0; to = le_out x s.high r.1 }
 
+-- a corner that passes the test lies in the bounding box
 pub inside_out : (b : Aabb) (u : Corner) → holds b u ≡ true → IsInside b u
 inside_out b u e =
     let r = all3 (has b.x u.x) (has b.y u.y) (has b.z u.z) e in
     record { on_x = between_out b.x u.x r.one; on_y = between_out b.y u.y r.two; on_z = between_out b.z u.z r.three }
 
-reached : (a b c : ℤ) (s : Interval) → IsBetween s a → intervals_meet (interval_over a b c) s ≡ true
-reached a b c s i =
-    and_from (int_le (int_min (int_min a b) c) s.high) (int_le s.low (int_max (int_max a b) c)) (le_in (int_min (int_min a b) c) s.high (omega (arith, ints, clamps, i.to))) (le_in s.low (int_max (int_max a b) c) (omega (arith, ints, clamps, i.from)))
-
--- a triangle whose first corner lies in the closed box is near
-pub near_corner : (c : Cell) (t : Tri) → IsInside (aabb_of_cell c) t.a → is_near c t ≡ true
-near_corner c t i =
-    near_is c t ∙ and_from (aabbs_meet (aabb_of_tri t) (aabb_of_cell c)) (crosses (support_of t) (aabb_of_cell c)) (from3 (intervals_meet (aabb_of_tri t).x (aabb_of_cell c).x) (intervals_meet (aabb_of_tri t).y (aabb_of_cell c).y) (intervals_meet (aabb_of_tri t).z (aabb_of_cell c).z) (reached t.a.x t.b.x t.c.x (aabb_of_cell c).x i.on_x) (reached t.a.y t.b.y t.c.y (aabb_of_cell c).y i.on_y) (reached t.a.z t.b.z t.c.z (aabb_of_cell c).z i.on_z)) (crossed_a t (aabb_of_cell c) i)
-
--- every valid triangle is near the root
-in_root : (u : Corner) → IsValidCorner u → IsInside (aabb_of_cell root) u
-in_root u v =
-    record {
-      on_x = record { from = omega (arith, ints, v.x.small); to = omega (arith, ints, v.x.small) };
-      on_y = record { from = omega (arith, ints, v.y.small); to = omega (arith, ints, v.y.small) };
-      on_z = record { from = omega (arith, ints, v.z.small); to = omega (arith, ints, v.z.small) };
-    }
-
-pub near_root : (t : Tri) → IsValidTri t → is_near root t ≡ true
-near_root t v = near_corner root t (in_root t.a v.a)
-
 -- ---- halves
+-- two halves of a side end where the side ends
 pub halves_end : (l : ℤ) (n : ℕ) → 0 < n → l +ℤ pos (2 ^ pred n) +ℤ pos (2 ^ pred n) ≡ l +ℤ pos (2 ^ n)
 halves_end l zero above = absurd (omega arith)
 halves_end l (suc m) above = let e = pow-succ' 2 m in omega (arith, ints, e)
@@ -113,6 +96,7 @@ pub record AreInside (b : Aabb) (t : Tri) : Type 0 where
   pub of_b : IsInside b t.b
   pub of_c : IsInside b t.c
 
+-- the plane of a triangle crosses a bounding box that has its corners
 pub inside_crossed : (t : Tri) (b : Aabb) → AreInside b t → crosses (support_of t) b ≡ true
 inside_crossed t b i = crossed_a t b i.of_a
 
@@ -122,6 +106,7 @@ covered x y z s e =
     let l = le_out s.low (int_min (int_min x y) z) r.0 in let h = le_out (int_max (int_max x y) z) s.high r.1 in
     (record { from = omega (arith, ints, clamps, l); to = omega (arith, ints, clamps, h) }, (record { from = omega (arith, ints, clamps, l); to = omega (arith, ints, clamps, h) }, record { from = omega (arith, ints, clamps, l); to = omega (arith, ints, clamps, h) }))
 
+-- the corners of a triangle lie in a bounding box that contains the triangle's
 pub are_inside : (b : Aabb) (t : Tri) → within b (aabb_of_tri t) ≡ true → AreInside b t
 are_inside b t e =
     let r = all3 (covers b.x (aabb_of_tri t).x) (covers b.y (aabb_of_tri t).y) (covers b.z (aabb_of_tri t).z) e in
@@ -158,6 +143,7 @@ highest : (a b c : ℤ) (s : Interval) → intervals_meet (interval_over a b c) 
 highest a b c s e =
     sym (greatest_of a b c s.low) ∙ (and_parts (int_le (int_min (int_min a b) c) s.high) (int_le s.low (int_max (int_max a b) c)) e).1
 
+-- the plane of a triangle in a box crosses the left half if the triangle's bounding box meets it
 pub left_crossed : (c : Cell) (k : Axis) (t : Tri) → AreInside (aabb_of_cell c) t → aabbs_meet (aabb_of_tri t) (aabb_of_cell (left_half c k)) ≡ true → crosses (support_of t) (aabb_of_cell (left_half c k)) ≡ true
 left_crossed c X t i e =
     some_left c X t i (lowest t.a.x t.b.x t.c.x (aabb_of_cell (left_half c X)).x (overlaps (aabb_of_tri t) (aabb_of_cell (left_half c X)) e).one)
@@ -166,6 +152,7 @@ left_crossed c Y t i e =
 left_crossed c Z t i e =
     some_left c Z t i (lowest t.a.z t.b.z t.c.z (aabb_of_cell (left_half c Z)).z (overlaps (aabb_of_tri t) (aabb_of_cell (left_half c Z)) e).three)
 
+-- the plane of a triangle in a box crosses the right half if the triangle's bounding box meets it
 pub right_crossed : (c : Cell) (k : Axis) (t : Tri) → 0 < c.log k → AreInside (aabb_of_cell c) t → aabbs_meet (aabb_of_tri t) (aabb_of_cell (right_half c k)) ≡ true → crosses (support_of t) (aabb_of_cell (right_half c k)) ≡ true
 right_crossed c X t p i e =
     some_right c X t p i (highest t.a.x t.b.x t.c.x (aabb_of_cell (right_half c X)).x (overlaps (aabb_of_tri t) (aabb_of_cell (right_half c X)) e).one)
@@ -229,8 +216,10 @@ right_within c k p =
     by x x' y y' z z' Z p =
         record { x_low = x; x_high = x'; y_low = y; y_high = y'; z_low = middle_in (low c Z) (c.log Z) p; z_high = end_in (low c Z) (c.log Z) p }
 
+-- a triangle near the left half is near the box
 pub left_near : (c : Cell) (k : Axis) (t : Tri) → 0 < c.log k → is_near (left_half c k) t ≡ true → is_near c t ≡ true
 left_near c k t p = near_more c (left_half c k) t (left_within c k p)
 
+-- a triangle near the right half is near the box
 pub right_near : (c : Cell) (k : Axis) (t : Tri) → 0 < c.log k → is_near (right_half c k) t ≡ true → is_near c t ≡ true
 right_near c k t p = near_more c (right_half c k) t (right_within c k p)

@@ -41,11 +41,11 @@ wall_unique w f ys zs (stays n a o) (outside b) = absurd (a b)
 wall_unique w f ys zs (stays n a o) (in_high h p) = absurd (o h p)
 wall_unique w f ys zs (stays n a o) (stays m b p) = refl
 
-blade_unique : (b : CuttingPlane) (f : Face) (ys zs : List Face) → AtCuttingPlane b f ys → AtCuttingPlane b f zs → ys ≡ zs
-blade_unique b f ys zs (splits m c) (splits n d) = refl
-blade_unique b f ys zs (splits m c) (whole n) = absurd (n m c)
-blade_unique b f ys zs (whole n) (splits m c) = absurd (n m c)
-blade_unique b f ys zs (whole n) (whole m) = refl
+cutting_plane_unique : (b : CuttingPlane) (f : Face) (ys zs : List Face) → AtCuttingPlane b f ys → AtCuttingPlane b f zs → ys ≡ zs
+cutting_plane_unique b f ys zs (splits m c) (splits n d) = refl
+cutting_plane_unique b f ys zs (splits m c) (whole n) = absurd (n m c)
+cutting_plane_unique b f ys zs (whole n) (splits m c) = absurd (n m c)
+cutting_plane_unique b f ys zs (whole n) (whole m) = refl
 
 start_unique : (c : Cell) (t : Tri) (fs gs : List Face) → IsStart c t fs → IsStart c t gs → fs ≡ gs
 start_unique c t fs gs r q =
@@ -54,4 +54,4 @@ start_unique c t fs gs r q =
 -- the regions of a triangle in a box are one list
 pub regions_unique : (c : Cell) (ts : List Tri) (i : ℕ) (fs gs : List Face) → IsRegions c ts i fs → IsRegions c ts i gs → fs ≡ gs
 regions_unique c ts i fs gs r q =
-    chain_unique (λ b x y z. each_unique (blade_unique b)) r.cuts (subst (λ s. Chain (λ b. Each (AtCuttingPlane b)) (cutting_planes ts i) s gs) (sym (start_unique c (tri_at ts i) r.start q.start r.is_start q.is_start)) q.cuts)
+    chain_unique (λ b x y z. each_unique (cutting_plane_unique b)) r.cuts (subst (λ s. Chain (λ b. Each (AtCuttingPlane b)) (cutting_planes ts i) s gs) (sym (start_unique c (tri_at ts i) r.start q.start r.is_start q.is_start)) q.cuts)

@@ -1,4 +1,4 @@
--- One look at a triangle tells whether it is near a box, and near its halves along each axis.
+-- Whether a triangle is near a box, and near its halves along each axis, from its near parts.
 use Rattle.std.proofs.Common.{◌≡◌, ◌⊎◌, inl, inr, refl, sym, ap, subst, ◌∙◌, arith, ℕ, ◌<◌, ◌≤◌, true, false, ◌&&◌, int_le, None, List, [], ◌∷◌, ◌++◌, length, get_or}
 use Rattle.std.proofs.Math.Seq.{get_or-append_seam}
 use Rattle.std.proofs.lemmas.Bool.{cases_lt}
@@ -24,6 +24,7 @@ use Rattle.ember_box.proofs.HalfCrossing.{low_crossed, high_crossed}
 use Rattle.ember_box.proofs.Lists.{false_by}
 
 -- ---- a triangle that isn't near the box
+-- a triangle that isn't near a box isn't near its halves
 pub none_near : (c : Cell) (t : Tri) → is_near c t ≡ false → AreNearParts c t no_parts
 none_near c t e = record { whole = sym e; x = pair X; y = pair Y; z = pair Z }
   where
@@ -61,12 +62,14 @@ module _ (c : Cell) (t : Tri) (o : aabbs_meet (aabb_of_tri t) (aabb_of_cell c) �
         right =
             sym (right_meets c k (aabb_of_tri t) may) ∙ ap (λ b. b && int_le (low (right_half c k) k) (interval_on k (aabb_of_tri t)).high) o
 
+-- the near parts along an axis are the near pair of the axis
 pub pair_at : (c : Cell) (t : Tri) (p : NearParts) (k : Axis) → AreNearParts c t p → 0 < c.log k → IsNearPair c k t (pair_on k p)
 pair_at c t p X a may = a.x may
 pair_at c t p Y a may = a.y may
 pair_at c t p Z a may = a.z may
 
 -- ---- one more place of a list
+-- the near parts of one triangle more
 pub parts_more : (ts : List Tri) (c : Cell) (is : List ℕ) (ps : List NearParts) (p : NearParts) → AreNearPartsAt ts c is ps → AreNearParts c (tri_at ts (get_or is (length ps) 0)) p → AreNearPartsAt ts c is (ps ++ p ∷ [])
 parts_more ts c is ps p h one = record { each = λ i l. by i l (cases_lt i (length ps)) }
   where
@@ -76,5 +79,6 @@ parts_more ts c is ps p h one = record { each = λ i l. by i l (cases_lt i (leng
         let e : i ≡ length ps = omega (arith, length-append ps (p ∷ []), l, m) in
         subst (λ (j : ℕ). AreNearParts c (tri_at ts (get_or is j 0)) (get_or (ps ++ p ∷ []) j no_parts)) (sym e) (rw (get_or-append_seam ps p [] no_parts) one)
 
+-- the near parts of no triangle
 pub parts_none : (ts : List Tri) (c : Cell) (is : List ℕ) → AreNearPartsAt ts c is []
 parts_none ts c is = record { each = λ i l. absurd (omega (arith, l)) }

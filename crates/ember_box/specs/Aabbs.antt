@@ -15,7 +15,7 @@ use Rattle.ember_box.specs.Boxes.{Cell, low, high}
 abbrev pub interval_between : ℤ → ℤ → Interval
 interval_between l h = record { low = l; high = h }
 
--- the closed box
+-- the bounding box of a box, with its upper walls
 abbrev pub aabb_of_cell : Cell → Aabb
 aabb_of_cell c =
     record {
@@ -44,6 +44,7 @@ interval_on X b = b.x
 interval_on Y b = b.y
 interval_on Z b = b.z
 
+-- whether the intervals have a common coordinate
 abbrev pub intervals_meet : Interval → Interval → Bool
 intervals_meet a b = int_le a.low b.high && int_le b.low a.high
 
@@ -51,27 +52,29 @@ intervals_meet a b = int_le a.low b.high && int_le b.low a.high
 abbrev pub aabbs_meet : Aabb → Aabb → Bool
 aabbs_meet a b = intervals_meet a.x b.x && intervals_meet a.y b.y && intervals_meet a.z b.z
 
--- they reach each other along the axes other than this one
+-- their intervals meet along both axes other than this one
 abbrev pub aabbs_meet_beside : Axis → Aabb → Aabb → Bool
 aabbs_meet_beside X a b = intervals_meet a.y b.y && intervals_meet a.z b.z
 aabbs_meet_beside Y a b = intervals_meet a.x b.x && intervals_meet a.z b.z
 aabbs_meet_beside Z a b = intervals_meet a.x b.x && intervals_meet a.y b.y
 
+-- whether the first interval contains the second
 abbrev pub covers : Interval → Interval → Bool
 covers b a = int_le b.low a.low && int_le a.high b.high
 
--- the second lies in the first
+-- the first contains the second
 abbrev pub within : Aabb → Aabb → Bool
 within b a = covers b.x a.x && covers b.y a.y && covers b.z a.z
 
--- its ends are one
+-- its ends are equal
 abbrev pub is_point : Interval → Bool
 is_point s = int_le s.high s.low
 
--- it lies across an axis
+-- it has no extent along some axis
 abbrev pub is_level : Aabb → Bool
 is_level b = is_point b.x || is_point b.y || is_point b.z
 
+-- whether the interval contains the coordinate
 abbrev pub has : Interval → ℤ → Bool
 has b x = int_le b.low x && int_le x b.high
 
@@ -86,6 +89,7 @@ least_end n s = if is_negative n then s.high else s.low
 abbrev pub greatest_end : ℤ → Interval → ℤ
 greatest_end n s = if is_negative n then s.low else s.high
 
+-- the value of a plane at a point, without its constant
 abbrev pub combined : Plane → ℤ → ℤ → ℤ → ℤ
 combined p x y z = p.a *ℤ x +ℤ p.b *ℤ y +ℤ p.c *ℤ z
 
@@ -96,6 +100,7 @@ least p b = combined p (least_end p.a b.x) (least_end p.b b.y) (least_end p.c b.
 abbrev pub greatest : Plane → Aabb → ℤ
 greatest p b = combined p (greatest_end p.a b.x) (greatest_end p.b b.y) (greatest_end p.c b.z)
 
+-- whether the corners of the bounding box aren't all strictly on one side of the plane
 unfoldable pub crosses : Plane → Aabb → Bool
 crosses p b = int_le (least p b) p.d && int_le p.d (greatest p b)
 
@@ -104,6 +109,7 @@ pub record IsIntervalSized (s : Interval) : Type 0 where
   pub low : Small 2048 s.low
   pub high : Small 2048 s.high
 
+-- all coordinates are at most 2048 in size
 pub record IsAabbSized (b : Aabb) : Type 0 where
   pub x : IsIntervalSized b.x
   pub y : IsIntervalSized b.y

@@ -13,6 +13,7 @@ pub record Cell : Type 0 where
   pub log : Axis → ℕ
   pub path : ℕ
 
+-- the coordinate of a vector along an axis
 abbrev pub along : Axis → Vector → ℤ
 along X v = v.x
 along Y v = v.y
@@ -24,15 +25,19 @@ shifted_by X k v = record v { x = v.x +ℤ k }
 shifted_by Y k v = record v { y = v.y +ℤ k }
 shifted_by Z k v = record v { z = v.z +ℤ k }
 
+-- the length of a box along an axis
 abbrev pub side : Cell → Axis → ℤ
 side c k = pos (2 ^ c.log k)
 
+-- the least coordinate of a box along an axis
 abbrev pub low : Cell → Axis → ℤ
 low c k = along k c.lo
 
+-- the coordinate at which a box ends along an axis
 abbrev pub high : Cell → Axis → ℤ
 high c k = low c k +ℤ side c k
 
+-- the box [-2048, 2048)^3
 abbrev pub root : Cell
 root = record {
   lo = record { x = neg_ℤ (pos 2048); y = neg_ℤ (pos 2048); z = neg_ℤ (pos 2048) };
@@ -69,7 +74,7 @@ right_half c k =
           c.path + 1;
     }
 
--- along an axis a box has one of the places of its side in the root's
+-- along an axis, the box is one of the equal pieces of its size into which the root is divided
 pub record IsOnGrid (low : ℤ) (log : ℕ) : Type 0 where
   pub small : log ≤ 12
   pub index : ℕ
@@ -82,11 +87,13 @@ pub record IsCell (c : Cell) : Type 0 where
   pub from : 2 ^ 36 ≤ c.path * 2 ^ halvings_left c
   pub below : (c.path + 1) * 2 ^ halvings_left c ≤ 2 ^ 37
 
+-- a function of an axis, by its three values
 abbrev pub three : {T : Type 0} → T → T → T → Axis → T
 three x y z X = x
 three x y z Y = y
 three x y z Z = z
 
+-- the box of seven numbers
 abbrev pub cell_with : ℤ → ℤ → ℤ → ℕ → ℕ → ℕ → ℕ → Cell
 cell_with x y z i j k path = record { lo = record { x = x; y = y; z = z }; log = three i j k; path = path }
 
@@ -110,7 +117,7 @@ cell_of lo log path =
     cell_with (slice_index_or lo 0 (pos 0)) (slice_index_or lo 1 (pos 0)) (slice_index_or lo 2 (pos 0))
     (slice_index_or log 0 0) (slice_index_or log 1 0) (slice_index_or log 2 0) path
 
--- the place of an axis in that order
+-- the index of an axis in that order
 abbrev pub axis_index : Axis → ℕ
 axis_index X = 0
 axis_index Y = 1

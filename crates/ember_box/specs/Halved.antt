@@ -6,6 +6,7 @@ use Rattle.ember_box.specs.declared.looks.HalvedBox.{HalvedBox}
 use Rattle.ember_box.specs.Boxes.{Cell, left_half, right_half}
 use Rattle.ember_box.specs.Near.{near_indices}
 
+-- the axis along which a box was halved, if it was
 abbrev pub axis_of : Option HalvedBox → Option Axis
 axis_of None = None
 axis_of (Some h) = Some h.axis

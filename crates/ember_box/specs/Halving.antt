@@ -44,5 +44,6 @@ leaves_within ts (suc n) c =
           leaves_within ts n (right_half c (halving_axis ts c))
     ]
 
+-- the leaves of the full tree below a box, in tree order
 abbrev pub leaves : List Tri → Cell → List Cell
 leaves ts c = leaves_within ts (halvings_left c) c

@@ -20,9 +20,11 @@ spans_meet c t k =
     (int_le (low c k) (along k (vector_of t.a)) ||
     (int_le (low c k) (along k (vector_of t.b)) || int_le (low c k) (along k (vector_of t.c))))
 
+-- the triangle's bounding box meets the closed box
 abbrev pub boxes_meet : Cell → Tri → Bool
 boxes_meet c t = spans_meet c t X && (spans_meet c t Y && spans_meet c t Z)
 
+-- the point with these coordinates and the weight 1
 abbrev pub spot_of_vector : Vector → Spot
 spot_of_vector v = record { x = v.x; y = v.y; z = v.z; w = pos 1 }
 
@@ -45,14 +47,16 @@ abbrev pub near : List Tri → Cell → List Tri
 near ts c = filter (λ t. is_near c t) ts
 
 -- ---- by their indices in a scene
--- what stands past the end
+-- the triangle past the end of a list
 abbrev pub no_tri : Tri
 no_tri =
     let o : Corner = record { x = pos 0; y = pos 0; z = pos 0 } in record { a = o; b = o; c = o; mesh = 0 }
 
+-- the triangle with this index
 abbrev pub tri_at : List Tri → ℕ → Tri
 tri_at ts i = slice_index_or ts i no_tri
 
+-- the triangles with these indices
 abbrev pub listed : List Tri → List ℕ → List Tri
 listed ts is = map (λ i. tri_at ts i) is
 
@@ -60,5 +64,6 @@ listed ts is = map (λ i. tri_at ts i) is
 abbrev pub near_indices : List Tri → Cell → List ℕ → List ℕ
 near_indices ts c is = filter (λ i. is_near c (tri_at ts i)) is
 
+-- the indices of all triangles, in order
 abbrev pub all_indices : List Tri → List ℕ
 all_indices ts = range_with_len 0 (length ts)

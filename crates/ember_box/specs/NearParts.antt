@@ -1,4 +1,4 @@
--- Which halves of a box along each axis a triangle is near, and what is looked at to tell
+-- Which halves of a box along each axis a triangle is near, and what decides it
 use Rattle.std.specs.Prelude.{◌≡◌, ℕ, ◌<◌, ℤ, ◌-ℤ◌, ◌*ℤ◌, neg_ℤ, false, if◌then◌else◌, List, length, slice_index_or}
 use Rattle.ember_algebra.specs.Size.{Small}
 use Rattle.ember_algebra.specs.Sign.{is_negative}
@@ -17,10 +17,12 @@ use Rattle.ember_box.specs.Aabbs.{aabb_of_cell, least, greatest, IsAabbSized}
 use Rattle.ember_box.specs.Near.{is_near, tri_at}
 
 -- ---- the halves
+-- where the halves along an axis touch, and how long they are along it
 pub record IsMiddle (c : Cell) (k : Axis) (m : Middle) : Type 0 where
   pub place : m.at ≡ low (right_half c k) k
   pub length : m.half ≡ low (right_half c k) k -ℤ low c k
 
+-- the bounding box of a box, with its middle along each axis on which its side is above 1
 pub record AreMiddles (c : Cell) (b : Middles) : Type 0 where
   pub whole : b.whole ≡ aabb_of_cell c
   pub x : 0 < c.log X → IsMiddle c X b.x
@@ -43,18 +45,20 @@ pub record AreMargins (p : Plane) (b : Aabb) (m : Margins) : Type 0 where
 abbrev pub rise : ℤ → ℤ → ℤ
 rise n half = if is_negative n then neg_ℤ (n *ℤ half) else n *ℤ half
 
--- the margin that the lower half has less of, and the upper one
+-- the margin that shrinks in the lower half, and the one that shrinks in the upper half
 abbrev pub margin_of_low : ℤ → Margins → ℤ
 margin_of_low n m = if is_negative n then m.above else m.below
 
 abbrev pub margin_of_high : ℤ → Margins → ℤ
 margin_of_high n m = if is_negative n then m.below else m.above
 
--- ---- what is told
+-- ---- the near parts
+-- whether the triangle is near the left half along the axis, and whether near the right one
 pub record IsNearPair (c : Cell) (k : Axis) (t : Tri) (p : NearPair) : Type 0 where
   pub low : p.low ≡ is_near (left_half c k) t
   pub high : p.high ≡ is_near (right_half c k) t
 
+-- whether the triangle is near the box, and near its halves along each axis on which its side is above 1
 pub record AreNearParts (c : Cell) (t : Tri) (p : NearParts) : Type 0 where
   pub whole : p.whole ≡ is_near c t
   pub x : 0 < c.log X → IsNearPair c X t p.x
@@ -64,6 +68,7 @@ pub record AreNearParts (c : Cell) (t : Tri) (p : NearParts) : Type 0 where
 abbrev pub no_pair : NearPair
 no_pair = record { low = false; high = false }
 
+-- the near parts of a triangle that isn't near the box
 abbrev pub no_parts : NearParts
 no_parts = record { whole = false; x = no_pair; y = no_pair; z = no_pair }
 
@@ -72,6 +77,6 @@ pair_on X p = p.x
 pair_on Y p = p.y
 pair_on Z p = p.z
 
--- of the first indices of a list, one after another
+-- ps has the near parts of the triangles of the first indices, one after another
 pub record AreNearPartsAt (ts : List Tri) (c : Cell) (is : List ℕ) (ps : List NearParts) : Type 0 where
   pub each : (i : ℕ) → i < length ps → AreNearParts c (tri_at ts (slice_index_or is i 0)) (slice_index_or ps i no_parts)

@@ -1,4 +1,4 @@
--- The reference point of a box, and which lists of triangles fit what is known at a box
+-- The reference point of a box, and which scenes fit a box, its near triangles and a vector
 use Rattle.std.specs.Prelude.{◌≡◌, ◌^◌, ℤ, pos, List}
 use Rattle.ember_algebra.specs.Vector.{Vector}
 use Rattle.ember_model.specs.declared.tri.Tri.{Tri}
@@ -13,6 +13,7 @@ use Rattle.ember_box.specs.Near.{spot_of_vector, near}
 abbrev pub reference_at : Vector → Spot
 reference_at lo = shifted (spot_of_vector lo) (pos (2 ^ 27))
 
+-- the reference point of a box
 abbrev pub reference : Cell → Spot
 reference c = reference_at c.lo
 

@@ -24,18 +24,23 @@ pub record Wall : Type 0 where
   pub plane : Plane
   pub is_high : Bool
 
+-- the wall at the least coordinate along an axis
 abbrev pub low_wall : Cell → Axis → Wall
 low_wall c k = record { plane = opposite (level k (low c k)); is_high = false }
 
+-- the wall at which the box ends along an axis
 abbrev pub high_wall : Cell → Axis → Wall
 high_wall c k = record { plane = level k (high c k); is_high = true }
 
+-- the six walls of a box
 abbrev pub walls : Cell → List Wall
 walls c = flat_map (λ k. low_wall c k ∷ high_wall c k ∷ []) (X ∷ Y ∷ Z ∷ [])
 
+-- each inside point of the face is above the plane
 abbrev pub FaceIsAbove : Face → Plane → Type 0
 FaceIsAbove f p = Everywhere f (λ v. is_positive (value_at p v) ≡ true)
 
+-- each inside point of the face is on the plane
 abbrev pub FaceLiesOn : Face → Plane → Type 0
 FaceLiesOn f p = Everywhere f (λ v. is_zero (value_at p v) ≡ true)
 
@@ -76,6 +81,7 @@ pub data AtCuttingPlane (b : CuttingPlane) (f : Face) : List Face → Type 0 whe
 abbrev pub cutting_planes_at : List Tri → ℕ → ℕ → List CuttingPlane
 cutting_planes_at ts i j = elim (nat_eq j i) [ true ↦ [] | false ↦ cutting_planes_of (tri_at ts i) (tri_at ts j) ]
 
+-- the cutting planes for triangle i: those of all other near triangles, in order
 abbrev pub cutting_planes : List Tri → ℕ → List CuttingPlane
 cutting_planes ts i = flat_map (λ j. cutting_planes_at ts i j) (range_with_len 0 (length ts))
 

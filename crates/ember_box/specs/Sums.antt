@@ -1,4 +1,4 @@
--- What is looked at of a triangle to tell whether it is near a box and near its halves, and what is counted
+-- What decides whether a triangle is near a box and near its halves, and what is counted
 use Rattle.std.specs.Prelude.{◌≡◌, ℕ, ◌+◌, ◌*◌, ◌<◌, ◌≤◌, Bool, true, ◌&&◌, ◌||◌, if◌then◌else◌, Option, None, Some, int_le, List, length}
 use Rattle.ember_model.specs.declared.tri.Tri.{Tri}
 use Rattle.ember_model.specs.declared.plane.Plane.{Plane}
@@ -15,11 +15,12 @@ use Rattle.ember_box.specs.Aabbs.{aabb_of_cell, aabb_of_tri, within, is_level, c
 use Rattle.ember_box.specs.Near.{is_near, near}
 use Rattle.ember_box.specs.Halving.{half_sum}
 
+-- 1 for true, 0 for false
 abbrev pub number : Bool → ℕ
 number b = if b then 1 else 0
 
 -- ---- one triangle
--- the plane that is looked at: none if the triangle lies in the box or across an axis
+-- the plane to test: none if the triangle lies in the box or across an axis
 abbrev pub IsPlaneOf : Aabb → Tri → Option Plane → Type 0
 IsPlaneOf whole t None = is_level (aabb_of_tri t) || within whole (aabb_of_tri t) ≡ true
 IsPlaneOf whole t (Some p) = p ≡ support_of t
@@ -28,11 +29,13 @@ abbrev pub IsPlaneSized : Option Plane → Type 0
 IsPlaneSized None = Unit {0}
 IsPlaneSized (Some p) = IsSupportSized p
 
+-- the plane to test crosses the bounding box, or there is no plane to test
 abbrev pub may_cross : Aabb → Option Plane → Bool
 may_cross b None = true
 may_cross b (Some p) = crosses p b
 
 -- ---- the halves along an axis
+-- the bounding boxes of the halves of a box along an axis, and where they touch
 pub record AreHalves (c : Cell) (k : Axis) (h : HalfBoxes) : Type 0 where
   pub is_low : h.low ≡ aabb_of_cell (left_half c k)
   pub is_high : h.high ≡ aabb_of_cell (right_half c k)
@@ -51,14 +54,12 @@ abbrev pub meets_right : HalfBoxes → Interval → Option Plane → Bool
 meets_right h a None = int_le h.middle a.high
 meets_right h a (Some p) = int_le h.middle a.high && crosses p h.high
 
-abbrev pub halves_met : HalfBoxes → Interval → Option Plane → ℕ
-halves_met h a p = number (meets_left h a p) + number (meets_right h a p)
-
 -- the number of halves along an axis that a triangle is near
 unfoldable pub near_halves : Cell → Axis → Tri → ℕ
 near_halves c k t = number (is_near (left_half c k) t) + number (is_near (right_half c k) t)
 
 -- ---- the sums of one triangle
+-- how many of the box and of its halves along each axis the triangle is near
 pub record AreSumsOfOne (c : Cell) (t : Tri) (s : Sums) : Type 0 where
   pub near : s.near ≡ number (is_near c t)
   pub x : 0 < c.log X → s.x ≡ near_halves c X t
@@ -72,10 +73,12 @@ pub record AreFew (s : Sums) : Type 0 where
   pub z : s.z ≤ 2
 
 -- ---- a list of triangles
+-- the sum of the axis, if the side along it is above 1
 pub record IsSumOf (ts : List Tri) (c : Cell) (k : Axis) (sum : ℕ) : Type 0 where
   pub value : 0 < c.log k → sum ≡ half_sum ts c k
   pub bound : sum ≤ 2 * length ts
 
+-- how many triangles are near the box, and the sum of each axis
 pub record AreSums (ts : List Tri) (c : Cell) (s : Sums) : Type 0 where
   pub near : s.near ≡ length (near ts c)
   pub bound : s.near ≤ length ts

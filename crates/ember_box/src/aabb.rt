@@ -24,6 +24,7 @@ pub struct Aabb {
     pub z: Interval,
 }
 
+// The interval of the closed box along an axis.
 fn span_along(c: &Cell, k: Axis) -> Interval
     ensures value { result ≡ interval_between (boxes.low c.now k) (boxes.high c.now k) }
     ensures sized { IsIntervalSized result }
@@ -36,7 +37,7 @@ fn span_along(c: &Cell, k: Axis) -> Interval
     }
 }
 
-/// The closed box.
+/// The bounding box of a box, with its upper walls.
 pub fn aabb_of_cell(c: &Cell) -> Aabb
     ensures value { result ≡ aabb_of_cell c.now }
     ensures sized { IsAabbSized result }
@@ -48,6 +49,7 @@ pub fn aabb_of_cell(c: &Cell) -> Aabb
     }
 }
 
+// The interval from the least of three coordinates to the greatest.
 fn interval_over(a: i32, b: i32, c: i32) -> Interval
     ensures { result ≡ interval_over a b c }
 {
@@ -86,7 +88,7 @@ pub fn aabb_of_tri(t: &Tri) -> Aabb
     }
 }
 
-// Its interval along an axis.
+// The interval of a bounding box along an axis.
 pub fn interval_on(b: &Aabb, axis: Axis) -> Interval
     ensures { result ≡ interval_on axis b.now }
 {
@@ -97,20 +99,22 @@ pub fn interval_on(b: &Aabb, axis: Axis) -> Interval
     }
 }
 
+// Whether the intervals have a common coordinate.
 fn intervals_meet(a: &Interval, b: &Interval) -> bool
     ensures { result ≡ intervals_meet a.now b.now }
 {
     a.low <= b.high && b.low <= a.high
 }
 
-/// The two have a common point.
+/// Whether the two bounding boxes have a common point.
 pub fn aabbs_meet(a: &Aabb, b: &Aabb) -> bool
     ensures { result ≡ aabbs_meet a.now b.now }
 {
     intervals_meet(&a.x, &b.x) && intervals_meet(&a.y, &b.y) && intervals_meet(&a.z, &b.z)
 }
 
-/// The bounding box of the triangle reaches the box along the axes other than this one.
+/// Whether along both axes other than this one the interval of the triangle's bounding box and that
+/// of `b` have a common coordinate.
 pub fn aabbs_meet_beside(t: &Tri, b: &Aabb, axis: Axis) -> bool
     ensures { result ≡ aabbs_meet_beside axis (aabb_of_tri t.now) b.now }
 {
@@ -121,45 +125,49 @@ pub fn aabbs_meet_beside(t: &Tri, b: &Aabb, axis: Axis) -> bool
     }
 }
 
+// Whether `b` contains `a`.
 fn covers(b: &Interval, a: &Interval) -> bool
     ensures { result ≡ covers b.now a.now }
 {
     b.low <= a.low && a.high <= b.high
 }
 
-/// The second lies in the first.
+/// Whether the bounding box `b` contains `a`.
 pub fn within(b: &Aabb, a: &Aabb) -> bool
     ensures { result ≡ within b.now a.now }
 {
     covers(&b.x, &a.x) && covers(&b.y, &a.y) && covers(&b.z, &a.z)
 }
 
+// Whether the interval has only one coordinate.
 fn is_point(s: &Interval) -> bool
     ensures { result ≡ is_point s.now }
 {
     s.high <= s.low
 }
 
-/// It lies across an axis: its ends along that axis are one.
+/// Whether the bounding box has no extent along some axis.
 pub fn is_level(b: &Aabb) -> bool
     ensures { result ≡ is_level b.now }
 {
     is_point(&b.x) || is_point(&b.y) || is_point(&b.z)
 }
 
+// Whether the interval contains the coordinate.
 fn has(b: &Interval, x: i32) -> bool
     ensures { result ≡ has b.now x }
 {
     b.low <= x && x <= b.high
 }
 
-/// The corner lies in it.
+/// Whether the corner lies in the bounding box.
 pub fn holds(b: &Aabb, u: &Corner) -> bool
     ensures { result ≡ holds b.now u.now }
 {
     has(&b.x, u.x) && has(&b.y, u.y) && has(&b.z, u.z)
 }
 
+// The end of the interval at which `n` times the coordinate is least.
 fn least_end(n: i64, s: &Interval) -> i32
     requires { IsIntervalSized s.now }
     ensures value { result ≡ least_end n s.now }
@@ -168,6 +176,7 @@ fn least_end(n: i64, s: &Interval) -> i32
     if n < 0 { s.high } else { s.low }
 }
 
+// The end of the interval at which `n` times the coordinate is greatest.
 fn greatest_end(n: i64, s: &Interval) -> i32
     requires { IsIntervalSized s.now }
     ensures value { result ≡ greatest_end n s.now }
@@ -176,7 +185,7 @@ fn greatest_end(n: i64, s: &Interval) -> i32
     if n < 0 { s.low } else { s.high }
 }
 
-// A sum of three products.
+// The value of the plane at a point, without its constant.
 #[tactic(none)]
 fn combined(p: &Plane, x: i32, y: i32, z: i32) -> i64
     requires plane { IsSupportSized p.now }
@@ -189,6 +198,7 @@ fn combined(p: &Plane, x: i32, y: i32, z: i32) -> i64
     p.a * x as i64 + p.b * y as i64 + p.c * z as i64
 }
 
+// The least value of the plane over the bounding box, without its constant.
 fn least(p: &Plane, b: &Aabb) -> i64
     requires plane { IsSupportSized p.now }
     requires spans { IsAabbSized b.now }
@@ -203,6 +213,7 @@ fn least(p: &Plane, b: &Aabb) -> i64
     )
 }
 
+// The greatest value of the plane over the bounding box, without its constant.
 fn greatest(p: &Plane, b: &Aabb) -> i64
     requires plane { IsSupportSized p.now }
     requires spans { IsAabbSized b.now }
@@ -217,8 +228,8 @@ fn greatest(p: &Plane, b: &Aabb) -> i64
     )
 }
 
-/// The corners aren't all strictly on one side of the plane: it isn't positive at the one where
-/// it is least, and not negative at the one where it is greatest.
+/// Whether the corners of the bounding box aren't all strictly on one side of the plane: the
+/// plane's least value at them isn't positive, and its greatest isn't negative.
 #[tactic(auto, unfolding(crate::specs::Aabbs::crosses))]
 pub fn crosses(p: &Plane, b: &Aabb) -> bool
     requires plane { IsSupportSized p.now }
@@ -228,13 +239,15 @@ pub fn crosses(p: &Plane, b: &Aabb) -> bool
     least(p, b) <= p.d && p.d <= greatest(p, b)
 }
 
-// How far a plane's constant lies above its least value over a box, and below its greatest one.
+// How far a plane's constant is above the least value over a bounding box, and below the greatest.
+// Both values are without the constant. Negative if it is on the other side.
 #[derive(Clone, Copy)]
 pub struct Margins {
     pub above: i64,
     pub below: i64,
 }
 
+// The difference `a - b`.
 #[tactic(none)]
 fn difference(a: i64, b: i64) -> i64
     requires a { Small (2 ^ 38) a }
@@ -244,6 +257,7 @@ fn difference(a: i64, b: i64) -> i64
     a - b
 }
 
+// The margins of the plane over the bounding box.
 pub fn margins_of(p: &Plane, b: &Aabb) -> Margins
     requires plane { IsSupportSized p.now }
     requires spans { IsAabbSized b.now }
@@ -256,7 +270,7 @@ pub fn margins_of(p: &Plane, b: &Aabb) -> Margins
 }
 
 impl Margins {
-    // Neither is negative: the plane crosses the box.
+    // Whether neither is negative: the plane crosses the bounding box.
     pub fn are_both(&self) -> bool
         ensures { result ≡ (int_le (pos 0) self.now.above && int_le (pos 0) self.now.below) }
     {

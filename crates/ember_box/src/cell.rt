@@ -1,4 +1,4 @@
-// A box that came from the root by halving.
+// A box that halving made from the root.
 ghost use Rattle.std.specs.Prelude.{◌≡◌, ◌<◌, ◌≤◌, ◌^◌, [], ◌∷◌, All, pos};
 ghost use Rattle.ember_algebra.specs.Size.{Small};
 ghost use Rattle.ember_box.specs.Boxes as boxes;
@@ -7,10 +7,10 @@ ghost use Rattle.ember_box.specs.Boxes.{IsCell};
 use ember_model::Axis;
 use std::marker::Model;
 
-/// The half-open box from its least corner `lo` on, with the side `2^log` along each axis. Its depth is 36 less the
-/// sum of the three logs: the number of halvings that made it of the root. Its path has one binary digit more than
-/// its depth. Along each axis `lo`, in the scaled unit and counted from the corner of the root, is a multiple of the
-/// side.
+/// The half-open box from its least corner `lo` on, with the side `2^log` along each axis, in
+/// units. Along each axis `lo + 2048` is a multiple of the side. The box's depth is 36 less the sum
+/// of the three logs: the number of halvings that made it of the root. Its path has one binary
+/// digit more than its depth.
 #[derive(Drop)]
 pub struct Cell {
     pub lo: [i32; 3],
@@ -60,7 +60,7 @@ impl Cell {
         self.path
     }
 
-    /// Its least corner, in the scaled unit: at least -2048 along each axis.
+    /// Its least corner, in units: at least -2048 along each axis.
     pub fn lo(&self) -> [i32; 3]
         ensures value { result ≡ self.now.lo.x ∷ self.now.lo.y ∷ self.now.lo.z ∷ [] }
         ensures small { All (Small 2048) result }
@@ -68,7 +68,7 @@ impl Cell {
         [self.low(Axis::X), self.low(Axis::Y), self.low(Axis::Z)]
     }
 
-    /// The coordinate of its least corner along an axis.
+    /// The coordinate of its least corner along an axis, in units.
     pub fn low(&self, axis: Axis) -> i32
         ensures value { result ≡ boxes.low self.now axis }
         ensures small { Small 2048 result }
@@ -77,14 +77,14 @@ impl Cell {
         self.lo[axis_index(axis)]
     }
 
-    /// Its side along an axis, a power of two up to 4096.
+    /// Its side along an axis, in units: a power of two up to 4096.
     pub fn side(&self, axis: Axis) -> i32
         ensures { result ≡ boxes.side self.now axis }
     {
         side_of(self.log[axis_index(axis)])
     }
 
-    /// The logarithm of its side along an axis.
+    /// The binary logarithm of its side along an axis, up to 12.
     pub fn log(&self, axis: Axis) -> u8
         ensures { result ≡ self.now.log axis }
     {
@@ -96,7 +96,7 @@ impl Cell {
     }
 }
 
-// The place of an axis in the order x, y, z.
+// The index of an axis in the order x, y, z.
 fn axis_index(k: Axis) -> usize
     ensures axis_index { result ≡ boxes.axis_index k }
     ensures below { result < 3 }
@@ -108,6 +108,7 @@ fn axis_index(k: Axis) -> usize
     }
 }
 
+// The power of two with this exponent.
 fn power_of_two(log: u8) -> u32
     requires { log ≤ 12 }
     ensures value { result ≡ 2 ^ log }
@@ -140,7 +141,7 @@ fn left_half(c: &Cell, k: Axis) -> Cell
     }
 }
 
-// The half with the larger coordinates.
+// The half of a box with the greater coordinates.
 fn right_half(c: &Cell, k: Axis) -> Cell
     requires { 0 < c.now.log k }
     ensures { result ≡ boxes.right_half c.now k }
@@ -159,8 +160,8 @@ fn right_half(c: &Cell, k: Axis) -> Cell
     }
 }
 
-/// The two halves of a box along an axis, the one with the smaller coordinates first. Its side along that axis is
-/// above 1.
+/// The left and the right half of a box along an axis: the one with the smaller coordinates first.
+/// The box's side along that axis is above 1.
 pub fn halves(c: &Cell, k: Axis) -> (Cell, Cell)
     requires { 0 < c.now.log k }
     ensures { (result.0 ≡ boxes.left_half c.now k) × (result.1 ≡ boxes.right_half c.now k) }

@@ -1,4 +1,4 @@
-// What is looked at of a triangle to tell whether it is near a box and near its halves.
+// Whether a triangle whose bounding box meets a box is near the halves of the box.
 ghost use Rattle.std.specs.Prelude.{◌≡◌, ◌<◌};
 ghost use Rattle.ember_model.specs.Valid.{IsValidTri};
 ghost use Rattle.ember_box.specs.Aabbs.{aabb_of_tri, IsAabbSized};
@@ -8,8 +8,9 @@ use crate::aabb::{Aabb, Interval, aabb_of_cell, crosses, is_level, within};
 use crate::cell::{Cell, halves};
 use ember_model::{Axis, Plane, Tri, support_of};
 
-// The plane of a triangle with this bounding box. There is none if the triangle lies in the box
-// or across an axis: there it is near each half that its bounding box meets.
+// The plane to test, of a triangle with the bounding box `spans`. None if bounding boxes alone
+// decide: if the triangle lies in the box or across an axis, it is near each half that its bounding
+// box meets.
 pub fn plane_of(whole: &Aabb, spans: &Aabb, t: &Tri) -> Option<Plane>
     requires valid { IsValidTri t.now }
     requires spans { spans.now ≡ aabb_of_tri t.now }
@@ -23,7 +24,8 @@ pub fn plane_of(whole: &Aabb, spans: &Aabb, t: &Tri) -> Option<Plane>
     }
 }
 
-// The halves of a box along an axis, the lower one first, and the coordinate where they touch.
+// The bounding boxes of the left (lower) and the right (upper) half of a box along an axis, and the
+// coordinate at which they touch.
 #[derive(Clone, Copy)]
 pub struct HalfBoxes {
     pub low: Aabb,
@@ -31,6 +33,7 @@ pub struct HalfBoxes {
     pub middle: i32,
 }
 
+// The halves of the box along the axis, along which its side is above 1.
 pub fn halves_of(c: &Cell, k: Axis) -> HalfBoxes
     requires { 0 < c.now.log k }
     ensures value { AreHalves c.now k result }
@@ -44,8 +47,9 @@ pub fn halves_of(c: &Cell, k: Axis) -> HalfBoxes
     }
 }
 
-// A triangle whose bounding box meets the box, and has this interval along the axis of the halves, is
-// near the lower one: it begins no later than that half ends, and its plane crosses the half.
+// Whether a triangle is near the left half. Its bounding box meets the box, and has the interval
+// `span` along the axis of the halves. It is near if it begins no later than that half ends, and if
+// the plane to test, if any, crosses the half.
 pub fn meets_left(h: &HalfBoxes, span: &Interval, plane: &Option<Plane>) -> bool
     requires halves { AreHalvesSized h.now }
     requires plane { IsPlaneSized plane.now }
@@ -57,8 +61,8 @@ pub fn meets_left(h: &HalfBoxes, span: &Interval, plane: &Option<Plane>) -> bool
     }
 }
 
-// It is near the upper one: it ends no earlier than that half begins, and its plane crosses the
-// half.
+// Whether such a triangle is near the right half: it ends no earlier than that half begins, and the
+// plane to test, if any, crosses the half.
 pub fn meets_right(h: &HalfBoxes, span: &Interval, plane: &Option<Plane>) -> bool
     requires halves { AreHalvesSized h.now }
     requires plane { IsPlaneSized plane.now }

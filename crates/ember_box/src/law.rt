@@ -5,9 +5,9 @@ ghost use Rattle.ember_box.specs.Boxes.{Cell as Box};
 ghost use Rattle.ember_box.specs.Near.{all_indices, listed, near, near_indices};
 ghost use Rattle.ember_box.specs.Halving.{halving_axis, is_leaf};
 
-/// The triangles near a box alone decide whether it is a leaf, and along which axis it is halved. The near list of
-/// a box has the indices of just these triangles. So `halved`, `is_leaf` and `split_axis` answer by this list as by
-/// all triangles.
+/// The triangles near a box alone decide whether it is a leaf, and along which axis it is halved.
+/// The near list of a box has the indices of just these triangles. So `halved`, `is_leaf` and
+/// `split_axis` give the same for this list as for all triangles.
 pub fn near_triangles_decide_the_halving()
     ensures list { (tris : List Tri) (c : Box) → listed tris (near_indices tris c (all_indices tris)) ≡ near tris c }
     ensures axis { (tris : List Tri) (c : Box) → halving_axis (near tris c) c ≡ halving_axis tris c }

@@ -1,4 +1,4 @@
-// A box with the triangles near its halves, by one look at each triangle.
+// A box with the triangles near its halves, found in one pass over the triangles near it.
 ghost use Rattle.std.specs.Prelude.{◌≡◌, ◌<◌, length, All, List, ℕ, None, Some, IfOk, IfSome, if◌then◌else◌};
 ghost use Rattle.ember_model.specs.Valid.{IsValidTri};
 ghost use Rattle.ember_model.specs.declared.tri.Tri.{Tri};
@@ -24,13 +24,14 @@ pub struct HalvedBox {
     pub high: Vec<u32>,
 }
 
-// What one look at each triangle of a list tells: of each, and the sums.
+// For each triangle of a list, whether it is near a box and which halves it is near; and the sums.
 #[derive(Drop)]
 struct Looks {
     sums: Sums,
     parts: Vec<NearParts>,
 }
 
+// The looks at the triangles with the listed indices, for this box.
 fn looks_at(alloc: Global, tris: &[Tri], list: &[u32], c: &Cell) -> Result<Looks, OutOfMemory>
     requires valid { All IsValidTri tris.now }
     requires places { All (λ i. i < length tris.now) list.now }
@@ -64,8 +65,8 @@ fn looks_at(alloc: Global, tris: &[Tri], list: &[u32], c: &Cell) -> Result<Looks
     })
 }
 
-// Those of a list that are near the lower half along the axis, and those near the upper one, by
-// what was told of each.
+// Those of the listed indices whose triangles are near the left half along the axis, and those near
+// the right half, by the parts of each.
 fn lists_of(
     alloc: Global,
     list: &[u32],
@@ -113,8 +114,9 @@ pub fn halved_of(
     Ok(Some(HalvedBox { axis, low, high }))
 }
 
-/// None if the box is a leaf, and otherwise the axis along which it is halved, with those of the
-/// listed triangles that are near its lower half and those that are near its upper half, in order.
+/// None if the box is a leaf, and otherwise the axis along which it is halved, with the indices of
+/// the listed triangles that are near its lower half and of those near its upper half, in order.
+/// The program halves boxes by this call.
 pub fn halved(
     alloc: Global,
     s: &Scene,

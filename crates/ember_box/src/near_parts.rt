@@ -1,4 +1,4 @@
-// Which halves of a box along each axis a triangle is near, by one look at it.
+// Which halves of a box along each axis a triangle is near, found in one pass: the near parts.
 ghost use Rattle.std.specs.Prelude.{◌≡◌, ◌<◌, ◌&&◌, int_le, true, None, if◌then◌else◌};
 ghost use Rattle.ember_algebra.specs.Size.{Small};
 ghost use Rattle.ember_algebra.specs.Sign.{is_negative};
@@ -16,14 +16,16 @@ use crate::cell::{Cell, halves};
 use crate::half_boxes::plane_of;
 use ember_model::{Axis, Plane, Tri};
 
-// Where the halves of a box along an axis touch, and how long each is along it.
+// The coordinate at which the halves of a box along an axis touch, and how long each half is along
+// it.
 #[derive(Clone, Copy)]
 pub struct Middle {
     pub at: i32,
     pub half: i32,
 }
 
-// A box, and the middle along each axis. Along an axis along which the side is 1 it tells nothing.
+// The bounding box of a box, and the middle along each axis. A middle has no meaning along an axis
+// on which the side is 1.
 #[derive(Clone, Copy)]
 pub struct Middles {
     pub whole: Aabb,
@@ -32,7 +34,8 @@ pub struct Middles {
     pub z: Middle,
 }
 
-// The halves of a box along an axis that a triangle is near.
+// Whether a triangle is near the left (lower) half of a box along an axis, and whether the right
+// (upper) one.
 #[derive(Clone, Copy)]
 pub struct NearPair {
     pub low: bool,
@@ -48,6 +51,7 @@ pub struct NearParts {
     pub z: NearPair,
 }
 
+// The middle of the box along an axis.
 fn middle_along(c: &Cell, k: Axis) -> Middle
     ensures value { 0 < c.now.log k → IsMiddle c.now k result }
     ensures sized { Small 4096 result.half }
@@ -61,6 +65,7 @@ fn middle_along(c: &Cell, k: Axis) -> Middle
     Middle { at, half: at - low }
 }
 
+// The bounding box of the box with its middles.
 pub fn middles_of(c: &Cell) -> Middles
     ensures value { AreMiddles c.now result }
     ensures sized { AreMiddlesSized result }
@@ -73,7 +78,7 @@ pub fn middles_of(c: &Cell) -> Middles
     }
 }
 
-// Those of a triangle that isn't near the box.
+// The near parts of a triangle that isn't near the box.
 fn no_parts() -> NearParts
     ensures { result ≡ no_parts }
 {
@@ -89,7 +94,7 @@ fn no_parts() -> NearParts
     }
 }
 
-// The halves that an interval along their axis reaches.
+// Which halves an interval along their axis reaches.
 fn pair_by_span(h: &Middle, span: &Interval) -> NearPair
     ensures low { result.low ≡ int_le span.now.low h.now.at }
     ensures high { result.high ≡ int_le h.now.at span.now.high }
@@ -100,8 +105,8 @@ fn pair_by_span(h: &Middle, span: &Interval) -> NearPair
     }
 }
 
-// Of a triangle whose bounding box meets the box, and whose plane crosses each half that its bounding
-// box meets.
+// The near parts of a triangle whose bounding box meets the box. Its plane crosses each half that
+// its bounding box meets, so bounding boxes alone decide.
 fn parts_by_spans(b: &Middles, spans: &Aabb) -> NearParts
     ensures { (c : Box) (t : Tri) → AreMiddles c b.now → spans.now ≡ aabb_of_tri t →
         aabbs_meet spans.now b.now.whole ≡ true → IsPlaneOf b.now.whole t None → AreNearParts c t result }
@@ -114,14 +119,15 @@ fn parts_by_spans(b: &Middles, spans: &Aabb) -> NearParts
     }
 }
 
-// How the value of a plane changes over a half along an axis: by how much, and whether it falls.
+// How the value of a plane changes over a half along an axis: by how much, without sign, and
+// whether it falls.
 #[derive(Clone, Copy)]
 struct Slope {
     rise: i64,
     falls: bool,
 }
 
-// By the entry of the plane's normal.
+// The slope of a plane whose normal has the entry `n` along the axis, over a half of this length.
 #[tactic(none)]
 fn slope_of(n: i64, half: i32) -> Slope
     requires n { Small 33554431 n }
@@ -144,13 +150,14 @@ fn slope_of(n: i64, half: i32) -> Slope
 }
 
 impl Slope {
-    // The margin of which the lower half has less.
+    // The margin that shrinks in the lower half.
     fn margin_of_low(&self, m: &Margins) -> i64
         ensures { result ≡ (if self.now.falls then m.now.above else m.now.below) }
     {
         if self.falls { m.above } else { m.below }
     }
 
+    // The margin that shrinks in the upper half.
     fn margin_of_high(&self, m: &Margins) -> i64
         ensures { result ≡ (if self.now.falls then m.now.below else m.now.above) }
     {
@@ -158,7 +165,8 @@ impl Slope {
     }
 }
 
-// The halves that the interval reaches and that a plane crosses, which crosses the box.
+// Which halves the interval reaches and the plane crosses. The plane crosses the box, with these
+// margins.
 fn pair_by_plane(h: &Middle, span: &Interval, s: &Slope, m: &Margins) -> NearPair
     ensures low { result.low ≡ int_le span.now.low h.now.at && int_le s.now.rise (if s.now.falls then m.now.above
         else m.now.below) }
@@ -171,7 +179,7 @@ fn pair_by_plane(h: &Middle, span: &Interval, s: &Slope, m: &Margins) -> NearPai
     }
 }
 
-// Of a triangle with this plane whose bounding box meets the box.
+// The near parts of a triangle with this plane, whose bounding box meets the box.
 fn parts_by_plane(b: &Middles, spans: &Aabb, p: &Plane) -> NearParts
     requires sized { AreMiddlesSized b.now }
     requires plane { IsSupportSized p.now }
@@ -190,6 +198,7 @@ fn parts_by_plane(b: &Middles, spans: &Aabb, p: &Plane) -> NearParts
     }
 }
 
+// Whether the triangle is near the box, and near its halves along each axis.
 pub fn near_parts(b: &Middles, t: &Tri) -> NearParts
     requires valid { IsValidTri t.now }
     requires sized { AreMiddlesSized b.now }

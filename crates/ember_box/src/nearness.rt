@@ -15,8 +15,8 @@ use crate::half_boxes::{HalfBoxes, halves_of, meets_left, meets_right, plane_of}
 use ember_model::{Axis, OutOfMemory, Scene, Tri, support_of};
 use std::alloc::Global;
 
-/// The triangle is near the box: its bounding box meets the closed box, and the corners of the box
-/// aren't all strictly on one side of its support plane.
+/// Whether the triangle is near the box: its bounding box meets the closed box, and the corners of
+/// the box aren't all strictly on one side of its support plane. Only tests call this.
 pub fn near_tri(c: &Cell, t: &Tri) -> bool
     requires { IsValidTri t.now }
     ensures { result ≡ is_near c.now t.now }
@@ -34,7 +34,7 @@ fn is_near(b: &Aabb, t: &Tri) -> bool
     aabbs_meet(&spans, b) && is_crossed(b, &spans, t)
 }
 
-// The plane of a triangle whose bounding box meets a box crosses the box.
+// Whether the plane of a triangle, whose bounding box meets a box, crosses the box.
 fn is_crossed(b: &Aabb, spans: &Aabb, t: &Tri) -> bool
     requires tri { IsValidTri t.now }
     requires spans { spans.now ≡ aabb_of_tri t.now }
@@ -48,7 +48,7 @@ fn is_crossed(b: &Aabb, spans: &Aabb, t: &Tri) -> bool
     crosses(&support_of(t), b)
 }
 
-/// Triangle `i` of the scene is near the box.
+/// Whether triangle `i` of the scene is near the box. Only tests call this.
 pub fn near(s: &Scene, c: &Cell, i: u32) -> bool
     requires { i < length s.now.tris }
     ensures { result ≡ is_near c.now (tri_at s.now.tris i) }
@@ -56,6 +56,7 @@ pub fn near(s: &Scene, c: &Cell, i: u32) -> bool
     near_at(s.tris.items(), &aabb_of_cell(c), i)
 }
 
+// Whether triangle `i` of the list is near the box that has this bounding box.
 fn near_at(tris: &[Tri], b: &Aabb, i: u32) -> bool
     requires valid { All IsValidTri tris.now }
     requires index { i < length tris.now }
@@ -86,7 +87,8 @@ pub fn near_among(
     Ok(found)
 }
 
-/// Those of the listed triangles that are near the box, in order.
+/// The indices of the listed triangles that are near the box, in order. The program calls this for
+/// the root; below it, `halved` finds the lists of the halves.
 pub fn near_list(alloc: Global, s: &Scene, list: &[u32], c: &Cell) -> Result<Vec<u32>, OutOfMemory>
     requires { All (λ i. i < length s.now.tris) list.now }
     ensures { IfOk result (λ v. v.items ≡ near_indices s.now.tris c.now list.now) }
@@ -106,7 +108,8 @@ pub fn push_if(belongs: bool, i: u32, list: &mut Vec<u32>)
     }
 }
 
-// The triangle is near the lower half of a box along an axis, and it is near the upper one.
+// Whether the triangle is near the lower half of a box along an axis, and whether near the upper
+// one.
 fn near_each(whole: &Aabb, h: &HalfBoxes, k: Axis, t: &Tri) -> (bool, bool)
     requires valid { IsValidTri t.now }
     requires sized { AreHalvesSized h.now }
@@ -150,8 +153,8 @@ pub fn near_halves_among(
     Ok((low, high))
 }
 
-/// Those of the listed triangles that are near the lower half of the box along the axis, and those
-/// that are near the upper half, in order. The side along the axis is above 1.
+/// The indices of the listed triangles that are near the lower half of the box along the axis, and
+/// of those near the upper half, in order. The side along the axis is above 1.
 pub fn near_halves(
     alloc: Global,
     s: &Scene,

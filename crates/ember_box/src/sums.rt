@@ -14,9 +14,10 @@ use crate::cell::Cell;
 use crate::near_parts::{NearPair, NearParts, middles_of, near_parts};
 use ember_model::{Axis, Scene, Tri};
 
-// A box with at most so many near triangles is a leaf.
+// A box with at most this many near triangles is a leaf.
 const FEW: u64 = 16;
 
+// 1 for `true`, 0 for `false`.
 fn number(b: bool) -> u64
     ensures value { result ≡ number b }
     ensures bound { result ≤ 1 }
@@ -24,6 +25,7 @@ fn number(b: bool) -> u64
     if b { 1 } else { 0 }
 }
 
+// How many halves along an axis the triangle is near.
 fn number_of(pair: &NearPair) -> u64
     ensures value { result ≡ number pair.now.low + number pair.now.high }
     ensures bound { result ≤ 2 }
@@ -32,8 +34,8 @@ fn number_of(pair: &NearPair) -> u64
 }
 
 // How many triangles of a list are near a box, and the sum of each axis: how many are near its
-// halves, those near both counted twice. The sum of an axis along which the side is 1 tells
-// nothing.
+// halves, those near both counted twice. The sum of an axis along which the side is 1 has no
+// meaning.
 #[derive(Clone, Copy)]
 pub struct Sums {
     pub near: u64,
@@ -55,6 +57,7 @@ pub fn sums_of(p: &NearParts) -> Sums
     }
 }
 
+// The sums of the triangles with the listed indices.
 fn half_sums(tris: &[Tri], list: &[u32], c: &Cell) -> Sums
     requires valid { All IsValidTri tris.now }
     requires places { All (λ i. i < length tris.now) list.now }
@@ -80,15 +83,16 @@ fn half_sums(tris: &[Tri], list: &[u32], c: &Cell) -> Sums
     }
 }
 
-// Of two axes the second is not to be preferred: its side is 1, or its sum is no smaller and the
-// side along the first isn't 1.
+// Whether the second of two axes isn't to be preferred: its side is 1, or its sum is no smaller and
+// the side along the first isn't 1.
 fn is_no_better(first: u8, first_sum: u64, second: u8, second_sum: u64) -> bool
     ensures { result ≡ (not (nat_lt 0 second) || (nat_lt 0 first && nat_le first_sum second_sum)) }
 {
     second == 0 || first > 0 && first_sum <= second_sum
 }
 
-// The first axis that no later one is better than, by what is said of each two.
+// The first axis than which no later one is better, given for each two whether the first of them is
+// to be kept.
 fn chosen(x_before_y: bool, x_before_z: bool, y_before_z: bool) -> Axis
     ensures { result ≡ (if x_before_y && x_before_z then X else (if y_before_z then Y else Z)) }
 {
@@ -101,6 +105,7 @@ fn chosen(x_before_y: bool, x_before_z: bool, y_before_z: bool) -> Axis
     }
 }
 
+// The axis along which a box with these sums is halved.
 pub fn least_axis(c: &Cell, sums: &Sums) -> Axis
     ensures { (ts : List Tri) → AreSums ts c.now sums.now → result ≡ halvings.halving_axis ts c.now }
 {
@@ -114,26 +119,29 @@ pub fn least_axis(c: &Cell, sums: &Sums) -> Axis
     )
 }
 
-// Halving along the axis isn't possible, or isn't worth it.
+// Whether halving along the axis isn't possible, or isn't worth it: the halves together have at
+// least 7/4 as many near triangles as the box.
 fn is_unprofitable(log: u8, near: u64, sum: u64) -> bool
     ensures { result ≡ (not (nat_lt 0 log) || nat_le (7 * near) (4 * sum)) }
 {
     log == 0 || 7 * near as u128 <= 4 * sum as u128
 }
 
+// Whether a box with this number of near triangles is a leaf in any case.
 pub fn is_few(near: u64) -> bool
     ensures { result ≡ nat_le near 16 }
 {
     near <= FEW
 }
 
-// There are few triangles, or no axis is worth a halving.
+// Whether there are few triangles, or no axis is worth a halving.
 fn ends(is_few: bool, x_unprofitable: bool, y_unprofitable: bool, z_unprofitable: bool) -> bool
     ensures { result ≡ (is_few || x_unprofitable && y_unprofitable && z_unprofitable) }
 {
     is_few || x_unprofitable && y_unprofitable && z_unprofitable
 }
 
+// Whether a box with these sums is a leaf.
 pub fn is_leaf_by(c: &Cell, sums: &Sums) -> bool
     ensures { (ts : List Tri) → AreSums ts c.now sums.now → result ≡ halvings.is_leaf ts c.now }
 {
@@ -147,8 +155,9 @@ pub fn is_leaf_by(c: &Cell, sums: &Sums) -> bool
 
 /// The axis along which the box is halved: the one with the least sum, the first of them in a tie,
 /// of those along which the side is above 1. The sum of an axis is the number of listed triangles
-/// near the lower half plus the number near the upper half. Some side is above 1. If the list has all
-/// triangles near the box, in order, this is the axis that all triangles of the scene give.
+/// near the lower half plus the number near the upper half. Some side is above 1. If the list has
+/// all triangles near the box, in order, this is the axis that all triangles of the scene give.
+/// Only tests call this.
 #[tactic(auto, using(crate::proofs::Halvable::halvable_along))]
 pub fn split_axis(s: &Scene, list: &[u32], c: &Cell) -> Axis
     requires { All (λ i. i < length s.now.tris) list.now }
@@ -160,9 +169,10 @@ pub fn split_axis(s: &Scene, list: &[u32], c: &Cell) -> Axis
     least_axis(c, &half_sums(s.tris.items(), list, c))
 }
 
-/// The box is a leaf: at most 16 listed triangles are near it, or all sides are 1, or for every
-/// axis with a side above 1 four times the sum is at least seven times the number near the box. If
-/// the list has all triangles near the box, in order, all triangles of the scene give the same.
+/// Whether the box is a leaf: at most 16 listed triangles are near it, or all sides are 1, or for
+/// every axis with a side above 1 four times the sum is at least seven times the number near the
+/// box. If the list has all triangles near the box, in order, all triangles of the scene give the
+/// same. Only tests call this.
 pub fn is_leaf(s: &Scene, list: &[u32], c: &Cell) -> bool
     requires { All (λ i. i < length s.now.tris) list.now }
     ensures leaf { result ≡ halvings.is_leaf (listed s.now.tris list.now) c.now }
@@ -172,7 +182,8 @@ pub fn is_leaf(s: &Scene, list: &[u32], c: &Cell) -> bool
     halving(s, list, c).is_none()
 }
 
-/// None if the box is a leaf, and otherwise the axis along which it is halved.
+/// None if the box is a leaf, and otherwise the axis along which it is halved. Only tests call
+/// this.
 pub fn halving(s: &Scene, list: &[u32], c: &Cell) -> Option<Axis>
     requires { All (λ i. i < length s.now.tris) list.now }
     ensures answer { result ≡ (if halvings.is_leaf (listed s.now.tris list.now) c.now then None

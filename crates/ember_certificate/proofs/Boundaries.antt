@@ -1,4 +1,4 @@
--- Chains of segments, and their boundaries: one tells the other
+-- Chains of segments, and their boundaries: each determines the other
 use Rattle.std.proofs.Common.{◌≡◌, ◌⊎◌, inl, inr, ℕ, ◌+◌, ◌<◌, ◌≤◌, ℤ, pos, ◌-ℤ◌, ◌≤ℤ◌, ◌<ℤ◌, List, ◌++◌, map, filter, refl, sym, ap, ◌∙◌, arith, eqb}
 use Rattle.std.proofs.lemmas.Bool.{cases_lt, eqb-true, eq-eqb, ne_eqb}
 use borrow.Author.Differences.{ints}
@@ -28,6 +28,7 @@ numbers_are_equal = record { sound = eqb-true; reflexive = λ x. eq-eqb x x refl
 total_one_at : (c : ℕ) (ns : List ℕ) → total (one_at c) ns ≡ pos (count c ns)
 total_one_at c ns = total-count_by (eqb c) ns ∙ ap pos (sym (occurrences-count_by eqb c ns))
 
+-- the boundary at a corner: how many segments end there less how many start there
 pub boundary_is : (c : ℕ) (ss : List Segment) → total (ended_at c) ss ≡ pos (count c (ends ss)) -ℤ pos (count c (starts ss))
 boundary_is c ss =
     let e = sym (total-map (one_at c) (λ s. s.end) ss) ∙ total_one_at c (ends ss) in
@@ -58,6 +59,7 @@ module _ (ss ts : List Segment) (h : (c : ℕ) → total (ended_at c) ss ≡ tot
           let p = sym (total-map g (λ s. s.start) us) in let q = sym (total-map g (λ s. s.end) us) in
           total-sub (λ s. g s.start) (λ s. g s.end) us ∙ (λ i. p i -ℤ q i)
 
+-- segments with the same boundary have the same chains
 pub chains_from_boundary : (ss ts : List Segment) → HaveSameBoundary ss ts → HaveSameChains ss ts
 chains_from_boundary ss ts h =
     record { each = λ plane line rank x. sums_agree (filter (is_on plane line) ss) (filter (is_on plane line) ts) (h.each plane line) (λ u. reached (rank u) x) }
@@ -92,6 +94,7 @@ boundary_of_chain : (c : ℕ) (ss : List Segment) → total (ended_at c) ss ≡ 
 boundary_of_chain c ss =
     total_same (ended_at c) (λ s. coverage pos (pos c -ℤ pos 1) s -ℤ coverage pos (pos c) s) (ended_is c) ss ∙ total-sub (coverage pos (pos c -ℤ pos 1)) (coverage pos (pos c)) ss
 
+-- segments with the same chains have the same boundary
 pub boundary_from_chains : (ss ts : List Segment) → HaveSameChains ss ts → HaveSameBoundary ss ts
 boundary_from_chains ss ts h =
     record { each = λ plane line c. let a = h.each plane line pos (pos c -ℤ pos 1) in let b = h.each plane line pos (pos c) in boundary_of_chain c (filter (is_on plane line) ss) ∙ (λ i. a i -ℤ b i) ∙ sym (boundary_of_chain c (filter (is_on plane line) ts)) }

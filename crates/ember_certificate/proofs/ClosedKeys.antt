@@ -1,4 +1,4 @@
--- The keys of directed edges: how often a key stands tells how many segments run so
+-- The keys of directed edges: a key occurs as often as segments run so
 use Rattle.std.proofs.Common.{◌≡◌, ◌⊎◌, inl, inr, ℕ, ◌+◌, ◌*◌, ◌/◌, ◌%◌, ◌<◌, ◌≤◌, Bool, true, false, ◌&&◌, cond, List, [], ◌∷◌, map, refl, sym, subst, ◌∙◌, arith, eqb}
 use Rattle.std.proofs.lemmas.Bool.{cases_lt, eqb-true, eqb-false, eq-eqb, ne_eqb}
 use Rattle.std.proofs.lemmas.List.Sums.{sum_by-cons}
@@ -57,6 +57,7 @@ module _ (ss : List Segment) where
           sym (edges_are u v sv ss) ∙ h (u * 4294967296 + v) ∙ reverses_are u v sv ss
       by u v (inr lv) = none_to u v lv ss ∙ sym (none_from u v lv ss)
 
+  -- the edges and the reverses of closed segments have the same keys
   pub keys_from_closed : IsClosed ss → (n : ℕ) → count n (map edge_key ss) ≡ count n (map reverse_key ss)
   keys_from_closed h n =
       subst (λ (m : ℕ). count m (map edge_key ss) ≡ count m (map reverse_key ss)) (digits n) (at (n / 4294967296) (n % 4294967296) (omega arith))

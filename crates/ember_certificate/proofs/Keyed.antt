@@ -1,4 +1,4 @@
--- The keys of the ends of segments: how often a key stands tells how many segments start or end where it says
+-- The keys of the ends of segments: a key occurs as often as segments start or end where it says
 use Rattle.std.proofs.Common.{◌≡◌, ◌⊎◌, inl, inr, ℕ, ◌+◌, ◌/◌, ◌%◌, ◌<◌, ◌≤◌, pos, ◌-ℤ◌, Bool, true, false, ◌&&◌, cond, List, [], ◌∷◌, ◌++◌, map, filter, refl, sym, subst, ◌∙◌, arith, eqb}
 use Rattle.std.proofs.lemmas.Bool.{cases_lt, eqb-true, eqb-false, eq-eqb, ne_eqb}
 use borrow.Author.Differences.{ints}
@@ -70,6 +70,7 @@ module _ (ss ts : List Segment) where
   abbrev HaveSameKeys : Type 0
   HaveSameKeys = (n : ℕ) → count n (map start_key ss ++ map end_key ts) ≡ count n (map start_key ts ++ map end_key ss)
 
+  -- segments with the same keys have the same boundary
   pub boundary_from_keys : HaveSameKeys → HaveSameBoundary ss ts
   boundary_from_keys h =
       record { each = λ p l c. by p l c (cases_lt l 4294967296) (cases_lt c 4294967296) }
@@ -84,6 +85,7 @@ module _ (ss ts : List Segment) where
       by p l c (inr m) r = neither p l c (λ x y. omega (arith, x, m))
       by p l c (inl sl) (inr m) = neither p l c (λ x y. omega (arith, y, m))
 
+  -- segments with the same boundary have the same keys
   pub keys_from_boundary : HaveSameBoundary ss ts → HaveSameKeys
   keys_from_boundary h n =
       subst (λ (m : ℕ). count m (map start_key ss ++ map end_key ts) ≡ count m (map start_key ts ++ map end_key ss)) (digits n) (at (n / 4294967296 / 4294967296) (n / 4294967296 % 4294967296) (n % 4294967296) (omega arith) (omega arith))

@@ -109,9 +109,3 @@ module _ (p : Plane) (u v w : Spot) (positive : pos 0 <ℤ u.w) where
   pub left_from_front : FacesFront p u v w → is_positive (along p (main_axis p) *ℤ turn_along (main_axis p) u v w) ≡ true
   left_from_front f =
       sym (ap is_pos (seen_from_front p u v w positive f.first f.second f.third)) ∙ positive_in f.front
-
-zero_in : {a : ℤ} → a ≡ pos 0 → is_zero a ≡ true
-zero_in e = ap is_zero e
-
-pub on_from_front : (p : Plane) (u v w : Spot) → FacesFront p u v w → is_zero (value_at p u) && (is_zero (value_at p v) && is_zero (value_at p w)) ≡ true
-on_from_front p u v w f = rw (zero_in f.first, zero_in f.second, zero_in f.third) refl

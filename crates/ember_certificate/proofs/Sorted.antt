@@ -1,9 +1,9 @@
--- Lists in order: where each number stands in both as often, they are one list
+-- Lists in order: if each number occurs in both as often, they are equal
 use Rattle.std.proofs.Common.{◌≡◌, ◌⊎◌, inl, inr, ℕ, ◌<◌, ◌≤◌, cond, List, [], ◌∷◌, refl, sym, ap, ◌∙◌, arith, eqb}
 use Rattle.std.specs.List.Sorted.{IsPermutation, IsNonDecreasing}
 use Rattle.std.proofs.lemmas.Bool.{cases_lt}
 use Rattle.ember_balance.specs.Counts.{count}
-use Rattle.ember_balance.proofs.Walk.{Rises, rises, absent_below, own, count_permutation}
+use Rattle.ember_balance.proofs.SortedSurplus.{Rises, rises, absent_below, head_is_counted, count_permutation}
 
 equal_from : (x y : ℕ) → (x < y → ⊥) → (y < x → ⊥) → x ≡ y
 equal_from x y f g = by (cases_lt x y) (cases_lt y x)
@@ -15,19 +15,19 @@ equal_from x y f g = by (cases_lt x y) (cases_lt y x)
 
 one_list : (xs ys : List ℕ) → Rises xs → Rises ys → ((n : ℕ) → count n xs ≡ count n ys) → xs ≡ ys
 one_list [] [] p q h = refl
-one_list [] (y ∷ ys) p q h = let e = h y in let o = own y ys in absurd (omega (arith, e, o))
-one_list (x ∷ xs) [] p q h = let e = h x in let o = own x xs in absurd (omega (arith, e, o))
+one_list [] (y ∷ ys) p q h = let e = h y in let o = head_is_counted y ys in absurd (omega (arith, e, o))
+one_list (x ∷ xs) [] p q h = let e = h x in let o = head_is_counted x xs in absurd (omega (arith, e, o))
 one_list (x ∷ xs) (y ∷ ys) p q h = let r = one_list xs ys p.1 q.1 rest in λ i. same i ∷ r i
   where
     same : x ≡ y
     same =
-        equal_from x y (λ l. let z = absent_below x y ys l q in let o = own x xs in let e = h x in omega (arith, z, o, e)) (λ l. let z = absent_below y x xs l p in let o = own y ys in let e = h y in omega (arith, z, o, e))
+        equal_from x y (λ l. let z = absent_below x y ys l q in let o = head_is_counted x xs in let e = h x in omega (arith, z, o, e)) (λ l. let z = absent_below y x xs l p in let o = head_is_counted y ys in let e = h y in omega (arith, z, o, e))
 
     rest : (n : ℕ) → count n xs ≡ count n ys
     rest n = let e = h n in let a = ap {B = ℕ} (λ (z : ℕ). cond (eqb n z) 1 0) same in omega (arith, e, a)
 
 module _ (us vs xs ys : List ℕ) (p : IsPermutation us xs) (q : IsPermutation vs ys) where
-  -- if the lists in order are one, each number stands as often before they were sorted
+  -- if the lists in order are equal, each number occurs as often before they were sorted
   pub counts_from_one_list : xs ≡ ys → (n : ℕ) → count n us ≡ count n vs
   counts_from_one_list e n =
       sym (count_permutation n us xs p) ∙ ap (count n) e ∙ count_permutation n vs ys q

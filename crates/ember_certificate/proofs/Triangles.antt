@@ -16,9 +16,11 @@ edges_in-append (t ∷ ts) us =
 with_next : (ts : List Triangle) (i : ℕ) (t : Triangle) → i < length ts → t ≡ get_or ts i t → take (i + 1) ts ≡ take i ts ++ t ∷ []
 with_next ts i t l e = take_more ts i t l ∙ ap (λ (u : Triangle). take i ts ++ u ∷ []) (sym e)
 
+-- the edges of one triangle more
 pub edges_pushed : (ts : List Triangle) (i : ℕ) (t : Triangle) {before after : List Segment} → i < length ts → t ≡ get_or ts i t → before ≡ edges_in (take i ts) → after ≡ before ++ edges_in (t ∷ []) → after ≡ edges_in (take (i + 1) ts)
 edges_pushed ts i t l e b a =
     a ∙ ap (λ (ss : List Segment). ss ++ edges_in (t ∷ [])) b ∙ sym (ap edges_in (with_next ts i t l e) ∙ edges_in-append (take i ts) (t ∷ []))
 
+-- what holds of the triangles so far and of one more holds of all of them
 pub all_more : (P : Triangle → Type 0) (ts : List Triangle) (i : ℕ) (t : Triangle) → i < length ts → t ≡ get_or ts i t → All P (take i ts) → P t → All P (take (i + 1) ts)
 all_more P ts i t l e h p = subst (All P) (sym (with_next ts i t l e)) (All-push P (take i ts) t h p)

@@ -18,6 +18,7 @@ leads_round t =
 abbrev pub is_in_one_plane : Triangle → Bool
 is_in_one_plane t = nat_eq t.first.plane t.second.plane && nat_eq t.first.plane t.third.plane
 
+-- the edges lead around in one plane
 abbrev pub is_round : Triangle → Bool
 is_round t = leads_round t && is_in_one_plane t
 
@@ -38,6 +39,7 @@ pub record IsProper (ps : List Plane) (cs : List SpacePoint) (t : Triangle) : Ty
   pub front : HasFront ps cs t
 
 -- ---- all triangles
+-- the edges of the triangles, three for each
 abbrev pub edges_in : List Triangle → List Segment
 edges_in [] = []
 edges_in (t ∷ ts) = t.first ∷ t.second ∷ t.third ∷ edges_in ts

@@ -13,24 +13,29 @@ use crate::triangle::Triangle;
 use ember_model::{OutOfMemory, Plane};
 use std::alloc::Global;
 
+// Whether each edge of the triangle ends at the corner at which the next one starts.
 fn leads_round(t: &Triangle) -> bool
     ensures { result ≡ leads_round t.now }
 {
     t.first.end == t.second.start && t.second.end == t.third.start && t.third.end == t.first.start
 }
 
+// Whether the three edges name one plane.
 fn is_in_one_plane(t: &Triangle) -> bool
     ensures { result ≡ is_in_one_plane t.now }
 {
     t.first.plane == t.second.plane && t.first.plane == t.third.plane
 }
 
+// Whether the edges lead around in one plane.
 fn is_round(t: &Triangle) -> bool
     ensures { result ≡ is_round t.now }
 {
     leads_round(t) && is_in_one_plane(t)
 }
 
+// Whether the plane and the points were found, and the triangle of these points faces the plane's
+// front.
 fn found_faces_front(
     plane: Option<Plane>,
     u: Option<SpacePoint>,
@@ -69,6 +74,8 @@ fn corner_at(corners: &[SpacePoint], number: u32) -> Option<SpacePoint>
     corners.get(number as usize).copied()
 }
 
+// Whether the triangle is proper: its edges lead around three corners of its plane, and it faces
+// the front.
 fn is_proper(planes: &[Plane], corners: &[SpacePoint], t: &Triangle) -> bool
     requires { All IsValidPlane planes.now }
     ensures { IsTrue result ↔ IsProper planes.now corners.now t.now }
@@ -83,6 +90,7 @@ fn is_proper(planes: &[Plane], corners: &[SpacePoint], t: &Triangle) -> bool
     found_faces_front(plane, u, v, w)
 }
 
+// Whether all triangles are proper.
 fn are_proper(planes: &[Plane], corners: &[SpacePoint], triangles: &[Triangle]) -> bool
     requires { All IsValidPlane planes.now }
     ensures { IsTrue result ↔ All (IsProper planes.now corners.now) triangles.now }
@@ -114,10 +122,10 @@ fn edges_of(alloc: Global, triangles: &[Triangle]) -> Result<Vec<Segment>, OutOf
     Ok(edges)
 }
 
-/// Whether the triangles cut up the faces: each goes round three corners of its plane, counter-clockwise
-/// seen from the plane's front; in each plane the triangles have the chain of the faces over each point
-/// of each line; and each ordered pair of corners is as often an edge as its reverse. A triangle whose
-/// plane or corner isn't in its table is refused.
+/// Whether the triangles cut up the faces: each goes round three corners of its plane,
+/// counter-clockwise seen from the plane's front; in each plane the triangles have the chain of the
+/// faces over each point of each line; and each ordered pair of corners is as often an edge as its
+/// reverse. A triangle whose plane or corner isn't in its table is refused.
 pub fn is_certified(
     alloc: Global,
     planes: &[Plane],

@@ -23,8 +23,8 @@ fn keys_of(alloc: Global, starts: &[Segment], ends: &[Segment]) -> Result<Vec<u1
     Ok(keys)
 }
 
-/// Whether the segments of the faces and those of the triangles have the same chain over every point
-/// of every line of every plane.
+/// Whether the segments of the faces and those of the triangles have the same chain over every
+/// point of every line of every plane.
 pub fn same_chains(
     alloc: Global,
     faces: &[Segment],

@@ -29,8 +29,8 @@ fn reverse_keys(alloc: Global, segments: &[Segment]) -> Result<Vec<u128>, OutOfM
     Ok(keys)
 }
 
-/// Whether the segments are closed: for each two corners, as many segments lead from the first to the second
-/// as lead back. Its one error is out-of-memory.
+/// Whether the segments are closed: for each two corners, as many segments lead from the first to
+/// the second as lead back. Its one error is out-of-memory.
 pub fn are_closed(alloc: Global, segments: &[Segment]) -> Result<bool, OutOfMemory>
     ensures { IfOk result (λ closed. IsTrue closed ↔ IsClosed segments.now) }
 {

@@ -12,7 +12,7 @@ use ember_model::{Axis, Plane, main_axis};
 use ember_point::{Meet, side};
 use ember_wide::{PlanePoint, turn};
 
-// The same point, of which less is known.
+// The same point, with less known of it.
 fn meet_of(p: &SpacePoint) -> Meet
     ensures { meets.spot_of result ≡ spot_of p.now }
 {
@@ -24,6 +24,7 @@ fn meet_of(p: &SpacePoint) -> Meet
     }
 }
 
+// Whether the point lies on the plane.
 fn is_on(plane: &Plane, p: &SpacePoint) -> bool
     requires { IsValidPlane plane.now }
     ensures { result ≡ is_zero (value_at plane.now (spot_of p.now)) }
@@ -63,6 +64,8 @@ fn turn_along(k: Axis, u: &SpacePoint, v: &SpacePoint, w: &SpacePoint) -> Sign
     turn(&seen_along(u, k), &seen_along(v, k), &seen_along(w, k))
 }
 
+// Whether the three points go round counter-clockwise, seen from the plane's front, by their
+// coordinates along the axes other than `k`.
 fn turns_left(plane: &Plane, k: Axis, u: &SpacePoint, v: &SpacePoint, w: &SpacePoint) -> bool
     ensures { result ≡ is_positive (along plane.now k *ℤ turn_along k (spot_of u.now) (spot_of v.now) (spot_of w.now)) }
 {
@@ -72,6 +75,7 @@ fn turns_left(plane: &Plane, k: Axis, u: &SpacePoint, v: &SpacePoint, w: &SpaceP
     }
 }
 
+// Whether all three points lie on the plane.
 fn are_on(plane: &Plane, u: &SpacePoint, v: &SpacePoint, w: &SpacePoint) -> bool
     requires { IsValidPlane plane.now }
     ensures { result ≡ are_on plane.now (spot_of u.now) (spot_of v.now) (spot_of w.now) }

@@ -1,5 +1,5 @@
-//! The checker of triangles: whether triangles have the boundary of a document's faces, plane by plane,
-//! are closed, and face the front of their planes.
+//! The checker of triangles: whether triangles have the boundary of a document's faces, plane by
+//! plane, are closed, and face the front of their planes.
 #![tactic(auto)]
 
 mod certificate;

@@ -2,7 +2,7 @@
 ghost use Rattle.ember_certificate.specs.Segments.{AreNumbers};
 
 /// A directed segment on a line of an oriented plane. Planes, lines and corners are numbers:
-/// equal ones stand for one plane, one line, one corner.
+/// equal ones mean one plane, one line, one corner.
 #[derive(Clone, Copy, Debug, PartialEq, Eq)]
 pub struct Segment {
     pub plane: u32,

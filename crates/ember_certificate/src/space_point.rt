@@ -1,8 +1,8 @@
 // Points of space in homogeneous coordinates.
 ghost use Rattle.ember_certificate.specs.SpacePoints.{IsSpacePoint};
 
-/// The point `(x / w, y / w, z / w)` of space: `1 <= w < 2^75`, and `x`, `y` and `z` are below 2^86 in
-/// size.
+/// The point `(x / w, y / w, z / w)` of space: `1 <= w < 2^75`, and `x`, `y` and `z` are below 2^86
+/// in size.
 #[derive(Clone, Copy, Debug, PartialEq, Eq)]
 pub struct SpacePoint {
     pub x: i128,

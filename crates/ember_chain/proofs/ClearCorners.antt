@@ -26,7 +26,7 @@ use Rattle.ember_model.proofs.Tuples.{plane_tuple, normalE}
 use Rattle.ember_law.proofs.Shifted.{NoNormal}
 use Rattle.ember_law.proofs.Generic.{at_hit_of, value_at_hit, cancel_zero}
 use Rattle.ember_law.proofs.GenericClear.{strict}
-use Rattle.ember_poly.proofs.OutlinePoints.{Ended, ended}
+use Rattle.ember_poly.proofs.OutlinePoints.{Ended, edge_has_end}
 use Rattle.ember_chain.specs.Chains.{face_from, IsOutlined}
 use Rattle.ember_chain.proofs.EdgeForm.{course_nonzero, has_normal}
 use Rattle.ember_chain.proofs.Displacements.{none_parallel, parallel_swap}
@@ -38,7 +38,7 @@ all_strict x (g ∷ es) o h =
     let p = and_parts (not (is_positive (value_at g x))) (none_positive es x) h in let q = strict (value_at g x) o.0 p.0 in let r = all_strict x es o.1 p.1 in λ i. q i && r i
 
 -- a point off the support plane whose axis rays miss the edge planes where they meet that plane is clear
-pub missed_face_is_clear : (f : Face) (p : Spot) → pos 0 <ℤ p.w → value_at f.support p ≢ pos 0 → ((a : Axis) → along f.support a ≢ pos 0 → AllByRecursion (λ g. value_at g (hit f.support a p) ≢ pos 0) f.edges) → IsClear f p
+missed_face_is_clear : (f : Face) (p : Spot) → pos 0 <ℤ p.w → value_at f.support p ≢ pos 0 → ((a : Axis) → along f.support a ≢ pos 0 → AllByRecursion (λ g. value_at g (hit f.support a p) ≢ pos 0) f.edges) → IsClear f p
 missed_face_is_clear f p w off o =
     record { outside = not_closed (is_in_closed f p) refl; rays = rays }
   where
@@ -59,7 +59,7 @@ missed_face_is_clear f p w off o =
         inside_on f r (ray_weight a p m s lm w) x.1 ∙ l
 
 -- ---- of outlined faces
--- the plane that tells an edge plane's value at the hit has a normal, since the edge has a course
+-- the plane that gives an edge plane's value at the hit has a normal, since the edge has a course
 hit_course : (n g : Plane) (a : Axis) → cross (normal n) (normal (at_hit_of g n a)) ≡ scale_v (size (along n a)) (cross (normal n) (normal g))
 hit_course n g a =
     vector_identity (tuple ∷ tuple ∷ scalar ∷ scalar ∷ []) (λ n g m k. crossE (normalE n) (record { x = m ⊗ g.x ⊕ k ⊗ n.x; y = m ⊗ g.y ⊕ k ⊗ n.y; z = m ⊗ g.z ⊕ k ⊗ n.z }) ≈v scaleE m (crossE (normalE n) (normalE g))) cancels_v (plane_tuple n) (plane_tuple g) (size (along n a)) (neg_ℤ (sign (along n a)) *ℤ along g a)
@@ -87,7 +87,7 @@ off_face_is_clear w p line o =
     missed_face_is_clear (face_from w) p o.weight (λ z. has_normal (face_from w) line.first ends_first (o.support z)) (λ a nz. missed a nz w.edges ends (o.hits a))
   where
     ends : AllByRecursion (λ e. Ended (face_from w) e) w.edges
-    ends = ended (face_from w) line.first.start w.edges line.round
+    ends = edge_has_end (face_from w) line.first.start w.edges line.round
 
     ends_first : Ended (face_from w) line.first
     ends_first = (subst (λ es. AllByRecursion (λ e. Ended (face_from w) e) es) line.begins ends).0

@@ -17,17 +17,21 @@ use Rattle.ember_law.proofs.Generic.{cancel_zero}
 use Rattle.ember_chain.specs.Chains.{displacement, is_zero_vector}
 
 -- ---- a vector that is 0
+-- a vector that passes the test is 0
 pub zero_vector_out : {v : Vector} → is_zero_vector v ≡ true → v ≡ zero_v
 zero_vector_out {v} e =
     let p = and_parts (is_zero v.x) (is_zero v.y && is_zero v.z) e in let q = and_parts (is_zero v.y) (is_zero v.z) p.1 in
     same_v (zero_out v.x p.0) (zero_out v.y q.0) (zero_out v.z q.1)
 
+-- the test answers true of the zero vector
 pub zero_vector_in : {v : Vector} → v ≡ zero_v → is_zero_vector v ≡ true
 zero_vector_in e = ap is_zero_vector e
 
+-- a vector that fails the test isn't zero
 pub zero_not : {v : Vector} → is_zero_vector v ≡ false → v ≢ zero_v
 zero_not h z = clash (zero_vector_in z) h
 
+-- every vector is orthogonal to 0
 pub orthogonal_to_none : (h : Vector) {v : Vector} → v ≡ zero_v → dot h v ≡ pos 0
 orthogonal_to_none h {v} e =
     dot_zero h v (ap (λ (v : Vector). v.x) e) (ap (λ (v : Vector). v.y) e) (ap (λ (v : Vector). v.z) e)
@@ -57,13 +61,16 @@ zeroE = record { x = num (pos 0); y = num (pos 0); z = num (pos 0) }
 abbrev pub Parallel : Vector → Vector → Type 0
 Parallel u v = cross u v ≡ zero_v
 
+-- 0 is parallel to every vector
 pub none_parallel : {v : Vector} (d : Vector) → v ≡ zero_v → Parallel v d
 none_parallel d e =
     ap (λ (v : Vector). cross v d) e ∙ vector_identity (vector ∷ []) (λ d. crossE zeroE d ≈v zeroE) cancels_v d
 
+-- dot products are commutative
 pub dot_swap : (u v : Vector) → dot u v ≡ dot v u
 dot_swap = identity (vector ∷ vector ∷ []) (λ u v. dotE u v ≈ dotE v u) cancels
 
+-- parallel vectors are parallel in either order
 pub parallel_swap : (u v : Vector) → Parallel u v → Parallel v u
 parallel_swap u v e =
     vector_identity (vector ∷ vector ∷ []) (λ u v. crossE v u ≈v minusE (minusE (crossE u v) (crossE u v)) (crossE u v)) cancels_v u v ∙ ap (λ (k : Vector). minus_v (minus_v k k) k) e
@@ -123,6 +130,7 @@ parallel_onward u v r d w p q =
     entry : {a : ℤ} → u.w *ℤ a ≡ pos 0 → a ≡ pos 0
     entry {a} e = cancel_zero u.w a w e
 
+-- the way back is parallel to what the way is parallel to
 pub parallel_back : (u v : Spot) (d : Vector) → Parallel (displacement u v) d → Parallel (displacement v u) d
 parallel_back u v d p =
     vector_identity (tuple ∷ tuple ∷ vector ∷ []) (λ u v d. crossE (displacementE v u) d ≈v minusE (minusE (crossE (displacementE u v) d) (crossE (displacementE u v) d)) (crossE (displacementE u v) d)) cancels_v (spot_tuple u) (spot_tuple v) d ∙ ap (λ (k : Vector). minus_v (minus_v k k) k) p

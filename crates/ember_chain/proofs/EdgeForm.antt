@@ -27,7 +27,7 @@ use Rattle.ember_poly.proofs.Chains.{each_both}
 use Rattle.ember_poly.proofs.OutlinePoints.{Ended}
 use Rattle.ember_law.proofs.Shifted.{NoNormal}
 use Rattle.ember_chain.specs.Chains.{DirectedEdge, displacement, is_zero_vector, is_parallel, is_on_line, reached, coverage, edges_to, directed_edges, face_from, IsOutlined}
-use Rattle.ember_chain.proofs.Setting.{IsGeneral, IsGeneralFace, IsOffEnds, edge_turn}
+use Rattle.ember_chain.proofs.RectangleRound.{IsGeneral, IsGeneralFace, IsOffEnds, edge_turn}
 use Rattle.ember_chain.proofs.Displacements.{displacementE, none_parallel, displacement_value, zero_carried, parallel_onward, Parallel, parallel_swap, parallel_orthogonal, parallel_both, square_positive, dot_swap, zero_vector_in, zero_vector_out, zero_not, orthogonal_to_none}
 
 -- ---- numbers
@@ -204,7 +204,7 @@ module _ (f : Face) (e : RingEdge) (end : Spot) (edge : IsEdge f e end) where
 
 -- ---- the edges of an outline
 -- an edge covers the points just after t by the turn of its plane where t lies on it, and none elsewhere
-pub edge_form : (d : Vector) (t : Spot) (f : Face) (e : RingEdge) (end : Spot) → pos 0 <ℤ t.w → is_zero_vector d ≡ false → IsGeneralFace d t f → IsEdge f e end → IsOffEnds d t (record { from = e.start; to = end }) → coverage t d (record { from = e.start; to = end }) ≡ edge_turn d t f e
+edge_form : (d : Vector) (t : Spot) (f : Face) (e : RingEdge) (end : Spot) → pos 0 <ℤ t.w → is_zero_vector d ≡ false → IsGeneralFace d t f → IsEdge f e end → IsOffEnds d t (record { from = e.start; to = end }) → coverage t d (record { from = e.start; to = end }) ≡ edge_turn d t f e
 edge_form d t f e end wt nd general edge off = by (is_on_edge f e.plane t) refl
   where
     by : (b : Bool) → is_on_edge f e.plane t ≡ b → coverage t d (record { from = e.start; to = end }) ≡ edge_turn d t f e

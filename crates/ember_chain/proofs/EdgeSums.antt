@@ -15,7 +15,7 @@ use Rattle.ember_model.specs.Faces.{is_in_closed}
 use Rattle.ember_model.specs.Edges.{RingEdge, normal, is_on_edge}
 use Rattle.ember_model.proofs.SignTests.{and_false}
 use Rattle.ember_poly.specs.Rings.{IsBelow}
-use Rattle.ember_chain.proofs.Setting.{edge_turn}
+use Rattle.ember_chain.proofs.RectangleRound.{edge_turn}
 use Rattle.ember_chain.proofs.OneEdge.{IsOnlyMet}
 
 turn_off : (d : Vector) (t : Spot) (f : Face) (e : RingEdge) → is_on_edge f e.plane t ≡ false → edge_turn d t f e ≡ pos 0
@@ -33,6 +33,7 @@ turn_under d t f e u = turn_off d t f e (and_false (is_in_closed f t) (is_zero (
     nonzero : {a : ℤ} → a <ℤ pos 0 → is_zero a ≡ false
     nonzero {a} l = ap is_nil (sgn_neg l)
 
+-- the turns of a face's edges at a point below all their planes add up to 0
 pub turns_under : (d : Vector) (t : Spot) (f : Face) (es : List RingEdge) → AllByRecursion (λ e. IsBelow e.plane t) es → total (edge_turn d t f) es ≡ pos 0
 turns_under d t f [] us = refl
 turns_under d t f (e ∷ es) us =

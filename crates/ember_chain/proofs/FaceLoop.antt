@@ -28,11 +28,11 @@ use Rattle.ember_model.proofs.Hits.{closed_on}
 use Rattle.ember_law.proofs.Shifted.{NoNormal, eventually_true}
 use Rattle.ember_poly.specs.Rings.{IsBelow, IsNotAbove, InClosedFace}
 use Rattle.ember_poly.proofs.FaceTests.{closed_in, closed_out}
-use Rattle.ember_poly.proofs.OutlinePoints.{Ended, ended}
+use Rattle.ember_poly.proofs.OutlinePoints.{Ended, edge_has_end}
 use Rattle.ember_chain.specs.Chains.{face_from, IsOutlined}
-use Rattle.ember_chain.proofs.Setting.{IsGeneral, IsGeneralFace, component, next, corner, loop, edge_turn}
+use Rattle.ember_chain.proofs.RectangleRound.{IsGeneral, IsGeneralFace, component, next, corner, loop, edge_turn}
 use Rattle.ember_chain.proofs.Rectangle.{value_corner, follows_corner, off_corner, weight_corner}
-use Rattle.ember_chain.proofs.Quad.{cut, passed, quad_turns, quad_passes}
+use Rattle.ember_chain.proofs.RectangleCrossings.{cut, passed, quad_turns, quad_passes}
 use Rattle.ember_chain.proofs.Displacements.{Parallel, dot_swap, square_positive}
 use Rattle.ember_chain.proofs.EdgeForm.{has_normal}
 use Rattle.ember_chain.proofs.OneEdge.{EdgeAt, IsOnlyMet, OneMet, edges_met}
@@ -152,7 +152,7 @@ module _ (c : Axis) (d : Vector) (t : Spot) (w : WrittenFace) (m : ℤ) (wt : po
     y = value_at f.support p3
 
     known : AllByRecursion (λ e. EdgeAt f d t e) w.edges
-    known = edges_at f d t w.edges (ended f line.first.start w.edges line.round) general.edges closed.within
+    known = edges_at f d t w.edges (edge_has_end f line.first.start w.edges line.round) general.edges closed.within
 
     first_across : (h : Plane) → value_at h t ≡ pos 0 → value_at h p1 ≡ neg_ℤ (value_at h p3)
     first_across h z = value_across h c t m (negsuc 0) (pos 1) z
@@ -197,7 +197,7 @@ module _ (c : Axis) (d : Vector) (t : Spot) (w : WrittenFace) (m : ℤ) (wt : po
     on_face : loop c t m f ≡ sign (component d c) *ℤ sum
     on_face = ⊎_elim below_all on_one (edges_met f d t nd general.support closed w.edges known line.once)
 
-  pub loop_near : loop c t m f ≡ sign (component d c) *ℤ sum
+  loop_near : loop c t m f ≡ sign (component d c) *ℤ sum
   loop_near = by (is_in_closed f t) refl
     where
       by : (k : Bool) → is_in_closed f t ≡ k → loop c t m f ≡ sign (component d c) *ℤ sum
@@ -228,7 +228,7 @@ face_loop c d t w wt nc general line =
     minus e = omega (arith, ints, e)
 
     first_end : Ended (face_from w) line.first
-    first_end = (subst (λ es. AllByRecursion (λ e. Ended (face_from w) e) es) line.begins (ended (face_from w) line.first.start w.edges line.round)).0
+    first_end = (subst (λ es. AllByRecursion (λ e. Ended (face_from w) e) es) line.begins (edge_has_end (face_from w) line.first.start w.edges line.round)).0
 
     beside : (sa sb : ℤ) → sa ≢ pos 0 → sb ≢ pos 0 → Eventually (λ m. IsBeside (face_from w) t (corner c t (pos m) sa sb))
     beside sa sb na nb =

@@ -1,8 +1,8 @@
-pub mod Setting
+pub mod RectangleRound
 pub mod Rectangle
-pub mod Ahead
+pub mod PointAhead
 pub mod ClearCorners
-pub mod Quad
+pub mod RectangleCrossings
 pub mod Displacements
 pub mod EdgeForm
 pub mod OneEdge
@@ -11,7 +11,7 @@ pub mod EdgeSums
 pub mod FaceLoop
 pub mod Starts
 pub mod Pieces
-pub mod Ready
-pub mod Missed
+pub mod ClearRectangle
+pub mod ShiftedPoints
 pub mod Loops
 pub mod Closed

@@ -20,9 +20,9 @@ use Rattle.ember_model.specs.FaceFiles.{WrittenFace}
 use Rattle.ember_law.specs.Counts.{leg_wind}
 use Rattle.ember_law.proofs.Paths.{along_itself}
 use Rattle.ember_chain.specs.Chains.{DirectedEdge, is_zero_vector, coverage, IsEvenlyCovered, directed_edges, face_from, IsOutlined, AxesAgreeOffScene}
-use Rattle.ember_chain.proofs.Setting.{ahead, IsOffEnds, component, next, corner, loop}
-use Rattle.ember_chain.proofs.Ahead.{has_component}
-use Rattle.ember_chain.proofs.Ready.{IsReadyFace, IsReady, ready_ahead, IsClearCorner, clear_corner}
+use Rattle.ember_chain.proofs.RectangleRound.{ahead, IsOffEnds, component, next, corner, loop}
+use Rattle.ember_chain.proofs.PointAhead.{has_component}
+use Rattle.ember_chain.proofs.ClearRectangle.{IsReadyFace, IsReady, ready_ahead, IsClearCorner, clear_corner}
 use Rattle.ember_chain.proofs.EdgeForm.{outline_form}
 use Rattle.ember_chain.proofs.FaceLoop.{face_loop}
 

@@ -12,10 +12,10 @@ use Rattle.ember_model.specs.Faces.{between, leg}
 use Rattle.ember_model.specs.ClearTest.{none_positive, all_negative}
 use Rattle.ember_model.specs.Edges.{RingEdge}
 use Rattle.ember_model.proofs.SignTests.{negative_in, negative_not, size_positive, and_true}
-use Rattle.ember_model.proofs.NearClearPoints.{Follows, FollowsEach, ups, not_below, all_below}
+use Rattle.ember_model.proofs.NearClearPoints.{Follows, FollowsEach, following_points_stay_above, not_below, all_below}
 use Rattle.ember_model.proofs.Legs.{value_between, leg_off, leg_on}
 use Rattle.ember_poly.specs.Rings.{IsBelow}
-use Rattle.ember_chain.proofs.Quad.{cut, passed}
+use Rattle.ember_chain.proofs.RectangleCrossings.{cut, passed}
 use Rattle.ember_chain.proofs.OneEdge.{IsOnlyMet}
 
 -- p is off the support plane, and where t is off a plane of f, p is on its side
@@ -71,7 +71,7 @@ module _ (f : Face) (t p q : Spot) (bp : IsBeside f t p) (bq : IsBeside f t q) w
   -- beyond an edge
   pub leg_beyond : none_positive f.edges t ≡ false → leg f p q ≡ pos 0
   leg_beyond h =
-      leg_by false (not_below t middle f.edges (ups t middle f.edges middle_follows) h) ∙ none crosses
+      leg_by false (not_below t middle f.edges (following_points_stay_above t middle f.edges middle_follows) h) ∙ none crosses
     where
       none : (b : Bool) → cond (b && false) (sign (value_at f.support q)) (pos 0) ≡ pos 0
       none true = refl
@@ -88,6 +88,7 @@ module _ (f : Face) (t p q : Spot) (bp : IsBeside f t p) (bq : IsBeside f t q) w
       leg_by (is_negative (value_at g middle)) e ∙ ap (λ (v : ℤ). cond (crosses && is_negative v) (sign (value_at f.support q)) (pos 0)) (value_between g f.support p q)
 
 -- ---- the planes of edges at a point that follows t
+-- if a point is below all edge planes, they are negative there
 pub under_negative : (t : Spot) (es : List RingEdge) → AllByRecursion (λ e. IsBelow e.plane t) es → all_negative (map (λ e. e.plane) es) t ≡ true
 under_negative t [] us = refl
 under_negative t (e ∷ es) us =

@@ -14,7 +14,7 @@ use Rattle.ember_poly.proofs.Chains.{each_both}
 use Rattle.ember_poly.proofs.FaceTests.{edge_in, edge_out, same_test}
 use Rattle.ember_poly.proofs.OutlinePoints.{Ended}
 use Rattle.ember_chain.specs.Chains.{displacement}
-use Rattle.ember_chain.proofs.Setting.{IsGeneral}
+use Rattle.ember_chain.proofs.RectangleRound.{IsGeneral}
 use Rattle.ember_chain.proofs.Displacements.{zero_carried, parallel_orthogonal}
 use Rattle.ember_chain.proofs.EdgeForm.{on_line}
 

@@ -18,7 +18,7 @@ use Rattle.ember_model.specs.Edges.{normal}
 use Rattle.ember_model.proofs.NearClearPoints.{Follows}
 use Rattle.ember_model.proofs.PlaneValues.{value_scaled, value_moved}
 use Rattle.ember_law.proofs.Shifted.{NoNormal}
-use Rattle.ember_chain.proofs.Setting.{IsGeneral, component, next, corner}
+use Rattle.ember_chain.proofs.RectangleRound.{IsGeneral, component, next, corner}
 
 -- the value of a plane at a corner
 pub value_corner : (h : Plane) (c : Axis) (t : Spot) (m sa sb : ℤ) → value_at h (corner c t m sa sb) ≡ m *ℤ (m *ℤ value_at h t +ℤ sb *ℤ along h (next (next c))) +ℤ sa *ℤ along h (next c)

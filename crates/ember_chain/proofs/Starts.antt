@@ -16,6 +16,7 @@ use Rattle.ember_chain.specs.Chains.{DirectedEdge, displacement, is_zero_vector,
 use Rattle.ember_chain.proofs.Displacements.{Parallel, parallel_none, none_parallel, parallel_back, parallel_onward, orthogonal_to_none, dot_swap, zero_vector_in, zero_vector_out, zero_not}
 
 -- ---- the other direction
+-- the vector with the opposite direction
 abbrev pub against : Vector → Vector
 against d = record { x = neg_ℤ d.x; y = neg_ℤ d.y; z = neg_ℤ d.z }
 
@@ -30,6 +31,7 @@ zero_against v = let x = one v.x in let y = one v.y in let z = one v.z in λ i. 
     one (pos (suc n)) = refl
     one (negsuc n) = refl
 
+-- a vector is parallel to another exactly if it is parallel to the opposite one
 pub parallel_against : (v d : Vector) → is_zero_vector (cross v (against d)) ≡ is_zero_vector (cross v d)
 parallel_against v d =
     ap is_zero_vector (vector_identity (vector ∷ vector ∷ []) (λ v d. crossE v (againstE d) ≈v againstE (crossE v d)) cancels_v v d) ∙ zero_against (cross v d)
@@ -101,7 +103,7 @@ module _ (x : Spot) (d : Vector) (nd : d ≢ zero_v) (e : DirectedEdge) (wf : po
       none true f = absurd (f refl)
       none false f = refl
 
-  pub both_coverages : coverage x d e +ℤ coverage x (against d) e ≡ one_if starts -ℤ one_if stops
+  both_coverages : coverage x d e +ℤ coverage x (against d) e ≡ one_if starts -ℤ one_if stops
   both_coverages = by covers refl
     where
       by : (b : Bool) → covers ≡ b → coverage x d e +ℤ coverage x (against d) e ≡ one_if starts -ℤ one_if stops

@@ -17,31 +17,18 @@ abbrev pub IsBelow : Face → Plane → Type 0
 IsBelow f p = Everywhere f (λ v. is_negative (value_at p v) ≡ true)
 
 -- ---- a face that is above a plane, or on it, or on both sides is not below it
-negative_or : (z : ℤ) → is_negative z ≡ true → (is_zero z ≡ false) × (is_positive z ≡ false)
-negative_or (pos zero) e = absurd (clash e refl)
-negative_or (pos (suc n)) e = absurd (clash e refl)
-negative_or (negsuc n) e = (refl, refl)
-
-pub not_above : {f : Face} (p : Plane) → IsWhole f (λ v. is_positive (value_at p v) ≡ true) → IsBelow f p → ⊥
-not_above p w b =
-    clash w.somewhere.holds (negative_or (value_at p w.somewhere.at) (b.holds w.somewhere.at w.somewhere.inside)).1
-
-pub not_on : {f : Face} (p : Plane) → IsWhole f (λ v. is_zero (value_at p v) ≡ true) → IsBelow f p → ⊥
-not_on p w b =
-    clash w.somewhere.holds (negative_or (value_at p w.somewhere.at) (b.holds w.somewhere.at w.somewhere.inside)).0
-
-pub not_cut : {f : Face} (p : Plane) → Cuts f p → IsBelow f p → ⊥
-not_cut p c b =
-    clash c.high.holds (negative_or (value_at p c.high.at) (b.holds c.high.at c.high.inside)).1
 
 -- ---- the three edge planes
+-- no option is both None and Some
 pub none_some : {A : Type 0} (o : Option A) {x : A} → o ≡ None → o ≡ Some x → ⊥
 none_some {A} o n e =
     clash refl (ap (λ (o : Option A). elim o as (λ _. Bool) [ None ↦ true | Some z ↦ false ]) (sym n ∙ e))
 
+-- Some is injective
 pub some_inj : {A : Type 0} {x y : A} → Some x ≡ Some y → x ≡ y
 some_inj {A} {x} {y} e = ap (λ (o : Option A). elim o as (λ _. A) [ None ↦ x | Some z ↦ z ]) e
 
+-- the i-th edge plane along the main axis is the i-th edge
 pub edge_at : (t : Tri) {k : Axis} {n p : Plane} (i : ℕ) → n ≡ support_of t → k ≡ main_axis n → slice_get (edge_planes t k) i ≡ Some p → slice_get (edges_of t) i ≡ Some p
 edge_at t {k} {n} {p} i s e h =
     subst (λ (a : Axis). slice_get (edge_planes t a) i ≡ Some p) (e ∙ ap main_axis s) h
@@ -55,15 +42,16 @@ all_at h (f ∷ gs) zero g a e =
 all_at h (f ∷ gs) (suc i) g a e = all_at h gs i g (and_parts (h f) (list_all h gs) a).1 e
 
 module _ (t : Tri) {f : Face} where
+  -- a face that a triangle contains is below each of its edges
   pub below_edge : Contains (face_of t) f → (i : ℕ) {g : Plane} → slice_get (edges_of t) i ≡ Some g → IsBelow f g
   unfolding face_of
   below_edge h i {g} e = record {
     holds = λ v o. all_at (λ k. is_negative (value_at k v)) (edges_of t) i g (and_parts (is_zero (value_at (support_of t) v)) _ (and_parts (is_positive v.w) _ (h.holds v o)).1).1 e;
   }
 
-  pub contained : LiesOn t f → {p q r : Plane} → slice_get (edges_of t) 0 ≡ Some p → slice_get (edges_of t) 1 ≡ Some q → slice_get (edges_of t) 2 ≡ Some r → IsBelow f p → IsBelow f q → IsBelow f r → Contains (face_of t) f
+  pub below_edges_is_contained : LiesOn t f → {p q r : Plane} → slice_get (edges_of t) 0 ≡ Some p → slice_get (edges_of t) 1 ≡ Some q → slice_get (edges_of t) 2 ≡ Some r → IsBelow f p → IsBelow f q → IsBelow f r → Contains (face_of t) f
   unfolding face_of
-  contained on {p} {q} {r} ep eq er a b c = record {
+  below_edges_is_contained on {p} {q} {r} ep eq er a b c = record {
     holds = λ v o. and_from _ _ (and_parts (is_positive v.w) _ o).0 (and_from _ _ (ap is_zero (on.plane v o)) (subst (λ (gs : List Plane). list_all (λ g. is_negative (value_at g v)) gs ≡ true) (sym edges) (and_from _ _ (a.holds v o) (and_from _ _ (b.holds v o) (and_from _ _ (c.holds v o) refl)))));
   }
     where

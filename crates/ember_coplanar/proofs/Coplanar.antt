@@ -99,7 +99,7 @@ module _ (p : Plane) (u : Tri) (a : value_at p (spot_of_corner u.a) ≡ pos 0) (
       by (inl z) = absurd (square_not_zero (cross e f) h z)
       by (inr z) = z
 
-  pub on_plane : is_flat u ≡ false → value_at p v ≡ pos 0
+  on_plane : is_flat u ≡ false → value_at p v ≡ pos 0
   on_plane h =
       value_away p u.a v ∙ rw (orthogonal h, a) (solve 1 (λ w. num (pos 0) ⊕ w ⊗ num (pos 0) ≈ num (pos 0)) cancels v.w)
 
@@ -111,7 +111,7 @@ pub record Coplanar (t u : Tri) : Type 0 where
   pub b : value_at (support_of t) (spot_of_corner u.b) ≡ pos 0
   pub c : value_at (support_of t) (spot_of_corner u.c) ≡ pos 0
 
-pub coplanar_out : (t u : Tri) → is_coplanar t u ≡ true → Coplanar t u
+coplanar_out : (t u : Tri) → is_coplanar t u ≡ true → Coplanar t u
 unfolding is_coplanar
 coplanar_out t u e =
     let p = and_parts (not (is_flat t)) _ e in let q = and_parts (not (is_flat u)) _ p.1 in
@@ -126,10 +126,12 @@ lies_on_both t u f e l =
     record { normal = k.first; plane = λ v i. on_plane (support_of t) u k.a k.b k.c v (l.plane v i) k.second }
 
 -- ---- the tests in the code's order
+-- the test of the support plane's normal is whether the triangle isn't flat
 pub has_normal_is : (t : Tri) {n : Plane} {b : Bool} → n ≡ support_of t → b ≡ not (is_zero n.a && (is_zero n.b && is_zero n.c)) → b ≡ not (is_flat t)
 unfolding is_flat
 has_normal_is t e h = h ∙ ap (λ (n : Plane). not (is_zero n.a && (is_zero n.b && is_zero n.c))) e
 
+-- a triangle lies on a plane if the plane's values at its corners are 0
 pub lies_on_is : (t u : Tri) {n : Plane} {b : Bool} → n ≡ support_of t → b ≡ is_zero (value_at n (spot_of_corner u.a)) && (is_zero (value_at n (spot_of_corner u.b)) && is_zero (value_at n (spot_of_corner u.c))) → b ≡ lies_in_plane_of t u
 lies_on_is t u e h =
     h ∙ ap (λ (n : Plane). is_zero (value_at n (spot_of_corner u.a)) && (is_zero (value_at n (spot_of_corner u.b)) && is_zero (value_at n (spot_of_corner u.c)))) e
@@ -145,14 +147,17 @@ coplanar_is t u = by (not (is_flat t)) (lies_in_plane_of t u) (not (is_flat u))
     by true false true = refl
     by true false false = refl
 
+-- if the first triangle isn't flat and the second lies in its plane, the second one's normal decides
 pub by_all : (t u : Tri) {x y z : Bool} → x ≡ not (is_flat t) → y ≡ lies_in_plane_of t u → z ≡ not (is_flat u) → x ≡ true → y ≡ true → z ≡ is_coplanar t u
 by_all t u {x} {y} {z} p q r a b =
     sym (λ i. a i && (b i && z)) ∙ (λ i. p i && (q i && r i)) ∙ coplanar_is t u
 
+-- if the first triangle isn't flat and the second doesn't lie in its plane, they aren't coplanar
 pub by_place : (t u : Tri) {x y : Bool} → x ≡ not (is_flat t) → y ≡ lies_in_plane_of t u → x ≡ true → y ≡ false → y ≡ is_coplanar t u
 by_place t u {x} {y} p q a b =
     b ∙ sym (λ i. a i && (b i && not (is_flat u))) ∙ (λ i. p i && (q i && not (is_flat u))) ∙ coplanar_is t u
 
+-- if the first triangle is flat, they aren't coplanar
 pub by_normal : (t u : Tri) {x : Bool} → x ≡ not (is_flat t) → x ≡ false → x ≡ is_coplanar t u
 by_normal t u {x} p a =
     a ∙ sym (λ i. a i && (lies_in_plane_of t u && not (is_flat u))) ∙ (λ i. p i && (lies_in_plane_of t u && not (is_flat u))) ∙ coplanar_is t u

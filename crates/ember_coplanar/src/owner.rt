@@ -11,7 +11,7 @@ use crate::plane::same_plane;
 use ember_model::{Plane, Tri, edge_plane, main_axis, support_of};
 use ember_poly::{Reach, Ring, reach};
 
-// Every inside point is on the negative side of the plane.
+// Whether every inside point is on the negative side of the plane.
 fn is_below(r: &Ring, p: &Plane) -> bool
     requires { IsValidPlane p.now }
     ensures { IsTrue result ↔ Everywhere r.now (λ v. is_negative (value_at p.now v) ≡ true) }
@@ -22,8 +22,8 @@ fn is_below(r: &Ring, p: &Plane) -> bool
     }
 }
 
-/// Every inside point of `r`, which lies in the plane of `t`, is an inside point of the face of
-/// `t`.
+/// Whether every inside point of `r`, which lies in the plane of `t`, is an inside point of the
+/// face of `t`. Only tests call this.
 pub fn contains(t: &Tri, r: &Ring) -> bool
     requires tri { IsValidTri t.now }
     requires plane { LiesOn t.now r.now }
@@ -34,8 +34,9 @@ pub fn contains(t: &Tri, r: &Ring) -> bool
         && (is_below(r, &edge_plane(t, 1, k)) && is_below(r, &edge_plane(t, 2, k)))
 }
 
-/// Triangle `i` of the list, in whose plane `r` lies, owns `r`: no triangle before it in the list
-/// that is coplanar with it contains `r`.
+/// Whether triangle `i` of the list, in whose plane `r` lies, owns `r`: no triangle before it in
+/// the list that is coplanar with it contains `r`. Only tests call this; ember_leaf finds owners as
+/// it cuts.
 pub fn is_owner(near: &[Tri], i: u32, r: &Ring) -> bool
     requires valid { All IsValidTri near.now }
     requires index { i < length near.now }

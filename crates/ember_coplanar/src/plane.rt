@@ -18,20 +18,21 @@ fn value_at_corner(p: &Plane, c: &Corner) -> i64
     p.a * c.x as i64 + p.b * c.y as i64 + p.c * c.z as i64 - p.d
 }
 
-// A corner at which a plane has this value lies on it.
+// Whether a corner at which a plane has this value lies on it.
 fn is_on(value: i64) -> bool
     ensures { result ≡ is_zero value }
 {
     value == 0
 }
 
+// Whether the plane's normal isn't zero.
 fn has_normal(p: &Plane) -> bool
     ensures { result ≡ not (is_zero p.now.a && (is_zero p.now.b && is_zero p.now.c)) }
 {
     p.a != 0 || p.b != 0 || p.c != 0
 }
 
-// All corners of the triangle lie on the plane.
+// Whether all corners of the triangle lie on the plane.
 fn lies_on(p: &Plane, t: &Tri) -> bool
     requires plane { IsSupportSized p.now }
     requires tri { IsValidTri t.now }
@@ -42,7 +43,7 @@ fn lies_on(p: &Plane, t: &Tri) -> bool
         && (is_on(value_at_corner(p, &t.b)) && is_on(value_at_corner(p, &t.c)))
 }
 
-/// Neither triangle's normal is zero, and they lie in one plane.
+/// Whether neither triangle's normal is zero, and they lie in one plane. Only tests call this.
 pub fn same_plane(t: &Tri, u: &Tri) -> bool
     requires t { IsValidTri t.now }
     requires u { IsValidTri u.now }

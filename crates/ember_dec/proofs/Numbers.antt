@@ -2,6 +2,7 @@
 use Rattle.std.proofs.Common.{◌≡◌, ◌≤◌, ◌<◌, ℕ, zero, suc, length, drop, get_or, ◌+◌, ◌-◌, ◌*◌, List, [], ◌∷◌, ◌++◌, refl, arith}
 use Rattle.ember_dec.specs.Decimal.{number_from}
 
+-- reading two lists of digits is reading the first and then the second
 pub number_from-append : (v : ℕ) (xs ys : List ℕ) → number_from v (xs ++ ys) ≡ number_from (number_from v xs) ys
 number_from-append v [] ys = refl
 number_from-append v (x ∷ xs) ys = number_from-append (v * 10 + (x - 48)) xs ys

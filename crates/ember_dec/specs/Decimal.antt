@@ -1,11 +1,11 @@
--- A coordinate's text, and its value in units of a tenth to the power of the places.
+-- A coordinate's text, and its value in units of 10^-places.
 use Rattle.std.specs.Prelude.{ℕ, ◌+◌, ◌-◌, ◌*◌, Bool, false, ◌&&◌, ◌||◌, List, [], ◌∷◌, ◌++◌, if◌then◌else◌, ◌==◌, nat_lt, nat_le, length, take, drop, replicate, ℤ, pos, neg_ℤ, Result, Ok, Err}
 use Rattle.std.specs.List.{list_all}
 use Rattle.std.specs.Char.{is_ascii_digit}
 use Rattle.ember_dec.specs.declared.DecFault.{DecFault}
 use Rattle.ember_dec.specs.declared.DecFault.TheVariants.{Malformed, Fraction, Range}
 
--- the number with these decimal digits behind those of `start`
+-- `start` followed by these decimal digits, as a number
 abbrev pub number_from : ℕ → List ℕ → ℕ
 number_from start [] = start
 number_from start (d ∷ ds) = number_from (start * 10 + (d - 48)) ds
@@ -15,17 +15,17 @@ abbrev pub is_minus : List ℕ → Bool
 is_minus [] = false
 is_minus (b ∷ bs) = b == 45
 
--- the text behind a plus or minus at its beginning
+-- the text after a plus or minus at its beginning
 abbrev pub unsigned : List ℕ → List ℕ
 unsigned [] = []
 unsigned (b ∷ bs) = if b == 43 || b == 45 then bs else b ∷ bs
 
--- what stands before the first point
+-- the bytes before the first point
 abbrev pub before_point : List ℕ → List ℕ
 before_point [] = []
 before_point (b ∷ bs) = if b == 46 then [] else b ∷ before_point bs
 
--- and what stands behind it
+-- the bytes after the first point
 abbrev pub behind_point : List ℕ → List ℕ
 behind_point [] = []
 behind_point (b ∷ bs) = if b == 46 then bs else behind_point bs
@@ -35,7 +35,7 @@ abbrev pub is_decimal : List ℕ → List ℕ → Bool
 is_decimal whole fraction =
     (list_all is_ascii_digit whole && list_all is_ascii_digit fraction) && nat_lt 0 (length whole + length fraction)
 
--- the digits behind the point, cut or filled up with zeros to as many as there are places
+-- the digits after the point, cut or filled up with zeros to as many as there are places
 abbrev pub filled : ℕ → List ℕ → List ℕ
 filled places fraction = take places fraction ++ replicate (places - length fraction) 48
 
@@ -47,7 +47,7 @@ units places whole fraction = number_from 0 (whole ++ filled places fraction)
 abbrev pub in_range : Bool → ℕ → Result ℤ DecFault
 in_range minus size = if nat_le size 2047 then Ok (if minus then neg_ℤ (pos size) else pos size) else Err Range
 
--- the coordinate with this sign and these parts before and behind the point, or its first fault
+-- the coordinate with this sign and these parts before and after the point, or its first fault
 abbrev pub value_in_units : Bool → ℕ → List ℕ → List ℕ → Result ℤ DecFault
 value_in_units minus places whole fraction =
     if is_decimal whole fraction

@@ -8,7 +8,8 @@ ghost use Rattle.ember_dec.specs.Decimal.{before_point, behind_point, number_fro
 
 use thiserror::Error;
 
-/// Why a text is no coordinate.
+/// Why a text is no coordinate. The program doesn't print these texts, but its own: see
+/// `src/lines.rt` of ember_run.
 #[derive(Clone, Copy, Debug, PartialEq, Eq, Error)]
 pub enum DecFault {
     /// It isn't a sign, if there is one, and digits with at most one point among them.
@@ -25,20 +26,22 @@ pub enum DecFault {
 // The least size that is out of range.
 const LIMIT: u32 = 2048;
 
+// Whether all bytes are decimal digits.
 fn are_digits(text: &[u8]) -> bool
     ensures { result ≡ list_all is_ascii_digit text.now }
 {
     text.iter().all(|b| b.is_ascii_digit())
 }
 
+// Whether all bytes are the digit 0.
 fn are_zeros(text: &[u8]) -> bool
     ensures { result ≡ list_all (λ b. b == 48) text.now }
 {
     text.iter().all(|b| *b == b'0')
 }
 
-// The number with these digits behind those of `start`, or the limit if it is larger.
-#[tactic(auto, using(crate::proofs::Capped::capped))]
+// `start` followed by these digits, as a number, at most the limit.
+#[tactic(auto, using(crate::proofs::Capped::number_from_capped))]
 fn append_digits(start: u32, digits: &[u8]) -> u32
     requires digits { list_all is_ascii_digit digits.now ≡ true }
     requires small { start ≤ LIMIT }
@@ -52,7 +55,7 @@ fn append_digits(start: u32, digits: &[u8]) -> u32
     value
 }
 
-// The number with this many zeros behind the digits of `start`, or the limit if it is larger.
+// `start` followed by this many zeros, as a number, at most the limit.
 fn append_zeros(start: u32, count: usize) -> u32
     requires { start ≤ LIMIT }
     ensures value { result ≡ min LIMIT (number_from start (replicate count 48)) }
@@ -77,7 +80,7 @@ fn split_places(fraction: &[u8], places: usize) -> (&[u8], &[u8])
     }
 }
 
-// The size in units, or the limit if it is larger.
+// The size in units of the number with these digits before and after the point, at most the limit.
 #[tactic(auto, using(crate::proofs::Capped::capped_parts))]
 fn capped_units(places: usize, whole: &[u8], fraction: &[u8]) -> u32
     requires whole { list_all is_ascii_digit whole.now ≡ true }
@@ -89,7 +92,7 @@ fn capped_units(places: usize, whole: &[u8], fraction: &[u8]) -> u32
     append_zeros(value, places.saturating_sub(fraction.len()))
 }
 
-// The coordinate with this sign and these parts before and behind the point.
+// The coordinate with this sign and these parts before and after the point.
 fn signed_value(minus: bool, places: usize, whole: &[u8], fraction: &[u8]) -> Result<i32, DecFault>
     ensures { result ≡ value_in_units minus places whole.now fraction.now }
 {
@@ -107,7 +110,7 @@ fn signed_value(minus: bool, places: usize, whole: &[u8], fraction: &[u8]) -> Re
     Ok(if minus { -size } else { size })
 }
 
-// The parts of a text before and behind its first point.
+// The parts of a text before and after its first point.
 fn split_point(text: &[u8]) -> (&[u8], &[u8])
     ensures before { result.0.now ≡ before_point text.now }
     ensures behind { result.1.now ≡ behind_point text.now }
@@ -123,12 +126,12 @@ fn split_point(text: &[u8]) -> (&[u8], &[u8])
     }
 }
 
-/// The coordinate that `text` spells, in units of a tenth to the power of `places`.
+/// The coordinate that `text` spells, in units of 10^-`places`.
 ///
 /// A coordinate is an optional `+` or `-`, then digits, then optionally a point and digits, with at
 /// least one digit in all; every other text is [`Malformed`](DecFault::Malformed). A digit past the
-/// places that isn't 0 gives [`Fraction`](DecFault::Fraction), and otherwise a size above 2047 units gives
-/// [`Range`](DecFault::Range). Takes no memory.
+/// places that isn't 0 gives [`Fraction`](DecFault::Fraction), and otherwise a size above 2047
+/// units gives [`Range`](DecFault::Range). Allocates nothing.
 pub fn coordinate(text: &[u8], places: u8) -> Result<i32, DecFault>
     requires { places ≤ 3 }
     ensures { result ≡ coordinate_of places text.now }

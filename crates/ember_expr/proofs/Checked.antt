@@ -20,6 +20,7 @@ pub record Checks : Type 0 where
 abbrev pub limits : Scope → Checks
 limits scope = record { number = limited; mesh = mesh_number scope }
 
+-- the checks that accept every number
 abbrev pub no_limits : Checks
 no_limits = record { number = λ place n. Ok n; mesh = λ place n. Ok n }
 

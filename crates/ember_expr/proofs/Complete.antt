@@ -18,6 +18,7 @@ abbrev pub Accepts : {A : Type 0} → (ExprFault → Type 0) → A → List Word
 Accepts bad a us (Ok x) = (x.part ≡ a) × (words x.rest ≡ us)
 Accepts bad a us (Err fault) = bad fault
 
+-- a rule that accepts words, and then one that accepts the words behind them
 pub accept_bind : {A B : Type 0} (bad : ExprFault → Type 0) (a : A) (us : List Word) (b : B) (vs : List Word) (r : Result (Read A) ExprFault) (go : Read A → Result (Read B) ExprFault) → Accepts bad a us r → ((rest : List Token) → words rest ≡ us → Accepts bad b vs (go (record { part = a; rest = rest }))) → Accepts bad b vs (r >>= go)
 accept_bind bad a us b vs (Ok x) go h next = subst (λ p. Accepts bad b vs (go (record { part = p; rest = x.rest }))) (sym h.0) (next x.rest h.1)
 accept_bind bad a us b vs (Err fault) go h next = h
@@ -33,11 +34,13 @@ Passes bad c (word.Mesh n) = (place : ℕ) → PassesAs bad n (c.mesh place n)
 Passes bad c (word.Wind n) = (place : ℕ) → PassesAs bad n (c.mesh place n)
 Passes bad c _ = Unit {0}
 
+-- a number that passes, and then the rest
 pub number_bind : {B : Type 0} (bad : ExprFault → Type 0) (n : ℕ) (b : B) (vs : List Word) (r : Result ℕ ExprFault) (go : ℕ → Result (Read B) ExprFault) → PassesAs bad n r → Accepts bad b vs (go n) → Accepts bad b vs (r >>= go)
 number_bind bad n b vs (Ok x) go h next = subst (λ k. Accepts bad b vs (go k)) (sym h) next
 number_bind bad n b vs (Err fault) go h next = h
 
 -- ---- the first token
+-- what holds of each first token with the word holds of the tokens that begin with it
 pub by_first : (Q : List Token → Type 0) (all : List Token) (w : Word) (us : List Word) → words all ≡ w ∷ us → ((t : Token) (ts : List Token) → t.word ≡ w → words ts ≡ us → Q (t ∷ ts)) → Q all
 by_first Q [] w us e h = cc
 by_first Q (t ∷ ts) w us e h =
@@ -59,10 +62,12 @@ abbrev pub after : List Word → ℕ
 after [] = 5
 after (w ∷ us) = loose w
 
+-- what holds of two lists together holds of the first
 pub every_before : {X : Type 0} (P : X → Type 0) (xs ys : List X) → Every P (xs ++ ys) → Every P xs
 every_before P [] ys h = tt
 every_before P (x ∷ xs) ys h = (h.0, every_before P xs ys h.1)
 
+-- what holds of two lists together holds of the second
 pub every_after : {X : Type 0} (P : X → Type 0) (xs ys : List X) → Every P (xs ++ ys) → Every P ys
 every_after P [] ys h = h
 every_after P (x ∷ xs) ys h = every_after P xs ys h.1
@@ -84,15 +89,16 @@ pub record Fails {A : Type 0} (bad : ExprFault → Type 0) (r : Result A ExprFau
 abbrev pub SoFar : {S : Type 0} → (ExprFault → Type 0) → (ℕ → S → Rule S) → Result (Read S) ExprFault → S → List Word → Type 0
 SoFar bad more r s us = Goes more r s us ⊎ Fails bad r
 
-pub starts : {T S : Type 0} (bad : ExprFault → Type 0) (more : ℕ → S → Rule S) (wrap : T → S) (a : T) (us : List Word) (r : Result (Read T) ExprFault) → Accepts bad a us r → SoFar bad more (r >>= λ first. more (length first.rest) (wrap first.part) first.rest) (wrap a) us
-starts bad more wrap a us (Ok x) h = inl (record {
+-- the first part of a sum or a chain
+pub loop_starts : {T S : Type 0} (bad : ExprFault → Type 0) (more : ℕ → S → Rule S) (wrap : T → S) (a : T) (us : List Word) (r : Result (Read T) ExprFault) → Accepts bad a us r → SoFar bad more (r >>= λ first. more (length first.rest) (wrap first.part) first.rest) (wrap a) us
+loop_starts bad more wrap a us (Ok x) h = inl (record {
   count = length x.rest;
   rest = x.rest;
   enough = subst (λ u. length u ≤ length x.rest) h.1 (rw (length-map x.rest (λ t. t.word)) (omega arith));
   front = h.1;
   same = ap (λ p. more (length x.rest) (wrap p) x.rest) h.0;
 })
-starts bad more wrap a us (Err fault) h = inr (record { fault = fault; is = refl; holds = h })
+loop_starts bad more wrap a us (Err fault) h = inr (record { fault = fault; is = refl; holds = h })
 
 after_part : {T S : Type 0} (bad : ExprFault → Type 0) (more : ℕ → S → Rule S) (push : T → S) (b : T) (us : List Word) (r : Result (Read S) ExprFault) (count : ℕ) (p : Result (Read T) ExprFault) → Accepts bad b us p → r ≡ (p >>= λ next. more count (push next.part) next.rest) → length us ≤ count → SoFar bad more r (push b) us
 after_part bad more push b us r count (Ok x) h e le = inl (record { count = count; rest = x.rest; enough = le; front = h.1; same = e ∙ ap (λ q. more count (push q) x.rest) h.0 })
@@ -108,13 +114,15 @@ goes_on bad more part push r s w ws us b law accepts zero (x ∷ ts) enough fron
 goes_on bad more part push r s w ws us b law accepts (suc count) (x ∷ ts) enough front same =
     after_part bad more push b us r count (part ts) (accepts ts cc) (same ∙ law count x ts cc) (omega (arith, enough, length-append ws us))
 
+-- one part more of a sum or a chain
 pub one_more : {T S : Type 0} (bad : ExprFault → Type 0) (more : ℕ → S → Rule S) (part : Rule T) (push : T → S) (r : Result (Read S) ExprFault) (s : S) (w : Word) (ws us : List Word) (b : T) → GoesOn more part push s w → ((ts : List Token) → words ts ≡ ws ++ us → Accepts bad b us (part ts)) → SoFar bad more r s (w ∷ ws ++ us) → SoFar bad more r (push b) us
 one_more bad more part push r s w ws us b law accepts (inl g) = goes_on bad more part push r s w ws us b law accepts g.count g.rest g.enough g.front g.same
 one_more bad more part push r s w ws us b law accepts (inr f) = inr f
 
-pub finish : {S : Type 0} (bad : ExprFault → Type 0) (more : ℕ → S → Rule S) (r : Result (Read S) ExprFault) (s : S) (us : List Word) → ((count : ℕ) (rest : List Token) → words rest ≡ us → more count s rest ≡ read s rest) → SoFar bad more r s us → Accepts bad s us r
-finish bad more r s us ends (inl g) = subst (Accepts bad s us) (sym (g.same ∙ ends g.count g.rest g.front)) (refl, g.front)
-finish bad more r s us ends (inr f) = subst (Accepts bad s us) (sym f.is) f.holds
+-- a sum or a chain ends if the rest goes no further
+pub loop_finishes : {S : Type 0} (bad : ExprFault → Type 0) (more : ℕ → S → Rule S) (r : Result (Read S) ExprFault) (s : S) (us : List Word) → ((count : ℕ) (rest : List Token) → words rest ≡ us → more count s rest ≡ read s rest) → SoFar bad more r s us → Accepts bad s us r
+loop_finishes bad more r s us ends (inl g) = subst (Accepts bad s us) (sym (g.same ∙ ends g.count g.rest g.front)) (refl, g.front)
+loop_finishes bad more r s us ends (inr f) = subst (Accepts bad s us) (sym f.is) f.holds
 
 -- ---- terms
 not_star : (w : Word) → 1 ≤ loose w → is_star w ≡ false
@@ -148,9 +156,9 @@ plain_first (grammar.wind {m}) all us e = by_first (λ ts. is_minus (sign_before
 sum_so_far : (bad : ExprFault → Type 0) (c : Checks) (scope : Scope) {ws : List Word} {s : List Term} → IsSum ws s → Every (Passes bad c) ws → (all : List Token) (us : List Word) → words all ≡ ws ++ us → 1 ≤ after us → SoFar bad (more_terms_by c scope) (sum_by c scope all) s us
 sum_so_far bad c scope (grammar.first {ws} {t} d) fit all us e h =
     let plain : is_minus (sign_before all) ≡ false = plain_first d all us e in
-    starts bad (more_terms_by c scope) (λ t. t ∷ []) t us (first_term_by c scope all) (rw plain (term_accepts bad c scope false d fit all us e h))
+    loop_starts bad (more_terms_by c scope) (λ t. t ∷ []) t us (first_term_by c scope all) (rw plain (term_accepts bad c scope false d fit all us e h))
 sum_so_far bad c scope (grammar.negative {ws} {t} d) fit all us e h =
-    starts bad (more_terms_by c scope) (λ t. t ∷ []) t us (first_term_by c scope all) (by_first (λ ts. Accepts bad t us (first_term_by c scope ts)) all word.Minus (ws ++ us) e (λ x ts w rest. rw w (term_accepts bad c scope true d fit.1 ts us rest h)))
+    loop_starts bad (more_terms_by c scope) (λ t. t ∷ []) t us (first_term_by c scope all) (by_first (λ ts. Accepts bad t us (first_term_by c scope ts)) all word.Minus (ws ++ us) e (λ x ts w rest. rw w (term_accepts bad c scope true d fit.1 ts us rest h)))
 sum_so_far bad c scope (grammar.plus {vs} {ws} {ts = s} {t} d e) fit all us same h =
     one_more bad (more_terms_by c scope) (term_by c scope false) (λ next. s ++ next ∷ []) (sum_by c scope all) s word.Plus ws us t (λ count x ts w. rw w refl) (λ ts front. term_accepts bad c scope false e (every_after (Passes bad c) vs (word.Plus ∷ ws) fit).1 ts us front h) (sum_so_far bad c scope d (every_before (Passes bad c) vs (word.Plus ∷ ws) fit) all (word.Plus ∷ ws ++ us) (same ∙ append_assoc vs (word.Plus ∷ ws) us) (omega arith))
 sum_so_far bad c scope (grammar.minus {vs} {ws} {ts = s} {t} d e) fit all us same h =
@@ -174,4 +182,4 @@ sum_ends c scope s us h (suc count) rest e =
 -- the words of a sum are read as the sum
 pub sum_accepts : (bad : ExprFault → Type 0) (c : Checks) (scope : Scope) {ws : List Word} {s : List Term} → IsSum ws s → Every (Passes bad c) ws → (all : List Token) (us : List Word) → words all ≡ ws ++ us → 2 ≤ after us → Accepts bad s us (sum_by c scope all)
 sum_accepts bad c scope {ws} {s} d fit all us e h =
-    finish bad (more_terms_by c scope) (sum_by c scope all) s us (sum_ends c scope s us h) (sum_so_far bad c scope d fit all us e (omega (arith, h)))
+    loop_finishes bad (more_terms_by c scope) (sum_by c scope all) s us (sum_ends c scope s us h) (sum_so_far bad c scope d fit all us e (omega (arith, h)))

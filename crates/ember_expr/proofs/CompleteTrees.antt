@@ -17,7 +17,7 @@ use Rattle.ember_expr.specs.Derivation.{IsTerm, IsSum, Phrase, Derives, depth, w
 use Rattle.ember_expr.specs.Derivation as grammar
 use Rattle.ember_expr.proofs.Checked.{Checks, sum_by, comparison_by, odd_by, not_at_by, not_with_by, deeper_by, not_by}
 use Rattle.ember_expr.proofs.DerivedTrees.{joint_word}
-use Rattle.ember_expr.proofs.Complete.{Accepts, accept_bind, Passes, number_bind, by_first, loose, after, every_before, every_after, SoFar, GoesOn, starts, one_more, finish, sum_accepts}
+use Rattle.ember_expr.proofs.Complete.{Accepts, accept_bind, Passes, number_bind, by_first, loose, after, every_before, every_after, SoFar, GoesOn, loop_starts, one_more, loop_finishes, sum_accepts}
 
 -- ---- depth
 -- so many parentheses and signs `!` may still come, or the fault of too many may be
@@ -66,10 +66,10 @@ abbrev ChainSoFar : (ExprFault → Type 0) → Joint → Rule Formula → List T
 ChainSoFar bad kind not all f us = SoFar bad (more_parts kind (part_of kind not)) (chain_of kind (part_of kind not) all) f us
 
 chain_done : (bad : ExprFault → Type 0) (kind : Joint) (not : Rule Formula) (all : List Token) (f : Formula) (us : List Word) → limit kind ≤ after us → ChainSoFar bad kind not all f us → Accepts bad f us (chain_of kind (part_of kind not) all)
-chain_done bad kind not all f us h so_far = finish bad (more_parts kind (part_of kind not)) (chain_of kind (part_of kind not) all) f us (chain_ends kind (part_of kind not) f us h) so_far
+chain_done bad kind not all f us h so_far = loop_finishes bad (more_parts kind (part_of kind not)) (chain_of kind (part_of kind not) all) f us (chain_ends kind (part_of kind not) f us h) so_far
 
 chain_starts : (bad : ExprFault → Type 0) (kind : Joint) (not : Rule Formula) (all : List Token) (f : Formula) (us : List Word) → Accepts bad f us (part_of kind not all) → ChainSoFar bad kind not all f us
-chain_starts bad kind not all f us h = starts bad (more_parts kind (part_of kind not)) (λ a. a) f us (part_of kind not all) h
+chain_starts bad kind not all f us h = loop_starts bad (more_parts kind (part_of kind not)) (λ a. a) f us (part_of kind not all) h
 
 chain_more : (bad : ExprFault → Type 0) (kind : Joint) (not : Rule Formula) (all : List Token) (a b : Formula) (ws us : List Word) → ((ts : List Token) → words ts ≡ ws ++ us → Accepts bad b us (part_of kind not ts)) → ChainSoFar bad kind not all a (joint_word kind ∷ ws ++ us) → ChainSoFar bad kind not all (join kind a b) us
 chain_more bad kind not all a b ws us accepts so_far = one_more bad (more_parts kind (part_of kind not)) (part_of kind not) (λ next. join kind a next) (chain_of kind (part_of kind not) all) a (joint_word kind) ws us b (chain_goes_on kind (part_of kind not) a) accepts so_far

@@ -17,14 +17,16 @@ abbrev pub IfReads : {A : Type 0} → (A → Type 0) → Result A ExprFault → 
 IfReads P (Ok x) = P x
 IfReads P (Err fault) = Unit {0}
 
+-- a fact of the first result that makes the fact of the second one
 pub if_bind : {A B : Type 0} (P : A → Type 0) (Q : B → Type 0) (r : Result A ExprFault) (go : A → Result B ExprFault) → IfReads P r → ((x : A) → P x → IfReads Q (go x)) → IfReads Q (r >>= go)
 if_bind P Q (Ok x) go h next = next x h
 if_bind P Q (Err fault) go h next = tt
 
-pub if_equal : {A : Type 0} (P : A → Type 0) (r : Result A ExprFault) → ((x : A) → r ≡ Ok x → P x) → IfReads P r
+if_equal : {A : Type 0} (P : A → Type 0) (r : Result A ExprFault) → ((x : A) → r ≡ Ok x → P x) → IfReads P r
 if_equal P (Ok x) h = h x refl
 if_equal P (Err fault) h = tt
 
+-- a fact of both branches of a test
 pub if_test : {A : Type 0} (P : A → Type 0) (b : Bool) (x y : Result A ExprFault) → (b ≡ true → IfReads P x) → (b ≡ false → IfReads P y) → IfReads P (if b then x else y)
 if_test P true x y h k = h refl
 if_test P false x y h k = k refl
@@ -43,6 +45,7 @@ limited_fits place n = if_equal (λ x. (n ≡ x) × (n ≤ 1000000)) (limited pl
 existing_ok : (scope : Scope) (n x : ℕ) → existing scope n ≡ Ok x → (n ≡ x) × (1 ≤ n) × (n ≤ scope.meshes)
 existing_ok scope n x e = (search rules, search rules, search rules)
 
+-- a mesh number that is read is the number in the text, and there is a mesh of that number
 pub mesh_fits : (scope : Scope) (place n : ℕ) → IfReads (λ x. (n ≡ x) × IsFitMesh scope.meshes n) (mesh_number scope place n)
 mesh_fits scope place n =
     if_bind (λ x. (n ≡ x) × (n ≤ 1000000)) (λ x. (n ≡ x) × IsFitMesh scope.meshes n) (limited place n) (λ k. existing scope k) (limited_fits place n) (λ x small. if_equal (λ y. (n ≡ y) × IsFitMesh scope.meshes n) (existing scope x) (λ y e. let f = existing_ok scope x y e in (small.0 ∙ f.0, record { small = small.1; first = rw small.0 f.1; last = rw small.0 f.2 })))
@@ -78,7 +81,7 @@ wind_front : (scope : Scope) (ts : List Token) → IfReads (λ r. WindFront scop
 wind_front scope [] = tt
 wind_front scope (t ∷ ts) = wind_at_front scope t t.word ts
 
-pub star_at : (w : Word) → is_star w ≡ true → w ≡ word.Star
+star_at : (w : Word) → is_star w ≡ true → w ≡ word.Star
 star_at word.Star e = refl
 star_at _ e = cc
 
@@ -110,11 +113,11 @@ sign_at word.Minus true e = refl
 sign_at word.Minus false e = cc
 sign_at _ minus e = cc
 
-pub sign_split : (ts : List Token) (minus : Bool) → sign_before ts ≡ Some minus → words ts ≡ sign_word minus ∷ words (after_first ts)
+sign_split : (ts : List Token) (minus : Bool) → sign_before ts ≡ Some minus → words ts ≡ sign_word minus ∷ words (after_first ts)
 sign_split [] minus e = cc
 sign_split (t ∷ ts) minus e = ap (λ w. w ∷ words ts) (sign_at t.word minus e)
 
-pub one_more_term : (minus : Bool) {vs ws : List Word} {s : List Term} {t : Term} → IsSum vs s → IsTerm minus ws t → IsSum (vs ++ sign_word minus ∷ ws) (s ++ t ∷ [])
+one_more_term : (minus : Bool) {vs ws : List Word} {s : List Term} {t : Term} → IsSum vs s → IsTerm minus ws t → IsSum (vs ++ sign_word minus ∷ ws) (s ++ t ∷ [])
 one_more_term true d e = grammar.minus d e
 one_more_term false d e = grammar.plus d e
 
@@ -123,38 +126,39 @@ sign_fits meshes true = tt
 sign_fits meshes false = tt
 
 -- a part that follows a sign is at the front together with what was before
-pub longer : (vs : List Word) (w : Word) (all us ws : List Word) (rest : List Token) → all ≡ vs ++ w ∷ us → us ≡ ws ++ words rest → all ≡ (vs ++ w ∷ ws) ++ words rest
-longer vs w all us ws rest e f = e ∙ (ap (λ u. vs ++ w ∷ u) f ∙ sym (append_assoc vs (w ∷ ws) (words rest)))
+pub signed_part_is_appended : (vs : List Word) (w : Word) (all us ws : List Word) (rest : List Token) → all ≡ vs ++ w ∷ us → us ≡ ws ++ words rest → all ≡ (vs ++ w ∷ ws) ++ words rest
+signed_part_is_appended vs w all us ws rest e f = e ∙ (ap (λ u. vs ++ w ∷ u) f ∙ sym (append_assoc vs (w ∷ ws) (words rest)))
 
 more_terms_front : (scope : Scope) (count : ℕ) (vs all : List Word) (s : List Term) (ts : List Token) → all ≡ vs ++ words ts → FitSum scope.meshes vs s → IfReads (FrontOf (FitSum scope.meshes) all) (more_terms scope count s ts)
 more_terms_front scope zero vs all s ts split is = record { ws = vs; split = split; holds = is }
 more_terms_front scope (suc count) vs all s ts split is =
-    if_some (FrontOf (FitSum scope.meshes) all) (sign_before ts) (read s ts) (λ minus. term scope minus (after_first ts) >>= λ next. more_terms scope count (s ++ next.part ∷ []) next.rest) (λ none. record { ws = vs; split = split; holds = is }) (λ minus sign. if_bind (FrontOf (FitTerm scope.meshes minus) (words (after_first ts))) (FrontOf (FitSum scope.meshes) all) (term scope minus (after_first ts)) (λ next. more_terms scope count (s ++ next.part ∷ []) next.rest) (term_front scope minus (after_first ts)) (λ next front. more_terms_front scope count (vs ++ sign_word minus ∷ front.ws) all (s ++ next.part ∷ []) next.rest (longer vs (sign_word minus) all (words (after_first ts)) front.ws next.rest (split ∙ ap (λ u. vs ++ u) (sign_split ts minus sign)) front.split) (one_more_term minus is.0 front.holds.0, every_append (IsFitWord scope.meshes) vs (sign_word minus ∷ front.ws) is.1 (sign_fits scope.meshes minus, front.holds.1))))
+    if_some (FrontOf (FitSum scope.meshes) all) (sign_before ts) (read s ts) (λ minus. term scope minus (after_first ts) >>= λ next. more_terms scope count (s ++ next.part ∷ []) next.rest) (λ none. record { ws = vs; split = split; holds = is }) (λ minus sign. if_bind (FrontOf (FitTerm scope.meshes minus) (words (after_first ts))) (FrontOf (FitSum scope.meshes) all) (term scope minus (after_first ts)) (λ next. more_terms scope count (s ++ next.part ∷ []) next.rest) (term_front scope minus (after_first ts)) (λ next front. more_terms_front scope count (vs ++ sign_word minus ∷ front.ws) all (s ++ next.part ∷ []) next.rest (signed_part_is_appended vs (sign_word minus) all (words (after_first ts)) front.ws next.rest (split ∙ ap (λ u. vs ++ u) (sign_split ts minus sign)) front.split) (one_more_term minus is.0 front.holds.0, every_append (IsFitWord scope.meshes) vs (sign_word minus ∷ front.ws) is.1 (sign_fits scope.meshes minus, front.holds.1))))
 
 is_minus_at : (o : Option Bool) → is_minus o ≡ true → o ≡ Some true
 is_minus_at (Some true) e = refl
 is_minus_at (Some false) e = cc
 is_minus_at None e = cc
 
-pub weaker : {A : Type 0} (P Q : A → Type 0) (r : Result A ExprFault) → ((x : A) → P x → Q x) → IfReads P r → IfReads Q r
-weaker P Q (Ok x) imp h = imp x h
-weaker P Q (Err fault) imp h = tt
+if_reads_map : {A : Type 0} (P Q : A → Type 0) (r : Result A ExprFault) → ((x : A) → P x → Q x) → IfReads P r → IfReads Q r
+if_reads_map P Q (Ok x) imp h = imp x h
+if_reads_map P Q (Err fault) imp h = tt
 
 abbrev OneTerm : Scope → List Token → Read Term → Type 0
 OneTerm scope ts r = Front (FitSum scope.meshes) (words ts) (r.part ∷ []) r.rest
 
 negative_front : (scope : Scope) (ts : List Token) → words ts ≡ word.Minus ∷ words (after_first ts) → IfReads (OneTerm scope ts) (term scope true (after_first ts))
 negative_front scope ts sign =
-    weaker (FrontOf (FitTerm scope.meshes true) (words (after_first ts))) (OneTerm scope ts) (term scope true (after_first ts)) (λ r front. record { ws = word.Minus ∷ front.ws; split = sign ∙ ap (λ u. word.Minus ∷ u) front.split; holds = (grammar.negative front.holds.0, (tt, front.holds.1)) }) (term_front scope true (after_first ts))
+    if_reads_map (FrontOf (FitTerm scope.meshes true) (words (after_first ts))) (OneTerm scope ts) (term scope true (after_first ts)) (λ r front. record { ws = word.Minus ∷ front.ws; split = sign ∙ ap (λ u. word.Minus ∷ u) front.split; holds = (grammar.negative front.holds.0, (tt, front.holds.1)) }) (term_front scope true (after_first ts))
 
 plain_front : (scope : Scope) (ts : List Token) → IfReads (OneTerm scope ts) (term scope false ts)
 plain_front scope ts =
-    weaker (FrontOf (FitTerm scope.meshes false) (words ts)) (OneTerm scope ts) (term scope false ts) (λ r front. record { ws = front.ws; split = front.split; holds = (grammar.first front.holds.0, front.holds.1) }) (term_front scope false ts)
+    if_reads_map (FrontOf (FitTerm scope.meshes false) (words ts)) (OneTerm scope ts) (term scope false ts) (λ r front. record { ws = front.ws; split = front.split; holds = (grammar.first front.holds.0, front.holds.1) }) (term_front scope false ts)
 
 first_term_front : (scope : Scope) (ts : List Token) → IfReads (OneTerm scope ts) (first_term scope ts)
 first_term_front scope ts =
     if_test (OneTerm scope ts) (is_minus (sign_before ts)) (term scope true (after_first ts)) (term scope false ts) (λ minus. negative_front scope ts (sign_split ts true (is_minus_at (sign_before ts) minus))) (λ plain. plain_front scope ts)
 
+-- what is read as a sum is a sum of the grammar
 pub sum_front : (scope : Scope) (ts : List Token) → IfReads (FrontOf (FitSum scope.meshes) (words ts)) (sum scope ts)
 sum_front scope ts =
     if_bind (OneTerm scope ts) (FrontOf (FitSum scope.meshes) (words ts)) (first_term scope ts) (λ first. more_terms scope (length first.rest) (first.part ∷ []) first.rest) (first_term_front scope ts) (λ first front. more_terms_front scope (length first.rest) front.ws (words ts) (first.part ∷ []) first.rest front.split front.holds)

@@ -13,7 +13,7 @@ use Rattle.ember_expr.specs.Formula.{Formula, Not, Mesh, Odd, Compare}
 use Rattle.ember_expr.specs.Grammar.{read, Rule, ◌>>=◌, mesh_number, sum, after_first, begins_with, joins, join, more_parts, chain_of, part_of, or, is_open, is_close, closed, relation, rel_at, comparison, inside, odd, not_at, not_with, deeper, not, ended, whole}
 use Rattle.ember_expr.specs.Derivation.{IsTerm, IsSum, Phrase, Derives, depth, IsFitWord, IsFitMesh, words}
 use Rattle.ember_expr.specs.Derivation as grammar
-use Rattle.ember_expr.proofs.Derived.{IfReads, if_bind, if_test, mesh_fits, Front, FrontOf, FitSum, sum_front, longer}
+use Rattle.ember_expr.proofs.Derived.{IfReads, if_bind, if_test, mesh_fits, Front, FrontOf, FitSum, sum_front, signed_part_is_appended}
 
 -- a phrase of the grammar within the limits
 pub record IsWithin (meshes left : ℕ) (p : Phrase) (ws : List Word) (f : Formula) : Type 0 where
@@ -37,6 +37,7 @@ joint_word joint.Or = word.Bar
 joint_word joint.Xor = word.Hat
 joint_word joint.And = word.Amp
 
+-- a word that joins is the operator's word
 pub joint_at : (kind : Joint) (w : Word) → joins kind w ≡ true → w ≡ joint_word kind
 joint_at joint.Or word.Bar e = refl
 joint_at joint.Xor word.Hat e = refl
@@ -67,7 +68,7 @@ ReadsPhrase meshes left p rule = (ts : List Token) → IfReads (FrontOf (IsWithi
 more_parts_front : (meshes left : ℕ) (kind : Joint) (part : Rule Formula) → ReadsPhrase meshes left (part_phrase kind) part → (count : ℕ) (vs all : List Word) (tree : Formula) (ts : List Token) → all ≡ vs ++ words ts → IsWithin meshes left (chain_phrase kind) vs tree → IfReads (FrontOf (IsWithin meshes left (chain_phrase kind)) all) (more_parts kind part count tree ts)
 more_parts_front meshes left kind part reads zero vs all tree ts split is = record { ws = vs; split = split; holds = is }
 more_parts_front meshes left kind part reads (suc count) vs all tree ts split is =
-    if_test (FrontOf (IsWithin meshes left (chain_phrase kind)) all) (begins_with kind ts) (part (after_first ts) >>= λ next. more_parts kind part count (join kind tree next.part) next.rest) (read tree ts) (λ joins. if_bind (FrontOf (IsWithin meshes left (part_phrase kind)) (words (after_first ts))) (FrontOf (IsWithin meshes left (chain_phrase kind)) all) (part (after_first ts)) (λ next. more_parts kind part count (join kind tree next.part) next.rest) (reads (after_first ts)) (λ next front. more_parts_front meshes left kind part reads count (vs ++ joint_word kind ∷ front.ws) all (join kind tree next.part) next.rest (longer vs (joint_word kind) all (words (after_first ts)) front.ws next.rest (split ∙ ap (λ u. vs ++ u) (joint_split kind ts joins)) front.split) (one_more_part meshes left kind vs front.ws tree next.part is front.holds))) (λ ends. record { ws = vs; split = split; holds = is })
+    if_test (FrontOf (IsWithin meshes left (chain_phrase kind)) all) (begins_with kind ts) (part (after_first ts) >>= λ next. more_parts kind part count (join kind tree next.part) next.rest) (read tree ts) (λ joins. if_bind (FrontOf (IsWithin meshes left (part_phrase kind)) (words (after_first ts))) (FrontOf (IsWithin meshes left (chain_phrase kind)) all) (part (after_first ts)) (λ next. more_parts kind part count (join kind tree next.part) next.rest) (reads (after_first ts)) (λ next front. more_parts_front meshes left kind part reads count (vs ++ joint_word kind ∷ front.ws) all (join kind tree next.part) next.rest (signed_part_is_appended vs (joint_word kind) all (words (after_first ts)) front.ws next.rest (split ∙ ap (λ u. vs ++ u) (joint_split kind ts joins)) front.split) (one_more_part meshes left kind vs front.ws tree next.part is front.holds))) (λ ends. record { ws = vs; split = split; holds = is })
 
 chain_front : (meshes left : ℕ) (kind : Joint) (part : Rule Formula) → ReadsPhrase meshes left (part_phrase kind) part → ReadsPhrase meshes left (chain_phrase kind) (chain_of kind part)
 chain_front meshes left kind part reads ts =
@@ -98,13 +99,13 @@ relation_front : (scope : Scope) (ts : List Token) → IfReads (λ r. words ts �
 relation_front scope [] = tt
 relation_front scope (t ∷ ts) = rel_at_front t t.word ts
 
--- what stands before a `)`
+-- the tokens before a `)`
 before_close : (all ws : List Word) (middle rest : List Token) → all ≡ ws ++ words middle → words middle ≡ word.Close ∷ words rest → all ≡ (ws ++ word.Close ∷ []) ++ words rest
 before_close all ws middle rest e f = e ∙ (ap (λ u. ws ++ u) f ∙ sym (append_assoc ws (word.Close ∷ []) (words rest)))
 
 comparison_front : (scope : Scope) (left : ℕ) → ReadsPhrase scope.meshes left grammar.not (comparison scope)
 comparison_front scope left ts =
-    if_bind (FrontOf (FitSum scope.meshes) (words ts)) (FrontOf (IsWithin scope.meshes left grammar.not) (words ts)) (sum scope ts) (λ l. relation scope l.rest >>= λ rel. sum scope rel.rest >>= λ r. read (Compare l.part rel.part r.part) r.rest) (sum_front scope ts) (λ l at_left. if_bind (λ r. words l.rest ≡ word.Compare r.part ∷ words r.rest) (FrontOf (IsWithin scope.meshes left grammar.not) (words ts)) (relation scope l.rest) (λ rel. sum scope rel.rest >>= λ r. read (Compare l.part rel.part r.part) r.rest) (relation_front scope l.rest) (λ rel sign. if_bind (FrontOf (FitSum scope.meshes) (words rel.rest)) (FrontOf (IsWithin scope.meshes left grammar.not) (words ts)) (sum scope rel.rest) (λ r. read (Compare l.part rel.part r.part) r.rest) (sum_front scope rel.rest) (λ r at_right. record { ws = at_left.ws ++ word.Compare rel.part ∷ at_right.ws; split = longer at_left.ws (word.Compare rel.part) (words ts) (words rel.rest) at_right.ws r.rest (at_left.split ∙ ap (λ u. at_left.ws ++ u) sign) at_right.split; holds = record { derived = grammar.one_atom (grammar.comparison at_left.holds.0 at_right.holds.0); shallow = omega arith; fit = both scope.meshes left (word.Compare rel.part) at_left.ws at_right.ws tt at_left.holds.1 at_right.holds.1 } })))
+    if_bind (FrontOf (FitSum scope.meshes) (words ts)) (FrontOf (IsWithin scope.meshes left grammar.not) (words ts)) (sum scope ts) (λ l. relation scope l.rest >>= λ rel. sum scope rel.rest >>= λ r. read (Compare l.part rel.part r.part) r.rest) (sum_front scope ts) (λ l at_left. if_bind (λ r. words l.rest ≡ word.Compare r.part ∷ words r.rest) (FrontOf (IsWithin scope.meshes left grammar.not) (words ts)) (relation scope l.rest) (λ rel. sum scope rel.rest >>= λ r. read (Compare l.part rel.part r.part) r.rest) (relation_front scope l.rest) (λ rel sign. if_bind (FrontOf (FitSum scope.meshes) (words rel.rest)) (FrontOf (IsWithin scope.meshes left grammar.not) (words ts)) (sum scope rel.rest) (λ r. read (Compare l.part rel.part r.part) r.rest) (sum_front scope rel.rest) (λ r at_right. record { ws = at_left.ws ++ word.Compare rel.part ∷ at_right.ws; split = signed_part_is_appended at_left.ws (word.Compare rel.part) (words ts) (words rel.rest) at_right.ws r.rest (at_left.split ∙ ap (λ u. at_left.ws ++ u) sign) at_right.split; holds = record { derived = grammar.one_atom (grammar.comparison at_left.holds.0 at_right.holds.0); shallow = omega arith; fit = both scope.meshes left (word.Compare rel.part) at_left.ws at_right.ws tt at_left.holds.1 at_right.holds.1 } })))
 
 if_inside : {A B : Type 0} (Q : B → Type 0) (inner : Option A) (place : ℕ) (go : A → Result B ExprFault) → ((x : A) → inner ≡ Some x → IfReads Q (go x)) → IfReads Q (inside inner place go)
 if_inside Q None place go h = tt
@@ -136,6 +137,7 @@ not_with_front : (scope : Scope) (left : ℕ) (inner : Option (Rule Formula)) �
 not_with_front scope left inner deeper [] = tt
 not_with_front scope left inner deeper (t ∷ ts) = not_at_front scope left inner deeper t t.word ts refl
 
+-- equal options have equal values
 pub some_same : {A : Type 0} (a b : A) → ◌≡◌ {A = Option A} (Some a) (Some b) → a ≡ b
 some_same a b e = cc
 

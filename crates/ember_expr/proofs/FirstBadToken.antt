@@ -1,4 +1,4 @@
--- A fault of syntax stands at the first token that no text of the grammar has after the tokens before it.
+-- A fault of syntax is at the first token that no text of the grammar has after the tokens before it.
 use Rattle.std.proofs.Common.{◌≡◌, ℕ, Bool, true, false, if◌then◌else◌, nat_le, List, [], ◌∷◌, ◌++◌, length, refl, ap, sym, subst, ◌∙◌, append_assoc, append-nil, Ok, Err, Result, ◌⊎◌, inl, inr}
 use Rattle.std.proofs.lemmas.List.{map-append}
 use Rattle.ember_expr.specs.declared.fault.ExprFault.{ExprFault}
@@ -19,7 +19,7 @@ use Rattle.ember_expr.proofs.TreeStops.{or_stops, not_stops}
 same_place : (a b : ℕ) → ◌≡◌ {A = Result Formula ExprFault} (Err (Syntax a)) (Err (Syntax b)) → a ≡ b
 same_place a b e = cc
 
--- a fault of syntax, whatever comes after its token
+-- a fault of syntax, whatever follows its token
 record StopsShort (scope : Scope) (left : ℕ) (ts : List Token) (place : ℕ) : Type 0 where
   before : List Token
   rest : List Token
@@ -92,7 +92,7 @@ first_bad_by text meshes place true e =
     }
 first_bad_by text meshes place false e = cc
 
--- a fault of syntax stands at the first bad token
+-- a fault of syntax is at the first bad token
 pub syntax_fault_is_first : (text : List ℕ) (meshes place : ℕ) → expr_of text meshes ≡ Err (Syntax place) → IsFirstBadToken text place
 syntax_fault_is_first text meshes place e = first_bad_by text meshes place (nat_le (length text) 4096) e
 

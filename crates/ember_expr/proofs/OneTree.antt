@@ -100,6 +100,7 @@ mesh_limited : (scope : Scope) (place n : ℕ) (small exists : Bool) → PassesA
 mesh_limited scope place n true exists = existing_passes n _
 mesh_limited scope place n false exists = tt
 
+-- a word is refused here by a limit or not at all
 pub limits_pass : (scope : Scope) (w : Word) → Passes IsLimit (limits scope) w
 limits_pass scope (word.Number n) = λ place. limited_passes place n (nat_le n 1000000)
 limits_pass scope (word.Mesh n) = λ place. mesh_limited scope place n (nat_le n 1000000) true
@@ -110,6 +111,7 @@ at_end : (f g : Formula) (rest : List Token) (place : ℕ) → words rest ≡ []
 at_end f g [] place none e = cc
 at_end f g (t ∷ ts) place none e = cc
 
+-- equal errors have equal faults
 pub err_same : (a b : ExprFault) → ◌≡◌ {A = Result Formula ExprFault} (Err a) (Err b) → a ≡ b
 err_same a b e = cc
 
@@ -117,6 +119,7 @@ not_misplaced : (f : Formula) (place : ℕ) (r : Result (Read Formula) ExprFault
 not_misplaced f place (Ok x) h e = at_end f x.part x.rest place h.1 e
 not_misplaced f place (Err fault) h e = subst IsLimit (err_same fault (Syntax place) e) h
 
+-- a text that the grammar derives has no fault of syntax
 pub whole_no_syntax : (scope : Scope) (left : ℕ) (ts : List Token) (f : Formula) (place : ℕ) → IsExpression (words ts) f → whole scope left ts ≡ Err (Syntax place) → ⊥
 unfolding whole
 whole_no_syntax scope left ts f place d e =
@@ -134,6 +137,7 @@ text_has_no_syntax_fault text meshes place f d e = no_syntax_by text meshes plac
 abbrev pub unplaced : List Word → List Token
 unplaced ws = map (λ w. record { word = w; place = 0 }) ws
 
+-- the words of tokens that were made from words
 pub unplaced_words : (ws : List Word) → words (unplaced ws) ≡ ws
 unplaced_words [] = refl
 unplaced_words (w ∷ ws) = ap (λ us. w ∷ us) (unplaced_words ws)

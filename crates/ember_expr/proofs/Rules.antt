@@ -27,13 +27,16 @@ next_term scope whole terms rest minus next after (suc count) enough same sign r
   same = same ∙ rw sign (rw read refl);
 }
 
+-- one term more of a sum
 pub one_term : (scope : Scope) (whole : Result (Read (List Term)) ExprFault) (terms : List Term) (rest : List Token) (minus : Bool) (next : Term) (after : List Token) → IsSumSoFar scope whole terms rest → sign_before rest ≡ Some minus → term scope minus (after_first rest) ≡ read next after → length after < length rest → IsSumSoFar scope whole (terms ++ next ∷ []) after
 one_term scope whole terms rest minus next after so_far = next_term scope whole terms rest minus next after so_far.count so_far.enough so_far.same
 
+-- if no sign follows, the sum ends
 pub last_term : (scope : Scope) (whole : Result (Read (List Term)) ExprFault) (terms : List Term) (rest : List Token) (count : ℕ) → whole ≡ more_terms scope count terms rest → sign_before rest ≡ None → whole ≡ read terms rest
 last_term scope whole terms rest zero same sign = same
 last_term scope whole terms rest (suc count) same sign = same ∙ rw sign refl
 
+-- if no sign follows, the sum so far is the sum
 pub no_term : (scope : Scope) (whole : Result (Read (List Term)) ExprFault) (terms : List Term) (rest : List Token) → IsSumSoFar scope whole terms rest → sign_before rest ≡ None → whole ≡ read terms rest
 no_term scope whole terms rest so_far = last_term scope whole terms rest so_far.count so_far.same
 
@@ -51,9 +54,10 @@ wrong_part : (kind : Joint) (part : Rule Formula) (whole : Result (Read Formula)
 wrong_part kind part whole tree rest fault zero enough same joint read = absurd (omega (arith, no_joint kind rest joint))
 wrong_part kind part whole tree rest fault (suc count) enough same joint read = same ∙ rw joint (rw read refl)
 
-pub bad_part : (kind : Joint) (part : Rule Formula) (whole : Result (Read Formula) ExprFault) (tree : Formula) (rest : List Token) (fault : ExprFault) → IsChainSoFar kind part whole tree rest → begins_with kind rest ≡ true → part (after_first rest) ≡ Err fault → whole ≡ Err fault
+bad_part : (kind : Joint) (part : Rule Formula) (whole : Result (Read Formula) ExprFault) (tree : Formula) (rest : List Token) (fault : ExprFault) → IsChainSoFar kind part whole tree rest → begins_with kind rest ≡ true → part (after_first rest) ≡ Err fault → whole ≡ Err fault
 bad_part kind part whole tree rest fault so_far = wrong_part kind part whole tree rest fault so_far.count so_far.enough so_far.same
 
+-- the fault of a part is that of the whole
 pub fault_of_part : (kind : Joint) (part : Rule Formula) (whole : Result (Read Formula) ExprFault) (tree : Formula) (rest : List Token) (fault : ExprFault) → IsChainSoFar kind part whole tree rest → begins_with kind rest ≡ true → (fault ≡ OutOfMemory) ⊎ (part (after_first rest) ≡ Err fault) → (fault ≡ OutOfMemory) ⊎ (whole ≡ Err fault)
 fault_of_part kind part whole tree rest fault so_far joint (inl memory) = inl memory
 fault_of_part kind part whole tree rest fault so_far joint (inr e) = inr (bad_part kind part whole tree rest fault so_far joint e)

@@ -1,4 +1,5 @@
--- Where a rule stops: what it reads and each fault of syntax depend on the tokens up to the next one, and words complete what stands before a fault.
+-- Where a rule stops: what it reads and each fault of syntax depend on the tokens up to the next one, and words
+-- complete the tokens before a fault.
 use Rattle.std.proofs.Common.{◌≡◌, ℕ, zero, suc, ◌≤◌, List, [], ◌∷◌, ◌++◌, length, length-append, refl, ap, sym, subst, ◌∙◌, arith, append_assoc, append-nil, Some, None, Ok, Err, Result, Option, ◌⊎◌, inl, inr}
 use Rattle.std.proofs.lemmas.List.{map-append}
 use Rattle.ember_expr.specs.declared.fault.ExprFault.{ExprFault}
@@ -17,7 +18,7 @@ SameFirst [] [] = Unit {0}
 SameFirst (t ∷ ts) (u ∷ us) = t ≡ u
 SameFirst _ _ = ⊥
 
-pub same_itself : (ts : List Token) → SameFirst ts ts
+same_itself : (ts : List Token) → SameFirst ts ts
 same_itself [] = tt
 same_itself (t ∷ ts) = refl
 
@@ -25,10 +26,12 @@ same_after : (front ts us : List Token) → SameFirst ts us → SameFirst (front
 same_after [] ts us same = same
 same_after (t ∷ front) ts us same = refl
 
+-- to show a fact of a text that begins with t, show it of t before any text
 pub by_same : (Q : List Token → Type 0) (t : Token) (ts us : List Token) → SameFirst (t ∷ ts) us → ((vs : List Token) → Q (t ∷ vs)) → Q us
 by_same Q t ts [] same h = absurd same
 by_same Q t ts (u ∷ us) same h = subst (λ v. Q (v ∷ us)) same (h us)
 
+-- a text that begins as the empty one is empty
 pub by_none : (Q : List Token → Type 0) (us : List Token) → SameFirst [] us → Q [] → Q us
 by_none Q [] same h = h
 by_none Q (u ∷ us) same h = absurd same
@@ -40,14 +43,14 @@ pub record Completes {A : Type 0} (P : List Word → A → Type 0) (ws : List Wo
   pub part : A
   pub holds : P (ws ++ more) part
 
--- a part is read, whatever comes after the next token
+-- a part is read, whatever follows the next token
 pub record Reads {A : Type 0} (P : List Word → A → Type 0) (gives : List Token → Result (Read A) ExprFault → Type 0) (ts : List Token) (part : A) (rest : List Token) : Type 0 where
   pub before : List Token
   pub split : ts ≡ before ++ rest
   pub holds : P (words before) part
   pub local : (us : List Token) → SameFirst rest us → gives (before ++ us) (read part us)
 
--- the next token has the fault, whatever comes after it
+-- the next token has the fault, whatever follows it
 pub record Faults {A : Type 0} (P : List Word → A → Type 0) (gives : List Token → Result (Read A) ExprFault → Type 0) (scope : Scope) (ts : List Token) (fault : ExprFault) : Type 0 where
   pub before : List Token
   pub rest : List Token
@@ -63,6 +66,7 @@ StopsAs P gives scope ts (Err fault) = IsLimit fault ⊎ Faults P gives scope ts
 abbrev pub Stops : {A : Type 0} → (List Word → A → Type 0) → Scope → Rule A → List Token → Type 0
 Stops P scope rule ts = StopsAs P (λ us r. rule us ≡ r) scope ts (rule ts)
 
+-- words that are complete without any more
 pub complete_now : {A : Type 0} (P : List Word → A → Type 0) (ws : List Word) (a : A) → P ws a → Completes P ws
 complete_now P ws a h = record { more = []; part = a; holds = subst (λ all. P all a) (sym (append-nil ws)) h }
 
@@ -90,7 +94,7 @@ then_stops P Q gives next whole scope ts middle part h joins (Err fault) (inr k)
   local = λ us same. subst (λ all. whole all (Err fault)) (sym (append_assoc h.before k.before us)) (joins h.before (k.before ++ us) (Err fault) (h.local (k.before ++ us) (same_rest k.before middle k.rest us k.split same)) (k.local us same));
 })
 
-pub bind_stops : {A B : Type 0} (P : List Word → A → Type 0) (Q : List Word → B → Type 0) (gives : List Token → Result (Read A) ExprFault → Type 0) (next : A → List Token → Result (Read B) ExprFault → Type 0) (whole : List Token → Result (Read B) ExprFault → Type 0) (scope : Scope) (ts : List Token) (r : Result (Read A) ExprFault) (go : Read A → Result (Read B) ExprFault) → ((part : A) (front us : List Token) (s : Result (Read B) ExprFault) → gives (front ++ us) (read part us) → next part us s → whole (front ++ us) s) → ((us : List Token) (fault : ExprFault) → gives us (Err fault) → whole us (Err fault)) → ((ws : List Word) (a : A) → P ws a → Completes Q ws) → StopsAs P gives scope ts r → ((part : A) (before rest : List Token) → ts ≡ before ++ rest → P (words before) part → StopsAs (λ ws b. Q (words before ++ ws) b) (next part) scope rest (go (record { part = part; rest = rest }))) → StopsAs Q whole scope ts (r >>= go)
+bind_stops : {A B : Type 0} (P : List Word → A → Type 0) (Q : List Word → B → Type 0) (gives : List Token → Result (Read A) ExprFault → Type 0) (next : A → List Token → Result (Read B) ExprFault → Type 0) (whole : List Token → Result (Read B) ExprFault → Type 0) (scope : Scope) (ts : List Token) (r : Result (Read A) ExprFault) (go : Read A → Result (Read B) ExprFault) → ((part : A) (front us : List Token) (s : Result (Read B) ExprFault) → gives (front ++ us) (read part us) → next part us s → whole (front ++ us) s) → ((us : List Token) (fault : ExprFault) → gives us (Err fault) → whole us (Err fault)) → ((ws : List Word) (a : A) → P ws a → Completes Q ws) → StopsAs P gives scope ts r → ((part : A) (before rest : List Token) → ts ≡ before ++ rest → P (words before) part → StopsAs (λ ws b. Q (words before ++ ws) b) (next part) scope rest (go (record { part = part; rest = rest }))) → StopsAs Q whole scope ts (r >>= go)
 bind_stops P Q gives next whole scope ts (Ok x) go joins fails ends h more =
     then_stops P Q gives (next x.part) whole scope ts x.rest x.part h (joins x.part) (go x) (more x.part h.before x.rest h.split h.holds)
 bind_stops P Q gives next whole scope ts (Err fault) go joins fails ends (inl limit) more = inl limit
@@ -120,13 +124,14 @@ like P scope rule other ts law (Err fault) (inr k) = inr (record { before = k.be
 pub like_stops : {A : Type 0} (P : List Word → A → Type 0) (scope : Scope) (rule other : Rule A) (ts : List Token) → ((us : List Token) → SameFirst ts us → rule us ≡ other us) → Stops P scope other ts → Stops P scope rule ts
 like_stops P scope rule other ts law h = subst (StopsAs P (λ us s. rule us ≡ s) scope ts) (sym (law ts (same_itself ts))) (like P scope rule other ts law (other ts) h)
 
+-- what stops a rule for a property stops it for a weaker one
 pub as_stops : {A : Type 0} (P Q : List Word → A → Type 0) (gives : List Token → Result (Read A) ExprFault → Type 0) (scope : Scope) (ts : List Token) → ((ws : List Word) (a : A) → P ws a → Q ws a) → (r : Result (Read A) ExprFault) → StopsAs P gives scope ts r → StopsAs Q gives scope ts r
 as_stops P Q gives scope ts imp (Ok x) h = record { before = h.before; split = h.split; holds = imp (words h.before) x.part h.holds; local = h.local }
 as_stops P Q gives scope ts imp (Err fault) (inl limit) = inl limit
 as_stops P Q gives scope ts imp (Err fault) (inr k) = inr (record { before = k.before; rest = k.rest; split = k.split; here = k.here; completes = record { more = k.completes.more; part = k.completes.part; holds = imp (words k.before ++ k.completes.more) k.completes.part k.completes.holds }; local = k.local })
 
 -- ---- the first token
-pub after_token : {A : Type 0} (P : List Word → A → Type 0) (gives : List Token → Result (Read A) ExprFault → Type 0) (scope : Scope) (t : Token) (ts : List Token) (r : Result (Read A) ExprFault) → StopsAs (λ ws a. P (t.word ∷ ws) a) (λ us s. gives (t ∷ us) s) scope ts r → StopsAs P gives scope (t ∷ ts) r
+after_token : {A : Type 0} (P : List Word → A → Type 0) (gives : List Token → Result (Read A) ExprFault → Type 0) (scope : Scope) (t : Token) (ts : List Token) (r : Result (Read A) ExprFault) → StopsAs (λ ws a. P (t.word ∷ ws) a) (λ us s. gives (t ∷ us) s) scope ts r → StopsAs P gives scope (t ∷ ts) r
 after_token P gives scope t ts (Ok x) h = record { before = t ∷ h.before; split = ap (λ us. t ∷ us) h.split; holds = h.holds; local = h.local }
 after_token P gives scope t ts (Err fault) (inl limit) = inl limit
 after_token P gives scope t ts (Err fault) (inr k) = inr (record { before = t ∷ k.before; rest = k.rest; split = ap (λ us. t ∷ us) k.split; here = k.here; completes = record { more = k.completes.more; part = k.completes.part; holds = k.completes.holds }; local = k.local })
@@ -144,20 +149,24 @@ same_misplaced : (scope : Scope) (ts us : List Token) → SameFirst ts us → mi
 same_misplaced scope [] us same = by_none (λ vs. misplaced scope vs ≡ misplaced scope []) us same refl
 same_misplaced scope (t ∷ ts) us same = by_same (λ vs. misplaced scope vs ≡ misplaced scope (t ∷ ts)) t ts us same (λ vs. refl)
 
+-- a rule that has read these words, and reads no more
 pub read_after : {A : Type 0} (P : List Word → A → Type 0) (scope : Scope) (ws : List Word) (a : A) (ts : List Token) → P ws a → Stops (λ us b. P (ws ++ us) b) scope (λ us. read a us) ts
 read_after P scope ws a ts h = read_stops (λ us b. P (ws ++ us) b) scope (λ us. read a us) a ts (subst (λ all. P all a) (sym (append-nil ws)) h) (λ us same. refl)
 
 -- a rule that can't begin with such a first token
-pub fault_stops : {A : Type 0} (P : List Word → A → Type 0) (scope : Scope) (rule : Rule A) (ts : List Token) → Completes P [] → ((us : List Token) → SameFirst ts us → rule us ≡ Err (misplaced scope us)) → Stops P scope rule ts
+fault_stops : {A : Type 0} (P : List Word → A → Type 0) (scope : Scope) (rule : Rule A) (ts : List Token) → Completes P [] → ((us : List Token) → SameFirst ts us → rule us ≡ Err (misplaced scope us)) → Stops P scope rule ts
 fault_stops P scope rule ts completes law =
     subst (StopsAs P (λ us s. rule us ≡ s) scope ts) (sym (law ts (same_itself ts))) (inr (record { before = []; rest = ts; split = refl; here = refl; completes = completes; local = λ us same. law us same ∙ ap (λ e. Err e) (same_misplaced scope ts us same) }))
 
+-- a rule that some words complete, and that no text is left for, faults at the end
 pub fault_at_end : {A : Type 0} (P : List Word → A → Type 0) (scope : Scope) (rule : Rule A) → Completes P [] → rule [] ≡ Err (Syntax scope.end) → Stops P scope rule []
 fault_at_end P scope rule completes law = fault_stops P scope rule [] completes (λ us same. by_none (λ vs. rule vs ≡ Err (misplaced scope vs)) us same law)
 
+-- a rule that some words complete, and that never goes on with this token, faults at it
 pub fault_at : {A : Type 0} (P : List Word → A → Type 0) (scope : Scope) (rule : Rule A) (t : Token) (ts : List Token) → Completes P [] → ((vs : List Token) → rule (t ∷ vs) ≡ Err (Syntax t.place)) → Stops P scope rule (t ∷ ts)
 fault_at P scope rule t ts completes law = fault_stops P scope rule (t ∷ ts) completes (λ us same. by_same (λ vs. rule vs ≡ Err (misplaced scope vs)) t ts us same law)
 
+-- rules that agree behind a token stop alike at it
 pub like_at : {A : Type 0} (P : List Word → A → Type 0) (scope : Scope) (rule other : Rule A) (t : Token) (ts : List Token) → ((vs : List Token) → rule (t ∷ vs) ≡ other (t ∷ vs)) → Stops P scope other (t ∷ ts) → Stops P scope rule (t ∷ ts)
 like_at P scope rule other t ts law h = like_stops P scope rule other (t ∷ ts) (λ us same. by_same (λ vs. rule vs ≡ other vs) t ts us same law) h
 
@@ -166,6 +175,7 @@ pub check_stops : {A : Type 0} (P : List Word → A → Type 0) (scope : Scope) 
 check_stops P scope n (Ok k) next ts passes h = subst (λ m. Stops P scope (next m) ts) (sym passes) h
 check_stops P scope n (Err fault) next ts passes h = inl passes
 
+-- a rule that goes on one level deeper stops where the inner one does
 pub inside_stops : {A B : Type 0} (P : List Word → B → Type 0) (scope : Scope) (inner : Option A) (place : ℕ) (go : A → Rule B) (ts : List Token) → ((x : A) → inner ≡ Some x → Stops P scope (go x) ts) → Stops P scope (λ us. inside inner place (λ x. go x us)) ts
 inside_stops P scope None place go ts h = inl tt
 inside_stops P scope (Some x) place go ts h = h x refl

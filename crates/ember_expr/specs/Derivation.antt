@@ -11,7 +11,7 @@ use Rattle.ember_expr.specs.Formula.{Formula, Or, Xor, And, Not, Mesh, Odd, Comp
 use Rattle.ember_expr.specs.Tokens.{tokens_of}
 use Rattle.ember_expr.specs.Grammar.{product}
 
--- term = number [ "*" wN ] | wN, subtracted if `minus` holds; mesh 0 stands for no mesh
+-- term = number [ "*" wN ] | wN, subtracted if `minus` holds; mesh 0 means no mesh
 pub data IsTerm (minus : Bool) : List Word → Term → Type 0 where
   number : {n : ℕ} → IsTerm minus (Number n ∷ []) (product minus n 0)
   times : {n m : ℕ} → IsTerm minus (Number n ∷ Star ∷ Wind m ∷ []) (product minus n m)
@@ -90,9 +90,11 @@ IsFitWord meshes (word.Mesh n) = IsFitMesh meshes n
 IsFitWord meshes (word.Wind n) = IsFitMesh meshes n
 IsFitWord meshes _ = Unit {0}
 
+-- the tokens without their places
 abbrev pub words : List Token → List Word
 words tokens = map (λ t. t.word) tokens
 
+-- the words of a text
 abbrev pub words_of : List ℕ → List Word
 words_of text = words (tokens_of text)
 

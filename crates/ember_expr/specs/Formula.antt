@@ -5,6 +5,7 @@ use Rattle.ember_expr.specs.declared.formula.Term.{Term}
 use Rattle.ember_expr.specs.declared.formula.Tree.{Tree}
 use Rattle.ember_expr.specs.declared.formula.Tree.TheVariants as tree
 
+-- an expression as definitions see it
 pub data Formula : Type 0 where
   Or : (a b : Formula) → Formula
   Xor : (a b : Formula) → Formula
@@ -14,6 +15,7 @@ pub data Formula : Type 0 where
   Odd : (sum : List Term) → Formula
   Compare : (left : List Term) (rel : Rel) (right : List Term) → Formula
 
+-- the formula of a tree
 abbrev pub formula_of : Tree → Formula
 formula_of (tree.Or' p a q b) = Or (formula_of a) (formula_of b)
 formula_of (tree.Xor' p a q b) = Xor (formula_of a) (formula_of b)
@@ -33,6 +35,7 @@ pub record IsFitSum (meshes : ℕ) (sum : List Term) : Type 0 where
   pub short : length sum ≤ 4096
   pub terms : All (IsFitTerm meshes) sum
 
+-- n is from 1 to the number of meshes
 pub record IsMeshNumber (meshes : ℕ) (n : ℕ) : Type 0 where
   pub first : 1 ≤ n
   pub last : n ≤ meshes

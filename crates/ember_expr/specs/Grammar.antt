@@ -19,6 +19,7 @@ pub record Read (A : Type 0) : Type 0 where
   pub part : A
   pub rest : List Token
 
+-- this part was read, and these tokens are left
 abbrev pub read : {A : Type 0} → A → List Token → Result (Read A) ExprFault
 read part rest = Ok (record { part = part; rest = rest })
 
@@ -37,9 +38,11 @@ misplaced scope [] = Syntax scope.end
 misplaced scope (t ∷ ts) = Syntax t.place
 
 -- ---- numbers
+-- a number of at most 1,000,000
 abbrev pub limited : ℕ → ℕ → Result ℕ ExprFault
 limited place n = if nat_le n 1000000 then Ok n else Err (fault.Number place)
 
+-- the number of a mesh that exists
 abbrev pub existing : Scope → ℕ → Result ℕ ExprFault
 existing scope n = if nat_le 1 n && nat_le n scope.meshes then Ok n else Err (NoMesh n)
 
@@ -55,6 +58,7 @@ wind_at scope t (word.Wind n) ts = do
   read mesh ts
 wind_at scope t _ ts = Err (Syntax t.place)
 
+-- the rule of wN
 abbrev pub wind : Scope → Rule ℕ
 wind scope [] = Err (Syntax scope.end)
 wind scope (t ∷ ts) = wind_at scope t t.word ts
@@ -126,6 +130,7 @@ sum scope tokens = do
   more_terms scope (length first.rest) (first.part ∷ []) first.rest
 
 -- ---- chains: or = xor { "|" xor }, xor = and { "^" and }, and = not { "&" not }
+-- the word is that of the operator
 abbrev pub joins : Joint → Word → Bool
 joins joint.Or word.Bar = true
 joins joint.Xor word.Hat = true
@@ -136,6 +141,7 @@ abbrev pub begins_with : Joint → List Token → Bool
 begins_with kind [] = false
 begins_with kind (t ∷ ts) = joins kind t.word
 
+-- the formula of two operands with an operator
 abbrev pub join : Joint → Formula → Formula → Formula
 join joint.Or a b = Or a b
 join joint.Xor a b = Xor a b
@@ -218,15 +224,17 @@ abbrev pub not_with : Scope → Option (Rule Formula) → Rule Formula
 not_with scope inner [] = Err (Syntax scope.end)
 not_with scope inner (t ∷ ts) = not_at scope inner t t.word ts
 
--- the rule of `not` inside one more parenthesis or `!`, if at most `left` may still come
+-- the rule of `not` inside one more parenthesis or `!`, if at most `left` may still follow
 abbrev pub deeper : Scope → ℕ → Option (Rule Formula)
 deeper scope zero = None
 deeper scope (suc left) = Some (not_with scope (deeper scope left))
 
+-- the rule of `not`, if at most `left` parentheses and signs `!` may be inside one another
 abbrev pub not : Scope → ℕ → Rule Formula
 not scope left = not_with scope (deeper scope left)
 
 -- ---- the whole text
+-- the tree, if no token is left
 abbrev pub ended : Formula → List Token → Result Formula ExprFault
 ended tree [] = Ok tree
 ended tree (t ∷ ts) = Err (Syntax t.place)

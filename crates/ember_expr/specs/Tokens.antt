@@ -18,7 +18,7 @@ abbrev pub value_from : ℕ → List ℕ → ℕ
 value_from start [] = start
 value_from start (d ∷ ds) = value_from (start * 10 + (d - 48)) ds
 
--- 1,000,001 stands for each number above 1,000,000
+-- 1,000,001 for each number above 1,000,000
 abbrev pub number_from : ℕ → List ℕ → ℕ
 number_from start bs = min 1000001 (value_from start (digit_run bs))
 

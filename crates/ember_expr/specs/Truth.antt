@@ -10,20 +10,22 @@ use Rattle.ember_expr.specs.Formula.{Formula, Or, Xor, And, Not, Mesh, Odd, Comp
 abbrev pub count_of : List ℤ → ℕ → ℤ
 count_of counts n = slice_index_or counts (n - 1) (pos 0)
 
--- each count is at most 2 ^ 24 in size
+-- each winding number is at most 2 ^ 24 in size
 abbrev pub AreCounts : List ℤ → Type 0
 AreCounts counts = All (Small 16777216) counts
 
--- the number that a factor stands before; mesh 0 stands for a plain number
+-- what a factor multiplies: the winding number of its mesh, or 1 for a plain number (mesh 0)
 abbrev pub counted : List ℤ → ℕ → ℤ
 counted counts n = if n == 0 then pos 1 else count_of counts n
 
+-- the factor times the winding number, or the factor alone for a plain number; it may be negative
 abbrev pub size_of : List ℤ → Term → ℤ
 size_of counts t = pos t.factor *ℤ counted counts t.mesh
 
 abbrev pub signed : Bool → ℤ → ℤ
 signed minus z = if minus then neg_ℤ z else z
 
+-- the value of a term
 abbrev pub value_of : List ℤ → Term → ℤ
 value_of counts t = signed t.minus (size_of counts t)
 
@@ -32,12 +34,14 @@ abbrev pub sum_from : ℤ → List ℤ → List Term → ℤ
 sum_from start counts [] = start
 sum_from start counts (t ∷ ts) = sum_from (start +ℤ value_of counts t) counts ts
 
+-- the value of a sum
 abbrev pub sum_of : List ℤ → List Term → ℤ
 sum_of counts sum = sum_from (pos 0) counts sum
 
 abbrev pub is_odd : ℤ → Bool
 is_odd z = unsigned_abs z % 2 == 1
 
+-- the relation holds between the two integers
 abbrev pub holds_between : Rel → ℤ → ℤ → Bool
 holds_between Less x y = int_lt x y
 holds_between LessEqual x y = int_le x y
@@ -46,10 +50,11 @@ holds_between NotEqual x y = not (int_le x y && int_le y x)
 holds_between GreaterEqual x y = int_le y x
 holds_between Greater x y = int_lt y x
 
+-- exclusive or
 abbrev pub differ : Bool → Bool → Bool
 differ a b = if a then not b else b
 
--- the value of an expression at these counts
+-- the value of an expression at these winding numbers
 abbrev pub truth : List ℤ → Formula → Bool
 truth counts (Or a b) = truth counts a || truth counts b
 truth counts (Xor a b) = differ (truth counts a) (truth counts b)

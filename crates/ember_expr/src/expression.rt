@@ -14,15 +14,17 @@ use ember_model::Vector;
 use std::alloc::Global;
 use std::marker::Model;
 
-// The most bytes of a text, and the most parentheses and signs `!` inside one another.
+// The most bytes of a text.
 const MOST_BYTES: usize = 4096;
 
+// The most parentheses and signs `!` inside one another.
 const MOST_DEPTH: u32 = 64;
 
 /// An expression, seen as its tree. The mesh numbers in it, but for the 0 of a plain number, are
 /// from 1 to 64, every other number is at most 1,000,000, and each sum has at most 4096 terms.
 #[derive(Drop)]
 pub struct Expr {
+    // The tree, of which contracts also take the formula.
     formula: Tree,
 }
 
@@ -41,7 +43,7 @@ impl Model for Expr {
     ghost coded = { Prim.hlevel (codes, tree.the_row.coded) };
 }
 
-/// The expression of a text for this number of meshes, or the first fault in it.
+/// The expression of a text for this number of meshes, at most 64, or the first fault in it.
 pub fn parse(alloc: Global, text: &[u8], meshes: u32) -> Result<Expr, ExprFault>
     requires { meshes ≤ 64 }
     ensures tree { IfOk result (λ e. expr_of text.now meshes ≡ Ok (formula_of e)) }

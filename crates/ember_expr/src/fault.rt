@@ -5,13 +5,14 @@ ghost use Rattle.ember_expr.specs.declared.fault.ExprFault.TheVariants.{OutOfMem
 use std::alloc::{AllocError, AllocFailed};
 use thiserror::Error;
 
-/// Why a text is no expression. Places are those of a token's first byte, counted from 0.
+/// Why a text is no expression. Places are those of a token's first byte, counted from 0. The
+/// program doesn't print these texts, but its own: see `src/lines.rt` of ember_run.
 #[derive(Clone, Copy, Debug, PartialEq, Eq, Error)]
 pub enum ExprFault {
-    /// The token at this place can't stand there; the text's length if it ends too early.
+    /// The token at this place is wrong there; the text's length if the text ends too early.
     #[error("syntax at {0}")]
     Syntax(u32),
-    /// The `(` or `!` at this place stands inside 64 others.
+    /// The `(` or `!` at this place is inside 64 others.
     #[error("deep at {0}")]
     Deep(u32),
     /// There is no mesh of this number.

@@ -15,7 +15,7 @@ pub enum Rel {
 }
 
 /// The product of `factor` and the winding number of the mesh, subtracted if `minus` holds.
-/// Mesh 0 stands for a plain number, the factor alone. Meshes are numbered from 1.
+/// Mesh 0 means a plain number, the factor alone. Meshes are numbered from 1.
 #[derive(Clone, Copy, Debug, PartialEq, Eq)]
 pub struct Term {
     pub minus: bool,
@@ -23,7 +23,7 @@ pub struct Term {
     pub mesh: u32,
 }
 
-/// A list of terms.
+/// A vector of terms, which contracts see as a list: a sum.
 #[derive(Drop)]
 pub struct Sum {
     terms: Vec<Term>,

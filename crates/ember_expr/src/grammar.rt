@@ -16,7 +16,7 @@ pub struct Scope {
     pub end: u32,
 }
 
-/// Chains of parts with one sign between them, from the loosest.
+/// The Boolean operators that join two or more operands; the first binds loosest.
 #[derive(Clone, Copy, Debug, PartialEq, Eq)]
 pub enum Joint {
     Or,
@@ -24,7 +24,7 @@ pub enum Joint {
     And,
 }
 
-// The fault of the first token, which can't stand here.
+// The fault that the first token is wrong here, or that the text ends too early.
 #[tactic(none)]
 fn misplaced(scope: Scope, tokens: &[Token]) -> ExprFault
     ensures { result ≡ misplaced scope tokens.now }
@@ -270,7 +270,9 @@ fn comparison(alloc: Global, scope: Scope, tokens: &[Token]) -> Result<(Tree, &[
     Ok((Tree::Compare(left, rel, right), rest))
 }
 
-// How many parentheses and signs `!` may come inside this one, if `left` with this one may.
+// The depth left inside this `(` or `!`, if `left` is the depth left for it: how many of them may
+// be inside one another. It is too deep if none is left. In the clauses `not` is the grammar's
+// rule.
 fn one_deeper(left: u32, place: u32) -> Result<u32, ExprFault>
     ensures inner { (scope : Scope) →
         MatchResult result (λ less. deeper scope left ≡ Some (not scope less)) (λ e. (deeper scope left ≡ None) ×
@@ -316,7 +318,7 @@ fn odd(
     }
 }
 
-// Whether the chain goes on.
+// Whether the next token is this operator.
 fn begins_with(kind: Joint, tokens: &[Token]) -> bool
     ensures { result ≡ begins_with kind tokens.now }
 {
@@ -331,7 +333,7 @@ fn begins_with(kind: Joint, tokens: &[Token]) -> bool
     }
 }
 
-// Two parts of a chain.
+// The tree of two operands with this operator.
 fn join(alloc: Global, kind: Joint, a: Tree, b: Tree) -> Result<Tree, ExprFault>
     ensures tree { IfOk result (λ t. formula_of t ≡ join kind (formula_of a) (formula_of b)) }
     ensures fault { IfErr result (λ e. e ≡ OutOfMemory) }
@@ -345,7 +347,7 @@ fn join(alloc: Global, kind: Joint, a: Tree, b: Tree) -> Result<Tree, ExprFault>
     }
 }
 
-/// The tree of a text of these tokens, if at most `left` parentheses and signs `!` may stand
+/// The tree of a text of these tokens, if at most `left` parentheses and signs `!` may be
 /// inside one another.
 #[tactic(auto, unfolding(crate::specs::Grammar::whole))]
 pub fn formula(alloc: Global, scope: Scope, left: u32, tokens: &[Token]) -> Result<Tree, ExprFault>
@@ -409,7 +411,7 @@ fn part(
     }
 }
 
-// not = "!" not | atom
+// not = "!" not | "(" or ")" | mN | "odd" "(" sum ")" | comparison
 #[cycle(grammar)]
 fn not(
     alloc: Global,

@@ -1,5 +1,5 @@
 // The laws of the grammar: what is parsed is what the grammar derives, it derives one tree, and a
-// fault of syntax stands where the grammar doesn't go on.
+// fault of syntax is at the place where the grammar doesn't go on.
 ghost use Rattle.std.specs.Prelude.{◌≡◌, ◌≢◌, ℕ, List, Ok, Err};
 ghost use Rattle.ember_expr.specs.declared.fault.ExprFault.TheVariants.{Syntax};
 ghost use Rattle.ember_expr.specs.declared.token.Word.{Word};
@@ -18,7 +18,7 @@ pub fn texts_have_the_tree_of_the_grammar()
     ensures one { (p : Phrase) (ws : List Word) (f g : Formula) → Derives p ws f → Derives p ws g → f ≡ g }
 {}
 
-/// A fault of syntax stands at the first token that no text of the grammar has after the tokens
+/// A fault of syntax is at the first token that no text of the grammar has after the tokens
 /// before it. A text that begins one of the grammar and is none has it at its end. A text has at
 /// most one such place.
 pub fn syntax_faults_stand_at_the_first_bad_token()

@@ -36,14 +36,14 @@ pub struct Token {
     pub place: u32,
 }
 
-/// The longest word at the front of a text, and how many bytes it has after the first.
+/// The longest word at the front of a text. It has `more` bytes after its first one.
 #[derive(Clone, Copy, Debug, PartialEq, Eq)]
 pub struct Lexeme {
     pub word: Word,
     pub more: usize,
 }
 
-// It stands for each number above the largest.
+// Each number above the largest that is allowed is read as this one.
 const LARGE: u32 = 1_000_001;
 
 /// The tokens of a text in order.
@@ -109,8 +109,8 @@ fn longest(first: u8, after: &[u8]) -> Lexeme
     }
 }
 
-// The number whose first digits have the value `start` and whose others come next, and how many
-// come.
+// The number whose first digits have the value `start` and whose others begin the text, and how
+// many these are.
 fn number(start: u32, text: &[u8]) -> (u32, usize)
     requires { start < 10 }
     ensures value { result.0 ≡ min 1000001 (value_from start (digit_run text.now)) }

@@ -27,7 +27,8 @@ fn product(factor: u32, count: i64) -> i64
     i64::from(factor) * count
 }
 
-// The value of a term without its sign.
+// The factor times the winding number, or the factor alone for a plain number: the value of the
+// term before its sign is applied. It may be negative.
 fn size(term: &Term, v: &Vector) -> i64
     requires fit { IsFitTerm 64 term.now }
     requires counts { AreCounts v.now.counts }
@@ -40,6 +41,7 @@ fn size(term: &Term, v: &Vector) -> i64
     product(term.factor, count(term.mesh, v))
 }
 
+// The number, negated if `minus` holds.
 fn signed(minus: bool, size: i64) -> i64
     requires { Small 16777216000000 size }
     ensures value { result ≡ signed minus size }
@@ -48,6 +50,7 @@ fn signed(minus: bool, size: i64) -> i64
     if minus { -size } else { size }
 }
 
+// The value of a term at these winding numbers.
 fn term_value(term: &Term, v: &Vector) -> i64
     requires fit { IsFitTerm 64 term.now }
     requires counts { AreCounts v.now.counts }
@@ -57,6 +60,7 @@ fn term_value(term: &Term, v: &Vector) -> i64
     signed(term.minus, size(term, v))
 }
 
+// The value of a sum at these winding numbers.
 fn sum_value(terms: &[Term], v: &Vector) -> i64
     requires fit { IsFitSum 64 terms.now }
     requires counts { AreCounts v.now.counts }
@@ -69,6 +73,7 @@ fn sum_value(terms: &[Term], v: &Vector) -> i64
     sum
 }
 
+// Whether the relation holds between the two numbers.
 fn holds_between(rel: Rel, x: i64, y: i64) -> bool
     ensures { result ≡ holds_between rel x y }
 {

@@ -1,4 +1,4 @@
-pub mod Gaps
+pub mod Distances
 pub mod Powers
 pub mod Signs
 pub mod Bits

@@ -10,7 +10,7 @@ use Rattle.ember_number.proofs.Rounding.{by_lt}
 use Rattle.ember_round.specs.Nearest.{IsNearest}
 use Rattle.ember_float.specs.Scaling.{IsScaled}
 use Rattle.ember_float.specs.Binary32.{IsNearestBinary32, distance}
-use Rattle.ember_float.proofs.Gaps.{gap, multiple_above, nearest_multiple, nearest_of_two}
+use Rattle.ember_float.proofs.Distances.{gap, multiple_above, nearest_multiple, nearest_of_two}
 use Rattle.ember_float.proofs.Powers.{higher_place, lower_place, product_positive, same_factor}
 use Rattle.ember_float.proofs.Signs.{distance_same, distance_other}
 use Rattle.ember_float.proofs.Bits.{Float, float_parts, joined_value, sign_bit}
@@ -22,7 +22,7 @@ significand_most x d m p near short =
     by_lt 16777216 m (λ l. absurd (omega (arith, p, near.from, short, multiple_above 16777216 m d l))) (λ l. l)
 
 -- and one of 2^23 or more to 2^23 at least
-pub significand_least : (x d m : ℕ) → 0 < d → IsNearest x d m → 8388608 * d ≤ x → 8388608 ≤ m
+significand_least : (x d m : ℕ) → 0 < d → IsNearest x d m → 8388608 * d ≤ x → 8388608 ≤ m
 significand_least x d m p near normal =
     by_lt m 8388608 (λ l. absurd (omega (arith, p, near.to, normal, multiple_above m 8388608 d l))) (λ l. l)
 
@@ -155,7 +155,7 @@ module _ (n d place m : ℕ) (p : 0 < d) (scaled : IsScaled n d place m) (below 
     even_bits false e h = omega arith
     even_bits true e h = omega arith
 
-    pub nearest_float : (bits ≡ 2 ^ 31 → ⊥) → IsNearestBinary32 (signed minus n) d bits
+    nearest_float : (bits ≡ 2 ^ 31 → ⊥) → IsNearestBinary32 (signed minus n) d bits
     nearest_float nonzero = record {
       value = number minus (m * 2 ^ place);
       finite = joined_value sign place m bits top most least is_finite is ∙ ap (λ (v : Fraction). Some v) same;

@@ -4,7 +4,7 @@ use Rattle.std.specs.Prelude.{not}
 use borrow.Author.Differences.{ints}
 use Rattle.std.specs.Int.RustNames.{unsigned_abs}
 use Rattle.ember_number.specs.Fractions.{signed}
-use Rattle.ember_float.proofs.Gaps.{gap}
+use Rattle.ember_float.proofs.Distances.{gap}
 
 -- a size with a sign, times a size
 signed_times : (minus : Bool) (m n : ℕ) → signed minus m *ℤ pos n ≡ signed minus (m * n)

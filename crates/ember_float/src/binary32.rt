@@ -8,7 +8,8 @@ use crate::scaling::scaled;
 use ember_wide::{Magnitude, Wide};
 use std::cmp::Ordering;
 
-// From here on a size is rounded to infinity: 2^128 less half of the last place of the greatest float.
+// From here on a size is rounded to infinity: 2^128 less half of the last place of the greatest
+// float.
 const INFINITE: u128 = u128::MAX - (1 << 103) + 1;
 
 // The bit of the sign.
@@ -30,9 +31,9 @@ fn joined(n: &Wide, d: u128, place: u32, significand: u32) -> u32
     }
 }
 
-/// The bits of the binary32 (an IEEE 754 float of 32 bits) that is nearest to `n / d`; of two, the one with the even
-/// significand. It is never -0. None if the size of the fraction is 2^128 - 2^103 or more, which rounds to infinity.
-/// The denominator is from 1 to 2^127 - 1.
+/// The bits of the binary32 (an IEEE 754 float of 32 bits) that is nearest to `n / d`; of two, the
+/// one with the even significand. It is never -0. None if the size of the fraction is 2^128 - 2^103
+/// or more, which rounds to infinity. The denominator is from 1 to 2^127 - 1.
 pub fn nearest_binary32(n: &Wide, d: u128) -> Option<u32>
     requires positive { 0 < d }
     requires small { d < 2 ^ 127 }

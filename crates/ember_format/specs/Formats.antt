@@ -12,7 +12,7 @@ abbrev pub ends_line : List ℕ → Bool
 ends_line [] = true
 ends_line (b ∷ bs) = b == 10 || b == 13
 
--- `ply` and a line end stand at the beginning
+-- the text begins with `ply` and a line end
 abbrev pub is_ply : List ℕ → Bool
 is_ply bytes = starts_with nat_eq bytes (codes "ply") && ends_line (drop 3 bytes)
 

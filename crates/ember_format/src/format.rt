@@ -18,14 +18,15 @@ pub enum Format {
     Obj,
 }
 
-/// The format of a file with this name and these bytes. It is the first of these that fits:
+/// The format of a file with this name and these bytes, at most 2^28 of them. It is the first of
+/// these that fits:
 ///
-/// - PLY, if the file begins with `ply`, in small letters, and a line feed, a carriage return or nothing
-///   follows.
-/// - binary STL, if it has exactly 84 + 50 n bytes, where n is the number in the four bytes from byte 80
-///   on, the lowest byte first.
-/// - ASCII STL, if its first word is `solid`, and `facet` or `endsolid` stands in its first 4,096 bytes,
-///   in any case.
+/// - PLY, if the file begins with `ply`, in small letters, and a line feed, a carriage return or
+///   nothing follows.
+/// - binary STL, if it has exactly 84 + 50 n bytes, where n is the number in the four bytes from
+///   byte 80 on, the lowest byte first.
+/// - ASCII STL, if its first word is `solid`, and `facet` or `endsolid` occurs in its first 4,096
+///   bytes, in any case.
 /// - OFF, if its first word is `OFF`, `COFF` or `NOFF`, in any case.
 /// - an STL that is cut off, if its name ends in `.stl`, in any case.
 /// - OBJ.

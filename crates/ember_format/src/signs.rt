@@ -14,12 +14,14 @@ fn is_line_end(bytes: &[u8]) -> bool
     }
 }
 
+// Whether the file begins with `ply` and a line end.
 pub(crate) fn is_ply_file(bytes: &[u8]) -> bool
     ensures { result ≡ is_ply bytes.now }
 {
     bytes.starts_with(b"ply") && is_line_end(bytes.split_at(3).1)
 }
 
+// Whether the first word of the file is `OFF`, `COFF` or `NOFF`, in any case.
 pub(crate) fn is_off_file(bytes: &[u8]) -> bool
     requires { length bytes.now ≤ 268435456 }
     ensures { result ≡ is_off bytes.now }

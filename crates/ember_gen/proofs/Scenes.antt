@@ -52,6 +52,7 @@ few n l =
     let e = length-range_with_len 0 n in
     omega (arith, l, a, b, c, d, e)
 
+-- the scene of `demo` is a scene of two meshes
 pub is_scene : (n : ℕ) → n ≤ 20000 → IsScene (scene_of n) 2
 unfolding scene_of
 is_scene n l = record {
@@ -84,6 +85,7 @@ pub laid_more : (m : ℕ) (p : ℕ → Bool) (n : ℕ) (b : Block) {us vs : List
 laid_more m p n b q e r =
     r ∙ (λ k. q k ++ cond (p n) (triangles_of m (e k)) []) ∙ sym (mesh_more m p n)
 
+-- the even and the odd boxes together are the scene
 pub scene_at : {ts us vs : List Tri} (n : ℕ) → us ≡ mesh_of 1 (evens n) → vs ≡ mesh_of 2 (odds n) → ts ≡ us ++ vs → ts ≡ scene_of n
 unfolding scene_of
 scene_at n p q r = r ∙ (λ k. p k ++ q k)

@@ -17,6 +17,7 @@ pub record SixStates (i s1 s2 s3 s4 s5 s6 : ℕ) : Type 0 where
   pub fifth : s5 ≡ state (6 * i + 5)
   pub sixth : s6 ≡ state (6 * i + 6)
 
+-- the six states of a box follow one another
 pub six_states : (i : ℕ) {s0 s1 s2 s3 s4 s5 s6 : ℕ} → s0 ≡ state (6 * i) → s1 ≡ next s0 → s2 ≡ next s1 → s3 ≡ next s2 → s4 ≡ next s3 → s5 ≡ next s4 → s6 ≡ next s5 → SixStates i s1 s2 s3 s4 s5 s6
 six_states i e p1 p2 p3 p4 p5 p6 =
     let q1 = state_after (6 * i) (6 * i + 1) (omega arith) e p1 in
@@ -27,6 +28,7 @@ six_states i e p1 p2 p3 p4 p5 p6 =
     let q6 = state_after (6 * i + 5) (6 * i + 6) (omega arith) q5 p6 in
     record { first = q1; second = q2; third = q3; fourth = q4; fifth = q5; sixth = q6 }
 
+-- after six numbers more the generator has the state of the next box
 pub next_six : (i : ℕ) {s1 s2 s3 s4 s5 s6 : ℕ} → SixStates i s1 s2 s3 s4 s5 s6 → s6 ≡ state (6 * (i + 1))
 next_six i d = let e : 6 * i + 6 ≡ 6 * (i + 1) = omega arith in d.sixth ∙ ap state e
 
@@ -36,6 +38,7 @@ place_at s = place (drawn s)
 abbrev side_at : ℕ → ℤ
 side_at s = pos (side (drawn s))
 
+-- the box that six numbers draw
 pub block_from : (i : ℕ) {s1 s2 s3 s4 s5 s6 : ℕ} {x y z u v w : ℤ} → SixStates i s1 s2 s3 s4 s5 s6 → x ≡ place (drawn s1) → y ≡ place (drawn s2) → z ≡ place (drawn s3) → u ≡ pos (side (drawn s4)) → v ≡ pos (side (drawn s5)) → w ≡ pos (side (drawn s6)) → record { low = record { x = x; y = y; z = z }; high = record { x = x +ℤ u; y = y +ℤ v; z = z +ℤ w } } ≡ block_of i
 unfolding block_of
 block_from i d px py pz pu pv pw =

@@ -18,6 +18,7 @@ high_of i =
       z = (low_of i).z +ℤ pos (side (draw (6 * i + 6)));
     }
 
+-- box i, as the generator draws it
 unfoldable pub block_of : ℕ → Block
 block_of i = record { low = low_of i; high = high_of i }
 
@@ -34,6 +35,7 @@ faces_of m c1 c2 c3 c4 c5 c6 c7 c8 =
 abbrev pub corner : ℤ → ℤ → ℤ → Corner
 corner x y z = record { x = x; y = y; z = z }
 
+-- the twelve triangles of a box, as those of mesh m
 unfoldable pub triangles_of : ℕ → Block → List Tri
 triangles_of m b =
     let p = b.low in

@@ -1,9 +1,11 @@
 -- The numbers of a linear congruential generator
 use Rattle.std.specs.Prelude.{ℕ, zero, suc, ◌+◌, ◌*◌, ◌/◌, ◌%◌, ◌^◌, ℤ, pos, ◌-ℤ◌}
 
+-- the next state of the linear congruential generator
 abbrev pub next : ℕ → ℕ
 next s = (1103515245 * s + 12345) % 2 ^ 31
 
+-- the state after j numbers
 unfoldable pub state : ℕ → ℕ
 state zero = 1
 state (suc j) = next (state j)

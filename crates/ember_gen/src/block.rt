@@ -63,7 +63,7 @@ fn push_quad(
     Ok(())
 }
 
-/// Appends the twelve triangles of a box: those below, above, and round it.
+/// Appends the twelve triangles of a box: those below, above, and around it.
 pub fn push_block(block: &Block, mesh: u32, tris: &mut Vec<Tri>) -> Result<(), OutOfMemory>
     ensures { OnOk result (tris.new.items ≡ tris.old.items ++ triangles_of mesh block.now) }
 {

@@ -3,7 +3,7 @@ ghost use Rattle.std.specs.Prelude.{◌≡◌, ◌<◌, ◌^◌, pos};
 ghost use Rattle.ember_algebra.specs.Size.{Small};
 ghost use Rattle.ember_gen.specs.Numbers.{next, drawn, place, side, state};
 
-// The last number.
+// A linear congruential generator, by its last number.
 #[derive(Drop)]
 pub struct Numbers {
     last: u64,
@@ -11,6 +11,7 @@ pub struct Numbers {
 }
 
 impl Numbers {
+    // The generator at its start.
     #[tactic(auto, unfolding(crate::specs::Numbers::state))]
     pub fn new() -> Numbers
         ensures { result.last ≡ state 0 }

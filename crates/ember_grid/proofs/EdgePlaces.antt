@@ -7,6 +7,7 @@ use Rattle.ember_model.specs.declared.tri.Tri.{Tri}
 use Rattle.ember_model.specs.Meshes.{Edge}
 use Rattle.ember_grid.specs.Places.{has_edge}
 
+-- no triangle of the list has the edge
 abbrev pub NoneHas : Edge → List Tri → Type 0
 NoneHas e ts = All (λ t. has_edge e t ≡ false) ts
 

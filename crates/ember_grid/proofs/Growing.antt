@@ -28,16 +28,6 @@ flat_more ts t =
     by true = refl
     by false = refl
 
--- nothing was looked at
-pub snapped_none : (at : ℕ → Corner) (mesh : ℕ) (s : Snapping) → s.tris.items ≡ [] → s.places.items ≡ [] → s.vanished ≡ 0 → s.flat ≡ 0 → AreSnapped at mesh [] s
-snapped_none at mesh s a b c d = record {
-  valid = subst (All IsValidTri) (sym a) (All-nil IsValidTri);
-  tris = a;
-  places = b;
-  vanished = c;
-  flat = d;
-}
-
 -- a triangle that vanishes
 pub snapped_vanishing : (at : ℕ → Corner) (mesh : ℕ) (fs : List Facet) (f : Facet) (old new : Snapping) → vanishes at f ≡ true → new.tris.items ≡ old.tris.items → new.places.items ≡ old.places.items → new.vanished ≡ old.vanished + 1 → new.flat ≡ old.flat → AreSnapped at mesh fs old → AreSnapped at mesh (fs ++ f ∷ []) new
 snapped_vanishing at mesh fs f old new v a b c d h =
@@ -74,15 +64,6 @@ snapped_few at mesh fs s h =
     omega (arith, h.vanished, h.flat, a, b, m)
 
 -- ---- all triangles
--- each has a place
-pub snapped_paired : (at : ℕ → Corner) (mesh : ℕ) (fs : List Facet) (s : Snapping) → AreSnapped at mesh fs s → length s.tris.items ≡ length s.places.items
-snapped_paired at mesh fs s h =
-    ap length h.tris ∙ length-map (kept at fs) (image at mesh) ∙ sym (ap length h.places ∙ length-map (kept at fs) (λ f. f.place))
-
--- their number has nothing to do with the mesh
-pub images_as_many : (at : ℕ → Corner) (mesh : ℕ) (fs : List Facet) → length (images at mesh fs) ≡ length (images at 0 fs)
-images_as_many at mesh fs =
-    length-map (kept at fs) (image at mesh) ∙ sym (length-map (kept at fs) (image at 0))
 
 -- all have its number
 pub images_of_mesh : (at : ℕ → Corner) (mesh : ℕ) (fs : List Facet) → All (λ t. t.mesh ≡ mesh) (images at mesh fs)

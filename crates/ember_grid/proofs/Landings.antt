@@ -149,7 +149,7 @@ surface_lands g s h k d l =
     facet_lands g s.vertices.items (get_or s.facets.items k d) (all_out (IsOnGrid g) (corners_of s.vertices.items) s.facets.items h k d l)
 
 -- all corners of all surfaces land on the grid
-pub surfaces_land : (ss : List Surface) (g : Grid) (c : Coordinates) → All IsWithinLimit ss → HasCoordinates ss c → LandsOnGrid g.step c g.offset → All (Lands g) ss
+surfaces_land : (ss : List Surface) (g : Grid) (c : Coordinates) → All IsWithinLimit ss → HasCoordinates ss c → LandsOnGrid g.step c g.offset → All (Lands g) ss
 surfaces_land ss g c h k lands i d l =
     surface_lands g (get_or ss i d) (all_out (IsOnGrid g) (λ s. flat_map (corners_of s.vertices.items) s.facets.items) ss (corners_land ss g c h k lands) i d l)
 

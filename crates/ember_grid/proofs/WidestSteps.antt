@@ -70,6 +70,7 @@ fits_if_short s short xs h = (
   λ k d l. let x = get_or xs k d in short (value_of x) (denominator_pos x) (ltb-true _ _ (h.below k d l)),
 )
 
+-- at the greatest nice step all coordinates fit
 pub nice_step_fits : (c : Coordinates) → AreCoordinates c → FitsAll (nice_of 71) c
 nice_step_fits c h = record {
   x = fits_if_short (nice_of 71) nice_short c.x.now h.x;
@@ -77,6 +78,7 @@ nice_step_fits c h = record {
   z = fits_if_short (nice_of 71) nice_short c.z.now h.z;
 }
 
+-- at the greatest fine step all coordinates fit
 pub fine_step_fits : (c : Coordinates) → AreCoordinates c → FitsAll (fine_of 189998) c
 fine_step_fits c h = record {
   x = fits_if_short (fine_of 189998) fine_short c.x.now h.x;

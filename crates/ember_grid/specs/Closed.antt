@@ -13,6 +13,7 @@ pub record Arc : Type 0 where
   pub from : ℕ
   pub to : ℕ
 
+-- the reverse
 abbrev pub turned : Arc → Arc
 turned a = record { from = a.to; to = a.from }
 
@@ -41,6 +42,7 @@ AreClosed position fs = (a : Arc) → (a.from ≡ a.to → ⊥) →
 abbrev pub is_same_number : Fraction → Fraction → Bool
 is_same_number v w = is_zero (v.numerator *ℤ pos w.denominator -ℤ w.numerator *ℤ pos v.denominator)
 
+-- the two vertices have the same coordinates
 abbrev pub is_same_position : Vertex → Vertex → Bool
 is_same_position v w =
     is_same_number (value_of v.x) (value_of w.x) &&

@@ -14,6 +14,7 @@ use Rattle.ember_grid.specs.declared.grid.Grid.{Grid}
 abbrev pub corners_of : List Vertex → Facet → List Vertex
 corners_of vertices f = flat_map (λ corner. option_to_list (slice_get vertices corner)) f.corners
 
+-- the corners of all triangles of the surfaces
 abbrev pub corners_in : List Surface → List Vertex
 corners_in surfaces = flat_map (λ s. flat_map (corners_of s.vertices.items) s.facets.items) surfaces
 
@@ -54,5 +55,6 @@ LandsAt g vertices index = IfSome (slice_get vertices index) (IsOnGrid g)
 abbrev pub FacetLands : Grid → List Vertex → Facet → Type 0
 FacetLands g vertices f = All (LandsAt g vertices) f.corners
 
+-- all corners of the surface's triangles land on the grid
 abbrev pub Lands : Grid → Surface → Type 0
 Lands g s = All (FacetLands g s.vertices.items) s.facets.items

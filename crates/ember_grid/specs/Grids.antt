@@ -50,6 +50,7 @@ IsStepFault c wanted NoTriangles = ⊥
 IsStepFault c wanted (StepTooSmall finest) = IsTooSmall c wanted finest
 IsStepFault c wanted OutOfMemory = ⊥
 
+-- there are no triangles, or the given step is too small and the fault has the finest that fits; or out-of-memory
 abbrev pub IsGridFault : List Surface → Wanted → GridFault → Type 0
 IsGridFault surfaces wanted NoTriangles = corners_in surfaces ≡ []
 IsGridFault surfaces wanted (StepTooSmall finest) =

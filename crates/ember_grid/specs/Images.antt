@@ -25,9 +25,11 @@ has_equal_corners t = same_corner t.a t.b || (same_corner t.b t.c || same_corner
 abbrev pub vanishes : (ℕ → Corner) → Facet → Bool
 vanishes at f = has_equal_corners (image at 0 f)
 
+-- the triangles that vanish
 abbrev pub vanished : (ℕ → Corner) → List Facet → List Facet
 vanished at fs = filter (vanishes at) fs
 
+-- the triangles that don't vanish
 abbrev pub kept : (ℕ → Corner) → List Facet → List Facet
 kept at fs = filter (λ f. not (vanishes at f)) fs
 

@@ -76,10 +76,12 @@ fn grid_for(coordinates: &Coordinates, wanted: Wanted) -> Result<Grid, GridFault
     }
 }
 
-/// The grid of a scene: the step that is wanted, and the offset with which all corners of triangles are
-/// on it. Vertices of no triangle don't count.
+/// The grid of a scene: the step that is wanted, and the offset with which all corners of triangles
+/// are on it. Vertices of no triangle don't count.
 ///
-/// Each coordinate of a corner is below 10^15 in size, and a given step is in range.
+/// Each coordinate of a corner is below 10^15 in size, and a given step is in range. It is a fault
+/// if there are no triangles, or if they don't fit on a grid with the given step: then the fault
+/// has the finest step at which they do.
 pub fn grid_of(alloc: Global, surfaces: &[Surface], wanted: Wanted) -> Result<Grid, GridFault>
     requires within { All IsWithinLimit surfaces.now }
     requires choice { IsChoice wanted }

@@ -63,12 +63,14 @@ fn difference(first: i32, second: i32) -> i32
     first - second
 }
 
+// Whether all three numbers are 0.
 fn are_zero(x: i32, y: i32, z: i32) -> bool
     ensures { result ≡ is_zero x && (is_zero y && is_zero z) }
 {
     x == 0 && (y == 0 && z == 0)
 }
 
+// Whether the two corners are equal.
 pub(crate) fn is_same_corner(u: &Corner, v: &Corner) -> bool
     requires first { IsValidCorner u.now }
     requires second { IsValidCorner v.now }
@@ -81,7 +83,7 @@ pub(crate) fn is_same_corner(u: &Corner, v: &Corner) -> bool
     )
 }
 
-// Two corners of the triangle are equal.
+// Whether two corners of the triangle are equal.
 pub(crate) fn has_equal_corners(tri: &Tri) -> bool
     requires { IsValidTri tri.now }
     ensures { result ≡ has_equal_corners tri.now }

@@ -6,19 +6,20 @@ use ember_snap::Step;
 use std::alloc::AllocError;
 use thiserror::Error;
 
-/// There is no grid as it is wanted, or no memory.
+/// There is no grid as it is wanted, or out-of-memory.
 #[derive(Clone, Copy, Debug, PartialEq, Eq, Error)]
 pub enum GridFault {
     #[error("no triangles")]
     NoTriangles,
-    /// The surfaces don't fit on a grid with the given step. This one is the finest at which they do.
+    /// The surfaces don't fit on a grid with the given step. This one is the finest at which they
+    /// do.
     #[error("the step is too small")]
     StepTooSmall(Step),
     #[error("out of memory")]
     OutOfMemory,
 }
 
-/// A surface has too many triangles, or there is no memory.
+/// A surface has too many triangles, or out-of-memory.
 #[derive(Clone, Copy, Debug, PartialEq, Eq, Error)]
 pub enum SnapFault {
     /// This many triangles are left on the grid: more than 262,144.

@@ -6,8 +6,8 @@ ghost use Rattle.ember_model.specs.Meshes.{IsBalanced};
 ghost use Rattle.ember_grid.specs.Images.{images};
 ghost use Rattle.ember_grid.specs.Closed.{AreClosed};
 
-/// Closed triangles stay closed under each map of positions, without those that have two equal corners
-/// there.
+/// Closed triangles stay closed under each map of positions, without those that have two equal
+/// corners there.
 pub fn maps_keep_meshes_closed()
     ensures { (position : ℕ → ℕ) (to : ℕ → Corner) (mesh : ℕ) (fs : List Facet) →
         AreClosed position fs → IsBalanced (images (λ corner. to (position corner)) mesh fs) }

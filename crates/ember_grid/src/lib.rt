@@ -1,5 +1,5 @@
-//! Puts the surfaces of a scene on one grid: its step and its offset, and the triangles of each surface
-//! with their corners on it.
+//! Puts the surfaces of a scene on one grid: its step and its offset, and the triangles of each
+//! surface with their corners on it.
 #![tactic(auto)]
 
 mod choice;

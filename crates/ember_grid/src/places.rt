@@ -7,6 +7,7 @@ ghost use Rattle.ember_grid.specs.Places.{has_edge, IsPlaceOf};
 use crate::corners::is_same_corner;
 use ember_model::{Corner, Tri};
 
+// Whether the edge from `start` to `end` is the one from `from` to `to`.
 fn is_edge(start: &Corner, end: &Corner, from: &Corner, to: &Corner) -> bool
     requires start { IsValidCorner start.now }
     requires end { IsValidCorner end.now }
@@ -19,6 +20,7 @@ fn is_edge(start: &Corner, end: &Corner, from: &Corner, to: &Corner) -> bool
     is_same_corner(from, start) && is_same_corner(to, end)
 }
 
+// Whether the triangle has this directed edge.
 fn has_edge(tri: &Tri, from: &Corner, to: &Corner) -> bool
     requires tri { IsValidTri tri.now }
     requires from { IsValidCorner from.now }
@@ -29,7 +31,8 @@ fn has_edge(tri: &Tri, from: &Corner, to: &Corner) -> bool
         || (is_edge(&tri.b, &tri.c, from, to) || is_edge(&tri.c, &tri.a, from, to))
 }
 
-/// The place of the first triangle with this directed edge.
+/// The place of the first triangle with this directed edge, if there is one. `places` has the place
+/// of each triangle.
 pub fn place_of_edge(tris: &[Tri], places: &[u32], from: &Corner, to: &Corner) -> Option<u32>
     requires paired { length tris.now ≡ length places.now }
     requires valid { All IsValidTri tris.now }

@@ -41,13 +41,14 @@ struct Snapping {
     flat: u64,
 }
 
+// Whether the plane's normal is zero.
 fn has_no_normal(plane: &Plane) -> bool
     ensures { result ≡ is_zero plane.now.a && (is_zero plane.now.b && is_zero plane.now.c) }
 {
     plane.a == 0 && (plane.b == 0 && plane.c == 0)
 }
 
-// The triangle has no area.
+// Whether the triangle has no area.
 fn is_flat(tri: &Tri) -> bool
     requires { IsValidTri tri.now }
     ensures { result ≡ is_flat tri.now }
@@ -124,12 +125,13 @@ fn finished(snapping: Snapping) -> Snapped
     }
 }
 
-/// The surface on the grid, as the mesh with this number. Each corner goes to the number nearest to it along
-/// each axis; of two equally near, to the upper one. Triangles of which two corners are then equal are
-/// left out, and the others keep their order. A surface that is closed by the positions of its corners
-/// stays closed.
+/// The surface on the grid, as the mesh with this number. Each corner goes to the number nearest to
+/// it along each axis; of two equally near, to the upper one. Triangles with two corners that are
+/// then equal are left out, and the others keep their order. A surface that is closed by the
+/// positions of its corners stays closed.
 ///
-/// All corners of triangles are on the grid, as [`grid_of`](crate::grid_of) gives it.
+/// All corners of triangles are on the grid, as [`grid_of`](crate::grid_of) gives it. More than
+/// 262,144 triangles that are left are refused with their number.
 pub fn snap_surface(
     alloc: Global,
     surface: &Surface,

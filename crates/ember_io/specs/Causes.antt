@@ -1,11 +1,11 @@
--- Counts of faults and of calls: they never fall, and stand still at the end of their type.
+-- Counts of faults and of calls: they never fall, and stay at the greatest number of their type.
 use Rattle.std.specs.Prelude.{◌≡◌, ℕ, ◌+◌, ◌-◌, ◌^◌, ◌≤◌, min, Result, OnErr, MatchResult}
 
--- the next count, which stays at the end of `u64`
+-- the next count; the greatest number of `u64` stays
 abbrev pub counted : ℕ → ℕ
 counted count = min (count + 1) (2 ^ 64 - 1)
 
--- the count has risen, or stands at its end
+-- the count has risen, or is the greatest number of `u64`
 abbrev pub Rose : ℕ → ℕ → Type 0
 Rose before now = min (before + 1) (2 ^ 64 - 1) ≤ now
 

@@ -1,8 +1,8 @@
-// Files of a list by their places.
+// Files of a list by their indices.
 ghost use Rattle.std.specs.Prelude.{◌≡◌, ◌<◌, ◌≤◌, [], ◌++◌, ◌+◌, ◌-◌, min, length, drop, take, Some, None, MatchOption};
 ghost use Rattle.ember_io.specs.Files.{named, first_of, first_or_empty, bytes_at};
 
-// The place of the first file of that name.
+// The index of the first file of that name.
 pub fn file_index_of(files: &[(String, Vec<u8>)], name: &str) -> Option<usize>
     ensures { MatchOption result (first_of (named files.now) name.now ≡ None) (λ i.
         first_of (named files.now) name.now ≡ Some (bytes_at (named files.now) i)) }
@@ -15,7 +15,7 @@ pub fn file_index_of(files: &[(String, Vec<u8>)], name: &str) -> Option<usize>
     None
 }
 
-// The same, or the place past the last.
+// The index of the first file of that name, or the index past the last.
 #[tactic(auto, using(crate::proofs::FileIndices::named_past))]
 pub fn file_index_or_end(files: &[(String, Vec<u8>)], name: &str) -> usize
     ensures { Some (bytes_at (named files.now) result) ≡ first_or_empty (named files.now) name.now }
@@ -26,7 +26,7 @@ pub fn file_index_or_end(files: &[(String, Vec<u8>)], name: &str) -> usize
     }
 }
 
-// The place past the last, at which no bytes stand.
+// The index past the last, at which there are no bytes.
 #[tactic(auto, using(crate::proofs::FileIndices::named_past))]
 pub fn past_files(files: &[(String, Vec<u8>)]) -> usize
     ensures { bytes_at (named files.now) result ≡ [] }
@@ -34,7 +34,7 @@ pub fn past_files(files: &[(String, Vec<u8>)]) -> usize
     files.len()
 }
 
-// The bytes at a place, and none past the last.
+// The bytes of the file at an index, and none past the last.
 pub fn bytes_of(files: &[(String, Vec<u8>)], file_index: usize) -> &[u8]
     ensures { result.now ≡ bytes_at (named files.now) file_index }
 {

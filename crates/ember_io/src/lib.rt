@@ -1,5 +1,5 @@
-//! Files by name that are read, and places that take bytes, each handed in by the caller and each
-//! with a count of its faults.
+//! Sources of named files (`Shelf`) and outputs that take bytes (`Sink`). The caller hands them in,
+//! and each counts its faults.
 #![tactic(auto)]
 
 mod failing;
@@ -22,7 +22,7 @@ pub use sink::{Sink, WriteFault, write_all};
 use std::alloc::AllocError;
 use thiserror::Error;
 
-/// Want of memory.
+/// The error of a call that allocates.
 pub type OutOfMemory = AllocError;
 
 /// A call to the outside failed.

@@ -1,4 +1,4 @@
-// Files in memory, of which some calls fail.
+// Files in memory, with calls that fail on purpose.
 ghost use Rattle.std.specs.Prelude.{◌≡◌, ◌<◌, ◌↔◌, [], min, length, Some, IsErr, IfOk, OnOk, OnErr, Contains};
 ghost use Rattle.std.specs.Io.{ReadsAtMost};
 ghost use Rattle.std.specs.Io.KnownBytes.{ReadConsumes};
@@ -15,7 +15,7 @@ use std::alloc::Global;
 use std::marker::Model;
 
 /// Files in memory, read in pieces. Calls of `begin` and `read` are numbered together from 1, and
-/// those of chosen numbers fail.
+/// those of chosen numbers fail. Only tests use this.
 #[derive(Drop)]
 pub struct MemoryShelf {
     files: FileSet,
@@ -51,8 +51,8 @@ impl Model for MemoryShelf {
 }
 
 impl MemoryShelf {
-    /// A shelf of these files. A read gives at most `piece` bytes, and the calls whose numbers are
-    /// in `failing` fail.
+    /// A shelf of these files. A read returns at most `piece` bytes, and the calls whose numbers
+    /// are in `failing` fail.
     pub fn new(
         _alloc: Global,
         files: FileSet,

@@ -1,4 +1,4 @@
-// A place in memory that takes bytes, of which some calls fail.
+// An output in memory, with calls that fail on purpose.
 ghost use Rattle.std.specs.Prelude.{◌≡◌, ◌<◌, ◌≤◌, ◌↔◌, ◌-◌, [], min, length, Some, IsErr, IfOk, OnOk, OnErr, Contains};
 ghost use Rattle.std.specs.Io.{WritesAtMost};
 ghost use Rattle.std.specs.Io.KnownBytes.{WriteAppends};
@@ -13,7 +13,7 @@ use std::alloc::Global;
 use std::marker::Model;
 
 /// Room in memory that takes bytes in pieces. Calls of `write` and `flush` are numbered together
-/// from 1, and those of chosen numbers fail.
+/// from 1, and those of chosen numbers fail. Only tests use this.
 #[derive(Drop)]
 pub struct MemorySink {
     bytes: Vec<u8>,

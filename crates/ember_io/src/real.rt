@@ -1,4 +1,4 @@
-// The system's files and standard streams. They tell no bytes.
+// The system's files and standard streams. They reveal no bytes.
 ghost use Rattle.std.specs.Prelude.{◌≡◌, [], Some, None};
 ghost use Rattle.std.specs.Option.{option_map_or};
 
@@ -9,13 +9,14 @@ use std::io::{Error, ErrorKind, Read, Write};
 use std::rt::Files;
 use std::{fs, thread};
 
-// Whether a call that ended with this error is tried again: a signal broke it off, or the device isn't ready yet.
+// Whether a call that ended with this error is tried again: a signal interrupted it, or the device
+// isn't ready yet.
 fn is_passing(error: &Error) -> bool {
     matches!(error.kind(), ErrorKind::Interrupted | ErrorKind::WouldBlock)
 }
 
-/// The files of the system. Every error of the system is a fault, except that a call which a signal broke off, or
-/// for which the device isn't ready yet, is tried again.
+/// The files of the system. Every error of the system is a fault. But a call that a signal
+/// interrupted, or for which the device isn't ready yet, is tried again.
 #[derive(Drop)]
 pub struct FileShelf<'a, R: Files> {
     rt: &'a R,
@@ -46,7 +47,7 @@ impl<'a, R: Files> FileShelf<'a, R> {
 impl<'a, R: Files> Shelf for FileShelf<'a, R> {
     ghost contents = { λ _ _. None };
 
-    // None are unread if no file is open, and otherwise they aren't told.
+    // None are unread if no file is open, and otherwise they aren't revealed.
     ghost unread = { λ s. option_map_or (λ _. None) s.file (Some []) };
 
     ghost begun = { λ s. s.begun };
@@ -75,6 +76,7 @@ impl<'a, R: Files> Shelf for FileShelf<'a, R> {
         let Some(file) = &mut self.file else {
             return Ok(0);
         };
+        // a bounded loop, since it must be proved to end
         for _ in 0..u64::MAX {
             match file.read(buf) {
                 Ok(count) => return Ok(count),
@@ -89,8 +91,8 @@ impl<'a, R: Files> Shelf for FileShelf<'a, R> {
 }
 
 /// Standard output or standard error. Every error of the system is a fault, and so is a write that
-/// takes nothing of a piece. But a write that a signal broke off, or for which the device isn't ready
-/// yet, is tried again.
+/// takes nothing of a piece. But a write that a signal interrupted, or for which the device isn't
+/// ready yet, is tried again.
 #[derive(Drop)]
 pub struct StdSink<W: Write + Drop> {
     to: W,
@@ -114,6 +116,7 @@ impl<W: Write + Drop> Sink for StdSink<W> {
     ghost faults = { λ s. s.faults };
 
     fn write(&mut self, piece: &[u8]) -> Result<usize, Failed> {
+        // a bounded loop, since it must be proved to end
         for _ in 0..u64::MAX {
             match self.to.write(piece) {
                 Ok(count) if count > 0 || piece.is_empty() => return Ok(count),

@@ -12,7 +12,7 @@ use crate::{Failed, FileSet, OutOfMemory};
 use std::alloc::Global;
 use std::marker::Model;
 
-/// Files in memory that never fail. A name that isn't there is an empty file.
+/// Files in memory that never fail. A name that isn't there is an empty file. Only tests use this.
 #[derive(Drop)]
 pub struct SafeShelf {
     files: FileSet,
@@ -36,7 +36,7 @@ impl Model for SafeShelf {
 }
 
 impl SafeShelf {
-    /// A shelf of these files.
+    /// A shelf of these files. It allocates nothing.
     pub fn new(_alloc: Global, files: FileSet) -> Result<SafeShelf, OutOfMemory>
         ensures { IfOk result (λ s. s ≡ record { files = files; unread = []; begun = 0 }) }
     {

@@ -1,4 +1,4 @@
-// Files by name, of which one at a time is read.
+// Sources of named files, read one at a time.
 ghost use Rattle.std.specs.Prelude.{◌≡◌, ◌<◌, ◌≤◌, ◌+◌, ◌^◌, List, ℕ, [], length, Some, IfOk, OnOk, OnErr, IsErrOf};
 ghost use Rattle.std.specs.declared.option.Option.{Option};
 ghost use Rattle.std.specs.Io.{ReadsAtMost};
@@ -10,22 +10,22 @@ use crate::Failed;
 use std::alloc::Global;
 use thiserror::Error;
 
-/// Files by name, of which the one begun last is read. At the start no bytes are unread, and the
+/// A source of named files; the one begun last is read. At the start no bytes are unread, and the
 /// numbers of the last `begin` and of the last fault are 0.
 pub trait Shelf {
-    /// The bytes of each name, if they are told.
+    /// The bytes of each name, if they are revealed.
     ghost contents: { Self → List ℕ → Option (List ℕ) };
 
-    /// The bytes of the file begun last that are still unread, if they are told.
+    /// The bytes of the file begun last that are still unread, if they are revealed.
     ghost unread: { Self → Option (List ℕ) };
 
     /// The number that the last `begin` was given.
     ghost begun: { Self → ℕ };
 
-    /// The number of the file at which the last fault came.
+    /// The number of the file at which the last fault occurred.
     ghost fault_at: { Self → ℕ };
 
-    /// How often it has failed. It never falls, and stands still at the end of `u64`.
+    /// How often it has failed. This number never falls; at the greatest `u64` it stays.
     ghost faults: { Self → ℕ };
 
     /// Begins the file of that name, under the caller's number for it.
@@ -37,7 +37,7 @@ pub trait Shelf {
         ensures cause { HasCause (faults self.old) (faults self.new) result }
         ensures mark { MarksFault (fault_at self.old) (fault_at self.new) number result };
 
-    /// Puts the next bytes at the front of a buffer and answers how many: none only at the end of
+    /// Puts the next bytes at the front of a buffer and returns how many: none only at the end of
     /// the file, or for an empty buffer.
     fn read(&mut self, buf: &mut [u8]) -> Result<usize, Failed>
         ensures contents { contents self.new ≡ contents self.old }
@@ -65,7 +65,8 @@ pub enum ReadEnd {
 // How many bytes are asked for at once.
 const PIECE: usize = 65536;
 
-/// Begins the file of that name under that number, and reads it to its end: at most `most` bytes.
+/// Begins the file of that name under that number, and reads it to its end: at most `most` bytes. A
+/// call of the shelf that fails is `ReadFault`. A longer file is `TooLong`, with `most + 1`.
 pub fn read_all<S: Shelf>(
     alloc: Global,
     shelf: &mut S,

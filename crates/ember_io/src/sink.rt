@@ -1,4 +1,4 @@
-// A place that takes bytes.
+// Outputs that take bytes.
 ghost use Rattle.std.specs.Prelude.{◌≡◌, ◌<◌, ◌≤◌, List, ℕ, length, IfOk, OnOk, OnErr};
 ghost use Rattle.std.specs.declared.option.Option.{Option};
 ghost use Rattle.std.specs.Io.{WritesAtMost};
@@ -9,18 +9,19 @@ ghost use Rattle.ember_io.specs.Sinks.{IsFlushed, AppendsPrefix};
 use crate::Failed;
 use thiserror::Error;
 
-/// A place that takes bytes, some of which are flushed.
+/// An output that takes bytes and flushes them.
 pub trait Sink {
-    /// The bytes taken so far, if they are told.
+    /// The bytes taken so far, if they are revealed.
     ghost taken: { Self → Option (List ℕ) };
 
     /// How many of them are flushed.
     ghost flushed: { Self → ℕ };
 
-    /// How often it has failed. It never falls, and stands still at the end of `u64`.
+    /// How often it has failed. This number never falls; at the greatest `u64` it stays.
     ghost faults: { Self → ℕ };
 
-    /// Takes bytes from the front of a piece and answers how many: none only of an empty piece.
+    /// Takes bytes from the front of a piece and returns how many: none only of an empty piece.
+    /// This promises no flush: the number of flushed bytes doesn't grow.
     fn write(&mut self, piece: &[u8]) -> Result<usize, Failed>
         ensures bound { WritesAtMost result piece.now }
         ensures some { IfOk result (λ n. 0 < length piece.now → 0 < n) }
@@ -41,7 +42,8 @@ pub trait Sink {
 #[error("cannot be written")]
 pub struct WriteFault;
 
-/// Writes all the bytes, and flushes. At a fault the sink has taken a prefix of them.
+/// Writes all the bytes, and flushes. The error means that a call of the sink failed; then the sink
+/// has taken a prefix of the bytes.
 pub fn write_all<O: Sink>(sink: &mut O, bytes: &[u8]) -> Result<(), WriteFault>
     ensures taken { OnOk result (Appends (O.taken sink.old) (O.taken sink.new) bytes.now) }
     ensures flushed { OnOk result (IsFlushed (O.taken sink.new) (O.flushed sink.new)) }

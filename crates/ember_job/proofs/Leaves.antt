@@ -11,10 +11,12 @@ module _ (shape : Job → Shape) where
   leaf_visits zero job is = refl
   leaf_visits (suc depth) job is = ap (below_shape (visited_within shape depth) job) is
 
+  -- below a skipped job, it alone is visited
   pub passed_visits : (depth : ℕ) (job : Job) → shape job ≡ passed → visited_within shape depth job ≡ job ∷ []
   passed_visits zero job is = refl
   passed_visits (suc depth) job is = ap (below_shape (visited_within shape depth) job) is
 
+  -- below a halved job, it and what is below its halves are visited
   pub halved_visits : (depth : ℕ) (job low high : Job) → halvings_left job.cell ≡ depth → shape job ≡ halved low high → halvings_left low.cell + 1 ≡ halvings_left job.cell → halvings_left high.cell + 1 ≡ halvings_left job.cell → visited shape job ≡ job ∷ visited shape low ++ visited shape high
   halved_visits zero job low high at is first second = absurd (omega (arith, at, first))
   halved_visits (suc depth) job low high at is first second =
@@ -35,14 +37,17 @@ module _ (shape : Job → Shape) where
   abbrev pub under : ℕ → Job → List Job
   under depth job = leaves_among shape (visited_within shape depth job)
 
+  -- the jobs under a leaf: it alone
   pub under_leaf : (depth : ℕ) (job : Job) → shape job ≡ leafed → under depth job ≡ job ∷ []
   under_leaf depth job is =
       ap (leaves_among shape) (leaf_visits depth job is) ∙ ap (λ s. if_leafed job s ++ []) is
 
+  -- nothing is visited below a skipped job
   pub under_passed : (depth : ℕ) (job : Job) → shape job ≡ passed → under depth job ≡ []
   under_passed depth job is =
       ap (leaves_among shape) (passed_visits depth job is) ∙ ap (λ s. if_leafed job s ++ []) is
 
+  -- the jobs under a halved job: those under its halves
   pub under_halved : (depth : ℕ) (job low high : Job) → shape job ≡ halved low high → under (suc depth) job ≡ under depth low ++ under depth high
   under_halved depth job low high is =
       let below = visited_within shape depth in

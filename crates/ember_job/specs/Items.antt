@@ -1,8 +1,8 @@
--- What answers a list of jobs.
+-- Items that answer a list of jobs.
 use Rattle.std.specs.Prelude.{List, [], ◌∷◌}
 use Rattle.ember_job.specs.declared.job.Job.{Job}
 
--- these items answer these jobs, one after the other
+-- there are as many items as jobs, and each item answers the job with its index
 abbrev pub EachAnswers : {I : Type 0} → (Job → I → Type 0) → List Job → List I → Type 0
 EachAnswers item [] [] = Unit {0}
 EachAnswers item [] (x ∷ xs) = ⊥

@@ -1,7 +1,7 @@
--- Sums over lists, by which lists are compared however their elements are weighed.
+-- Sums of weights over lists. Lists with the same sum for every weight have the same members, each equally often.
 use Rattle.std.specs.Prelude.{ℕ, ◌+◌, List, [], ◌∷◌, if◌then◌else◌, ◌==◌}
 
--- the weights of all these, added up
+-- the sum of the weights of all members
 abbrev pub weigh : {X : Type 0} → (X → ℕ) → List X → ℕ
 weigh h [] = 0
 weigh h (x ∷ xs) = h x + weigh h xs

@@ -1,4 +1,4 @@
--- What answers a job, and what a stored step owes.
+-- What answers a job, and what a step promises.
 use Rattle.std.specs.Prelude.{◌≡◌, ◌<◌, Bool, true, false, Result, IfOk}
 use Rattle.std.specs.Borrow.{Bor}
 use Rattle.std.specs.declared.alloc.AllocError.{AllocError}
@@ -14,6 +14,7 @@ pub data Shape : Type 0 where
   leafed : Shape
   passed : Shape
 
+-- whether a shape is that of a halved job
 abbrev pub is_halved : Shape → Bool
 is_halved (halved low high) = true
 is_halved leafed = false
@@ -26,7 +27,7 @@ pub record IsSplit (whole low high : Cell) : Type 0 where
   pub is_low : low ≡ left_half whole axis
   pub is_high : high ≡ right_half whole axis
 
--- what a work's laws say of the two halves that answer a valid job
+-- the two halves that answer a valid job are valid jobs of the two halves of its box
 abbrev pub Splits : (Job → Shape) → (Job → Type 0) → Type 0
 Splits shape valid = (job low high : Job) → valid job → shape job ≡ halved low high →
     (valid low × valid high) × IsSplit job.cell low.cell high.cell
@@ -37,7 +38,7 @@ Answers shape item job (Halves low high) = shape job ≡ halved low high
 Answers shape item job (Leaf it) = (shape job ≡ leafed) × item job it
 Answers shape item job Skipped = shape job ≡ passed
 
--- the call may be made at each valid job, and each Ok of it answers that job
+-- what a step promises: the call may be made at each valid job, and each Ok of it answers that job
 pub record AnswersAll {W I F : Type 0} (valid : W → Job → Type 0) (shape : W → Job → Shape)
     (item : W → Job → I → Type 0) (pre : F → Bor Job → Type 0)
     (post : F → Bor Job → Result (Outcome I) AllocError → Type 0) (work : W) (call : F) : Type 0 where

@@ -1,24 +1,25 @@
-// A box with what its step needs, and what the step answers.
+// Jobs, and what becomes of them.
 use crate::Numbers;
 use ember_box::Cell;
 use ember_model::Vector;
 use std::alloc::AllocError;
 
-/// The error of a call for which memory is short.
+/// The out-of-memory error.
 pub type OutOfMemory = AllocError;
 
 /// A box, the triangles that its step looks at, and the winding numbers at its reference point.
 #[derive(Drop)]
 pub struct Job {
     pub cell: Cell,
-    /// The numbers of the triangles that the step looks at: in most commands those near the box.
+    /// The indices, in the scene, of the triangles that the step looks at: in every command those
+    /// near the box.
     pub list: Numbers,
     /// The winding numbers at the box's reference point.
     pub at: Vector,
 }
 
-/// What a step makes of a box: its two halves are visited next, it is a leaf that gives an item, or
-/// nothing below it is visited.
+/// What becomes of a box: its two halves are visited next, or it is a leaf that gives an item, or
+/// it gives nothing and nothing below it is visited.
 #[derive(Drop)]
 pub enum Outcome<I> {
     Halves(Job, Job),
@@ -26,7 +27,8 @@ pub enum Outcome<I> {
     Skipped,
 }
 
-/// What was made of a box, without what it gave.
+/// What became of a box, without its halves or its item. `Passed` is the kind of
+/// `Outcome::Skipped`.
 #[derive(Clone, Copy, Debug, PartialEq, Eq)]
 pub enum Kind {
     Halved,
@@ -34,7 +36,7 @@ pub enum Kind {
     Passed,
 }
 
-/// A visited box, by its path in the tree, and what was made of it.
+/// A visited box, by its path in the tree, and what became of it.
 #[derive(Clone, Copy, Debug, PartialEq, Eq)]
 pub struct Entry {
     pub path: u64,

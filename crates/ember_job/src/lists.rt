@@ -1,10 +1,10 @@
-// Lists that workers share.
+// Lists of indices, and of journals.
 ghost use Rattle.std.specs.Prelude.{◌≡◌, map};
 
 use crate::Entry;
 use std::marker::Model;
 
-/// A list of numbers.
+/// A list of numbers. In a job: the indices of triangles.
 #[derive(Drop)]
 pub struct Numbers {
     numbers: Vec<u32>,
@@ -41,7 +41,7 @@ impl Numbers {
     }
 }
 
-/// A list of journals, each a list of the boxes that one worker ended.
+/// A list of journals, each a list of the boxes that one worker, or the caller, ended.
 #[derive(Drop)]
 pub struct Journals {
     journals: Vec<Vec<Entry>>,

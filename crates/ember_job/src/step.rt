@@ -1,4 +1,4 @@
-// A step that is kept beside what it answers.
+// Works, and steps: closures kept with the work whose jobs they answer.
 ghost use Rattle.std.specs.Prelude.{◌≡◌, ℕ, IfOk};
 ghost use Rattle.ember_job.specs.declared.job.Job.{Job};
 ghost use Rattle.ember_job.specs.Works.{Shape, halved, IsSplit, Answers, AnswersAll};
@@ -33,7 +33,7 @@ pub trait OneItem: Work {
     ghost one_item: { (work : Self) (job : Job) (one other : Self.Item) → Self.item work job one → Self.item work job other → one ≡ other };
 }
 
-/// A step over a work: the closure stands beside the work whose jobs it answers.
+/// A step: a closure, kept with the work whose jobs it answers.
 #[derive(Drop)]
 pub struct Step<W: Work, F: Fn(&Job) -> Result<Outcome<W::Item>, OutOfMemory>> {
     pub work: W,
@@ -41,8 +41,8 @@ pub struct Step<W: Work, F: Fn(&Job) -> Result<Outcome<W::Item>, OutOfMemory>> {
 }
 
 impl<W: Work, F: Fn(&Job) -> Result<Outcome<W::Item>, OutOfMemory>> Step<W, F> {
-    /// The step that calls `call`, which may be called at every valid job and whose every Ok
-    /// answers that job.
+    /// The step that calls `call`. `call` may be called at every valid job, and each Ok of it
+    /// answers that job. Only tests call this; the program writes the fields.
     pub fn new(work: W, call: F) -> Step<W, F>
         requires { AnswersAll W.valid W.shape W.item F.pre F.post work call }
         ensures kept { (result.work ≡ work) × (result.call ≡ call) }
@@ -51,7 +51,8 @@ impl<W: Work, F: Fn(&Job) -> Result<Outcome<W::Item>, OutOfMemory>> Step<W, F> {
         Step { work, call }
     }
 
-    /// What answers a valid job. Its one error is that of the closure, want of memory.
+    /// Answers a valid job. Only tests call this; the pool calls `call` itself. The only error is
+    /// out-of-memory.
     pub fn go(&self, job: &Job) -> Result<Outcome<W::Item>, OutOfMemory>
         requires step { AnswersAll W.valid W.shape W.item F.pre F.post self.now.work self.now.call }
         requires valid { W.valid self.now.work job.now }

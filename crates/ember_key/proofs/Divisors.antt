@@ -76,7 +76,7 @@ divides_second j k (u ∷ us) [] p = absurd p
 divides_second j k (u ∷ us) (v ∷ vs) p =
     (subst (λ n. unsigned_abs j ∣ n) (sizes j k u v p.0) (dvd-mul_right (unsigned_abs j) (unsigned_abs u)), divides_second j k us vs p.1)
 
-pub proportional_swap : (j k : ℤ) (us vs : List ℤ) → AreProportional j k us vs → AreProportional k j vs us
+proportional_swap : (j k : ℤ) (us vs : List ℤ) → AreProportional j k us vs → AreProportional k j vs us
 proportional_swap j k [] [] p = tt
 proportional_swap j k [] (v ∷ vs) p = absurd p
 proportional_swap j k (u ∷ us) [] p = absurd p
@@ -116,9 +116,11 @@ lowest_where_one us g i e =
     record { lowest = λ k p. dvd_antisymm (subst (λ (n : ℕ). k ∣ n) e (i.greatest k p)) (subst (λ n. 1 ∣ n) (omega arith) (dvd-mul_right 1 k)) }
 
 -- ---- a greatest common divisor of 0
+-- an integer that 0 divides is 0
 pub divides_zero : (z : ℤ) → 0 ∣ unsigned_abs z → z ≡ pos 0
 divides_zero z h = let e = eq-zero_of_zero-dvd h in omega (arith, ints, e)
 
+-- integers that 0 divides are all 0
 pub all_zero : (us : List ℤ) → Divides 0 us → Every (λ z. z ≡ pos 0) us
 all_zero [] p = tt
 all_zero (u ∷ us) p = (divides_zero u p.0, all_zero us p.1)
@@ -132,13 +134,16 @@ divides_back : (d : ℕ) (zs us : List ℤ) → Divides d (zs ++ us) → Divides
 divides_back d [] us p = p
 divides_back d (z ∷ zs) us p = divides_back d zs us p.1
 
+-- the greatest common divisor of two sizes is that of the two integers
 pub greatest_divisor_of_two : (a b : ℤ) (g : ℕ) → IsGcd (unsigned_abs a) (unsigned_abs b) g → IsGreatestDivisor (a ∷ b ∷ []) g
 greatest_divisor_of_two a b g h = record { divides = (h.0, (h.1, tt)); greatest = λ k p. h.2 k p.0 p.1.0 }
 
+-- one more number in a greatest common divisor
 pub greatest_divisor_more : (zs : List ℤ) (z : ℤ) (d g : ℕ) → IsGreatestDivisor zs d → IsGcd d (unsigned_abs z) g → IsGreatestDivisor (zs ++ z ∷ []) g
 greatest_divisor_more zs z d g i h =
     record { divides = every_append (λ y. g ∣ unsigned_abs y) zs (z ∷ []) (divides_all g d zs h.0 i.divides) (h.1, tt); greatest = λ k p. h.2 k (i.greatest k (divides_front k zs (z ∷ []) p)) (divides_back k zs (z ∷ []) p).0 }
 
+-- equal numbers have the same greatest common divisor
 pub same_gcd : {m n k l g : ℕ} → m ≡ k → n ≡ l → IsGcd m n g → IsGcd k l g
 same_gcd {m} {n} {k} {l} {g} e f h =
     (subst (λ (x : ℕ). g ∣ x) e h.0, subst (λ (x : ℕ). g ∣ x) f h.1, λ d p q. h.2 d (subst (λ (x : ℕ). d ∣ x) (sym e) p) (subst (λ (x : ℕ). d ∣ x) (sym f) q))
@@ -147,6 +152,7 @@ same_gcd {m} {n} {k} {l} {g} e f h =
 pub size_read : (w : Width) {z : ℤ} {n : ℕ} → SFits w z → n ≡ unsigned_abs (to_z w (of_z w z)) → n ≡ unsigned_abs z
 size_read w f e = e ∙ ap unsigned_abs (to_z-of_z f)
 
+-- a greatest common divisor with a number other than 0 isn't 0
 pub gcd_nonzero : {a b g : ℕ} → IsGcd a b g → a ≢ 0 → g ≢ 0
 gcd_nonzero {a} {b} {g} h n z = n (eq-zero_of_zero-dvd (subst (λ (x : ℕ). x ∣ a) z h.0))
 

@@ -79,11 +79,11 @@ scale-scale : (f w : ℤ) (m : Vector) → scale_v f (scale_v w m) ≡ scale_v w
 scale-scale = vector_identity (scalar ∷ scalar ∷ vector ∷ []) (λ f w m. scaleE f (scaleE w m) ≈v scaleE w (scaleE f m)) cancels_v
 
 module _ {p q : Plane} {k : LineKey} (h : IsLineKey p q k) where
-  pub direction_nonzero : direction k ≢ zero_v
+  direction_nonzero : direction k ≢ zero_v
   direction_nonzero z =
       let e : pos 1 ≡ pos 0 = sym h.forward ∙ ap (λ (v : Vector). first_sign (v.x ∷ v.y ∷ v.z ∷ [])) z in omega (arith, ints)
 
-  pub planes_direction_nonzero : direction_of p q ≢ zero_v
+  planes_direction_nonzero : direction_of p q ≢ zero_v
   planes_direction_nonzero = scale_nonzero h.factor (direction k) (direction_of p q) h.not_zero h.same_direction direction_nonzero
 
   up : (v : Spot) → IsOnLine k v → cross (numerators v) (direction_of p q) ≡ scale_v v.w (moment_of p q)
@@ -99,7 +99,7 @@ module _ {p q : Plane} {k : LineKey} (h : IsLineKey p q k) where
   points_of_key v = (λ e. on_both p q v planes_direction_nonzero (up v e), λ b. down v (moment_of_point p q v b))
 
   -- the moment is orthogonal to the direction
-  pub moment_orthogonal : dot (direction k) (moment k) ≡ pos 0
+  moment_orthogonal : dot (direction k) (moment k) ≡ pos 0
   moment_orthogonal =
       let f = h.factor in
       let whole : (f *ℤ f) *ℤ dot (direction k) (moment k) ≡ pos 0 =
@@ -130,10 +130,10 @@ module _ (k m l n : Vector) (some_k : k ≢ zero_v) (o : dot k m ≡ pos 0) (ins
   parallel =
       vector_identity (vector ∷ vector ∷ vector ∷ []) (λ f k l. crossE k l ≈v minusE (crossE (plusE f k) l) (crossE f l)) cancels_v (cross k m) k l ∙ (λ i. minus_v (next_on_other i) (foot_on_other i)) ∙ vector_identity (vector ∷ []) (λ u. minusE u u ≈v zeroE) cancels_v (scale_v (dot k k) n)
 
-  pub directions_multiple : scale_v (dot k l) k ≡ scale_v (dot k k) l
+  directions_multiple : scale_v (dot k l) k ≡ scale_v (dot k k) l
   directions_multiple = parallel_multiple k l parallel
 
-  pub moments_multiple : scale_v (dot k l) m ≡ scale_v (dot k k) n
+  moments_multiple : scale_v (dot k l) m ≡ scale_v (dot k k) n
   moments_multiple =
       scale_cancel (dot k k) (scale_v (dot k l) m) (scale_v (dot k k) n) (positive_nonzero weight) (scale-scale (dot k k) (dot k l) m ∙ ap (λ (t : Vector). scale_v (dot k l) t) (sym foot_on) ∙ sym (scale-cross (dot k l) (cross k m) k) ∙ ap (λ (t : Vector). cross (cross k m) t) directions_multiple ∙ scale-cross (dot k k) (cross k m) l ∙ ap (λ (t : Vector). scale_v (dot k k) t) foot_on_other)
 

@@ -37,7 +37,7 @@ same_oriented_sides {p} {q} h v =
     sym (sgn_times h.of_p (value_at p v) h.positive_p) ∙ ap sgn (sym (value-times h.of_p p v) ∙ ap (λ (r : Plane). value_at r v) h.same ∙ value-times h.of_q q v) ∙ sgn_times h.of_q (value_at q v) h.positive_q
 
 -- ---- one oriented plane: an equivalence
-pub same_oriented_swap : {p q : Plane} → IsSameOriented p q → IsSameOriented q p
+same_oriented_swap : {p q : Plane} → IsSameOriented p q → IsSameOriented q p
 same_oriented_swap h =
     record { of_p = h.of_q; of_q = h.of_p; positive_p = h.positive_q; positive_q = h.positive_p; same = sym h.same }
 
@@ -45,14 +45,14 @@ link : (a b c d : ℤ) (x y z : ℤ) → a *ℤ x ≡ b *ℤ y → c *ℤ y ≡ 
 link a b c d x y z h k =
     from_two c b h k (solve 7 (λ a b c d x y z. (a ⊗ c) ⊗ x ⊖ (b ⊗ d) ⊗ z ≈ c ⊗ (a ⊗ x ⊖ b ⊗ y) ⊕ b ⊗ (c ⊗ y ⊖ d ⊗ z)) cancels a b c d x y z)
 
-pub same_oriented_link : {p q r : Plane} → IsSameOriented p q → IsSameOriented q r → IsSameOriented p r
+same_oriented_link : {p q r : Plane} → IsSameOriented p q → IsSameOriented q r → IsSameOriented p r
 same_oriented_link {p} {q} {r} h k =
     record { of_p = h.of_p *ℤ k.of_p; of_q = h.of_q *ℤ k.of_q; positive_p = pos_mul h.positive_p k.positive_p; positive_q = pos_mul h.positive_q k.positive_q; same = same_plane (by p.a q.a r.a (ap (λ (p : Plane). p.a) h.same) (ap (λ (p : Plane). p.a) k.same)) (by p.b q.b r.b (ap (λ (p : Plane). p.b) h.same) (ap (λ (p : Plane). p.b) k.same)) (by p.c q.c r.c (ap (λ (p : Plane). p.c) h.same) (ap (λ (p : Plane). p.c) k.same)) (by p.d q.d r.d (ap (λ (p : Plane). p.d) h.same) (ap (λ (p : Plane). p.d) k.same)) }
   where
     by : (x y z : ℤ) → h.of_p *ℤ x ≡ h.of_q *ℤ y → k.of_p *ℤ y ≡ k.of_q *ℤ z → (h.of_p *ℤ k.of_p) *ℤ x ≡ (h.of_q *ℤ k.of_q) *ℤ z
     by x y z = link h.of_p h.of_q k.of_p k.of_q x y z
 
-pub same_oriented_self : (p : Plane) → IsSameOriented p p
+same_oriented_self : (p : Plane) → IsSameOriented p p
 same_oriented_self p = record { of_p = pos 1; of_q = pos 1; positive_p = omega (arith, ints); positive_q = omega (arith, ints); same = refl }
 
 -- ---- a plane of four zeros
@@ -60,7 +60,7 @@ zero_entry : (a b x y : ℤ) → pos 0 <ℤ b → a *ℤ x ≡ b *ℤ y → x �
 zero_entry a b x y l e z =
     cancel_eq (positive_nonzero l) (sym e ∙ ap (λ (n : ℤ). a *ℤ n) z ∙ *ℤ-zero a ∙ sym (*ℤ-zero b))
 
-pub zero_same_oriented : {p q : Plane} → IsSameOriented p q → p ≡ zero_plane → q ≡ zero_plane
+zero_same_oriented : {p q : Plane} → IsSameOriented p q → p ≡ zero_plane → q ≡ zero_plane
 zero_same_oriented {p} {q} h z =
     same_plane (zero_entry h.of_p h.of_q p.a q.a h.positive_q (ap (λ (p : Plane). p.a) h.same) (ap (λ (p : Plane). p.a) z)) (zero_entry h.of_p h.of_q p.b q.b h.positive_q (ap (λ (p : Plane). p.b) h.same) (ap (λ (p : Plane). p.b) z)) (zero_entry h.of_p h.of_q p.c q.c h.positive_q (ap (λ (p : Plane). p.c) h.same) (ap (λ (p : Plane). p.c) z)) (zero_entry h.of_p h.of_q p.d q.d h.positive_q (ap (λ (p : Plane). p.d) h.same) (ap (λ (p : Plane). p.d) z))
 
@@ -139,11 +139,12 @@ module _ (p q : Plane) (has : HasNormal p) (same : HaveSameSides p q) where
       from_one (pos 1) foot (identity (tuple ∷ tuple ∷ []) (λ p q. let n = dotE (normalE p) (normalE p) in dotE (normalE p) (normalE q) ⊗ p.w ⊖ n ⊗ q.w ≈ num (pos 1) ⊗ (q.x ⊗ (p.w ⊗ p.x ⊕ num (pos 0)) ⊕ q.y ⊗ (p.w ⊗ p.y ⊕ num (pos 0)) ⊕ q.z ⊗ (p.w ⊗ p.z ⊕ num (pos 0)) ⊖ q.w ⊗ n ⊖ num (pos 0))) cancels (plane_tuple p) (plane_tuple q))
 
   -- planes that each point is on the same side of are one oriented plane
-  pub same_sides_oriented : IsSameOriented p q
+  same_sides_oriented : IsSameOriented p q
   same_sides_oriented =
       let e = parallel_multiple (normal p) (normal q) parallel in
       record { of_p = dot (normal p) (normal q); of_q = dot (normal p) (normal p); positive_p = onward; positive_q = weight; same = same_plane (ap (λ (v : Vector). v.x) e) (ap (λ (v : Vector). v.y) e) (ap (λ (v : Vector). v.z) e) constants }
 
+-- planes with a normal have one key exactly if each point is on the same side of both
 pub plane_keys_decide_sides : {p q k l : Plane} → IsPlaneKey p k → IsPlaneKey q l → HasNormal p → (k ≡ l) ↔ HaveSameSides p q
 plane_keys_decide_sides {p} {q} {k} {l} hp hq has =
     let d = plane_keys_decide hp hq in (λ e v w. same_oriented_sides (d.0 e) v, λ s. d.1 (same_sides_oriented p q has s))

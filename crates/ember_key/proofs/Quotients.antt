@@ -19,6 +19,7 @@ no_rest (negsuc n) (negsuc d) h = ap (λ (m : ℕ). neg_ℤ (pos m)) (mod-eq-zer
 exact_division : (v d : ℤ) → unsigned_abs d ∣ unsigned_abs v → int_div v d *ℤ d ≡ v
 exact_division v d h = let e = quot-rem v d in let z = no_rest v d h in omega (arith, e, z, ints)
 
+-- the size of a number other than 0 is positive
 pub size_positive : (d : ℤ) → d ≢ pos 0 → 0 < unsigned_abs d
 size_positive (pos zero) n = absurd (n refl)
 size_positive (pos (suc d)) n = omega (arith, ints)
@@ -47,9 +48,11 @@ narrow_quotient n d fd p h s =
     rw k (ap (λ (q : ℤ). q *ℤ d) (exact (quotient_small _ d n p e s & done) (kept 0) tt) ∙ e)
 
 -- ---- what the code reads and keeps
+-- a divisor still divides once both numbers are stored and read
 pub divides_read : (w : Width) {d n : ℤ} → SFits w64 d → to_z w (of_z w n) ≡ n → unsigned_abs d ∣ unsigned_abs n → unsigned_abs (to_z w64 (of_z w64 d)) ∣ unsigned_abs (to_z w (of_z w n))
 divides_read w f e h = rw (to_z-of_z f, e) h
 
+-- a quotient that fits is kept as the code stores it
 pub quotient_kept : (w : Width) (d q n : ℤ) → SFits w64 d → SFits w q → to_z w (of_z w n) ≡ n → q *ℤ to_z w64 (of_z w64 d) ≡ to_z w (of_z w n) → d *ℤ to_z w (of_z w q) ≡ n
 quotient_kept w d q n fd fq en e =
     ap (λ (x : ℤ). d *ℤ x) (to_z-of_z fq) ∙ *ℤ_comm d q ∙ ap (λ (x : ℤ). q *ℤ x) (sym (to_z-of_z fd)) ∙ e ∙ en
@@ -58,14 +61,18 @@ quotient_kept w d q n fd fq en e =
 pub minus_size : (g : ℕ) (r : ℤ) → r ≡ pos 0 -ℤ pos g → unsigned_abs r ≡ g
 minus_size g r e = omega (arith, ints)
 
+-- a natural number whose negative is 0 is 0
 pub minus_zero : (g : ℕ) (r : ℤ) → r ≡ pos 0 -ℤ pos g → r ≡ pos 0 → g ≡ 0
 minus_zero g r e z = omega (arith, ints)
 
+-- the negative of a natural number that isn't 0 is negative
 pub minus_negative : (g : ℕ) (r : ℤ) → r ≡ pos 0 -ℤ pos g → g ≢ 0 → r <ℤ pos 0
 minus_negative g r e n = omega (arith, ints)
 
+-- a natural number that isn't 0 is positive
 pub plus_positive : (g : ℕ) (r : ℤ) → r ≡ pos g → g ≢ 0 → pos 0 <ℤ r
 plus_positive g r e n = omega (arith, ints)
 
+-- a natural number that is 0 as an integer is 0
 pub plus_zero : (g : ℕ) (r : ℤ) → r ≡ pos g → r ≡ pos 0 → g ≡ 0
 plus_zero g r e z = omega (arith, ints)

@@ -17,7 +17,7 @@ first_zero : (u : ℤ) (us : List ℤ) → u ≡ pos 0 → first_sign (u ∷ us)
 first_zero u us e = ap (λ (z : ℤ). first_sign (z ∷ us)) e
 
 -- a factor's sign is a factor of the first sign
-pub first_sign_scaled : (f : ℤ) (us vs : List ℤ) → f ≢ pos 0 → AreMultiples f us vs → first_sign vs ≡ sign f *ℤ first_sign us
+first_sign_scaled : (f : ℤ) (us vs : List ℤ) → f ≢ pos 0 → AreMultiples f us vs → first_sign vs ≡ sign f *ℤ first_sign us
 first_sign_scaled f [] [] n m = sym (*ℤ-zero (sign f))
 first_sign_scaled f [] (v ∷ vs) n m = absurd m
 first_sign_scaled f (u ∷ us) [] n m = absurd m
@@ -53,12 +53,14 @@ forward_factor j n us vs ws p q mu mv eu ev =
     pos_from_sign j (omega (arith, linear, a, b, s))
 
 -- ---- what the sign of a list is
+-- a first sign that is negative is -1
 pub backward_is_minus_one : (us : List ℤ) → is_negative (first_sign us) ≡ true → first_sign us ≡ negsuc 0
 backward_is_minus_one [] h = cc
 backward_is_minus_one (pos zero ∷ us) h = backward_is_minus_one us h
 backward_is_minus_one (pos (suc n) ∷ us) h = cc
 backward_is_minus_one (negsuc n ∷ us) h = refl
 
+-- a first sign that isn't negative is 1, or all integers are 0
 pub forward_or_zero : (us : List ℤ) → is_negative (first_sign us) ≡ false → (first_sign us ≡ pos 1) ⊎ Every (λ z. z ≡ pos 0) us
 forward_or_zero [] h = inr tt
 forward_or_zero (pos zero ∷ us) h = ⊎_elim (λ e. inl e) (λ z. inr (refl, z)) (forward_or_zero us h)

@@ -13,11 +13,13 @@ zeroE = record { x = num (pos 0); y = num (pos 0); z = num (pos 0) }
 square_none : (a : ℤ) → a *ℤ a ≡ pos 0 → a ≡ pos 0
 square_none a e = ⊎_elim (λ z. z) (λ z. z) (zero_product e)
 
+-- a vector whose square is 0 is 0
 pub no_square_no_vector : (v : Vector) → dot v v ≡ pos 0 → v ≡ zero_v
 no_square_no_vector v e =
     let x = square_nonneg v.x in let y = square_nonneg v.y in let z = square_nonneg v.z in
     same_v (square_none v.x (omega (arith, linear))) (square_none v.y (omega (arith, linear))) (square_none v.z (omega (arith, linear)))
 
+-- a vector other than 0 has a positive square
 pub square_positive : (v : Vector) → v ≢ zero_v → pos 0 <ℤ dot v v
 square_positive v n =
     by_sign (dot v v)
@@ -25,13 +27,16 @@ square_positive v n =
     (λ z. absurd (n (no_square_no_vector v z)))
     (λ p. absurd (omega (arith, linear, square_nonneg v.x, square_nonneg v.y, square_nonneg v.z)))
 
+-- a positive number isn't 0
 pub positive_nonzero : {a : ℤ} → pos 0 <ℤ a → a ≢ pos 0
 positive_nonzero p e = omega (arith, linear)
 
+-- a negative integer isn't 0
 pub negative_nonzero : {a : ℤ} → a <ℤ pos 0 → a ≢ pos 0
 negative_nonzero p e = omega (arith, linear)
 
 -- ---- multiples
+-- equal multiples by a factor that isn't 0 are of equal vectors
 pub scale_cancel : (f : ℤ) (u v : Vector) → f ≢ pos 0 → scale_v f u ≡ scale_v f v → u ≡ v
 scale_cancel f u v n e =
     same_v (cancel_eq n (ap (λ (v : Vector). v.x) e)) (cancel_eq n (ap (λ (v : Vector). v.y) e)) (cancel_eq n (ap (λ (v : Vector). v.z) e))

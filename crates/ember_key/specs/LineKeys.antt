@@ -27,13 +27,16 @@ numerators v = record { x = v.x; y = v.y; z = v.z }
 abbrev pub IsOnLine : LineKey → Spot → Type 0
 IsOnLine k v = cross (numerators v) (direction k) ≡ scale_v v.w (moment k)
 
+-- the point lies on both planes
 abbrev pub IsOnBoth : Plane → Plane → Spot → Type 0
 IsOnBoth p q v = (value_at p v ≡ pos 0) × (value_at q v ≡ pos 0)
 
 -- ---- the line in which two planes meet
+-- the direction of the line in which two planes meet, not in lowest terms
 abbrev pub direction_of : Plane → Plane → Vector
 direction_of p q = cross (normal p) (normal q)
 
+-- the moment of the line in which two planes meet, not in lowest terms
 abbrev pub moment_of : Plane → Plane → Vector
 moment_of p q = minus_v (scale_v q.d (normal p)) (scale_v p.d (normal q))
 

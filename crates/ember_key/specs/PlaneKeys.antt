@@ -31,5 +31,6 @@ pub record IsPlaneKey (p k : Plane) : Type 0 where
 abbrev pub HaveSameSides : Plane → Plane → Type 0
 HaveSameSides p q = (v : Spot) → pos 0 <ℤ v.w → sgn (value_at p v) ≡ sgn (value_at q v)
 
+-- the plane's normal isn't zero
 abbrev pub HasNormal : Plane → Type 0
 HasNormal p = normal p ≢ zero_v

@@ -3,6 +3,7 @@ ghost use Rattle.std.specs.Prelude.{◌≡◌, ◌≢◌, pos, ◌*ℤ◌, unsig
 ghost use Rattle.std.specs.Int.{◌∣◌};
 ghost use Rattle.ember_algebra.specs.Size.{Small};
 
+// The number divided by a divisor of it.
 pub fn quotient(n: i64, divisor: i64) -> i64
     requires nonzero { divisor ≢ pos 0 }
     requires divides { unsigned_abs divisor ∣ unsigned_abs n }
@@ -12,7 +13,7 @@ pub fn quotient(n: i64, divisor: i64) -> i64
     if divisor == 1 { n } else { n / divisor }
 }
 
-// In 64 bits if the number fits into them.
+// The number divided by a divisor of it. Divides in 64 bits if the number fits into them.
 pub fn large_quotient(n: i128, divisor: i64) -> i128
     requires nonzero { divisor ≢ pos 0 }
     requires divides { unsigned_abs divisor ∣ unsigned_abs n }

@@ -14,8 +14,9 @@ use crate::division::{large_quotient, quotient};
 use crate::divisor::{divisor_of_three, divisor_with};
 use ember_model::Plane;
 
-/// Pluecker coordinates of a line: its direction `(dx, dy, dz)`, and its moment `(mx, my, mz)`, the cross product of
-/// any point of the line and the direction. Direction below 2^51 in size, moment below 2^65.
+/// Pluecker coordinates of a line: its direction `(dx, dy, dz)`, and its moment `(mx, my, mz)`, the
+/// cross product of any point of the line and the direction. Direction below 2^51 in size, moment
+/// below 2^65.
 #[derive(Clone, Copy, Debug, PartialEq, Eq)]
 pub struct LineKey {
     pub dx: i64,
@@ -37,7 +38,8 @@ fn minor(a: i64, b: i64, c: i64, d: i64) -> i64
     a * d - b * c
 }
 
-// Entry n and constant d of the first plane, m and e of the second.
+// An entry of the moment: of the first plane's entry `n` and constant `d`, and of the second's `m`
+// and `e`.
 fn moment_entry(n: i64, d: i64, m: i64, e: i64) -> i128
     requires n { Small 33554431 n }
     requires d { Small 549755813887 d }
@@ -49,7 +51,7 @@ fn moment_entry(n: i64, d: i64, m: i64, e: i64) -> i128
     e as i128 * n as i128 - d as i128 * m as i128
 }
 
-// Not in lowest terms yet.
+// The coordinates of the line in which the planes meet, not yet in lowest terms.
 fn meet_of_planes(plane: &Plane, edge: &Plane) -> LineKey
     requires plane { IsValidPlane plane.now }
     requires edge { IsValidPlane edge.now }
@@ -78,14 +80,14 @@ fn divisor_of_line(line: &LineKey) -> u64
     divisor_with(with_y, line.mz)
 }
 
-// The two planes are parallel.
+// Whether the two planes are parallel, so that they have no line.
 fn has_no_direction(line: &LineKey) -> bool
     ensures { (result ≡ true) ↔ (direction line.now ≡ zero_v) }
 {
     line.dx == 0 && line.dy == 0 && line.dz == 0
 }
 
-// The first entry of the direction that isn't 0 is negative.
+// Whether the first entry of the direction that isn't 0 is negative.
 fn is_backward(line: &LineKey) -> bool
     ensures { result ≡ is_negative (first_sign (line.now.dx ∷ line.now.dy ∷ line.now.dz ∷ [])) }
 {
@@ -98,7 +100,8 @@ fn is_backward(line: &LineKey) -> bool
     }
 }
 
-// The greatest common divisor of the coordinates, with the sign of the first entry of the direction that isn't 0.
+// The greatest common divisor of the coordinates, with the sign of the first entry of the direction
+// that isn't 0.
 fn signed_divisor(line: &LineKey) -> i64
     requires direction { direction line.now ≢ zero_v }
     requires sized { IsLineSized line.now }
@@ -126,8 +129,9 @@ fn divided(line: &LineKey, divisor: i64) -> LineKey
     }
 }
 
-/// The line in which two planes meet, by coordinates that are the same for each two planes that meet in it: in lowest
-/// terms, the first entry of the direction that isn't 0 being positive. `None` if the normals are parallel.
+/// The line in which two planes meet, by coordinates that are the same for each two planes that
+/// meet in it: in lowest terms, the first entry of the direction that isn't 0 being positive.
+/// `None` if the normals are parallel.
 pub fn line_key(plane: &Plane, edge: &Plane) -> Option<LineKey>
     requires plane { IsValidPlane plane.now }
     requires edge { IsValidPlane edge.now }

@@ -11,7 +11,7 @@ use crate::division::quotient;
 use crate::divisor::divisor_of_four;
 use ember_model::Plane;
 
-// 0 if all four numbers are 0.
+// The greatest common divisor of the plane's numbers, 0 if all four are 0.
 fn divisor_of_plane(plane: &Plane) -> i64
     requires { IsValidPlane plane.now }
     ensures divisor { IsGreatestDivisor (coefficients plane.now) (unsigned_abs result) }

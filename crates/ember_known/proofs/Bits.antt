@@ -6,15 +6,13 @@ use Rattle.std.proofs.lemmas.Nat.Bits.{bit_at_or, bit_at-pow_same, bit_at-pow_ot
 use Rattle.ember_expr.specs.Formula.{IsMeshNumber}
 use Rattle.ember_known.specs.Masks.{is_in}
 
-pub in_none : (n : ℕ) → is_in 0 n ≡ false
-in_none n = ap (λ b. b == 1) (bit_at-zero (n - 1))
-
 set_now : (b p : ℕ) → b ≤ 1 → p ≡ 1 → (max b p == 1) ≡ true
 set_now b p small one = ap (λ m. m == 1) (let e : max b p ≡ 1 = omega arith in e)
 
 set_before : (b p : ℕ) → p ≡ 0 → (max b p == 1) ≡ (b == 1)
 set_before b p none = ap (λ m. m == 1) (let e : max b p ≡ b = omega arith in e)
 
+-- a set with one mesh more has this mesh and those that it had
 pub in_with : (mask mesh n : ℕ) → IsMeshNumber 64 mesh → IsMeshNumber 64 n → is_in (bit_or mask (2 ^ (mesh - 1))) n ≡ (n == mesh || is_in mask n)
 in_with mask mesh n f g = ap (λ b. b == 1) (bit_at_or mask (2 ^ (mesh - 1)) (n - 1)) ∙ at (eqb_tells n mesh) where
   at : (((n == mesh) ≡ true) × (n ≡ mesh)) ⊎ (((n == mesh) ≡ false) × (n ≡ mesh → ⊥)) → (max (bit_at mask (n - 1)) (bit_at (2 ^ (mesh - 1)) (n - 1)) == 1) ≡ (n == mesh || is_in mask n)

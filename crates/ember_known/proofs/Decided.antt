@@ -61,7 +61,7 @@ module _ (undecided : ℕ → Bool) (counts others : List ℤ) (agree : AgreeOut
       let here : value_of others t ≡ value_of counts t = ap (λ z. signed t.minus (pos t.factor *ℤ z)) (counted_same t.mesh (fit 0 t (omega arith)).mesh both.0) in
       ap (λ z. sum_from (start +ℤ z) others ts) here ∙ sum_same (start +ℤ value_of counts t) ts (λ i d l. fit (suc i) d (omega (arith, l))) both.1
 
-  pub tells : (f : Formula) → IsFit 64 f → Tells (known undecided counts f) (truth others f)
+  tells : (f : Formula) → IsFit 64 f → Tells (known undecided counts f) (truth others f)
   tells (Or a b) fit = or_tells (known undecided counts a) (known undecided counts b) (truth others a) (truth others b) (tells a fit.0) (tells b fit.1)
   tells (Xor a b) fit = xor_tells (known undecided counts a) (known undecided counts b) (truth others a) (truth others b) (tells a fit.0) (tells b fit.1)
   tells (And a b) fit = and_tells (known undecided counts a) (known undecided counts b) (truth others a) (truth others b) (tells a fit.0) (tells b fit.1)
@@ -72,6 +72,7 @@ module _ (undecided : ℕ → Bool) (counts others : List ℤ) (agree : AgreeOut
       let both = neither (mentions undecided left) (mentions undecided right) e in
       ap₂ (holds_between rel) (sum_same (pos 0) left fit.0.terms both.0) (sum_same (pos 0) right fit.1.terms both.1))
 
+  -- a decided value holds whatever the undecided meshes are
   pub decided_tells : (f : Formula) (b : Bool) → IsFit 64 f → known undecided counts f ≡ Some b → truth others f ≡ b
   decided_tells f b fit e = subst (λ o. Tells o (truth others f)) e (tells f fit)
 
@@ -96,6 +97,7 @@ module _ (u w : ℕ → Bool) (same : (n : ℕ) → IsMeshNumber 64 n → u n �
   known_same counts (Odd sum) fit = ap (λ b. plain_unless b (truth counts (Odd sum))) (mentions_same sum fit.terms)
   known_same counts (Compare left rel right) fit = ap₂ (λ a b. plain_unless (a || b) (truth counts (Compare left rel right))) (mentions_same left fit.0.terms) (mentions_same right fit.1.terms)
 
+-- a decided truth is the truth, whatever the winding numbers of the undecided meshes are
 pub decided_if : (undecided : ℕ → Bool) (counts : List ℤ) (f : Formula) → IsFit 64 f → (o : Option Bool) → o ≡ known undecided counts f → IfSome o (λ b. (others : List ℤ) → AgreeOutside undecided counts others → truth others f ≡ b)
 decided_if undecided counts f fit None e = tt
 decided_if undecided counts f fit (Some b) e = λ others agree. decided_tells undecided counts others agree f b fit (sym e)

@@ -4,11 +4,12 @@ use Rattle.ember_expr.specs.declared.formula.Term.{Term}
 use Rattle.ember_expr.specs.Formula.{Formula, Or, Xor, And, Not, Mesh, Odd, Compare}
 use Rattle.ember_expr.specs.Truth.{differ, truth}
 
--- whether a sum mentions an undecided mesh, whatever its factor; mesh 0 stands for a plain number
+-- whether a sum mentions an undecided mesh, whatever its factor; mesh 0 means a plain number
 abbrev pub mentions : (ℕ → Bool) → List Term → Bool
 mentions undecided [] = false
 mentions undecided (t ∷ ts) = not (t.mesh == 0) && undecided t.mesh || mentions undecided ts
 
+-- the truth, unless it is undecided
 abbrev pub plain_unless : Bool → Bool → Option Bool
 plain_unless undecided value = if undecided then None else Some value
 
@@ -28,11 +29,13 @@ known_or None (Some true) = Some true
 known_or None (Some false) = None
 known_or None None = None
 
+-- the three-valued exclusive or
 abbrev pub known_xor : Option Bool → Option Bool → Option Bool
 known_xor None b = None
 known_xor (Some a) None = None
 known_xor (Some a) (Some b) = Some (differ a b)
 
+-- the three-valued negation
 abbrev pub known_not : Option Bool → Option Bool
 known_not None = None
 known_not (Some a) = Some (not a)

@@ -8,7 +8,7 @@ ghost use Rattle.ember_known.specs.Masks.{is_in};
 pub struct Mask(pub u64);
 
 impl Mask {
-    /// No mesh.
+    /// The empty set.
     pub fn none() -> Mask
         ensures { (mesh : ℕ) → is_in result.0 mesh ≡ false }
     {

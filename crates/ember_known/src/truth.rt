@@ -37,6 +37,7 @@ fn plain_unless(undecided: bool, tree: &Tree, v: &Vector) -> Option<bool>
     }
 }
 
+// The three-valued truth of the tree at these winding numbers, if the meshes of `m` are undecided.
 fn known_in(tree: &Tree, v: &Vector, m: Mask) -> Option<bool>
     requires fit { IsFit 64 (formula_of tree.now) }
     requires counts { AreCounts v.now.counts }
@@ -75,8 +76,9 @@ fn known_in(tree: &Tree, v: &Vector, m: Mask) -> Option<bool>
     }
 }
 
-/// The truth of the expression at these winding numbers, each of which is at most 2^24 in size,
-/// if the meshes of `m` are undecided: `None` exactly if the truth is undecided with them.
+/// The three-valued truth of the expression at these winding numbers, each of which is at most 2^24
+/// in size, if the meshes of `m` are undecided. `Some(b)` means that the value is `b` whatever the
+/// winding numbers of these meshes are; `None` shows nothing.
 pub fn known(e: &Expr, v: &Vector, m: &Mask) -> Option<bool>
     requires { AreCounts v.now.counts }
     ensures value { result ≡ three_valued.known (is_in m.now.0) v.now.counts (formula_of e.now) }
@@ -88,8 +90,8 @@ pub fn known(e: &Expr, v: &Vector, m: &Mask) -> Option<bool>
     known_in(tree(e), v, *m)
 }
 
-/// If the truth is decided, it is the truth at each vector that agrees with this one at all
-/// meshes but the undecided ones.
+/// A law: if the three-valued truth is decided, it is the truth at each vector that agrees with
+/// this one at all meshes except the undecided ones.
 pub fn decided_is_true()
     ensures { (undecided : ℕ → Bool) (counts others : List ℤ) (f : Formula) (b : Bool) → IsFit 64 f →
         AgreeOutside undecided counts others → three_valued.known undecided counts f ≡ Some b → truth others f ≡ b }

@@ -19,6 +19,7 @@ use Rattle.ember_law.proofs.FlatTriangles.{flat_crossing, total_faces}
 use Rattle.ember_law.proofs.Directions.{IsAcross, directions_agree}
 use Rattle.ember_law.proofs.Generic.{generic_shifted, wind_shifted}
 
+-- the winding number of triangles, as the sum of their crossings seen from the point
 pub wind_seen : (a : Axis) (p : Spot) (ts : List Tri) → pos 0 <ℤ p.w → wind a (faces_of ts) p ≡ total (seen_crossing (unit a) p) ts
 wind_seen a p ts w =
     total_faces (λ f. crossing f a p) (flat_crossing a p) ts ∙ total_same (λ t. crossing (face_of t) a p) (seen_crossing (unit a) p) (λ t. crossing_seen a p t w) ts
@@ -41,5 +42,6 @@ to_x X p ts l w c = refl
 to_x Y p ts l w c = xy p ts l w c
 to_x Z p ts l w c = xy p ts l w c ∙ yz p ts l w c
 
+-- at a clear point, balanced triangles wind the same along any two axes
 pub axes_agree : (a b : Axis) (p : Spot) (ts : List Tri) → IsBalanced ts → pos 0 <ℤ p.w → AreClear (faces_of ts) p → wind a (faces_of ts) p ≡ wind b (faces_of ts) p
 axes_agree a b p ts l w c = sym (to_x a p ts l w c) ∙ to_x b p ts l w c

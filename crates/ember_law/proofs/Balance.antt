@@ -33,7 +33,7 @@ corner_self u = let x = gap_zero u.x in let y = gap_zero u.y in let z = gap_zero
 edge_self : (e : Edge) → same_edge e e ≡ true
 edge_self e = let x = corner_self e.from in let y = corner_self e.to in λ i. x i && y i
 
-pub edge_equality : IsEquality Edge same_edge
+edge_equality : IsEquality Edge same_edge
 edge_equality = record { sound = edge_sound; reflexive = edge_self }
 
 swapped : (a b : Bool) → a && b ≡ b && a
@@ -45,5 +45,6 @@ swapped false false = refl
 turned : (z x : Edge) → same_edge z (reversed x) ≡ same_edge (reversed z) x
 turned z x = swapped (same_corner z.from x.to) (same_corner z.to x.from)
 
+-- over the edges of balanced triangles, a quantity that changes its sign with the direction adds up to 0
 pub balanced_zero : (f : Edge → ℤ) → ((x : Edge) → f (reversed x) ≡ neg_ℤ (f x)) → (ts : List Tri) → IsBalanced ts → total f (edges_in ts) ≡ pos 0
 balanced_zero f odd ts h = total_odd same_edge edge_equality f reversed odd turned (edges_in ts) h

@@ -44,6 +44,7 @@ weighed n s v e f g a b c k w l he hf hg ha hb hc hw h =
     omega (arith, linear, x, y, z, t, q, r, solve 3 (λ s n v. s ⊗ n ⊗ neg v ≈ neg (s ⊗ (n ⊗ v))) cancels s n v, solve 9 (λ s e f g a b c k w. s ⊗ (neg (e ⊗ a ⊕ f ⊗ b ⊕ g ⊗ c) ⊕ k ⊗ w) ≈ neg (s ⊗ e) ⊗ a ⊕ neg (s ⊗ f) ⊗ b ⊕ neg (s ⊗ g) ⊗ c ⊕ s ⊗ (k ⊗ w)) cancels s e f g a b c k w)))
     (λ u. u)
 
+-- if no corner of a triangle is below a plane, no point of its closed face is
 pub above_corners : (t : Tri) (p : Plane) (x : Spot) → is_flat t ≡ false → pos 0 ≤ℤ value_at p (spot_of_corner t.a) → pos 0 ≤ℤ value_at p (spot_of_corner t.b) → pos 0 ≤ℤ value_at p (spot_of_corner t.c) → is_in_closed (face_of t) x ≡ true → pos 0 ≤ℤ value_at p x
 unfolding face_of
 above_corners t p x nf ha hb hc h =

@@ -71,6 +71,7 @@ mesh_law f g p [] h a b = refl
 mesh_law f g p (t ∷ ts) h a b =
     let x = tri_law f g p t h a.0 b.0 in let y = mesh_law f g p ts h a.1 b.1 in omega (arith, linear, x, y)
 
+-- balanced triangles wind the same along two directions that are generic at a point
 pub directions_agree : (f g : Vector) (p : Spot) (ts : List Tri) → IsBalanced ts → IsAcross f g → AreGeneric f p ts → AreGeneric g p ts → total (seen_crossing f p) ts ≡ total (seen_crossing g p) ts
 directions_agree f g p ts h c a b =
     let x = mesh_law f g p ts c a b in let y = balanced_zero (seen_term f g p) (term_odd f g p) ts h in omega (arith, linear, x, y)

@@ -31,6 +31,7 @@ pub record IsFlat (t : Tri) : Type 0 where
   pub b : (support_of t).b ≡ pos 0
   pub c : (support_of t).c ≡ pos 0
 
+-- a triangle that the test takes to be flat is flat
 pub flat_out : (t : Tri) → is_flat t ≡ true → IsFlat t
 unfolding is_flat
 flat_out t e =
@@ -38,10 +39,12 @@ flat_out t e =
     let p = and_parts (is_zero n.a) (is_zero n.b && is_zero n.c) e in let q = and_parts (is_zero n.b) (is_zero n.c) p.1 in
     record { a = zero_out n.a p.0; b = zero_out n.b q.0; c = zero_out n.c q.1 }
 
+-- the test answers true of a flat triangle
 pub flat_in : (t : Tri) → IsFlat t → is_flat t ≡ true
 unfolding is_flat
 flat_in t f = let a = ap is_zero f.a in let b = ap is_zero f.b in let c = ap is_zero f.c in λ i. a i && (b i && c i)
 
+-- the test of flat triangles answers true or false
 pub flat_case : (t : Tri) → (is_flat t ≡ true) ⊎ (is_flat t ≡ false)
 flat_case t = by (is_flat t) refl
   where
@@ -49,12 +52,12 @@ flat_case t = by (is_flat t) refl
     by true e = inl e
     by false e = inr e
 
-pub flat_along : (t : Tri) (a : Axis) → IsFlat t → along (support_of t) a ≡ pos 0
+flat_along : (t : Tri) (a : Axis) → IsFlat t → along (support_of t) a ≡ pos 0
 flat_along t X f = f.a
 flat_along t Y f = f.b
 flat_along t Z f = f.c
 
-pub flat_value : (t : Tri) (p : Spot) → IsFlat t → value_at (support_of t) p ≡ pos 0
+flat_value : (t : Tri) (p : Spot) → IsFlat t → value_at (support_of t) p ≡ pos 0
 flat_value t p f =
     let n = support_of t in
     let x = zero_times n.a (p.x -ℤ t.a.x *ℤ p.w) f.a in
@@ -63,17 +66,20 @@ flat_value t p f =
     solve 10 (λ a b c u v r x y z w. a ⊗ x ⊕ b ⊗ y ⊕ c ⊗ z ⊖ (a ⊗ u ⊕ b ⊗ v ⊕ c ⊗ r) ⊗ w ≈ a ⊗ (x ⊖ u ⊗ w) ⊕ b ⊗ (y ⊖ v ⊗ w) ⊕ c ⊗ (z ⊖ r ⊗ w)) cancels n.a n.b n.c t.a.x t.a.y t.a.z p.x p.y p.z p.w ∙ (λ i. x i +ℤ y i +ℤ z i)
 
 -- ---- rays and segments
+-- nothing crosses a flat triangle
 pub flat_crossing : (a : Axis) (p : Spot) (t : Tri) → IsFlat t → crossing (face_of t) a p ≡ pos 0
 unfolding face_of
 flat_crossing a p t f =
     crossing_off (face_of t) a p (negative_not (value_at (support_of t) p *ℤ along (support_of t) a) (let e = zero_scaled (value_at (support_of t) p) (along (support_of t) a) (flat_along t a f) in omega (arith, linear, e)))
 
+-- no segment crosses a flat triangle
 pub flat_leg : (p q : Spot) (t : Tri) → IsFlat t → leg (face_of t) p q ≡ pos 0
 unfolding face_of
 flat_leg p q t f =
     leg_off (face_of t) p q (negative_not (value_at (support_of t) p *ℤ value_at (support_of t) q) (let e = zero_times (value_at (support_of t) p) (value_at (support_of t) q) (flat_value t p f) in omega (arith, linear, e)))
 
 -- ---- seen from a point
+-- the corners of a flat triangle, seen from a point, are flat
 pub flat_seen : (p : Spot) (t : Tri) → IsFlat t → Flat (seen p t.a) (seen p t.b) (seen p t.c)
 flat_seen p t h =
     let s = vector ∷ vector ∷ vector ∷ tuple ∷ [] in
@@ -84,6 +90,7 @@ flat_seen p t h =
       z = identity s (λ a b c p. (normalE (seenE p a) (seenE p b) (seenE p c)).z ≈ p.w ⊗ p.w ⊗ (supportE a b c).z) cancels a b c q ∙ zero_scaled ww (support_of t).c h.c;
     }
 
+-- a flat triangle isn't crossed along any direction
 pub flat_seen_crossing : (f : Vector) (p : Spot) (t : Tri) → IsFlat t → seen_crossing f p t ≡ pos 0
 flat_seen_crossing f p t h =
     let u = seen p t.a in let v = seen p t.b in let w = seen p t.c in
@@ -91,6 +98,7 @@ flat_seen_crossing f p t h =
     ap (λ (n : Sign). crossing_by_signs (sgn (det u v w)) n (sgn (dot f (cross u v))) (sgn (dot f (cross v w))) (sgn (dot f (cross w u)))) (ap sgn e) ∙ no_slope (sgn (det u v w)) (sgn (dot f (cross u v))) (sgn (dot f (cross v w))) (sgn (dot f (cross w u)))
 
 -- ---- sums over faces
+-- a sum over the triangles' faces is a sum over all triangles, if flat ones count 0
 pub total_faces : (f : Face → ℤ) → ((t : Tri) → IsFlat t → f (face_of t) ≡ pos 0) → (ts : List Tri) → total f (faces_of ts) ≡ total (λ t. f (face_of t)) ts
 total_faces f z ts =
     total-map f face_of _ ∙ total-filter (λ t. f (face_of t)) (λ t. not (is_flat t)) ts ∙ total_same (λ t. cond (not (is_flat t)) (f (face_of t)) (pos 0)) (λ t. f (face_of t)) each ts

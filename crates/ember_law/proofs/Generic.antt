@@ -29,10 +29,11 @@ use Rattle.ember_law.proofs.FlatTriangles.{IsFlat}
 use Rattle.ember_law.proofs.Directions.{IsGeneric, AreGeneric}
 
 -- ---- generic points
+-- if a positive multiple of an integer is 0, it is 0
 pub cancel_zero : (w v : ℤ) → pos 0 <ℤ w → w *ℤ v ≡ pos 0 → v ≡ pos 0
 cancel_zero w v p e = cancel_eq {c = w} {a = v} {b = pos 0} (λ z. omega (arith, linear)) (e ∙ sym (*ℤ-zero w))
 
-pub edge_generic : (u v : Corner) (f : Vector) (p : Spot) → (value_at (edge_through u v f) p ≡ pos 0 → NoNormal (edge_through u v f)) → pos 0 <ℤ p.w → Generic (seen p u) (seen p v) f
+edge_generic : (u v : Corner) (f : Vector) (p : Spot) → (value_at (edge_through u v f) p ≡ pos 0 → NoNormal (edge_through u v f)) → pos 0 <ℤ p.w → Generic (seen p u) (seen p v) f
 edge_generic u v f p h w =
     let s = vector ∷ vector ∷ vector ∷ tuple ∷ [] in let a = vector_of u in let b = vector_of v in let q = tuple_of p in let n = edge_through u v f in
     let none : dot f (cross (seen p u) (seen p v)) ≡ pos 0 → NoNormal (edge_through u v f) = λ z. h (cancel_zero p.w (value_at (edge_through u v f) p) w (edge_value u v f p ∙ ap neg_ℤ z)) in
@@ -50,7 +51,7 @@ pub record IsOff (f : Vector) (p : Spot) (t : Tri) : Type 0 where
   pub second : value_at (edge_through t.b t.c f) p ≡ pos 0 → NoNormal (edge_through t.b t.c f)
   pub third : value_at (edge_through t.c t.a f) p ≡ pos 0 → NoNormal (edge_through t.c t.a f)
 
-pub generic_off : (f : Vector) (p : Spot) (t : Tri) → IsOff f p t → IsFlat t ⊎ IsGeneric f p t
+generic_off : (f : Vector) (p : Spot) (t : Tri) → IsOff f p t → IsFlat t ⊎ IsGeneric f p t
 generic_off f p t m =
     by_sign (value_at (support_of t) p) (λ l. inr (generic (λ z. omega (arith, linear)))) (λ z. let n = m.plane z in inl (record { a = n.0; b = n.1; c = n.2 })) (λ l. inr (generic (λ z. omega (arith, linear))))
   where
@@ -61,11 +62,13 @@ generic_off f p t m =
           edges = record { first = edge_generic t.a t.b f p m.first m.weight; second = edge_generic t.b t.c f p m.second m.weight; third = edge_generic t.c t.a f p m.third m.weight };
         }
 
+-- a point shifted by little enough is off the triangle for the direction f
 pub off_all : (f : Vector) (p : Spot) (t : Tri) → pos 0 <ℤ p.w → Eventually (λ n. IsOff f (shifted p (pos n)) t)
 off_all f p t w =
     eventually_map (λ n h. record { weight = h.0; plane = h.1.0; first = h.1.1.0; second = h.1.1.1.0; third = h.1.1.1.1 })
     (eventually_both (weight_shifted p w) (eventually_both (off_shifted p (support_of t)) (eventually_both (off_shifted p (edge_through t.a t.b f)) (eventually_both (off_shifted p (edge_through t.b t.c f)) (off_shifted p (edge_through t.c t.a f))))))
 
+-- a point that is shifted by little enough is generic
 pub generic_shifted : (f : Vector) (p : Spot) (ts : List Tri) → pos 0 <ℤ p.w → Eventually (λ k. AreGeneric f (shifted p (pos k)) ts)
 generic_shifted f p [] w = eventually_true (λ k. tt)
 generic_shifted f p (t ∷ ts) w =
@@ -83,7 +86,7 @@ pub value_at_hit : (g n : Plane) (a : Axis) (p : Spot) → value_at (at_hit_of g
 value_at_hit g n a p =
     solve 14 (λ m k ga gb gc gd na nb nc nd x y z w. (m ⊗ ga ⊕ k ⊗ na) ⊗ x ⊕ (m ⊗ gb ⊕ k ⊗ nb) ⊗ y ⊕ (m ⊗ gc ⊕ k ⊗ nc) ⊗ z ⊖ (m ⊗ gd ⊕ k ⊗ nd) ⊗ w ≈ m ⊗ (ga ⊗ x ⊕ gb ⊗ y ⊕ gc ⊗ z ⊖ gd ⊗ w) ⊕ k ⊗ (na ⊗ x ⊕ nb ⊗ y ⊕ nc ⊗ z ⊖ nd ⊗ w)) cancels (size (along n a)) (neg_ℤ (sign (along n a)) *ℤ along g a) g.a g.b g.c g.d n.a n.b n.c n.d p.x p.y p.z p.w ∙ solve 5 (λ m s k v u. m ⊗ v ⊕ neg s ⊗ k ⊗ u ≈ m ⊗ v ⊖ s ⊗ u ⊗ k) cancels (size (along n a)) (sign (along n a)) (along g a) (value_at g p) (value_at n p) ∙ sym (value_hit g n a p)
 
-pub follows_at_hit : (g n : Plane) (a : Axis) (p q : Spot) → Follows p q (at_hit_of g n a) → Follows (hit n a p) (hit n a q) g
+follows_at_hit : (g n : Plane) (a : Axis) (p q : Spot) → Follows p q (at_hit_of g n a) → Follows (hit n a p) (hit n a q) g
 follows_at_hit g n a p q f =
     record { up = λ u. rw (value_at_hit g n a q) at (f.up (rw (value_at_hit g n a p) u)); down = λ u. rw (value_at_hit g n a q) at (f.down (rw (value_at_hit g n a p) u)) }
 
@@ -92,10 +95,11 @@ follow_hits n [] a p = eventually_true (λ k. tt)
 follow_hits n (e ∷ es) a p =
     eventually_both (eventually_map (λ k f. follows_at_hit e n a p (shifted p (pos k)) f) (follows_shifted p (at_hit_of e n a))) (follow_hits n es a p)
 
-pub crossing_shifted : (f : Face) (a : Axis) (p : Spot) → pos 0 <ℤ p.w → IsClear f p → Eventually (λ k. crossing f a p ≡ crossing f a (shifted p (pos k)))
+crossing_shifted : (f : Face) (a : Axis) (p : Spot) → pos 0 <ℤ p.w → IsClear f p → Eventually (λ k. crossing f a p ≡ crossing f a (shifted p (pos k)))
 crossing_shifted f a p w c =
     eventually_map (λ k h. same_crossing f a p (shifted p (pos k)) w h.0 c h.1.0 h.1.1) (eventually_both (weight_shifted p w) (eventually_both (follows_shifted p f.support) (follow_hits f.support f.edges a p)))
 
+-- at a clear point and at points shifted by little enough, faces wind the same
 pub wind_shifted : (a : Axis) (p : Spot) (fs : List Face) → pos 0 <ℤ p.w → AreClear fs p → Eventually (λ k. wind a fs p ≡ wind a fs (shifted p (pos k)))
 wind_shifted a p [] w c = eventually_true (λ k. refl)
 wind_shifted a p (f ∷ fs) w c =

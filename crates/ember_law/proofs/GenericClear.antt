@@ -78,7 +78,7 @@ all_strict t a p nz o h =
     let a3 = strict (value_at g3 p) (times_off s (edge_through t.c t.a (unit a)) p nz o.third) z.0 in
     λ i. a1 i && (a2 i && (a3 i && true))
 
-pub generic_clear : (p : Spot) (t : Tri) → pos 0 <ℤ p.w → value_at (support_of t) p ≢ pos 0 → ((a : Axis) → along (support_of t) a ≢ pos 0 → OffEdges a p t) → IsClear (face_of t) p
+generic_clear : (p : Spot) (t : Tri) → pos 0 <ℤ p.w → value_at (support_of t) p ≢ pos 0 → ((a : Axis) → along (support_of t) a ≢ pos 0 → OffEdges a p t) → IsClear (face_of t) p
 unfolding face_of
 generic_clear p t w off o =
     record { outside = not_closed (is_in_closed (face_of t) p) refl; rays = rays }
@@ -125,6 +125,7 @@ off_clear p t x y z nf =
     each Y nz = edge_normal t Y p y nz
     each Z nz = edge_normal t Z p z nz
 
+-- a point that is shifted by little enough is clear of all triangles
 pub clear_shifted : (p : Spot) (ts : List Tri) → pos 0 <ℤ p.w → Eventually (λ k. AllByRecursion (λ t. IsClearOf t (shifted p (pos k))) ts)
 clear_shifted p [] w = eventually_true (λ k. tt)
 clear_shifted p (t ∷ ts) w =

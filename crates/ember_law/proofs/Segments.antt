@@ -40,7 +40,7 @@ use Rattle.ember_law.proofs.Shifted.{NoNormal, follows_shifted, off_shifted, wei
 use Rattle.ember_law.proofs.FlatTriangles.{IsFlat, flat_out, flat_seen_crossing}
 use Rattle.ember_law.proofs.Generic.{cancel_zero, wind_shifted, generic_shifted}
 use Rattle.ember_law.proofs.Axes.{wind_seen, axes_agree}
-use Rattle.ember_law.proofs.Separation.{Separates, separate}
+use Rattle.ember_law.proofs.Separation.{Separates, missed_face_has_separating_edge}
 
 -- ---- the direction from p to q
 abbrev pub toward : Spot → Spot → Vector
@@ -307,7 +307,7 @@ are_apart p q (t ∷ ts) wp wq h = by (is_flat t) refl h (are_apart p q ts wp wq
   where
     by : (b : Bool) → is_flat t ≡ b → AllByRecursion (MissesFace p q) (map face_of (cond (not b) (t ∷ filter (λ t. not (is_flat t)) ts) (filter (λ t. not (is_flat t)) ts))) → (AllByRecursion (MissesFace p q) (faces_of ts) → AreApart p q ts) → AreApart p q (t ∷ ts)
     by true e h r = (inl (flat_out t e), r h)
-    by false e h r = (inr (separate (face_of t) p q wp wq h.0), r h.1)
+    by false e h r = (inr (missed_face_has_separating_edge (face_of t) p q wp wq h.0), r h.1)
 
 near_shifted : (p q : Spot) (ts : List Tri) → AreApart p q ts → Eventually (λ k. AreApart (shifted p (pos k)) q ts)
 near_shifted p q [] s = eventually_true (λ k. tt)
@@ -361,6 +361,7 @@ by_way : (a b : Axis) (p q v w : Spot) (ts : List Tri) → IsBalanced ts → pos
 by_way a b p q v w ts l lp lq kp kq lv lw ev ew h gv gw sv s =
     axes_agree a X p ts l lp kp ∙ ev ∙ generic_way v w ts l lv lw h gv gw sv s ∙ sym ew ∙ axes_agree X b q ts l lq kq
 
+-- along a segment that misses all faces, winding numbers stay
 pub segment_law : (a b : Axis) (p q : Spot) (ts : List Tri) → IsBalanced ts → pos 0 <ℤ p.w → pos 0 <ℤ q.w → AreClear (faces_of ts) p → AreClear (faces_of ts) q → AllByRecursion (MissesFace p q) (faces_of ts) → wind a (faces_of ts) p ≡ wind b (faces_of ts) q
 segment_law a b p q ts l lp lq kp kq h =
     let e = eventually_both (weight_shifted p lp) (eventually_both (wind_shifted X p (faces_of ts) lp kp) (eventually_both (generic_shifted (unit X) p ts lp) (near_shifted p q ts (are_apart p q ts lp lq h)))) in

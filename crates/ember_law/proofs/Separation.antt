@@ -25,6 +25,7 @@ use Rattle.ember_law.specs.Laws.{MissesFace}
 abbrev pub mix : ℤ → ℤ → Spot → Spot → Spot
 mix k m p q = plus_s (scaled k p) (scaled m q)
 
+-- a plane's value at a combination of two points is that combination of its values
 pub value_mix : (g : Plane) (k m : ℤ) (p q : Spot) → value_at g (mix k m p q) ≡ k *ℤ value_at g p +ℤ m *ℤ value_at g q
 value_mix g k m p q =
     value_plus g (scaled k p) (scaled m q) ∙ (let x = value_scaled k g p in let y = value_scaled m g q in λ i. x i +ℤ y i)
@@ -57,9 +58,9 @@ pub record Above (x : Spot) (es : List Plane) : Type 0 where
   pub member : In plane es
   pub up : pos 0 <ℤ value_at plane x
 
-pub above : (x : Spot) (es : List Plane) → none_positive es x ≡ false → Above x es
-above x [] e = cc
-above x (g ∷ gs) e = by (not (is_positive (value_at g x))) refl e (above x gs)
+point_outside_is_above : (x : Spot) (es : List Plane) → none_positive es x ≡ false → Above x es
+point_outside_is_above x [] e = cc
+point_outside_is_above x (g ∷ gs) e = by (not (is_positive (value_at g x))) refl e (point_outside_is_above x gs)
   where
     more : Above x gs → Above x (g ∷ gs)
     more r = record { plane = r.plane; member = inr r.member; up = r.up }
@@ -109,7 +110,7 @@ after_member x y h g (k ∷ ks) f (inr m) = after_member x y h g ks f.1 m
 abbrev pub combine : ℤ → Plane → ℤ → Plane → Plane
 combine k g m h = record { a = k *ℤ g.a +ℤ m *ℤ h.a; b = k *ℤ g.b +ℤ m *ℤ h.b; c = k *ℤ g.c +ℤ m *ℤ h.c; d = k *ℤ g.d +ℤ m *ℤ h.d }
 
-pub value_combine : (k : ℤ) (g : Plane) (m : ℤ) (h : Plane) (x : Spot) → value_at (combine k g m h) x ≡ k *ℤ value_at g x +ℤ m *ℤ value_at h x
+value_combine : (k : ℤ) (g : Plane) (m : ℤ) (h : Plane) (x : Spot) → value_at (combine k g m h) x ≡ k *ℤ value_at g x +ℤ m *ℤ value_at h x
 value_combine k g m h s =
     solve 14 (λ m k ga gb gc gd na nb nc nd x y z w. (m ⊗ ga ⊕ k ⊗ na) ⊗ x ⊕ (m ⊗ gb ⊕ k ⊗ nb) ⊗ y ⊕ (m ⊗ gc ⊕ k ⊗ nc) ⊗ z ⊖ (m ⊗ gd ⊕ k ⊗ nd) ⊗ w ≈ m ⊗ (ga ⊗ x ⊕ gb ⊗ y ⊕ gc ⊗ z ⊖ gd ⊗ w) ⊕ k ⊗ (na ⊗ x ⊕ nb ⊗ y ⊕ nc ⊗ z ⊖ nd ⊗ w)) cancels k m g.a g.b g.c g.d h.a h.b h.c h.d s.x s.y s.z s.w
 
@@ -121,7 +122,7 @@ closed_low f x h m c = none_positive_member x f.edges h (closed_parts f x c).2 m
 
 -- a point of the support plane that is not in the closed face
 off_face : (f : Face) (x : Spot) → pos 0 <ℤ x.w → value_at f.support x ≡ pos 0 → is_in_closed f x ≡ false → Above x f.edges
-off_face f x w z c = above x f.edges (sym (closed_on f x (positive_in w) z) ∙ c)
+off_face f x w z c = point_outside_is_above x f.edges (sym (closed_on f x (positive_in w) z) ∙ c)
 
 -- p behind, q in front, and one of them strictly
 across : (f : Face) (p q : Spot) → pos 0 <ℤ p.w → pos 0 <ℤ q.w → MissesFace p q f → value_at f.support p ≤ℤ pos 0 → pos 0 ≤ℤ value_at f.support q → pos 0 <ℤ (value_at f.support q -ℤ value_at f.support p) → Separates f p q
@@ -180,7 +181,7 @@ inside_plane f p q wp wq h zp zq =
 
     tame_all : none_positive rest q ≡ true
     tame_all =
-        ⊎_elim (λ t. t) (λ o. absurd (let r = above q rest o in let l = not_positive_out (value_at r.plane q) (filter_out tame r.plane f.edges r.member).1 in let u = r.up in omega (arith, linear, u, l))) (decide (none_positive rest q))
+        ⊎_elim (λ t. t) (λ o. absurd (let r = point_outside_is_above q rest o in let l = not_positive_out (value_at r.plane q) (filter_out tame r.plane f.edges r.member).1 in let u = r.up in omega (arith, linear, u, l))) (decide (none_positive rest q))
 
     two : Last p q rest → Separates f p q
     two r =
@@ -194,8 +195,9 @@ inside_plane f p q wp wq h zp zq =
         (λ b. by_lt_z (pos 0) l1 (λ a. simple l.plane l.member a b) (λ a. joined g l.plane gm.0 l.member u d a b v))
         (λ b. absurd (let o = after_member p q g l.plane rest r.after (filter_in tame l.plane f.edges l.member (not_positive_in l2 b)) in omega (arith, linear, o, v, solve 4 (λ h1 h2 l1 l2. neg h2 ⊗ l1 ⊕ h1 ⊗ l2 ≈ l1 ⊗ neg h2 ⊖ h1 ⊗ neg l2) cancels h1 h2 l1 l2)))
 
-pub separate : (f : Face) (p q : Spot) → pos 0 <ℤ p.w → pos 0 <ℤ q.w → MissesFace p q f → Separates f p q
-separate f p q wp wq h =
+-- a segment that misses a face is separated from it by the face's plane or an edge
+pub missed_face_has_separating_edge : (f : Face) (p q : Spot) → pos 0 <ℤ p.w → pos 0 <ℤ q.w → MissesFace p q f → Separates f p q
+missed_face_has_separating_edge f p q wp wq h =
     by_sign (value_at f.support p)
     (λ a. by_sign (value_at f.support q)
     (λ b. record { plane = f.support; near = a; far = b; low = λ x c. let e = closed_flat f x c in omega (arith, linear, e) })

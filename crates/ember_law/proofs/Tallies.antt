@@ -26,6 +26,7 @@ no_tri =
     let u : Corner = record { x = pos 0; y = pos 0; z = pos 0 } in record { a = u; b = u; c = u; mesh = 0 }
 
 -- ---- lists of counts
+-- functions with the same values map a list alike
 pub map_same : (f g : ℕ → ℤ) → ((m : ℕ) → f m ≡ g m) → (ms : List ℕ) → map f ms ≡ map g ms
 map_same f g e [] = refl
 map_same f g e (m ∷ ms) = let x = e m in let r = map_same f g e ms in λ i. x i ∷ r i
@@ -55,18 +56,21 @@ added_nothing g z (suc n) a (c ∷ cs) =
 
 -- ---- one more triangle
 module _ (f : Face → ℤ) (flat : (t : Tri) → IsFlat t → f (face_of t) ≡ pos 0) where
+  -- what a triangle of mesh m gives to its count, and 0 for other meshes
   unfoldable pub of_one : ℕ → Tri → ℤ
   of_one m t = cond (nat_eq t.mesh m) (f (face_of t)) (pos 0)
 
-  pub entry : (m : ℕ) (ts : List Tri) → total f (faces_of (of_mesh m ts)) ≡ total (of_one m) ts
+  -- the sum over the faces of one mesh, as a sum over all triangles that counts that mesh alone
+  pub mesh_total_is_entry : (m : ℕ) (ts : List Tri) → total f (faces_of (of_mesh m ts)) ≡ total (of_one m) ts
   unfolding of_one
-  entry m ts = total_faces f flat (of_mesh m ts) ∙ total-filter (λ t. f (face_of t)) (λ t. nat_eq t.mesh m) ts
+  mesh_total_is_entry m ts = total_faces f flat (of_mesh m ts) ∙ total-filter (λ t. f (face_of t)) (λ t. nat_eq t.mesh m) ts
 
   entry_more : (m : ℕ) (ts : List Tri) (i : ℕ) (d : Tri) → i < length ts → total f (faces_of (of_mesh m (take (i + 1) ts))) ≡ total f (faces_of (of_mesh m (take i ts))) +ℤ of_one m (get_or ts i d)
   entry_more m ts i d l =
-      let x = entry m (take (i + 1) ts) in let y = entry m (take i ts) in let z = total-take_more (of_one m) ts i d l in
+      let x = mesh_total_is_entry m (take (i + 1) ts) in let y = mesh_total_is_entry m (take i ts) in let z = total-take_more (of_one m) ts i d l in
       x ∙ z ∙ (λ k. (sym y) k +ℤ of_one m (get_or ts i d))
 
+  -- one more triangle adds what its face gives to the count of its mesh
   pub tally_more : (ts : List Tri) (i : ℕ) (d : Tri) → i < length ts → HasMesh 64 (get_or ts i d) → (old : List ℤ) → added old (tally f (take (i + 1) ts)) ≡ with_more (added old (tally f (take i ts))) (get_or ts i d).mesh (f (face_of (get_or ts i d)))
   unfolding meshes of_one
   tally_more ts i d l m old =
@@ -98,7 +102,7 @@ module _ (f : Face → ℤ) (flat : (t : Tri) → IsFlat t → f (face_of t) ≡
 
       each : (m : ℕ) → total f (faces_of (of_mesh m (filter p ts))) ≡ total f (faces_of (of_mesh m ts))
       each m =
-          entry m (filter p ts) ∙ total-filter (of_one m) p ts ∙ total_same (λ t. cond (p t) (of_one m t) (pos 0)) (of_one m) (kept m) ts ∙ sym (entry m ts)
+          mesh_total_is_entry m (filter p ts) ∙ total-filter (of_one m) p ts ∙ total_same (λ t. cond (p t) (of_one m t) (pos 0)) (of_one m) (kept m) ts ∙ sym (mesh_total_is_entry m ts)
 
   -- where no face adds anything
   pub tally_zero : (ts : List Tri) → All (λ t. f (face_of t) ≡ pos 0) ts → tally f ts ≡ map (λ m. pos 0) meshes
@@ -113,8 +117,9 @@ module _ (f : Face → ℤ) (flat : (t : Tri) → IsFlat t → f (face_of t) ≡
           by t false e = refl
 
       each : (m : ℕ) → total f (faces_of (of_mesh m ts)) ≡ pos 0
-      each m = entry m ts ∙ total_same_all (of_one m) (λ t. pos 0) ts (none m) ∙ total_zero (λ t. pos 0) (λ t. refl) ts
+      each m = mesh_total_is_entry m ts ∙ total_same_all (of_one m) (λ t. pos 0) ts (none m) ∙ total_zero (λ t. pos 0) (λ t. refl) ts
 
+-- no triangles add nothing
 pub tally_none : (f : Face → ℤ) (old : List ℤ) → added old (tally f []) ≡ old
 unfolding meshes
 tally_none f old = added_nothing (λ m. total f (faces_of (of_mesh m []))) (λ m. refl) 64 1 old

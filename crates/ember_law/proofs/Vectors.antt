@@ -30,14 +30,17 @@ map_added f g h e [] = refl
 map_added f g h e (m ∷ ms) =
     let q = e m in let x : f m ≡ g m +ℤ h m = omega (arith, linear, q) in let r = map_added f g h e ms in λ i. x i ∷ r i
 
+-- in a scene, winding numbers at clear points are the same along all axes
 pub axes_law : (ts : List Tri) (n : ℕ) → IsScene ts n → AxesAgree ts
 axes_law ts n s p a b w c =
     map_same (λ m. wind a (faces_of (of_mesh m ts)) p) (λ m. wind b (faces_of (of_mesh m ts)) p) (λ m. axes_agree a b p (of_mesh m ts) (s.balanced m) w (of_mesh_all (λ f. IsClear f p) m ts c)) meshes
 
+-- in a scene, winding numbers change along a segment by its crossings
 pub legs_law : (ts : List Tri) (n : ℕ) → IsScene ts n → SegmentsGiveDifference ts
 legs_law ts n s a b p q wp wq d cp cq =
     map_added (λ m. wind b (faces_of (of_mesh m ts)) p) (λ m. wind b (faces_of (of_mesh m ts)) q) (λ m. leg_wind (faces_of (of_mesh m ts)) p q) (λ m. path_law a b p q (of_mesh m ts) (s.balanced m) wp wq d (of_mesh_all (λ f. IsClear f p) m ts cp) (of_mesh_all (λ f. IsClear f q) m ts cq)) meshes
 
+-- in a scene, segments between clear points that miss all faces keep the winding numbers
 pub segments_law : (ts : List Tri) (n : ℕ) → IsScene ts n → ClearSegmentsKeepVectors ts
 segments_law ts n s a b p q wp wq cp cq h =
     map_same (λ m. wind a (faces_of (of_mesh m ts)) p) (λ m. wind b (faces_of (of_mesh m ts)) q) (λ m. segment_law a b p q (of_mesh m ts) (s.balanced m) wp wq (of_mesh_all (λ f. IsClear f p) m ts cp) (of_mesh_all (λ f. IsClear f q) m ts cq) (of_mesh_all (MissesFace p q) m ts h)) meshes

@@ -69,7 +69,7 @@ pub fn axis_count(s: &Scene, p: &Spot, a: Axis, v: &mut Vector)
 /// Adds to the count of each mesh the signed crossings of the segment from `p` to `q` with the
 /// mesh's faces: 1 if the segment from `p` to `q` leaves through the front. For clear points these
 /// are the winding numbers at `p` less those at `q`. As points of space `p` and `q` differ at most
-/// in the coordinate of the axis. The counts leave room as for `axis_count`.
+/// in the coordinate of the axis. The counts leave room as for `axis_count`. Only tests call this.
 pub fn leg_count(s: &Scene, p: &Spot, q: &Spot, a: Axis, v: &mut Vector)
     requires from { IsValidSpot p.now }
     requires to { IsValidSpot q.now }

@@ -34,13 +34,11 @@ behind_push : (P : Plane → Type 0) (es : List Plane) (g : Plane) → AllByRecu
 behind_push P [] g h p = (p, tt)
 behind_push P (e ∷ es) g h p = (h.0, behind_push P es g h.1 p)
 
+-- a corner that is behind the first i planes, and behind the next one
 pub behind_more : (es : List Plane) (i : ℕ) (c : Corner) {old new : Bool} {x : ℤ} → i < length es → x ≡ value_at (get_or es i no_plane) (spot_of_corner c) → new ≡ old && is_negative x → (old ≡ true → IsBehind (take i es) c) → new ≡ true → IsBehind (take (i + 1) es) c
 behind_more es i c {old} {new} {x} l e q h t =
     let k = and_parts old (is_negative x) (sym q ∙ t) in let g = get_or es i no_plane in
     subst (λ (us : List Plane). IsBehind us c) (sym (take_more es i no_plane l)) (behind_push (λ g. IsBelow g (spot_of_corner c)) (take i es) g (h k.0) (record { under = subst (λ z. z <ℤ pos 0) e (negative_out x k.1) }))
-
-pub whole_behind : (es : List Plane) (i : ℕ) (c : Corner) → length es ≤ i → IsBehind (take i es) c → IsBehind es c
-whole_behind es i c l h = subst (λ (us : List Plane). IsBehind us c) (take_all i es l) h
 
 -- ---- the triangle's corners lie in its closed face
 abbrev side_at : Tri → Corner → Corner → ℕ → Side
@@ -82,11 +80,12 @@ module _ (f : Face) (es : List Plane) (ms : List Meet) (o : IsOutline f (ring_ed
       under_least u (closed_at_least t n g v (front_at_least g t h.parts) (closed_ring t v m.holds))
 
   -- a corner of the triangle behind all edges is a common point
-  pub behind_met : (t : Tri) (c : Corner) → HasInside f → ShareAPlane t f → is_in_closed (face_of t) (spot_of_corner c) ≡ true → IsBehind es c → Meets f (face_of t)
+  behind_met : (t : Tri) (c : Corner) → HasInside f → ShareAPlane t f → is_in_closed (face_of t) (spot_of_corner c) ≡ true → IsBehind es c → Meets f (face_of t)
   behind_met t c s p i h =
       let k = same s in
       record { at = spot_of_corner c; inside = k.inside (spot_of_corner c) ∙ inside_in (record { support = f.support; edges = es }) (spot_of_corner c) (record { flat = p.triangle (spot_of_corner c) i; weight = omega (arith, ints); within = h }); holds = i }
 
+  -- if a corner of the triangle is behind all edges of a region in its plane, the two meet
   pub contact_met : (t : Tri) → is_flat t ≡ false → HasInside f → ShareAPlane t f → IsBehind es t.a ⊎ (IsBehind es t.b ⊎ IsBehind es t.c) → Meets f (face_of t)
   contact_met t n s p (inl h) = behind_met t t.a s p (corners t n).a h
   contact_met t n s p (inr (inl h)) = behind_met t t.b s p (corners t n).b h

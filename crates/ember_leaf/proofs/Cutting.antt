@@ -19,28 +19,19 @@ use Rattle.ember_leaf.specs.declared.cutter.Role.{Role}
 use Rattle.ember_leaf.specs.declared.cutter.Role.TheVariants.{Across, Coplanar, Owner}
 use Rattle.ember_leaf.specs.Cutters.{ShareAPlane, SharesAs, CanCut, AreCut}
 use Rattle.ember_leaf.proofs.WallClips.{each_every, inside_in_below}
-use Rattle.ember_leaf.proofs.Leaving.{left_every, every_all, regions_left}
+use Rattle.ember_leaf.proofs.OwnedRegions.{left_every, every_all, regions_left}
 
 -- ---- lists
 pub chain_next : {X A : Type 0} (R : X → A → A → Type 0) (xs : List X) (i : ℕ) (d : X) (a b c : A) → i < length xs → d ≡ get_or xs i d → Chain R (take i xs) a b → R d b c → Chain R (take (i + 1) xs) a c
 chain_next R xs i d a b c l e h r = rw (take_more xs i d l, ← e) (chain_push h r)
 
-pub all_mid : {X : Type 0} (P : X → Type 0) (xs : List X) (x : X) (ys : List X) {all : List X} → xs ++ x ∷ ys ≡ all → All P all → P x
-all_mid {X} P xs x ys e h =
-    subst P (mid xs) (All-get_or P (xs ++ x ∷ ys) (length xs) x lt (subst (All P) (sym e) h))
-  where
-    mid : (xs : List X) → get_or (xs ++ x ∷ ys) (length xs) x ≡ x
-    mid [] = refl
-    mid (z ∷ zs) = mid zs
-
-    lt : length xs < length (xs ++ x ∷ ys)
-    lt = let q = length-append xs (x ∷ ys) in omega (arith, q)
-
+-- what holds of all members of a list holds of all members from k on
 pub all_drop : {X : Type 0} (P : X → Type 0) (k : ℕ) (xs : List X) → All P xs → All P (drop k xs)
 all_drop P zero xs h = h
 all_drop P (suc k) [] h = h
 all_drop P (suc k) (x ∷ xs) h = all_drop P k xs (λ i d l. h (suc i) d (omega (arith, l)))
 
+-- `All` and `Every` say the same of a list
 pub all_every : {X : Type 0} (P : X → Type 0) (xs : List X) → All P xs → Every P xs
 all_every P [] h = tt
 all_every P (x ∷ xs) h =
@@ -70,7 +61,7 @@ pieces_kept f done h = h
 pieces_kept f (step {x = b} r c) h =
     pieces_kept f c (each_every (IsPieceOf f) (IsPieceOf f) (piece_kept f b) r h)
 
-pub cut_pieces : (cs : List Cutter) (f : Face) (gs : List Face) → HasInside f → AreCut cs (f ∷ []) gs → Every (IsPieceOf f) gs
+cut_pieces : (cs : List Cutter) (f : Face) (gs : List Face) → HasInside f → AreCut cs (f ∷ []) gs → Every (IsPieceOf f) gs
 cut_pieces cs f gs s c =
     let l = regions_left cs f gs c in
     left_every (IsPieceOf f) l.without (pieces_kept f l.cuts (whole_piece f s, tt))
@@ -87,6 +78,7 @@ piece_can c f g h p = record { shares = by c.role h.shares; somewhere = p.somewh
     by Coplanar s = shared s
     by Owner s = shared s
 
+-- a cutter that can cut the start can cut all regions of it
 pub all_can_cut : (cs : List Cutter) (f : Face) (gs : List Face) → AreCut cs (f ∷ []) gs → (c : Cutter) → CanCut c f → All (CanCut c) gs
 all_can_cut cs f gs k c h = every_all (CanCut c) gs (by gs (cut_pieces cs f gs h.somewhere k))
   where
@@ -94,6 +86,7 @@ all_can_cut cs f gs k c h = every_all (CanCut c) gs (by gs (cut_pieces cs f gs h
     by [] e = tt
     by (g ∷ gs) e = (piece_can c f g h e.0, by gs e.1)
 
+-- a cutter of the list can cut f if all can
 pub can_cut_at : (cs : List Cutter) (f : Face) (i : ℕ) (d : Cutter) → i < length cs → d ≡ get_or cs i d → All (λ c. CanCut c f) cs → CanCut d f
 can_cut_at cs f i d l e h =
     subst (λ (c : Cutter). CanCut c f) (sym e) (All-get_or (λ c. CanCut c f) cs i d l h)

@@ -40,19 +40,19 @@ use Rattle.ember_leaf.specs.Walls.{wall_of, IsPartOf, IsClippedBy}
 use Rattle.ember_leaf.specs.TriRelations.{IsLower}
 use Rattle.ember_leaf.specs.declared.cutter.Role.{Role}
 use Rattle.ember_leaf.specs.declared.cutter.Role.TheVariants.{Across, Coplanar, Owner}
-use Rattle.ember_leaf.specs.Leaves.{IsRegionOf}
+use Rattle.ember_leaf.specs.KeptRegions.{IsRegionOf}
 use Rattle.ember_leaf.specs.Lower.{AreLower, DecidesOwner}
 use Rattle.ember_leaf.specs.Written.{AreOwned}
 use Rattle.ember_poly.specs.Cuts.{HasInside}
-use Rattle.ember_leaf.specs.Cutters.{blades_in, owners_in, IsCutterOf, AreDisjoint, IsFree, AreCut, CanCut, LiesAs, SharesAs, IsWithinInterval, IsWithinAabb, IsBounded, OmitsUnmet, common, common_of}
+use Rattle.ember_leaf.specs.Cutters.{cutting_planes_in, owners_in, IsCutterOf, AreDisjoint, IsFree, AreCut, CanCut, LiesAs, SharesAs, IsWithinInterval, IsWithinAabb, IsBounded, OmitsUnmet, common, common_of}
 use Rattle.ember_leaf.proofs.WallClips.{left_parts}
 use Rattle.ember_leaf.proofs.TriRelations.{bounds}
-use Rattle.ember_leaf.proofs.UnmetPlanes.{unshed}
-use Rattle.ember_leaf.proofs.Lower.{tells_owner, owners_lower}
-use Rattle.ember_leaf.proofs.Leaving.{without_map, left_every, left_have, every_all, regions_left}
+use Rattle.ember_leaf.proofs.UnmetPlanes.{unmet_planes_change_nothing}
+use Rattle.ember_leaf.proofs.LowerTriangles.{tells_owner, owners_lower}
+use Rattle.ember_leaf.proofs.OwnedRegions.{without_map, left_every, left_have, every_all, regions_left}
 use Rattle.ember_leaf.proofs.Cutting.{all_every}
 use Rattle.ember_leaf.proofs.RegionCuts.{cuts_keep, parts_regions}
-use Rattle.ember_leaf.proofs.Sharing.{share_a_plane}
+use Rattle.ember_leaf.proofs.CoplanarFaces.{share_a_plane}
 use Rattle.ember_leaf.proofs.WrittenRegions.{all_lie_in}
 
 -- ---- points of boxes
@@ -113,13 +113,13 @@ module _ (c : Cell) (f : LeafTriangle) (ring : Face) where
           let k = inside_closed (face_of f.tri) v i in
           subst (λ (b : Aabb). IsWithinAabb b v) (sym f.bounds) (record { x = bounds X f.tri v n k; y = bounds Y f.tri v n k; z = bounds Z f.tri v n k })
 
-  pub leaf_regions : (ts : List Tri) (i : ℕ) (ws : List leaf.Wall) (bs : List regions.CuttingPlane) (s : Aabb) (list : List Face) → f.tri ≡ tri_at ts i → map wall_of ws ≡ walls c → s ≡ common_of f.aabb (aabb_of_cell c) → IsClippedBy (map wall_of ws) f.tri (ring ∷ []) → OmitsUnmet (IsBounded f.tri s) (cutting_planes ts i) bs → Chain (λ b. Each (AtCuttingPlane b)) bs (ring ∷ []) list → IsRegions c ts i list
+  leaf_regions : (ts : List Tri) (i : ℕ) (ws : List leaf.Wall) (bs : List regions.CuttingPlane) (s : Aabb) (list : List Face) → f.tri ≡ tri_at ts i → map wall_of ws ≡ walls c → s ≡ common_of f.aabb (aabb_of_cell c) → IsClippedBy (map wall_of ws) f.tri (ring ∷ []) → OmitsUnmet (IsBounded f.tri s) (cutting_planes ts i) bs → Chain (λ b. Each (AtCuttingPlane b)) bs (ring ∷ []) list → IsRegions c ts i list
   leaf_regions ts i ws bs s list e w q l h k =
       let start : IsStart c f.tri (ring ∷ []) = subst (λ (vs : List regions.Wall). IsClippedBy vs f.tri (ring ∷ [])) w l in
-      record { start = ring ∷ []; is_start = subst (λ (t : Tri). IsStart c t (ring ∷ [])) e start; cuts = unshed (bounded_keeps f.tri s) h (part_bounded s q (left_parts f.tri start).0 (start_lies_in c f.tri ring start), tt) k }
+      record { start = ring ∷ []; is_start = subst (λ (t : Tri). IsStart c t (ring ∷ [])) e start; cuts = unmet_planes_change_nothing (bounded_keeps f.tri s) h (part_bounded s q (left_parts f.tri start).0 (start_lies_in c f.tri ring start), tt) k }
 
--- the list of triangles before it tells the owner of each region
-pub owners_told : (c : Cell) (f : LeafTriangle) (ts : List Tri) (i : ℕ) (lower : List Tri) (s : Aabb) (list : List Face) → f.tri ≡ tri_at ts i → i < length ts → s ≡ common_of f.aabb (aabb_of_cell c) → IsRegions c ts i list → Every (IsPartOf f.tri) list → All (IsLower f.tri) lower → AreLower ts i f.tri s (length ts) lower → All (DecidesOwner lower ts i) list
+-- the list of triangles before a triangle decides whether it owns each of its regions
+owners_told : (c : Cell) (f : LeafTriangle) (ts : List Tri) (i : ℕ) (lower : List Tri) (s : Aabb) (list : List Face) → f.tri ≡ tri_at ts i → i < length ts → s ≡ common_of f.aabb (aabb_of_cell c) → IsRegions c ts i list → Every (IsPartOf f.tri) list → All (IsLower f.tri) lower → AreLower ts i f.tri s (length ts) lower → All (DecidesOwner lower ts i) list
 owners_told c f ts i lower s list e w q r p k a j d l =
     let g = get_or list j d in let at = slice_get-get_or list j d l in let part = every_at (IsPartOf f.tri) list j g p at in
     tells_owner ts i f.tri s e w lower g k a (part_bounded c f g s q part (regions_lie_in c ts i j list g r at)) part.somewhere
@@ -144,23 +144,26 @@ all_told lower ts i t (f ∷ fs) h k =
     (record { tells = h.0; somewhere = k.0.somewhere }, all_told lower ts i t fs h.1 k.1)
 
 -- what the triangles leave of the start are the regions that the triangle owns
-pub leaf_owned : (c : Cell) (f : LeafTriangle) (ring : Face) (ts : List Tri) (i : ℕ) (ws : List leaf.Wall) (cs : List Cutter) (s : Aabb) (list : List Face) → f.tri ≡ tri_at ts i → i < length ts → map wall_of ws ≡ walls c → s ≡ common_of f.aabb (aabb_of_cell c) → IsClippedBy (map wall_of ws) f.tri (ring ∷ []) → OmitsUnmet (IsBounded f.tri s) (cutting_planes ts i) (blades_in cs) → All (IsCutterOf f.tri) cs → AreLower ts i f.tri s (length ts) (owners_in cs) → AreCut cs (ring ∷ []) list → AreOwned c ts i list
+pub leaf_owned : (c : Cell) (f : LeafTriangle) (ring : Face) (ts : List Tri) (i : ℕ) (ws : List leaf.Wall) (cs : List Cutter) (s : Aabb) (list : List Face) → f.tri ≡ tri_at ts i → i < length ts → map wall_of ws ≡ walls c → s ≡ common_of f.aabb (aabb_of_cell c) → IsClippedBy (map wall_of ws) f.tri (ring ∷ []) → OmitsUnmet (IsBounded f.tri s) (cutting_planes ts i) (cutting_planes_in cs) → All (IsCutterOf f.tri) cs → AreLower ts i f.tri s (length ts) (owners_in cs) → AreCut cs (ring ∷ []) list → AreOwned c ts i list
 leaf_owned c f ring ts i ws cs s list e l w q h sheds lies lower k =
-    let r = regions_left cs ring list k in let are = leaf_regions c f ring ts i ws (blades_in cs) s r.all e w q h sheds r.cuts in
+    let r = regions_left cs ring list k in let are = leaf_regions c f ring ts i ws (cutting_planes_in cs) s r.all e w q h sheds r.cuts in
     let parts = cuts_keep f.tri r.cuts ((left_parts f.tri h).0, tt) in let us = owners_in cs in
     let told = all_every (DecidesOwner us ts i) r.all (owners_told c f ts i us s r.all e l q are parts (owners_lower f.tri cs lies) lower) in
     record { all = r.all; are_regions = are; owned = without_map (IsTold us ts i) (λ g t p. t.tells.held p) (λ g t p. t.tells.free (free_uncontained us g t.somewhere p)) (all_told us ts i f.tri r.all told parts) r.without }
 
 module _ (c : Cell) (ts : List Tri) (i : ℕ) (list : List Face) (o : AreOwned c ts i list) where
+  -- owned regions are regions of their triangle
   pub owned_planes : All (IsRegionOf (tri_at ts i)) list
   owned_planes =
       let t = tri_at ts i in let r = o.are_regions in
       parts_regions t list (left_every (IsPartOf t) o.owned (cuts_keep t r.cuts (left_parts t r.is_start)))
 
+  -- owned regions lie in the box
   pub owned_inside : All (LiesIn c) list
   owned_inside =
       every_all (LiesIn c) list (left_every (LiesIn c) o.owned (all_every (LiesIn c) o.all (all_lie_in c ts i o.all o.are_regions)))
 
+  -- the triangle owns each of them
   pub owned_each : All (IsOwner ts i) list
   owned_each = every_all (IsOwner ts i) list (left_have o.owned)
 

@@ -22,7 +22,7 @@ use Rattle.ember_leaf.specs.Walls.{IsPartOf}
 use Rattle.ember_leaf.specs.Written.{AtRegion, unowned, even, written, IsCovered, regional, IsWrittenIn}
 use Rattle.ember_leaf.specs.Scenes.{HasOneValue, regions, IsWritten}
 use Rattle.ember_leaf.specs.Literal.{IsLiterallyWrittenOf, IsLiterallyWrittenIn, IsLiterallyWritten}
-use Rattle.ember_leaf.proofs.OneList.{covered_writes_nothing, nothing_written, written_unique}
+use Rattle.ember_leaf.proofs.WrittenRegionsUnique.{covered_writes_nothing, nothing_written, written_unique}
 use Rattle.ember_leaf.proofs.RegionCuts.{cuts_keep}
 use Rattle.ember_leaf.proofs.WallClips.{left_parts}
 use Rattle.ember_leaf.proofs.SomeRegions.{either, some_each, some_each_where, some_regions}
@@ -67,6 +67,7 @@ each_as f (more {x = x} {ys = ys} r e) = more (f x ys r) (each_as f e)
 in_leaf : (scene : List Tri) (f : Formula) (c : Cell) {ks : List Kept} → IsLiterallyWrittenIn scene f c ks → IsWrittenIn scene f c (near scene c) ks
 in_leaf scene f c w = each_as (λ i us r. regional r) w
 
+-- a list that is literally written is written
 pub literal_written : (scene : List Tri) (f : Formula) (ks : List Kept) → IsLiterallyWritten scene f ks → IsWritten scene f ks
 literal_written scene f ks w = each_as (λ c us r. regions (in_leaf scene f c r)) w
 

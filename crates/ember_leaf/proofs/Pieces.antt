@@ -29,8 +29,8 @@ use Rattle.ember_leaf.specs.Written.{HasGrown}
 use Rattle.ember_leaf.specs.Cutters.{planes_as, owner_as, cutting_planes_with, owners_by, ended, left, dropped, AreDisjoint, IsFree, AreLeft, AtCutter, AtPlane, IsUncut, AtEdges, AreAround, AreLast, ShareAPlane, SharesAs, CanCut}
 use Rattle.ember_leaf.proofs.WallClips.{inside_in_below}
 use Rattle.ember_leaf.proofs.RegionCuts.{take_all, region_parts, region_whole}
-use Rattle.ember_leaf.proofs.Leaving.{cuts_both, cuts_unmet, without_append, none_dropped}
-use Rattle.ember_leaf.proofs.Sharing.{unmet_disjoint, meets_inside}
+use Rattle.ember_leaf.proofs.OwnedRegions.{cuts_both, cuts_unmet, without_append, none_dropped}
+use Rattle.ember_leaf.proofs.CoplanarFaces.{unmet_disjoint, meets_inside}
 
 -- ---- a region that the triangle doesn't meet
 free_as : (k : Role) (t : Tri) (f : Face) → AreDisjoint (face_of t) f → IsFree (owner_as k t) f
@@ -38,6 +38,7 @@ free_as Across t f d = record { free = tt }
 free_as Coplanar t f d = record { free = tt }
 free_as Owner t f d = record { free = (d, tt) }
 
+-- a region that a triangle doesn't meet is left as it is
 pub unmet_left : (c : Cutter) (f : Face) → (Meets f (face_of c.tri) → ⊥) → AtCutter c f (f ∷ [])
 unmet_left c f n =
     record { all = f ∷ []; cuts = cuts_unmet c.tri (planes_as c.role c.tri) f n; without = left (free_as c.role c.tri f (unmet_disjoint c.tri f n)) ended }
@@ -47,14 +48,17 @@ plane_left : (t : Tri) (p : Plane) (f : Face) {gs : List Face} → Meets f (face
 plane_left t p f {gs} m h =
     record { all = gs; cuts = step (subst (λ (l : List Face). Each (AtCuttingPlane (record { face = face_of t; plane = p })) (f ∷ []) l) (append-nil gs) (more (h (face_of t) m) none)) done; without = none_dropped gs (λ g. record { free = tt }) }
 
+-- what the support plane of a triangle in another plane leaves of a region is what the triangle leaves
 pub across_left : (c : Cutter) (p : Plane) (f : Face) {old new : List Face} → c.role ≡ Across → p ≡ support_of c.tri → Meets f (face_of c.tri) → HasGrown (AtPlane p f) old new → HasGrown (AtCutter c f) old new
 across_left c p f {old} {new} e q m g =
     record { more = g.more; is = g.is; holds = subst (λ (k : Role). AreLeft (cutting_planes_with c.tri (planes_as k c.tri)) (owner_as k c.tri) (f ∷ []) g.more) (sym e) (plane_left c.tri (support_of c.tri) f m (subst (λ (p : Plane). AtPlane p f g.more) q g.holds)) }
 
+-- a plane that cuts a region leaves its two parts
 pub plane_parts : (p : Plane) (f low high : Face) (old mid new : List Face) → AreParts f p low high → mid ≡ old ++ low ∷ [] → new ≡ mid ++ high ∷ [] → HasGrown (AtPlane p f) old new
 plane_parts p f low high old mid new a e q =
     record { more = low ∷ high ∷ []; is = q ∙ ap (λ (l : List Face). l ++ high ∷ []) e ∙ append_assoc old (low ∷ []) (high ∷ []); holds = λ g m. region_parts (record { face = g; plane = p }) f low high m a }
 
+-- a plane that doesn't cut a region leaves it whole
 pub plane_whole : (p : Plane) (f : Face) (k : Reach) (old new : List Face) → IsReach f p k → (k ≡ Both → ⊥) → new ≡ old ++ f ∷ [] → HasGrown (AtPlane p f) old new
 plane_whole p f k old new r n e =
     record { more = f ∷ []; is = e; holds = λ g m. region_whole (record { face = g; plane = p }) f k r n }
@@ -100,11 +104,11 @@ module _ (t : Tri) (p : Plane) (ps : List Plane) (f : Face) (h : AreLast t (p �
       absurd (omega (arith, linear, u, o))
   all_under Both r n = absurd (n refl)
 
-  pub whole_left : (ts : List Tri) (k : Reach) {gs : List Face} → IsReach f p k → (k ≡ Both → ⊥) → AreLeft (cutting_planes_with t ps) ts (f ∷ []) gs → AreLeft (cutting_planes_with t (p ∷ ps)) ts (f ∷ []) gs
+  whole_left : (ts : List Tri) (k : Reach) {gs : List Face} → IsReach f p k → (k ≡ Both → ⊥) → AreLeft (cutting_planes_with t ps) ts (f ∷ []) gs → AreLeft (cutting_planes_with t (p ∷ ps)) ts (f ∷ []) gs
   whole_left ts k r n l =
       record { all = l.all; cuts = step (more (region_whole (record { face = face_of t; plane = p }) f k r n) none) l.cuts; without = l.without }
 
-  pub parts_left : (k : Role) (low high : Face) {gs : List Face} → AreParts f p low high → AreLeft (cutting_planes_with t ps) (owner_as k t) (low ∷ []) gs → AreLeft (cutting_planes_with t (p ∷ ps)) (owner_as k t) (f ∷ []) (gs ++ high ∷ [])
+  parts_left : (k : Role) (low high : Face) {gs : List Face} → AreParts f p low high → AreLeft (cutting_planes_with t ps) (owner_as k t) (low ∷ []) gs → AreLeft (cutting_planes_with t (p ∷ ps)) (owner_as k t) (f ∷ []) (gs ++ high ∷ [])
   parts_left k low high a l =
       let n : Meets high (face_of t) → ⊥ = subst (λ (g : Face). Meets g (face_of t) → ⊥) (sym a.is_high) high_unmet in
       record {
@@ -113,17 +117,20 @@ module _ (t : Tri) (p : Plane) (ps : List Plane) (f : Face) (h : AreLast t (p �
         without = without_append l.without (left (free_as k t high (unmet_disjoint t high n)) ended);
       }
 
+-- if the planes cut out what lies in the triangle, the rest of them do so from the part below the first
 pub low_is_last : (t : Tri) (p : Plane) (ps : List Plane) (f low high : Face) → AreLast t (p ∷ ps) f → AreParts f p low high → AreLast t ps low
 low_is_last t p ps f low high h a = subst (AreLast t ps) (sym a.is_low) (low_last t p ps f h)
 
 -- ---- after the last edge plane
-pub none_held : (t : Tri) (f : Face) → AreLast t [] f → HasContaining (t ∷ []) f
+none_held : (t : Tri) (f : Face) → AreLast t [] f → HasContaining (t ∷ []) f
 none_held t f h = record { index = 0; tri = t; here = refl; holds = record { holds = λ v i. h.within v i tt } }
 
+-- after all planes, an owner leaves nothing of the part inside it
 pub last_dropped : (c : Cutter) (f : Face) (old : List Face) → c.role ≡ Owner → AreLast c.tri [] f → HasGrown (AtEdges c [] f) old old
 last_dropped c f old e h =
     record { more = []; is = sym (append-nil old); holds = subst (λ (k : Role). AreLeft [] (owner_as k c.tri) (f ∷ []) []) (sym e) (record { all = f ∷ []; cuts = done; without = dropped (none_held c.tri f h) ended }) }
 
+-- after all planes, a triangle that isn't an owner leaves the part inside it
 pub last_left : (c : Cutter) (f : Face) (old new : List Face) → (c.role ≡ Owner → ⊥) → new ≡ old ++ f ∷ [] → HasGrown (AtEdges c [] f) old new
 last_left c f old new n e =
     record { more = f ∷ []; is = e; holds = record { all = f ∷ []; cuts = done; without = left (none c.role n) ended } }
@@ -133,10 +140,12 @@ last_left c f old new n e =
     none Coplanar m = record { free = tt }
     none Owner m = absurd (m refl)
 
+-- a plane that doesn't cut the region leaves it to the planes after it
 pub whole_grown : (c : Cutter) (p : Plane) (ps : List Plane) (f : Face) (k : Reach) (old new : List Face) → AreLast c.tri (p ∷ ps) f → IsReach f p k → (k ≡ Both → ⊥) → HasGrown (AtEdges c ps f) old new → HasGrown (AtEdges c (p ∷ ps) f) old new
 whole_grown c p ps f k old new h r n g =
     record { more = g.more; is = g.is; holds = whole_left c.tri p ps f h (owners_by c) k r n g.holds }
 
+-- a plane that cuts the region leaves the part below to the planes after it, and then the part above
 pub parts_grown : (c : Cutter) (p : Plane) (ps : List Plane) (f low high : Face) (old mid new : List Face) → AreLast c.tri (p ∷ ps) f → AreParts f p low high → HasGrown (AtEdges c ps low) old mid → new ≡ mid ++ high ∷ [] → HasGrown (AtEdges c (p ∷ ps) f) old new
 parts_grown c p ps f low high old mid new h a g e =
     record { more = g.more ++ high ∷ []; is = e ∙ ap (λ (l : List Face). l ++ high ∷ []) g.is ∙ append_assoc old g.more (high ∷ []); holds = parts_left c.tri p ps f h c.role low high a g.holds }
@@ -162,10 +171,12 @@ uncut_parts : (f g : Face) (ps : List Plane) → Contains f g → HasInside g �
 uncut_parts f g [] w s u = tt
 uncut_parts f g (p ∷ ps) w s u = (uncut_part f g p w s u.0, uncut_parts f g ps w s u.1)
 
+-- one more plane that doesn't cut the region
 pub uncut_more : (f : Face) (ps : List Plane) (i : ℕ) (d : Plane) → i < length ps → AreUncut f (take i ps) → IsUncut f (get_or ps i d) → AreUncut f (take (i + 1) ps)
 uncut_more f ps i d l h u =
     subst (AreUncut f) (sym (take_more ps i d l)) (each-push (IsUncut f) (take i ps) (get_or ps i d) h u)
 
+-- after the last plane, no plane of the list cuts the region
 pub all_uncut : (f : Face) (ps : List Plane) (i : ℕ) → length ps ≤ i → AreUncut f (take i ps) → AreUncut f ps
 all_uncut f ps i l h = subst (AreUncut f) (take_all i ps l) h
 
@@ -197,50 +208,47 @@ inside_all : (t : Tri) (v : Spot) → value_at (support_of t) v ≡ pos 0 → po
 unfolding face_of
 inside_all t v e w us = inside_in (face_of t) v (record { flat = e; weight = w; within = us })
 
-pub all_last : (t : Tri) (f : Face) → is_flat t ≡ false → ShareAPlane t f → Meets f (face_of t) → AreLast t (edges_of t) f
+all_last : (t : Tri) (f : Face) → is_flat t ≡ false → ShareAPlane t f → Meets f (face_of t) → AreLast t (edges_of t) f
 all_last t f n s m =
     record { around = around t; shared = meets_inside t f n s m; within = λ v i us. inside_all t v (s.face v i) (inside_out f v i).weight us }
 
-pub shares : (c : Cutter) (f : Face) → CanCut c f → c.role ≢ Across → ShareAPlane c.tri f
-shares c f h n = by c.role n h.shares
+-- a coplanar cutter and the region lie in one plane
+pub cutter_shares_plane : (c : Cutter) (f : Face) → CanCut c f → c.role ≢ Across → ShareAPlane c.tri f
+cutter_shares_plane c f h n = by c.role n h.shares
   where
     by : (k : Role) → (k ≡ Across → ⊥) → SharesAs k c.tri f → ShareAPlane c.tri f
     by Across n s = absurd (n refl)
     by Coplanar n s = s
     by Owner n s = s
 
+-- the edge planes of a coplanar triangle that meets a region cut out of it what lies in the triangle
 pub edges_last : (c : Cutter) (es : List Plane) (f : Face) → CanCut c f → c.role ≢ Across → es ≡ edges_of c.tri → Meets f (face_of c.tri) → AreLast c.tri es f
 edges_last c es f h n e m =
-    subst (λ (ps : List Plane). AreLast c.tri ps f) (sym e) (all_last c.tri f c.normal (shares c f h n) m)
-
-pub edges_left : (c : Cutter) (es : List Plane) (f : Face) (old new : List Face) → c.role ≢ Across → es ≡ edges_of c.tri → HasGrown (AtEdges c es f) old new → HasGrown (AtCutter c f) old new
-edges_left c es f old new n e g =
-    record { more = g.more; is = g.is; holds = subst (λ (ps : List Plane). AreLeft (cutting_planes_with c.tri ps) (owners_by c) (f ∷ []) g.more) (e ∙ sym (by c.role n)) g.holds }
-  where
-    by : (k : Role) → (k ≡ Across → ⊥) → planes_as k c.tri ≡ edges_of c.tri
-    by Across n = absurd (n refl)
-    by Coplanar n = refl
-    by Owner n = refl
+    subst (λ (ps : List Plane). AreLast c.tri ps f) (sym e) (all_last c.tri f c.normal (cutter_shares_plane c f h n) m)
 
 -- ---- the first plane of a list and the rest
 abbrev rest_of : {A : Type 0} → List A → List A
 rest_of xs = take (length xs - 1) (drop 1 xs)
 
+-- a list that isn't empty is its first member and the rest
 pub first_rest : {A : Type 0} (xs : List A) (d : A) → 1 ≤ length xs → get_or xs 0 d ∷ take (length xs - 1) (drop 1 xs) ≡ xs
 first_rest [] d l = absurd (omega (arith, l))
 first_rest (x ∷ xs) d l = ap (λ ys. x ∷ ys) (take_all (length (x ∷ xs) - 1) xs (omega arith))
 
+-- the rest of a list is shorter
 pub rest_shorter : {A : Type 0} (xs : List A) → 1 ≤ length xs → length (take (length xs - 1) (drop 1 xs)) < length xs
 rest_shorter [] l = absurd (omega (arith, l))
 rest_shorter (x ∷ xs) l =
     let e = ap length (take_all (length (x ∷ xs) - 1) xs (omega arith)) in omega (arith, e)
 
+-- what holds of all members holds of all behind the first
 pub rest_all : {A : Type 0} (P : A → Type 0) (xs : List A) (d : A) → 1 ≤ length xs → All P xs → All P (take (length xs - 1) (drop 1 xs))
 rest_all {A} P xs d l h = tail (get_or xs 0 d) (rest_of xs) (subst (All P) (sym (first_rest xs d l)) h)
   where
     tail : (y : A) (ys : List A) → All P (y ∷ ys) → All P ys
     tail y ys h = λ k d l. h (suc k) d (omega (arith, l))
 
+-- a list without a first member is empty
 pub no_first : {A : Type 0} (xs : List A) → length xs < 1 → xs ≡ []
 no_first [] l = refl
 no_first (x ∷ xs) l = absurd (omega (arith, l))

@@ -19,19 +19,16 @@ use Rattle.ember_poly.specs.declared.reach_cut.Reach.{Reach}
 use Rattle.ember_poly.specs.declared.reach_cut.Reach.TheVariants.{Below, Above, On, Both}
 use Rattle.ember_poly.proofs.ReachBySigns.{over_opposite}
 use Rattle.ember_leaf.specs.declared.cutter.Cutter.{Cutter}
-use Rattle.ember_leaf.specs.Leaves.{IsRegionOf}
+use Rattle.ember_leaf.specs.KeptRegions.{IsRegionOf}
 use Rattle.ember_leaf.specs.Walls.{IsPartOf}
 use Rattle.ember_leaf.specs.Written.{HasGrown}
 use Rattle.ember_leaf.specs.Cutters.{AtCutter, AreSplit, AreCut, MeetsFirst}
 use Rattle.ember_leaf.proofs.WallClips.{part_below, each_every}
 
-pub blade_face : (t : Tri) {p : Plane} {es : List Plane} → p ≡ support_of t → es ≡ edges_of t → face_with p es ≡ face_of t
+-- the face of a cutter is that of its triangle
+pub cutting_plane_face : (t : Tri) {p : Plane} {es : List Plane} → p ≡ support_of t → es ≡ edges_of t → face_with p es ≡ face_of t
 unfolding face_of
-blade_face t e q = λ i. record { support = e i; edges = q i }
-
-pub two_pushed : {A : Type 0} (out mid new : List A) (x y : A) → mid ≡ out ++ x ∷ [] → new ≡ mid ++ y ∷ [] → new ≡ out ++ x ∷ y ∷ []
-two_pushed out mid new x y e h =
-    h ∙ ap (λ l. l ++ y ∷ []) e ∙ append_assoc out (x ∷ []) (y ∷ [])
+cutting_plane_face t e q = λ i. record { support = e i; edges = q i }
 
 -- ---- one region
 pub not_met : {b : Bool} {P : Type 0} → IsTrue b ↔ P → b ≡ false → P → ⊥
@@ -40,28 +37,33 @@ not_met {b} q e p = by (subst (λ (b : Bool). IsTrue b) e (q.1 p))
     by : IsTrue false → ⊥
     by h = grind arith
 
+-- false is the truth of what doesn't hold
 pub never : {P : Type 0} → (P → ⊥) → IsTrue false ↔ P
 never n = (λ t. absurd (untrue t), λ p. absurd (n p))
   where
     untrue : IsTrue false → ⊥
     untrue h = grind arith
 
-pub always : {P : Type 0} → P → IsTrue true ↔ P
-always p = (λ t. p, λ q. truth)
+-- true is the truth of what holds
+pub true_iff_given : {P : Type 0} → P → IsTrue true ↔ P
+true_iff_given p = (λ t. p, λ q. truth)
   where
     truth : IsTrue true
     truth = search rules
 
-pub met : {b c : Bool} {P : Type 0} → IsTrue b ↔ P → c ≡ b → c ≡ true → P
-met {b} q e h = q.0 (subst IsTrue (sym h ∙ e) truth)
+-- what a test decides holds if the test is true
+pub test_iff_out : {b c : Bool} {P : Type 0} → IsTrue b ↔ P → c ≡ b → c ≡ true → P
+test_iff_out {b} q e h = q.0 (subst IsTrue (sym h ∙ e) truth)
   where
     truth : IsTrue true
     truth = search rules
 
+-- a cutting plane leaves both parts of a face that it cuts
 pub region_parts : (b : CuttingPlane) (f x y : Face) → Meets f b.face → AreParts f b.plane x y → AtCuttingPlane b f (x ∷ y ∷ [])
 region_parts b f x y m p =
     subst (λ (l : List Face). AtCuttingPlane b f l) (sym (λ i. p.is_low i ∷ p.is_high i ∷ [])) (splits m p.cuts)
 
+-- a cutting plane leaves a face as it is that it doesn't cut
 pub region_whole : (b : CuttingPlane) (f : Face) (k : Reach) → IsReach f b.plane k → (k ≡ Both → ⊥) → AtCuttingPlane b f (f ∷ [])
 region_whole b f k h n = whole (λ m. no_cut f b.plane k h n)
   where
@@ -84,53 +86,53 @@ pub first_met : (b : Cutter) (rest : List Face) {f : Face} {list yielded : List 
 first_met b rest {f} {list} {yielded} h e q =
     subst (MeetsFirst b) (sym e ∙ ap (λ (l : List Face). l ++ f ∷ rest) q) h
 
-pub grown : (b : Cutter) (old fs : List Face) (f : Face) (out new : List Face) → ((front : List Face) → AreSplit b front old → AreSplit b (front ++ fs) out) → HasGrown (AtCutter b f) out new → (front : List Face) → AreSplit b front old → AreSplit b (front ++ (fs ++ f ∷ [])) new
-grown b old fs f out new k g front h =
+-- the list has split_grows_list by what a triangle leaves of one region
+pub split_grows_list : (b : Cutter) (old fs : List Face) (f : Face) (out new : List Face) → ((front : List Face) → AreSplit b front old → AreSplit b (front ++ fs) out) → HasGrown (AtCutter b f) out new → (front : List Face) → AreSplit b front old → AreSplit b (front ++ (fs ++ f ∷ [])) new
+split_grows_list b old fs f out new k g front h =
     subst (λ (l : List Face). AreSplit b l new) (append_assoc front fs (f ∷ [])) (subst (λ (l : List Face). AreSplit b ((front ++ fs) ++ f ∷ []) l) (sym g.is) (each_push (k front h) g.holds))
 
+-- the list has split_grows_list by one face that has the property
 pub grown_by_one : (P : List Face → Type 0) (f : Face) (old new : List Face) → P (f ∷ []) → new ≡ old ++ f ∷ [] → HasGrown P old new
 grown_by_one P f old new p e = record { more = f ∷ []; is = e; holds = p }
 
+-- one more region that the cutter leaves whole
 pub whole_more : (b : Cutter) (list : List Face) (i : ℕ) (d : Face) → i < length list → d ≡ get_or list i d → AreSplit b (take i list) (take i list) → AtCutter b d (d ∷ []) → AreSplit b (take (i + 1) list) (take (i + 1) list)
 whole_more b list i d l e h r = rw (take_more list i d l, ← e) (each_push h r)
 
-pub met_at : (b : Cutter) (list : List Face) (i : ℕ) (d : Face) → i < length list → d ≡ get_or list i d → Meets d (face_of b.tri) → MeetsFirst b (drop i list)
-met_at b [] i d l e m = absurd (omega (arith, l))
-met_at b (f ∷ fs) zero d l e m = subst (λ (g : Face). Meets g (face_of b.tri)) e m
-met_at b (f ∷ fs) (suc i) d l e m = met_at b fs i d (omega (arith, l)) e m
-
-pub met_end : (b : Cutter) (list : List Face) → MeetsFirst b (drop (length list) list)
-met_end b [] = tt
-met_end b (f ∷ fs) = met_end b fs
-
+-- the first k members of a list with at most k members are all of it
 pub take_all : {A : Type 0} (k : ℕ) (xs : List A) → length xs ≤ k → take k xs ≡ xs
 take_all zero [] l = refl
 take_all zero (x ∷ xs) l = absurd (omega (arith, l))
 take_all (suc k) [] l = refl
 take_all (suc k) (x ∷ xs) l = ap (λ ys. x ∷ ys) (take_all k xs (omega (arith, l)))
 
+-- regions at the front that are left whole, and the split ones behind them
 pub split_front : (b : Cutter) (k : ℕ) (old : List Face) {front back new : List Face} → front ≡ take k old → back ≡ drop k old → AreSplit b (take k old) (take k old) → ((start : List Face) → AreSplit b start front → AreSplit b (start ++ back) new) → AreSplit b old new
 split_front b k old {front} {back} {new} e q h f =
     subst (λ (l : List Face). AreSplit b l new) (ap (λ (l : List Face). take k old ++ l) q ∙ take-append-drop k old) (f (take k old) (subst (AreSplit b (take k old)) (sym e) h))
 
+-- a cutter that leaves all regions whole
 pub split_none : (b : Cutter) (k : ℕ) (old : List Face) → length old ≤ k → AreSplit b (take k old) (take k old) → AreSplit b old old
 split_none b k old l h = subst (λ (fs : List Face). AreSplit b fs fs) (take_all k old l) h
 
+-- before the first cutter there is the start alone
 pub cut_begun : (f : Face) {none new : List Face} → none ≡ [] → new ≡ none ++ f ∷ [] → AreCut [] (f ∷ []) new
 cut_begun f {none} {new} e q =
     subst (AreCut [] (f ∷ [])) (sym (q ∙ ap (λ (fs : List Face). fs ++ f ∷ []) e)) done
 
 -- ---- what is left is a part of the triangle
-blade_keeps : (t : Tri) (b : CuttingPlane) (f : Face) (fs : List Face) → IsPartOf t f → AtCuttingPlane b f fs → Every (IsPartOf t) fs
-blade_keeps t b f fs h (splits m c) =
+cutting_plane_keeps : (t : Tri) (b : CuttingPlane) (f : Face) (fs : List Face) → IsPartOf t f → AtCuttingPlane b f fs → Every (IsPartOf t) fs
+cutting_plane_keeps t b f fs h (splits m c) =
     (part_below t f b.plane h c.low, (part_below t f (opposite b.plane) h (record { at = c.high.at; inside = c.high.inside; holds = negative_in (over_opposite b.plane c.high.at (record { over = positive_out (value_at b.plane c.high.at) c.high.holds })).under }), tt))
-blade_keeps t b f fs h (whole n) = (h, tt)
+cutting_plane_keeps t b f fs h (whole n) = (h, tt)
 
+-- cuts keep parts of a triangle parts of it
 pub cuts_keep : (t : Tri) {bs : List CuttingPlane} {fs gs : List Face} → Chain (λ b. Each (AtCuttingPlane b)) bs fs gs → Every (IsPartOf t) fs → Every (IsPartOf t) gs
 cuts_keep t done h = h
 cuts_keep t (step {x = b} r c) h =
-    cuts_keep t c (each_every (IsPartOf t) (IsPartOf t) (blade_keeps t b) r h)
+    cuts_keep t c (each_every (IsPartOf t) (IsPartOf t) (cutting_plane_keeps t b) r h)
 
+-- parts of a triangle lie in its plane
 pub parts_regions : (t : Tri) (fs : List Face) → Every (IsPartOf t) fs → All (IsRegionOf t) fs
 parts_regions t [] h = All-nil (IsRegionOf t)
 parts_regions t (f ∷ fs) h = All-cons (IsRegionOf t) f fs h.0.plane (parts_regions t fs h.1)

@@ -20,36 +20,26 @@ use Rattle.ember_leaf.specs.declared.heights.Heights.{Heights}
 use Rattle.ember_leaf.specs.TriRelations.{IsLower, heights_of, all_on}
 use Rattle.ember_leaf.specs.declared.leaf_triangle.LeafTriangle.{LeafTriangle}
 use Rattle.ember_leaf.specs.LeafTriangles.{tri_in, tris_in}
-use Rattle.ember_leaf.specs.Leaves.{IsRegionOf, IsKeptOf, IsPlaced, ArePlacedBelow, tris_of}
+use Rattle.ember_leaf.specs.KeptRegions.{IsRegionOf, IsKeptOf, IsPlaced, ArePlacedBelow, tris_of}
 
 -- ---- the plane of a triangle
-pub in_plane : (t u : Tri) {p : Plane} {h : Heights} {b : Bool} → p ≡ support_of t → h ≡ heights_of p u → b ≡ all_on h → b ≡ lies_in_plane_of t u
-in_plane t u e h q = q ∙ ap all_on h ∙ ap (λ (p : Plane). all_on (heights_of p u)) e
 
-pub lies_lower : (t u : Tri) (f : Face) → IsRegionOf t f → IsLower t u → LiesOn u f
-lies_lower t u f r l = lies_on_both u t f l.coplanar (lies_by_support t f r.normal r.support)
-
+-- the support plane of a triangle's face is the triangle's
 pub face_support : (t : Tri) → (face_of t).support ≡ support_of t
 unfolding face_of
 face_support t = refl
-
-pub none_some : {f : Face} → Some f ≡ None → ⊥
-none_some e = cc
 
 -- ---- lists of written regions
 pub placed_none : (ts : List Tri) (n : ℕ) (ks : List Kept) → ks ≡ [] → ArePlacedBelow ts n ks
 placed_none ts n ks e =
     subst (λ (l : List Kept). ArePlacedBelow ts n l) (sym e) (record { placed = record { each = All-nil (IsPlaced ts); ordered = λ i j d l m. omega (arith, m) }; below = All-nil (λ k. k.tri < n) })
 
-pub placed_next : (ts : List Tri) (n : ℕ) (ks : List Kept) → ArePlacedBelow ts n ks → ArePlacedBelow ts (n + 1) ks
-placed_next ts n ks h =
-    record { placed = h.placed; below = λ i d l. let b = h.below i d l in omega (arith, b) }
-
 at_number : (fs : List NearTriangle) (n : ℕ) (k : Kept) → n < length fs → IsKeptOf (tri_at (tris_of fs) n) n k → IsPlaced (tris_of fs) k
 at_number fs n k l h =
     let e = h.number in let q = length-map fs tri_of in
     record { index = omega (arith, e, q, l); region = subst (λ (m : ℕ). IsRegionOf (tri_at (tris_of fs) m) k.ring) (sym h.number) h.region }
 
+-- one more written region of the next triangle
 pub placed_push : (fs : List NearTriangle) (n : ℕ) (ks new : List Kept) (k : Kept) → n < length fs → ArePlacedBelow (tris_of fs) (n + 1) ks → IsKeptOf (tri_at (tris_of fs) n) n k → new ≡ ks ++ k ∷ [] → ArePlacedBelow (tris_of fs) (n + 1) new
 placed_push fs n ks new k l h r e =
     let q = r.number in
@@ -61,12 +51,15 @@ placed_push fs n ks new k l h r e =
       below = All-push (λ a. a.tri < n + 1) ks k h.below (omega (arith, q));
     })
 
+-- the triangle of the i-th leaf triangle is the i-th triangle
 pub own_is : (fs : List LeafTriangle) (i : ℕ) (d : LeafTriangle) → i < length fs → (get_or fs i d).tri ≡ tri_at (tris_in fs) i
 own_is fs i d l = sym (get_or-map tri_in fs i d no_tri l)
 
+-- an index of leaf triangles is one of triangles
 pub listed_too : (fs : List LeafTriangle) (i : ℕ) → i < length fs → i < length (tris_in fs)
 listed_too fs i l = let q = length-map fs tri_in in omega (arith, l, q)
 
+-- the index behind the last is the number of triangles
 pub all_listed : (fs : List LeafTriangle) (i : ℕ) → length fs ≤ i → i ≤ length fs → i ≡ length (tris_in fs)
 all_listed fs i l m = let q = length-map fs tri_in in omega (arith, l, m, q)
 
@@ -77,9 +70,11 @@ module _ (fs : List LeafTriangle) (ns : List NearTriangle) (same : tris_in fs �
       let a = length-map fs tri_in in let b = length-map ns tri_of in let e = ap length same in
       omega (arith, l, a, b, e)
 
+  -- the triangle of the i-th near triangle is the i-th triangle
   pub same_tri : (d : LeafTriangle) → (get_or fs i d).tri ≡ tri_at (tris_of ns) i
   same_tri d = own_is fs i d same_place ∙ ap (λ ts. tri_at ts i) same
 
+  -- an index of the leaf's triangles is one of the near triangles
   pub same_listed : i < length (tris_of ns)
   same_listed = let b = length-map ns tri_of in omega (arith, l, b)
 
@@ -88,10 +83,6 @@ pub more_triangles : (ns : List NearTriangle) (i : ℕ) (d : NearTriangle) (fs n
 more_triangles ns i d fs new f l t e h =
     ap tris_in e ∙ map-append tri_in fs (f ∷ []) ∙ (λ j. h j ++ t j ∷ []) ∙ sym (map-append tri_of (take i ns) (get_or ns i d ∷ [])) ∙ sym (ap tris_of (take_more ns i d l))
 
+-- after the last near triangle, the list has all of them
 pub all_triangles : (ns : List NearTriangle) (i : ℕ) (fs : List LeafTriangle) → length ns ≤ i → tris_in fs ≡ tris_of (take i ns) → tris_in fs ≡ tris_of ns
 all_triangles ns i fs l h = h ∙ ap tris_of (take_all i ns l)
-
--- the first triangles of a list, and one more
-pub first_more : (P : Tri → Type 0) (ts : List Tri) (i : ℕ) (d : Tri) → i < length ts → All P (take i ts) → P (get_or ts i d) → All P (take (i + 1) ts)
-first_more P ts i d l h p =
-    subst (All P) (sym (take_more ts i d l)) (All-push P (take i ts) (get_or ts i d) h p)

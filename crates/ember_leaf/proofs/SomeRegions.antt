@@ -12,7 +12,7 @@ use Rattle.ember_box.specs.Near.{tri_at}
 use Rattle.ember_box.specs.Regions.{Wall, walls, FaceIsAbove, FaceLiesOn, AtWall, cut, outside, in_high, stays, CuttingPlane, cutting_planes, AtCuttingPlane, splits, whole, IsRegions}
 use Rattle.ember_leaf.specs.declared.kept.Kept.{Kept}
 use Rattle.ember_leaf.specs.Written.{AtRegion, unowned, AreRegionsWritten, IsWrittenOf, regional, hidden}
-use Rattle.ember_leaf.proofs.OneList.{hidden_owns_none}
+use Rattle.ember_leaf.proofs.WrittenRegionsUnique.{hidden_owns_none}
 
 -- ---- either it holds or it doesn't
 pub either : (P : Type 0) → ((P ⊎ (P → ⊥)) → ⊥) → ⊥
@@ -33,8 +33,8 @@ at_wall w f n = either (Cuts f w.plane) by_cut
     by_cut (inl c) = n (below f w.plane ∷ []) (cut c)
     by_cut (inr c) = either (FaceIsAbove f w.plane) (by_above c)
 
-at_blade : (b : CuttingPlane) (f : Face) → ((fs : List Face) → AtCuttingPlane b f fs → ⊥) → ⊥
-at_blade b f n = either (Meets f b.face × Cuts f b.plane) by
+at_cutting_plane : (b : CuttingPlane) (f : Face) → ((fs : List Face) → AtCuttingPlane b f fs → ⊥) → ⊥
+at_cutting_plane b f n = either (Meets f b.face × Cuts f b.plane) by
   where
     by : ((Meets f b.face × Cuts f b.plane) ⊎ (Meets f b.face × Cuts f b.plane → ⊥)) → ⊥
     by (inl h) = n (below f b.plane ∷ above f b.plane ∷ []) (splits h.0 h.1)
@@ -45,6 +45,7 @@ pub some_each : {X Y : Type 0} {R : X → List Y → Type 0} → ((x : X) → ((
 some_each f [] n = n [] none
 some_each f (x ∷ xs) n = f x (λ ys r. some_each f xs (λ zs e. n (ys ++ zs) (more r e)))
 
+-- if no member can fail to have a list, the members together can't fail to have one
 pub some_each_where : {X Y : Type 0} {R : X → List Y → Type 0} (P : X → Type 0) → ((x : X) → P x → ((ys : List Y) → R x ys → ⊥) → ⊥) → (xs : List X) → Every P xs → ((ys : List Y) → Each R xs ys → ⊥) → ⊥
 some_each_where P f [] h n = n [] none
 some_each_where P f (x ∷ xs) h n =
@@ -57,7 +58,7 @@ some_chain f (x ∷ xs) a n = f x a (λ b r. some_chain f xs b (λ c k. n c (ste
 -- ---- regions
 pub some_regions : (c : Cell) (ts : List Tri) (i : ℕ) → ((fs : List Face) → IsRegions c ts i fs → ⊥) → ⊥
 some_regions c ts i n =
-    some_chain (λ w fs. some_each (at_wall w) fs) (walls c) (elim (is_flat (tri_at ts i)) [ true ↦ [] | false ↦ face_of (tri_at ts i) ∷ [] ]) (λ start s. some_chain (λ b fs. some_each (at_blade b) fs) (cutting_planes ts i) start (λ fs k. n fs (record { start = start; is_start = s; cuts = k })))
+    some_chain (λ w fs. some_each (at_wall w) fs) (walls c) (elim (is_flat (tri_at ts i)) [ true ↦ [] | false ↦ face_of (tri_at ts i) ∷ [] ]) (λ start s. some_chain (λ b fs. some_each (at_cutting_plane b) fs) (cutting_planes ts i) start (λ fs k. n fs (record { start = start; is_start = s; cuts = k })))
 
 all_unowned : (scene : List Tri) (f : Formula) (near : List Tri) (i : ℕ) (fs : List Face) → Every (λ g. IsOwner near i g → ⊥) fs → Each (AtRegion scene f near i) fs []
 all_unowned scene f near i [] h = none

@@ -50,12 +50,13 @@ three x y z e =
     let p = and_parts x (y && z) e in let q = and_parts y z p.1 in record { a = p.0; b = q.0; c = q.1 }
 
 module _ (p : Plane) (t : Tri) where
+  -- if no corner is behind the plane, each corner is on it or in front of it
   pub front_at_least : none_behind (heights_of p t) ≡ true → AtCorners (λ s. IsNotBelow p s) t
   front_at_least e =
       let h = heights_of p t in let k = three (not (is_negative h.a)) (not (is_negative h.b)) (not (is_negative h.c)) e in
       (record { at_least = not_negative_out h.a k.a }, (record { at_least = not_negative_out h.b k.b }, (record { at_least = not_negative_out h.c k.c }, tt)))
 
-  pub behind_at_most : none_in_front (heights_of p t) ≡ true → AtCorners (λ s. IsNotAbove p s) t
+  behind_at_most : none_in_front (heights_of p t) ≡ true → AtCorners (λ s. IsNotAbove p s) t
   behind_at_most e =
       let h = heights_of p t in let k = three (not (is_positive h.a)) (not (is_positive h.b)) (not (is_positive h.c)) e in
       (record { at_most = not_positive_out h.a k.a }, (record { at_most = not_positive_out h.b k.b }, (record { at_most = not_positive_out h.c k.c }, tt)))
@@ -70,6 +71,7 @@ module _ (p : Plane) (t : Tri) where
       let h = heights_of p t in let k = three (is_negative h.a) (is_negative h.b) (is_negative h.c) e in
       (record { under = negative_out h.a k.a }, (record { under = negative_out h.b k.b }, (record { under = negative_out h.c k.c }, tt)))
 
+  -- if all corners are on the plane, each is
   pub on_on : all_on (heights_of p t) ≡ true → AtCorners (λ s. IsOnPlane p s) t
   on_on e =
       let h = heights_of p t in let k = three (is_zero h.a) (is_zero h.b) (is_zero h.c) e in
@@ -94,6 +96,7 @@ some_under (pos zero) (pos zero) (pos (suc n)) a b c e = absurd (omega (arith, i
 some_under (pos zero) (pos zero) (negsuc n) a b c e = inr (inr (omega (arith, ints)))
 some_under (pos zero) (pos zero) (pos zero) a b c e = absurd (clash refl e)
 
+-- if no corner is behind the plane and not all are on it, some corner is above it
 pub corner_over : (p : Plane) (t : Tri) → AtCorners (λ s. IsNotBelow p s) t → all_on (heights_of p t) ≡ false → AtCorner (λ s. IsAbove p s) t
 corner_over p t h e =
     let k = heights_of p t in pick (some_over k.a k.b k.c h.0.at_least h.1.0.at_least h.1.1.0.at_least e)
@@ -103,7 +106,7 @@ corner_over p t h e =
     pick (inr (inl o)) = inr (inl (record { over = o }))
     pick (inr (inr o)) = inr (inr (inl (record { over = o })))
 
-pub corner_under : (p : Plane) (t : Tri) → AtCorners (λ s. IsNotAbove p s) t → all_on (heights_of p t) ≡ false → AtCorner (λ s. IsBelow p s) t
+corner_under : (p : Plane) (t : Tri) → AtCorners (λ s. IsNotAbove p s) t → all_on (heights_of p t) ≡ false → AtCorner (λ s. IsBelow p s) t
 corner_under p t h e =
     let k = heights_of p t in pick (some_under k.a k.b k.c h.0.at_most h.1.0.at_most h.1.1.0.at_most e)
   where
@@ -128,28 +131,30 @@ zero_under : {p : Plane} {v : Spot} → value_at p v ≡ pos 0 → IsBelow p v �
 zero_under e u = omega (arith, linear, e, u.under)
 
 module _ (t u : Tri) (nt : is_flat t ≡ false) (nu : is_flat u ≡ false) where
+  -- a triangle all of whose corners are in front of t's plane is disjoint from t
   pub apart_in_front : all_in_front (heights_of (support_of t) u) ≡ true → AreDisjoint t u
   apart_in_front e =
       apart t u (λ v i k. zero_over i.flat (closed_over u nu (support_of t) v (front_over (support_of t) u e) k))
 
+  -- and so is one all of whose corners are behind it
   pub apart_behind : all_behind (heights_of (support_of t) u) ≡ true → AreDisjoint t u
   apart_behind e =
       let s = support_of t in let h = behind_under s u e in
       apart t u (λ v i k. zero_over (opposite_plane s v ∙ ap neg_ℤ i.flat) (closed_over u nu (opposite s) v (under_opposite s _ h.0, (under_opposite s _ h.1.0, (under_opposite s _ h.1.1.0, tt))) k))
 
-  pub apart_own_front : none_behind (heights_of (support_of u) t) ≡ true → all_on (heights_of (support_of u) t) ≡ false → AreDisjoint t u
+  apart_own_front : none_behind (heights_of (support_of u) t) ≡ true → all_on (heights_of (support_of u) t) ≡ false → AreDisjoint t u
   apart_own_front e f =
       let s = support_of u in let h = front_at_least s t e in
       apart t u (λ v i k. zero_over k.flat (inside_over t nt s v h (corner_over s t h f) i))
 
-  pub apart_own_behind : none_in_front (heights_of (support_of u) t) ≡ true → all_on (heights_of (support_of u) t) ≡ false → AreDisjoint t u
+  apart_own_behind : none_in_front (heights_of (support_of u) t) ≡ true → all_on (heights_of (support_of u) t) ≡ false → AreDisjoint t u
   apart_own_behind e f =
       let s = support_of u in let h = behind_at_most s t e in
       apart t u (λ v i k. zero_under k.flat (inside_under t nt s v h (corner_under s t h f) i))
 
 -- ---- bounding boxes
-pub reach : (a b : Interval) (x w : ℤ) → pos 0 <ℤ w → IsWithinInterval a x w → IsWithinInterval b x w → intervals_meet a b ≡ true
-reach a b x w p h k =
+pub intervals_with_point_meet : (a b : Interval) (x w : ℤ) → pos 0 <ℤ w → IsWithinInterval a x w → IsWithinInterval b x w → intervals_meet a b ≡ true
+intervals_with_point_meet a b x w p h k =
     and_from (int_le a.low b.high) (int_le b.low a.high) (le_in a.low b.high (order a.low b.high (omega (arith, linear, h.low, k.high)))) (le_in b.low a.high (order b.low a.high (omega (arith, linear, k.low, h.high))))
   where
     order : (l h : ℤ) → (l *ℤ w) ≤ℤ (h *ℤ w) → l ≤ℤ h
@@ -178,6 +183,7 @@ spanned X t = (aabb_of_tri t).x
 spanned Y t = (aabb_of_tri t).y
 spanned Z t = (aabb_of_tri t).z
 
+-- a triangle's closed face lies within its interval along each axis
 pub bounds : (k : Axis) (t : Tri) (v : Spot) → is_flat t ≡ false → is_in_closed (face_of t) v ≡ true → IsWithinInterval (spanned k t) (coordinate k v) v.w
 bounds X t v n e =
     held X (aabb_of_tri t).x t v n (omega (arith, ints, clamps), omega (arith, ints, clamps), omega (arith, ints, clamps)) (omega (arith, ints, clamps), omega (arith, ints, clamps), omega (arith, ints, clamps)) e
@@ -205,29 +211,30 @@ edge_at_most t (suc zero) p v e k = subst (λ (q : Plane). IsNotAbove q v) (no_s
 edge_at_most t (suc (suc zero)) p v e k = subst (λ (q : Plane). IsNotAbove q v) (no_some e) k.within.1.1.0
 edge_at_most t (suc (suc (suc i))) p v e k = absurd (none_some e)
 
+-- no point is both below a plane and not below it
 pub under_least : {p : Plane} {v : Spot} → IsBelow p v → IsNotBelow p v → ⊥
 under_least u l = omega (arith, linear, u.under, l.at_least)
 
 most_over : {p : Plane} {v : Spot} → IsNotAbove p v → IsAbove p v → ⊥
 most_over m o = omega (arith, linear, m.at_most, o.over)
 
-pub parted : (t u : Tri) (i : ℕ) (p : Plane) → is_flat t ≡ false → is_flat u ≡ false → slice_get (edges_of t) i ≡ Some p → none_behind (heights_of p u) ≡ true → all_on (heights_of p u) ≡ false → AreDisjoint t u × AreDisjoint u t
-parted t u i p n m e f g =
+edge_parts_triangles : (t u : Tri) (i : ℕ) (p : Plane) → is_flat t ≡ false → is_flat u ≡ false → slice_get (edges_of t) i ≡ Some p → none_behind (heights_of p u) ≡ true → all_on (heights_of p u) ≡ false → AreDisjoint t u × AreDisjoint u t
+edge_parts_triangles t u i p n m e f g =
     let h = front_at_least p u f in
     (apart t u (λ v a b. under_least (edge_under t i p v e a) (closed_at_least u m p v h b)), apart u t (λ v a b. most_over (edge_at_most t i p v e b) (inside_over u m p v h (corner_over p u h g) a)))
 
 -- ---- one in the other
-pub behind_edge : (u : Tri) (p : Plane) → is_flat u ≡ false → none_in_front (heights_of p u) ≡ true → all_on (heights_of p u) ≡ false → Everywhere (face_of u) (λ v. is_negative (value_at p v) ≡ true)
+behind_edge : (u : Tri) (p : Plane) → is_flat u ≡ false → none_in_front (heights_of p u) ≡ true → all_on (heights_of p u) ≡ false → Everywhere (face_of u) (λ v. is_negative (value_at p v) ≡ true)
 behind_edge u p m f g =
     let h = behind_at_most p u f in
     record { holds = λ v i. negative_in (inside_under u m p v h (corner_under p u h g) (inside_ring u v i)).under }
 
-pub on_plane : (t u : Tri) (v : Spot) → is_flat u ≡ false → all_on (heights_of (support_of t) u) ≡ true → is_inside (face_of u) v ≡ true → value_at (support_of t) v ≡ pos 0
+on_plane : (t u : Tri) (v : Spot) → is_flat u ≡ false → all_on (heights_of (support_of t) u) ≡ true → is_inside (face_of u) v ≡ true → value_at (support_of t) v ≡ pos 0
 on_plane t u v m e i =
     (closed_on u m (support_of t) v (on_on (support_of t) u e) (closed_from_inside (support_of u) (tri_sides u) v (inside_ring u v i))).on_plane
 
-pub covered : (t u : Tri) → is_flat u ≡ false → all_on (heights_of (support_of t) u) ≡ true → ((i : ℕ) (p : Plane) → slice_get (edges_of t) i ≡ Some p → Everywhere (face_of u) (λ v. is_negative (value_at p v) ≡ true)) → Contains (face_of t) (face_of u)
-covered t u m e f =
+triangle_is_covered : (t u : Tri) → is_flat u ≡ false → all_on (heights_of (support_of t) u) ≡ true → ((i : ℕ) (p : Plane) → slice_get (edges_of t) i ≡ Some p → Everywhere (face_of u) (λ v. is_negative (value_at p v) ≡ true)) → Contains (face_of t) (face_of u)
+triangle_is_covered t u m e f =
     record { holds = λ v i. ring_inside t v (record { flat = on_plane t u v m e i; weight = (inside_ring u v i).weight; within = (edge 0 _ v refl i, (edge 1 _ v refl i, (edge 2 _ v refl i, tt))) }) }
   where
     edge : (k : ℕ) (p : Plane) (v : Spot) → slice_get (edges_of t) k ≡ Some p → is_inside (face_of u) v ≡ true → IsBelow p v
@@ -243,31 +250,36 @@ coplanar_flats t u e =
 
 -- ---- the tests of the code
 module _ (f : Heights → Bool) where
-  pub tested : (u : Tri) {p q : Plane} {h : Heights} {b v : Bool} → p ≡ q → h ≡ heights_of p u → b ≡ f h → b ≡ v → f (heights_of q u) ≡ v
-  tested u {p} {q} {h} e k r s = sym (ap f (k ∙ ap (λ (p : Plane). heights_of p u) e)) ∙ sym r ∙ s
+  -- a test of a triangle's heights over equal planes answers the same
+  pub heights_test_moved : (u : Tri) {p q : Plane} {h : Heights} {b v : Bool} → p ≡ q → h ≡ heights_of p u → b ≡ f h → b ≡ v → f (heights_of q u) ≡ v
+  heights_test_moved u {p} {q} {h} e k r s = sym (ap f (k ∙ ap (λ (p : Plane). heights_of p u) e)) ∙ sym r ∙ s
 
 -- the edge plane of a triangle at a place of its list
 edge_here : (t : Tri) (es : List Plane) (i : ℕ) → es ≡ edges_of t → i < 3 → slice_get (edges_of t) i ≡ Some (get_or es i no_plane)
 edge_here t es i e l =
     subst (λ us. slice_get us i ≡ Some (get_or es i no_plane)) e (slice_get-get_or es i no_plane (subst (λ us. i < length us) (sym e) l))
 
+-- an edge plane of t that has u in front of it keeps the two apart
 pub parted_by : (t u : Tri) (es : List Plane) (i : ℕ) {h : Heights} {b : Bool} → is_flat t ≡ false → is_flat u ≡ false → es ≡ edges_of t → i < 3 → h ≡ heights_of (get_or es i no_plane) u → b ≡ none_behind h && not (all_on h) → b ≡ true → AreDisjoint t u × AreDisjoint u t
 parted_by t u es i {h} n m e l q r z =
     let p = get_or es i no_plane in
-    let x = and_parts (none_behind (heights_of p u)) (not (all_on (heights_of p u))) (tested (λ h. none_behind h && not (all_on h)) u {p = p} refl q r z) in
-    parted t u i p n m (edge_here t es i e l) x.0 (not_true (all_on (heights_of p u)) x.1)
+    let x = and_parts (none_behind (heights_of p u)) (not (all_on (heights_of p u))) (heights_test_moved (λ h. none_behind h && not (all_on h)) u {p = p} refl q r z) in
+    edge_parts_triangles t u i p n m (edge_here t es i e l) x.0 (not_true (all_on (heights_of p u)) x.1)
 
 module _ (t u : Tri) (n : is_flat t ≡ false) (m : is_flat u ≡ false) where
+  -- if t is in front of u's plane and not in it, t has no inside point in u
   pub own_in_front : {s : Plane} {h : Heights} {b : Bool} → s ≡ support_of u → h ≡ heights_of s t → b ≡ none_behind h && not (all_on h) → b ≡ true → AreDisjoint t u
   own_in_front e q r z =
-      let x = and_parts (none_behind (heights_of (support_of u) t)) (not (all_on (heights_of (support_of u) t))) (tested (λ h. none_behind h && not (all_on h)) t e q r z) in
+      let x = and_parts (none_behind (heights_of (support_of u) t)) (not (all_on (heights_of (support_of u) t))) (heights_test_moved (λ h. none_behind h && not (all_on h)) t e q r z) in
       apart_own_front t u n m x.0 (not_true (all_on (heights_of (support_of u) t)) x.1)
 
+  -- if t is behind u's plane and not in it, t has no inside point in u
   pub own_behind : {s : Plane} {h : Heights} {b : Bool} → s ≡ support_of u → h ≡ heights_of s t → b ≡ none_in_front h && not (all_on h) → b ≡ true → AreDisjoint t u
   own_behind e q r z =
-      let x = and_parts (none_in_front (heights_of (support_of u) t)) (not (all_on (heights_of (support_of u) t))) (tested (λ h. none_in_front h && not (all_on h)) t e q r z) in
+      let x = and_parts (none_in_front (heights_of (support_of u) t)) (not (all_on (heights_of (support_of u) t))) (heights_test_moved (λ h. none_in_front h && not (all_on h)) t e q r z) in
       apart_own_behind t u n m x.0 (not_true (all_on (heights_of (support_of u) t)) x.1)
 
+  -- triangles are coplanar if the second one's corners are on the first one's plane
   pub coplanar_is : is_coplanar t u ≡ all_on (heights_of (support_of t) u)
   unfolding is_coplanar
   coplanar_is = λ i. not (n i) && (not (m i) && all_on (heights_of (support_of t) u))
@@ -276,13 +288,14 @@ module _ (t u : Tri) (n : is_flat t ≡ false) (m : is_flat u ≡ false) where
 pub behind_by : (t u : Tri) (es : List Plane) (i : ℕ) {h : Heights} {b : Bool} → is_flat u ≡ false → es ≡ edges_of t → i < 3 → h ≡ heights_of (get_or es i no_plane) u → b ≡ none_in_front h && not (all_on h) → b ≡ true → IsBehindEdge t u i
 behind_by t u es i {h} m e l q r z =
     let p = get_or es i no_plane in
-    let x = and_parts (none_in_front (heights_of p u)) (not (all_on (heights_of p u))) (tested (λ h. none_in_front h && not (all_on h)) u {p = p} refl q r z) in
+    let x = and_parts (none_in_front (heights_of p u)) (not (all_on (heights_of p u))) (heights_test_moved (λ h. none_in_front h && not (all_on h)) u {p = p} refl q r z) in
     let w = behind_edge u p m x.0 (not_true (all_on (heights_of p u)) x.1) in
     λ g' h'. subst (λ (q : Plane). Everywhere (face_of u) (λ v. is_negative (value_at q v) ≡ true)) (no_some (sym (edge_here t es i e l) ∙ h')) w
 
+-- a coplanar triangle u that is behind all three edge planes of t is contained in t
 pub covered_by : (t u : Tri) → is_coplanar t u ≡ true → IsBehindEdge t u 0 → IsBehindEdge t u 1 → IsBehindEdge t u 2 → Contains (face_of t) (face_of u)
 covered_by t u e a b c =
-    let n = coplanar_flats t u e in covered t u n.1 n.2 edge
+    let n = coplanar_flats t u e in triangle_is_covered t u n.1 n.2 edge
   where
     none_here : {p : Plane} → None ≡ Some p → ⊥
     none_here h = cc

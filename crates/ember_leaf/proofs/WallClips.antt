@@ -38,28 +38,19 @@ use Rattle.ember_leaf.specs.declared.clip.Remainder.{Remainder}
 use Rattle.ember_leaf.specs.declared.clip.Remainder.TheVariants.{Whole, Nothing, Unknown}
 use Rattle.ember_leaf.specs.declared.wall.Wall as leaf
 use Rattle.ember_leaf.specs.Walls.{wall_of, level_by, interval_along, IsPartOf, IsLowRemainder, IsHighRemainder, IsRemainder, IsClippedBy}
-use Rattle.ember_leaf.proofs.RegionOrder.{face_support, none_some}
+use Rattle.ember_leaf.proofs.RegionOrder.{face_support}
 use Rattle.ember_coplanar.proofs.Containing.{some_inj}
 use Rattle.ember_leaf.proofs.TriFaces.{AtCorners, AtCorner, has_inside, inside_ring, inside_under, inside_over, closed_at_least, closed_on}
 use Rattle.ember_leaf.proofs.TriRelations.{corner_over, on_on}
 
 -- ---- planes
-pub level_up : (k : Axis) (h : ℤ) → level_by k (pos 1) h ≡ level k h
-level_up X h = refl
-level_up Y h = refl
-level_up Z h = refl
-
-pub level_down : (k : Axis) (h : ℤ) → level_by k (neg_ℤ (pos 1)) (neg_ℤ h) ≡ opposite (level k h)
-level_down X h = refl
-level_down Y h = refl
-level_down Z h = refl
 
 -- ---- chains of walls
-pub each_one : {X S : Type 0} {R : X → List S → Type 0} {x : X} {ys : List S} → R x ys → Each R (x ∷ []) ys
+each_one : {X S : Type 0} {R : X → List S → Type 0} {x : X} {ys : List S} → R x ys → Each R (x ∷ []) ys
 each_one {R = R} {x = x} {ys = ys} r = subst (λ l. Each R (x ∷ []) l) (append-nil ys) (more r none)
 
-pub chained : {X A : Type 0} (R : X → A → A → Type 0) (S : Type 0) (h : S → X) (ys : List S) (i : ℕ) (d : S) (a b c : A) → i < length ys → d ≡ get_or ys i d → Chain R (map h (take i ys)) a b → R (h d) b c → Chain R (map h (take (i + 1) ys)) a c
-chained R S h ys i d a b c l e r q =
+chain_of_walls_grows : {X A : Type 0} (R : X → A → A → Type 0) (S : Type 0) (h : S → X) (ys : List S) (i : ℕ) (d : S) (a b c : A) → i < length ys → d ≡ get_or ys i d → Chain R (map h (take i ys)) a b → R (h d) b c → Chain R (map h (take (i + 1) ys)) a c
+chain_of_walls_grows R S h ys i d a b c l e r q =
     rw (take_more ys i d l, ← e, map-append h (take i ys) (d ∷ [])) (chain_push r q)
 
 -- nothing gives nothing
@@ -67,7 +58,7 @@ nothing_more : {X S A : Type 0} (R : X → A → List A → Type 0) (h : S → X
 nothing_more R h [] = done
 nothing_more R h (y ∷ ys) = step none (nothing_more R h ys)
 
-pub chain_ended : {X S A : Type 0} (R : X → A → List A → Type 0) (h : S → X) (ys : List S) (n : ℕ) (a : List A) → Chain (λ x. Each (R x)) (map h (take n ys)) a [] → Chain (λ x. Each (R x)) (map h ys) a []
+chain_ended : {X S A : Type 0} (R : X → A → List A → Type 0) (h : S → X) (ys : List S) (n : ℕ) (a : List A) → Chain (λ x. Each (R x)) (map h (take n ys)) a [] → Chain (λ x. Each (R x)) (map h ys) a []
 chain_ended R h ys n a r =
     subst (λ l. Chain (λ x. Each (R x)) l a []) (sym (map-append h (take n ys) (drop n ys)) ∙ ap (map h) (take-append-drop n ys)) (chain_append r (nothing_more R h (drop n ys)))
 
@@ -148,14 +139,14 @@ weak_under : {p : Plane} {v : Spot} → IsBelow p v → IsNotAbove p v
 weak_under {p} {v} u = let l = u.under in record { at_most = omega (arith, linear, l) }
 
 -- nothing of f is past a low wall
-pub stays_low : (p : Plane) (f : Face) → HasInside f → ((v : Spot) → is_inside f v ≡ true → IsNotAbove p v) → AtWall (record { plane = p; is_high = false }) f (f ∷ [])
+stays_low : (p : Plane) (f : Face) → HasInside f → ((v : Spot) → is_inside f v ≡ true → IsNotAbove p v) → AtWall (record { plane = p; is_high = false }) f (f ∷ [])
 stays_low p f s m =
     stays (λ c. over_not (m c.high.at c.high.inside) c.high.holds) (λ a. over_not (m s.at s.inside) (a.holds s.at s.inside)) (λ e o. absurd (by e))
   where
     by : false ≡ true → ⊥
     by e = cc
 
-pub stays_below : (w : Wall) (f : Face) → HasInside f → ((v : Spot) → is_inside f v ≡ true → IsBelow w.plane v) → AtWall w f (f ∷ [])
+stays_below : (w : Wall) (f : Face) → HasInside f → ((v : Spot) → is_inside f v ≡ true → IsBelow w.plane v) → AtWall w f (f ∷ [])
 stays_below w f s m =
     stays (λ c. over_not (weak_under (m c.high.at c.high.inside)) c.high.holds) (λ a. over_not (weak_under (m s.at s.inside)) (a.holds s.at s.inside)) (λ e o. zero_not (m s.at s.inside) (o.holds s.at s.inside))
 
@@ -172,7 +163,7 @@ module _ (k : Axis) (h : ℤ) (t : Tri) (f : Face) (part : IsPartOf t f) where
   in_tri : (v : Spot) → is_inside f v ≡ true → IsInsideRing (support_of t) (tri_sides t) v
   in_tri v i = inside_ring t v (part.within.holds v i)
 
-  pub low_whole : h ≤ℤ (interval_along (aabb_of_tri t) k).low → AtWall low f (f ∷ [])
+  low_whole : h ≤ℤ (interval_along (aabb_of_tri t) k).low → AtWall low f (f ∷ [])
   low_whole l =
       let a = past_all k h t l in let p = level k h in
       stays_low (opposite p) f part.somewhere (λ v i. most_opposite p v (closed_at_least t part.plane.normal p v a (closed_from_inside (support_of t) (tri_sides t) v (in_tri v i))))
@@ -181,14 +172,14 @@ module _ (k : Axis) (h : ℤ) (t : Tri) (f : Face) (part : IsPartOf t f) where
   under_all l m v i =
       inside_under t part.plane.normal (level k h) v (before_all k h t m) (before_some k h t l) (in_tri v i)
 
-  pub low_nothing : (interval_along (aabb_of_tri t) k).low <ℤ h → (interval_along (aabb_of_tri t) k).high ≤ℤ h → AtWall low f []
+  low_nothing : (interval_along (aabb_of_tri t) k).low <ℤ h → (interval_along (aabb_of_tri t) k).high ≤ℤ h → AtWall low f []
   low_nothing l m =
       outside (record { holds = λ v i. positive_in (under_opposite (level k h) v (under_all l m v i)).over })
 
-  pub high_whole : (interval_along (aabb_of_tri t) k).low <ℤ h → (interval_along (aabb_of_tri t) k).high ≤ℤ h → AtWall high f (f ∷ [])
+  high_whole : (interval_along (aabb_of_tri t) k).low <ℤ h → (interval_along (aabb_of_tri t) k).high ≤ℤ h → AtWall high f (f ∷ [])
   high_whole l m = stays_below high f part.somewhere (under_all l m)
 
-  pub high_nothing : h ≤ℤ (interval_along (aabb_of_tri t) k).low → AtWall high f []
+  high_nothing : h ≤ℤ (interval_along (aabb_of_tri t) k).low → AtWall high f []
   high_nothing l = by (all_on (heights_of (level k h) t)) refl
     where
       by : (b : Bool) → all_on (heights_of (level k h) t) ≡ b → AtWall high f []
@@ -202,6 +193,7 @@ module _ (k : Axis) (h : ℤ) (t : Tri) (f : Face) (part : IsPartOf t f) where
 abbrev low_or : Axis → ℤ → Bool → Wall
 low_or k h b = record { plane = if b then level k h else opposite (level k h); is_high = b }
 
+-- what an interval decides about a low wall holds of the triangle
 pub low_stay : (w : Wall) (k : Axis) (h : ℤ) (t : Tri) (b : Bool) (s : Remainder) → b ≡ false → w ≡ low_or k h b → IsLowRemainder (interval_along (aabb_of_tri t) k) h s → IsRemainder w t s
 low_stay w k h t b Whole q e l =
     λ f p. subst (λ (w : Wall). AtWall w f (f ∷ [])) (sym (e ∙ ap (low_or k h) q)) (low_whole k h t f p l)
@@ -209,6 +201,7 @@ low_stay w k h t b Nothing q e l =
     λ f p. subst (λ (w : Wall). AtWall w f []) (sym (e ∙ ap (low_or k h) q)) (low_nothing k h t f p l.0 l.1)
 low_stay w k h t b Unknown q e l = tt
 
+-- what an interval decides about a high wall holds of the triangle
 pub high_stay : (w : Wall) (k : Axis) (h : ℤ) (t : Tri) (b : Bool) (s : Remainder) → b ≡ true → w ≡ low_or k h b → IsHighRemainder (interval_along (aabb_of_tri t) k) h s → IsRemainder w t s
 high_stay w k h t b Whole q e l =
     λ f p. subst (λ (w : Wall). AtWall w f (f ∷ [])) (sym (e ∙ ap (low_or k h) q)) (high_whole k h t f p l.0 l.1)
@@ -218,18 +211,20 @@ high_stay w k h t b Unknown q e l = tt
 
 -- ---- a wall by the answers of reach
 module _ (w : Wall) (f : Face) (p : Plane) (same : p ≡ w.plane) where
+  -- a face below the wall's plane stays
   pub wall_below : IsReach f p Below → AtWall w f (f ∷ [])
   wall_below h =
       let k : IsReach f w.plane Below = subst (λ (q : Plane). IsReach f q Below) same h in
       stays_below w f (record { at = k.somewhere.at; inside = k.somewhere.inside; holds = tt }) (λ v i. record { under = negative_out (value_at w.plane v) (k.everywhere.holds v i) })
 
+  -- a face above it goes
   pub wall_above : IsReach f p Above → AtWall w f []
   wall_above h = outside (subst (λ (q : Plane). IsReach f q Above) same h).everywhere
 
-  pub wall_high_on : w.is_high ≡ true → IsReach f p On → AtWall w f []
+  wall_high_on : w.is_high ≡ true → IsReach f p On → AtWall w f []
   wall_high_on e h = in_high e (subst (λ (q : Plane). IsReach f q On) same h).everywhere
 
-  pub wall_low_on : w.is_high ≡ false → IsReach f p On → AtWall w f (f ∷ [])
+  wall_low_on : w.is_high ≡ false → IsReach f p On → AtWall w f (f ∷ [])
   wall_low_on e h =
       let k : IsReach f w.plane On = subst (λ (q : Plane). IsReach f q On) same h in
       stays (λ c. clash c.high.holds (not_over _ (k.everywhere.holds c.high.at c.high.inside))) (λ a. clash (a.holds k.somewhere.at k.somewhere.inside) (not_over _ k.somewhere.holds)) (λ h o. clash h e)
@@ -237,6 +232,7 @@ module _ (w : Wall) (f : Face) (p : Plane) (same : p ≡ w.plane) where
       not_over : (z : ℤ) → is_zero z ≡ true → is_positive z ≡ false
       not_over z q = ap is_positive (zero_out z q)
 
+  -- a face in it stays at a low wall and goes at a high one
   pub wall_on : {g : Face} → g ≡ f → IsReach f p On → AtWall w f (if not w.is_high then g ∷ [] else [])
   wall_on {g} e h = by w.is_high refl
     where
@@ -244,6 +240,7 @@ module _ (w : Wall) (f : Face) (p : Plane) (same : p ≡ w.plane) where
       by true q = wall_high_on q h
       by false q = subst (λ (g : Face). AtWall w f (g ∷ [])) (sym e) (wall_low_on q h)
 
+  -- of a face that it cuts, the part below stays
   pub wall_cut : {g : Face} → g ≡ below f p → IsReach f p Both → AtWall w f (g ∷ [])
   wall_cut e h =
       subst (λ (g : Face). AtWall w f (g ∷ [])) (sym (e ∙ ap (below f) same)) (cut (subst (λ (q : Plane). IsReach f q Both) same h))
@@ -254,6 +251,7 @@ inside_in_below f p v i n =
     let k = inside_parts f v i in
     inside_on (below f p) v (positive_in k.0) k.1 ∙ list_all-append (λ e. is_negative (value_at e v)) f.edges (p ∷ []) ∙ (λ j. k.2 j && (n j && true))
 
+-- the part below a plane of a part of t is a part of t
 pub part_below : (t : Tri) (f : Face) (p : Plane) → IsPartOf t f → Somewhere f (λ v. is_negative (value_at p v) ≡ true) → IsPartOf t (below f p)
 part_below t f p h s =
     record { plane = record { normal = h.plane.normal; support = h.plane.support }; within = record { holds = λ v i. h.within.holds v (inside_below f p v i).0 }; somewhere = record { at = s.at; inside = inside_in_below f p s.at s.inside s.holds; holds = tt } }
@@ -264,6 +262,7 @@ wall_keeps t w f fs h (outside a) = tt
 wall_keeps t w f fs h (in_high e o) = tt
 wall_keeps t w f fs h (stays c a o) = (h, tt)
 
+-- if what each member gives has a property, all that is given has it
 pub each_every : {X S : Type 0} {R : X → List S → Type 0} (P : X → Type 0) (Q : S → Type 0) → ((x : X) (ys : List S) → P x → R x ys → Every Q ys) → {xs : List X} {ys : List S} → Each R xs ys → Every P xs → Every Q ys
 each_every P Q f none h = tt
 each_every P Q f (more {x = x} {xs = xs} {ys = ys} {zs = zs} r e) h =
@@ -274,10 +273,11 @@ walls_keep t done h = h
 walls_keep t (step {x = w} r c) h =
     walls_keep t c (each_every (IsPartOf t) (IsPartOf t) (wall_keeps t w) r h)
 
-pub whole_part : (t : Tri) → is_flat t ≡ false → IsPartOf t (face_of t)
+whole_part : (t : Tri) → is_flat t ≡ false → IsPartOf t (face_of t)
 whole_part t n =
     record { plane = record { normal = n; support = face_support t }; within = record { holds = λ v i. i }; somewhere = has_inside t n }
 
+-- what walls leave of a triangle is part of it
 pub left_parts : (t : Tri) {ws : List Wall} {fs : List Face} → IsClippedBy ws t fs → Every (IsPartOf t) fs
 left_parts t {ws} {fs} l = walls_keep t l (by (is_flat t) refl)
   where
@@ -290,30 +290,20 @@ pub left_begun : (t : Tri) {f : Face} → is_flat t ≡ false → f ≡ face_of 
 left_begun t {f} n e = subst (λ (g : Face). IsClippedBy [] t (g ∷ [])) (sym e) (rw n done)
 
 module _ (t : Tri) (ws : List leaf.Wall) (i : ℕ) (w : leaf.Wall) (f : Face) (l : i < length ws) (e : w ≡ get_or ws i w) (r : IsClippedBy (map wall_of (take i ws)) t (f ∷ [])) where
+  -- one more wall
   pub left_next : (gs : List Face) → AtWall (wall_of w) f gs → IsClippedBy (map wall_of (take (i + 1) ws)) t gs
-  left_next gs q = chained (λ w. Each (AtWall w)) leaf.Wall wall_of ws i w _ (f ∷ []) gs l e r (each_one q)
+  left_next gs q = chain_of_walls_grows (λ w. Each (AtWall w)) leaf.Wall wall_of ws i w _ (f ∷ []) gs l e r (each_one q)
 
+  -- a wall that keeps all of a triangle leaves the face as it is
   pub left_stay : {s : Remainder} → IsRemainder (wall_of w) t s → s ≡ Whole → IsClippedBy (map wall_of (take (i + 1) ws)) t (f ∷ [])
   left_stay h q =
       left_next (f ∷ []) (subst (λ (s : Remainder). IsRemainder (wall_of w) t s) q h f (left_parts t r).0)
 
+  -- a wall that leaves nothing ends the clipping
   pub left_ended : AtWall (wall_of w) f [] → IsClippedBy (map wall_of ws) t []
   left_ended q = chain_ended AtWall wall_of ws (i + 1) _ (left_next [] q)
 
+  -- a wall that keeps nothing of a triangle leaves nothing
   pub left_nothing : {s : Remainder} → IsRemainder (wall_of w) t s → s ≡ Nothing → IsClippedBy (map wall_of ws) t []
   left_nothing h q =
       left_ended (subst (λ (s : Remainder). IsRemainder (wall_of w) t s) q h f (left_parts t r).0)
-
-pub left_flat : (t : Tri) (ws : List leaf.Wall) {o : Option Face} → o ≡ (if is_flat t then None else Some (face_of t)) → o ≡ None → IsClippedBy (map wall_of ws) t []
-left_flat t ws {o} e q = by (is_flat t) refl (sym q ∙ e)
-  where
-    by : (b : Bool) → is_flat t ≡ b → None ≡ (if b then None else Some (face_of t)) → IsClippedBy (map wall_of ws) t []
-    by true h k = rw h (nothing_more AtWall wall_of ws)
-    by false h k = absurd (none_some (sym k))
-
-pub left_whole : (t : Tri) {o : Option Face} {f : Face} → o ≡ (if is_flat t then None else Some (face_of t)) → o ≡ Some f → (is_flat t ≡ false) × (f ≡ face_of t)
-left_whole t {o} {f} e q = by (is_flat t) refl (sym q ∙ e)
-  where
-    by : (b : Bool) → is_flat t ≡ b → Some f ≡ (if b then None else Some (face_of t)) → (is_flat t ≡ false) × (f ≡ face_of t)
-    by true h k = absurd (none_some k)
-    by false h k = (h, some_inj k)

@@ -10,6 +10,7 @@ use Rattle.ember_leaf.specs.declared.contact.Contact.{Contact}
 use Rattle.ember_leaf.specs.declared.contact.Contact.TheVariants.{Apart, Met, Unknown}
 use Rattle.ember_leaf.specs.TriRelations.{heights_of, none_behind}
 
+-- a default for an index out of range
 abbrev pub no_plane : Plane
 no_plane = record { a = pos 0; b = pos 0; c = pos 0; d = pos 0 }
 
@@ -23,6 +24,7 @@ pub record HasParting (es : List Plane) (t : Tri) : Type 0 where
 abbrev pub IsBehind : List Plane → Corner → Type 0
 IsBehind es c = AllByRecursion (λ g. IsBelow g (spot_of_corner c)) es
 
+-- what each answer shows; `Unknown` shows nothing
 abbrev pub IsContact : List Plane → Tri → Contact → Type 0
 IsContact es t Apart = HasParting es t
 IsContact es t Met = IsBehind es t.a ⊎ (IsBehind es t.b ⊎ IsBehind es t.c)

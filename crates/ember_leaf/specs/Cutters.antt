@@ -24,11 +24,13 @@ use Rattle.ember_leaf.specs.declared.cutter.Cutter.{Cutter}
 use Rattle.ember_leaf.specs.TriRelations.{HasContaining}
 
 -- ---- what a triangle cuts by, and whether it owns what it contains
+-- the planes by which it cuts
 abbrev pub planes_as : Role → Tri → List Plane
 planes_as Across t = support_of t ∷ []
 planes_as Coplanar t = edges_of t
 planes_as Owner t = edges_of t
 
+-- the triangle itself, if it owns what it contains
 abbrev pub owner_as : Role → Tri → List Tri
 owner_as Across t = []
 owner_as Coplanar t = []
@@ -39,16 +41,17 @@ abbrev pub role_if : Bool → Role
 role_if true = Owner
 role_if false = Coplanar
 
--- u lies so to t, whose regions it cuts
+-- u lies relative to t, whose regions it cuts, as its role says
 abbrev pub LiesAs : Role → Tri → Tri → Type 0
 LiesAs Across t u = Unit {0}
 LiesAs Coplanar t u = is_coplanar t u ≡ true
 LiesAs Owner t u = is_coplanar t u ≡ true
 
+-- the cutter lies relative to t as its role says
 pub record IsCutterOf (t : Tri) (c : Cutter) : Type 0 where
   pub lies : LiesAs c.role t c.tri
 
--- a triangle has joined a list
+-- the list has grown by the triangle u in the role k
 pub record IsAdded (u : Tri) (k : Role) (old new : List Cutter) : Type 0 where
   pub cutter : Cutter
   pub is : new ≡ old ++ cutter ∷ []
@@ -59,15 +62,19 @@ pub record IsAdded (u : Tri) (k : Role) (old new : List Cutter) : Type 0 where
 abbrev pub cutting_planes_with : Tri → List Plane → List CuttingPlane
 cutting_planes_with t ps = map (λ p. record { face = face_of t; plane = p }) ps
 
-abbrev pub blades_by : Cutter → List CuttingPlane
-blades_by c = cutting_planes_with c.tri (planes_as c.role c.tri)
+-- the cutting planes of a cutter
+abbrev pub cutting_planes_by : Cutter → List CuttingPlane
+cutting_planes_by c = cutting_planes_with c.tri (planes_as c.role c.tri)
 
-abbrev pub blades_in : List Cutter → List CuttingPlane
-blades_in cs = flat_map blades_by cs
+-- the cutting planes of the cutters of a list
+abbrev pub cutting_planes_in : List Cutter → List CuttingPlane
+cutting_planes_in cs = flat_map cutting_planes_by cs
 
+-- the cutter's triangle, if its role is `Owner`
 abbrev pub owners_by : Cutter → List Tri
 owners_by c = owner_as c.role c.tri
 
+-- the triangles of the list with the role `Owner`
 abbrev pub owners_in : List Cutter → List Tri
 owners_in cs = flat_map owners_by cs
 
@@ -94,9 +101,9 @@ pub record AreLeft (bs : List CuttingPlane) (ts : List Tri) (fs gs : List Face) 
 
 -- what a triangle leaves of a region
 abbrev pub AtCutter : Cutter → Face → List Face → Type 0
-AtCutter c f gs = AreLeft (blades_by c) (owners_by c) (f ∷ []) gs
+AtCutter c f gs = AreLeft (cutting_planes_by c) (owners_by c) (f ∷ []) gs
 
--- of each region
+-- what it leaves of each region
 abbrev pub AreSplit : Cutter → List Face → List Face → Type 0
 AreSplit c fs gs = Each (AtCutter c) fs gs
 
@@ -104,7 +111,7 @@ AreSplit c fs gs = Each (AtCutter c) fs gs
 abbrev pub IsSplitBehind : Cutter → List Face → List Face → List Face → Type 0
 IsSplitBehind c fs old new = (front : List Face) → AreSplit c front old → AreSplit c (front ++ fs) new
 
--- the triangles, one after another
+-- what the triangles leave of the regions, one after another
 abbrev pub AreCut : List Cutter → List Face → List Face → Type 0
 AreCut cs fs gs = Chain AreSplit cs fs gs
 
@@ -118,13 +125,14 @@ pub record AreAround (t : Tri) (ps : List Plane) : Type 0 where
   pub inside : (v : Spot) → is_inside (face_of t) v ≡ true → AllByRecursion (λ p. IsBelow p v) ps
   pub closed : (v : Spot) → is_in_closed (face_of t) v ≡ true → AllByRecursion (λ p. IsNotAbove p v) ps
 
--- the planes cut out of f what lies in the triangle
+-- the planes cut out of f the part inside the triangle, which isn't empty: an inside point of f that is below
+-- all of them is inside the triangle
 pub record AreLast (t : Tri) (ps : List Plane) (f : Face) : Type 0 where
   pub around : AreAround t ps
   pub shared : Somewhere f (λ v. is_inside (face_of t) v ≡ true)
   pub within : (v : Spot) → is_inside f v ≡ true → AllByRecursion (λ p. IsBelow p v) ps → is_inside (face_of t) v ≡ true
 
--- what a plane leaves of a region that meets the face of its triangle
+-- what a plane leaves of a region that meets the face of the plane's triangle, whichever face that is
 abbrev pub AtPlane : Plane → Face → List Face → Type 0
 AtPlane p f gs = (g : Face) → Meets f g → AtCuttingPlane (record { face = g; plane = p }) f gs
 
@@ -138,16 +146,18 @@ pub record IsUncut (f : Face) (p : Plane) : Type 0 where
 abbrev pub AtEdges : Cutter → List Plane → Face → List Face → Type 0
 AtEdges c ps f gs = AreLeft (cutting_planes_with c.tri ps) (owners_by c) (f ∷ []) gs
 
--- the triangle and the face lie in one plane, if the triangle cuts by its edge planes
+-- the triangle and the face lie in one plane
 pub record ShareAPlane (t : Tri) (f : Face) : Type 0 where
   pub face : (v : Spot) → is_inside f v ≡ true → value_at (support_of t) v ≡ pos 0
   pub triangle : (v : Spot) → is_in_closed (face_of t) v ≡ true → value_at f.support v ≡ pos 0
 
+-- they lie in one plane if the triangle cuts by its edge planes
 abbrev pub SharesAs : Role → Tri → Face → Type 0
 SharesAs Across t f = Unit {0}
 SharesAs Coplanar t f = ShareAPlane t f
 SharesAs Owner t f = ShareAPlane t f
 
+-- the cutter may be applied to f: f has an inside point, and lies in the cutter's plane if the role says so
 pub record CanCut (c : Cutter) (f : Face) : Type 0 where
   pub shares : SharesAs c.role c.tri f
   pub somewhere : HasInside f
@@ -168,20 +178,19 @@ pub record IsBounded (t : Tri) (b : Aabb) (f : Face) : Type 0 where
   pub within : Contains (face_of t) f
   pub bounds : Everywhere f (IsWithinAabb b)
 
--- all cutting planes of the first list stand in the second, but for some whose faces no face with the
--- property meets
+-- the second list is the first without some cutting planes whose faces no face with the property meets
 pub data OmitsUnmet (P : Face → Type 0) : List CuttingPlane → List CuttingPlane → Type 0 where
   all_seen : OmitsUnmet P [] []
   stays : {b : CuttingPlane} {xs ys : List CuttingPlane} → OmitsUnmet P xs ys → OmitsUnmet P (b ∷ xs) (b ∷ ys)
   goes : {b : CuttingPlane} {xs ys : List CuttingPlane} → ((f : Face) → P f → Meets f b.face → ⊥) →
       OmitsUnmet P xs ys → OmitsUnmet P (b ∷ xs) ys
 
--- a list has grown by these cutting planes, but for such
+-- the cutting planes of a list have grown by `bs`, without some whose faces no face with the property meets
 abbrev pub AddsCuttingPlanes : (Face → Type 0) → List CuttingPlane → List Cutter → List Cutter → Type 0
 AddsCuttingPlanes P bs old new =
-    (front : List CuttingPlane) → OmitsUnmet P front (blades_in old) → OmitsUnmet P (front ++ bs) (blades_in new)
+    (front : List CuttingPlane) → OmitsUnmet P front (cutting_planes_in old) → OmitsUnmet P (front ++ bs) (cutting_planes_in new)
 
--- what two boxes have in common
+-- what two intervals, and two boxes, have in common
 abbrev pub common : Interval → Interval → Interval
 common a b = interval_between (int_max a.low b.low) (int_min a.high b.high)
 

@@ -4,7 +4,7 @@ use Rattle.ember_model.specs.declared.face.Face.{Face}
 use Rattle.ember_expr.specs.Formula.{formula_of}
 use Rattle.ember_leaf.specs.declared.kept.Kept.{Kept}
 use Rattle.ember_leaf.specs.declared.leaf.Leaf.{Leaf}
-use Rattle.ember_leaf.specs.Leaves.{tris_of}
+use Rattle.ember_leaf.specs.KeptRegions.{tris_of}
 use Rattle.ember_leaf.specs.Written.{AtRegion, IsWrittenOf, WhereFits, HasGrown}
 
 -- these are written of a region of triangle i

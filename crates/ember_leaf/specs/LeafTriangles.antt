@@ -3,8 +3,10 @@ use Rattle.std.specs.Prelude.{List, map}
 use Rattle.ember_model.specs.declared.tri.Tri.{Tri}
 use Rattle.ember_leaf.specs.declared.leaf_triangle.LeafTriangle.{LeafTriangle}
 
+-- the triangle alone
 abbrev pub tri_in : LeafTriangle → Tri
 tri_in f = f.tri
 
+-- the triangles of a list alone
 abbrev pub tris_in : List LeafTriangle → List Tri
 tris_in fs = map tri_in fs

@@ -2,7 +2,7 @@ pub mod Contact
 pub mod Cutters
 pub mod LeafBoxes
 pub mod LeafTriangles
-pub mod Leaves
+pub mod KeptRegions
 pub mod Literal
 pub mod Lower
 pub mod TriRelations

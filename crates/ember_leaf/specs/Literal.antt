@@ -17,20 +17,20 @@ use Rattle.ember_leaf.specs.Scenes.{IsWritten}
 abbrev pub IsLiterallyWrittenOf : List Tri → Formula → Cell → ℕ → List Kept → Type 0
 IsLiterallyWrittenOf scene f c i ks = AreRegionsWritten scene f c (near scene c) i ks
 
--- those of all its triangles, in order
+-- what is written of a leaf: that of all its triangles, in order
 abbrev pub IsLiterallyWrittenIn : List Tri → Formula → Cell → List Kept → Type 0
 IsLiterallyWrittenIn scene f c ks = Each (IsLiterallyWrittenOf scene f c) (range_with_len 0 (length (near scene c))) ks
 
--- those of all leaves of the full tree, in tree order
+-- what is written of a scene: that of all leaves of the full tree, in tree order
 abbrev pub IsLiterallyWritten : List Tri → Formula → List Kept → Type 0
 IsLiterallyWritten scene f ks = Each (IsLiterallyWrittenIn scene f) (leaves scene root) ks
 
 -- ---- what the law says
--- for each scene of closed meshes and each formula
+-- P holds for each scene of closed meshes and each formula
 abbrev pub InScenes : (List Tri → Formula → Type 0) → Type 0
 InScenes P = (scene : List Tri) (meshes : ℕ) (f : Formula) → IsScene scene meshes → P scene f
 
--- it can't be false
+-- P can't be false
 abbrev pub CannotFail : Type 0 → Type 0
 CannotFail P = (P → ⊥) → ⊥
 

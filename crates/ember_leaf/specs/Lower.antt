@@ -9,10 +9,10 @@ use Rattle.ember_box.specs.Near.{tri_at}
 use Rattle.ember_box.specs.Regions.{cutting_planes_of, cutting_planes}
 use Rattle.ember_poly.specs.Cuts.{HasInside}
 use Rattle.ember_leaf.specs.declared.cutter.Cutter.{Cutter}
-use Rattle.ember_leaf.specs.Cutters.{blades_in, owners_in, IsBounded, OmitsUnmet, AddsCuttingPlanes}
+use Rattle.ember_leaf.specs.Cutters.{cutting_planes_in, owners_in, IsBounded, OmitsUnmet, AddsCuttingPlanes}
 use Rattle.ember_leaf.specs.TriRelations.{HasContaining}
 
--- it stands in the list before index i
+-- u occurs in the list before index i
 pub record IsListedBefore (ts : List Tri) (i : ℕ) (u : Tri) : Type 0 where
   pub index : ℕ
   pub before : index < i
@@ -33,47 +33,53 @@ pub data AddsLower (t u : Tri) (b : Aabb) (is_before : Bool) (old : List Tri) : 
   misses : ((f : Face) → ContainsPart t b u f → ⊥) → AddsLower t u b is_before old false old
   follows : is_before ≡ false → AddsLower t u b is_before old false old
 
--- the triangles of the list stand before index i; and if one of the first n triangles, before index
--- i, lies in the plane of t and contains a part of t within the bounds, then one of the list
--- contains that part
+-- `lower` has triangles before index i; and if one of the first n triangles, before index i, lies in the plane
+-- of t and contains a part of t within the bounds, then one of `lower` contains that part
 pub record AreLower (ts : List Tri) (i : ℕ) (t : Tri) (b : Aabb) (n : ℕ) (lower : List Tri) : Type 0 where
   pub stand : All (IsListedBefore ts i) lower
   pub held : (m : ℕ) → m < n → m < i → (f : Face) → ContainsPart t b (tri_at ts m) f → HasContaining lower f
 
--- one before index i, in the plane of t, covers it
+-- a triangle before index i, in the plane of t, covers t
 pub record HasCover (ts : List Tri) (i : ℕ) (t : Tri) : Type 0 where
   pub cover : Tri
   pub stands : IsListedBefore ts i cover
   pub coplanar : is_coplanar cover t ≡ true
   pub contains : Contains (face_of cover) (face_of t)
 
+-- if the test for a cover returned `true`, an earlier triangle covers t; otherwise `lower` is complete
 abbrev pub AreLowerOrCovered : List Tri → ℕ → Tri → Aabb → List Tri → Bool → Type 0
 AreLowerOrCovered ts i t b lower true = HasCover ts i t
 AreLowerOrCovered ts i t b lower false = AreLower ts i t b (length ts) lower
 
--- the list tells whether triangle i owns the face
+-- whether triangle i owns the face is decided by whether a triangle of `lower` contains it
 pub record DecidesOwner (lower : List Tri) (ts : List Tri) (i : ℕ) (f : Face) : Type 0 where
   pub free : All (λ u. Contains (face_of u) f → ⊥) lower → IsOwner ts i f
   pub held : HasContaining lower f → IsOwner ts i f → ⊥
 
 -- ---- what is known of the list of triangles that may cut the regions of t, after one more or all
-abbrev pub AddsBladesWithin : Aabb → Tri → Tri → List Cutter → List Cutter → Bool → Type 0
-AddsBladesWithin b t u old new covered =
+-- after u, unless u covers t: the list has the cutting planes of u that may cut a part of t within the bounds
+abbrev pub AddsCuttingPlanesWithin : Aabb → Tri → Tri → List Cutter → List Cutter → Bool → Type 0
+AddsCuttingPlanesWithin b t u old new covered =
     covered ≡ false → AddsCuttingPlanes (IsBounded t b) (cutting_planes_of t u) old new
 
-abbrev pub AddsBlades : Tri → Tri → List Cutter → List Cutter → Bool → Type 0
-AddsBlades t u old new covered =
+-- the same within all bounds
+abbrev pub AddsPlanesOf : Tri → Tri → List Cutter → List Cutter → Bool → Type 0
+AddsPlanesOf t u old new covered =
     covered ≡ false → (b : Aabb) → AddsCuttingPlanes (IsBounded t b) (cutting_planes_of t u) old new
 
+-- after u: the owners in the list have grown by u, if u may own a part of t within the bounds
 abbrev pub AddsOwnersWithin : Aabb → Tri → Tri → Bool → List Cutter → List Cutter → Bool → Type 0
 AddsOwnersWithin b t u is_before old new covered = AddsLower t u b is_before (owners_in old) covered (owners_in new)
 
+-- the same within all bounds
 abbrev pub AddsOwners : Tri → Tri → Bool → List Cutter → List Cutter → Bool → Type 0
 AddsOwners t u is_before old new covered =
     (b : Aabb) → AddsLower t u b is_before (owners_in old) covered (owners_in new)
 
-abbrev pub AreBladesFound : List Tri → ℕ → Tri → Aabb → List Cutter → Bool → Type 0
-AreBladesFound ts i t b cs covered = covered ≡ false → OmitsUnmet (IsBounded t b) (cutting_planes ts i) (blades_in cs)
+-- after all, unless t is covered: the list has all cutting planes that may cut a part of t within the bounds
+abbrev pub AreCuttingPlanesFound : List Tri → ℕ → Tri → Aabb → List Cutter → Bool → Type 0
+AreCuttingPlanesFound ts i t b cs covered = covered ≡ false → OmitsUnmet (IsBounded t b) (cutting_planes ts i) (cutting_planes_in cs)
 
+-- after all: t is covered, or the owners in the list decide who owns a part of t within the bounds
 abbrev pub AreOwnersFound : List Tri → ℕ → Tri → Aabb → List Cutter → Bool → Type 0
 AreOwnersFound ts i t b cs covered = AreLowerOrCovered ts i t b (owners_in cs) covered

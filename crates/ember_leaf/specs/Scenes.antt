@@ -23,7 +23,7 @@ pub record IsBeside (scene : List Tri) (f : Formula) (v : Spot) (value : Bool) :
   pub steps : (k : Axis) (by : ℤ) → Eventually (λ m. AreClear (faces_of scene) (moved (scaled (pos m) v) k by) →
       (a : Axis) → truth (vector a scene (moved (scaled (pos m) v) k by)) f ≡ value)
 
--- it has one value at all clear points in the closed box and directly beside it
+-- the expression has one value at all clear points in the closed box and directly beside it
 pub record HasOneValue (scene : List Tri) (f : Formula) (c : Cell) : Type 0 where
   pub value : Bool
   pub beside : (v : Spot) → HasPoint c v → IsBeside scene f v value

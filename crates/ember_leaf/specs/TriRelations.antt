@@ -1,4 +1,4 @@
--- The values of a plane at the corners of a triangle, and how triangles lie to it by them
+-- The values of a plane at the corners of a triangle, and how two triangles lie relative to each other
 use Rattle.std.specs.Prelude.{◌≡◌, ℕ, List, Some, slice_get, Bool, true, false, not, ◌&&◌}
 use Rattle.ember_algebra.specs.Sign.{is_negative, is_zero, is_positive}
 use Rattle.ember_model.specs.declared.plane.Plane.{Plane}
@@ -12,6 +12,7 @@ use Rattle.ember_leaf.specs.declared.heights.Heights.{Heights}
 use Rattle.ember_leaf.specs.declared.relation.Relation.{Relation}
 use Rattle.ember_leaf.specs.declared.relation.Relation.TheVariants.{Apart, Across, Coplanar}
 
+-- the values of a plane at the corners of a triangle
 abbrev pub heights_of : Plane → Tri → Heights
 heights_of p t =
     record {
@@ -21,7 +22,7 @@ heights_of p t =
           (spot_of_corner t.c);
     }
 
--- no corner is behind the plane, none is in front of it, all are on one side, all are on it
+-- no corner is behind the plane; none is in front of it; all are behind it, all in front of it, all on it
 abbrev pub none_behind : Heights → Bool
 none_behind h = not (is_negative h.a) && (not (is_negative h.b) && not (is_negative h.c))
 
@@ -47,13 +48,13 @@ abbrev pub IsBehindEdge : Tri → Tri → ℕ → Type 0
 IsBehindEdge t u i =
     (p : Plane) → slice_get (edges_of t) i ≡ Some p → Everywhere (face_of u) (λ v. is_negative (value_at p v) ≡ true)
 
--- how u lies to t
+-- how t lies relative to the closed face of u; `Across` and `Coplanar` only say whether both lie in one plane
 abbrev pub IsRelation : Tri → Tri → Relation → Type 0
 IsRelation t u Apart = AreDisjoint t u
 IsRelation t u Across = is_coplanar t u ≡ false
 IsRelation t u Coplanar = is_coplanar t u ≡ true
 
--- a triangle of lower number in the plane of t
+-- a valid triangle u in the plane of t; used for the triangles before t, though the index isn't part of it
 pub record IsLower (t u : Tri) : Type 0 where
   pub valid : IsValidTri u
   pub coplanar : is_coplanar u t ≡ true

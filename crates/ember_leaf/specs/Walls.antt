@@ -16,13 +16,14 @@ use Rattle.ember_poly.specs.Cuts.{HasInside}
 use Rattle.ember_leaf.specs.declared.wall.Wall.{Wall}
 use Rattle.ember_leaf.specs.declared.clip.Remainder.{Remainder}
 use Rattle.ember_leaf.specs.declared.clip.Remainder.TheVariants.{Whole, Nothing, Unknown}
-use Rattle.ember_leaf.specs.Leaves.{IsRegionOf}
+use Rattle.ember_leaf.specs.KeptRegions.{IsRegionOf}
 
 -- the wall as a plane that is negative in the box
 abbrev pub wall_of : Wall → regions.Wall
 wall_of w =
     record { plane = if w.is_high then level w.axis w.at else opposite (level w.axis w.at); is_high = w.is_high }
 
+-- the interval of a bounding box along an axis
 abbrev pub interval_along : Aabb → Axis → Interval
 interval_along b X = b.x
 interval_along b Y = b.y
@@ -40,7 +41,7 @@ pub record IsPartOf (t : Tri) (f : Face) : Type 0 where
   pub within : Contains (face_of t) f
   pub somewhere : HasInside f
 
--- what an interval says of a low wall and of a high one
+-- what an interval decides about clipping at a low wall, and at a high one
 abbrev pub IsLowRemainder : Interval → ℤ → Remainder → Type 0
 IsLowRemainder s at Whole = at ≤ℤ s.low
 IsLowRemainder s at Nothing = (s.low <ℤ at) × (s.high ≤ℤ at)
@@ -51,7 +52,7 @@ IsHighRemainder s at Whole = (s.low <ℤ at) × (s.high ≤ℤ at)
 IsHighRemainder s at Nothing = at ≤ℤ s.low
 IsHighRemainder s at Unknown = Unit {0}
 
--- what the bounding box of t tells of a wall and the parts of t
+-- what the bounding box of t alone decides about clipping a part of t at a wall
 abbrev pub IsRemainder : regions.Wall → Tri → Remainder → Type 0
 IsRemainder w t Whole = (f : Face) → IsPartOf t f → AtWall w f (f ∷ [])
 IsRemainder w t Nothing = (f : Face) → IsPartOf t f → AtWall w f []

@@ -22,9 +22,8 @@ abbrev pub front : Face → List ℤ → List ℤ → List ℤ
 front f before after =
     if is_positive (along f.support (main_axis f.support)) then after else before
 
--- what is written of a region of triangle i: nothing if another triangle owns it or if the
--- expression has one value on both sides; otherwise the region, its normal on the side where the
--- expression is false
+-- what is written of a region of triangle i: nothing if another triangle owns it, or if the expression has
+-- one value on both sides; otherwise the region, with its normal on the side on which the expression is false
 pub data AtRegion (scene : List Tri) (f : Formula) (near : List Tri) (i : ℕ) (face : Face) : List Kept → Type 0 where
   unowned : (IsOwner near i face → ⊥) → AtRegion scene f near i face []
   even : {before after : List ℤ} → IsSides scene face before after → truth before f ≡ truth after f →
@@ -56,19 +55,19 @@ pub data IsWrittenOf (scene : List Tri) (f : Formula) (c : Cell) (near : List Tr
   regional : {ks : List Kept} → AreRegionsWritten scene f c near i ks → IsWrittenOf scene f c near i ks
   hidden : IsCovered near i → IsWrittenOf scene f c near i []
 
--- those of all its triangles, in order
+-- the written regions of a leaf: those of all its triangles, in order
 abbrev pub IsWrittenIn : List Tri → Formula → Cell → List Tri → List Kept → Type 0
 IsWrittenIn scene f c near ks =
     Each (IsWrittenOf scene f c near) (range_with_len 0 (length near)) ks
 
--- what the expression says of a region with these winding numbers before and after it: nothing, or
--- whether it holds in front
+-- whether a region with these winding numbers before and after it is flipped: whether the expression is true
+-- in front of it; none if the expression has one value on both sides
 abbrev pub IsFlip : Formula → Face → List ℤ → List ℤ → Option Bool → Type 0
 IsFlip f face before after None = truth before f ≡ truth after f
 IsFlip f face before after (Some flipped) =
     (truth before f ≢ truth after f) × (flipped ≡ truth (front face before after) f)
 
--- in each scene that fits what is known at the box
+-- R holds in each scene that fits what is known at the box
 abbrev pub WhereFits : List Tri → Cell → List ℤ → (List Tri → List Kept → Type 0) → List Kept → Type 0
 WhereFits near c counts R ks = (scene : List Tri) → Fits scene near c counts → R scene ks
 

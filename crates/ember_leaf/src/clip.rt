@@ -18,6 +18,7 @@ use ember_model::{Axis, OutOfMemory, Plane};
 use ember_poly::{Draft, Reach, Ring};
 use std::alloc::Global;
 
+// The interval of a bounding box along an axis.
 fn span(b: &Aabb, k: Axis) -> Interval
     ensures { result ≡ interval_along b.now k }
 {
@@ -28,6 +29,7 @@ fn span(b: &Aabb, k: Axis) -> Interval
     }
 }
 
+// What two intervals have in common.
 fn common(a: &Interval, b: &Interval) -> Interval
     ensures { result ≡ common a.now b.now }
 {
@@ -48,6 +50,7 @@ pub fn common_spans(a: &Aabb, b: &Aabb) -> Aabb
     }
 }
 
+// The wall at the low end of a box's interval along an axis.
 fn low_wall(s: &Interval, axis: Axis) -> Wall
     requires { IsIntervalSized s.now }
     ensures { wall_of result ≡ record { plane = opposite (level axis s.now.low); is_high = false } }
@@ -59,6 +62,7 @@ fn low_wall(s: &Interval, axis: Axis) -> Wall
     }
 }
 
+// The wall at the high end of a box's interval along an axis.
 fn high_wall(s: &Interval, axis: Axis) -> Wall
     requires { IsIntervalSized s.now }
     ensures { wall_of result ≡ record { plane = level axis s.now.high; is_high = true } }
@@ -70,7 +74,7 @@ fn high_wall(s: &Interval, axis: Axis) -> Wall
     }
 }
 
-/// The walls of a box, in order.
+/// The walls of a box: along each axis the low one, then the high one.
 pub fn walls(c: &Cell) -> [Wall; 6]
     ensures { map wall_of result ≡ regions.walls c.now }
 {
@@ -85,7 +89,7 @@ pub fn walls(c: &Cell) -> [Wall; 6]
     ]
 }
 
-// The plane with this normal along an axis and this constant.
+// The plane across an axis, with the entry `n` along it and the constant `d`.
 fn level(axis: Axis, n: i64, d: i64) -> Plane
     requires n { Small 1 n }
     requires d { Small 2048 d }
@@ -127,8 +131,8 @@ fn plane_of(w: &Wall) -> Plane
     }
 }
 
-// What the bounding box of a triangle alone says of clipping at a wall. It holds of each part of the
-// triangle too.
+// What a triangle's bounding box alone decides about clipping the triangle, or a part of it, at a
+// wall.
 #[derive(Clone, Copy)]
 enum Remainder {
     // The wall cuts nothing off.
@@ -139,6 +143,7 @@ enum Remainder {
     Unknown,
 }
 
+// What an interval decides about clipping at a low wall.
 fn remainder_at_low(s: &Interval, w: &Wall) -> Remainder
     ensures { IsLowRemainder s.now w.now.at result }
 {
@@ -151,6 +156,7 @@ fn remainder_at_low(s: &Interval, w: &Wall) -> Remainder
     }
 }
 
+// What an interval decides about clipping at a high wall.
 fn remainder_at_high(s: &Interval, w: &Wall) -> Remainder
     ensures { IsHighRemainder s.now w.now.at result }
 {
@@ -163,6 +169,7 @@ fn remainder_at_high(s: &Interval, w: &Wall) -> Remainder
     }
 }
 
+// What the bounding box of a triangle decides about clipping at a wall.
 fn remainder_at(w: &Wall, f: &LeafTriangle) -> Remainder
     ensures { IsRemainder (wall_of w.now) f.now.tri result }
 {
@@ -174,8 +181,9 @@ fn remainder_at(w: &Wall, f: &LeafTriangle) -> Remainder
     }
 }
 
-/// Whether bounding boxes alone show that no part of the triangle belongs to the box: the first wall that
-/// may cut something off cuts all of it off. `false` shows nothing.
+/// `true` only if no part of the triangle belongs to the box. Bounding boxes alone are tested: of
+/// the walls in order, the first one that may cut something off cuts everything off. `false` shows
+/// nothing.
 pub fn is_outside(walls: &[Wall], f: &LeafTriangle) -> bool
     requires { is_flat f.now.tri ≡ false }
     ensures { result ≡ true → IsClippedBy (map wall_of walls.now) f.now.tri [] }
@@ -190,8 +198,8 @@ pub fn is_outside(walls: &[Wall], f: &LeafTriangle) -> bool
     false
 }
 
-// Clips a face at the wall. Returns whether anything is left. A face in the plane of a wall belongs to the
-// box of which that is the low wall.
+// Clips a face at the wall. Returns whether anything is left. A face in the plane of a wall belongs
+// to the box that has this wall as its low one.
 fn at_wall(draft: &mut Draft, w: &Wall) -> Result<bool, OutOfMemory>
     requires { HoldsRing draft.old }
     ensures ring { OnOk result (HoldsRing draft.new) }
@@ -230,9 +238,9 @@ fn within_walls(draft: &mut Draft, f: &LeafTriangle, walls: &[Wall]) -> Result<b
     Ok(true)
 }
 
-/// The part of a triangle that belongs to the box with these walls, or None if there is no such part. The
-/// triangle isn't flat. The lists of the ring have room for `room` cuts. The draft is only working room: its
-/// face afterwards says nothing.
+/// The part of a triangle that belongs to the box with these walls, or `None` if there is no such
+/// part. The triangle isn't flat. The lists of the ring have room for `room` cuts. The draft is
+/// only working room: its face afterwards has no meaning. The only error is out-of-memory.
 pub fn clip_to_box(
     alloc: Global,
     draft: &mut Draft,

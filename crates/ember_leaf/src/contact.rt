@@ -1,4 +1,4 @@
-// Whether a region meets a triangle in its plane, as far as the triangle's corners show it.
+// Whether a region meets a triangle in its plane, as far as the triangle's corners decide it.
 ghost use Rattle.std.specs.Prelude.{◌≡◌, ◌&&◌, All};
 ghost use Rattle.ember_algebra.specs.Sign.{is_negative};
 ghost use Rattle.ember_model.specs.Valid.{IsValidPlane, IsValidTri};
@@ -27,6 +27,7 @@ struct Behind {
 }
 
 impl Behind {
+    // Those of the corners that are also behind the plane with these heights.
     fn and(&self, h: &Heights) -> Behind
         ensures a { result.a ≡ self.now.a && is_negative h.now.a }
         ensures b { result.b ≡ self.now.b && is_negative h.now.b }
@@ -40,7 +41,8 @@ impl Behind {
     }
 }
 
-/// What the corners of the triangle show of a region, given the edge planes of its outline.
+/// What the corners of the triangle show of a region in its plane. `edges` are the edge planes of
+/// the region's outline.
 pub fn contact_of(edges: &[Plane], t: &Tri) -> Contact
     requires edges { All IsValidPlane edges.now }
     requires tri { IsValidTri t.now }

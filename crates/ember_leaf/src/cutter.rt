@@ -6,14 +6,15 @@ ghost use Rattle.ember_model.specs.Faces.{is_flat, edges_of};
 
 use ember_model::{Plane, Tri};
 
-/// How a triangle cuts the regions of another one that its closed face touches.
+/// How a triangle cuts those regions of another one that its closed face touches.
 #[derive(Clone, Copy)]
 pub enum Role {
     /// In another plane: by its support plane.
     Across,
-    /// In the same plane, with a higher number: by its edge planes.
+    /// In the same plane, with a higher index: by its edge planes.
     Coplanar,
-    /// In the same plane, with a lower number: by its edge planes, and what it contains is its own.
+    /// In the same plane, with a lower index: by its edge planes. It owns each region that it
+    /// contains.
     Owner,
 }
 

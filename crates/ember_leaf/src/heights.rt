@@ -8,7 +8,7 @@ ghost use Rattle.ember_leaf.specs.TriRelations.{heights_of, none_behind, none_in
 
 use ember_model::{Corner, Plane, Tri};
 
-/// The values of a plane at the corners of a triangle.
+/// The values of a plane at the corners of a triangle: above 0 in front of it, below 0 behind it.
 #[derive(Clone, Copy)]
 pub struct Heights {
     pub a: i64,
@@ -16,6 +16,7 @@ pub struct Heights {
     pub c: i64,
 }
 
+// The value of a plane at a corner.
 #[tactic(none)]
 fn height(p: &Plane, u: &Corner) -> i64
     requires plane { IsValidPlane p.now }
@@ -52,6 +53,7 @@ pub fn is_in_front(height: i64) -> bool
     height > 0
 }
 
+// Whether a point of this height is on the plane.
 fn is_on(height: i64) -> bool
     ensures { result ≡ is_zero height }
 {
@@ -59,49 +61,49 @@ fn is_on(height: i64) -> bool
 }
 
 impl Heights {
-    /// No corner is behind the plane.
+    /// Whether no corner is behind the plane.
     pub fn none_behind(&self) -> bool
         ensures { result ≡ none_behind self.now }
     {
         !is_behind(self.a) && (!is_behind(self.b) && !is_behind(self.c))
     }
 
-    /// No corner is in front of it.
+    /// Whether no corner is in front of the plane.
     pub fn none_in_front(&self) -> bool
         ensures { result ≡ none_in_front self.now }
     {
         !is_in_front(self.a) && (!is_in_front(self.b) && !is_in_front(self.c))
     }
 
-    /// All are strictly behind it.
+    /// Whether all corners are strictly behind the plane.
     pub fn all_behind(&self) -> bool
         ensures { result ≡ all_behind self.now }
     {
         is_behind(self.a) && (is_behind(self.b) && is_behind(self.c))
     }
 
-    /// All are strictly in front of it.
+    /// Whether all corners are strictly in front of the plane.
     pub fn all_in_front(&self) -> bool
         ensures { result ≡ all_in_front self.now }
     {
         is_in_front(self.a) && (is_in_front(self.b) && is_in_front(self.c))
     }
 
-    /// All are on it.
+    /// Whether all corners are on the plane.
     pub fn all_on(&self) -> bool
         ensures { result ≡ all_on self.now }
     {
         is_on(self.a) && (is_on(self.b) && is_on(self.c))
     }
 
-    /// None is behind it, and not all are on it.
+    /// Whether no corner is behind the plane, and not all are on it.
     pub fn lie_in_front(&self) -> bool
         ensures { result ≡ none_behind self.now && not (all_on self.now) }
     {
         self.none_behind() && !self.all_on()
     }
 
-    /// None is in front of it, and not all are on it.
+    /// Whether no corner is in front of the plane, and not all are on it.
     pub fn lie_behind(&self) -> bool
         ensures { result ≡ none_in_front self.now && not (all_on self.now) }
     {

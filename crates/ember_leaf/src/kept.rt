@@ -4,8 +4,8 @@ ghost use Rattle.std.specs.Prelude.{◌≡◌};
 use ember_poly::Ring;
 use std::marker::Model;
 
-/// A written region: the index of its triangle among the triangles near its leaf, and whether its
-/// normal is the negative of the triangle's.
+/// A written region (`ring`), the index of its triangle among those near its leaf, and whether it
+/// is flipped: whether it is written with the negative of the triangle's normal.
 #[derive(Drop)]
 pub struct Kept {
     pub tri: u32,

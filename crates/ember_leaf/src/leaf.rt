@@ -18,7 +18,7 @@ ghost use Rattle.ember_expr.specs.Formula.{formula_of};
 ghost use Rattle.ember_leaf.specs.Written.{IsFlip, IsWrittenIn, AreOwned};
 ghost use Rattle.ember_leaf.specs.LeafBoxes.{WritesRegion, AddsWritten};
 ghost use Rattle.ember_leaf.specs.LeafTriangles.{tris_in};
-ghost use Rattle.ember_leaf.specs.Leaves.{IsRegionOf, IsKeptOf, ArePlaced, ArePlacedBelow, tris_of};
+ghost use Rattle.ember_leaf.specs.KeptRegions.{IsRegionOf, IsKeptOf, ArePlaced, ArePlacedBelow, tris_of};
 
 use crate::clip::{clip_to_box, common_spans, is_outside, walls};
 use crate::cutter::Cutter;
@@ -37,10 +37,10 @@ use ember_poly::{Draft, Ring, support};
 use ember_trace::{NearTriangle, Sides, near_triangles, put_sides_beside};
 use std::alloc::Global;
 
-// For how many cuts a triangle's start has room at most.
+// The lists of a clipped triangle reserve room for at most this many cuts.
 const ROOM: usize = 6;
 
-// The plane's front is on the side to which its main axis points.
+// Whether the plane's normal has a positive entry along its main axis.
 fn faces_on(p: &Plane) -> bool
     ensures { result ≡ is_positive (along p.now (main_axis p.now)) }
 {
@@ -51,7 +51,8 @@ fn faces_on(p: &Plane) -> bool
     }
 }
 
-// None if the expression has one value on both sides. Otherwise whether it holds in front.
+// `None` if the expression has one value on both sides of the region, which then isn't written.
+// Otherwise whether the region must be flipped: whether the expression is true in front of it.
 fn flip_of(e: &Expr, sides: &Sides, r: &Ring) -> Option<bool>
     requires before { AreSideCounts sides.now.before.counts }
     requires after { AreSideCounts sides.now.after.counts }
@@ -68,9 +69,8 @@ fn flip_of(e: &Expr, sides: &Sides, r: &Ring) -> Option<bool>
     }
 }
 
-// What is known at a leaf box: the expression, the near triangles without edge planes (`near`) and
-// with them (`triangles`), in one order, and the winding numbers at the box's reference point
-// (`at`).
+// What is known at a leaf box. `near` has the near triangles, and `triangles` the same in the same
+// order, with their edge planes. `at` has the winding numbers at the box's reference point.
 #[derive(Clone, Copy)]
 struct Leaf<'a> {
     expr: &'a Expr,
@@ -82,7 +82,7 @@ struct Leaf<'a> {
 }
 
 impl Leaf<'_> {
-    // The region as it is written, if it is.
+    // The region of triangle `i` as it is written, or `None` if it isn't. `sides` is working room.
     fn kept(&self, i: usize, ring: Ring, sides: &mut Sides) -> Option<Kept>
         requires few { length self.now.near.now ≤ 262144 }
         requires counts { AreBoxCounts self.now.at.now.counts }
@@ -181,11 +181,13 @@ impl Leaf<'_> {
         ensures placed { OnOk result (ArePlacedBelow (tris_of self.now.near.now) (i + 1) kept.new.items) }
         ensures written { OnOk result (AddsWritten self.now i kept.old.items kept.new.items) }
     {
+        // The triangle whose regions are made.
         let own = &self.triangles[i];
         if is_flat(own) || is_outside(walls, own) {
             return Ok(());
         }
         let bounds = common_spans(&own.aabb, self.aabb);
+        // True if an earlier coplanar triangle covers this one. Then the list is incomplete.
         if find_cutters(cutters, own, &bounds, self.triangles, i)? {
             return Ok(());
         }
@@ -204,7 +206,8 @@ impl Leaf<'_> {
 /// The written regions of a leaf box, by their triangles in order, and for each triangle in the
 /// order of its regions. `near` has the triangles near the box, and `v` the winding numbers at its
 /// reference point; the result is right in every scene that fits these. Meshes are numbered from 1
-/// to 64, and at most 262,144 triangles are near.
+/// to 64, and at most 262,144 triangles are near. The only error is out-of-memory.
+/// In clauses, `Corners` is the type of a triangle as contracts see it.
 pub fn leaf_faces(
     alloc: Global,
     e: &Expr,

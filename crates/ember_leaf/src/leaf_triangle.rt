@@ -8,7 +8,8 @@ ghost use Rattle.ember_box.specs.Aabbs.{aabb_of_tri};
 use ember_box::Aabb;
 use ember_model::{Plane, Tri};
 
-/// A triangle near a leaf, with its support plane, its edge planes along the main axis, and its bounding box.
+/// A triangle near a leaf, with its support plane, its edge planes parallel to the main axis, and
+/// its bounding box.
 #[derive(Clone, Copy)]
 pub struct LeafTriangle {
     pub tri: Tri,

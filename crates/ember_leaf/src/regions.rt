@@ -1,5 +1,10 @@
-// The regions of a triangle: its start, cut by one triangle after another. A region that a triangle of
-// lower number contains is dropped as soon as that triangle has cut, so it costs nothing further.
+// The regions of a triangle: its start, cut by one triangle after another. A region that a coplanar
+// triangle of lower index contains is dropped as soon as that triangle has cut, so it costs nothing
+// further.
+//
+// `regions` calls `split_all` for each cutter. This calls `add_all` on the regions from the first
+// one that meets the cutter. `add_all` calls `add_cut` for each of them that meets it, and
+// `add_cut` calls `add_parts` for a cutter in another plane, and `add_pieces` for a coplanar one.
 ghost use Rattle.std.specs.Prelude.{◌≡◌, ◌↔◌, IsTrue, true, [], ◌∷◌, ◌≤◌, length, take, drop};
 ghost use Rattle.std.specs.Prelude.{All, IfOk, OnOk};
 ghost use Rattle.std.specs.List.{AllByRecursion};
@@ -17,8 +22,9 @@ use ember_model::{OutOfMemory, Plane};
 use ember_poly::{Reach, Ring, above, meets_face, meets_within, outline, parts, reach};
 use std::alloc::Global;
 
-// Some inside point of the region lies in the closed face of a triangle of its plane. The triangle's
-// corners decide most pairs, in 64 bits and without computing a meet.
+// Whether the region meets a triangle in its plane: some inside point of the region lies in the
+// triangle's closed face. The triangle's corners decide most pairs, in 64 bits and without
+// computing a meet.
 fn is_met_flat(r: &Ring, c: &Cutter) -> bool
     requires plane { ShareAPlane c.now.tri r.now }
     requires somewhere { HasInside r.now }
@@ -31,7 +37,8 @@ fn is_met_flat(r: &Ring, c: &Cutter) -> bool
     }
 }
 
-// Some inside point of the region lies in the closed face of the triangle.
+// Whether the region meets the triangle: some inside point of the region lies in the triangle's
+// closed face.
 fn is_met(r: &Ring, c: &Cutter) -> bool
     requires { CanCut c.now r.now }
     ensures { IsTrue result ↔ Meets r.now (face_of c.now.tri) }
@@ -57,7 +64,7 @@ fn apart(list: &[Ring], c: &Cutter) -> usize
     list.len()
 }
 
-// Adds the two parts of a region that a plane cuts, or the region itself.
+// Adds the two parts of a region if the plane cuts it, otherwise the region itself.
 fn add_parts(alloc: Global, r: Ring, p: &Plane, out: &mut Vec<Ring>) -> Result<(), OutOfMemory>
     requires { IsValidPlane p.now }
     ensures { OnOk result (HasGrown (AtPlane p.now r) out.old.items out.new.items) }
@@ -73,7 +80,7 @@ fn add_parts(alloc: Global, r: Ring, p: &Plane, out: &mut Vec<Ring>) -> Result<(
     Ok(())
 }
 
-// None of the planes cuts the region.
+// `true` only if none of the planes cuts the region.
 fn is_uncut(r: &Ring, planes: &[Plane]) -> bool
     requires { All IsValidPlane planes.now }
     ensures { result ≡ true → AllByRecursion (IsUncut r.now) planes.now }
@@ -89,8 +96,9 @@ fn is_uncut(r: &Ring, planes: &[Plane]) -> bool
     true
 }
 
-// Whether the part of the region below the plane that cuts it needn't be made: the triangle owns
-// what it contains, and none of the planes that are still to come cuts the region.
+// `true` only if the part of the region below the plane that cuts it now needn't be made: the
+// triangle owns what it contains, and none of `planes`, its edge planes that are still to cut, cuts
+// the region.
 fn is_owned(r: &Ring, c: &Cutter, planes: &[Plane]) -> bool
     requires { All IsValidPlane planes.now }
     ensures { result ≡ true → (c.now.role ≡ Owner) × AllByRecursion (IsUncut r.now) planes.now }
@@ -101,9 +109,10 @@ fn is_owned(r: &Ring, c: &Cutter, planes: &[Plane]) -> bool
     }
 }
 
-// Cuts a region that overlaps the triangle by the rest of its edge planes. Adds the part inside the
-// triangle, unless the triangle owns it, and then the parts outside, the last one cut off first. The
-// part inside an owner isn't made if no further plane would cut it.
+// Cuts a region that overlaps the triangle by `edges`, its remaining edge planes. Adds the part
+// inside the triangle, unless the triangle owns it, and then the parts outside, in the reverse of
+// the order in which they were cut off. The part inside an owner isn't made if no further plane
+// would cut it.
 fn add_pieces(
     alloc: Global,
     r: Ring,
@@ -148,7 +157,7 @@ fn add_cut(alloc: Global, r: Ring, c: &Cutter, out: &mut Vec<Ring>) -> Result<()
     }
 }
 
-// Adds what a triangle leaves of regions, the first of which meets it.
+// Adds what a triangle leaves of each region. The first region is known to meet it.
 fn add_all(
     alloc: Global,
     list: Vec<Ring>,
@@ -172,7 +181,7 @@ fn add_all(
     Ok(())
 }
 
-// One triangle cuts each region that meets it.
+// What one triangle leaves of the regions: it cuts each one that meets it.
 fn split_all(alloc: Global, list: Vec<Ring>, c: &Cutter) -> Result<Vec<Ring>, OutOfMemory>
     requires { All (CanCut c.now) list.items }
     ensures { IfOk result (λ out. AreSplit c.now list.items out.items) }
@@ -186,8 +195,8 @@ fn split_all(alloc: Global, list: Vec<Ring>, c: &Cutter) -> Result<Vec<Ring>, Ou
     Ok(out)
 }
 
-/// Cuts a start by one triangle after another. Returns the regions in order, without those that one of
-/// the triangles owns.
+/// Cuts a start by one triangle after another. Returns the regions in order, without those that one
+/// of the triangles owns. The only error is out-of-memory.
 pub fn regions(alloc: Global, start: Ring, cutters: &[Cutter]) -> Result<Vec<Ring>, OutOfMemory>
     requires { All (λ c. CanCut c start) cutters.now }
     ensures { IfOk result (λ out. AreCut cutters.now (start ∷ []) out.items) }

@@ -1,4 +1,4 @@
-// How two triangles lie to each other, by their corners.
+// How a triangle lies relative to another one, as far as their corners show it.
 ghost use Rattle.std.specs.Prelude.{◌≡◌, ◌<◌, ◌&&◌, true, false};
 ghost use Rattle.ember_algebra.specs.Sign.{is_zero};
 ghost use Rattle.ember_model.specs.Faces.{is_flat, face_of, Contains};
@@ -9,7 +9,7 @@ use crate::heights::heights_of;
 use crate::leaf_triangle::LeafTriangle;
 use ember_model::Plane;
 
-/// How a triangle lies to the closed face of another.
+/// How a triangle lies relative to the closed face of another one.
 #[derive(Clone, Copy)]
 pub enum Relation {
     /// No inside point of the first lies in the closed face of the second.
@@ -20,20 +20,21 @@ pub enum Relation {
     Coplanar,
 }
 
+// Whether the plane's normal is zero.
 fn has_no_normal(p: &Plane) -> bool
     ensures { result ≡ is_zero p.now.a && (is_zero p.now.b && is_zero p.now.c) }
 {
     p.a == 0 && (p.b == 0 && p.c == 0)
 }
 
-/// The normal of the triangle is zero.
+/// Whether the triangle is flat: its normal is zero.
 pub fn is_flat(f: &LeafTriangle) -> bool
     ensures { result ≡ is_flat f.now.tri }
 {
     has_no_normal(&f.support)
 }
 
-// The plane of an edge of the first triangle keeps the two apart.
+// `true` only if an edge plane of the first triangle keeps the two apart. `false` shows nothing.
 fn separates(f: &LeafTriangle, g: &LeafTriangle) -> bool
     requires first { is_flat f.now.tri ≡ false }
     requires second { is_flat g.now.tri ≡ false }
@@ -47,7 +48,7 @@ fn separates(f: &LeafTriangle, g: &LeafTriangle) -> bool
     false
 }
 
-// The plane of an edge of one of them keeps the two apart.
+// `true` only if an edge plane of one of them keeps the two apart. `false` shows nothing.
 fn are_separated(f: &LeafTriangle, g: &LeafTriangle) -> bool
     requires first { is_flat f.now.tri ≡ false }
     requires second { is_flat g.now.tri ≡ false }
@@ -56,7 +57,7 @@ fn are_separated(f: &LeafTriangle, g: &LeafTriangle) -> bool
     separates(f, g) || separates(g, f)
 }
 
-// How a triangle lies to another one that lies in its plane.
+// How a triangle lies relative to another one in its plane.
 fn coplanar_relation(f: &LeafTriangle, g: &LeafTriangle) -> Relation
     requires first { is_flat f.now.tri ≡ false }
     requires second { is_flat g.now.tri ≡ false }
@@ -70,7 +71,8 @@ fn coplanar_relation(f: &LeafTriangle, g: &LeafTriangle) -> Relation
     }
 }
 
-// How it lies to one that is not in its plane.
+// How a triangle lies relative to another one that isn't in its plane. `own` has the heights of the
+// first triangle's corners over the second's plane.
 fn crossing_relation(f: &LeafTriangle, g: &LeafTriangle) -> Relation
     requires first { is_flat f.now.tri ≡ false }
     requires second { is_flat g.now.tri ≡ false }
@@ -87,7 +89,7 @@ fn crossing_relation(f: &LeafTriangle, g: &LeafTriangle) -> Relation
     }
 }
 
-/// How a triangle lies to another one. Neither is flat.
+/// How a triangle lies relative to another one. Neither is flat.
 pub fn relation_of(f: &LeafTriangle, g: &LeafTriangle) -> Relation
     requires first { is_flat f.now.tri ≡ false }
     requires second { is_flat g.now.tri ≡ false }
@@ -105,7 +107,8 @@ pub fn relation_of(f: &LeafTriangle, g: &LeafTriangle) -> Relation
     }
 }
 
-// The second triangle lies behind the plane of an edge of the first.
+// `true` only if the inside of the second triangle lies behind this edge plane of the first.
+// `false` shows nothing.
 fn is_behind_edge(f: &LeafTriangle, g: &LeafTriangle, edge: usize) -> bool
     requires edge { edge < 3 }
     requires second { is_flat g.now.tri ≡ false }
@@ -114,7 +117,7 @@ fn is_behind_edge(f: &LeafTriangle, g: &LeafTriangle, edge: usize) -> bool
     heights_of(&f.edges[edge], &g.tri).lie_behind()
 }
 
-/// Shows that the first triangle contains the second, which lies in its plane. `false` shows
+/// `true` only if the first triangle contains the second, which lies in its plane. `false` shows
 /// nothing.
 pub fn covers(f: &LeafTriangle, g: &LeafTriangle) -> bool
     requires second { is_flat g.now.tri ≡ false }

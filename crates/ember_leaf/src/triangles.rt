@@ -1,6 +1,6 @@
 // The triangles of a leaf, each with its edge planes.
 ghost use Rattle.std.specs.Prelude.{◌≡◌, IfOk};
-ghost use Rattle.ember_leaf.specs.Leaves.{tris_of};
+ghost use Rattle.ember_leaf.specs.KeptRegions.{tris_of};
 ghost use Rattle.ember_leaf.specs.LeafTriangles.{tris_in};
 
 use crate::leaf_triangle::LeafTriangle;
@@ -9,6 +9,7 @@ use ember_poly::main_edges;
 use ember_trace::NearTriangle;
 use std::alloc::Global;
 
+// The triangle with its edge planes.
 fn leaf_triangle_of(f: &NearTriangle) -> LeafTriangle
     ensures { result.tri ≡ f.now.tri }
 {
@@ -20,8 +21,8 @@ fn leaf_triangle_of(f: &NearTriangle) -> LeafTriangle
     }
 }
 
-/// The triangles near a leaf, each with its edge planes. They are computed once, and used in each test of two
-/// triangles.
+/// The triangles near a leaf, each with its edge planes. They are computed once, and used in each
+/// test of two triangles. The only error is out-of-memory.
 pub fn leaf_triangles(
     alloc: Global,
     near: &[NearTriangle],

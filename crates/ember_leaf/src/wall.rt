@@ -3,7 +3,7 @@ ghost use Rattle.ember_algebra.specs.Size.{Small};
 
 use ember_model::Axis;
 
-/// A wall of a box: its coordinate along its axis, and whether the box lies below it.
+/// A wall of a box: its axis, its coordinate along that axis, and whether the box lies below it.
 #[derive(Clone, Copy)]
 pub struct Wall {
     pub axis: Axis,

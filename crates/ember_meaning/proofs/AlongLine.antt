@@ -68,6 +68,7 @@ pub record IsWrittenAlong (ts : List Tri) (holds : List ℤ → Bool) (ws : List
   pub jumps : (x : Fraction) → In x ks → total_of (amount k) (λ w. is_same_place is_below x (key k p w)) (filter (is_hit k p) ws) ≡ one_if (holds (seen k (onward is_below (tri_key k p) x (tri_hits k p ts)))) -ℤ one_if (holds (seen k (beyond is_below (tri_key k p) x (tri_hits k p ts))))
   pub bounded : holds (seen k []) ≡ false
 
+-- at each point of the line, the faces wind once if the truth holds there, and otherwise not at all
 pub along_line : (ts : List Tri) (holds : List ℤ → Bool) (ws : List Face) (k : Axis) (p : Spot) (ks : List Fraction) → IsWrittenAlong ts holds ws k p ks → (y : Fraction) → wind k ws (on_line k p y) ≡ one_if (holds (vector k ts (on_line k p y)))
 along_line ts holds ws k p ks c y =
     wind-on_line k p y ws ∙ telescope is_below fractions_order (tri_key k p) (key k p) (amount k) (λ hs. holds (seen k hs)) ks (tri_hits k p ts) (filter (is_hit k p) ws) (record { hits = c.tris; places = c.faces; jumps = c.jumps; past = c.bounded }) y ∙ sym (ap (λ (v : List ℤ). one_if (holds v)) (vector-on_line k p y ts))

@@ -31,6 +31,7 @@ vector_shifted a scene p w c = each meshes
     each (m ∷ ms) =
         eventually_map (λ k h. λ i. h.0 i ∷ h.1 i) (eventually_both (wind_shifted a p (faces_of (of_mesh m scene)) w (of_mesh_all (λ f. IsClear f p) m scene c)) (each ms))
 
+-- the written regions of a scene wind as the expression says
 pub meaning_of_written : (scene : List Tri) (count : ℕ) (x : Formula) (ks : List Kept) → IsScene scene count → IsWritten scene x ks → IsFalseOutside x → HaveMeaning scene x (map written_face ks)
 meaning_of_written scene count x ks v r o a b p w clear clear_written =
     let s = eventually_both (weight_shifted p w) (eventually_both (clear_shifted p scene w) (eventually_both (general_line scene a p w) (eventually_both (wind_shifted a p (map written_face ks) w clear_written) (vector_shifted b scene p w clear)))) in

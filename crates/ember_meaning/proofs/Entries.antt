@@ -29,14 +29,14 @@ walls_of_none : {fs : List Face} (c : Cell) → (ws : List _) → Chain (λ w. E
 walls_of_none c [] done = refl
 walls_of_none c (w ∷ ws) (step none e) = walls_of_none c ws e
 
-blades_of_none : {fs : List Face} → (bs : List _) → Chain (λ b. Each (AtCuttingPlane b)) bs [] fs → fs ≡ []
-blades_of_none [] done = refl
-blades_of_none (b ∷ bs) (step none e) = blades_of_none bs e
+cutting_planes_of_none : {fs : List Face} → (bs : List _) → Chain (λ b. Each (AtCuttingPlane b)) bs [] fs → fs ≡ []
+cutting_planes_of_none [] done = refl
+cutting_planes_of_none (b ∷ bs) (step none e) = cutting_planes_of_none bs e
 
 flat_none : (c : Cell) (ts : List Tri) (i : ℕ) (fs : List Face) → is_flat (tri_at ts i) ≡ true → IsRegions c ts i fs → fs ≡ []
 flat_none c ts i fs e r =
     let begun = subst (λ b. Chain (λ w. Each (AtWall w)) (walls c) (elim b [ true ↦ [] | false ↦ face_of (tri_at ts i) ∷ [] ]) r.start) e r.is_start in
-    blades_of_none (cutting_planes ts i) (subst (λ s. Chain (λ b. Each (AtCuttingPlane b)) (cutting_planes ts i) s fs) (walls_of_none c (walls c) begun) r.cuts)
+    cutting_planes_of_none (cutting_planes ts i) (subst (λ s. Chain (λ b. Each (AtCuttingPlane b)) (cutting_planes ts i) s fs) (walls_of_none c (walls c) begun) r.cuts)
 
 -- ---- the regions of one triangle in one leaf
 abbrev pub is_entry_at : Spot → ℕ → Entry → Bool
@@ -98,7 +98,7 @@ units (x ∷ xs) = (tt, units xs)
 
 -- the regions of place t in one leaf that hold x: one if the leaf holds x and the triangle's
 -- face has it inside, otherwise none
-pub regions_count : (scene : List Tri) (x : Spot) (t : ℕ) (c : Cell) (es : List Entry) → IsFairAt scene x c → IsEntriesIn scene c es → count_by (is_entry_at x t) es ≡ number (is_in_box c x && has_inside (near scene c) t x)
+regions_count : (scene : List Tri) (x : Spot) (t : ℕ) (c : Cell) (es : List Entry) → IsFairAt scene x c → IsEntriesIn scene c es → count_by (is_entry_at x t) es ≡ number (is_in_box c x && has_inside (near scene c) t x)
 regions_count scene x t c es fair r =
     let ts = near scene c in
     let k = each_count (is_entry_at x t) (λ i. cond (eqb i t) (number (is_in_box c x && (not (is_flat (tri_at ts i)) && is_inside (face_of (tri_at ts i)) x))) 0) (λ i. Unit {0}) (λ r. Unit {0}) (λ i zs u q. (units zs, place_count scene c x t i zs (fair i) q)) r (units (range_with_len 0 (length ts))) in
@@ -152,6 +152,7 @@ fewer_without p (keeps {x = x} {xs = xs} {ys = ys} w) =
 fewer_without p (drops {x = x} {xs = xs} {ys = ys} h w) =
     omega (arith, sum_by-cons (λ z. cond (p z) 1 0) x xs, fewer_without p w)
 
+-- of some leaves of the full tree at most one contains a point
 pub one_holds : {P : Cell → Type 0} (scene : List Tri) (cs : List Cell) (x : Spot) → pos 0 ≤ℤ x.w → Without P (leaves scene root) cs → count_by (λ c. is_in_box c x) cs ≤ 1
 one_holds scene cs x w l =
     at_most (is_in_box root x) (fewer_without (λ c. is_in_box c x) l) (leaves_count scene (halvings_left root) root x w)
@@ -183,10 +184,10 @@ of_leaf scene x c (more {x = i} {zs = zs} w e) n =
     of_leaf scene x c e (λ k. written_by_regions scene x c (near scene c) i w (λ r. n (record { entries = map (entry c i) r.faces ++ k.entries; are_entries = more (record { faces = r.faces; are_regions = r.are_regions; is = refl }) k.are_entries; are_written = each_append (each_map (entry c i) r.are_written) k.are_written })))
 
 -- it can't be that there is no such list
-pub listing : (scene : List Tri) (x : Formula) {ds : List Cell} {ks : List Kept} → Each (LeafGives scene x) ds ks → (Listed scene x ds ks → ⊥) → ⊥
-listing scene x none n =
+pub leaf_list_exists : (scene : List Tri) (x : Formula) {ds : List Cell} {ks : List Kept} → Each (LeafGives scene x) ds ks → (Listed scene x ds ks → ⊥) → ⊥
+leaf_list_exists scene x none n =
     n (record { cells = []; entries = []; listed = ends; are_entries = none; are_written = none })
-listing scene x (more {x = c} (regions w) e) n =
-    listing scene x e (λ k. of_leaf scene x c w (λ o. n (record { cells = c ∷ k.cells; entries = o.entries ++ k.entries; listed = keeps k.listed; are_entries = more o.are_entries k.are_entries; are_written = each_append o.are_written k.are_written })))
-listing scene x (more (nothing h) e) n =
-    listing scene x e (λ k. n (record { cells = k.cells; entries = k.entries; listed = drops h k.listed; are_entries = k.are_entries; are_written = k.are_written }))
+leaf_list_exists scene x (more {x = c} (regions w) e) n =
+    leaf_list_exists scene x e (λ k. of_leaf scene x c w (λ o. n (record { cells = c ∷ k.cells; entries = o.entries ++ k.entries; listed = keeps k.listed; are_entries = more o.are_entries k.are_entries; are_written = each_append o.are_written k.are_written })))
+leaf_list_exists scene x (more (nothing h) e) n =
+    leaf_list_exists scene x e (λ k. n (record { cells = k.cells; entries = k.entries; listed = drops h k.listed; are_entries = k.are_entries; are_written = k.are_written }))

@@ -29,6 +29,7 @@ cross_le a b c {d} {e} {f} pd pe pf h k =
     let nf : pos 0 ≤ℤ f = omega (arith, linear) in let x = mul_le nf h in let y = mul_lt pe k in
     cancel_lt pd (omega (arith, linear, x, y, solve 3 (λ d b f. d ⊗ (b ⊗ f) ≈ f ⊗ (b ⊗ d)) cancels d b f, solve 3 (λ f a e. f ⊗ (a ⊗ e) ≈ e ⊗ (a ⊗ f)) cancels f a e, solve 3 (λ d c e. e ⊗ (c ⊗ d) ≈ d ⊗ (c ⊗ e)) cancels d c e))
 
+-- fractions are ordered by `is_below`
 pub fractions_order : IsOrder is_below
 fractions_order =
     record { irreflexive = λ a. lt_no _ _ (le_self (a.num *ℤ pos (suc a.den))); transitive = λ a b c h k. lt_yes _ _ (cross_trans a.num b.num c.num (one_up a.den) (one_up b.den) (one_up c.den) (lt_fact _ _ h) (lt_fact _ _ k)); between = λ a b c h. split a b c (lt_fact _ _ h) }

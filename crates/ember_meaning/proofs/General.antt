@@ -42,19 +42,19 @@ use Rattle.ember_meaning.proofs.CountedPoints.{IsFairAt, IsFairInAll, is_in_box}
 use Rattle.ember_meaning.proofs.Listed.{Entry, IsListing, has_inside, is_hit_at, Without, ends, keeps, drops}
 use Rattle.ember_meaning.proofs.Lines.{In, here, there, Fraction, is_below, key, is_hit, is_tri_hit, tri_key, tri_hits, Placed, onward, beyond}
 use Rattle.ember_meaning.specs.Meaning.{IsFalseOutside, HasMeaning}
-use Rattle.ember_meaning.proofs.Regular.{hit_point, SomeHit, IsGeneralAt, IsRegular, HaveMeaningOnLines}
-use Rattle.ember_meaning.proofs.Entries.{one_holds, Listed, listing}
+use Rattle.ember_meaning.proofs.HitConditions.{hit_point, SomeHit, IsGeneralAt, IsRegular, HaveMeaningOnLines}
+use Rattle.ember_meaning.proofs.Entries.{one_holds, Listed, leaf_list_exists}
 use Rattle.ember_law.proofs.Vectors.{axes_law}
 use Rattle.ember_meaning.proofs.Fractions.{fractions_order}
 use Rattle.ember_meaning.proofs.Meaning.{meaning_along, first}
-use Rattle.ember_meaning.proofs.Members.{in_map, source, in_filter, of_filter, every_in, giver, stands, any_in, passing}
+use Rattle.ember_meaning.proofs.Members.{in_map, map_member_has_source, in_filter, of_filter, every_in, giver, member_splits_list, any_in, any_has_member}
 use Rattle.ember_meaning.proofs.Owners.{IsOf, entry_of, support_is, inside_tri, owned}
 use Rattle.ember_meaning.proofs.Owners.{first as first_only}
 use Rattle.ember_meaning.proofs.Tree.{leaves_count}
-use Rattle.ember_meaning.proofs.Steps.{before_place, after_place}
-use Rattle.ember_meaning.proofs.Beside.{before_is, after_is}
-use Rattle.ember_meaning.proofs.LeafOfHit.{has_point, in_root, all_in, lost, none_both}
-use Rattle.ember_meaning.proofs.Turned.{key-turned, is_hit-turned}
+use Rattle.ember_meaning.proofs.HitsBeyond.{before_place, after_place}
+use Rattle.ember_meaning.proofs.SidesOfHits.{before_is, after_is}
+use Rattle.ember_meaning.proofs.LeafOfHit.{has_point, in_root, all_in, missing_member_passes, none_both}
+use Rattle.ember_meaning.proofs.FlippedFaces.{key-turned, is_hit-turned}
 
 -- ---- members
 in_at : (ts : List Tri) (i : ℕ) → i < length ts → In (tri_at ts i) ts
@@ -120,7 +120,7 @@ seen_key k p f false = refl
 module _ (scene : List Tri) (x : Formula) (ks : List Kept) (cs : List Cell) (es : List Entry) (l : IsListing scene x ks cs es) (k : Axis) (p : Spot) where
   placed : (w : Face) → In w (filter (is_hit k p) (map written_face ks)) → Placed is_below (map (tri_key k p) (tri_hits k p scene)) (key k p w)
   placed w i =
-      let s = source written_face ks w (of_filter (is_hit k p) (map written_face ks) w i) in
+      let s = map_member_has_source written_face ks w (of_filter (is_hit k p) (map written_face ks) w i) in
       let h = in_filter (is_hit k p) (map written_face ks) w i in
       let g = giver s.at l.are_written s.member in let e = g.from in
       let o = entry_of scene cs es e l.are_entries g.member in
@@ -207,7 +207,7 @@ module _ (scene : List Tri) (x : Formula) (ks : List Kept) (cs : List Cell) (es 
       near_hit : (c : Cell) → In c cs → is_in_box c at ≡ true → SomeHit scene x k p cs es t
       near_hit c j h =
           let n = near_point c t at flat (has_point c at positive h) closed in
-          let q = stands (near scene c) t (to_filter (λ u. is_near c u) scene t tri n) in
+          let q = member_splits_list (near scene c) t (to_filter (λ u. is_near c u) scene t tri n) in
           let e = get_or_from_slice_get (near scene c) q.index t no_tri q.is in
           record { tri = q.index; is_hit = any_in (λ d. is_in_box d at && has_inside (near scene d) q.index at) cs c j (and_from (is_in_box c at) (has_inside (near scene c) q.index at) h (and_from (nat_lt q.index (length (near scene c))) (not (is_flat (tri_at (near scene c) q.index)) && is_inside (face_of (tri_at (near scene c) q.index)) at) (lt-ltb q.index (length (near scene c)) q.below) (subst (λ u. (not (is_flat u) && is_inside (face_of u) at) ≡ true) (sym e) (and_from (not (is_flat t)) (is_inside (face_of t) at) (ap not flat) held.1)))) }
 
@@ -221,9 +221,9 @@ module _ (scene : List Tri) (x : Formula) (ks : List Kept) (cs : List Cell) (es 
               ap (λ u. truth u x) (sym (a.holds m (omega arith))) ∙ s.holds m (omega arith) (b.holds m (omega arith)) k
 
       by : (list_any (λ c. is_in_box c at) cs ≡ true) ⊎ (list_any (λ c. is_in_box c at) cs ≡ false) → SomeHit scene x k p cs es t ⊎ (((j : ℕ) → is_hit_at scene cs at j ≡ false) × (truth onward_seen x ≡ truth beyond_seen x))
-      by (inl h) = let q = passing (λ c. is_in_box c at) cs h in inl (near_hit q.at q.member q.holds)
+      by (inl h) = let q = any_has_member (λ c. is_in_box c at) cs h in inl (near_hit q.at q.member q.holds)
       by (inr h) =
-          let q = lost (λ c. is_in_box c at) l.listed (some (leaves_count scene (halvings_left root) root at weight) (in_root t at (all_in (λ u. IsValidTri u) scene t valid.valid tri) flat closed positive)) h in
+          let q = missing_member_passes (λ c. is_in_box c at) l.listed (some (leaves_count scene (halvings_left root) root at weight) (in_root t at (all_in (λ u. IsValidTri u) scene t valid.valid tri) flat closed positive)) h in
           inr (λ j. none_both (λ c. is_in_box c at) (λ c. has_inside (near scene c) j at) cs h, one_value q.at q.has q.holds)
         where
           some : {n : ℕ} {b : Bool} → n ≡ number b → b ≡ true → 0 < n
@@ -235,9 +235,10 @@ stays_equal : (a b : ℤ) → ((a ≡ b → ⊥) → ⊥) → a ≡ b
 stays_equal a b n =
     by_sign (a -ℤ b) (λ l. absurd (n (λ e. omega (arith, linear, l, e)))) (λ z. omega (arith, linear, z)) (λ l. absurd (n (λ e. omega (arith, linear, l, e))))
 
+-- the written regions have their meaning on each line
 pub meaning_on_lines : (scene : List Tri) (count : ℕ) (x : Formula) (ks : List Kept) → IsScene scene count → IsWritten scene x ks → IsFalseOutside x → HaveMeaningOnLines scene x ks
 meaning_on_lines scene count x ks v w o a b p positive clear general =
-    stays_equal _ _ (λ n. listing scene x w (λ l. n (by l)))
+    stays_equal _ _ (λ n. leaf_list_exists scene x w (λ l. n (by l)))
   where
     by : Listed scene x (leaves scene root) ks → HasMeaning scene x (map written_face ks) a b p
     by l =

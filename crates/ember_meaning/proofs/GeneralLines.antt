@@ -36,7 +36,7 @@ use Rattle.ember_box.specs.Near.{near, tri_at}
 use Rattle.ember_box.specs.Regions.{walls, cutting_planes}
 use Rattle.ember_meaning.proofs.CountedPoints.{IsOff, IsFair, IsFairAt}
 use Rattle.ember_meaning.proofs.Lines.{In, is_hit, is_tri_hit, tri_hits}
-use Rattle.ember_meaning.proofs.Regular.{IsGeneralAt, IsGeneralLine}
+use Rattle.ember_meaning.proofs.HitConditions.{IsGeneralAt, IsGeneralLine}
 use Rattle.ember_meaning.proofs.Members.{in_filter, of_filter, every_in}
 
 -- ---- what holds for every large number
@@ -228,7 +228,7 @@ module _ (k : Axis) (q : Spot) (weight : pos 0 <ℤ q.w) (n : Plane) (crosses : 
   clear_beside us h = eventually_map (λ m c. clear_faces (at m) us c) (all_clear us h)
 
 -- ---- general lines
--- a triangle that isn't flat stands in the list
+-- an index whose triangle isn't flat is in range
 stands_in : (ts : List Tri) (i : ℕ) → is_flat (tri_at ts i) ≡ false → i < length ts
 unfolding is_flat
 stands_in [] i f = absurd (false≢true (sym f))

@@ -22,7 +22,7 @@ use Rattle.ember_box.specs.Sums.{number}
 use Rattle.ember_box.specs.Regions.{AtWall, low_wall, high_wall, walls, IsRegions, cutting_planes}
 use Rattle.ember_ref.proofs.NearPoints.{coordinate}
 use Rattle.ember_meaning.proofs.CountedPoints.{hits, passes, is_in_box, IsFair}
-use Rattle.ember_meaning.proofs.Cover.{blades_count, start_count}
+use Rattle.ember_meaning.proofs.RegionsPartition.{cutting_planes_count, start_count}
 
 -- ---- the walls are the half-open box
 not_le : (l x : ℤ) → x <ℤ l → int_le l x ≡ false
@@ -64,7 +64,7 @@ high_test : (v h x : ℤ) → v ≡ x -ℤ h → (is_negative v || (false && is_
 high_test v h x e =
     by_lt_z x h (λ l. below_test v (omega (arith, linear)) ∙ sym (is_lt x h l)) (λ l. at_least_test v (omega (arith, linear)) ∙ sym (not_lt x h l))
 
-pub low_passes : (c : Cell) (k : Axis) (x : Spot) → passes x (low_wall c k) ≡ int_le (low c k *ℤ x.w) (coordinate k x)
+low_passes : (c : Cell) (k : Axis) (x : Spot) → passes x (low_wall c k) ≡ int_le (low c k *ℤ x.w) (coordinate k x)
 low_passes c X x =
     low_test (value_at (low_wall c X).plane x) (low c X *ℤ x.w) x.x (solve 5 (λ l x y z w. num (negsuc 0) ⊗ x ⊕ num (pos 0) ⊗ y ⊕ num (pos 0) ⊗ z ⊖ neg l ⊗ w ≈ l ⊗ w ⊖ x) cancels c.lo.x x.x x.y x.z x.w)
 low_passes c Y x =
@@ -72,7 +72,7 @@ low_passes c Y x =
 low_passes c Z x =
     low_test (value_at (low_wall c Z).plane x) (low c Z *ℤ x.w) x.z (solve 5 (λ l x y z w. num (pos 0) ⊗ x ⊕ num (pos 0) ⊗ y ⊕ num (negsuc 0) ⊗ z ⊖ neg l ⊗ w ≈ l ⊗ w ⊖ z) cancels c.lo.z x.x x.y x.z x.w)
 
-pub high_passes : (c : Cell) (k : Axis) (x : Spot) → passes x (high_wall c k) ≡ int_lt (coordinate k x) (high c k *ℤ x.w)
+high_passes : (c : Cell) (k : Axis) (x : Spot) → passes x (high_wall c k) ≡ int_lt (coordinate k x) (high c k *ℤ x.w)
 high_passes c X x =
     high_test (value_at (high_wall c X).plane x) (high c X *ℤ x.w) x.x (solve 5 (λ h x y z w. num (pos 1) ⊗ x ⊕ num (pos 0) ⊗ y ⊕ num (pos 0) ⊗ z ⊖ h ⊗ w ≈ x ⊖ h ⊗ w) cancels (high c X) x.x x.y x.z x.w)
 high_passes c Y x =
@@ -89,7 +89,7 @@ regroup true true true true false f = refl
 regroup true true true true true false = refl
 regroup true true true true true true = refl
 
-pub walls_box : (c : Cell) (x : Spot) → list_all (λ w. passes x w) (walls c) ≡ is_in_box c x
+walls_box : (c : Cell) (x : Spot) → list_all (λ w. passes x w) (walls c) ≡ is_in_box c x
 walls_box c x =
     regroup (passes x (low_wall c X)) (passes x (high_wall c X)) (passes x (low_wall c Y)) (passes x (high_wall c Y)) (passes x (low_wall c Z)) (passes x (high_wall c Z)) ∙ six (low_passes c X x) (high_passes c X x) (low_passes c Y x) (high_passes c Y x) (low_passes c Z x) (high_passes c Z x)
   where
@@ -103,7 +103,7 @@ leaf_count c ts i x fs e fair r =
     let t = tri_at ts i in
     let begun = subst (λ b. Chain (λ w. Each (AtWall w)) (walls c) (elim b [ true ↦ [] | false ↦ face_of t ∷ [] ]) r.start) e r.is_start in
     let k = start_count x (support_of t) (walls c) (face_of t ∷ []) r.start fair.walls (refl, tt) begun in
-    let m = blades_count x (support_of t) (cutting_planes ts i) r.start fs fair.cutting_planes k.0 r.cuts in
+    let m = cutting_planes_count x (support_of t) (cutting_planes ts i) r.start fs fair.cutting_planes k.0 r.cuts in
     m.1 ∙ k.1 ∙ ap (λ b. cond b (hits x (face_of t ∷ [])) 0) (walls_box c x) ∙ one (is_in_box c x) (is_inside (face_of t) x)
   where
     one : (a b : Bool) → cond a (0 + number b) 0 ≡ number (a && b)

@@ -28,6 +28,7 @@ le_fact a b h = grind (arith, ints)
 lt_fact : (a b : ℤ) → int_lt a b ≡ true → a ≤ℤ b
 lt_fact a b h = grind (arith, ints)
 
+-- a point in the half-open box is a point of the closed box
 pub has_point : (c : Cell) (v : Spot) → pos 0 <ℤ v.w → is_in_box c v ≡ true → HasPoint c v
 has_point c v w h =
     let bx = is_between (low c X) (high c X) v.x v.w in let by = is_between (low c Y) (high c Y) v.y v.w in let bz = is_between (low c Z) (high c Z) v.z v.w in
@@ -57,10 +58,12 @@ between x w p h k =
     lt_yes : (a b : ℤ) → a <ℤ b → int_lt a b ≡ true
     lt_yes a b h = grind (arith, ints)
 
+-- a point of a valid triangle's closed face is in the root
 pub in_root : (t : Tri) (v : Spot) → IsValidTri t → is_flat t ≡ false → is_in_closed (face_of t) v ≡ true → pos 0 <ℤ v.w → is_in_box root v ≡ true
 in_root t v s nf h w =
     and_from (is_between (neg_ℤ (pos 2048)) (pos 2048) v.x v.w) (is_between (neg_ℤ (pos 2048)) (pos 2048) v.y v.w && is_between (neg_ℤ (pos 2048)) (pos 2048) v.z v.w) (between v.x v.w w (past_corners X (pos 1) (neg_ℤ (pos 2047)) t v nf (lifted t.a.x s.a.x).0 (lifted t.b.x s.b.x).0 (lifted t.c.x s.c.x).0 h) (past_corners X (negsuc 0) (neg_ℤ (pos 2047)) t v nf (lifted t.a.x s.a.x).1 (lifted t.b.x s.b.x).1 (lifted t.c.x s.c.x).1 h)) (and_from (is_between (neg_ℤ (pos 2048)) (pos 2048) v.y v.w) (is_between (neg_ℤ (pos 2048)) (pos 2048) v.z v.w) (between v.y v.w w (past_corners Y (pos 1) (neg_ℤ (pos 2047)) t v nf (lifted t.a.y s.a.y).0 (lifted t.b.y s.b.y).0 (lifted t.c.y s.c.y).0 h) (past_corners Y (negsuc 0) (neg_ℤ (pos 2047)) t v nf (lifted t.a.y s.a.y).1 (lifted t.b.y s.b.y).1 (lifted t.c.y s.c.y).1 h)) (between v.z v.w w (past_corners Z (pos 1) (neg_ℤ (pos 2047)) t v nf (lifted t.a.z s.a.z).0 (lifted t.b.z s.b.z).0 (lifted t.c.z s.c.z).0 h) (past_corners Z (negsuc 0) (neg_ℤ (pos 2047)) t v nf (lifted t.a.z s.a.z).1 (lifted t.b.z s.b.z).1 (lifted t.c.z s.c.z).1 h)))
 
+-- what holds of all members holds of a member
 pub all_in : {X : Type 0} (P : X → Type 0) (xs : List X) (x : X) → All P xs → In x xs → P x
 all_in P [] x h i = elim i [ ]
 all_in P (a ∷ xs) x h here = All-head P a xs h
@@ -77,16 +80,16 @@ parts true b h = absurd (false≢true (sym h))
 parts false b h = (refl, h)
 
 -- if some member passes and none of the listed does, one that passes isn't listed
-pub lost : {X : Type 0} {P : X → Type 0} (p : X → Bool) {xs ys : List X} → Without P xs ys → 0 < count_by p xs → list_any p ys ≡ false → Lost P p
-lost p ends l h = absurd (omega arith)
-lost p (keeps {x = x} {xs = xs} {ys = ys} w) l h =
+pub missing_member_passes : {X : Type 0} {P : X → Type 0} (p : X → Bool) {xs ys : List X} → Without P xs ys → 0 < count_by p xs → list_any p ys ≡ false → Lost P p
+missing_member_passes p ends l h = absurd (omega arith)
+missing_member_passes p (keeps {x = x} {xs = xs} {ys = ys} w) l h =
     let q = parts (p x) (list_any p ys) h in
-    lost p w (less (number (p x)) (sum_by-cons (λ z. cond (p z) 1 0) x xs) l (ap number q.0)) q.1
+    missing_member_passes p w (less (number (p x)) (sum_by-cons (λ z. cond (p z) 1 0) x xs) l (ap number q.0)) q.1
   where
     less : {m n : ℕ} (q : ℕ) → m ≡ q + n → 0 < m → q ≡ 0 → 0 < n
     less q e l z = omega arith
-lost {P = P} p (drops {x = x} {xs = xs} {ys = ys} d w) l h =
-    by (cases_Bool (p x)) (λ k. lost p w k h)
+missing_member_passes {P = P} p (drops {x = x} {xs = xs} {ys = ys} d w) l h =
+    by (cases_Bool (p x)) (λ k. missing_member_passes p w k h)
   where
     less : {m n : ℕ} (q : ℕ) → m ≡ q + n → 0 < m → q ≡ 0 → 0 < n
     less q e l z = omega arith
@@ -95,7 +98,7 @@ lost {P = P} p (drops {x = x} {xs = xs} {ys = ys} d w) l h =
     by (inl e) f = record { at = x; has = d; holds = e }
     by (inr e) f = f (less (number (p x)) (sum_by-cons (λ z. cond (p z) 1 0) x xs) l (ap number e))
 
--- a test with another beside it passes nowhere where it passes nowhere
+-- if no item passes a test, none passes it together with another one
 pub none_both : {X : Type 0} (p q : X → Bool) (xs : List X) → list_any p xs ≡ false → list_any (λ x. p x && q x) xs ≡ false
 none_both p q [] h = refl
 none_both p q (x ∷ xs) h =

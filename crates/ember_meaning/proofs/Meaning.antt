@@ -30,14 +30,14 @@ use Rattle.ember_meaning.proofs.Listed.{Entry, IsEntries, is_hit_at, Without}
 use Rattle.ember_meaning.specs.Meaning.{one_if}
 use Rattle.ember_meaning.proofs.Lines.{In, total_of, Fraction, is_below, on_line, key, is_hit, amount, beyond, onward, is_same_place, is_tri_hit, tri_key, tri_hits, seen}
 use Rattle.ember_meaning.specs.Meaning.{IsFalseOutside}
-use Rattle.ember_meaning.proofs.Regular.{before_hit, after_hit, hit_point, truth_before, truth_after, truth_ahead, truth_back, IsRegular, IsRegularLine}
+use Rattle.ember_meaning.proofs.HitConditions.{before_hit, after_hit, hit_point, truth_before, truth_after, truth_ahead, truth_back, IsRegular, IsRegularLine}
 use Rattle.ember_meaning.proofs.AlongLine.{along_line, total_of-filter}
 use Rattle.ember_meaning.proofs.Entries.{entries_count, one_holds}
-use Rattle.ember_meaning.proofs.Members.{in_map, Source, source, in_filter}
+use Rattle.ember_meaning.proofs.Members.{in_map, Source, map_member_has_source, in_filter}
 use Rattle.ember_meaning.proofs.OneOwner.{IsCovered, jump_at, still_at}
 use Rattle.ember_meaning.proofs.RegionJump.{written_amount, written_jump, even_jump}
-use Rattle.ember_meaning.proofs.Turned.{key-turned, is_hit-turned, amount-turned}
-use Rattle.ember_meaning.proofs.Places.{same_inside, inside_place}
+use Rattle.ember_meaning.proofs.FlippedFaces.{key-turned, is_hit-turned, amount-turned}
+use Rattle.ember_meaning.proofs.HitPoints.{same_inside, inside_place}
 
 -- ---- tests over the places below one
 any_below : (p : ℕ → Bool) (a n : ℕ) → ((j : ℕ) → j < a + n → p j ≡ false) → list_any p (range_with_len a n) ≡ false
@@ -183,14 +183,14 @@ module _ (scene : List Tri) (x : Formula) (k : Axis) (p : Spot) (cs : List Cell)
     covered one c =
         record { cover = λ j. entries_count scene cs at j es one r.fair c; owned_if = λ e i h f. ap not (any_below (λ j. is_hit_at scene cs at j) 0 e.tri (λ j l. f j (omega arith))); not_owned_if = λ e j i h l q. ap not (any_at (λ j. is_hit_at scene cs at j) 0 e.tri j (omega arith) (ap (λ (m : ℕ). is_hit_at scene cs at m) (omega arith) ∙ q)) }
 
-    pub jump_here : (ws : List Kept) → Without (HasOneValue scene x) (leaves scene root) cs → IsEntries scene cs es → Each (λ e us. AtRegion scene x (near scene e.cell) e.tri e.face us) es ws → total_of (amount k) (λ w. is_same_place is_below (tri_key k p t) (key k p w)) (filter (is_hit k p) (map written_face ws)) ≡ jump
+    jump_here : (ws : List Kept) → Without (HasOneValue scene x) (leaves scene root) cs → IsEntries scene cs es → Each (λ e us. AtRegion scene x (near scene e.cell) e.tri e.face us) es ws → total_of (amount k) (λ w. is_same_place is_below (tri_key k p t) (key k p w)) (filter (is_hit k p) (map written_face ws)) ≡ jump
     jump_here ws n c d =
         total_of-filter (amount k) (is_hit k p) (λ w. is_same_place is_below (tri_key k p t) (key k p w)) (map written_face ws) ∙ total_of-map (amount k) (λ w. is_hit k p w && is_same_place is_below (tri_key k p t) (key k p w)) written_face ws ∙ ⊎_elim (λ s. jump_at (λ e. e.tri) has owned (λ j. is_hit_at scene cs at j) (λ w. amount k (written_face w)) passes_here jump es ws (covered (one_holds scene cs at weight n) c) entry_total d s.tri s.is_hit) (λ s. still_at (λ e. e.tri) has owned (λ j. is_hit_at scene cs at j) (λ w. amount k (written_face w)) passes_here jump es ws (covered (one_holds scene cs at weight n) c) entry_total d s.0 ∙ sym (ap (λ b. one_if b -ℤ one_if after_here) s.1 ∙ nought (one_if after_here))) r.some_hit
       where
         nought : (z : ℤ) → z -ℤ z ≡ pos 0
         nought z = omega (arith, linear)
 
--- where no triangle lies ahead all winding numbers are 0
+-- if no triangle lies ahead, all winding numbers are 0
 none_ahead : map (λ m. pos 0) meshes ≡ replicate 64 (pos 0)
 unfolding meshes
 none_ahead = refl
@@ -198,7 +198,7 @@ none_ahead = refl
 -- the meaning on a regular line
 pub meaning_along : (scene : List Tri) (x : Formula) (k : Axis) (p : Spot) (cs : List Cell) (es : List Entry) (ws : List Kept) → Without (HasOneValue scene x) (leaves scene root) cs → IsEntries scene cs es → Each (λ e us. AtRegion scene x (near scene e.cell) e.tri e.face us) es ws → IsFalseOutside x → IsRegularLine scene x k p cs es ws → (y : Fraction) → wind k (map written_face ws) (on_line k p y) ≡ one_if (truth (vector k scene (on_line k p y)) x)
 meaning_along scene x k p cs es ws n c d o r y =
-    along_line scene (λ v. truth v x) (map written_face ws) k p (map (tri_key k p) (tri_hits k p scene)) (record { tris = λ t i. in_map (tri_key k p) (tri_hits k p scene) t i; faces = r.placed; jumps = λ z i. jumps z (source (tri_key k p) (tri_hits k p scene) z i); bounded = ap (λ (v : List ℤ). truth v x) none_ahead ∙ o }) y
+    along_line scene (λ v. truth v x) (map written_face ws) k p (map (tri_key k p) (tri_hits k p scene)) (record { tris = λ t i. in_map (tri_key k p) (tri_hits k p scene) t i; faces = r.placed; jumps = λ z i. jumps z (map_member_has_source (tri_key k p) (tri_hits k p scene) z i); bounded = ap (λ (v : List ℤ). truth v x) none_ahead ∙ o }) y
   where
     jumps : (z : Fraction) → Source (tri_key k p) (tri_hits k p scene) z → total_of (amount k) (λ w. is_same_place is_below z (key k p w)) (filter (is_hit k p) (map written_face ws)) ≡ one_if (truth (seen k (onward is_below (tri_key k p) z (tri_hits k p scene))) x) -ℤ one_if (truth (seen k (beyond is_below (tri_key k p) z (tri_hits k p scene))) x)
     jumps z s =

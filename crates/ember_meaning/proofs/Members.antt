@@ -18,17 +18,19 @@ pub record Source {S T : Type 0} (h : S → T) (xs : List S) (y : T) : Type 0 wh
   pub member : In at xs
   pub is : y ≡ h at
 
-pub source : {S T : Type 0} (h : S → T) (xs : List S) (y : T) → In y (map h xs) → Source h xs y
-source h [] y i = elim i [ ]
-source h (x ∷ xs) y here = record { at = x; member = here; is = refl }
-source h (x ∷ xs) y (there i) =
-    let s = source h xs y i in record { at = s.at; member = there s.member; is = s.is }
+-- a member of a mapped list is the image of a member
+pub map_member_has_source : {S T : Type 0} (h : S → T) (xs : List S) (y : T) → In y (map h xs) → Source h xs y
+map_member_has_source h [] y i = elim i [ ]
+map_member_has_source h (x ∷ xs) y here = record { at = x; member = here; is = refl }
+map_member_has_source h (x ∷ xs) y (there i) =
+    let s = map_member_has_source h xs y i in record { at = s.at; member = there s.member; is = s.is }
 
 of_cons : {T : Type 0} (q : T → Bool) (b : Bool) (a : T) (l : List T) (x : T) → b ≡ q a → In x (cond b (a ∷ l) l) → (In x l → q x ≡ true) → q x ≡ true
 of_cons q true a l x e here f = sym e
 of_cons q true a l x e (there i) f = f i
 of_cons q false a l x e i f = f i
 
+-- a member of a filtered list passes the test
 pub in_filter : {T : Type 0} (q : T → Bool) (xs : List T) (x : T) → In x (filter q xs) → q x ≡ true
 in_filter q [] x i = elim i [ ]
 in_filter q (a ∷ xs) x i = of_cons q (q a) a (filter q xs) x refl i (λ j. in_filter q xs x j)
@@ -38,10 +40,12 @@ of_part true a l xs x here f = here
 of_part true a l xs x (there j) f = there (f j)
 of_part false a l xs x j f = there (f j)
 
+-- a member of a filtered list is a member of the list
 pub of_filter : {X : Type 0} (q : X → Bool) (xs : List X) (x : X) → In x (filter q xs) → In x xs
 of_filter q [] x i = elim i [ ]
 of_filter q (a ∷ xs) x i = of_part (q a) a (filter q xs) xs x i (λ j. of_filter q xs x j)
 
+-- what holds of all members holds of each
 pub every_in : {X : Type 0} (P : X → Type 0) (xs : List X) (x : X) → Every P xs → In x xs → P x
 every_in P [] x h i = elim i [ ]
 every_in P (a ∷ xs) x h here = h.0
@@ -62,6 +66,7 @@ pub record Giver {X Y : Type 0} (R : X → List Y → Type 0) (xs : List X) (y :
   pub gives : R from given
   pub among : In y given
 
+-- what is listed was given by a member
 pub giver : {X Y : Type 0} {R : X → List Y → Type 0} {xs : List X} {ys : List Y} (y : Y) → Each R xs ys → In y ys → Giver R xs y
 giver y none i = elim i [ ]
 giver {R = R} y (more {x = x} {xs = xs} {ys = us} {zs = vs} r e) i =
@@ -76,17 +81,19 @@ pub record Stands {X : Type 0} (xs : List X) (x : X) : Type 0 where
   pub is : slice_get xs index ≡ Some x
   pub below : index < length xs
 
-pub stands : {X : Type 0} (xs : List X) (x : X) → In x xs → Stands xs x
-stands [] x i = elim i [ ]
-stands (a ∷ xs) x here = record { index = 0; is = refl; below = omega arith }
-stands (a ∷ xs) x (there i) =
-    let s = stands xs x i in record { index = suc s.index; is = s.is; below = (let l = s.below in omega (arith, l)) }
+-- a member with what is before and behind it
+pub member_splits_list : {X : Type 0} (xs : List X) (x : X) → In x xs → Stands xs x
+member_splits_list [] x i = elim i [ ]
+member_splits_list (a ∷ xs) x here = record { index = 0; is = refl; below = omega arith }
+member_splits_list (a ∷ xs) x (there i) =
+    let s = member_splits_list xs x i in record { index = suc s.index; is = s.is; below = (let l = s.below in omega (arith, l)) }
 
 in_from : (a n i : ℕ) → In i (range_with_len a n) → i < a + n
 in_from a zero i h = elim h [ ]
 in_from a (suc n) i here = omega arith
 in_from a (suc n) i (there h) = let l = in_from (a + 1) n i h in omega (arith, l)
 
+-- the numbers below n are below n
 pub in_range : (n i : ℕ) → In i (range_with_len 0 n) → i < n
 in_range n i h = let l = in_from 0 n i h in omega (arith, l)
 
@@ -101,9 +108,10 @@ pub record Passes {X : Type 0} (p : X → Bool) (xs : List X) : Type 0 where
   pub member : In at xs
   pub holds : p at ≡ true
 
-pub passing : {X : Type 0} (p : X → Bool) (xs : List X) → list_any p xs ≡ true → Passes p xs
-passing p [] h = absurd (false≢true h)
-passing p (x ∷ xs) h = by (cases_Bool (p x)) (λ g. passing p xs g)
+-- if the test of any member answers true, a member passes
+pub any_has_member : {X : Type 0} (p : X → Bool) (xs : List X) → list_any p xs ≡ true → Passes p xs
+any_has_member p [] h = absurd (false≢true h)
+any_has_member p (x ∷ xs) h = by (cases_Bool (p x)) (λ g. any_has_member p xs g)
   where
     by : (p x ≡ true) ⊎ (p x ≡ false) → (list_any p xs ≡ true → Passes p xs) → Passes p (x ∷ xs)
     by (inl e) f = record { at = x; member = here; holds = e }

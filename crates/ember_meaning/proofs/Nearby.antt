@@ -1,4 +1,4 @@
--- Outlined faces with a meaning have it near every point, and wind once at most where they are clear.
+-- Outlined faces with a meaning have it near every point, and wind at most once around a point that is clear of them.
 use Rattle.std.proofs.Common.{◌≡◌, le_refl, refl, sym, ap, ◌∙◌, arith, Bool, true, false, List, map, ℤ, pos}
 use Rattle.std.specs.List.{AllByRecursion}
 use borrow.Author.Differences.{ints}
@@ -12,8 +12,8 @@ use Rattle.ember_law.proofs.Generic.{wind_shifted}
 use Rattle.ember_law.proofs.GenericClear.{clear_shifted, clear_faces}
 use Rattle.ember_law.proofs.Shifted.{weight_shifted}
 use Rattle.ember_chain.specs.Chains.{face_from, IsOutlined}
-use Rattle.ember_chain.proofs.Ready.{each_axis}
-use Rattle.ember_chain.proofs.Missed.{clear_shifted_faces}
+use Rattle.ember_chain.proofs.ClearRectangle.{each_axis}
+use Rattle.ember_chain.proofs.ShiftedPoints.{clear_shifted_faces}
 use Rattle.ember_expr.specs.Formula.{Formula}
 use Rattle.ember_expr.specs.Truth.{truth}
 use Rattle.ember_meaning.specs.Meaning.{one_if, HaveMeaning}

@@ -22,7 +22,7 @@ use Rattle.ember_model.proofs.Hits.{Scales, inside_scaled, value_ray}
 use Rattle.ember_meaning.proofs.Lines.{Fraction, is_below, on_line, key, is_hit, amount}
 
 -- from all points of a line a plane is hit at one place
-pub hit_ahead : (n : Plane) (a : Axis) (p : Spot) (m s : ℤ) → Scales m (hit n a p) (hit n a (moved (scaled m p) a s))
+hit_ahead : (n : Plane) (a : Axis) (p : Spot) (m s : ℤ) → Scales m (hit n a p) (hit n a (moved (scaled m p) a s))
 hit_ahead n a p m s q =
     let e = value_ray q a p m s in let d = value_ray n a p m s in
     value_hit q n a (moved (scaled m p) a s) ∙ (λ i. size (along n a) *ℤ e i -ℤ sign (along n a) *ℤ d i *ℤ along q a) ∙ from_one (s *ℤ along q a) (size-is (along n a)) (solve 8 (λ z g na qa m s vq vn. (z ⊗ (m ⊗ vq ⊕ s ⊗ qa) ⊖ g ⊗ (m ⊗ vn ⊕ s ⊗ na) ⊗ qa) ⊖ m ⊗ (z ⊗ vq ⊖ g ⊗ vn ⊗ qa) ≈ s ⊗ qa ⊗ (z ⊖ g ⊗ na)) cancels (size (along n a)) (sign (along n a)) (along n a) (along q a) m s (value_at q p) (value_at n p)) ∙ ap (λ (z : ℤ). m *ℤ z) (sym (value_hit q n a p))
@@ -55,6 +55,7 @@ negative_times : (z n : ℤ) → is_negative (z *ℤ n) ≡ is_negative (sign n 
 negative_times z n =
     sym (negative-sign (z *ℤ n)) ∙ ap is_negative (sign-mul z n ∙ *ℤ_comm (sign z) (sign n) ∙ cc (sign-mul (sign n) z, sign-sign n)) ∙ negative-sign (sign n *ℤ z)
 
+-- the size of a number other than 0, as the successor of a natural number
 pub size_up : (n : ℤ) → is_zero n ≡ false → pos (suc (pred (unsigned_abs n))) ≡ size n
 size_up (pos zero) e = absurd (false≢true (sym e))
 size_up (pos (suc n)) e = refl
@@ -68,7 +69,7 @@ ahead_plain n v w s m e z =
     at a g c h e =
         ap (λ (z : ℤ). g *ℤ z) e ∙ from_one (neg_ℤ s) h (solve 6 (λ a g c v s n. g ⊗ (c ⊗ v ⊕ s ⊗ n) ⊖ (s ⊗ a ⊖ neg (g ⊗ v) ⊗ c) ≈ neg s ⊗ (a ⊖ g ⊗ n)) cancels a g c v s n)
 
-pub ahead_test : (f : Face) (a : Axis) (p : Spot) (y : Fraction) → is_zero (along f.support a) ≡ false → is_negative (value_at f.support (on_line a p y) *ℤ along f.support a) ≡ is_below y (key a p f)
+ahead_test : (f : Face) (a : Axis) (p : Spot) (y : Fraction) → is_zero (along f.support a) ≡ false → is_negative (value_at f.support (on_line a p y) *ℤ along f.support a) ≡ is_below y (key a p f)
 ahead_test f a p y e =
     ahead_plain (along f.support a) (value_at f.support p) (value_at f.support (on_line a p y)) y.num y.den (value_ray f.support a p (pos (suc y.den)) y.num) e
 
@@ -77,6 +78,7 @@ same_cond : (b : Bool) (z : ℤ) → z ≡ pos 0 → cond b z (pos 0) ≡ pos 0
 same_cond true z e = e
 same_cond false z e = refl
 
+-- along a line a face is crossed from just the points before its key
 pub crossing-on_line : (f : Face) (a : Axis) (p : Spot) (y : Fraction) → crossing f a (on_line a p y) ≡ cond (is_below y (key a p f)) (cond (is_hit a p f) (amount a f) (pos 0)) (pos 0)
 unfolding crossing
 crossing-on_line f a p y = by (cases_Bool (is_zero (along f.support a)))

@@ -11,6 +11,7 @@ use Rattle.ember_box.specs.Sums.{number}
 use Rattle.ember_meaning.proofs.Lines.{In, here, there, total_of}
 use Rattle.ember_meaning.proofs.Telescope.{count_same}
 
+-- a member that passes is counted
 pub count_in : {E : Type 0} (p : E → Bool) (es : List E) (e : E) → In e es → p e ≡ true → 0 < count_by p es
 count_in p es e (here {xs = xs}) h =
     omega (arith, sum_by-cons (λ x. cond (p x) 1 0) e xs, ap number h)
@@ -40,7 +41,7 @@ module _ {E : Type 0} (tri : E → ℕ) (has owned : E → Bool) (hit : ℕ → 
 
     -- if t is the lowest triangle whose face has x inside, exactly one region has x inside and
     -- is owned
-    pub one_owned : (t : ℕ) → hit t ≡ true → ((j : ℕ) → j < t → hit j ≡ false) → count_by (λ e. has e && owned e) es ≡ 1
+    one_owned : (t : ℕ) → hit t ≡ true → ((j : ℕ) → j < t → hit j ≡ false) → count_by (λ e. has e && owned e) es ≡ 1
     one_owned t h least =
         count_same (λ e. has e && owned e) (λ e. eqb (tri e) t && has e) es (λ e i. same e i (cases_Bool (has e))) ∙ c.cover t ∙ ap number h
       where
@@ -66,7 +67,7 @@ module _ {E : Type 0} (tri : E → ℕ) (has owned : E → Bool) (hit : ℕ → 
             at false b true k = refl
             at false b false k = refl
 
-    pub none_owned : ((j : ℕ) → hit j ≡ false) → count_by (λ e. has e && owned e) es ≡ 0
+    none_owned : ((j : ℕ) → hit j ≡ false) → count_by (λ e. has e && owned e) es ≡ 0
     none_owned f = by es (λ e i. i)
       where
         by : (xs : List E) → ((e : E) → In e xs → In e es) → count_by (λ e. has e && owned e) xs ≡ 0
@@ -84,7 +85,7 @@ total-append amount p [] vs = omega (arith, linear)
 total-append amount p (u ∷ us) vs = omega (arith, linear, total-append amount p us vs)
 
 -- if each member of es gives the amount g if q, and else nothing, all give g as often as q holds
-pub each_total : {E W : Type 0} {R : E → List W → Type 0} (amount : W → ℤ) (p : W → Bool) (q : E → Bool) (g : ℤ) {es : List E} {ws : List W} → ((e : E) (us : List W) → In e es → R e us → total_of amount p us ≡ cond (q e) g (pos 0)) → Each R es ws → total_of amount p ws ≡ pos (count_by q es) *ℤ g
+each_total : {E W : Type 0} {R : E → List W → Type 0} (amount : W → ℤ) (p : W → Bool) (q : E → Bool) (g : ℤ) {es : List E} {ws : List W} → ((e : E) (us : List W) → In e es → R e us → total_of amount p us ≡ cond (q e) g (pos 0)) → Each R es ws → total_of amount p ws ≡ pos (count_by q es) *ℤ g
 each_total amount p q g f none = omega (arith, ints)
 each_total amount p q g f (more {x = e} {xs = es} {ys = us} {zs = vs} r d) =
     total-append amount p us vs ∙ by (q e) (total_of amount p us) (total_of amount p vs) (count_by q (e ∷ es)) (count_by q es) (f e us here r) (each_total amount p q g (λ x ys i s. f x ys (there i) s) d) (sum_by-cons (λ x. cond (q x) 1 0) e es)

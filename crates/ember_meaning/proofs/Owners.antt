@@ -24,7 +24,7 @@ use Rattle.ember_meaning.proofs.CountedPoints.{is_in_box, IsFairAt}
 use Rattle.ember_meaning.proofs.Listed.{Entry, entry, IsEntries, has_inside, is_hit_at}
 use Rattle.ember_meaning.proofs.Lines.{In}
 use Rattle.ember_meaning.proofs.Leaf.{leaf_count}
-use Rattle.ember_meaning.proofs.Members.{source, giver, stands, in_range, any_in, Passes, passing, only_one}
+use Rattle.ember_meaning.proofs.Members.{map_member_has_source, giver, member_splits_list, in_range, any_in, Passes, any_has_member, only_one}
 use Rattle.ember_meaning.proofs.OneOwner.{count_in}
 
 -- ---- where an entry comes from
@@ -37,13 +37,15 @@ pub record IsOf (scene : List Tri) (cs : List Cell) (e : Entry) : Type 0 where
   pub here : slice_get faces index ≡ Some e.face
   pub member : In e.face faces
 
+-- an entry of the list is an entry of the scene
 pub entry_of : (scene : List Tri) (cs : List Cell) (es : List Entry) (e : Entry) → IsEntries scene cs es → In e es → IsOf scene cs e
 entry_of scene cs es e r i =
     let g = giver e r i in let k = giver e g.gives g.among in
-    let s = source (entry g.from k.from) k.gives.faces e (subst (λ l. In e l) k.gives.is k.among) in
-    let p = stands k.gives.faces s.at s.member in
+    let s = map_member_has_source (entry g.from k.from) k.gives.faces e (subst (λ l. In e l) k.gives.is k.among) in
+    let p = member_splits_list k.gives.faces s.at s.member in
     subst (IsOf scene cs) (sym s.is) (record { listed = g.member; below = in_range (length (near scene g.from)) k.from k.member; faces = k.gives.faces; are_regions = k.gives.are_regions; index = p.index; here = p.is; member = s.member })
 
+-- the support plane of a triangle's face is the triangle's
 pub support_is : (u : Tri) → (face_of u).support ≡ support_of u
 unfolding face_of
 support_is u = refl
@@ -62,7 +64,7 @@ module _ (scene : List Tri) (cs : List Cell) (v : Spot) (e : Entry) (o : IsOf sc
   inside_tri = region_inside e.cell ns e.tri o.index o.faces e.face o.are_regions o.here v has
 
   -- the leaf holds the place
-  pub holds : IsFairAt scene v e.cell → is_in_box e.cell v ≡ true
+  holds : IsFairAt scene v e.cell → is_in_box e.cell v ≡ true
   holds fair =
       by (is_in_box e.cell v) (is_inside (face_of t) v) (leaf_count e.cell ns e.tri v o.faces cut_out.normal (fair e.tri cut_out.normal) o.are_regions) (count_in (λ f. is_inside f v) o.faces e.face o.member has)
     where
@@ -88,7 +90,7 @@ module _ (scene : List Tri) (cs : List Cell) (v : Spot) (e : Entry) (o : IsOf sc
   -- and no other's is
   pub first : count_by (λ c. is_in_box c v) cs ≤ 1 → IsFairAt scene v e.cell → IsOwner ns e.tri e.face → (j : ℕ) → j < e.tri → is_hit_at scene cs v j ≡ false
   first one fair own j l =
-      ⊎_elim (λ h. absurd (taken (passing (λ d. is_in_box d v && has_inside (near scene d) j v) cs h))) (λ h. h) (cases_Bool (is_hit_at scene cs v j))
+      ⊎_elim (λ h. absurd (taken (any_has_member (λ d. is_in_box d v && has_inside (near scene d) j v) cs h))) (λ h. h) (cases_Bool (is_hit_at scene cs v j))
     where
       shared : j < length ns → is_flat (tri_at ns j) ≡ false → is_inside (face_of (tri_at ns j)) v ≡ true → ⊥
       shared n nf i =

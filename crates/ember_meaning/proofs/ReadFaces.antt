@@ -25,7 +25,7 @@ use Rattle.ember_leaf.proofs.WallClips.{each_every}
 use Rattle.ember_text.specs.Texts.{IsGoodText, seen}
 use Rattle.ember_text.specs.Documents.{IsDocumentText, written_face}
 use Rattle.ember_meaning.specs.Meaning.{IsFalseOutside, HaveMeaning, ReadsWithMeaning}
-use Rattle.ember_meaning.proofs.Turned.{inside-turned}
+use Rattle.ember_meaning.proofs.FlippedFaces.{inside-turned}
 use Rattle.ember_meaning.proofs.ClearMeaning.{meaning_of_written}
 use Rattle.ember_meaning.proofs.SameFaces.{HaveSamePoints, same_meaning}
 
@@ -57,7 +57,7 @@ of_leaf scene x c ks (regions w) =
     each_every (λ i. Unit {0}) IsFilled (λ i us t w. of_place scene x c (near scene c) i us w) w (every_one (range_with_len 0 (length (near scene c))))
 of_leaf scene x c ks (nothing v) = tt
 
-pub written_regions_are_filled : (scene : List Tri) (x : Formula) (ks : List Kept) → IsWritten scene x ks → Every IsFilled ks
+written_regions_are_filled : (scene : List Tri) (x : Formula) (ks : List Kept) → IsWritten scene x ks → Every IsFilled ks
 written_regions_are_filled scene x ks w =
     each_every (λ c. Unit {0}) IsFilled (λ c us t g. of_leaf scene x c us g) w (every_one (leaves scene root))
 

@@ -17,7 +17,7 @@ use Rattle.ember_expr.specs.Formula.{Formula}
 use Rattle.ember_meaning.specs.Meaning.{HaveMeaning}
 
 -- ---- one face
--- the crossing, where it is known whether the hit lies inside
+-- the crossing, given whether the hit is inside
 abbrev crossing_where : Plane → Axis → Spot → Bool → ℤ
 crossing_where n a p inside =
     if is_negative (value_at n p *ℤ along n a) && inside then sign (along n a) else pos 0
@@ -50,6 +50,7 @@ all_clear p [] (g ∷ gs) s c = absurd s
 all_clear p (f ∷ fs) [] s c = absurd s
 all_clear p (f ∷ fs) (g ∷ gs) s c = (same_clear f g p s.0 c.0, all_clear p fs gs s.1 c.1)
 
+-- faces with the same points have the same meaning
 pub same_meaning : (scene : List Tri) (x : Formula) (fs gs : List Face) → HaveSamePoints fs gs → HaveMeaning scene x fs → HaveMeaning scene x gs
 same_meaning scene x fs gs s m a b p w clear clear_faces =
     sym (same_wind a p fs gs s) ∙ m a b p w clear (all_clear p fs gs s clear_faces)

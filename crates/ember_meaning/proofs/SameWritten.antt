@@ -24,7 +24,7 @@ use Rattle.ember_leaf.specs.Scenes.{IsBeside, LeafGives, regions, nothing, IsWri
 use Rattle.ember_meaning.specs.Nearby.{AgreeOver}
 
 -- what each member gives by one relation, it gives by another
-pub each_as : {X Y : Type 0} {R S : X → List Y → Type 0} → ((x : X) (ys : List Y) → R x ys → S x ys) → {xs : List X} {ys : List Y} → Each R xs ys → Each S xs ys
+each_as : {X Y : Type 0} {R S : X → List Y → Type 0} → ((x : X) (ys : List Y) → R x ys → S x ys) → {xs : List X} {ys : List Y} → Each R xs ys → Each S xs ys
 each_as f none = none
 each_as f (more {x = x} {ys = ys} r e) = more (f x ys r) (each_as f e)
 

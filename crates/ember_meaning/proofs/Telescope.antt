@@ -9,16 +9,12 @@ use Rattle.ember_meaning.specs.Meaning.{one_if}
 use Rattle.ember_meaning.proofs.Lines.{In, here, there, IsOrder, total_of, beyond, onward, is_same_place, Placed}
 
 -- ---- lists whose members pass alike
-pub filter_same : {H : Type 0} (p q : H → Bool) (hs : List H) → ((h : H) → In h hs → p h ≡ q h) → filter p hs ≡ filter q hs
+filter_same : {H : Type 0} (p q : H → Bool) (hs : List H) → ((h : H) → In h hs → p h ≡ q h) → filter p hs ≡ filter q hs
 filter_same p q [] f = refl
 filter_same p q (h ∷ hs) f =
     rw (f h here) (ap (λ l. cond (q h) (h ∷ l) l) (filter_same p q hs (λ g i. f g (there i))))
 
-pub total_same : {W : Type 0} (amount : W → ℤ) (p q : W → Bool) (ws : List W) → ((w : W) → In w ws → p w ≡ q w) → total_of amount p ws ≡ total_of amount q ws
-total_same amount p q [] f = refl
-total_same amount p q (w ∷ ws) f =
-    rw (f w here) (ap (λ z. cond (q w) (amount w) (pos 0) +ℤ z) (total_same amount p q ws (λ g i. f g (there i))))
-
+-- tests that agree on the members of a list count the same
 pub count_same : {W : Type 0} (p q : W → Bool) (ws : List W) → ((w : W) → In w ws → p w ≡ q w) → count_by p ws ≡ count_by q ws
 count_same p q [] f = refl
 count_same p q (w ∷ ws) f =
@@ -124,12 +120,12 @@ module _ {K : Type 0} (before : K → K → Bool) (order : IsOrder before) where
   apart : (a b : K) → is_same_place before a b ≡ true → (before a b ≡ false) × (before b a ≡ false)
   apart a b h = let t = and_parts _ _ h in (not-true _ t.0, not-true _ t.1)
 
-  pub same_ahead : (a b y : K) → is_same_place before a b ≡ true → before y a ≡ before y b
+  same_ahead : (a b y : K) → is_same_place before a b ≡ true → before y a ≡ before y b
   same_ahead a b y h =
       let t = apart a b h in
       equal_tests (before y a) (before y b) (swap_ahead a b y t.0) (swap_ahead b a y t.1)
 
-  pub same_behind : (a b y : K) → is_same_place before a b ≡ true → before a y ≡ before b y
+  same_behind : (a b y : K) → is_same_place before a b ≡ true → before a y ≡ before b y
   same_behind a b y h =
       let t = apart a b h in
       equal_tests (before a y) (before b y) (swap_behind a b y t.1) (swap_behind b a y t.0)

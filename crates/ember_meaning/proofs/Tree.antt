@@ -58,7 +58,7 @@ axis_halves l x w n h p =
         let s : l +ℤ pos m +ℤ pos m ≡ l +ℤ pos k = omega (arith, ints) in
         three_tests (l *ℤ w) ((l +ℤ pos m) *ℤ w) ((l +ℤ pos m +ℤ pos m) *ℤ w) x (more_of l m) (more_of (l +ℤ pos m) m) ∙ ap (λ (h : ℤ). number (is_between l h x w)) s
 
-pub halves_count : (c : Cell) (k : Axis) (v : Spot) → pos 0 ≤ℤ v.w → 0 < c.log k → number (is_in_box (left_half c k) v) + number (is_in_box (right_half c k) v) ≡ number (is_in_box c v)
+halves_count : (c : Cell) (k : Axis) (v : Spot) → pos 0 ≤ℤ v.w → 0 < c.log k → number (is_in_box (left_half c k) v) + number (is_in_box (right_half c k) v) ≡ number (is_in_box c v)
 halves_count c X v w h =
     both_left _ _ _ (is_between (low c Y) (high c Y) v.y v.w && is_between (low c Z) (high c Z) v.z v.w) (axis_halves c.lo.x v.x v.w (c.log X) h w)
 halves_count c Y v w h =
@@ -70,6 +70,7 @@ of_halves : (ts : List Tri) (n : ℕ) (c : Cell) (v : Spot) → pos 0 ≤ℤ v.w
 of_halves ts n c v w f k h =
     sum_by-append (λ d. cond (is_in_box d v) 1 0) (leaves_within ts n (left_half c k)) (leaves_within ts n (right_half c k)) ∙ omega (arith, f (left_half c k), f (right_half c k), halves_count c k v w h)
 
+-- a point is in one leaf below a box that contains it, and otherwise in none
 pub leaves_count : (ts : List Tri) (n : ℕ) (c : Cell) (v : Spot) → pos 0 ≤ℤ v.w → count_by (λ d. is_in_box d v) (leaves_within ts n c) ≡ number (is_in_box c v)
 leaves_count ts zero c v w = omega arith
 leaves_count ts (suc n) c v w =

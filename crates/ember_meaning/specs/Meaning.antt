@@ -12,7 +12,7 @@ use Rattle.ember_expr.specs.Formula.{Formula}
 use Rattle.ember_expr.specs.Truth.{truth}
 use Rattle.ember_chain.specs.Chains.{IsClosedSurface, IsOutlined}
 
--- the number of a truth
+-- 1 if true, otherwise 0
 abbrev pub one_if : Bool → ℤ
 one_if b = cond b (pos 1) (pos 0)
 
@@ -20,12 +20,12 @@ one_if b = cond b (pos 1) (pos 0)
 abbrev pub IsFalseOutside : Formula → Type 0
 IsFalseOutside x = truth (replicate 64 (pos 0)) x ≡ false
 
--- at p the faces wind once along a if the expression holds of the winding numbers along b, and
--- otherwise not at all
+-- the faces wind once around p, counted along a, if the expression is true of the winding numbers at p, counted
+-- along b, and otherwise not at all
 abbrev pub HasMeaning : List Tri → Formula → List Face → Axis → Axis → Spot → Type 0
 HasMeaning scene x faces a b p = wind a faces p ≡ one_if (truth (vector b scene p) x)
 
--- the same at each point that is clear of the scene's faces and of these faces, for all axes
+-- the faces have the meaning at each point that is clear of the scene's faces and of these faces, for all axes
 abbrev pub HaveMeaning : List Tri → Formula → List Face → Type 0
 HaveMeaning scene x faces =
     (a b : Axis) (p : Spot) → pos 0 <ℤ p.w → AreClear

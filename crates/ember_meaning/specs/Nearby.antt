@@ -12,36 +12,38 @@ use Rattle.ember_expr.specs.Formula.{Formula}
 use Rattle.ember_expr.specs.Truth.{truth}
 use Rattle.ember_meaning.specs.Meaning.{one_if, HasMeaning}
 
--- P holds of the point p shifted along all axes, wherever the shift is small enough
+-- P holds of the point p shifted along all axes, if the shift is small enough
 abbrev pub WhereShifted : Spot → (Spot → Type 0) → Type 0
 WhereShifted p P = Eventually (λ k. P (shifted p (pos k)))
 
 -- ---- any point, shifted
--- the faces have the meaning there
+-- near each point, clear or not, the faces have the meaning
 abbrev pub HaveMeaningNearby : List Tri → Formula → List Face → Type 0
 HaveMeaningNearby scene x faces =
     (p : Spot) → pos 0 <ℤ p.w → WhereShifted p (λ q. (a b : Axis) → HasMeaning scene x faces a b q)
 
--- the same of a point that is clear of the scene's faces, whose own winding numbers are meant
+-- at a point that is clear of the scene's faces, the expression at its own winding numbers is what the faces wind at
+-- the shifted point
 abbrev pub WindNearbyAsHere : List Tri → Formula → List Face → Type 0
 WindNearbyAsHere scene x faces =
     (p : Spot) → pos 0 <ℤ p.w → AreClear (faces_of scene) p → WhereShifted p
     (λ q. (a b : Axis) → wind a faces q ≡ one_if (truth (vector b scene p) x))
 
 -- ---- a point that is clear of the faces alone
--- there they wind once if the expression holds at the shifted point, and otherwise not at all
+-- around a point that is clear of these faces, they wind once if the expression is true at the shifted point, and
+-- otherwise not at all
 abbrev pub WindHereAsNearby : List Tri → Formula → List Face → Type 0
 WindHereAsNearby scene x faces =
     (p : Spot) → pos 0 <ℤ p.w → AreClear faces p → WhereShifted p
     (λ q. (a b : Axis) → wind a faces p ≡ one_if (truth (vector b scene q) x))
 
--- there they wind once along all axes, or along none
+-- around a point that is clear of these faces, they wind once or not at all, the same along all axes
 abbrev pub WindOnceAtMost : List Face → Type 0
 WindOnceAtMost faces =
     (p : Spot) → pos 0 <ℤ p.w → AreClear faces p → (inside : Bool) × ((a : Axis) → wind a faces p ≡ one_if inside)
 
 -- ---- expressions
--- they have one value at the winding numbers of each point that is clear of the scene's faces
+-- both expressions have the same value at the winding numbers of each point that is clear of the scene's faces
 abbrev pub AgreeOver : List Tri → Formula → Formula → Type 0
 AgreeOver scene x y =
     (a : Axis) (p : Spot) → pos 0 <ℤ p.w → AreClear (faces_of scene) p → truth (vector a scene p) x ≡ truth

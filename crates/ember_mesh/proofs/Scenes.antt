@@ -29,7 +29,7 @@ numbered_parts most k [] l u n = All-nil (HasMesh most)
 numbered_parts most k (part ∷ parts) l u n =
     All-append (HasMesh most) part.tris (triangles_of parts) (has_mesh most k part.tris l (omega (arith, u)) n.0) (numbered_parts most (k + 1) parts (omega (arith, l)) (omega (arith, u)) n.1)
 
-pub scene_of_parts : (parts : List Closed) → length parts ≤ 64 → length (triangles_of parts) ≤ 262144 → AreNumbered 1 parts → IsScene (triangles_of parts) (length parts)
+scene_of_parts : (parts : List Closed) → length parts ≤ 64 → length (triangles_of parts) ≤ 262144 → AreNumbered 1 parts → IsScene (triangles_of parts) (length parts)
 scene_of_parts parts m f n = record {
   valid = valid_parts parts;
   few = f;
@@ -39,11 +39,8 @@ scene_of_parts parts m f n = record {
 }
 
 -- ---- one mesh more
-pub numbered_push : (k : ℕ) (parts : List Closed) (part : Closed) → AreNumbered k parts → All (λ t. t.mesh ≡ k + length parts) part.tris → AreNumbered k (parts ++ part ∷ [])
-numbered_push k [] part n h = (λ i d l. let e = h i d l in omega (arith, e), tt)
-numbered_push k (p ∷ parts) part n h =
-    (n.0, numbered_push (k + 1) parts part n.1 (λ i d l. let e = h i d l in omega (arith, e)))
 
+-- the triangles of at most 64 closed meshes with numbers from 1 are a scene, if there are at most 262,144
 pub scene_at : {ts : List Tri} {n : ℕ} (parts : List Closed) → ts ≡ triangles_of parts → n ≡ length parts → length parts ≤ 64 → length (triangles_of parts) ≤ 262144 → AreNumbered 1 parts → IsScene ts n
 scene_at {ts} {n} parts p q m f h =
     subst (λ (us : List Tri). IsScene us n) (sym p) (subst (λ (k : ℕ). IsScene (triangles_of parts) k) (sym q) (scene_of_parts parts m f h))

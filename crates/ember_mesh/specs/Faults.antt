@@ -5,6 +5,7 @@ use Rattle.ember_balance.specs.Loose.{loose_of}
 use Rattle.ember_mesh.specs.declared.fault.MeshFault.{MeshFault}
 use Rattle.ember_mesh.specs.declared.fault.MeshFault.TheVariants.{Unbalanced, OutOfMemory}
 
+-- the fault has the least loose edge; or out-of-memory
 abbrev pub IsMeshFault : List Tri → MeshFault → Type 0
 IsMeshFault ts (Unbalanced loose) = loose_of ts ≡ Some loose
 IsMeshFault ts OutOfMemory = Unit {0}

@@ -5,6 +5,7 @@ use Rattle.ember_mesh.specs.declared.states.Closed.{Closed}
 use Rattle.ember_mesh.specs.declared.fault.JoinFault.{JoinFault}
 use Rattle.ember_mesh.specs.declared.fault.JoinFault.TheVariants.{TooManyTriangles, OutOfMemory}
 
+-- the triangles of all meshes, mesh after mesh
 abbrev pub triangles_of : List Closed → List Tri
 triangles_of parts = flat_map (λ part. part.tris) parts
 
@@ -13,6 +14,7 @@ abbrev pub AreNumbered : ℕ → List Closed → Type 0
 AreNumbered m [] = Unit {0}
 AreNumbered m (part ∷ parts) = All (λ t. t.mesh ≡ m) part.tris × AreNumbered (m + 1) parts
 
+-- there are more than 262,144 triangles, and the fault has their number; or out-of-memory
 abbrev pub IsJoinFault : List Closed → JoinFault → Type 0
 IsJoinFault parts (TooManyTriangles count) = (count ≡ length (triangles_of parts)) × (262144 < count)
 IsJoinFault parts OutOfMemory = Unit {0}

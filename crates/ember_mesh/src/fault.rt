@@ -6,7 +6,8 @@ use ember_balance::Loose;
 use std::alloc::AllocError;
 use thiserror::Error;
 
-/// The triangles of a file aren't closed, or memory is short.
+/// The triangles of a file aren't closed, or out-of-memory. The program doesn't print these texts,
+/// but its own: see `src/lines.rt` of ember_run.
 #[derive(Clone, Copy, Debug, PartialEq, Eq, Error)]
 pub enum MeshFault {
     /// This edge is the least that occurs more often than its reverse.
@@ -16,7 +17,7 @@ pub enum MeshFault {
     OutOfMemory,
 }
 
-/// All files together have too many triangles, or memory is short.
+/// All files together have too many triangles, or out-of-memory.
 #[derive(Clone, Copy, Debug, PartialEq, Eq, Error)]
 pub enum JoinFault {
     /// There are this many triangles: more than 262,144.

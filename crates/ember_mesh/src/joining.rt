@@ -30,8 +30,8 @@ fn all_triangles(alloc: Global, parts: &[Closed], count: usize) -> Result<Vec<Tr
     Ok(tris)
 }
 
-/// The scene of the meshes' triangles, mesh after mesh. All triangles of the mesh with the index `i`
-/// have the number `i + 1`.
+/// The scene of the meshes' triangles, mesh after mesh. All triangles of the mesh with the index
+/// `i` have the mesh number `i + 1`. More than 262,144 triangles are refused with their number.
 pub fn join(alloc: Global, parts: Parts) -> Result<Scene, JoinFault>
     requires few { length parts ≤ 64 }
     requires numbered { AreNumbered 1 parts }

@@ -1,5 +1,5 @@
-//! From the triangles of the files to a scene: at most 262,144 triangles in all, and those of each file
-//! closed.
+//! From the triangles of the files to a scene: at most 262,144 triangles in all, and those of each
+//! file closed.
 #![tactic(auto)]
 
 mod fault;

@@ -11,8 +11,8 @@ use ember_model::{Lines, Soup, Tris};
 use std::alloc::Global;
 use std::marker::Model;
 
-/// The triangles of a file, at most 262,144 of them, and for each the line of the face that it
-/// comes from. They needn't be closed: [`balanced`] tells whether they are.
+/// The triangles of a file, at most 262,144 of them, and for each the number of the line of its
+/// face. They needn't be closed: [`balanced`] tests that.
 #[derive(Drop)]
 pub struct Solid {
     pub tris: Tris,
@@ -22,7 +22,7 @@ pub struct Solid {
     ghost few: { length tris ≤ 262144 },
 }
 
-/// The triangles of a file that are closed: each directed edge stands as often as its reverse.
+/// The triangles of a file that are closed: each directed edge occurs as often as its reverse.
 #[derive(Drop)]
 pub struct Closed {
     pub tris: Tris,
@@ -33,7 +33,7 @@ pub struct Closed {
     ghost balanced: { IsBalanced tris },
 }
 
-/// A list of closed meshes.
+/// A vector of closed meshes, which contracts see as a list.
 #[derive(Drop)]
 pub struct Parts {
     parts: Vec<Closed>,
@@ -71,8 +71,8 @@ impl Parts {
     }
 }
 
-/// Hands on the triangles and lines of a file with at most 262,144 triangles. It tests nothing, since its
-/// caller counted them.
+/// The same triangles and lines, of a file with at most 262,144 triangles. It tests nothing: the
+/// caller has counted them, and [`balanced`] tests whether they are closed.
 pub fn check(soup: Soup) -> Solid
     requires { length soup.tris ≤ 262144 }
     ensures tris { result.tris ≡ soup.tris }
@@ -84,7 +84,8 @@ pub fn check(soup: Soup) -> Solid
     }
 }
 
-/// Accepts triangles that are closed: they and their lines stay the same. A refusal hands them back unchanged.
+/// The same triangles and lines, if the triangles are closed. Otherwise the fault names the least
+/// edge that occurs more often than its reverse. An error hands the argument back unchanged.
 pub fn balanced(alloc: Global, solid: Solid) -> Result<Closed, (Solid, MeshFault)>
     ensures tris { IfOk result (λ closed. closed.tris ≡ solid.tris) }
     ensures lines { IfOk result (λ closed. closed.lines ≡ solid.lines) }

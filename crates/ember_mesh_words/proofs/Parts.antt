@@ -16,6 +16,7 @@ parts_cut : (front rest : List ℕ) → ((i : ℕ) → i < length front → get_
 parts_cut [] rest free = refl
 parts_cut (b ∷ bs) rest free = rw (not_equals b (free 0 (omega arith)), parts_cut bs rest (λ i low. free (suc i) (omega arith))) refl
 
+-- what the library's `split_once` gives at an equals sign are the parts of the definition
 pub parts_once : (text : List ℕ) (r : Option (Bor (List ℕ) × Bor (List ℕ)))
     → MatchOption r ((i : ℕ) → i < length text → get_or text i 0 ≢ 61) (λ x. (text ≡ x.0.now ++ (61 ∷ x.1.now)) × ((i : ℕ) → i < length x.0.now → get_or x.0.now i 0 ≢ 61))
     → option_map (λ (p : Bor (List ℕ) × Bor (List ℕ)). (p.0.now, p.1.now)) r ≡ parts_of text

@@ -40,7 +40,7 @@ zeros (d ∷ ds) h =
       | inr e ↦ absurd (cc)
     ]
 
--- digits of which one isn't 0, or that stand behind a number above 0
+-- digits of which one isn't 0, or that follow a number above 0
 behind_some : (s : ℕ) (ds : List ℕ) → 0 < s → 0 < number_from s ds
 behind_some s ds p = omega (arith, number_from-grows s ds)
 
@@ -65,12 +65,14 @@ size_sign false ds k h true e = signed_zero false (number_from 0 ds * 10 ^ k) (r
 size_sign true ds k h false e = signed_some true (number_from 0 ds * 10 ^ k) (mul-pos (some_digit 0 ds h e) (pow_ten_pos k))
 size_sign false ds k h false e = signed_some false (number_from 0 ds * 10 ^ k) (mul-pos (some_digit 0 ds h e) (pow_ten_pos k))
 
+-- a decimal is positive exactly if it has no minus and a digit that isn't 0
 pub decimal_sign : (minus : Bool) (whole fraction : List ℕ) (e : Exponent) → list_all is_ascii_digit whole ≡ true → list_all is_ascii_digit fraction ≡ true
     → is_positive (decimal_value minus whole fraction e).numerator ≡ (not minus && not (list_all is_zero whole && list_all is_zero fraction))
 decimal_sign minus whole fraction e w f =
     size_sign minus (whole ++ fraction) (places_right e) (all_digits whole fraction w f) (list_all is_zero whole && list_all is_zero fraction)
     (list_all-append is_zero whole fraction)
 
+-- a binary number is positive exactly if it has no minus and its significand isn't 0
 pub binary_sign : (minus : Bool) (significand power : ℕ) → is_positive (signed minus (significand * 2 ^ power)) ≡ (not minus && nat_lt 0 significand)
 binary_sign true zero power = signed_zero true (0 * 2 ^ power) (omega arith)
 binary_sign false zero power = signed_zero false (0 * 2 ^ power) (omega arith)

@@ -1,4 +1,4 @@
--- What the words behind a command's name say
+-- What the words after a command's name mean
 use Rattle.std.specs.Prelude.{ℕ, ◌+◌, ◌==◌, ◌||◌, Bool, true, false, List, [], ◌∷◌, ◌++◌, Option, Some, None, Result, Ok, Err, codes, option_map, option_and_then, if◌then◌else◌}
 use Rattle.std.specs.Option.{option_or}
 use Rattle.std.specs.Str.{bytes_eq}
@@ -16,7 +16,7 @@ use Rattle.ember_mesh_words.specs.Names.{Text, setting_of, rank}
 abbrev pub in_front : ℕ → Text × Text → Text × Text
 in_front b parts = (b ∷ parts.0, parts.1)
 
--- what stands before and behind the first equals sign (61)
+-- the text before the first equals sign (61), and the text after it
 abbrev pub parts_of : Text → Option (Text × Text)
 parts_of [] = None
 parts_of (b ∷ bs) = if b == 61 then Some ([], bs) else option_map (in_front b) (parts_of bs)
@@ -29,6 +29,7 @@ with_value value (Some s) = Some (s, value)
 abbrev pub attached_in : Text → Option (Setting × Text)
 attached_in word = option_and_then (λ (p : Text × Text). with_value p.1 (setting_of p.0)) (parts_of word)
 
+-- the word asks for help
 abbrev pub is_help : Text → Bool
 is_help word = bytes_eq word (codes "--help") || bytes_eq word (codes "-h")
 
@@ -44,13 +45,13 @@ said_alone word =
     else (if is_help word then Whole Help
     else said_by word (setting_of word) (attached_in word))
 
--- what a word says behind an option that wants its value, and behind none
+-- what a word means after an option that wants its value, or without one
 abbrev pub said : Option Setting → Text → WordMeaning
 said (Some s) word = Whole (Value s word)
 said None word = said_alone word
 
 -- ---- all words
--- the option that wants a value behind this word
+-- the option that wants a value after this word
 abbrev pub waiting_in : WordMeaning → Option Setting
 waiting_in (Waiting s) = Some s
 waiting_in (Whole i) = None
@@ -69,13 +70,14 @@ abbrev pub arguments_without_words : Option Setting → Result (List Argument) R
 arguments_without_words None = Ok []
 arguments_without_words (Some s) = Err NoValue
 
--- the arguments of the words from number n on, behind the option that wants its value, if there is one
+-- the arguments of the words from number n on, after the option that wants its value, if there is one
 abbrev pub arguments_from : ℕ → Option Setting → List Text → Result (List Argument) Refusal
 arguments_from n waits [] = arguments_without_words waits
 arguments_from n waits (word ∷ words) =
     arguments_with n (said waits word) (arguments_from (n + 1) (waiting_in (said waits word)) words)
 
 -- ---- what the arguments give
+-- the argument's value, if it is that of the option
 abbrev pub value_for : Setting → Argument → Option Text
 value_for s (Value t text) = if rank t == rank s then Some text else None
 value_for s (File name) = None

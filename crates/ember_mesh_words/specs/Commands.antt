@@ -55,6 +55,7 @@ request_with operation arguments (Ok files) =
     (step_of (value_in setting.Step arguments)) (workers_of (value_in setting.Workers arguments))
     (digits_of (value_in setting.Digits arguments))
 
+-- the Boolean that the arguments ask for, or the first refusal
 abbrev pub request_of : Operation → List Argument → Result Request Refusal
 request_of operation arguments = request_with operation arguments (files_of (names_in arguments))
 
@@ -69,7 +70,7 @@ command_with operation (Err why) = Err why
 command_with operation (Ok arguments) =
     if list_any asks_help arguments then Ok command.Help else as_command (request_of operation arguments)
 
--- the words behind `help` and `--version` mean nothing
+-- the words after `help` and `--version` mean nothing
 abbrev pub command_by : Option Verb → List Text → Result Command Refusal
 command_by None words = Err UnknownCommand
 command_by (Some verb.Help) words = Ok command.Help
@@ -95,6 +96,7 @@ pub record IsWithinLimits (request : Request) : Type 0 where
   pub digits : IfSome request.digits (λ n. n ≤ 17)
   pub files : IsInRange 1 64 (length request.files)
 
+-- all values of the command are within their limits
 abbrev pub HasLimits : Command → Type 0
 HasLimits (command.Boole request) = IsWithinLimits request
 HasLimits command.Help = ⊤

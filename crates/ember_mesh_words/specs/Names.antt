@@ -25,7 +25,7 @@ verb_of name =
     else (if bytes_eq name (codes "--version") then Some verb.Version
     else None)))))))
 
--- what stands between the meshes of the expression, none if it is given by `--expr`
+-- the operator between the meshes of the expression, none if it is given by `--expr`
 abbrev pub operator_of : Operation → Option Text
 operator_of operation.Union = Some (codes "|")
 operator_of operation.Difference = Some (codes "&!")

@@ -9,12 +9,14 @@ use Rattle.ember_mesh_words.specs.declared.arguments.Argument.{Argument}
 use Rattle.ember_mesh_words.specs.declared.arguments.Argument.TheVariants.{File, Value, Quiet, Help}
 use Rattle.ember_mesh_words.specs.Names.{Text}
 
+-- the name of the command
 abbrev pub name_of : Operation → Text
 name_of operation.Union = codes "union"
 name_of operation.Difference = codes "difference"
 name_of operation.Intersection = codes "intersection"
 name_of operation.Expression = codes "bool"
 
+-- the name of the option
 abbrev pub option_of : Setting → Text
 option_of setting.Expression = codes "--expr"
 option_of setting.Output = codes "-o"
@@ -22,12 +24,14 @@ option_of setting.Step = codes "--step"
 option_of setting.Workers = codes "--workers"
 option_of setting.Digits = codes "--digits"
 
+-- the words of an argument
 abbrev pub words_of : Argument → List Text
 words_of (File name) = name ∷ []
 words_of (Value s text) = option_of s ∷ text ∷ []
 words_of Quiet = codes "--quiet" ∷ []
 words_of Help = codes "--help" ∷ []
 
+-- the words of several arguments
 abbrev pub spelling_of : List Argument → List Text
 spelling_of [] = []
 spelling_of (argument ∷ arguments) = words_of argument ++ spelling_of arguments

@@ -1,4 +1,4 @@
-// What the words behind a command's name say.
+// What the words after a command's name mean.
 ghost use Rattle.std.specs.Prelude.{◌≡◌, IfOk, None, map, option_map, string_bytes};
 ghost use Rattle.std.specs.Result.{result_map_both};
 ghost use Rattle.std.specs.List.{list_any};
@@ -12,7 +12,7 @@ use crate::texts::{begins_with_hyphen, copied, parts};
 use ember_words::{Text, Texts};
 use std::alloc::{AllocError, Global};
 
-/// What one or two words say.
+/// What one or two words mean.
 #[derive(Drop)]
 pub enum Argument {
     /// The name of a mesh file.
@@ -23,7 +23,7 @@ pub enum Argument {
     Help,
 }
 
-/// What one word says.
+/// What one word means.
 #[derive(Drop)]
 pub enum WordMeaning {
     Whole(Argument),
@@ -33,7 +33,7 @@ pub enum WordMeaning {
     Unknown,
 }
 
-// An option with its value behind an equals sign.
+// An option with its value after an equals sign.
 fn attached(word: &str) -> Option<(Setting, &str)>
     ensures { option_map (λ a. (a.0, a.1.now)) result ≡ attached_in word.now }
 {
@@ -42,6 +42,7 @@ fn attached(word: &str) -> Option<(Setting, &str)>
     Some((setting, value))
 }
 
+// Whether the word asks for help: `--help` or `-h`.
 fn is_help(word: &str) -> bool
     ensures { result ≡ is_help word.now }
 {
@@ -76,7 +77,7 @@ fn said_alone(alloc: Global, word: &str) -> Result<WordMeaning, AllocError>
     said_by(alloc, word)
 }
 
-// What a word says behind an option that wants its value, if there is one.
+// What a word means after an option that wants its value, if there is such an option.
 fn said(alloc: Global, waits: Option<Setting>, word: &str) -> Result<WordMeaning, AllocError>
     ensures { IfOk result (λ s. s ≡ said waits word.now) }
 {
@@ -86,7 +87,7 @@ fn said(alloc: Global, waits: Option<Setting>, word: &str) -> Result<WordMeaning
     }
 }
 
-// What the words behind the command's name say, in their order.
+// What the words after the command's name mean, in their order.
 #[tactic(auto, using(crate::proofs::WordArguments::argument_more, crate::proofs::WordArguments::option_more, crate::proofs::WordArguments::unknown_more))]
 pub fn arguments_of(alloc: Global, words: &[String]) -> Result<Vec<Argument>, WordsFault>
     ensures { Reads (arguments_from 1 None (map string_bytes words.now)) (result_map_both (λ arguments. arguments.items) (λ fault.
@@ -128,6 +129,7 @@ impl Argument {
         }
     }
 
+    // Whether the argument is `--quiet`.
     fn is_quiet(&self) -> bool
         ensures { result ≡ is_quiet self.now }
     {
@@ -137,6 +139,7 @@ impl Argument {
         }
     }
 
+    // Whether the argument asks for help.
     fn asks_help(&self) -> bool
         ensures { result ≡ asks_help self.now }
     {
@@ -174,12 +177,14 @@ pub fn names_in(alloc: Global, arguments: &[Argument]) -> Result<Texts, AllocErr
     Ok(Texts::of(names))
 }
 
+// Whether one of the arguments is `--quiet`.
 pub fn are_quiet(arguments: &[Argument]) -> bool
     ensures { result ≡ list_any is_quiet arguments.now }
 {
     arguments.iter().any(|argument| argument.is_quiet())
 }
 
+// Whether one of the arguments asks for help.
 pub fn ask_help(arguments: &[Argument]) -> bool
     ensures { result ≡ list_any asks_help arguments.now }
 {

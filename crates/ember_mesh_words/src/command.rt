@@ -23,7 +23,7 @@ pub struct Request {
     pub step: WantedStep,
     /// From 1 to 64.
     pub workers: u32,
-    /// Whether only a refusal is told.
+    /// Whether the program prints only a refusal.
     pub quiet: bool,
     /// The decimal places of OBJ, PLY and OFF, up to 17. If there is no number, the step decides.
     pub digits: Option<u32>,

@@ -14,8 +14,8 @@ pub enum Refusal {
     /// The first word names no command.
     #[error("no such command; see ember-mesh help")]
     UnknownCommand,
-    /// The word with this number, where the name of the command has the number 0, begins with a hyphen and
-    /// is no option.
+    /// The word with this number (the name of the command has the number 0) begins with a hyphen
+    /// and is no option.
     #[error("unknown option; see ember-mesh help")]
     UnknownOption(usize),
     /// The last word is an option whose value is missing.

@@ -10,7 +10,7 @@ pub enum Verb {
     Version,
 }
 
-/// By what the expression of a Boolean is given.
+/// How the expression of a Boolean is given.
 #[derive(Clone, Copy)]
 pub enum Operation {
     Union,
@@ -50,7 +50,7 @@ impl Verb {
 }
 
 impl Operation {
-    /// What stands between the meshes of the expression. None if the expression is given as it is.
+    /// The operator between the meshes of the expression. None if the expression is given as it is.
     pub fn operator(self) -> Option<&'static str>
         ensures { option_map (λ text. text.now) result ≡ operator_of self }
     {

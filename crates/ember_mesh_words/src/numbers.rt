@@ -8,12 +8,14 @@ ghost use Rattle.ember_mesh_words.specs.Values.{is_above_zero};
 
 use ember_number::{Number, read_decimal};
 
+// Whether all digits are 0.
 fn are_zeros(digits: &[u8]) -> bool
     ensures { result ≡ list_all (λ b. b == 48) digits.now }
 {
     digits.iter().all(|digit| *digit == b'0')
 }
 
+// Whether the number is above 0.
 #[tactic(auto, using(crate::proofs::Signs::decimal_sign, crate::proofs::Signs::binary_sign))]
 fn is_positive(number: &Number<'_>) -> bool
     ensures { result ≡ is_positive (value_of number.now).numerator }

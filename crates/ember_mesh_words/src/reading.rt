@@ -40,7 +40,7 @@ fn request_of(
     })
 }
 
-// The command of an operation and the words behind its name.
+// The command of an operation and the words after its name.
 fn command_with(
     alloc: Global,
     operation: Operation,
@@ -56,7 +56,7 @@ fn command_with(
     Ok(Command::Boole(request_of(alloc, operation, &arguments)?))
 }
 
-// The command of this verb and the words behind its name.
+// The command of this verb and the words after its name.
 fn command_by(alloc: Global, verb: Option<Verb>, words: &[String]) -> Result<Command, WordsFault>
     ensures value { Reads (command_by verb (map string_bytes words.now)) result }
     ensures limits { IfOk result HasLimits }
@@ -82,18 +82,19 @@ fn read(alloc: Global, words: &[String]) -> Result<Command, WordsFault>
 
 /// The command that the words after the program's name give.
 ///
-/// The first word names the command. Behind it stand options and file names in any order. An option's
-/// value is the next word, whatever this is, or follows an equals sign, as in `--step=0.02`; of several
-/// values of one option the last one counts. Any other word that begins with a hyphen is refused.
+/// The first word names the command. Options and file names follow it in any order. An option's
+/// value is the next word, whatever this is, or follows an equals sign, as in `--step=0.02`; of
+/// several values of one option the last one counts. Any other word that begins with a hyphen is
+/// refused.
 ///
-/// `help`, `--help` and `-h` ask for help, as the first word or behind the name of a command.
-/// `--version` is a first word alone. The words behind these first words aren't read.
+/// `help`, `--help` and `-h` ask for help, as the first word or after the name of a command.
+/// `--version` is a first word alone. The words after these first words aren't read.
 ///
-/// The first refusal counts: of the first word; of the words in their order; and then of the files, the
-/// expression, the output, the step, the workers and the digits.
+/// The first refusal counts: of the first word; of the words in their order; and then of the files,
+/// the expression, the output, the step, the workers and the digits.
 ///
-/// Arguments that are spelled as words, with each value in a word of its own and no hyphen at the beginning
-/// of a file name, are read as these arguments.
+/// Arguments that are spelled as words, with each value in a word of its own and no hyphen at the
+/// beginning of a file name, are read as these arguments.
 pub fn read_words(alloc: Global, words: &[String]) -> Result<Command, WordsFault>
     ensures command { Reads (command_of (map string_bytes words.now)) result }
     ensures limits { IfOk result HasLimits }

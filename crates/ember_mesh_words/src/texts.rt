@@ -13,13 +13,14 @@ pub fn copied(alloc: Global, text: &str) -> Result<Text, AllocError>
     Ok(Text::of(String::from_str(alloc, text)?))
 }
 
-// What stands before and behind the first equals sign.
+// The text before the first equals sign, and the text after it.
 pub fn parts(word: &str) -> Option<(&str, &str)>
     ensures { option_map (λ p. (p.0.now, p.1.now)) result ≡ parts_of word.now }
 {
     word.split_once('=')
 }
 
+// Whether the word begins with a hyphen.
 pub fn begins_with_hyphen(word: &str) -> bool
     ensures { result ≡ is_minus word.now }
 {

@@ -15,7 +15,7 @@ use ember_number::number_below;
 use ember_words::{Text, Texts};
 use std::alloc::Global;
 
-// These names, unless there are none or too many.
+// The same names, if there are 1 to 64 of them.
 pub fn counted(names: Texts) -> Result<Texts, Refusal>
     ensures value { result ≡ files_of names }
     ensures range { IfOk result (λ files. IsInRange 1 64 (length files)) }
@@ -105,7 +105,7 @@ pub fn step(alloc: Global, given: Option<&Text>) -> Result<WantedStep, WordsFaul
     Err(WordsFault::Refused(Refusal::NotAStep))
 }
 
-// From 1 to 64.
+// The number of workers, from 1 to 64.
 pub fn workers(given: Option<&Text>) -> Result<u32, Refusal>
     ensures value { result ≡ workers_of (option_map (λ text. text.now) given.entry) }
     ensures range { IfOk result (λ n. IsInRange 1 64 n) }
@@ -120,7 +120,7 @@ pub fn workers(given: Option<&Text>) -> Result<u32, Refusal>
     }
 }
 
-// At most 17, if it is given.
+// The number of digits, at most 17, if it is given.
 pub fn digits(given: Option<&Text>) -> Result<Option<u32>, Refusal>
     ensures value { result ≡ digits_of (option_map (λ text. text.now) given.entry) }
     ensures range { IfOk result (λ digits. IfSome digits (λ n. n ≤ 17)) }

@@ -19,7 +19,7 @@ use Rattle.ember_model.specs.Clear.{IsClear, IsClearOf}
 use Rattle.ember_model.specs.ClearTest.{entry_point, enters, is_ray_clear, is_clear, is_clear_of, none_positive, all_negative}
 use Rattle.ember_model.proofs.SignTests.{negative_in, negative_out, positive_in, positive_out, not_positive_in, zero_out, nonzero_out, zero_scaled, zero_times, size_positive, clash, not_true, and_parts, any_from, any_out}
 use Rattle.ember_model.proofs.PlaneValues.{value_scaled, value_hit, size-is}
-use Rattle.ember_model.proofs.Hits.{Scales, scales, same_all_negative, same_none_positive, closed_scaled, value_ray, ray_weight, closed_on, inside_on, hit_inside, hit_closed, closed_parts, inside_parts}
+use Rattle.ember_model.proofs.Hits.{Scales, scaled_point_scales, same_all_negative, same_none_positive, closed_scaled, value_ray, ray_weight, closed_on, inside_on, hit_inside, hit_closed, closed_parts, inside_parts}
 use Rattle.ember_model.proofs.LastZero.{none_positive_member, all_negative_member, After, last_zero}
 
 -- ---- a ray in the plane
@@ -79,6 +79,7 @@ hit_is_one_point n a p m s z g =
     let g' = ap (λ (v : ℤ). m *ℤ v) f in
     e ∙ omega (arith, linear, g', o, q)
 
+-- a factor of 0 beside one other than 0 is 0
 pub nonzero_product : (v na : ℤ) → na ≢ pos 0 → v *ℤ na ≡ pos 0 → v ≡ pos 0
 nonzero_product v na n e = ⊎_elim (λ x. x) (λ x. absurd (n x)) (zero_product e)
 
@@ -88,7 +89,7 @@ ahead m v s na lm ls z p =
     let x = pos_mul lm p in let y = nonneg_mul ls (square_nonneg na) in let w = ap (λ (x : ℤ). x *ℤ na) z ∙ zero-*ℤ na in
     omega (arith, linear, x, y, w, solve 4 (λ m v s na. (m ⊗ v ⊕ s ⊗ na) ⊗ na ≈ m ⊗ (v ⊗ na) ⊕ s ⊗ (na ⊗ na)) cancels m v s na)
 
-pub ray_from : (f : Face) (a : Axis) (p : Spot) → pos 0 <ℤ p.w → is_in_closed f p ≡ false → is_ray_clear f a p ≡ true → (m s : ℤ) → pos 0 <ℤ m → pos 0 ≤ℤ s → is_in_closed f (moved (scaled m p) a s) ≡ true → is_inside f (moved (scaled m p) a s) ≡ true
+ray_from : (f : Face) (a : Axis) (p : Spot) → pos 0 <ℤ p.w → is_in_closed f p ≡ false → is_ray_clear f a p ≡ true → (m s : ℤ) → pos 0 <ℤ m → pos 0 ≤ℤ s → is_in_closed f (moved (scaled m p) a s) ≡ true → is_inside f (moved (scaled m p) a s) ≡ true
 ray_from f a p w out t m s lm ls c = by (is_zero (along f.support a)) refl t
   where
     parts : (value_at f.support (moved (scaled m p) a s) ≡ pos 0) × (none_positive f.edges (moved (scaled m p) a s) ≡ true)
@@ -112,12 +113,12 @@ ray_from f a p w out t m s lm ls c = by (is_zero (along f.support a)) refl t
     same_most : along f.support a ≢ pos 0 → none_positive f.edges (hit f.support a p) ≡ none_positive f.edges (moved (scaled m p) a s)
     same_most nz =
         let n = f.support in let es = f.edges in let k = size (along n a) in let r = moved (scaled m p) a s in
-        sym (same_none_positive m (hit n a p) (scaled k r) es lm (hit_is_one_point n a p m s z)) ∙ same_none_positive k r (scaled k r) es (size_positive (along n a) nz) (scales k r)
+        sym (same_none_positive m (hit n a p) (scaled k r) es lm (hit_is_one_point n a p m s z)) ∙ same_none_positive k r (scaled k r) es (size_positive (along n a) nz) (scaled_point_scales k r)
 
     same_low : along f.support a ≢ pos 0 → all_negative f.edges (moved (scaled m p) a s) ≡ all_negative f.edges (hit f.support a p)
     same_low nz =
         let n = f.support in let es = f.edges in let k = size (along n a) in let r = moved (scaled m p) a s in
-        sym (same_all_negative k r (scaled k r) es (size_positive (along n a) nz) (scales k r)) ∙ same_all_negative m (hit n a p) (scaled k r) es lm (hit_is_one_point n a p m s z)
+        sym (same_all_negative k r (scaled k r) es (size_positive (along n a) nz) (scaled_point_scales k r)) ∙ same_all_negative m (hit n a p) (scaled k r) es lm (hit_is_one_point n a p m s z)
 
     at_p : along f.support a ≢ pos 0 → value_at f.support p *ℤ along f.support a ≡ pos 0 → ⊥
     at_p nz q =
@@ -150,7 +151,7 @@ hit_ahead v na l =
     (λ z. absurd (let r = zero_scaled v na z in omega (arith, linear, l, r)))
     (λ p. by_sign v (λ q. rw (sign_neg p) (let e = solve 1 (λ v. num (negsuc 0) ⊗ v ≈ neg v) cancels v in omega (arith, linear, e, q))) (λ z. rw (sign_neg p) (let e = solve 1 (λ v. num (negsuc 0) ⊗ v ≈ neg v) cancels v in omega (arith, linear, e, z))) (λ q. absurd (let r = mul_neg_neg q p in omega (arith, linear, l, r))))
 
-pub ray_to : (f : Face) (a : Axis) (p : Spot) → pos 0 <ℤ p.w → IsClear f p → is_ray_clear f a p ≡ true
+ray_to : (f : Face) (a : Axis) (p : Spot) → pos 0 <ℤ p.w → IsClear f p → is_ray_clear f a p ≡ true
 ray_to f a p w c = by (is_zero (along f.support a)) (is_zero (value_at f.support p)) refl refl
   where
     none : along f.support a ≡ pos 0 → value_at f.support p ≡ pos 0 → (b : Bool) → enters f.edges a p ≡ b → not b ≡ true
@@ -171,6 +172,7 @@ ray_to f a p w c = by (is_zero (along f.support a)) (is_zero (value_at f.support
         across (nonzero_out (along f.support a) e) (is_negative (value_at f.support p *ℤ along f.support a) && none_positive f.edges (hit f.support a p)) refl
 
 -- ---- the test
+-- a point that passes the test is clear of the face
 pub clear_from : (f : Face) (p : Spot) → pos 0 <ℤ p.w → is_clear f p ≡ true → IsClear f p
 clear_from f p w t =
     let x = and_parts (not (is_in_closed f p)) (is_ray_clear f X p && (is_ray_clear f Y p && is_ray_clear f Z p)) t in
@@ -184,14 +186,17 @@ clear_from f p w t =
     each x y z Y = y
     each x y z Z = z
 
+-- the test answers true of a point that is clear of a face
 pub clear_to : (f : Face) (p : Spot) → pos 0 <ℤ p.w → IsClear f p → is_clear f p ≡ true
 clear_to f p w c =
     let o = ap not c.outside in let x = ray_to f X p w c in let y = ray_to f Y p w c in let z = ray_to f Z p w c in λ i. o i && (x i && (y i && z i))
 
 -- ---- triangles
+-- a point that passes the test is clear of the triangle
 pub clear_of_from : (t : Tri) (p : Spot) → pos 0 <ℤ p.w → is_clear_of t p ≡ true → IsClearOf t p
 clear_of_from t p w e q = clear_from (face_of t) p w (sym (ap (λ (b : Bool). b || is_clear (face_of t) p) q) ∙ e)
 
+-- the test answers true of a point that is clear of a triangle
 pub clear_of_to : (t : Tri) (p : Spot) → pos 0 <ℤ p.w → IsClearOf t p → is_clear_of t p ≡ true
 clear_of_to t p w c = by (is_flat t) refl
   where

@@ -25,11 +25,13 @@ use Rattle.ember_model.proofs.SeenCrossings.{edge_sign, first_edge, second_edge,
 flip_times : (n x : Sign) → times n (flip x) ≡ flip (times n x)
 flip_times n x = same_sgn_out _ _ (signs 2 (λ n x. same_sgn (times n (flip x)) (flip (times n x))) tt n x)
 
+-- the sign of an edge plane at a point, by the edge's corners seen from it
 pub at_point : (u v : Corner) (a : Axis) (s : ℤ) (p : Spot) → pos 0 <ℤ p.w → sgn (value_at (times_plane (sign s) (edge_through u v (unit a))) p) ≡ flip (times (sgn s) (sgn (dot (unit a) (cross (seen p u) (seen p v)))))
 at_point u v a s p w =
     let x = value_at (edge_through u v (unit a)) p in let d = dot (unit a) (cross (seen p u) (seen p v)) in
     ap sgn (value_times (sign s) (edge_through u v (unit a)) p) ∙ sgn-mul (sign s) x ∙ ap2 times (sgn-sign s) (sym (sgn_scaled x w) ∙ ap sgn (edge_value u v (unit a) p) ∙ sgn-neg d) ∙ flip_times (sgn s) (sgn d)
 
+-- a ray's hit is inside a triangle's edges exactly if the ray's start is inside its edge planes along the axis
 pub hit_edges : (t : Tri) (a : Axis) (p : Spot) → pos 0 <ℤ p.w → along (support_of t) a ≢ pos 0 → all_negative (edges_of t) (hit (support_of t) a p) ≡ all_negative (edge_planes t a) p
 hit_edges t a p w na =
     let n = support_of t in let k = main_axis n in let f = unit a in let nk : along n k ≢ pos 0 = λ z. na (main_zero n a z) in
@@ -39,10 +41,12 @@ hit_edges t a p w na =
     λ i. is_neg (x i) && (is_neg (y i) && (is_neg (z i) && true))
 
 -- ---- rays
+-- the crossing of a ray with a triangle's face, by four signs at its start
 abbrev pub crossing_by_signs : Axis → Spot → Tri → ℤ
 crossing_by_signs a p t =
     cond (is_negative (value_at (support_of t) p *ℤ along (support_of t) a) && all_negative (edge_planes t a) p) (sign (along (support_of t) a)) (pos 0)
 
+-- the crossing of a ray with a triangle's face, by the signs of four values
 pub crossing_is : (a : Axis) (p : Spot) (t : Tri) → pos 0 <ℤ p.w → crossing (face_of t) a p ≡ crossing_by_signs a p t
 unfolding face_of
 crossing_is a p t w =
@@ -84,24 +88,27 @@ turned_plane : (k : ℤ) (g : Plane) (p : Spot) → k <ℤ pos 0 → is_negative
 turned_plane k g p l =
     ap is_neg (ap sgn (value_times (sign k) g p ∙ ap (λ (s : ℤ). s *ℤ value_at g p) (sign_neg l)) ∙ sgn-mul (negsuc 0) (value_at g p)) ∙ minus_flip (sgn (value_at g p))
 
-pub rising : (a : Axis) (p : Spot) (t : Tri) → pos 0 <ℤ along (support_of t) a → crossing_by_signs a p t ≡ cond (low a p t) (pos 1) (pos 0)
-rising a p t l =
+-- a triangle whose plane rises along the axis is crossed upward or not at all
+pub rising_plane_crosses_up : (a : Axis) (p : Spot) (t : Tri) → pos 0 <ℤ along (support_of t) a → crossing_by_signs a p t ≡ cond (low a p t) (pos 1) (pos 0)
+rising_plane_crosses_up a p t l =
     let k = along (support_of t) a in let s = value_at (support_of t) p in
     let x = ap is_neg (ap sgn (*ℤ_comm s k) ∙ sgn_scaled s l) in
     let e = kept_plane k (edge_through t.a t.b (unit a)) p l in let f = kept_plane k (edge_through t.b t.c (unit a)) p l in
     let g = and_true (is_negative (value_at (times_plane (sign k) (edge_through t.c t.a (unit a))) p)) ∙ kept_plane k (edge_through t.c t.a (unit a)) p l in
     let v = sign_pos l in λ i. cond (x i && (e i && (f i && g i))) (v i) (pos 0)
 
-pub falling : (a : Axis) (p : Spot) (t : Tri) → along (support_of t) a <ℤ pos 0 → crossing_by_signs a p t ≡ cond (high a p t) (negsuc 0) (pos 0)
-falling a p t l =
+-- a triangle whose plane falls along the axis is crossed downward or not at all
+pub falling_plane_crosses_down : (a : Axis) (p : Spot) (t : Tri) → along (support_of t) a <ℤ pos 0 → crossing_by_signs a p t ≡ cond (high a p t) (negsuc 0) (pos 0)
+falling_plane_crosses_down a p t l =
     let k = along (support_of t) a in let s = value_at (support_of t) p in
     let x = ap is_neg (sgn-mul s k ∙ ap (λ (q : Sign). times (sgn s) q) (sgn_neg l)) ∙ minus_times (sgn s) in
     let e = turned_plane k (edge_through t.a t.b (unit a)) p l in let f = turned_plane k (edge_through t.b t.c (unit a)) p l in
     let g = and_true (is_negative (value_at (times_plane (sign k) (edge_through t.c t.a (unit a))) p)) ∙ turned_plane k (edge_through t.c t.a (unit a)) p l in
     let v = sign_neg l in λ i. cond (x i && (e i && (f i && g i))) (v i) (pos 0)
 
-pub level : (a : Axis) (p : Spot) (t : Tri) → along (support_of t) a ≡ pos 0 → crossing_by_signs a p t ≡ pos 0
-level a p t z =
+-- a ray parallel to the triangle's plane has no crossing
+pub level_plane_is_not_crossed : (a : Axis) (p : Spot) (t : Tri) → along (support_of t) a ≡ pos 0 → crossing_by_signs a p t ≡ pos 0
+level_plane_is_not_crossed a p t z =
     let k = along (support_of t) a in let s = value_at (support_of t) p in
     let x = ap is_negative (zero_scaled s k z) in
     λ i. cond (x i && all_negative (edge_planes t a) p) (sign k) (pos 0)

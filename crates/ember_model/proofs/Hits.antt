@@ -21,25 +21,28 @@ use Rattle.ember_model.proofs.PlaneValues.{value_scaled, value_moved, hit_flat}
 abbrev pub Scales : ℤ → Spot → Spot → Type 0
 Scales c x y = (g : Plane) → value_at g y ≡ c *ℤ value_at g x
 
-pub scales : (k : ℤ) (p : Spot) → Scales k p (scaled k p)
-scales k p g = value_scaled k g p
+-- a scaled point is the point, scaled
+pub scaled_point_scales : (k : ℤ) (p : Spot) → Scales k p (scaled k p)
+scaled_point_scales k p g = value_scaled k g p
 
 -- the weight is the value of a plane too
 abbrev weight_plane : Plane
 weight_plane = record { a = pos 0; b = pos 0; c = pos 0; d = negsuc 0 }
 
-pub weight_is : (x : Spot) → value_at weight_plane x ≡ x.w
+weight_is : (x : Spot) → value_at weight_plane x ≡ x.w
 weight_is x =
     solve 4 (λ x y z w. num (pos 0) ⊗ x ⊕ num (pos 0) ⊗ y ⊕ num (pos 0) ⊗ z ⊖ num (negsuc 0) ⊗ w ≈ w) cancels x.x x.y x.z x.w
 
-pub weight_scales : (c : ℤ) (x y : Spot) → Scales c x y → y.w ≡ c *ℤ x.w
+weight_scales : (c : ℤ) (x y : Spot) → Scales c x y → y.w ≡ c *ℤ x.w
 weight_scales c x y h = sym (weight_is y) ∙ h weight_plane ∙ ap (λ (w : ℤ). c *ℤ w) (weight_is x)
 
+-- the test of edges answers the same of a point whose four numbers are multiplied by a positive one
 pub same_all_negative : (c : ℤ) (x y : Spot) (es : List Plane) → pos 0 <ℤ c → Scales c x y → all_negative es y ≡ all_negative es x
 same_all_negative c x y [] p h = refl
 same_all_negative c x y (e ∷ es) p h =
     let q = ap is_neg (ap sgn (h e) ∙ sgn_scaled (value_at e x) p) in let r = same_all_negative c x y es p h in λ i. q i && r i
 
+-- the test of closed edges answers the same of a point whose four numbers are multiplied by a positive one
 pub same_none_positive : (c : ℤ) (x y : Spot) (es : List Plane) → pos 0 <ℤ c → Scales c x y → none_positive es y ≡ none_positive es x
 same_none_positive c x y [] p h = refl
 same_none_positive c x y (e ∷ es) p h =
@@ -48,26 +51,31 @@ same_none_positive c x y (e ∷ es) p h =
 same_weight : (c : ℤ) (x y : Spot) → pos 0 <ℤ c → Scales c x y → is_positive y.w ≡ is_positive x.w
 same_weight c x y p h = ap is_pos (ap sgn (weight_scales c x y h) ∙ sgn_scaled x.w p)
 
+-- the test of closed faces answers the same of a point whose four numbers are multiplied by a positive one
 pub closed_scaled : (c : ℤ) (x y : Spot) (f : Face) → pos 0 <ℤ c → Scales c x y → is_in_closed f y ≡ is_in_closed f x
 closed_scaled c x y f p h =
     let w = same_weight c x y p h in let q = ap is_nil (ap sgn (h f.support) ∙ sgn_scaled (value_at f.support x) p) in
     let r = same_none_positive c x y f.edges p h in λ i. w i && (q i && r i)
 
+-- so does the test of inside points
 pub inside_scaled : (c : ℤ) (x y : Spot) (f : Face) → pos 0 <ℤ c → Scales c x y → is_inside f y ≡ is_inside f x
 inside_scaled c x y f p h =
     let w = same_weight c x y p h in let q = ap is_nil (ap sgn (h f.support) ∙ sgn_scaled (value_at f.support x) p) in
     let r = same_all_negative c x y f.edges p h in λ i. w i && (q i && r i)
 
 -- ---- points of a ray
+-- a point that is moved along an axis keeps its weight
 pub moved_weight : (s : Spot) (a : Axis) (by : ℤ) → (moved s a by).w ≡ s.w
 moved_weight s X by = refl
 moved_weight s Y by = refl
 moved_weight s Z by = refl
 
+-- a plane's value at a point of a ray is linear in the way along the ray
 pub value_ray : (g : Plane) (a : Axis) (p : Spot) (m s : ℤ) → value_at g (moved (scaled m p) a s) ≡ m *ℤ value_at g p +ℤ s *ℤ along g a
 value_ray g a p m s =
     value_moved g (scaled m p) a s ∙ ap (λ (v : ℤ). v +ℤ s *ℤ along g a) (value_scaled m g p)
 
+-- the weight of a point of a ray is positive
 pub ray_weight : (a : Axis) (p : Spot) (m s : ℤ) → pos 0 <ℤ m → pos 0 <ℤ p.w → is_positive (moved (scaled m p) a s).w ≡ true
 ray_weight a p m s lm lp = ap is_positive (moved_weight (scaled m p) a s) ∙ positive_in (pos_mul lm lp)
 
@@ -75,15 +83,18 @@ ray_weight a p m s lm lp = ap is_positive (moved_weight (scaled m p) a s) ∙ po
 pub inside_on : (f : Face) (x : Spot) → is_positive x.w ≡ true → value_at f.support x ≡ pos 0 → is_inside f x ≡ all_negative f.edges x
 inside_on f x w z = λ i. w i && (is_zero (z i) && all_negative f.edges x)
 
+-- on the support plane, closed edges alone decide whether a point is in the closed face
 pub closed_on : (f : Face) (x : Spot) → is_positive x.w ≡ true → value_at f.support x ≡ pos 0 → is_in_closed f x ≡ none_positive f.edges x
 closed_on f x w z = λ i. w i && (is_zero (z i) && none_positive f.edges x)
 
+-- the three facts of a point of a closed face: positive weight, on the plane, above no edge
 pub closed_parts : (f : Face) (x : Spot) → is_in_closed f x ≡ true → (pos 0 <ℤ x.w) × (value_at f.support x ≡ pos 0) × (none_positive f.edges x ≡ true)
 closed_parts f x c =
     let a = and_parts (is_positive x.w) (is_zero (value_at f.support x) && none_positive f.edges x) c in
     let b = and_parts (is_zero (value_at f.support x)) (none_positive f.edges x) a.1 in
     (positive_out x.w a.0, zero_out (value_at f.support x) b.0, b.1)
 
+-- the three facts of an inside point: positive weight, on the plane, below all edges
 pub inside_parts : (f : Face) (x : Spot) → is_inside f x ≡ true → (pos 0 <ℤ x.w) × (value_at f.support x ≡ pos 0) × (all_negative f.edges x ≡ true)
 inside_parts f x c =
     let a = and_parts (is_positive x.w) (is_zero (value_at f.support x) && all_negative f.edges x) c in
@@ -95,20 +106,25 @@ hit_weight : (n : Plane) (a : Axis) (p : Spot) → along n a ≢ pos 0 → pos 0
 hit_weight n a p nz w =
     ray_weight a p (size (along n a)) (neg_ℤ (sign (along n a) *ℤ value_at n p)) (size_positive (along n a) nz) w
 
+-- a ray's hit is inside a face exactly if it is below its edges
 pub hit_inside : (f : Face) (a : Axis) (p : Spot) → along f.support a ≢ pos 0 → pos 0 <ℤ p.w → is_inside f (hit f.support a p) ≡ all_negative f.edges (hit f.support a p)
 hit_inside f a p nz w = inside_on f (hit f.support a p) (hit_weight f.support a p nz w) (hit_flat f.support a p)
 
+-- a ray's hit is in a closed face exactly if it is above none of its edges
 pub hit_closed : (f : Face) (a : Axis) (p : Spot) → along f.support a ≢ pos 0 → pos 0 <ℤ p.w → is_in_closed f (hit f.support a p) ≡ none_positive f.edges (hit f.support a p)
 hit_closed f a p nz w = closed_on f (hit f.support a p) (hit_weight f.support a p nz w) (hit_flat f.support a p)
 
 -- ---- the crossing's parts
+-- a factor of a negative product isn't 0
 pub slope_nonzero : (s k : ℤ) → is_negative (s *ℤ k) ≡ true → k ≢ pos 0
 slope_nonzero s k e z = clash e (ap is_negative (zero_scaled s k z))
 
+-- a ray that leads away from a face's plane doesn't cross the face
 pub crossing_off : (f : Face) (a : Axis) (p : Spot) → is_negative (value_at f.support p *ℤ along f.support a) ≡ false → crossing f a p ≡ pos 0
 unfolding crossing
 crossing_off f a p e = ap (λ (b : Bool). cond (b && is_inside f (hit f.support a p)) (sign (along f.support a)) (pos 0)) e
 
+-- a ray that leads to a face's plane crosses the face exactly if its hit is inside the edges
 pub crossing_on : (f : Face) (a : Axis) (p : Spot) (b : Bool) → pos 0 <ℤ p.w → is_negative (value_at f.support p *ℤ along f.support a) ≡ true → all_negative f.edges (hit f.support a p) ≡ b → crossing f a p ≡ cond b (sign (along f.support a)) (pos 0)
 unfolding crossing
 crossing_on f a p b w e g =

@@ -12,6 +12,7 @@ use Rattle.ember_model.specs.ClearTest.{none_positive, all_negative}
 use Rattle.ember_model.proofs.SignTests.{and_parts, negative_out, positive_from_not, not_positive_out, In}
 
 -- ---- members
+-- if no plane of a list is positive at a point, none of its members is
 pub none_positive_member : (x : Spot) (es : List Plane) (h : Plane) → none_positive es x ≡ true → In h es → value_at h x ≤ℤ pos 0
 none_positive_member x [] h e m = absurd m
 none_positive_member x (g ∷ gs) h e (inl p) =
@@ -19,6 +20,7 @@ none_positive_member x (g ∷ gs) h e (inl p) =
 none_positive_member x (g ∷ gs) h e (inr m) =
     none_positive_member x gs h (and_parts (not (is_positive (value_at g x))) (none_positive gs x) e).1 m
 
+-- if all planes of a list are negative at a point, each of its members is
 pub all_negative_member : (x : Spot) (es : List Plane) (h : Plane) → all_negative es x ≡ true → In h es → value_at h x <ℤ pos 0
 all_negative_member x [] h e m = absurd m
 all_negative_member x (g ∷ gs) h e (inl p) =
@@ -69,6 +71,7 @@ all_later x y h e (g ∷ gs) uh ue d b l f =
     let q = and_parts (not (is_positive (value_at g y))) (none_positive gs y) b in let v = not_positive_out (value_at g y) q.0 in
     (later (value_at g x) (neg_ℤ (value_at g y)) (value_at h x) (neg_ℤ (value_at h y)) (value_at e x) (neg_ℤ (value_at e y)) uh ue (omega (arith, linear)) (omega (arith, linear)) l f.0, all_later x y h e gs uh ue d q.1 l f.1)
 
+-- if only the second of two points is in the closed edges, some edge is the last that the way between them meets
 pub last_zero : (x y : Spot) (es : List Plane) → none_positive es x ≡ false → none_positive es y ≡ true → Last x y es
 last_zero x y [] a b = cc
 last_zero x y (e ∷ es) a b = by (none_positive es x) refl (last_zero x y es)

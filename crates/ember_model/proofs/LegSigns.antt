@@ -23,11 +23,13 @@ use Rattle.ember_model.proofs.ScaledPoints.{leg_scaled}
 use Rattle.ember_model.proofs.FourSigns.{hit_edges}
 
 -- ---- points of one line along an axis, with one weight
+-- a point moved by 0 is the same
 pub moved_zero : (p : Spot) (a : Axis) → moved p a (pos 0) ≡ p
 moved_zero p X = let e : p.x +ℤ pos 0 ≡ p.x = omega (arith, linear) in λ i. record p { x = e i }
 moved_zero p Y = let e : p.y +ℤ pos 0 ≡ p.y = omega (arith, linear) in λ i. record p { y = e i }
 moved_zero p Z = let e : p.z +ℤ pos 0 ≡ p.z = omega (arith, linear) in λ i. record p { z = e i }
 
+-- a point moved there and back is the same
 pub moved_back : (p : Spot) (a : Axis) (c : ℤ) → p ≡ moved (moved p a c) a (neg_ℤ c)
 moved_back p X c = let e : p.x ≡ p.x +ℤ c +ℤ neg_ℤ c = omega (arith, linear) in λ i. record p { x = e i }
 moved_back p Y c = let e : p.y ≡ p.y +ℤ c +ℤ neg_ℤ c = omega (arith, linear) in λ i. record p { y = e i }
@@ -39,6 +41,7 @@ gap_along X p q = q.x -ℤ p.x
 gap_along Y p q = q.y -ℤ p.y
 gap_along Z p q = q.z -ℤ p.z
 
+-- two points that differ along an axis: the one, scaled, is the other, scaled and moved along it
 pub is_moved : (a : Axis) (p q : Spot) → DifferAlong a p q → scaled p.w q ≡ moved (scaled q.w p) a (gap_along a (scaled q.w p) (scaled p.w q))
 is_moved X p q d =
     let x : p.w *ℤ q.x ≡ q.w *ℤ p.x +ℤ (p.w *ℤ q.x -ℤ q.w *ℤ p.x) = omega (arith, linear) in let w = *ℤ_comm p.w q.w in λ i. record { x = x i; y = (sym d.0) i; z = (sym d.1) i; w = w i }
@@ -48,6 +51,7 @@ is_moved Z p q d =
     let z : p.w *ℤ q.z ≡ q.w *ℤ p.z +ℤ (p.w *ℤ q.z -ℤ q.w *ℤ p.z) = omega (arith, linear) in let w = *ℤ_comm p.w q.w in λ i. record { x = (sym d.0) i; y = (sym d.1) i; z = z i; w = w i }
 
 -- ---- the point of the segment is the place of the hit
+-- the crossing of a segment along an axis with a triangle's face, by four signs at its ends
 abbrev pub leg_by_signs : Axis → Spot → Spot → Tri → ℤ
 leg_by_signs a p q t =
     cond (is_negative (value_at (support_of t) p *ℤ value_at (support_of t) q) && all_negative (edge_planes t a) p) (sign (value_at (support_of t) q)) (pos 0)
@@ -107,6 +111,7 @@ by_signs_scaled a k m p q t lk lm =
     let z = ap sign (value_scaled m n q) ∙ sign_scaled (value_at n q) lm in
     λ i. cond (x i && y i) (z i) (pos 0)
 
+-- the crossing of a segment along an axis with a triangle's face, by signs
 pub leg_is : (a : Axis) (p q : Spot) (t : Tri) → pos 0 <ℤ p.w → pos 0 <ℤ q.w → DifferAlong a p q → leg (face_of t) p q ≡ leg_by_signs a p q t
 leg_is a p q t lp lq d =
     sym (leg_scaled (face_of t) q.w p.w p q lq lp) ∙ leg_one a (scaled q.w p) (scaled p.w q) (gap_along a (scaled q.w p) (scaled p.w q)) t (pos_mul lq lp) (pos_mul lp lq) (is_moved a p q d) ∙ by_signs_scaled a q.w p.w p q t lq lp
@@ -134,6 +139,7 @@ exchanged true false v = refl
 exchanged false true v = refl
 exchanged false false v = refl
 
+-- the crossing of a segment along an axis, by the triangle's edge planes along that axis
 pub leg_behind : (a : Axis) (p q : Spot) (t : Tri) → pos 0 <ℤ p.w → pos 0 <ℤ q.w → DifferAlong a p q → leg (face_of t) p q ≡ cond (behind a p t) (cond (is_negative (value_at (support_of t) p *ℤ value_at (support_of t) q)) (sign (value_at (support_of t) q)) (pos 0)) (pos 0)
 leg_behind a p q t wp wq d =
     let n = support_of t in let m = is_negative (value_at n p *ℤ value_at n q) in let v = sign (value_at n q) in

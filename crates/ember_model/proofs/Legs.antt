@@ -18,24 +18,28 @@ use Rattle.ember_model.specs.ClearTest.{none_positive, all_negative}
 use Rattle.ember_model.proofs.SignTests.{negative_in, negative_not, negative_out, positive_in, positive_nonzero, negative_nonzero, zero_scaled, zero_times, size_positive, clash}
 use Rattle.ember_model.proofs.PlaneValues.{value_scaled, value_moved, value_plus, value_hit, size-is}
 use Rattle.ember_model.proofs.Hits.{Scales, same_all_negative, inside_on, closed_on, crossing_off, crossing_on, moved_weight}
-use Rattle.ember_model.proofs.NearClearPoints.{StaysUp, lifted, not_below}
+use Rattle.ember_model.proofs.NearClearPoints.{StaysUp, hit_stays_above, not_below}
 
 -- ---- the hits from two points of one line
+-- the hit of a line doesn't depend on which of its points it is seen from
 pub hit_moved : (g n : Plane) (a : Axis) (p : Spot) (c : ℤ) → value_at g (hit n a (moved p a c)) ≡ value_at g (hit n a p)
 hit_moved g n a p c =
     rw (value_hit g n a (moved p a c), value_hit g n a p, value_moved g p a c, value_moved n p a c, size-is (along n a))
     (solve 6 (λ s na vg vn c ga. s ⊗ na ⊗ (vg ⊕ c ⊗ ga) ⊖ s ⊗ (vn ⊕ c ⊗ na) ⊗ ga ≈ s ⊗ na ⊗ vg ⊖ s ⊗ vn ⊗ ga) cancels (sign (along n a)) (along n a) (value_at g p) (value_at n p) c (along g a))
 
 -- ---- the point between p and q, where the plane has different signs at p and q
+-- the value of a plane at the point where a segment meets the support plane
 pub value_between : (g n : Plane) (p q : Spot) → value_at g (between n p q) ≡ size (value_at n q) *ℤ value_at g p +ℤ size (value_at n p) *ℤ value_at g q
 value_between g n p q =
     let k = size (value_at n q) in let m = size (value_at n p) in
     value_plus g (scaled k p) (scaled m q) ∙ (let x = value_scaled k g p in let y = value_scaled m g q in λ i. x i +ℤ y i)
 
+-- a positive number is its own size
 pub size_is_pos : (z : ℤ) → pos 0 <ℤ z → size z ≡ z
 size_is_pos (pos n) p = refl
 size_is_pos (negsuc n) p = absurd (omega (arith, ints))
 
+-- the size of a negative number is its opposite
 pub size_is_neg : (z : ℤ) → z <ℤ pos 0 → size z ≡ neg_ℤ z
 size_is_neg (pos n) p = absurd (omega (arith, ints))
 size_is_neg (negsuc n) p = refl
@@ -48,24 +52,29 @@ opposite s t l =
     (λ z. absurd (let r = ap (λ (x : ℤ). x *ℤ t) z in omega (arith, linear, l, r, zero-*ℤ t)))
     (λ p. by_sign t (λ q. let x = size_is_neg s p in let y = size_is_pos t q in (λ i. y i *ℤ s +ℤ x i *ℤ t) ∙ solve 2 (λ s t. t ⊗ s ⊕ neg s ⊗ t ≈ num (pos 0)) cancels s t) (λ z. absurd (let r = zero_scaled s t z in omega (arith, linear, l, r))) (λ q. absurd (let r = mul_neg_neg p q in omega (arith, linear, l, r))))
 
+-- neither factor of a negative product is 0
 pub ends_nonzero : (s t : ℤ) → is_negative (s *ℤ t) ≡ true → (s ≢ pos 0) × (t ≢ pos 0)
 ends_nonzero s t e = (λ z. clash e (ap is_negative (zero_times s t z)), λ z. clash e (ap is_negative (zero_scaled s t z)))
 
+-- if a plane has opposite signs at two points, the point between them has a positive weight
 pub between_weight : (n : Plane) (p q : Spot) → pos 0 <ℤ p.w → pos 0 <ℤ q.w → is_negative (value_at n p *ℤ value_at n q) ≡ true → is_positive (between n p q).w ≡ true
 between_weight n p q wp wq e =
     let z = ends_nonzero (value_at n p) (value_at n q) e in
     let a = pos_mul (size_positive (value_at n q) z.1) wp in let b = pos_mul (size_positive (value_at n p) z.0) wq in
     positive_in (let c : pos 0 <ℤ (size (value_at n q) *ℤ p.w +ℤ size (value_at n p) *ℤ q.w) = omega (arith, linear, a, b) in c)
 
+-- where a segment passes a face's plane is inside the face exactly if it is below the edges
 pub between_inside : (f : Face) (p q : Spot) → pos 0 <ℤ p.w → pos 0 <ℤ q.w → is_negative (value_at f.support p *ℤ value_at f.support q) ≡ true → is_inside f (between f.support p q) ≡ all_negative f.edges (between f.support p q)
 between_inside f p q wp wq h =
     let n = f.support in
     inside_on f (between n p q) (between_weight n p q wp wq h) (value_between n n p q ∙ opposite (value_at n p) (value_at n q) (negative_out (value_at n p *ℤ value_at n q) h))
 
+-- a segment with both ends on one side of a face's plane doesn't cross the face
 pub leg_off : (f : Face) (p q : Spot) → is_negative (value_at f.support p *ℤ value_at f.support q) ≡ false → leg f p q ≡ pos 0
 unfolding leg
 leg_off f p q e = ap (λ (b : Bool). cond (b && is_inside f (between f.support p q)) (sign (value_at f.support q)) (pos 0)) e
 
+-- a segment whose ends are parted by a face's plane crosses the face exactly if it meets the plane inside the edges
 pub leg_on : (f : Face) (p q : Spot) (b : Bool) (v : ℤ) → pos 0 <ℤ p.w → pos 0 <ℤ q.w → is_negative (value_at f.support p *ℤ value_at f.support q) ≡ true → all_negative f.edges (between f.support p q) ≡ b → sign (value_at f.support q) ≡ v → leg f p q ≡ cond b v (pos 0)
 unfolding leg
 leg_on f p q b v wp wq e g s = let h = between_inside f p q wp wq e ∙ g in λ i. cond (e i && h i) (s i) (pos 0)
@@ -121,8 +130,10 @@ between_scales n a p c sg sz g =
 touch_up : (n : Plane) (es : List Plane) (a : Axis) (p : Spot) (c : ℤ) → along n a ≢ pos 0 → value_at n (moved p a c) ≡ pos 0 → StaysUp (moved p a c) (hit n a p) es
 touch_up n [] a p c nz z = tt
 touch_up n (e ∷ es) a p c nz z =
-    (λ u. let h = lifted e n a (moved p a c) nz z u in let m = hit_moved e n a p c in omega (arith, linear, h, m), touch_up n es a p c nz z)
+    (λ u. let h = hit_stays_above e n a (moved p a c) nz z u in let m = hit_moved e n a p c in omega (arith, linear, h, m), touch_up n es a p c nz z)
 
+-- the crossing of the ray from p less that of the ray from a later point q, clear of the face, is that of the segment
+-- from p to q
 pub face_leg : (f : Face) (a : Axis) (p : Spot) (c : ℤ) → pos 0 <ℤ p.w → pos 0 <ℤ c → IsClear f (moved p a c) → crossing f a p -ℤ crossing f a (moved p a c) ≡ leg f p (moved p a c)
 face_leg f a p c wp pc clear =
     by (leg_cases (value_at f.support p) (along f.support a) (value_at f.support (moved p a c)) c pc (value_moved f.support p a c))

@@ -32,6 +32,7 @@ abbrev pub StaysUp : Spot → Spot → List Plane → Type 0
 StaysUp x y [] = Unit {0}
 StaysUp x y (e ∷ es) = (pos 0 <ℤ value_at e x → pos 0 <ℤ value_at e y) × StaysUp x y es
 
+-- a point that follows one above an edge isn't inside the edges
 pub not_below : (x y : Spot) (es : List Plane) → StaysUp x y es → none_positive es x ≡ false → all_negative es y ≡ false
 not_below x y [] f h = cc
 not_below x y (e ∷ es) f h = by (not (is_positive (value_at e x))) refl h (not_below x y es f.1)
@@ -40,29 +41,31 @@ not_below x y (e ∷ es) f h = by (not (is_positive (value_at e x))) refl h (not
     by true q h r = and_false (is_negative (value_at e y)) (all_negative es y) (r h)
     by false q h r = let u = f.0 (positive_from_not (value_at e x) q) in ap (λ (b : Bool). b && all_negative es y) (negative_not (value_at e y) (omega (arith, linear)))
 
+-- a point that follows one inside the edges is inside them
 pub all_below : (x y : Spot) (es : List Plane) → FollowsEach x y es → all_negative es x ≡ true → all_negative es y ≡ true
 all_below x y [] f h = refl
 all_below x y (e ∷ es) f h =
     let p = and_parts (is_negative (value_at e x)) (all_negative es x) h in
     rw (negative_in (f.0.down (negative_out (value_at e x) p.0))) (all_below x y es f.1 p.1)
 
-pub ups : (x y : Spot) (es : List Plane) → FollowsEach x y es → StaysUp x y es
-ups x y [] f = tt
-ups x y (e ∷ es) f = (f.0.up, ups x y es f.1)
+-- if y has the strict signs of x for each plane, planes that are above 0 at x are above 0 at y
+pub following_points_stay_above : (x y : Spot) (es : List Plane) → FollowsEach x y es → StaysUp x y es
+following_points_stay_above x y [] f = tt
+following_points_stay_above x y (e ∷ es) f = (f.0.up, following_points_stay_above x y es f.1)
 
-pub self_up : (x : Spot) (es : List Plane) → StaysUp x x es
+self_up : (x : Spot) (es : List Plane) → StaysUp x x es
 self_up x [] = tt
 self_up x (e ∷ es) = (λ p. p, self_up x es)
 
-pub same_below : (x y : Spot) (es : List Plane) → FollowsEach x y es → (none_positive es x ≡ true → all_negative es x ≡ true) → all_negative es x ≡ all_negative es y
+same_below : (x y : Spot) (es : List Plane) → FollowsEach x y es → (none_positive es x ≡ true → all_negative es x ≡ true) → all_negative es x ≡ all_negative es y
 same_below x y es f h = by (none_positive es x) refl
   where
     by : (b : Bool) → none_positive es x ≡ b → all_negative es x ≡ all_negative es y
     by true e = let p = h e in p ∙ sym (all_below x y es f p)
-    by false e = not_below x x es (self_up x es) e ∙ sym (not_below x y es (ups x y es f) e)
+    by false e = not_below x x es (self_up x es) e ∙ sym (not_below x y es (following_points_stay_above x y es f) e)
 
 -- ---- the crossing where the hit is not inside
-pub crossing_out : (f : Face) (a : Axis) (p : Spot) → pos 0 <ℤ p.w → along f.support a ≢ pos 0 → all_negative f.edges (hit f.support a p) ≡ false → crossing f a p ≡ pos 0
+crossing_out : (f : Face) (a : Axis) (p : Spot) → pos 0 <ℤ p.w → along f.support a ≢ pos 0 → all_negative f.edges (hit f.support a p) ≡ false → crossing f a p ≡ pos 0
 crossing_out f a p w nz e =
     crossing_across f a p w nz ∙ ap (λ (b : Bool). cond (is_negative (value_at f.support p *ℤ along f.support a) && b) (sign (along f.support a)) (pos 0)) e ∙ drop (is_negative (value_at f.support p *ℤ along f.support a))
   where
@@ -71,8 +74,9 @@ crossing_out f a p w nz e =
     drop false = refl
 
 -- ---- local constancy
-pub lifted : (e n : Plane) (a : Axis) (p : Spot) → along n a ≢ pos 0 → value_at n p ≡ pos 0 → pos 0 <ℤ value_at e p → pos 0 <ℤ value_at e (hit n a p)
-lifted e n a p nz z u =
+-- if a plane is above 0 at a point of the support plane, it is above 0 at the hit from there
+pub hit_stays_above : (e n : Plane) (a : Axis) (p : Spot) → along n a ≢ pos 0 → value_at n p ≡ pos 0 → pos 0 <ℤ value_at e p → pos 0 <ℤ value_at e (hit n a p)
+hit_stays_above e n a p nz z u =
     let s = size_positive (along n a) nz in
     let w = ap (λ (v : ℤ). sign (along n a) *ℤ v *ℤ along e a) z in
     let v : sign (along n a) *ℤ pos 0 *ℤ along e a ≡ pos 0 = solve 2 (λ s k. s ⊗ num (pos 0) ⊗ k ≈ num (pos 0)) cancels (sign (along n a)) (along e a) in
@@ -80,7 +84,7 @@ lifted e n a p nz z u =
 
 stays_from : (n : Plane) (es : List Plane) (a : Axis) (p q : Spot) → along n a ≢ pos 0 → value_at n p ≡ pos 0 → FollowsEach (hit n a p) (hit n a q) es → StaysUp p (hit n a q) es
 stays_from n [] a p q nz z f = tt
-stays_from n (e ∷ es) a p q nz z f = (λ u. f.0.up (lifted e n a p nz z u), stays_from n es a p q nz z f.1)
+stays_from n (e ∷ es) a p q nz z f = (λ u. f.0.up (hit_stays_above e n a p nz z u), stays_from n es a p q nz z f.1)
 
 data Case (s na s' : ℤ) : Type 0 where
   off : is_negative (s *ℤ na) ≡ false → is_negative (s' *ℤ na) ≡ false → Case s na s'
@@ -109,6 +113,7 @@ cases s na s' up down =
     zero_right : (t : ℤ) → na ≡ pos 0 → pos 0 ≤ℤ (t *ℤ na)
     zero_right t z = let e = ap (λ (x : ℤ). t *ℤ x) z in omega (arith, linear, e, *ℤ-zero t)
 
+-- if q has the strict signs that the clear point p has, a ray from either crosses the face alike
 pub same_crossing : (f : Face) (a : Axis) (p q : Spot) → pos 0 <ℤ p.w → pos 0 <ℤ q.w → IsClear f p → Follows p q f.support → FollowsEach (hit f.support a p) (hit f.support a q) f.edges → crossing f a p ≡ crossing f a q
 same_crossing f a p q wp wq c s g = by (cases (value_at f.support p) (along f.support a) (value_at f.support q) s.up s.down)
   where

@@ -14,10 +14,12 @@ use Rattle.ember_model.specs.Valid.{IsValidCorner, IsValidTri, IsValidPlane, IsV
 use Rattle.ember_model.specs.Faces.{face_of, edges_of}
 use Rattle.ember_model.specs.Sizes.{IsSupportSized, IsEdgeSized}
 
+-- a plane with the sizes of a support plane is valid
 pub support_valid : {p : Plane} → IsSupportSized p → IsValidPlane p
 support_valid s =
     record { a = s.a; b = s.b; c = s.c; d = record { small = omega (arith, s.d.small) } }
 
+-- a plane with the sizes of an edge plane is valid
 pub edge_valid : {p : Plane} → IsEdgeSized p → IsValidPlane p
 edge_valid s =
     record {
@@ -44,6 +46,7 @@ normal_y = minor (step 2 5) (step 0 3) (step 2 8) (step 0 6)
 abbrev normal_z : Code
 normal_z = minor (step 0 3) (step 1 4) (step 0 6) (step 1 7)
 
+-- the support plane of a valid triangle has the sizes of one
 pub support_sized : (t : Tri) → IsValidTri t → IsSupportSized (support_of t)
 support_sized t v =
     let i = v.a.x & v.a.y & v.a.z & v.b.x & v.b.y & v.b.z & v.c.x & v.c.y & v.c.z & done in
@@ -77,6 +80,7 @@ one = number (pos 1)
 abbrev nil : Code
 nil = number (pos 0)
 
+-- a plane through two valid corners and an axis has the sizes of an edge plane
 pub edge_sized : (u v : Corner) (k : Axis) (s : ℤ) → IsValidCorner u → IsValidCorner v → Small 1 s → IsEdgeSized (times_plane s (edge_through u v (unit k)))
 edge_sized u v X s p q r =
     let i = p.x & p.y & p.z & q.x & q.y & q.z & r & done in
@@ -103,25 +107,18 @@ edge_sized u v Z s p q r =
       d = bounded i 16777215 (input 6 ⊠ constant nil nil one) tt;
     }
 
+-- a sign is at most 1 in size
 pub sign_small : (z : ℤ) → Small 1 (sign z)
 sign_small (pos zero) = record { small = omega arith }
 sign_small (pos (suc n)) = record { small = omega arith }
 sign_small (negsuc n) = record { small = omega arith }
 
+-- three planes with the sizes of edge planes, as a list
 pub three_sized : {x y z : Plane} → IsEdgeSized x → IsEdgeSized y → IsEdgeSized z → All IsEdgeSized (x ∷ y ∷ z ∷ [])
 three_sized {x} {y} {z} p q r =
     All-cons IsEdgeSized x (y ∷ z ∷ []) p (All-cons IsEdgeSized y (z ∷ []) q (All-cons IsEdgeSized z [] r (All-nil IsEdgeSized)))
 
-pub edges_sized : (t : Tri) (k : Axis) → IsValidTri t → All IsEdgeSized (edge_planes t k)
-edges_sized t k v =
-    let s = sign_small (along (support_of t) k) in
-    three_sized (edge_sized t.a t.b k (sign (along (support_of t) k)) v.a v.b s) (edge_sized t.b t.c k (sign (along (support_of t) k)) v.b v.c s) (edge_sized t.c t.a k (sign (along (support_of t) k)) v.c v.a s)
-
 -- ---- the face
+-- planes with the sizes of edge planes are valid
 pub edges_valid : (es : List Plane) → All IsEdgeSized es → All IsValidPlane es
 edges_valid es f = λ k d l. edge_valid (f k d l)
-
-pub face_valid : (t : Tri) → IsValidTri t → IsValidFace (face_of t)
-unfolding face_of
-face_valid t v =
-    record { support = support_valid (support_sized t v); edges = edges_valid (edges_of t) (edges_sized t (main_axis (support_of t)) v) }

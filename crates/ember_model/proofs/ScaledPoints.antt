@@ -16,15 +16,16 @@ use Rattle.ember_model.specs.Clear.{IsClear}
 use Rattle.ember_model.specs.ClearTest.{all_negative}
 use Rattle.ember_model.proofs.SignTests.{sgn_scaled, negative_out}
 use Rattle.ember_model.proofs.PlaneValues.{value_scaled, value_hit, size-is}
-use Rattle.ember_model.proofs.Hits.{Scales, scales, same_all_negative, closed_scaled, inside_scaled}
+use Rattle.ember_model.proofs.Hits.{Scales, scaled_point_scales, same_all_negative, closed_scaled, inside_scaled}
 use Rattle.ember_model.proofs.Legs.{value_between, leg_off, leg_on}
 
 -- ---- crossings
-pub hit_scales : (n : Plane) (a : Axis) (k : ℤ) (p : Spot) → Scales k (hit n a p) (hit n a (scaled k p))
+hit_scales : (n : Plane) (a : Axis) (k : ℤ) (p : Spot) → Scales k (hit n a p) (hit n a (scaled k p))
 hit_scales n a k p g =
     let x = value_scaled k g p in let y = value_scaled k n p in
     value_hit g n a (scaled k p) ∙ (λ i. size (along n a) *ℤ x i -ℤ sign (along n a) *ℤ y i *ℤ along g a) ∙ solve 6 (λ m s vg vn k ga. m ⊗ (k ⊗ vg) ⊖ s ⊗ (k ⊗ vn) ⊗ ga ≈ k ⊗ (m ⊗ vg ⊖ s ⊗ vn ⊗ ga)) cancels (size (along n a)) (sign (along n a)) (value_at g p) (value_at n p) k (along g a) ∙ ap (λ (z : ℤ). k *ℤ z) (sym (value_hit g n a p))
 
+-- a positive factor of a point's numbers doesn't change the crossing
 pub crossing_scaled : (f : Face) (a : Axis) (k : ℤ) (p : Spot) → pos 0 <ℤ k → crossing f a (scaled k p) ≡ crossing f a p
 unfolding crossing
 crossing_scaled f a k p l =
@@ -39,10 +40,11 @@ twice_scaled m k p =
     let x = *ℤ_assoc m k p.x in let y = *ℤ_assoc m k p.y in let z = *ℤ_assoc m k p.z in let w = *ℤ_assoc m k p.w in
     sym (λ i. record { x = x i; y = y i; z = z i; w = w i })
 
+-- a positive factor of a point's numbers leaves it clear
 pub clear_scaled : (f : Face) (k : ℤ) (p : Spot) → pos 0 <ℤ k → IsClear f p → IsClear f (scaled k p)
 clear_scaled f k p l c =
     record {
-      outside = closed_scaled k p (scaled k p) f l (scales k p) ∙ c.outside;
+      outside = closed_scaled k p (scaled k p) f l (scaled_point_scales k p) ∙ c.outside;
       rays = λ a m s pm ps h.
           let e : moved (scaled m (scaled k p)) a s ≡ moved (scaled (m *ℤ k) p) a s = ap (λ (q : Spot). moved q a s) (twice_scaled m k p) in
           ap (is_inside f) e ∙ c.rays a (m *ℤ k) s (pos_mul pm l) ps (sym (ap (is_in_closed f) e) ∙ h);
@@ -61,6 +63,7 @@ between_scaled n k m p q lk lm g =
     let c = value_scaled k g p in let d = value_scaled m g q in
     value_between g n (scaled k p) (scaled m q) ∙ (λ i. b i *ℤ c i +ℤ a i *ℤ d i) ∙ solve 6 (λ k m sp sq vp vq. m ⊗ sq ⊗ (k ⊗ vp) ⊕ k ⊗ sp ⊗ (m ⊗ vq) ≈ k ⊗ m ⊗ (sq ⊗ vp ⊕ sp ⊗ vq)) cancels k m sp sq vp vq ∙ ap (λ (z : ℤ). k *ℤ m *ℤ z) (sym (value_between g n p q))
 
+-- a segment between the same points, written with other weights, crosses a face alike
 pub leg_scaled : (f : Face) (k m : ℤ) (p q : Spot) → pos 0 <ℤ k → pos 0 <ℤ m → leg f (scaled k p) (scaled m q) ≡ leg f p q
 unfolding leg
 leg_scaled f k m p q lk lm =
@@ -83,6 +86,7 @@ neg_cond : (b : Bool) (v : ℤ) → cond b (neg_ℤ v) (pos 0) ≡ neg_ℤ (cond
 neg_cond true v = refl
 neg_cond false v = refl
 
+-- a segment the other way round has the opposite crossing
 pub leg_back : (f : Face) (p q : Spot) → pos 0 <ℤ p.w → pos 0 <ℤ q.w → leg f q p ≡ neg_ℤ (leg f p q)
 leg_back f p q wp wq = by (is_negative (value_at f.support p *ℤ value_at f.support q)) refl
   where

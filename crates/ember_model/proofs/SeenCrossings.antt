@@ -29,10 +29,12 @@ pub first_edge : (t : Tri) (p : Spot) (f g : Vector) → dot (cross_product (sup
 first_edge t p f g =
     identity (vector ∷ vector ∷ vector ∷ tuple ∷ vector ∷ vector ∷ []) (λ a b c p f g. dotE (vector_partE (supportE a b c)) f ⊗ (p.w ⊗ valueE (edgeE a b g) p) ⊖ valueE (supportE a b c) p ⊗ (p.w ⊗ dotE (vector_partE (edgeE a b g)) f) ≈ neg (dotE (vector_partE (supportE a b c)) g ⊗ dotE f (crossE (seenE p a) (seenE p b)))) cancels (vector_of t.a) (vector_of t.b) (vector_of t.c) (tuple_of p) f g
 
+-- the same for the second edge
 pub second_edge : (t : Tri) (p : Spot) (f g : Vector) → dot (cross_product (support_of t)) f *ℤ (p.w *ℤ value_at (edge_through t.b t.c g) p) -ℤ value_at (support_of t) p *ℤ (p.w *ℤ dot (cross_product (edge_through t.b t.c g)) f) ≡ neg_ℤ (dot (cross_product (support_of t)) g *ℤ dot f (cross (seen p t.b) (seen p t.c)))
 second_edge t p f g =
     identity (vector ∷ vector ∷ vector ∷ tuple ∷ vector ∷ vector ∷ []) (λ a b c p f g. dotE (vector_partE (supportE a b c)) f ⊗ (p.w ⊗ valueE (edgeE b c g) p) ⊖ valueE (supportE a b c) p ⊗ (p.w ⊗ dotE (vector_partE (edgeE b c g)) f) ≈ neg (dotE (vector_partE (supportE a b c)) g ⊗ dotE f (crossE (seenE p b) (seenE p c)))) cancels (vector_of t.a) (vector_of t.b) (vector_of t.c) (tuple_of p) f g
 
+-- the same for the third edge
 pub third_edge : (t : Tri) (p : Spot) (f g : Vector) → dot (cross_product (support_of t)) f *ℤ (p.w *ℤ value_at (edge_through t.c t.a g) p) -ℤ value_at (support_of t) p *ℤ (p.w *ℤ dot (cross_product (edge_through t.c t.a g)) f) ≡ neg_ℤ (dot (cross_product (support_of t)) g *ℤ dot f (cross (seen p t.c) (seen p t.a)))
 third_edge t p f g =
     identity (vector ∷ vector ∷ vector ∷ tuple ∷ vector ∷ vector ∷ []) (λ a b c p f g. dotE (vector_partE (supportE a b c)) f ⊗ (p.w ⊗ valueE (edgeE c a g) p) ⊖ valueE (supportE a b c) p ⊗ (p.w ⊗ dotE (vector_partE (edgeE c a g)) f) ≈ neg (dotE (vector_partE (supportE a b c)) g ⊗ dotE f (crossE (seenE p c) (seenE p a)))) cancels (vector_of t.a) (vector_of t.b) (vector_of t.c) (tuple_of p) f g
@@ -65,6 +67,7 @@ by_signs : (s n a b c : Sign) → T (sum3 a b c n) → form (times s n) (flip (t
 by_signs s n a b c t =
     same_z_out _ _ (use_if (sum3 a b c n) _ (signs 5 (λ s n a b c. sum3 a b c n ⇒ same_z (form (times s n) (flip (times n a)) (flip (times n b)) (flip (times n c)) (number n)) (sign_crossing (flip s) n a b c)) tt s n a b c) t)
 
+-- a direction in the plane of a triangle has no crossing
 pub no_slope : (d a b c : Sign) → sign_crossing d Zero a b c ≡ pos 0
 no_slope d a b c = same_z_out _ _ (signs 4 (λ d a b c. same_z (sign_crossing d Zero a b c) (pos 0)) tt d a b c)
 
@@ -74,6 +77,7 @@ abs_zero (pos zero) l = refl
 abs_zero (pos (suc n)) l = absurd (omega arith)
 abs_zero (negsuc n) l = absurd (omega arith)
 
+-- a plane whose coefficient along its main axis is 0 has no normal
 pub main_zero : (n : Plane) (k : Axis) → along n (main_axis n) ≡ pos 0 → along n k ≡ pos 0
 main_zero n k z =
     by (leb (unsigned_abs n.b) (unsigned_abs n.a)) (leb (unsigned_abs n.c) (unsigned_abs n.a)) (leb (unsigned_abs n.c) (unsigned_abs n.b)) refl refl refl z k
@@ -102,6 +106,7 @@ seen_crossing f p t = crossing_along f (seen p t.a) (seen p t.b) (seen p t.c)
 pub sum_of : (u v w f : Vector) → dot f (cross u v) +ℤ dot f (cross v w) +ℤ dot f (cross w u) ≡ dot f (normal u v w)
 sum_of = identity (vector ∷ vector ∷ vector ∷ vector ∷ []) (λ u v w f. dotE f (crossE u v) ⊕ dotE f (crossE v w) ⊕ dotE f (crossE w u) ≈ dotE f (normalE u v w)) cancels
 
+-- the crossing of a triangle's face is the one by the signs of its corners seen from the point
 pub crossing_seen : (a : Axis) (p : Spot) (t : Tri) → pos 0 <ℤ p.w → crossing (face_of t) a p ≡ seen_crossing (unit a) p t
 unfolding face_of
 crossing_seen a p t w =

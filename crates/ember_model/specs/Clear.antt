@@ -18,5 +18,6 @@ pub record IsClear (f : Face) (p : Spot) : Type 0 where
 abbrev pub IsClearOf : Tri → Spot → Type 0
 IsClearOf t p = is_flat t ≡ false → IsClear (face_of t) p
 
+-- the point is clear of all faces
 abbrev pub AreClear : List Face → Spot → Type 0
 AreClear fs p = AllByRecursion (λ f. IsClear f p) fs

@@ -38,11 +38,14 @@ is_ray_clear f a p =
     else (if is_negative (value_at f.support p *ℤ along f.support a) && none_positive f.edges (hit f.support a p)
     then all_negative f.edges (hit f.support a p) else true)
 
+-- whether the point is clear of the face
 abbrev pub is_clear : Face → Spot → Bool
 is_clear f p = not (is_in_closed f p) && (is_ray_clear f X p && (is_ray_clear f Y p && is_ray_clear f Z p))
 
+-- whether the point is clear of the triangle
 abbrev pub is_clear_of : Tri → Spot → Bool
 is_clear_of t p = is_flat t || is_clear (face_of t) p
 
+-- the face with this support plane and these edge planes
 abbrev pub face_with : Plane → List Plane → Face
 face_with n es = record { support = n; edges = es }

@@ -40,6 +40,7 @@ pub record IsEarliest (P : Plane → Type 0) (gs : List Plane) (g : Plane) : Typ
   pub earliest : (i : ℕ) (h : Plane) → i < index → slice_get gs i ≡ Some h → P h → ⊥
 
 -- ---- the way along an edge, counter-clockwise seen from the front
+-- the normal of a plane as a vector
 abbrev pub normal : Plane → Vector
 normal p = record { x = p.a; y = p.b; z = p.c }
 
@@ -47,9 +48,11 @@ normal p = record { x = p.a; y = p.b; z = p.c }
 abbrev pub position_along : Plane → Plane → Spot → ℤ
 position_along n g v = dot (cross (normal n) (normal g)) (record { x = v.x; y = v.y; z = v.z })
 
+-- u lies before v along the edge
 pub record IsBefore (n g : Plane) (u v : Spot) : Type 0 where
   pub before : (v.w *ℤ position_along n g u) <ℤ (u.w *ℤ position_along n g v)
 
+-- u doesn't lie after v along the edge
 pub record IsNotAfter (n g : Plane) (u v : Spot) : Type 0 where
   pub not_after : (v.w *ℤ position_along n g u) ≤ℤ (u.w *ℤ position_along n g v)
 

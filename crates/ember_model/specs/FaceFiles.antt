@@ -13,6 +13,7 @@ use Rattle.ember_model.specs.Edges.{RingEdge, IsOutline}
 abbrev pub fields : List ℤ → List ℕ
 fields zs = flat_map (λ z. codes " " ++ signed_decimal z) zs
 
+-- a line of a face file: a keyword, and numbers with a space before each
 abbrev pub line_of : List ℕ → List ℤ → List ℕ
 line_of keyword zs = keyword ++ fields zs ++ codes "\n"
 
@@ -30,9 +31,11 @@ support_line n count = line_of (codes "f") (n.a ∷ n.b ∷ n.c ∷ n.d ∷ pos 
 abbrev pub face_lines : Plane → List RingEdge → List ℕ
 face_lines n es = support_line n (length es) ++ flat_map edge_line es
 
+-- the first line of a face file
 abbrev pub header : List ℕ
 header = codes "ember 1\n"
 
+-- the last line of a face file, with the number of faces
 abbrev pub ending : ℕ → List ℕ
 ending n = codes "end " ++ decimal n ++ codes "\n"
 
@@ -50,10 +53,12 @@ pub record IsFaceText (f : Face) (bytes : List ℕ) : Type 0 where
   pub is : bytes ≡ face_lines f.support outline
 
 -- ---- reading
+-- a corner as a face file has it: valid and in lowest terms
 pub record IsWrittenCorner (v : Spot) : Type 0 where
   pub valid : IsValidMeet v
   pub lowest : IsLowest v
 
+-- an edge as a face file has it
 pub record IsWrittenEdge (e : RingEdge) : Type 0 where
   pub plane : IsValidPlane e.plane
   pub start : IsWrittenCorner e.start
@@ -63,6 +68,7 @@ pub record WrittenFace : Type 0 where
   pub support : Plane
   pub edges : List RingEdge
 
+-- a face as a face file has it: at least three edges, and all numbers in range
 pub record IsWrittenFace (w : WrittenFace) : Type 0 where
   pub support : IsValidPlane w.support
   pub edges : All IsWrittenEdge w.edges

@@ -10,6 +10,7 @@ use Rattle.ember_model.specs.declared.face.Face.{Face}
 use Rattle.ember_model.specs.Planes.{value_at, along, support_of, edge_planes, main_axis, opposite}
 use Rattle.ember_model.specs.Points.{scaled, moved, plus_s}
 
+-- the absolute value
 abbrev pub size : ℤ → ℤ
 size z = pos (unsigned_abs z)
 
@@ -34,6 +35,7 @@ pub record Everywhere (f : Face) (P : Spot → Type 0) : Type 0 where
   pub holds : (v : Spot) → is_inside f v ≡ true → P v
 
 -- ---- the face of a triangle
+-- the edge planes of a triangle parallel to its main axis
 abbrev pub edges_of : Tri → List Plane
 edges_of t = edge_planes t (main_axis (support_of t))
 

@@ -19,9 +19,11 @@ wind a fs p = total (λ f. crossing f a p) fs
 abbrev pub faces_of : List Tri → List Face
 faces_of ts = map face_of (filter (λ t. not (is_flat t)) ts)
 
+-- the triangles with this mesh number
 abbrev pub of_mesh : ℕ → List Tri → List Tri
 of_mesh m ts = filter (λ t. nat_eq t.mesh m) ts
 
+-- the mesh numbers, 1 to 64
 unfoldable pub meshes : List ℕ
 meshes = range_with_len 1 64
 
@@ -30,6 +32,7 @@ abbrev pub vector : Axis → List Tri → Spot → List ℤ
 vector a ts p = map (λ m. wind a (faces_of (of_mesh m ts)) p) meshes
 
 -- ---- balance
+-- a directed edge
 pub record Edge : Type 0 where
   pub from : Corner
   pub to : Corner
@@ -58,10 +61,12 @@ abbrev pub IsBalanced : List Tri → Type 0
 IsBalanced ts = (e : Edge) → edge_count e (edges_in ts) ≡ edge_count (reversed e) (edges_in ts)
 
 -- ---- scenes
+-- the triangle's mesh number is from 1 to `most`
 pub record HasMesh (most : ℕ) (t : Tri) : Type 0 where
   pub first : 1 ≤ t.mesh
   pub last : t.mesh ≤ most
 
+-- valid triangles of at most 64 meshes, each of them balanced
 pub record IsScene (ts : List Tri) (count : ℕ) : Type 0 where
   pub valid : All IsValidTri ts
   pub few : length ts ≤ 262144

@@ -10,9 +10,11 @@ use Rattle.ember_model.specs.declared.point.Spot.{Spot}
 use Rattle.ember_model.specs.declared.point.Axis.{Axis}
 use Rattle.ember_model.specs.declared.point.Axis.TheVariants.{X, Y, Z}
 
+-- the corner's coordinates as a vector
 abbrev pub vector_of : Corner → Vector
 vector_of c = record { x = c.x; y = c.y; z = c.z }
 
+-- the direction of an axis, of length 1
 abbrev pub unit : Axis → Vector
 unit X = record { x = pos 1; y = pos 0; z = pos 0 }
 unit Y = record { x = pos 0; y = pos 1; z = pos 0 }
@@ -22,7 +24,7 @@ unit Z = record { x = pos 0; y = pos 0; z = pos 1 }
 abbrev pub value_at : Plane → Spot → ℤ
 value_at p s = p.a *ℤ s.x +ℤ p.b *ℤ s.y +ℤ p.c *ℤ s.z -ℤ p.d *ℤ s.w
 
--- the entry of a plane's normal
+-- the entry of a plane's normal along an axis
 abbrev pub along : Plane → Axis → ℤ
 along p X = p.a
 along p Y = p.b
@@ -32,12 +34,15 @@ along p Z = p.c
 abbrev pub plane_through : Vector → Corner → Plane
 plane_through n u = record { a = n.x; b = n.y; c = n.z; d = dot n (vector_of u) }
 
+-- all four numbers of the plane times k
 abbrev pub times_plane : ℤ → Plane → Plane
 times_plane k p = record { a = k *ℤ p.a; b = k *ℤ p.b; c = k *ℤ p.c; d = k *ℤ p.d }
 
+-- the vector from the corner u to the corner v
 abbrev pub side_of : Corner → Corner → Vector
 side_of u v = minus_v (vector_of v) (vector_of u)
 
+-- the support plane of a triangle
 abbrev pub support_of : Tri → Plane
 support_of t = plane_through (cross (side_of t.a t.b) (side_of t.a t.c)) t.a
 
@@ -51,6 +56,7 @@ main_axis p =
 abbrev pub edge_through : Corner → Corner → Vector → Plane
 edge_through u v f = plane_through (cross (side_of u v) f) u
 
+-- the edge planes of a triangle parallel to an axis, negative on the triangle's side
 abbrev pub edge_planes : Tri → Axis → List Plane
 edge_planes t k =
     let s = sign (along (support_of t) k) in

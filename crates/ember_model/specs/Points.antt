@@ -34,7 +34,3 @@ abbrev pub DifferAlong : Axis → Spot → Spot → Type 0
 DifferAlong X p q = (q.w *ℤ p.y ≡ p.w *ℤ q.y) × (q.w *ℤ p.z ≡ p.w *ℤ q.z)
 DifferAlong Y p q = (q.w *ℤ p.x ≡ p.w *ℤ q.x) × (q.w *ℤ p.z ≡ p.w *ℤ q.z)
 DifferAlong Z p q = (q.w *ℤ p.x ≡ p.w *ℤ q.x) × (q.w *ℤ p.y ≡ p.w *ℤ q.y)
-
--- p shifted a little, along b and less along c, if m is large
-abbrev pub shifted_two : Axis → Axis → Spot → ℤ → Spot
-shifted_two b c p m = moved (moved (scaled (m *ℤ m) p) b m) c (pos 1)

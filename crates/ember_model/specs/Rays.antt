@@ -9,6 +9,7 @@ use Rattle.ember_model.specs.Points.{scaled, moved}
 abbrev pub point_on_ray : Spot → RayPoint → Spot
 point_on_ray p r = moved (scaled r.factor p) r.axis r.offset
 
+-- the sizes with which the point's values fit into 128 bits
 pub record IsRayPointSized (r : RayPoint) : Type 0 where
   pub factor : Small 33554431 r.factor
   pub offset : Small (2 ^ 80) r.offset

@@ -13,12 +13,13 @@ pub record IsValidCorner (c : Corner) : Type 0 where
   pub y : Small 2047 c.y
   pub z : Small 2047 c.z
 
+-- all corners are valid
 pub record IsValidTri (t : Tri) : Type 0 where
   pub a : IsValidCorner t.a
   pub b : IsValidCorner t.b
   pub c : IsValidCorner t.c
 
--- the normal is below 2^25 in size, the constant below 2^39
+-- the entries of the normal are below 2^25 in size, the constant below 2^39
 pub record IsValidPlane (p : Plane) : Type 0 where
   pub a : Small 33554431 p.a
   pub b : Small 33554431 p.b
@@ -33,6 +34,7 @@ pub record IsValidSpot (s : Spot) : Type 0 where
   pub w : Small 1099511627775 s.w
   pub weight : pos 0 <ℤ s.w
 
+-- all planes are valid
 pub record IsValidFace (f : Face) : Type 0 where
   pub support : IsValidPlane f.support
   pub edges : All IsValidPlane f.edges

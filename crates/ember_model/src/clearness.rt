@@ -14,20 +14,21 @@ use crate::tri::Tri;
 use crate::triangle_planes::{component, has_no_normal, main_edges, support_of};
 use crate::values::{RayPoint, all_negative, none_positive, value};
 
-// A point with this value lies on the plane.
+// Whether a point at which a plane has this value lies on it.
 fn is_on(front: i128) -> bool
     ensures { result ≡ is_zero front }
 {
     front == 0
 }
 
-// A ray with this slope runs along the plane.
+// Whether a ray is parallel to a plane whose normal has the entry `slope` along it.
 fn is_level(slope: i64) -> bool
     ensures { result ≡ is_zero slope }
 {
     slope == 0
 }
 
+// Whether the point lies in the closed face with this support plane and these edge planes.
 fn in_closed(p: &Spot, n: &Plane, es: &[Plane]) -> bool
     requires spot { IsValidSpot p.now }
     requires support { IsValidPlane n.now }
@@ -46,7 +47,8 @@ fn in_closed(p: &Spot, n: &Plane, es: &[Plane]) -> bool
         )
 }
 
-// The ray passes from the front of h to its back at a point where no plane of the list is positive.
+// Whether the ray passes from the front of `h` to its back at a point where no plane of the list is
+// positive.
 fn is_entry(p: &Spot, a: Axis, h: &Plane, es: &[Plane]) -> bool
     requires spot { IsValidSpot p.now }
     requires plane { IsValidPlane h.now }
@@ -68,7 +70,7 @@ fn is_entry(p: &Spot, a: Axis, h: &Plane, es: &[Plane]) -> bool
             ))
 }
 
-// A ray in the support plane enters the closed face through some edge.
+// Whether a ray in the support plane enters the closed face through some edge.
 fn enters(p: &Spot, a: Axis, es: &[Plane]) -> bool
     requires spot { IsValidSpot p.now }
     requires edges { All IsValidPlane es.now }
@@ -82,6 +84,8 @@ fn enters(p: &Spot, a: Axis, es: &[Plane]) -> bool
     false
 }
 
+// Whether the ray from the point doesn't meet the boundary of the face, if the point isn't in the
+// closed face.
 fn is_ray_clear(p: &Spot, a: Axis, n: &Plane, es: &[Plane]) -> bool
     requires spot { IsValidSpot p.now }
     requires support { IsValidPlane n.now }
@@ -100,6 +104,7 @@ fn is_ray_clear(p: &Spot, a: Axis, n: &Plane, es: &[Plane]) -> bool
     }
 }
 
+// Whether the point is clear of the face with this support plane and these edge planes.
 #[tactic(none)]
 fn clear_of(p: &Spot, n: &Plane, es: &[Plane]) -> bool
     requires spot { IsValidSpot p.now }
@@ -112,8 +117,8 @@ fn clear_of(p: &Spot, n: &Plane, es: &[Plane]) -> bool
             && (is_ray_clear(p, Axis::Y, n, es) && is_ray_clear(p, Axis::Z, n, es)))
 }
 
-/// The point is not in the closed face, and none of the rays from it along +x, +y and +z meets
-/// the face's boundary.
+/// Whether the point is not in the closed face, and none of the rays from it along +x, +y and +z
+/// meets the face's boundary. Only tests call this.
 pub fn face_clear(p: &Spot, f: &Face) -> bool
     requires spot { IsValidSpot p.now }
     requires face { IsValidFace f.now }
@@ -122,8 +127,8 @@ pub fn face_clear(p: &Spot, f: &Face) -> bool
     clear_of(p, &f.support, f.edges.items())
 }
 
-/// The point is clear of the triangle's face, as `face_clear` says. Every point is clear of a
-/// triangle whose normal is zero.
+/// Whether the point is clear of the triangle's face, as `face_clear` says. Every point is clear of
+/// a triangle whose normal is zero.
 pub fn clear(p: &Spot, t: &Tri) -> bool
     requires spot { IsValidSpot p.now }
     requires tri { IsValidTri t.now }

@@ -1,6 +1,6 @@
-//! What ember speaks of: corners and triangles, planes and points, faces, winding vectors and
-//! scenes, with the definitions of crossing, winding, clear points and balance, and the calls that
-//! give a triangle's planes and face, crossings, and whether a point is clear.
+//! The words of the whole project: corners and triangles, planes and points, faces, winding vectors
+//! and scenes. Defines crossing, winding, clear points and balance. Its calls give the planes and
+//! the face of a triangle, and crossings, and test whether a point is clear.
 #![tactic(auto)]
 
 mod clearness;

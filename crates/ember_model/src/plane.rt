@@ -4,7 +4,7 @@ ghost use Rattle.std.specs.Prelude.{◌≡◌};
 use std::marker::Model;
 
 /// The plane `a x + b y + c z = d`; its front is where the left side is greater. It is valid
-/// if its normal `(a, b, c)` is below 2^25 and its constant `d` below 2^39 in size.
+/// if each entry of its normal `(a, b, c)` is below 2^25 in size, and its constant `d` below 2^39.
 #[derive(Clone, Copy, Debug, PartialEq, Eq)]
 pub struct Plane {
     pub a: i64,
@@ -13,7 +13,7 @@ pub struct Plane {
     pub d: i64,
 }
 
-/// A list of planes.
+/// A vector of planes, which contracts see as a list.
 #[derive(Drop)]
 pub struct Planes {
     planes: Vec<Plane>,

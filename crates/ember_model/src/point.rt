@@ -8,8 +8,7 @@ pub enum Axis {
     Z,
 }
 
-/// A corner of a triangle, in the scaled unit. It is valid if each coordinate is at most
-/// 2047 in size.
+/// A corner of a triangle, in units. It is valid if each coordinate is at most 2047 in size.
 #[derive(Clone, Copy, Debug, PartialEq, Eq)]
 pub struct Corner {
     pub x: i32,
@@ -17,8 +16,8 @@ pub struct Corner {
     pub z: i32,
 }
 
-/// The rational point `(x / w, y / w, z / w)`. It is valid if the coordinates are below 2^40
-/// in size and `1 <= w < 2^40`.
+/// The rational point `(x / w, y / w, z / w)`, in units. It is valid if `x`, `y` and `z` are below
+/// 2^40 in size and `1 <= w < 2^40`.
 #[derive(Clone, Copy, Debug, PartialEq, Eq)]
 pub struct Spot {
     pub x: i64,

@@ -14,7 +14,8 @@ use crate::triangle_planes::{component, support_of};
 use crate::values::{RayPoint, all_negative, edge_value, value};
 use crate::vector3::sign_number;
 
-// A ray on which a plane has the slope `slope` from its value `front` on meets the plane.
+// Whether a ray meets a plane that has the value `front` at its start and the entry `slope` of its
+// normal along the ray.
 pub fn meets(front: i128, slope: i64) -> bool
     requires front { Small (2 ^ 80) front }
     requires slope { Small 33554431 slope }
@@ -23,7 +24,7 @@ pub fn meets(front: i128, slope: i64) -> bool
     (front < 0 && slope > 0) || (front > 0 && slope < 0)
 }
 
-// The place at which it does.
+// The point at which it does.
 #[tactic(none)]
 pub fn hit_on_ray(front: i128, slope: i64, axis: Axis) -> RayPoint
     requires front { Small (2 ^ 80) front }
@@ -40,7 +41,7 @@ pub fn hit_on_ray(front: i128, slope: i64, axis: Axis) -> RayPoint
 }
 
 /// The signed crossing of the ray from `p` along the axis with the inside of the face: 1, -1
-/// or 0, and 1 if the ray leaves through the front.
+/// or 0, and 1 if the ray leaves through the front. Only tests call this.
 pub fn face_crossing(p: &Spot, a: Axis, f: &Face) -> i32
     requires spot { IsValidSpot p.now }
     requires face { IsValidFace f.now }
@@ -56,6 +57,7 @@ pub fn face_crossing(p: &Spot, a: Axis, f: &Face) -> i32
     }
 }
 
+// Whether all four values are negative.
 #[tactic(none)]
 fn all_below(s: i128, e: i128, f: i128, g: i128) -> bool
     requires s { Small (2 ^ 80) s }
@@ -67,6 +69,7 @@ fn all_below(s: i128, e: i128, f: i128, g: i128) -> bool
     s < 0 && (e < 0 && (f < 0 && g < 0))
 }
 
+// Whether all four values are positive.
 fn all_above(s: i128, e: i128, f: i128, g: i128) -> bool
     requires s { Small (2 ^ 80) s }
     requires e { Small (2 ^ 66) e }
@@ -101,8 +104,8 @@ pub fn crossing(p: &Spot, a: Axis, t: &Tri) -> i32
     }
 }
 
-// The planes through the edges, with the sign that the triangle's edge planes along the axis have
-// if its normal has the entry `slope` there, are negative.
+// Whether the three edge planes parallel to an axis are negative. `slope` is the entry of the
+// triangle's normal along it; `e`, `f` and `g` are the planes' values, still without its sign.
 fn all_behind(slope: i64, e: i128, f: i128, g: i128) -> bool
     requires e { Small (2 ^ 66) e }
     requires f { Small (2 ^ 66) f }
@@ -119,7 +122,8 @@ fn all_behind(slope: i64, e: i128, f: i128, g: i128) -> bool
     }
 }
 
-// How a segment passes a plane that has the values `start` and `end` at its ends.
+// How a segment crosses a plane that has the values `start` and `end` at its ends: 1 if it goes to
+// the front, -1 if it goes to the back, otherwise 0.
 fn signed_crossing(start: i128, end: i128) -> i32
     requires start { Small (2 ^ 80) start }
     requires end { Small (2 ^ 80) end }
@@ -135,8 +139,8 @@ fn signed_crossing(start: i128, end: i128) -> i32
     }
 }
 
-/// The signed crossing of the segment from `p` to `q` with the inside of the triangle's face: 1
-/// if the segment from `p` to `q` leaves through the front, -1 if it enters through it, otherwise 0.
+/// The signed crossing of the segment from `p` to `q` with the inside of the triangle's face: 1 if
+/// the segment from `p` to `q` leaves through the front, -1 if it enters through it, otherwise 0.
 /// As points of space `p` and `q` differ at most in the coordinate of the axis.
 pub fn leg(p: &Spot, q: &Spot, a: Axis, t: &Tri) -> i32
     requires from { IsValidSpot p.now }

@@ -5,7 +5,7 @@ ghost use Rattle.ember_model.specs.Valid.{IsValidTri};
 use crate::point::Corner;
 use std::marker::Model;
 
-/// A triangle of a mesh. Seen from its front the corners go round counter-clockwise. Meshes are
+/// A triangle of a mesh. Seen from its front, the corners go round counter-clockwise. Meshes are
 /// numbered from 1.
 #[derive(Clone, Copy, Debug, PartialEq, Eq)]
 pub struct Tri {
@@ -15,7 +15,7 @@ pub struct Tri {
     pub mesh: u32,
 }
 
-/// A list of triangles.
+/// A vector of triangles, which contracts see as a list.
 #[derive(Drop)]
 pub struct Tris {
     tris: Vec<Tri>,
@@ -53,7 +53,7 @@ impl Tris {
     }
 }
 
-/// A list of line numbers, from 1.
+/// A vector of line numbers, from 1, which contracts see as a list.
 #[derive(Drop)]
 pub struct Lines {
     lines: Vec<u32>,
@@ -90,7 +90,7 @@ impl Lines {
     }
 }
 
-/// The triangles of a file, and for each the line of the face that it comes from.
+/// The triangles of a file, and for each the number of the line of its face.
 #[derive(Drop)]
 pub struct Soup {
     pub tris: Tris,

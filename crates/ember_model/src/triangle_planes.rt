@@ -45,7 +45,7 @@ pub fn main_axis(p: &Plane) -> Axis
     }
 }
 
-// The entry of a plane's normal.
+// The entry of a plane's normal along an axis.
 pub fn component(plane: &Plane, axis: Axis) -> i64
     requires { IsValidPlane plane.now }
     ensures value { result ≡ along plane.now axis }
@@ -58,7 +58,7 @@ pub fn component(plane: &Plane, axis: Axis) -> i64
     }
 }
 
-// The plane through the edge from u to v along an axis, times a sign.
+// The plane through the edge from `u` to `v` and parallel to the axis `k`, times the sign `s`.
 fn side_plane(u: &Corner, v: &Corner, k: Axis, s: i64) -> Plane
     requires from { IsValidCorner u.now }
     requires to { IsValidCorner v.now }
@@ -70,9 +70,9 @@ fn side_plane(u: &Corner, v: &Corner, k: Axis, s: i64) -> Plane
     plane_with(&edge_normal(&step, k, s), u)
 }
 
-/// The plane along `k` of an edge of the triangle, negative on the triangle's side of it if
-/// the triangle's normal has an entry along `k`. Edges 0, 1 and 2 go from `a` to `b`, from `b`
-/// to `c` and from `c` to `a`.
+/// The plane through an edge of the triangle and parallel to the axis `k`. Its value is negative on
+/// the triangle's side of it. If the entry of the triangle's normal along `k` is 0, all numbers of
+/// the plane are 0. Edges 0, 1 and 2 go from `a` to `b`, from `b` to `c` and from `c` to `a`.
 pub fn edge_plane(t: &Tri, edge: u8, k: Axis) -> Plane
     requires tri { IsValidTri t.now }
     requires edge { edge < 3 }
@@ -88,13 +88,14 @@ pub fn edge_plane(t: &Tri, edge: u8, k: Axis) -> Plane
     }
 }
 
+// Whether the plane's normal is zero.
 pub fn has_no_normal(plane: &Plane) -> bool
     ensures { result ≡ is_zero plane.now.a && (is_zero plane.now.b && is_zero plane.now.c) }
 {
     plane.a == 0 && (plane.b == 0 && plane.c == 0)
 }
 
-// The edge planes along the main axis.
+// The edge planes parallel to the main axis, for edges 0, 1 and 2.
 pub fn main_edges(t: &Tri, support: &Plane) -> [Plane; 3]
     requires tri { IsValidTri t.now }
     requires support { support.now ≡ support_of t.now }
@@ -110,7 +111,7 @@ pub fn main_edges(t: &Tri, support: &Plane) -> [Plane; 3]
     ]
 }
 
-/// The triangle's face: its support plane and its edge planes along the main axis. None if
+/// The triangle's face: its support plane and its edge planes parallel to the main axis. None if
 /// the triangle's normal is zero.
 pub fn face_of(alloc: Global, t: &Tri) -> Result<Option<Face>, OutOfMemory>
     requires { IsValidTri t.now }

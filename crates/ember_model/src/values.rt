@@ -26,7 +26,8 @@ pub fn value(plane: &Plane, point: &Spot) -> i128
         - plane.d as i128 * point.w as i128
 }
 
-// A place on the ray from a point along an axis.
+// A point on the ray from a point `p` along an axis: `factor * p`, moved by `offset` parts of its
+// weight.
 #[derive(Clone, Copy)]
 pub struct RayPoint {
     pub axis: Axis,
@@ -34,7 +35,7 @@ pub struct RayPoint {
     pub offset: i128,
 }
 
-// The value of a plane at a place on the ray from p.
+// The value of a plane at a point on the ray from `p`.
 #[tactic(none)]
 pub fn value_at_ray_point(e: &Plane, p: &Spot, r: &RayPoint) -> i128
     requires plane { IsValidPlane e.now }
@@ -46,7 +47,7 @@ pub fn value_at_ray_point(e: &Plane, p: &Spot, r: &RayPoint) -> i128
     r.factor as i128 * value(e, p) + r.offset * component(e, r.axis) as i128
 }
 
-// All planes are negative at a place on the ray from p.
+// Whether all planes are negative at a point on the ray from `p`.
 pub fn all_negative(es: &[Plane], p: &Spot, r: &RayPoint) -> bool
     requires planes { All IsValidPlane es.now }
     requires spot { IsValidSpot p.now }
@@ -61,7 +62,7 @@ pub fn all_negative(es: &[Plane], p: &Spot, r: &RayPoint) -> bool
     true
 }
 
-// No plane is positive at a place on the ray from p.
+// Whether no plane is positive at a point on the ray from `p`.
 pub fn none_positive(es: &[Plane], p: &Spot, r: &RayPoint) -> bool
     requires planes { All IsValidPlane es.now }
     requires spot { IsValidSpot p.now }
@@ -76,7 +77,7 @@ pub fn none_positive(es: &[Plane], p: &Spot, r: &RayPoint) -> bool
     true
 }
 
-// A point seen from a corner, times the point's weight.
+// The difference from a corner to a point, times the point's weight.
 #[tactic(none)]
 fn vector_from_corner(u: &Corner, s: &Spot) -> Vector3
     requires corner { IsValidCorner u.now }
@@ -93,6 +94,7 @@ fn vector_from_corner(u: &Corner, s: &Spot) -> Vector3
     }
 }
 
+// The difference `a x - b y`.
 #[tactic(none)]
 fn product_difference(a: i64, x: i64, b: i64, y: i64) -> i128
     requires a { Small 4094 a }
@@ -105,7 +107,7 @@ fn product_difference(a: i64, x: i64, b: i64, y: i64) -> i128
     a as i128 * x as i128 - b as i128 * y as i128
 }
 
-// The value of the plane through the edge from u to v along the axis.
+// The value, at `s`, of the plane through the edge from `u` to `v` and parallel to the axis `k`.
 pub fn edge_value(u: &Corner, v: &Corner, k: Axis, s: &Spot) -> i128
     requires from { IsValidCorner u.now }
     requires to { IsValidCorner v.now }

@@ -1,4 +1,4 @@
-// Steps between corners, normals, and the planes that have them.
+// Differences of corners, normals, and the planes that have them.
 ghost use Rattle.std.specs.Prelude.{◌≡◌, ℤ, ◌*ℤ◌};
 ghost use Rattle.ember_algebra.specs.Size.{Small};
 ghost use Rattle.ember_algebra.specs.Sign.{sign};
@@ -10,7 +10,7 @@ ghost use Rattle.ember_model.specs.Vectors3.{as_vector, IsVector3Within};
 use crate::plane::Plane;
 use crate::point::{Axis, Corner};
 
-/// A step from one point to another, or the normal of a plane.
+/// The difference of two points, or the normal of a plane.
 #[derive(Clone, Copy)]
 pub struct Vector3 {
     pub x: i64,
@@ -18,6 +18,7 @@ pub struct Vector3 {
     pub z: i64,
 }
 
+// The difference `to - from`.
 #[tactic(none)]
 pub fn vector_between(from: &Corner, to: &Corner) -> Vector3
     requires from { IsValidCorner from.now }
@@ -32,6 +33,7 @@ pub fn vector_between(from: &Corner, to: &Corner) -> Vector3
     }
 }
 
+// The cross product of two differences of corners.
 #[tactic(none)]
 pub fn cross_product(u: &Vector3, v: &Vector3) -> Vector3
     requires u { IsVector3Within 4094 u.now }
@@ -62,7 +64,8 @@ pub fn plane_with(n: &Vector3, u: &Corner) -> Plane
     }
 }
 
-// The normal along an axis that an edge's plane has, times a sign.
+// The normal of the plane through an edge of direction `step` and parallel to the axis `k`, times
+// the sign `s`.
 #[tactic(none)]
 pub fn edge_normal(step: &Vector3, k: Axis, s: i64) -> Vector3
     requires step { IsVector3Within 4094 step.now }
@@ -80,6 +83,7 @@ pub fn edge_normal(step: &Vector3, k: Axis, s: i64) -> Vector3
     }
 }
 
+// The sign of `x` as a number: -1, 0 or 1.
 pub fn sign_number(x: i64) -> i64
     ensures value { result ≡ sign x }
     ensures small { Small 1 result }

@@ -14,7 +14,7 @@ start_moves : (s x p r f g : ℕ) → f ≡ (s * 10 + x) * p + r → g ≡ (0 * 
 start_moves s x p r f g a b = omega arith
 
 -- a number in front of digits
-pub number_from-start : (s : ℕ) (ds : List ℕ) → number_from s ds ≡ s * 10 ^ length ds + number_from 0 ds
+number_from-start : (s : ℕ) (ds : List ℕ) → number_from s ds ≡ s * 10 ^ length ds + number_from 0 ds
 number_from-start s [] = omega arith
 number_from-start s (d ∷ ds) =
     rw pow-suc (start_moves s (d - 48) (10 ^ length ds) (number_from 0 ds) _ _ (number_from-start (s * 10 + (d - 48)) ds) (number_from-start (0 * 10 + (d - 48)) ds))
@@ -24,9 +24,10 @@ pub number_from-behind : (xs ys : List ℕ) → number_from 0 (xs ++ ys) ≡ num
 number_from-behind xs ys = number_from-append 0 xs ys ∙ number_from-start (number_from 0 xs) ys
 
 -- a digit in front
-pub number_from-digit : (d : ℕ) (ds : List ℕ) → number_from 0 (d ∷ ds) ≡ (d - 48) * 10 ^ length ds + number_from 0 ds
+number_from-digit : (d : ℕ) (ds : List ℕ) → number_from 0 (d ∷ ds) ≡ (d - 48) * 10 ^ length ds + number_from 0 ds
 number_from-digit d ds = number_from-start (0 * 10 + (d - 48)) ds ∙ (omega arith)
 
+-- a power of ten is positive
 pub pow_ten_pos : (k : ℕ) → 0 < 10 ^ k
 pow_ten_pos zero = omega arith
 pow_ten_pos (suc k) = rw (pow-suc 10 k) (omega (arith, pow_ten_pos k))
@@ -50,7 +51,7 @@ number_from-below (d ∷ ds) h =
     rw pow-suc (below_step (d - 48) (10 ^ length ds) (number_from 0 ds) (number_from 0 (d ∷ ds)) (number_from-digit d ds) (digit_small d parts.0) (number_from-below ds parts.1))
 
 -- a digit by its place
-pub digit_at : (ds : List ℕ) (i : ℕ) → list_all is_ascii_digit ds ≡ true → i < length ds → is_ascii_digit (get_or ds i 0) ≡ true
+digit_at : (ds : List ℕ) (i : ℕ) → list_all is_ascii_digit ds ≡ true → i < length ds → is_ascii_digit (get_or ds i 0) ≡ true
 digit_at [] i h p = absurd (omega arith)
 digit_at (d ∷ ds) zero h p = (both_true (is_ascii_digit d) (list_all is_ascii_digit ds) h).0
 digit_at (d ∷ ds) (suc i) h p = digit_at ds i (both_true (is_ascii_digit d) (list_all is_ascii_digit ds) h).1 (omega arith)

@@ -9,7 +9,7 @@ pub by_lt : {P : Type 0} (a b : ℕ) → (a < b → P) → (b ≤ a → P) → P
 by_lt a b below reached = ⊎_elim below reached (cases_lt a b)
 
 -- a sum over a quotient, divided
-pub quotient_chain_down : (x b y d : ℕ) → 0 < b → (x / b + y) / d ≡ (x + b * y) / (b * d)
+quotient_chain_down : (x b y d : ℕ) → 0 < b → (x / b + y) / d ≡ (x + b * y) / (b * d)
 quotient_chain_down x b y d p = ap (λ (n : ℕ). n / d) (sym (add-mul-div_left x y p)) ∙ div-div-eq-div-mul (x + b * y) b d
 
 spares : (a b c d e f : ℕ) → b ≡ e + 1 → d ≡ f + 1 → a + e + b * (c + f) ≡ a + b * c + (b * d - 1)
@@ -30,10 +30,12 @@ quotient_more true x y k p =
     let sums : x + y * k + (k - 1) ≡ x + (k - 1) + y * k = omega arith in
     ap (λ (n : ℕ). n / k) sums ∙ add-mul-div_right (x + (k - 1)) y p
 
+-- a quotient of 0 is 0
 pub quotient_of_zero : (up : Bool) (k : ℕ) → 0 < k → quotient up 0 k ≡ 0
 quotient_of_zero false k p = div-eq_of_lt p
 quotient_of_zero true k p = let small : 0 + (k - 1) < k = omega arith in div-eq_of_lt small
 
+-- a multiple of k, divided by k, isn't rounded
 pub quotient_exact : (up : Bool) (x k : ℕ) → 0 < k → quotient up (x * k) k ≡ x
 quotient_exact up x k p =
     let front : x * k ≡ 0 + x * k = omega arith in
@@ -49,7 +51,7 @@ quotient_cancel up x k c p q =
     ∙ sym (quotient_chain up (x * c) c 0 k q p) ∙ ap (λ (n : ℕ). quotient up n k) whole
 
 -- a number below its divisor is rounded to 0 or 1
-pub quotient_small : (up : Bool) (x d : ℕ) → suc x < d → (quotient false (suc x) d ≡ 0) × (quotient true (suc x) d ≡ 1)
+quotient_small : (up : Bool) (x d : ℕ) → suc x < d → (quotient false (suc x) d ≡ 0) × (quotient true (suc x) d ≡ 1)
 quotient_small up x d h =
     let low : 1 * d ≤ suc x + (d - 1) = omega arith in
     let high : suc x + (d - 1) < (1 + 1) * d = omega arith in

@@ -3,7 +3,7 @@ use Rattle.std.specs.Prelude.{ℕ, ◌+◌, ◌-◌, ◌*◌, ◌/◌, ◌%◌, 
 use Rattle.ember_number.specs.Fractions.{Fraction}
 use Rattle.ember_number.specs.Values.{binary_value}
 
--- the value of a float with so many bits of fraction, so many exponents, and 2^-scale as its least size above 0;
+-- the value of a float with this many bits of fraction, this many exponents, and 2^-scale as its least size above 0;
 -- none of infinity and NaN, which have the last exponent
 abbrev pub float_value : ℕ → ℕ → ℕ → ℕ → Option Fraction
 float_value places exponents scale bits =
@@ -14,8 +14,10 @@ float_value places exponents scale bits =
     else (if exponent == 0 then Some (binary_value sign fraction 0 scale)
     else Some (binary_value sign (2 ^ places + fraction) (exponent - 1) scale))
 
+-- the value of the binary32 with these bits
 abbrev pub binary32_value : ℕ → Option Fraction
 binary32_value bits = float_value 23 256 149 bits
 
+-- the value of the binary64 with these bits
 abbrev pub binary64_value : ℕ → Option Fraction
 binary64_value bits = float_value 52 2048 1074 bits

@@ -13,7 +13,7 @@ use Rattle.ember_number.specs.Values.{decimal_value}
 abbrev pub begins_exponent : ℕ → Bool
 begins_exponent b = b == 101 || b == 69
 
--- what stands before the first e
+-- the text before the first e
 abbrev pub mantissa : List ℕ → List ℕ
 mantissa [] = []
 mantissa (b ∷ bs) = if begins_exponent b then [] else b ∷ mantissa bs
@@ -24,7 +24,7 @@ exponent_of_digits minus digits =
     if list_all is_ascii_digit digits && (nat_lt 0 (length digits) && nat_lt (number_from 0 digits) 10000)
     then Some (record { minus = minus; size = number_from 0 digits }) else None
 
--- the exponent behind the first e, or 0 if there is no e
+-- the exponent after the first e, or 0 if there is no e
 abbrev pub exponent_of : List ℕ → Option Exponent
 exponent_of [] = Some (record { minus = false; size = 0 })
 exponent_of (b ∷ bs) = if begins_exponent b then exponent_of_digits (is_minus bs) (unsigned bs) else exponent_of bs

@@ -14,7 +14,7 @@ places_right e = if e.minus then 0 else e.size
 abbrev pub places_left : Exponent → ℕ
 places_left e = if e.minus then e.size else 0
 
--- digits before and behind the point, times a power of ten
+-- digits before and after the point, times a power of ten
 abbrev pub decimal_value : Bool → List ℕ → List ℕ → Exponent → Fraction
 decimal_value minus whole fraction e = record {
   numerator = signed minus (number_from 0 (whole ++ fraction) * 10 ^ places_right e);
@@ -35,6 +35,7 @@ decimal_over d = number_from 0 (d.whole.now ++ d.fraction.now) * 10 ^ places_rig
 abbrev pub decimal_under : Decimal → ℕ
 decimal_under d = 10 ^ (length d.fraction.now + places_left d.exponent)
 
+-- the exact value of a number
 abbrev pub value_of : Number → Fraction
 value_of (number.Decimal d) = decimal_value d.minus d.whole.now d.fraction.now d.exponent
 value_of (number.Binary b) = binary_value b.minus b.significand b.power b.scale

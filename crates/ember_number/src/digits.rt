@@ -11,8 +11,8 @@ pub fn are_digits(text: &[u8]) -> bool
     text.iter().all(|b| b.is_ascii_digit())
 }
 
-/// The number with these digits behind those of `start`, or the limit if it is larger.
-#[tactic(auto, using(ember_dec::proofs::Capped::capped))]
+/// `start` followed by these digits, as a number, at most the limit.
+#[tactic(auto, using(ember_dec::proofs::Capped::number_from_capped))]
 pub fn append_digits(start: u64, digits: &[u8], limit: u64) -> u64
     requires digits { list_all is_ascii_digit digits.now ≡ true }
     requires start { start ≤ limit }

@@ -7,7 +7,7 @@ ghost use Rattle.ember_number.specs.Floats.{binary32_value, binary64_value};
 
 use crate::values::{Binary, Number};
 
-// One more than the greatest fraction, as it stands in the bits.
+// One more than the greatest fraction, as the bits hold it.
 const FRACTIONS_32: u32 = 1 << 23;
 
 const FRACTIONS_64: u64 = 1 << 52;
@@ -20,7 +20,8 @@ const SCALE_32: u16 = 149;
 
 const SCALE_64: u16 = 1074;
 
-/// The value of the binary32 (an IEEE 754 float of 32 bits) with these bits; none of infinity and NaN.
+/// The value of the binary32 (an IEEE 754 float of 32 bits) with these bits; `None` if that is
+/// infinity or NaN.
 #[tactic(none)]
 pub fn binary32(bits: u32) -> Option<Number<'static>>
     ensures { option_map value_of result ≡ binary32_value bits }
@@ -44,7 +45,8 @@ pub fn binary32(bits: u32) -> Option<Number<'static>>
     }))
 }
 
-/// The value of the binary64 (an IEEE 754 float of 64 bits) with these bits; none of infinity and NaN.
+/// The value of the binary64 (an IEEE 754 float of 64 bits) with these bits; `None` if that is
+/// infinity or NaN.
 pub fn binary64(bits: u64) -> Option<Number<'static>>
     ensures { option_map value_of result ≡ binary64_value bits }
 {
@@ -67,7 +69,7 @@ pub fn binary64(bits: u64) -> Option<Number<'static>>
     }))
 }
 
-/// A whole number.
+/// A whole number as a number.
 #[tactic(none)]
 pub fn integer(value: i64) -> Number<'static>
     ensures { value_of result ≡ whole_number value }

@@ -23,8 +23,8 @@ fn with_sign(minus: bool, size: Option<u128>) -> Option<i128>
     }
 }
 
-/// The greatest whole number that isn't above `factor` times the number, for a factor below 2^41; none
-/// if the number is 10^15 or more in size.
+/// The greatest whole number that isn't above `factor` times the number, for a factor below 2^41;
+/// `None` if the number is 10^15 or more in size.
 pub fn floor_times(number: &Number, factor: u64) -> Option<i128>
     requires { factor < 2 ^ 41 }
     ensures value { result ≡ fractions.floor_times factor (value_of number.now) }

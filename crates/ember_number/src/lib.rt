@@ -1,5 +1,5 @@
-//! Exact numbers as they stand in mesh files: decimals with any number of digits, binary floats and
-//! integers. Takes no memory.
+//! Exact numbers as mesh files have them: decimals with any number of digits, binary floats and
+//! integers. Allocates nothing.
 #![tactic(auto)]
 
 mod binary_sizes;

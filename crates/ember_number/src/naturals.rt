@@ -8,8 +8,8 @@ use crate::digits::{append_digits, are_digits};
 /// More lines, words, vertices or corners than a file has.
 pub const MOST: u64 = 1_000_000_000_000_000;
 
-/// The number that a text of digits spells, or [`MOST`] if it is larger. None if the text has another
-/// byte than digits, or no byte.
+/// The number that a text of digits spells, or [`MOST`] if it is larger. None if the text has
+/// another byte than digits, or no byte.
 #[tactic(none)]
 pub fn number_in(text: &[u8]) -> Option<u64>
     ensures { result ≡ option_map (min MOST) (number_of text.now) }

@@ -11,7 +11,7 @@ use crate::values::{Decimal, Exponent, Number};
 // The least size of an exponent that isn't read.
 const EXPONENT_LIMIT: u64 = 10_000;
 
-// Whether a minus stands at the beginning, and what follows a sign there.
+// Whether the text begins with a minus, and what follows a sign at its beginning.
 fn split_sign(text: &[u8]) -> (bool, &[u8])
     ensures minus { result.0 ≡ is_minus text.now }
     ensures rest { result.1.now ≡ unsigned text.now }
@@ -23,7 +23,7 @@ fn split_sign(text: &[u8]) -> (bool, &[u8])
     }
 }
 
-// The parts of a text before and behind its first point.
+// The parts of a text before and after its first point.
 fn split_point(text: &[u8]) -> (&[u8], &[u8])
     ensures before { result.0.now ≡ before_point text.now }
     ensures behind { result.1.now ≡ behind_point text.now }
@@ -56,7 +56,7 @@ fn read_exponent(minus: bool, digits: &[u8]) -> Option<Exponent>
     })
 }
 
-// The part of a text before its first `e` or `E`, and the exponent behind it.
+// The part of a text before its first `e` or `E`, and the exponent after it.
 #[tactic(none)]
 fn split_exponent(text: &[u8]) -> (&[u8], Option<Exponent>)
     ensures mantissa { result.0.now ≡ mantissa text.now }
@@ -82,7 +82,7 @@ fn split_exponent(text: &[u8]) -> (&[u8], Option<Exponent>)
     }
 }
 
-// The decimal with this sign, these digits before and behind the point, and this exponent.
+// The decimal with this sign, these digits before and after the point, and this exponent.
 #[tactic(none)]
 fn decimal_of_parts<'a>(
     minus: bool,
@@ -106,11 +106,11 @@ fn decimal_of_parts<'a>(
     }
 }
 
-/// The number that `text` spells, if it is a decimal: an optional `+` or `-`, digits with at most one
-/// point and at least one digit, then optionally `e` or `E`, an optional sign and an exponent.
+/// The number that `text` spells, if it is a decimal: an optional `+` or `-`, digits with at most
+/// one point and at least one digit, then optionally `e` or `E`, an optional sign and an exponent.
 ///
-/// There may be any number of digits. An exponent has at least one digit, and at most four behind its
-/// leading zeros. The number borrows its digits from the text.
+/// There may be any number of digits. An exponent has at least one digit, and at most four after
+/// its leading zeros. The number borrows its digits from the text.
 pub fn read_decimal(text: &[u8]) -> Option<Number<'_>>
     ensures { option_map value_of result ≡ value_of_text text.now }
 {

@@ -10,7 +10,7 @@ pub struct Exponent {
     pub size: u16,
 }
 
-/// The digits of a decimal before and behind the point, which borrow its text, times a power of ten.
+/// The digits of a decimal before and after the point, which borrow its text, times a power of ten.
 #[derive(Clone, Copy)]
 pub struct Decimal<'a> {
     pub minus: bool,
@@ -30,7 +30,7 @@ pub struct Binary {
     pub scale: u16,
 }
 
-/// A number as it stands in a mesh file, exact.
+/// A number of a mesh file, exact.
 #[derive(Clone, Copy)]
 pub enum Number<'a> {
     Decimal(Decimal<'a>),

@@ -29,7 +29,7 @@ first_line (x ∷ xs) after b is =
       | false ↦ λ e. ap (λ l. before_lines x l) (first_line xs after b e)
     ] is
 
--- the fields of a text of which a field is open
+-- the fields of a text in which a field is open
 field_then_rest : (text begun : List ℕ) → fields_from text begun ≡ closed (begun ++ before is_separator text) (fields_of (onward is_separator text))
 field_then_rest [] begun = ap (λ x. closed x []) (sym (append-nil begun))
 field_then_rest (b ∷ bs) begun =
@@ -43,6 +43,7 @@ pub first_field : (text : List ℕ) → 0 < length text → is_separator (slice_
 first_field [] some first = absurd (omega arith)
 first_field (b ∷ bs) some first = field_then_rest (b ∷ bs) [] ∙ simp first
 
+-- a text that doesn't begin with a separator has a first field with a byte
 pub field_has_byte : (text : List ℕ) → 0 < length text → is_separator (slice_index text 0) ≡ false → 0 < length (before is_separator text)
 field_has_byte [] some first = absurd (omega arith)
 field_has_byte (b ∷ bs) some first = simp first (omega arith)

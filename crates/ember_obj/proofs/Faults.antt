@@ -7,11 +7,12 @@ use Rattle.ember_obj.specs.Lines.{Line, BeginsLong}
 use Rattle.ember_obj.specs.Table.{Table}
 use Rattle.ember_obj.specs.ReadObj.{after_lines}
 
+-- a fault stays the fault after further lines
 pub after_fault : (places mesh : ℕ) (fault : ObjFault) (lines : List Line) → after_lines places mesh (Err fault) lines ≡ Err fault
 after_fault places mesh fault [] = refl
 after_fault places mesh fault (line ∷ lines) = refl
 
--- lines of which the first is too long
+-- lines, the first of them too long
 pub long_line : (places mesh number : ℕ) (table : Table) (lines : List Line) → BeginsLong number lines → after_lines places mesh (Ok table) lines ≡ Err (LongLine number)
 long_line places mesh number table [] long = absurd long
 long_line places mesh number table (line ∷ lines) long =

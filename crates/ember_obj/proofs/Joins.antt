@@ -6,10 +6,12 @@ use Rattle.ember_obj.specs.declared.fault.ObjFault.{ObjFault}
 use Rattle.ember_obj.specs.Lines.{Line, joined_to, BeginsLong, is_continued}
 use Rattle.ember_obj.specs.References.{in_front, fan, fan_round}
 
+-- putting one list in front, and then another, is putting both in front
 pub in_front_twice : (xs ys : List Corner) (rest : Result (List Corner) ObjFault) → in_front xs (in_front ys rest) ≡ in_front (xs ++ ys) rest
 in_front_twice xs ys (Err fault) = refl
 in_front_twice xs ys (Ok more) = ap (λ zs. Ok zs) (sym (append_assoc xs ys more))
 
+-- a text that is put before a joined line, and then another before it, are put together
 pub joined_twice : (number next : ℕ) (xs ys : List ℕ) (lines : List Line) → joined_to number xs (joined_to next ys lines) ≡ joined_to number (xs ++ ys) lines
 joined_twice number next xs ys [] = refl
 joined_twice number next xs ys (line ∷ lines) = ap (λ zs. (record { number = number; text = zs }) ∷ lines) (sym (append_assoc xs ys line.text))
@@ -19,6 +21,7 @@ pub begins_long : (number : ℕ) (text : List ℕ) (lines : List Line) → 65536
 begins_long number text [] long = (refl, long)
 begins_long number text (line ∷ lines) long = (refl, omega (arith, length-append text line.text))
 
+-- corners in front of none
 pub nothing_behind : (xs : List Corner) → in_front xs (Ok []) ≡ Ok xs
 nothing_behind xs = ap (λ ys. Ok ys) (append-nil xs)
 
@@ -28,6 +31,7 @@ length_fan_round mesh first [] = refl
 length_fan_round mesh first (p ∷ []) = refl
 length_fan_round mesh first (p ∷ q ∷ more) = omega (arith, length_fan_round mesh first (q ∷ more))
 
+-- a fan has two triangles fewer than the face has corners
 pub length_fan : (mesh : ℕ) (corners : List Corner) → length (fan mesh corners) ≡ length corners - 2
 length_fan mesh [] = refl
 length_fan mesh (first ∷ others) = omega (arith, length_fan_round mesh first others)

@@ -13,6 +13,7 @@ use Rattle.ember_obj.specs.References.{counted}
 pub too_large : (v i : ℕ) (ds : List ℕ) → i < length ds → 2 ^ 64 ≤ v * 10 → 2 ^ 64 ≤ number_from v (drop i ds)
 too_large v i ds h large = rw (number_from-drop v i ds h) (omega (arith, number_from-grows (v * 10 + (get_or ds i 0 - 48)) (drop (suc i) ds)))
 
+-- if the digits so far spell a number of 2^64 or more, all digits do
 pub too_large_so_far : (v i : ℕ) (ds : List ℕ) → i < length ds → 2 ^ 64 ≤ v * 10 + (get_or ds i 0 - 48) → 2 ^ 64 ≤ number_from v (drop i ds)
 too_large_so_far v i ds h large = rw (number_from-drop v i ds h) (omega (arith, number_from-grows (v * 10 + (get_or ds i 0 - 48)) (drop (suc i) ds)))
 

@@ -3,7 +3,7 @@ use Rattle.std.specs.Prelude.{◌≡◌, ◌<◌, ℕ, ◌+◌, ◌-◌, Bool, n
 use Rattle.std.specs.List.{list_any, starts_with, ends_with}
 use Rattle.ember_obj.specs.Scan.{before}
 
--- the bytes of a file behind a byte order mark at its beginning
+-- the bytes of a file after a byte order mark at its beginning
 abbrev pub unmarked : List ℕ → List ℕ
 unmarked bytes = if starts_with nat_eq bytes (239 ∷ 187 ∷ 191 ∷ []) then drop 3 bytes else bytes
 
@@ -25,6 +25,7 @@ without_return line = if ends_with nat_eq line (13 ∷ []) then take (length lin
 abbrev pub physical_lines : List ℕ → List (List ℕ)
 physical_lines bytes = map without_return (ended_lines bytes)
 
+-- the byte `#`
 abbrev pub is_hash : ℕ → Bool
 is_hash b = b == 35
 
@@ -41,12 +42,12 @@ pub record Line : Type 0 where
   pub number : ℕ
   pub text : List ℕ
 
--- a text in front of the first of the joined lines, which gets the number of the text's line
+-- the joined lines with a text put before the first one; that line gets this number
 abbrev pub joined_to : ℕ → List ℕ → List Line → List Line
 joined_to number text [] = (record { number = number; text = text }) ∷ []
 joined_to number text (line ∷ lines) = (record { number = number; text = text ++ line.text }) ∷ lines
 
--- the joined lines of physical lines, of which the first has this number; comments are dropped
+-- the joined lines of physical lines; the first has this number, and comments are dropped
 abbrev pub joined_lines : ℕ → List (List ℕ) → List Line
 joined_lines number [] = []
 joined_lines number (line ∷ lines) =

@@ -1,4 +1,4 @@
--- What the bytes of an OBJ file stand for: its triangles with their lines, or its first fault.
+-- What the bytes of an OBJ file mean: its triangles with their lines, or its first fault.
 use Rattle.std.specs.Prelude.{ℕ, ◌+◌, List, [], ◌∷◌, ◌++◌, if◌then◌else◌, ◌==◌, nat_lt, nat_le, length, replicate, Option, None, Some, Result, Ok, Err, ℤ}
 use Rattle.ember_dec.specs.Decimal.{coordinate_of}
 use Rattle.ember_dec.specs.declared.DecFault.{DecFault}
@@ -13,6 +13,7 @@ use Rattle.ember_obj.specs.Lines.{Line, unmarked, lines_from}
 use Rattle.ember_obj.specs.References.{corners_of, fan}
 use Rattle.ember_obj.specs.Table.{Table, Faces}
 
+-- `v`, `f` or another keyword
 abbrev pub keyword_of : List ℕ → Keyword
 keyword_of [] = Other
 keyword_of (b ∷ []) = if b == 118 then Vertex else if b == 102 then Face else Other
@@ -57,11 +58,13 @@ with_face mesh line table (Err fault) = Err fault
 with_face mesh line table (Ok corners) =
     if nat_lt (length corners) 3 then Err (FewCorners line) else with_tris line table (fan mesh corners)
 
+-- what is read after a line with this keyword and these fields
 abbrev pub after_keyword : ℕ → ℕ → ℕ → Table → Keyword → List (List ℕ) → Result Table ObjFault
 after_keyword places mesh line table Vertex fields = with_vertex line table (corner_in places line (first_three fields))
 after_keyword places mesh line table Face fields = with_face mesh line table (corners_of line table.vertices fields)
 after_keyword places mesh line table Other fields = Ok table
 
+-- what is read after a line with these fields
 abbrev pub after_fields : ℕ → ℕ → ℕ → Table → List (List ℕ) → Result Table ObjFault
 after_fields places mesh line table [] = Ok table
 after_fields places mesh line table (key ∷ fields) = after_keyword places mesh line table (keyword_of key) fields
@@ -78,6 +81,7 @@ after_lines places mesh so_far [] = so_far
 after_lines places mesh (Err fault) (line ∷ lines) = Err fault
 after_lines places mesh (Ok table) (line ∷ lines) = after_lines places mesh (after_line places mesh table line) lines
 
+-- the triangles of a file, once all lines are read
 abbrev pub faces_of : Result Table ObjFault → Result Faces ObjFault
 faces_of (Err fault) = Err fault
 faces_of (Ok table) = Ok (record { tris = table.tris; lines = table.lines })

@@ -9,6 +9,7 @@ use Rattle.ember_obj.specs.declared.fault.ObjFault.{ObjFault}
 use Rattle.ember_obj.specs.declared.fault.ObjFault.TheVariants.{Word, Index}
 use Rattle.ember_obj.specs.Scan.{before}
 
+-- the byte `/`
 abbrev pub is_slash : ℕ → Bool
 is_slash b = b == 47
 
@@ -16,7 +17,7 @@ is_slash b = b == 47
 abbrev pub is_number : List ℕ → Bool
 is_number text = nat_lt 0 (length text) && list_all is_ascii_digit text
 
--- the text behind a minus at its beginning
+-- the text after a minus at its beginning
 abbrev pub size_digits : List ℕ → List ℕ
 size_digits [] = []
 size_digits (b ∷ bs) = if b == 45 then bs else b ∷ bs
@@ -25,6 +26,7 @@ size_digits (b ∷ bs) = if b == 45 then bs else b ∷ bs
 abbrev pub counted : List Corner → ℕ → Option Corner
 counted corners k = if k == 0 then None else slice_get corners (k - 1)
 
+-- the vertex, or the fault of an index that names none
 abbrev pub named_or_fault : ℕ → Option Corner → Result Corner ObjFault
 named_or_fault line None = Err (Index line)
 named_or_fault line (Some corner) = Ok corner
@@ -37,7 +39,7 @@ vertex_at line vertices index =
     else vertices) (number_from 0 (size_digits index)))
     else Err (Word line)
 
--- the vertex that a reference names by what stands before its first slash
+-- the vertex that a reference names by the bytes before its first slash
 abbrev pub vertex_named : ℕ → List Corner → List ℕ → Result Corner ObjFault
 vertex_named line vertices reference = vertex_at line vertices (before is_slash reference)
 

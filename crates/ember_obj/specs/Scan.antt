@@ -1,7 +1,7 @@
 -- Parts of a text.
 use Rattle.std.specs.Prelude.{ℕ, Bool, ◌||◌, List, [], ◌∷◌, ◌++◌, if◌then◌else◌, ◌==◌, Option, None, Some}
 
--- what stands before the first byte of a kind
+-- the bytes before the first byte of a kind
 abbrev pub before : (ℕ → Bool) → List ℕ → List ℕ
 before stops [] = []
 before stops (b ∷ bs) = if stops b then [] else b ∷ before stops bs

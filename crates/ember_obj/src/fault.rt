@@ -2,8 +2,9 @@
 use ember_dec::DecFault;
 use thiserror::Error;
 
-/// The first fault of a file, with its line, or want of memory. A line that is joined from several
-/// has the number of the first of them, from 1.
+/// The first fault of a file, with its line, or out-of-memory. A line that is joined from several
+/// has the number of the first of them, from 1. The program doesn't print these texts, but its own:
+/// see `src/lines.rt` of ember_run.
 #[derive(Clone, Copy, Debug, PartialEq, Eq, Error)]
 pub enum ObjFault {
     /// A vertex has fewer than three coordinates, or the index of a reference isn't a number.

@@ -12,7 +12,7 @@ const MARK: [u8; 3] = [0xEF, 0xBB, 0xBF];
 /// The most bytes of a joined line.
 pub(crate) const MOST_BYTES: usize = 65_536;
 
-// The bytes behind a byte order mark at the beginning.
+// The bytes after a byte order mark at the beginning.
 pub(crate) fn skip_mark(bytes: &[u8]) -> &[u8]
     ensures { result.now ≡ unmarked bytes.now }
 {
@@ -50,6 +50,7 @@ pub(crate) fn next_line(bytes: &[u8]) -> Option<(&[u8], &[u8])>
     }
 }
 
+// Whether the line has a `#`.
 fn has_comment(line: &[u8]) -> bool
     ensures { result ≡ list_any is_hash line.now }
 {
@@ -97,8 +98,8 @@ fn append_continued(text: &mut Vec<u8>, number: u32, line: &[u8]) -> Result<(), 
 }
 
 // `text` has the beginning of the joined line with this number. Appends the rest of the line:
-// `bytes` begins with the physical line `next`. Gives the number of the first physical line after
-// the joined one, and the bytes from it on.
+// `bytes` begins with its next physical line, the one with the number `next`. Returns where the
+// next joined line begins: the number of its first physical line, and the bytes from it on.
 #[tactic(auto, using(crate::proofs::Joins::joined_twice, crate::proofs::Joins::begins_long))]
 fn append_rest<'a>(
     text: &mut Vec<u8>,
@@ -129,8 +130,9 @@ fn append_rest<'a>(
     Ok((next, rest))
 }
 
-// Puts the joined line that begins with the physical line `line` into `text`, where this line has the
-// number and `after` follows it. Gives the number of the physical line behind, and the bytes from it on.
+// Puts one joined line into `text`. `line` is its first physical line, the one with this number,
+// and `after` has the bytes that follow. Returns where the next joined line begins: the number of
+// its first physical line, and the bytes from it on.
 #[tactic(auto, using(crate::proofs::Joins::begins_long, crate::proofs::Joins::continued_has_byte))]
 pub(crate) fn join<'a>(
     text: &mut Vec<u8>,

@@ -37,7 +37,8 @@ fn keyword_in(field: &[u8]) -> Keyword
     }
 }
 
-// What is read so far, and the corners of the face in hand.
+// What is read so far, and the corners of the face being read. Contracts see it as a `Table`,
+// without these corners.
 #[derive(Drop)]
 struct Reader {
     vertices: Vec<Corner>,
@@ -124,8 +125,10 @@ impl Reader {
         }
     }
 
-    // Reads the line that begins with this physical line, which `after` follows. Gives the number of the
-    // physical line behind, and the bytes from it on.
+    // Reads one joined line. `line` is its first physical line, and `after` has the bytes that
+    // follow. Returns the number of the physical line that begins the next joined line, and the
+    // bytes from it on. In the clauses: to read the rest of the file gives the same before and
+    // after this call.
     #[tactic(auto, using(crate::proofs::Faults::after_fault, crate::proofs::Faults::long_line))]
     fn read_line<'a>(
         &mut self,
@@ -157,12 +160,13 @@ impl Reader {
     }
 }
 
-/// The triangles of an OBJ file with their lines, each with this mesh number, or its first fault. The
-/// coordinates are in units of a tenth to the power of `places`.
+/// The triangles of an OBJ file with their lines, each with this mesh number, or its first fault.
+/// The coordinates are in units of 10^-`places`.
 ///
 /// A joined line has the number of its first physical line, from 1. The fault is that of the first
-/// line with one; within a line faults come in the order of the file's rules, and those of references
-/// from left to right. A line that isn't joined from several is read where it stands.
+/// line with one; if several apply to it, the first by the table "Faults" of the OBJ profile in
+/// `docs/FORMATS.md`. A line that isn't joined from several isn't copied. There are at most 2^28
+/// bytes.
 #[tactic(auto, using(crate::proofs::Faults::after_fault))]
 pub fn read_obj(alloc: Global, bytes: &[u8], places: u8, mesh: u32) -> Result<Soup, ObjFault>
     requires places { places ≤ 3 }

@@ -11,6 +11,7 @@ use crate::scan::{cut_before, next_field};
 use ember_model::{Corner, Tri};
 use std::alloc::AllocError;
 
+// Whether all bytes are decimal digits.
 fn are_digits(text: &[u8]) -> bool
     ensures { result ≡ list_all is_ascii_digit text.now }
 {

@@ -15,6 +15,7 @@ pub(crate) fn cut_before(bytes: &[u8], stop: u8) -> (&[u8], &[u8])
     bytes.split_at(end)
 }
 
+// Whether the byte is a space, a tab or a carriage return.
 fn separates(byte: u8) -> bool
     ensures { result ≡ is_separator byte }
 {

@@ -47,6 +47,7 @@ few_words_from p (b ∷ bs) begun =
     ]
 
 -- ---- counts that are read with a limit
+-- two counts, each at most the limit
 pub counts_both : (limit x y : ℕ) (a b : Option ℕ) → Some x ≡ option_map (min limit) a → Some y ≡ option_map (min limit) b → Some (x, y) ≡ option_map (capped limit) (two_counts a b)
 counts_both limit x y None b p q = cc
 counts_both limit x y (Some m) None p q = cc
@@ -55,30 +56,18 @@ counts_both limit x y (Some m) (Some n) p q =
     let second : y ≡ min limit n = cc in
     ap₂ (λ s t. Some (s, t)) first second
 
+-- without a first count there are no counts
 pub counts_no_first : (limit : ℕ) (a b : Option ℕ) → None ≡ option_map (min limit) a → None ≡ option_map (capped limit) (two_counts a b)
 counts_no_first limit None b p = refl
 counts_no_first limit (Some m) b p = cc
 
+-- without a second count there are no counts
 pub counts_no_second : (limit : ℕ) (a b : Option ℕ) → None ≡ option_map (min limit) b → None ≡ option_map (capped limit) (two_counts a b)
 counts_no_second limit None b p = refl
 counts_no_second limit (Some m) None p = refl
 counts_no_second limit (Some m) (Some n) p = cc
 
-pub counts_none : (limit : ℕ) (counts : Option Counts) (rows : List Words) → None ≡ option_map (capped limit) counts → counted counts rows ≡ Err NoCounts
-counts_none limit None rows is = refl
-counts_none limit (Some c) rows is = cc
-
-pub counts_short : (limit v f : ℕ) (counts : Option Counts) (rows : List Words) → Some (v, f) ≡ option_map (capped limit) counts → nat_le (v + f) (length rows) ≡ false → counted counts rows ≡ Err FewLines
-counts_short limit v f None rows is short = cc
-counts_short limit v f (Some c) rows is short =
-    let both : (v, f) ≡ capped limit c = cc in
-    let first : v ≡ min limit c.vertices = ap (λ (p : ℕ × ℕ). p.0) both in
-    let second : f ≡ min limit c.faces = ap (λ (p : ℕ × ℕ). p.1) both in
-    elim (cases_Bool (nat_le (c.vertices + c.faces) (length rows))) [
-      | inl h ↦ absurd (omega (arith, first, second, leb-true (c.vertices + c.faces) (length rows) h, leb-false (v + f) (length rows) short))
-      | inr h ↦ rw h refl
-    ]
-
+-- counts that were read with a limit: the rows are read by them
 pub counts_read : (limit v f : ℕ) (counts : Option Counts) (rows : List Words) → Some (v, f) ≡ option_map (capped limit) counts → v + f ≤ length rows → length rows < limit → counted counts rows ≡ whole (points_of (take v rows)) (facets_of v (take f (drop v rows)))
 counts_read limit v f None rows is enough few = cc
 counts_read limit v f (Some c) rows is enough few =

@@ -1,4 +1,4 @@
--- What the bytes of an OFF file stand for: points and triangles, or the first fault
+-- What the bytes of an OFF file mean: points and triangles, or the first fault
 use Rattle.std.specs.Prelude.{codes, ℕ, ◌+◌, Bool, ◌||◌, List, [], ◌∷◌, ◌++◌, if◌then◌else◌, nat_lt, nat_le, length, take, drop, zero, suc, Option, None, Some, Result, Ok, Err}
 use Rattle.std.specs.Str.{str_eq_ignore_ascii_case}
 use Rattle.ember_number.specs.Fractions.{Fraction}
@@ -28,6 +28,7 @@ abbrev pub coordinate_or_fault : ℕ → Piece → Option Fraction → Result Fr
 coordinate_or_fault line word None = Err (NotANumber line (span_of word))
 coordinate_or_fault line word (Some v) = Ok v
 
+-- the value of a word, or its fault
 abbrev pub coordinate_in : ℕ → Piece → Result Fraction OffFault
 coordinate_in line word = coordinate_or_fault line word (value_of_text word.text)
 
@@ -62,7 +63,7 @@ with_corner None corners = None
 with_corner (Some corner) None = None
 with_corner (Some corner) (Some corners) = Some (corner ∷ corners)
 
--- the first so many words as indices of as many vertices as there are
+-- the first n words as indices of the vertices that there are
 abbrev pub indices : ℕ → ℕ → List Piece → Option (List ℕ)
 indices vertices zero words = Some []
 indices vertices (suc left) [] = None
@@ -102,6 +103,7 @@ two_counts (Some v) (Some f) = Some (record { vertices = v; faces = f })
 two_counts (Some v) None = None
 two_counts None f = None
 
+-- the numbers of vertices and faces in these words
 abbrev pub counts_of : List Piece → Option Counts
 counts_of [] = None
 counts_of (v ∷ []) = None
@@ -112,7 +114,7 @@ whole (Err fault) facets = Err fault
 whole (Ok points) (Err fault) = Err fault
 whole (Ok points) (Ok facets) = Ok (record { points = points; facets = facets })
 
--- the content of the rows behind the counts
+-- the content of the rows after the counts
 abbrev pub counted : Option Counts → List Words → Result Content OffFault
 counted None rows = Err NoCounts
 counted (Some c) rows =
@@ -120,7 +122,7 @@ counted (Some c) rows =
     then whole (points_of (take c.vertices rows)) (facets_of c.vertices (take c.faces (drop c.vertices rows)))
     else Err FewLines
 
--- the counts stand behind the first word, or otherwise in the next row
+-- the counts are after the first word, or otherwise in the next row
 abbrev pub behind_keyword : List Piece → List Words → Result Content OffFault
 behind_keyword [] [] = Err NoCounts
 behind_keyword [] (row ∷ rows) = counted (counts_of row.words) rows
@@ -137,19 +139,23 @@ abbrev pub with_keyword : List Piece → List Words → Result Content OffFault
 with_keyword [] rows = Err NoOff
 with_keyword (word ∷ words) rows = if is_keyword word.text then behind_keyword words rows else Err NoOff
 
+-- the content of these rows, whether it is a mesh or not
 abbrev pub content_in : List Words → Result Content OffFault
 content_in [] = Err NoOff
 content_in (row ∷ rows) = with_keyword row.words rows
 
 -- ---- what no mesh has
+-- the content, unless a triangle is too far out
 abbrev pub near_or_fault : Content → Option ℕ → Result Content OffFault
 near_or_fault content None = Ok content
 near_or_fault content (Some place) = Err (TooLarge place)
 
+-- the content, if it has triangles and none is too far out
 abbrev pub with_triangles : Content → List Facet → Result Content OffFault
 with_triangles content [] = Err NoTriangles
 with_triangles content (f ∷ fs) = near_or_fault content (first_far content)
 
+-- the content, if it is a mesh
 abbrev pub as_mesh : Result Content OffFault → Result Content OffFault
 as_mesh (Err fault) = Err fault
 as_mesh (Ok content) = with_triangles content content.facets

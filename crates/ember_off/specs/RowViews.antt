@@ -5,8 +5,10 @@ use Rattle.ember_off.specs.declared.row.Row.{Row}
 use Rattle.ember_off.specs.declared.row.Rows.{Rows}
 use Rattle.ember_off.specs.Rows as rows
 
+-- a row as definitions see it
 abbrev pub words_of_row : Row → rows.Words
 words_of_row row = record { line = row.line; words = piece_of row.first ∷ words_in row.others }
 
+-- the rows that are left, as definitions see them
 abbrev pub rows_in : Rows → List rows.Words
 rows_in r = rows.rows_from r.number (lines_in r.rest)

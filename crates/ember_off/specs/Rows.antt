@@ -12,7 +12,7 @@ abbrev pub with_row : ℕ → List Piece → List Words → List Words
 with_row number [] rows = rows
 with_row number (word ∷ words) rows = record { line = number; words = word ∷ words } ∷ rows
 
--- the rows of these lines, of which the first has this number
+-- the rows of these lines; the first line has this number
 abbrev pub rows_from : ℕ → List Piece → List Words
 rows_from number [] = []
 rows_from number (line ∷ lines) = with_row number (words_of (uncommented line)) (rows_from (number + 1) lines)

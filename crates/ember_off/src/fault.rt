@@ -2,7 +2,7 @@
 use ember_scan::Span;
 use thiserror::Error;
 
-/// The first fault of a file, or want of memory. Lines are counted from 1.
+/// The first fault of a file, or out-of-memory. Lines are counted from 1.
 #[derive(Clone, Copy, Debug, PartialEq, Eq, Error)]
 pub enum OffFault {
     /// The first word isn't `OFF`, `COFF` or `NOFF`.
@@ -17,10 +17,12 @@ pub enum OffFault {
     /// The vertex in this line has fewer than three coordinates.
     #[error("line {0}: fewer than three coordinates")]
     FewCoordinates(u32),
-    /// A coordinate in this line isn't a decimal: the first of the vertex that isn't, with its bytes.
+    /// A coordinate in this line isn't a decimal: the first of the vertex that isn't, with its
+    /// bytes.
     #[error("line {0}: not a number")]
     NotANumber(u32, Span),
-    /// This line isn't a face: a number of corners, at least three, and as many indices of vertices.
+    /// This line isn't a face: a number of corners, at least three, and as many indices of
+    /// vertices.
     #[error("line {0}: face not understood")]
     Face(u32),
     /// There are no faces.

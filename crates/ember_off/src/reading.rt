@@ -39,7 +39,7 @@ fn read_lists<'a>(
     })
 }
 
-// The vertices and faces behind a row of counts with this first word.
+// The vertices and faces after a row of counts with this first word.
 fn read_counted<'a>(
     alloc: Global,
     first: Part<'a>,
@@ -61,7 +61,7 @@ fn read_counted<'a>(
     read_lists(alloc, rows, vertices as u32, faces as usize)
 }
 
-// The vertices and faces behind the word at the beginning, which these words follow in its line.
+// The vertices and faces after the word at the beginning, which these words follow in its line.
 fn read_behind<'a>(alloc: Global, words: Part<'a>, rows: Rows<'a>) -> Result<Surface<'a>, OffFault>
     requires { rows.number ≤ rows.rest.start + 1 }
     ensures ok { IfOk result (λ s. behind_keyword (words_in words.entry) (rows_in rows.entry) ≡ Ok (content_of s)) }
@@ -77,6 +77,7 @@ fn read_behind<'a>(alloc: Global, words: Part<'a>, rows: Rows<'a>) -> Result<Sur
     read_counted(alloc, row.first, row.others, rest)
 }
 
+// Whether the word is `OFF`, `COFF` or `NOFF`, in any case.
 fn names_format(word: &[u8]) -> bool
     ensures { result ≡ is_keyword word.now }
 {
@@ -129,15 +130,15 @@ fn read_mesh<'a>(alloc: Global, bytes: &'a [u8]) -> Result<Surface<'a>, OffFault
 
 /// The vertices and triangles of an OFF file, or its first fault.
 ///
-/// Lines are counted from 1, and a `#` and what follows it in its line don't count. The first word is
-/// `OFF`, `COFF` or `NOFF`, in any case. The numbers of vertices and of faces follow it in its line, or
-/// otherwise stand in the next line with a word. Each further line with a word is a vertex, of which the
-/// first three words are decimals, or then a face: a number of corners, and as many indices of vertices,
-/// from 0. What follows them isn't read. A face is cut into triangles from its first corner, and its
-/// line is their place.
+/// Lines are counted from 1, and a `#` and what follows it in its line don't count. The first word
+/// is `OFF`, `COFF` or `NOFF`, in any case. The numbers of vertices and of faces follow it in its
+/// line, or otherwise are in the next line with a word. Each further line with a word is a vertex:
+/// the first three words are decimals, or then a face: a number of corners, and as many indices of
+/// vertices, from 0. What follows them isn't read. A face is cut into triangles from its first
+/// corner, and its line is their place.
 ///
-/// [`FewLines`](OffFault::FewLines) comes before each fault of a vertex or a face, and those come in
-/// the order of lines. The coordinates borrow their digits from `bytes`.
+/// [`FewLines`](OffFault::FewLines) precedes each fault of a vertex or a face, and those are in the
+/// order of lines. The coordinates borrow their digits from `bytes`. There are at most 2^28 bytes.
 pub fn read_off(alloc: Global, bytes: &[u8]) -> Result<Surface<'_>, OffFault>
     requires { length bytes.now ≤ 268435456 }
     ensures ok { IfOk result (λ s. read_off_of bytes.now ≡ Ok (content_of s)) }

@@ -33,7 +33,7 @@ pub(crate) fn next_row<'a>(rows: Rows<'a>) -> Option<(Row<'a>, Rows<'a>)>
     None
 }
 
-// Whether there are as many rows.
+// Whether there are at least `count` rows.
 #[tactic(none)]
 pub(crate) fn are_rows<'a>(rows: Rows<'a>, count: usize) -> bool
     requires { rows.number ≤ rows.rest.start + 1 }

@@ -65,7 +65,7 @@ fn add_vertex<'a>(vertices: &mut Vec<Vertex<'a>>, row: Row<'a>) -> Result<(), Of
     Ok(())
 }
 
-// The vertices of the first rows, and the rows behind them.
+// The vertices of the first rows, and the rows after them.
 pub(crate) fn read_vertices<'a>(
     alloc: Global,
     rows: Rows<'a>,

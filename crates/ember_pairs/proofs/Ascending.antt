@@ -13,21 +13,25 @@ abbrev pub Ascending : List ℕ → Type 0
 Ascending [] = Unit {0}
 Ascending (i ∷ is) = ((j : ℕ) → In j is → i < j) × Ascending is
 
+-- a number of a range is within its bounds
 pub in_range_out : (a n j : ℕ) → In j (range_with_len a n) → (a ≤ j) × (j < a + n)
 in_range_out a zero j m = absurd m
 in_range_out a (suc n) j (inl e) = (omega (arith, e), omega (arith, e))
 in_range_out a (suc n) j (inr m) = let r = in_range_out (a + 1) n j m in (omega (arith, r.0), omega (arith, r.1))
 
+-- a number within the bounds is one of the range
 pub in_range : (a n j : ℕ) → a ≤ j → j < a + n → In j (range_with_len a n)
 in_range a zero j l h = absurd (omega arith)
 in_range a (suc n) j l h =
     ⊎_elim (λ s. inr (in_range (a + 1) n j (omega (arith, s)) (omega (arith, h)))) (λ e. inl (omega (arith, e, l))) (cases_lt a j)
 
+-- consecutive numbers ascend
 pub range_ascending : (a n : ℕ) → Ascending (range_with_len a n)
 range_ascending a zero = tt
 range_ascending a (suc n) =
     ((λ j m. let r = in_range_out (a + 1) n j m in omega (arith, r.0)), range_ascending (a + 1) n)
 
+-- an ascending list stays ascending if members are left out
 pub filter_ascending : (p : ℕ → Bool) (is : List ℕ) → Ascending is → Ascending (filter p is)
 filter_ascending p [] a = tt
 filter_ascending p (i ∷ is) a = by (p i) (filter_ascending p is a.1)
@@ -51,6 +55,7 @@ pub record PairOf (is : List ℕ) (p : Pair) : Type 0 where
   pub high : In p.high is
   pub less : p.low < p.high
 
+-- a pair of an ascending list is of two of its numbers, in order
 pub pair_out : (is : List ℕ) (p : Pair) → Ascending is → In p (pairs_of is) → PairOf is p
 pair_out [] p a m = absurd m
 pair_out (k ∷ is) p a m =
@@ -67,12 +72,14 @@ pair_out (k ∷ is) p a m =
 abbrev pub Precedes : Pair → Pair → Type 0
 Precedes p q = (p.low < q.low) ⊎ ((p.low ≡ q.low) × (p.high < q.high))
 
+-- of two pairs, one at most precedes the other
 pub precedes_not : (p q : Pair) → Precedes p q → Precedes q p → ⊥
 precedes_not p q (inl a) (inl b) = omega (arith, a, b)
 precedes_not p q (inl a) (inr b) = omega (arith, a, b.0)
 precedes_not p q (inr a) (inl b) = omega (arith, a.0, b)
 precedes_not p q (inr a) (inr b) = omega (arith, a.1, b.1)
 
+-- no pair precedes itself
 pub precedes_itself : (p q : Pair) → p ≡ q → Precedes p q → ⊥
 precedes_itself p q e (inl a) = omega (arith, a, ap (λ (x : Pair). x.low) e)
 precedes_itself p q e (inr a) = omega (arith, a.1, ap (λ (x : Pair). x.high) e)
@@ -91,6 +98,7 @@ row_sorted k [] a = tt
 row_sorted k (i ∷ is) a =
     ((λ q m. let r = in_map_out (λ n. pair k n) q is m in subst (λ (x : Pair). Precedes (pair k i) x) (sym r.is) (inr (refl, a.0 r.of r.member))), row_sorted k is a.1)
 
+-- the pairs of an ascending list are sorted
 pub pairs_sorted : (is : List ℕ) → Ascending is → Sorted (pairs_of is)
 pairs_sorted [] a = tt
 pairs_sorted (k ∷ is) a =

@@ -68,6 +68,7 @@ no_point t u v nt nu e it iu =
     let a = aabb_of_tri t in let b = aabb_of_tri u in
     ⊎_elim (λ p. ⊎_elim (λ x. apart_along X t u v nt nu it iu x) (λ y. apart_along Y t u v nt nu it iu y) (and_cases (intervals_meet a.x b.x) (intervals_meet a.y b.y) p)) (λ z. apart_along Z t u v nt nu it iu z) (and_cases (intervals_meet a.x b.x && intervals_meet a.y b.y) (intervals_meet a.z b.z) e)
 
+-- triangles whose bounding boxes don't meet don't meet
 pub boxes_apart : (t u : Tri) → aabbs_meet (aabb_of_tri t) (aabb_of_tri u) ≡ false → AreMeeting t u → ⊥
 boxes_apart t u e m =
     ⊎_elim (λ p. no_point t u p.at m.one m.other e (inside_closed (face_of t) p.at p.inside) p.holds) (λ p. no_point t u p.at m.one m.other e p.holds (inside_closed (face_of u) p.at p.inside)) m.meet

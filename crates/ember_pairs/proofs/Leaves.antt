@@ -141,10 +141,12 @@ pub record Share (ts : List Tri) (i j : ℕ) (v : Spot) : Type 0 where
   pub in_one : is_in_closed (face_of (tri_at ts i)) v ≡ true
   pub in_other : is_in_closed (face_of (tri_at ts j)) v ≡ true
 
+-- a triangle with a point of its closed face in the box is near the box
 pub listed_at : (ts : List Tri) (c : Cell) (i : ℕ) (v : Spot) → i < length ts → is_flat (tri_at ts i) ≡ false → is_in_closed (face_of (tri_at ts i)) v ≡ true → HasPoint c v → In i (near_indices ts c (all_indices ts))
 listed_at ts c i v l nf h p =
     in_filter (λ k. is_near c (tri_at ts k)) i (all_indices ts) (in_range 0 (length ts) i (omega arith) (omega (arith, l))) (near_point c (tri_at ts i) v nf p h)
 
+-- a point in the closed faces of two triangles is in some leaf
 pub shared_leaf : (ts : List Tri) (i j : ℕ) (v : Spot) → i < j → j < length ts → IsValidTri (tri_at ts i) → Share ts i j v → LeafAt ts (leaf_jobs ts) v
 shared_leaf ts i j v l m valid s =
     leaf_under ts v many (halvings_left root) root (omega arith) (root_has (tri_at ts i) v valid s.one s.in_one)

@@ -102,7 +102,7 @@ unfolding face_of
 inside_ring t v e =
     let k = inside_out (face_of t) v e in record { flat = k.flat; weight = k.weight; within = k.within }
 
--- where the corners of u lie strictly on one side of the plane of t
+-- if the corners of u are strictly on one side of the plane of t
 strictly_apart : (t u : Tri) → is_flat u ≡ false → all_in_front (heights_of (support_of t) u) || all_behind (heights_of (support_of t) u) ≡ true → Meets (face_of t) (face_of u) → ⊥
 unfolding face_of
 strictly_apart t u n e m = one_side_meets_not (face_of t) (support_of t) u refl n (one_side (support_of t) u e) m
@@ -135,13 +135,14 @@ pub parted_by_one : (t u : Tri) → all_in_front (heights_of (support_of t) u) |
 parted_by_one t u e m =
     ⊎_elim (λ x. strictly_apart t u m.other e x) (λ y. leaning_apart u t m.other (leans (support_of t) u e) y) m.meet
 
-pub turned : {t u : Tri} → AreMeeting t u → AreMeeting u t
-turned m = record { one = m.other; other = m.one; meet = ⊎_elim (λ x. inr x) (λ y. inl y) m.meet }
+-- to meet is symmetric
+pub meeting_is_symmetric : {t u : Tri} → AreMeeting t u → AreMeeting u t
+meeting_is_symmetric m = record { one = m.other; other = m.one; meet = ⊎_elim (λ x. inr x) (λ y. inl y) m.meet }
 
 -- the corners of each lie on one side of the plane of the other
 pub parted_by_both : (t u : Tri) → (none_in_front (heights_of (support_of u) t) || none_behind (heights_of (support_of u) t)) && not (all_on (heights_of (support_of u) t)) ≡ true → (none_in_front (heights_of (support_of t) u) || none_behind (heights_of (support_of t) u)) && not (all_on (heights_of (support_of t) u)) ≡ true → AreMeeting t u → ⊥
 parted_by_both t u e f m = ⊎_elim (λ x. leaning_apart t u m.one e x) (λ y. leaning_apart u t m.other f y) m.meet
 
 -- ---- the tests of the code
-pub tested : (f : Heights → Bool) (u : Tri) {p q : Plane} {h : Heights} {b : Bool} → p ≡ q → h ≡ heights_of p u → b ≡ f h → b ≡ true → f (heights_of q u) ≡ true
-tested f u {p} {q} {h} e k r s = sym (ap f (k ∙ ap (λ (p : Plane). heights_of p u) e)) ∙ sym r ∙ s
+pub heights_answer_moved : (f : Heights → Bool) (u : Tri) {p q : Plane} {h : Heights} {b : Bool} → p ≡ q → h ≡ heights_of p u → b ≡ f h → b ≡ true → f (heights_of q u) ≡ true
+heights_answer_moved f u {p} {q} {h} e k r s = sym (ap f (k ∙ ap (λ (p : Plane). heights_of p u) e)) ∙ sym r ∙ s

@@ -14,15 +14,18 @@ use Rattle.ember_job.specs.declared.job.Job.{Job}
 use Rattle.ember_job.specs.Works.{halved, leafed, passed}
 use Rattle.ember_pairs.specs.Works.{at_root, no_windings, job_at, IsPairsJob, pairs_shape}
 
+-- a range of one more number
 pub range_more : (a n : ℕ) → range_with_len a (n + 1) ≡ range_with_len a n ++ (a + n) ∷ []
 range_more a zero = let e : a ≡ a + 0 = omega arith in ap (λ m. m ∷ []) e
 range_more a (suc n) =
     let step : suc n + 1 ≡ suc (n + 1) = omega arith in let e : a + 1 + n ≡ a + suc n = omega arith in
     rw step (ap (λ ns. a ∷ ns) (range_more (a + 1) n ∙ ap (λ m. range_with_len (a + 1) n ++ m ∷ []) e))
 
+-- the root's job is valid
 pub root_is_valid : (ts : List Tri) (job : Job) → job ≡ job_at ts root → IsPairsJob ts job
 root_is_valid ts job e = subst (λ (j : Job). IsPairsJob ts j) (sym e) (record { from_root = at_root; is = refl })
 
+-- all indices of a list are in range
 pub places_in_range : (ts : List Tri) → All (λ i. i < length ts) (all_indices ts)
 places_in_range ts =
     All-from_get_or (λ i. i < length ts) (all_indices ts) 0 (λ i l. let b : i < length ts = omega (arith, l, length-range_with_len 0 (length ts)) in let e = get_or-range_with_len 0 (length ts) i 0 b in rw e (omega arith))
@@ -30,6 +33,7 @@ places_in_range ts =
 list_is : (ts : List Tri) (job : Job) → IsPairsJob ts job → job.list ≡ near_indices ts job.cell (all_indices ts)
 list_is ts job v = ap (λ (j : Job). j.list) v.is
 
+-- a job of `pairs` lists indices of triangles
 pub list_in_range : (ts : List Tri) (job : Job) (list : List ℕ) → IsPairsJob ts job → list ≡ job.list → All (λ i. i < length ts) list
 list_in_range ts job list v e =
     subst (λ (is : List ℕ). All (λ i. i < length ts) is) (sym (e ∙ list_is ts job v)) (near_in_range ts job.cell (all_indices ts) (places_in_range ts))
@@ -58,12 +62,14 @@ listed_axis : (ts : List Tri) (job : Job) (list : List ℕ) → IsPairsJob ts jo
 listed_axis ts job list v e =
     ap (λ (is : List ℕ). halving_axis (listed ts is) job.cell) (e ∙ list_is ts job v) ∙ halving_axis_listed ts job.cell
 
+-- a job with fewer than two triangles is skipped
 pub answers_passed : (ts : List Tri) (job : Job) (list : List ℕ) → list ≡ job.list → length list < 2 → pairs_shape ts job ≡ passed
 unfolding pairs_shape
 answers_passed ts job list e few =
     let short : length job.list < 2 = subst (λ (is : List ℕ). length is < 2) e few in
     ap (λ b. if b then passed else (if is_leaf ts job.cell then leafed else halved (job_at ts (left_half job.cell (halving_axis ts job.cell))) (job_at ts (right_half job.cell (halving_axis ts job.cell))))) (lt-ltb (length job.list) 2 short)
 
+-- a job with two or more triangles, whose box is a leaf, is a leaf
 pub answers_leaf : (ts : List Tri) (job : Job) (list : List ℕ) → IsPairsJob ts job → list ≡ job.list → 2 ≤ length list → None ≡ leaf_or (is_leaf (listed ts list) job.cell) (halving_axis (listed ts list) job.cell) → pairs_shape ts job ≡ leafed
 unfolding pairs_shape
 answers_leaf ts job list v e many a =
@@ -80,6 +86,7 @@ right_job : (ts : List Tri) (job : Job) (list : List ℕ) (k : Axis) (half : Cel
 right_job ts job list k half high v e p h is =
     is ∙ (λ i. record { cell = h i; list = near_indices ts (h i) (e i); at = no_windings }) ∙ (λ i. record { cell = right_half job.cell k; list = near_indices ts (right_half job.cell k) (list_is ts job v i); at = no_windings }) ∙ (λ i. record { cell = right_half job.cell k; list = right_places ts job.cell k (all_indices ts) p i; at = no_windings })
 
+-- any other job has these halves
 pub answers_halves : (ts : List Tri) (job : Job) (list : List ℕ) (k : Axis) (left right : Cell) (low high : Job) → IsPairsJob ts job → list ≡ job.list → 2 ≤ length list → Some k ≡ leaf_or (is_leaf (listed ts list) job.cell) (halving_axis (listed ts list) job.cell) → 0 < job.cell.log k → left ≡ left_half job.cell k → right ≡ right_half job.cell k → low ≡ record { cell = left; list = near_indices ts left list; at = no_windings } → high ≡ record { cell = right; list = near_indices ts right list; at = no_windings } → pairs_shape ts job ≡ halved low high
 unfolding pairs_shape
 answers_halves ts job list k left right low high v e many a p l r is_low is_high =

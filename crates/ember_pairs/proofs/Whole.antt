@@ -232,6 +232,7 @@ right_pairs ts items p a m =
     let b = leaf_at ts j.job j.member in
     from_leaf ts b.cell p (each_in ts (pairs_of (near_indices ts b.cell (all_indices ts))) s.item p (subst (λ (x : Job). AreMeetingPairs ts x.list s.item) b.is j.is) s.has)
 
+-- the gathered pairs of all leaves are all pairs that meet
 pub gathered_whole : (ts : List Tri) (items : List (List Pair)) (ps : List Pair) → All IsValidTri ts → AreItems ts (leaf_jobs ts) items → AreGathered items ps → ArePairs ts ps
 gathered_whole ts items ps valid a g =
     each_of ts (pairs_of (all_indices ts)) ps (pairs_sorted (all_indices ts) (range_ascending 0 (length ts))) (sorted_from ps g.in_order) (λ p m. right_pairs ts items p a (in_from_contains (together items) p ((g.same p).0 (contains_from_in ps p m)))) (λ p m meets. in_from_contains ps p ((g.same p).1 (contains_from_in (together items) p (found ts items p valid a m meets))))

@@ -1,4 +1,4 @@
--- What the test of two triangles looks at
+-- What the test of two triangles first looks at: the bounding box and the plane of each
 use Rattle.std.specs.Prelude.{ℕ, List, map}
 use Rattle.ember_model.specs.declared.tri.Tri.{Tri}
 use Rattle.ember_model.specs.Planes.{support_of}
@@ -6,8 +6,10 @@ use Rattle.ember_box.specs.Near.{tri_at}
 use Rattle.ember_box.specs.Aabbs.{aabb_of_tri}
 use Rattle.ember_pairs.specs.declared.meetings.Candidate.{Candidate}
 
+-- of one triangle
 abbrev pub candidate_of : Tri → Candidate
 candidate_of t = record { aabb = aabb_of_tri t; support = support_of t }
 
+-- of the listed triangles, in order
 abbrev pub candidates_at : List Tri → List ℕ → List Candidate
 candidates_at ts is = map (λ i. candidate_of (tri_at ts i)) is

@@ -13,7 +13,7 @@ pair_order p q = ordering_then (nat_cmp p.low q.low) (nat_cmp p.high q.high)
 abbrev pub together : List (List Pair) → List Pair
 together items = flat_map (λ ps. ps) items
 
--- the pairs that stand in some list, each once, in order
+-- the pairs that occur in some list, each once, in order
 pub record AreGathered (items : List (List Pair)) (ps : List Pair) : Type 0 where
   pub in_order : IsStrictlySortedBy pair_order ps
   pub same : (p : Pair) → Contains ps p ↔ Contains (together items) p

@@ -7,6 +7,7 @@ use Rattle.ember_model.specs.Planes.{value_at}
 use Rattle.ember_model.specs.Owners.{spot_of_corner}
 use Rattle.ember_pairs.specs.declared.heights.Heights.{Heights}
 
+-- the values of a plane at the corners of a triangle
 abbrev pub heights_of : Plane → Tri → Heights
 heights_of p t =
     record {
@@ -16,17 +17,22 @@ heights_of p t =
           (spot_of_corner t.c);
     }
 
+-- all corners are strictly in front of the plane
 abbrev pub all_in_front : Heights → Bool
 all_in_front h = is_positive h.a && (is_positive h.b && is_positive h.c)
 
+-- all corners are strictly behind it
 abbrev pub all_behind : Heights → Bool
 all_behind h = is_negative h.a && (is_negative h.b && is_negative h.c)
 
+-- no corner is in front of it
 abbrev pub none_in_front : Heights → Bool
 none_in_front h = not (is_positive h.a) && (not (is_positive h.b) && not (is_positive h.c))
 
+-- no corner is behind it
 abbrev pub none_behind : Heights → Bool
 none_behind h = not (is_negative h.a) && (not (is_negative h.b) && not (is_negative h.c))
 
+-- all corners are on it
 abbrev pub all_on : Heights → Bool
 all_on h = is_zero h.a && (is_zero h.b && is_zero h.c)

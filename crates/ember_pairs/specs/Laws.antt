@@ -1,5 +1,5 @@
 -- The laws of the work: the halves of a valid job are valid and are the halves of its box, and a list of
--- places has one list of meeting pairs.
+-- indices has one list of meeting pairs.
 use Rattle.std.specs.Prelude.{◌≡◌, ℕ, ◌<◌, refl, Bool, true, false, if◌then◌else◌, nat_lt, List, length}
 use Rattle.std.proofs.Common.{sym, ap, subst, true≢false}
 use Rattle.ember_algebra.proofs.Relations.{each_unique}
@@ -23,7 +23,7 @@ high_of job (halved low high) = high
 high_of job leafed = job
 high_of job passed = job
 
--- a job that is halved is no leaf, and these are its halves
+-- these are the halves of a job that is halved
 record AreHalvesOf (ts : List Tri) (job low high : Job) : Type 0 where
   may_halve : 0 < job.cell.log (halving_axis ts job.cell)
   is_low : low ≡ job_at ts (left_half job.cell (halving_axis ts job.cell))
@@ -47,6 +47,7 @@ are_halves ts job low high e = by (nat_lt (length job.list) 2) (is_leaf ts job.c
               (high_of job) (sym e);
         }
 
+-- the halves of a valid job are valid
 pub halves_are_valid : (ts : List Tri) (job low high : Job) → IsPairsJob ts job →
     pairs_shape ts job ≡ halved low high → IsPairsJob ts low × IsPairsJob ts high
 halves_are_valid ts job low high v e =
@@ -63,6 +64,7 @@ halves_are_valid ts job low high v e =
       }),
     )
 
+-- and they are jobs of the two halves of its box
 pub halves_are_split : (ts : List Tri) (job low high : Job) → IsPairsJob ts job →
     pairs_shape ts job ≡ halved low high → IsSplit job.cell low.cell high.cell
 halves_are_split ts job low high v e =
@@ -81,6 +83,7 @@ one_at ts p ys zs (meeting m) (apart n) = absurd (n m)
 one_at ts p ys zs (apart m) (meeting n) = absurd (m n)
 one_at ts p ys zs (apart m) (apart n) = refl
 
+-- listed triangles have one list of meeting pairs
 pub one_list : (ts : List Tri) (is : List ℕ) (ps qs : List Pair) → AreMeetingPairs ts is ps →
     AreMeetingPairs ts is qs → ps ≡ qs
 one_list ts is ps qs e d = each_unique (one_at ts) e d

@@ -13,6 +13,7 @@ pub record AreMeeting (t u : Tri) : Type 0 where
   pub other : is_flat u ≡ false
   pub meet : Meets (face_of t) (face_of u) ⊎ Meets (face_of u) (face_of t)
 
+-- a pair of indices
 abbrev pub pair : ℕ → ℕ → Pair
 pair i j = record { low = i; high = j }
 
@@ -34,15 +35,15 @@ pairs_of (i ∷ is) = row i is ++ pairs_of is
 abbrev pub AreMeetingPairs : List Tri → List ℕ → List Pair → Type 0
 AreMeetingPairs ts is ps = Each (AtPair ts) (pairs_of is) ps
 
--- those of all triangles of a scene
+-- the pairs of all triangles of a scene that meet, in order
 abbrev pub ArePairs : List Tri → List Pair → Type 0
 ArePairs ts ps = AreMeetingPairs ts (all_indices ts) ps
 
--- ---- on the way
+-- ---- used inside the crate
 -- the face of a triangle that has one
 abbrev pub face_if : Tri → Option Face
 face_if t = if is_flat t then None else Some (face_of t)
 
--- with what `later` gives, `out` is what `all` gives
+-- `out`, followed by what `later` gives, is what `all` gives
 pub record Completes (ts : List Tri) (all later out : List Pair) : Type 0 where
   pub completed : (more : List Pair) → Each (AtPair ts) later more → Each (AtPair ts) all (out ++ more)

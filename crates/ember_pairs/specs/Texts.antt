@@ -3,6 +3,7 @@ use Rattle.std.specs.Prelude.{ℕ, List, ◌++◌, flat_map, length, codes, deci
 use Rattle.ember_model.specs.FaceFiles.{ending}
 use Rattle.ember_pairs.specs.declared.pair.Pair.{Pair}
 
+-- the line of a pair
 abbrev pub pair_line : Pair → List ℕ
 pair_line p = codes "p " ++ (decimal p.low ++ (codes " " ++ (decimal p.high ++ codes "\n")))
 

@@ -8,7 +8,7 @@ use Rattle.ember_box.specs.Halving.{halving_axis, is_leaf}
 use Rattle.ember_job.specs.declared.job.Job.{Job}
 use Rattle.ember_job.specs.Works.{Shape, halved, leafed, passed}
 
--- the boxes that come from the root by halvings along the halving axis
+-- the boxes that are made from the root by halvings along the halving axis
 pub data IsFromRoot (ts : List Tri) : Cell → Type 0 where
   at_root : IsFromRoot ts root
   low_half : (c : Cell) → IsFromRoot ts c → 0 < c.log (halving_axis ts c) →
@@ -16,6 +16,7 @@ pub data IsFromRoot (ts : List Tri) : Cell → Type 0 where
   high_half : (c : Cell) → IsFromRoot ts c → 0 < c.log (halving_axis ts c) →
       IsFromRoot ts (right_half c (halving_axis ts c))
 
+-- the zero vector; pairs need no winding numbers
 abbrev pub no_windings : Vector
 no_windings = record { counts = replicate 64 (pos 0) }
 
@@ -23,6 +24,7 @@ no_windings = record { counts = replicate 64 (pos 0) }
 abbrev pub job_at : List Tri → Cell → Job
 job_at ts c = record { cell = c; list = near_indices ts c (all_indices ts); at = no_windings }
 
+-- the job of a box of the tree
 pub record IsPairsJob (ts : List Tri) (job : Job) : Type 0 where
   pub from_root : IsFromRoot ts job.cell
   pub is : job ≡ job_at ts job.cell

@@ -17,7 +17,7 @@ fn append_all(alloc: Global, items: &[PairList]) -> Result<Vec<Pair>, OutOfMemor
     Ok(all)
 }
 
-/// The pairs that stand in some item, each once, in order.
+/// The pairs that occur in some item, each once, in order. The only error is out-of-memory.
 pub fn gather(alloc: Global, items: Vec<PairList>) -> Result<PairList, OutOfMemory>
     ensures { IfOk result (λ ps. AreGathered items.items ps) }
 {

@@ -17,6 +17,7 @@ pub struct Heights {
     pub c: i64,
 }
 
+// The value of a plane at a corner.
 #[tactic(none)]
 fn height(p: &Plane, u: &Corner) -> i64
     requires plane { IsSupportSized p.now }
@@ -40,44 +41,49 @@ pub fn heights_of(p: &Plane, t: &Tri) -> Heights
 }
 
 impl Heights {
+    // Whether all corners are strictly in front of the plane.
     fn all_in_front(&self) -> bool
         ensures { result ≡ all_in_front self.now }
     {
         self.a > 0 && (self.b > 0 && self.c > 0)
     }
 
+    // Whether all corners are strictly behind the plane.
     fn all_behind(&self) -> bool
         ensures { result ≡ all_behind self.now }
     {
         self.a < 0 && (self.b < 0 && self.c < 0)
     }
 
+    // Whether no corner is in front of the plane.
     fn none_in_front(&self) -> bool
         ensures { result ≡ none_in_front self.now }
     {
         self.a <= 0 && (self.b <= 0 && self.c <= 0)
     }
 
+    // Whether no corner is behind the plane.
     fn none_behind(&self) -> bool
         ensures { result ≡ none_behind self.now }
     {
         self.a >= 0 && (self.b >= 0 && self.c >= 0)
     }
 
+    // Whether all corners are on the plane.
     fn all_on(&self) -> bool
         ensures { result ≡ all_on self.now }
     {
         self.a == 0 && (self.b == 0 && self.c == 0)
     }
 
-    /// All corners lie strictly on one side of the plane.
+    /// Whether all corners are strictly on one side of the plane.
     pub fn are_on_one_side(&self) -> bool
         ensures { result ≡ (all_in_front self.now || all_behind self.now) }
     {
         self.all_in_front() || self.all_behind()
     }
 
-    /// The corners lie on one side of the plane, but not all on it.
+    /// Whether the corners are on one side of the plane or on it, and not all are on it.
     pub fn lean_to_one_side(&self) -> bool
         ensures { result ≡ ((none_in_front self.now || none_behind self.now) && not (all_on self.now)) }
     {

@@ -13,13 +13,14 @@ use ember_model::{OutOfMemory, Plane, Scene, Tri, support_of};
 use ember_poly::{Ring, meets, of_tri};
 use std::alloc::Global;
 
-// What the test of two triangles looks at first of each: its bounding box and its plane.
+// What the test of two triangles first looks at: the bounding box and the plane of each.
 #[derive(Clone, Copy)]
 struct Candidate {
     aabb: Aabb,
     support: Plane,
 }
 
+// The bounding box and the plane of a triangle.
 fn candidate_of(t: &Tri) -> Candidate
     requires { IsValidTri t.now }
     ensures { result ≡ candidate_of t.now }
@@ -30,8 +31,9 @@ fn candidate_of(t: &Tri) -> Candidate
     }
 }
 
-// The corners of two triangles show that they don't meet: those of one lie strictly on one side of
-// the other's plane, or those of each lie on one side of the other's plane and not all on it.
+// `true` only if two triangles don't meet, as their corners show: those of one are strictly on one
+// side of the other's plane, or those of each are on one side of the other's plane and not all on
+// it. `false` shows nothing.
 fn are_parted(f: &Candidate, t: &Tri, g: &Candidate, u: &Tri) -> bool
     requires one { IsValidTri t.now }
     requires other { IsValidTri u.now }
@@ -47,7 +49,7 @@ fn are_parted(f: &Candidate, t: &Tri, g: &Candidate, u: &Tri) -> bool
     own.are_on_one_side() || own.lean_to_one_side() && theirs.lean_to_one_side()
 }
 
-// Two triangles meet; each is handed over with the ring of its face, if it has one.
+// Whether two triangles meet. `r` and `q` are the rings of their faces; a flat triangle has none.
 fn rings_meet(r: &Option<Ring>, t: &Tri, q: &Option<Ring>, u: &Tri) -> bool
     requires one { IsValidTri t.now }
     requires other { IsValidTri u.now }
@@ -64,7 +66,7 @@ fn rings_meet(r: &Option<Ring>, t: &Tri, q: &Option<Ring>, u: &Tri) -> bool
     }
 }
 
-// Whether two triangles meet, by their faces.
+// Whether two triangles meet. Makes the rings of their faces.
 fn faces_meet(alloc: Global, t: &Tri, u: &Tri) -> Result<bool, OutOfMemory>
     requires one { IsValidTri t.now }
     requires other { IsValidTri u.now }
@@ -75,7 +77,8 @@ fn faces_meet(alloc: Global, t: &Tri, u: &Tri) -> Result<bool, OutOfMemory>
     Ok(rings_meet(&r, t, &q, u))
 }
 
-// Whether two triangles meet. Faces are made only if neither bounding boxes nor corners show that the two are apart.
+// Whether two triangles meet. Rings are made only if neither bounding boxes nor corners show that
+// they don't.
 fn are_meeting(
     alloc: Global,
     f: &Candidate,
@@ -98,7 +101,8 @@ fn are_meeting(
     faces_meet(alloc, t, u)
 }
 
-/// The same as `meeting`, for a list of triangles in place of a scene.
+/// The same as `meeting`, for a list of triangles in place of a scene. The only error is
+/// out-of-memory.
 pub fn meet_at(alloc: Global, tris: &[Tri], i: u32, j: u32) -> Result<bool, OutOfMemory>
     requires valid { All IsValidTri tris.now }
     requires one { i < length tris.now }
@@ -112,8 +116,9 @@ pub fn meet_at(alloc: Global, tris: &[Tri], i: u32, j: u32) -> Result<bool, OutO
     are_meeting(alloc, &f, &t, &g, &u)
 }
 
-/// The triangles `i` and `j` of the scene meet: neither has a zero normal, and some inside point of
-/// the face of one lies in the closed face of the other.
+/// Whether the triangles `i` and `j` of the scene meet: neither is flat, and some inside point of
+/// the face of one lies in the closed face of the other. Only tests call this. The only error is
+/// out-of-memory.
 pub fn meeting(alloc: Global, s: &Scene, i: u32, j: u32) -> Result<bool, OutOfMemory>
     requires one { i < length s.now.tris }
     requires other { j < length s.now.tris }
@@ -122,6 +127,7 @@ pub fn meeting(alloc: Global, s: &Scene, i: u32, j: u32) -> Result<bool, OutOfMe
     meet_at(alloc, s.tris.items(), i, j)
 }
 
+// The bounding boxes and planes of the listed triangles, in order.
 fn candidates_at(alloc: Global, tris: &[Tri], list: &[u32]) -> Result<Vec<Candidate>, OutOfMemory>
     requires valid { All IsValidTri tris.now }
     requires places { All (λ i. i < length tris.now) list.now }
@@ -134,7 +140,7 @@ fn candidates_at(alloc: Global, tris: &[Tri], list: &[u32]) -> Result<Vec<Candid
     Ok(candidates)
 }
 
-// The triangles with the indices `list[a]` and `list[b]` meet.
+// Whether the triangles with the indices `list[a]` and `list[b]` meet.
 fn meet_in(
     alloc: Global,
     tris: &[Tri],
@@ -193,7 +199,8 @@ fn push_row(
     Ok(())
 }
 
-/// The pairs of listed triangles that meet, in order.
+/// The pairs of listed triangles that meet, in the order of the list. The only error is
+/// out-of-memory.
 pub fn meeting_pairs(alloc: Global, tris: &[Tri], list: &[u32]) -> Result<PairList, OutOfMemory>
     requires valid { All IsValidTri tris.now }
     requires places { All (λ i. i < length tris.now) list.now }

@@ -3,8 +3,8 @@ ghost use Rattle.std.specs.Prelude.{◌≡◌};
 
 use std::marker::Model;
 
-/// The numbers of two triangles of a scene, from 0, the lower one first. Pairs are ordered by the
-/// first number, and then by the second.
+/// The indices of two triangles of a scene, the lower one first. Pairs are ordered by the first
+/// index, and then by the second.
 #[derive(Clone, Copy, Debug, PartialEq, Eq, PartialOrd, Ord)]
 pub struct Pair {
     pub low: u32,

@@ -13,7 +13,8 @@ use ember_job::{Job, Numbers, OneItem, OutOfMemory, Outcome, Work};
 use ember_model::{Scene, Vector};
 use std::alloc::Global;
 
-/// Looking for the pairs of triangles of a scene that meet.
+/// The work that looks for the pairs of triangles of a scene that meet. Its item for a leaf is the
+/// list of the leaf's pairs.
 #[derive(Drop)]
 pub struct PairWork<'a> {
     pub scene: &'a Scene,
@@ -44,7 +45,7 @@ impl<'a> OneItem for PairWork<'a> {
     ghost one_item = { λ w job one other x y. one_list w.scene.now.tris job.list one other x y };
 }
 
-// The numbers below `count`.
+// The numbers from 0 up to `count`, which isn't among them.
 fn numbers_below(alloc: Global, count: u32) -> Result<Vec<u32>, OutOfMemory>
     ensures { IfOk result (λ numbers. numbers.items ≡ range_with_len 0 count) }
 {
@@ -55,6 +56,7 @@ fn numbers_below(alloc: Global, count: u32) -> Result<Vec<u32>, OutOfMemory>
     Ok(numbers)
 }
 
+// The job of the root box.
 fn root_job(alloc: Global, s: &Scene) -> Result<Job, OutOfMemory>
     ensures { IfOk result (λ job. job ≡ job_at s.now.tris root) }
 {
@@ -64,7 +66,7 @@ fn root_job(alloc: Global, s: &Scene) -> Result<Job, OutOfMemory>
     Ok(job_of(root, near))
 }
 
-/// The job of the root box, with the triangles near it.
+/// The job of the root box, with the triangles near it. The only error is out-of-memory.
 #[tactic(auto, using(crate::proofs::Steps::root_is_valid))]
 pub fn root_pairs(alloc: Global, s: &Scene) -> Result<Job, OutOfMemory>
     ensures value { IfOk result (λ job. job ≡ job_at s.now.tris root) }
@@ -84,9 +86,9 @@ fn job_of(cell: Cell, near: Vec<u32>) -> Job
     }
 }
 
-/// What becomes of a job: it is skipped if its list has fewer than two triangles; otherwise a
-/// leaf, with the pairs of its list that meet, if its box is a leaf; otherwise its box's halves along
-/// the halving axis, each with the triangles near it.
+/// What becomes of a job: it is skipped if its list has fewer than two triangles. Otherwise it is a
+/// leaf with the pairs of its list that meet, if its box is a leaf, or it becomes the halves of the
+/// box along the halving axis, each with the triangles near it. The only error is out-of-memory.
 pub fn pair_step(alloc: Global, s: &Scene, job: &Job) -> Result<Outcome<PairList>, OutOfMemory>
     requires { IsPairsJob s.now.tris job.now }
     ensures { IfOk result (λ o.

@@ -28,7 +28,7 @@ fn put_pair(p: &Pair, out: &mut Vec<u8>) -> Result<(), OutOfMemory>
 }
 
 /// The text of a list of pairs: a first line, a line for each pair in order, and a last line with
-/// their number.
+/// their number. The only error is out-of-memory.
 pub fn pairs_text(alloc: Global, pairs: &[Pair]) -> Result<Vec<u8>, OutOfMemory>
     ensures { IfOk result (λ text. text.items ≡ texts.pairs_text pairs.now) }
 {

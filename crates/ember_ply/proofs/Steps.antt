@@ -37,6 +37,7 @@ header_fault all n h lines more line so_far is read = header_step all n h lines 
 pub first_read : {A B : Type 0} (r : Result A PlyFault) (a : A) (next : A → Result B PlyFault) → r ≡ Ok a → and_then r next ≡ next a
 first_read r a next e = ap (λ q. and_then q next) e
 
+-- a fault of the first step is that of both
 pub first_fault : {A B : Type 0} (r : Result A PlyFault) (fault : PlyFault) (next : A → Result B PlyFault) → r ≡ Err fault → and_then r next ≡ Err fault
 first_fault r fault next e = ap (λ q. and_then q next) e
 

@@ -8,12 +8,14 @@ use Rattle.ember_ply.specs.declared.cursor.Cursor.TheVariants as at
 use Rattle.ember_ply.specs.Scalars.{Scalar, Word, Whole, Single, Double}
 use Rattle.ember_ply.specs.Cursors.{Cursor, Words, Bytes, rows_of}
 
+-- a scalar as definitions see it
 abbrev pub scalar_of : code_scalar.Scalar → Scalar
 scalar_of (held.Word text) = Word text.now
 scalar_of (held.Whole number) = Whole number
 scalar_of (held.Single bits) = Single bits
 scalar_of (held.Double bits) = Double bits
 
+-- a cursor as definitions see it
 abbrev pub cursor_of : code_cursor.Cursor → Cursor
 cursor_of (at.Words row later) = Words (words_in row) (rows_of (lines_in later))
 cursor_of (at.Bytes order bytes) = Bytes order bytes.now

@@ -1,4 +1,4 @@
--- What is left of a file behind its header
+-- What is left of a file after its header
 use Rattle.std.specs.Prelude.{ℕ, List, [], ◌∷◌, take, drop, length, nat_le, if◌then◌else◌, Option, None, Some}
 use Rattle.ember_scan.specs.Parts.{Piece, words_of, lines_from}
 use Rattle.ember_ply.specs.declared.declarations.ScalarType.{ScalarType}
@@ -7,7 +7,7 @@ use Rattle.ember_ply.specs.declared.declarations.Encoding.{Encoding}
 use Rattle.ember_ply.specs.declared.declarations.Encoding.TheVariants.{Ascii, Binary}
 use Rattle.ember_ply.specs.Scalars.{Scalar, Word, width_of, scalar_of_bytes}
 
--- the words that are left of a row, with the rows behind it, or the bytes that are left
+-- the words that are left of a row, with the rows after it, or the bytes that are left
 pub data Cursor : Type 0 where
   Words : List Piece → List (List Piece) → Cursor
   Bytes : ByteOrder → List ℕ → Cursor
@@ -38,7 +38,7 @@ next_of_bytes type order bytes =
     then Some (scalar_of_bytes type order (take (width_of type) bytes), Bytes order (drop (width_of type) bytes))
     else None
 
--- the next scalar of a row, and what is left behind it
+-- the next scalar of a row, and what is left after it
 abbrev pub next_scalar : ScalarType → Cursor → Option (Scalar × Cursor)
 next_scalar type (Words [] rows) = None
 next_scalar type (Words (word ∷ words) rows) = Some (Word word.text, Words words rows)

@@ -36,6 +36,7 @@ wide_named name =
     else (if is_either name (codes "uint") (codes "uint32") then Some Uint32
     else float_named name)
 
+-- the type with this name
 abbrev pub type_named : List ℕ → Option ScalarType
 type_named name =
     if is_either name (codes "char") (codes "int8") then Some Int8
@@ -44,6 +45,7 @@ type_named name =
     else (if is_either name (codes "ushort") (codes "uint16") then Some Uint16
     else wide_named name)))
 
+-- the encoding with this name
 abbrev pub encoding_named : List ℕ → Option Encoding
 encoding_named name =
     if bytes_eq name (codes "ascii") then Some Ascii
@@ -51,6 +53,7 @@ encoding_named name =
     else (if bytes_eq name (codes "binary_big_endian") then Some (Binary Big)
     else None))
 
+-- the kind of the element with this name
 abbrev pub kind_named : List ℕ → ElementKind
 kind_named name =
     if bytes_eq name (codes "vertex") then Vertex else (if bytes_eq name (codes "face") then Face else Other)
@@ -137,7 +140,7 @@ abbrev pub either : Option Entry → Option Entry → Option Entry
 either None second = second
 either (Some first) second = Some first
 
--- what follows `property`, behind an element of this kind
+-- what follows `property`, after an element of this kind
 abbrev pub property_entry : Option ElementKind → List Piece → Option Entry
 property_entry None words = None
 property_entry (Some kind) words = either (scalar_entry kind (two_of words)) (list_entry kind (four_of words))
@@ -156,18 +159,19 @@ entry_behind kind keyword words =
     else (if bytes_eq keyword (codes "end_header") then Some entry.End
     else None))))
 
--- what a line says, behind an element of this kind, or behind none
+-- what a line says, after an element of this kind, or before the first element
 abbrev pub entry_of : Option ElementKind → List Piece → Option Entry
 entry_of kind [] = Some entry.Passed
 entry_of kind (keyword ∷ words) = entry_behind kind keyword.text words
 
 -- ---- the header
--- the encoding, the kind of the last element, and the elements, each with its properties behind it
+-- the encoding, the kind of the last element, and the elements, each with its properties after it
 pub record Header : Type 0 where
   pub encoding : Option Encoding
   pub kind : Option ElementKind
   pub declarations : List Declaration
 
+-- the header before its first line
 abbrev pub nothing_declared : Header
 nothing_declared = record { encoding = None; kind = None; declarations = [] }
 
@@ -176,6 +180,7 @@ kind_behind kind (declaration.Element element) = Some element.kind
 kind_behind kind (declaration.Scalar axis type) = kind
 kind_behind kind (declaration.List corners size item) = kind
 
+-- the header after a line that means this
 abbrev pub with_entry : Header → Entry → Header
 with_entry header entry.Passed = header
 with_entry header entry.End = header
@@ -193,23 +198,23 @@ is_end entry.End = true
 is_end (entry.Format encoding) = false
 is_end (entry.Declared d) = false
 
--- the header with a line and those behind it, and how many lines it has, or its first fault
+-- the header with a line and those after it, and how many lines it has, or its first fault
 abbrev pub behind_entry : ℕ →
     Header → Option Entry → (Header → Result (Header × ℕ) PlyFault) → Result (Header × ℕ) PlyFault
 behind_entry number header None next = Err (NotUnderstood number)
 behind_entry number header (Some e) next = if is_end e then Ok (header, number) else next (with_entry header e)
 
--- the header of these lines, of which the first has this number
+-- the header of these lines; the first has this number
 abbrev pub header_from : ℕ → Header → List Piece → Result (Header × ℕ) PlyFault
 header_from number header [] = Err NoEnd
 header_from number header (line ∷ lines) =
     behind_entry number header (entry_of header.kind (words_of line)) (λ h. header_from (number + 1) h lines)
 
--- a header with the bytes behind its lines
+-- a header with the bytes after its lines
 abbrev pub with_body : List ℕ → Result (Header × ℕ) PlyFault → Result (Header × List ℕ) PlyFault
 with_body bytes (Err fault) = Err fault
 with_body bytes (Ok h) = Ok (h.0, after_lines h.1 bytes)
 
--- the header of a file, and the bytes behind it
+-- the header of a file, and the bytes after it
 abbrev pub header_of_file : List ℕ → Result (Header × List ℕ) PlyFault
 header_of_file bytes = with_body bytes (header_from 1 nothing_declared (lines_from 0 bytes))

@@ -1,4 +1,4 @@
--- What the bytes of a PLY file stand for: points and triangles, or the first fault
+-- What the bytes of a PLY file mean: points and triangles, or the first fault
 use Rattle.std.specs.Prelude.{ℕ, zero, suc, ◌+◌, ◌==◌, List, [], ◌∷◌, ◌++◌, length, nat_lt, if◌then◌else◌, Option, None, Some, Result, Ok, Err}
 use Rattle.ember_number.specs.Fractions.{Fraction}
 use Rattle.ember_surface.specs.declared.surface.Facet.{Facet}
@@ -43,12 +43,12 @@ with_row Face number content row =
 with_row Other number content row = Ok content
 
 -- ---- elements
--- the place of a row: vertices that stand behind it can't be its corners
+-- the place of a row: vertices after it can't be its corners
 abbrev pub place_of : Element → ℕ → Content → RowPlace
 place_of element number content =
     record { name = element.name; number = number; vertices = length content.points }
 
--- so many rows of an element with these properties, of which the first has this number
+-- n rows of an element with these properties; the first has this number
 abbrev pub rows_from :
     Element → List Declaration → ℕ → ℕ → Content → Cursor → Result (Content × Cursor) PlyFault
 rows_from element ds number zero content cursor = Ok (content, cursor)
@@ -85,23 +85,28 @@ elements_from (declaration.List corners size item ∷ ds) content cursor = eleme
 abbrev pub no_content : Content
 no_content = record { points = []; facets = [] }
 
+-- the content of the rows after a header
 abbrev pub content_in : Option Encoding → List Declaration → List ℕ → Result Content PlyFault
 content_in None ds body = Err NoFormat
 content_in (Some encoding) ds body = elements_from ds no_content (begun encoding body)
 
+-- the content of a file, whether it is a mesh or not
 abbrev pub content_of_file : List ℕ → Result Content PlyFault
 content_of_file bytes =
     and_then (header_of_file bytes) (λ h. content_in h.0.encoding h.0.declarations h.1)
 
 -- ---- what no mesh has
+-- the content, unless a triangle is too far out
 abbrev pub near_or_fault : Content → Option ℕ → Result Content PlyFault
 near_or_fault content None = Ok content
 near_or_fault content (Some place) = Err (TooLarge place)
 
+-- the content, if it has triangles and none is too far out
 abbrev pub with_triangles : Content → List Facet → Result Content PlyFault
 with_triangles content [] = Err NoTriangles
 with_triangles content (f ∷ fs) = near_or_fault content (first_far content)
 
+-- the content, if it is a mesh
 abbrev pub as_mesh : Result Content PlyFault → Result Content PlyFault
 as_mesh (Err fault) = Err fault
 as_mesh (Ok content) = with_triangles content content.facets

@@ -5,6 +5,7 @@ use Rattle.ember_number.specs.Values.{value_of}
 use Rattle.ember_ply.specs.declared.row.Row.{Row}
 use Rattle.ember_ply.specs.Rows as rows
 
+-- a row as definitions see it
 abbrev pub row_of : Row → rows.Row
 row_of row = record {
   x = option_map value_of row.x;

@@ -26,6 +26,7 @@ pub record Row : Type 0 where
   pub z : Option Fraction
   pub corners : Option (List ℕ)
 
+-- a row before its first property
 abbrev pub empty_row : Row
 empty_row = record { x = None; y = None; z = None; corners = None }
 
@@ -60,7 +61,7 @@ corner_or_fault place (Some corner) = Ok corner
 abbrev pub corner_of : RowPlace → Scalar → Result ℕ PlyFault
 corner_of place scalar = corner_or_fault place (below place.vertices (number_of_scalar scalar))
 
--- so many corners behind those that are read
+-- n corners after those that are read
 abbrev pub corners_from : RowPlace → ScalarType → ℕ → List ℕ → Cursor → Result (List ℕ × Cursor) PlyFault
 corners_from place item zero corners cursor = Ok (corners, cursor)
 corners_from place item (suc left) corners cursor =
@@ -68,7 +69,7 @@ corners_from place item (suc left) corners cursor =
     and_then (corner_of place s.0) (λ corner.
     corners_from place item left (corners ++ corner ∷ []) s.1))
 
--- what follows so many scalars
+-- what follows n scalars
 abbrev pub skipped : RowPlace → ScalarType → ℕ → Cursor → Result Cursor PlyFault
 skipped place item zero cursor = Ok cursor
 skipped place item (suc left) cursor =
@@ -88,11 +89,13 @@ abbrev pub size_of : Scalar → Option ℕ
 size_of scalar = option_map (min 1000000000000000) (number_of_scalar scalar)
 
 -- ---- properties
+-- a row after a property with one scalar
 abbrev pub scalar_property : RowPlace → Option Axis → ScalarType → Row → Cursor → Result (Row × Cursor) PlyFault
 scalar_property place axis type row cursor =
     and_then (one_scalar place type cursor) (λ s.
     and_then (with_scalar place axis row s.0) (λ r. Ok (r, s.1)))
 
+-- a row after a property with a list
 abbrev pub list_property :
     RowPlace → Bool → ScalarType → ScalarType → Row → Cursor → Result (Row × Cursor) PlyFault
 list_property place corners size item row cursor =

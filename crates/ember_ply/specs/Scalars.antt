@@ -1,4 +1,4 @@
--- Numbers as they stand in the rows of a file
+-- Numbers in the rows of a file
 use Rattle.std.specs.Prelude.{ℕ, List, Option, None, Some, ℤ, pos, negsuc, slice_index}
 use Rattle.std.specs.Int.{Width, w8, w16, w32, w64, cast_signed, from_le_bytes, from_be_bytes}
 use Rattle.ember_number.specs.Fractions.{Fraction, whole_number}
@@ -52,6 +52,7 @@ unfoldable pub bits_of : ByteOrder → Width → List ℕ → ℕ
 bits_of Little width bytes = from_le_bytes width bytes
 bits_of Big width bytes = from_be_bytes width bytes
 
+-- the scalar of this type in these bytes
 abbrev pub scalar_of_bytes : ScalarType → ByteOrder → List ℕ → Scalar
 scalar_of_bytes Int8 order bytes = Whole (cast_signed w8 (slice_index bytes 0))
 scalar_of_bytes Uint8 order bytes = Whole (pos (slice_index bytes 0))

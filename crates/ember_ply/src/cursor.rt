@@ -1,4 +1,4 @@
-// What is left of a file behind its header.
+// What is left of a file after its header.
 ghost use Rattle.std.specs.Prelude.{◌≡◌, ◌+◌, ◌≤◌, ◌<◌, ◌∷◌, [], length, MatchOption, IfSome, Some, None};
 ghost use Rattle.ember_scan.specs.Parts.{words_in, lines_in};
 ghost use Rattle.ember_ply.specs.Cursors.{rows_of, begun, next_row, next_scalar};
@@ -8,14 +8,15 @@ use crate::declarations::{ByteOrder, Encoding, ScalarType};
 use crate::scalars::{Scalar, split_scalar};
 use ember_scan::{Part, next_line, next_word};
 
-// What is left of a row, with the lines behind it, or the bytes that are left.
+// What is left of a row, with the lines after it; or the bytes that are left.
 #[derive(Clone, Copy)]
 pub(crate) enum Cursor<'a> {
     Words(Part<'a>, Part<'a>),
     Bytes(ByteOrder, &'a [u8]),
 }
 
-// The beginning of what follows a header. No fault names a place in it, so its bytes are counted anew.
+// The beginning of what follows a header. No fault names a place in it, so its bytes are counted
+// anew.
 pub(crate) fn first_cursor<'a>(encoding: Encoding, body: &'a [u8]) -> Cursor<'a>
     requires { length body.now ≤ 268435456 }
     ensures cursor { cursor_of result ≡ begun encoding body.entry.now }
@@ -70,7 +71,7 @@ pub(crate) fn enter_row<'a>(cursor: Cursor<'a>) -> Option<Cursor<'a>>
     }
 }
 
-// The next scalar of a row, and what is left behind it.
+// The next scalar of a row, and what is left after it.
 pub(crate) fn take_scalar<'a>(
     kind: ScalarType,
     cursor: Cursor<'a>,

@@ -92,7 +92,7 @@ fn row_place<'a>(surface: &Surface<'a>, element: Element, number: u32) -> RowPla
     }
 }
 
-// Appends what so many rows of an element with these properties say.
+// Appends what the rows of an element with these properties, this many of them, say.
 fn read_rows<'a>(
     surface: &mut Surface<'a>,
     row: &mut Row<'a>,
@@ -139,6 +139,7 @@ fn fault_without_properties(element: Element) -> Option<PlyFault>
     }
 }
 
+// Whether the first declaration is that of a property.
 fn has_property(declarations: &[Declaration]) -> bool
     ensures { result ≡ begins_property declarations.now }
 {

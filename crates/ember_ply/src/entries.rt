@@ -81,7 +81,7 @@ fn read_behind<'a>(kind: Option<ElementKind>, keyword: &[u8], words: Part<'a>) -
     None
 }
 
-// What a line says behind an element of this kind, or behind none.
+// What a line says after an element of this kind, or before the first element.
 pub(crate) fn read_entry<'a>(kind: Option<ElementKind>, line: Part<'a>) -> Option<Entry>
     ensures { result ≡ entry_of kind (words_in line.entry) }
 {

@@ -2,8 +2,8 @@
 use ember_scan::Span;
 use thiserror::Error;
 
-/// The first fault of a file, or want of memory. Lines of the header and rows of an element are counted
-/// from 1.
+/// The first fault of a file, or out-of-memory. Lines of the header and rows of an element are
+/// counted from 1.
 #[derive(Clone, Copy, Debug, PartialEq, Eq, Error)]
 pub enum PlyFault {
     /// No line says `end_header`.
@@ -15,8 +15,8 @@ pub enum PlyFault {
     /// The header names no format, or another one.
     #[error("PLY format is none of ascii, binary_little_endian, binary_big_endian")]
     NoFormat,
-    /// A row ends before its last property, or the file does. The span is the name of the row's element
-    /// in the header, and the number is that of the row.
+    /// A row ends before its last property, or the file does. The span is the name of the row's
+    /// element in the header, and the number is that of the row.
     #[error("row {1}: the file ends or the row is short")]
     ShortRow(Span, u32),
     /// A coordinate of this vertex isn't a number, or is infinite or NaN.

@@ -10,7 +10,7 @@ use crate::fault::PlyFault;
 use ember_scan::{Part, next_line};
 use std::alloc::Global;
 
-// The encoding, the kind of the last element, and the elements, each with its properties behind it.
+// The encoding, the kind of the last element, and the elements, each with its properties after it.
 #[derive(Drop)]
 pub(crate) struct Header {
     pub encoding: Option<Encoding>,
@@ -46,6 +46,7 @@ fn add_entry(header: &mut Header, entry: Entry) -> Result<(), PlyFault>
     }
 }
 
+// Whether the entry is the end of the header.
 fn ends_header(entry: Entry) -> bool
     ensures { result ≡ is_end entry }
 {
@@ -55,7 +56,7 @@ fn ends_header(entry: Entry) -> bool
     }
 }
 
-// The header with which these lines begin, and the bytes behind it.
+// The header with which these lines begin, and the bytes after it.
 #[tactic(auto, using(crate::proofs::Steps::header_more, crate::proofs::Steps::header_ended, crate::proofs::Steps::header_fault))]
 fn read_lines<'a>(alloc: Global, file: Part<'a>) -> Result<(Header, &'a [u8]), PlyFault>
     ensures ok { IfOk result (λ h.
@@ -86,7 +87,7 @@ fn read_lines<'a>(alloc: Global, file: Part<'a>) -> Result<(Header, &'a [u8]), P
     Err(PlyFault::NoEnd)
 }
 
-// The header of a file, and the bytes behind it.
+// The header of a file, and the bytes after it.
 pub(crate) fn read_header<'a>(
     alloc: Global,
     bytes: &'a [u8],

@@ -5,12 +5,14 @@ ghost use Rattle.ember_ply.specs.Header.{is_either, float_named, wide_named, typ
 
 use crate::declarations::{Axis, ByteOrder, ElementKind, Encoding, ScalarType};
 
+// Whether the text is the name.
 pub(crate) fn is_name(text: &[u8], name: &[u8]) -> bool
     ensures { result ≡ bytes_eq text.now name.now }
 {
     text == name
 }
 
+// Whether the text is one of the two names.
 fn has_name(text: &[u8], old: &[u8], new: &[u8]) -> bool
     ensures { result ≡ is_either text.now old.now new.now }
 {

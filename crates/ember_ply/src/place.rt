@@ -1,7 +1,8 @@
 // The place of a row.
 use ember_scan::Span;
 
-// The name of a row's element in the header, the row's number from 1, and how many vertices stand before it.
+// The name of a row's element in the header, the row's number from 1, and how many vertices are
+// before it.
 #[derive(Clone, Copy)]
 pub(crate) struct RowPlace {
     pub name: Span,

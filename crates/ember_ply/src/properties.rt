@@ -54,7 +54,7 @@ fn read_corner<'a>(place: RowPlace, scalar: Scalar<'a>) -> Result<u32, PlyFault>
     }
 }
 
-// Puts so many corners into the list, in place of what it holds.
+// Puts this many corners into the list, in place of what it holds.
 fn read_corners<'a>(
     corners: &mut Vec<u32>,
     place: RowPlace,
@@ -83,7 +83,7 @@ fn read_corners<'a>(
     Ok(rest)
 }
 
-// What follows so many scalars.
+// What follows this many scalars.
 fn skip_items<'a>(
     place: RowPlace,
     item: ScalarType,

@@ -82,18 +82,18 @@ fn read_mesh<'a>(alloc: Global, bytes: &'a [u8]) -> Result<Surface<'a>, PlyFault
 
 /// The vertices and triangles of a PLY file, or its first fault.
 ///
-/// The header ends with the first line whose first word is `end_header`. Lines that begin with `ply`,
-/// `comment` or `obj_info` are passed over, as are lines without a word; that the file begins with `ply`
-/// is for the caller to see. The format is `ascii`, `binary_little_endian` or `binary_big_endian`. The
-/// rows of the elements follow in the header's order. In an ASCII file a row is a line with a word, and
-/// what follows its last property isn't read.
+/// The header ends with the first line whose first word is `end_header`. Lines that begin with
+/// `ply`, `comment` or `obj_info` are passed over, as are lines without a word; the caller tests
+/// whether the file begins with `ply`. The format is `ascii`, `binary_little_endian` or
+/// `binary_big_endian`. The rows of the elements follow in the header's order. In an ASCII file a
+/// row is a line with a word, and what follows its last property isn't read.
 ///
 /// A `vertex` has the properties `x`, `y` and `z`, and a `face` the list `vertex_indices` or
-/// `vertex_index` of indices from 0 of vertices whose rows come before it. Other elements, properties
-/// and lists are passed over. A face is cut into triangles from its first corner, and its number from 1
+/// `vertex_index` of indices from 0 of vertices with rows before it. Other elements, properties and
+/// lists are passed over. A face is cut into triangles from its first corner, and its number from 1
 /// is their place.
 ///
-/// The coordinates of an ASCII file borrow their digits from `text`.
+/// The coordinates of an ASCII file borrow their digits from `text`, which has at most 2^28 bytes.
 pub fn read_ply<'a>(alloc: Global, text: &'a [u8]) -> Result<Surface<'a>, PlyFault>
     requires { length text.now ≤ 268435456 }
     ensures ok { IfOk result (λ s. read_ply_of text.now ≡ Ok (content_of s)) }

@@ -1,4 +1,4 @@
-// Numbers as they stand in the rows of a file.
+// Numbers in the rows of a file.
 ghost use Rattle.std.specs.Prelude.{◌≡◌, ◌≤◌, ◌<◌, length, slice_index, take, drop, min, MatchOption, IfSome, Some, None};
 ghost use Rattle.std.specs.Option.{option_map};
 ghost use Rattle.std.specs.Int.{w16, w32, w64};
@@ -64,7 +64,7 @@ pub(crate) fn index_below<'a>(limit: u32, scalar: Scalar<'a>) -> Option<u32>
     Some(number as u32)
 }
 
-// The number of the first two bytes, and what follows them.
+// The number in the first two bytes, and what follows them.
 #[tactic(none)]
 fn split_u16(order: ByteOrder, bytes: &[u8]) -> Option<(u16, &[u8])>
     ensures { MatchOption result (length bytes.now < 2) (λ p.

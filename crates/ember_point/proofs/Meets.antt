@@ -42,29 +42,36 @@ module _ (p q r : Plane) where
   on_third_by k =
       identity (scalar ∷ tuple ∷ tuple ∷ tuple ∷ []) (λ k p q r. let m = determinantsE p q r in r.x ⊗ (k ⊗ m.x) ⊕ r.y ⊗ (k ⊗ m.y) ⊕ r.z ⊗ (k ⊗ m.z) ⊖ r.w ⊗ (k ⊗ m.w) ≈ num (pos 0)) cancels k (plane_tuple p) (plane_tuple q) (plane_tuple r)
 
+  -- the meet lies on the first plane
   pub on_first : value_at p (meet_of p q r) ≡ pos 0
   on_first = on_first_by (sign (weight p q r))
 
+  -- the meet lies on the second plane
   pub on_second : value_at q (meet_of p q r) ≡ pos 0
   on_second = on_second_by (sign (weight p q r))
 
+  -- the meet lies on the third plane
   pub on_third : value_at r (meet_of p q r) ≡ pos 0
   on_third = on_third_by (sign (weight p q r))
 
   -- ---- by the cross products u, v, t of two normals each
   module _ (u v t : Vector) (eu : u ≡ cross (normal q) (normal r)) (ev : v ≡ cross (normal r) (normal p)) (et : t ≡ cross (normal p) (normal q)) where
+    -- X of a meet, as the code computes it
     pub x_is : p.d *ℤ u.x +ℤ q.d *ℤ v.x +ℤ r.d *ℤ t.x ≡ (determinants p q r).x
     x_is =
         rw (eu, ev, et) (identity (tuple ∷ tuple ∷ tuple ∷ []) (λ p q r. p.w ⊗ (crossE (normalE q) (normalE r)).x ⊕ q.w ⊗ (crossE (normalE r) (normalE p)).x ⊕ r.w ⊗ (crossE (normalE p) (normalE q)).x ≈ (determinantsE p q r).x) cancels (plane_tuple p) (plane_tuple q) (plane_tuple r))
 
+    -- Y of a meet, as the code computes it
     pub y_is : p.d *ℤ u.y +ℤ q.d *ℤ v.y +ℤ r.d *ℤ t.y ≡ (determinants p q r).y
     y_is =
         rw (eu, ev, et) (identity (tuple ∷ tuple ∷ tuple ∷ []) (λ p q r. p.w ⊗ (crossE (normalE q) (normalE r)).y ⊕ q.w ⊗ (crossE (normalE r) (normalE p)).y ⊕ r.w ⊗ (crossE (normalE p) (normalE q)).y ≈ (determinantsE p q r).y) cancels (plane_tuple p) (plane_tuple q) (plane_tuple r))
 
+    -- Z of a meet, as the code computes it
     pub z_is : p.d *ℤ u.z +ℤ q.d *ℤ v.z +ℤ r.d *ℤ t.z ≡ (determinants p q r).z
     z_is =
         rw (eu, ev, et) (identity (tuple ∷ tuple ∷ tuple ∷ []) (λ p q r. p.w ⊗ (crossE (normalE q) (normalE r)).z ⊕ q.w ⊗ (crossE (normalE r) (normalE p)).z ⊕ r.w ⊗ (crossE (normalE p) (normalE q)).z ≈ (determinantsE p q r).z) cancels (plane_tuple p) (plane_tuple q) (plane_tuple r))
 
+    -- the weight of a meet, as a product of the first normal and the other two's cross product
     pub w_is : dot (normal p) u ≡ weight p q r
     w_is = rw eu refl
 

@@ -24,7 +24,7 @@ no-rest (negsuc n) g d = ap (λ (m : ℕ). neg_ℤ (pos m)) (mod-eq-zero_of_dvd 
 exact-quotient : (v : ℤ) (g : ℕ) → g ∣ unsigned_abs v → int_div v (pos g) *ℤ pos g ≡ v
 exact-quotient v g d = let e = quot-rem v (pos g) in let z = no-rest v g d in omega (arith, e, z, ints)
 
-pub exact-division : (v d : ℤ) → pos 0 <ℤ d → unsigned_abs d ∣ unsigned_abs v → int_div v d *ℤ d ≡ v
+exact-division : (v d : ℤ) → pos 0 <ℤ d → unsigned_abs d ∣ unsigned_abs v → int_div v d *ℤ d ≡ v
 exact-division v (pos n) p h = exact-quotient v n h
 exact-division v (negsuc n) p h = absurd (omega (arith, p, ints))
 
@@ -54,6 +54,7 @@ positive_factor : (q d n : ℤ) → pos 0 <ℤ d → q *ℤ d ≡ n → pos 0 <�
 positive_factor q d n p e l =
     by_sign q (λ h. h) (λ z. absurd (omega (arith, linear, l, e, ap (λ a. a *ℤ d) z))) (λ h. absurd (omega (arith, linear, l, e, mul_neg_pos h p)))
 
+-- a valid meet divided by a positive divisor is valid
 pub quotient_valid : {u v : Spot} {d : ℤ} → IsValidMeet u → pos 0 <ℤ d → IsQuotient u v d → IsValidMeet v
 quotient_valid {u} {v} {d} s p q =
     record { x = factor-small v.x d u.x p q.x s.x; y = factor-small v.y d u.y p q.y s.y; z = factor-small v.z d u.z p q.z s.z; w = factor-small v.w d u.w p q.w s.w; weight = positive_factor v.w d u.w p q.w s.weight }
@@ -62,13 +63,16 @@ same_ratio : (a b x w d : ℤ) → a *ℤ d ≡ x → b *ℤ d ≡ w → b *ℤ 
 same_ratio a b x w d e f =
     rw (← e, ← f) (solve 3 (λ a b d. b ⊗ (a ⊗ d) ≈ (b ⊗ d) ⊗ a) cancels a b d)
 
+-- a point divided by a divisor is the same point
 pub quotient_same : {u v : Spot} {d : ℤ} → IsQuotient u v d → SamePoint u v
 quotient_same {u} {v} {d} q =
     record { x = same_ratio v.x v.w u.x u.w d q.x q.w; y = same_ratio v.y v.w u.y u.w d q.y q.w; z = same_ratio v.z v.w u.z u.w d q.z q.w }
 
+-- 1 divides every number
 pub one_dvd : (k : ℕ) → 1 ∣ k
 one_dvd k = subst (λ n. 1 ∣ n) (omega arith) (dvd-mul_right 1 k)
 
+-- a point divided by the greatest common divisor is in lowest terms
 pub quotient_lowest : {u v : Spot} {d : ℤ} → IsGreatestDivisor u d → IsQuotient u v d → IsLowest v
 quotient_lowest {u} {v} {d} g q =
     record { lowest = λ k x y z w. dvd_antisymm (only_one k (g.greatest (k * unsigned_abs d) (up v.x u.x k x q.x) (up v.y u.y k y q.y) (up v.z u.z k z q.z) (up v.w u.w k w q.w))) (one_dvd k) }

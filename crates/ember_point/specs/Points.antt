@@ -53,6 +53,7 @@ abbrev pub cross_of : Cross → Vector
 cross_of u = record { x = u.x; y = u.y; z = u.z }
 
 -- ---- a plane with one coordinate fixed
+-- the plane with a coordinate fixed
 abbrev pub slid : Plane → Axis → ℤ → Plane
 slid p X at = record { a = pos 0; b = p.b; c = p.c; d = p.d -ℤ p.a *ℤ at }
 slid p Y at = record { a = p.a; b = pos 0; c = p.c; d = p.d -ℤ p.b *ℤ at }

@@ -1,4 +1,4 @@
-// The law of sizes: the value of a plane at a point fits into 128 bits.
+// The law of sizes: the value of a plane at a meet fits into 128 bits.
 ghost use Rattle.ember_algebra.specs.Size.{Small};
 ghost use Rattle.ember_model.specs.declared.plane.Plane.{Plane};
 ghost use Rattle.ember_model.specs.declared.point.Spot.{Spot};

@@ -7,6 +7,7 @@ ghost use Rattle.ember_point.specs.Points.{spot_of, IsGreatestDivisor};
 
 use crate::meet_point::Meet;
 
+// The greatest common divisor of two numbers of 64 bits.
 fn small_gcd(a: u64, b: u64) -> u64
     ensures { IsGcd a b result }
 {
@@ -20,7 +21,7 @@ fn small_gcd(a: u64, b: u64) -> u64
     x
 }
 
-// By steps of 128 bits only while both numbers are large.
+// The greatest common divisor. Divides in 128 bits only while both numbers need more than 64.
 fn gcd(a: u128, b: u128) -> u128
     ensures { IsGcd a b result }
 {
@@ -53,7 +54,7 @@ fn common_divisor(m: &Meet) -> i128
     third as i128
 }
 
-// In 64 bits if both numbers fit into them.
+// The number divided by a divisor of it. Divides in 64 bits if both numbers fit into them.
 fn quotient(n: i128, divisor: i128) -> i128
     requires positive { pos 0 <ℤ divisor }
     requires small { unsigned_abs n < 2 ^ 92 }

@@ -11,6 +11,7 @@ use crate::cross::Cross;
 use crate::meet_point::Meet;
 use ember_model::Plane;
 
+// The determinant `a d - b c` of entries of normals. 2251799679467522 is 2 * 33554431^2.
 fn minor(a: i64, b: i64, c: i64, d: i64) -> i64
     requires small_a { Small 33554431 a }
     requires small_b { Small 33554431 b }
@@ -22,6 +23,7 @@ fn minor(a: i64, b: i64, c: i64, d: i64) -> i64
     a * d - b * c
 }
 
+// The cross product of the planes' normals.
 fn cross_normals(p: &Plane, q: &Plane) -> Cross
     requires valid_p { IsValidPlane p.now }
     requires valid_q { IsValidPlane q.now }
@@ -34,6 +36,7 @@ fn cross_normals(p: &Plane, q: &Plane) -> Cross
     }
 }
 
+// The dot product of the plane's normal and a cross product of normals. The bound is 2^78 - 1.
 fn product(p: &Plane, u: &Cross) -> i128
     requires { IsValidPlane p.now }
     ensures value { result ≡ dot (normal p.now) (cross_of u.now) }
@@ -42,6 +45,8 @@ fn product(p: &Plane, u: &Cross) -> i128
     p.a as i128 * u.x as i128 + p.b as i128 * u.y as i128 + p.c as i128 * u.z as i128
 }
 
+// The sum `a x + b y + c z` of constants of planes times entries of cross products. The bounds are
+// 2^39 - 1, 2 * 33554431^2, and 2^92 - 1 for the sum.
 fn combination(a: i64, x: i64, b: i64, y: i64, c: i64, z: i64) -> i128
     requires small_a { Small 549755813887 a }
     requires small_b { Small 549755813887 b }

@@ -1,4 +1,5 @@
-// Points whose numbers fit into 64 bits: their sides take a third of the steps.
+// Points whose numbers fit into 64 bits: finding on which side of a plane they are takes a third of
+// the steps.
 ghost use Rattle.std.specs.Prelude.{◌≡◌, true, ◌*ℤ◌};
 ghost use Rattle.ember_algebra.specs.Size.{Small};
 ghost use Rattle.ember_algebra.specs.Sign.{sgn};
@@ -10,7 +11,7 @@ use crate::meet_point::Meet;
 use ember_algebra::{Sign, sign_of};
 use ember_model::Plane;
 
-/// The sizes of the four numbers add up to less than 2^62.
+/// Whether the sizes of the point's four numbers add up to less than 2^62.
 pub fn is_narrow(m: &Meet) -> bool
     ensures { result ≡ is_narrow (spot_of m.now) }
 {
@@ -18,7 +19,8 @@ pub fn is_narrow(m: &Meet) -> bool
     coordinates + m.w.unsigned_abs() < 4611686018427387904
 }
 
-/// The product of a plane's entry and a coordinate of a narrow point, by 64 bits times 64.
+/// The product of a plane's entry or constant and a number of a narrow point, by one multiplication
+/// of 64 bits by 64.
 pub fn narrow_product(a: i64, x: i128) -> i128
     requires a { Small 549755813887 a }
     requires x { Small 4611686018427387903 x }
@@ -28,7 +30,7 @@ pub fn narrow_product(a: i64, x: i128) -> i128
     a as i128 * (x as i64) as i128
 }
 
-/// The side of the plane on which a narrow point lies, as `side` tells it.
+/// The side of the plane on which a narrow point lies, as by `side`.
 pub fn narrow_side(p: &Plane, m: &Meet) -> Sign
     requires plane { IsValidPlane p.now }
     requires narrow { is_narrow (spot_of m.now) ≡ true }

@@ -18,6 +18,7 @@ pub front_y : (n : Plane) (f l p : Side) (ks : List Side) → IsConvexRing n (f 
 front_y n f l p [] s = s.1.1.0
 front_y n f l p (k ∷ ks) s = (each-back (λ r. IsBelow f.plane r.corner) (ks ++ l ∷ []) (p ∷ []) s.1.1).0
 
+-- the corner at which a ring's first edge starts is below all other kept edges but the closing one
 pub kept_z : (n : Plane) (f l p : Side) (ks : List Side) → IsConvexRing n (f ∷ (ks ++ l ∷ []) ++ p ∷ []) → AllByRecursion (λ r. IsBelow r.plane f.corner) (ks ++ l ∷ [])
 kept_z n f l p [] s = ((ends_under n l.plane [] p f (chain_ends n l.plane (p ∷ []) f [] s.2)).0, tt)
 kept_z n f l p (k ∷ ks) s =

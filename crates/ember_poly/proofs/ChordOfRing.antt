@@ -1,4 +1,4 @@
--- The chord in which a plane passes a ring: its points are the inside points on the plane.
+-- The chord in which a plane plane_has_corners_above a ring: its points are the inside points on the plane.
 use Rattle.std.proofs.Common.{◌≡◌, ⊎_elim, sym, subst, ◌∙◌, arith, true, List, [], ◌∷◌, ◌++◌, take, drop, ℤ, pos, ◌+ℤ◌, ◌-ℤ◌, ◌*ℤ◌, neg_ℤ, ◌<ℤ◌, ◌≤ℤ◌}
 use Rattle.std.proofs.lemmas.Int.{by_lt_z}
 use Rattle.std.proofs.lemmas.List.{take-append-drop, append-nil}
@@ -21,14 +21,14 @@ use Rattle.ember_poly.proofs.Chains.{each_map, each_both, each-back, each-front}
 use Rattle.ember_poly.proofs.Rotations.{turned_by, each-turned}
 use Rattle.ember_poly.proofs.Planar.{same_place}
 use Rattle.ember_poly.proofs.RingBelow.{below_some, below_all, not_zero}
-use Rattle.ember_poly.proofs.Hull.{blend, blended}
+use Rattle.ember_poly.proofs.Hull.{blend, blend_value}
 use Rattle.ember_poly.proofs.InsideSigns.{mixed2_value}
 use Rattle.ember_poly.proofs.InsidePoints.{head_closed, corner_closed, flat_sum, weight_sum}
 use Rattle.ember_poly.proofs.Chord.{front_y, kept_z, at_y, at_z, middle_under}
-use Rattle.ember_poly.proofs.DroppedEdges.{somewhere}
+use Rattle.ember_poly.proofs.DroppedEdges.{dropped_side_is_above_one_corner}
 use Rattle.ember_poly.proofs.FaceTests.{all_in, all_out, closed_in, closed_out}
 use Rattle.ember_poly.proofs.ReachBySigns.{seen_inside, inside_seen}
-use Rattle.ember_poly.proofs.PassageFound.{passes, turns_of}
+use Rattle.ember_poly.proofs.PassageFound.{plane_has_corners_above, turns_of}
 
 -- ---- the two ends
 record Ends (n p : Plane) (f l : Side) (y z : Spot) (whole : List Side) : Type 0 where
@@ -55,7 +55,7 @@ ends_of n p f l ks (d ∷ ds) y z mz my s u a q =
     record {
       at_y = at_y n p f l ks (d ∷ ds) y z 0 d.corner s c o;
       at_z = at_z n p f l ks (d ∷ ds) y z 0 d.corner s c o;
-      middle = middle_under n p f l ks (d ∷ ds) y z 0 d.corner s c o (somewhere n p f l d ks ds y z 0 s o.exit o.entry (passes p f d ds q));
+      middle = middle_under n p f l ks (d ∷ ds) y z 0 d.corner s c o (dropped_side_is_above_one_corner n p f l d ks ds y z 0 s o.exit o.entry (plane_has_corners_above p f d ds q));
       first = front_y n (with_start f z) l (closing_side p y 0) ks o.sound;
       last = (each-back (λ s. IsBelow s.plane z) ks (l ∷ []) (kept_z n (with_start f z) l (closing_side p y 0) ks o.sound)).0;
     }
@@ -131,21 +131,21 @@ module _ (n p : Plane) (f l : Side) (ks ds : List Side) (y z : Spot) (mz : IsMee
 
     on_f : value_at f.plane rest ≡ pos 0
     on_f =
-        blended i j h x y z f.plane ∙ rw mz.second (solve 4 (λ a b c d. (b ⊗ c) ⊗ a ⊖ (a ⊗ c) ⊗ b ⊖ (b ⊗ d) ⊗ num (pos 0) ≈ num (pos 0)) cancels (value_at f.plane x) (value_at f.plane y) (value_at l.plane z) (value_at l.plane x))
+        blend_value i j h x y z f.plane ∙ rw mz.second (solve 4 (λ a b c d. (b ⊗ c) ⊗ a ⊖ (a ⊗ c) ⊗ b ⊖ (b ⊗ d) ⊗ num (pos 0) ≈ num (pos 0)) cancels (value_at f.plane x) (value_at f.plane y) (value_at l.plane z) (value_at l.plane x))
 
     on_l : value_at l.plane rest ≡ pos 0
     on_l =
-        blended i j h x y z l.plane ∙ rw my.second (solve 4 (λ a b c d. (b ⊗ c) ⊗ d ⊖ (a ⊗ c) ⊗ num (pos 0) ⊖ (b ⊗ d) ⊗ c ≈ num (pos 0)) cancels (value_at f.plane x) (value_at f.plane y) (value_at l.plane z) (value_at l.plane x))
+        blend_value i j h x y z l.plane ∙ rw my.second (solve 4 (λ a b c d. (b ⊗ c) ⊗ d ⊖ (a ⊗ c) ⊗ num (pos 0) ⊖ (b ⊗ d) ⊗ c ≈ num (pos 0)) cancels (value_at f.plane x) (value_at f.plane y) (value_at l.plane z) (value_at l.plane x))
 
     index : (e : Plane) → rest.w *ℤ value_at e z ≡ z.w *ℤ value_at e rest
     index e =
-        same_place n p f.plane (not_zero (turns_of n p f l ks ds s u a q).1) e rest z (blended i j h x y z n ∙ zeros i j h k.flat my.first mz.first) (blended i j h x y z p ∙ zeros i j h on my.third mz.third) on_f mz.first mz.third mz.second
+        same_place n p f.plane (not_zero (turns_of n p f l ks ds s u a q).1) e rest z (blend_value i j h x y z n ∙ zeros i j h k.flat my.first mz.first) (blend_value i j h x y z p ∙ zeros i j h on my.third mz.third) on_f mz.first mz.third mz.second
 
     combination : (e : Plane) → i *ℤ value_at e x ≡ j *ℤ value_at e y +ℤ h *ℤ value_at e z
     combination e =
         let r = no_weight rest.w z.w (value_at l.plane z) (value_at l.plane rest) (index l.plane) on_l ends.last.under in
         let v = no_value rest.w z.w (value_at e z) (value_at e rest) (index e) r mz.weight in
-        apart (i *ℤ value_at e x) (j *ℤ value_at e y) (h *ℤ value_at e z) (sym (blended i j h x y z e) ∙ v)
+        apart (i *ℤ value_at e x) (j *ℤ value_at e y) (h *ℤ value_at e z) (sym (blend_value i j h x y z e) ∙ v)
       where
         apart : (a b c : ℤ) → a -ℤ b -ℤ c ≡ pos 0 → a ≡ b +ℤ c
         apart a b c e = omega (arith, linear, e)
@@ -181,23 +181,23 @@ module _ (n p : Plane) (gs : List Plane) (xs : List Side) (at : Passage) (q : Is
   out v k =
       subst (λ zs. IsInsideRing n zs v) (take-append-drop at.first xs) (inside_turned n v (drop at.first xs) (take at.first xs) (subst (λ zs. IsInsideRing n zs v) (sym q.turned) k))
 
-  pub chord_line : IsLine n p y z
+  chord_line : IsLine n p y z
   chord_line =
       record { flat_y = q.exit.first; flat_z = q.entry.first; on_y = q.exit.third; on_z = q.entry.third; weight_y = q.exit.weight; weight_z = q.entry.weight; across = q.head.plane; turns = not_zero (turns_of n p q.head q.last q.front q.others sound q.under q.enters q.leaves).1 }
 
-  pub chord_meets : (hs : List Plane) → IsOpen hs y z → MeetsFace (record { support = n; edges = gs }) (face_with p hs)
+  chord_meets : (hs : List Plane) → IsOpen hs y z → MeetsFace (record { support = n; edges = gs }) (face_with p hs)
   chord_meets hs o =
       let v = mixed2 o.i o.j y z in
       let k = out v (chord_inside n p q.head q.last q.front q.others y z q.entry q.exit sound q.under q.enters q.leaves o.i o.j o.from_y o.from_z) in
       record { at = v; inside = seen_inside n p gs xs st v k; holds = closed_in (face_with p hs) v (record { flat = flat_sum o.i o.j y z p q.exit.third q.entry.third; weight = k.weight; within = all_out hs v o.free }) }
 
-  pub meets_chord : (hs : List Plane) → MeetsFace (record { support = n; edges = gs }) (face_with p hs) → IsOpen hs y z
+  meets_chord : (hs : List Plane) → MeetsFace (record { support = n; edges = gs }) (face_with p hs) → IsOpen hs y z
   meets_chord hs m =
       let k = into m.at (inside_seen n p gs xs st m.at m.inside) in
       let c = closed_out (face_with p hs) m.at m.holds in
       chord_open n p q.head q.last q.front q.others y z q.entry q.exit sound q.under q.enters q.leaves m.at k c.flat hs (all_in hs m.at c.within)
 
--- the chord of the face that the ring stands for
+-- the chord of the ring's face
 pub chord_of : (f : Face) (n p : Plane) (gs : List Plane) (xs : List Side) (at : Passage) → IsPassage n p xs at → Represents n gs xs → record { support = n; edges = gs } ≡ f → Cuts f p → IsChord f p (spot_of at.exit) (spot_of at.entry)
 chord_of f n p gs xs at q s e k =
     record {

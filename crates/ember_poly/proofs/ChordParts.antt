@@ -20,22 +20,25 @@ use Rattle.ember_poly.specs.Chords.{IsChordPart, mixed2, IsOpen, HasVertexWithin
 use Rattle.ember_poly.proofs.Chains.{each_map, each_both, each-push}
 use Rattle.ember_poly.proofs.Members.{has-push, has-front, has_pick}
 use Rattle.ember_poly.proofs.Planar.{same_place}
-use Rattle.ember_poly.proofs.CutOrientation.{swap_last, slope}
+use Rattle.ember_poly.proofs.CutOrientation.{swap_last, value_difference_by_orientation}
 use Rattle.ember_poly.proofs.InsideSigns.{mixed2_value}
 use Rattle.ember_poly.proofs.InsidePoints.{flat_sum, weight_sum, scaled_both}
 use Rattle.ember_poly.proofs.FaceTests.{all_in, all_out}
 
 -- ---- the tests of a list
+-- what holds of all members holds of this one
 pub each_in : {X : Type 0} (P : X → Type 0) (h : X) (hs : List X) → In h hs → AllByRecursion P hs → P h
 each_in P h [] m a = absurd m
 each_in P h (g ∷ gs) (inl e) a = subst P (sym e) a.0
 each_in P h (g ∷ gs) (inr m) a = each_in P h gs m a.1
 
+-- the member at an index is a member
 pub in_at : {X : Type 0} (i : ℕ) (xs : List X) (d : X) → i < length xs → In (get_or xs i d) xs
 in_at i [] d l = absurd (omega (arith, l))
 in_at zero (x ∷ xs) d l = inl refl
 in_at (suc i) (x ∷ xs) d l = inr (in_at i xs d (omega (arith, l)))
 
+-- a point is above none of the planes, or it is above some
 pub decide_free : (hs : List Plane) (v : Spot) → (none_positive hs v ≡ true) ⊎ (none_positive hs v ≡ false)
 decide_free hs v = by (none_positive hs v) refl
   where
@@ -49,11 +52,12 @@ at_most_same {k} {l} {a} {b} pk pl e q =
     let m : pos 0 ≤ℤ neg_ℤ a = omega (arith, linear, q) in let n : pos 0 ≤ℤ l = omega (arith, linear, pl) in
     cancel_le pk (omega (arith, linear, nonneg_mul n m, e, solve 2 (λ l a. l ⊗ neg a ≈ neg (l ⊗ a)) cancels l a, solve 1 (λ k. k ⊗ num (pos 0) ≈ num (pos 0)) cancels k))
 
-pub same_free : (hs : List Plane) (u v : Spot) → pos 0 <ℤ u.w → pos 0 <ℤ v.w → ((e : Plane) → u.w *ℤ value_at e v ≡ v.w *ℤ value_at e u) → none_positive hs u ≡ true → none_positive hs v ≡ true
+same_free : (hs : List Plane) (u v : Spot) → pos 0 <ℤ u.w → pos 0 <ℤ v.w → ((e : Plane) → u.w *ℤ value_at e v ≡ v.w *ℤ value_at e u) → none_positive hs u ≡ true → none_positive hs v ≡ true
 same_free hs u v pu pv e f =
     all_in hs v (each_map (λ g. IsNotAbove g u) (λ g. IsNotAbove g v) hs (λ g a. record { at_most = at_most_same pu pv (e g) a.at_most }) (all_out hs u f))
 
 -- ---- three planes that meet in one point
+-- the point in which three planes meet is above none of the list, if some such point is
 pub fits_free : (n p h : Plane) (hs : List Plane) (v : Spot) → IsMeet n p h v → HasVertexWithin n p h hs → none_positive hs v ≡ true
 fits_free n p h hs v m f =
     same_free hs f.at v f.meets.weight m.weight (λ e. same_place n p h f.turns e f.at v f.meets.first f.meets.second f.meets.third m.first m.second m.third) f.free
@@ -71,20 +75,20 @@ no_slope t s k x y c d z e pc pd px py =
         let f : pos 0 *ℤ k ≡ neg_ℤ (s *ℤ (c *ℤ y -ℤ d *ℤ x)) = subst (λ t. t *ℤ k ≡ neg_ℤ (s *ℤ (c *ℤ y -ℤ d *ℤ x))) z e in
         omega (arith, linear, f, solve 1 (λ k. num (pos 0) ⊗ k ≈ num (pos 0)) cancels k)
 
-pub across_turns : (n p h : Plane) (a b : Spot) → IsLine n p a b → IsAcross h a b → orientation n p h ≢ pos 0
+across_turns : (n p h : Plane) (a b : Spot) → IsLine n p a b → IsAcross h a b → orientation n p h ≢ pos 0
 across_turns n p h a b l s =
-    λ z. l.turns (back (swap_last n l.across p) (no_slope (orientation n p h) (orientation n l.across p) (a.w *ℤ value_at l.across b -ℤ b.w *ℤ value_at l.across a) (value_at h a) (value_at h b) a.w b.w z (slope n p h l.across a b l.flat_y l.flat_z l.on_y l.on_z) l.weight_y l.weight_z s.0 s.1))
+    λ z. l.turns (back (swap_last n l.across p) (no_slope (orientation n p h) (orientation n l.across p) (a.w *ℤ value_at l.across b -ℤ b.w *ℤ value_at l.across a) (value_at h a) (value_at h b) a.w b.w z (value_difference_by_orientation n p h l.across a b l.flat_y l.flat_z l.on_y l.on_z) l.weight_y l.weight_z s.0 s.1))
   where
     back : {x y : ℤ} → y ≡ neg_ℤ x → x ≡ pos 0 → y ≡ pos 0
     back {x} {y} e z = omega (arith, linear, e, z)
 
 -- the line from the other end
-pub turned_line : (n p : Plane) (a b : Spot) → IsLine n p a b → IsLine n p b a
+turned_line : (n p : Plane) (a b : Spot) → IsLine n p a b → IsLine n p b a
 turned_line n p a b l =
     record { flat_y = l.flat_z; flat_z = l.flat_y; on_y = l.on_z; on_z = l.on_y; weight_y = l.weight_z; weight_z = l.weight_y; across = l.across; turns = l.turns }
 
 -- ---- where it meets the line
-pub meets_line : (i j : ℤ) (n p h : Plane) (a b : Spot) → pos 0 ≤ℤ i → pos 0 <ℤ j → value_at n a ≡ pos 0 → value_at n b ≡ pos 0 → value_at p a ≡ pos 0 → value_at p b ≡ pos 0 → pos 0 <ℤ a.w → pos 0 <ℤ b.w → i *ℤ value_at h a +ℤ j *ℤ value_at h b ≡ pos 0 → IsMeet n p h (mixed2 i j a b)
+meets_line : (i j : ℤ) (n p h : Plane) (a b : Spot) → pos 0 ≤ℤ i → pos 0 <ℤ j → value_at n a ≡ pos 0 → value_at n b ≡ pos 0 → value_at p a ≡ pos 0 → value_at p b ≡ pos 0 → pos 0 <ℤ a.w → pos 0 <ℤ b.w → i *ℤ value_at h a +ℤ j *ℤ value_at h b ≡ pos 0 → IsMeet n p h (mixed2 i j a b)
 meets_line i j n p h a b pi pj na nb ha hb wa wb e =
     record { first = flat_sum i j a b n na nb; second = flat_sum i j a b p ha hb; third = mixed2_value i j a b h ∙ e; weight = weight_sum pi pj wa wb }
 
@@ -107,7 +111,7 @@ mixed_turned i j a b =
     both : (x y : ℤ) → i *ℤ x +ℤ j *ℤ y ≡ j *ℤ y +ℤ i *ℤ x
     both x y = solve 4 (λ i j x y. i ⊗ x ⊕ j ⊗ y ≈ j ⊗ y ⊕ i ⊗ x) cancels i j x y
 
-pub turned_open : (hs : List Plane) (a b : Spot) → IsOpen hs a b → IsOpen hs b a
+turned_open : (hs : List Plane) (a b : Spot) → IsOpen hs a b → IsOpen hs b a
 turned_open hs a b o =
     record { i = o.j; j = o.i; from_y = o.from_z; from_z = o.from_y; free = subst (λ v. none_positive hs v ≡ true) (mixed_turned o.i o.j a b) o.free }
 
@@ -176,16 +180,13 @@ module _ (n p : Plane) (hs : List Plane) (y z : Spot) where
     pub free : AreFree b gs
 
 module _ (n p : Plane) (hs : List Plane) (y z : Spot) (l : IsLine n p y z) where
-  pub tried_none : Tried n p hs y z true []
-  tried_none = record { passed = tt; free = tt }
-
-  pub tried_free : (b : Bool) (gs : List Plane) (h : Plane) → Spans n p hs y z Whole h → Tried n p hs y z b gs → Tried n p hs y z b (gs ++ h ∷ [])
+  tried_free : (b : Bool) (gs : List Plane) (h : Plane) → Spans n p hs y z Whole h → Tried n p hs y z b gs → Tried n p hs y z b (gs ++ h ∷ [])
   tried_free true gs h s t =
       record { passed = each-push (Passed n p hs y z) gs h t.passed (inl s); free = each-push (λ h. Spans n p hs y z Whole h) gs h t.free s }
   tried_free false gs h s t =
       record { passed = each-push (Passed n p hs y z) gs h t.passed (inl s); free = has-front (λ h. Spans n p hs y z Split h) gs (h ∷ []) t.free }
 
-  pub tried_split : (b : Bool) (gs : List Plane) (h : Plane) → Spans n p hs y z Split h → (HasVertexWithin n p h hs → ⊥) → Tried n p hs y z b gs → Tried n p hs y z false (gs ++ h ∷ [])
+  tried_split : (b : Bool) (gs : List Plane) (h : Plane) → Spans n p hs y z Split h → (HasVertexWithin n p h hs → ⊥) → Tried n p hs y z b gs → Tried n p hs y z false (gs ++ h ∷ [])
   tried_split b gs h s f t =
       record { passed = each-push (Passed n p hs y z) gs h t.passed (inr (s, f)); free = has-push (λ h. Spans n p hs y z Split h) gs h s }
 
@@ -195,7 +196,7 @@ module _ (n p : Plane) (hs : List Plane) (y z : Spot) (l : IsLine n p y z) where
   open_split h (inr s) f =
       turned_open hs z y (open_across n p h hs z y (turned_line n p y z l) (s.1, s.0) f)
 
-  pub shut_out : (h : Plane) → In h hs → Spans n p hs y z Empty h → IsOpen hs y z → ⊥
+  shut_out : (h : Plane) → In h hs → Spans n p hs y z Empty h → IsOpen hs y z → ⊥
   shut_out h m s o =
       by s (subst (λ k. k ≤ℤ pos 0) (mixed2_value o.i o.j y z h) (none_positive_member (mixed2 o.i o.j y z) hs h o.free m))
     where
@@ -240,7 +241,7 @@ module _ (n p : Plane) (hs : List Plane) (y z : Spot) (l : IsLine n p y z) where
           let r = has_pick (λ h. Spans n p hs y z Split h) (λ h. IsNotAbove h y × IsNotAbove h z) hs s (each_both (λ h. IsNotAbove h y) (λ h. IsNotAbove h z) (λ h. IsNotAbove h y × IsNotAbove h z) hs (λ h u v. (u, v)) (all_out hs y a) (all_out hs z b)) in
           clash r.member r.holds r.also.0 r.also.1
 
-  pub tried_all : (b : Bool) → Tried n p hs y z b hs → (b ≡ true → IsOpen hs y z) × (IsOpen hs y z → b ≡ true)
+  tried_all : (b : Bool) → Tried n p hs y z b hs → (b ≡ true → IsOpen hs y z) × (IsOpen hs y z → b ≡ true)
   tried_all true t = (λ e. all_free t.free, λ o. refl)
   tried_all false t = (λ e. absurd (differ e), λ o. absurd (none_open t.passed (some_end t.free) o))
     where

@@ -1,4 +1,4 @@
--- How corners lie to a plane, from runs of them, and where its negative side is entered.
+-- How corners lie relative to a plane, from runs of them, and where its negative side is entered.
 use Rattle.std.proofs.Common.{◌≡◌, ◌⊎◌, ⊎_elim, inl, inr, refl, sym, ap, subst, ◌∙◌, arith, ℕ, zero, suc, ◌<◌, ◌≤◌, ◌+◌, ◌-◌, Bool, true, false, not, List, [], ◌∷◌, ◌++◌, length, take, drop, length-drop, ℤ, pos, ◌<ℤ◌, ◌≤ℤ◌}
 use lib.ListN.{get_or}
 use Rattle.std.specs.List.{AllByRecursion}
@@ -17,9 +17,10 @@ use Rattle.ember_poly.specs.Passages.{HasSome, AreSigns, AreClassified, is_under
 use Rattle.ember_poly.proofs.Chains.{each-push, each_both}
 use Rattle.ember_poly.proofs.Rotations.{each-join}
 use Rattle.ember_poly.proofs.Members.{has-push, has-front, has-back, has_pick}
-use Rattle.ember_poly.proofs.Runs.{clash, under_out, stops_at, stops_end, rest_of, lows, highs, run_rest, run_more, run_short, run_long, up_positive, entry_within, entry_enters}
+use Rattle.ember_poly.proofs.Runs.{true_is_not_false, under_out, stops_at, stops_end, rest_of, lows, highs, run_rest, run_more, run_short, run_long, up_positive, entry_within, entry_enters}
 
 -- ---- signs
+-- corners that are neither above nor below a plane are on it
 pub on_both : (p : Plane) (ms : List Meet) → AllByRecursion (λ m. IsNotAbove p (spot_of m)) ms → AllByRecursion (λ m. IsNotBelow p (spot_of m)) ms → AllByRecursion (λ m. IsOnPlane p (spot_of m)) ms
 on_both p ms h k =
     each_both (λ m. IsNotAbove p (spot_of m)) (λ m. IsNotBelow p (spot_of m)) (λ m. IsOnPlane p (spot_of m)) ms (λ m a b. record { on_plane = squeeze a.at_most b.at_least }) h k
@@ -27,7 +28,7 @@ on_both p ms h k =
     squeeze : {a : ℤ} → a ≤ℤ pos 0 → pos 0 ≤ℤ a → a ≡ pos 0
     squeeze p q = omega (arith, linear, p, q)
 
-pub straddles_both : (p : Plane) (ms : List Meet) → AreSigns p ms Both → Straddles p ms
+straddles_both : (p : Plane) (ms : List Meet) → AreSigns p ms Both → Straddles p ms
 straddles_both p ms s =
     record {
       above = λ h. let f = has_pick (λ m. IsAbove p (spot_of m)) (λ m. IsNotAbove p (spot_of m)) ms s.1 h in never f.also.at_most f.holds.over;
@@ -37,6 +38,7 @@ straddles_both p ms s =
     never : {a b : ℤ} → a ≤ℤ b → b <ℤ a → ⊥
     never p q = absurd (omega (arith, linear, p, q))
 
+-- corners with the reach Both lie on both sides of the plane
 pub straddles_by : (p : Plane) (ms : List Meet) (r : Reach) → AreSigns p ms r → r ≡ Both → Straddles p ms
 straddles_by p ms r s e = straddles_both p ms (subst (λ t. AreSigns p ms t) e s)
 
@@ -54,8 +56,8 @@ module _ (p : Plane) where
   abbrev Level : Meet → Type 0
   Level m = IsNotAbove p (spot_of m)
 
-  pub risen_none : AreNotBelow p false []
-  risen_none = record { all = tt; some = λ e. clash e refl; none = λ e. tt }
+  risen_none : AreNotBelow p false []
+  risen_none = record { all = tt; some = λ e. true_is_not_false e refl; none = λ e. tt }
 
   pub risen_zero : (high : Bool) (ms : List Meet) (m : Meet) → value_at p (spot_of m) ≡ pos 0 → AreNotBelow p high ms → AreNotBelow p high (ms ++ m ∷ [])
   risen_zero high ms m z r =
@@ -73,7 +75,7 @@ module _ (p : Plane) where
 
   pub risen_over : (high : Bool) (ms : List Meet) (m : Meet) → pos 0 <ℤ value_at p (spot_of m) → AreNotBelow p high ms → AreNotBelow p true (ms ++ m ∷ [])
   risen_over high ms m l r =
-      record { all = each-push (λ m. is_under p m ≡ false) ms m r.all (negative_not (value_at p (spot_of m)) (least l)); some = λ e. has-push Raised ms m (record { over = l }); none = λ e. clash refl e }
+      record { all = each-push (λ m. is_under p m ≡ false) ms m r.all (negative_not (value_at p (spot_of m)) (least l)); some = λ e. has-push Raised ms m (record { over = l }); none = λ e. true_is_not_false refl e }
     where
       least : {a : ℤ} → pos 0 <ℤ a → pos 0 ≤ℤ a
       least p = omega (arith, linear, p)
@@ -99,6 +101,7 @@ module _ (p : Plane) where
   run_next ms i m l e v h =
       subst (λ ns. AllByRecursion Lower ns) (sym (take_more ms i m l ∙ ap (λ n. take i ms ++ n ∷ []) (sym e))) (each-push Lower (take i ms) m h (negative_in v))
 
+  -- a run of corners below a plane ends at a corner that isn't
   pub run_stops : (ms : List Meet) (i : ℕ) (m : Meet) → i < length ms → m ≡ get_or ms i m → pos 0 ≤ℤ value_at p (spot_of m) → AllByRecursion Lower (take i ms) → IsOneSidedRun p true ms i
   run_stops ms i m l e v h =
       record { at_most_all = omega (arith, l); all = h; stops = stops_at p true ms i m l (subst (λ n. is_under p n ≡ false) e (negative_not (value_at p (spot_of m)) v)) }
@@ -189,7 +192,7 @@ module _ (p : Plane) (ms : List Meet) (d u c : ℕ) (some high : Bool) (down : I
 
   ended : (ns : List Meet) → Stops p false ns → Stops p true ns → AllByRecursion High ns
   ended [] s t = tt
-  ended (n ∷ ns) s t = clash s t
+  ended (n ∷ ns) s t = true_is_not_false s t
 
   none_under : d + c ≡ 0 → AllByRecursion High ms
   none_under e =
@@ -222,8 +225,9 @@ module _ (p : Plane) (ms : List Meet) (d u c : ℕ) (some high : Bool) (down : I
   some_over e =
       ⊎_elim (λ k. has-drop (λ m. IsAbove p (spot_of m)) d ms (subst (λ ns. HasSome (λ m. IsAbove p (spot_of m)) ns) (take-append-drop u (drop d ms)) (has-front (λ m. IsAbove p (spot_of m)) (take u (drop d ms)) (drop u (drop d ms)) (up.risen.some k)))) (λ h. has-drop (λ m. IsAbove p (spot_of m)) (d + u + c) ms h) (over e)
 
-  pub seen : AreClassified p (d + c) high ms
-  seen = record { under = some_under; least = none_under; over = some_over; most = none_over }
+  -- one more corner has been classified
+  pub corner_is_classified : AreClassified p (d + c) high ms
+  corner_is_classified = record { under = some_under; least = none_under; over = some_over; most = none_over }
 
   module _ (t : Straddles p ms) (first : ℕ) (fe : first ≡ d + u - 1) where
     rises : 0 < u

@@ -20,24 +20,29 @@ use Rattle.ember_poly.proofs.Chains.{each-push, each_map}
 use Rattle.ember_poly.proofs.Members.{has-push, has-front}
 
 -- ---- what a sign says of a number
+-- an integer with the sign Neg is negative
 pub neg_out : (a : ℤ) {s : Sign} → s ≡ sgn a → s ≡ Neg → a <ℤ pos 0
 neg_out a e f = neg_from_sgn a (rw (← e, f) tt)
 
+-- a number with the sign Zero is 0
 pub zero_out : (a : ℤ) {s : Sign} → s ≡ sgn a → s ≡ Zero → a ≡ pos 0
 zero_out a e f = zero_from_sgn a (rw (← e, f) tt)
 
+-- a number with the sign Pos is positive
 pub pos_out : (a : ℤ) {s : Sign} → s ≡ sgn a → s ≡ Pos → pos 0 <ℤ a
 pos_out a e f = pos_from_sgn a (rw (← e, f) tt)
 
 below_most : {a : ℤ} → a <ℤ pos 0 → a ≤ℤ pos 0
 below_most p = omega (arith, linear, p)
 
+-- a positive integer is at least 0
 pub above_least : {a : ℤ} → pos 0 <ℤ a → pos 0 ≤ℤ a
 above_least p = omega (arith, linear, p)
 
 zero_most : {a : ℤ} → a ≡ pos 0 → a ≤ℤ pos 0
 zero_most p = omega (arith, linear, p)
 
+-- 0 is at least 0
 pub zero_least : {a : ℤ} → a ≡ pos 0 → pos 0 ≤ℤ a
 zero_least p = omega (arith, linear, p)
 
@@ -92,18 +97,21 @@ module _ (p : Plane) (ms : List Meet) (m : Meet) where
   raised On = Above
   raised Both = Both
 
+  -- one more corner, below the plane
   pub seen_low : (r : Reach) → value <ℤ pos 0 → AreSigns p ms r → AreSigns p (ms ++ m ∷ []) (lowered r)
   seen_low Below l s = (push_most (below_most l) s.0, low l)
   seen_low Above l s = (low l, keep_high s.1)
   seen_low On l s = (push_most (below_most l) (none_most s), low l)
   seen_low Both l s = (low l, keep_high s.1)
 
+  -- one more corner, above the plane
   pub seen_high : (r : Reach) → pos 0 <ℤ value → AreSigns p ms r → AreSigns p (ms ++ m ∷ []) (raised r)
   seen_high Below l s = (keep_low s.1, high l)
   seen_high Above l s = (push_least (above_least l) s.0, high l)
   seen_high On l s = (push_least (above_least l) (none_least s), high l)
   seen_high Both l s = (keep_low s.0, high l)
 
+-- the signs of one corner more
 pub signs_next : (p : Plane) (ms : List Meet) (i : ℕ) (m : Meet) (r : Reach) → i < length ms → m ≡ get_or ms i m → AreSigns p (take i ms ++ m ∷ []) r → AreSigns p (take (i + 1) ms) r
 signs_next p ms i m r l e s =
     subst (λ ns. AreSigns p ns r) (sym (take_more ms i m l ∙ ap (λ n. take i ms ++ n ∷ []) (sym e))) s

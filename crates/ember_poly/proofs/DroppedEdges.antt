@@ -27,12 +27,7 @@ lone_new h f ks p y z b u (inl a) = inl (a, lone-join h ks (closing_side p y b �
 lone_new h f ks p y z b u (inr a) = inr (each-push (λ s. IsBelow h s.corner) ks (closing_side p y b) u a)
 
 module _ (n p : Plane) (f l : Side) (ks : List Side) (y z : Spot) (b : ℕ) where
-  kept : List Side
-  kept = ks ++ l ∷ []
-
   -- one of the two corners, for each dropped side
-  Somewhere : Side → Type 0
-  Somewhere d = IsBelow d.plane z ⊎ IsBelow d.plane y
 
   across : (ds : List Side) → IsConvexRing n (f ∷ (ks ++ l ∷ []) ++ ds) → AllByRecursion (λ t. AllByRecursion (λ s. IsBelow t.plane s.corner) (ks ++ l ∷ [])) ds
   across ds h = by ks h
@@ -100,14 +95,16 @@ two n p f l d e ks es y z b h exit entry =
     weak' : {p : Plane} {v : Spot} → IsBelow p v → value_at p v ≤ℤ pos 0
     weak' u = below_at_most u.under
 
-pub somewhere : (n p : Plane) (f l d : Side) (ks ds : List Side) (y z : Spot) (b : ℕ) → IsConvexRing n (f ∷ (ks ++ l ∷ []) ++ d ∷ ds) → Crossing p l.corner d.corner y → Crossing p (head_of l ks).corner f.corner z → ((pos 0 <ℤ value_at p f.corner) ⊎ ((pos 0 <ℤ value_at p d.corner) ⊎ Long ds)) → AllByRecursion (λ t. IsBelow t.plane z ⊎ IsBelow t.plane y) (d ∷ ds)
-somewhere n p f l d ks ds y z b h exit entry q =
+-- a dropped edge is negative at one of the two ends of the chord
+pub dropped_side_is_above_one_corner : (n p : Plane) (f l d : Side) (ks ds : List Side) (y z : Spot) (b : ℕ) → IsConvexRing n (f ∷ (ks ++ l ∷ []) ++ d ∷ ds) → Crossing p l.corner d.corner y → Crossing p (head_of l ks).corner f.corner z → ((pos 0 <ℤ value_at p f.corner) ⊎ ((pos 0 <ℤ value_at p d.corner) ⊎ Long ds)) → AllByRecursion (λ t. IsBelow t.plane z ⊎ IsBelow t.plane y) (d ∷ ds)
+dropped_side_is_above_one_corner n p f l d ks ds y z b h exit entry q =
     ⊎_elim (λ a. at_entry n p f l d ks ds y z b h exit entry a) (λ r. ⊎_elim (λ a. at_exit n p f l d ks ds y z b h exit entry a) (λ a. some ds a h) r) q
   where
     some : (ds' : List Side) → Long ds' → IsConvexRing n (f ∷ (ks ++ l ∷ []) ++ d ∷ ds') → AllByRecursion (λ t. IsBelow t.plane z ⊎ IsBelow t.plane y) (d ∷ ds')
     some [] a h = absurd a
     some (e ∷ es) a h = two n p f l d e ks es y z b h exit entry
 
+-- a dropped edge is negative at all corners of the part but one at most
 pub dropped_lone : (n p : Plane) (f l d : Side) (ks ds : List Side) (y z : Spot) (b : ℕ) → IsConvexRing n (f ∷ (ks ++ l ∷ []) ++ d ∷ ds) → Crossing p l.corner d.corner y → Crossing p (head_of l ks).corner f.corner z → ((pos 0 <ℤ value_at p f.corner) ⊎ ((pos 0 <ℤ value_at p d.corner) ⊎ Long ds)) → AllByRecursion (λ t. IsBelowAllButOne t.plane (with_start f z ∷ (ks ++ l ∷ []) ++ closing_side p y b ∷ [])) (d ∷ ds)
 dropped_lone n p f l d ks ds y z b h exit entry q =
-    each_both (λ t. AllByRecursion (λ s. IsBelow t.plane s.corner) (ks ++ l ∷ [])) (λ t. IsBelow t.plane z ⊎ IsBelow t.plane y) (λ t. IsBelowAllButOne t.plane (with_start f z ∷ (ks ++ l ∷ []) ++ closing_side p y b ∷ [])) (d ∷ ds) (λ t u v. lone_new t.plane f (ks ++ l ∷ []) p y z b u v) (all_across n p f l d ks ds y z b h exit entry) (somewhere n p f l d ks ds y z b h exit entry q)
+    each_both (λ t. AllByRecursion (λ s. IsBelow t.plane s.corner) (ks ++ l ∷ [])) (λ t. IsBelow t.plane z ⊎ IsBelow t.plane y) (λ t. IsBelowAllButOne t.plane (with_start f z ∷ (ks ++ l ∷ []) ++ closing_side p y b ∷ [])) (d ∷ ds) (λ t u v. lone_new t.plane f (ks ++ l ∷ []) p y z b u v) (all_across n p f l d ks ds y z b h exit entry) (dropped_side_is_above_one_corner n p f l d ks ds y z b h exit entry q)

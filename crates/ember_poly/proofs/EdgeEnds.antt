@@ -12,7 +12,7 @@ use Rattle.ember_model.specs.Edges.{position_along, IsBefore, IsNotAfter}
 use Rattle.ember_model.proofs.Tuples.{plane_tuple, spot_tuple, normalE}
 use Rattle.ember_poly.specs.Rings.{Side, IsConvexRing, IsInClosedRing, IsNotHigher, orientation, along}
 use Rattle.ember_poly.proofs.Planar.{turnE}
-use Rattle.ember_poly.proofs.CutOrientation.{slope}
+use Rattle.ember_poly.proofs.CutOrientation.{value_difference_by_orientation}
 use Rattle.ember_poly.proofs.Hull.{ring-rooted}
 
 abbrev alongE : TupleE → TupleE → TupleE
@@ -45,7 +45,7 @@ rises t s v w a b d pt ps pv pa eb e =
 pub no_earlier : (n q g : Plane) (u x : Spot) → pos 0 <ℤ orientation n q g → value_at n u ≡ pos 0 → value_at n x ≡ pos 0 → value_at g u ≡ pos 0 → value_at g x ≡ pos 0 → value_at q u ≡ pos 0 → value_at q x ≤ℤ pos 0 → pos 0 <ℤ u.w → IsNotHigher (along n g) u x
 no_earlier n q g u x t nu nx gu gx qu qx w =
     let z = along n g in
-    let s = slope n g z q u x nu nx gu gx in
+    let s = value_difference_by_orientation n g z q u x nu nx gu gx in
     record { not_above = order u.w (value_at z x) x.w (value_at z u) (rises (orientation n g z) (orientation n q g) u.w x.w (value_at q x) (value_at q u) (u.w *ℤ value_at z x -ℤ x.w *ℤ value_at z u) (turns_along n g) t (weaken w) qx qu s) }
   where
     weaken : {a : ℤ} → pos 0 <ℤ a → pos 0 ≤ℤ a
@@ -55,16 +55,18 @@ no_earlier n q g u x t nu nx gu gx qu qx w =
     order a b c d p =
         omega (arith, linear, p, solve 2 (λ a b. a ⊗ b ≈ b ⊗ a) cancels a b, solve 2 (λ c d. c ⊗ d ≈ d ⊗ c) cancels c d)
 
+-- no point of an edge is before the corner at which it starts
 pub edge_start : (n : Plane) (q c y : Side) (xs : List Side) (x : Spot) → IsConvexRing n (q ∷ c ∷ y ∷ xs) → IsInClosedRing n (q ∷ c ∷ y ∷ xs) x → value_at c.plane x ≡ pos 0 → IsNotHigher (along n c.plane) c.corner x
 edge_start n q c y xs x h k e =
     let root = ring-rooted n (q ∷ c ∷ y ∷ xs) h in
     no_earlier n q.plane c.plane c.corner x h.1.0.turns root.1.0.flat k.flat root.1.0.after e h.1.0.before k.within.0.at_most root.1.0.weight
 
+-- no point of an edge is after the corner at which it ends
 pub edge_end : (n : Plane) (q c y : Side) (xs : List Side) (x : Spot) → IsConvexRing n (q ∷ c ∷ y ∷ xs) → IsInClosedRing n (q ∷ c ∷ y ∷ xs) x → value_at c.plane x ≡ pos 0 → IsNotHigher (along n c.plane) x y.corner
 edge_end n q c y xs x h k e =
     let root = ring-rooted n (q ∷ c ∷ y ∷ xs) h in let z = along n c.plane in
     let j = h.1.3.0 in
-    let s = slope n c.plane z y.plane y.corner x root.1.1.0.flat k.flat j.before e in
+    let s = value_difference_by_orientation n c.plane z y.plane y.corner x root.1.1.0.flat k.flat j.before e in
     record { not_above = order y.corner.w (value_at z x) x.w (value_at z y.corner) (rises (orientation n c.plane z) (orientation n c.plane y.plane) y.corner.w x.w (value_at y.plane x) (value_at y.plane y.corner) (neg_ℤ (y.corner.w *ℤ value_at z x -ℤ x.w *ℤ value_at z y.corner)) (turns_along n c.plane) j.turns (weaken root.1.1.0.weight) k.within.1.1.0.at_most j.after (s ∙ shape (orientation n y.plane c.plane) (orientation n c.plane y.plane) (y.corner.w *ℤ value_at z x -ℤ x.w *ℤ value_at z y.corner) (swap_middle n y.plane c.plane))) }
   where
     weaken : {a : ℤ} → pos 0 <ℤ a → pos 0 ≤ℤ a
@@ -121,23 +123,26 @@ leads t s v w a b d pt ps pv pa eb e =
     none : d ≡ pos 0 → s *ℤ d ≡ pos 0
     none q = rw q (solve 1 (λ s. s ⊗ num (pos 0) ≈ num (pos 0)) cancels s)
 
-pub reach : (n g : Plane) (v : Spot) → position_along n g v ≡ value_at (along n g) v
-reach n g v =
+-- the position of a point along an edge is the value of a plane there
+pub position_is_value_along : (n g : Plane) (v : Spot) → position_along n g v ≡ value_at (along n g) v
+position_is_value_along n g v =
     identity (tuple ∷ tuple ∷ tuple ∷ []) (λ n g v. dotE (crossE (normalE n) (normalE g)) (normalE v) ≈ valueE (alongE n g) v) cancels (plane_tuple n) (plane_tuple g) (spot_tuple v)
 
+-- a point that isn't higher along an edge isn't after
 pub not_after : (n g : Plane) (u v : Spot) → IsNotHigher (along n g) u v → IsNotAfter n g u v
-not_after n g u v h = record { not_after = rw (reach n g u, reach n g v) (order (value_at (along n g) u) v.w (value_at (along n g) v) u.w h.not_above) }
+not_after n g u v h = record { not_after = rw (position_is_value_along n g u, position_is_value_along n g v) (order (value_at (along n g) u) v.w (value_at (along n g) v) u.w h.not_above) }
   where
     order : (a b c d : ℤ) → (a *ℤ b) ≤ℤ (c *ℤ d) → (b *ℤ a) ≤ℤ (d *ℤ c)
     order a b c d p = omega (arith, linear, p, solve 2 (λ a b. a ⊗ b ≈ b ⊗ a) cancels a b, solve 2 (λ c d. c ⊗ d ≈ d ⊗ c) cancels c d)
 
+-- an edge leads from its corner to the next one
 pub edge_leads : (n : Plane) (q c y : Side) (xs : List Side) → IsConvexRing n (q ∷ c ∷ y ∷ xs) → IsBefore n c.plane c.corner y.corner
 edge_leads n q c y xs h =
     let root = ring-rooted n (q ∷ c ∷ y ∷ xs) h in let z = along n c.plane in
     let j = h.1.3.0 in
-    let s = slope n c.plane z q.plane c.corner y.corner root.1.0.flat root.1.1.0.flat root.1.0.after j.before in
+    let s = value_difference_by_orientation n c.plane z q.plane c.corner y.corner root.1.0.flat root.1.1.0.flat root.1.0.after j.before in
     let d = leads (orientation n c.plane z) (orientation n q.plane c.plane) c.corner.w y.corner.w (value_at q.plane y.corner) (value_at q.plane c.corner) (c.corner.w *ℤ value_at z y.corner -ℤ y.corner.w *ℤ value_at z c.corner) (turns_along_strictly n q.plane c.plane h.1.0.turns) h.1.0.turns root.1.0.weight h.1.1.0.under h.1.0.before s in
-    record { before = rw (reach n c.plane c.corner, reach n c.plane y.corner) (order (c.corner.w *ℤ value_at z y.corner) (y.corner.w *ℤ value_at z c.corner) d) }
+    record { before = rw (position_is_value_along n c.plane c.corner, position_is_value_along n c.plane y.corner) (order (c.corner.w *ℤ value_at z y.corner) (y.corner.w *ℤ value_at z c.corner) d) }
   where
     order : (a b : ℤ) → pos 0 <ℤ (a -ℤ b) → b <ℤ a
     order a b p = omega (arith, linear, p)

@@ -14,27 +14,33 @@ use Rattle.ember_poly.proofs.Hull.{closed_turned}
 use Rattle.ember_poly.proofs.InsidePoints.{head_closed, corner_closed}
 use Rattle.ember_poly.proofs.InsideBelow.{Part, part_of}
 
+-- what holds of all members holds of the one at an index
 pub each_at : {X : Type 0} (P : X → Type 0) (xs : List X) (i : ℕ) (d : X) → i < length xs → AllByRecursion P xs → P (get_or xs i d)
 each_at P [] i d l h = absurd (omega (arith, l))
 each_at P (x ∷ xs) zero d l h = h.0
 each_at P (x ∷ xs) (suc i) d l h = each_at P xs i d (omega (arith, l)) h.1
 
 -- ---- one inside, one closed face
+-- an inside point of the face is inside the ring
 pub inside_from_face : (n : Plane) (gs : List Plane) (xs : List Side) (v : Spot) → Represents n gs xs → InFace n gs v → IsInsideRing n xs v
 inside_from_face n gs xs v s f =
     record { flat = f.flat; weight = f.weight; within = each_map (λ r. IsInPlanes gs r) (λ r. IsBelow r.plane v) xs (λ r l. subst (λ g. IsBelow g v) l.here (each_at (λ g. IsBelow g v) gs r.plane_index r.plane l.index f.within)) s.listed }
 
+-- an inside point of the ring is inside the face
 pub face_from_inside : (n : Plane) (gs : List Plane) (xs : List Side) (v : Spot) → Represents n gs xs → IsInsideRing n xs v → InFace n gs v
 face_from_inside n gs xs v s i = record { flat = i.flat; weight = i.weight; within = s.follow v i }
 
+-- a point of the closed face is in the closed ring
 pub closed_from_face : (n : Plane) (gs : List Plane) (xs : List Side) (v : Spot) → Represents n gs xs → InClosedFace n gs v → IsInClosedRing n xs v
 closed_from_face n gs xs v s f =
     record { flat = f.flat; weight = f.weight; within = each_map (λ r. IsInPlanes gs r) (λ r. IsNotAbove r.plane v) xs (λ r l. subst (λ g. IsNotAbove g v) l.here (each_at (λ g. IsNotAbove g v) gs r.plane_index r.plane l.index f.within)) s.listed }
 
+-- a point of the closed ring is in the closed face
 pub face_from_closed : (n : Plane) (gs : List Plane) (xs : List Side) (v : Spot) → Represents n gs xs → IsInClosedRing n xs v → InClosedFace n gs v
 face_from_closed n gs xs v s i = record { flat = i.flat; weight = i.weight; within = s.follow_closed v i }
 
 -- ---- turned
+-- a ring begun at another side represents the same face
 pub stands_turned : (n : Plane) (gs : List Plane) (xs ys : List Side) → Represents n gs (xs ++ ys) → Represents n gs (ys ++ xs)
 stands_turned n gs xs ys s =
     record {
@@ -45,12 +51,12 @@ stands_turned n gs xs ys s =
     }
 
 -- ---- cut
-pub later : (gs : List Plane) (p : Plane) (s : Side) → IsInPlanes gs s → IsInPlanes (gs ++ p ∷ []) s
-later gs p s l =
+side_is_in_more_planes : (gs : List Plane) (p : Plane) (s : Side) → IsInPlanes gs s → IsInPlanes (gs ++ p ∷ []) s
+side_is_in_more_planes gs p s l =
     record { index = rw (length_push gs p) (omega (arith, l.index)); here = get_or_append_left gs (p ∷ []) s.plane s.plane_index l.index ∙ l.here }
 
-pub newest : (gs : List Plane) (p : Plane) (y : Spot) → IsInPlanes (gs ++ p ∷ []) (closing_side p y (length gs))
-newest gs p y =
+closing_side_is_in_planes : (gs : List Plane) (p : Plane) (y : Spot) → IsInPlanes (gs ++ p ∷ []) (closing_side p y (length gs))
+closing_side_is_in_planes gs p y =
     record { index = rw (length_push gs p) (omega arith); here = get_or_push gs p p (length gs) refl }
 
 module _ (n p : Plane) (gs : List Plane) (f l : Side) (ks : List Side) (y z : Spot) (my : IsMeet n l.plane p y) (mz : IsMeet n f.plane p z) where
@@ -59,10 +65,10 @@ module _ (n p : Plane) (gs : List Plane) (f l : Side) (ks : List Side) (y z : Sp
 
   part_stands : (ds : List Side) → Represents n gs (f ∷ (ks ++ l ∷ []) ++ ds) → IsConvexRing n part → Part n p (f ∷ (ks ++ l ∷ []) ++ ds) part → Represents n (gs ++ p ∷ []) part
   part_stands ds s h q =
-      let old = each_map (λ r. IsInPlanes gs r) (λ r. IsInPlanes (gs ++ p ∷ []) r) (f ∷ (ks ++ l ∷ []) ++ ds) (λ r l. later gs p r l) s.listed in
+      let old = each_map (λ r. IsInPlanes gs r) (λ r. IsInPlanes (gs ++ p ∷ []) r) (f ∷ (ks ++ l ∷ []) ++ ds) (λ r l. side_is_in_more_planes gs p r l) s.listed in
       record {
         sound = h;
-        listed = (record { index = old.0.index; here = old.0.here }, each-join (λ r. IsInPlanes (gs ++ p ∷ []) r) (ks ++ l ∷ []) (closing_side p y (length gs) ∷ []) (each-front (λ r. IsInPlanes (gs ++ p ∷ []) r) (ks ++ l ∷ []) ds old.1) (newest gs p y, tt));
+        listed = (record { index = old.0.index; here = old.0.here }, each-join (λ r. IsInPlanes (gs ++ p ∷ []) r) (ks ++ l ∷ []) (closing_side p y (length gs) ∷ []) (each-front (λ r. IsInPlanes (gs ++ p ∷ []) r) (ks ++ l ∷ []) ds old.1) (closing_side_is_in_planes gs p y, tt));
         follow = λ v i. let o = q.out v i in each-push (λ g. IsBelow g v) gs p (s.follow v o.0) o.1;
         follow_closed = λ v i. let o = q.out_closed v i in each-push (λ g. IsNotAbove g v) gs p (s.follow_closed v o.0) o.1;
       }

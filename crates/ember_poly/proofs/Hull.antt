@@ -1,4 +1,4 @@
--- A plane is greatest at a corner of the ring; so signs at corners tell those at all points.
+-- A plane is greatest at a corner of the ring; so the signs at the corners decide those at all points.
 use Rattle.std.proofs.Common.{◌≡◌, ◌≢◌, refl, sym, ap, List, [], ◌∷◌, ◌++◌, ◌∙◌, arith, ℤ, pos, ◌-ℤ◌, ◌*ℤ◌, neg_ℤ, ◌<ℤ◌, ◌≤ℤ◌}
 use Rattle.std.proofs.lemmas.Int.{by_lt_z}
 use Rattle.std.specs.List.{AllByRecursion}
@@ -14,13 +14,14 @@ use Rattle.ember_poly.specs.Rings.{Side, IsBelow, IsNotAbove, IsInClosedRing, Is
 use Rattle.ember_poly.proofs.Planar.{same_place}
 use Rattle.ember_poly.proofs.Chains.{each_both, each-back}
 use Rattle.ember_poly.proofs.Rotations.{turned_by, each-turned}
-use Rattle.ember_poly.proofs.RingBelow.{Rooted, rooted, not_zero}
+use Rattle.ember_poly.proofs.RingBelow.{Rooted, corner_of_is_rooted, not_zero}
 
 -- ---- all corners are corners
 chain-rooted : (n g : Plane) (xs : List Side) → IsSideChain n g xs → AllByRecursion (λ s. Rooted n s) xs
 chain-rooted n g [] c = tt
-chain-rooted n g (s ∷ xs) c = (rooted c.0, chain-rooted n s.plane xs c.3)
+chain-rooted n g (s ∷ xs) c = (corner_of_is_rooted c.0, chain-rooted n s.plane xs c.3)
 
+-- the corner of each side of a convex ring lies on its plane and on the ring's
 pub ring-rooted : (n : Plane) (xs : List Side) → IsConvexRing n xs → AllByRecursion (λ s. Rooted n s) xs
 ring-rooted n [] h = absurd h
 ring-rooted n (s ∷ []) h = absurd h
@@ -50,6 +51,7 @@ above_self p v = record { not_above = le (value_at p v *ℤ v.w) }
     le : (x : ℤ) → x ≤ℤ x
     le x = omega (arith, linear)
 
+-- of the corners of a ring, one is such that none is higher over a plane
 pub find_best : (n p : Plane) (s : Side) (xs : List Side) → AllByRecursion (λ r. Rooted n r) (s ∷ xs) → Best p (s ∷ xs)
 find_best n p s [] h =
     record { before = []; at = s; behind = []; split = refl; best = (above_self p s.corner, tt) }
@@ -78,19 +80,20 @@ abbrev blendE : Expr → Expr → Expr → TupleE → TupleE → TupleE → Tupl
 blendE i j k x y z =
     record { x = i ⊗ x.x ⊖ j ⊗ y.x ⊖ k ⊗ z.x; y = i ⊗ x.y ⊖ j ⊗ y.y ⊖ k ⊗ z.y; z = i ⊗ x.z ⊖ j ⊗ y.z ⊖ k ⊗ z.z; w = i ⊗ x.w ⊖ j ⊗ y.w ⊖ k ⊗ z.w }
 
-pub blended : (i j k : ℤ) (x y z : Spot) (e : Plane) → value_at e (blend i j k x y z) ≡ i *ℤ value_at e x -ℤ j *ℤ value_at e y -ℤ k *ℤ value_at e z
-blended i j k x y z e =
+-- a plane's value at a combination of three points is that combination of its values
+pub blend_value : (i j k : ℤ) (x y z : Spot) (e : Plane) → value_at e (blend i j k x y z) ≡ i *ℤ value_at e x -ℤ j *ℤ value_at e y -ℤ k *ℤ value_at e z
+blend_value i j k x y z e =
     identity (scalar ∷ scalar ∷ scalar ∷ tuple ∷ tuple ∷ tuple ∷ tuple ∷ []) (λ i j k x y z e. valueE e (blendE i j k x y z) ≈ i ⊗ valueE e x ⊖ j ⊗ valueE e y ⊖ k ⊗ valueE e z) cancels i j k (spot_tuple x) (spot_tuple y) (spot_tuple z) (plane_tuple e)
 
--- x is in the corner's wedge: a and b are the edges, z the corner before, y the one behind
-pub wedge : (n a b p : Plane) (c x y z : Spot) → orientation n a b ≢ pos 0 → value_at n c ≡ pos 0 → value_at n x ≡ pos 0 → value_at n y ≡ pos 0 → value_at n z ≡ pos 0 → value_at a c ≡ pos 0 → value_at b c ≡ pos 0 → value_at a z ≡ pos 0 → value_at b y ≡ pos 0 → c.w *ℤ ((value_at a y *ℤ value_at b z) *ℤ value_at p x -ℤ (value_at a x *ℤ value_at b z) *ℤ value_at p y -ℤ (value_at a y *ℤ value_at b x) *ℤ value_at p z) ≡ ((value_at a y *ℤ value_at b z) *ℤ x.w -ℤ (value_at a x *ℤ value_at b z) *ℤ y.w -ℤ (value_at a y *ℤ value_at b x) *ℤ z.w) *ℤ value_at p c
-wedge n a b p c x y z t nc nx ny nz ac bc az by =
+-- x is in the corner's wedge_point_is_below: a and b are the edges, z the corner before, y the one behind
+pub wedge_point_is_below : (n a b p : Plane) (c x y z : Spot) → orientation n a b ≢ pos 0 → value_at n c ≡ pos 0 → value_at n x ≡ pos 0 → value_at n y ≡ pos 0 → value_at n z ≡ pos 0 → value_at a c ≡ pos 0 → value_at b c ≡ pos 0 → value_at a z ≡ pos 0 → value_at b y ≡ pos 0 → c.w *ℤ ((value_at a y *ℤ value_at b z) *ℤ value_at p x -ℤ (value_at a x *ℤ value_at b z) *ℤ value_at p y -ℤ (value_at a y *ℤ value_at b x) *ℤ value_at p z) ≡ ((value_at a y *ℤ value_at b z) *ℤ x.w -ℤ (value_at a x *ℤ value_at b z) *ℤ y.w -ℤ (value_at a y *ℤ value_at b x) *ℤ z.w) *ℤ value_at p c
+wedge_point_is_below n a b p c x y z t nc nx ny nz ac bc az by =
     let i = value_at a y *ℤ value_at b z in let j = value_at a x *ℤ value_at b z in let k = value_at a y *ℤ value_at b x in
     let r = blend i j k x y z in
-    let nr : value_at n r ≡ pos 0 = blended i j k x y z n ∙ flat i j k nx ny nz in
-    let ar : value_at a r ≡ pos 0 = blended i j k x y z a ∙ first (value_at a x) (value_at a y) (value_at b x) (value_at b z) az in
-    let br : value_at b r ≡ pos 0 = blended i j k x y z b ∙ second (value_at a x) (value_at a y) (value_at b x) (value_at b z) by in
-    ap (λ (v : ℤ). c.w *ℤ v) (sym (blended i j k x y z p)) ∙ same_place n a b t p c r nc ac bc nr ar br
+    let nr : value_at n r ≡ pos 0 = blend_value i j k x y z n ∙ flat i j k nx ny nz in
+    let ar : value_at a r ≡ pos 0 = blend_value i j k x y z a ∙ first (value_at a x) (value_at a y) (value_at b x) (value_at b z) az in
+    let br : value_at b r ≡ pos 0 = blend_value i j k x y z b ∙ second (value_at a x) (value_at a y) (value_at b x) (value_at b z) by in
+    ap (λ (v : ℤ). c.w *ℤ v) (sym (blend_value i j k x y z p)) ∙ same_place n a b t p c r nc ac bc nr ar br
   where
     flat : (i j k : ℤ) {u v w : ℤ} → u ≡ pos 0 → v ≡ pos 0 → w ≡ pos 0 → i *ℤ u -ℤ j *ℤ v -ℤ k *ℤ w ≡ pos 0
     flat i j k e f g =
@@ -109,14 +112,14 @@ greatest i j k cw pc px xw py yw pz zw pi pj pk hy hz e =
     let l = solve 11 (λ i j k cw pc px xw py yw pz zw. i ⊗ (px ⊗ cw) ⊖ i ⊗ (pc ⊗ xw) ≈ cw ⊗ (i ⊗ px ⊖ j ⊗ py ⊖ k ⊗ pz) ⊖ (i ⊗ xw ⊖ j ⊗ yw ⊖ k ⊗ zw) ⊗ pc ⊕ j ⊗ (py ⊗ cw) ⊖ j ⊗ (pc ⊗ yw) ⊕ k ⊗ (pz ⊗ cw) ⊖ k ⊗ (pc ⊗ zw)) cancels i j k cw pc px xw py yw pz zw in
     cancel_le pi (omega (arith, linear, l, e, mul_le pj hy, mul_le pk hz))
 
-pub corner_greatest : (n p : Plane) (q c y : Side) (xs : List Side) (x : Spot) → IsConvexRing n (q ∷ c ∷ y ∷ xs) → IsNotHigher p q.corner c.corner → IsNotHigher p y.corner c.corner → IsInClosedRing n (q ∷ c ∷ y ∷ xs) x → IsNotHigher p x c.corner
+corner_greatest : (n p : Plane) (q c y : Side) (xs : List Side) (x : Spot) → IsConvexRing n (q ∷ c ∷ y ∷ xs) → IsNotHigher p q.corner c.corner → IsNotHigher p y.corner c.corner → IsInClosedRing n (q ∷ c ∷ y ∷ xs) x → IsNotHigher p x c.corner
 corner_greatest n p q c y xs x h bq by k =
     let root = ring-rooted n (q ∷ c ∷ y ∷ xs) h in
     let ay : value_at q.plane y.corner <ℤ pos 0 = h.1.1.0.under in
     let bz : value_at c.plane q.corner <ℤ pos 0 = (each-back (λ r. IsBelow c.plane r.corner) xs (q ∷ []) h.2.1).0.under in
     let ax : value_at q.plane x ≤ℤ pos 0 = k.within.0.at_most in
     let bx : value_at c.plane x ≤ℤ pos 0 = k.within.1.0.at_most in
-    let e = wedge n q.plane c.plane p c.corner x y.corner q.corner (not_zero h.1.0.turns) root.1.0.flat k.flat root.1.1.0.flat root.0.flat h.1.0.before root.1.0.after root.0.after h.2.0.before in
+    let e = wedge_point_is_below n q.plane c.plane p c.corner x y.corner q.corner (not_zero h.1.0.turns) root.1.0.flat k.flat root.1.1.0.flat root.0.flat h.1.0.before root.1.0.after root.0.after h.2.0.before in
     record { not_above = greatest (value_at q.plane y.corner *ℤ value_at c.plane q.corner) (value_at q.plane x *ℤ value_at c.plane q.corner) (value_at q.plane y.corner *ℤ value_at c.plane x) c.corner.w (value_at p c.corner) (value_at p x) x.w (value_at p y.corner) y.corner.w (value_at p q.corner) q.corner.w (mul_neg_neg ay bz) (down ax (most bz)) (down (most ay) bx) by.not_above bq.not_above e }
   where
     most : {a : ℤ} → a <ℤ pos 0 → a ≤ℤ pos 0
@@ -133,6 +136,7 @@ pub record LastOf (xs : List Side) : Type 0 where
   pub last : Side
   pub split : xs ≡ front ++ last ∷ []
 
+-- a list that isn't empty has a last member
 pub last_of : (x : Side) (xs : List Side) → LastOf (x ∷ xs)
 last_of x [] = record { front = []; last = x; split = refl }
 last_of x (y ∷ xs) =
@@ -144,6 +148,7 @@ at_second : (n p : Plane) (x : Spot) (q c : Side) (rest : List Side) → IsConve
 at_second n p x q c [] h b k = absurd h.0
 at_second n p x q c (y ∷ xs) h b k = corner_greatest n p q c y xs x h b.0 b.1.1.0 k
 
+-- the closed ring is the same from another first side
 pub closed_turned : (n : Plane) (x : Spot) (xs ys : List Side) → IsInClosedRing n (xs ++ ys) x → IsInClosedRing n (ys ++ xs) x
 closed_turned n x xs ys k =
     record { flat = k.flat; weight = k.weight; within = each-turned (λ s. IsNotAbove s.plane x) xs ys k.within }

@@ -13,6 +13,7 @@ use Rattle.ember_poly.proofs.Hull.{ring-rooted, corners_at_most}
 use Rattle.ember_poly.proofs.InsideSigns.{corners_under}
 use Rattle.ember_poly.proofs.InsidePoints.{corner_closed}
 
+-- a relation of all members of two lists holds in either order
 pub each_swap : {X Y : Type 0} (R : X → Y → Type 0) (xs : List X) (ys : List Y) → AllByRecursion (λ x. AllByRecursion (λ y. R x y) ys) xs → AllByRecursion (λ y. AllByRecursion (λ x. R x y) xs) ys
 each_swap R [] ys h = every (λ y. tt) ys
   where
@@ -23,7 +24,7 @@ each_swap R (x ∷ xs) ys h =
     each_both (λ y. R x y) (λ y. AllByRecursion (λ z. R z y) xs) (λ y. R x y × AllByRecursion (λ z. R z y) xs) ys (λ y a b. (a, b)) h.0 (each_swap R xs ys h.1)
 
 -- the planes behind l are negative at l's corner
-pub chain_after : (n g : Plane) (xs : List Side) (t : Side) (ys : List Side) → IsSideChain n g ((xs ++ t ∷ []) ++ ys) → AllByRecursion (λ r. IsBelow r.plane t.corner) ys
+chain_after : (n g : Plane) (xs : List Side) (t : Side) (ys : List Side) → IsSideChain n g ((xs ++ t ∷ []) ++ ys) → AllByRecursion (λ r. IsBelow r.plane t.corner) ys
 chain_after n g [] t ys c = c.2
 chain_after n g (x ∷ xs) t ys c = chain_after n x.plane xs t ys c.3
 
@@ -34,6 +35,7 @@ all_closed n xs (y ∷ ys) h =
     let e : xs ++ y ∷ ys ≡ (xs ++ y ∷ []) ++ ys = sym (append_assoc xs (y ∷ []) ys) in
     (corner_closed n xs y ys h, subst (λ zs. AllByRecursion (λ s. IsInClosedRing n zs s.corner) ys) (sym e) (all_closed n (xs ++ y ∷ []) ys (subst (λ zs. IsConvexRing n zs) e h)))
 
+-- the corners of a convex ring are in the closed ring
 pub ring-closed : (n : Plane) (xs : List Side) → IsConvexRing n xs → AllByRecursion (λ s. IsInClosedRing n xs s.corner) xs
 ring-closed n xs h = all_closed n [] xs h
 
@@ -82,6 +84,7 @@ module _ (n p : Plane) (f l : Side) (ks ds : List Side) (y z : Spot) (b : ℕ) (
           after ds' h = h.1.2
       by (k ∷ ks') h = chain_after n f.plane (k ∷ ks') l ds h.1
 
+  -- what a cut leaves of a ring is its part below the plane
   pub part_of : IsConvexRing n old → IsInClosedRing n old at → Outcome n p new l.corner at y (head_of l ks).corner f.corner z → Part n p old new
   part_of h c o =
       let low = dropped_at h c o in let sharp = strict h in

@@ -21,7 +21,7 @@ use Rattle.ember_poly.specs.Cuts.{HasInside, IsWhole}
 use Rattle.ember_poly.proofs.Chains.{each_map, each_both, each-push}
 use Rattle.ember_poly.proofs.Members.{has-push, has-front, has_pick}
 use Rattle.ember_poly.proofs.InsideSigns.{mixed2_value}
-use Rattle.ember_poly.proofs.InsidePoints.{weak, flat_sum, weight_sum, scaled_under}
+use Rattle.ember_poly.proofs.InsidePoints.{below_is_not_above, flat_sum, weight_sum, scaled_under}
 use Rattle.ember_poly.proofs.FaceTests.{all_in, all_out, inside_in, inside_out, closed_in, closed_out}
 use Rattle.ember_poly.proofs.ChordParts.{each_in, in_at, last_free, decide_free}
 
@@ -29,12 +29,13 @@ use Rattle.ember_poly.proofs.ChordParts.{each_in, in_at, last_free, decide_free}
 inside_mixed : (f : Face) (i j : ℤ) (u v : Spot) → pos 0 ≤ℤ i → pos 0 <ℤ j → is_inside f u ≡ true → is_inside f v ≡ true → is_inside f (mixed2 i j u v) ≡ true
 inside_mixed f i j u v pi pj eu ev =
     let a = inside_out f u eu in let b = inside_out f v ev in
-    inside_in f (mixed2 i j u v) (record { flat = flat_sum i j u v f.support a.flat b.flat; weight = weight_sum pi pj a.weight b.weight; within = each_both (λ g. IsBelow g u) (λ g. IsBelow g v) (λ g. IsBelow g (mixed2 i j u v)) f.edges (λ g x y. scaled_under i j u v g pi pj (weak x) y) a.within b.within })
+    inside_in f (mixed2 i j u v) (record { flat = flat_sum i j u v f.support a.flat b.flat; weight = weight_sum pi pj a.weight b.weight; within = each_both (λ g. IsBelow g u) (λ g. IsBelow g v) (λ g. IsBelow g (mixed2 i j u v)) f.edges (λ g x y. scaled_under i j u v g pi pj (below_is_not_above x) y) a.within b.within })
 
 -- ---- a plane for which no inside point is above it
 abbrev pub IsLow : Face → Plane → Type 0
 IsLow f h = Everywhere f (λ v. not (is_positive (value_at h v)) ≡ true)
 
+-- a face wholly below a plane isn't above it
 pub low_below : (f : Face) (h : Plane) → IsWhole f (λ v. is_negative (value_at h v) ≡ true) → IsLow f h
 low_below f h w =
     record { holds = λ v e. not_positive_in (value_at h v) (most (negative_out (value_at h v) (w.everywhere.holds v e))) }
@@ -42,6 +43,7 @@ low_below f h w =
     most : {a : ℤ} → a <ℤ pos 0 → a ≤ℤ pos 0
     most q = omega (arith, linear, q)
 
+-- a face wholly on a plane isn't above it
 pub low_on : (f : Face) (h : Plane) → IsWhole f (λ v. is_zero (value_at h v) ≡ true) → IsLow f h
 low_on f h w =
     record { holds = λ v e. not_positive_in (value_at h v) (most (zero_out (value_at h v) (w.everywhere.holds v e))) }
@@ -89,6 +91,7 @@ module _ (f : Face) (hs : List Plane) where
       let h = get_or hs i d in
       absurd (omega (arith, linear, positive_out (value_at h s.at) (w.everywhere.holds s.at s.inside), none_positive_member s.at hs h s.holds (in_at i hs d m)))
 
+  -- a face that meets another one has an inside point that is above none of its edges
   pub met_free : (h : Plane) → Meets f (face_with h hs) → Somewhere f (λ v. none_positive hs v ≡ true)
   met_free h m =
       record { at = m.at; inside = m.inside; holds = all_in hs m.at (closed_out (face_with h hs) m.at m.holds).within }
@@ -189,19 +192,8 @@ module _ (f : Face) (hs : List Plane) (is_cut is_cut_twice : Bool) (i : ℕ) (d 
   counted_cut_at k =
       subst (λ gs. Counted f true is_cut gs) (sym (take_more hs i d m)) (counted_cut f is_cut (take i hs) (get_or hs i d) is_cut_twice k c)
 
-pub counted_end : (f : Face) (hs : List Plane) (is_cut : Bool) (i : ℕ) → length hs ≤ i → Counted f is_cut false (take i hs) → Somewhere f (λ v. none_positive hs v ≡ true)
-counted_end f hs is_cut i m c =
-    (subst (λ gs. Counted f is_cut false gs) (take_all i hs m) c).free refl
-
 -- ---- a face in one plane with the other, or off it
+-- if a face lies on a plane and has an inside point above none of the planes, it meets the face of both
 pub met_on : (f : Face) (n : Plane) (hs : List Plane) → IsWhole f (λ v. is_zero (value_at n v) ≡ true) → Somewhere f (λ v. none_positive hs v ≡ true) → Meets f (face_with n hs)
 met_on f n hs w s =
     record { at = s.at; inside = s.inside; holds = closed_in (face_with n hs) s.at (record { flat = zero_out (value_at n s.at) (w.everywhere.holds s.at s.inside); weight = (inside_out f s.at s.inside).weight; within = all_out hs s.at s.holds }) }
-
-pub not_below : (f : Face) (n : Plane) (hs : List Plane) → IsWhole f (λ v. is_negative (value_at n v) ≡ true) → Meets f (face_with n hs) → ⊥
-not_below f n hs w m =
-    absurd (omega (arith, linear, negative_out (value_at n m.at) (w.everywhere.holds m.at m.inside), (closed_out (face_with n hs) m.at m.holds).flat))
-
-pub not_above : (f : Face) (n : Plane) (hs : List Plane) → IsWhole f (λ v. is_positive (value_at n v) ≡ true) → Meets f (face_with n hs) → ⊥
-not_above f n hs w m =
-    absurd (omega (arith, linear, positive_out (value_at n m.at) (w.everywhere.holds m.at m.inside), (closed_out (face_with n hs) m.at m.holds).flat))

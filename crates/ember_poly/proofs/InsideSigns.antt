@@ -22,15 +22,13 @@ abbrev mixed2E : Expr → Expr → TupleE → TupleE → TupleE
 mixed2E i j u v =
     record { x = i ⊗ u.x ⊕ j ⊗ v.x; y = i ⊗ u.y ⊕ j ⊗ v.y; z = i ⊗ u.z ⊕ j ⊗ v.z; w = i ⊗ u.w ⊕ j ⊗ v.w }
 
+-- a plane's value at a combination of two points is that combination of its values
 pub mixed2_value : (i j : ℤ) (u v : Spot) (e : Plane) → value_at e (mixed2 i j u v) ≡ i *ℤ value_at e u +ℤ j *ℤ value_at e v
 mixed2_value i j u v e =
     identity (scalar ∷ scalar ∷ tuple ∷ tuple ∷ tuple ∷ []) (λ i j u v e. valueE e (mixed2E i j u v) ≈ i ⊗ valueE e u ⊕ j ⊗ valueE e v) cancels i j (spot_tuple u) (spot_tuple v) (plane_tuple e)
 
-zero_sum : (i j : ℤ) {a b : ℤ} → a ≡ pos 0 → b ≡ pos 0 → i *ℤ a +ℤ j *ℤ b ≡ pos 0
-zero_sum i j e f =
-    rw (e, f) (solve 2 (λ i j. i ⊗ num (pos 0) ⊕ j ⊗ num (pos 0) ≈ num (pos 0)) cancels i j)
-
 -- ---- Eventually, over a list
+-- what holds of each member from some number on holds of all from some number on
 pub eventually_each : {X : Type 0} (P : X → ℕ → Type 0) (xs : List X) → AllByRecursion (λ x. Eventually (P x)) xs → Eventually (λ m. AllByRecursion (λ x. P x m) xs)
 eventually_each P [] h = record { from = 0; holds = λ m l. tt }
 eventually_each P (x ∷ xs) h =
@@ -43,9 +41,10 @@ oppositeE v = record { x = neg v.x; y = neg v.y; z = neg v.z; w = neg v.w }
 abbrev negated : Spot → Spot
 negated v = record { x = neg_ℤ v.x; y = neg_ℤ v.y; z = neg_ℤ v.z; w = neg_ℤ v.w }
 
-pub negated_value : (e : Plane) (v : Spot) → value_at e (negated v) ≡ neg_ℤ (value_at e v)
+negated_value : (e : Plane) (v : Spot) → value_at e (negated v) ≡ neg_ℤ (value_at e v)
 negated_value e v = identity (tuple ∷ tuple ∷ []) (λ e v. valueE e (oppositeE v) ≈ neg (valueE e v)) cancels (plane_tuple e) (spot_tuple v)
 
+-- the opposite plane has the opposite value
 pub opposite_plane : (e : Plane) (v : Spot) → value_at (opposite e) v ≡ neg_ℤ (value_at e v)
 opposite_plane e v = identity (tuple ∷ tuple ∷ []) (λ e v. valueE (oppositeE e) v ≈ neg (valueE e v)) cancels (plane_tuple e) (spot_tuple v)
 
@@ -78,6 +77,7 @@ beyond_closed n xs x c nc k =
     weight m p =
         omega (arith, linear, p, solve 2 (λ m w. m ⊗ w ≈ w ⊗ m) cancels (pos m) x.w, solve 1 (λ w. num (pos 1) ⊗ neg w ≈ neg w) cancels c.w)
 
+-- if no corner is above a plane and one point of the ring's plane is below, the inside is below
 pub corners_under : (n p : Plane) (x c : Spot) (xs : List Side) → IsConvexRing n xs → AllByRecursion (λ r. IsNotAbove p r.corner) xs → value_at n c ≡ pos 0 → IsBelow p c → IsInsideRing n xs x → IsBelow p x
 corners_under n p x c xs h a nc u k =
     by_lt_z (value_at p x) (pos 0) (λ l. record { under = l }) (λ l. absurd (never l (beyond_closed n xs x c nc k)))

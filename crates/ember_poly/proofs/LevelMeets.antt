@@ -13,7 +13,7 @@ use Rattle.ember_poly.specs.Levels.{FacesAt, IsLevel, turn_at, level_meet}
 use Rattle.ember_poly.proofs.Along.{along_x, along_y, along_z}
 
 -- ---- on the first plane
-pub on_first : (k : Axis) (t : ℤ) (p q : Plane) → value_at p (level_meet k t p q) ≡ pos 0
+on_first : (k : Axis) (t : ℤ) (p q : Plane) → value_at p (level_meet k t p q) ≡ pos 0
 on_first X t p q =
     solve 9 (λ t a b c d e f g h. let w = b ⊗ g ⊖ c ⊗ f in let m = d ⊖ a ⊗ t in let n = h ⊖ e ⊗ t in a ⊗ (t ⊗ w) ⊕ b ⊗ (m ⊗ g ⊖ c ⊗ n) ⊕ c ⊗ (n ⊗ b ⊖ f ⊗ m) ⊖ d ⊗ w ≈ num (pos 0)) cancels t p.a p.b p.c p.d q.a q.b q.c q.d
 on_first Y t p q =
@@ -22,7 +22,7 @@ on_first Z t p q =
     solve 9 (λ t a b c d e f g h. let w = a ⊗ f ⊖ b ⊗ e in let m = d ⊖ c ⊗ t in let n = h ⊖ g ⊗ t in a ⊗ (m ⊗ f ⊖ b ⊗ n) ⊕ b ⊗ (n ⊗ a ⊖ e ⊗ m) ⊕ c ⊗ (t ⊗ w) ⊖ d ⊗ w ≈ num (pos 0)) cancels t p.a p.b p.c p.d q.a q.b q.c q.d
 
 -- ---- on the second plane
-pub on_second : (k : Axis) (t : ℤ) (p q : Plane) → value_at q (level_meet k t p q) ≡ pos 0
+on_second : (k : Axis) (t : ℤ) (p q : Plane) → value_at q (level_meet k t p q) ≡ pos 0
 on_second X t p q =
     solve 9 (λ t a b c d e f g h. let w = b ⊗ g ⊖ c ⊗ f in let m = d ⊖ a ⊗ t in let n = h ⊖ e ⊗ t in e ⊗ (t ⊗ w) ⊕ f ⊗ (m ⊗ g ⊖ c ⊗ n) ⊕ g ⊗ (n ⊗ b ⊖ f ⊗ m) ⊖ h ⊗ w ≈ num (pos 0)) cancels t p.a p.b p.c p.d q.a q.b q.c q.d
 on_second Y t p q =
@@ -35,7 +35,7 @@ flat : (up : Bool) (n d t w : ℤ) → FacesAt up t n d → n *ℤ (t *ℤ w) -�
 flat true n d t w h = rw (h.0, h.1) (solve 2 (λ t w. num (pos 1) ⊗ (t ⊗ w) ⊖ t ⊗ w ≈ num (pos 0)) cancels t w)
 flat false n d t w h = rw (h.0, h.1) (solve 2 (λ t w. num (negsuc 0) ⊗ (t ⊗ w) ⊖ neg t ⊗ w ≈ num (pos 0)) cancels t w)
 
-pub on_level : (k : Axis) (t : ℤ) (up : Bool) (p q r : Plane) → IsLevel k t up r → value_at r (level_meet k t p q) ≡ pos 0
+on_level : (k : Axis) (t : ℤ) (up : Bool) (p q r : Plane) → IsLevel k t up r → value_at r (level_meet k t p q) ≡ pos 0
 on_level X t up p q r h = sym (along_x r (level_meet X t p q) h.0) ∙ flat up r.a r.d t (turn_at X p q) h.1
 on_level Y t up p q r h = sym (along_y r (level_meet Y t p q) h.0) ∙ flat up r.b r.d t (turn_at Y p q) h.1
 on_level Z t up p q r h = sym (along_z r (level_meet Z t p q) h.0) ∙ flat up r.c r.d t (turn_at Z p q) h.1
@@ -58,16 +58,20 @@ down_is Z t p q r h =
     (λ i. det (normal p) (normal q) (record { x = h.0.0 i; y = h.0.1 i; z = h.1.0 i })) ∙ solve 6 (λ a b c e f g. a ⊗ (f ⊗ num (negsuc 0) ⊖ g ⊗ num (pos 0)) ⊕ b ⊗ (g ⊗ num (pos 0) ⊖ e ⊗ num (negsuc 0)) ⊕ c ⊗ (e ⊗ num (pos 0) ⊖ f ⊗ num (pos 0)) ≈ e ⊗ b ⊖ f ⊗ a) cancels p.a p.b p.c q.a q.b q.c
 
 -- ---- as a passage needs them
+-- planes that turn counter-clockwise with a level that faces up have lines in it that do
 pub turns_up : (k : Axis) (t : ℤ) (p q r : Plane) → IsLevel k t true r → pos 0 <ℤ orientation p q r → pos 0 <ℤ turn_at k p q
 turns_up k t p q r h l = subst (λ z. pos 0 <ℤ z) (up_is k t p q r h) l
 
+-- with a level that faces down, the lines turn the other way
 pub turns_down : (k : Axis) (t : ℤ) (p q r : Plane) → IsLevel k t false r → pos 0 <ℤ orientation p q r → pos 0 <ℤ turn_at k q p
 turns_down k t p q r h l = subst (λ z. pos 0 <ℤ z) (down_is k t p q r h) l
 
+-- the meet of two planes' lines in a level is the meet of the three planes
 pub meets_up : (k : Axis) (t : ℤ) (up : Bool) (p q r : Plane) (v : Spot) → IsLevel k t up r → v ≡ level_meet k t p q → pos 0 <ℤ v.w → IsMeet p q r v
 meets_up k t up p q r v h e w =
     record { first = ap (value_at p) e ∙ on_first k t p q; second = ap (value_at q) e ∙ on_second k t p q; third = ap (value_at r) e ∙ on_level k t up p q r h; weight = w }
 
+-- the same with the two planes exchanged
 pub meets_down : (k : Axis) (t : ℤ) (up : Bool) (p q r : Plane) (v : Spot) → IsLevel k t up r → v ≡ level_meet k t q p → pos 0 <ℤ v.w → IsMeet p q r v
 meets_down k t up p q r v h e w =
     record { first = ap (value_at p) e ∙ on_second k t q p; second = ap (value_at q) e ∙ on_first k t q p; third = ap (value_at r) e ∙ on_level k t up q p r h; weight = w }

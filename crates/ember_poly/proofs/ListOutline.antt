@@ -31,6 +31,7 @@ each_plane : (xs : List Side) → AllByRecursion (λ s. IsValidPlane s.plane) xs
 each_plane [] h = tt
 each_plane (x ∷ xs) h = (h.0, each_plane xs h.1)
 
+-- there are as many sides as edges
 pub length-sides_of : (es : List Plane) (ms : List Meet) (bs : List ℕ) → length ms ≡ length es → length bs ≡ length es → length (sides_of es ms bs) ≡ length es
 length-sides_of [] ms bs p q = refl
 length-sides_of (e ∷ es) [] bs p q = absurd (omega (arith, p))
@@ -45,7 +46,7 @@ sound_three n (s ∷ t ∷ []) h = absurd h.0
 sound_three n (s ∷ t ∷ u ∷ xs) h = omega arith
 
 module _ (n : Plane) (gs es : List Plane) (ms : List Meet) (bs : List ℕ) (r : IsRing n gs es ms bs) where
-  pub lists_are_outline : IsOutline (record { support = n; edges = gs }) (ring_edges es ms)
+  lists_are_outline : IsOutline (record { support = n; edges = gs }) (ring_edges es ms)
   lists_are_outline =
       subst (λ zs. IsOutline (record { support = n; edges = gs }) zs) (outline-sides_of es ms bs r.corners r.plane_indices) (ring_outline n gs (sides_of es ms bs) r.stands r.counted r.oldest)
 
@@ -53,6 +54,7 @@ module _ (n : Plane) (gs es : List Plane) (ms : List Meet) (bs : List ℕ) (r : 
   lists_have_three =
       subst (λ k. 3 ≤ k) (length-sides_of es ms bs r.corners r.plane_indices) (sound_three n (sides_of es ms bs) r.stands.sound)
 
+  -- the planes that are lent are valid
   pub lent_valid : All IsValidPlane es
   lent_valid = λ k d l. each_at IsValidPlane es k d l (subst (λ ps. AllByRecursion IsValidPlane ps) (planes-sides_of es ms bs r.corners r.plane_indices) (each_plane (sides_of es ms bs) (each_map (λ s. IsInPlanes gs s) (λ s. IsValidPlane s.plane) (sides_of es ms bs) (λ s l. subst IsValidPlane l.here (r.planes s.plane_index s.plane l.index)) r.stands.listed)))
 

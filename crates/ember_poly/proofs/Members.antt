@@ -5,27 +5,33 @@ use Rattle.ember_poly.specs.Rings.{Side}
 use Rattle.ember_poly.specs.Sides.{HasPlaneIndex}
 use Rattle.ember_poly.specs.Passages.{HasSome}
 
+-- a list has what is pushed to it
 pub has-push : {X : Type 0} (P : X → Type 0) (xs : List X) (y : X) → P y → HasSome P (xs ++ y ∷ [])
 has-push P [] y p = inl p
 has-push P (x ∷ xs) y p = inr (has-push P xs y p)
 
+-- two lists together have what the first has
 pub has-front : {X : Type 0} (P : X → Type 0) (xs ys : List X) → HasSome P xs → HasSome P (xs ++ ys)
 has-front P [] ys h = absurd h
 has-front P (x ∷ xs) ys (inl p) = inl p
 has-front P (x ∷ xs) ys (inr h) = inr (has-front P xs ys h)
 
+-- two lists together have what the second has
 pub has-back : {X : Type 0} (P : X → Type 0) (xs ys : List X) → HasSome P ys → HasSome P (xs ++ ys)
 has-back P [] ys h = h
 has-back P (x ∷ xs) ys h = inr (has-back P xs ys h)
 
+-- some member of two lists together is a member of one of them
 pub has-split : {X : Type 0} (P : X → Type 0) (xs ys : List X) → HasSome P (xs ++ ys) → HasSome P xs ⊎ HasSome P ys
 has-split P [] ys h = inr h
 has-split P (x ∷ xs) ys (inl p) = inl (inl p)
 has-split P (x ∷ xs) ys (inr h) = ⊎_elim (λ a. inl (inr a)) (λ b. inr b) (has-split P xs ys h)
 
+-- some member of two lists in one order is some member in the other order
 pub has-turned : {X : Type 0} (P : X → Type 0) (xs ys : List X) → HasSome P (xs ++ ys) → HasSome P (ys ++ xs)
 has-turned P xs ys h = ⊎_elim (λ a. has-back P ys xs a) (λ b. has-front P ys xs b) (has-split P xs ys h)
 
+-- some member has each property that follows
 pub has_map : {X : Type 0} (P Q : X → Type 0) (xs : List X) → ((x : X) → P x → Q x) → HasSome P xs → HasSome Q xs
 has_map P Q [] f h = absurd h
 has_map P Q (x ∷ xs) f (inl p) = inl (f x p)
@@ -37,6 +43,7 @@ pub record Found {X : Type 0} (P Q : X → Type 0) : Type 0 where
   pub holds : P member
   pub also : Q member
 
+-- a member with one property also has the property of all members
 pub has_pick : {X : Type 0} (P Q : X → Type 0) (xs : List X) → HasSome P xs → AllByRecursion Q xs → Found P Q
 has_pick P Q [] h a = absurd h
 has_pick P Q (x ∷ xs) (inl p) a = record { member = x; holds = p; also = a.0 }
@@ -54,9 +61,11 @@ get_has P (y ∷ xs) zero x e p = inl (subst P (by e) p)
     by e = cc
 get_has P (y ∷ xs) (suc k) x e p = inr (get_has P xs k x e p)
 
+-- a plane index that a ring has is that of a side
 pub born_has : (i : ℕ) (xs : List Side) → HasPlaneIndex i xs → HasSome (λ s. s.plane_index ≡ i) xs
 born_has i xs b = get_has (λ s. s.plane_index ≡ i) xs b.at b.side b.here b.plane_index
 
+-- the plane index of a side is one that the ring has
 pub has_born : (i : ℕ) (xs : List Side) → HasSome (λ s. s.plane_index ≡ i) xs → HasPlaneIndex i xs
 has_born i [] h = absurd h
 has_born i (x ∷ xs) (inl e) = record { at = 0; side = x; here = refl; plane_index = e }

@@ -12,7 +12,7 @@ use Rattle.ember_model.specs.Edges.{SamePoint, is_on_edge, HasEdge, IsEarliest, 
 use Rattle.ember_poly.specs.Rings.{IsNotAbove, along}
 use Rattle.ember_poly.proofs.Chains.{each_map}
 use Rattle.ember_poly.proofs.RingBelow.{not_zero}
-use Rattle.ember_poly.proofs.EdgeEnds.{reach}
+use Rattle.ember_poly.proofs.EdgeEnds.{position_is_value_along}
 use Rattle.ember_poly.proofs.FaceTests.{edge_in, edge_out}
 use Rattle.ember_poly.proofs.RingOutline.{same_value}
 
@@ -61,7 +61,7 @@ stays : (v : Spot) → pos 0 <ℤ v.w → Moved v v
 stays v p = record { same = record { x = refl; y = refl; z = refl }; from = p; to = p }
 
 reach_moved : {u v : Spot} (n g : Plane) → Moved u v → v.w *ℤ position_along n g u ≡ u.w *ℤ position_along n g v
-reach_moved {u} {v} n g m = rw (reach n g u, reach n g v) (same_value m.same (along n g))
+reach_moved {u} {v} n g m = rw (position_is_value_along n g u, position_is_value_along n g v) (same_value m.same (along n g))
 
 edge_moved : {u v : Spot} (f : Face) (g : Plane) → Moved u v → is_on_edge f g u ≡ true → is_on_edge f g v ≡ true
 edge_moved {u} {v} f g m e =
@@ -133,6 +133,7 @@ apart_moved f (d ∷ ds) [] m h = absurd m
 apart_moved f (d ∷ ds) (e ∷ es) m h =
     (subst (λ q. AllByRecursion (λ c. SameEdge f q c.plane → ⊥) es) m.0 (other_moved f d.plane ds es m.2 h.0), apart_moved f ds es m.2 h.1)
 
+-- an outline stays one if its start corners are written by other numbers
 pub outline_moved : (f : Face) (ds es : List RingEdge) → AreMoved ds es → IsOutline f ds → IsOutline f es
 outline_moved f ds [] m o = absurd (by ds o.begins m)
   where

@@ -12,13 +12,7 @@ pub record LeastOf (ns : List ℕ) (m k : ℕ) : Type 0 where
   pub within : k < length ns
   pub least : (d : ℕ) → AllByRecursion (λ b. get_or ns k d ≤ b) (take m ns)
 
-pub least_one : (ns : List ℕ) → 0 < length ns → LeastOf ns 1 0
-least_one [] l = absurd (omega (arith, l))
-least_one (n ∷ ns) l = record { within = l; least = λ d. (same n, tt) }
-  where
-    same : (n : ℕ) → n ≤ n
-    same n = omega arith
-
+-- a number that isn't less than the least so far leaves it the least
 pub least_keep : (ns : List ℕ) (i k d : ℕ) → i < length ns → LeastOf ns i k → get_or ns k d ≤ get_or ns i d → LeastOf ns (i + 1) k
 least_keep ns i k d l h b =
     record { within = h.within; least = λ e. subst (λ ys. AllByRecursion (λ c. get_or ns k e ≤ c) ys) (sym (take_more ns i e l)) (each-push (λ c. get_or ns k e ≤ c) (take i ns) (get_or ns i e) (h.least e) (at e)) }
@@ -27,6 +21,7 @@ least_keep ns i k d l h b =
     at e =
         subst (λ n. n ≤ get_or ns i e) (get_or_default ns k d e h.within) (subst (λ n. get_or ns k d ≤ n) (get_or_default ns i d e l) b)
 
+-- a number that is less than the least so far is the least
 pub least_new : (ns : List ℕ) (i k d : ℕ) → i < length ns → LeastOf ns i k → get_or ns i d < get_or ns k d → LeastOf ns (i + 1) i
 least_new ns i k d l h b =
     least_keep ns i i d l (record { within = l; least = λ e. each_map (λ c. get_or ns k e ≤ c) (λ c. get_or ns i e ≤ c) (take i ns) (λ c q. less (at e) q) (h.least e) }) (same (get_or ns i d))
@@ -41,6 +36,7 @@ least_new ns i k d l h b =
     same : (a : ℕ) → a ≤ a
     same a = omega arith
 
+-- a list begun at its least number begins with the least
 pub least_first : (ns : List ℕ) (m k : ℕ) → length ns ≤ m → LeastOf ns m k → LeastFirst (drop k ns ++ take k ns)
 least_first [] m k l h = absurd (omega (arith, h.within))
 least_first (n ∷ ns) m k l h = subst (λ ys. LeastFirst (ys ++ take k all)) (sym e) others.1

@@ -12,23 +12,25 @@ use Rattle.ember_poly.proofs.Chains.{each-front, each-back}
 use Rattle.ember_poly.proofs.Rotations.{turned_by, each-turned, each-join}
 use Rattle.ember_poly.proofs.RingBelow.{not_zero}
 use Rattle.ember_poly.proofs.Planar.{same_place}
-use Rattle.ember_poly.proofs.Hull.{ring-rooted, wedge, find_best, Best, best_above, last_of}
+use Rattle.ember_poly.proofs.Hull.{ring-rooted, wedge_point_is_below, find_best, Best, best_above, last_of}
 
 -- ---- at most one corner
-pub each_lone : (h : Plane) (xs : List Side) → AllByRecursion (λ r. IsBelow h r.corner) xs → IsBelowAllButOne h xs
+each_lone : (h : Plane) (xs : List Side) → AllByRecursion (λ r. IsBelow h r.corner) xs → IsBelowAllButOne h xs
 each_lone h [] e = tt
 each_lone h (x ∷ xs) e = inl (e.0, each_lone h xs e.1)
 
+-- a plane that is negative at all corners of the first sides, and at all but one at most of the others, is negative at
+-- all but one at most of both together
 pub lone-join : (h : Plane) (xs ys : List Side) → AllByRecursion (λ r. IsBelow h r.corner) xs → IsBelowAllButOne h ys → IsBelowAllButOne h (xs ++ ys)
 lone-join h [] ys e l = l
 lone-join h (x ∷ xs) ys e l = inl (e.0, lone-join h xs ys e.1 l)
 
-pub lone-front : (h : Plane) (xs ys : List Side) → IsBelowAllButOne h xs → AllByRecursion (λ r. IsBelow h r.corner) ys → IsBelowAllButOne h (xs ++ ys)
+lone-front : (h : Plane) (xs ys : List Side) → IsBelowAllButOne h xs → AllByRecursion (λ r. IsBelow h r.corner) ys → IsBelowAllButOne h (xs ++ ys)
 lone-front h [] ys l e = each_lone h ys e
 lone-front h (x ∷ xs) ys (inl p) e = inl (p.0, lone-front h xs ys p.1 e)
 lone-front h (x ∷ xs) ys (inr p) e = inr (each-join (λ r. IsBelow h r.corner) xs ys p e)
 
-pub lone-turned : (h : Plane) (xs ys : List Side) → IsBelowAllButOne h (xs ++ ys) → IsBelowAllButOne h (ys ++ xs)
+lone-turned : (h : Plane) (xs ys : List Side) → IsBelowAllButOne h (xs ++ ys) → IsBelowAllButOne h (ys ++ xs)
 lone-turned h xs ys l =
     ⊎_elim (λ p. lone-front h ys xs p.1 p.0) (λ p. lone-join h ys xs p.1 p.0) (split xs ys l)
   where
@@ -48,8 +50,8 @@ pub record Seat (n h : Plane) (xs : List Side) (c : Side) : Type 1 where
   pub lone : IsBelowAllButOne h (before ∷ c ∷ behind ∷ others)
   pub move : (P : Side → Type 0) → AllByRecursion P xs → AllByRecursion P (before ∷ c ∷ behind ∷ others)
 
-pub seat : (n h : Plane) (us : List Side) (c : Side) (ws : List Side) → IsConvexRing n (us ++ c ∷ ws) → IsBelowAllButOne h (us ++ c ∷ ws) → Seat n h (us ++ c ∷ ws) c
-seat n h us c ws s l =
+side_has_neighbours : (n h : Plane) (us : List Side) (c : Side) (ws : List Side) → IsConvexRing n (us ++ c ∷ ws) → IsBelowAllButOne h (us ++ c ∷ ws) → Seat n h (us ++ c ∷ ws) c
+side_has_neighbours n h us c ws s l =
     by (ws ++ us) (turned_by n us (c ∷ ws) s) (lone-turned h us (c ∷ ws) l) (λ P e. each-turned P us (c ∷ ws) e)
   where
     whole : List Side
@@ -105,7 +107,7 @@ at_corner n h q c y xs s l z x k hx e =
     let root = ring-rooted n (q ∷ c ∷ y ∷ xs) s in let u = lone_next h q c y xs l z in
     let ay : value_at q.plane y.corner <ℤ pos 0 = s.1.1.0.under in
     let bz : value_at c.plane q.corner <ℤ pos 0 = (each-back (λ r. IsBelow c.plane r.corner) xs (q ∷ []) s.2.1).0.under in
-    let w = wedge n q.plane c.plane h c.corner x y.corner q.corner (not_zero s.1.0.turns) root.1.0.flat k.flat root.1.1.0.flat root.0.flat s.1.0.before root.1.0.after root.0.after s.2.0.before in
+    let w = wedge_point_is_below n q.plane c.plane h c.corner x y.corner q.corner (not_zero s.1.0.turns) root.1.0.flat k.flat root.1.1.0.flat root.0.flat s.1.0.before root.1.0.after root.0.after s.2.0.before in
     let p = zeros c.corner.w (value_at q.plane y.corner *ℤ value_at c.plane q.corner) (value_at q.plane x *ℤ value_at c.plane q.corner) (value_at q.plane y.corner *ℤ value_at c.plane x) (value_at h x) (value_at h y.corner) (value_at h q.corner) (value_at h c.corner) _ root.1.0.weight (down k.within.0.at_most (most bz)) (down (most ay) k.within.1.0.at_most) u.1.under u.0.under hx z w in
     same_place n q.plane c.plane (not_zero s.1.0.turns) e c.corner x root.1.0.flat s.1.0.before root.1.0.after k.flat (⊎_elim (λ a. a) (λ b. absurd (below bz b)) (zero_product p.0)) (⊎_elim (λ a. absurd (below ay a)) (λ b. b) (zero_product p.1))
   where
@@ -120,6 +122,7 @@ at_corner n h q c y xs s l z x k hx e =
         let m : pos 0 ≤ℤ neg_ℤ a = omega (arith, linear) in let n : pos 0 ≤ℤ neg_ℤ b = omega (arith, linear) in
         omega (arith, linear, nonneg_mul m n, solve 2 (λ a b. neg a ⊗ neg b ≈ a ⊗ b) cancels a b)
 
+-- such a plane is 0 at one place of the closed ring at most
 pub one_place : (n h : Plane) (xs : List Side) → IsConvexRing n xs → AllByRecursion (λ r. IsNotAbove h r.corner) xs → IsBelowAllButOne h xs → (u v : Spot) (e : Plane) → IsInClosedRing n xs u → IsInClosedRing n xs v → value_at h u ≡ pos 0 → value_at h v ≡ pos 0 → u.w *ℤ value_at e v ≡ v.w *ℤ value_at e u
 one_place n h [] s a l u v e ku kv hu hv = absurd s
 one_place n h (x ∷ xs) s a l u v e ku kv hu hv = by (find_best n h x xs (ring-rooted n (x ∷ xs) s))
@@ -140,7 +143,7 @@ one_place n h (x ∷ xs) s a l u v e ku kv hu hv = by (find_best n h x xs (ring-
     by : Best h (x ∷ xs) → u.w *ℤ value_at e v ≡ v.w *ℤ value_at e u
     by b =
         let g = best_above n h u (x ∷ xs) b s ku in
-        let t = seat n h b.before b.at b.behind (subst (λ ys. IsConvexRing n ys) b.split s) (subst (λ ys. IsBelowAllButOne h ys) b.split l) in
+        let t = side_has_neighbours n h b.before b.at b.behind (subst (λ ys. IsConvexRing n ys) b.split s) (subst (λ ys. IsBelowAllButOne h ys) b.split l) in
         let here = (each-back (λ r. IsNotAbove h r.corner) b.before (b.at ∷ b.behind) (subst (λ ys. AllByRecursion (λ r. IsNotAbove h r.corner) ys) b.split a)).0 in
         let z = zero_at b.at.corner.w (value_at h b.at.corner) (value_at h u) u.w ku.weight here.at_most hu g.not_above in
         let moved : (w : Spot) → IsInClosedRing n (x ∷ xs) w → IsInClosedRing n (t.before ∷ b.at ∷ t.behind ∷ t.others) w = λ w k. record { flat = k.flat; weight = k.weight; within = t.move (λ r. IsNotAbove r.plane w) (subst (λ ys. AllByRecursion (λ r. IsNotAbove r.plane w) ys) b.split k.within) } in

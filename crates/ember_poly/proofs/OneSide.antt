@@ -37,6 +37,7 @@ corners_negative n p x (s ∷ xs) h a k = by (find_best n p s xs (ring-rooted n 
         let root = (each-back (λ r. Rooted n r) b.before (b.at ∷ b.behind) w').0 in
         record { under = fall (value_at p x) b.at.corner.w (value_at p b.at.corner) x.w root.weight k.weight here.under (best_above n p x (s ∷ xs) b h k).not_above }
 
+-- a face doesn't meet a triangle strictly on one side of its plane
 pub one_side_meets_not : (f : Face) (n : Plane) (t : Tri) → f.support ≡ n → is_flat t ≡ false → IsOnOneSide n t → Meets f (face_of t) → ⊥
 unfolding face_of
 one_side_meets_not f n t e full s m = by s

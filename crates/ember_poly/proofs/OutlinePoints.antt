@@ -60,10 +60,10 @@ pub record Ended (f : Face) (e : RingEdge) : Type 0 where
   pub is : IsEdge f e end
 
 -- each edge of a path has one
-pub ended : (f : Face) (end : Spot) (es : List RingEdge) → IsEdgeChain f end es → AllByRecursion (λ e. Ended f e) es
-ended f end [] p = tt
-ended f end (e ∷ []) p = (record { end = end; is = p }, tt)
-ended f end (e ∷ d ∷ es) p = (record { end = d.start; is = p.0 }, ended f end (d ∷ es) p.1)
+pub edge_has_end : (f : Face) (end : Spot) (es : List RingEdge) → IsEdgeChain f end es → AllByRecursion (λ e. Ended f e) es
+edge_has_end f end [] p = tt
+edge_has_end f end (e ∷ []) p = (record { end = end; is = p }, tt)
+edge_has_end f end (e ∷ d ∷ es) p = (record { end = d.start; is = p.0 }, edge_has_end f end (d ∷ es) p.1)
 
 -- what all planes of f have, the outline's have
 of_edges : (f : Face) (P : Plane → Type 0) (es : List RingEdge) → AllByRecursion (λ e. Ended f e) es → AllByRecursion P f.edges → AllByRecursion P (map (λ e. e.plane) es)
@@ -90,7 +90,7 @@ module _ (f : Face) (es : List RingEdge) (o : Spot) (io : InFace f.support f.edg
   planes = map (λ e. e.plane) es
 
   ends : AllByRecursion (λ e. Ended f e) es
-  ends = ended f line.first.start es line.round
+  ends = edge_has_end f line.first.start es line.round
 
   first_end : Ended f line.first
   first_end = (subst (λ es. AllByRecursion (λ e. Ended f e) es) line.begins ends).0
@@ -106,22 +106,22 @@ module _ (f : Face) (es : List RingEdge) (o : Spot) (io : InFace f.support f.edg
       clash : {a : ℤ} → pos 0 ≤ℤ a → a <ℤ pos 0 → ⊥
       clash p l = absurd (omega (arith, linear, p, l))
 
-  pub from_outline : (q : Spot) → InFace f.support planes q → InFace f.support f.edges q
+  from_outline : (q : Spot) → InFace f.support planes q → InFace f.support f.edges q
   from_outline q iq = record { flat = iq.flat; weight = iq.weight; within = by (parts (λ g. IsBelow g q) (λ g. HasEdge f g → ⊥) f.edges (sides q iq)) }
     where
       by : Parts (λ g. IsBelow g q) (λ g. HasEdge f g → ⊥) f.edges → AllByRecursion (λ g. IsBelow g q) f.edges
       by s =
           s.join (λ g. IsBelow g q) s.are_one (plane_follows f.support line.first.plane (toward line.first.start first_end.end) turns o f s.one s.other (record { flat = io.flat; weight = io.weight; within = s.of_one (λ g. IsBelow g o) io.within }) (s.of_other (λ g. IsBelow g o) io.within) s.are_other (λ v i a. closed_in f v (record { flat = i.flat; weight = i.weight; within = s.join (λ g. IsNotAbove g v) i.within a })) q (record { flat = iq.flat; weight = iq.weight; within = s.are_one }))
 
-  pub to_outline : (q : Spot) → InFace f.support f.edges q → InFace f.support planes q
+  to_outline : (q : Spot) → InFace f.support f.edges q → InFace f.support planes q
   to_outline q iq =
       record { flat = iq.flat; weight = iq.weight; within = of_edges f (λ g. IsBelow g q) es ends iq.within }
 
-  pub from_closed : (q : Spot) → InClosedFace f.support planes q → InClosedFace f.support f.edges q
+  from_closed : (q : Spot) → InClosedFace f.support planes q → InClosedFace f.support f.edges q
   from_closed q iq =
       record { flat = iq.flat; weight = iq.weight; within = closed_follows f.support planes f.edges o (to_outline o io) io.within (λ v i. (from_outline v i).within) q iq }
 
-  pub to_closed : (q : Spot) → InClosedFace f.support f.edges q → InClosedFace f.support planes q
+  to_closed : (q : Spot) → InClosedFace f.support f.edges q → InClosedFace f.support planes q
   to_closed q iq =
       record { flat = iq.flat; weight = iq.weight; within = of_edges f (λ g. IsNotAbove g q) es ends iq.within }
 

@@ -85,7 +85,7 @@ module _ (f : Face) (es : List RingEdge) (line : IsOutline f es) (on : (g : Plan
   counts g c =
       record { one = c.one; other = c.other; holds_one = sym (on g c.one) ∙ c.holds_one; holds_other = sym (on g c.other) ∙ c.holds_other; different = c.different }
 
-  pub is_own_outline : IsOutline own es
+  is_own_outline : IsOutline own es
   is_own_outline =
       record {
         first = line.first;

@@ -29,7 +29,7 @@ use Rattle.ember_poly.proofs.OnePoint.{one_place}
 use Rattle.ember_poly.proofs.DroppedEdges.{dropped_lone}
 use Rattle.ember_poly.proofs.Members.{has-front, has-back, has-split, has-turned, born_has, has_born, Found, has_pick}
 use Rattle.ember_poly.proofs.SideLists.{oldest_first}
-use Rattle.ember_poly.proofs.PassageFound.{passes}
+use Rattle.ember_poly.proofs.PassageFound.{plane_has_corners_above}
 
 -- ---- the sides of the part
 take_front : {X : Type 0} (xs ys : List X) (k : ℕ) → k ≡ length xs → take k (xs ++ ys) ≡ xs
@@ -49,7 +49,7 @@ part_is n p xs at q b =
     ap (λ zs. with_first_start (spot_of at.entry) zs ++ closing_side p (spot_of at.exit) b ∷ []) (kept_sides n p xs at q)
 
 -- ---- one place
-pub same_from : (u v : Spot) → ((e : Plane) → u.w *ℤ value_at e v ≡ v.w *ℤ value_at e u) → SamePoint u v
+same_from : (u v : Spot) → ((e : Plane) → u.w *ℤ value_at e v ≡ v.w *ℤ value_at e u) → SamePoint u v
 same_from u v h =
     record {
       x = first v.w u.x u.y u.z u.w ∙ sym (h (record { a = pos 1; b = pos 0; c = pos 0; d = pos 0 })) ∙ sym (first u.w v.x v.y v.z v.w);
@@ -67,15 +67,12 @@ same_from u v h =
     third = solve 5 (λ k x y z w. k ⊗ z ≈ k ⊗ (num (pos 0) ⊗ x ⊕ num (pos 0) ⊗ y ⊕ num (pos 1) ⊗ z ⊖ num (pos 0) ⊗ w)) cancels
 
 -- ---- what is counted, after a turn
-pub counted_turned : (n : Plane) (gs : List Plane) (xs ys : List Side) → AllAreEdges n gs (xs ++ ys) → AllAreEdges n gs (ys ++ xs)
+counted_turned : (n : Plane) (gs : List Plane) (xs ys : List Side) → AllAreEdges n gs (xs ++ ys) → AllAreEdges n gs (ys ++ xs)
 counted_turned n gs xs ys c =
     λ i h e. ⊎_elim (λ b. inl (has_born i (ys ++ xs) (has-turned (λ s. s.plane_index ≡ i) xs ys (born_has i (xs ++ ys) b)))) (λ s. inr (λ u v ku kv. s u v (closed_turned n u ys xs ku) (closed_turned n v ys xs kv))) (c i h e)
 
 -- ---- the sides that are dropped
 module _ (n p : Plane) (gs : List Plane) (f l : Side) (ks : List Side) (y z : Spot) (mz : IsMeet n f.plane p z) (my : IsMeet n l.plane p y) (under : AllByRecursion (λ s. IsBelow p s.corner) (ks ++ l ∷ [])) (enters : IsNotBelow p f.corner) where
-  abbrev kept : List Side
-  kept = ks ++ l ∷ []
-
   abbrev part : List Side
   part = with_start f z ∷ (ks ++ l ∷ []) ++ closing_side p y (length gs) ∷ []
 
@@ -97,7 +94,7 @@ module _ (n p : Plane) (gs : List Plane) (f l : Side) (ks : List Side) (y z : Sp
   divide (d ∷ ds) s q =
       let o = below_some n p f l d ds y z (length gs) enters.at_least q.0.at_least my mz ks s.sound under in
       let r = part_of n p f l ks (d ∷ ds) y z (length gs) d.corner s.sound (corner_closed n (f ∷ (ks ++ l ∷ [])) d ds s.sound) o in
-      let lone = dropped_lone n p f l d ks ds y z (length gs) s.sound o.exit o.entry (passes p f d ds q) in
+      let lone = dropped_lone n p f l d ks ds y z (length gs) s.sound o.exit o.entry (plane_has_corners_above p f d ds q) in
       let most = each_swap (λ (s t : Side). IsNotAbove t.plane s.corner) part (d ∷ ds) (each_map (λ s. IsInClosedRing n part s.corner) (λ s. AllByRecursion (λ t. IsNotAbove t.plane s.corner) (d ∷ ds)) part (λ s k. each-back (λ t. IsNotAbove t.plane s.corner) (ks ++ l ∷ []) (d ∷ ds) (r.out_closed s.corner k).0.within.1) (ring-closed n part o.sound)) in
       let listed = each-back (λ t. IsInPlanes gs t) (ks ++ l ∷ []) (d ∷ ds) s.listed.1 in
       record {

@@ -1,4 +1,4 @@
--- Where a plane passes a ring, from what a pass over the corners finds.
+-- Where a plane plane_has_corners_above a ring, from what a pass over the corners finds.
 use Rattle.std.proofs.Common.{◌≡◌, ◌⊎◌, ⊎_elim, inl, inr, sym, ap, subst, ◌∙◌, arith, ℕ, suc, ◌<◌, ◌≤◌, ◌+◌, ◌-◌, true, List, [], ◌∷◌, ◌++◌, length, take, drop, pos, ◌<ℤ◌, length-drop, length-append}
 use lib.ListN.{get_or}
 use Rattle.std.proofs.lemmas.Int.{by_lt_z}
@@ -13,7 +13,7 @@ use Rattle.ember_poly.specs.Sides.{sides_of}
 use Rattle.ember_poly.specs.Passages.{is_under, Stops, IsOneSidedRun, Enters, Straddles, Leaves, IsPassage}
 use Rattle.ember_poly.proofs.Chains.{each_map}
 use Rattle.ember_poly.proofs.Rotations.{each-join, each-turned, turned_by}
-use Rattle.ember_poly.proofs.InsidePoints.{weak}
+use Rattle.ember_poly.proofs.InsidePoints.{below_is_not_above}
 use Rattle.ember_poly.proofs.RingBelow.{turns_some, turns_all}
 use Rattle.ember_poly.proofs.CutOrientation.{in_turn}
 use Rattle.ember_poly.proofs.ListOutline.{length-sides_of}
@@ -26,7 +26,7 @@ pub record Opened {X : Type 0} (k : ℕ) (xs : List X) : Type 0 where
   pub here : drop k xs ≡ at ∷ drop (k + 1) xs
   pub same : (d : X) → get_or xs k d ≡ at
 
-pub open_at : {X : Type 0} (k : ℕ) (xs : List X) → k < length xs → Opened k xs
+open_at : {X : Type 0} (k : ℕ) (xs : List X) → k < length xs → Opened k xs
 open_at k [] l = absurd (omega (arith, l))
 open_at k (x ∷ xs) l =
     record { at = get_or (x ∷ xs) k x; here = drop_more (x ∷ xs) k x l; same = λ d. get_or_default (x ∷ xs) k d x l }
@@ -39,11 +39,11 @@ turned_length k xs l =
     less : {a b : ℕ} → a < b → a ≤ b
     less q = omega (arith, q)
 
-pub same_length : {X Y : Type 0} (k : ℕ) (xs : List X) (ys : List Y) → k < length xs → length ys ≡ length xs → length (drop (k + 1) ys ++ take k ys) ≡ length (drop (k + 1) xs ++ take k xs)
+same_length : {X Y : Type 0} (k : ℕ) (xs : List X) (ys : List Y) → k < length xs → length ys ≡ length xs → length (drop (k + 1) ys ++ take k ys) ≡ length (drop (k + 1) xs ++ take k xs)
 same_length k xs ys l e =
     omega (arith, e, turned_length k xs l, turned_length k ys (subst (λ j. k < j) (sym e) l))
 
-pub turned_get : {X : Type 0} (xs : List X) (k c r : ℕ) (d : X) → k < length xs → c < length xs → r < length xs → ((r ≡ k + c) ⊎ (r + length xs ≡ k + c)) → get_or (drop k xs ++ take k xs) c d ≡ get_or xs r d
+turned_get : {X : Type 0} (xs : List X) (k c r : ℕ) (d : X) → k < length xs → c < length xs → r < length xs → ((r ≡ k + c) ⊎ (r + length xs ≡ k + c)) → get_or (drop k xs ++ take k xs) c d ≡ get_or xs r d
 turned_get xs k c r d lk lc lr p = ⊎_elim ahead behind p
   where
     ahead : r ≡ k + c → get_or (drop k xs ++ take k xs) c d ≡ get_or xs r d
@@ -88,14 +88,14 @@ next_high p (e ∷ es) (m ∷ ms) (b ∷ bs) s = least_out p m s
 
 leaves_by : (p : Plane) (f : Side) (ks ds : List Side) → AllByRecursion (λ s. IsBelow p s.corner) ks → NextHigh p ds → (AllByRecursion (λ s. IsNotAbove p s.corner) (f ∷ ks ++ ds) → ⊥) → Leaves p f ds
 leaves_by p f ks [] u h n =
-    by_lt_z (pos 0) (value_at p f.corner) (λ l. record { over = l }) (λ l. absurd (n (record { at_most = l }, each-join (λ s. IsNotAbove p s.corner) ks [] (each_map (λ s. IsBelow p s.corner) (λ s. IsNotAbove p s.corner) ks (λ s q. weak q) u) tt)))
+    by_lt_z (pos 0) (value_at p f.corner) (λ l. record { over = l }) (λ l. absurd (n (record { at_most = l }, each-join (λ s. IsNotAbove p s.corner) ks [] (each_map (λ s. IsBelow p s.corner) (λ s. IsNotAbove p s.corner) ks (λ s q. below_is_not_above q) u) tt)))
 leaves_by p f ks (d ∷ []) u h n =
-    (h, by_lt_z (pos 0) (value_at p f.corner) (λ l. inl (record { over = l })) (λ l. by_lt_z (pos 0) (value_at p d.corner) (λ k. inr (inl (record { over = k }))) (λ k. absurd (n (record { at_most = l }, each-join (λ s. IsNotAbove p s.corner) ks (d ∷ []) (each_map (λ s. IsBelow p s.corner) (λ s. IsNotAbove p s.corner) ks (λ s q. weak q) u) (record { at_most = k }, tt))))))
+    (h, by_lt_z (pos 0) (value_at p f.corner) (λ l. inl (record { over = l })) (λ l. by_lt_z (pos 0) (value_at p d.corner) (λ k. inr (inl (record { over = k }))) (λ k. absurd (n (record { at_most = l }, each-join (λ s. IsNotAbove p s.corner) ks (d ∷ []) (each_map (λ s. IsBelow p s.corner) (λ s. IsNotAbove p s.corner) ks (λ s q. below_is_not_above q) u) (record { at_most = k }, tt))))))
 leaves_by p f ks (d ∷ e ∷ ds) u h n = (h, inr (inr tt))
 
 -- not all that is left behind the sides below the plane lies on the plane
-pub passes : (p : Plane) (f d : Side) (ds : List Side) → Leaves p f (d ∷ ds) → (pos 0 <ℤ value_at p f.corner) ⊎ ((pos 0 <ℤ value_at p d.corner) ⊎ Long ds)
-passes p f d ds q = ⊎_elim (λ a. inl a.over) (λ r. inr (⊎_elim (λ a. inl a.over) (λ a. inr a) r)) q.1
+pub plane_has_corners_above : (p : Plane) (f d : Side) (ds : List Side) → Leaves p f (d ∷ ds) → (pos 0 <ℤ value_at p f.corner) ⊎ ((pos 0 <ℤ value_at p d.corner) ⊎ Long ds)
+plane_has_corners_above p f d ds q = ⊎_elim (λ a. inl a.over) (λ r. inr (⊎_elim (λ a. inl a.over) (λ a. inr a) r)) q.1
 
 -- the planes at the two ends of the chord meet in one point
 pub turns_of : (n p : Plane) (f l : Side) (ks ds : List Side) → IsConvexRing n (f ∷ (ks ++ l ∷ []) ++ ds) → AllByRecursion (λ s. IsBelow p s.corner) (ks ++ l ∷ []) → IsNotBelow p f.corner → Leaves p f ds → (pos 0 <ℤ orientation n l.plane p) × (pos 0 <ℤ orientation n p f.plane)

@@ -35,10 +35,7 @@ put_more from to x xs lf lt =
     seam x [] ys = refl
     seam x (u ∷ us) ys = ap (λ zs. u ∷ zs) (seam x us ys)
 
-pub put_count : {X : Type 0} (from to : ℕ) (x : X) (xs : List X) → from ≤ length xs → to ≤ length xs → length (replace_between from to x xs) + to ≡ suc (from + length xs)
-put_count from to x xs lf lt =
-    omega (arith, lt, length-append (take from xs) (x ∷ drop to xs), length-take-le from xs lf, length-drop to xs)
-
+-- a list into which an item was put isn't empty
 pub put_some : {X : Type 0} (from to : ℕ) (x : X) (xs : List X) → 0 < length (replace_between from to x xs)
 put_some from to x xs = omega (arith, length-append (take from xs) (x ∷ drop to xs))
 
@@ -51,10 +48,12 @@ begun_length k xs =
     omega (arith, length-append (drop k xs) (take k xs), length-append (take k xs) (drop k xs), ap length (take-append-drop k xs))
 
 -- ---- the sides of three lists
+-- putting items into the three lists puts a side into the sides
 pub sides_put : (es : List Plane) (ms : List Meet) (bs : List ℕ) → length ms ≡ length es → length bs ≡ length es → (from to : ℕ) (p : Plane) (m : Meet) (b : ℕ) {us : List Plane} {ns : List Meet} {cs : List ℕ} → us ≡ replace_between from to p es → ns ≡ replace_between from to m ms → cs ≡ replace_between from to b bs → sides_of us ns cs ≡ replace_between from to (closing_side p (spot_of m) b) (sides_of es ms bs)
 sides_put es ms bs pm pb from to p m b {us} {ns} {cs} eu en ec =
     (λ i. sides_of (eu i) (en i) (ec i)) ∙ sides-append (take from es) (p ∷ drop to es) (take from ms) (m ∷ drop to ms) (take from bs) (b ∷ drop to bs) (taken from es ms pm) (taken from es bs pb) ∙ (λ i. sides-take from es ms bs i ++ closing_side p (spot_of m) b ∷ sides-drop to es ms bs pm pb i)
 
+-- changing a corner in the list changes the start of its side
 pub sides_set : (k : ℕ) (es : List Plane) (ms : List Meet) (bs : List ℕ) (m : Meet) → sides_of es (set ms k m) bs ≡ with_start_at k (spot_of m) (sides_of es ms bs)
 sides_set zero [] ms bs m = refl
 sides_set (suc k) [] ms bs m = refl

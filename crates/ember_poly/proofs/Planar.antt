@@ -27,6 +27,7 @@ mixed p a b e =
     identity (tuple ∷ tuple ∷ tuple ∷ tuple ∷ []) (λ p a b e. valueE e (mixE p a b) ≈ valueE p b ⊗ valueE e a ⊖ valueE p a ⊗ valueE e b) cancels (plane_tuple p) (spot_tuple a) (spot_tuple b) (plane_tuple e)
 
 -- ---- numbers
+-- a difference of multiples of 0 is 0
 pub both_zero : (a b : ℤ) {x y : ℤ} → x ≡ pos 0 → y ≡ pos 0 → a *ℤ x -ℤ b *ℤ y ≡ pos 0
 both_zero a b e f = rw (e, f) (solve 2 (λ a b. a ⊗ num (pos 0) ⊖ b ⊗ num (pos 0) ≈ num (pos 0)) cancels a b)
 
@@ -53,6 +54,7 @@ pub record Crossing (p : Plane) (a b y : Spot) : Type 0 where
   pub there : pos 0 <ℤ (mix p a b).w
   pub same : (e : Plane) → y.w *ℤ value_at e (mix p a b) ≡ (mix p a b).w *ℤ value_at e y
 
+-- two points on three planes that meet in one point are the same place for every plane
 pub same_place : (n g p : Plane) → orientation n g p ≢ pos 0 → (e : Plane) (y z : Spot) → value_at n y ≡ pos 0 → value_at g y ≡ pos 0 → value_at p y ≡ pos 0 → value_at n z ≡ pos 0 → value_at g z ≡ pos 0 → value_at p z ≡ pos 0 → y.w *ℤ value_at e z ≡ z.w *ℤ value_at e y
 same_place n g p t e y z ny gy py nz gz pz =
     let h : orientation n g p *ℤ (y.w *ℤ value_at e z -ℤ z.w *ℤ value_at e y) ≡ orientation n g p *ℤ pos 0 =
@@ -65,8 +67,9 @@ same_place n g p t e y z ny gy py nz gz pz =
     equal_from : {x y : ℤ} → x -ℤ y ≡ pos 0 → x ≡ y
     equal_from e = omega (arith, linear)
 
-pub crossing : (n g p : Plane) (a b y : Spot) → orientation n g p ≢ pos 0 → value_at n a ≡ pos 0 → value_at n b ≡ pos 0 → value_at g a ≡ pos 0 → value_at g b ≡ pos 0 → pos 0 <ℤ a.w → pos 0 <ℤ b.w → value_at p a <ℤ pos 0 → pos 0 ≤ℤ value_at p b → value_at n y ≡ pos 0 → value_at g y ≡ pos 0 → value_at p y ≡ pos 0 → pos 0 <ℤ y.w → Crossing p a b y
-crossing n g p a b y t na nb ga gb wa wb pa pb ny gy py wy =
+-- the meet of an edge's two planes and a third one lies on the edge, if that plane parts its ends
+pub crossing_is_meet : (n g p : Plane) (a b y : Spot) → orientation n g p ≢ pos 0 → value_at n a ≡ pos 0 → value_at n b ≡ pos 0 → value_at g a ≡ pos 0 → value_at g b ≡ pos 0 → pos 0 <ℤ a.w → pos 0 <ℤ b.w → value_at p a <ℤ pos 0 → pos 0 ≤ℤ value_at p b → value_at n y ≡ pos 0 → value_at g y ≡ pos 0 → value_at p y ≡ pos 0 → pos 0 <ℤ y.w → Crossing p a b y
+crossing_is_meet n g p a b y t na nb ga gb wa wb pa pb ny gy py wy =
     record {
       from = pa;
       to = pb;
@@ -87,9 +90,11 @@ neg_at {p} {a} {b} {y} c e h =
     cancel_neg : {k x : ℤ} → pos 0 <ℤ k → (k *ℤ x) <ℤ pos 0 → x <ℤ pos 0
     cancel_neg {k} {x} p q = cancel_lt p (rw (solve 1 (λ k. k ⊗ num (pos 0) ≈ num (pos 0)) cancels k) q)
 
+-- where a plane crosses an edge is below a plane that one end is below and the other not above
 pub under_past : {p : Plane} {a b y : Spot} → Crossing p a b y → (e : Plane) → value_at e a ≤ℤ pos 0 → IsBelow e b → IsBelow e y
 under_past c e h k = neg_at c e (blend_neg c.to c.from h k.under)
 
+-- the same, if it is the first end that is below
 pub under_first : {p : Plane} {a b y : Spot} → Crossing p a b y → (e : Plane) → pos 0 <ℤ value_at p b → IsBelow e a → value_at e b ≤ℤ pos 0 → IsBelow e y
 under_first c e l h k = neg_at c e (blend_neg_strict l c.from h.under k)
 
@@ -99,6 +104,7 @@ blend_most {u} {v} {a} {b} p q r s =
     let o : pos 0 ≤ℤ neg_ℤ v = omega (arith, linear) in
     omega (arith, linear, nonneg_mul p m, nonneg_mul o n, solve 2 (λ u a. u ⊗ neg a ≈ neg (u ⊗ a)) cancels u a, solve 2 (λ v b. neg v ⊗ neg b ≈ v ⊗ b) cancels v b)
 
+-- the point where a plane crosses an edge isn't above a plane that neither end is above
 pub most_at : {p : Plane} {a b y : Spot} → Crossing p a b y → (e : Plane) → IsNotAbove e a → IsNotAbove e b → IsNotAbove e y
 most_at {p} {a} {b} {y} c e h k =
     let m : value_at e (mix p a b) ≤ℤ pos 0 = rw (mixed p a b e) (blend_most c.to c.from h.at_most k.at_most) in

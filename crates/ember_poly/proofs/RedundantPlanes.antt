@@ -22,20 +22,20 @@ use Rattle.ember_poly.proofs.Chains.{each_map, each_both}
 use Rattle.ember_poly.proofs.Planar.{places, both_zero, turnE}
 use Rattle.ember_poly.proofs.CutOrientation.{swap_last}
 use Rattle.ember_poly.proofs.InsideSigns.{mixed2_value, eventually_each}
-use Rattle.ember_poly.proofs.InsidePoints.{weak, touching, flat_sum, weight_sum, scaled_under}
+use Rattle.ember_poly.proofs.InsidePoints.{below_is_not_above, on_is_not_above, flat_sum, weight_sum, scaled_under}
 use Rattle.ember_poly.proofs.FaceTests.{edge_in, closed_out}
 
 -- ---- points of a face, by its planes
-pub closed_of_inside : {n : Plane} {gs : List Plane} {v : Spot} → InFace n gs v → InClosedFace n gs v
+closed_of_inside : {n : Plane} {gs : List Plane} {v : Spot} → InFace n gs v → InClosedFace n gs v
 closed_of_inside {n} {gs} {v} i =
-    record { flat = i.flat; weight = i.weight; within = each_map (λ g. IsBelow g v) (λ g. IsNotAbove g v) gs (λ g u. weak u) i.within }
+    record { flat = i.flat; weight = i.weight; within = each_map (λ g. IsBelow g v) (λ g. IsNotAbove g v) gs (λ g u. below_is_not_above u) i.within }
 
 -- i u + j v, where u is closed and v is inside
 mixed_inside : (i j : ℤ) (n : Plane) (gs : List Plane) (u v : Spot) → pos 0 ≤ℤ i → pos 0 <ℤ j → InClosedFace n gs u → InFace n gs v → InFace n gs (mixed2 i j u v)
 mixed_inside i j n gs u v p q a b =
     record { flat = flat_sum i j u v n a.flat b.flat; weight = weight_sum p q a.weight b.weight; within = each_both (λ g. IsNotAbove g u) (λ g. IsBelow g v) (λ g. IsBelow g (mixed2 i j u v)) gs (λ g x y. scaled_under i j u v g p q x y) a.within b.within }
 
--- ---- inside points tell closed points: if the planes hs are negative where all of gs are,
+-- ---- inside points decide closed points: if the planes hs are negative where all of gs are,
 -- and at some such point, they are at most 0 where all of gs are
 pub closed_follows : (n : Plane) (gs hs : List Plane) (o : Spot) → InFace n gs o → AllByRecursion (λ h. IsBelow h o) hs → ((v : Spot) → InFace n gs v → AllByRecursion (λ h. IsBelow h v) hs) → (r : Spot) → InClosedFace n gs r → AllByRecursion (λ h. IsNotAbove h r) hs
 closed_follows n gs hs o io low follow r ir =
@@ -155,7 +155,7 @@ module _ (n g p h : Plane) (turns : orientation n g p ≢ pos 0) (gs : List Plan
           zero m w x d e =
               omega (arith, linear, e, solve 3 (λ m w x. (m ⊗ w ⊕ num (pos 1) ⊗ num (pos 0)) ⊗ x ≈ m ⊗ w ⊗ x) cancels m w x, solve 4 (λ m w x d. w ⊗ (m ⊗ x ⊕ num (pos 1) ⊗ d) ≈ m ⊗ w ⊗ x ⊕ w ⊗ d) cancels m w x d)
 
-  pub counted_between : (f : Face) → ((v : Spot) → InClosedFace n gs v → value_at h v ≡ pos 0 → is_in_closed f v ≡ true) → HasEdge f h
+  counted_between : (f : Face) → ((v : Spot) → InClosedFace n gs v → value_at h v ≡ pos 0 → is_in_closed f v ≡ true) → HasEdge f h
   counted_between f holds =
       let m = moved_inside.from in
       let far : InClosedFace n gs (moved m) = closed_of_inside (moved_inside.holds m (omega arith)) in
@@ -185,7 +185,7 @@ module _ (n g p : Plane) (turns : orientation n g p ≢ pos 0) (o : Spot) (f : F
     where
       closed : (v : Spot) → InClosedFace n gs v → value_at h v ≡ pos 0 → is_in_closed f v ≡ true
       closed v i e =
-          let t : IsNotAbove h v = touching e in
+          let t : IsNotAbove h v = on_is_not_above e in
           whole v i (t, closed_follows n (h ∷ gs) hs o (with_plane io low.0) low.1 rest v (record { flat = i.flat; weight = i.weight; within = (t, i.within) }))
 
       negative : IsBelow h v

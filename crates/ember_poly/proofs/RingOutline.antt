@@ -22,6 +22,7 @@ use Rattle.ember_poly.proofs.EdgeEnds.{edge_start, edge_end, edge_leads, not_aft
 use Rattle.ember_poly.proofs.FaceTests.{edge_in, edge_out}
 
 -- ---- members of lists
+-- what holds of all members holds of the one at an index
 pub each_get : {X : Type 0} (P : X → Type 0) (xs : List X) (i : ℕ) (x : X) → AllByRecursion P xs → slice_get xs i ≡ Some x → P x
 each_get P [] i x h e = absurd (by e)
   where
@@ -34,18 +35,18 @@ each_get P (y ∷ xs) zero x h e = subst P (by e) h.0
 each_get P (y ∷ xs) (suc i) x h e = each_get P xs i x h.1 e
 
 -- a member of a list with c in it is c, or has what all others have
-pub elsewhere : {X : Type 0} (P : X → Type 0) (us : List X) (c : X) (ws : List X) (i : ℕ) (x : X) → AllByRecursion P us → AllByRecursion P ws → slice_get (us ++ c ∷ ws) i ≡ Some x → P x ⊎ ((x ≡ c) × (i ≡ length us))
-elsewhere P [] c ws zero x h k e = inr (by e, refl)
+member_is_here_or_else : {X : Type 0} (P : X → Type 0) (us : List X) (c : X) (ws : List X) (i : ℕ) (x : X) → AllByRecursion P us → AllByRecursion P ws → slice_get (us ++ c ∷ ws) i ≡ Some x → P x ⊎ ((x ≡ c) × (i ≡ length us))
+member_is_here_or_else P [] c ws zero x h k e = inr (by e, refl)
   where
     by : Some c ≡ Some x → x ≡ c
     by e = cc
-elsewhere P [] c ws (suc i) x h k e = inl (each_get P ws i x k e)
-elsewhere P (y ∷ us) c ws zero x h k e = inl (subst P (by e) h.0)
+member_is_here_or_else P [] c ws (suc i) x h k e = inl (each_get P ws i x k e)
+member_is_here_or_else P (y ∷ us) c ws zero x h k e = inl (subst P (by e) h.0)
   where
     by : Some y ≡ Some x → y ≡ x
     by e = cc
-elsewhere P (y ∷ us) c ws (suc i) x h k e =
-    ⊎_elim (λ p. inl p) (λ q. inr (q.0, ap (λ n. suc n) q.1)) (elsewhere P us c ws i x h.1 k e)
+member_is_here_or_else P (y ∷ us) c ws (suc i) x h k e =
+    ⊎_elim (λ p. inl p) (λ q. inr (q.0, ap (λ n. suc n) q.1)) (member_is_here_or_else P us c ws i x h.1 k e)
 
 abbrev head_or : Side → List Side → Side
 head_or c [] = c
@@ -79,6 +80,7 @@ begin n us c ws s = by (ws ++ us) (turned_by n us (c ∷ ws) s) (λ P e. each-tu
         third l.last l.front (turned_by n (c ∷ l.front) (l.last ∷ []) (subst (λ zs. IsConvexRing n (c ∷ zs)) l.split s)) (λ P a. each-turned P (c ∷ l.front) (l.last ∷ []) (subst (λ zs. AllByRecursion P (c ∷ zs)) l.split (m P a))) (λ P a. r P (subst (λ zs. AllByRecursion P zs) (sym l.split) (each-turned P (l.last ∷ []) l.front a))) (e ∙ front_head y ys l.front l.last l.split)
 
 -- ---- one place has one sign
+-- a plane has the same value at two tuples of one point, up to their weights
 pub same_value : {u v : Spot} → SamePoint u v → (e : Plane) → v.w *ℤ value_at e u ≡ u.w *ℤ value_at e v
 same_value {u} {v} s e =
     solve 9 (λ a b c d x y z w k. k ⊗ (a ⊗ x ⊕ b ⊗ y ⊕ c ⊗ z ⊖ d ⊗ w) ≈ a ⊗ (k ⊗ x) ⊕ b ⊗ (k ⊗ y) ⊕ c ⊗ (k ⊗ z) ⊖ d ⊗ (k ⊗ w)) cancels e.a e.b e.c e.d u.x u.y u.z u.w v.w ∙ rw (s.x, s.y, s.z) (solve 9 (λ a b c d x y z w k. a ⊗ (k ⊗ x) ⊕ b ⊗ (k ⊗ y) ⊕ c ⊗ (k ⊗ z) ⊖ d ⊗ (w ⊗ k) ≈ k ⊗ (a ⊗ x ⊕ b ⊗ y ⊕ c ⊗ z ⊖ d ⊗ w)) cancels e.a e.b e.c e.d v.x v.y v.z v.w u.w)
@@ -198,7 +200,7 @@ module _ (n : Plane) (gs : List Plane) (xs : List Side) (stands : Represents n g
     -- a side with this edge is c
     only : (i : ℕ) (s : Side) → slice_get xs i ≡ Some s → SameEdge face s.plane c.plane → (s ≡ c) × (i ≡ length us)
     only i s e same =
-        ⊎_elim (λ u. absurd (other_edge s u same)) (λ q. q) (elsewhere (λ s. IsBelow s.plane c.corner ⊎ IsBelow s.plane end) us c ws i s (each-back (λ s. IsBelow s.plane c.corner ⊎ IsBelow s.plane end) ws us apart) (each-front (λ s. IsBelow s.plane c.corner ⊎ IsBelow s.plane end) ws us apart) (subst (λ zs. slice_get zs i ≡ Some s) split e))
+        ⊎_elim (λ u. absurd (other_edge s u same)) (λ q. q) (member_is_here_or_else (λ s. IsBelow s.plane c.corner ⊎ IsBelow s.plane end) us c ws i s (each-back (λ s. IsBelow s.plane c.corner ⊎ IsBelow s.plane end) ws us apart) (each-front (λ s. IsBelow s.plane c.corner ⊎ IsBelow s.plane end) ws us apart) (subst (λ zs. slice_get zs i ≡ Some s) split e))
 
     at : slice_get xs (length us) ≡ Some c
     at = subst (λ zs. slice_get zs (length us) ≡ Some c) (sym split) (by us)
@@ -250,7 +252,7 @@ module _ (n : Plane) (gs : List Plane) (xs : List Side) (stands : Represents n g
 
     no_older : (s : Side) (i : ℕ) → slice_get xs i ≡ Some s → s.plane_index < first.plane_index → ⊥
     no_older s i e l =
-        ⊎_elim (λ p. absurd (omega (arith, l, p))) (λ q. absurd (omega (arith, l, ap (λ (s : Side). s.plane_index) q.0))) (elsewhere (λ r. first.plane_index ≤ r.plane_index) [] first rest i s tt (subst (λ zs. FirstPlaneFirst zs) begins oldest) (subst (λ zs. slice_get zs i ≡ Some s) begins e))
+        ⊎_elim (λ p. absurd (omega (arith, l, p))) (λ q. absurd (omega (arith, l, ap (λ (s : Side). s.plane_index) q.0))) (member_is_here_or_else (λ r. first.plane_index ≤ r.plane_index) [] first rest i s tt (subst (λ zs. FirstPlaneFirst zs) begins oldest) (subst (λ zs. slice_get zs i ≡ Some s) begins e))
 
     earliest : IsEarliest (λ h. HasEdge face h) gs first.plane
     earliest =
@@ -276,7 +278,7 @@ module _ (n : Plane) (gs : List Plane) (xs : List Side) (stands : Represents n g
     is_outline =
         record { first = edge_of first; rest = outline rest; begins = ap (λ zs. outline zs) begins; earliest = earliest; round = path [] xs refl; all = among; once = once [] xs refl }
 
-pub sound_begins : (n : Plane) (xs : List Side) → IsConvexRing n xs → (first : Side) × (rest : List Side) × (xs ≡ first ∷ rest)
+sound_begins : (n : Plane) (xs : List Side) → IsConvexRing n xs → (first : Side) × (rest : List Side) × (xs ≡ first ∷ rest)
 sound_begins n [] h = absurd h
 sound_begins n (x ∷ xs) h = (x, xs, refl)
 

@@ -13,10 +13,11 @@ use Rattle.ember_point.specs.Points.{spot_of}
 use Rattle.ember_poly.specs.Rings.{IsBelow, IsNotAbove, IsNotBelow}
 use Rattle.ember_poly.specs.Passages.{is_under, Stops, IsOneSidedRun, Enters, Straddles}
 use Rattle.ember_poly.proofs.Chains.{each_map, each-front, each-back}
-use Rattle.ember_poly.proofs.InsidePoints.{weak}
+use Rattle.ember_poly.proofs.InsidePoints.{below_is_not_above}
 use Rattle.ember_poly.proofs.Rotations.{each-join}
 
 -- ---- the test of one corner
+-- a corner that passes the test is below the plane
 pub under_out : (p : Plane) (m : Meet) → is_under p m ≡ true → IsBelow p (spot_of m)
 under_out p m e = record { under = negative_out (value_at p (spot_of m)) e }
 
@@ -25,25 +26,31 @@ not_negative (pos zero) e = omega (arith, ints)
 not_negative (pos (suc n)) e = omega (arith, ints)
 not_negative (negsuc n) e = cc
 
+-- a corner that doesn't pass the test isn't below the plane
 pub least_out : (p : Plane) (m : Meet) → is_under p m ≡ false → IsNotBelow p (spot_of m)
 least_out p m e = record { at_least = not_negative (value_at p (spot_of m)) e }
 
-pub clash : {X : Type 0} {b : Bool} → b ≡ true → b ≡ false → X
-clash p q = absurd (by (sym p ∙ q))
+-- no Boolean is both true and false
+pub true_is_not_false : {X : Type 0} {b : Bool} → b ≡ true → b ≡ false → X
+true_is_not_false p q = absurd (by (sym p ∙ q))
   where
     by : true ≡ false → ⊥
     by e = cc
 
 -- ---- runs
+-- a run stops at a corner on the other side
 pub stops_at : (p : Plane) (b : Bool) (ms : List Meet) (i : ℕ) (d : Meet) → i < length ms → is_under p (get_or ms i d) ≡ not b → Stops p b (drop i ms)
 stops_at p b ms i d l e = subst (λ ys. Stops p b ys) (sym (drop_more ms i d l)) e
 
+-- behind the last corner a run ends
 pub stops_end : (p : Plane) (b : Bool) (ms : List Meet) (i : ℕ) → length ms ≤ i → Stops p b (drop i ms)
 stops_end p b ms i l = subst (λ ys. Stops p b ys) (sym (drop_all i ms l)) tt
 
+-- a run without its first corner
 pub run_rest : (p : Plane) (b : Bool) (m : Meet) (ms : List Meet) (k : ℕ) → IsOneSidedRun p b (m ∷ ms) (suc k) → IsOneSidedRun p b ms k
 run_rest p b m ms k r = record { at_most_all = omega (arith, r.at_most_all); all = r.all.1; stops = r.stops }
 
+-- a run with one corner more at its front
 pub run_more : (p : Plane) (b : Bool) (m : Meet) (ms : List Meet) (k : ℕ) → is_under p m ≡ b → IsOneSidedRun p b ms k → IsOneSidedRun p b (m ∷ ms) (suc k)
 run_more p b m ms k e r = record { at_most_all = omega (arith, r.at_most_all); all = (e, r.all); stops = r.stops }
 
@@ -76,6 +83,7 @@ rest_of k xs = take_all (length xs - k) (drop k xs) (same (length-drop k xs))
     same e = omega (arith, e)
 
 -- ---- the entry
+-- a list begun after its front has the front at its end
 pub turn_split : {X : Type 0} (xs ys : List X) (k : ℕ) → k ≡ length xs → drop k (xs ++ ys) ++ take k (xs ++ ys) ≡ ys ++ xs
 turn_split xs ys k e = rw e (λ i. dropped xs ys i ++ taken xs ys i)
   where
@@ -114,7 +122,7 @@ module _ (p : Plane) where
   IsHigh m = is_under p m ≡ false
 
   pub lows : (us : List Meet) → AllByRecursion IsLow us → AllByRecursion (λ m. IsNotAbove p (spot_of m)) us
-  lows us h = each_map IsLow (λ m. IsNotAbove p (spot_of m)) us (λ m e. weak (under_out p m e)) h
+  lows us h = each_map IsLow (λ m. IsNotAbove p (spot_of m)) us (λ m e. below_is_not_above (under_out p m e)) h
 
   pub highs : (us : List Meet) → AllByRecursion IsHigh us → AllByRecursion (λ m. IsNotBelow p (spot_of m)) us
   highs us h = each_map IsHigh (λ m. IsNotBelow p (spot_of m)) us (λ m e. least_out p m e) h
@@ -125,9 +133,9 @@ module _ (p : Plane) where
   enters_at [] bs y [] ha hb hy s t =
       absurd (t.under (each-join (λ m. IsNotBelow p (spot_of m)) bs (y ∷ []) (highs bs hb) (least_out p y hy, tt)))
 
-  pub first_positive : (us ys : List Meet) (u : ℕ) → AllByRecursion IsLow us → Stops p true ys → Stops p false (drop u ys) → Straddles p (us ++ ys) → 0 < u
+  first_positive : (us ys : List Meet) (u : ℕ) → AllByRecursion IsLow us → Stops p true ys → Stops p false (drop u ys) → Straddles p (us ++ ys) → 0 < u
   first_positive us ys (suc u) ha s f t = omega arith
-  first_positive us (y ∷ ys) zero ha s f t = clash f s
+  first_positive us (y ∷ ys) zero ha s f t = true_is_not_false f s
   first_positive us [] zero ha s f t =
       absurd (t.above (subst (λ zs. AllByRecursion (λ m. IsNotAbove p (spot_of m)) zs) (sym (append-nil us)) (lows us ha)))
 
@@ -153,12 +161,13 @@ module _ (p : Plane) where
         less : (d k : ℕ) → d + suc k - 1 ≡ d + k
         less d k = omega arith
 
--- a corner below comes second
+-- the second corner is below
 pub run_positive : (p : Plane) (m : Meet) (ns : List Meet) (c : ℕ) → Enters p (m ∷ ns) → IsOneSidedRun p true ns c → 0 < c
 run_positive p m [] c e r = absurd e
-run_positive p m (n ∷ ns) zero e r = clash e.1 r.stops
+run_positive p m (n ∷ ns) zero e r = true_is_not_false e.1 r.stops
 run_positive p m (n ∷ ns) (suc c) e r = omega arith
 
+-- a run that enters starts at a corner that isn't below
 pub head_high : (p : Plane) (m : Meet) (ns : List Meet) → Enters p (m ∷ ns) → IsNotBelow p (spot_of m)
 head_high p m [] e = absurd e
 head_high p m (n ∷ ns) e = least_out p m e.0

@@ -12,8 +12,8 @@ use Rattle.ember_model.proofs.SignTests.{positive_nonzero}
 use Rattle.ember_model.proofs.Tuples.{plane_tuple, spot_tuple, normalE}
 use Rattle.ember_poly.specs.Rings.{orientation, along}
 use Rattle.ember_poly.proofs.Planar.{places, both_zero, turnE}
-use Rattle.ember_poly.proofs.CutOrientation.{slope, pos_factor}
-use Rattle.ember_poly.proofs.EdgeEnds.{reach}
+use Rattle.ember_poly.proofs.CutOrientation.{value_difference_by_orientation, pos_factor}
+use Rattle.ember_poly.proofs.EdgeEnds.{position_is_value_along}
 
 -- ---- the direction from u to v
 abbrev pub toward : Spot → Spot → Plane
@@ -39,10 +39,10 @@ turns_toward n g u v l = rw (turn_toward n g u v) (rising l.before)
 module _ (n g h : Plane) (u v : Spot) (l : IsBefore n g u v) (nu : value_at n u ≡ pos 0) (nv : value_at n v ≡ pos 0) (gu : value_at g u ≡ pos 0) (gv : value_at g v ≡ pos 0) (hu : value_at h u ≡ pos 0) (hv : value_at h v ≡ pos 0) where
   parallel : orientation n g h ≡ pos 0
   parallel =
-      ⊎_elim (λ z. z) (λ z. absurd (positive_nonzero far z)) (zero_product (slope n g h (along n g) u v nu nv gu gv ∙ rw (both_zero u.w v.w hv hu) (nothing (orientation n (along n g) g))))
+      ⊎_elim (λ z. z) (λ z. absurd (positive_nonzero far z)) (zero_product (value_difference_by_orientation n g h (along n g) u v nu nv gu gv ∙ rw (both_zero u.w v.w hv hu) (nothing (orientation n (along n g) g))))
     where
       far : pos 0 <ℤ (u.w *ℤ value_at (along n g) v -ℤ v.w *ℤ value_at (along n g) u)
-      far = rw (← reach n g u, ← reach n g v) (rising l.before)
+      far = rw (← position_is_value_along n g u, ← position_is_value_along n g v) (rising l.before)
 
       nothing : (t : ℤ) → neg_ℤ (t *ℤ pos 0) ≡ pos 0
       nothing = solve 1 (λ t. neg (t ⊗ num (pos 0)) ≈ num (pos 0)) cancels

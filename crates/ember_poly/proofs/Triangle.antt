@@ -101,9 +101,9 @@ square p e = rw e (pos_mul p p)
 one : pos 0 <ℤ pos 1
 one = omega (arith, linear)
 
--- the three edges of a triangle, if s times the normal's product with f is positive
-pub triangle : (s : ℤ) (f : Vector) (u v w : Corner) → pos 0 <ℤ (s *ℤ dot (normal_of u v w) f) → IsConvexRing (support_plane u v w) (side_along s f u v 0 ∷ side_along s f v w 1 ∷ side_along s f w u 2 ∷ [])
-triangle s f u v w p =
+-- the three edges of a triangle_is_convex_ring, if s times the normal's product with f is positive
+triangle_is_convex_ring : (s : ℤ) (f : Vector) (u v w : Corner) → pos 0 <ℤ (s *ℤ dot (normal_of u v w) f) → IsConvexRing (support_plane u v w) (side_along s f u v 0 ∷ side_along s f v w 1 ∷ side_along s f w u 2 ∷ [])
+triangle_is_convex_ring s f u v w p =
     let at_u : IsCornerOf (support_plane u v w) (edge_along s f w u) (side_along s f u v 0) = record { flat = flat_u s f u v w; weight = one; before = ends s f w u v; after = starts s f u v w; turns = square p (turn_u s f u v w) } in
     let at_v : IsCornerOf (support_plane u v w) (edge_along s f u v) (side_along s f v w 1) = record { flat = flat_v s f u v w; weight = one; before = ends s f u v w; after = starts s f v w u; turns = square p (turn_v s f u v w) } in
     let at_w : IsCornerOf (support_plane u v w) (edge_along s f v w) (side_along s f w u 2) = record { flat = flat_w s f u v w; weight = one; before = ends s f v w u; after = starts s f w u v; turns = square p (turn_w s f u v w) } in
@@ -112,10 +112,11 @@ triangle s f u v w p =
     let wu : IsBelow (edge_along s f w u) (spot_of_corner v) = record { under = negative p (opposite_wu s f u v w) } in
     (tt, (at_v, (uv, tt), (wu, tt), (at_w, tt, tt, tt)), (at_w, (vw, tt), (uv, tt), (at_u, tt, tt, tt)))
 
+-- the three edge planes along a direction, with the triangle's corners, are a ring
 pub triangle_stands : (s : ℤ) (f : Vector) (u v w : Corner) → pos 0 <ℤ (s *ℤ dot (normal_of u v w) f) → Represents (support_plane u v w) (edge_along s f u v ∷ edge_along s f v w ∷ edge_along s f w u ∷ []) (side_along s f u v 0 ∷ side_along s f v w 1 ∷ side_along s f w u 2 ∷ [])
 triangle_stands s f u v w p =
     record {
-      sound = triangle s f u v w p;
+      sound = triangle_is_convex_ring s f u v w p;
       listed = (record { index = omega arith; here = refl }, (record { index = omega arith; here = refl }, (record { index = omega arith; here = refl }, tt)));
       follow = λ x i. i.within;
       follow_closed = λ x i. i.within;

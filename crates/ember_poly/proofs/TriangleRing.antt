@@ -85,11 +85,13 @@ tri_sides t =
 abbrev pub tri_planes : Tri → List Plane
 tri_planes t = edge_planes t (main_axis (support_of t))
 
+-- the ring of a triangle that isn't flat is its face
 pub stands : (t : Tri) → is_flat t ≡ false → Represents (support_of t) (tri_planes t) (tri_sides t)
 stands t e =
     let k = main_axis (support_of t) in
     triangle_stands (sign (along (support_of t) k)) (unit k) t.a t.b t.c (faces_axis t e)
 
+-- each edge plane of a triangle is that of a side
 pub counted : (t : Tri) → AllAreEdges (support_of t) (tri_planes t) (tri_sides t)
 counted t zero h e = inl (record { at = 0; side = _; here = refl; plane_index = refl })
 counted t (suc zero) h e = inl (record { at = 1; side = _; here = refl; plane_index = refl })
@@ -119,20 +121,24 @@ tri_ring t n u v w {fs} {gs} {es} {ms} {bs} e en vn ef vs eg ee em eb eu ev ew =
     rw (en, eg, ee, ef, em, eb) r
 
 -- ---- the test of the normal
+-- the test of the support plane's normal is whether the triangle is flat
 pub flat_is : (t : Tri) (n : Plane) (b : Bool) → n ≡ support_of t → b ≡ (is_zero n.a && (is_zero n.b && is_zero n.c)) → is_flat t ≡ b
 unfolding is_flat
 flat_is t n b en e =
     ap (λ (p : Plane). is_zero p.a && (is_zero p.b && is_zero p.c)) (sym en) ∙ sym e
 
+-- the support plane with the three edge planes is the face of a triangle that isn't flat
 pub face_is : (t : Tri) (n : Plane) (gs : List Plane) → is_flat t ≡ false → n ≡ support_of t → gs ≡ tri_planes t → Some (record { support = n; edges = gs }) ≡ cond (is_flat t) None (Some (face_of t))
 unfolding face_of
 face_is t n gs e en eg =
     (λ i. Some (record { support = en i; edges = eg i })) ∙ sym (ap (λ b. cond b None (Some (face_of t))) e)
 
 -- ---- of a triangle that is not flat
+-- the support plane with the three edge planes is the triangle's face
 pub tri_face : (t : Tri) (n : Plane) (gs : List Plane) → n ≡ support_of t → gs ≡ tri_planes t → record { support = n; edges = gs } ≡ face_of t
 unfolding face_of
 tri_face t n gs en eg = λ i. record { support = en i; edges = eg i }
 
+-- the support plane of a valid triangle is valid
 pub tri_support : {t : Tri} {n : Plane} → n ≡ support_of t → IsValidTri t → IsValidPlane n
 tri_support {t} {n} e v = subst (λ p. IsValidPlane p) (sym e) (support_valid (support_sized t v))

@@ -167,6 +167,7 @@ apart_back f end (e ∷ d ∷ es) h =
 abbrev pub turned_outline : RingEdge → RingEdge → List RingEdge → List RingEdge
 turned_outline e d es = from_end e d.start ∷ turn_back e.start (d ∷ es)
 
+-- the outline of a face, turned back, is that of the flipped face
 pub outline_turned : (f : Face) (e d : RingEdge) (es : List RingEdge) → IsOutline f (e ∷ d ∷ es) → IsOutline (flipped_face f) (turned_outline e d es)
 outline_turned f e d es o =
     let q : o.first ≡ e = first o.begins in

@@ -9,6 +9,7 @@ use Rattle.ember_poly.specs.declared.passage.Passage.{Passage}
 use Rattle.ember_poly.specs.Rings.{Side, with_start, closing_side}
 use Rattle.ember_poly.specs.Sides.{sides_of}
 
+-- the sides of a ring, from its three lists
 abbrev pub sides : Boundary → List Side
 sides r = sides_of r.edges.items r.corners.items r.plane_indices.items
 

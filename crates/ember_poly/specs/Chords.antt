@@ -76,7 +76,7 @@ IsCrossing f p crossing.Above = IsReach f p reach.Above
 IsCrossing f p crossing.On = IsReach f p reach.On
 IsCrossing f p (crossing.Along y z) = IsChord f p (spot_of y) (spot_of z)
 
--- what the sides of the planes on which f lies show of its inside points above none of them
+-- whether f has an inside point above none of the planes, as far as it is known
 abbrev pub IsOverlap : Face → List Plane → Overlap → Type 0
 IsOverlap f hs overlap.Apart = Somewhere f (λ v. none_positive hs v ≡ true) → ⊥
 IsOverlap f hs overlap.Met = Somewhere f (λ v. none_positive hs v ≡ true)

@@ -1,4 +1,4 @@
--- Planes along an axis that have small numbers, and where other planes meet them
+-- Planes across an axis that have small numbers, and where other planes meet them
 use Rattle.std.specs.Prelude.{◌≡◌, ℤ, pos, negsuc, neg_ℤ, ◌-ℤ◌, ◌*ℤ◌, Bool, true, false}
 use Rattle.ember_model.specs.declared.point.Axis.{Axis}
 use Rattle.ember_model.specs.declared.point.Axis.TheVariants.{X, Y, Z}
@@ -7,7 +7,7 @@ use Rattle.ember_model.specs.declared.plane.Plane.{Plane}
 use Rattle.ember_model.specs.Planes.{along}
 use Rattle.ember_poly.specs.Passages.{IsAlong}
 
--- the entry of the normal is 1 or -1, by the side to which the front looks, and the constant is that of the place
+-- the plane has the coordinate `at`: the entry of its normal is 1 or -1, by the side to which its front points
 abbrev pub FacesAt : Bool → ℤ → ℤ → ℤ → Type 0
 FacesAt true at n d = (n ≡ pos 1) × (d ≡ at)
 FacesAt false at n d = (n ≡ negsuc 0) × (d ≡ neg_ℤ at)

@@ -47,6 +47,7 @@ pub record Straddles (p : Plane) (ms : List Meet) : Type 0 where
   pub under : AllByRecursion (λ m. IsNotBelow p (spot_of m)) ms → ⊥
 
 -- ---- the corners one after another
+-- whether the corner is below the plane
 abbrev pub is_under : Plane → Meet → Bool
 is_under p m = is_negative (value_at p (spot_of m))
 
@@ -78,7 +79,7 @@ Enters p [] = ⊥
 Enters p (m ∷ []) = ⊥
 Enters p (m ∷ c ∷ ms) = (is_under p m ≡ false) × (is_under p c ≡ true)
 
--- begun at this index, the corners enter the plane's negative side, and so many are below it
+-- begun at this index, the corners enter the plane's negative side, and `below_count` are below it
 pub record EntersAt (p : Plane) (ms : List Meet) (first below_count : ℕ) : Type 0 where
   pub within : first < length ms
   pub enters : Enters p (drop first ms ++ take first ms)

@@ -28,6 +28,7 @@ mix p a b =
       w = value_at p b *ℤ a.w -ℤ value_at p a *ℤ b.w;
     }
 
+-- the point lies below the plane
 pub record IsBelow (p : Plane) (v : Spot) : Type 0 where
   pub under : value_at p v <ℤ pos 0
 
@@ -48,6 +49,7 @@ IsSideChain n g (s ∷ xs) =
     IsCornerOf n g s × AllByRecursion (λ t. IsBelow g t.corner) xs ×
     AllByRecursion (λ t. IsBelow t.plane s.corner) xs × IsSideChain n s.plane xs
 
+-- the list isn't empty
 abbrev pub Long : List Side → Type 0
 Long [] = ⊥
 Long (s ∷ xs) = Unit {0}
@@ -63,6 +65,7 @@ abbrev pub EndsAt : Plane → Plane → List Side → Side → Type 0
 EndsAt n g [] t = IsCornerOf n g t
 EndsAt n g (s ∷ xs) t = IsBelow g t.corner × EndsAt n s.plane xs t
 
+-- the point lies below the plane or on it
 pub record IsNotAbove (p : Plane) (v : Spot) : Type 0 where
   pub at_most : value_at p v ≤ℤ pos 0
 
@@ -72,6 +75,7 @@ pub record IsInsideRing (n : Plane) (xs : List Side) (v : Spot) : Type 0 where
   pub weight : pos 0 <ℤ v.w
   pub within : AllByRecursion (λ s. IsBelow s.plane v) xs
 
+-- the points of the ring with its edges
 pub record IsInClosedRing (n : Plane) (xs : List Side) (v : Spot) : Type 0 where
   pub flat : value_at n v ≡ pos 0
   pub weight : pos 0 <ℤ v.w
@@ -81,18 +85,19 @@ pub record IsInClosedRing (n : Plane) (xs : List Side) (v : Spot) : Type 0 where
 pub record IsNotHigher (p : Plane) (v s : Spot) : Type 0 where
   pub not_above : (value_at p v *ℤ s.w) ≤ℤ (value_at p s *ℤ v.w)
 
--- the face of a ring: its plane and all the planes that have cut it, oldest first
+-- the face of a ring: its plane and all the planes that have cut it, in order of their index
 pub record InFace (n : Plane) (gs : List Plane) (v : Spot) : Type 0 where
   pub flat : value_at n v ≡ pos 0
   pub weight : pos 0 <ℤ v.w
   pub within : AllByRecursion (λ g. IsBelow g v) gs
 
+-- the closed face
 pub record InClosedFace (n : Plane) (gs : List Plane) (v : Spot) : Type 0 where
   pub flat : value_at n v ≡ pos 0
   pub weight : pos 0 <ℤ v.w
   pub within : AllByRecursion (λ g. IsNotAbove g v) gs
 
--- the side's plane stands in the list at its plane index
+-- the side's plane is in the list at its plane index
 pub record IsInPlanes (gs : List Plane) (s : Side) : Type 0 where
   pub index : s.plane_index < length gs
   pub here : get_or gs s.plane_index s.plane ≡ s.plane
@@ -118,17 +123,21 @@ with_start f y = record f { corner = y }
 abbrev pub closing_side : Plane → Spot → ℕ → Side
 closing_side p y b = record { plane = p; corner = y; plane_index = b }
 
+-- the point lies above the plane
 pub record IsAbove (p : Plane) (v : Spot) : Type 0 where
   pub over : pos 0 <ℤ value_at p v
 
+-- the point lies on the plane
 pub record IsOnPlane (p : Plane) (v : Spot) : Type 0 where
   pub on_plane : value_at p v ≡ pos 0
 
+-- the point lies above the plane or on it
 pub record IsNotBelow (p : Plane) (v : Spot) : Type 0 where
   pub at_least : pos 0 ≤ℤ value_at p v
 
 -- ---- edges
--- the plane whose value_at grows along the edge of g, counter-clockwise seen from the front of n
+-- a plane across the edge of g: its value grows in the direction of this edge, counter-clockwise seen from the front
+-- of n
 abbrev pub along : Plane → Plane → Plane
 along n g =
     record { a = n.b *ℤ g.c -ℤ n.c *ℤ g.b; b = n.c *ℤ g.a -ℤ n.a *ℤ g.c; c = n.a *ℤ g.b -ℤ n.b *ℤ g.a; d = pos 0 }

@@ -11,13 +11,14 @@ use Rattle.ember_point.specs.declared.meet_point.Meet.{Meet}
 use Rattle.ember_point.specs.Points.{spot_of}
 use Rattle.ember_poly.specs.Rings.{Side, IsInClosedRing, Represents}
 
+-- the sides of three lists: edge planes, start corners and indices
 abbrev pub sides_of : List Plane → List Meet → List ℕ → List Side
 sides_of [] ms bs = []
 sides_of (e ∷ es) [] bs = []
 sides_of (e ∷ es) (m ∷ ms) [] = []
 sides_of (e ∷ es) (m ∷ ms) (b ∷ bs) = record { plane = e; corner = spot_of m; plane_index = b } ∷ sides_of es ms bs
 
--- the first side's plane came first
+-- the first side's plane has the lowest index
 abbrev pub FirstPlaneFirst : List Side → Type 0
 FirstPlaneFirst [] = Unit {0}
 FirstPlaneFirst (s ∷ xs) = AllByRecursion (λ r. s.plane_index ≤ r.plane_index) xs

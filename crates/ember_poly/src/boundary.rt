@@ -9,8 +9,8 @@ use ember_model::{OutOfMemory, Plane};
 use ember_point::Meet;
 use std::alloc::{AllocError, Global};
 
-/// The planes whose edges count, in their order round the face, with the corner where each edge
-/// starts and its index among all planes of the face.
+/// The sides of a ring, in order around the face: for each edge that counts its plane, the corner
+/// at which it starts, and the index of its plane among all planes of the face.
 #[derive(Drop)]
 pub struct Boundary {
     pub edges: Vec<Plane>,
@@ -99,7 +99,7 @@ impl Boundary {
         })
     }
 
-    // Begins the sides at another index.
+    // Lets the sides begin at another index.
     fn rotate(&mut self, index: usize)
         requires index { index ≤ length self.old.edges.items }
         requires paired { HasEqualLengths self.old }
@@ -144,8 +144,8 @@ impl Boundary {
         Ok(())
     }
 
-    // Leaves the sides below the plane, from the entry to the exit, and puts the closing side behind
-    // them.
+    // Keeps the edges below the plane, from the entry to the exit, and appends the edge along the
+    // cut. Afterwards the boundary may begin at any of its edges.
     pub fn close(
         &mut self,
         at: &Passage,
@@ -177,7 +177,7 @@ impl Boundary {
         }
     }
 
-    // Begins the sides at the oldest.
+    // Lets the sides begin at the oldest: the one whose plane has the lowest index.
     pub fn rotate_to_oldest(&mut self)
         requires some { 0 < length self.old.edges.items }
         requires paired { HasEqualLengths self.old }

@@ -47,7 +47,8 @@ fn below(r: Ring, p: &Plane) -> Result<Ring, OutOfMemory>
     Ok(low)
 }
 
-/// The part above a plane that has inside points of the ring on both sides: it has the opposite plane.
+/// The part above a plane that has inside points of the ring on both sides: it has the opposite
+/// plane.
 pub fn above(r: Ring, p: &Plane) -> Result<Ring, OutOfMemory>
     requires plane { IsValidPlane p.now }
     requires cuts { Cuts r p.now }
@@ -69,7 +70,7 @@ pub fn parts(alloc: Global, r: Ring, plane: &Plane) -> Result<(Ring, Ring), OutO
 }
 
 /// Cuts a ring by a plane: the part below has the plane as one more edge plane, the part above
-/// has its opposite.
+/// has its opposite. Only tests call this.
 pub fn cut(alloc: Global, r: &Ring, p: &Plane) -> Result<Cut, OutOfMemory>
     requires { IsValidPlane p.now }
     ensures { IfOk result (λ c. IsCut r.now p.now c) }

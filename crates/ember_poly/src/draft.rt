@@ -24,7 +24,7 @@ pub struct Draft {
     boundary: Boundary,
 }
 
-// Puts other items into a list.
+// Replaces all items of a list.
 fn refill<T: Copy>(list: &mut Vec<T>, items: &[T]) -> Result<(), AllocError>
     ensures { OnOk result (list.new.items ≡ items.now) }
 {
@@ -64,7 +64,7 @@ impl Draft {
         }
     }
 
-    /// Begins with the face of a triangle that has this support plane and these edge planes.
+    /// Replaces the face by that of a triangle, which has this support plane and these edge planes.
     pub fn begin(&mut self, t: &Tri, support: &Plane, edges: &[Plane]) -> Result<(), OutOfMemory>
         requires tri { IsValidTri t.now }
         requires normal { is_flat t.now ≡ false }
@@ -99,8 +99,9 @@ impl Draft {
         Ok(())
     }
 
-    /// Keeps what a plane leaves of the face: the part below it if inside points are on both
-    /// sides, otherwise all of it. Returns which of these it is.
+    /// Cuts the part above a plane off, if inside points of the face are on both sides of it.
+    /// Otherwise the face stays unchanged, even if all of it is above: then the caller drops it.
+    /// Returns on which sides of the plane the inside points were.
     pub fn clip(&mut self, plane: &Plane) -> Result<Reach, OutOfMemory>
         requires plane { IsValidPlane plane.now }
         requires ring { HoldsRing self.old }

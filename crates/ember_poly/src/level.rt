@@ -1,4 +1,4 @@
-// Where planes meet a plane along an axis, in small numbers.
+// Where planes meet a plane across an axis, in small numbers.
 ghost use Rattle.std.specs.Prelude.{◌≡◌, ◌<ℤ◌, ◌*ℤ◌, ◌-ℤ◌, pos, IfSome};
 ghost use Rattle.ember_algebra.specs.Size.{Small};
 ghost use Rattle.ember_model.specs.Valid.{IsValidPlane};
@@ -8,7 +8,8 @@ ghost use Rattle.ember_poly.specs.Levels.{FacesAt, IsLevel, line_a, line_b, line
 use ember_model::{Axis, Plane};
 use ember_point::Meet;
 
-// A plane whose points have this coordinate along an axis, with its front up or down.
+// A plane across an axis: its points have the coordinate `at` along it. Its front points up the
+// axis, or down.
 #[derive(Clone, Copy)]
 pub struct Level {
     pub axis: Axis,
@@ -29,7 +30,8 @@ struct Line {
     ghost small_d: { Small 1099511627775 d },
 }
 
-// The level plane with this entry along the axis and this constant, if its numbers are small.
+// The level with the entry `n` along the axis and the constant `d`, if `n` is 1 or -1 and `d` at
+// most 2048 in size.
 fn level_along(axis: Axis, n: i64, d: i64) -> Option<Level>
     ensures { IfSome result (λ l. (l.axis ≡ axis) × FacesAt l.is_up l.at n d) }
 {
@@ -52,7 +54,7 @@ fn level_along(axis: Axis, n: i64, d: i64) -> Option<Level>
     }
 }
 
-// The plane as a level, if it is one with small numbers.
+// The plane as a level, if it lies across an axis and has small numbers.
 pub fn level_of(p: &Plane) -> Option<Level>
     ensures { IfSome result (λ l. IsLevel l.axis l.at l.is_up p.now) }
 {
@@ -78,6 +80,7 @@ fn constant_at(d: i64, n: i64, at: i64) -> i64
     d - n * at
 }
 
+// The line in which the plane meets the level.
 fn line_of(p: &Plane, level: &Level) -> Line
     requires { IsValidPlane p.now }
     ensures a { result.a ≡ line_a level.now.axis p.now }
@@ -103,6 +106,7 @@ fn line_of(p: &Plane, level: &Level) -> Line
     }
 }
 
+// Positive if the line `g` turns to `h` counter-clockwise. The bound is 2 * 33554431^2.
 fn turn(g: &Line, h: &Line) -> i64
     ensures value { result ≡ g.now.a *ℤ h.now.b -ℤ g.now.b *ℤ h.now.a }
     ensures small { Small 2251799679467522 result }
@@ -110,6 +114,7 @@ fn turn(g: &Line, h: &Line) -> i64
     g.a * h.b - g.b * h.a
 }
 
+// The determinant `a d - b c`. Its bound is 2 * (2^40 - 1) * 33554431.
 fn minor(a: i64, b: i64, c: i64, d: i64) -> i128
     requires a { Small 1099511627775 a }
     requires b { Small 33554431 b }
@@ -121,6 +126,8 @@ fn minor(a: i64, b: i64, c: i64, d: i64) -> i128
     a as i128 * d as i128 - b as i128 * c as i128
 }
 
+// The level's coordinate times a weight. The bounds are 2 * 33554431^2 for the weight, and 2048
+// times that.
 fn coordinate_at(at: i64, w: i64) -> i64
     requires at { Small 2048 at }
     requires w { Small 2251799679467522 w }
@@ -130,7 +137,8 @@ fn coordinate_at(at: i64, w: i64) -> i64
     at * w
 }
 
-// The point with the coordinate t along the axis, and u and v along the next two.
+// The point with the coordinate `t` along the axis, and `u` and `v` along the next two, all over
+// the weight `w`. The bounds are those of `coordinate_at`, `minor` and `turn`.
 fn point_along(axis: Axis, t: i64, u: i128, v: i128, w: i64) -> Meet
     requires t { Small 4611685743549485056 t }
     requires u { Small 73786974095747842050 u }
@@ -163,7 +171,8 @@ fn point_along(axis: Axis, t: i64, u: i128, v: i128, w: i64) -> Meet
     }
 }
 
-// The point of the level on two planes whose lines turn counter-clockwise.
+// The point of two planes and the level, in which the line of `p` turns to that of `q`
+// counter-clockwise.
 pub fn level_point(p: &Plane, q: &Plane, level: &Level) -> Meet
     requires valid_p { IsValidPlane p.now }
     requires valid_q { IsValidPlane q.now }

@@ -51,6 +51,7 @@ fn chord_part_of(y: Sign, z: Sign) -> ChordPart
     }
 }
 
+// Whether the point lies above the plane.
 fn is_above(h: &Plane, m: &Meet) -> bool
     requires { IsValidPlane h.now }
     ensures { result ≡ is_positive (value_at h.now (spot_of m.now)) }
@@ -58,6 +59,7 @@ fn is_above(h: &Plane, m: &Meet) -> bool
     side(h, m) == Sign::Pos
 }
 
+// Whether the point lies above none of the planes.
 fn none_above(hs: &[Plane], m: &Meet) -> bool
     requires { All IsValidPlane hs.now }
     ensures { result ≡ none_positive hs.now (spot_of m.now) }
@@ -70,7 +72,8 @@ fn none_above(hs: &[Plane], m: &Meet) -> bool
     true
 }
 
-// No plane is positive where the planes n, p and h meet.
+// Whether the planes `n`, `p` and `h` meet in one point, and it is above none of the planes of the
+// list.
 fn has_vertex_within(n: &Plane, p: &Plane, h: &Plane, hs: &[Plane]) -> bool
     requires valid_n { IsValidPlane n.now }
     requires valid_p { IsValidPlane p.now }
@@ -84,7 +87,7 @@ fn has_vertex_within(n: &Plane, p: &Plane, h: &Plane, hs: &[Plane]) -> bool
     }
 }
 
-// Some point between the chord's two ends is above no plane of the list.
+// Whether some point between the chord's two ends is above none of the planes of the list.
 fn meets_chord(n: &Plane, p: &Plane, y: &Meet, z: &Meet, hs: &[Plane]) -> bool
     requires valid_n { IsValidPlane n.now }
     requires valid_p { IsValidPlane p.now }
@@ -110,7 +113,8 @@ fn meets_chord(n: &Plane, p: &Plane, y: &Meet, z: &Meet, hs: &[Plane]) -> bool
     free
 }
 
-// How a ring lies to a plane: on one side, on it, or along a chord between two points.
+// How a ring lies relative to a plane: on one side, in it, or cut by it along a chord between two
+// points.
 #[derive(Clone, Copy)]
 enum Crossing {
     Below,
@@ -119,6 +123,7 @@ enum Crossing {
     Along(Meet, Meet),
 }
 
+// How the ring lies relative to the plane.
 fn cross(r: &Ring, p: &Plane) -> Crossing
     requires { IsValidPlane p.now }
     ensures { IsCrossing r.now p.now result }
@@ -130,12 +135,13 @@ fn cross(r: &Ring, p: &Plane) -> Crossing
         Reach::On => Crossing::On,
         Reach::Both => {
             let at = find_passage(&r.support, &r.boundary, p, &entry);
+            // from the exit to the entry, as the edge that closes the part below
             Crossing::Along(at.exit, at.entry)
         }
     }
 }
 
-// Some inside point is above no plane of the list, by the chords in which planes cut the ring.
+// Whether some inside point is above none of the planes, by the chords in which they cut the ring.
 fn meets_by_chords(r: &Ring, hs: &[Plane]) -> bool
     requires planes { All IsValidPlane hs.now }
     requires inside { HasInside r.now }
@@ -161,18 +167,20 @@ fn meets_by_chords(r: &Ring, hs: &[Plane]) -> bool
     free
 }
 
-// What the sides of planes on which a ring lies show of its inside points above none of them.
+// Whether the ring has an inside point above none of some planes, as far as its reach to each of
+// them shows.
 #[derive(Clone, Copy)]
 enum Overlap {
-    // The ring lies above a plane: there is none.
+    // It has none: it lies above one of the planes.
     Apart,
-    // At most one plane cuts the ring, and it lies above none: there is one.
+    // It has one: at most one plane cuts the ring, and it lies above none of them.
     Met,
-    // They show neither.
+    // Not known.
     Unknown,
 }
 
-// What the sides of the planes show, by one pass over the corners for each plane. It computes no meet.
+// Whether the ring has an inside point above none of the planes, as far as one pass over the
+// corners for each plane shows. It computes no meet.
 fn overlap_of(r: &Ring, hs: &[Plane]) -> Overlap
     requires planes { All IsValidPlane hs.now }
     requires inside { HasInside r.now }
@@ -200,7 +208,7 @@ fn overlap_of(r: &Ring, hs: &[Plane]) -> Overlap
     }
 }
 
-/// Some inside point of the ring is above none of the planes.
+/// Whether some inside point of the ring is above none of the planes.
 pub fn meets_within(r: &Ring, hs: &[Plane]) -> bool
     requires planes { All IsValidPlane hs.now }
     requires inside { HasInside r.now }
@@ -213,7 +221,8 @@ pub fn meets_within(r: &Ring, hs: &[Plane]) -> bool
     }
 }
 
-/// Some inside point of the ring lies in the closed face of a support plane and edge planes.
+/// Whether some inside point of the ring lies in the closed face of a support plane and edge
+/// planes.
 pub fn meets_face(r: &Ring, support: &Plane, edges: &[Plane]) -> bool
     requires support { IsValidPlane support.now }
     requires edges { All IsValidPlane edges.now }
@@ -227,6 +236,7 @@ pub fn meets_face(r: &Ring, support: &Plane, edges: &[Plane]) -> bool
     }
 }
 
+// The value of the plane at the corner.
 fn height(p: &Plane, u: &Corner) -> i64
     requires plane { IsValidPlane p.now }
     requires corner { IsValidCorner u.now }
@@ -236,19 +246,21 @@ fn height(p: &Plane, u: &Corner) -> i64
     p.a * u.x as i64 + p.b * u.y as i64 + p.c * u.z as i64 - p.d
 }
 
+// `true` only if all three values are positive.
 fn are_above(a: i64, b: i64, c: i64) -> bool
     ensures { IsTrue result → (pos 0 <ℤ a) × (pos 0 <ℤ b) × (pos 0 <ℤ c) }
 {
     a > 0 && (b > 0 && c > 0)
 }
 
+// `true` only if all three values are negative.
 fn are_below(a: i64, b: i64, c: i64) -> bool
     ensures { IsTrue result → (a <ℤ pos 0) × (b <ℤ pos 0) × (c <ℤ pos 0) }
 {
     a < 0 && (b < 0 && c < 0)
 }
 
-// The triangle lies strictly on one side of the plane.
+// `true` only if the triangle lies strictly on one side of the plane; `false` shows nothing.
 fn is_on_one_side(p: &Plane, t: &Tri) -> bool
     requires plane { IsValidPlane p.now }
     requires tri { IsValidTri t.now }
@@ -260,7 +272,7 @@ fn is_on_one_side(p: &Plane, t: &Tri) -> bool
     are_above(a, b, c) || are_below(a, b, c)
 }
 
-/// Some inside point of the ring lies in the closed face of the triangle.
+/// Whether some inside point of the ring lies in the closed face of the triangle.
 pub fn meets(r: &Ring, t: &Tri) -> bool
     requires tri { IsValidTri t.now }
     requires normal { is_flat t.now ≡ false }

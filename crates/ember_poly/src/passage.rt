@@ -19,19 +19,21 @@ use ember_algebra::{Sign, sign_of};
 use ember_model::{Axis, Plane};
 use ember_point::{Meet, meet, side};
 
-// On which sides of a plane a ring's corners lie. If they lie on both, also where the boundary comes
-// below the plane, and for how many corners.
+// On which sides of a plane a ring's corners lie. If they lie on both, also where the boundary
+// passes below the plane, and for how many corners.
 #[derive(Clone, Copy)]
 pub struct Classification {
     pub reach: Reach,
-    // The index of the last corner before those below the plane. On its edge the boundary comes below.
+    // The index of the last corner before those below the plane. On its edge the boundary passes
+    // below.
     pub first: usize,
     // How many corners after it lie below the plane.
     pub below_count: usize,
 }
 
-// Where a plane cuts a ring: the edge on which the boundary comes below the plane, by its index,
-// the number of corners below the plane, and the ends of the chord.
+// Where a plane cuts a ring: the edge on which the boundary passes below the plane, by its index
+// `first`, the number of corners below the plane, and the ends of the chord. The boundary passes
+// below the plane at `entry`, and back at `exit`.
 #[derive(Clone, Copy)]
 pub struct Passage {
     pub first: usize,
@@ -40,7 +42,7 @@ pub struct Passage {
     pub exit: Meet,
 }
 
-// The axis along which the plane's normal lies, if it lies along one.
+// The axis across which the plane lies, if there is one: its normal has no entry along the others.
 fn axis_of(p: &Plane) -> Option<Axis>
     ensures { IfSome result (λ k. IsAlong k p.now) }
 {
@@ -55,7 +57,8 @@ fn axis_of(p: &Plane) -> Option<Axis>
     }
 }
 
-// The side of a plane along an axis, by its entry there and its constant, on which a point lies.
+// Which side of a plane across an axis a point is on. `a` is the plane's entry along the axis and
+// `d` its constant; `x` is the point's coordinate along the axis and `w` its weight.
 #[inline]
 fn side_by(a: i64, d: i64, x: i128, w: i128) -> Sign
     requires a { Small 33554431 a }
@@ -67,6 +70,7 @@ fn side_by(a: i64, d: i64, x: i128, w: i128) -> Sign
     sign_of(a as i128 * x - d as i128 * w)
 }
 
+// The side of a plane across this axis on which the point lies.
 #[inline]
 fn side_on(p: &Plane, axis: Axis, m: &Meet) -> Sign
     requires plane { IsValidPlane p.now }
@@ -80,7 +84,8 @@ fn side_on(p: &Plane, axis: Axis, m: &Meet) -> Sign
     }
 }
 
-// The side of the plane on which the point lies.
+// The side of the plane on which the point lies. The axis is one that the plane lies across, or
+// none.
 #[inline]
 fn side_along(p: &Plane, axis: Option<Axis>, m: &Meet) -> Sign
     requires plane { IsValidPlane p.now }
@@ -93,6 +98,7 @@ fn side_along(p: &Plane, axis: Option<Axis>, m: &Meet) -> Sign
     }
 }
 
+// Whether the point lies above the plane.
 fn is_above(p: &Plane, axis: Option<Axis>, m: &Meet) -> bool
     requires plane { IsValidPlane p.now }
     requires axis { IfSome axis (λ k. IsAlong k p.now) }
@@ -101,8 +107,8 @@ fn is_above(p: &Plane, axis: Option<Axis>, m: &Meet) -> bool
     side_along(p, axis, m) == Sign::Pos
 }
 
-// Length of the leading run of corners below the plane (the first `known` are known to be), and whether the
-// next corner is above it.
+// Length of the leading run of corners below the plane (the first `known` are known to be), and
+// whether the next corner is above it.
 #[inline(always)]
 fn count_below(p: &Plane, axis: Option<Axis>, corners: &[Meet], known: usize) -> (usize, bool)
     requires plane { IsValidPlane p.now }
@@ -121,8 +127,8 @@ fn count_below(p: &Plane, axis: Option<Axis>, corners: &[Meet], known: usize) ->
     (corners.len(), false)
 }
 
-// Length of the leading run of corners not below the plane, and whether one of them is above it. The first
-// corner isn't below; `first` says whether it is above.
+// Length of the leading run of corners not below the plane, and whether one of them is above it.
+// The first corner isn't below; `first` says whether it is above.
 fn count_not_below(p: &Plane, axis: Option<Axis>, corners: &[Meet], first: bool) -> (usize, bool)
     requires plane { IsValidPlane p.now }
     requires axis { IfSome axis (λ k. IsAlong k p.now) }
@@ -140,7 +146,8 @@ fn count_not_below(p: &Plane, axis: Option<Axis>, corners: &[Meet], first: bool)
     (corners.len(), high)
 }
 
-// Whether a corner of the ring is above the plane: one that is already known to be, or one of these.
+// Whether a corner of the ring is above the plane: one that is already known to be, or one of
+// these.
 fn is_some_above(p: &Plane, axis: Option<Axis>, corners: &[Meet], known: bool) -> bool
     requires plane { IsValidPlane p.now }
     requires axis { IfSome axis (λ k. IsAlong k p.now) }
@@ -158,7 +165,8 @@ fn is_some_above(p: &Plane, axis: Option<Axis>, corners: &[Meet], known: bool) -
     false
 }
 
-// The reach of a ring with this many corners below a plane, known so far, and with corners above it or none.
+// The reach of a ring. `low` is how many of its corners are known to be below a plane, 0 only if
+// none is; `high` is whether some corner is above it.
 fn reach_by(low: usize, high: bool) -> Reach
     ensures { (p : Plane) (ms : List Meet) → AreClassified p low high ms → AreSigns p ms result }
 {
@@ -171,10 +179,10 @@ fn reach_by(low: usize, high: bool) -> Reach
     }
 }
 
-// Sorts the corners by their sides of the plane, and computes each side once. The ring is convex, so its
-// corners form one run below the plane and one run not below it. Seen from the first corner, either
-// may be in two parts: `leading` corners below, `rising` ones that aren't, `falling` ones below again, and
-// others that aren't. `turn` is the index of the first falling corner.
+// Classifies the corners by their sides of the plane, and computes each side once. The ring is
+// convex, so its corners form one run below the plane and one run not below it. Seen from the first
+// corner, either may be in two parts: `leading` corners below, `rising` ones that aren't, `falling`
+// ones below again, and others that aren't. `turn` is the index of the first falling corner.
 pub fn classify(plane: &Plane, corners: &[Meet]) -> Classification
     requires { IsValidPlane plane.now }
     ensures signs { AreSigns plane.now corners.now result.reach }
@@ -204,7 +212,8 @@ pub fn classify(plane: &Plane, corners: &[Meet]) -> Classification
     }
 }
 
-// The index of the corner that is `count` corners ahead of another, round the ring.
+// The index of the corner that is `count` corners after the one with the index `first`, around the
+// ring.
 fn ahead(first: usize, count: usize, len: usize) -> usize
     requires first { first < len }
     requires count { count < len }
@@ -219,7 +228,8 @@ fn ahead(first: usize, count: usize, len: usize) -> usize
     }
 }
 
-// The point of three planes that turn counter-clockwise. If the third is a level, small numbers suffice.
+// The point of three planes whose normals have a positive determinant. If the third is a level,
+// small numbers suffice.
 fn point_of(p: &Plane, q: &Plane, r: &Plane, level: Option<Level>) -> Meet
     requires valid_p { IsValidPlane p.now }
     requires valid_q { IsValidPlane q.now }

@@ -1,4 +1,4 @@
-// How a ring lies to a plane.
+// How a ring lies relative to a plane.
 use crate::ring::Ring;
 
 /// On which sides of a plane the inside points of a ring lie.

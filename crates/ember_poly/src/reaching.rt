@@ -13,7 +13,7 @@ use ember_algebra::Sign;
 use ember_model::Plane;
 use ember_point::{Meet, side};
 
-// With one more corner, on this side.
+// The reach of corners that have the reach `seen` and of one more, on the side `at`.
 fn with_corner(seen: Reach, at: Sign) -> Reach
     ensures { (p : Plane) (ms : List Meet) (m : Meet) → AreSigns p ms seen → at ≡ sgn (value_at p (spot_of m)) →
         AreSigns p (ms ++ m ∷ []) result }
@@ -35,7 +35,7 @@ fn with_corner(seen: Reach, at: Sign) -> Reach
     }
 }
 
-// The signs of the plane at the corners.
+// On which sides of the plane the corners are.
 fn signs_of(p: &Plane, corners: &[Meet]) -> Reach
     requires { IsValidPlane p.now }
     ensures { AreSigns p.now corners.now result }

@@ -19,7 +19,8 @@ use std::marker::Model;
 #[derive(Drop)]
 pub struct Ring {
     pub(crate) support: Plane,
-    // All edge planes of the face, the earliest first.
+    // All edge planes of the face in the order in which they were added, those of its triangle
+    // first.
     pub(crate) planes: Vec<Plane>,
     pub(crate) boundary: Boundary,
 }
@@ -36,7 +37,7 @@ impl Model for Ring {
         r.boundary.edges.items r.boundary.corners.items r.boundary.plane_indices.items };
 }
 
-// For how many cuts a ring has room at first.
+// Room for this many cuts is reserved in a new ring.
 const ROOM: usize = 6;
 
 // The corner as a point with the weight 1.
@@ -52,13 +53,14 @@ pub fn at_corner(c: &Corner) -> Meet
     }
 }
 
+// Whether the plane's normal is zero.
 fn has_no_normal(p: &Plane) -> bool
     ensures { result ≡ is_zero p.now.a && (is_zero p.now.b && is_zero p.now.c) }
 {
     p.a == 0 && (p.b == 0 && p.c == 0)
 }
 
-/// The edge planes of a triangle with this support plane, along its main axis.
+/// The edge planes of a triangle with this support plane, parallel to its main axis.
 pub fn main_edges(t: &Tri, support: &Plane) -> [Plane; 3]
     requires tri { IsValidTri t.now }
     requires support { support.now ≡ support_of t.now }
@@ -120,8 +122,8 @@ pub fn support(r: &Ring) -> Plane
     r.support
 }
 
-/// The edge planes whose edges count, counter-clockwise seen from the front, the earliest plane
-/// first.
+/// The edge planes whose edges count, counter-clockwise seen from the front. The first is the one
+/// of lowest index.
 pub fn edges(r: &Ring) -> &[Plane]
     ensures { AreEdges r.now result.now }
 {
@@ -135,7 +137,8 @@ pub fn corners(r: &Ring) -> &[Meet]
     &r.boundary.corners
 }
 
-/// The edges that count, in order round the face, and the corners at which they start.
+/// The edge planes whose edges count, in order around the face, and the corners at which these
+/// edges start.
 pub fn outline(r: &Ring) -> (&[Plane], &[Meet])
     ensures outline { IsOutline r.now (ring_edges result.0.now result.1.now) }
     ensures paired { length result.1.now ≡ length result.0.now }

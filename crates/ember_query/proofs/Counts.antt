@@ -7,13 +7,14 @@ use Rattle.ember_job.specs.declared.job.Job.{Job}
 use Rattle.ember_step.specs.Counts.{IsCount}
 use Rattle.ember_job.specs.Items.{EachAnswers}
 
--- lists that answer the jobs, and have so many items each
+-- lists that answer the jobs, and have these numbers of items
 pub record AreCounted {X : Type 0} (item : Job → List X → Type 0) (jobs : List Job) (counts : List ℕ) : Type 0 where
   pub items : List (List X)
   pub answer : EachAnswers item jobs items
   pub lengths : counts ≡ map length items
 
 module _ {X : Type 0} (item : Job → List X → Type 0) where
+  -- numbers that count the items of jobs are the lengths of lists that answer the jobs
   pub are_counted : (jobs : List Job) (counts : List ℕ) → EachAnswers (λ job n. IsCount (item job) n) jobs counts → AreCounted item jobs counts
   are_counted [] [] a = record { items = []; answer = tt; lengths = refl }
   are_counted [] (n ∷ ns) a = absurd a

@@ -58,6 +58,7 @@ sum_same shape root journals holds f h e =
     let b = sum_weighs f (weigh h) e (entries shape root ∷ []) in
     let c = holds h in omega (arith, a, b, c)
 
+-- the report of the journals is that of the visited boxes
 pub same_report : (shape : Job → Shape) (root : Job) (journals : List (List Entry)) (faces : ℕ) → HoldEntries shape root journals → report_from journals faces ≡ run_report shape root faces
 same_report shape root journals faces holds =
     let b = sum_same shape root journals holds length (λ x. 1) length_weighs in
@@ -65,6 +66,7 @@ same_report shape root journals faces holds =
     let s = sum_same shape root journals holds (count_by is_skipped) (λ x. cond (is_skipped x) 1 0) (count_weighs is_skipped) in
     λ i. record { boxes = b i; leaves = l i; skipped = s i; faces = faces }
 
+-- the number of all entries fits into 64 bits
 pub entries_fit : (shape : Job → Shape) (root : Job) (journals : List (List Entry)) → root.cell ≡ boxes.root → HoldEntries shape root journals → sum_by length journals < 2 ^ 64
 entries_fit shape root journals e holds =
     let b = sum_same shape root journals holds length (λ x. 1) length_weighs in
@@ -77,5 +79,6 @@ weigh_more : (h : Entry → ℕ) (journals : List (List Entry)) → weigh (weigh
 weigh_more h [] = refl
 weigh_more h (j ∷ js) = ap (λ (n : ℕ). weigh h j + n) (weigh_more h js)
 
+-- an empty journal of the caller may be left out
 pub holds_alone : (shape : Job → Shape) (root : Job) (journals : List (List Entry)) → HoldEntries shape root (journals ++ [] ∷ []) → HoldEntries shape root journals
 holds_alone shape root journals holds h = sym (weigh_more h journals) ∙ holds h

@@ -38,6 +38,7 @@ abbrev pub VisitedWriteAll : List Tri → Formula → Type 0
 VisitedWriteAll tris formula =
     (kept : List Kept) → Each (IsWrittenAt tris formula) (leaves (shape tris formula) (root_job tris)) kept → IsWritten tris formula kept
 
+-- the counts of the leaves give the solid's report
 pub is_solid_report : (tris : List Tri) (formula : Formula) (counts : List ℕ) (journals : List (List Entry)) (faces : ℕ) (report : Report) → VisitedWriteAll tris formula → AreRegionCounts tris formula counts → HoldRun tris formula journals → report ≡ report_from journals faces → faces ≡ sum counts → IsSolidReport tris formula report
 is_solid_report tris formula counts journals faces report law are holds e f =
     let jobs = leaves (shape tris formula) (root_job tris) in
@@ -58,11 +59,13 @@ scene_solid tris formula text journals faces report holds e f is = record {
   report_is = of_run tris formula journals faces (length is.kept) report holds e (f ∙ is.text_of.count ∙ length-map is.kept written_face);
 }
 
+-- the texts of the leaves give the solid's document
 pub solid_text_of : (tris : List Tri) (formula : Formula) (texts : List CountedText) (journals : List (List Entry)) (faces : ℕ) (report : Report) (bytes : List ℕ) → LeafTextsJoin tris formula → AreLeafTexts tris formula texts → HoldRun tris formula journals → report ≡ report_from journals faces → faces ≡ (joined texts).count → ((fs : List Face) → IsTextOf fs (joined texts) → IsDocumentText fs bytes) → IsSolidText tris formula bytes
 solid_text_of tris formula texts journals faces report bytes law are holds e f file =
     let is = law texts are in
     record { kept = is.kept; report = report; solid = scene_solid tris formula (joined texts) journals faces report holds e f is; text = file (map written_face is.kept) is.text_of }
 
+-- and its report
 pub solid_report_of : (tris : List Tri) (formula : Formula) (texts : List CountedText) (journals : List (List Entry)) (faces : ℕ) (report : Report) → LeafTextsJoin tris formula → AreLeafTexts tris formula texts → HoldRun tris formula journals → report ≡ report_from journals faces → faces ≡ (joined texts).count → IsSolidReport tris formula report
 solid_report_of tris formula texts journals faces report law are holds e f =
     let is = law texts are in record { kept = is.kept; solid = scene_solid tris formula (joined texts) journals faces report holds e f is }

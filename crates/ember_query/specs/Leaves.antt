@@ -1,4 +1,4 @@
--- What the leaves of the tree of boxes give: pairs, boxes of one value, numbers of written regions
+-- The items of the leaves of the tree of boxes: pairs, boxes of one value, numbers of written regions
 use Rattle.std.specs.Prelude.{ℕ, List}
 use Rattle.ember_box.specs.Near.{near}
 use Rattle.ember_expr.specs.Formula.{Formula}

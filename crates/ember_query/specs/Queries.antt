@@ -1,4 +1,4 @@
--- What the boxes of a scene are run for, what comes of it, and who runs them
+-- Queries, their answers, and who runs the boxes
 use Rattle.std.specs.Prelude.{◌≤◌, ⊤, ℕ, Result, IfOk}
 use Rattle.std.specs.Borrow.{Bor}
 use Rattle.std.specs.declared.alloc.AllocError.{AllocError}
@@ -18,7 +18,7 @@ IsQuery (query.Fills scene expr size) = (4 ≤ size) × (size ≤ 12)
 IsQuery (query.Texts scene expr) = ⊤
 IsQuery (query.Counts scene expr) = ⊤
 
--- this is what the query asks for
+-- this is the answer to the query; it is of the same kind
 abbrev pub IsAnswer : Query → Answer → Type 0
 IsAnswer (query.Pairs scene) (finds.Pairs items) = ArePairsOfLeaves scene.now.tris items.items
 IsAnswer (query.Fills scene expr size) (finds.Fills fills) =
@@ -31,14 +31,14 @@ IsAnswer (query.Counts scene expr) (finds.Counts found) =
     HoldRun scene.now.tris (formula_of expr.now) found.journals
 IsAnswer _ _ = ⊥
 
--- the call may be made at each query, and each Ok of it is what the query asks for
+-- the closure `call` may be called at each query, and each Ok of it is the answer
 pub record IsExecutor {C : Type 0} (pre : C → Bor Query → Type 0)
     (post : C → Bor Query → Result Answer AllocError → Type 0) (call : C) : Type 0 where
   pub runs : (query : Bor Query) → IsQuery query.now → pre call query
   pub answers_each : (query : Bor Query) (r : Result Answer AllocError) → IsQuery query.now → post call query r →
       IfOk r (IsAnswer query.now)
 
--- so it is with each number of workers, 1 to 64
+-- the same of a closure that is also given the number of workers, 1 to 64
 pub record IsExecutorOfAny {C : Type 0} (pre : C → ℕ → Bor Query → Type 0)
     (post : C → ℕ → Bor Query → Result Answer AllocError → Type 0) (call : C) : Type 0 where
   pub runs : (workers : ℕ) (query : Bor Query) → (1 ≤ workers) × (workers ≤ 64) → IsQuery query.now →

@@ -12,10 +12,11 @@ use Rattle.ember_report.specs.Reports.{report_from}
 abbrev pub entries : (Job → Shape) → Job → List Entry
 entries shape root = map (entry_of shape) (visited shape root)
 
--- the journals hold these entries, each as often, however they are weighed
+-- the entries of the journals are a permutation of those of the visited boxes: for every weight h, both lists have the
+-- same sum
 abbrev pub HoldEntries : (Job → Shape) → Job → List (List Entry) → Type 0
 HoldEntries shape root journals = (h : Entry → ℕ) → weigh (weigh h) journals ≡ weigh h (entries shape root)
 
--- the numbers of the visited boxes, and of the faces
+-- the report of the visited boxes and this number of faces
 abbrev pub run_report : (Job → Shape) → Job → ℕ → Report
 run_report shape root faces = report_from (entries shape root ∷ []) faces

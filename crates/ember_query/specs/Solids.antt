@@ -1,4 +1,4 @@
--- The written regions of a solid, and what is reported of its run
+-- The written regions of a solid, its report and its document
 use Rattle.std.specs.Prelude.{◌≡◌, ℕ, List, length, map}
 use Rattle.ember_expr.specs.Formula.{Formula}
 use Rattle.ember_job.specs.declared.job.Entry.{Entry}
@@ -11,16 +11,16 @@ use Rattle.ember_visit.specs.Jobs.{root_job}
 use Rattle.ember_visit.specs.Values.{shape}
 use Rattle.ember_query.specs.Runs.{HoldEntries, run_report}
 
--- the journals hold the boxes that are visited for the solid
+-- the journals have the boxes that are visited for the solid
 abbrev pub HoldRun : List Tri → Formula → List (List Entry) → Type 0
 HoldRun tris formula journals = HoldEntries (shape tris formula) (root_job tris) journals
 
--- the written regions of the scene, and the numbers of the run that wrote so many
+-- the written regions of the scene, and the report: the visited boxes, and the number of these regions
 pub record IsSolid (tris : List Tri) (formula : Formula) (kept : List Kept) (report : Report) : Type 0 where
   pub written : IsWritten tris formula kept
   pub report_is : report ≡ run_report (shape tris formula) (root_job tris) (length kept)
 
--- these are the numbers of the run that gives the solid
+-- this is the report of the solid
 pub record IsSolidReport (tris : List Tri) (formula : Formula) (report : Report) : Type 0 where
   pub kept : List Kept
   pub solid : IsSolid tris formula kept report

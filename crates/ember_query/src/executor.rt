@@ -1,4 +1,6 @@
-// Who runs the boxes: the calling thread alone, or several workers.
+// Who runs the boxes: the calling thread alone, or several workers. `run_alone` and `run_tree` of
+// steal_pool run them, and call the closure of the step for each box. `finds!` below writes these
+// closures: `text_step` and the like, where all geometry begins.
 ghost use Rattle.std.specs.Prelude.{◌≡◌, ◌≤◌, IfOk};
 ghost use Rattle.ember_box.specs.Boxes as boxes;
 ghost use Rattle.ember_job.specs.Visited.{leaves};
@@ -20,7 +22,8 @@ use std::sync::Wait;
 use std::thread::Threads;
 use steal_pool::{Gate, Harvest, merged_items_answer_the_leaves, run_alone, run_tree};
 
-// What the leaves below the root give, run by this thread alone.
+// The items of the leaves below the root, in the order of the tree. This thread alone runs the
+// boxes.
 fn results_alone<W: Work, F: Fn(&Job) -> Result<Outcome<W::Item>, OutOfMemory>, G: Gate>(
     alloc: Global,
     gate: &G,
@@ -39,12 +42,13 @@ where
     let harvest = run_alone(alloc, root, step, gate)?;
     let journals = harvest.journals;
     let items = merge(alloc, harvest.parts.into_vec())?;
+    // A law, which does nothing: the merged items answer the leaves in their order.
     merged_items_answer_the_leaves(&step.work);
     Ok(RunResult { items, journals })
 }
 
-// What the leaves below the root give, run by 1 to 64 workers. With one worker this thread runs all
-// boxes.
+// The items of the leaves below the root, in the order of the tree. 1 to 64 workers run the boxes.
+// If there is one, this thread runs all.
 fn results_by_workers<
     R: Threads + Wait + Sync,
     W: Work + Sync,
@@ -74,11 +78,13 @@ where
     let harvest = run_tree(rt, alloc, workers, root, step, gate)?;
     let journals = harvest.journals;
     let items = merge(alloc, harvest.parts.into_vec())?;
+    // A law, which does nothing: the merged items answer the leaves in their order.
     merged_items_answer_the_leaves(&step.work);
     Ok(RunResult { items, journals })
 }
 
-// What comes of a query, where `$found` runs the boxes below a root by a step.
+// The answer to a query. `$found` is the call that runs the boxes below the root `$root` by the
+// step `$step`: `results_alone` or `results_by_workers`.
 macro_rules! finds {
     ($alloc:ident, $query:ident, | $root:ident, $step:ident | $found:expr) => {
         match *$query {
@@ -118,7 +124,8 @@ macro_rules! finds {
     };
 }
 
-/// What comes of a query, where this thread alone runs the boxes. It calls the gate before each box.
+/// The answer to a query. This thread alone runs the boxes, and calls the gate before each. The
+/// only error is out-of-memory.
 pub fn alone<G: Gate>(alloc: Global, gate: &G, query: &Query) -> Result<Answer, OutOfMemory>
     requires { IsQuery query.now }
     ensures { IfOk result (IsAnswer query.now) }
@@ -130,8 +137,8 @@ pub fn alone<G: Gate>(alloc: Global, gate: &G, query: &Query) -> Result<Answer, 
     )
 }
 
-/// What comes of a query, where 1 to 64 workers run the boxes. Each calls the gate before each box.
-/// One worker is this thread: it makes no deque and starts no thread.
+/// The answer to a query. 1 to 64 workers run the boxes, and call the gate before each. One worker
+/// is this thread: it makes no deque and starts no thread. The only error is out-of-memory.
 pub fn by_workers<R: Threads + Wait + Sync, G: Gate + Sync>(
     rt: &R,
     alloc: Global,

@@ -1,6 +1,6 @@
-//! What the boxes of a scene are run for, and who runs them: queries, their answers, and the solid of
-//! an expression over a scene. An executor is a closure that answers each query, made of `alone` or
-//! `by_workers`.
+//! Queries about the leaves of a scene, their answers, and who runs the boxes: an *executor*, a
+//! closure that answers each query, made of `alone` or `by_workers`. Also the solid of an
+//! expression over a scene.
 #![tactic(auto)]
 
 mod executor;

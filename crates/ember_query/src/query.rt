@@ -1,6 +1,15 @@
-// What the boxes of a scene are run for, and what comes of it. The `executor` of a call here is a closure of its
-// caller. It runs the boxes by `by_workers` or `alone` of executor.rt; the macro `finds!` there takes the root's job
-// and the step of each query.
+// Queries and their answers.
+//
+// A command doesn't know who runs the boxes. It asks an `executor`, a closure from a query to its
+// answer, that it gets from `run` or `run_one` (top.rt of ember_run). They make the closure of
+// `by_workers` or `alone` (executor.rt). The macro `finds!` there takes the root's job and the step
+// of each query, and gives both to the pool. One closure answers queries of all four kinds, so it
+// packs its answer into the enum `Answer`. The functions here ask it and unpack the answer; by
+// `IsExecutor` the answer is of the query's kind, so `unreachable!` is proved never to run.
+//
+// It is a closure and not a trait, since the borrow checker doesn't accept the bounds `Sync` and
+// `Send`, which starting a thread needs, on a trait's method. See docs/DECISIONS.md, "The top
+// call".
 ghost use Rattle.std.specs.Prelude.{◌≤◌, IfOk};
 ghost use Rattle.ember_expr.specs.Formula.{formula_of};
 ghost use Rattle.ember_query.specs.Leaves.{AreFills, ArePairsOfLeaves, AreRegionCounts};
@@ -15,7 +24,7 @@ use ember_pairs::PairList;
 use ember_text::FacesText;
 use ember_voxel::Fill;
 
-/// What the boxes of a scene are run for.
+/// What is asked of the leaves of a scene.
 #[derive(Clone, Copy)]
 pub enum Query<'a> {
     /// The pairs that meet in each leaf.
@@ -28,14 +37,14 @@ pub enum Query<'a> {
     Counts(&'a Scene, &'a Expr),
 }
 
-/// What the leaves give, in the order of the tree, and which boxes were ended.
+/// The items of the leaves, in the order of the tree, and the journals: which boxes were ended.
 #[derive(Drop)]
 pub struct RunResult<I> {
     pub items: Vec<I>,
     pub journals: Journals,
 }
 
-/// What comes of a query.
+/// The answer to a query, of the same kind.
 #[derive(Drop)]
 pub enum Answer {
     Pairs(Vec<PairList>),
@@ -44,7 +53,7 @@ pub enum Answer {
     Counts(RunResult<u64>),
 }
 
-/// The pairs that meet in each leaf.
+/// Asks the executor for the pairs that meet in each leaf. The only error is out-of-memory.
 pub fn pairs_by<C: Fn(&Query) -> Result<Answer, OutOfMemory>>(
     scene: &Scene,
     executor: &C,
@@ -58,7 +67,8 @@ pub fn pairs_by<C: Fn(&Query) -> Result<Answer, OutOfMemory>>(
     Ok(items)
 }
 
-/// The boxes of one value, down to cells with the side `2 ^ size`, for a size of 4 to 12.
+/// Asks the executor for the boxes of one value, down to cells with the side `2 ^ size`, for a size
+/// of 4 to 12. The only error is out-of-memory.
 pub fn fills_by<C: Fn(&Query) -> Result<Answer, OutOfMemory>>(
     scene: &Scene,
     expr: &Expr,
@@ -76,7 +86,8 @@ pub fn fills_by<C: Fn(&Query) -> Result<Answer, OutOfMemory>>(
     Ok(fills)
 }
 
-/// The text of the written regions of each leaf.
+/// Asks the executor for the text of the written regions of each leaf. The only error is
+/// out-of-memory.
 pub fn texts_by<C: Fn(&Query) -> Result<Answer, OutOfMemory>>(
     scene: &Scene,
     expr: &Expr,
@@ -92,7 +103,8 @@ pub fn texts_by<C: Fn(&Query) -> Result<Answer, OutOfMemory>>(
     Ok(found)
 }
 
-/// The number of written regions of each leaf.
+/// Asks the executor for the number of written regions of each leaf. The only error is
+/// out-of-memory.
 pub fn counts_by<C: Fn(&Query) -> Result<Answer, OutOfMemory>>(
     scene: &Scene,
     expr: &Expr,

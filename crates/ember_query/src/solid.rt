@@ -1,4 +1,4 @@
-// The solid of an expression over a scene: its face file, and the numbers of the run.
+// The solid of an expression over a scene: its document, and the report.
 ghost use Rattle.std.specs.Prelude.{◌≡◌, IfOk};
 ghost use Rattle.std.specs.List.{sum};
 ghost use Rattle.ember_expr.specs.Formula.{formula_of};
@@ -13,14 +13,15 @@ use ember_step::{leaf_texts_join, visited_leaves_write_all};
 use ember_text::{document_of, face_count};
 use std::alloc::{AllocError, Global};
 
-/// The face file of the written regions, and the numbers of the run.
+/// The document, which is the face file of the written regions, and the report.
 #[derive(Drop)]
 pub struct Solid {
     pub text: Vec<u8>,
     pub report: Report,
 }
 
-/// The solid of an expression over a scene. Whoever runs a leaf makes its text.
+/// The solid of an expression over a scene. The text of a leaf is made when the leaf is run. The
+/// only error is out-of-memory.
 pub fn solid_of<C: Fn(&Query) -> Result<Answer, OutOfMemory>>(
     alloc: Global,
     scene: &Scene,
@@ -35,12 +36,13 @@ pub fn solid_of<C: Fn(&Query) -> Result<Answer, OutOfMemory>>(
     let journals = found.journals;
     let faces = face_count(&found.items)?;
     let report = report_of(&journals, faces);
+    // A law, which does nothing: the texts, one after another, are the text of the written regions.
     leaf_texts_join(scene, expr);
     let text = document_of(alloc, found.items)?;
     Ok(Solid { text, report })
 }
 
-// The numbers together. Memory is short where 64 bits are too few.
+// The sum of the numbers. An overflow of 64 bits would be reported as out-of-memory.
 fn total(counts: &[u64]) -> Result<u64, OutOfMemory>
     ensures { IfOk result (λ all. all ≡ sum counts.now) }
 {
@@ -56,8 +58,8 @@ fn total(counts: &[u64]) -> Result<u64, OutOfMemory>
     Ok(all)
 }
 
-/// The numbers of the run that gives the solid of an expression over a scene. The written regions
-/// are counted leaf by leaf and not kept.
+/// The report of the solid of an expression over a scene. The written regions are counted leaf by
+/// leaf and not kept. The only error is out-of-memory.
 pub fn report_by<C: Fn(&Query) -> Result<Answer, OutOfMemory>>(
     scene: &Scene,
     expr: &Expr,
@@ -68,6 +70,7 @@ pub fn report_by<C: Fn(&Query) -> Result<Answer, OutOfMemory>>(
 {
     let found = counts_by(scene, expr, executor)?;
     let faces = total(&found.items)?;
+    // A law, which does nothing: the visited leaves write all written regions.
     visited_leaves_write_all(scene, expr);
     Ok(report_of(&found.journals, faces))
 }

@@ -53,7 +53,7 @@ powers m l =
       one_below = omega (arith, linear, a, b, one, two, l);
     }
 
--- where the unit box from the corner on lies in the box
+-- the box contains the unit box with this least corner
 record HasUnit (c : Cell) (v : Vector) : Type 0 where
   from_x : low c X ≤ℤ v.x
   from_y : low c Y ≤ℤ v.y
@@ -95,9 +95,11 @@ half_unit c Z l =
     let u = own_unit c in let h = side_positive (pred (c.log Z)) in let e = halves_end c.lo.z (c.log Z) l in
     record { from_x = u.from_x; from_y = u.from_y; from_z = omega (arith, linear, h); to_x = u.to_x; to_y = u.to_y; to_z = omega (arith, linear, h, e) }
 
+-- a box contains its reference point
 pub has_reference : (c : Cell) → HasPoint c (reference c)
 has_reference c = has_shifted (pos (2 ^ 27)) c c.lo (omega (arith, ints)) (own_unit c)
 
+-- a box contains the reference point of its right half
 pub has_half_reference : (c : Cell) (k : Axis) → 0 < c.log k → HasPoint c (reference (right_half c k))
 has_half_reference c k l = has_shifted (pos (2 ^ 27)) c (right_half c k).lo (omega (arith, ints)) (half_unit c k l)
 
@@ -109,13 +111,16 @@ mixed s k m x y v w a b f g =
     let e = solve 5 (λ l k m v w. l ⊗ (k ⊗ v ⊕ m ⊗ w) ≈ k ⊗ (l ⊗ v) ⊕ m ⊗ (l ⊗ w)) cancels s.high k m v w in
     record { from = omega (arith, linear, p, q, d); to = omega (arith, linear, r, t, e) }
 
+-- a size is at least 0
 pub size_at_least : (z : ℤ) → pos 0 ≤ℤ size z
 size_at_least z = omega (arith, ints)
 
+-- a mix of two points of the closed box is a point of the box
 pub has_mix : (c : Cell) (k m : ℤ) (p q : Spot) → HasPoint c p → HasPoint c q → pos 0 ≤ℤ k → pos 0 ≤ℤ m → pos 0 <ℤ (mix k m p q).w → HasPoint c (mix k m p q)
 has_mix c k m p q f g a b w =
     record { weight = w; on_x = mixed (aabb_of_cell c).x k m p.x q.x p.w q.w a b f.on_x g.on_x; on_y = mixed (aabb_of_cell c).y k m p.y q.y p.w q.w a b f.on_y g.on_y; on_z = mixed (aabb_of_cell c).z k m p.z q.z p.w q.w a b f.on_z g.on_z }
 
+-- so is the point at which the segment from one to the other meets a plane
 pub has_between : (n : Plane) (c : Cell) (p q : Spot) → HasPoint c p → HasPoint c q → pos 0 <ℤ (between n p q).w → HasPoint c (between n p q)
 has_between n c p q f g w =
     has_mix c (size (value_at n q)) (size (value_at n p)) p q f g (size_at_least (value_at n q)) (size_at_least (value_at n p)) w

@@ -43,12 +43,13 @@ is_off k v t i =
       third = off_edge t.c t.a k v i.c i.a;
     }
 
-pub clear_reference : (v : Vector) (t : Tri) → IsValidTri t → IsClearOf t (reference_at v)
+clear_reference : (v : Vector) (t : Tri) → IsValidTri t → IsClearOf t (reference_at v)
 clear_reference v t i = off_clear (reference_at v) t (is_off X v t i) (is_off Y v t i) (is_off Z v t i)
 
 each_clear : (v : Vector) (ts : List Tri) → All IsValidTri ts → AllByRecursion (λ t. IsClearOf t (reference_at v)) ts
 each_clear v [] i = tt
 each_clear v (t ∷ ts) i = (clear_reference v t (All-head IsValidTri t ts i), each_clear v ts (All-tail IsValidTri t ts i))
 
+-- reference points are clear of all valid triangles
 pub clear_references : (v : Vector) (ts : List Tri) → All IsValidTri ts → AreClear (faces_of ts) (reference_at v)
 clear_references v ts i = clear_faces (reference_at v) ts (each_clear v ts i)

@@ -34,6 +34,7 @@ not_above x (e ∷ es) h =
     let p = and_parts (is_negative (value_at e x)) (all_negative es x) h in let n = negative_out (value_at e x) p.0 in
     let a = not_positive_in (value_at e x) (omega (arith, linear, n)) in let b = not_above x es p.1 in λ i. a i && b i
 
+-- an inside point of a face is in the closed face
 pub inside_closed : (f : Face) (x : Spot) → is_inside f x ≡ true → is_in_closed f x ≡ true
 inside_closed f x h = let p = inside_parts f x h in closed_on f x (positive_in p.0) p.1 ∙ not_above x f.edges p.2
 
@@ -46,6 +47,7 @@ leg_outside f p q e =
     none true = refl
     none false = refl
 
+-- a segment between two points of a closed box doesn't cross a triangle that isn't near the box
 pub leg_far : (c : Cell) (t : Tri) (p q : Spot) → HasPoint c p → HasPoint c q → is_near c t ≡ false → leg (face_of t) p q ≡ pos 0
 leg_far c t p q f g far = by (flat_case t)
   where

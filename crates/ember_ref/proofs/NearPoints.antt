@@ -65,7 +65,7 @@ greatest_part (negsuc n) x w s b =
     omega (arith, linear, mul_le z b.from, solve 2 (λ a x. neg a ⊗ x ≈ neg (a ⊗ x)) cancels (pos (suc n)) x, solve 3 (λ w n l. w ⊗ (neg n ⊗ l) ≈ neg (n ⊗ (l ⊗ w))) cancels w (pos (suc n)) s.low)
 
 -- a plane that is 0 at a point of a box crosses the box
-pub crosses_there : (p : Plane) (c : Cell) (v : Spot) → HasPoint c v → value_at p v ≡ pos 0 → crosses p (aabb_of_cell c) ≡ true
+crosses_there : (p : Plane) (c : Cell) (v : Spot) → HasPoint c v → value_at p v ≡ pos 0 → crosses p (aabb_of_cell c) ≡ true
 unfolding crosses
 crosses_there p c v h z =
     let b = aabb_of_cell c in
@@ -95,6 +95,7 @@ corner_value : (k : Axis) (s d : ℤ) (u : Corner) → d ≤ℤ (s *ℤ along k 
 corner_value k s d u l =
     let e = axis_value k s d (spot_of_corner u) in let f = ap (λ (x : ℤ). s *ℤ x) (corner_is k u) in let g : d *ℤ pos 1 ≡ d = omega (arith, ints) in omega (arith, linear, e, f, g, l)
 
+-- if all corners of a triangle are on one side of a place along an axis, so is its closed face
 pub past_corners : (k : Axis) (s d : ℤ) (t : Tri) (v : Spot) → is_flat t ≡ false → d ≤ℤ (s *ℤ along k (vector_of t.a)) → d ≤ℤ (s *ℤ along k (vector_of t.b)) → d ≤ℤ (s *ℤ along k (vector_of t.c)) → is_in_closed (face_of t) v ≡ true → (d *ℤ v.w) ≤ℤ (s *ℤ coordinate k v)
 past_corners k s d t v nf a b c h =
     let p = axis_plane k s d in let e = axis_value k s d v in
@@ -143,6 +144,7 @@ meets_along c k t v nf w lo hi h =
     down : (x : ℤ) → x <ℤ low c k → (pos 1 -ℤ low c k) ≤ℤ (negsuc 0 *ℤ x)
     down x l = let f = solve 1 (λ x. num (negsuc 0) ⊗ x ≈ neg x) cancels x in omega (arith, linear, f, l)
 
+-- a triangle with a point of its closed face in a box is near the box
 pub near_point : (c : Cell) (t : Tri) (v : Spot) → is_flat t ≡ false → HasPoint c v → is_in_closed (face_of t) v ≡ true → is_near c t ≡ true
 unfolding is_near face_of
 near_point c t v nf p h =

@@ -36,10 +36,11 @@ box_corner cs h = record { x = at cs 0 h; y = at cs 1 h; z = at cs 2 h }
 weight_near : (m : ℤ) (v : Vector) → pos 0 <ℤ m → pos 0 <ℤ (shifted (spot_of_vector v) m).w
 weight_near m v l = pos_mul (pos_mul (pos_mul l l) l) (omega (arith, linear))
 
+-- a reference point has a positive weight
 pub weight_at : (v : Vector) → pos 0 <ℤ (reference_at v).w
 weight_at v = weight_near (pos (2 ^ 27)) v (omega (arith, ints))
 
-pub weight_of : (lo : List ℤ) → pos 0 <ℤ (reference_of lo).w
+weight_of : (lo : List ℤ) → pos 0 <ℤ (reference_of lo).w
 unfolding reference_of
 weight_of lo = weight_at (corner_of lo)
 
@@ -48,6 +49,7 @@ differ_along m X by v = (refl, refl)
 differ_along m Y by v = (refl, refl)
 differ_along m Z by v = (refl, refl)
 
+-- the reference point by a box's least corner is that of the box
 pub reference_is : (lo : List ℤ) (c : Cell) → corner_of lo ≡ c.lo → reference_of lo ≡ reference c
 unfolding reference_of
 reference_is lo c e = ap reference_at e
@@ -72,6 +74,7 @@ leg_told k p q t n s e v d en es ee ev =
     let told = ev ∙ (λ i. cond (is_neg (times (sx i) (sy i))) (number (sy i)) (pos 0)) in
     leg_is k (reference_of p) (reference_of q) t (weight_of p) (weight_of q) d ∙ (λ i. cond (m i && b) (f i) (pos 0)) ∙ exchanged (is_neg (times (sgn x) (sgn y))) b (number (sgn y)) ∙ ap (λ (v : ℤ). cond b v (pos 0)) (sym told)
 
+-- 0 is what a condition gives if both its branches are 0
 pub nothing_told : (b : Bool) (v : ℤ) → v ≡ pos 0 → pos 0 ≡ cond b v (pos 0)
 nothing_told true v e = sym e
 nothing_told false v e = refl

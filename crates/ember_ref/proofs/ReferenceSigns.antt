@@ -40,6 +40,7 @@ sign_near n p v l a b c =
     let e = next_sign n x p.a a l in let f = next_sign n y p.b b l in let g = next_sign n z p.c c l in
     ap sgn (value_shifted p (spot_of_vector v) (pos n)) ∙ g ∙ ap (λ (s : Sign). or_sign s (sgn p.c)) (f ∙ ap (λ (s : Sign). or_sign s (sgn p.b)) e) ∙ ap (λ (s : Sign). or_sign s (sgn p.c)) (or_sign_assoc (sgn x) (sgn p.a) (sgn p.b)) ∙ or_sign_assoc (sgn x) (or_sign (sgn p.a) (sgn p.b)) (sgn p.c) ∙ ap (λ (s : Sign). or_sign (sgn x) s) (or_sign_assoc (sgn p.a) (sgn p.b) (sgn p.c))
 
+-- the sign of a plane at a reference point, by the corner and then by the plane's coefficients
 pub sign_at_reference : {m : ℕ} (p : Plane) (v : Vector) → m < 2 ^ 27 → Small m p.a → Small m p.b → Small m p.c → sgn (value_at p (reference_at v)) ≡ sign_beside p v
 sign_at_reference p v l a b c = sign_near (2 ^ 27) p v l a b c
 
@@ -55,6 +56,7 @@ both_zero Pos t e = absurd (clash e)
     clash : Pos ≡ Zero → ⊥
     clash e = cc
 
+-- a plane with the sign Zero at a reference point has no normal
 pub level_from : (p : Plane) (v : Vector) → sign_beside p v ≡ Zero → IsLevel p
 level_from p v e =
     let x = both_zero (sgn (value_at p (spot_of_vector v))) (or_sign (sgn p.a) (or_sign (sgn p.b) (sgn p.c))) e in

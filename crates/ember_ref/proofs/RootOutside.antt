@@ -64,6 +64,7 @@ crossing_below t p v l = by (flat_case t)
 root_crossing : (t : Tri) → IsValidTri t → crossing (face_of t) X (reference root) ≡ pos 0
 root_crossing t v = crossing_below t (reference root) v (omega (arith, ints))
 
+-- the root's reference point is outside all meshes
 pub root_is_outside : (ts : List Tri) (n : ℕ) → IsScene ts n → vector_at ts root ≡ replicate 64 (pos 0)
 unfolding meshes
 root_is_outside ts n s =

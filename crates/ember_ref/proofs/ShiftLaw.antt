@@ -15,6 +15,7 @@ use Rattle.ember_ref.proofs.ClearReferences.{clear_references}
 use Rattle.ember_ref.proofs.BoxPoints.{has_reference, has_half_reference}
 use Rattle.ember_ref.proofs.FarTriangles.{legs_near}
 
+-- the winding numbers at the right half's reference point, by those at the box's and the near triangles
 pub shift_law : (ts ns : List Tri) (c : Cell) (k : Axis) (counts : List ℤ) → 0 < c.log k → Fits ts ns c counts → vector_at ts (right_half c k) ≡ carried ns c k counts
 shift_law ts ns c k counts l f =
     let p = reference (right_half c k) in let q = reference c in

@@ -12,7 +12,7 @@ use Rattle.ember_law.specs.Counts.{added, leg_vector}
 use Rattle.ember_box.specs.Boxes.{Cell, right_half}
 use Rattle.ember_box.specs.Reference.{reference_at, reference, vector_at, Fits}
 
--- three coordinates, in the order of the axes
+-- the vector of three coordinates that are listed in the order of the axes
 abbrev pub corner_of : List ℤ → Vector
 corner_of cs = record {
   x = slice_index_or cs 0 (pos 0);
@@ -40,8 +40,8 @@ or_sign Pos s = Pos
 abbrev pub IsLevel : Plane → Type 0
 IsLevel p = (p.a ≡ pos 0) × (p.b ≡ pos 0) × (p.c ≡ pos 0)
 
--- the counts at a box's reference point, with the crossings on the segment back to it from that of its
--- right half
+-- the counts at the reference point of a box's right half: those at the box's point, plus the signed
+-- crossings of the segment from the half's point back to the box's
 abbrev pub carried : List Tri → Cell → Axis → List ℤ → List ℤ
 carried near c k counts = added counts (leg_vector near (reference (right_half c k)) (reference c))
 

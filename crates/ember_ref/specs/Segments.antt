@@ -12,12 +12,13 @@ use Rattle.ember_ref.specs.References.{corner_of, reference_of, IsBoxCorner}
 abbrev pub column : Cell → Axis → Cell
 column c k = record { lo = c.lo; log = put k (c.log k) (λ j. 0); path = c.path }
 
--- it leads along its axis
+-- its ends are reference points of boxes, and it runs along its axis
 pub record IsAlongAxis (w : AxisSegment) : Type 0 where
   pub from : IsBoxCorner (corner_of w.from)
   pub to : IsBoxCorner (corner_of w.to)
   pub line : DifferAlong w.axis (reference_of w.from) (reference_of w.to)
 
+-- the segment from the reference point of the box's right half to that of the box, with a bounding box of it
 pub record IsSegmentBack (c : Cell) (k : Axis) (w : AxisSegment) : Type 0 where
   pub from : reference_of w.from ≡ reference (right_half c k)
   pub to : reference_of w.to ≡ reference c

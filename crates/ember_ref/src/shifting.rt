@@ -20,7 +20,8 @@ use ember_box::{Aabb, Cell, Interval, aabb_of_cell, aabbs_meet_beside, halves};
 use ember_law::add_count;
 use ember_model::{Axis, Tri, Vector, support_of};
 
-// How a segment passes a plane that has the signs `start` and `end` at its ends.
+// The signed crossing of a segment with a plane that has the signs `start` and `end` at its ends:
+// 1 from behind to the front, -1 back, otherwise 0.
 fn signed_crossing(start: Sign, end: Sign) -> i32
     ensures value { result ≡ (if is_neg (times start end) then number end else pos 0) }
     ensures small { Small 1 result }
@@ -38,8 +39,8 @@ fn signed_crossing(start: Sign, end: Sign) -> i32
     }
 }
 
-// The signed crossing of the segment between the reference points of two boxes, given by their
-// least corners, with the inside of the triangle's face.
+// The signed crossing of the segment from one reference point to another, given by the least
+// corners `p` and `q` of their boxes, with the inside of the triangle's face.
 fn crossing_between(t: &Tri, p: [i32; 3], q: [i32; 3], k: Axis) -> i32
     requires tri { IsValidTri t.now }
     requires from { IsBoxCorner (corner_of p) }
@@ -57,7 +58,8 @@ fn crossing_between(t: &Tri, p: [i32; 3], q: [i32; 3], k: Axis) -> i32
     }
 }
 
-// The segment from one reference point along an axis to another, and what holds it.
+// The segment along an axis from one reference point to another, given by the least corners of
+// their boxes, with a bounding box of it.
 #[derive(Clone, Copy)]
 struct AxisSegment {
     from: [i32; 3],
@@ -66,7 +68,7 @@ struct AxisSegment {
     aabb: Aabb,
 }
 
-// The box that has the side 1 along all axes but this one.
+// The bounding box of the box that has the side 1 along all axes but this one.
 fn column(c: &Cell, k: Axis) -> Aabb
     ensures { result ≡ aabb_of_cell (column c.now k) }
 {
@@ -90,6 +92,7 @@ fn column(c: &Cell, k: Axis) -> Aabb
     }
 }
 
+// The interval of length 1 from `low`.
 fn unit(low: i32) -> Interval
     requires { Small 2048 low }
     ensures { result ≡ interval_between low (low +ℤ pos 1) }
@@ -144,8 +147,11 @@ fn carry(t: &Tri, w: &AxisSegment, v: &mut Vector)
 }
 
 /// Carries the winding numbers from the reference point of a box to that of its right half along
-/// an axis, by the triangles near the box: adds to the count of each mesh the signed crossings of
-/// the segment from the second point to the first. Its side along that axis is above 1.
+/// an axis, by the triangles near the box. For points p and q on a line along an axis,
+/// w(p) = w(q) + the signed crossings of the segment from p to q. So it adds, to the count of each
+/// mesh, the crossings of the segment from the right half's point back to the box's.
+/// The side of the box along that axis is above 1. Only tests call this; the program calls
+/// `shift_listed`.
 pub fn shift(near: &[Tri], c: &Cell, k: Axis, v: &mut Vector)
     requires valid { All IsValidTri near.now }
     requires numbered { All (HasMesh 64) near.now }

@@ -21,6 +21,7 @@ fn or_sign(first: Sign, second: Sign) -> Sign
     }
 }
 
+// The value of a plane at a box's corner.
 fn value_at_corner(p: &Plane, at: [i32; 3]) -> i64
     requires plane { IsValidPlane p.now }
     requires corner { IsBoxCorner (corner_of at) }
@@ -41,7 +42,8 @@ fn lead_sign(p: &Plane) -> Sign
     or_sign(a, or_sign(b, c))
 }
 
-// The sign at the corner, or if that is 0 the one beside it.
+// The sign `at` of the plane at a corner, or if that is 0, its sign at the point a little above
+// the corner along all axes: that of the first entry of the normal that isn't 0.
 fn or_lead(at: Sign, p: &Plane) -> Sign
     ensures { result ≡ or_sign at (or_sign (sgn p.now.a) (or_sign (sgn p.now.b) (sgn p.now.c))) }
 {
@@ -63,6 +65,7 @@ pub fn lex_side(p: &Plane, lo: [i32; 3]) -> Sign
     or_lead(sign_of(value_at_corner(p, lo) as i128), p)
 }
 
+// Whether the reference point of a box with the least corner `at` is below the plane.
 fn is_below(p: &Plane, at: [i32; 3]) -> bool
     requires plane { IsValidPlane p.now }
     requires corner { IsBoxCorner (corner_of at) }
@@ -71,7 +74,8 @@ fn is_below(p: &Plane, at: [i32; 3]) -> bool
     matches!(lex_side(p, at), Sign::Neg)
 }
 
-/// At the reference point all edge planes of the triangle along the axis are negative.
+/// Whether the reference point of a box with the least corner `at` lies, seen along the axis,
+/// inside the triangle: all edge planes parallel to that axis are negative there.
 pub fn is_behind(t: &Tri, k: Axis, at: [i32; 3]) -> bool
     requires tri { IsValidTri t.now }
     requires corner { IsBoxCorner (corner_of at) }

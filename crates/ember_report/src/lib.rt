@@ -1,4 +1,4 @@
-//! The numbers of a run, and their line.
+//! The report of a run, four counts, and its line.
 #![tactic(auto)]
 
 mod line;

@@ -16,7 +16,8 @@ fn put_number(word: &[u8], number: u64, out: &mut Vec<u8>) -> Result<(), OutOfMe
     out.extend_from_slice(buffer.format(number).as_bytes())
 }
 
-/// The line `boxes B leaves L skipped S faces F`, with its line feed.
+/// The line `boxes B leaves L skipped S faces F`, with its line feed. The only error is
+/// out-of-memory.
 pub fn report_line(alloc: Global, r: &Report) -> Result<Vec<u8>, OutOfMemory>
     ensures { IfOk result (λ line. line.items ≡ line_of r.now) }
 {

@@ -1,4 +1,4 @@
-// The numbers of a run.
+// The report of a run.
 ghost use Rattle.std.specs.Prelude.{◌≡◌, ◌<◌, ◌^◌, length, count_by};
 ghost use Rattle.std.specs.List.{sum_by};
 ghost use Rattle.ember_report.specs.Reports.{is_leaf, is_skipped, report_from};
@@ -15,6 +15,7 @@ pub struct Report {
     pub faces: u64,
 }
 
+// Whether the box is a leaf.
 #[tactic(none)]
 fn is_leaf(entry: &Entry) -> bool
     ensures { result ≡ is_leaf entry.now }
@@ -25,6 +26,7 @@ fn is_leaf(entry: &Entry) -> bool
     }
 }
 
+// Whether the box was skipped.
 #[tactic(none)]
 fn is_skipped(entry: &Entry) -> bool
     ensures { result ≡ is_skipped entry.now }
@@ -35,21 +37,23 @@ fn is_skipped(entry: &Entry) -> bool
     }
 }
 
+// The number of leaves in a journal.
 fn leaves_in(journal: &[Entry]) -> u64
     ensures { result ≡ count_by is_leaf journal.now }
 {
     journal.iter().filter(|entry| is_leaf(entry)).count() as u64
 }
 
+// The number of skipped boxes in a journal.
 fn skipped_in(journal: &[Entry]) -> u64
     ensures { result ≡ count_by is_skipped journal.now }
 {
     journal.iter().filter(|entry| is_skipped(entry)).count() as u64
 }
 
-/// The numbers of a run with these journals that wrote so many faces: the entries of all journals,
-/// those that are leaves, and those that were skipped. All journals together have fewer than
-/// 2^64 entries.
+/// The report of a run with these journals that wrote this number of faces: it counts the entries
+/// of all journals, the leaves among them, and the skipped boxes. All journals together have fewer
+/// than 2^64 entries.
 pub fn report_of(journals: &Journals, faces: u64) -> Report
     requires { sum_by length journals.now < 2 ^ 64 }
     ensures { result ≡ report_from journals.now faces }

@@ -12,15 +12,17 @@ use Rattle.ember_model.specs.Valid.{IsValidFace}
 use Rattle.ember_model.specs.FaceFiles.{face_lines, header, ending, WrittenFace, IsWrittenFace, IsWrittenEdge, IsFaceFile}
 use Rattle.ember_reread.specs.Lines.{IsFaceLines, face_in, HasFace, HasFaces, IsBody}
 use Rattle.ember_reread.proofs.Chains.{chain_ahead, chain_same_end}
-use Rattle.ember_reread.proofs.Words.{heads, tails}
+use Rattle.ember_reread.proofs.Words.{head_injective, tail_injective}
 use Rattle.ember_reread.proofs.FaceTexts.{face_begins, face_shorter, face_end, all_of, each_of, planes_valid}
 
 abbrev lines_in : WrittenFace → List ℕ
 lines_in w = face_lines w.support w.edges
 
+-- no bytes are read for no faces
 pub no_faces : {fs : List Face} (bytes : List ℕ) → fs ≡ [] → HasFaces fs bytes bytes
 no_faces bytes e = record { faces = []; lines = done; are = e }
 
+-- one face more
 pub push_face : {f : Face} {fs gs : List Face} {a b c : List ℕ} → HasFaces fs a b → HasFace f b c → gs ≡ fs ++ f ∷ [] → HasFaces gs a c
 push_face {f} h k e =
     record {
@@ -41,17 +43,20 @@ faces_end v w a b c q h k = face_end q h k
 
 -- the last line isn't that of a face
 pub no_face_at_end : (n : ℕ) (w : WrittenFace) (rest : List ℕ) → IsFaceLines w (ending n) rest → ⊥
-no_face_at_end n w rest h = let t = face_begins h in absurd (omega (arith, heads t.1))
+no_face_at_end n w rest h = let t = face_begins h in absurd (omega (arith, head_injective t.1))
 
+-- bytes that begin with `f` aren't the last line
 pub not_an_end : (n : ℕ) {bytes t : List ℕ} → bytes ≡ 102 ∷ t → bytes ≡ ending n → ⊥
-not_an_end n e f = omega (arith, heads (sym e ∙ f))
+not_an_end n e f = omega (arith, head_injective (sym e ∙ f))
 
+-- bytes that don't begin with `f` aren't the lines of a face
 pub no_face_here : {bytes : List ℕ} → ((rest : List ℕ) × (bytes ≡ 102 ∷ rest) → ⊥) → (w : WrittenFace) (rest : List ℕ) → IsFaceLines w bytes rest → ⊥
 no_face_here f w rest h = f (face_begins h)
 
 count_of : {fs : List Face} {a b : List ℕ} (h : HasFaces fs a b) → length h.faces ≡ length fs
 count_of h = sym (ap (λ (l : List Face). length l) h.are ∙ length-map h.faces face_in)
 
+-- a text that goes on with no face, and not with the ending, is no body of a face file
 pub no_body : {fs : List Face} {bytes rest : List ℕ} → IsShort bytes → HasFaces fs bytes rest → ((w : WrittenFace) (r : List ℕ) → IsFaceLines w rest r → ⊥) → (rest ≡ ending (length fs) → ⊥) → (gs : List Face) → IsBody gs bytes → ⊥
 no_body {fs} {bytes} {rest} q h f e gs k =
     ⊎_elim
@@ -75,6 +80,7 @@ faces_chain (w ∷ ws) rest h =
     let l = ap (λ q. q ++ rest) (flat_map-cons lines_in w ws) ∙ append_assoc (lines_in w) (flat_map lines_in ws) rest in
     step (record { written = h.0; is = l }) (faces_chain ws rest h.1)
 
+-- a header with a body of these faces is a file of them
 pub file_found : {fs : List Face} {bytes s : List ℕ} → bytes ≡ header ++ s → IsBody fs s → IsFaceFile bytes fs
 file_found {fs} {bytes} {s} e h =
     let t = faces_text h.faces.lines in
@@ -85,19 +91,18 @@ file_found {fs} {bytes} {s} e h =
       faces = h.faces.are;
     }
 
+-- a header without a body is no file
 pub no_file : {bytes s : List ℕ} → bytes ≡ header ++ s → ((fs : List Face) → IsBody fs s → ⊥) → (fs : List Face) → IsFaceFile bytes fs → ⊥
 no_file {bytes} {s} e f fs h =
     let n : length fs ≡ length h.written = ap (λ (l : List Face). length l) h.faces ∙ length-map h.written face_in in
-    let rest : s ≡ flat_map lines_in h.written ++ ending (length fs) = tails (tails (tails (tails (tails (tails (tails (tails (sym e ∙ h.is)))))))) ∙ ap (λ k. flat_map lines_in h.written ++ ending k) (sym n) in
+    let rest : s ≡ flat_map lines_in h.written ++ ending (length fs) = tail_injective (tail_injective (tail_injective (tail_injective (tail_injective (tail_injective (tail_injective (tail_injective (sym e ∙ h.is)))))))) ∙ ap (λ k. flat_map lines_in h.written ++ ending k) (sym n) in
     f fs (record { faces = record { faces = h.written; lines = subst (λ a. Chain IsFaceLines h.written a (ending (length fs))) (sym rest) (faces_chain h.written (ending (length fs)) (each_of IsWrittenFace h.written h.well_formed)); are = h.faces } })
-
-pub no_header : {bytes : List ℕ} → ((s : List ℕ) → bytes ≡ header ++ s → ⊥) → (fs : List Face) → IsFaceFile bytes fs → ⊥
-no_header f fs h = f _ h.is
 
 faces_fit : {ws : List WrittenFace} {a b : List ℕ} → Chain IsFaceLines ws a b → length ws ≤ length a
 faces_fit done = omega arith
 faces_fit (step h k) = omega (arith, faces_fit k, face_shorter h)
 
+-- a file has at least as many bytes as faces
 pub body_fits : {fs : List Face} {bytes s : List ℕ} → bytes ≡ header ++ s → IsBody fs s → length fs ≤ length bytes
 body_fits e h =
     omega (arith, ap (λ (l : List ℕ). length l) e, count_of h.faces, faces_fit h.faces.lines)
@@ -110,6 +115,7 @@ faces_valid [] h = All-nil IsValidFace
 faces_valid (w ∷ ws) h =
     All-cons IsValidFace (face_in w) (map face_in ws) (valid_in w h.0) (faces_valid ws h.1)
 
+-- the faces of a body are valid
 pub body_valid : {fs : List Face} {s : List ℕ} → IsBody fs s → All IsValidFace fs
 body_valid h =
     subst (λ l. All IsValidFace l) (sym h.faces.are) (faces_valid h.faces.faces (faces_text h.faces.lines).1)

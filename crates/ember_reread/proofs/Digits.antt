@@ -16,7 +16,7 @@ number_from-grows : (v : ℕ) (ds : List ℕ) → v ≤ number_from v ds
 number_from-grows v [] = omega arith
 number_from-grows v (d ∷ ds) = omega (arith, number_from-grows (v * 10 + (d - 48)) ds)
 
-pub number_from-drop : (v i : ℕ) (ds : List ℕ) → i < length ds → number_from v (drop i ds) ≡ number_from (v * 10 + (get_or ds i 0 - 48)) (drop (suc i) ds)
+number_from-drop : (v i : ℕ) (ds : List ℕ) → i < length ds → number_from v (drop i ds) ≡ number_from (v * 10 + (get_or ds i 0 - 48)) (drop (suc i) ds)
 number_from-drop v i [] h = absurd (omega arith)
 number_from-drop v zero (d ∷ ds) h = refl
 number_from-drop v (suc i) (d ∷ ds) h = number_from-drop v i ds (omega arith)
@@ -33,12 +33,13 @@ own : IsNumeralModel AreDigits (number_from 0)
 own = numerals_by_fold AreDigits (search rules) number_from (search rules)
 
 module _ (n : ℕ) (small : n < 10 ^ 64) where
-  pub digits_decimal : list_all is_ascii_digit (decimal n) ≡ true
+  digits_decimal : list_all is_ascii_digit (decimal n) ≡ true
   digits_decimal = own.from (decimal n) (decimal_is_IsNumeral_wide n small).0.1
 
-  pub number_decimal : number_from 0 (decimal n) ≡ n
+  number_decimal : number_from 0 (decimal n) ≡ n
   number_decimal = own.same (decimal n) (decimal_is_IsNumeral_wide n small).0.1 ∙ (decimal_is_IsNumeral_wide n small).1
 
+-- numbers below 10^64 with the same digits are equal
 pub decimal_injective_wide : (m n : ℕ) → m < 10 ^ 64 → n < 10 ^ 64 → decimal m ≡ decimal n → m ≡ n
 decimal_injective_wide m n p q e = sym (number_decimal m p) ∙ ap (number_from 0) e ∙ number_decimal n q
 
@@ -65,7 +66,7 @@ decimal_value (c ∷ e ∷ cs) d lead small =
     (decimal_after (0 * 10 + digit_value c) (e ∷ cs) (omega arith) d.1 small).1
     ∙ ap (λ x. x ++ (e ∷ cs)) (decimal_digit (0 * 10 + digit_value c) (omega (arith, d.0)) ∙ ap (λ x. x ∷ []) is)
 
-pub decimal_number : (ds : List ℕ) → list_all is_ascii_digit ds ≡ true → is_padded ds ≡ false → number_from 0 ds < 10 ^ 64 → decimal (number_from 0 ds) ≡ ds
+decimal_number : (ds : List ℕ) → list_all is_ascii_digit ds ≡ true → is_padded ds ≡ false → number_from 0 ds < 10 ^ 64 → decimal (number_from 0 ds) ≡ ds
 decimal_number ds p lead small =
     let d = own.to ds p in ap decimal (own.same ds d) ∙ decimal_value ds d lead (omega (arith, own.same ds d))
 
@@ -84,11 +85,13 @@ decimal_unpadded : (n : ℕ) → n < 10 ^ 64 → is_padded (decimal n) ≡ false
 decimal_unpadded zero small = ap is_padded (decimal_digit 0 (omega arith))
 decimal_unpadded (suc n) small = unpadded (decimal (suc n)) ((first_digit (suc n) small).1 (omega arith))
 
+-- the digits of a size are a numeral
 pub size_numeral : {most n : ℕ} {ds : List ℕ} → most < 2 ^ 124 → IsSize most n ds → is_numeral ds ≡ true
 size_numeral {most} {n} {ds} l h =
     let small : n < 10 ^ 64 = omega (arith, h.small) in
     ap is_numeral h.is ∙ (λ i. not (decimal_unpadded n small i) && digits_decimal n small i)
 
+-- the digits of a size spell it
 pub size_value : {most n : ℕ} {ds : List ℕ} → most < 2 ^ 124 → IsSize most n ds → number_from 0 ds ≡ n
 size_value {most} {n} {ds} l h =
     ap (number_from 0) h.is ∙ number_decimal n (omega (arith, h.small))
@@ -97,14 +100,12 @@ numeral_parts : (p a : Bool) → not p && a ≡ true → (p ≡ false) × (a ≡
 numeral_parts true a e = absurd (cc)
 numeral_parts false a e = (refl, e)
 
-pub numeral_digits : (ds : List ℕ) → is_numeral ds ≡ true → list_all is_ascii_digit ds ≡ true
-numeral_digits ds e = (numeral_parts (is_padded ds) (list_all is_ascii_digit ds) e).1
-
-pub value_size : (most : ℕ) (ds : List ℕ) → most < 2 ^ 124 → is_numeral ds ≡ true → number_from 0 ds ≤ most → IsSize most (number_from 0 ds) ds
+value_size : (most : ℕ) (ds : List ℕ) → most < 2 ^ 124 → is_numeral ds ≡ true → number_from 0 ds ≤ most → IsSize most (number_from 0 ds) ds
 value_size most ds l e small =
     let p = numeral_parts (is_padded ds) (list_all is_ascii_digit ds) e in
     record { small = small; is = sym (decimal_number ds p.1 p.0 (omega arith)) }
 
+-- a numeral is a size exactly if the number that it spells is at most `most`
 pub size_found : (most : ℕ) (ds : List ℕ) (r : Option ℕ) → most < 2 ^ 124 → is_numeral ds ≡ true → MatchOption r (most < number_from 0 ds) (λ n. (n ≡ number_from 0 ds) × (n ≤ most)) → MatchOption r ((n : ℕ) → IsSize most n ds → ⊥) (λ n. IsSize most n ds)
 size_found most ds None l e h = λ n s. omega (arith, h, size_value l s, s.small)
 size_found most ds (Some n) l e h =

@@ -15,18 +15,22 @@ use Rattle.ember_reread.specs.Lines.{IsEdgeLine, IsSupportLine, HasEdge, HasEdge
 use Rattle.ember_reread.proofs.Chains.{chain_ahead, chain_same_end}
 use Rattle.ember_reread.proofs.LineTexts.{same_edge, same_support, support_begins}
 
+-- what holds of all members by recursion holds of all
 pub all_of : {X : Type 0} (P : X → Type 0) (xs : List X) → AllByRecursion P xs → All P xs
 all_of P [] h = All-nil P
 all_of P (x ∷ xs) h = All-cons P x xs h.0 (all_of P xs h.1)
 
+-- `All` and `AllByRecursion` say the same of a list
 pub each_of : {X : Type 0} (P : X → Type 0) (xs : List X) → All P xs → AllByRecursion P xs
 each_of P [] h = tt
 each_of P (x ∷ xs) h = (h 0 x (omega arith), each_of P xs (λ k d l. h (suc k) d (omega (arith, l))))
 
 -- ---- edges
+-- no bytes are read for no edges
 pub no_edges : {ps : List Plane} (bytes : List ℕ) → ps ≡ [] → HasEdges 0 ps bytes bytes
 no_edges bytes e = record { edges = []; lines = done; many = refl; planes = e }
 
+-- one edge more
 pub push_edge : {n : ℕ} {p : Plane} {ps qs : List Plane} {a b c : List ℕ} → HasEdges n ps a b → HasEdge p b c → qs ≡ ps ++ p ∷ [] → HasEdges (n + 1) qs a c
 push_edge {n} {p} h k e =
     let d : RingEdge = record { plane = p; start = k.start } in
@@ -43,6 +47,7 @@ Any a = Unit {0}
 edges_end : (x y : RingEdge) (a b c : List ℕ) → Any a → IsEdgeLine x a b → IsEdgeLine y a c → b ≡ c
 edges_end x y a b c q h k = (same_edge h k).1
 
+-- if fewer edges than needed are followed by no edge line, there aren't that many
 pub no_more_edges : {n count : ℕ} {ps : List Plane} {a b : List ℕ} → HasEdges n ps a b → n < count → ((e : RingEdge) (rest : List ℕ) → IsEdgeLine e b rest → ⊥) → (qs : List Plane) (rest : List ℕ) → HasEdges count qs a rest → ⊥
 no_more_edges h l f qs rest k =
     let t = chain_ahead Any (λ x a b q r. tt) edges_end tt h.lines k.lines (omega (arith, l, h.many, k.many)) in f t.0 t.1 t.2
@@ -70,6 +75,7 @@ edges_fit (e ∷ es) =
     some : 1 ≤ length (edge_line e)
     some = omega arith
 
+-- the planes of written edges are valid
 pub planes_valid : (es : List RingEdge) → AllByRecursion IsWrittenEdge es → All IsValidPlane (map (λ (e : RingEdge). e.plane) es)
 planes_valid [] h = All-nil IsValidPlane
 planes_valid (e ∷ es) h =
@@ -84,22 +90,25 @@ module _ {w : WrittenFace} {bytes rest : List ℕ} (h : IsFaceLines w bytes rest
   face_support =
       record { plane = h.written.support; enough = h.written.at_least_three; is = h.is ∙ append_assoc (support_line w.support (length w.edges)) (flat_map edge_line w.edges) rest }
 
-  pub face_edges : HasEdges (length w.edges) (map (λ (e : RingEdge). e.plane) w.edges) behind_support rest
+  face_edges : HasEdges (length w.edges) (map (λ (e : RingEdge). e.plane) w.edges) behind_support rest
   face_edges =
       record { edges = w.edges; lines = edges_chain w.edges rest (each_of IsWrittenEdge w.edges h.written.edges); many = refl; planes = refl }
 
-  pub face_fits : length w.edges ≤ length bytes
+  face_fits : length w.edges ≤ length bytes
   face_fits =
       omega (arith, ap (λ (q : List ℕ). length q) face_support.is, length-append (support_line w.support (length w.edges)) behind_support, length-append (flat_map edge_line w.edges) rest, edges_fit w.edges)
 
+-- bytes without a support line aren't the lines of a face
 pub no_face_support : {bytes : List ℕ} → ((n : Plane) (count : ℕ) (rest : List ℕ) → count ≤ length bytes → IsSupportLine n count bytes rest → ⊥) → (w : WrittenFace) (rest : List ℕ) → IsFaceLines w bytes rest → ⊥
 no_face_support f w rest h = f _ _ _ (face_fits h) (face_support h)
 
+-- bytes with a support line, but without its edges, aren't the lines of a face
 pub no_face_edges : {n : Plane} {count : ℕ} {bytes t : List ℕ} → length bytes < 10 ^ 64 → count ≤ length bytes → IsSupportLine n count bytes t → ((ps : List Plane) (rest : List ℕ) → HasEdges count ps t rest → ⊥) → (w : WrittenFace) (rest : List ℕ) → IsFaceLines w bytes rest → ⊥
 no_face_edges {n} {count} {bytes} {t} l k s f w rest h =
     let e = same_support (omega (arith, l, face_fits h)) (omega (arith, l, k)) (face_support h) s in
     f _ rest (subst (λ b. HasEdges count (map (λ (e : RingEdge). e.plane) w.edges) b rest) e.2 (subst (λ m. HasEdges m (map (λ (e : RingEdge). e.plane) w.edges) (behind_support h) rest) e.1 (face_edges h)))
 
+-- a support line with its edges is a face
 pub face_found : {n : Plane} {count : ℕ} {ps : List Plane} {f : Face} {bytes t rest : List ℕ} → IsSupportLine n count bytes t → HasEdges count ps t rest → f ≡ record { support = n; edges = ps } → HasFace f bytes rest
 face_found {n} {count} {ps} {f} {bytes} {t} {rest} s h e =
     let texts = edges_text h.lines in
@@ -113,9 +122,11 @@ face_found {n} {count} {ps} {f} {bytes} {t} {rest} s h e =
       is = e ∙ (λ i. record { support = n; edges = h.planes i });
     }
 
+-- the text of a face begins with `f`
 pub face_begins : {w : WrittenFace} {bytes rest : List ℕ} → IsFaceLines w bytes rest → (t : List ℕ) × (bytes ≡ 102 ∷ t)
 face_begins h = support_begins (face_support h)
 
+-- behind a face the text is shorter
 pub face_shorter : {w : WrittenFace} {bytes rest : List ℕ} → IsFaceLines w bytes rest → length rest < length bytes
 face_shorter {w} {bytes} {rest} h =
     let k = face_support h in
@@ -128,6 +139,7 @@ edges_meet : {m n : ℕ} {ps qs : List Plane} {a b c : List ℕ} → HasEdges m 
 edges_meet h k e =
     chain_same_end Any (λ x a b q r. tt) edges_end tt h.lines k.lines (h.many ∙ e ∙ sym k.many)
 
+-- the lines of a face end at one byte only
 pub face_end : {w v : WrittenFace} {bytes r s : List ℕ} → length bytes < 10 ^ 64 → IsFaceLines w bytes r → IsFaceLines v bytes s → r ≡ s
 face_end {w} {v} {bytes} {r} {s} l h k =
     let e = same_support (omega (arith, l, face_fits h)) (omega (arith, l, face_fits k)) (face_support h) (face_support k) in

@@ -4,27 +4,30 @@ use Rattle.std.specs.Fmt.{signed_decimal}
 use Rattle.ember_reread.specs.declared.fields.Four.{Four}
 use Rattle.ember_reread.specs.Numbers.{word_of, behind_word, IsNumber}
 use Rattle.ember_reread.specs.Lines.{IsField, AreFields}
-use Rattle.ember_reread.proofs.Words.{tails, word_whole, behind_ends, number_front, same_number}
+use Rattle.ember_reread.proofs.Words.{tail_injective, word_whole, behind_ends, number_front, same_number}
 
 -- ---- one field
 -- the word behind the space is the number's, and what is behind the word follows
 module _ {most : ℕ} {z : ℤ} {bytes s rest : List ℕ} (e : bytes ≡ 32 ∷ s) (h : IsField most z bytes rest) where
   here : s ≡ signed_decimal z ++ rest
-  here = tails (sym e ∙ h.is)
+  here = tail_injective (sym e ∙ h.is)
 
   pub field_word : IsNumber most z (word_of s)
   field_word = record { small = h.small; is = ap word_of here ∙ (number_front z rest h.ends).0 }
 
-  pub field_behind : behind_word s ≡ rest
+  field_behind : behind_word s ≡ rest
   field_behind = ap behind_word here ∙ (number_front z rest h.ends).1
 
+-- a space and a number are a field
 pub field_found : {most : ℕ} {z : ℤ} {bytes s : List ℕ} → bytes ≡ 32 ∷ s → IsNumber most z (word_of s) → IsField most z bytes (behind_word s)
 field_found {s = s} e h =
     record { small = h.small; ends = behind_ends s; is = e ∙ ap (λ l. 32 ∷ l) (word_whole s ∙ ap (λ w. w ++ behind_word s) h.is) }
 
+-- a text has one field at its front: the rest is the same
 pub same_rest : {m n : ℕ} {y z : ℤ} {bytes r s : List ℕ} → IsField m y bytes r → IsField n z bytes s → r ≡ s
 same_rest h k = sym (field_behind h.is h) ∙ field_behind h.is k
 
+-- a text has one number as a field at its front
 pub same_field : {m : ℕ} {y z : ℤ} {bytes r s : List ℕ} → m < 10 ^ 64 → IsField m y bytes r → IsField m z bytes s → y ≡ z
 same_field {m} {y} {z} l h k = same_number m y z l h.small k.small (sym (field_word h.is h).is ∙ (field_word h.is k).is)
 
@@ -49,6 +52,7 @@ module _ {most last : ℕ} {bytes b : List ℕ} {x : ℤ} (hx : IsField most x b
     pub no_last : {z : ℤ} {d : List ℕ} → IsField most z c d → NoField last d → (v : Four) (rest : List ℕ) → AreFields most last v bytes rest → ⊥
     no_last hz f v rest h = f _ _ (subst (λ l. IsField last v.w l rest) (same_rest (third v rest h) hz) h.w)
 
+-- a line has one reading as four fields
 pub same_fields : {m n : ℕ} {u v : Four} {bytes r s : List ℕ} → m < 10 ^ 64 → n < 10 ^ 64 → AreFields m n u bytes r → AreFields m n v bytes s → (u ≡ v) × (r ≡ s)
 same_fields {m} {n} {u} {v} {bytes} {r} {s} l k h i =
     let ex = same_field l h.x i.x in

@@ -13,7 +13,7 @@ use Rattle.ember_model.proofs.Tuples.{same_plane, same_spot}
 use Rattle.ember_reread.specs.declared.fields.Four.{Four}
 use Rattle.ember_reread.specs.Numbers.{IsEnd}
 use Rattle.ember_reread.specs.Lines.{IsField, AreFields, IsPlane, IsCorner, IsEdgeLine, IsSupportLine, HasEdge}
-use Rattle.ember_reread.proofs.Words.{tails}
+use Rattle.ember_reread.proofs.Words.{tail_injective}
 use Rattle.ember_reread.proofs.FieldTexts.{same_field, same_rest, same_fields}
 
 -- ---- numbers with a space before each, and what follows
@@ -60,7 +60,7 @@ corner_numbers v = v.x ∷ v.y ∷ v.z ∷ v.w ∷ []
 abbrev plane_four : Plane → Four
 plane_four p = record { x = p.a; y = p.b; z = p.c; w = p.d }
 
-pub plane_valid : {p : Plane} {bytes rest : List ℕ} → IsPlane p bytes rest → IsValidPlane p
+plane_valid : {p : Plane} {bytes rest : List ℕ} → IsPlane p bytes rest → IsValidPlane p
 plane_valid h = let f = h.fields in record { a = f.x.small; b = f.y.small; c = f.z.small; d = f.w.small }
 
 plane_spaced : {p : Plane} {bytes rest : List ℕ} → IsPlane p bytes rest → bytes ≡ spaced (plane_numbers p) rest
@@ -69,7 +69,7 @@ plane_spaced h = four_spaced h.fields
 spaced_plane : (p : Plane) (rest : List ℕ) → IsValidPlane p → IsEnd rest → IsPlane p (spaced (plane_numbers p) rest) rest
 spaced_plane p rest v e = record { fields = spaced_four (plane_four p) rest v.a v.b v.c v.d e }
 
-pub same_planes : {p q : Plane} {bytes r s : List ℕ} → IsPlane p bytes r → IsPlane q bytes s → (p ≡ q) × (r ≡ s)
+same_planes : {p q : Plane} {bytes r s : List ℕ} → IsPlane p bytes r → IsPlane q bytes s → (p ≡ q) × (r ≡ s)
 same_planes h k =
     let t = same_fields (omega arith) (omega arith) h.fields k.fields in
     let e = t.0 in
@@ -82,13 +82,13 @@ spaced_corner : (v : Spot) (rest : List ℕ) → IsWrittenCorner v → IsEnd res
 spaced_corner v rest h e =
     record { fields = spaced_four (record { x = v.x; y = v.y; z = v.z; w = v.w }) rest h.valid.x h.valid.y h.valid.z h.valid.w e; written = h }
 
-pub same_corners : {u v : Spot} {bytes r s : List ℕ} → IsCorner u bytes r → IsCorner v bytes s → (u ≡ v) × (r ≡ s)
+same_corners : {u v : Spot} {bytes r s : List ℕ} → IsCorner u bytes r → IsCorner v bytes s → (u ≡ v) × (r ≡ s)
 same_corners h k =
     let t = same_fields (omega arith) (omega arith) h.fields k.fields in
     let e = t.0 in
     (same_spot (ap (λ (v : Four). v.x) e) (ap (λ (v : Four). v.y) e) (ap (λ (v : Four). v.z) e) (ap (λ (v : Four). v.w) e), t.1)
 
-pub corner_rest : {u v : Spot} {bytes r s : List ℕ} → IsCorner u bytes r → IsCorner v bytes s → r ≡ s
+corner_rest : {u v : Spot} {bytes r s : List ℕ} → IsCorner u bytes r → IsCorner v bytes s → r ≡ s
 corner_rest h k = (same_corners h k).1
 
 -- ---- the line of an edge
@@ -116,12 +116,9 @@ NoEdge bytes = (e : RingEdge) (rest : List ℕ) → IsEdgeLine e bytes rest → 
 abbrev NoByte : ℕ → List ℕ → Type 0
 NoByte b bytes = (rest : List ℕ) → bytes ≡ b ∷ rest → ⊥
 
-pub no_edge_name : {bytes : List ℕ} → NoByte 101 bytes → NoEdge bytes
-no_edge_name f e rest h = let p = edge_parts h in f p.after_name p.name
-
 module _ {bytes s : List ℕ} (name : bytes ≡ 101 ∷ s) where
   edge_plane : {e : RingEdge} {rest : List ℕ} (p : EdgeParts e bytes rest) → IsPlane e.plane s p.after_plane
-  edge_plane {e} p = subst (λ l. IsPlane e.plane l p.after_plane) (tails (sym p.name ∙ name)) p.plane
+  edge_plane {e} p = subst (λ l. IsPlane e.plane l p.after_plane) (tail_injective (sym p.name ∙ name)) p.plane
 
   pub no_edge_plane : ((p : Plane) (rest : List ℕ) → IsPlane p s rest → ⊥) → NoEdge bytes
   no_edge_plane f e rest h = f _ _ (edge_plane (edge_parts h))
@@ -154,7 +151,7 @@ pub same_edge : {e d : RingEdge} {bytes r s : List ℕ} → IsEdgeLine e bytes r
 same_edge h k =
     let p = edge_parts h in let q = edge_parts k in
     let t = same_planes (edge_plane q.name p) q.plane in let c = same_corners (edge_corner q.name q.plane p) q.corner in
-    (λ i. record { plane = t.0 i; start = c.0 i }, tails c.1)
+    (λ i. record { plane = t.0 i; start = c.0 i }, tail_injective c.1)
 
 -- it begins with its name and a space
 pub edge_begins : {e : RingEdge} {bytes rest : List ℕ} → IsEdgeLine e bytes rest → (t : List ℕ) × (bytes ≡ 101 ∷ 32 ∷ t)
@@ -178,21 +175,19 @@ support_parts {n} {count} {bytes} {rest} h =
       number = record { small = record { small = omega arith }; ends = omega arith; is = refl };
     }
 
+-- a support line begins with `f`
 pub support_begins : {n : Plane} {count : ℕ} {bytes rest : List ℕ} → IsSupportLine n count bytes rest → (t : List ℕ) × (bytes ≡ 102 ∷ t)
 support_begins h = let p = support_parts h in (p.after_name, p.name)
 
 abbrev NoSupport : ℕ → List ℕ → Type 0
 NoSupport most bytes = (n : Plane) (count : ℕ) (rest : List ℕ) → count ≤ most → IsSupportLine n count bytes rest → ⊥
 
-pub no_support_name : {most : ℕ} {bytes : List ℕ} → NoByte 102 bytes → NoSupport most bytes
-no_support_name f n count rest l h = let p = support_parts h in f p.after_name p.name
-
 larger : {m n : ℕ} {z : ℤ} {bytes rest : List ℕ} → m ≤ n → IsField m z bytes rest → IsField n z bytes rest
 larger l h = record { small = record { small = omega (arith, l, h.small.small) }; ends = h.ends; is = h.is }
 
 module _ {bytes s : List ℕ} (name : bytes ≡ 102 ∷ s) where
   support_plane : {n : Plane} {count : ℕ} {rest : List ℕ} (p : SupportParts n count bytes rest) → IsPlane n s p.after_plane
-  support_plane {n} p = subst (λ l. IsPlane n l p.after_plane) (tails (sym p.name ∙ name)) p.plane
+  support_plane {n} p = subst (λ l. IsPlane n l p.after_plane) (tail_injective (sym p.name ∙ name)) p.plane
 
   pub no_support_plane : {most : ℕ} → ((p : Plane) (rest : List ℕ) → IsPlane p s rest → ⊥) → NoSupport most bytes
   no_support_plane f n count rest l h = f _ _ (support_plane (support_parts h))
@@ -225,11 +220,12 @@ pub support_line_once : {n m : Plane} {count many : ℕ} {bytes r s : List ℕ} 
 support_line_once {count = count} {r = r} h i =
     let p = support_parts h in let q = support_parts i in
     let t = same_planes (support_plane q.name p) q.plane in
-    (t.0, tails (same_rest (subst (λ b. IsField count (pos count) b (10 ∷ r)) t.1 p.number) q.number))
+    (t.0, tail_injective (same_rest (subst (λ b. IsField count (pos count) b (10 ∷ r)) t.1 p.number) q.number))
 
+-- a support line has one reading
 pub same_support : {n m : Plane} {count many : ℕ} {bytes r s : List ℕ} → count < 10 ^ 64 → many < 10 ^ 64 → IsSupportLine n count bytes r → IsSupportLine m many bytes s → (n ≡ m) × (count ≡ many) × (r ≡ s)
 same_support {n} {m} {count} {many} {bytes} {r} {s} k l h i =
     let p = support_parts h in let q = support_parts i in
     let f = support_number q.name q.plane {most = 10 ^ 64 - 1} (omega arith) p in
     let g = support_number q.name q.plane {most = 10 ^ 64 - 1} (omega arith) q in
-    ((same_planes (support_plane q.name p) q.plane).0, omega (arith, ints, same_field (omega arith) f g), tails (same_rest f g))
+    ((same_planes (support_plane q.name p) q.plane).0, omega (arith, ints, same_field (omega arith) f g), tail_injective (same_rest f g))

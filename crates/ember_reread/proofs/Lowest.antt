@@ -82,6 +82,7 @@ only_once {a} {t} {u} h l =
 same_entry : (a b : ℕ) (t x y : ℤ) → a ≡ 1 → b ≡ 1 → x ≡ pos a *ℤ t → y ≡ pos b *ℤ t → x ≡ y
 same_entry a b t x y p q e f = e ∙ ap (λ n. pos n *ℤ t) (p ∙ sym q) ∙ sym f
 
+-- one point has one form in lowest terms
 pub same_lowest : (u v : Spot) → pos 0 <ℤ u.w → pos 0 <ℤ v.w → SamePoint u v → IsLowest u → IsLowest v → u ≡ v
 same_lowest u v p q s l m =
     let k = unit_of (unsigned_abs (u.w +ℤ v.w)) u v p q (omega (arith, ints, p, q)) s in
@@ -93,6 +94,7 @@ pub whole_lowest : (v : Spot) → v.w ≡ pos 1 → IsLowest v
 whole_lowest v e = record { lowest = λ k a b c d. eq-one_of_dvd-one (subst (λ z. k ∣ unsigned_abs z) e d) }
 
 -- ---- the test of two points
+-- the test of the four numbers decides whether two points have the same numbers
 pub spots_are_equal : (u v : Spot) → Decides (int_eq u.x v.x && (int_eq u.y v.y && (int_eq u.z v.z && int_eq u.w v.w))) (u ≡ v)
 spots_are_equal u v =
     Decides-like _

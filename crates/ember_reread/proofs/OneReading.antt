@@ -5,7 +5,7 @@ use Rattle.ember_model.specs.declared.face.Face.{Face}
 use Rattle.ember_model.specs.Edges.{RingEdge}
 use Rattle.ember_model.specs.FaceFiles.{ending, WrittenFace, IsWrittenFace, IsWrittenEdge, IsFaceFile}
 use Rattle.ember_reread.specs.Lines.{IsEdgeLine, IsFaceLines}
-use Rattle.ember_reread.proofs.Words.{heads, tails}
+use Rattle.ember_reread.proofs.Words.{head_injective, tail_injective}
 use Rattle.ember_reread.proofs.LineTexts.{NoEdge, same_edge, edge_begins, support_line_once}
 use Rattle.ember_reread.proofs.FaceTexts.{edges_chain, face_support, face_begins, each_of}
 use Rattle.ember_reread.proofs.BodyTexts.{faces_chain, no_face_at_end}
@@ -20,11 +20,11 @@ same_edges {b = b} nb nc (step {x = x} {xs = xs} r e) (step {x = y} q d) =
 
 -- what follows the lines of edges isn't the line of one
 no_edge_at_end : (n : ℕ) → NoEdge (ending n)
-no_edge_at_end n e rest h = let t = edge_begins h in absurd (omega (arith, heads (tails t.1)))
+no_edge_at_end n e rest h = let t = edge_begins h in absurd (omega (arith, head_injective (tail_injective t.1)))
 
 no_edge_at_face : {w : WrittenFace} {bytes rest : List ℕ} → IsFaceLines w bytes rest → NoEdge bytes
 no_edge_at_face h e rest k =
-    let t = face_begins h in let s = edge_begins k in absurd (omega (arith, heads (sym t.1 ∙ s.1)))
+    let t = face_begins h in let s = edge_begins k in absurd (omega (arith, head_injective (sym t.1 ∙ s.1)))
 
 -- neither the line of an edge nor that of a face
 record IsLast (bytes : List ℕ) : Type 0 where
@@ -58,5 +58,5 @@ same_faces {b = b} l m (step {x = w} {xs = ws} r e) (step {x = v} q d) =
 -- two readings of a face file are of the same written faces
 pub face_file_is_read_once : (bytes : List ℕ) (fs gs : List Face) (h : IsFaceFile bytes fs) (k : IsFaceFile bytes gs) → h.written ≡ k.written
 face_file_is_read_once bytes fs gs h k =
-    let e = tails (tails (tails (tails (tails (tails (tails (tails (sym h.is ∙ k.is)))))))) in
+    let e = tail_injective (tail_injective (tail_injective (tail_injective (tail_injective (tail_injective (tail_injective (tail_injective (sym h.is ∙ k.is)))))))) in
     same_faces (ending_is_last (length h.written)) (ending_is_last (length k.written)) (subst (λ z. Chain IsFaceLines h.written z (ending (length h.written))) e (faces_chain h.written (ending (length h.written)) (each_of IsWrittenFace h.written h.well_formed))) (faces_chain k.written (ending (length k.written)) (each_of IsWrittenFace k.written k.well_formed))

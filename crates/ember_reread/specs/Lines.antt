@@ -29,9 +29,11 @@ pub record AreFields (most last : ℕ) (v : Four) (bytes rest : List ℕ) : Type
   pub z : IsField most v.z after_y after_z
   pub w : IsField last v.w after_z rest
 
+-- the bytes begin with the plane's four numbers, and `rest` follows
 pub record IsPlane (p : Plane) (bytes rest : List ℕ) : Type 0 where
   pub fields : AreFields 33554431 549755813887 (record { x = p.a; y = p.b; z = p.c; w = p.d }) bytes rest
 
+-- the bytes begin with a corner's four numbers, in lowest terms, and `rest` follows
 pub record IsCorner (v : Spot) (bytes rest : List ℕ) : Type 0 where
   pub fields : AreFields 4951760157141521099596496895 302231454903657293676543 (record {
     x = v.x;
@@ -42,10 +44,12 @@ pub record IsCorner (v : Spot) (bytes rest : List ℕ) : Type 0 where
   pub written : IsWrittenCorner v
 
 -- ---- lines
+-- the bytes begin with the line of the edge, and `rest` follows
 pub record IsEdgeLine (e : RingEdge) (bytes rest : List ℕ) : Type 0 where
   pub written : IsWrittenEdge e
   pub is : bytes ≡ edge_line e ++ rest
 
+-- the bytes begin with the first line of a face, and `rest` follows
 pub record IsSupportLine (n : Plane) (count : ℕ) (bytes rest : List ℕ) : Type 0 where
   pub plane : IsValidPlane n
   pub enough : 3 ≤ count
@@ -63,6 +67,7 @@ pub record HasEdges (count : ℕ) (ps : List Plane) (bytes rest : List ℕ) : Ty
   pub many : length edges ≡ count
   pub planes : ps ≡ map (λ (e : RingEdge). e.plane) edges
 
+-- the bytes begin with the lines of the face, and `rest` follows
 pub record IsFaceLines (w : WrittenFace) (bytes rest : List ℕ) : Type 0 where
   pub written : IsWrittenFace w
   pub is : bytes ≡ face_lines w.support w.edges ++ rest

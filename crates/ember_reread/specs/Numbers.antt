@@ -11,6 +11,7 @@ abbrev pub word_of : List ℕ → List ℕ
 word_of [] = []
 word_of (b ∷ bs) = if nat_le b 32 then [] else b ∷ word_of bs
 
+-- the bytes after the first word
 abbrev pub behind_word : List ℕ → List ℕ
 behind_word [] = []
 behind_word (b ∷ bs) = if nat_le b 32 then b ∷ bs else behind_word bs
@@ -21,7 +22,7 @@ IsEnd [] = Unit {0}
 IsEnd (b ∷ bs) = b ≤ 32
 
 -- ---- numbers
--- the number that these digits spell behind those of n
+-- n followed by these digits, as a number
 abbrev pub number_from : ℕ → List ℕ → ℕ
 number_from n [] = n
 number_from n (d ∷ ds) = number_from (n * 10 + (d - 48)) ds

@@ -35,7 +35,7 @@ fn begins_face(bytes: &[u8]) -> bool
     skip_byte(bytes, b'f').is_some()
 }
 
-// The faces of the lines behind the header.
+// The faces of the lines after the header.
 fn faces_in(alloc: Global, bytes: &[u8]) -> Result<FaceList, RereadFault>
     ensures ok { IfOk result (λ list. IsBody list bytes.now) }
     ensures form { IfErr result (λ e. (e ≡ RereadFault.OutOfMemory) ⊎ ((fs : List Face) → IsBody fs bytes.now → ⊥)) }
@@ -55,7 +55,7 @@ fn faces_in(alloc: Global, bytes: &[u8]) -> Result<FaceList, RereadFault>
 }
 
 /// The faces of a face file, in order. The start corners are checked for their form and then
-/// dropped.
+/// dropped. It is a fault if the bytes aren't a face file.
 pub fn read_faces(alloc: Global, bytes: &[u8]) -> Result<FaceList, RereadFault>
     ensures faces { IfOk result (λ list. IsFaceFile bytes.now list) }
     ensures form { IfErr result (λ e. (e ≡ RereadFault.OutOfMemory) ⊎ ((fs : List Face) → IsFaceFile bytes.now fs →

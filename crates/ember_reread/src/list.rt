@@ -4,7 +4,7 @@ ghost use Rattle.std.specs.Prelude.{◌≡◌};
 use ember_model::Face;
 use std::marker::Model;
 
-/// A list of faces.
+/// A vector of faces, which contracts see as a list.
 #[derive(Drop)]
 pub struct FaceList {
     faces: Vec<Face>,

@@ -4,13 +4,14 @@ ghost use Rattle.std.specs.List.{list_all};
 ghost use Rattle.std.specs.Char.{is_ascii_digit};
 ghost use Rattle.ember_reread.specs.Numbers.{number_from, is_padded, is_numeral, IsSize, IsNumber};
 
+// Whether all bytes are decimal digits.
 fn are_digits(text: &[u8]) -> bool
     ensures { result ≡ list_all is_ascii_digit text.now }
 {
     text.iter().all(|b| b.is_ascii_digit())
 }
 
-// No digit, or a 0 before others.
+// Whether there is no digit, or a 0 before others.
 fn has_padding(digits: &[u8]) -> bool
     ensures { result ≡ is_padded digits.now }
 {
@@ -20,6 +21,7 @@ fn has_padding(digits: &[u8]) -> bool
     }
 }
 
+// Whether the bytes are the digits of a number without leading zeros.
 fn is_numeral(digits: &[u8]) -> bool
     ensures { result ≡ is_numeral digits.now }
 {

@@ -31,7 +31,7 @@ pub(crate) fn skip_bytes<'a>(bytes: &'a [u8], text: &[u8]) -> Option<&'a [u8]>
     bytes.strip_prefix(text)
 }
 
-// The bytes before the first that is a space or lies below it, and from it on.
+// The bytes before the first that is a space or less, and from it on.
 fn cut_word(bytes: &[u8]) -> (&[u8], &[u8])
     ensures word { result.0.now ≡ word_of bytes.now }
     ensures behind { result.1.now ≡ behind_word bytes.now }
@@ -92,6 +92,7 @@ pub(crate) fn take_plane(bytes: &[u8]) -> Option<(Plane, &[u8])>
     Some((plane, rest))
 }
 
+// Whether the corner is in lowest terms.
 fn is_lowest(corner: &Meet) -> bool
     ensures { IsTrue result ↔ IsLowest (spot_of corner.now) }
 {

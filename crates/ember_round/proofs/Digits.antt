@@ -3,16 +3,17 @@ use Rattle.std.proofs.Common.{◌≡◌, ℕ, zero, suc, ◌+◌, ◌-◌, ◌^�
 use Rattle.std.proofs.Math.Nat.{one-le-pow}
 use Rattle.ember_round.specs.Decimals.{fraction_digits}
 
+-- a power of ten is positive
 pub power_of_10_positive : (k : ℕ) → 0 < 10 ^ k
 power_of_10_positive k = one-le-pow k 10 (omega arith)
 
 -- one digit more
-pub digit_more : (xs : List ℕ) (k r : ℕ) → (r ≡ 0 → ⊥) → (xs ++ ((48 + r / 10 ^ k) ∷ [])) ++ fraction_digits k (r % 10 ^ k) ≡ xs ++ fraction_digits (suc k) r
+digit_more : (xs : List ℕ) (k r : ℕ) → (r ≡ 0 → ⊥) → (xs ++ ((48 + r / 10 ^ k) ∷ [])) ++ fraction_digits k (r % 10 ^ k) ≡ xs ++ fraction_digits (suc k) r
 digit_more xs k zero n = absurd (n refl)
 digit_more xs k (suc r) n = append_assoc xs ((48 + suc r / 10 ^ k) ∷ []) (fraction_digits k (suc r % 10 ^ k))
 
 -- nothing is left
-pub no_digits : (k : ℕ) → fraction_digits k 0 ≡ []
+no_digits : (k : ℕ) → fraction_digits k 0 ≡ []
 no_digits zero = refl
 no_digits (suc k) = refl
 

@@ -5,13 +5,13 @@ use Rattle.std.specs.Prelude.{ℕ, zero, suc, ◌+◌, ◌/◌, ◌%◌, ◌^◌
 abbrev pub sign_text : Bool → ℕ → List ℕ
 sign_text negative size = if negative && nat_lt 0 size then 45 ∷ [] else []
 
--- the digits of part / 10 ^ places behind the point, as long as anything is left
+-- the digits of part / 10 ^ places after the point, as long as anything is left
 abbrev pub fraction_digits : ℕ → ℕ → List ℕ
 fraction_digits zero part = []
 fraction_digits (suc places) zero = []
 fraction_digits (suc places) (suc n) = (48 + suc n / 10 ^ places) ∷ fraction_digits places (suc n % 10 ^ places)
 
--- and with the point, if there are digits behind it
+-- and with the point, if there are digits after it
 abbrev pub fraction_text : ℕ → ℕ → List ℕ
 fraction_text places part = if part == 0 then [] else 46 ∷ fraction_digits places part
 

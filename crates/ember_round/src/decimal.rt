@@ -53,10 +53,10 @@ fn put_whole(whole: u128, out: &mut Vec<u8>) -> Result<(), AllocError>
     out.extend_from_slice(buffer.format(whole).as_bytes())
 }
 
-/// Appends the decimal of at most `places` places that is nearest to `n / d`; of two equally near, the one whose last
-/// place is even. It has no zeros at the end, no bare point, and no sign if it is 0. There are at most 17 places; the
-/// denominator is from 1 to 2^127 - 1, and the fraction is below 2^128 - 1 units of the last place. Its one error
-/// is out-of-memory.
+/// Appends the decimal of at most `places` places that is nearest to `n / d`; of two equally near,
+/// the one whose last place is even. It has no zeros at the end, no bare point, and no sign if it
+/// is 0. There are at most 17 places; the denominator is from 1 to 2^127 - 1, and the fraction is
+/// below 2^128 - 1 units of the last place. Its one error is out-of-memory.
 pub fn put_decimal(n: &Wide, d: u128, places: u32, out: &mut Vec<u8>) -> Result<(), AllocError>
     requires positive { 0 < d }
     requires small { d < 2 ^ 127 }

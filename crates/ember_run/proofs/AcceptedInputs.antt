@@ -1,4 +1,4 @@
--- A verdict is an output exactly where the input is accepted.
+-- A verdict is an output exactly if the input is accepted.
 use Rattle.std.proofs.Common.{◌≡◌, ℕ, zero, suc, ◌+◌, ◌<◌, ◌≤◌, ℤ, pos, ◌<ℤ◌, Bool, true, false, not, cond, List, [], ◌∷◌, ◌++◌, length, map, filter, flat_map, get_or, replicate, Option, Some, None, Result, Ok, Err, All, refl, sym, ap, subst, ◌∙◌, arith, append_assoc, nat_le, leb-true, le-leb}
 use Rattle.std.specs.Prelude.{⊤, ◌↔◌}
 use Rattle.std.specs.List.{AllByRecursion, list_all}
@@ -211,6 +211,7 @@ are_meshes places count ts (told ∷ more) (mesh ∷ meshes) so_far are =
     let r = are_meshes places (count + 1) (ts ++ mesh) more meshes (mesh_more ts mesh count so_far sound.0 sound.1 is.closed) (later_meshes places (count + 1) told more mesh meshes are) in
     subst (λ (n : ℕ). AreMeshes (ts ++ joined (mesh ∷ meshes)) n) (omega arith) (subst (λ (ts : List Tri). AreMeshes ts (count + 1 + length more)) (joined_after ts mesh meshes) r)
 
+-- the triangles of accepted files are a scene
 pub accepted_is_scene : (places : ℕ) (contents : Contents) (tris : List Tri) → IsSceneOf places contents tris → IsScene tris (length contents)
 accepted_is_scene places contents tris is =
     let from_none = are_meshes places 0 [] contents is.meshes no_meshes (scene_meshes places contents tris is) in
@@ -259,9 +260,6 @@ Told = List ℕ → Option (List ℕ)
 told_length : (told : Told) (names : List (List ℕ)) → 1 ≤ length names → AreNames names → (1 ≤ length (map told names)) × (length (map told names) ≤ 64)
 told_length told names some are =
     let e = length-map names told in let most = are.0 in (omega (arith, e, some), omega (arith, e, most))
-
-as_written : (verdict : Verdict) (output : Output) → verdict ≡ Writes output → Leads verdict (Writes output)
-as_written verdict output e = (tt, e)
 
 abbrev output_of : Verdict → Output → Output
 output_of Unknown other = other
@@ -340,6 +338,7 @@ from (command.Pairs workers places names) told output limits (accepted.of_pairs 
 from (command.Demo boxes workers) told output limits accepted.of_demo = demo_given boxes workers told
 from (command.Slice at name) told output limits is = elim is [ ]
 
+-- a command asks for an output exactly if it accepts its input
 pub accepted_has_output : (words : List (List ℕ)) (given : Command) → command_of words ≡ Some given → (told : Told) (output : Output) → (told_verdict (Some given) told ≡ Writes output) ↔ IsAccepted given (map told (names_of (Some given))) output
 accepted_has_output words given e told output =
     let limits = read_limits words (Ok given) e in (to given told output limits (words_name_files words given e), from given told output limits)
@@ -351,6 +350,7 @@ asked (Refused status) a = a
 asked (Writes output) a = tt
 asked (Slices at bytes) a = tt
 
+-- `slice` asks for an output exactly if it accepts its file
 pub accepted_has_slice : (at : ℤ) (name : List ℕ) (told : Told) → AsksOutput (told_verdict (Some (command.Slice at name)) told) ↔ IsAcceptedSlice at (told name)
 accepted_has_slice at name told = (there, back)
   where

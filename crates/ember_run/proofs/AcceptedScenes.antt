@@ -40,15 +40,17 @@ use Rattle.ember_run.proofs.NoneLoose.{balanced_if_none}
 use Rattle.ember_run.proofs.OneTexts.{output_one, report_one, slice_one}
 
 -- ---- the meshes of a scene, one after another
--- the triangles of so many closed meshes
+-- the triangles of `count` closed meshes
 pub record AreMeshes (ts : List Tri) (count : ℕ) : Type 0 where
   pub valid : All IsValidTri ts
   pub numbered : All (HasMesh count) ts
   pub balanced : (m : ℕ) → IsBalanced (of_mesh m ts)
 
+-- no triangles are no meshes
 pub no_meshes : AreMeshes [] 0
 no_meshes = record { valid = All-nil IsValidTri; numbered = All-nil (HasMesh 0); balanced = λ m. balanced-nil }
 
+-- one more closed mesh
 pub mesh_more : (ts mesh : List Tri) (count : ℕ) → AreMeshes ts count → All IsValidTri mesh → All (λ t. t.mesh ≡ count + 1) mesh → IsBalanced mesh → AreMeshes (ts ++ mesh) (count + 1)
 mesh_more ts mesh count are valid of balanced = record {
   valid = All-append IsValidTri ts mesh are.valid valid;
@@ -57,7 +59,7 @@ mesh_more ts mesh count are valid of balanced = record {
 }
 
 -- ---- verdicts
--- the triangles of the output, where the verdict is one, are as a scene gives them
+-- if the verdict is an output, its triangles are those of a scene
 abbrev HasScene : Verdict → Type 0
 HasScene Unknown = ⊤
 HasScene (Refused status) = ⊤
@@ -148,6 +150,7 @@ text_one (Refused status) one other s n a b = absurd a
 text_one (Writes output) one other s n a b = output_one output one other s a b
 text_one (Slices at bytes) one other s n a b = slice_one at bytes one other a b
 
+-- an input has one output
 pub input_one : (words : List (List ℕ)) (told : List ℕ → Option (List ℕ)) (one other : List ℕ) → told_verdict (command_of words) told ≢ Unknown → IsText (told_verdict (command_of words) told) one → IsText (told_verdict (command_of words) told) other → one ≡ other
 input_one words told one other n a b =
     text_one (told_verdict (command_of words) told) one other (words_scene words told) n a b
@@ -174,6 +177,7 @@ err_text_one given told Done one other s n a b =
     report_if_one (asks_report given) (told_verdict given told) one other s n a b
 err_text_one given told status one other s n a b = a ∙ sym b
 
+-- an input and a status have one text on err
 pub err_one : (words : List (List ℕ)) (told : List ℕ → Option (List ℕ)) (status : Status) (one other : List ℕ) → told_verdict (command_of words) told ≢ Unknown → IsErrText (command_of words) told status one → IsErrText (command_of words) told status other → one ≡ other
 err_one words told status one other n a b =
     err_text_one (command_of words) told status one other (words_scene words told) n a b

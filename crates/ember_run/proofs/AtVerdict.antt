@@ -19,7 +19,7 @@ use Rattle.ember_run.specs.Verdict.{Contents, Verdict, Refused, Writes, after_gi
 use Rattle.ember_run.proofs.Stops.{after_stop}
 use Rattle.ember_run.proofs.Verdicts.{refusal_then, text_then}
 
--- what the words ask for, over so many meshes
+-- what the words ask for, over m meshes
 abbrev at_for : Spot → Option (List ℕ) → ℕ → Contents → ℕ → Verdict
 at_for point expr places contents m = after_given expr m (λ formula. after_scene places contents (counts_verdict point m formula))
 
@@ -41,15 +41,18 @@ pub clear_text : (point : Spot) (m : ℕ) (formula : Option Formula) (tris : Lis
 clear_text point m formula tris counts bytes clear e is =
     subst (λ (b : Bool). IsText (if b then Writes (Counts point m tris formula) else Refused NotClear) bytes) (sym clear) (is ∙ ap (λ (counts : List ℤ). counts_text m counts formula) e)
 
+-- a point that isn't clear of some triangle is refused
 pub unclear_refused : (point : Spot) (m : ℕ) (formula : Option Formula) (tris : List Tri) → list_all (λ t. is_clear_of t point) tris ≡ false → IsRefusal NotClear (counts_verdict point m formula tris)
 unclear_refused point m formula tris clear =
     subst (λ (b : Bool). IsRefusal NotClear (if b then Writes (Counts point m tris formula) else Refused NotClear)) (sym clear) refl
 
+-- the text for a scene is the output for the files that were read as it
 pub text_if : {E : Type 0} (point : Spot) (expr : Option (List ℕ)) (places m : ℕ) (contents : Contents) (formula : Option Formula) (tris : List Tri) (result : Result (Vec ℕ Global) E) → length contents ≡ m → Given expr m formula → SceneRead places contents tris → IfOk result (λ text. IsText (counts_verdict point m formula tris) text.items) → IfOk result (λ text. IsText (at_verdict point expr places contents) text.items)
 text_if point expr places m contents formula tris (Ok text) e given scene is =
     text_then text.items (at_verdict point expr places contents) (counts_verdict point m formula tris) (at_same point expr places m contents formula tris e given scene) is
 text_if point expr places m contents formula tris (Err error) e given scene is = tt
 
+-- a refusal for a scene is one for the files that were read as it
 pub point_stop_if : {A : Type 0} (point : Spot) (expr : Option (List ℕ)) (places m : ℕ) (names : List (List ℕ)) (shelf : ShelfCall) (formula : Option Formula) (tris : List Tri) (result : Result A Status) → length (map shelf.told names) ≡ m → Given expr m formula → SceneRead places (map shelf.told names) tris → IfErr result (λ status. is_refusal status ≡ true → IsRefusal status (counts_verdict point m formula tris)) → IfErr result IsAfterFiles → ((i : ℕ) → result ≢ Err (ReadFault i)) → (result ≢ Err Done) × (result ≢ Err Words) × (result ≢ Err WriteFault) → IfErr result (IsStop (at_verdict point expr places) names shelf)
 point_stop_if point expr places m names shelf formula tris (Ok value) e given scene refused kind only no_other = tt
 point_stop_if point expr places m names shelf formula tris (Err status) e given scene refused kind only no_other =

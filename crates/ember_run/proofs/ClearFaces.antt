@@ -12,7 +12,7 @@ use Rattle.ember_model.proofs.ClearPoints.{clear_of_from}
 use Rattle.ember_model.proofs.SignTests.{and_parts}
 use Rattle.ember_law.proofs.Vectors.{axes_law}
 
--- where all triangles pass, so do their faces
+-- if a point passes the test for all triangles, it is clear of their faces
 pub clear_faces : (tris : List Tri) (p : Spot) → pos 0 <ℤ p.w → list_all (λ t. is_clear_of t p) tris ≡ true → AreClear (faces_of tris) p
 clear_faces [] p w e = tt
 clear_faces (t ∷ ts) p w e =
@@ -22,5 +22,6 @@ clear_faces (t ∷ ts) p w e =
     by true e c r = r
     by false e c r = (c e, r)
 
+-- at a point that is clear of the scene, the winding numbers are the same along all axes
 pub same_along : (tris : List Tri) (n : ℕ) → IsScene tris n → (p : Spot) → pos 0 <ℤ p.w → list_all (λ t. is_clear_of t p) tris ≡ true → (a b : Axis) → vector a tris p ≡ vector b tris p
 same_along tris n s p w e a b = axes_law tris n s p a b w (clear_faces tris p w e)

@@ -9,6 +9,7 @@ use Rattle.ember_run.specs.Verdict.{Verdict, after_expr, after_parse}
 use Rattle.ember_run.specs.declared.status.Status.TheVariants.{ExprRefused}
 use Rattle.ember_run.proofs.Stops.{expr_tells}
 
+-- an expression with a fault is refused
 pub fault_stop : (text : List ℕ) (meshes : ℕ) (fault : ExprFault) (next : Formula → Verdict) → fault ≢ expr.OutOfMemory → (fault ≡ expr.OutOfMemory) ⊎ (expr_of text meshes ≡ Err fault) → IsWordsStop (after_expr text meshes next) (ExprRefused fault)
 fault_stop text meshes fault next n (inl e) = absurd (n e)
 fault_stop text meshes fault next n (inr e) = record { refused = λ r. ap (λ (parsed : Result Formula ExprFault). after_parse parsed next) e; of_words = expr_tells fault n }

@@ -12,7 +12,7 @@ use Rattle.ember_text.specs.Texts.{Writes, IsGoodText}
 use Rattle.ember_run.specs.FaceTexts.{AddsFace, HasTexts, IsFaceFileOf, ReadsBack, written_face}
 use Rattle.ember_run.proofs.ReadBack.{nothing_back, triangle_back, join_back}
 
-pub faces_of-append : (ts us : List Tri) → faces_of (ts ++ us) ≡ faces_of ts ++ faces_of us
+faces_of-append : (ts us : List Tri) → faces_of (ts ++ us) ≡ faces_of ts ++ faces_of us
 faces_of-append [] us = refl
 faces_of-append (t ∷ ts) us = by (is_flat t) (faces_of-append ts us)
   where
@@ -20,9 +20,11 @@ faces_of-append (t ∷ ts) us = by (is_flat t) (faces_of-append ts us)
     by true e = e
     by false e = ap (λ (fs : List Face). face_of t ∷ fs) e
 
+-- the header is the text of no faces
 pub no_texts : HasTexts [] header 0
 no_texts = record { texts = []; are_texts = none; read_back = nothing_back; is = refl; count_is = refl }
 
+-- one more triangle's face
 pub more_texts : (ts : List Tri) (i : ℕ) (d : Tri) (added : ℕ) (old new : List ℕ) (count : ℕ) → i < length ts → HasTexts (take i ts) old count → AddsFace (get_or ts i d) added old new → HasTexts (take (i + 1) ts) new (count + added)
 more_texts ts i d added old new count l h a =
     let t = get_or ts i d in
@@ -53,6 +55,7 @@ ended ts bytes count h =
       outlined = r.outlined;
     }
 
+-- after the last triangle, the last line makes the text a face file
 pub face_file : (ts : List Tri) (i : ℕ) (bytes file : List ℕ) (count : ℕ) → length ts ≤ i → HasTexts (take i ts) bytes count → file ≡ bytes ++ ending count → IsFaceFileOf ts file
 face_file ts i bytes file count l h e =
     subst (λ (file : List ℕ). IsFaceFileOf ts file) (sym e) (ended ts bytes count (subst (λ (ts : List Tri). HasTexts ts bytes count) (take_all i ts l) h))
@@ -66,11 +69,13 @@ some_round : (b : Bool) (f r : Face) → Some r ≡ (if b then None else Some f)
 some_round true f r e = cc
 some_round false f r e = (refl, cc)
 
+-- a flat triangle adds nothing
 pub flat_adds : (t : Tri) (bytes : List ℕ) → None ≡ (if is_flat t then None else Some (face_of t)) → AddsFace t 0 bytes bytes
 flat_adds t bytes e =
     let b = none_flat (is_flat t) (face_of t) e in
     record { text = []; is_text = rw b none; reads_back = rw b nothing_back; is = sym (append-nil bytes); count_is = rw b refl }
 
+-- any other triangle adds its face
 pub face_adds : (t : Tri) (r : Face) (old new : List ℕ) → Some r ≡ (if is_flat t then None else Some (face_of t)) → Writes r old new → AddsFace t 1 old new
 face_adds t r old new e w =
     let b = some_round (is_flat t) (face_of t) r e in

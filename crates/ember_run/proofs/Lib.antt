@@ -1,8 +1,8 @@
-pub mod Pieces
+pub mod ErrTexts
 pub mod Verdicts
 pub mod Stops
 pub mod Expressions
-pub mod Before
+pub mod RefusedBeforeFiles
 pub mod SceneFiles
 pub mod PointCounts
 pub mod ClearFaces
@@ -17,7 +17,7 @@ pub mod OneReading
 pub mod ClosedMeshes
 pub mod SolidFiles
 pub mod SliceFaults
-pub mod Complete
+pub mod CallsServe
 pub mod OneTexts
 pub mod NoneLoose
 pub mod AcceptedScenes

@@ -44,7 +44,7 @@ module _ (tris : List Tri) (formula : Formula) (file : List ℕ) (is : IsSolidFi
   written_mean : HaveMeaning tris formula (map face_from is.reads.read.written)
   written_mean = subst (HaveMeaning tris formula) is.reads.read.faces is.reads.meaning
 
-  -- the document's faces wind once at most where they are clear
+  -- the document's faces wind at most once around a point that is clear of them
   pub solid_once_at_most : (faces : List Face) → IsFaceFile file faces → WindOnceAtMost faces
   solid_once_at_most =
       each_reading WindOnceAtMost (wind_once_at_most tris formula is.reads.read.written is.reads.outlined written_mean)
@@ -68,7 +68,7 @@ module _ (tris : List Tri) (formula : Formula) (file : List ℕ) (is : IsSolidFi
         along_y = crossed_along_y p at here.weight here.on slice.2.are_segments ∙ m Y axis p here.weight clear clear_faces;
       }
 
-  -- the segments are crossed once at most where the faces are clear
+  -- the segments are crossed at most once at a point that is clear of the faces
   pub slices_once_at_most : (at : ℤ) (text : List ℕ) (slice : IsSlice at file text) → SegmentsCrossOnceAtMost at slice.0 slice.2.segments
   slices_once_at_most at text slice p here clear_faces =
       let w = solid_once_at_most slice.0 slice.1 p here.weight clear_faces in (

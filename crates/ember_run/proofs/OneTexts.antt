@@ -8,7 +8,7 @@ use Rattle.ember_model.specs.Meshes.{IsScene, faces_of}
 use Rattle.ember_expr.specs.Formula.{Formula}
 use Rattle.ember_leaf.specs.declared.kept.Kept.{Kept}
 use Rattle.ember_leaf.specs.Scenes.{IsWritten}
-use Rattle.ember_leaf.proofs.OneList.{written_unique}
+use Rattle.ember_leaf.proofs.WrittenRegionsUnique.{written_unique}
 use Rattle.ember_pairs.specs.declared.pair.Pair.{Pair}
 use Rattle.ember_pairs.specs.Pairs.{AtPair, meeting, apart}
 use Rattle.ember_pairs.specs.Texts.{pairs_text}
@@ -39,11 +39,13 @@ module _ (tris : List Tri) (meshes : ℕ) (scene : IsScene tris meshes) (formula
   kept_one : (us vs : List Kept) → IsWritten tris formula us → IsWritten tris formula vs → us ≡ vs
   kept_one us vs a b = written_unique tris formula meshes scene us vs a b
 
+  -- a scene and an expression have one document
   pub solid_one : (one other : List ℕ) → IsSolidText tris formula one → IsSolidText tris formula other → one ≡ other
   solid_one one other a b =
       let same = kept_one a.kept b.kept a.solid.written b.solid.written in
       document_one (map written_face b.kept) one other (subst (λ (kept : List Kept). IsDocumentText (map written_face kept) one) same a.text) b.text
 
+  -- a solid has one report
   pub report_one : (one other : List ℕ) → IsReportText tris formula one → IsReportText tris formula other → one ≡ other
   report_one one other a b =
       let same = kept_one a.kept b.kept a.solid.written b.solid.written in

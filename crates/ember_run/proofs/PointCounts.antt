@@ -25,6 +25,7 @@ clear_same false t p w h = by (is_clear_of t p) refl
     by false e = refl
     by true e = h.1 (clear_of_from t p w e)
 
+-- a test of all items is that of the next one and of the rest
 pub all_more : {X : Type 0} (test : X → Bool) (xs : List X) (i : ℕ) (d : X) → i < length xs → list_all test (drop i xs) ≡ (test (get_or xs i d) && list_all test (drop (i + 1) xs))
 all_more test xs i d l = ap (list_all test) (drop_more xs i d l)
 
@@ -37,13 +38,16 @@ zeros_added (suc n) [] e = absurd (omega (arith, e))
 zeros_added (suc n) (x ∷ xs) e =
     let p : pos 0 +ℤ x ≡ x = omega (arith, linear) in let r = zeros_added n xs (omega (arith, e)) in λ i. p i ∷ r i
 
+-- a vector added to the zero vector is itself
 pub from_nothing : (axis : Axis) (tris : List Tri) (point : Spot) → added (replicate 64 (pos 0)) (vector axis tris point) ≡ vector axis tris point
 unfolding meshes
 from_nothing axis tris point = zeros_added 64 (vector axis tris point) refl
 
+-- zeros are small
 pub nothing_small : (m n : ℕ) → All (Small m) (replicate n (pos 0))
 nothing_small m zero = All-nil (Small m)
 nothing_small m (suc n) = All-cons (Small m) (pos 0) (replicate n (pos 0)) (record { small = omega arith }) (nothing_small m n)
 
+-- counts of at most 262144 triangles are within the limit for expressions
 pub few_counts : (n : ℕ) (xs : List ℤ) → n ≤ 262144 → ((m : ℕ) → All (Small m) (replicate 64 (pos 0)) → All (Small (m + n)) xs) → AreCounts xs
 few_counts n xs l within = all_within xs (omega (arith, l)) (within 0 (nothing_small 0 64))

@@ -16,9 +16,11 @@ use Rattle.ember_poly.proofs.TriangleOutline.{triangle_outline}
 use Rattle.ember_text.specs.Texts.{IsGoodText}
 use Rattle.ember_run.specs.FaceTexts.{ReadsBack, written_lines, written_face}
 
+-- no faces are read back from no text
 pub nothing_back : ReadsBack [] []
 nothing_back = record { written = []; well_formed = All-nil IsWrittenFace; is = refl; faces = refl; outlined = All-nil IsOutlined }
 
+-- the text of a triangle's face reads back as the face
 pub triangle_back : (t : Tri) (text : List ℕ) → is_flat t ≡ false → IsGoodText (face_of t) text → ReadsBack (face_of t ∷ []) text
 unfolding face_of
 triangle_back t text e g =
@@ -32,6 +34,7 @@ triangle_back t text e g =
       outlined = All-cons IsOutlined w [] (outline_is_its_own (face_of t) g.text_is.outline (has_inside t e) g.text_is.is_outline) (All-nil IsOutlined);
     }
 
+-- texts that read back can be joined
 pub join_back : {fs gs : List Face} {x y : List ℕ} → ReadsBack fs x → ReadsBack gs y → ReadsBack (fs ++ gs) (x ++ y)
 join_back p q =
     record {

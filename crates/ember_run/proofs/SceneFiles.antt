@@ -27,6 +27,7 @@ pub mesh_read : (places i : ℕ) (told : Option (List ℕ)) (tris : List Tri) (n
 mesh_read places i told tris next read closed =
     same_then (after_mesh places i told next) (after_balance i (loose_of tris) (next tris)) (next tris) (read (λ tris. after_balance i (loose_of tris) (next tris))) (subst (λ (found : Option Loose). IsSameIfTold (after_balance i found (next tris)) (next tris)) (sym closed) (same_self (next tris)))
 
+-- a file whose mesh isn't closed is refused
 pub mesh_refused : (places i : ℕ) (told : Option (List ℕ)) (tris : List Tri) (loose : Loose) (next : List Tri → Verdict) → ((next : List Tri → Verdict) → IsSameIfTold (after_file places i told next) (next tris)) → loose_of tris ≡ Some loose → IsRefusal (MeshRefused i (Unbalanced loose)) (after_mesh places i told next)
 mesh_refused places i told tris loose next read found =
     refusal_then (MeshRefused i (Unbalanced loose)) (after_mesh places i told next) (after_balance i (loose_of tris) (next tris)) (read (λ tris. after_balance i (loose_of tris) (next tris))) (subst (λ (found : Option Loose). IsRefusal (MeshRefused i (Unbalanced loose)) (after_balance i found (next tris))) (sym found) refl)
@@ -35,9 +36,6 @@ mesh_refused places i told tris loose next read found =
 numbered_more : (m : ℕ) (parts : List Closed) (part : Closed) → AreNumbered m parts → All (λ t. t.mesh ≡ m + length parts) part.tris → AreNumbered m (parts ++ part ∷ [])
 numbered_more m [] part h l = (subst (λ (n : ℕ). All (λ t. t.mesh ≡ n) part.tris) (omega arith) l, tt)
 numbered_more m (p ∷ parts) part h l = (h.0, numbered_more (m + 1) parts part h.1 (subst (λ (n : ℕ). All (λ t. t.mesh ≡ n) part.tris) (omega arith) l))
-
-pub no_parts : (places : ℕ) → HasParts places [] []
-no_parts places = record { count = refl; numbered = tt; same = λ more next. same_self (after_files places 1 [] more next) }
 
 -- what was read, with one file more
 more_read : (told : List ℕ → Option (List ℕ)) (files : List (List ℕ)) (k : ℕ) (d : List ℕ) (more : Contents) → k < length files → map told (take (k + 1) files) ++ more ≡ map told (take k files) ++ told (get_or files k d) ∷ more
@@ -66,6 +64,7 @@ more_same places told files k d parts part l h numbered read =
           (read (λ mesh. after_files places (k + 1 + 1) (triangles_of parts ++ mesh) more next))))));
     }
 
+-- one more file was read as a mesh
 pub more_parts : (places : ℕ) (told now : List ℕ → Option (List ℕ)) (files : List (List ℕ)) (k number : ℕ) (d name : List ℕ) (parts all : List Closed) (part : Closed) → k < length files → HasParts places (map told (take k files)) parts → now ≡ told → number ≡ k + 1 → name ≡ get_or files k d → all ≡ parts ++ part ∷ [] → All (λ t. t.mesh ≡ number) part.tris → ((next : List Tri → Verdict) → IsSameIfTold (after_mesh places number (now name) next) (next part.tris)) → HasParts places (map told (take (k + 1) files)) all
 more_parts places told now files k number d name parts all part l h t e n a numbered read =
     subst (λ (all : List Closed). HasParts places (map told (take (k + 1) files)) all) (sym a)
@@ -115,6 +114,7 @@ with_part : (told : List ℕ → Option (List ℕ)) (files : List (List ℕ)) (k
 with_part told files k d others l =
     ap (λ (xs : Contents). xs ++ drop (k + 1) others) (take_told told (k + 1) files) ∙ more_read told files k d (drop (k + 1) others) l
 
+-- a file that can't be read as a mesh stops the scene
 pub part_stop : (places : ℕ) (now : List ℕ → Option (List ℕ)) (files : List (List ℕ)) (k number : ℕ) (d name : List ℕ) (parts : List Closed) (shelf : ShelfCall) (status : Status) → k < length files → HasParts places (map shelf.told (take k files)) parts → now ≡ shelf.told → number ≡ k + 1 → name ≡ get_or files k d
     → (is_refusal status ≡ true → (next : List Tri → Verdict) → IsRefusal status (after_mesh places number (now name) next)) → (is_refusal status ≡ true → refused_file status ≡ Some number) → ((i : ℕ) → status ≡ ReadFault i → (i ≡ number) × HasShelfFailed shelf × (shelf.fault_at ≡ i)) → hides_memory status ≡ false → (status ≢ Done) × (status ≢ Words) × (status ≢ WriteFault)
     → IsSceneStop places files shelf status
@@ -140,6 +140,7 @@ part_stop places now files k number d name parts shelf status l h t e n refused 
 pub few_joined : (tris : List Tri) (next : List Tri → Verdict) → length tris ≤ 262144 → after_total tris next ≡ next tris
 few_joined tris next l = rw (le-leb (length tris) 262144 l) refl
 
+-- too many triangles are refused
 pub many_refused : (tris : List Tri) (count : ℕ) (next : List Tri → Verdict) → count ≡ length tris → 262144 < count → IsRefusal (Limit Triangles count) (after_total tris next)
 many_refused tris count next e l = subst (λ (n : ℕ). IsRefusal (Limit Triangles n) (after_total tris next)) (sym e) (rw (above (length tris) 262144 (omega (arith, e, l))) refl)
 
@@ -151,10 +152,12 @@ scene_refused : (places : ℕ) (contents : Contents) (parts : List Closed) (stat
 scene_refused places contents parts status next h r =
     refusal_then status _ _ (subst (λ (cs : Contents). IsSameIfTold (after_scene places cs next) (after_total (triangles_of parts) next)) (append-nil contents) (h.same [] next)) r
 
+-- the joined meshes are the scene of the files
 pub joined_if : {E : Type 0} (places : ℕ) (contents : Contents) (parts : List Closed) (result : Result Scene E) → HasParts places contents parts → IfOk result (λ scene. (next : List Tri → Verdict) → after_total (triangles_of parts) next ≡ next scene.tris) → IfOk result (λ scene. (next : List Tri → Verdict) → IsSameIfTold (after_scene places contents next) (next scene.tris))
 joined_if places contents parts (Ok scene) h e = λ next. scene_joined places contents parts scene.tris next h (e next)
 joined_if places contents parts (Err error) h e = tt
 
+-- a refusal of the joined meshes is one of the files
 pub stop_if : {A : Type 0} (places : ℕ) (names : List (List ℕ)) (shelf : ShelfCall) (parts : List Closed) (result : Result A Status) → HasParts places (map shelf.told names) parts → IfErr result (λ status. is_refusal status ≡ true → (next : List Tri → Verdict) → IsRefusal status (after_total (triangles_of parts) next)) → IfErr result IsAfterFiles → ((i : ℕ) → result ≢ Err (ReadFault i)) → (result ≢ Err Done) × (result ≢ Err Words) × (result ≢ Err WriteFault) → IfErr result (IsSceneStop places names shelf)
 stop_if places names shelf parts (Ok value) h refused kind only no_other = tt
 stop_if places names shelf parts (Err status) h refused kind only no_other = λ next.

@@ -28,7 +28,7 @@ use Rattle.ember_run.proofs.Verdicts.{text_then}
 abbrev pub SceneRead : ℕ → Contents → List Tri → Type 0
 SceneRead places contents tris = (next : List Tri → Verdict) → IsSameIfTold (after_scene places contents next) (next tris)
 
--- this expression was given, over so many meshes; `after` is what follows on it
+-- this expression was given, over m meshes; `after` reads and checks it
 abbrev pub ExprRead : (ℕ → (Formula → Verdict) → Verdict) → ℕ → Formula → Type 0
 ExprRead after m formula = (next : Formula → Verdict) → after m next ≡ next formula
 
@@ -38,15 +38,18 @@ pairs_text_if tris items ps shown (Ok text) law are gathered e is =
     (ps, law items ps are gathered, is ∙ ap pairs_text e)
 pairs_text_if tris items ps shown (Err error) law are gathered e is = tt
 
+-- the pairs of the scene are the output of `pairs`
 pub pairs_listed : (places : ℕ) (contents : Contents) (tris : List Tri) (bytes : List ℕ) → ((next : List Tri → Verdict) → IsSameIfTold (after_scene places contents next) (next tris)) → IsPairsText tris bytes → IsText (pairs_verdict places contents) bytes
 pairs_listed places contents tris bytes scene is =
     text_then bytes (pairs_verdict places contents) (Writes (MeetingPairs tris)) (scene (λ tris. Writes (MeetingPairs tris))) is
 
 -- ---- an expression and a scene
 module _ (after : ℕ → (Formula → Verdict) → Verdict) (places m : ℕ) (contents : Contents) (count : length contents ≡ m) where
+  -- the verdict after an expression that was read
   pub after_read : (formula : Formula) (next : Formula → Verdict) → ExprRead after m formula → after (length contents) next ≡ next formula
   after_read formula next given = subst (λ (n : ℕ). after n next ≡ next formula) (sym count) (given next)
 
+  -- the output for a scene and an expression is that for the files and the text that were read as these
   pub scene_text : (formula : Formula) (tris : List Tri) (bytes : List ℕ) (next : Formula → List Tri → Verdict) → ExprRead after m formula → SceneRead places contents tris → IsText (next formula tris) bytes → IsText (after (length contents) (λ formula. after_scene places contents (next formula))) bytes
   scene_text formula tris bytes next given scene is =
       subst (λ (v : Verdict). IsText v bytes) (sym (after_read formula (λ formula. after_scene places contents (next formula)) given))
@@ -61,11 +64,13 @@ fills_are formula (job ∷ jobs) [] h = absurd h
 fills_are formula (job ∷ jobs) (fill ∷ fills) h =
     let is : fill ≡ fill_of formula job = h.0 in ap₂ (λ x xs. x ∷ xs) is (fills_are formula jobs fills h.1)
 
+-- the text of the leaves' boxes is that of the lattice
 pub lattice_text_if : {E : Type 0} (tris : List Tri) (formula : Formula) (size : ℕ) (fills given : List Fill) (result : Result (Vec ℕ Global) E) → ((size : ℕ) (fills : List Fill) (text : List ℕ) → size ≤ 12 → fills ≡ leaf_fills tris formula size → IsGridText size fills text → IsVoxelText tris formula size text) → size ≤ 12 → AreFills tris formula size fills → given ≡ fills → IfOk result (λ text. IsGridText size given text.items) → IfOk result (λ text. IsLatticeText tris formula size text.items)
 lattice_text_if tris formula size fills given (Ok text) law le are e is =
     law size given text.items le (e ∙ fills_are formula (leaves (shape tris formula size) (root_job tris)) fills are) is
 lattice_text_if tris formula size fills given (Err error) law le are e is = tt
 
+-- the text of the lattice is the output of `voxels`
 pub lattice_sampled : (expr : List ℕ) (size places m : ℕ) (contents : Contents) (formula : Formula) (tris : List Tri) (bytes : List ℕ) → length contents ≡ m → ExprRead (after_expr expr) m formula → SceneRead places contents tris → IsLatticeText tris formula size bytes → IsText (voxels_verdict expr size places contents) bytes
 lattice_sampled expr size places m contents formula tris bytes count given scene is =
     scene_text (after_expr expr) places m contents count formula tris bytes (λ formula tris. Writes (Lattice tris formula size)) given scene is

@@ -106,11 +106,13 @@ slice_or_fault at bytes text Form s f = f s.0 s.1
 slice_or_fault at bytes text (Endless n) s f =
     slice_ends at f.0 text n (subst (λ (faces : List Face). IsSliceText faces at text) (one_reading bytes s.0 f.0 s.1 f.1) s.2) f.2
 
+-- a file that can be sliced has no fault
 pub sliceable_or_fault : (at : ℤ) (bytes : List ℕ) (fault : FaceFault) → IsSliceable at bytes → IsFaceFault at bytes fault → ⊥
 sliceable_or_fault at bytes Form s f = f s.0 s.1
 sliceable_or_fault at bytes (Endless n) s f =
     s.2 n (subst (λ (faces : List Face). IsFirstEndless faces at n) (one_reading bytes f.0 s.0 f.1 s.1) f.2)
 
+-- a file has one fault at most
 pub one_fault : (at : ℤ) (bytes : List ℕ) (fault other : FaceFault) → IsFaceFault at bytes fault → IsFaceFault at bytes other → fault ≡ other
 one_fault at bytes Form Form f g = refl
 one_fault at bytes Form (Endless n) f g = absurd (f g.0 g.1)

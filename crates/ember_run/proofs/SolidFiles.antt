@@ -55,6 +55,7 @@ document_is_output tris meshes formula bytes scene outside is =
       closed = λ faces f. subst (λ (written : List WrittenFace). IsClosedSurface written) (face_file_is_read_once bytes r.faces faces r.read f) r.closed;
     }
 
+-- the document of a solid is a file of it: it reads back with the meaning, and is a closed surface
 pub solid_file : (text : List ℕ) (m : ℕ) (formula : Formula) (scene : Scene) (bytes : List ℕ) → ExprRead (after_solid text) m formula → IsSolidText scene.tris formula bytes → IsSolidFile scene.tris formula bytes
 solid_file text m formula scene bytes read is =
     document_is_output scene.tris scene.meshes formula bytes scene.kept (false_outside text m formula read) is

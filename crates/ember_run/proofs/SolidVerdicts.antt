@@ -32,10 +32,12 @@ not_false : (b : Bool) → false ≡ not b → b ≡ true
 not_false true e = refl
 not_false false e = absurd (cc)
 
+-- an expression that is false outside all meshes is accepted
 pub bounded_read : (text : List ℕ) (m : ℕ) (formula : Formula) (next : Formula → Verdict) → ((next : Formula → Verdict) → after_expr text m next ≡ next formula) → true ≡ not (truth (replicate 64 (pos 0)) formula) → after_solid text m next ≡ next formula
 bounded_read text m formula next given e =
     given (λ formula. after_bounded formula (next formula)) ∙ ap (λ (b : Bool). if b then Refused Unbounded else next formula) (not_true (truth (replicate 64 (pos 0)) formula) e)
 
+-- one that is true there is refused
 pub unbounded_stop : (text : List ℕ) (m : ℕ) (formula : Formula) (next : Formula → Verdict) → ((next : Formula → Verdict) → after_expr text m next ≡ next formula) → false ≡ not (truth (replicate 64 (pos 0)) formula) → IsWordsStop (after_solid text m next) Unbounded
 unbounded_stop text m formula next given e = record {
   refused = λ r. given (λ formula. after_bounded formula (next formula)) ∙ ap (λ (b : Bool). if b then Refused Unbounded else next formula) (not_false (truth (replicate 64 (pos 0)) formula) e);
@@ -47,6 +49,7 @@ pub report_line_is : (tris : List Tri) (formula : Formula) (report : Report) (li
 report_line_is tris formula report lines true solid e = record { kept = solid.kept; report = report; solid = solid.solid; text = e }
 report_line_is tris formula report lines false solid e = e
 
+-- the line of a solid's report
 pub is_report_text : (tris : List Tri) (formula : Formula) (report : Report) (bytes : List ℕ) → IsSolidReport tris formula report → bytes ≡ line_of report → IsReportText tris formula bytes
 is_report_text tris formula report bytes solid text = record { kept = solid.kept; report = report; solid = solid.solid; text = text }
 
@@ -55,6 +58,7 @@ pub report_written : (boxes : ℕ) (formula : Formula) (tris : List Tri) (bytes 
 report_written boxes formula tris bytes given e is =
     subst (λ (v : Verdict). IsText v bytes) (sym (given (λ formula. Writes (SolidReport (scene_of boxes) formula)))) (subst (λ (tris : List Tri). IsReportText tris formula bytes) e is)
 
+-- a refusal of the union is one of `demo`
 pub report_refused : (boxes : ℕ) (status : Status) → ((next : Formula → Verdict) → IsWordsStop (after_expr (codes "m1|m2") 2 next) status) → IsWordsStop (demo_verdict boxes) status
 report_refused boxes status stop = stop (λ formula. Writes (SolidReport (scene_of boxes) formula))
 
@@ -69,6 +73,7 @@ report_then line (Refused refusal) v e f = subst (λ v. IsReport v line) (sym e)
 report_then line (Writes output) v e f = subst (λ v. IsReport v line) (sym e) f
 report_then line (Slices at bytes) v e f = subst (λ v. IsReport v line) (sym e) f
 
+-- the report of the scene is the one that `bool` asks for
 pub solid_reported : (reported : Bool) (expr : List ℕ) (places m : ℕ) (contents : Contents) (formula : Formula) (tris : List Tri) (line : List ℕ) → length contents ≡ m → ExprRead (after_solid expr) m formula → SceneRead places contents tris → IsReportLine reported tris formula line → IsReportIf reported (bool_verdict expr places contents) line
 solid_reported true expr places m contents formula tris line count given scene is =
     subst (λ (v : Verdict). IsReport v line) (sym (after_read (after_solid expr) places m contents count formula (λ formula. after_scene places contents (λ tris. Writes (SolidFaces tris formula))) given))
@@ -76,18 +81,8 @@ solid_reported true expr places m contents formula tris line count given scene i
 solid_reported false expr places m contents formula tris line count given scene is = is
 
 -- ---- what err takes
-pub plain_reply : (command known : Command) (told : List ℕ → Option (List ℕ)) (text : Vec ℕ Global) (reply : Reply) → command ≡ known → asks_report (Some known) ≡ false → IsText (told_verdict (Some known) told) text.items → reply.text.items ≡ text.items → reply.report.items ≡ [] → IsReply command told reply
-plain_reply command known told text reply e a is t r =
-    subst (λ (command : Command). IsReply command told reply) (sym e)
-    (record {
-      text = subst (λ (bytes : List ℕ). IsText (told_verdict (Some known) told) bytes) (sym t) is;
-      report = subst (λ (b : Bool). IsReportIf b (told_verdict (Some known) told) reply.report.items) (sym a) r;
-    })
 
-pub reported_reply : (command known : Command) (told : List ℕ → Option (List ℕ)) (reply : Reply) → command ≡ known → IsText (told_verdict (Some known) told) reply.text.items → IsReportIf (asks_report (Some known)) (told_verdict (Some known) told) reply.report.items → IsReply command told reply
-reported_reply command known told reply e text report =
-    subst (λ (command : Command). IsReply command told reply) (sym e) (record { text = text; report = report })
-
+-- the text on standard error of a call with this status
 pub err_text : (command : Option Command) (told : List ℕ → Option (List ℕ)) (status : Status) (lines : List ℕ) → (status ≡ Done → IsReportIf (asks_report command) (told_verdict command told) lines) → IsErrText command told status (text_on_err (names_of command) status lines)
 err_text command told Done lines h = h refl
 err_text command told Words lines h = refl

@@ -38,12 +38,15 @@ abbrev number_or : Option ℕ → ℕ → ℕ
 number_or None n = n
 number_or (Some i) n = i
 
+-- None is not Some
 pub none_some : {i : ℕ} → None ≡ Some i → ⊥
 none_some e = let h : false ≡ true = ap (λ (o : Option ℕ). is_some o) e in absurd (cc)
 
+-- two equal options of a number have the same number
 pub same_number : (i j : ℕ) → Some i ≡ Some j → i ≡ j
 same_number i j e = ap (λ (o : Option ℕ). number_or o i) e
 
+-- a status that refuses a file is a refusal
 pub file_is_refusal : (status : Status) (i : ℕ) → refused_file status ≡ Some i → is_refusal status ≡ true
 file_is_refusal Done i e = absurd (none_some e)
 file_is_refusal Words i e = refl
@@ -58,6 +61,7 @@ file_is_refusal NotClear i e = refl
 file_is_refusal (FaceRefused fault) i e = refl
 file_is_refusal OutOfMemory i e = absurd (none_some e)
 
+-- a refusal of the words or of the expression is of no file
 pub before_no_file : (status : Status) (i : ℕ) → is_before_files status ≡ true → refused_file status ≡ Some i → ⊥
 before_no_file Done i b e = none_some e
 before_no_file Words i b e = none_some e
@@ -100,6 +104,7 @@ words_memory NotClear k = absurd k
 words_memory (FaceRefused fault) k = absurd k
 words_memory OutOfMemory k = refl
 
+-- an OBJ fault other than out-of-memory doesn't hide out-of-memory
 pub obj_tells : (i : ℕ) (fault : ObjFault) → fault ≢ obj.OutOfMemory → hides_memory (ObjRefused i fault) ≡ false
 obj_tells i (obj.Word line) n = refl
 obj_tells i (obj.Coordinate line fault) n = refl
@@ -109,6 +114,7 @@ obj_tells i (obj.LongLine line) n = refl
 obj_tells i (obj.TooMany line) n = refl
 obj_tells i obj.OutOfMemory n = absurd (n refl)
 
+-- nor does such a fault of an expression
 pub expr_tells : (fault : ExprFault) → fault ≢ expr.OutOfMemory → hides_memory (ExprRefused fault) ≡ false
 expr_tells (expr.Syntax place) n = refl
 expr_tells (expr.Deep place) n = refl
@@ -117,16 +123,19 @@ expr_tells (expr.NoMesh m) n = refl
 expr_tells expr.Long n = refl
 expr_tells expr.OutOfMemory n = absurd (n refl)
 
+-- too many triangles are refused after all files
 pub triangles_after : (count : ℕ) → IsAfterFiles (Limit Triangles count)
 triangles_after count = record { not_before = refl; no_file = refl; memory = refl }
 
+-- and so is a point that isn't clear
 pub unclear_after : IsAfterFiles NotClear
 unclear_after = record { not_before = refl; no_file = refl; memory = refl }
 
+-- out-of-memory counts as such a status
 pub memory_after : (status : Status) → status ≡ OutOfMemory → IsAfterFiles status
 memory_after status e = subst (λ (status : Status). IsAfterFiles status) (sym e) (record { not_before = refl; no_file = refl; memory = refl })
 
--- ---- want of memory
+-- ---- out-of-memory
 memory_is_stop : (verdict : Contents → Verdict) (names : List (List ℕ)) (shelf : ShelfCall) → IsStop verdict names shelf OutOfMemory
 memory_is_stop verdict names shelf = record {
   refused = λ r. absurd (cc);
@@ -138,13 +147,15 @@ memory_is_stop verdict names shelf = record {
   no_other = (λ e. absurd (cc), λ e. absurd (cc), λ e. absurd (cc));
 }
 
-pub memory_stop : (verdict : Contents → Verdict) (names : List (List ℕ)) (shelf : ShelfCall) (status : Status) → status ≡ OutOfMemory → IsStop verdict names shelf status
+memory_stop : (verdict : Contents → Verdict) (names : List (List ℕ)) (shelf : ShelfCall) (status : Status) → status ≡ OutOfMemory → IsStop verdict names shelf status
 memory_stop verdict names shelf status e = subst (λ (status : Status). IsStop verdict names shelf status) (sym e) (memory_is_stop verdict names shelf)
 
+-- out-of-memory may stop a scene
 pub memory_scene_stop : {A : Type 0} (places : ℕ) (names : List (List ℕ)) (shelf : ShelfCall) (result : Result A Status) → IfErr result (λ status. status ≡ OutOfMemory) → IfErr result (IsSceneStop places names shelf)
 memory_scene_stop places names shelf (Ok value) e = tt
 memory_scene_stop places names shelf (Err status) e = λ next. memory_stop (λ contents. after_scene places contents next) names shelf status e
 
+-- out-of-memory may stop an expression
 pub memory_words_stop : (verdict : Verdict) (status : Status) → status ≡ OutOfMemory → IsWordsStop verdict status
 memory_words_stop verdict status e = subst (λ (status : Status). IsWordsStop verdict status) (sym e) (record { refused = λ r. absurd (cc); of_words = tt })
 
@@ -154,7 +165,7 @@ length_told n [] = refl
 length_told zero (told ∷ more) = ap suc (length_told zero more)
 length_told (suc n) (told ∷ more) = ap suc (length_told n more)
 
-pub length_others : (n : ℕ) (contents others : Contents) → length others ≡ length contents → length (with_others n contents others) ≡ length contents
+length_others : (n : ℕ) (contents others : Contents) → length others ≡ length contents → length (with_others n contents others) ≡ length contents
 length_others zero [] [] e = refl
 length_others zero [] (o ∷ others) e = e
 length_others zero (c ∷ contents) [] e = e
@@ -173,6 +184,7 @@ words_refuse after next places m status stop r contents e =
     subst (λ (n : ℕ). after n (λ t. after_scene places contents (next (length contents) t)) ≡ Refused status) (sym e)
     ((stop (λ t. after_scene places contents (next (length contents) t))).refused r)
 
+-- a stop that rests on the words is one of the command
 pub words_stop : {T : Type 0} (after : ℕ → (T → Verdict) → Verdict) (next : ℕ → T → List Tri → Verdict) (places m : ℕ) (names : List (List ℕ)) (shelf : ShelfCall) (status : Status) → length names ≡ m → ((then : T → Verdict) → IsWordsStop (after m then) status) → IsStop (asks after next places) names shelf status
 words_stop after next places m names shelf status count stop =
     let contents = map shelf.told names in
@@ -192,6 +204,7 @@ scene_asked : {T : Type 0} (after : ℕ → (T → Verdict) → Verdict) (next :
 scene_asked after next places m t given contents e =
     subst (λ (n : ℕ). after n (λ t. after_scene places contents (next n t)) ≡ after_scene places contents (next m t)) (sym e) (given (λ t. after_scene places contents (next m t)))
 
+-- a stop that rests on the files of the scene is one of the command
 pub scene_stop : {T : Type 0} (after : ℕ → (T → Verdict) → Verdict) (next : ℕ → T → List Tri → Verdict) (places m : ℕ) (names : List (List ℕ)) (shelf : ShelfCall) (status : Status) (t : T) → length names ≡ m → ((then : T → Verdict) → after m then ≡ then t) → IsSceneStop places names shelf status → IsStop (asks after next places) names shelf status
 scene_stop after next places m names shelf status t count given stop =
     let contents = map shelf.told names in
@@ -207,7 +220,7 @@ scene_stop after next places m names shelf status t count given stop =
       no_other = s.no_other;
     }
 
--- ---- statuses that come after all files
+-- ---- statuses after all files
 pub after_stop : (verdict : Contents → Verdict) (names : List (List ℕ)) (shelf : ShelfCall) (status : Status) → IsAfterFiles status → (is_refusal status ≡ true → IsRefusal status (verdict (map shelf.told names))) → ((i : ℕ) → status ≢ ReadFault i) → (status ≢ Done) × (status ≢ Words) × (status ≢ WriteFault) → IsStop verdict names shelf status
 after_stop verdict names shelf status kind refused only no_other = record {
   refused = refused;
@@ -217,35 +230,4 @@ after_stop verdict names shelf status kind refused only no_other = record {
   read_fault = λ i e. absurd (only i e);
   memory = kind.memory;
   no_other = no_other;
-}
-
--- ---- one file
-only_file : (name : List ℕ) (i : ℕ) → 1 ≡ i → IsFileIn (name ∷ []) i
-only_file name i e = record { first = omega (arith, e); last = omega (arith, e) }
-
-pub file_stop : (verdict : Option (List ℕ) → Verdict) (name : List ℕ) (shelf : ShelfCall) (status : Status) → verdict None ≡ Unknown → (is_refusal status ≡ true → IsRefusal status (verdict (shelf.told name))) → (is_refusal status ≡ true → refused_file status ≡ Some 1) → ((i : ℕ) → status ≡ ReadFault i → (i ≡ 1) × HasShelfFailed shelf × (shelf.fault_at ≡ i)) → hides_memory status ≡ false → (status ≢ Done) × (status ≢ Words) × (status ≢ WriteFault) → IsStop (λ contents. verdict (file_at contents 1)) (name ∷ []) shelf status
-file_stop verdict name shelf status unknown refused file read_fault memory no_other = record {
-  refused = refused;
-  before_files = λ b. absurd (before_no_file status 1 b (file (before_is_refusal status b)));
-  in_file = λ i e others l.
-      let r = file_is_refusal status i e in
-      subst (λ (n : ℕ). IsRefusal status (verdict (file_at (with_others n (shelf.told name ∷ []) others) 1))) (same_number 1 i (sym (file r) ∙ e)) (refused r);
-  one_of = λ i e. only_file name i (same_number 1 i (sym (file (file_is_refusal status i e)) ∙ e));
-  read_fault = λ i e.
-      let f = read_fault i e in
-      (f.1, f.2, subst (λ (n : ℕ). verdict (file_at (first_told (n - 1) (shelf.told name ∷ [])) 1) ≡ Unknown) (sym f.0) unknown, only_file name i (sym f.0));
-  memory = memory;
-  no_other = no_other;
-}
-
--- ---- no file
-pub no_file_stop : (verdict : Verdict) (shelf : ShelfCall) (status : Status) → IsWordsStop verdict status → IsStop (λ contents. verdict) [] shelf status
-no_file_stop verdict shelf status stop = record {
-  refused = λ r. subst (λ (v : Verdict). IsRefusal status v) (sym (stop.refused r)) refl;
-  before_files = λ b. stop.refused (before_is_refusal status b);
-  in_file = λ i e. absurd (words_no_file status i stop.of_words e);
-  one_of = λ i e. absurd (words_no_file status i stop.of_words e);
-  read_fault = λ i e. absurd (subst (λ (status : Status). IsOfWords status) e stop.of_words);
-  memory = words_memory status stop.of_words;
-  no_other = (λ e. subst (λ (status : Status). IsOfWords status) e stop.of_words, λ e. subst (λ (status : Status). IsOfWords status) e stop.of_words, λ e. subst (λ (status : Status). IsOfWords status) e stop.of_words);
 }

@@ -24,24 +24,28 @@ same_self (Refused status) = refl
 same_self (Writes output) = refl
 same_self (Slices at bytes) = refl
 
+-- what is the same with less known is so over two steps
 pub same_then : (u v w : Verdict) → IsSameIfTold u v → IsSameIfTold v w → IsSameIfTold u w
 same_then Unknown v w e f = tt
 same_then (Refused status) v w e f = subst (λ v. IsSameIfTold v w) (sym e) f
 same_then (Writes output) v w e f = subst (λ v. IsSameIfTold v w) (sym e) f
 same_then (Slices at bytes) v w e f = subst (λ v. IsSameIfTold v w) (sym e) f
 
+-- a refusal stays one if only a part of the files is known
 pub refusal_then : (status : Status) (u v : Verdict) → IsSameIfTold u v → IsRefusal status v → IsRefusal status u
 refusal_then status Unknown v e f = tt
 refusal_then status (Refused refusal) v e f = subst (λ v. IsRefusal status v) (sym e) f
 refusal_then status (Writes output) v e f = subst (λ v. IsRefusal status v) (sym e) f
 refusal_then status (Slices at bytes) v e f = subst (λ v. IsRefusal status v) (sym e) f
 
+-- an output stays one if only a part of the files is known
 pub text_then : (bytes : List ℕ) (u v : Verdict) → IsSameIfTold u v → IsText v bytes → IsText u bytes
 text_then bytes Unknown v e f = tt
 text_then bytes (Refused refusal) v e f = subst (λ v. IsText v bytes) (sym e) f
 text_then bytes (Writes output) v e f = subst (λ v. IsText v bytes) (sym e) f
 text_then bytes (Slices at file) v e f = subst (λ v. IsText v bytes) (sym e) f
 
+-- a verdict that, if told, is the same as an unknown one is unknown
 pub untold_then : (u v : Verdict) → IsSameIfTold u v → v ≡ Unknown → u ≡ Unknown
 untold_then Unknown v e f = refl
 untold_then (Refused refusal) v e f = e ∙ f
@@ -49,13 +53,6 @@ untold_then (Writes output) v e f = e ∙ f
 untold_then (Slices at bytes) v e f = e ∙ f
 
 -- ---- errors
-abbrev error_or : {A E : Type 0} → Result A E → E → E
-error_or (Ok value) other = other
-error_or (Err error) other = error
-
--- one error, whatever the value might have been
-pub same_error : {A B E : Type 0} (error other : E) → ◌≡◌ {A = Result A E} (Err error) (Err other) → ◌≡◌ {A = Result B E} (Err error) (Err other)
-same_error {A = A} {E = E} error other e = ap Err (ap (λ (r : Result A E). error_or r error) e)
 
 -- an error that is passed on as it is
 pub passed_on : {A : Type 0} (P : Status → Type 0) (result : Result A Status) (status : Status) → IsErrAnd result (λ given. given ≡ status) → P status → IfErr result P
@@ -70,20 +67,24 @@ above a b h = by (leb_tells a b)
     by (inl p) = absurd (omega (arith, p.1, h))
     by (inr p) = p.0
 
+-- bytes that are few enough are passed on
 pub bytes_read : (i : ℕ) (told : Option (List ℕ)) (bytes : List ℕ) (next : List ℕ → Verdict) → Tells told bytes → length bytes ≤ 268435456 → IsSameIfTold (after_bytes i told next) (next bytes)
 bytes_read i None bytes next h l = tt
 bytes_read i (Some told) bytes next h l =
     let m : length told ≤ 268435456 = subst (λ (b : List ℕ). length b ≤ 268435456) h l in
     subst (λ (b : List ℕ). IsSameIfTold (after_bytes i (Some told) next) (next b)) (sym h) (rw (le-leb (length told) 268435456 m) (same_self (next told)))
 
+-- too many bytes are refused
 pub bytes_too_long : (i count : ℕ) (told : Option (List ℕ)) (next : List ℕ → Verdict) → count ≡ 268435457 → TellsMore told 268435456 → IsRefusal (Limit (Bytes i) count) (after_bytes i told next)
 bytes_too_long i count None next e h = tt
 bytes_too_long i count (Some bytes) next e h = subst (λ (n : ℕ). IsRefusal (Limit (Bytes i) n) (after_bytes i (Some bytes) next)) (sym e) (rw (above (length bytes) 268435456 h) refl)
 
+-- triangles that were read are passed on
 pub file_read : (places i : ℕ) (told : Option (List ℕ)) (bytes : List ℕ) (faces : Faces) (next : List Tri → Verdict) → ((next : List ℕ → Verdict) → IsSameIfTold (after_bytes i told next) (next bytes)) → read_obj_of places i bytes ≡ Ok faces → IsSameIfTold (after_file places i told next) (next faces.tris)
 file_read places i told bytes faces next read e =
     same_then (after_file places i told next) (after_triangles i (read_obj_of places i bytes) next) (next faces.tris) (read (λ bytes. after_triangles i (read_obj_of places i bytes) next)) (subst (λ (r : Result Faces ObjFault). IsSameIfTold (after_triangles i r next) (next faces.tris)) (sym e) (same_self (next faces.tris)))
 
+-- a file with a fault is refused
 pub file_refused : (places i : ℕ) (told : Option (List ℕ)) (bytes : List ℕ) (fault : ObjFault) (next : List Tri → Verdict) → ((next : List ℕ → Verdict) → IsSameIfTold (after_bytes i told next) (next bytes)) → read_obj_of places i bytes ≡ Err fault → IsRefusal (ObjRefused i fault) (after_file places i told next)
 file_refused places i told bytes fault next read e =
     refusal_then (ObjRefused i fault) (after_file places i told next) (after_triangles i (read_obj_of places i bytes) next) (read (λ bytes. after_triangles i (read_obj_of places i bytes) next)) (subst (λ (r : Result Faces ObjFault). IsRefusal (ObjRefused i fault) (after_triangles i r next)) (sym e) refl)

@@ -27,6 +27,7 @@ module _ (n m : ℕ) where
   sum_same start [] = refl
   sum_same start (t ∷ ts) = ap (λ (z : ℤ). sum_from (start +ℤ z) here ts) (value_same t) ∙ sum_same (start +ℤ value_of there t) ts
 
+  -- an expression has one value at two lists of zeros
   pub zero_same : (f : Formula) → truth here f ≡ truth there f
   zero_same (Or a b) = ap₂ (λ (x y : Bool). x || y) (zero_same a) (zero_same b)
   zero_same (Xor a b) = ap₂ differ (zero_same a) (zero_same b)

@@ -18,12 +18,12 @@ use Rattle.ember_run.specs.Slices.{IsSliceable}
 use Rattle.ember_run.specs.Verdict.{Contents, file_at}
 
 -- ---- files
--- the file is told, and has these bytes, no more than a file may have
+-- the file's contents are told, and are these bytes, at most 2^28
 pub record HasBytes (told : Option (List ℕ)) (bytes : List ℕ) : Type 0 where
   pub is : told ≡ Some bytes
   pub short : length bytes ≤ 268435456
 
--- it is an OBJ file, and these are its triangles, in order of its lines; they are of mesh i
+-- the file is an OBJ file, and these are its triangles, in order of its lines; they are of mesh i
 pub record IsFileOf (places i : ℕ) (told : Option (List ℕ)) (tris : List Tri) : Type 0 where
   pub bytes : List ℕ
   pub file : HasBytes told bytes
@@ -31,7 +31,7 @@ pub record IsFileOf (places i : ℕ) (told : Option (List ℕ)) (tris : List Tri
   pub read : read_obj_of places i bytes ≡ Ok faces
   pub are : tris ≡ faces.tris
 
--- and they are a closed mesh, those with zero normal among them
+-- the file is such a file, and all its triangles, flat ones too, are a closed mesh
 pub record IsMeshOf (places i : ℕ) (told : Option (List ℕ)) (tris : List Tri) : Type 0 where
   pub file : IsFileOf places i told tris
   pub closed : IsBalanced tris
@@ -47,11 +47,11 @@ pub record IsSceneOf (places : ℕ) (contents : Contents) (tris : List Tri) : Ty
   pub few : length tris ≤ 262144
 
 -- ---- expressions
--- the value is false where no mesh winds
+-- the value is false if all winding numbers are 0
 abbrev pub IsBounded : ℕ → Formula → Type 0
 IsBounded meshes formula = truth (replicate meshes (pos 0)) formula ≡ false
 
--- the text has this tree, where one is given
+-- the text, if one is given, has this tree
 pub data HasTreeIfGiven (meshes : ℕ) : Option (List ℕ) → Option Formula → Type 0 where
   not_given : HasTreeIfGiven meshes None None
   given_text : {text : List ℕ} {formula : Formula} → HasTree text meshes formula →

@@ -28,7 +28,7 @@ is_refusal NotClear = true
 is_refusal (FaceRefused fault) = true
 is_refusal OutOfMemory = false
 
--- those that rest on the words alone: nothing is read before them
+-- the refusals that depend on the words alone: no file is read before them
 abbrev pub is_before_files : Status → Bool
 is_before_files Done = false
 is_before_files Words = true
@@ -59,28 +59,28 @@ refused_file NotClear = None
 refused_file (FaceRefused fault) = Some 1
 refused_file OutOfMemory = None
 
--- want of memory in the guise of another fault
+-- whether out-of-memory is hidden in another status
 abbrev pub hides_memory : Status → Bool
 hides_memory (ObjRefused i obj.OutOfMemory) = true
 hides_memory (MeshRefused i mesh.OutOfMemory) = true
 hides_memory (ExprRefused expr.OutOfMemory) = true
 hides_memory _ = false
 
--- where the first verdict is told, it is the second
+-- if the first verdict is told, it is the second
 abbrev pub IsSameIfTold : Verdict → Verdict → Type 0
 IsSameIfTold Unknown other = ⊤
 IsSameIfTold (Refused refusal) other = Refused refusal ≡ other
 IsSameIfTold (Writes output) other = Writes output ≡ other
 IsSameIfTold (Slices at bytes) other = Slices at bytes ≡ other
 
--- the verdict, where told, is this refusal
+-- the verdict, if told, is this refusal
 abbrev pub IsRefusal : Status → Verdict → Type 0
 IsRefusal status Unknown = ⊤
 IsRefusal status (Refused refusal) = refusal ≡ status
 IsRefusal status (Writes output) = ⊥
 IsRefusal status (Slices at bytes) = IsSliceRefusal at bytes status
 
--- the verdict, where told, is an output, and these are its bytes
+-- the verdict, if told, is an output, and these are its bytes
 abbrev pub IsText : Verdict → List ℕ → Type 0
 IsText Unknown bytes = ⊤
 IsText (Refused refusal) bytes = ⊥
@@ -101,10 +101,10 @@ AsksRefusal status (Refused refusal) = refusal ≡ status
 AsksRefusal status (Writes output) = ⊥
 AsksRefusal status (Slices at bytes) = IsSliceRefusal at bytes status
 
--- the verdict, where told, is an output, and it was written
+-- the verdict, if told, is an output, and it was written
 abbrev pub IsWritten : Verdict → Option (List ℕ) → Option (List ℕ) → Type 0
 IsWritten verdict old new = (bytes : List ℕ) × IsText verdict bytes × Appends old new bytes
 
--- the verdict, where told, is an output, and a prefix of it was written
+-- the verdict, if told, is an output, and a prefix of it was written
 abbrev pub IsBegun : Verdict → Option (List ℕ) → Option (List ℕ) → Type 0
 IsBegun verdict old new = (bytes : List ℕ) × IsText verdict bytes × AppendsPrefix old new bytes

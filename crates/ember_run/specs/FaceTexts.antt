@@ -19,6 +19,7 @@ pub record IsFaceFileOf (ts : List Tri) (bytes : List ℕ) : Type 0 where
 abbrev pub written_lines : WrittenFace → List ℕ
 written_lines w = face_lines w.support w.edges
 
+-- the face whose lines these are
 abbrev pub written_face : WrittenFace → Face
 written_face w = record { support = w.support; edges = map (λ (e : RingEdge). e.plane) w.edges }
 
@@ -30,7 +31,7 @@ pub record ReadsBack (fs : List Face) (text : List ℕ) : Type 0 where
   pub faces : fs ≡ map written_face written
   pub outlined : All IsOutlined written
 
--- the text of the triangle's face was added, where it has one, and their number is that
+-- the text of the triangle's face was added, if it has one, and `count` is 1 or 0 accordingly
 pub record AddsFace (t : Tri) (count : ℕ) (old new : List ℕ) : Type 0 where
   pub text : List ℕ
   pub is_text : Each IsFaceText (faces_of (t ∷ [])) text

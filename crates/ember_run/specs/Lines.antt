@@ -17,6 +17,7 @@ use Rattle.ember_run.specs.declared.status.LimitKind.TheVariants.{Bytes, Triangl
 use Rattle.ember_run.specs.declared.status.Status.{Status}
 use Rattle.ember_run.specs.declared.status.Status.TheVariants.{Done, Words, ReadFault, WriteFault, ObjRefused, MeshRefused, ExprRefused, Unbounded, Limit, NotClear, FaceRefused, OutOfMemory}
 
+-- the exit status
 abbrev pub number_of : Status → ℕ
 number_of Done = 0
 number_of Words = 2
@@ -31,10 +32,11 @@ number_of NotClear = 10
 number_of (FaceRefused fault) = 11
 number_of OutOfMemory = 12
 
--- the name of file i, from 1
+-- the name of file i, from 1; 0 counts as 1
 abbrev pub name_of : List (List ℕ) → ℕ → List ℕ
 name_of names i = get_or names (i - 1) []
 
+-- the line of out-of-memory
 abbrev pub memory_line : List ℕ
 memory_line = codes "ember: out of memory\n"
 
@@ -43,11 +45,13 @@ abbrev pub fault_line : List ℕ → ℕ → List ℕ → List ℕ
 fault_line name line fault =
     codes "ember: " ++ (name ++ (codes ": line " ++ (decimal line ++ (codes ": " ++ (fault ++ codes "\n")))))
 
+-- what is wrong with a coordinate, in words
 abbrev pub decimal_text : DecFault → List ℕ
 decimal_text Malformed = codes "coordinate malformed"
 decimal_text Fraction = codes "coordinate fraction"
 decimal_text Range = codes "coordinate range"
 
+-- the line of an OBJ file's fault
 abbrev pub obj_line : List ℕ → ObjFault → List ℕ
 obj_line name (obj.Word line) = fault_line name line (codes "word")
 obj_line name (obj.Coordinate line fault) = fault_line name line (decimal_text fault)
@@ -57,11 +61,12 @@ obj_line name (obj.LongLine line) = fault_line name line (codes "long line")
 obj_line name (obj.TooMany line) = fault_line name line (codes "too many")
 obj_line name obj.OutOfMemory = memory_line
 
--- ---- the line of an edge that stands more often than its reverse
+-- ---- the line of an edge that occurs more often than its reverse
 abbrev pub after_corner : Corner → List ℕ → List ℕ
 after_corner c rest =
     signed_decimal c.x ++ (codes " " ++ (signed_decimal c.y ++ (codes " " ++ (signed_decimal c.z ++ rest))))
 
+-- the line with both ends of the edge and how often it occurs each way
 abbrev pub loose_line : List ℕ → Loose → List ℕ
 loose_line name loose =
     codes "ember: " ++ (name ++
@@ -69,6 +74,7 @@ loose_line name loose =
     after_corner loose.to (codes " stands " ++
     (decimal loose.there ++ (codes " times and " ++ (decimal loose.back ++ codes " times reversed\n")))))))
 
+-- the line of a mesh that isn't closed
 abbrev pub mesh_line : List ℕ → MeshFault → List ℕ
 mesh_line name (mesh.Unbalanced loose) = loose_line name loose
 mesh_line name mesh.OutOfMemory = memory_line
@@ -77,9 +83,11 @@ mesh_line name mesh.OutOfMemory = memory_line
 abbrev pub place_line : List ℕ → ℕ → List ℕ
 place_line fault place = codes "ember: expression: " ++ (fault ++ (codes " at " ++ (decimal place ++ codes "\n")))
 
+-- an expression that names mesh n, which isn't given
 abbrev pub no_mesh_line : ℕ → List ℕ
 no_mesh_line n = codes "ember: expression: no mesh " ++ (decimal n ++ codes "\n")
 
+-- any fault of an expression
 abbrev pub expr_line : ExprFault → List ℕ
 expr_line (expr.Syntax place) = place_line (codes "syntax") place
 expr_line (expr.Deep place) = place_line (codes "deep") place
@@ -92,9 +100,11 @@ expr_line expr.OutOfMemory = memory_line
 abbrev pub triangles_line : ℕ → List ℕ
 triangles_line count = codes "ember: " ++ (decimal count ++ codes " triangles\n")
 
+-- face n of a face file is endless
 abbrev pub endless_line : List ℕ → ℕ → List ℕ
 endless_line name n = codes "ember: " ++ (name ++ (codes ": face " ++ (decimal n ++ codes " endless\n")))
 
+-- any fault of a face file
 abbrev pub face_line : List ℕ → FaceFault → List ℕ
 face_line name Form = codes "ember: " ++ (name ++ codes ": not a face file\n")
 face_line name (Endless n) = endless_line name n
@@ -116,7 +126,7 @@ line_on_err names NotClear = codes "ember: point not clear\n"
 line_on_err names (FaceRefused fault) = face_line (name_of names 1) fault
 line_on_err names OutOfMemory = memory_line
 
--- what err takes: the report after success, and else the line of the status
+-- what err takes: the report after success, otherwise the line of the status
 abbrev pub text_on_err : List (List ℕ) → Status → List ℕ → List ℕ
 text_on_err names Done report = report
 text_on_err names status report = line_on_err names status

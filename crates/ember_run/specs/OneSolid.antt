@@ -20,7 +20,7 @@ use Rattle.ember_voxel.specs.Grid.{char_at, is_one}
 use Rattle.ember_voxel.specs.Voxels.{least_corner}
 use Rattle.ember_run.specs.Outputs.{value_line}
 
--- along all axes the faces wind once at p where this is true, and not at all where it is false
+-- along all axes the faces wind once around p if `inside` is true, and otherwise not at all
 abbrev pub WindOnceIf : Bool → List Face → Spot → Type 0
 WindOnceIf inside faces p = (axis : Axis) → wind axis faces p ≡ one_if inside
 
@@ -30,19 +30,20 @@ pub record IsAtLevel (at : ℤ) (p : Spot) : Type 0 where
   pub weight : pos 0 <ℤ p.w
   pub on : value_at (level at) p ≡ pos 0
 
--- the signed crossings of the segments with the ray from p along x add up to 1 where this is true, and to
--- 0 where it is false, and so do those along y
+-- the signed crossings of the segments with the ray from p along x add up to 1 if `inside` is true, and otherwise to
+-- 0; so do those along y
 pub record CrossOnceIf (inside : Bool) (segments : List Directed) (p : Spot) : Type 0 where
   pub along_x : total (ray_x p) segments ≡ one_if inside
   pub along_y : total (ray_y p) segments ≡ one_if inside
 
--- at each point of the level that is clear of the scene and of the faces they do where the expression holds
+-- at each point of the level that is clear of the scene and of the faces, they add up to 1 if the expression is true
+-- there, and otherwise to 0
 abbrev pub SegmentsHaveMeaning : List Tri → Formula → ℤ → List Face → List Directed → Type 0
 SegmentsHaveMeaning tris formula at faces segments =
     (axis : Axis) (p : Spot) → IsAtLevel at p → AreClear (faces_of tris) p → AreClear faces p → CrossOnceIf
     (truth (vector axis tris p) formula) segments p
 
--- at each point of the level that is clear of the faces alone they do or don't
+-- at each point of the level that is clear of the faces alone, they add up to 1, or they add up to 0
 abbrev pub SegmentsCrossOnceAtMost : ℤ → List Face → List Directed → Type 0
 SegmentsCrossOnceAtMost at faces segments =
     (p : Spot) → IsAtLevel at p → AreClear faces p → (inside : Bool) × CrossOnceIf inside segments p
@@ -53,8 +54,8 @@ pub record ShowsValue (told : List ℕ) (value : Bool) : Type 0 where
   pub counts : List ℕ
   pub is : told ≡ counts ++ value_line value
 
--- where p is clear of the faces they wind once if the value in the text is 1, and not at all if it is 0;
--- wherever p lies they do so at p shifted by little enough
+-- if p is clear of the faces, they wind once around p if the value in the text is 1, and not at all if it is 0;
+-- in any case they do so around p shifted by little enough
 pub record ValueIsOfFaces (told : List ℕ) (faces : List Face) (p : Spot) : Type 0 where
   pub value : Bool
   pub shown : ShowsValue told value
@@ -68,11 +69,11 @@ pub record IsCell (size i j l : ℕ) : Type 0 where
   pub on_y : j < 2 ^ (12 - size)
   pub on_z : l < 2 ^ (12 - size)
 
--- its reference point
+-- the reference point of the cell (i, j, l)
 abbrev pub cell_point : ℕ → ℕ → ℕ → ℕ → Spot
 cell_point size i j l = reference_at (least_corner size i j l)
 
--- its bit in the rows of the lattice
+-- the bit of the cell (i, j, l) in the rows of the lattice
 abbrev pub bit_at : ℕ → List ℕ → ℕ → ℕ → ℕ → Bool
 bit_at size rows i j l = is_one (char_at (2 ^ (12 - size)) rows (l * 2 ^ (12 - size) + j) i)
 
@@ -82,7 +83,7 @@ BitsAreOfFaces size rows faces =
     (i j l : ℕ) → IsCell size i j l → AreClear faces (cell_point size i j l) → WindOnceIf
     (bit_at size rows i j l) faces (cell_point size i j l)
 
--- and at every reference point, shifted by little enough
+-- the faces wind as the bits say around every reference point, shifted by little enough
 abbrev pub BitsAreOfFacesNearby : ℕ → List ℕ → List Face → Type 0
 BitsAreOfFacesNearby size rows faces =
     (i j l : ℕ) → IsCell size i j l → WhereShifted (cell_point size i j l)

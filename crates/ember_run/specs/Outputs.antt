@@ -13,10 +13,11 @@ use Rattle.ember_run.specs.Lattices.{IsLatticeText}
 use Rattle.ember_run.specs.PairLists.{IsPairsText}
 use Rattle.ember_run.specs.Solids.{IsReportText, IsSolidFile}
 
+-- what a command writes, by what it is made of
 pub data Output : Type 0 where
   -- the faces of these triangles, in order
   FaceTexts : List Tri → Output
-  -- the winding numbers of so many meshes at a point, and the value of an expression there
+  -- the winding numbers of `meshes` meshes at a point, and the value of an expression there, if one is given
   Counts : (point : Spot) (meshes : ℕ) (tris : List Tri) (expr : Option Formula) → Output
   -- the list of the pairs of these triangles that meet
   MeetingPairs : List Tri → Output
@@ -31,18 +32,22 @@ pub data Output : Type 0 where
 abbrev pub count_line : ℕ → ℤ → List ℕ
 count_line mesh count = codes "w" ++ (decimal mesh ++ (codes " " ++ (signed_decimal count ++ codes "\n")))
 
+-- the lines of several meshes
 abbrev pub count_lines : ℕ → List ℤ → List ℕ
 count_lines mesh [] = []
 count_lines mesh (count ∷ counts) = count_line mesh count ++ count_lines (mesh + 1) counts
 
+-- the line of the expression's value
 abbrev pub value_line : Bool → List ℕ
 value_line true = codes "value 1\n"
 value_line false = codes "value 0\n"
 
+-- the line of the value if an expression is given, otherwise nothing
 abbrev pub value_lines : List ℤ → Option Formula → List ℕ
 value_lines counts None = []
 value_lines counts (Some formula) = value_line (truth counts formula)
 
+-- the lines of the first `meshes` meshes, and that of the value
 abbrev pub counts_text : ℕ → List ℤ → Option Formula → List ℕ
 counts_text meshes counts expr = count_lines 1 (take meshes counts) ++ value_lines counts expr
 

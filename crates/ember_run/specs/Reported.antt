@@ -10,7 +10,7 @@ use Rattle.ember_run.specs.Outputs.{Output, FaceTexts, Counts, MeetingPairs, Sol
 use Rattle.ember_run.specs.Solids.{IsReportText}
 use Rattle.ember_run.specs.Verdict.{Verdict, Unknown, Refused, Writes, Slices, names_of, told_verdict}
 
--- a report is asked for
+-- whether a report is asked for
 abbrev pub asks_report : Option Command → Bool
 asks_report None = false
 asks_report (Some (command.Faces places file)) = false
@@ -21,7 +21,7 @@ asks_report (Some (command.Voxels expr size workers places files)) = false
 asks_report (Some (command.Pairs workers places files)) = false
 asks_report (Some (command.Slice at file)) = false
 
--- the line is the report of the solid that is written
+-- the line is the report of this output; only that of `bool` has one
 abbrev pub IsReportOf : Output → List ℕ → Type 0
 IsReportOf (FaceTexts tris) line = ⊥
 IsReportOf (Counts point meshes tris expr) line = ⊥
@@ -30,19 +30,19 @@ IsReportOf (SolidFaces tris formula) line = IsReportText tris formula line
 IsReportOf (SolidReport tris formula) line = ⊥
 IsReportOf (Lattice tris formula size) line = ⊥
 
--- where the verdict is told
+-- the line is the report of what is written, if the verdict is told
 abbrev pub IsReport : Verdict → List ℕ → Type 0
 IsReport Unknown line = ⊤
 IsReport (Refused refusal) line = ⊥
 IsReport (Writes output) line = IsReportOf output line
 IsReport (Slices at bytes) line = ⊥
 
--- a report where one is asked for, and else nothing
+-- a report if one is asked for, otherwise nothing
 abbrev pub IsReportIf : Bool → Verdict → List ℕ → Type 0
 IsReportIf false verdict line = line ≡ []
 IsReportIf true verdict line = IsReport verdict line
 
--- the text on err: a report after success, and else the line of the status
+-- the text on err: after success a report, if one is asked for, otherwise the line of the status
 abbrev pub IsErrText : Option Command → (List ℕ → Option (List ℕ)) → Status → List ℕ → Type 0
 IsErrText command told Done text = IsReportIf (asks_report command) (told_verdict command told) text
 IsErrText command told status text = text ≡ line_on_err (names_of command) status

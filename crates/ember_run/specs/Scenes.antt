@@ -6,8 +6,8 @@ use Rattle.ember_model.specs.declared.tri.Tri.{Tri}
 use Rattle.ember_run.specs.CallOutcome.{IsSameIfTold}
 use Rattle.ember_run.specs.Verdict.{Contents, Verdict, after_files, after_scene}
 
--- the files with these contents were read as these meshes; with whatever more files, their triangles decide what
--- follows
+-- the files with these contents were read as these meshes: whatever files follow, the verdict is that of the files that
+-- follow, after the triangles of these meshes
 pub record HasParts (places : ℕ) (read : Contents) (parts : List Closed) : Type 0 where
   pub count : length parts ≡ length read
   pub numbered : AreNumbered 1 parts

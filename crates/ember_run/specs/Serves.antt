@@ -1,4 +1,4 @@
--- What a call promises
+-- What a call promises: which status it may end with, and what it then did to each device
 use Rattle.std.specs.Prelude.{◌≡◌, ◌≢◌, ◌≤◌, ◌⊎◌, true, false, ℕ, List, length, map, None, Some}
 use Rattle.std.specs.declared.option.Option.{Option}
 use Rattle.ember_io.specs.Sinks.{IsFlushed}
@@ -15,7 +15,7 @@ use Rattle.ember_run.specs.declared.reply.Reply.{Reply}
 use Rattle.ember_run.specs.declared.status.Status.{Status}
 use Rattle.ember_run.specs.declared.status.Status.TheVariants.{Done, Words, ReadFault, WriteFault, OutOfMemory}
 
--- the text is what the command asks for, over these contents, and the report is there where it asks for one
+-- the text is what the command asks for, over these contents, and the report is there if it asks for one
 pub record IsReply (command : Command) (told : List ℕ → Option (List ℕ)) (reply : Reply) : Type 0 where
   pub text : IsText (told_verdict (Some command) told) reply.text.items
   pub report : IsReportIf (asks_report (Some command)) (told_verdict (Some command) told) reply.report.items
@@ -24,41 +24,41 @@ pub record IsReply (command : Command) (told : List ℕ → Option (List ℕ)) (
 abbrev pub ReadsCanonical : List (List ℕ) → Type 0
 ReadsCanonical words = (line : Line) → IsCanonical line → words ≡ words_of line → command_of words ≡ command_with line
 
--- what a call promises whose words ask for this command, or for none
+-- what a call promises if its words ask for this command, or for none
 pub record Serves (command : Option Command) (shelf : ShelfCall) (out err : SinkCall) (status : Status) : Type 0 where
-  -- the shelf holds what it held, and no count of faults falls
+  -- the shelf has what it had, and no count of faults falls
   pub contents : shelf.told_after ≡ shelf.told
   pub later : shelf.faults ≤ shelf.faults_after
   pub out_later : out.faults ≤ out.faults_after
   -- the whole output was taken, and is flushed
   pub done : status ≡ Done → IsWritten (told_verdict command shelf.told) out.taken out.taken_after ×
       IsFlushed out.taken_after out.flushed
-  -- the words and the files are refused for what the verdict says
+  -- a refusal is that of the verdict
   pub refused : is_refusal status ≡ true → IsRefusal status (told_verdict command shelf.told)
   -- the words alone decide whether they are refused
   pub words : status ≡ Words → command ≡ None
   pub no_command : command ≡ None → (status ≡ Words) ⊎ (status ≡ OutOfMemory)
-  -- what rests on the words is refused with no file known, whatever the files hold, and whatever the devices do
+  -- a refusal of the words or of the expression doesn't depend on any file, nor on what the devices do
   pub before_files : is_before_files status ≡ true → verdict_before 1 command shelf.told ≡ Refused status
   pub before_files_given : (refusal : Status) → verdict_before 1 command shelf.told ≡ Refused refusal →
       (status ≡ refusal) ⊎ (status ≡ OutOfMemory)
-  -- what is refused in file i is refused whatever stands in the files after it
+  -- a refusal of file i doesn't depend on the contents of the files after it
   pub in_file : (i : ℕ) → refused_file status ≡ Some i → (others : Contents) →
       length others ≡ length (names_of command) →
       IsRefusal status (verdict_of command (with_others i (map shelf.told (names_of command)) others))
   -- file i is one that the command names
   pub one_of : (i : ℕ) → refused_file status ≡ Some i → IsFileIn (names_of command) i
-  -- want of memory stands in no other status
+  -- out-of-memory isn't hidden in another status
   pub memory : hides_memory status ≡ false
-  -- the shelf failed at file i of the command, and nothing before it is refused
+  -- a read fault: the shelf failed at file i of the command, and nothing before it is refused
   pub read_fault : (i : ℕ) → status ≡ ReadFault i → HasShelfFailed shelf × (shelf.fault_at ≡ i) ×
       (verdict_before i command shelf.told ≡ Unknown) × IsFileIn (names_of command) i
-  -- out failed, and took a prefix of the output
+  -- a write fault: out failed, and took a prefix of the output
   pub write_fault : status ≡ WriteFault → HasSinkFailed out ×
       IsBegun (told_verdict command shelf.told) out.taken out.taken_after
-  -- at all other statuses out took nothing
+  -- with any other status, out took nothing
   pub untouched : status ≢ Done → status ≢ WriteFault → out.taken_after ≡ out.taken
-  -- where no device failed, the verdict is answered, or memory was short
+  -- if no device failed, the call does what the verdict asks for, or memory was short
   pub output_given : AsksOutput (told_verdict command shelf.told) → ¬ HasShelfFailed shelf → ¬ HasSinkFailed out →
       (status ≡ Done) ⊎ (status ≡ OutOfMemory)
   pub refusal_given : (refusal : Status) → AsksRefusal refusal (told_verdict command shelf.told) →

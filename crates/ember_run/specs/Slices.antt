@@ -16,10 +16,12 @@ IsSlice at bytes text = (faces : List Face) × IsFaceFile bytes faces × IsSlice
 abbrev pub IsSliceable : ℤ → List ℕ → Type 0
 IsSliceable at bytes = (faces : List Face) × IsFaceFile bytes faces × ((n : ℕ) → IsFirstEndless faces at n → ⊥)
 
+-- the fault of the file: it isn't a face file, or this face is the first endless one
 abbrev pub IsFaceFault : ℤ → List ℕ → FaceFault → Type 0
 IsFaceFault at bytes Form = (faces : List Face) → IsFaceFile bytes faces → ⊥
 IsFaceFault at bytes (Endless n) = (faces : List Face) × IsFaceFile bytes faces × IsFirstEndless faces at n
 
+-- slicing the file is refused with this status
 abbrev pub IsSliceRefusal : ℤ → List ℕ → Status → Type 0
 IsSliceRefusal at bytes (FaceRefused fault) = IsFaceFault at bytes fault
 IsSliceRefusal at bytes _ = ⊥

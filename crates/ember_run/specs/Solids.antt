@@ -30,11 +30,12 @@ pub record IsReportText (tris : List Tri) (formula : Formula) (bytes : List ℕ)
   pub solid : IsSolid tris formula kept report
   pub text : bytes ≡ line_of report
 
--- the line of a report, where one is asked for
+-- the line of a report if one is asked for, otherwise nothing
 abbrev pub report_lines : Bool → Report → List ℕ
 report_lines true report = line_of report
 report_lines false report = []
 
+-- the line is that of the solid's report if one is asked for, otherwise it is empty
 abbrev pub IsReportLine : Bool → List Tri → Formula → List ℕ → Type 0
 IsReportLine true tris formula line = IsReportText tris formula line
 IsReportLine false tris formula line = line ≡ []

@@ -1,4 +1,4 @@
--- Why a command has no answer
+-- Why a command has no reply
 use Rattle.std.specs.Prelude.{◌≡◌, ◌≢◌, ◌≤◌, ⊤, ℕ, ◌-◌, true, false, List, ◌++◌, length, map, take, drop, None, Some}
 use Rattle.ember_model.specs.declared.tri.Tri.{Tri}
 use Rattle.ember_run.specs.CallOutcome.{IsRefusal, hides_memory, is_before_files, is_refusal, refused_file}
@@ -16,18 +16,18 @@ pub record IsFileIn (names : List (List ℕ)) (i : ℕ) : Type 0 where
   pub first : 1 ≤ i
   pub last : i ≤ length names
 
--- why files with these names give no answer; `verdict` is what is asked for, over any contents of them
+-- why a command over files with these names has no reply; `verdict` is what it asks for, over any contents of them
 pub record IsStop (verdict : Contents → Verdict) (names : List (List ℕ)) (shelf : ShelfCall)
     (status : Status) : Type 0 where
-  -- what is refused is refused by the verdict
+  -- a refusal is that of the verdict
   pub refused : is_refusal status ≡ true → IsRefusal status (verdict (map shelf.told names))
-  -- what rests on the words is refused with no file known
+  -- a refusal of the words or of the expression doesn't depend on any file
   pub before_files : is_before_files status ≡ true → verdict (first_told 0 (map shelf.told names)) ≡ Refused status
-  -- what is refused in file i is refused whatever stands in the files after it
+  -- a refusal of file i doesn't depend on the contents of the files after it
   pub in_file : (i : ℕ) → refused_file status ≡ Some i → (others : Contents) → length others ≡ length names →
       IsRefusal status (verdict (with_others i (map shelf.told names) others))
   pub one_of : (i : ℕ) → refused_file status ≡ Some i → IsFileIn names i
-  -- where file i can't be read, nothing is refused before it
+  -- if file i can't be read, nothing before it is refused
   pub read_fault : (i : ℕ) → status ≡ ReadFault i → HasShelfFailed shelf × (shelf.fault_at ≡ i) ×
       (verdict (first_told (i - 1) (map shelf.told names)) ≡ Unknown) × IsFileIn names i
   pub memory : hides_memory status ≡ false
@@ -38,19 +38,19 @@ abbrev pub IsSceneStop : ℕ → List (List ℕ) → ShelfCall → Status → Ty
 IsSceneStop places names shelf status =
     (next : List Tri → Verdict) → IsStop (λ contents. after_scene places contents next) names shelf status
 
--- the refusals of an expression, and want of memory
+-- the refusals of an expression, and out-of-memory
 abbrev pub IsOfWords : Status → Type 0
 IsOfWords (ExprRefused fault) = hides_memory (ExprRefused fault) ≡ false
 IsOfWords Unbounded = ⊤
 IsOfWords OutOfMemory = ⊤
 IsOfWords _ = ⊥
 
--- why words give no answer of which this is the verdict
+-- why words with this verdict have no reply
 pub record IsWordsStop (verdict : Verdict) (status : Status) : Type 0 where
   pub refused : is_refusal status ≡ true → verdict ≡ Refused status
   pub of_words : IsOfWords status
 
--- a status that comes after all files, and none of one file
+-- a status that isn't about the words or the expression, nor about one file
 pub record IsAfterFiles (status : Status) : Type 0 where
   pub not_before : is_before_files status ≡ false
   pub no_file : refused_file status ≡ None

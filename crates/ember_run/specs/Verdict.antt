@@ -23,7 +23,7 @@ use Rattle.ember_run.specs.declared.status.LimitKind.TheVariants.{Bytes, Triangl
 use Rattle.ember_run.specs.declared.status.Status.{Status}
 use Rattle.ember_run.specs.declared.status.Status.TheVariants.{Words, ObjRefused, MeshRefused, ExprRefused, Unbounded, Limit, NotClear}
 
--- the first refusal, or the output; Unknown where it rests on contents that aren't told
+-- the first refusal, or the output; Unknown if it depends on contents that aren't told
 pub data Verdict : Type 0 where
   Unknown : Verdict
   Refused : Status → Verdict
@@ -31,20 +31,25 @@ pub data Verdict : Type 0 where
   -- what slicing these bytes at a level gives, a refusal or an output
   Slices : (at : ℤ) (bytes : List ℕ) → Verdict
 
--- what stands under the name of each file of the words, in order, where it is told
+-- the contents of each file of the command line, in order, if they are told
 abbrev pub Contents : Type 0
 Contents = List (Option (List ℕ))
 
--- ---- a file; `next` is what follows on its bytes, or on its triangles
+-- Here and below, `after_x .. next` is a verdict in steps: the first step reads or checks x, and refuses it or passes a
+-- result on. `next` is what is done with this result. A clause `(next : ..) → IsSameIfTold (after_x .. next) (next r)`
+-- says: if the contents are told, x isn't refused, and its result is r.
+-- ---- a file; `next` is what is done with its bytes, or with its triangles
 abbrev pub after_bytes : ℕ → Option (List ℕ) → (List ℕ → Verdict) → Verdict
 after_bytes i None next = Unknown
 after_bytes i (Some bytes) next =
     if nat_le (length bytes) 268435456 then next bytes else Refused (Limit (Bytes i) 268435457)
 
+-- the file is refused, or its triangles are passed on
 abbrev pub after_triangles : ℕ → Result Faces ObjFault → (List Tri → Verdict) → Verdict
 after_triangles i (Err fault) next = Refused (ObjRefused i fault)
 after_triangles i (Ok faces) next = next faces.tris
 
+-- a file of triangles: its bytes, then its triangles
 abbrev pub after_file : ℕ → ℕ → Option (List ℕ) → (List Tri → Verdict) → Verdict
 after_file places i told next = after_bytes i told (λ bytes. after_triangles i (read_obj_of places i bytes) next)
 
@@ -53,30 +58,34 @@ abbrev pub after_balance : ℕ → Option Loose → Verdict → Verdict
 after_balance i None next = next
 after_balance i (Some loose) next = Refused (MeshRefused i (Unbalanced loose))
 
+-- a file that must be a closed mesh
 abbrev pub after_mesh : ℕ → ℕ → Option (List ℕ) → (List Tri → Verdict) → Verdict
 after_mesh places i told next = after_file places i told (λ tris. after_balance i (loose_of tris) (next tris))
 
+-- all triangles together: no more than 262144
 abbrev pub after_total : List Tri → (List Tri → Verdict) → Verdict
 after_total tris next = if nat_le (length tris) 262144 then next tris else Refused (Limit Triangles (length tris))
 
--- file i and those after it, where the files before it gave these triangles
+-- file i and those after it; the files before it have these triangles
 abbrev pub after_files : ℕ → ℕ → List Tri → Contents → (List Tri → Verdict) → Verdict
 after_files places i tris [] next = after_total tris next
 after_files places i tris (told ∷ more) next =
     after_mesh places i told (λ mesh. after_files places (i + 1) (tris ++ mesh) more next)
 
+-- all files of a scene
 abbrev pub after_scene : ℕ → Contents → (List Tri → Verdict) → Verdict
 after_scene places contents next = after_files places 1 [] contents next
 
--- ---- an expression over so many meshes
+-- ---- an expression over this number of meshes
 abbrev pub after_parse : Result Formula ExprFault → (Formula → Verdict) → Verdict
 after_parse (Err fault) next = Refused (ExprRefused fault)
 after_parse (Ok formula) next = next formula
 
+-- an expression that is parsed
 abbrev pub after_expr : List ℕ → ℕ → (Formula → Verdict) → Verdict
 after_expr text meshes next = after_parse (expr_of text meshes) next
 
--- where one is given
+-- the same if one is given
 abbrev pub after_given : Option (List ℕ) → ℕ → (Option Formula → Verdict) → Verdict
 after_given None meshes next = next None
 after_given (Some text) meshes next = after_expr text meshes (λ formula. next (Some formula))
@@ -86,9 +95,11 @@ after_given (Some text) meshes next = after_expr text meshes (λ formula. next (
 abbrev pub file_at : Contents → ℕ → Option (List ℕ)
 file_at contents i = get_or contents (i - 1) None
 
+-- the verdict of `faces`
 abbrev pub faces_verdict : ℕ → Option (List ℕ) → Verdict
 faces_verdict places told = after_file places 1 told (λ tris. Writes (FaceTexts tris))
 
+-- the verdict of `slice`
 abbrev pub slice_verdict : ℤ → Option (List ℕ) → Verdict
 slice_verdict at told = after_bytes 1 told (λ bytes. Slices at bytes)
 
@@ -96,26 +107,31 @@ slice_verdict at told = after_bytes 1 told (λ bytes. Slices at bytes)
 abbrev pub after_clear : Spot → List Tri → Verdict → Verdict
 after_clear point tris next = if list_all (λ t. is_clear_of t point) tris then next else Refused NotClear
 
+-- what `at` writes at a point of a scene, or that the point isn't clear
 abbrev pub counts_verdict : Spot → ℕ → Option Formula → List Tri → Verdict
 counts_verdict point meshes expr tris = after_clear point tris (Writes (Counts point meshes tris expr))
 
+-- the verdict of `at`
 abbrev pub at_verdict : Spot → Option (List ℕ) → ℕ → Contents → Verdict
 at_verdict point expr places contents =
     after_given expr (length contents) (λ formula.
     after_scene places contents (counts_verdict point (length contents) formula))
 
+-- the verdict of `voxels`
 abbrev pub voxels_verdict : List ℕ → ℕ → ℕ → Contents → Verdict
 voxels_verdict expr size places contents =
     after_expr expr (length contents) (λ formula.
     after_scene places contents (λ tris. Writes (Lattice tris formula size)))
 
--- an expression that holds where all counts are 0 bounds nothing
+-- an expression is refused if it is true outside all meshes
 abbrev pub after_bounded : Formula → Verdict → Verdict
 after_bounded formula next = if truth (replicate 64 (pos 0)) formula then Refused Unbounded else next
 
+-- an expression that is parsed, and false outside all meshes
 abbrev pub after_solid : List ℕ → ℕ → (Formula → Verdict) → Verdict
 after_solid text meshes next = after_expr text meshes (λ formula. after_bounded formula (next formula))
 
+-- the verdict of `bool`
 abbrev pub bool_verdict : List ℕ → ℕ → Contents → Verdict
 bool_verdict expr places contents =
     after_solid expr (length contents) (λ formula.
@@ -125,6 +141,7 @@ bool_verdict expr places contents =
 abbrev pub demo_verdict : ℕ → Verdict
 demo_verdict boxes = after_expr (codes "m1|m2") 2 (λ formula. Writes (SolidReport (scene_of boxes) formula))
 
+-- the verdict of `pairs`
 abbrev pub pairs_verdict : ℕ → Contents → Verdict
 pairs_verdict places contents = after_scene places contents (λ tris. Writes (MeetingPairs tris))
 
@@ -150,16 +167,16 @@ names_of (Some (command.Voxels expr size workers places files)) = files
 names_of (Some (command.Pairs workers places files)) = files
 names_of (Some (command.Slice at file)) = file ∷ []
 
--- the verdict where a shelf tells what stands under each name
+-- the verdict by what a shelf tells of the contents under each name
 abbrev pub told_verdict : Option Command → (List ℕ → Option (List ℕ)) → Verdict
 told_verdict command told = verdict_of command (map told (names_of command))
 
--- the contents, of which only those of the first n files are told
+-- the contents, with only those of the first n files told
 abbrev pub first_told : ℕ → Contents → Contents
 first_told n [] = []
 first_told zero (told ∷ more) = None ∷ first_told zero more
 first_told (suc n) (told ∷ more) = told ∷ first_told n more
 
--- the verdict where no contents are told from file i on: Unknown where nothing is refused before it is read
+-- the verdict if no contents are told from file i on: Unknown if nothing is refused before file i is read
 abbrev pub verdict_before : ℕ → Option Command → (List ℕ → Option (List ℕ)) → Verdict
 verdict_before i command told = verdict_of command (first_told (i - 1) (map told (names_of command)))

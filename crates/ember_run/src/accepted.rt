@@ -11,9 +11,9 @@ ghost use Rattle.ember_run.specs.CallOutcome.{AsksOutput};
 ghost use Rattle.ember_run.specs.Outputs.{Output};
 ghost use Rattle.ember_run.specs.Verdict.{Contents, Writes, names_of, told_verdict};
 
-/// Words ask for an output exactly if their command accepts what they give: files, expression and
-/// point. The output is that of the accepted triangles and tree. A slice is asked for exactly if the
-/// face file is accepted at the level.
+/// The verdict on words is an output exactly if their command accepts what they give: files,
+/// expression and point. The output is that of the accepted triangles and tree. The verdict on
+/// `slice` is an output exactly if the face file is accepted at the level.
 pub fn inputs_are_accepted_where_they_have_an_output()
     ensures outputs { (words : List (List ℕ)) (command : Command) → command_of words ≡ Some command →
         (told : List ℕ → Option (List ℕ)) (output : Output) →
@@ -23,7 +23,7 @@ pub fn inputs_are_accepted_where_they_have_an_output()
         AsksOutput (told_verdict (Some (Slice at name)) told) ↔ IsAcceptedSlice at (told name) }
 {}
 
-/// The triangles of accepted files are a scene of as many meshes.
+/// The triangles of accepted files are a scene with one mesh for each file.
 pub fn accepted_files_are_a_scene()
     ensures { (places : ℕ) (contents : Contents) (tris : List Tri) → IsSceneOf places contents tris →
         IsScene tris (length contents) }

@@ -24,6 +24,7 @@ use ember_words::{Text, Texts};
 use itoa::Buffer;
 use std::alloc::Global;
 
+// Whether the point is clear of the triangle.
 fn is_clear(point: &Spot, tri: &Tri) -> bool
     requires point { IsValidSpot point.now }
     requires tri { IsValidTri tri.now }
@@ -59,7 +60,7 @@ fn counts_at(scene: &Scene, point: &Spot) -> Vector
     vector
 }
 
-// The line of a mesh.
+// Appends the line of a mesh: its winding number.
 fn put_count(mesh: u32, count: i32, text: &mut Vec<u8>) -> Result<(), OutOfMemory>
     ensures { OnOk result (text.new.items ≡ text.old.items ++ count_line mesh count) }
 {
@@ -71,6 +72,7 @@ fn put_count(mesh: u32, count: i32, text: &mut Vec<u8>) -> Result<(), OutOfMemor
     text.extend_from_slice(b"\n")
 }
 
+// Appends the lines of all these meshes, from mesh 1 on.
 fn put_counts(counts: &[i32], text: &mut Vec<u8>) -> Result<(), OutOfMemory>
     requires { length counts.now ≤ 64 }
     ensures { OnOk result (text.new.items ≡ text.old.items ++ count_lines 1 counts.now) }
@@ -83,13 +85,14 @@ fn put_counts(counts: &[i32], text: &mut Vec<u8>) -> Result<(), OutOfMemory>
     Ok(())
 }
 
+// The line of the expression's value.
 fn value_text(holds: bool) -> &'static [u8]
     ensures { result.now ≡ value_line holds }
 {
     if holds { b"value 1\n" } else { b"value 0\n" }
 }
 
-// The value of the expression, where one is given.
+// Appends the line of the expression's value, if an expression is given.
 fn put_value(counts: &Vector, expr: &Option<Expr>, text: &mut Vec<u8>) -> Result<(), OutOfMemory>
     requires { AreCounts counts.now.counts }
     ensures { OnOk result (text.new.items ≡ text.old.items ++ value_lines counts.now.counts (given_formula expr.now)) }
@@ -100,7 +103,7 @@ fn put_value(counts: &Vector, expr: &Option<Expr>, text: &mut Vec<u8>) -> Result
     }
 }
 
-// The lines of so many meshes, and the value.
+// The lines of the first `meshes` meshes, and that of the value.
 fn counts_lines(
     alloc: Global,
     meshes: usize,
@@ -117,7 +120,7 @@ fn counts_lines(
     Ok(text)
 }
 
-// The text at a point, where that is clear of the scene.
+// The output at a point. A point that isn't clear of the scene is refused.
 #[tactic(auto, using(crate::proofs::AtVerdict::clear_text, crate::proofs::AtVerdict::unclear_refused, crate::proofs::Stops::unclear_after, crate::proofs::Stops::memory_after))]
 fn text_at(
     alloc: Global,
@@ -143,8 +146,9 @@ fn text_at(
     Ok(counts_lines(alloc, meshes, &counts, expr)?)
 }
 
-/// The text of `at`: the winding number of each mesh at the point, in the scaled unit, and the
-/// expression's value, where one is given. `places` is at most 3, and there are at most 64 files.
+/// The output of `at`: the winding number of each mesh at the point, and the value of the
+/// expression, if one is given. The point's coordinates are in units. `places` is at most 3, and
+/// there are at most 64 files. The error is the status with which the call ends instead.
 pub fn at_output<S: Shelf>(
     alloc: Global,
     point: &Spot,

@@ -23,7 +23,7 @@ use ember_report::{Report, report_line};
 use ember_words::{Text, Texts};
 use std::alloc::Global;
 
-// The line of the report, where it is asked for.
+// The line of the report if it is asked for, otherwise nothing.
 fn report_if(alloc: Global, reported: bool, report: &Report) -> Result<Vec<u8>, OutOfMemory>
     ensures { IfOk result (λ line. line.items ≡ report_lines reported report.now) }
 {
@@ -33,7 +33,7 @@ fn report_if(alloc: Global, reported: bool, report: &Report) -> Result<Vec<u8>, 
     report_line(alloc, report)
 }
 
-// The document of the solid, and the line of its report, where it is asked for.
+// The document of the solid, and the line of its report, if it is asked for.
 #[tactic(auto, using(crate::proofs::SolidVerdicts::report_line_is))]
 fn reply_of_solid<C: Fn(&Query) -> Result<Answer, OutOfMemory>>(
     alloc: Global,
@@ -55,8 +55,8 @@ fn reply_of_solid<C: Fn(&Query) -> Result<Answer, OutOfMemory>>(
     })
 }
 
-/// The document of `bool`, and the line of the report, where it is asked for. `places` is at most 3,
-/// and there are at most 64 files.
+/// The document of `bool`, and the line of the report, if it is asked for. `places` is at most 3,
+/// and there are at most 64 files. The error is the status with which the call ends instead.
 pub fn boole_output<S: Shelf, C: Fn(&Query) -> Result<Answer, OutOfMemory>>(
     alloc: Global,
     expr: &Text,
@@ -109,7 +109,8 @@ fn text_of_report<C: Fn(&Query) -> Result<Answer, OutOfMemory>>(
     Ok(text)
 }
 
-/// The report of `demo`, of the union of so many generated boxes, 1 to 20000.
+/// The output of `demo`: the line of the report of the union of the two meshes of generated boxes.
+/// There are at most 20000 `boxes`. The error is the status with which the call ends instead.
 #[tactic(auto, using(crate::proofs::SolidVerdicts::report_written, crate::proofs::SolidVerdicts::report_refused, crate::proofs::Stops::memory_words_stop))]
 pub fn demo_output<C: Fn(&Query) -> Result<Answer, OutOfMemory>>(
     alloc: Global,

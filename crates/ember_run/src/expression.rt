@@ -1,4 +1,5 @@
-// The expression of the words.
+// The expression of the command line. In the clauses, `next` is what is done with the expression
+// (specs/Verdict.antt).
 ghost use Rattle.std.specs.Prelude.{◌≡◌, ◌≤◌, IfOk, IfErr, codes};
 ghost use Rattle.std.specs.declared.option.Option.{Option};
 ghost use Rattle.ember_expr.specs.Formula.{Formula, formula_of};
@@ -11,7 +12,8 @@ use ember_expr::{Expr, ExprFault, bounded, parse};
 use ember_words::Text;
 use std::alloc::Global;
 
-/// The expression of a text over so many meshes, at most 64.
+/// Parses the text as an expression over `meshes` meshes, at most 64. The error is the status: the
+/// text's first fault, or out-of-memory.
 #[tactic(auto, using(crate::proofs::Expressions::fault_stop, crate::proofs::Stops::memory_words_stop))]
 pub fn parse_text(alloc: Global, text: &Text, meshes: u32) -> Result<Expr, Status>
     requires { meshes ≤ 64 }
@@ -27,7 +29,8 @@ pub fn parse_text(alloc: Global, text: &Text, meshes: u32) -> Result<Expr, Statu
     }
 }
 
-/// The expression of a text, where one is given.
+/// Parses the text, if one is given, as an expression over `meshes` meshes, at most 64. The errors
+/// are those of `parse_text`.
 pub fn parse_given(alloc: Global, text: &Option<Text>, meshes: u32) -> Result<Option<Expr>, Status>
     requires { meshes ≤ 64 }
     ensures expr { IfOk result (λ expr. (next : Option Formula → Verdict) →
@@ -41,8 +44,9 @@ pub fn parse_given(alloc: Global, text: &Option<Text>, meshes: u32) -> Result<Op
     }
 }
 
-/// The expression of a text over so many meshes, at most 64, where it doesn't hold outside all of
-/// them.
+/// Parses the text as an expression over `meshes` meshes, at most 64, and refuses an expression
+/// that is true outside all meshes (`Status::Unbounded`). The other errors are those of
+/// `parse_text`.
 #[tactic(auto, using(crate::proofs::SolidVerdicts::bounded_read, crate::proofs::SolidVerdicts::unbounded_stop))]
 pub fn parse_bounded(alloc: Global, text: &Text, meshes: u32) -> Result<Expr, Status>
     requires { meshes ≤ 64 }
@@ -61,7 +65,7 @@ pub fn parse_bounded(alloc: Global, text: &Text, meshes: u32) -> Result<Expr, St
     Ok(expr)
 }
 
-/// The union of two meshes.
+/// The expression `m1|m2` of `demo`, over two meshes.
 #[tactic(auto, using(crate::proofs::Expressions::fault_stop, crate::proofs::Stops::memory_words_stop))]
 pub fn parse_union(alloc: Global) -> Result<Expr, Status>
     ensures expr { IfOk result (λ expr. (next : Formula → Verdict) →

@@ -16,7 +16,7 @@ use ember_text::{begin_file, end_file, face_text};
 use ember_words::Text;
 use std::alloc::Global;
 
-// Appends the triangle's face, where it has one, and gives the number of faces added.
+// Appends the triangle's face, if it has one. Returns the number of faces added, 0 or 1.
 #[tactic(auto, using(crate::proofs::FaceLists::flat_adds, crate::proofs::FaceLists::face_adds))]
 fn add_face(alloc: Global, tri: &Tri, text: &mut Vec<u8>) -> Result<u32, OutOfMemory>
     requires { IsValidTri tri.now }
@@ -31,7 +31,7 @@ fn add_face(alloc: Global, tri: &Tri, text: &mut Vec<u8>) -> Result<u32, OutOfMe
     }
 }
 
-// The text of the triangles' faces.
+// The face file of the triangles' faces.
 #[tactic(auto, using(crate::proofs::FaceLists::no_texts, crate::proofs::FaceLists::more_texts))]
 fn faces_text(alloc: Global, tris: &[Tri]) -> Result<Vec<u8>, OutOfMemory>
     requires valid { All IsValidTri tris.now }
@@ -47,7 +47,8 @@ fn faces_text(alloc: Global, tris: &[Tri]) -> Result<Vec<u8>, OutOfMemory>
     Ok(text)
 }
 
-/// The text of `faces`: the face of each triangle of the file, in order. `places` is at most 3.
+/// The output of `faces`: the face of each triangle of the file that isn't flat, in order. `places`
+/// is at most 3. The error is the status with which the call ends instead.
 #[tactic(auto, using(crate::proofs::Verdicts::faces_read))]
 pub fn faces_output<S: Shelf>(
     alloc: Global,

@@ -37,8 +37,8 @@ pub fn solids_have_one_document()
         IsFalseOutside formula → IsSolidText tris formula bytes ↔ IsOutput (SolidFaces tris formula) bytes }
 {}
 
-/// Each accepted input has one text, and one text on err for each status: the words and the
-/// contents of their files tell all of its bytes.
+/// Each accepted input has one output, and one text on err for each status: the words and the
+/// contents of their files determine all bytes.
 pub fn accepted_inputs_have_one_text()
     ensures out { (words : List (List ℕ)) (told : List ℕ → Option (List ℕ)) (one other : List ℕ) →
         told_verdict (command_of words) told ≢ Unknown → IsText (told_verdict (command_of words) told) one →
@@ -48,7 +48,7 @@ pub fn accepted_inputs_have_one_text()
         IsErrText (command_of words) told status other → one ≡ other }
 {}
 
-/// The number of workers changes no verdict, so the text is one for every number of them.
+/// The number of workers changes no verdict. So the output is the same for every number of workers.
 pub fn workers_change_no_verdict()
     ensures boole { (expr : List ℕ) (workers others places : ℕ) (report : Bool) (files : List (List ℕ))
         (told : List ℕ → Option (List ℕ)) →
@@ -64,7 +64,7 @@ pub fn workers_change_no_verdict()
         told_verdict (Some (Pairs workers places files)) told ≡ told_verdict (Some (Pairs others places files)) told }
 {}
 
-/// Each output has one text: what its definition says of the bytes tells all of them.
+/// Each output has one text: its definition determines all bytes.
 pub fn outputs_have_one_text()
     ensures { (output : Output) (one other : List ℕ) → IsOfScene output → IsOutput output one → IsOutput output other →
         one ≡ other }
@@ -75,8 +75,8 @@ pub fn slices_of_files_have_one_text()
     ensures { (at : ℤ) (bytes one other : List ℕ) → IsSlice at bytes one → IsSlice at bytes other → one ≡ other }
 {}
 
-/// What `faces` writes for the triangles holds their faces and no other list of faces, so each
-/// winding number of the faces read back is that of the triangles.
+/// From what `faces` writes for the triangles, their faces are read back and no other list of
+/// faces. So each winding number of the faces read back is that of the triangles.
 pub fn faces_wind_as_read()
     ensures only { (tris : List Tri) (bytes : List ℕ) (faces : List Face) → IsOutput (FaceTexts tris) bytes →
         IsFaceFile bytes faces → faces ≡ faces_of tris }
@@ -85,8 +85,8 @@ pub fn faces_wind_as_read()
         wind axis faces point ≡ wind axis (faces_of tris) point }
 {}
 
-/// The file of a solid is a closed surface: on each line, each point is as often the start of a
-/// written edge as the end of one.
+/// The file of a solid is a closed surface: on each line, each point is the start of a written edge
+/// as often as the end of one.
 pub fn solids_are_closed()
     ensures { (tris : List Tri) (f : Formula) (bytes : List ℕ) → IsOutput (SolidFaces tris f) bytes →
         IsClosedFile bytes }
@@ -109,7 +109,7 @@ pub fn clear_points_are_found()
     ensures { (tri : Tri) (point : Spot) → pos 0 <ℤ point.w → (is_clear_of tri point ≡ true) ↔ IsClearOf tri point }
 {}
 
-/// At a point that `at` takes the winding numbers are the same along all axes.
+/// At a point that `at` doesn't refuse, the winding numbers are the same along all axes.
 pub fn counts_along_all_axes_agree()
     ensures { (tris : List Tri) (meshes : ℕ) → IsScene tris meshes → (point : Spot) → pos 0 <ℤ point.w →
         list_all (λ t. is_clear_of t point) tris ≡ true → (axis other : Axis) →

@@ -1,4 +1,5 @@
-// The line on err of a status.
+// The line on err for a status. It is written in pieces and allocates nothing, so out-of-memory has
+// a line too.
 ghost use Rattle.std.specs.Prelude.{◌≡◌, [], ◌∷◌, Some, decimal, flat_map};
 ghost use Rattle.std.specs.Fmt.{signed_decimal};
 ghost use Rattle.ember_run.specs.Messages.{AppendsUntilFault};
@@ -28,6 +29,7 @@ fn say<E: Sink>(err: &mut E, pieces: &[&[u8]])
     }
 }
 
+// What is wrong with a coordinate, in words.
 fn coordinate_fault(fault: &DecFault) -> &'static [u8]
     ensures { result.now ≡ decimal_text fault.now }
 {
@@ -38,7 +40,7 @@ fn coordinate_fault(fault: &DecFault) -> &'static [u8]
     }
 }
 
-// The first and only name.
+// The name of file `number`, from 1, of a command with one file. As in `name_of`, 0 counts as 1.
 fn only_name(file: &Text, number: u32) -> &[u8]
     ensures { result.now ≡ name_of (file.now ∷ []) number }
 {
@@ -49,6 +51,8 @@ fn only_name(file: &Text, number: u32) -> &[u8]
     }
 }
 
+// The name of file `number`, from 1. As in `name_of`, 0 counts as 1, and a number past the last
+// file gives an empty name.
 fn name_among(files: &Texts, number: u32) -> &[u8]
     ensures { result.now ≡ name_of files.now number }
 {
@@ -73,6 +77,7 @@ fn name_at(command: &Command, number: u32) -> &[u8]
     }
 }
 
+// The line of a fault in a line of a file.
 fn say_fault<E: Sink>(err: &mut E, name: &[u8], line: u32, fault: &[u8])
     ensures { AppendsUntilFault (E.faults err.old) (E.faults err.new) (E.taken err.old) (E.taken err.new)
         (fault_line name.now line fault.now) }
@@ -101,6 +106,7 @@ fn say_obj_fault<E: Sink>(err: &mut E, name: &[u8], fault: &ObjFault)
     }
 }
 
+// The decimal digits of a corner's coordinates, with a minus if one is negative, and of a count.
 fn x_digits<'a>(buffer: &'a mut Buffer, corner: &Corner) -> &'a [u8]
     ensures { result.now ≡ signed_decimal corner.now.x }
 {
@@ -125,7 +131,7 @@ fn count_digits(buffer: &mut Buffer, count: u32) -> &[u8]
     buffer.format(count).as_bytes()
 }
 
-// The line of an edge that stands more often than its reverse.
+// The line of an edge that occurs more often than its reverse.
 fn say_loose<E: Sink>(err: &mut E, name: &[u8], loose: &Loose)
     ensures { AppendsUntilFault (E.faults err.old) (E.faults err.new) (E.taken err.old) (E.taken err.new)
         (loose_line name.now loose.now) }
@@ -170,6 +176,7 @@ fn say_mesh_fault<E: Sink>(err: &mut E, name: &[u8], fault: &MeshFault)
     }
 }
 
+// The line of a fault at a place of the expression.
 fn say_place<E: Sink>(err: &mut E, fault: &[u8], place: u32)
     ensures { AppendsUntilFault (E.faults err.old) (E.faults err.new) (E.taken err.old) (E.taken err.new)
         (place_line fault.now place) }
@@ -179,6 +186,7 @@ fn say_place<E: Sink>(err: &mut E, fault: &[u8], place: u32)
     say(err, &[b"ember: expression: ", fault, b" at ", place, b"\n"]);
 }
 
+// The line of an expression that names a mesh which isn't given.
 fn say_no_mesh<E: Sink>(err: &mut E, number: u32)
     ensures { AppendsUntilFault (E.faults err.old) (E.faults err.new) (E.taken err.old) (E.taken err.new)
         (no_mesh_line number) }
@@ -203,6 +211,7 @@ fn say_expr_fault<E: Sink>(err: &mut E, fault: &ExprFault)
     }
 }
 
+// The line of an endless face.
 fn say_endless<E: Sink>(err: &mut E, name: &[u8], number: u32)
     ensures { AppendsUntilFault (E.faults err.old) (E.faults err.new) (E.taken err.old) (E.taken err.new)
         (endless_line name.now number) }
@@ -212,6 +221,7 @@ fn say_endless<E: Sink>(err: &mut E, name: &[u8], number: u32)
     say(err, &[b"ember: ", name, b": face ", number, b" endless\n"]);
 }
 
+// The line of a file that isn't a face file.
 fn say_no_face_file<E: Sink>(err: &mut E, name: &[u8])
     ensures { AppendsUntilFault (E.faults err.old) (E.faults err.new) (E.taken err.old) (E.taken err.new)
         (face_line name.now FaceFault.Form) }
@@ -230,6 +240,7 @@ fn say_face_fault<E: Sink>(err: &mut E, name: &[u8], fault: &FaceFault)
     }
 }
 
+// The line of too many triangles.
 fn say_triangles<E: Sink>(err: &mut E, count: u64)
     ensures { AppendsUntilFault (E.faults err.old) (E.faults err.new) (E.taken err.old) (E.taken err.new)
         (triangles_line count) }
@@ -239,7 +250,7 @@ fn say_triangles<E: Sink>(err: &mut E, count: u64)
     say(err, &[b"ember: ", count, b" triangles\n"]);
 }
 
-// Too many bytes, or too many triangles.
+// The line of too many bytes, or of too many triangles.
 fn say_limit<E: Sink>(err: &mut E, command: &Command, kind: LimitKind, count: u64)
     ensures { AppendsUntilFault (E.faults err.old) (E.faults err.new) (E.taken err.old) (E.taken err.new)
         (line_on_err (names_of (Some command.now)) (Status.Limit kind count)) }
@@ -261,7 +272,7 @@ pub fn say_words_refused<E: Sink>(err: &mut E)
     say(err, &[b"ember: words refused\n"]);
 }
 
-/// Writes the line of want of memory to err.
+/// Writes the out-of-memory line to err.
 pub fn say_out_of_memory<E: Sink>(err: &mut E)
     ensures { AppendsUntilFault (E.faults err.old) (E.faults err.new) (E.taken err.old) (E.taken err.new)
         (line_on_err [] Status.OutOfMemory) }

@@ -15,10 +15,10 @@ ghost use Rattle.ember_run.specs.OneSolid.{SegmentsCrossOnceAtMost, SegmentsHave
 ghost use Rattle.ember_run.specs.Outputs.{Counts, IsOutput, SolidFaces};
 ghost use Rattle.ember_run.specs.Slices.{IsSlice};
 
-/// At each point that is clear of the faces of a solid, of the scene's faces or not, they wind along
-/// all axes alike, once or not at all: once if the expression is true at the point shifted along
-/// all axes by little enough. If a point is clear of the scene's faces, of these faces or not,
-/// they wind so at the shifted point as the expression says at the point itself.
+/// Around each point that is clear of the faces of a solid, they wind once or not at all, the same
+/// along all axes: once if the expression is true at the point shifted along all axes by little
+/// enough. If a point is clear of the scene's faces, the faces of the solid wind around the shifted
+/// point once if the expression is true at the point itself, and otherwise not at all.
 pub fn solids_wind_once_at_most()
     ensures once { (tris : List Tri) (formula : Formula) (file : List ℕ) → IsOutput (SolidFaces tris formula) file →
         (faces : List Face) → IsFaceFile file faces → WindOnceAtMost faces }
@@ -35,10 +35,10 @@ pub fn solids_are_one_where_expressions_agree()
         IsOutput (SolidFaces tris f) one → IsOutput (SolidFaces tris g) other → (one ≡ other) ↔ AgreeOver tris f g }
 {}
 
-/// The segments of a slice of a solid's document are crossed once in sum, along x and along y alike,
-/// where the expression holds, and not at all elsewhere. That is so at each point of the level that
-/// is clear of the scene's faces and of the document's. At each one that is clear of the document's
-/// alone they are crossed once, or not at all.
+/// Take a slice of a solid's document, and a point of the level that is clear of the scene's faces
+/// and of the document's. The signed crossings of the point's ray along x with the slice's segments
+/// add up to 1 if the expression is true there, and otherwise to 0; so do those along y. At a point
+/// that is clear of the document's faces alone they add up to 1 or 0, the same along both.
 pub fn slices_of_solids_mean_the_expression()
     ensures clear { (tris : List Tri) (formula : Formula) (file : List ℕ) → IsOutput (SolidFaces tris formula) file →
         (at : ℤ) (text : List ℕ) (slice : IsSlice at file text) →
@@ -47,8 +47,8 @@ pub fn slices_of_solids_mean_the_expression()
         (at : ℤ) (text : List ℕ) (slice : IsSlice at file text) → SegmentsCrossOnceAtMost at slice.0 slice.2.segments }
 {}
 
-/// The value that `at` writes for a point that it takes is the number of times that the faces of the
-/// solid wind there, if the point is clear of them, and beside it in any case.
+/// Let `at` write a value for a point. If the point is clear of the solid's faces, they wind around
+/// it as often as the value says. In any case they do so around the point shifted by little enough.
 pub fn values_at_points_are_of_the_solid()
     ensures { (tris : List Tri) (formula : Formula) (file : List ℕ) → IsOutput (SolidFaces tris formula) file →
         (faces : List Face) → IsFaceFile file faces → (point : Spot) (meshes : ℕ) (told : List ℕ) → pos 0 <ℤ point.w →
@@ -56,10 +56,10 @@ pub fn values_at_points_are_of_the_solid()
         ValueIsOfFaces told faces point }
 {}
 
-/// If a cell's reference point is clear of the faces of the solid, they wind there along all axes
-/// as often as the cell's bit in the lattice says. A reference point is clear of the scene's faces
-/// but not always of the document's. Shifted along all axes by little enough it is, and there they
-/// wind as the bit says without exception.
+/// If a cell's reference point is clear of the faces of the solid, they wind around it, along all
+/// axes, as often as the cell's bit in the lattice says. A reference point is clear of the scene's
+/// faces, but not always of the document's. Around the point shifted along all axes by little
+/// enough they wind as the bit says in any case.
 pub fn lattices_sample_the_solid()
     ensures clear { (tris : List Tri) (meshes : ℕ) → IsScene tris meshes → (formula : Formula) (file : List ℕ) →
         IsOutput (SolidFaces tris formula) file → (faces : List Face) → IsFaceFile file faces →

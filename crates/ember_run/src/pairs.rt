@@ -27,12 +27,13 @@ fn text_of_pairs<C: Fn(&Query) -> Result<Answer, OutOfMemory>>(
 {
     let items = pairs_by(scene, executor)?;
     let pairs = gather(alloc, items)?;
+    // A law, which does nothing: the gathered pairs are all pairs of the scene that meet.
     gathered_pairs_are_all(scene);
     pairs_text(alloc, pairs.items())
 }
 
-/// The text of `pairs`: the triangles that cross or overlap. `places` is at most 3, and there are
-/// at most 64 files.
+/// The output of `pairs`: the pairs of triangles that cross or overlap. `places` is at most 3, and
+/// there are at most 64 files. The error is the status with which the call ends instead.
 #[tactic(auto, using(crate::proofs::SceneVerdicts::pairs_listed))]
 pub fn pairs_output<S: Shelf, C: Fn(&Query) -> Result<Answer, OutOfMemory>>(
     alloc: Global,

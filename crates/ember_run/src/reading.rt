@@ -11,9 +11,12 @@ use ember_model::Soup;
 use ember_obj::{ObjFault, read_obj};
 use std::alloc::Global;
 
+// The greatest number of bytes of a file, 2^28.
 const MOST_BYTES: u64 = 268_435_456;
 
-/// The bytes of the file with this number, from 1, under its name.
+/// Reads the bytes of the file with this name. `number` is its number, from 1; a status names the
+/// file by it. The error is the status: the file can't be read, it is too long, or out-of-memory.
+/// In the clauses, `next` is what is done with the bytes (specs/Verdict.antt).
 #[tactic(auto, using(crate::proofs::Verdicts::bytes_read, crate::proofs::Verdicts::bytes_too_long))]
 pub fn read_bytes<S: Shelf>(
     alloc: Global,
@@ -43,7 +46,10 @@ pub fn read_bytes<S: Shelf>(
     }
 }
 
-/// The triangles of the file with this number, from 1, under its name. `places` is at most 3.
+/// Reads the triangles of the file with this name. `number` is its number, from 1: the number of
+/// the triangles' mesh, by which a status also names the file. `places` is at most 3. The error is
+/// the status: one of `read_bytes`, or the first fault of the OBJ file. In the clauses, `next` is
+/// what is done with the triangles (specs/Verdict.antt).
 #[tactic(auto, using(crate::proofs::Verdicts::file_read, crate::proofs::Verdicts::file_refused, crate::proofs::Stops::obj_tells))]
 pub fn read_file<S: Shelf>(
     alloc: Global,

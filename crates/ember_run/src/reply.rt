@@ -3,8 +3,8 @@ ghost use Rattle.std.specs.Prelude.{◌≡◌, []};
 
 use std::alloc::Global;
 
-/// The reply to a command: what out is to take, and the line of the report that err takes after
-/// it. The report is empty where none is asked for.
+/// The reply to a command: the output, for `out`, and the line of the report, for `err` after it.
+/// The report is empty if none is asked for.
 #[derive(Drop)]
 pub struct Reply {
     pub text: Vec<u8>,

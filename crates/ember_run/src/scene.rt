@@ -1,4 +1,5 @@
-// The scene of several files: each a closed mesh, all of them together within the limit.
+// The scene of several files: each is a closed mesh, and all together have few enough triangles. In
+// the clauses, `next` is what is done with the triangles (specs/Verdict.antt).
 ghost use Rattle.std.specs.Prelude.{ℕ, List, ◌≡◌, ◌≢◌, ◌≤◌, length, map, true, false, All, Some, Err, IfOk, IfErr};
 ghost use Rattle.ember_io.specs.Causes.{Rose};
 ghost use Rattle.ember_mesh.specs.Joined.{AreNumbered, triangles_of};
@@ -79,7 +80,7 @@ fn read_parts<S: Shelf>(
     Ok(parts)
 }
 
-// The scene of the meshes, where they have few enough triangles.
+// Joins the meshes into a scene, and refuses them if they have too many triangles.
 #[tactic(auto, using(crate::proofs::SceneFiles::few_joined, crate::proofs::SceneFiles::many_refused, crate::proofs::Stops::triangles_after, crate::proofs::Stops::memory_after))]
 fn join_parts(alloc: Global, parts: Vec<Closed>) -> Result<Scene, Status>
     requires few { length parts.items ≤ 64 }
@@ -102,9 +103,11 @@ fn join_parts(alloc: Global, parts: Vec<Closed>) -> Result<Scene, Status>
     }
 }
 
-/// The scene of the files, in order. `places` is at most 3, and there are at most 64 files.
+/// The scene of the files, in order. `places` is at most 3, and there are at most 64 files. The
+/// error is the status: a file can't be read or is refused, its mesh isn't closed, all together
+/// have too many triangles, or out-of-memory.
 ///
-/// A file is begun only where none before it is refused, and its text is dropped before the next
+/// A file is opened only if no file before it is refused, and its text is dropped before the next
 /// one is read.
 pub fn read_scene<S: Shelf>(
     alloc: Global,

@@ -34,7 +34,7 @@ fn faces_in(alloc: Global, bytes: &[u8]) -> Result<FaceList, Status>
     }
 }
 
-// The text of the segments of these faces, which the bytes hold.
+// The text of the segments of these faces, which were read from the bytes.
 fn segments_text(alloc: Global, faces: &FaceList, at: i32) -> Result<Vec<u8>, Status>
     requires valid { All IsValidFace faces.now }
     requires few { length faces.now ≤ 268435456 }
@@ -69,8 +69,9 @@ fn slice_of(alloc: Global, bytes: &[u8], at: i32) -> Result<Vec<u8>, Status>
     }
 }
 
-/// The text of `slice`: the segments in which the faces of a face file meet the plane z = at + 1/2,
-/// for an `at` from -2048 to 2047.
+/// The output of `slice`: the segments in which the faces of a face file meet the plane z = at +
+/// 1/2, in units, for an `at` from -2048 to 2047. The error is the status with which the call ends
+/// instead.
 pub fn slice_output<S: Shelf>(
     alloc: Global,
     at: i32,

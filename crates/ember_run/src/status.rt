@@ -29,7 +29,7 @@ pub enum FaceFault {
     Endless(u32),
 }
 
-/// How a call ends. A number alone is that of a file, from 1, in the order of the words.
+/// How a call ends. A `u32` is the number of a file, from 1, in the order of the command line.
 #[derive(Clone, Copy, Debug, PartialEq, Eq)]
 pub enum Status {
     /// All output was taken and flushed.
@@ -46,9 +46,10 @@ pub enum Status {
     MeshRefused(u32, MeshFault),
     /// The expression has this first fault.
     ExprRefused(ExprFault),
-    /// The expression holds where all winding numbers are 0.
+    /// The expression is true if all winding numbers are 0.
     Unbounded,
-    /// There are so many bytes or triangles, more than are allowed.
+    /// There are too many bytes or triangles: this many. (Of bytes: the first number that is too
+    /// great.)
     Limit(LimitKind, u64),
     /// The point isn't clear of some triangle.
     NotClear,

@@ -1,4 +1,5 @@
-// The top call.
+// The top call. `run` and `run_one` make the *executor*: the closure that runs the boxes of a query
+// (query.rt of ember_query). Each command gets it and doesn't know who runs the boxes.
 ghost use Rattle.std.specs.Prelude.{◌≡◌, ◌≤◌, ◌⊎◌, Some, IfOk, IfErr, map, string_bytes};
 ghost use Rattle.std.specs.Io.KnownBytes.{Appends};
 ghost use Rattle.ember_io.specs.Causes.{Rose};
@@ -29,7 +30,7 @@ use std::sync::Wait;
 use std::thread::Threads;
 use steal_pool::Gate;
 
-// The reply to the command, or why there is none.
+// The reply to the command, or the status that says why there is none.
 fn reply_to<S: Shelf, C: Fn(&Query) -> Result<Answer, OutOfMemory>>(
     alloc: Global,
     command: &Command,
@@ -92,7 +93,7 @@ fn reply_to<S: Shelf, C: Fn(&Query) -> Result<Answer, OutOfMemory>>(
     }
 }
 
-// Writes the output.
+// Writes the output to `out`, and flushes it.
 fn write_output<O: Sink>(out: &mut O, text: &[u8]) -> Status
     ensures out_later { O.faults out.old ≤ O.faults out.new }
     ensures done { result ≡ Status.Done →
@@ -137,7 +138,7 @@ fn serve<S: Shelf, O: Sink, E: Sink, C: Fn(&Query) -> Result<Answer, OutOfMemory
     }
 }
 
-// How many workers the command asks for, of those that several may do.
+// The number of workers that the command asks for; 1 for a command that has no such option.
 fn workers_of(command: &Command) -> u32
     requires { IsWithinLimits command.now }
     ensures { (1 ≤ result) × (result ≤ 64) }
@@ -153,6 +154,10 @@ fn workers_of(command: &Command) -> u32
 
 // Does what the words ask for, by an executor with the workers that they ask for, and writes the report
 // or the status's line to err.
+//
+// The closure here fixes the number of workers. In its clauses, `x.entry` is `x` as the closure was
+// given it, and `.now` is what a reference points to. `C.post` speaks of the executor itself
+// (`executor.entry.now`) and of the reference to the query (`query.entry`).
 fn run_by<S: Shelf, O: Sink, E: Sink, C: Fn(u32, &Query) -> Result<Answer, OutOfMemory>>(
     alloc: Global,
     words: &[String],
@@ -196,8 +201,8 @@ fn run_by<S: Shelf, O: Sink, E: Sink, C: Fn(u32, &Query) -> Result<Answer, OutOf
 }
 
 /// Does what the words ask for, with one worker whatever they say: writes the output to `out`, and
-/// the report or the status's line to `err`. It waits for nobody, and takes all words that `run`
-/// takes.
+/// the report or the status's line to `err`. It waits for nobody, and accepts all words that `run`
+/// accepts. Only tests call this.
 pub fn run_one<S: Shelf, O: Sink, E: Sink, G: Gate>(
     alloc: Global,
     words: &[String],

@@ -33,12 +33,14 @@ fn text_of_voxels<C: Fn(&Query) -> Result<Answer, OutOfMemory>>(
     ensures { IfOk result (λ text. IsLatticeText scene.now.tris (formula_of expr.now) size text.items) }
 {
     let fills = fills_by(scene, expr, size, executor)?;
+    // A law, which does nothing: each cell has the value at its reference point.
     each_cell_has_its_value(scene, expr);
     grid_text(alloc, size, &fills)
 }
 
-/// The text of `voxels`: the solid sampled on a lattice whose cells have the side `2 ^ size`, for
-/// a size of 4 to 12. `places` is at most 3, and there are at most 64 files.
+/// The output of `voxels`: the solid sampled on a lattice whose cells have the side `2 ^ size`, in
+/// units, for a size of 4 to 12. `places` is at most 3, and there are at most 64 files. The error
+/// is the status with which the call ends instead.
 #[tactic(auto, using(crate::proofs::SceneVerdicts::lattice_sampled))]
 pub fn voxels_output<S: Shelf, C: Fn(&Query) -> Result<Answer, OutOfMemory>>(
     alloc: Global,

@@ -48,7 +48,7 @@ first_cut s t n m text line (r ∷ rs) after some is l same next more a =
     let place : s + length (before (λ b. b == 10) text) + 1 ≡ m = omega (arith, next, more, ap length l) in
     first_line s text rs r (sym is) ∙ ap₂ (λ p x. p ∷ x) (ap₂ (λ p x. piece p x) (sym same) (sym l)) (ap₂ (λ p x. lines_from p x) place (sym a))
 
--- the words of a text of which a word is open
+-- the words of a text in which a word is open
 word_then_rest : (p : ℕ) (text begun : List ℕ) → words_from p text begun ≡ closed (p + length (before is_separator text)) (begun ++ before is_separator text) (words_from (p + length (before is_separator text)) (onward is_separator text) [])
 word_then_rest p [] begun = ap₂ (λ x n. closed n x []) (sym (append-nil begun)) (omega arith)
 word_then_rest p (b ∷ bs) begun =
@@ -68,12 +68,12 @@ closed_word p (b ∷ bs) words some =
     let place : p + length (b ∷ bs) - length (b ∷ bs) ≡ p = omega arith in
     ap (λ n. piece n (b ∷ bs) ∷ words) place
 
-pub word_has_byte : (text : List ℕ) → 0 < length text → is_separator (slice_index text 0) ≡ false → 0 < length (before is_separator text)
+word_has_byte : (text : List ℕ) → 0 < length text → is_separator (slice_index text 0) ≡ false → 0 < length (before is_separator text)
 word_has_byte [] some first = absurd (omega arith)
 word_has_byte (b ∷ bs) some first = simp first (omega arith)
 
 -- a text that begins with a word
-pub first_word : (p : ℕ) (text : List ℕ) → 0 < length text → is_separator (slice_index text 0) ≡ false → words_from p text [] ≡ piece p (before is_separator text) ∷ words_from (p + length (before is_separator text)) (onward is_separator text) []
+first_word : (p : ℕ) (text : List ℕ) → 0 < length text → is_separator (slice_index text 0) ≡ false → words_from p text [] ≡ piece p (before is_separator text) ∷ words_from (p + length (before is_separator text)) (onward is_separator text) []
 first_word p text some first = word_then_rest p text [] ∙ closed_word p (before is_separator text) (words_from (p + length (before is_separator text)) (onward is_separator text) []) (word_has_byte text some first)
 
 -- a word that begins the text is cut off

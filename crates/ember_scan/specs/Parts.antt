@@ -3,18 +3,20 @@ use Rattle.std.specs.Prelude.{ℕ, ◌+◌, ◌-◌, Bool, ◌||◌, List, [], �
 use Rattle.ember_scan.specs.declared.part.Part.{Part}
 use Rattle.ember_scan.specs.declared.part.Span.{Span}
 
--- some bytes, and how many bytes of the file stand before them
+-- some bytes, and how many bytes of the file are before them
 pub record Piece : Type 0 where
   pub start : ℕ
   pub text : List ℕ
 
+-- a part as definitions see it
 abbrev pub piece_of : Part → Piece
 piece_of p = record { start = p.start; text = p.bytes.now }
 
+-- the range of a piece
 abbrev pub span_of : Piece → Span
 span_of p = record { start = p.start; end = p.start + length p.text }
 
--- what stands before the first byte of a kind
+-- the bytes before the first byte of a kind
 abbrev pub before : (ℕ → Bool) → List ℕ → List ℕ
 before stops [] = []
 before stops (b ∷ bs) = if stops b then [] else b ∷ before stops bs
@@ -38,6 +40,7 @@ lines_from start (b ∷ bs) =
     then record { start = start; text = [] } ∷ lines_from (start + 1) bs
     else before_lines start b (lines_from (start + 1) bs)
 
+-- the lines of a part
 abbrev pub lines_in : Part → List Piece
 lines_in p = lines_from p.start p.bytes.now
 
@@ -45,7 +48,7 @@ lines_in p = lines_from p.start p.bytes.now
 abbrev pub after_line : List ℕ → List ℕ
 after_line text = drop 1 (onward (λ b. b == 10) text)
 
--- what follows the first so many lines
+-- what follows the first n lines
 abbrev pub after_lines : ℕ → List ℕ → List ℕ
 after_lines zero text = text
 after_lines (suc count) text = after_line (after_lines count text)
@@ -79,6 +82,7 @@ words_from place (b ∷ bs) begun =
 abbrev pub words_of : Piece → List Piece
 words_of line = words_from line.start line.text []
 
+-- the words of a part
 abbrev pub words_in : Part → List Piece
 words_in p = words_of (piece_of p)
 

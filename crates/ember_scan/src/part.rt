@@ -8,7 +8,8 @@ pub struct Span {
     pub end: u32,
 }
 
-/// Some bytes of a file, and how many bytes of the file stand before them. A file has fewer than 2^31.
+/// Some bytes of a file, and how many bytes of the file are before them. A file has fewer than
+/// 2^31.
 #[derive(Clone, Copy)]
 pub struct Part<'a> {
     pub start: u32,

@@ -15,7 +15,7 @@ impl<'a> Part<'a> {
         }
     }
 
-    // The first `count` bytes, and those behind them.
+    // The first `count` bytes, and those after them.
     pub(crate) fn split_at(self, count: usize) -> (Part<'a>, Part<'a>)
         requires { count ≤ length self.bytes.now }
         ensures first { (result.0.start ≡ self.entry.start) × (result.0.bytes.now ≡ take count self.entry.bytes.now) }

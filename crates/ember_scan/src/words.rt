@@ -4,6 +4,7 @@ ghost use Rattle.ember_scan.specs.Parts.{before, onward, is_separator, piece_of,
 
 use crate::part::Part;
 
+// Whether the byte is a space, a tab or a carriage return.
 fn separates(byte: u8) -> bool
     ensures { result ≡ is_separator byte }
 {
@@ -38,7 +39,8 @@ fn skip_separators<'a>(part: Part<'a>) -> Part<'a>
     part.split_at(start).1
 }
 
-/// The first word, and what follows it. Words stand between spaces, tabs and carriage returns.
+/// The first word, and what follows it. None if the part has no word. Spaces, tabs and carriage
+/// returns separate words.
 pub fn next_word<'a>(part: Part<'a>) -> Option<(Part<'a>, Part<'a>)>
     ensures words { MatchOption result (words_in part.entry ≡ [])
         (λ p. words_in part.entry ≡ piece_of p.0 ∷ words_in p.1) }

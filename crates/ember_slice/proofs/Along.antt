@@ -21,6 +21,7 @@ pub record OnLine (n : Plane) (at : ℤ) (v : Spot) : Type 0 where
   pub support : value_at n v ≡ pos 0
   pub level : value_at (level at) v ≡ pos 0
 
+-- a point that passes the test is on the line
 pub on_line_out : (n : Plane) (at : ℤ) (v : Spot) → is_on_line n at v ≡ true → OnLine n at v
 on_line_out n at v e =
     let p = and_parts (is_positive v.w) (is_zero (value_at n v) && is_zero (value_at (level at) v)) e in
@@ -30,6 +31,7 @@ on_line_out n at v e =
 zero_in : {a : ℤ} → a ≡ pos 0 → is_zero a ≡ true
 zero_in e = ap is_zero e
 
+-- the test answers true of a point on the line
 pub on_line_in : (n : Plane) (at : ℤ) (v : Spot) → OnLine n at v → is_on_line n at v ≡ true
 on_line_in n at v h = λ i. positive_in h.weight i && (zero_in h.support i && zero_in h.level i)
 
@@ -40,6 +42,7 @@ slope n p = n.a *ℤ p.b -ℤ n.b *ℤ p.a
 abbrev pub square : Plane → ℤ
 square n = n.a *ℤ n.a +ℤ n.b *ℤ n.b
 
+-- a plane that isn't flat has a positive square
 pub square_above : (n : Plane) → (IsFlat n → ⊥) → pos 0 <ℤ square n
 square_above n t =
     by_sign n.a
@@ -62,11 +65,12 @@ levelE e = record { x = num (pos 0); y = num (pos 0); z = num (pos 2); w = e }
 abbrev pub alongE : TupleE → TupleE → Expr
 alongE n v = n.x ⊗ v.y ⊖ n.y ⊗ v.x
 
+-- a combination of zeros is 0
 pub nothing : (k l m o a b c d : ℤ) → a ≡ pos 0 → b ≡ pos 0 → c ≡ pos 0 → d ≡ pos 0 → k *ℤ a +ℤ l *ℤ b +ℤ m *ℤ c +ℤ o *ℤ d ≡ pos 0
 nothing k l m o a b c d ea eb ec ed = rw (ea, eb, ec, ed) (omega (arith, ints))
 
-pub compared : (n : Plane) (at : ℤ) (p : Plane) (u v : Spot) → OnLine n at u → OnLine n at v → (pos 2 *ℤ square n) *ℤ (u.w *ℤ value_at p v -ℤ v.w *ℤ value_at p u) ≡ (pos 2 *ℤ slope n p) *ℤ ahead n v u
-compared n at p u v hu hv =
+values_compared_along_line : (n : Plane) (at : ℤ) (p : Plane) (u v : Spot) → OnLine n at u → OnLine n at v → (pos 2 *ℤ square n) *ℤ (u.w *ℤ value_at p v -ℤ v.w *ℤ value_at p u) ≡ (pos 2 *ℤ slope n p) *ℤ ahead n v u
+values_compared_along_line n at p u v hu hv =
     let m = n.a *ℤ p.a +ℤ n.b *ℤ p.b in
     let k = square n *ℤ p.c -ℤ m *ℤ n.c in
     let e : (pos 2 *ℤ square n) *ℤ (u.w *ℤ value_at p v -ℤ v.w *ℤ value_at p u) -ℤ (pos 2 *ℤ slope n p) *ℤ ahead n v u ≡ neg_ℤ (pos 2 *ℤ m *ℤ v.w) *ℤ value_at n u +ℤ (pos 2 *ℤ m *ℤ u.w) *ℤ value_at n v +ℤ neg_ℤ (k *ℤ v.w) *ℤ value_at (level at) u +ℤ (k *ℤ u.w) *ℤ value_at (level at) v =
@@ -77,24 +81,28 @@ compared n at p u v hu hv =
     omega (arith, linear, z)
 
 -- ---- where the plane crosses the line, and where it doesn't
-pub weight_is : (n : Plane) (at : ℤ) (p : Plane) → weight n (level at) p ≡ negsuc 1 *ℤ slope n p
+weight_is : (n : Plane) (at : ℤ) (p : Plane) → weight n (level at) p ≡ negsuc 1 *ℤ slope n p
 weight_is n at p =
     identity (tuple ∷ tuple ∷ []) (λ n p. detE (normalE n) (normalE (levelE (num (pos 0)))) (normalE p) ≈ num (negsuc 1) ⊗ (n.x ⊗ p.y ⊖ n.y ⊗ p.x)) cancels (plane_tuple n) (plane_tuple p)
 
+-- a plane that is parallel to the line doesn't change along it
 pub parallel_slope : (n : Plane) (at : ℤ) (p : Plane) → weight n (level at) p ≡ pos 0 → slope n p ≡ pos 0
 parallel_slope n at p e = omega (arith, linear, sym (weight_is n at p) ∙ e)
 
+-- a plane that crosses the line changes along it
 pub crossing_slope : (n : Plane) (at : ℤ) (p : Plane) → (weight n (level at) p ≡ pos 0 → ⊥) → slope n p ≡ pos 0 → ⊥
 crossing_slope n at p f e = f (weight_is n at p ∙ ap (λ z. negsuc 1 *ℤ z) e)
 
 across_slope : (n : Plane) → slope n (record { a = pos 0 -ℤ n.b; b = n.a; c = pos 0; d = pos 0 }) ≡ square n
 across_slope n = solve 2 (λ a b. a ⊗ a ⊖ b ⊗ (num (pos 0) ⊖ b) ≈ a ⊗ a ⊕ b ⊗ b) cancels n.a n.b
 
+-- the vertical plane at right angles to the line crosses it
 pub across_crosses : (n : Plane) (at : ℤ) → (IsFlat n → ⊥) → weight n (level at) (record { a = pos 0 -ℤ n.b; b = n.a; c = pos 0; d = pos 0 }) ≡ pos 0 → ⊥
 across_crosses n at t e =
     let s = parallel_slope n at (record { a = pos 0 -ℤ n.b; b = n.a; c = pos 0; d = pos 0 }) e in
     omega (arith, linear, square_above n t, across_slope n, s)
 
+-- how far v is ahead of u is the opposite of how far u is ahead of v
 pub ahead_turned : (n : Plane) (u v : Spot) → ahead n v u ≡ neg_ℤ (ahead n u v)
 ahead_turned n u v =
     solve 4 (λ a b c d. a ⊗ b ⊖ c ⊗ d ≈ neg (c ⊗ d ⊖ a ⊗ b)) cancels u.w (along_line n v) v.w (along_line n u)
@@ -110,15 +118,16 @@ module _ (n : Plane) (at : ℤ) (p : Plane) (m : Spot) (t : IsFlat n → ⊥) (h
   twice_square : pos 0 <ℤ (pos 2 *ℤ square n)
   twice_square = positive_twice (square_above n t)
 
+  -- along a line that a plane is parallel to, the plane has one sign
   pub parallel_sign : slope n p ≡ pos 0 → (v : Spot) → OnLine n at v → sgn (value_at p v) ≡ sgn (value_at p m)
   parallel_sign e v hv =
-      let q = same_products (pos 2 *ℤ square n) m.w (value_at p v) v.w (value_at p m) (slope n p) (ahead n v m) (λ z. omega (arith, linear, twice_square, z)) (compared n at p m v hm hv) e in
+      let q = same_products (pos 2 *ℤ square n) m.w (value_at p v) v.w (value_at p m) (slope n p) (ahead n v m) (λ z. omega (arith, linear, twice_square, z)) (values_compared_along_line n at p m v hm hv) e in
       sym (sgn_scaled (value_at p v) hm.weight) ∙ ap sgn q ∙ sgn_scaled (value_at p m) hv.weight
 
   module _ (e : value_at p m ≡ pos 0) where
     grows : (v : Spot) → OnLine n at v → ((pos 2 *ℤ square n) *ℤ m.w) *ℤ value_at p v ≡ (pos 2 *ℤ slope n p) *ℤ ahead n v m
     grows v hv =
-        from_two (pos 1) ((pos 2 *ℤ square n) *ℤ v.w) (compared n at p m v hm hv) e (solve 7 (λ k w x y z s a. (k ⊗ w) ⊗ x ⊖ s ⊗ a ≈ num (pos 1) ⊗ (k ⊗ (w ⊗ x ⊖ y ⊗ z) ⊖ s ⊗ a) ⊕ (k ⊗ y) ⊗ (z ⊖ num (pos 0))) cancels (pos 2 *ℤ square n) m.w (value_at p v) v.w (value_at p m) (pos 2 *ℤ slope n p) (ahead n v m))
+        from_two (pos 1) ((pos 2 *ℤ square n) *ℤ v.w) (values_compared_along_line n at p m v hm hv) e (solve 7 (λ k w x y z s a. (k ⊗ w) ⊗ x ⊖ s ⊗ a ≈ num (pos 1) ⊗ (k ⊗ (w ⊗ x ⊖ y ⊗ z) ⊖ s ⊗ a) ⊕ (k ⊗ y) ⊗ (z ⊖ num (pos 0))) cancels (pos 2 *ℤ square n) m.w (value_at p v) v.w (value_at p m) (pos 2 *ℤ slope n p) (ahead n v m))
 
     scaled_value : (v : Spot) → sgn (((pos 2 *ℤ square n) *ℤ m.w) *ℤ value_at p v) ≡ sgn (value_at p v)
     scaled_value v = sgn_scaled (value_at p v) (pos_mul twice_square hm.weight)

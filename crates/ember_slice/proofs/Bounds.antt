@@ -34,13 +34,15 @@ cut_split : (f : Face) (at : ℤ) (v : Spot) → is_cut f at v ≡ is_on_line f.
 cut_split f at v =
     four (is_positive v.w) (is_zero (value_at f.support v)) (is_behind f.edges v) (is_zero (value_at (level at) v))
 
+-- a point of the line is cut exactly if it is behind the edges
 pub cut_on_line : (f : Face) (at : ℤ) (v : Spot) → is_on_line f.support at v ≡ true → is_cut f at v ≡ is_behind f.edges v
 cut_on_line f at v on = cut_split f at v ∙ ap (λ b. b && is_behind f.edges v) on
 
+-- what is cut is on the line
 pub cut_line : (f : Face) (at : ℤ) (v : Spot) → is_cut f at v ≡ true → is_on_line f.support at v ≡ true
 cut_line f at v e = (and_parts (is_on_line f.support at v) (is_behind f.edges v) (sym (cut_split f at v) ∙ e)).0
 
-pub none_behind : (f : Face) (at : ℤ) → ((v : Spot) → is_on_line f.support at v ≡ true → is_behind f.edges v ≡ false) → GivesNone f at
+none_behind : (f : Face) (at : ℤ) → ((v : Spot) → is_on_line f.support at v ≡ true → is_behind f.edges v ≡ false) → GivesNone f at
 none_behind f at h = inr (λ v. cut_split f at v ∙ by v (is_on_line f.support at v) refl)
   where
     by : (v : Spot) (b : Bool) → is_on_line f.support at v ≡ b → b && is_behind f.edges v ≡ false
@@ -63,7 +65,7 @@ module _ {u v : Spot} (s : SamePoint u v) (pu : pos 0 <ℤ u.w) (pv : pos 0 <ℤ
           times_zero : (a : ℤ) → a *ℤ pos 0 ≡ pos 0
           times_zero a = omega (arith, linear)
 
-  pub same_on_line : (n : Plane) (at : ℤ) → is_on_line n at u ≡ true → is_on_line n at v ≡ true
+  same_on_line : (n : Plane) (at : ℤ) → is_on_line n at u ≡ true → is_on_line n at v ≡ true
   same_on_line n at on =
       let h = on_line_out n at u on in
       on_line_in n at v (record { weight = pv; support = value_zero n h.support; level = value_zero (level at) h.level })
@@ -76,14 +78,14 @@ module _ {u v : Spot} (s : SamePoint u v) (pu : pos 0 <ℤ u.w) (pv : pos 0 <ℤ
   ahead_moved n w =
       from_one w.w (same_along n) (solve 6 (λ p q r a b c. p ⊗ (r ⊗ b ⊖ q ⊗ c) ⊖ q ⊗ (r ⊗ a ⊖ p ⊗ c) ≈ r ⊗ (p ⊗ b ⊖ q ⊗ a)) cancels u.w v.w w.w (along_line n u) (along_line n v) (along_line n w))
 
-  pub same_sign : (n : Plane) (w : Spot) → sgn (ahead n u w) ≡ sgn (ahead n v w)
+  same_sign : (n : Plane) (w : Spot) → sgn (ahead n u w) ≡ sgn (ahead n v w)
   same_sign n w =
       sym (sgn_scaled (ahead n u w) pv) ∙ sym (ap sgn (ahead_moved n w)) ∙ sgn_scaled (ahead n v w) pu
 
-  pub same_before : (n : Plane) (w : Spot) → is_before n u w ≡ is_before n v w
+  same_before : (n : Plane) (w : Spot) → is_before n u w ≡ is_before n v w
   same_before n w = ap is_neg (same_sign n w)
 
-  pub same_after : (n : Plane) (w : Spot) → is_before n w u ≡ is_before n w v
+  same_after : (n : Plane) (w : Spot) → is_before n w u ≡ is_before n w v
   same_after n w =
       ap is_negative (ahead_turned n u w) ∙ turned (ahead n u w) (ahead n v w) (same_sign n w) ∙ sym (ap is_negative (ahead_turned n v w))
     where
@@ -104,7 +106,7 @@ module _ (f : Face) (at : ℤ) (a b : End) (h : IsInterval f.support at f.edges 
   test_of_ends : is_negative (value_at b.plane (spot_of a.point)) ≡ is_before f.support (spot_of a.point) (spot_of b.point)
   test_of_ends = ap is_neg sign_of_ends
 
-  pub no_segment : is_negative (value_at b.plane (spot_of a.point)) ≡ false → GivesNone f at
+  no_segment : is_negative (value_at b.plane (spot_of a.point)) ≡ false → GivesNone f at
   no_segment k =
       none_behind f at (λ v on. h.holds v on ∙ by v on (is_before f.support (spot_of a.point) v) (is_before f.support v (spot_of b.point)) refl refl)
     where
@@ -114,7 +116,7 @@ module _ (f : Face) (at : ℤ) (a b : End) (h : IsInterval f.support at f.edges 
       by v on true true p q =
           sym (before_trans f.support (spot_of a.point) v (spot_of b.point) on_a.weight (on_line_out f.support at v on).weight on_b.weight p q) ∙ sym test_of_ends ∙ k
 
-  pub segment_between : (s : Segment) → is_negative (value_at b.plane (spot_of a.point)) ≡ true → Joins (spot_of a.point) (spot_of b.point) s → IsSegment f at (spot_of s.first) (spot_of s.last)
+  segment_between : (s : Segment) → is_negative (value_at b.plane (spot_of a.point)) ≡ true → Joins (spot_of a.point) (spot_of b.point) s → IsSegment f at (spot_of s.first) (spot_of s.last)
   segment_between s k j =
       let n = f.support in
       let before : (w : Spot) → is_before n (spot_of a.point) w ≡ is_before n (spot_of s.first) w = same_before j.first on_a.weight s.first.valid.weight n in
@@ -234,6 +236,7 @@ module _ (f : Face) (at : ℤ) (t : IsFlat f.support → ⊥) where
   pub endless_back : (last : Option End) → IsInterval f.support at f.edges (record { first = None; last = last }) → IsEndless f at
   endless_back last h = record { tilted = t; unbounded = inr (goes_back last h) }
 
+-- between two ends there is a segment exactly if the first is behind the plane of the last
 pub answer_between : (f : Face) (at : ℤ) (a b : End) → IsInterval f.support at f.edges (record { first = Some a; last = Some b }) → (r : Option Segment) → MatchOption r (is_negative (value_at b.plane (spot_of a.point)) ≡ false) (λ s. (is_negative (value_at b.plane (spot_of a.point)) ≡ true) × Joins (spot_of a.point) (spot_of b.point) s) → IsAnswer f at (Ok r)
 answer_between f at a b h None k = no_segment f at a b h k
 answer_between f at a b h (Some s) k = segment_between f at a b h s k.0 k.1

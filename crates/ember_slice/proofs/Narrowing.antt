@@ -145,6 +145,7 @@ all_true : (b c : Bool) → c ≡ true → b ≡ b && c
 all_true true c e = sym e
 all_true false c e = refl
 
+-- a plane that leaves all of the line changes nothing
 pub narrowed_nowhere : (n : Plane) (at : ℤ) (p : Plane) (s : LineInterval) → AreEnds n at s → AllOf n at p true → IsNarrowed n at p s s
 narrowed_nowhere n at p s ends h =
     record { ends = ends; left = λ v on. all_true (is_in_interval n s v) (is_negative (value_at p v)) (h v on) }
@@ -154,9 +155,6 @@ narrowed_nowhere n at p s ends h =
 pub record LeftOf (n : Plane) (at : ℤ) (ps rest : List Plane) (s : LineInterval) : Type 0 where
   pub ends : AreEnds n at s
   pub left : (v : Spot) → is_on_line n at v ≡ true → is_behind ps v ≡ is_in_interval n s v && is_behind rest v
-
-pub whole_line : (n : Plane) (at : ℤ) (ps : List Plane) → LeftOf n at ps ps (record { first = None; last = None })
-whole_line n at ps = record { ends = record { first = tt; last = tt }; left = λ v on. refl }
 
 both_parts : (a b c d : Bool) → a ≡ b && c → b && (c && d) ≡ a && d
 both_parts a true c d e = ap (λ x. x && d) (sym e)
@@ -183,6 +181,7 @@ pub next_plane : {n : Plane} {at : ℤ} {s : LineInterval} (ps : List Plane) (i 
 next_plane {n} {at} {s} ps i l h =
     subst (λ qs. LeftOf n at ps qs s) (drop-cons ps i zero_plane l ∙ ap (λ k. get_or ps i zero_plane ∷ drop k ps) (sym (add-one i))) h
 
+-- after the last plane no plane is left
 pub last_plane : {n : Plane} {at : ℤ} {s : LineInterval} (ps : List Plane) (i : ℕ) → length ps ≤ i → LeftOf n at ps (drop i ps) s → LeftOf n at ps [] s
 last_plane {n} {at} {s} ps i l h = subst (λ qs. LeftOf n at ps qs s) (drop_of_length-le ps l) h
 
@@ -190,6 +189,7 @@ always : (b : Bool) → b && true ≡ b
 always true = refl
 always false = refl
 
+-- what is left when no plane is left is the interval
 pub span_left : {n : Plane} {at : ℤ} {ps : List Plane} {s : LineInterval} → LeftOf n at ps [] s → IsInterval n at ps s
 span_left {n} {at} {ps} {s} h =
     record { ends = h.ends; holds = λ v on. h.left v on ∙ always (is_in_interval n s v) }

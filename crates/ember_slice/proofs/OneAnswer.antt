@@ -173,6 +173,7 @@ gives_one at f (s ∷ []) (t ∷ []) g h =
 gives_one at f (s ∷ []) (t ∷ r ∷ ts) g h = absurd h
 gives_one at f (s ∷ t ∷ ss) ts g h = absurd g
 
+-- faces have one text at a level
 pub one_text : (fs : List Face) (at : ℤ) (one other : List ℕ) → IsSliceText fs at one → IsSliceText fs at other → one ≡ other
 one_text fs at one other g h =
     let e = each_unique (gives_one at) g.are_segments h.are_segments in

@@ -10,6 +10,7 @@ use Rattle.ember_slice.specs.Lines.{IsFlat, along_line, ahead, is_before}
 use Rattle.ember_slice.proofs.Along.{ahead_turned}
 
 -- ---- fractions
+-- of three points, with the first not after the second and the second before the third, the first is before the third
 pub weak_first : (a b c u v w : ℤ) → pos 0 <ℤ u → pos 0 <ℤ v → pos 0 <ℤ w → (v *ℤ a -ℤ u *ℤ b) ≤ℤ pos 0 → (w *ℤ b -ℤ v *ℤ c) <ℤ pos 0 → (w *ℤ a -ℤ u *ℤ c) <ℤ pos 0
 weak_first a b c u v w pu pv pw h k =
     let l : (v *ℤ a) ≤ℤ (u *ℤ b) = omega (arith, linear, h) in
@@ -28,9 +29,11 @@ weak_last a b c u v w pu pv pw h k =
 
 -- ---- points
 module _ (n : Plane) (u v w : Spot) (pu : pos 0 <ℤ u.w) (pv : pos 0 <ℤ v.w) (pw : pos 0 <ℤ w.w) where
+  -- one point not after a second, and the second before a third: the first is before the third
   pub not_after_then : ahead n u v ≤ℤ pos 0 → ahead n v w <ℤ pos 0 → ahead n u w <ℤ pos 0
   not_after_then h k = weak_first (along_line n u) (along_line n v) (along_line n w) u.w v.w w.w pu pv pw h k
 
+  -- one point before a second, and the second not after a third: the first is before the third
   pub then_not_after : ahead n u v <ℤ pos 0 → ahead n v w ≤ℤ pos 0 → ahead n u w <ℤ pos 0
   then_not_after h k = weak_last (along_line n u) (along_line n v) (along_line n w) u.w v.w w.w pu pv pw h k
 
@@ -45,14 +48,17 @@ implied true b f = refl
 implied false true f = f refl
 implied false false f = refl
 
+-- `a && b` is b if b implies a
 pub absorbs_first : (a b : Bool) → (b ≡ true → a ≡ true) → b ≡ a && b
 absorbs_first a b f = sym (implied a b f)
 
+-- `a && b` is a if a implies b
 pub absorbs_second : (a b : Bool) → (a ≡ true → b ≡ true) → a ≡ a && b
 absorbs_second true b f = sym (f refl)
 absorbs_second false b f = refl
 
 -- ---- two points
+-- of two points not both are before the other
 pub not_both : (n : Plane) (u v : Spot) → is_before n u v ≡ true → is_before n v u ≡ true → ⊥
 not_both n u v h k =
     omega (arith, linear, negative_out (ahead n u v) h, negative_out (ahead n v u) k, ahead_turned n u v)

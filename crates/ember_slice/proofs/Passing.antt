@@ -51,8 +51,8 @@ module _ (n : Plane) (at : ℤ) (u v : Spot) (hu : OnLine n at u) (hv : OnLine n
       let z = e ∙ nothing _ _ _ _ _ _ _ _ hu.support hv.support hu.level hv.level in
       omega (arith, linear, z)
 
-  -- the way from u to v turns round p as p lies to the front or the back of n
-  pub turns : (p : Spot) → value_at (level at) p ≡ pos 0 → (pos 2 *ℤ square n) *ℤ orientation u v p ≡ (pos 2 *ℤ value_at n p) *ℤ ahead n u v
+  -- the way from u to v turns round p as p lies on the front or the back of n
+  turns : (p : Spot) → value_at (level at) p ≡ pos 0 → (pos 2 *ℤ square n) *ℤ orientation u v p ≡ (pos 2 *ℤ value_at n p) *ℤ ahead n u v
   turns p hp =
       let i = along_line n v *ℤ p.w -ℤ v.w *ℤ along_line n p in
       let j = along_line n u *ℤ p.w -ℤ u.w *ℤ along_line n p in
@@ -84,9 +84,6 @@ positive_turned a = ap is_pos (sgn-neg a) ∙ turned_sign (sgn a)
 
 negative_turned : (a : ℤ) → is_negative (neg_ℤ a) ≡ is_positive a
 negative_turned a = ap is_neg (sgn-neg a) ∙ turned_back (sgn a)
-
-both_turned : (a b : ℤ) → a *ℤ b ≡ neg_ℤ a *ℤ neg_ℤ b
-both_turned = solve 2 (λ a b. a ⊗ b ≈ neg a ⊗ neg b) cancels
 
 twice : {a : ℤ} → pos 0 <ℤ a → pos 0 <ℤ (pos 2 *ℤ a)
 twice h = omega (arith, linear, h)
@@ -345,8 +342,10 @@ across_y p =
     turned_product : (m x : ℤ) → neg_ℤ (m *ℤ x) ≡ m *ℤ neg_ℤ x
     turned_product = solve 2 (λ m x. neg (m ⊗ x) ≈ m ⊗ neg x) cancels
 
+-- the segments cross a ray along x as the faces do
 pub crossed_along_x : (p : Spot) (at : ℤ) → pos 0 <ℤ p.w → value_at (level at) p ≡ pos 0 → {fs : List Face} {ss : List Directed} → Each (GivesSegments at) fs ss → total (ray_x p) ss ≡ wind X fs p
 crossed_along_x p at w hp d = all_crossed X (λ v. v.y) p (across_x p) (inl refl) at w hp d
 
+-- the segments cross a ray along y as the faces do
 pub crossed_along_y : (p : Spot) (at : ℤ) → pos 0 <ℤ p.w → value_at (level at) p ≡ pos 0 → {fs : List Face} {ss : List Directed} → Each (GivesSegments at) fs ss → total (ray_y p) ss ≡ wind Y fs p
 crossed_along_y p at w hp d = all_crossed Y (λ v. neg_ℤ v.x) p (across_y p) (inr refl) at w hp d

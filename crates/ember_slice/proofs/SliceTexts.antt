@@ -24,12 +24,14 @@ use Rattle.ember_slice.proofs.Bounds.{cut_line}
 use Rattle.ember_slice.proofs.Along.{on_line_in, square, square_above}
 
 -- ---- one face
+-- a face that gives no segment adds no line
 pub adds_none : (f : Face) (at : ℤ) (text : List ℕ) → GivesNone f at → AddsSegment f at 0 text text
 adds_none f at text h = record { segments = []; gives = h; is = sym (append-nil text); count_is = refl }
 
 abbrev directed : Segment → Directed
 directed s = record { first = spot_of s.first; last = spot_of s.last }
 
+-- a face that gives a segment adds its line
 pub adds_one : (f : Face) (at : ℤ) (old new : List ℕ) (s : Segment) → IsSegment f at (spot_of s.first) (spot_of s.last) → new ≡ old ++ segment_line (directed s) → AddsSegment f at 1 old new
 adds_one f at old new s h e =
     record {
@@ -40,10 +42,12 @@ adds_one f at old new s h e =
     }
 
 -- ---- face after face
-pub begun : (at z : ℤ) (old new : List ℕ) → old ≡ [] → z ≡ at → new ≡ old ++ line_of (codes "slice") (z ∷ []) → HasSegments [] at 0 new
-begun at z old new e q h =
+-- the first line of a slice
+pub header_begins_text : (at z : ℤ) (old new : List ℕ) → old ≡ [] → z ≡ at → new ≡ old ++ line_of (codes "slice") (z ∷ []) → HasSegments [] at 0 new
+header_begins_text at z old new e q h =
     record { segments = []; are = none; is = h ∙ (λ i. e i ++ line_of (codes "slice") (q i ∷ [])) ∙ sym (append-nil (line_of (codes "slice") (at ∷ []))); count_is = refl }
 
+-- one face more
 pub one_more : {fs gs : List Face} {f : Face} {at : ℤ} {count many : ℕ} {text new : List ℕ} → HasSegments fs at count text → AddsSegment f at many text new → gs ≡ fs ++ f ∷ [] → HasSegments gs at (count + many) new
 one_more {fs} {gs} {f} {at} {count} {many} {text} {new} h k e =
     let head = line_of (codes "slice") (at ∷ []) in
@@ -54,9 +58,11 @@ one_more {fs} {gs} {f} {at} {count} {many} {text} {new} h k e =
       count_is = omega (arith, length-append h.segments k.segments, h.count_is, k.count_is);
     }
 
+-- the first i + 1 faces are the first i and the next one
 pub face_taken : (fs : List Face) (i : ℕ) (f : Face) → i < length fs → f ≡ get_or fs i f → take (i + 1) fs ≡ take i fs ++ f ∷ []
 face_taken fs i f l e = take_more fs i f l ∙ ap (λ g. take i fs ++ g ∷ []) (sym e)
 
+-- with its last line the text is that of the slice
 pub finished : {fs : List Face} {at : ℤ} {count : ℕ} {text new : List ℕ} (z : ℤ) → HasSegments fs at count text → z ≡ pos count → new ≡ text ++ line_of (codes "end") (z ∷ []) → IsSliceText fs at new
 finished {fs} {at} {count} {text} {new} z h q e =
     let head = line_of (codes "slice") (at ∷ []) in
@@ -119,6 +125,7 @@ get_taken (f ∷ fs) zero k l = absurd (omega arith)
 get_taken (f ∷ fs) (suc n) zero l = refl
 get_taken (f ∷ fs) (suc n) (suc k) l = get_taken fs n k (omega (arith, l))
 
+-- if the faces before it give segments, an endless face is the first one
 pub first_endless : {fs : List Face} {f : Face} {at : ℤ} {count : ℕ} {text : List ℕ} (i : ℕ) → HasSegments (take i fs) at count text → i < length fs → f ≡ get_or fs i f → IsEndless f at → IsFirstEndless fs at (i + 1)
 first_endless {fs} {f} {at} i h l e x =
     record {

@@ -33,6 +33,7 @@ IsHalfLine n at p (From m) = Enters n at p (spot_of m)
 IsHalfLine n at p (To m) = Leaves n at p (spot_of m)
 
 -- ---- many planes
+-- whether the point is below all planes
 abbrev pub is_behind : List Plane → Spot → Bool
 is_behind ps v = list_all (λ p. is_negative (value_at p v)) ps
 
@@ -44,6 +45,7 @@ abbrev pub is_until : Plane → Option End → Spot → Bool
 is_until n None v = true
 is_until n (Some e) v = is_before n v (spot_of e.point)
 
+-- whether the point is after the first end and before the last one
 abbrev pub is_in_interval : Plane → LineInterval → Spot → Bool
 is_in_interval n s v = is_after n s.first v && is_until n s.last v
 

@@ -25,5 +25,6 @@ along_line n v = n.a *ℤ v.y -ℤ n.b *ℤ v.x
 abbrev pub ahead : Plane → Spot → Spot → ℤ
 ahead n u v = v.w *ℤ along_line n u -ℤ u.w *ℤ along_line n v
 
+-- whether u is before v along the line
 abbrev pub is_before : Plane → Spot → Spot → Bool
 is_before n u v = is_negative (ahead n u v)

@@ -59,6 +59,7 @@ IsAnswer f at (Ok (Some s)) = IsSegment f at (spot_of s.first) (spot_of s.last)
 IsAnswer f at (Err e) = IsEndless f at
 
 -- ---- the text
+-- a directed segment by its ends
 pub record Directed : Type 0 where
   pub first : Spot
   pub last : Spot
@@ -69,6 +70,7 @@ GivesSegments at f [] = GivesNone f at
 GivesSegments at f (s ∷ []) = IsSegment f at s.first s.last
 GivesSegments at f (s ∷ t ∷ ss) = ⊥
 
+-- the line of a segment: the numbers of its two ends
 abbrev pub segment_line : Directed → List ℕ
 segment_line s =
     line_of (codes "s") (s.first.x ∷ s.first.y ∷ s.first.z ∷ s.first.w ∷ s.last.x ∷ s.last.y ∷ s.last.z ∷ s.last.w ∷ [])

@@ -17,7 +17,7 @@ use ember_algebra::Sign;
 use ember_model::Face;
 use ember_point::{reduce, side};
 
-// The segment from one end to the other, if the first comes before the last.
+// The segment from one end to the other, if the first is before the last.
 fn between(first: &End, last: &End) -> Option<Segment>
     ensures { let test = is_negative (value_at last.now.plane (spot_of first.now.point)) in
         MatchOption result (test ≡ false) (λ s. (test ≡ true) ×
@@ -46,9 +46,10 @@ fn segment_between_ends(interval: &LineInterval) -> Result<Option<Segment>, Endl
     Ok(between(&first, &last))
 }
 
-/// The segment of the face in the plane z = at + 1/2, if it gives one: the inside points there,
-/// in the direction (-b, a, 0) of the support plane's normal (a, b, c), from their first end to
-/// their last one, both in lowest terms. Takes no memory.
+/// The segment of the face in the plane z = at + 1/2, if it gives one, for `at` from -2048 to 2047:
+/// the inside points there, in the direction (-b, a, 0) of the support plane's normal (a, b, c),
+/// from their first end to their last one, both in lowest terms. `Endless` if these points go on
+/// without end. Allocates nothing.
 pub fn segment(f: &Face, at: i32) -> Result<Option<Segment>, Endless>
     requires face { IsValidFace f.now }
     requires low { negsuc 2047 ≤ℤ at }

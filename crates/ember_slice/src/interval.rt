@@ -12,7 +12,7 @@ pub(crate) struct End {
     ghost valid: { IsValidPlane plane },
 }
 
-/// The points of a line after the first end and before the last one, if there are such ends.
+/// The points of a line after the first end and before the last one, if it has these ends.
 #[derive(Clone, Copy)]
 pub(crate) struct LineInterval {
     pub first: Option<End>,

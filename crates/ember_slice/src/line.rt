@@ -14,9 +14,9 @@ use ember_point::{Meet, meet, side};
 pub(crate) enum HalfLine {
     Nothing,
     Everything,
-    /// What comes after this point.
+    /// The points after this one.
     From(Meet),
-    /// What comes before this point.
+    /// The points before this one.
     To(Meet),
 }
 

@@ -46,8 +46,8 @@ fn put_segment(s: &Segment, out: &mut Vec<u8>) -> Result<(), OutOfMemory>
     put_line(b"s", &numbers, out)
 }
 
-// The line of the segment of the face with this number, if it gives one, and how many lines these
-// are.
+// Appends the line of the segment of the face with this number, if it gives one. Returns how many
+// lines these are.
 fn put_face(face: &Face, number: u32, at: i32, out: &mut Vec<u8>) -> Result<u32, SliceFault>
     requires face { IsValidFace face.now }
     requires low { negsuc 2047 ≤ℤ at }

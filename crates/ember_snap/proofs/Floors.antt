@@ -17,6 +17,7 @@ floor_low (pos x) b p = omega (arith, ints, div-mul-le_self x b)
 floor_low (negsuc x) b p =
     let m : x < x / b * b + b = lt-div-mul-add p in omega (arith, ints, m)
 
+-- a number is below one step above its floor
 pub floor_high : (a : ℤ) (b : ℕ) → 0 < b → a <ℤ (pos b *ℤ int_div_euclid a (pos b) +ℤ pos b)
 floor_high (pos x) b p = let m : x < x / b * b + b = lt-div-mul-add p in omega (arith, ints, m)
 floor_high (negsuc x) b p = omega (arith, ints, div-mul-le_self x b)
@@ -28,6 +29,7 @@ below_next b a y z p low high =
     let less : (pos b *ℤ y) <ℤ (pos b *ℤ (z +ℤ pos 1)) = omega (arith, linear, sum) in
     cancel_lt (positive b p) less
 
+-- y is the quotient of a by b if b y is at most a and b y + b is above it
 pub floor_is : (a y : ℤ) (b : ℕ) → 0 < b → (pos b *ℤ y) ≤ℤ a → a <ℤ (pos b *ℤ y +ℤ pos b) → int_div_euclid a (pos b) ≡ y
 floor_is a y b p low high =
     let up = below_next b a y (int_div_euclid a (pos b)) p low (floor_high a b p) in
@@ -54,8 +56,3 @@ floor_chain a b c d p q =
     sym (floor_is (a +ℤ pos (b * c)) outer (b * d) (mul-pos p q)
     (omega (arith, linear, low, inner_low, e, g))
     (omega (arith, linear, high, inner_high, f, h)))
-
--- a floor isn't larger in size
-pub floor_small : (a : ℤ) (b : ℕ) → unsigned_abs (int_div_euclid a (pos b)) ≤ unsigned_abs a
-floor_small (pos x) b = div-le_self x b
-floor_small (negsuc x) b = omega (arith, div-le_self x b)

@@ -14,21 +14,6 @@ use Rattle.ember_snap.specs.Offsets.{middle_of, is_central, offset_of, LandsAlon
 use Rattle.ember_snap.proofs.Floors.{floor_low, floor_high, floor_is}
 use Rattle.ember_snap.proofs.SpanSteps.{at_one}
 
-pub span_narrow : (s : Step) (xs : List Number) (span : Span) → IsSpan s xs span → IsNarrow span
-span_narrow s xs span h =
-    let least = at_one s xs span.least span.least span.greatest h.within h.least_met in record { ordered = least.high_enough; narrow = h.narrow }
-
-pub spans_narrow : (s : Step) (c : Coordinates) (spans : Spans) → AreSpans s c spans → AreNarrow spans
-spans_narrow s c spans h = record { x = span_narrow s c.x.now spans.x h.x; y = span_narrow s c.y.now spans.y h.y; z = span_narrow s c.z.now spans.z h.z }
-
--- the middle, from the least cell on
-pub middle_from_least : (least greatest : ℤ) → least +ℤ int_div_euclid (greatest -ℤ least) (pos 2) ≡ int_div_euclid (least +ℤ greatest) (pos 2)
-middle_from_least least greatest =
-    let half = int_div_euclid (greatest -ℤ least) (pos 2) in
-    let low = floor_low (greatest -ℤ least) 2 (omega arith) in
-    let high = floor_high (greatest -ℤ least) 2 (omega arith) in
-    sym (floor_is (least +ℤ greatest) (least +ℤ half) 2 (omega arith) (omega (arith, linear, low)) (omega (arith, linear, high)))
-
 -- cells land where the least and the greatest do
 lands_between : (s : Step) (xs : List Number) (span : Span) (o : ℤ) → IsSpan s xs span → negsuc 2046 ≤ℤ (span.least -ℤ o) → (span.greatest -ℤ o) ≤ℤ pos 2047 → LandsAlong s xs o
 lands_between s xs span o h low high = λ k d less. let within = h.within k d less in

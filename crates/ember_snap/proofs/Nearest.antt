@@ -7,6 +7,7 @@ use Rattle.ember_snap.specs.declared.steps.Step.{Step}
 use Rattle.ember_snap.specs.Cells.{scaled_number, scaled_step, scaled_half, cell_of, IsNearest}
 use Rattle.ember_snap.proofs.Floors.{floor_low, floor_high}
 
+-- the cell of a number is a nearest one
 pub cell_nearest : (s : Step) (v : Fraction) → 0 < v.denominator → 0 < s.numerator → IsNearest s v (cell_of s v)
 cell_nearest s v p q =
     let under : 0 < v.denominator * (2 * s.numerator) = mul-pos p (omega arith) in

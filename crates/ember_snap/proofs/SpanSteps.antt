@@ -14,7 +14,7 @@ use Rattle.ember_snap.specs.declared.spans.Coordinates.{Coordinates}
 use Rattle.ember_snap.specs.Spans.{Fits, FitsAll, IsSpan, AreSpans, IsWidened}
 
 -- cells with a span fit on a grid
-pub span_fits : (s : Step) (xs : List Number) (span : Span) → IsSpan s xs span → Fits s xs
+span_fits : (s : Step) (xs : List Number) (span : Span) → IsSpan s xs span → Fits s xs
 span_fits s xs span h = (
   span.least,
   λ k d less. let within = h.within k d less in
@@ -33,7 +33,7 @@ too_wide s xs low high first last wide fits =
     let b = at_one s xs high fits.0 (fits.0 +ℤ pos 4094) fits.1 last in
     omega (arith, ints, a.low_enough, b.high_enough)
 
--- the span of the first i cells, of which each is small
+-- the span of the first i cells, each of them small
 pub record Covers (s : Step) (xs : List Number) (i : ℕ) (span : Span) : Type 0 where
   pub within : All (λ x. IsBetween span.least (cell_at s x) span.greatest) (take i xs)
   pub least_met : Any (λ x. cell_at s x ≡ span.least) xs
@@ -44,15 +44,15 @@ pub record Covers (s : Step) (xs : List Number) (i : ℕ) (span : Span) : Type 0
   pub greatest_small : unsigned_abs span.greatest < 2 ^ 107
 
 -- the cell of one number
-pub met : (s : Step) (xs : List Number) (i : ℕ) (x : Number) (z : ℤ) → i < length xs → x ≡ get_or xs i x → z ≡ cell_at s x → Any (λ y. cell_at s y ≡ z) xs
-met s xs i x z less e f = (i, x, less, sym e, sym f)
+pub cell_is_met : (s : Step) (xs : List Number) (i : ℕ) (x : Number) (z : ℤ) → i < length xs → x ≡ get_or xs i x → z ≡ cell_at s x → Any (λ y. cell_at s y ≡ z) xs
+cell_is_met s xs i x z less e f = (i, x, less, sym e, sym f)
 
 -- one number alone
 pub covers_none : (s : Step) (xs : List Number) (x : Number) (z : ℤ) → 0 < length xs → x ≡ get_or xs 0 x → z ≡ cell_at s x → unsigned_abs z < 2 ^ 107 → Covers s xs 0 (record { least = z; greatest = z })
 covers_none s xs x z less e f small = record {
   within = λ k d h. absurd (omega arith);
-  least_met = met s xs 0 x z less e f;
-  greatest_met = met s xs 0 x z less e f;
+  least_met = cell_is_met s xs 0 x z less e f;
+  greatest_met = cell_is_met s xs 0 x z less e f;
   ordered = omega (arith, ints);
   narrow = omega (arith, ints);
   least_small = small;
@@ -71,10 +71,10 @@ pub widened_small : (s : Step) (xs : List Number) (i : ℕ) (old new : Span) (z 
 widened_small s xs i old new z covers wide small =
     (small_widened old.least new.least z covers.least_small small wide.least, small_widened old.greatest new.greatest z covers.greatest_small small wide.greatest)
 
--- and it is met
+-- and it is cell_is_met
 pub widened_met : (s : Step) (xs : List Number) (i : ℕ) (old new : Span) (x : Number) (z : ℤ) → Covers s xs i old → IsWidened old z new → i < length xs → x ≡ get_or xs i x → z ≡ cell_at s x → Any (λ y. cell_at s y ≡ new.least) xs × Any (λ y. cell_at s y ≡ new.greatest) xs
 widened_met s xs i old new x z covers wide less e f =
-    let here = met s xs i x z less e f in
+    let here = cell_is_met s xs i x z less e f in
     (met_widened s xs old.least new.least z covers.least_met here wide.least, met_widened s xs old.greatest new.greatest z covers.greatest_met here wide.greatest)
 
 -- one number more

@@ -26,6 +26,7 @@ scaled_half s v = pos (v.denominator * s.numerator)
 abbrev pub cell_of : Step → Fraction → ℤ
 cell_of s v = int_div_euclid (scaled_number s v +ℤ scaled_half s v) (scaled_step s v)
 
+-- the cell of a number
 unfoldable pub cell_at : Step → Number → ℤ
 cell_at s x = cell_of s (value_of x)
 

@@ -33,6 +33,7 @@ pub record IsOffset (s : Step) (c : Coordinates) (o : Offset) : Type 0 where
 abbrev pub LandsAlong : Step → List Number → ℤ → Type 0
 LandsAlong s xs o = All (λ x. IsBetween (negsuc 2046) (cell_at s x -ℤ o) (pos 2047)) xs
 
+-- all coordinates land on the grid with this step and offset
 pub record LandsOnGrid (s : Step) (c : Coordinates) (o : Offset) : Type 0 where
   pub x : LandsAlong s c.x.now o.x
   pub y : LandsAlong s c.y.now o.y

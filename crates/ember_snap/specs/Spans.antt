@@ -26,6 +26,7 @@ pub record AreNumbers (xs : List Number) : Type 0 where
   pub some : 0 < length xs
   pub below : All (λ x. is_below_limit (value_of x) ≡ true) xs
 
+-- there are coordinates along each axis, each below 10 ^ 15 in size
 pub record AreCoordinates (c : Coordinates) : Type 0 where
   pub x : AreNumbers c.x.now
   pub y : AreNumbers c.y.now
@@ -56,6 +57,7 @@ pub record IsSpan (s : Step) (xs : List Number) (span : Span) : Type 0 where
   pub greatest_met : Any (λ x. cell_at s x ≡ span.greatest) xs
   pub narrow : (span.greatest -ℤ span.least) ≤ℤ pos 4094
 
+-- the least and the greatest cell along each axis
 pub record AreSpans (s : Step) (c : Coordinates) (spans : Spans) : Type 0 where
   pub x : IsSpan s c.x.now spans.x
   pub y : IsSpan s c.y.now spans.y

@@ -1,5 +1,5 @@
 //! Places numbers on a grid of whole numbers: the step of the grid, the cell of a number, and where
-//! the grid lies. Takes no memory.
+//! the grid lies. Allocates nothing.
 #![tactic(auto)]
 
 mod cells;

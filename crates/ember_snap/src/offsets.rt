@@ -7,7 +7,7 @@ ghost use Rattle.ember_snap.specs.Offsets.{middle_of, is_central, offset_of, IsO
 use crate::spans::{Coordinates, Span, Spans, fitting_spans};
 use crate::steps::Step;
 
-/// The cells at a grid's zero: along x the number g on the grid stands for cell g + `x`.
+/// The cells at a grid's zero: along x the number g on the grid is the cell g + `x`.
 #[derive(Clone, Copy, Debug, PartialEq, Eq)]
 pub struct Offset {
     pub x: i128,
@@ -15,6 +15,7 @@ pub struct Offset {
     pub z: i128,
 }
 
+// Whether the cells are from -2047 to 2047.
 fn is_central(span: &Span) -> bool
     ensures { result ≡ is_central span.now }
 {
@@ -43,11 +44,12 @@ fn offset_of(spans: &Spans) -> Offset
     }
 }
 
-/// The offset of the grid with this step: 0 along all axes if all cells are at most 2047 in size, otherwise
-/// the middle of the least and the greatest cell along each. None if the coordinates don't fit.
+/// The offset of the grid with this step: 0 along all axes if all cells are at most 2047 in size,
+/// otherwise the middle of the least and the greatest cell along each. None if the coordinates
+/// don't fit.
 ///
-/// There are coordinates along each axis, and each is below 10^15 in size. All of them land on the grid, at
-/// most 2047 from its zero.
+/// There are coordinates along each axis, and each is below 10^15 in size. All of them land on the
+/// grid, at most 2047 from its zero.
 pub fn offset_at(coordinates: &Coordinates, step: &Step) -> Option<Offset>
     requires step { IsStep step.now }
     requires coordinates { AreCoordinates coordinates.now }

@@ -8,8 +8,8 @@ use crate::spans::{Coordinates, MOST, fitting_spans};
 use crate::steps::{FINE_STEPS, FINEST, NICE_STEPS, Step, fine, nice};
 use ember_number::Number;
 
-// The indices of two numbers of a list that lie far apart: a step at which these don't fit is refused
-// without a look at the others.
+// The indices of two numbers of a list that are far apart: a step at which these don't fit is
+// refused without a look at the others.
 #[derive(Clone, Copy)]
 pub(crate) struct Ends {
     pub low: usize,
@@ -23,7 +23,7 @@ pub(crate) struct AllEnds {
     pub z: Ends,
 }
 
-// The least and the greatest number, as far as the finest grid can tell.
+// The least and the greatest number, as far as the finest grid shows.
 fn ends_of(numbers: &[Number]) -> Ends
     requires { AreNumbers numbers.now }
     ensures { AreEnds numbers.now result }
@@ -46,6 +46,8 @@ fn ends_of(numbers: &[Number]) -> Ends
     ends
 }
 
+// `true` only if the numbers don't fit on the grid, as the cells of two of them show; `false` shows
+// nothing.
 fn are_far_apart(numbers: &[Number], ends: &Ends, step: &Step) -> bool
     requires step { IsStep step.now }
     requires numbers { AreNumbers numbers.now }
@@ -55,6 +57,7 @@ fn are_far_apart(numbers: &[Number], ends: &Ends, step: &Step) -> bool
     cell(&numbers[ends.high], step) - cell(&numbers[ends.low], step) > MOST
 }
 
+// Whether the coordinates fit on the grid along all axes.
 fn fits(coordinates: &Coordinates, ends: &AllEnds, step: &Step) -> bool
     requires step { IsStep step.now }
     requires coordinates { AreCoordinates coordinates.now }
@@ -87,8 +90,8 @@ fn all_ends(coordinates: &Coordinates) -> AllEnds
     }
 }
 
-/// The least of the nice steps at which the coordinates fit on a grid. Nice are 1, 2 and 5 times a
-/// power of ten, from 10^-12 to 5 * 10^11.
+/// The least of the nice steps at which the coordinates fit on a grid, or `None`. Nice are 1, 2 and
+/// 5 times a power of ten, from 10^-12 to 5 * 10^11.
 ///
 /// There are coordinates along each axis, and each is below 10^15 in size.
 pub fn nice_step(coordinates: &Coordinates) -> Option<Step>
@@ -107,8 +110,8 @@ pub fn nice_step(coordinates: &Coordinates) -> Option<Step>
     None
 }
 
-/// The least step at which the coordinates fit on a grid, of the numbers of at most four digits times a power
-/// of ten, from 10^-12 to 9.999 * 10^11.
+/// The least step at which the coordinates fit on a grid, or `None`. The steps are the numbers of
+/// at most four digits times a power of ten, from 10^-12 to 9.999 * 10^11.
 ///
 /// There are coordinates along each axis, and each is below 10^15 in size.
 pub fn finest_step(coordinates: &Coordinates) -> Option<Step>

@@ -30,12 +30,14 @@ pub(crate) struct Spans {
     pub z: Span,
 }
 
+// Whether all numbers are below 10^15 in size.
 fn are_below_limit(numbers: &[Number]) -> bool
     ensures { IsTrue result ↔ All (λ x. is_below_limit (value_of x) ≡ true) numbers.now }
 {
     numbers.iter().all(|number| is_below_limit(number))
 }
 
+// Whether there is a number, and all are below 10^15 in size.
 fn are_numbers(numbers: &[Number]) -> bool
     ensures { IsTrue result ↔ AreNumbers numbers.now }
 {

@@ -40,6 +40,7 @@ texts_of Has (job ∷ jobs) (t ∷ ts) h =
       text_of = subst (IsTextOf (map written_face (a.kept ++ b.kept))) (sym (one_more t ts)) (both_texts a.kept b.kept t (joined ts) a.text_of b.text_of);
     }
 
+-- the texts of the visited leaves, one after another, are the text of the scene's written regions
 pub texts_join : (ts : List Tri) (meshes : ℕ) → IsScene ts meshes → (f : Formula) → IsFit 64 f → LeafTextsJoin ts f
 texts_join ts meshes scene f fit texts h =
     let all = texts_of _ _ texts h in

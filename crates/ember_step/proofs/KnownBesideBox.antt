@@ -25,7 +25,7 @@ use Rattle.ember_known.proofs.Decided.{decided_tells}
 use Rattle.ember_law.specs.Laws.{MissesFace}
 use Rattle.ember_law.proofs.Shifted.{eventually_true}
 use Rattle.ember_law.proofs.Segments.{segment_law}
-use Rattle.ember_law.proofs.Separation.{separate}
+use Rattle.ember_law.proofs.Separation.{missed_face_has_separating_edge}
 use Rattle.ember_law.proofs.Vectors.{of_mesh_all}
 use Rattle.ember_box.specs.Near.{is_near, near}
 use Rattle.ember_box.specs.Reference.{reference}
@@ -83,7 +83,7 @@ module _ (ts : List Tri) (count : ℕ) (scene : IsScene ts count) (j : Job) (is 
       pick true d x y = eventually_true (λ m f nf. absurd (clash x f))
       pick false true x y = eventually_true (λ m f nf. absurd (clash y nf))
       pick false false x y =
-          let o = has_reference j.cell in let s = separate (face_of u) v origin has.weight o.weight (misses_far j.cell u v origin y x has o) in
+          let o = has_reference j.cell in let s = missed_face_has_separating_edge (face_of u) v origin has.weight o.weight (misses_far j.cell u v origin y x has o) in
           eventually_map (λ m l f nf. let e = value_beside s.plane m v k by in held_misses u (at m) origin s.plane s.low (omega (arith, linear, l, e)) s.far) (eventually_pos (by *ℤ along s.plane k) s.near)
 
   all_missed : (us : List Tri) → Eventually (λ m. AllByRecursion (MissesFar j (at m) origin) us)

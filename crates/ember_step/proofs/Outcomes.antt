@@ -30,6 +30,7 @@ module _ (ts : List Tri) (f : Formula) (j : Job) where
   abbrev halves : Shape
   halves = halved (left_job ts j axis) (right_job ts j axis)
 
+  -- a job whose value is known is skipped
   pub passed_by : is_some (box_value ts f j) ≡ true → shape ts f j ≡ passed
   unfolding shape
   passed_by e = known (box_value ts f j) (leaf_or (is_leaf (near_of ts j) j.cell) halves) e
@@ -38,9 +39,11 @@ module _ (ts : List Tri) (f : Formula) (j : Job) where
   unfolding shape
   goes_on e = unknown (box_value ts f j) (leaf_or (is_leaf (near_of ts j) j.cell) halves) e
 
+  -- a job whose value isn't known, and whose box is a leaf, is a leaf
   pub leaf_by : is_some (box_value ts f j) ≡ false → is_leaf (near_of ts j) j.cell ≡ true → shape ts f j ≡ leafed
   leaf_by e l = goes_on e ∙ ap (λ b. leaf_or b halves) l
 
+  -- any other job has these halves
   pub halved_by : (low high : Job) → is_some (box_value ts f j) ≡ false → is_leaf (near_of ts j) j.cell ≡ false → AreHalfJobs ts j axis low high → shape ts f j ≡ halved low high
   halved_by low high e l h = goes_on e ∙ ap (λ b. leaf_or b halves) l ∙ ap₂ halved (sym h.is_low) (sym h.is_high)
 

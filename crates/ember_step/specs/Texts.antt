@@ -36,7 +36,7 @@ abbrev pub AnswersByText : List Tri → Formula → Job → Outcome CountedText 
 AnswersByText tris formula job outcome =
     Answers (shape tris formula) (λ job text. IsBoxText tris formula job.cell text) job outcome
 
--- of each visited leaf
+-- the texts of the visited leaves, in tree order
 abbrev pub AreLeafTexts : List Tri → Formula → List CountedText → Type 0
 AreLeafTexts tris formula texts =
     EachAnswers (λ job text. IsBoxText tris formula job.cell text) (leaves (shape tris formula) (root_job tris)) texts

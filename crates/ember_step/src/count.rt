@@ -1,4 +1,4 @@
-// How many regions a box writes.
+// The number of regions that a box writes.
 ghost use Rattle.std.specs.Prelude.{IfOk};
 ghost use Rattle.ember_expr.specs.Formula.{formula_of};
 ghost use Rattle.ember_job.specs.Works.{Answers};
@@ -15,7 +15,7 @@ use ember_model::{OutOfMemory, Scene};
 use std::alloc::Global;
 
 /// The Boolean of an expression over a scene, of which only the numbers of written regions are
-/// kept: the work whose items are how many regions each leaf writes.
+/// kept: the work whose item for a leaf is the number of its written regions. `demo` uses it.
 #[derive(Drop)]
 pub struct CountWork<'a> {
     pub scene: &'a Scene,
@@ -49,7 +49,7 @@ impl<'a> Work for CountWork<'a> {
 
 impl<'a> OneItem for CountWork<'a> {
     ghost use Rattle.ember_expr.specs.Formula.{formula_of};
-    ghost use Rattle.ember_leaf.proofs.OneList.{written_in_unique};
+    ghost use Rattle.ember_leaf.proofs.WrittenRegionsUnique.{written_in_unique};
     ghost use Rattle.ember_step.specs.Counts.{one_count};
 
     ghost one_item = { λ w job one other a b. one_count (λ us vs.
@@ -57,7 +57,8 @@ impl<'a> OneItem for CountWork<'a> {
         (formula_of w.expr.now) w.scene.now.meshes w.scene.now.kept job.cell us vs) a b };
 }
 
-/// The same as `box_step`, but a leaf gives the number of its written regions.
+/// The same as `box_step`, but a leaf gives the number of its written regions. The only error is
+/// out-of-memory.
 pub fn count_step(
     alloc: Global,
     s: &Scene,

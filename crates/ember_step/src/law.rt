@@ -23,7 +23,7 @@ use ember_expr::{Expr, tree};
 use ember_model::Scene;
 
 /// If the value of a box is known, the expression has one value in the box and directly beside
-/// it: on both sides of each region of a leaf in it, so that none is written.
+/// it. So it has one value on both sides of each region of a leaf there, and none is written.
 pub fn known_boxes_write_nothing()
     ensures value { (ts : List Tri) (meshes : ℕ) (f : Formula) (job : Job) (known : Bool) → IsScene ts meshes →
         IsFit 64 f → IsJob ts job → box_value ts f job ≡ Some known → HasOneValue ts f job.cell }
@@ -34,7 +34,7 @@ pub fn known_boxes_write_nothing()
         HasOneValue ts f c → IsWrittenIn ts f c (near ts c) kept → kept ≡ [] }
 {}
 
-/// What the visited leaves of a Boolean write, one after another, is what the leaves of the full
+/// What the visited leaves of a Boolean write, one after another, is what all leaves of the full
 /// tree write.
 pub fn visited_leaves_write_all(_s: &Scene, e: &Expr)
     ensures { (kept : List Kept) →
@@ -42,6 +42,7 @@ pub fn visited_leaves_write_all(_s: &Scene, e: &Expr)
         (leaves (shape _s.now.tris (formula_of e.now)) (root_job _s.now.tris)) kept →
         IsWritten _s.now.tris (formula_of e.now) kept }
 {
+    // This call only brings in what holds of every expression.
     tree(e);
 }
 
@@ -50,6 +51,7 @@ pub fn visited_leaves_write_all(_s: &Scene, e: &Expr)
 pub fn leaf_texts_join(_s: &Scene, e: &Expr)
     ensures { LeafTextsJoin _s.now.tris (formula_of e.now) }
 {
+    // This call only brings in what holds of every expression.
     tree(e);
 }
 

@@ -1,5 +1,9 @@
 //! One box of a Boolean's tree: skipped if the expression's value is known in it, otherwise a leaf
 //! with its written regions, or its two halves.
+//!
+//! `box_step` asks ember_visit (`box_value`) whether the box is skipped, and ember_visit
+//! (`halve_unless_leaf`, by ember_box) whether it is a leaf. ember_leaf makes the regions of a
+//! leaf. steal_pool calls the step for each box (`end_box`).
 #![tactic(auto)]
 
 mod count;

@@ -14,8 +14,8 @@ use ember_model::{OutOfMemory, Scene};
 use ember_visit::{box_value, halve_unless_leaf, tris_at};
 use std::alloc::Global;
 
-/// The Boolean of an expression over a scene: the work whose items are the written regions of the
-/// leaves.
+/// The Boolean of an expression over a scene: the work whose item for a leaf is the list of its
+/// written regions. Only tests run it; `bool` uses `TextWork`.
 #[derive(Drop)]
 pub struct BoolWork<'a> {
     pub scene: &'a Scene,
@@ -48,7 +48,7 @@ impl<'a> Work for BoolWork<'a> {
 
 impl<'a> OneItem for BoolWork<'a> {
     ghost use Rattle.ember_expr.specs.Formula.{formula_of};
-    ghost use Rattle.ember_leaf.proofs.OneList.{written_in_unique};
+    ghost use Rattle.ember_leaf.proofs.WrittenRegionsUnique.{written_in_unique};
 
     ghost one_item = { λ w job one other a b. written_in_unique w.scene.now.tris
         (formula_of w.expr.now) w.scene.now.meshes w.scene.now.kept job.cell one other a b };
@@ -65,7 +65,8 @@ fn kept_in(alloc: Global, s: &Scene, e: &Expr, job: &Job) -> Result<KeptList, Ou
 }
 
 /// What becomes of a job: it is skipped if the expression's value is known in the whole
-/// box, and otherwise it is a leaf with the written regions, or it is halved.
+/// box, and otherwise it is a leaf with the written regions, or it is halved. The only error is
+/// out-of-memory.
 pub fn box_step(
     alloc: Global,
     s: &Scene,

@@ -11,8 +11,8 @@ use ember_model::{OutOfMemory, Scene};
 use ember_text::{FacesText, faces_text};
 use std::alloc::Global;
 
-/// The Boolean of an expression over a scene as text: the work whose items are the texts of the
-/// written regions of the leaves.
+/// The Boolean of an expression over a scene as text: the work whose item for a leaf is the text of
+/// its written regions. `bool` uses it.
 #[derive(Drop)]
 pub struct TextWork<'a> {
     pub scene: &'a Scene,
@@ -43,7 +43,7 @@ impl<'a> Work for TextWork<'a> {
 
 impl<'a> OneItem for TextWork<'a> {
     ghost use Rattle.ember_expr.specs.Formula.{formula_of};
-    ghost use Rattle.ember_leaf.proofs.OneList.{written_in_unique};
+    ghost use Rattle.ember_leaf.proofs.WrittenRegionsUnique.{written_in_unique};
     ghost use Rattle.ember_step.specs.Texts.{one_text};
 
     ghost one_item = { λ w job one other a b. one_text (λ us vs.
@@ -51,7 +51,8 @@ impl<'a> OneItem for TextWork<'a> {
         (formula_of w.expr.now) w.scene.now.meshes w.scene.now.kept job.cell us vs) a b };
 }
 
-/// The same as `box_step`, but a leaf gives the text of its written regions.
+/// The same as `box_step`, but a leaf gives the text of its written regions. The only error is
+/// out-of-memory.
 pub fn text_step(
     alloc: Global,
     s: &Scene,

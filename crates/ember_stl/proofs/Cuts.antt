@@ -5,7 +5,7 @@ use Rattle.std.proofs.lemmas.Bool.{cases_Bool}
 use Rattle.ember_stl.specs.Scan.{before, onward, is_blank, Word, put_before, words_from, before_lines, ended_lines}
 
 -- the last line, which no line feed ends
-pub last_line : (text : List ℕ) → 0 < length text → onward (λ b. b == 10) text ≡ [] → ended_lines text ≡ before (λ b. b == 10) text ∷ []
+last_line : (text : List ℕ) → 0 < length text → onward (λ b. b == 10) text ≡ [] → ended_lines text ≡ before (λ b. b == 10) text ∷ []
 last_line [] some none = absurd (omega arith)
 last_line (b ∷ []) some none =
     elim (b == 10) as (λ t. (if t then b ∷ [] else []) ≡ [] → (if t then [] ∷ [] else (b ∷ []) ∷ []) ≡ (if t then [] else b ∷ []) ∷ []) [
@@ -19,7 +19,7 @@ last_line (b ∷ c ∷ bs) some none =
     ] none
 
 -- a line that a line feed ends
-pub first_line : (text after : List ℕ) (b : ℕ) → onward (λ x. x == 10) text ≡ b ∷ after → ended_lines text ≡ before (λ x. x == 10) text ∷ ended_lines after
+first_line : (text after : List ℕ) (b : ℕ) → onward (λ x. x == 10) text ≡ b ∷ after → ended_lines text ≡ before (λ x. x == 10) text ∷ ended_lines after
 first_line [] after b is = cc
 first_line (x ∷ xs) after b is =
     elim (x == 10) as (λ t. (if t then x ∷ xs else onward (λ y. y == 10) xs) ≡ b ∷ after → (if t then [] ∷ ended_lines xs else before_lines x (ended_lines xs)) ≡ (if t then [] else x ∷ before (λ y. y == 10) xs) ∷ ended_lines after) [
@@ -32,6 +32,7 @@ pub last_cut : (text line rest : List ℕ) → 0 < length text → rest ≡ onwa
 last_cut text line [] some is none l = last_line text some (sym is) ∙ ap (λ x. x ∷ []) (sym l)
 last_cut text line (r ∷ rs) some is none l = absurd (omega arith)
 
+-- the lines of a text that has a line feed: the first line, and those after it
 pub first_cut : (text line rest after : List ℕ) (b : ℕ) → rest ≡ onward (λ x. x == 10) text → rest ≡ b ∷ after → line ≡ before (λ x. x == 10) text → ended_lines text ≡ line ∷ ended_lines after
 first_cut text line rest after b is more l = first_line text after b (sym is ∙ more) ∙ ap (λ x. x ∷ ended_lines after) (sym l)
 
@@ -41,6 +42,7 @@ blank_step at next i [] within blank is = absurd (omega arith)
 blank_step at next zero (b ∷ bs) within blank is = rw (is, blank) refl
 blank_step at next (suc i) (b ∷ bs) within blank is = blank_step at next i bs (omega arith) blank is
 
+-- the words of a text stay if a blank at its beginning is dropped
 pub blank_passed : (at next i j : ℕ) (text : List ℕ) → i < length text → is_blank (slice_index text i) ≡ true → next ≡ at + 1 → j ≡ i + 1 → words_from next (drop j text) ≡ words_from at (drop i text)
 blank_passed at next i j text within blank is e =
     let s : suc i ≡ j = omega arith in
@@ -73,7 +75,7 @@ same_parts : (at end : ℕ) (p q r s : List ℕ) → p ≡ q → r ≡ s → end
 same_parts at end p q r s e f n = cc
 
 -- a text that begins with a word
-pub first_word : (at : ℕ) (text : List ℕ) → 0 < length text → is_blank (slice_index text 0) ≡ false → words_from at text ≡ (record { start = at; text = before is_blank text }) ∷ words_from (at + length (before is_blank text)) (onward is_blank text)
+first_word : (at : ℕ) (text : List ℕ) → 0 < length text → is_blank (slice_index text 0) ≡ false → words_from at text ≡ (record { start = at; text = before is_blank text }) ∷ words_from (at + length (before is_blank text)) (onward is_blank text)
 first_word at [] some first = absurd (omega arith)
 first_word at (b ∷ []) some first =
     word_byte at b [] first ∙ same_parts at (at + 1) (b ∷ []) (before is_blank (b ∷ [])) [] (onward is_blank (b ∷ [])) (sym (before_byte b [] first)) (sym (onward_byte b [] first)) (omega (arith, ap length (before_byte b [] first)))

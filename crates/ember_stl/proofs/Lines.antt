@@ -15,6 +15,7 @@ not_three_corners line state place (a ∷ b ∷ []) other = refl
 not_three_corners line state place (a ∷ b ∷ c ∷ []) other = absurd (other refl)
 not_three_corners line state place (a ∷ b ∷ c ∷ d ∷ more) other = refl
 
+-- a fault stays the fault after further lines
 pub after_fault : (fault : StlFault) (lines : List Line) → after_lines (Err fault) lines ≡ Err fault
 after_fault fault [] = refl
 after_fault fault (line ∷ lines) = refl

@@ -29,9 +29,11 @@ next_facet bytes k =
     let e : suc k ≡ k + 1 = omega arith in
     subst (λ (m : ℕ). first_facets bytes m ≡ with_facet_at bytes k (first_facets bytes k)) e refl
 
+-- one facet more
 pub facet_added : (bytes : List ℕ) (k : ℕ) (content more : Content) → first_facets bytes k ≡ Ok content → with_facet_at bytes k (Ok content) ≡ Ok more → first_facets bytes (k + 1) ≡ Ok more
 facet_added bytes k content more is one = next_facet bytes k ∙ ap (with_facet_at bytes k) is ∙ one
 
+-- the fault of a facet is that of all facets from it on
 pub facet_refused : (bytes : List ℕ) (k n : ℕ) (content : Content) (fault : StlFault) → first_facets bytes k ≡ Ok content → with_facet_at bytes k (Ok content) ≡ Err fault → k < n → first_facets bytes n ≡ Err fault
 facet_refused bytes k n content fault is one within =
     fault_stays bytes (k + 1) n fault (next_facet bytes k ∙ ap (with_facet_at bytes k) is ∙ one) (omega arith)

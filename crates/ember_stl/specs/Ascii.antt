@@ -1,4 +1,4 @@
--- What the lines of an ASCII STL stand for.
+-- What the lines of an ASCII STL mean.
 use Rattle.std.specs.Prelude.{ℕ, ◌+◌, Bool, ◌||◌, List, [], ◌∷◌, ◌++◌, length, map, Option, None, Some, Result, Ok, Err, if◌then◌else◌, codes}
 use Rattle.std.specs.Option.{option_map}
 use Rattle.std.specs.Str.{str_eq_ignore_ascii_case}
@@ -14,7 +14,7 @@ use Rattle.ember_stl.specs.Scan.{Word, span_of, first_three, Line, lines_of}
 use Rattle.ember_stl.specs.Facets.{nothing, with_triangle}
 
 -- ---- words
--- words that are passed over with all behind them in their line
+-- words that are passed over with all after them in their line
 abbrev pub is_passed : List ℕ → Bool
 is_passed word =
     str_eq_ignore_ascii_case word (codes "solid")
@@ -22,6 +22,7 @@ is_passed word =
     || str_eq_ignore_ascii_case word (codes "endloop")
     || str_eq_ignore_ascii_case word (codes "endsolid")
 
+-- the keyword that the word is, in any case
 abbrev pub keyword_of : List ℕ → Keyword
 keyword_of word =
     if str_eq_ignore_ascii_case word (codes "facet") then keyword.Facet
@@ -34,6 +35,7 @@ abbrev pub value_or_fault : ℕ → Word → Option Fraction → Result Fraction
 value_or_fault line word None = Err (NotANumber line (span_of word))
 value_or_fault line word (Some value) = Ok value
 
+-- the value of a word, or its fault
 abbrev pub coordinate_of : ℕ → Word → Result Fraction StlFault
 coordinate_of line word = value_or_fault line word (value_of_text word.text)
 
@@ -62,6 +64,7 @@ pub record State : Type 0 where
   pub content : Content
   pub opened : Option Opened
 
+-- what a reader has read, as definitions see it
 abbrev pub state_of : Reader → State
 state_of r = record {
   content = content_of r.surface;
@@ -72,7 +75,7 @@ state_of r = record {
 abbrev pub vertex_count : Reader → ℕ
 vertex_count r = length r.surface.vertices.items + length r.corners.items
 
--- in a facet that opens anew, what stood before in a facet without an end is dropped
+-- a facet that opens drops the corners of a facet before it that had no end
 abbrev pub with_facet : ℕ → State → State
 with_facet line state = record state { opened = Some (record { line = line; corners = [] }) }
 
@@ -100,6 +103,7 @@ with_end_of line state (Some opened) = with_corners line state opened.line opene
 abbrev pub with_end : ℕ → State → Result State StlFault
 with_end line state = with_end_of line state state.opened
 
+-- what is read after a line with this keyword
 abbrev pub after_keyword : ℕ → Word → List Word → State → Keyword → Result State StlFault
 after_keyword line word words state keyword.Facet = Ok (with_facet line state)
 after_keyword line word words state keyword.Vertex = with_vertex line words state
@@ -107,6 +111,7 @@ after_keyword line word words state keyword.EndFacet = with_end line state
 after_keyword line word words state keyword.Passed = Ok state
 after_keyword line word words state keyword.Unknown = Err (UnknownWord line (span_of word))
 
+-- what is read after a line with these words
 abbrev pub after_words : ℕ → State → List Word → Result State StlFault
 after_words line state [] = Ok state
 after_words line state (word ∷ words) = after_keyword line word words state (keyword_of word.text)
@@ -125,6 +130,7 @@ at_end content (Some opened) = Err (EndsInFacet opened.line)
 abbrev pub state_ended : State → Result Content StlFault
 state_ended state = at_end state.content state.opened
 
+-- the content at the end of a file
 abbrev pub ended : Result State StlFault → Result Content StlFault
 ended (Err fault) = Err fault
 ended (Ok state) = state_ended state

@@ -1,4 +1,4 @@
--- What the bytes of a binary STL stand for: 80 bytes of header, the number of facets, and 50 bytes for each facet.
+-- What the bytes of a binary STL mean: 80 bytes of header, the number of facets, and 50 bytes for each facet.
 use Rattle.std.specs.Prelude.{ℕ, zero, suc, ◌+◌, ◌*◌, List, Option, None, Some, Result, Ok, Err, slice_index}
 use Rattle.ember_number.specs.Fractions.{Fraction}
 use Rattle.ember_number.specs.Floats.{binary32_value}
@@ -32,7 +32,7 @@ abbrev pub with_points : ℕ → Content → Option Point → Option Point → O
 with_points place content (Some a) (Some b) (Some c) = Ok (with_triangle place a b c content)
 with_points place content a b c = Err (NotFinite place)
 
--- with the facet of this index; its corners stand behind its normal
+-- with the facet of this index; its corners come after its normal
 abbrev pub with_facet_at : List ℕ → ℕ → Result Content StlFault → Result Content StlFault
 with_facet_at bytes k (Err fault) = Err fault
 with_facet_at bytes k (Ok content) =
@@ -43,7 +43,7 @@ with_facet_at bytes k (Ok content) =
     (point_at bytes (50 * k + 108))
     (point_at bytes (50 * k + 120))
 
--- the first so many facets, or the first fault in them
+-- the first n facets, or the first fault in them
 abbrev pub first_facets : List ℕ → ℕ → Result Content StlFault
 first_facets bytes zero = Ok nothing
 first_facets bytes (suc k) = with_facet_at bytes k (first_facets bytes k)

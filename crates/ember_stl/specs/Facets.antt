@@ -7,10 +7,11 @@ use Rattle.ember_surface.specs.Surfaces.{Point, Content}
 use Rattle.ember_stl.specs.declared.fault.StlFault.{StlFault}
 use Rattle.ember_stl.specs.declared.fault.StlFault.TheVariants.{OutOfMemory}
 
--- an error that a reading which ends so may give: its fault, or want of memory
+-- an error that a reading which ends so may give: its fault, or out-of-memory
 abbrev pub IsErrorOf : {X : Type 0} → Result X StlFault → StlFault → Type 0
 IsErrorOf reading e = (e ≡ OutOfMemory) ⊎ (reading ≡ Err e)
 
+-- no points and no triangles
 abbrev pub nothing : Content
 nothing = record { points = []; facets = [] }
 

@@ -1,4 +1,4 @@
--- What the bytes of an STL file stand for: its triangles, or its first fault.
+-- What the bytes of an STL file mean: its triangles, or its first fault.
 use Rattle.std.specs.Prelude.{ℕ, ◌+◌, ◌*◌, Bool, true, false, ◌&&◌, ◌||◌, List, [], ◌∷◌, Option, None, Some, Result, Ok, Err, if◌then◌else◌, ◌==◌, nat_le, length, take, codes}
 use Rattle.std.specs.Str.{str_eq_ignore_ascii_case}
 use Rattle.ember_surface.specs.declared.surface.Facet.{Facet}
@@ -19,12 +19,12 @@ abbrev pub begins_with : List ℕ → List Word → Bool
 begins_with name [] = false
 begins_with name (word ∷ words) = str_eq_ignore_ascii_case word.text name
 
--- the name stands somewhere in a text, in any case
+-- the name occurs in a text, in any case
 abbrev pub has_name : List ℕ → List ℕ → Bool
 has_name name [] = false
 has_name name (b ∷ bs) = str_eq_ignore_ascii_case (take (length name) (b ∷ bs)) name || has_name name bs
 
--- the first word is `solid`, and `facet` or `endsolid` stands in the first 4,096 bytes
+-- the first word is `solid`, and `facet` or `endsolid` occurs in the first 4,096 bytes
 abbrev pub is_ascii : List ℕ → Bool
 is_ascii bytes =
     begins_with (codes "solid") (words_from 0 bytes)
@@ -39,6 +39,7 @@ abbrev pub large_in : Bool → ℕ → StlFault
 large_in true facet = LargeInFacet facet
 large_in false line = LargeInLine line
 
+-- the content, unless a triangle is too far out
 abbrev pub unless_far : Bool → Content → Option Facet → Result Content StlFault
 unless_far binary content None = Ok content
 unless_far binary content (Some f) = Err (large_in binary f.place)

@@ -3,7 +3,7 @@ use Rattle.std.specs.Prelude.{ℕ, ◌+◌, ◌^◌, ◌<◌, Bool, ◌||◌, �
 use Rattle.ember_stl.specs.declared.fault.Span.{Span}
 use Rattle.ember_stl.specs.declared.scan.Text.{Text}
 
--- what stands before the first byte of a kind
+-- the bytes before the first byte of a kind
 abbrev pub before : (ℕ → Bool) → List ℕ → List ℕ
 before stops [] = []
 before stops (b ∷ bs) = if stops b then [] else b ∷ before stops bs
@@ -18,6 +18,7 @@ abbrev pub is_blank : ℕ → Bool
 is_blank b = b == 32 || nat_le 9 b && nat_le b 13
 
 -- ---- words
+-- a word with the index of its first byte
 pub record Word : Type 0 where
   pub start : ℕ
   pub text : List ℕ
@@ -25,11 +26,11 @@ pub record Word : Type 0 where
 abbrev pub word_of : Text → Word
 word_of t = record { start = t.start; text = t.bytes.now }
 
--- from where to where a word stands
+-- the range of bytes of a word in the file
 abbrev pub span_of : Word → Span
 span_of word = record { start = word.start; end = word.start + length word.text }
 
--- a byte with this index in front of the first of the words, which begins behind it
+-- a byte with this index in front of the first of the words, which begins after it
 abbrev pub before_words : ℕ → ℕ → List Word → List Word
 before_words at b [] = (record { start = at; text = b ∷ [] }) ∷ []
 before_words at b (word ∷ words) = (record { start = at; text = b ∷ word.text }) ∷ words
@@ -77,7 +78,7 @@ pub record Line : Type 0 where
   pub number : ℕ
   pub words : List Word
 
--- the lines with these texts, of which the first has this number and begins at this byte
+-- the lines with these texts; the first has this number and begins at this byte
 abbrev pub numbered : ℕ → ℕ → List (List ℕ) → List Line
 numbered number start [] = []
 numbered number start (text ∷ texts) =

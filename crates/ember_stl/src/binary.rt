@@ -53,7 +53,7 @@ fn add_facet(surface: &mut Surface, bytes: &[u8], facet: u32) -> Result<(), StlF
     Ok(())
 }
 
-// A surface with room for so many triangles.
+// An empty surface with room for this many triangles.
 fn with_room<'a>(alloc: Global, facets: usize) -> Result<Surface<'a>, AllocError>
     requires { facets < 2 ^ 32 }
     ensures content { IfOk result (λ s. content_of s ≡ nothing) }

@@ -1,14 +1,14 @@
 // What makes a file no mesh.
 use thiserror::Error;
 
-/// From which byte of the file a word stands, and before which one.
+/// The range of bytes of a word in the file: from `start` on, up to and without `end`.
 #[derive(Clone, Copy, Debug, PartialEq, Eq)]
 pub struct Span {
     pub start: usize,
     pub end: usize,
 }
 
-/// The first fault of a file, with its line or facet from 1, or want of memory.
+/// The first fault of a file, with its line or facet from 1, or out-of-memory.
 #[derive(Clone, Copy, Debug, PartialEq, Eq, Error)]
 pub enum StlFault {
     /// Neither ASCII nor binary STL. As binary STL it says that it has this number of facets, 0 if
@@ -29,7 +29,7 @@ pub enum StlFault {
     /// This word begins a line, and isn't a word of STL.
     #[error("line {0}: word is none of STL")]
     UnknownWord(u32, Span),
-    /// This word stands where a coordinate should be.
+    /// This word is in the place of a coordinate, and isn't one.
     #[error("line {0}: coordinate is not a number")]
     NotANumber(u32, Span),
     #[error("line {0}: fewer than three coordinates")]

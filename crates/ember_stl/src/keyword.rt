@@ -13,6 +13,7 @@ pub(crate) enum Keyword {
     Unknown,
 }
 
+// Whether a line that begins with the word is passed over.
 #[tactic(none)]
 fn is_passed_over(word: &[u8]) -> bool
     ensures { result ≡ is_passed word.now }

@@ -14,7 +14,7 @@ pub(crate) const HEADER: usize = 84;
 // Where the header says how many facets follow.
 pub(crate) const COUNT_AT: usize = 80;
 
-// The first words of an ASCII STL stand within so many bytes.
+// The first words of an ASCII STL are within this many bytes.
 const FIRST_BYTES: usize = 4096;
 
 // The number of four bytes, the lowest byte first.
@@ -50,7 +50,7 @@ pub fn is_binary_stl(bytes: &[u8]) -> bool
     bytes.len() >= HEADER && bytes.len() == HEADER + 50 * (read_number(bytes, COUNT_AT) as usize)
 }
 
-// The first so many bytes, or all.
+// The first `count` bytes, or all.
 fn front(bytes: &[u8], count: usize) -> &[u8]
     ensures { result.now ≡ take count bytes.now }
 {
@@ -61,12 +61,14 @@ fn front(bytes: &[u8], count: usize) -> &[u8]
     }
 }
 
+// Whether the text begins with the name, in any case.
 fn begins(text: &[u8], name: &[u8]) -> bool
     ensures { result ≡ str_eq_ignore_ascii_case (take (length name.now) text.now) name.now }
 {
     is_same_word(front(text, name.len()), name)
 }
 
+// Whether the name occurs in the text, in any case.
 fn has(text: &[u8], name: &[u8]) -> bool
     ensures { result ≡ has_name name.now text.now }
 {
@@ -80,8 +82,8 @@ fn has(text: &[u8], name: &[u8]) -> bool
     false
 }
 
-/// Whether the first word of a file is this one, in any case. Blanks are spaces and all bytes from tab to
-/// carriage return.
+/// Whether the first word of a file is this one, in any case. Blanks are spaces and all bytes from
+/// tab to carriage return.
 pub fn begins_with_word(bytes: &[u8], name: &[u8]) -> bool
     requires { length bytes.now ≤ 268435456 }
     ensures { result ≡ begins_with name.now (words_from 0 bytes.now) }
@@ -92,8 +94,8 @@ pub fn begins_with_word(bytes: &[u8], name: &[u8]) -> bool
     }
 }
 
-/// Whether the first word is `solid`, and `facet` or `endsolid` stands in the first 4,096 bytes, all in
-/// any case. A binary STL may have both.
+/// Whether the first word is `solid`, and `facet` or `endsolid` occurs in the first 4,096 bytes,
+/// all in any case. A binary STL may have both. There are at most 2^28 bytes.
 pub fn is_ascii_stl(bytes: &[u8]) -> bool
     requires { length bytes.now ≤ 268435456 }
     ensures { result ≡ is_ascii bytes.now }

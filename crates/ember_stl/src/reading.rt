@@ -30,13 +30,13 @@ fn checked<'a>(surface: Surface<'a>, binary: bool) -> Result<Surface<'a>, StlFau
 }
 
 /// The triangles of an STL file, each with its facet or its line from 1, or the file's first fault.
-/// Each triangle has three vertices of its own, in the file's order. Coordinates in ASCII borrow their text
-/// from the bytes.
+/// Each triangle has three vertices of its own, in the file's order. Coordinates in ASCII borrow
+/// their text from the bytes.
 ///
-/// A file of exactly 84 + 50 n bytes for its count n is binary. Otherwise it is ASCII if its first word is
-/// `solid` and `facet` or `endsolid` stands in its first 4,096 bytes. Any other file
-/// is refused as a binary STL that was cut off. Normals,
-/// names and attributes are passed over, and several solids are one mesh.
+/// A file of exactly 84 + 50 n bytes for its count n is binary. Otherwise it is ASCII if its first
+/// word is `solid` and `facet` or `endsolid` occurs in its first 4,096 bytes. Any other file is
+/// refused as a binary STL that was cut off. Normals, names and attributes are passed over, and
+/// several solids are one mesh. There are at most 2^28 bytes.
 pub fn read_stl(alloc: Global, bytes: &[u8]) -> Result<Surface<'_>, StlFault>
     requires { length bytes.now ≤ 268435456 }
     ensures ok { IfOk result (λ s. spec.read_stl_of bytes.now ≡ Ok (content_of s)) }

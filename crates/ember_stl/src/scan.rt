@@ -12,7 +12,7 @@ pub(crate) struct Text<'a> {
     pub(crate) bytes: &'a [u8],
 }
 
-// From where to where the text stands.
+// The range of bytes of the text in the file.
 #[tactic(none)]
 pub(crate) fn span(text: Text) -> Span
     requires { EndsWithinFile text }
@@ -44,7 +44,7 @@ fn cut_line(bytes: &[u8]) -> (&[u8], &[u8])
     bytes.split_at(end)
 }
 
-// The first line, and what is behind its line feed.
+// The first line, and what is after its line feed.
 fn cut_first_line(bytes: &[u8]) -> (&[u8], &[u8])
     requires { 0 < length bytes.now }
     ensures lines { ended_lines bytes.now ≡ result.0.now ∷ ended_lines result.1.now }
@@ -58,7 +58,7 @@ fn cut_first_line(bytes: &[u8]) -> (&[u8], &[u8])
     }
 }
 
-// The first line, and the text behind its line feed.
+// The first line, and the text after its line feed.
 pub(crate) fn next_line<'a>(text: Text<'a>) -> Option<(Text<'a>, Text<'a>)>
     requires { EndsWithinFile text }
     ensures lines { let lines = ended_lines text.entry.bytes.now in
@@ -85,6 +85,7 @@ pub(crate) fn next_line<'a>(text: Text<'a>) -> Option<(Text<'a>, Text<'a>)>
     ))
 }
 
+// Whether the byte is a space, or from tab to carriage return.
 fn is_blank_byte(byte: u8) -> bool
     ensures { result ≡ is_blank byte }
 {
@@ -123,7 +124,7 @@ fn skip_blanks<'a>(text: Text<'a>) -> Text<'a>
     }
 }
 
-// The first word, and the text behind it.
+// The first word, and the text after it.
 pub(crate) fn next_word<'a>(text: Text<'a>) -> Option<(Text<'a>, Text<'a>)>
     requires { EndsWithinFile text }
     ensures words { let words = words_in text.entry in

@@ -51,27 +51,33 @@ pub corner_a : (t : WrittenTriangle) (rest : List ℕ) (q : Point) → IsPoint t
 unfolding point_at triangle_bytes point_bytes number_bytes
 corner_a t rest q is = finite (number_at (triangle_bytes t ++ rest) 12) (number_at (triangle_bytes t ++ rest) 16) (number_at (triangle_bytes t ++ rest) 20) t.a q (whole t.a.x) (whole t.a.y) (whole t.a.z) is
 
+-- the second corner is at byte 24 of a triangle
 pub corner_b : (t : WrittenTriangle) (rest : List ℕ) (q : Point) → IsPoint t.b q → point_at (triangle_bytes t ++ rest) 24 ≡ Some q
 unfolding point_at triangle_bytes point_bytes number_bytes
 corner_b t rest q is = finite (number_at (triangle_bytes t ++ rest) 24) (number_at (triangle_bytes t ++ rest) 28) (number_at (triangle_bytes t ++ rest) 32) t.b q (whole t.b.x) (whole t.b.y) (whole t.b.z) is
 
+-- the third corner is at byte 36 of a triangle
 pub corner_c : (t : WrittenTriangle) (rest : List ℕ) (q : Point) → IsPoint t.c q → point_at (triangle_bytes t ++ rest) 36 ≡ Some q
 unfolding point_at triangle_bytes point_bytes number_bytes
 corner_c t rest q is = finite (number_at (triangle_bytes t ++ rest) 36) (number_at (triangle_bytes t ++ rest) 40) (number_at (triangle_bytes t ++ rest) 44) t.c q (whole t.c.x) (whole t.c.y) (whole t.c.z) is
 
 -- ---- lengths, and the number of triangles
+-- the header has 80 bytes
 pub header_length : length header ≡ 80
 unfolding header
 header_length = refl
 
+-- a number takes 4 bytes
 pub number_length : (n : ℕ) → length (number_bytes n) ≡ 4
 unfolding number_bytes
 number_length n = refl
 
+-- a triangle takes 50 bytes
 pub triangle_length : (t : WrittenTriangle) → length (triangle_bytes t) ≡ 50
 unfolding triangle_bytes point_bytes number_bytes
 triangle_length t = refl
 
+-- a number that was written is read again at its first byte
 pub number_first : (n : ℕ) (rest : List ℕ) → number_at (number_bytes n ++ rest) 0 ≡ n
 unfolding number_bytes
 number_first n rest = whole n

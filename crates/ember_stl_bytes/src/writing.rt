@@ -74,8 +74,9 @@ fn all_bytes(
     Ok(bytes)
 }
 
-/// The bytes of the binary STL with these triangles, in their order. Reading them gives their corners again, if
-/// all coordinates are finite. Refused are 2^32 triangles or more; the other fault is want of memory.
+/// The bytes of the binary STL with these triangles, in their order. Reading them gives their
+/// corners again, if all coordinates are finite. Refused are 2^32 triangles or more; the other
+/// fault is out-of-memory.
 pub fn stl_bytes(alloc: Global, triangles: &[WrittenTriangle]) -> Result<Vec<u8>, StlWriteFault>
     ensures bytes { IfOk result (λ bytes. bytes.items ≡ stl_bytes_of triangles.now) }
     ensures read_back { IfOk result (λ bytes. IsReadBack triangles.now bytes.items) }

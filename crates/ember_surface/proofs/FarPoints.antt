@@ -1,4 +1,4 @@
--- Coordinates of vertices and of the points that they stand for
+-- Coordinates of vertices and of their points
 use Rattle.std.proofs.Common.{◌≡◌, ℕ, Bool, true, false, List, [], ◌∷◌, Option, None, Some, refl, sym, ap, ap₂, ◌∙◌, map}
 use Rattle.std.specs.Prelude.{◌||◌, if◌then◌else◌, slice_get}
 use Rattle.std.specs.List.{list_any, find}

@@ -14,6 +14,7 @@ pub record Point : Type 0 where
   pub y : Fraction
   pub z : Fraction
 
+-- a vertex as the point of its exact coordinates
 abbrev pub point_of : Vertex → Point
 point_of v = record { x = value_of v.x; y = value_of v.y; z = value_of v.z }
 
@@ -22,10 +23,11 @@ pub record Content : Type 0 where
   pub points : List Point
   pub facets : List Facet
 
+-- a surface as definitions see it
 abbrev pub content_of : Surface → Content
 content_of s = record { points = map point_of s.vertices.items; facets = s.facets.items }
 
--- each corner of a triangle is among so many vertices
+-- each corner of a triangle is an index below this number of vertices
 abbrev pub IsWithin : ℕ → Facet → Type 0
 IsWithin vertices f = All (λ corner. corner < vertices) f.corners
 
@@ -58,10 +60,12 @@ is_too_large (Some v) = not (is_vertex_below v)
 abbrev pub is_corner_too_large : List Vertex → ℕ → Bool
 is_corner_too_large vertices corner = is_too_large (slice_get vertices corner)
 
+-- a corner of the triangle has a coordinate of 10 ^ 15 or more in size
 abbrev pub is_facet_too_large : List Vertex → Facet → Bool
 is_facet_too_large vertices f = list_any (is_corner_too_large vertices) f.corners
 
 -- ---- the same of what a file says
+-- all coordinates are below 10 ^ 15 in size
 abbrev pub is_point_below : Point → Bool
 is_point_below p = is_below_limit p.x && is_below_limit p.y && is_below_limit p.z
 

@@ -29,12 +29,14 @@ pub struct Surface<'a> {
     pub facets: Vec<Facet>,
 }
 
+// Whether all coordinates of the vertex are below 10^15 in size.
 fn is_below(vertex: &Vertex) -> bool
     ensures { result ≡ is_vertex_below vertex.now }
 {
     is_below_limit(&vertex.x) && is_below_limit(&vertex.y) && is_below_limit(&vertex.z)
 }
 
+// Whether the vertex with this index has a coordinate of 10^15 or more in size.
 fn is_corner_far(vertices: &[Vertex], corner: u32) -> bool
     ensures { result ≡ is_corner_too_large vertices.now corner }
 {
@@ -44,6 +46,7 @@ fn is_corner_far(vertices: &[Vertex], corner: u32) -> bool
     }
 }
 
+// Whether a corner of the triangle has a coordinate of 10^15 or more in size.
 fn is_far(vertices: &[Vertex], facet: &Facet) -> bool
     ensures { result ≡ is_facet_too_large vertices.now facet.now }
 {
@@ -51,8 +54,8 @@ fn is_far(vertices: &[Vertex], facet: &Facet) -> bool
     is_corner_far(vertices, a) || is_corner_far(vertices, b) || is_corner_far(vertices, c)
 }
 
-/// The place of the first triangle with a coordinate of 10^15 or more in size. Vertices of no
-/// triangle don't count.
+/// The place of the first triangle with a coordinate of 10^15 or more in size, if there is one.
+/// Vertices of no triangle don't count.
 pub fn first_too_large(surface: &Surface) -> Option<u32>
     ensures { result ≡ option_map (λ f.
         f.place) (find (is_facet_too_large surface.now.vertices.items) surface.now.facets.items) }

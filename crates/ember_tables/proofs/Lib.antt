@@ -1,5 +1,5 @@
 pub mod Lists
 pub mod Numbers
-pub mod Rounds
+pub mod FaceLoops
 pub mod Segments
 pub mod Drafts

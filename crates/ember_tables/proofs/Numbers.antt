@@ -14,14 +14,14 @@ use Rattle.ember_tables.proofs.Lists.{entry_of_map, mapped_entry}
 same_six : {k l : HashKey} → k.a ≡ l.a → k.b ≡ l.b → k.c ≡ l.c → k.d ≡ l.d → k.e ≡ l.e → k.f ≡ l.f → k ≡ l
 same_six ea eb ec ed ee ef = λ i. record { a = ea i; b = eb i; c = ec i; d = ed i; e = ee i; f = ef i }
 
-pub same_key_decides : (k l : HashKey) → Decides (same_key k l) (k ≡ l)
+same_key_decides : (k l : HashKey) → Decides (same_key k l) (k ≡ l)
 same_key_decides k l =
     Decides-like _
     (λ t. same_six t.0 t.1.0 t.1.1.0 t.1.1.1.0 t.1.1.1.1.0 t.1.1.1.1.1)
     (λ e. (ap (λ (s : HashKey). s.a) e, (ap (λ (s : HashKey). s.b) e, (ap (λ (s : HashKey). s.c) e, (ap (λ (s : HashKey). s.d) e, (ap (λ (s : HashKey). s.e) e, ap (λ (s : HashKey). s.f) e))))))
     (Decides-and _ _ (Decides-int_eq k.a l.a) (Decides-and _ _ (Decides-int_eq k.b l.b) (Decides-and _ _ (Decides-int_eq k.c l.c) (Decides-and _ _ (Decides-int_eq k.d l.d) (Decides-and _ _ (Decides-int_eq k.e l.e) (Decides-int_eq k.f l.f))))))
 
--- ---- the keys after one more was put
+-- ---- the keys after one more was numbering_put
 module _ (keys more : List HashKey) (k : HashKey) (new : Bool) where
   pub old_keys : (b : Bool) → more ≡ (if b then keys else keys ++ k ∷ []) → new ≡ not b → new ≡ false → more ≡ keys
   old_keys true m n e = m
@@ -32,22 +32,22 @@ module _ (keys more : List HashKey) (k : HashKey) (new : Bool) where
   new_keys false m n e = m
 
 module _ {X : Type 0} (f : X → HashKey) where
-  -- the entry of a key that was found
-  pub found : (keys : List HashKey) (xs : List X) (n : ℕ) (k l : HashKey) → IsNumbering f keys xs → slice_get keys n ≡ Some l → same_key k l ≡ true → HasEntry xs n (λ x. f x ≡ k)
-  found keys xs n k l h e t =
+  -- the entry of a key that was found_key_has_entry
+  pub found_key_has_entry : (keys : List HashKey) (xs : List X) (n : ℕ) (k l : HashKey) → IsNumbering f keys xs → slice_get keys n ≡ Some l → same_key k l ≡ true → HasEntry xs n (λ x. f x ≡ k)
+  found_key_has_entry keys xs n k l h e t =
       let p = entry_of_map f xs n l (subst (λ ks. slice_get ks n ≡ Some l) h.keyed e) in
       record { entry = p.0; here = p.1; holds = p.2 ∙ sym ((same_key_decides k l).0 t) }
 
   -- one more key and its entry
-  pub put : (keys more : List HashKey) (xs ys : List X) (k : HashKey) (x : X) → f x ≡ k → IsNumbering f keys xs → more ≡ keys ++ k ∷ [] → ys ≡ xs ++ x ∷ [] → IsDistinct same_key more → IsNumbering f more ys
-  put keys more xs ys k x e h m y d =
+  pub numbering_put : (keys more : List HashKey) (xs ys : List X) (k : HashKey) (x : X) → f x ≡ k → IsNumbering f keys xs → more ≡ keys ++ k ∷ [] → ys ≡ xs ++ x ∷ [] → IsDistinct same_key more → IsNumbering f more ys
+  numbering_put keys more xs ys k x e h m y d =
       record {
         keyed = m ∙ (λ i. h.keyed i ++ sym e i ∷ []) ∙ sym (ap (map f) y ∙ map-append f xs (x ∷ []));
         distinct = d;
       }
 
-  pub same : (keys more : List HashKey) (xs ys : List X) → IsNumbering f keys xs → more ≡ keys → ys ≡ xs → IsDistinct same_key more → IsNumbering f more ys
-  same keys more xs ys h m y d = record { keyed = m ∙ h.keyed ∙ sym (ap (map f) y); distinct = d }
+  pub numbering_kept : (keys more : List HashKey) (xs ys : List X) → IsNumbering f keys xs → more ≡ keys → ys ≡ xs → IsDistinct same_key more → IsNumbering f more ys
+  numbering_kept keys more xs ys h m y d = record { keyed = m ∙ h.keyed ∙ sym (ap (map f) y); distinct = d }
 
   -- ---- distinct entries
   apart : (keys : List HashKey) (xs : List X) (i j : ℕ) (x y : X) → IsNumbering f keys xs → i < j → slice_get xs i ≡ Some x → slice_get xs j ≡ Some y → f x ≡ f y → ⊥

@@ -34,6 +34,7 @@ same_by_corner c d e = ap spot_by e
 abbrev numbers_by : Spot → HashKey
 numbers_by v = record { a = v.x; b = v.y; c = v.z; d = v.w; e = pos 0; f = pos 0 }
 
+-- corners that are the same point have the same hash key
 pub corner_numbers_by : (c d : SpacePoint) → spot_of c ≡ spot_of d → corner_numbers c ≡ corner_numbers d
 corner_numbers_by c d e = ap numbers_by e
 
@@ -59,6 +60,6 @@ module _ (ps qs : List Plane) (ls ms : List LineKey) (cs ds es : List SpacePoint
         end = entry_with es s.end _ (λ c. IsCorner edge.support edge.plane edge.after (spot_of c)) (λ x e. corner edge.plane edge.after k.end x h.end e) b;
       }
 
-  pub pushed : (done : List FaceEdge) (edge : FaceEdge) (ss ts : List Segment) (s : Segment) → ts ≡ ss ++ s ∷ [] → AllZip (IsSegmentOf ps ls cs) done ss → IsKeyed edge k → IsKeptOrPut k.plane ps qs → IsKeptOrPut k.line ls ms → IsKeptOrPut k.start cs ds → IsKeptOrPut k.end ds es → HasEntry qs s.plane (λ x. plane_numbers x ≡ plane_numbers k.plane) → HasEntry ms s.line (λ x. line_numbers x ≡ line_numbers k.line) → HasEntry ds s.start (λ x. corner_numbers x ≡ corner_numbers k.start) → HasEntry es s.end (λ x. corner_numbers x ≡ corner_numbers k.end) → AllZip (IsSegmentOf qs ms es) (done ++ edge ∷ []) ts
-  pushed done edge ss ts s e h y p l c d np nl nc nd =
+  pub segment_pushed : (done : List FaceEdge) (edge : FaceEdge) (ss ts : List Segment) (s : Segment) → ts ≡ ss ++ s ∷ [] → AllZip (IsSegmentOf ps ls cs) done ss → IsKeyed edge k → IsKeptOrPut k.plane ps qs → IsKeptOrPut k.line ls ms → IsKeptOrPut k.start cs ds → IsKeptOrPut k.end ds es → HasEntry qs s.plane (λ x. plane_numbers x ≡ plane_numbers k.plane) → HasEntry ms s.line (λ x. line_numbers x ≡ line_numbers k.line) → HasEntry ds s.start (λ x. corner_numbers x ≡ corner_numbers k.start) → HasEntry es s.end (λ x. corner_numbers x ≡ corner_numbers k.end) → AllZip (IsSegmentOf qs ms es) (done ++ edge ∷ []) ts
+  segment_pushed done edge ss ts s e h y p l c d np nl nc nd =
       subst (AllZip (IsSegmentOf qs ms es) (done ++ edge ∷ [])) (sym e) (pairs_push (IsSegmentOf qs ms es) done ss edge s (pairs_with (IsSegmentOf ps ls cs) (IsSegmentOf qs ms es) (kept p l c d) done ss h) (segment edge s y d np nl nc nd))

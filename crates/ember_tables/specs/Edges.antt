@@ -5,7 +5,7 @@ use Rattle.ember_model.specs.declared.face.Face.{Face}
 use Rattle.ember_model.specs.Valid.{IsValidPlane}
 use Rattle.ember_tables.specs.declared.face_edge.FaceEdge.{FaceEdge}
 
--- the first plane of the list, or p where it has none
+-- the first plane of the list, or p if it has none
 abbrev pub first_or : Plane → List Plane → Plane
 first_or p [] = p
 first_or p (e ∷ es) = e
@@ -15,7 +15,7 @@ abbrev pub last_or : Plane → List Plane → Plane
 last_or p [] = p
 last_or p (e ∷ es) = last_or e es
 
--- those of a face's edges that are behind the edge `before`; after the last one comes the first
+-- those of a face's edges that are after the edge `before`; after the last one comes the first
 abbrev pub edges_behind : ℕ → Plane → Plane → Plane → List Plane → List FaceEdge
 edges_behind face n first before [] = []
 edges_behind face n first before (e ∷ es) =
@@ -32,6 +32,7 @@ abbrev pub edges_of : ℕ → List Face → List FaceEdge
 edges_of face [] = []
 edges_of face (f ∷ fs) = edges_round face f.support f.edges ++ edges_of (face + 1) fs
 
+-- all planes are valid
 pub record IsValidEdge (e : FaceEdge) : Type 0 where
   pub support : IsValidPlane e.support
   pub before : IsValidPlane e.before

@@ -51,6 +51,7 @@ pub record AreTables (edges : List FaceEdge) (t : Tables) : Type 0 where
   pub valid : All IsValidPlane t.planes.items
 
 -- ---- faults
+-- the edge has no line, or one of its corners doesn't exist within the limits
 abbrev pub IsEdgeFault : FaceEdge → TableFault → Type 0
 IsEdgeFault s (NoLine n) = (n ≡ s.face) × (direction_of s.support s.plane ≡ zero_v)
 IsEdgeFault s (NoCorner n) =
@@ -58,9 +59,11 @@ IsEdgeFault s (NoCorner n) =
 IsEdgeFault s TooMany = ⊥
 IsEdgeFault s OutOfMemory = ⊥
 
+-- some edge has the fault
 abbrev pub HasFault : List FaceEdge → TableFault → Type 0
 HasFault edges e = (s : FaceEdge) × Contains edges s × IsEdgeFault s e
 
+-- some edge has the fault, or there are too many edges; or out-of-memory
 abbrev pub IsFault : List FaceEdge → TableFault → Type 0
 IsFault edges (NoLine n) = HasFault edges (NoLine n)
 IsFault edges (NoCorner n) = HasFault edges (NoCorner n)

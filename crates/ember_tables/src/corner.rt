@@ -15,12 +15,14 @@ const MOST_COORDINATE: u128 = (1 << 86) - 1;
 
 const MOST_WEIGHT: u128 = (1 << 75) - 1;
 
+// Whether the number is at most `most` in size.
 fn fits(n: i128, most: u128) -> bool
     ensures { IsTrue result ↔ Small most n }
 {
     n.unsigned_abs() <= most
 }
 
+// Whether the point is within the limits of a space point.
 fn is_small(m: &Meet) -> bool
     ensures { IsTrue result ↔ IsSpacePoint m.now.x m.now.y m.now.z m.now.w }
 {
@@ -52,7 +54,8 @@ fn space_point(m: &Meet) -> Option<SpacePoint>
     })
 }
 
-// The corner in which three planes meet, in lowest terms.
+// The corner in which three planes meet, in lowest terms. None if there isn't one, or if its
+// numbers are too large.
 pub fn corner_of(p: &Plane, q: &Plane, r: &Plane) -> Option<SpacePoint>
     requires p { IsValidPlane p.now }
     requires q { IsValidPlane q.now }

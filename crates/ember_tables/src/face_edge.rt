@@ -8,7 +8,7 @@ use ember_model::{Face, Plane};
 use std::alloc::Global;
 
 /// An edge of a face: the number of the face and its plane, the plane of the edge, and those of the
-/// edges before and after it on the way round the face.
+/// edges before and after it around the face.
 #[derive(Clone, Copy)]
 pub struct FaceEdge {
     pub face: usize,

@@ -18,6 +18,7 @@ pub struct HashKey {
     pub f: i128,
 }
 
+// The hash key of a plane.
 pub fn plane_numbers(p: &Plane) -> HashKey
     ensures { result ≡ plane_numbers p.now }
 {
@@ -31,6 +32,7 @@ pub fn plane_numbers(p: &Plane) -> HashKey
     }
 }
 
+// The hash key of a line.
 pub fn line_numbers(k: &LineKey) -> HashKey
     ensures { result ≡ line_numbers k.now }
 {
@@ -44,6 +46,7 @@ pub fn line_numbers(k: &LineKey) -> HashKey
     }
 }
 
+// The hash key of a corner.
 pub fn corner_numbers(c: &SpacePoint) -> HashKey
     ensures { result ≡ corner_numbers c.now }
 {

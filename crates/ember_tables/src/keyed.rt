@@ -19,6 +19,8 @@ pub struct Keyed {
     pub end: SpacePoint,
 }
 
+// The keys of an edge's plane and line, with its two corners. `NoLine` if the edge plane is
+// parallel to the face, and `NoCorner` if an end of the edge isn't one point within the limits.
 pub fn keys_of(edge: &FaceEdge) -> Result<Keyed, TableFault>
     requires { IsValidEdge edge.now }
     ensures ok { IfOk result (λ k. IsKeyed edge.now k) }

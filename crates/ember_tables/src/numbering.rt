@@ -9,7 +9,7 @@ use crate::hash_key::HashKey;
 use indexmap::IndexSet;
 use std::alloc::Global;
 
-/// Entries in the order in which they came, with a key for each.
+/// Entries in the order in which they were added, with a key for each.
 #[derive(Drop)]
 pub struct Numbering<T> {
     keys: IndexSet<HashKey>,
@@ -17,6 +17,7 @@ pub struct Numbering<T> {
 }
 
 impl<T: Copy> Numbering<T> {
+    // A numbering without entries.
     pub fn new(alloc: Global) -> Numbering<T>
         ensures numbering { (f : T → HashKey) → IsNumbering f result.keys.keys result.entries.items }
         ensures keys { result.keys.keys ≡ [] }

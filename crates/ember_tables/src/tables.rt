@@ -88,8 +88,9 @@ fn draft_of(alloc: Global, edges: &[FaceEdge]) -> Result<Draft, TableFault>
 
 const MOST_EDGES: usize = 2_147_483_647;
 
-/// The tables of the faces: their planes, lines and corners, each once, and their edges in order, by
-/// numbers.
+/// The tables of the faces: their planes, lines and corners, each once, and their edges in order,
+/// by numbers. It is a fault if an edge has no line, or no corner within the limits of a space
+/// point, or if there are too many edges: see [`TableFault`].
 pub fn tables_of(alloc: Global, faces: &[Face]) -> Result<Tables, TableFault>
     requires { All IsValidFace faces.now }
     ensures tables { IfOk result (λ t. AreTables (edges_of 0 faces.now) t) }

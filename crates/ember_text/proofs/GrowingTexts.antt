@@ -9,29 +9,16 @@ use Rattle.ember_model.specs.FaceFiles.{header, ending}
 use Rattle.ember_text.specs.Counted.{CountedText}
 use Rattle.ember_text.specs.Texts.{Writes}
 use Rattle.ember_text.specs.Documents.{AreGoodTexts, IsDocumentText, IsTextOf, file_of, joined, written_face}
-use Rattle.ember_text.proofs.Grown.{grown_push}
+use Rattle.ember_text.proofs.GrownBytes.{grown_push}
 
+-- one more region's text
 pub more_good_texts : (ks : List Kept) (i : ℕ) (d : Kept) (old : List ℕ) {mid new : List ℕ} → i < length ks → HasGrown (AreGoodTexts (map written_face (take i ks))) old mid → Writes (written_face (get_or ks i d)) mid new → HasGrown (AreGoodTexts (map written_face (take (i + 1) ks))) old new
 more_good_texts ks i d old {mid} {new} l g w =
     let k = get_or ks i d in
     let e : map written_face (take (i + 1) ks) ≡ map written_face (take i ks) ++ written_face k ∷ [] = ap (λ (xs : List Kept). map written_face xs) (take_more ks i d l) ∙ map-append written_face (take i ks) (k ∷ []) in
     subst (λ (fs : List Face). HasGrown (AreGoodTexts fs) old new) (sym e) (grown_push (map written_face (take i ks)) (written_face k) old g (record { more = w.text; is = w.is; holds = w.good }))
 
-pub ended_text : (ks : List Kept) (count : ℕ) {old mid new : List ℕ} → old ≡ header → HasGrown (AreGoodTexts (map written_face ks)) old mid → count ≡ length ks → new ≡ mid ++ ending count → IsDocumentText (map written_face ks) new
-ended_text ks count e g ec en =
-    record {
-      texts = g.more;
-      are_texts = g.holds;
-      is = en ∙ (λ i. (g.is ∙ ap (λ (bytes : List ℕ). bytes ++ g.more) e) i ++ ending ((ec ∙ sym (length-map ks written_face)) i)) ∙ append_assoc header g.more (ending (length (map written_face ks)));
-    }
-
-pub begun_text : (ks : List Kept) (count : ℕ) {old new : List ℕ} → old ≡ [] → HasGrown (AreGoodTexts (map written_face ks)) old new → count ≡ length ks → IsTextOf (map written_face ks) (record { bytes = new; count = count })
-begun_text ks count e g ec =
-    record {
-      are_texts = subst (AreGoodTexts (map written_face ks)) (sym (g.is ∙ ap (λ (bytes : List ℕ). bytes ++ g.more) e)) g.holds;
-      count = ec ∙ sym (length-map ks written_face);
-    }
-
+-- the header, the texts of the faces and the last line are the document
 pub file_is_document : (faces : List Face) (text : CountedText) {bytes : List ℕ} → bytes ≡ file_of text → IsTextOf faces text → IsDocumentText faces bytes
 file_is_document faces text e t =
     record { texts = text.bytes; are_texts = t.are_texts; is = e ∙ ap (λ n. header ++ (text.bytes ++ ending n)) t.count }
@@ -40,10 +27,12 @@ file_is_document faces text e t =
 abbrev pub bytes_of : List CountedText → List ℕ
 bytes_of texts = flat_map (λ (t : CountedText). t.bytes) texts
 
+-- one more text is copied
 pub one_copied : (rest left : List CountedText) (t : CountedText) (want old : List ℕ) {new : List ℕ} → old ++ bytes_of rest ≡ want → rest ≡ t ∷ left → new ≡ old ++ t.bytes → new ++ bytes_of left ≡ want
 one_copied rest left t want old {new} inv e f =
     ap (λ (bytes : List ℕ). bytes ++ bytes_of left) f ∙ append_assoc old t.bytes (bytes_of left) ∙ ap (λ (bytes : List ℕ). old ++ bytes) (sym (flat_map-cons (λ (u : CountedText). u.bytes) t left) ∙ sym (ap bytes_of e)) ∙ inv
 
+-- all texts are copied, and the last line is appended
 pub all_copied : (rest texts : List CountedText) (count : ℕ) (old : List ℕ) {new : List ℕ} → old ++ bytes_of rest ≡ header ++ bytes_of texts → rest ≡ [] → count ≡ (joined texts).count → new ≡ old ++ ending count → new ≡ file_of (joined texts)
 all_copied rest texts count old {new} inv e ec f =
     let all : old ≡ header ++ bytes_of texts = sym (append-nil old) ∙ ap (λ (ts : List CountedText). old ++ bytes_of ts) (sym e) ∙ inv in

@@ -14,7 +14,7 @@ use Rattle.ember_point.specs.Points.{spot_of}
 use Rattle.ember_poly.specs.Sides.{ring_edges}
 use Rattle.ember_poly.proofs.TurnedOutline.{from_end, turn_back, outline_turned}
 use Rattle.ember_text.specs.Texts.{IsEdgeText, edge_with, turned}
-use Rattle.ember_text.proofs.Grown.{grown_none, grown_push}
+use Rattle.ember_text.proofs.GrownBytes.{grown_none, grown_push}
 use Rattle.ember_text.proofs.Pairs.{zero_plane}
 
 -- the first edge, and those from the last one back to place n
@@ -23,6 +23,7 @@ turned_from [] n = []
 turned_from (e ∷ []) n = []
 turned_from (e ∷ d ∷ es) n = from_end e d.start ∷ turn_back e.start (drop n (e ∷ d ∷ es))
 
+-- turned edges, counted down to 1, are all of them
 pub turned_all : (rs : List RingEdge) → 2 ≤ length rs → turned_from rs 1 ≡ turned rs
 turned_all [] t = absurd (omega (arith, t))
 turned_all (e ∷ []) t = absurd (omega (arith, t))
@@ -44,6 +45,7 @@ two_turned (e ∷ f ∷ es) (x ∷ y ∷ ms) n u v p t s a b =
     let q : n ≡ length (f ∷ es) = omega (arith, s) in
     rw (q, a, b) (ap (λ xs. edge_with e y ∷ xs) (back_last (spot_of x) e (f ∷ es) x (y ∷ ms) (omega (arith, p))))
 
+-- the first two turned edges: the first edge, and the last one
 pub turned_begun : (es : List Plane) (ms : List Meet) (n : ℕ) (u v : Meet) (old : List ℕ) {mid new : List ℕ} → length ms ≡ length es → 2 ≤ length es → suc n ≡ length es → u ≡ get_or ms 0 u → v ≡ get_or ms 1 v → HasGrown (IsEdgeText (edge_with (get_or es 0 zero_plane) v)) old mid → HasGrown (IsEdgeText (edge_with (get_or es n zero_plane) u)) mid new → HasGrown (Each IsEdgeText (turned_from (ring_edges es ms) n)) old new
 turned_begun es ms n u v old {mid} {new} p t s a b g h =
     let one = edge_with (get_or es 0 zero_plane) v in let two = edge_with (get_or es n zero_plane) u in
@@ -68,6 +70,7 @@ more_turned (e ∷ f ∷ es) (u ∷ []) k m p l h = absurd (omega (arith, p))
 more_turned (e ∷ f ∷ es) (u ∷ v ∷ ms) k m p l h =
     ap (λ xs. edge_with e v ∷ xs) (back_more (spot_of u) (e ∷ f ∷ es) (u ∷ v ∷ ms) k m p l h)
 
+-- one more turned edge
 pub turned_more : (es : List Plane) (ms : List Meet) (n k j : ℕ) (m : Meet) (old : List ℕ) {mid new : List ℕ} → length ms ≡ length es → n < length es → n ≡ suc k → j ≡ suc k → m ≡ get_or ms j m → HasGrown (Each IsEdgeText (turned_from (ring_edges es ms) n)) old mid → HasGrown (IsEdgeText (edge_with (get_or es k zero_plane) m)) mid new → HasGrown (Each IsEdgeText (turned_from (ring_edges es ms) k)) old new
 turned_more es ms n k j m old {mid} {new} p l en ej h a b =
     let at : m ≡ get_or ms (suc k) m = subst (λ i. m ≡ get_or ms i m) ej h in
@@ -81,11 +84,13 @@ length-back end (e ∷ []) = refl
 length-back end (e ∷ d ∷ rs) =
     length-append (turn_back end (d ∷ rs)) (from_end e d.start ∷ []) ∙ omega (arith, length-back end (d ∷ rs))
 
+-- turning keeps the number of edges
 pub length-turned : (rs : List RingEdge) → length (turned rs) ≡ length rs
 length-turned [] = refl
 length-turned (e ∷ []) = refl
 length-turned (e ∷ d ∷ rs) = ap (λ n. suc n) (length-back e.start (d ∷ rs))
 
+-- the turned outline of a face is an outline of the flipped face
 pub outline_of_turned : (f : Face) (rs : List RingEdge) → 2 ≤ length rs → IsOutline f rs → IsOutline (flipped_face f) (turned rs)
 outline_of_turned f [] t o = absurd (omega (arith, t))
 outline_of_turned f (e ∷ []) t o = absurd (omega (arith, t))

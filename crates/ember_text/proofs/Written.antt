@@ -17,6 +17,7 @@ use Rattle.ember_poly.proofs.MovedOutline.{AreMoved, outline_moved}
 use Rattle.ember_text.specs.Texts.{IsEdgeText, IsGoodText, Writes, turned}
 use Rattle.ember_text.proofs.TurnedEdges.{length-turned, outline_of_turned}
 
+-- two ways to say that all members have a property
 pub each_of : {X : Type 0} (P : X → Type 0) (xs : List X) → All P xs → AllByRecursion P xs
 each_of P xs h = recursion_from_All P xs h
 
@@ -49,10 +50,11 @@ good f n rs count en vn o t ec each =
     }
 
 -- the line of the support plane, and those of the edges
-pub writes : (f : Face) (n : Plane) (rs : List RingEdge) (count : ℕ) (old : List ℕ) {mid new : List ℕ} → n ≡ f.support → IsValidPlane n → IsOutline f rs → 3 ≤ length rs → count ≡ length rs → mid ≡ old ++ support_line n count → HasGrown (Each IsEdgeText rs) mid new → Writes f old new
-writes f n rs count old en vn o t ec e g =
+pub face_is_written : (f : Face) (n : Plane) (rs : List RingEdge) (count : ℕ) (old : List ℕ) {mid new : List ℕ} → n ≡ f.support → IsValidPlane n → IsOutline f rs → 3 ≤ length rs → count ≡ length rs → mid ≡ old ++ support_line n count → HasGrown (Each IsEdgeText rs) mid new → Writes f old new
+face_is_written f n rs count old en vn o t ec e g =
     record { text = support_line n count ++ g.more; good = good f n rs count en vn o t ec g.holds; is = g.is ∙ ap (λ bytes. bytes ++ g.more) e ∙ append_assoc old (support_line n count) g.more }
 
+-- the support line and the turned edges are the text of the flipped face
 pub flipped_written : (f : Face) (n turned_n : Plane) (rs : List RingEdge) (count : ℕ) (old : List ℕ) {mid new : List ℕ} → n ≡ f.support → turned_n ≡ opposite n → IsValidPlane turned_n → IsOutline f rs → 3 ≤ length rs → count ≡ length rs → mid ≡ old ++ support_line turned_n count → HasGrown (Each IsEdgeText (turned rs)) mid new → Writes (flipped_face f) old new
 flipped_written f n turned_n rs count old en eo vn o t ec e g =
-    writes (flipped_face f) turned_n (turned rs) count old (eo ∙ ap opposite en) vn (outline_of_turned f rs (omega (arith, t)) o) (omega (arith, t, length-turned rs)) (ec ∙ sym (length-turned rs)) e g
+    face_is_written (flipped_face f) turned_n (turned rs) count old (eo ∙ ap opposite en) vn (outline_of_turned f rs (omega (arith, t)) o) (omega (arith, t, length-turned rs)) (ec ∙ sym (length-turned rs)) e g

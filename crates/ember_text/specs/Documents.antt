@@ -16,12 +16,12 @@ written_face k = seen k.ring k.flipped
 abbrev pub AreGoodTexts : List Face → List ℕ → Type 0
 AreGoodTexts fs bytes = Each IsGoodText fs bytes
 
--- the texts of these faces in order, and how many they are
+-- the texts of these faces in order, and the number of the faces
 pub record IsTextOf (fs : List Face) (text : CountedText) : Type 0 where
   pub are_texts : AreGoodTexts fs text.bytes
   pub count : text.count ≡ length fs
 
--- texts one after another
+-- texts one after another, and the number of their faces
 abbrev pub joined : List CountedText → CountedText
 joined texts = record { bytes = flat_map (λ t. t.bytes) texts; count = sum_by (λ t. t.count) texts }
 
@@ -35,6 +35,6 @@ pub record IsDocumentText (fs : List Face) (bytes : List ℕ) : Type 0 where
   pub are_texts : AreGoodTexts fs texts
   pub is : bytes ≡ header ++ (texts ++ ending (length fs))
 
--- the face file of the faces of which these are the texts
+-- the face file of the faces that have these texts
 abbrev pub IsDocumentOf : List CountedText → List ℕ → Type 0
 IsDocumentOf texts bytes = (fs : List Face) → IsTextOf fs (joined texts) → IsDocumentText fs bytes

@@ -1,4 +1,4 @@
--- Texts of faces at the end of what was there
+-- Texts of faces, and lists of bytes that have grown by them
 use Rattle.std.specs.Prelude.{◌≡◌, ℕ, Bool, if◌then◌else◌, List, [], ◌∷◌, ◌++◌}
 use Rattle.ember_leaf.specs.Written.{HasGrown}
 use Rattle.ember_model.specs.declared.face.Face.{Face}
@@ -17,10 +17,11 @@ abbrev pub Extends : List ℕ → List ℕ → Type 0
 Extends old new = HasGrown (λ more. Unit {0}) old new
 
 -- ---- edges
+-- an edge by its plane and its start corner
 abbrev pub edge_with : Plane → Meet → RingEdge
 edge_with p m = record { plane = p; start = spot_of m }
 
--- the edges as they go round seen from the other side
+-- the edges in the order in which they lead around the face seen from behind
 abbrev pub turned : List RingEdge → List RingEdge
 turned [] = []
 turned (e ∷ []) = e ∷ []

@@ -11,7 +11,8 @@ use crate::line::put_line;
 use ember_model::{OutOfMemory, Plane};
 use ember_point::{Meet, reduce};
 
-/// Appends the line of a support plane and the number of edges.
+/// Appends the line of a face's support plane `n`, with its number of edges. If memory is short,
+/// nothing is appended.
 pub fn put_support(n: &Plane, count: usize, out: &mut Vec<u8>) -> Result<(), OutOfMemory>
     requires { IsValidPlane n.now }
     ensures ok { OnOk result (out.new.items ≡ out.old.items ++ support_line n.now count) }
@@ -27,7 +28,7 @@ pub fn put_support(n: &Plane, count: usize, out: &mut Vec<u8>) -> Result<(), Out
     put_line(b'f', &numbers, out)
 }
 
-// The line of an edge and its start corner, which it gives in lowest terms.
+// Appends the line of an edge: its edge plane, and its start corner in lowest terms.
 fn put_edge(edge: &Plane, corner: &Meet, out: &mut Vec<u8>) -> Result<(), OutOfMemory>
     requires { IsValidPlane edge.now }
     ensures ok { OnOk result (
@@ -48,7 +49,8 @@ fn put_edge(edge: &Plane, corner: &Meet, out: &mut Vec<u8>) -> Result<(), OutOfM
     put_line(b'e', &numbers, out)
 }
 
-/// Appends the lines of all edges, in order.
+/// Appends the lines of all edges, in order. `corners[i]` is the start of edge `i`. If memory is
+/// short, only some of the bytes may be appended.
 pub fn put_edges(edges: &[Plane], corners: &[Meet], out: &mut Vec<u8>) -> Result<(), OutOfMemory>
     requires paired { length corners.now ≡ length edges.now }
     requires valid { All IsValidPlane edges.now }
@@ -62,8 +64,9 @@ pub fn put_edges(edges: &[Plane], corners: &[Meet], out: &mut Vec<u8>) -> Result
     Ok(())
 }
 
-/// Appends the lines of all edges as they go round seen from the other side: the first one first,
-/// and each starts where it ended.
+/// Appends the lines of all edges in the order in which they lead around the face seen from behind:
+/// the first edge first, then the others from the last one on. Each starts at the corner at which
+/// it ended. If memory is short, only some of the bytes may be appended.
 pub fn put_turned_edges(
     edges: &[Plane],
     corners: &[Meet],

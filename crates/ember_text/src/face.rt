@@ -24,7 +24,7 @@ fn opposite_plane(p: &Plane) -> Plane
     }
 }
 
-// The lines of the face.
+// Appends the lines of the face.
 fn put_face(r: &Ring, out: &mut Vec<u8>) -> Result<(), OutOfMemory>
     ensures ok { OnOk result (Writes r.now out.old.items out.new.items) }
     ensures err { OnErr result (Extends out.old.items out.new.items) }
@@ -34,7 +34,7 @@ fn put_face(r: &Ring, out: &mut Vec<u8>) -> Result<(), OutOfMemory>
     put_edges(edges, corners, out)
 }
 
-// The lines of the face with the opposite front.
+// Appends the lines of the face with the opposite front.
 fn put_flipped_face(r: &Ring, out: &mut Vec<u8>) -> Result<(), OutOfMemory>
     ensures ok { OnOk result (Writes (flipped_face r.now) out.old.items out.new.items) }
     ensures err { OnErr result (Extends out.old.items out.new.items) }
@@ -44,7 +44,7 @@ fn put_flipped_face(r: &Ring, out: &mut Vec<u8>) -> Result<(), OutOfMemory>
     put_turned_edges(edges, corners, out)
 }
 
-// The lines of the face, or of the same with the opposite front.
+// Appends the lines of the face, or, if `flipped`, of the same face with the opposite front.
 fn put_seen(r: &Ring, flipped: bool, out: &mut Vec<u8>) -> Result<(), OutOfMemory>
     ensures ok { OnOk result (Writes (seen r.now flipped) out.old.items out.new.items) }
     ensures err { OnErr result (Extends out.old.items out.new.items) }
@@ -57,8 +57,8 @@ fn put_seen(r: &Ring, flipped: bool, out: &mut Vec<u8>) -> Result<(), OutOfMemor
 }
 
 /// Appends the lines of the face: its support plane, and then its edges in order with their start
-/// corners in lowest terms. Flipped, it is the face with the opposite front. If memory is short,
-/// nothing is appended.
+/// corners in lowest terms. If `flipped`, it is the face with the opposite front. The only error is
+/// out-of-memory; then nothing is appended.
 pub fn face_text(
     _alloc: Global,
     r: &Ring,

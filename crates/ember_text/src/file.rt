@@ -6,21 +6,22 @@ use ember_model::OutOfMemory;
 use itoa::Buffer;
 use std::alloc::Global;
 
-/// The beginning of a face file: its header.
+/// The beginning of a face file: its header. The only error is out-of-memory.
 pub fn begin_file(alloc: Global) -> Result<Vec<u8>, OutOfMemory>
     ensures { IfOk result (λ text. text.items ≡ header) }
 {
     Vec::from_slice(alloc, b"ember 1\n")
 }
 
-/// Appends the last line of a face file, with the number of its faces.
+/// Appends the last line of a face file, with the number of its faces. The only error is
+/// out-of-memory.
 pub fn end_file(count: u32, out: &mut Vec<u8>) -> Result<(), OutOfMemory>
     ensures { OnOk result (out.new.items ≡ out.old.items ++ ending count) }
 {
     put_ending(u64::from(count), out)
 }
 
-// The last line, with this number of faces.
+// Appends the last line, with this number of faces. The only error is out-of-memory.
 pub fn put_ending(count: u64, out: &mut Vec<u8>) -> Result<(), OutOfMemory>
     ensures { OnOk result (out.new.items ≡ out.old.items ++ ending count) }
 {

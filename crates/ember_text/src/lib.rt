@@ -1,4 +1,4 @@
-//! The text of faces.
+//! The text of faces, and the face file of the written regions: the document.
 #![tactic(auto)]
 
 mod edges;

@@ -9,8 +9,8 @@ use itoa::write_digits;
 // The longest line: its keyword, eight numbers, each with a space, and the line feed.
 const LONGEST: usize = 330;
 
-// Writes the digits so that they end at `end`, and returns where they start. Those past 64 bits go
-// one at a time.
+// Writes the digits of `n` so that they end at `end`, and returns where they start. It takes off
+// one digit at a time until the rest fits into 64 bits.
 fn write_size(n: u128, line: &mut [u8], end: usize) -> usize
     requires { (39 ≤ end) × (end ≤ length line.old) }
     ensures start { result + length (decimal n) ≡ end }
@@ -26,7 +26,8 @@ fn write_size(n: u128, line: &mut [u8], end: usize) -> usize
     write_digits(left as u64, line, at)
 }
 
-// The number, with its sign if it is negative.
+// Writes the number, with a minus if it is negative, so that it ends at `end`. Returns where it
+// starts.
 fn write_signed(n: i128, line: &mut [u8], end: usize) -> usize
     requires { (40 ≤ end) × (end ≤ length line.old) }
     ensures start { (result ≤ end) × (end ≤ result + 40) }
@@ -40,7 +41,7 @@ fn write_signed(n: i128, line: &mut [u8], end: usize) -> usize
     start - 1
 }
 
-// A space and the number.
+// Writes a space and the number so that they end at `end`. Returns where they start.
 fn write_field(n: i128, line: &mut [u8], end: usize) -> usize
     requires { (41 ≤ end) × (end ≤ length line.old) }
     ensures start { (result ≤ end) × (end ≤ result + 41) }

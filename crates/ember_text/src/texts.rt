@@ -9,7 +9,7 @@ use ember_model::OutOfMemory;
 use std::alloc::Global;
 use std::marker::Model;
 
-/// The texts of some faces, one after another, and how many these are.
+/// The texts of some faces, one after another, and the number of these faces.
 #[derive(Drop)]
 pub struct FacesText {
     bytes: Vec<u8>,
@@ -25,14 +25,14 @@ impl Model for FacesText {
 }
 
 impl FacesText {
-    /// The texts.
+    /// The bytes of the texts.
     pub fn bytes(&self) -> &[u8]
         ensures { result.now ≡ self.now.bytes }
     {
         &self.bytes
     }
 
-    /// How many they are.
+    /// The number of the faces.
     pub fn count(&self) -> u64
         ensures { result ≡ self.now.count }
     {
@@ -41,6 +41,7 @@ impl FacesText {
 }
 
 /// Appends the texts of written regions, in order, each with the opposite front if it is flipped.
+/// The only error is out-of-memory.
 pub fn put_faces(alloc: Global, kept: &[Kept], out: &mut Vec<u8>) -> Result<(), OutOfMemory>
     ensures { OnOk result (
         HasGrown (AreGoodTexts (map written_face kept.now)) out.old.items out.new.items) }
@@ -51,7 +52,8 @@ pub fn put_faces(alloc: Global, kept: &[Kept], out: &mut Vec<u8>) -> Result<(), 
     Ok(())
 }
 
-/// The texts of written regions, in order, each with the opposite front if it is flipped.
+/// The texts of written regions, in order, each with the opposite front if it is flipped. The only
+/// error is out-of-memory.
 pub fn faces_text(alloc: Global, kept: &[Kept]) -> Result<FacesText, OutOfMemory>
     ensures { IfOk result (λ text. IsTextOf (map written_face kept.now) text) }
 {

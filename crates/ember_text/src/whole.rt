@@ -1,4 +1,4 @@
-// The face file of written regions.
+// The document: the face file of written regions.
 ghost use Rattle.std.specs.Prelude.{◌≡◌, map, IfOk};
 ghost use Rattle.ember_text.specs.Documents.{IsDocumentOf, IsDocumentText, file_of, joined, written_face};
 
@@ -12,7 +12,9 @@ use std::alloc::{AllocError, Global};
 const LONGEST_ENDING: usize = 25;
 
 /// The face file of written regions: the header, their faces in order, each with the opposite
-/// front if it is flipped, and the last line with their number.
+/// front if it is flipped, and the last line with their number. The only error is out-of-memory.
+/// Only tests call this; the program makes the text of each leaf at once and joins the texts
+/// (`document_of`).
 pub fn document(alloc: Global, kept: &[Kept]) -> Result<Vec<u8>, OutOfMemory>
     ensures { IfOk result (λ text. IsDocumentText (map written_face kept.now) text.items) }
 {
@@ -22,7 +24,8 @@ pub fn document(alloc: Global, kept: &[Kept]) -> Result<Vec<u8>, OutOfMemory>
     Ok(text)
 }
 
-/// How many faces these texts have together. Memory is short if 64 bits are too few.
+/// The number of faces of all these texts. An overflow of 64 bits would be reported as
+/// out-of-memory. It can't occur: each face has some bytes of text in memory.
 pub fn face_count(texts: &[FacesText]) -> Result<u64, OutOfMemory>
     ensures { IfOk result (λ count. count ≡ (joined texts.now).count) }
 {
@@ -37,7 +40,7 @@ pub fn face_count(texts: &[FacesText]) -> Result<u64, OutOfMemory>
 }
 
 /// The face file of the faces with these texts: the header, the texts in order, and the last line
-/// with the number of all faces.
+/// with the number of all faces. The only error is out-of-memory.
 pub fn document_of(alloc: Global, texts: Vec<FacesText>) -> Result<Vec<u8>, OutOfMemory>
     ensures bytes { IfOk result (λ file. file.items ≡ file_of (joined texts.items)) }
     ensures document { IfOk result (λ file. IsDocumentOf texts.items file.items) }

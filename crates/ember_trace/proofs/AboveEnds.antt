@@ -36,7 +36,7 @@ use Rattle.ember_trace.specs.declared.near_triangle.NearTriangle.{NearTriangle}
 use Rattle.ember_trace.specs.declared.path.Path.{Path}
 use Rattle.ember_trace.specs.Paths.{coordinate, side_at_start, side_at_end, side_after_second, slid_to_start, floor_at_end}
 use Rattle.ember_trace.specs.Crossings.{signed_crossing, all_behind, interval_along, is_on_last, may_end, last_segment}
-use Rattle.ember_trace.proofs.Places.{coordinate_small}
+use Rattle.ember_trace.proofs.Coordinates.{coordinate_small}
 use Rattle.ember_trace.proofs.Slides.{slid_once}
 use Rattle.ember_trace.proofs.PathVertices.{close_to, moved_weight}
 use Rattle.ember_trace.proofs.VertexSides.{value_bound, close_sign}

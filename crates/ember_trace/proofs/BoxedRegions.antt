@@ -17,7 +17,7 @@ use Rattle.ember_box.specs.Boxes.{Cell}
 use Rattle.ember_box.specs.Near.{tri_at}
 use Rattle.ember_box.specs.Regions.{Wall, walls, AtWall, cut, outside, in_high, stays, CuttingPlane, AtCuttingPlane, splits, whole, IsRegions}
 use Rattle.ember_trace.specs.Boxed.{LiesIn}
-use Rattle.ember_trace.proofs.FilledFaces.{inside_below, fills}
+use Rattle.ember_trace.proofs.FilledFaces.{inside_below, plane_at_inside_point_cuts}
 
 -- what holds of what each member gives, if the member has a property
 pub each_every : {X Y : Type 0} {R : X → List Y → Type 0} (P : X → Type 0) (Q : Y → Type 0) → ((x : X) (ys : List Y) → P x → R x ys → Every Q ys) → {xs : List X} {ys : List Y} → Each R xs ys → Every P xs → Every Q ys
@@ -35,7 +35,7 @@ not_past f p uncut aside v i =
   where
     all : (u : Spot) → is_inside f u ≡ true → pos 0 <ℤ value_at p v → is_positive (value_at p u) ≡ true
     all u j l =
-        by_sign (value_at p u) (λ m. positive_in m) (λ z. absurd (uncut (fills f p v u i j l z))) (λ m. absurd (uncut (record { low = record { at = u; inside = j; holds = negative_in m }; high = record { at = v; inside = i; holds = positive_in l } })))
+        by_sign (value_at p u) (λ m. positive_in m) (λ z. absurd (uncut (plane_at_inside_point_cuts f p v u i j l z))) (λ m. absurd (uncut (record { low = record { at = u; inside = j; holds = negative_in m }; high = record { at = v; inside = i; holds = positive_in l } })))
 
 at_wall : (w : Wall) (Q : Spot → Type 0) (f : Face) (fs : List Face) → Everywhere f Q → AtWall w f fs → Every (λ g. Everywhere g (λ v. Q v × NotPast w v)) fs
 at_wall w Q f fs h (cut c) =
@@ -61,15 +61,15 @@ at_walls Q (step {x = w} {xs = ws} {c = gs} r c) h =
     both x y = λ i. x i && y i
 
 -- ---- cutting planes
-at_blade : (b : CuttingPlane) (Q : Spot → Type 0) (f : Face) (fs : List Face) → Everywhere f Q → AtCuttingPlane b f fs → Every (λ g. Everywhere g Q) fs
-at_blade b Q f fs h (splits m c) =
+at_cutting_plane : (b : CuttingPlane) (Q : Spot → Type 0) (f : Face) (fs : List Face) → Everywhere f Q → AtCuttingPlane b f fs → Every (λ g. Everywhere g Q) fs
+at_cutting_plane b Q f fs h (splits m c) =
     (record { holds = λ v i. h.holds v (inside_below f b.plane v i).0 }, (record { holds = λ v i. h.holds v (inside_below f (opposite b.plane) v i).0 }, tt))
-at_blade b Q f fs h (whole m) = (h, tt)
+at_cutting_plane b Q f fs h (whole m) = (h, tt)
 
-at_blades : {bs : List CuttingPlane} {fs gs : List Face} (Q : Spot → Type 0) → Chain (λ b. Each (AtCuttingPlane b)) bs fs gs → Every (λ f. Everywhere f Q) fs → Every (λ g. Everywhere g Q) gs
-at_blades Q done h = h
-at_blades Q (step {x = b} r c) h =
-    at_blades Q c (each_every (λ f. Everywhere f Q) (λ g. Everywhere g Q) (λ f fs e a. at_blade b Q f fs e a) r h)
+at_cutting_planes : {bs : List CuttingPlane} {fs gs : List Face} (Q : Spot → Type 0) → Chain (λ b. Each (AtCuttingPlane b)) bs fs gs → Every (λ f. Everywhere f Q) fs → Every (λ g. Everywhere g Q) gs
+at_cutting_planes Q done h = h
+at_cutting_planes Q (step {x = b} r c) h =
+    at_cutting_planes Q c (each_every (λ f. Everywhere f Q) (λ g. Everywhere g Q) (λ f fs e a. at_cutting_plane b Q f fs e a) r h)
 
 -- ---- regions
 pub every_at : {X : Type 0} (P : X → Type 0) (xs : List X) (i : ℕ) (x : X) → Every P xs → slice_get xs i ≡ Some x → P x
@@ -95,10 +95,12 @@ region_point c ts i j fs f r e v h = (every_at (λ g. Everywhere g (λ v. Q v ×
     begun false = (record { holds = λ v h. h }, tt)
 
     all : Every (λ g. Everywhere g (λ v. Q v × PastNone (walls c) v)) fs
-    all = at_blades (λ v. Q v × PastNone (walls c) v) r.cuts (at_walls Q r.is_start (begun (is_flat (tri_at ts i))))
+    all = at_cutting_planes (λ v. Q v × PastNone (walls c) v) r.cuts (at_walls Q r.is_start (begun (is_flat (tri_at ts i))))
 
+-- the inside of a region lies in that of its triangle
 pub region_inside : (c : Cell) (ts : List Tri) (i j : ℕ) (fs : List Face) (f : Face) → IsRegions c ts i fs → slice_get fs j ≡ Some f → (v : Spot) → is_inside f v ≡ true → is_inside (face_of (tri_at ts i)) v ≡ true
 region_inside c ts i j fs f r e v h = (region_point c ts i j fs f r e v h).0
 
+-- the regions of a box lie in it
 pub regions_lie_in : (c : Cell) (ts : List Tri) (i j : ℕ) (fs : List Face) (f : Face) → IsRegions c ts i fs → slice_get fs j ≡ Some f → LiesIn c f
 regions_lie_in c ts i j fs f r e = record { holds = λ v h. (region_point c ts i j fs f r e v h).1 }

@@ -55,6 +55,7 @@ generic_of p t w g i = off_clear p t (off X) (off Y) (off Z)
     off k =
         record { weight = w; plane = g (support_of t) (support_sized t i); first = g _ (line_sized t.a t.b k i.a i.b); second = g _ (line_sized t.b t.c k i.b i.c); third = g _ (line_sized t.c t.a k i.c i.a) }
 
+-- a generic point is clear of all valid triangles
 pub generic_clear : (p : Spot) (ts : List Tri) → pos 0 <ℤ p.w → IsGeneric p → All IsValidTri ts → AreClear (faces_of ts) p
 generic_clear p ts w g i = clear_faces p ts (each ts i)
   where
@@ -76,6 +77,7 @@ replaced_across s x y v w z i =
     let e = solve 3 (λ l k w. l ⊗ (w ⊗ k) ≈ k ⊗ (l ⊗ w)) cancels s.low v w in let f = solve 3 (λ l k w. l ⊗ (w ⊗ k) ≈ k ⊗ (l ⊗ w)) cancels s.high v w in
     record { from = omega (arith, linear, mul_le z i.from, e); to = omega (arith, linear, mul_le z i.to, f) }
 
+-- a box that contains two points contains the first with a coordinate of the second
 pub has_with : (c : Cell) (a : Axis) (u v : Spot) → HasPoint c u → HasPoint c v → HasPoint c (with_along a u v)
 has_with c a u v f g = by a
   where
@@ -96,6 +98,7 @@ has_with c a u v f g = by a
     by Y = record { weight = w; on_x = scaled_across (b c X) v.w u.x u.w zv f.on_x; on_y = replaced_across (b c Y) u.y v.y u.w v.w zu g.on_y; on_z = scaled_across (b c Z) v.w u.z u.w zv f.on_z }
     by Z = record { weight = w; on_x = scaled_across (b c X) v.w u.x u.w zv f.on_x; on_y = scaled_across (b c Y) v.w u.y u.w zv f.on_y; on_z = replaced_across (b c Z) u.z v.z u.w v.w zu g.on_z }
 
+-- a box contains the start of its paths
 pub has_start : (c : Cell) (n : ℕ) → 2 ^ 27 ≤ n → HasPoint c (stop_at_start c.lo n)
 has_start c n l =
     let w = start_weight c.lo n l in let x = start_above c.lo n X l in let y = start_above c.lo n Y l in let z = start_above c.lo n Z l in
@@ -109,17 +112,21 @@ has_start c n l =
 
 -- ---- the vertices
 module _ (k : Axis) (lo : Vector) (a b c : Meet) (q : Spot) (n : ℕ) (s : AreStops k lo a b c q n) where
+  -- the start of a path is generic
   pub start_generic : IsGeneric (stop_at_start lo n)
   start_generic h i z = reference_level lo h i (sym (start_sign k lo a b c q n s h i) ∙ ap sgn z)
 
+  -- the end of the first segment is generic
   pub first_generic : IsGeneric (stop_after_first k lo q n)
   first_generic h i z =
       reference_level lo h i (both_zero _ _ (sym (first_sign k lo a b c q n s h i) ∙ ap sgn z)).1
 
+  -- and so is the end of the second
   pub second_generic : IsGeneric (stop_after_second k lo q n)
   second_generic h i z =
       reference_level lo h i (both_zero _ _ (sym (second_sign k lo a b c q n s h i) ∙ ap sgn z)).1
 
+-- the end of a path close to a region's point is generic
 pub end_generic : (k : Axis) (a b c : Meet) (q : Spot) → IsClose k a b c q → (turn : Sign → Sign) (e : Spot) → IsEnd k a b c turn e → IsGeneric e
 end_generic k a b c q close turn e end h i z =
     let p = both_zero _ _ (sym (end.side h i) ∙ ap sgn z) in

@@ -235,7 +235,7 @@ module _ (f : Face) (g h : Plane) (u v w : Spot) (j : Joins f g h u v w) where
       let d = dot_zero (cross (normal g) (normal e)) (normal n) (main_zero n X z) (main_zero n Y z) (main_zero n Z z) in
       let l = leads in absurd (omega (arith, linear, l, t, d))
 
-  pub no_normal : (p : Plane) → IsZeroAt p u v w → along p (main_axis n) ≡ pos 0 → NoNormal p
+  no_normal : (p : Plane) → IsZeroAt p u v w → along p (main_axis n) ≡ pos 0 → NoNormal p
   no_normal p z e = no_entry n p (main_axis n) (parallel p z) slope e
 
   -- it is 0 at the whole face
@@ -267,7 +267,7 @@ module _ (f : Face) (g h : Plane) (u v w : Spot) (j : Joins f g h u v w) where
   one_below es o i p at z =
       not_among p o.first.start es z o.round (o.all i p at (record { one = u; other = v; holds_one = edge_at f p u at_u.closed z.first; holds_other = edge_at f p v at_v.closed z.second; different = different }))
 
-  pub close_inside : (es : List RingEdge) → IsOutline f es → (k : ℤ) → pos 0 <ℤ k → is_inside f (close_to k u v w) ≡ true
+  close_inside : (es : List RingEdge) → IsOutline f es → (k : ℤ) → pos 0 <ℤ k → is_inside f (close_to k u v w) ≡ true
   close_inside es o k l =
       let q = close_to k u v w in
       inside_on f q (positive_in weight) flat ∙ all_below f.edges q below
@@ -300,6 +300,7 @@ joined f g h i ps a b c ms o =
       apart = λ p x y z e. no_normal f g h (spot_of a) (spot_of b) (spot_of c) j p (record { first = x; second = y; third = z }) e;
     }
 
+-- the first three corners of a face
 pub first_corners : (f : Face) (ms : List Meet) (a b c : Meet) → AreCorners f ms → slice_get ms 0 ≡ Some a → slice_get ms 1 ≡ Some b → slice_get ms 2 ≡ Some c → AreFirst f (spot_of a) (spot_of b) (spot_of c)
 first_corners f ms a b c k ea eb ec = by k.planes ms ea eb ec k.paired k.outline
   where

@@ -38,13 +38,13 @@ walls_keep : (P : Face → Type 0) → Keeps P → {ws : List Wall} {fs gs : Lis
 walls_keep P k done h = h
 walls_keep P k (step {x = w} r c) h = walls_keep P k c (each_every P P (λ f fs e a. wall_keeps P k w f fs e a) r h)
 
-blade_keeps : (P : Face → Type 0) → Keeps P → (b : CuttingPlane) (f : Face) (fs : List Face) → P f → AtCuttingPlane b f fs → Every P fs
-blade_keeps P k b f fs h (splits m c) = (k f b.plane h, (k f (opposite b.plane) h, tt))
-blade_keeps P k b f fs h (whole m) = (h, tt)
+cutting_plane_keeps : (P : Face → Type 0) → Keeps P → (b : CuttingPlane) (f : Face) (fs : List Face) → P f → AtCuttingPlane b f fs → Every P fs
+cutting_plane_keeps P k b f fs h (splits m c) = (k f b.plane h, (k f (opposite b.plane) h, tt))
+cutting_plane_keeps P k b f fs h (whole m) = (h, tt)
 
-blades_keep : (P : Face → Type 0) → Keeps P → {bs : List CuttingPlane} {fs gs : List Face} → Chain (λ b. Each (AtCuttingPlane b)) bs fs gs → Every P fs → Every P gs
-blades_keep P k done h = h
-blades_keep P k (step {x = b} r c) h = blades_keep P k c (each_every P P (λ f fs e a. blade_keeps P k b f fs e a) r h)
+cutting_planes_keep : (P : Face → Type 0) → Keeps P → {bs : List CuttingPlane} {fs gs : List Face} → Chain (λ b. Each (AtCuttingPlane b)) bs fs gs → Every P fs → Every P gs
+cutting_planes_keep P k done h = h
+cutting_planes_keep P k (step {x = b} r c) h = cutting_planes_keep P k c (each_every P P (λ f fs e a. cutting_plane_keeps P k b f fs e a) r h)
 
 -- ---- after the turn of a cutting plane
 -- if an inside point of g lies in the closed face of the cutting plane, its plane doesn't cut g
@@ -68,7 +68,7 @@ after_all (done {a = fs}) = none_yet fs
     none_yet [] = tt
     none_yet (f ∷ fs) = (tt, none_yet fs)
 after_all (step {x = b} {a = fs} {c = gs} r c) =
-    both (IsUncut b) _ gs (blades_keep (IsUncut b) (uncut_kept b) c (each_every (λ f. Unit {0}) (IsUncut b) (λ f fs e a. after_turn b f fs a) r (any fs))) (after_all c)
+    both (IsUncut b) _ gs (cutting_planes_keep (IsUncut b) (uncut_kept b) c (each_every (λ f. Unit {0}) (IsUncut b) (λ f fs e a. after_turn b f fs a) r (any fs))) (after_all c)
   where
     any : (fs : List Face) → Every (λ g. Unit {0}) fs
     any [] = tt
@@ -88,19 +88,19 @@ at_range P g (suc n) a (suc d) h l =
     let e : (a + 1) + d ≡ a + suc d = omega arith in
     subst (λ (i : ℕ). AllByRecursion P (g i)) e (at_range P g n (a + 1) d (each-back P (g a) (flat_map g (range_with_len (a + 1) n)) h) (omega arith))
 
-blades_in : (P : CuttingPlane → Type 0) (ts : List Tri) (i m : ℕ) → AllByRecursion P (cutting_planes ts i) → m < length ts → AllByRecursion P (cutting_planes_at ts i m)
-blades_in P ts i m h l =
+cutting_planes_in : (P : CuttingPlane → Type 0) (ts : List Tri) (i m : ℕ) → AllByRecursion P (cutting_planes ts i) → m < length ts → AllByRecursion P (cutting_planes_at ts i m)
+cutting_planes_in P ts i m h l =
     let e : 0 + m ≡ m = omega arith in
     subst (λ (j : ℕ). AllByRecursion P (cutting_planes_at ts i j)) e (at_range P (λ j. cutting_planes_at ts i j) (length ts) 0 m h l)
 
-abbrev blade_of : Tri → CuttingPlane
-blade_of u = record { face = face_of u; plane = support_of u }
+abbrev cutting_plane_of : Tri → CuttingPlane
+cutting_plane_of u = record { face = face_of u; plane = support_of u }
 
 -- a triangle that isn't in the plane of triangle i has its own plane for a cutting plane
-own_blade : (P : CuttingPlane → Type 0) (ts : List Tri) (i m : ℕ) → is_flat (tri_at ts i) ≡ false → is_flat (tri_at ts m) ≡ false → is_coplanar (tri_at ts i) (tri_at ts m) ≡ false → AllByRecursion P (cutting_planes_at ts i m) → P (blade_of (tri_at ts m))
-own_blade P ts i m fi fm apart h = by (nat_eq m i) (is_flat (tri_at ts m)) (is_coplanar (tri_at ts i) (tri_at ts m)) refl fm apart h
+own_cutting_plane : (P : CuttingPlane → Type 0) (ts : List Tri) (i m : ℕ) → is_flat (tri_at ts i) ≡ false → is_flat (tri_at ts m) ≡ false → is_coplanar (tri_at ts i) (tri_at ts m) ≡ false → AllByRecursion P (cutting_planes_at ts i m) → P (cutting_plane_of (tri_at ts m))
+own_cutting_plane P ts i m fi fm apart h = by (nat_eq m i) (is_flat (tri_at ts m)) (is_coplanar (tri_at ts i) (tri_at ts m)) refl fm apart h
   where
-    by : (s f c : Bool) → nat_eq m i ≡ s → f ≡ false → c ≡ false → AllByRecursion P (elim s [ true ↦ [] | false ↦ elim f [ true ↦ [] | false ↦ map (λ p. record { face = face_of (tri_at ts m); plane = p }) (elim c [ true ↦ edges_of (tri_at ts m) | false ↦ support_of (tri_at ts m) ∷ [] ]) ] ]) → P (blade_of (tri_at ts m))
+    by : (s f c : Bool) → nat_eq m i ≡ s → f ≡ false → c ≡ false → AllByRecursion P (elim s [ true ↦ [] | false ↦ elim f [ true ↦ [] | false ↦ map (λ p. record { face = face_of (tri_at ts m); plane = p }) (elim c [ true ↦ edges_of (tri_at ts m) | false ↦ support_of (tri_at ts m) ∷ [] ]) ] ]) → P (cutting_plane_of (tri_at ts m))
     by true f c e ef ec h =
         let same = eqb-true m i e in
         absurd (clash (self_coplanar (tri_at ts i) fi) (ap (λ (j : ℕ). is_coplanar (tri_at ts i) (tri_at ts j)) (sym same) ∙ apart))
@@ -125,6 +125,7 @@ pub record IsCutOut (ts : List Tri) (t : Tri) (f : Face) : Type 0 where
   pub misses : (m : ℕ) → m < length ts → is_flat (tri_at ts m) ≡ false → is_coplanar t (tri_at ts m) ≡ false → (v : Spot) → is_inside f v ≡ true → is_in_closed (face_of (tri_at ts m)) v ≡ true → ⊥
   pub shares : (m : ℕ) → m < length ts → is_coplanar t (tri_at ts m) ≡ true → (v w : Spot) → is_inside f v ≡ true → is_in_closed (face_of (tri_at ts m)) v ≡ true → is_inside f w ≡ true → is_inside (face_of (tri_at ts m)) w ≡ true
 
+-- a region of a triangle is cut out by the other triangles
 pub region_cut : (c : Cell) (ts : List Tri) (i j : ℕ) (fs : List Face) (f : Face) → IsRegions c ts i fs → slice_get fs j ≡ Some f → IsCutOut ts (tri_at ts i) f
 unfolding face_of
 region_cut c ts i j fs f r e = record { support = own.0; normal = own.1; misses = missed; shares = shared }
@@ -140,14 +141,14 @@ region_cut c ts i j fs f r e = record { support = own.0; normal = own.1; misses 
     begun false e = ((refl, e), tt)
 
     own : P f
-    own = every_at P fs j f (blades_keep P (λ f p h. h) r.cuts (walls_keep P (λ f p h. h) r.is_start (begun (is_flat t) refl))) e
+    own = every_at P fs j f (cutting_planes_keep P (λ f p h. h) r.cuts (walls_keep P (λ f p h. h) r.is_start (begun (is_flat t) refl))) e
 
     after : AllByRecursion (λ b. IsUncut b f) (cutting_planes ts i)
     after = every_at (λ g. AllByRecursion (λ b. IsUncut b g) (cutting_planes ts i)) fs j f (after_all r.cuts) e
 
     missed : (m : ℕ) → m < length ts → is_flat (tri_at ts m) ≡ false → is_coplanar t (tri_at ts m) ≡ false → (v : Spot) → is_inside f v ≡ true → is_in_closed (face_of (tri_at ts m)) v ≡ true → ⊥
     missed m l fm apart v h x =
-        let u = tri_at ts m in let b = own_blade (λ b. IsUncut b f) ts i m own.1 fm apart (blades_in (λ b. IsUncut b f) ts i m after l) in
+        let u = tri_at ts m in let b = own_cutting_plane (λ b. IsUncut b f) ts i m own.1 fm apart (cutting_planes_in (λ b. IsUncut b f) ts i m after l) in
         clash (lies_flat t u f v own.0 own.1 fm h (uncut_flat f (support_of u) (b v h x) v h (closed_parts (face_of u) v x).1)) apart
 
     shared : (m : ℕ) → m < length ts → is_coplanar t (tri_at ts m) ≡ true → (v w : Spot) → is_inside f v ≡ true → is_in_closed (face_of (tri_at ts m)) v ≡ true → is_inside f w ≡ true → is_inside (face_of (tri_at ts m)) w ≡ true
@@ -156,5 +157,5 @@ region_cut c ts i j fs f r e = record { support = own.0; normal = own.1; misses 
         by : (s : Bool) → nat_eq m i ≡ s → is_inside (face_of (tri_at ts m)) w ≡ true
         by true o = subst (λ (n : ℕ). is_inside (face_of (tri_at ts n)) w ≡ true) (sym (eqb-true m i o)) (region_inside c ts i j fs f r e w k)
         by false o =
-            let b = own_edges (λ b. IsUncut b f) ts i m o (on_plane t (tri_at ts m) within).normal_u within (blades_in (λ b. IsUncut b f) ts i m after l) in
+            let b = own_edges (λ b. IsUncut b f) ts i m o (on_plane t (tri_at ts m) within).normal_u within (cutting_planes_in (λ b. IsUncut b f) ts i m after l) in
             shared_inside t (tri_at ts m) f v w own.0 within (b.0 v h x) (b.1.0 v h x) (b.1.1.0 v h x) h x k

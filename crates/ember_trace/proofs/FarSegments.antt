@@ -130,6 +130,7 @@ module _ (c : Cell) (k : Axis) (a b d : Meet) (q : Spot) (n : ℕ) (s : AreStops
     missed =
         by_sign (value_at n' q) (λ l. aside (same_side Pos (λ x. cc) (sgn_pos l))) on_plane (λ l. aside (same_side Neg (λ x. cc) (sgn_neg l)))
 
+  -- the last segment doesn't cross a valid triangle that isn't near the box
   pub last_far : (t : Tri) → IsValidTri t → is_near c t ≡ false → leg (face_of t) e p ≡ pos 0
   last_far t v far = by (flat_case t)
     where

@@ -51,8 +51,9 @@ inside_past f x y hx hy =
     let i = inside_parts f x hx in let j = inside_parts f y hy in
     eventually_map (λ n h. inside_on f (past n y x) (positive_in (let w = h.0 in omega (arith, linear, w))) (let e = value_past f.support n y x in let z = zero_times (value_at f.support y) (pos n) j.1 in let o = i.1 in omega (arith, linear, e, z, o)) ∙ h.1) (eventually_both (eventually_pos (neg_ℤ x.w) j.0) (edges_past f.edges y x j.2))
 
-pub fills : (f : Face) (p : Plane) (x y : Spot) → is_inside f x ≡ true → is_inside f y ≡ true → pos 0 <ℤ value_at p x → value_at p y ≡ pos 0 → Cuts f p
-fills f p x y hx hy px zy =
+-- a plane that is above one inside point and contains another cuts the face
+pub plane_at_inside_point_cuts : (f : Face) (p : Plane) (x y : Spot) → is_inside f x ≡ true → is_inside f y ≡ true → pos 0 <ℤ value_at p x → value_at p y ≡ pos 0 → Cuts f p
+plane_at_inside_point_cuts f p x y hx hy px zy =
     let far = inside_past f x y hx hy in let n = far.from in
     let e = value_past p n y x in let z = zero_times (value_at p y) (pos n) zy in
     record { low = record { at = past n y x; inside = far.holds n (le_refl n); holds = negative_in (omega (arith, linear, e, z, px)) }; high = record { at = x; inside = hx; holds = positive_in px } }
@@ -60,7 +61,7 @@ fills f p x y hx hy px zy =
 -- what a plane doesn't cut lies on it if one inside point does
 pub uncut_flat : (f : Face) (p : Plane) → (Cuts f p → ⊥) → (v : Spot) → is_inside f v ≡ true → value_at p v ≡ pos 0 → Everywhere f (λ u. value_at p u ≡ pos 0)
 uncut_flat f p uncut v i z =
-    record { holds = λ u j. by_sign (value_at p u) (λ l. absurd (uncut (fills f p u v j i l z))) (λ e. e) (λ l. absurd (uncut (turned (fills f (opposite p) u v j i (let e = opposite_value p u in omega (arith, linear, e, l)) (let e = opposite_value p v in omega (arith, linear, e, z)))))) }
+    record { holds = λ u j. by_sign (value_at p u) (λ l. absurd (uncut (plane_at_inside_point_cuts f p u v j i l z))) (λ e. e) (λ l. absurd (uncut (turned (plane_at_inside_point_cuts f (opposite p) u v j i (let e = opposite_value p u in omega (arith, linear, e, l)) (let e = opposite_value p v in omega (arith, linear, e, z)))))) }
   where
     turned : Cuts f (opposite p) → Cuts f p
     turned c =

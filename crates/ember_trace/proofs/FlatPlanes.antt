@@ -1,4 +1,4 @@
--- A plane that is 0 at all inside points of a face is parallel to its support plane: so a triangle
+-- A plane that is 0 at all inside points of a face is plane_over_face_is_parallel to its support plane: so a triangle
 -- in it lies in the plane of the face.
 use Rattle.std.proofs.Common.{◌≡◌, ◌≢◌, refl, sym, ap, subst, ◌∙◌, ⊎_elim, arith, ℕ, le_refl, true, false, not, ◌&&◌, List, [], ◌∷◌, ℤ, pos, ◌+ℤ◌, ◌-ℤ◌, ◌*ℤ◌, neg_ℤ, ◌<ℤ◌, ◌≤ℤ◌}
 use Rattle.ember_algebra.specs.Vector.{Vector}
@@ -57,9 +57,9 @@ no_slope f p v d h z flat =
     let o = z.holds (beside n v d) (inside_on f (beside n v d) (positive_in (omega (arith, linear, w))) (omega (arith, linear, e, zs, flat)) ∙ r.1) in
     let g = value_beside p n v d in let zp = zero_times (value_at p v) (pos n) (z.holds v h) in omega (arith, linear, o, g, zp)
 
--- ---- parallel planes
-pub parallel : (f : Face) (p : Plane) (v : Spot) → is_inside f v ≡ true → Everywhere f (λ u. value_at p u ≡ pos 0) → Parallel f.support p
-parallel f p v h z =
+-- ---- plane_over_face_is_parallel planes
+pub plane_over_face_is_parallel : (f : Face) (p : Plane) (v : Spot) → is_inside f v ≡ true → Everywhere f (λ u. value_at p u ≡ pos 0) → Parallel f.support p
+plane_over_face_is_parallel f p v h z =
     let n = f.support in
     let a = no_slope f p v (record { x = pos 0; y = n.c; z = neg_ℤ n.b }) h z (solve 3 (λ a b c. a ⊗ num (pos 0) ⊕ b ⊗ c ⊕ c ⊗ neg b ≈ num (pos 0)) cancels n.a n.b n.c) in
     let b = no_slope f p v (record { x = neg_ℤ n.c; y = pos 0; z = n.a }) h z (solve 3 (λ a b c. a ⊗ neg c ⊕ b ⊗ num (pos 0) ⊕ c ⊗ a ≈ num (pos 0)) cancels n.a n.b n.c) in
@@ -120,7 +120,7 @@ pub lies_flat : (t u : Tri) (f : Face) (v : Spot) → f.support ≡ support_of t
 unfolding is_coplanar
 lies_flat t u f v s ft fu h z =
     let i = inside_parts f v h in
-    let l = subst (λ (n : Plane). Parallel n (support_of u)) s (parallel f (support_of u) v h z) in
+    let l = subst (λ (n : Plane). Parallel n (support_of u)) s (plane_over_face_is_parallel f (support_of u) v h z) in
     let tv = sym (ap (λ (n : Plane). value_at n v) s) ∙ i.1 in
     let some = λ (a : (support_of u).a ≡ pos 0) (b : (support_of u).b ≡ pos 0) (c : (support_of u).c ≡ pos 0). clash (flat_in u (record { a = a; b = b; c = c })) fu in
     let x = ap is_zero (shared (support_of t) (support_of u) v (spot_of_corner u.a) l i.0 tv (z.holds v h) (corner_a u) some) in
@@ -128,6 +128,7 @@ lies_flat t u f v s ft fu h z =
     let w = ap is_zero (shared (support_of t) (support_of u) v (spot_of_corner u.c) l i.0 tv (z.holds v h) (corner_c u) some) in
     λ i. not (ft i) && (not (fu i) && (x i && (y i && w i)))
 
+-- a triangle that isn't flat is coplanar with itself
 pub self_coplanar : (t : Tri) → is_flat t ≡ false → is_coplanar t t ≡ true
 unfolding is_coplanar
 self_coplanar t ft =

@@ -74,8 +74,10 @@ level side f k z h =
 pub level_first : (w : Path) (f : NearTriangle) → is_nil (sgn (along f.support w.first)) ≡ true → all_behind (λ p. side_at_start w p) (edge_planes f.tri w.first) ≡ false
 level_first w f h = level (λ p. side_at_start w p) f w.first (empty_at_start w) h
 
+-- if the normal has no entry along the second axis, the second segment doesn't run through the triangle
 pub level_second : (w : Path) (f : NearTriangle) → is_nil (sgn (along f.support w.second)) ≡ true → all_behind (λ p. side_after_first w p) (edge_planes f.tri w.second) ≡ false
 level_second w f h = level (λ p. side_after_first w p) f w.second (empty_after_first w) h
 
+-- if the normal has no entry along the main axis, the last segment doesn't run through the triangle
 pub level_last : (w : Path) (f : NearTriangle) → is_nil (sgn (along f.support w.main)) ≡ true → all_behind (λ p. side_at_end w p) (edge_planes f.tri w.main) ≡ false
 level_last w f h = level (λ p. side_at_end w p) f w.main (empty_at_end w) h

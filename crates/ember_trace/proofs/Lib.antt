@@ -12,7 +12,7 @@ pub mod LevelTriangles
 pub mod MeshSums
 pub mod OneSides
 pub mod SegmentsPast
-pub mod Places
+pub mod Coordinates
 pub mod RaySides
 pub mod Roots
 pub mod RegionEnds

@@ -11,7 +11,7 @@ use Rattle.ember_model.specs.Faces.{face_of}
 use Rattle.ember_model.specs.Meshes.{faces_of, of_mesh, meshes, HasMesh}
 use Rattle.ember_law.specs.Counts.{added, with_more}
 use Rattle.ember_law.proofs.FlatTriangles.{IsFlat}
-use Rattle.ember_law.proofs.Tallies.{tally, map_same, of_one, entry, tally_more, tally_none}
+use Rattle.ember_law.proofs.Tallies.{tally, map_same, of_one, mesh_total_is_entry, tally_more, tally_none}
 use Rattle.ember_trace.specs.declared.near_triangle.NearTriangle.{NearTriangle}
 use Rattle.ember_trace.specs.NearTriangles.{tri_of}
 use Rattle.ember_trace.specs.Crossings.{taken, counted}
@@ -20,6 +20,7 @@ use Rattle.ember_trace.specs.Crossings.{taken, counted}
 abbrev pub LeavesFlat : (Face → ℤ) → Type 0
 LeavesFlat f = (t : Tri) → IsFlat t → f (face_of t) ≡ pos 0
 
+-- functions of faces that agree on the faces of a list of triangles have the same tally
 pub tally_same : (f g : Face → ℤ) → LeavesFlat f → LeavesFlat g → (ts : List Tri) → All (λ t. f (face_of t) ≡ g (face_of t)) ts → tally f ts ≡ tally g ts
 unfolding of_one
 tally_same f g zf zg ts h = map_same (λ m. total f (faces_of (of_mesh m ts))) (λ m. total g (faces_of (of_mesh m ts))) each meshes
@@ -28,7 +29,7 @@ tally_same f g zf zg ts h = map_same (λ m. total f (faces_of (of_mesh m ts))) (
     one m = λ i d l. ap (λ (v : ℤ). cond (nat_eq (get_or ts i d).mesh m) v (pos 0)) (h i d l)
 
     each : (m : ℕ) → total f (faces_of (of_mesh m ts)) ≡ total g (faces_of (of_mesh m ts))
-    each m = entry f zf m ts ∙ total_same_all (of_one f zf m) (of_one g zg m) ts (one m) ∙ sym (entry g zg m ts)
+    each m = mesh_total_is_entry f zf m ts ∙ total_same_all (of_one f zf m) (of_one g zg m) ts (one m) ∙ sym (mesh_total_is_entry g zg m ts)
 
 -- triangles whose face adds nothing may be left out
 pub tally_kept : (f : Face → ℤ) → LeavesFlat f → (p : Tri → Bool) (ts : List Tri) → All (λ t. p t ≡ false → f (face_of t) ≡ pos 0) ts → tally f (filter p ts) ≡ tally f ts
@@ -48,7 +49,7 @@ tally_kept f zf p ts h = map_same (λ m. total f (faces_of (of_mesh m (filter p 
 
     each : (m : ℕ) → total f (faces_of (of_mesh m (filter p ts))) ≡ total f (faces_of (of_mesh m ts))
     each m =
-        entry f zf m (filter p ts) ∙ total-filter (of_one f zf m) p ts ∙ total_same_all (λ t. cond (p t) (of_one f zf m t) (pos 0)) (of_one f zf m) ts (λ i d l. kept m (get_or ts i d) (h i d l)) ∙ sym (entry f zf m ts)
+        mesh_total_is_entry f zf m (filter p ts) ∙ total-filter (of_one f zf m) p ts ∙ total_same_all (λ t. cond (p t) (of_one f zf m t) (pos 0)) (of_one f zf m) ts (λ i d l. kept m (get_or ts i d) (h i d l)) ∙ sym (mesh_total_is_entry f zf m ts)
 
 -- ---- one sum after another
 added_twice : (xs : List ℤ) (f g : ℕ → ℤ) (ms : List ℕ) → added (added xs (map f ms)) (map g ms) ≡ added xs (map (λ m. f m +ℤ g m) ms)
@@ -57,6 +58,7 @@ added_twice (x ∷ xs) f g [] = refl
 added_twice (x ∷ xs) f g (m ∷ ms) =
     let e : x +ℤ f m +ℤ g m ≡ x +ℤ (f m +ℤ g m) = omega (arith, linear) in let r = added_twice xs f g ms in λ i. e i ∷ r i
 
+-- to add two tallies, one after the other, is to add the tally of the sum
 pub tally_both : (f g : Face → ℤ) (ts : List Tri) (old : List ℤ) → added (added old (tally f ts)) (tally g ts) ≡ added old (tally (λ h. f h +ℤ g h) ts)
 tally_both f g ts old =
     added_twice old (λ m. total f (faces_of (of_mesh m ts))) (λ m. total g (faces_of (of_mesh m ts))) meshes ∙ ap (λ (vs : List ℤ). added old vs) (map_same (λ m. total f (faces_of (of_mesh m ts)) +ℤ total g (faces_of (of_mesh m ts))) (λ m. total (λ h. f h +ℤ g h) (faces_of (of_mesh m ts))) (λ m. sym (total-add f g (faces_of (of_mesh m ts)))) meshes)
@@ -69,7 +71,7 @@ module _ (g : Face → ℤ) (flat : LeavesFlat g) where
 
   at_front : (m : ℕ) (t : Tri) (ts : List Tri) → total g (faces_of (of_mesh m (t ∷ []))) +ℤ total g (faces_of (of_mesh m ts)) ≡ total g (faces_of (of_mesh m (t ∷ ts)))
   at_front m t ts =
-      let a = entry g flat m (t ∷ []) in let b = entry g flat m ts in let c = entry g flat m (t ∷ ts) in omega (arith, linear, a, b, c)
+      let a = mesh_total_is_entry g flat m (t ∷ []) in let b = mesh_total_is_entry g flat m ts in let c = mesh_total_is_entry g flat m (t ∷ ts) in omega (arith, linear, a, b, c)
 
   pushed : (old : List ℤ) (t : Tri) (ts : List Tri) → HasMesh 64 t → added (with_more old t.mesh (g (face_of t))) (tally g ts) ≡ added old (tally g (t ∷ ts))
   pushed old t ts m =
@@ -82,6 +84,7 @@ module _ (g : Face → ℤ) (flat : LeavesFlat g) where
       let e = All-head (λ f. g (face_of f.tri) ≡ neg_ℤ (less f)) f fs h in
       taken_legs less fs (All-tail (λ f. g (face_of f.tri) ≡ neg_ℤ (less f)) f fs h) (with_more old f.tri.mesh (neg_ℤ (less f))) ∙ ap (λ (z : ℤ). added (with_more old f.tri.mesh z) (tally g (map tri_of fs))) (sym e) ∙ pushed old f.tri (map tri_of fs) f.mesh
 
+  -- to add each triangle's number to its mesh's count is to add the tally
   pub counted_rays : (more : Tri → ℤ) (ts : List Tri) → All (λ t. g (face_of t) ≡ more t) ts → All (HasMesh 64) ts → (old : List ℤ) → counted more ts old ≡ added old (tally g ts)
   counted_rays more [] h m old = sym (tally_none g old)
   counted_rays more (t ∷ ts) h m old =

@@ -14,6 +14,7 @@ pub starts_in : (c : Cell) (f : NearTriangle) (lo : List ℤ) → lo ≡ c.lo.x 
 starts_in c f lo e s =
     record { start = s ∙ ap (λ (at : List ℤ). sgn (value_at f.support (reference_of at))) e }
 
+-- one more near triangle
 pub more_facets : (ts : List Tri) (i : ℕ) (d : Tri) (c : Cell) (fs new : List NearTriangle) (f : NearTriangle) → i < length ts → AreNearTriangles (take i ts) c fs → f.tri ≡ get_or ts i d → HasReferenceSide c f → new ≡ fs ++ f ∷ [] → AreNearTriangles (take (i + 1) ts) c new
 more_facets ts i d c fs new f l h t s e =
     record {
@@ -21,5 +22,6 @@ more_facets ts i d c fs new f l h t s e =
       starts = subst (λ (gs : List NearTriangle). All (HasReferenceSide c) gs) (sym e) (All-push (HasReferenceSide c) fs f h.starts s);
     }
 
+-- there are as many near triangles as triangles
 pub facets_length : (ts : List Tri) (c : Cell) (fs : List NearTriangle) → AreNearTriangles ts c fs → length fs ≡ length ts
 facets_length ts c fs h = sym (length-map fs tri_of) ∙ ap (λ (us : List Tri). length us) h.tris

@@ -28,7 +28,7 @@ use Rattle.ember_model.proofs.SignTests.{and_parts, negative_in, negative_out, p
 use Rattle.ember_model.proofs.PlaneValues.{value_moved, value_scaled}
 use Rattle.ember_model.proofs.Hits.{inside_on, inside_parts, closed_parts}
 use Rattle.ember_law.specs.Laws.{MissesFace}
-use Rattle.ember_law.proofs.Separation.{mix, value_mix, separate}
+use Rattle.ember_law.proofs.Separation.{mix, value_mix, missed_face_has_separating_edge}
 use Rattle.ember_law.proofs.Vectors.{segments_law}
 use Rattle.ember_law.proofs.CornerSides.{main_entry}
 use Rattle.ember_box.specs.Boxes.{Cell}
@@ -78,6 +78,7 @@ record IsHeld (u : Tri) (p q : Spot) (a k : Axis) (e d : ℤ) : Type 0 where
 abbrev pub OneSign : ℤ → ℤ → Type 0
 OneSign x y = ((pos 0 <ℤ x) × (pos 0 <ℤ y)) ⊎ ((x <ℤ pos 0) × (y <ℤ pos 0))
 
+-- the value of a plane at a point moved along an axis
 pub value_beside : (h : Plane) (m : ℕ) (p : Spot) (k : Axis) (e : ℤ) → value_at h (moved (scaled (pos m) p) k e) ≡ value_at h p *ℤ pos m +ℤ e *ℤ along h k
 value_beside h m p k e =
     let x = value_moved h (scaled (pos m) p) k e in let y = value_scaled (pos m) h p in let z = solve 2 (λ m v. m ⊗ v ≈ v ⊗ m) cancels (pos m) (value_at h p) in
@@ -85,7 +86,7 @@ value_beside h m p k e =
 
 held_apart : (u : Tri) (p q : Spot) (a k : Axis) (e d : ℤ) → pos 0 <ℤ p.w → pos 0 <ℤ q.w → MissesFace p q (face_of u) → IsHeld u p q a k e d
 held_apart u p q a k e d wp wq h =
-    let s = separate (face_of u) p q wp wq h in
+    let s = missed_face_has_separating_edge (face_of u) p q wp wq h in
     record {
       plane = s.plane;
       low = s.low;
@@ -179,7 +180,7 @@ module _ (ts ns : List Tri) (count : ℕ) (c : Cell) (scene : IsScene ts count) 
         all_missed p q a b e d ts (held_all ts (subst (λ (us : List Tri). All P us) (sym is_near_list) (λ i d' l. subst P (get_or_default ns i no_tri d' l) (held_near i l))))
 
     -- clear points beside the region, on one side of it and close enough, have one vector
-    pub one_vector : Eventually (λ m. AreClear (faces_of ts) (moved (scaled (pos m) p) a e) → AreClear (faces_of ts) (moved (scaled (pos m) q) b d) → (x y : Axis) → vector x ts (moved (scaled (pos m) p) a e) ≡ vector y ts (moved (scaled (pos m) q) b d))
+    one_vector : Eventually (λ m. AreClear (faces_of ts) (moved (scaled (pos m) p) a e) → AreClear (faces_of ts) (moved (scaled (pos m) q) b d) → (x y : Axis) → vector x ts (moved (scaled (pos m) p) a e) ≡ vector y ts (moved (scaled (pos m) q) b d))
     one_vector =
         record { from = missed_all.from + 1; holds = λ m l cp cq x y. segments_law ts count scene x y (moved (scaled (pos m) p) a e) (moved (scaled (pos m) q) b d) (weight p a e (has p hp).weight m (omega arith)) (weight q b d (has q hq).weight m (omega arith)) cp cq (missed_all.holds m (omega arith)) }
       where
@@ -188,7 +189,7 @@ module _ (ts ns : List Tri) (count : ℕ) (c : Cell) (scene : IsScene ts count) 
             let x = moved_weight (scaled (pos m) v) k e in let z : pos 0 <ℤ pos m = omega (arith, ints, l) in let y = pos_mul z w in omega (arith, linear, x, y)
 
     -- so what one of them sees, the other has
-    pub sees_one : (bound : ℕ) (xs : List ℤ) → ((m : ℕ) → bound * 1 < m → HasWindings ts k (moved (scaled (pos m) q) b d) xs) → Eventually (λ m. AreClear (faces_of ts) (moved (scaled (pos m) p) a e) → (x : Axis) → vector x ts (moved (scaled (pos m) p) a e) ≡ xs)
+    sees_one : (bound : ℕ) (xs : List ℤ) → ((m : ℕ) → bound * 1 < m → HasWindings ts k (moved (scaled (pos m) q) b d) xs) → Eventually (λ m. AreClear (faces_of ts) (moved (scaled (pos m) p) a e) → (x : Axis) → vector x ts (moved (scaled (pos m) p) a e) ≡ xs)
     sees_one bound xs s =
         record { from = one_vector.from + bound * 1 + 1; holds = λ m l cp x. let g = s m (omega arith) in one_vector.holds m (omega arith) cp g.clear x k ∙ g.counts_are }
 
@@ -201,6 +202,7 @@ module _ (ts ns : List Tri) (count : ℕ) (c : Cell) (scene : IsScene ts count) 
       sign =
           by_sign (e *ℤ along (support_of t) k) (λ l. inl (l, l)) (λ z. absurd (⊎_elim (λ x. nz x) (λ x. slope x) (zero_product z))) (λ l. inr (l, l))
 
+  -- a region has one pair of winding numbers on its sides
   pub one_sides : (before after before' after' : List ℤ) → IsSides ts f before after → IsSides ts f before' after' → (before ≡ before') × (after ≡ after')
   one_sides before after before' after' s s' =
       (one_value s.at s'.at s.inside s'.inside (neg_ℤ (pos 1)) (λ z. cc) s.bound s'.bound before before' (λ m l. s.sees_before 1 m (le_refl 1) l) (λ m l. s'.sees_before 1 m (le_refl 1) l), one_value s.at s'.at s.inside s'.inside (pos 1) (λ z. absurd (omega (arith, linear, z))) s.bound s'.bound after after' (λ m l. s.sees_after 1 m (le_refl 1) l) (λ m l. s'.sees_after 1 m (le_refl 1) l))

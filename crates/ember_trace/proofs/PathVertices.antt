@@ -26,30 +26,35 @@ close_to n u v w = plus_s (plus_s (scaled (n *ℤ n) u) (scaled n v)) w
 abbrev pub with_along : Axis → Spot → Spot → Spot
 with_along a u v = moved (scaled v.w u) a (u.w *ℤ along_point a v -ℤ v.w *ℤ along_point a u)
 
+-- a plane's value at a point close to u, as a polynomial
 pub value_close : (h : Plane) (n : ℤ) (u v w : Spot) → value_at h (close_to n u v w) ≡ horner n (value_at h u) (value_at h v ∷ value_at h w ∷ [])
 value_close h n u v w =
     solve 17 (λ a b c d n x y z w p q r s i j k l. a ⊗ (n ⊗ n ⊗ x ⊕ n ⊗ p ⊕ i) ⊕ b ⊗ (n ⊗ n ⊗ y ⊕ n ⊗ q ⊕ j) ⊕ c ⊗ (n ⊗ n ⊗ z ⊕ n ⊗ r ⊕ k) ⊖ d ⊗ (n ⊗ n ⊗ w ⊕ n ⊗ s ⊕ l) ≈ ((a ⊗ x ⊕ b ⊗ y ⊕ c ⊗ z ⊖ d ⊗ w) ⊗ n ⊕ (a ⊗ p ⊕ b ⊗ q ⊕ c ⊗ r ⊖ d ⊗ s)) ⊗ n ⊕ (a ⊗ i ⊕ b ⊗ j ⊕ c ⊗ k ⊖ d ⊗ l)) cancels h.a h.b h.c h.d n u.x u.y u.z u.w v.x v.y v.z v.w w.x w.y w.z w.w
 
+-- the value of a plane at u with its coordinate along an axis replaced by that of v
 pub value_with : (h : Plane) (a : Axis) (u v : Spot) → value_at h (with_along a u v) ≡ v.w *ℤ value_at h u +ℤ (u.w *ℤ along_point a v -ℤ v.w *ℤ along_point a u) *ℤ along h a
 value_with h a u v =
     let by = u.w *ℤ along_point a v -ℤ v.w *ℤ along_point a u in
     value_moved h (scaled v.w u) a by ∙ ap (λ (z : ℤ). z +ℤ by *ℤ along h a) (value_scaled v.w h u)
 
+-- a move along an axis keeps the weight
 pub moved_weight : (s : Spot) (a : Axis) (by : ℤ) → (moved s a by).w ≡ s.w
 moved_weight s X by = refl
 moved_weight s Y by = refl
 moved_weight s Z by = refl
 
+-- a point with a coordinate of another has a positive weight
 pub weight_with : (a : Axis) (u v : Spot) → pos 0 <ℤ u.w → pos 0 <ℤ v.w → pos 0 <ℤ (with_along a u v).w
 weight_with a u v p q =
     let e = moved_weight (scaled v.w u) a (u.w *ℤ along_point a v -ℤ v.w *ℤ along_point a u) in let m = pos_mul q p in omega (arith, linear, e, m)
 
--- a plane with no entry along the axis doesn't tell the two points apart
+-- a plane whose normal has no entry along the axis has the same side at both points
 pub level_with : (h : Plane) (a : Axis) (u v : Spot) → along h a ≡ pos 0 → value_at h (with_along a u v) ≡ v.w *ℤ value_at h u
 level_with h a u v e =
     let by = u.w *ℤ along_point a v -ℤ v.w *ℤ along_point a u in
     value_with h a u v ∙ ap (λ (n : ℤ). v.w *ℤ value_at h u +ℤ by *ℤ n) e ∙ solve 2 (λ v b. v ⊕ b ⊗ num (pos 0) ≈ v) cancels (v.w *ℤ value_at h u) by
 
+-- a point and the same with another coordinate differ along one axis alone
 pub differ_with : (a : Axis) (u v : Spot) → DifferAlong a u (with_along a u v)
 differ_with X u v = let e = solve 3 (λ v w y. v ⊗ w ⊗ y ≈ w ⊗ (v ⊗ y)) cancels v.w u.w in (e u.y, e u.z)
 differ_with Y u v = let e = solve 3 (λ v w y. v ⊗ w ⊗ y ≈ w ⊗ (v ⊗ y)) cancels v.w u.w in (e u.x, e u.z)
@@ -62,6 +67,7 @@ pinned h X q = record { a = pos 0; b = q.w *ℤ h.b; c = q.w *ℤ h.c; d = q.w *
 pinned h Y q = record { a = q.w *ℤ h.a; b = pos 0; c = q.w *ℤ h.c; d = q.w *ℤ h.d -ℤ h.b *ℤ q.y }
 pinned h Z q = record { a = q.w *ℤ h.a; b = q.w *ℤ h.b; c = pos 0; d = q.w *ℤ h.d -ℤ h.c *ℤ q.z }
 
+-- a plane's value at a point with a coordinate of another, as that of a pinned plane
 pub value_pinned : (h : Plane) (a : Axis) (r q : Spot) → value_at h (with_along a r q) ≡ value_at (pinned h a q) r
 value_pinned h X r q =
     solve 10 (λ a b c d x y z w u v. a ⊗ (v ⊗ x ⊕ (w ⊗ u ⊖ v ⊗ x)) ⊕ b ⊗ (v ⊗ y) ⊕ c ⊗ (v ⊗ z) ⊖ d ⊗ (v ⊗ w) ≈ num (pos 0) ⊗ x ⊕ v ⊗ b ⊗ y ⊕ v ⊗ c ⊗ z ⊖ (v ⊗ d ⊖ a ⊗ u) ⊗ w) cancels h.a h.b h.c h.d r.x r.y r.z r.w q.x q.w

@@ -23,9 +23,9 @@ use Rattle.ember_trace.specs.Paths.{inside_side}
 use Rattle.ember_trace.specs.Crossings.{signed_crossing, is_pierced, counted, AreRayCounts}
 use Rattle.ember_trace.proofs.VertexSides.{IsClose}
 use Rattle.ember_trace.proofs.Corners.{first_corners}
-use Rattle.ember_trace.proofs.SegmentCrossings.{IsEnd, edges_behind, exchanged, or_zero}
+use Rattle.ember_trace.proofs.SegmentCrossings.{IsEnd, edges_behind, nested_cond_is_and, or_zero}
 use Rattle.ember_trace.proofs.ClearVertices.{generic_clear, end_generic}
-use Rattle.ember_trace.proofs.RegionEnds.{find, before_end, after_end}
+use Rattle.ember_trace.proofs.RegionEnds.{first_corners_found, before_end, after_end}
 use Rattle.ember_trace.proofs.MeshSums.{counted_rays, added_none}
 
 module _ (k : Axis) (a b d : Meet) (q : Spot) (close : IsClose k a b d q) (turn : Sign → Sign) (e : Spot) (end : IsEnd k a b d turn e) where
@@ -40,19 +40,20 @@ module _ (k : Axis) (a b d : Meet) (q : Spot) (close : IsClose k a b d q) (turn 
       let side = end.side n (support_sized t v) in
       let m = ap is_neg (sgn-mul (value_at n e) (along n k)) ∙ (λ i. is_neg (times (side i) s)) in
       let g = edges_behind (λ h. inside_side h a b d) t k e v (λ h i z. end.side h i ∙ or_zero (inside_side h a b d) (turn (sgn (along h k))) (ap turn (ap sgn z) ∙ end.level)) in
-      crossing_is k e t end.weight ∙ (λ i. cond (m i && g i) (sign-number (along n k) i) (pos 0)) ∙ exchanged (is_neg (times (or_sign (inside_side n a b d) (turn s)) s)) (is_pierced t k a b d) (number s)
+      crossing_is k e t end.weight ∙ (λ i. cond (m i && g i) (sign-number (along n k) i) (pos 0)) ∙ nested_cond_is_and (is_neg (times (or_sign (inside_side n a b d) (turn s)) s)) (is_pierced t k a b d) (number s)
 
-  pub end_sees : (ts : List Tri) → All IsValidTri ts → All (HasMesh 64) ts → HasWindings ts k e (counted ray ts (replicate 64 (pos 0)))
+  end_sees : (ts : List Tri) → All IsValidTri ts → All (HasMesh 64) ts → HasWindings ts k e (counted ray ts (replicate 64 (pos 0)))
   end_sees ts valid numbered =
       record {
         clear = generic_clear e ts end.weight (end_generic k a b d q close turn e end) valid;
         counts_are = sym (counted_rays (λ f. crossing f k e) (flat_crossing k e) ray ts (λ i t l. ray_crossing (get_or ts i t) (valid i t l)) numbered (replicate 64 (pos 0)) ∙ added_none _);
       }
 
+-- the counts of the rays directly before and after a region are its sides
 pub ray_sides : (ts : List Tri) (f : Face) (s : Sides) → All IsValidTri ts → All (HasMesh 64) ts → AreRayCounts ts f s → IsSides ts f s.before.counts s.after.counts
 ray_sides ts f s valid numbered r =
     let k = main_axis f.support in
-    let u = find f r.first r.second r.third (first_corners f r.corners r.first r.second r.third r.are_corners r.is_first r.is_second r.is_third) in
+    let u = first_corners_found f r.first r.second r.third (first_corners f r.corners r.first r.second r.third r.are_corners r.is_first r.is_second r.is_third) in
     record {
       at = u.q;
       inside = u.inside;

@@ -38,8 +38,9 @@ pub record Found (f : Face) (a b d : Meet) : Type 0 where
   pub inside : is_inside f q ≡ true
   pub close : IsClose (main_axis f.support) a b d q
 
-pub find : (f : Face) (a b d : Meet) → AreFirst f (spot_of a) (spot_of b) (spot_of d) → Found f a b d
-find f a b d first =
+-- the first three corners are found as the code takes them
+pub first_corners_found : (f : Face) (a b d : Meet) → AreFirst f (spot_of a) (spot_of b) (spot_of d) → Found f a b d
+first_corners_found f a b d first =
     record { q = q; inside = inside; close = record { weight = (inside_parts f q inside).0; at_end = λ h i. close_sign m h (spot_of a) (spot_of b) (spot_of d) i (omega arith) (omega arith); apart = apart } }
   where
     m : ℕ
@@ -71,6 +72,7 @@ flip_zero Neg e = cc
 flip_zero Zero e = refl
 flip_zero Pos e = cc
 
+-- the entries of a support plane's normal are below 2^25 in size
 pub along_small : (h : Plane) (k : Axis) → IsSupportSized h → Small 33554431 (along h k)
 along_small h X i = i.a
 along_small h Y i = i.b
@@ -81,10 +83,12 @@ module _ (k : Axis) (a b d : Meet) (q : Spot) (close : IsClose k a b d q) (s m :
   weight by =
       let e = moved_weight (scaled (pos m) q) k by in let l : pos 0 <ℤ pos m = omega (arith, ints, lm) in let p = pos_mul l close.weight in omega (arith, linear, e, p)
 
+  -- a small step ahead is an end after the region
   pub after_end : IsEnd k a b d (λ t. t) (moved (scaled (pos m) q) k (pos s))
   after_end =
       record { weight = weight (pos s); side = λ h i. after_sign k q h (along_small h k i) m s ls lm ∙ ap (λ (t : Sign). or_sign t (sgn (along h k))) (close.at_end h (support_valid i)); level = refl; level_out = λ t e. e }
 
+  -- a small step back is an end before the region
   pub before_end : IsEnd k a b d flip (moved (scaled (pos m) q) k (neg_ℤ (pos s)))
   before_end =
       record { weight = weight (neg_ℤ (pos s)); side = λ h i. before_sign k q h (along_small h k i) m s ls lm ∙ ap (λ (t : Sign). or_sign t (flip (sgn (along h k)))) (close.at_end h (support_valid i)); level = refl; level_out = flip_zero }

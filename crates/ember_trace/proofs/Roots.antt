@@ -15,7 +15,7 @@ pub data RootCase (z : ℤ) : Type 0 where
   above : pos 2048 <ℤ z → in_root z ≡ pos 2048 → RootCase z
   within : in_root z ≡ z → RootCase z
 
-pub root_case : (z : ℤ) → RootCase z
+root_case : (z : ℤ) → RootCase z
 root_case z = by (int_lt z (negsuc 2047)) (int_lt (pos 2048) z) refl refl
   where
     less : (a b : ℤ) → int_lt a b ≡ true → a <ℤ b
@@ -28,6 +28,7 @@ root_case z = by (int_lt z (negsuc 2047)) (int_lt (pos 2048) z) refl refl
     by false false el eh =
         within (ap (λ b. cond b (negsuc 2047) (cond (int_lt (pos 2048) z) (pos 2048) z)) el ∙ ap (λ b. cond b (pos 2048) z) eh)
 
+-- a number that is moved into the root is small
 pub root_small : (z : ℤ) → Small 2048 (in_root z)
 root_small z = by (root_case z)
   where

@@ -98,20 +98,10 @@ second_first X s d = refl
 second_first Y s d = refl
 second_first Z s d = refl
 
-second_main : (k : Axis) (s d : ℤ) → along (across (second_of k) s d) k ≡ pos 0
-second_main X s d = refl
-second_main Y s d = refl
-second_main Z s d = refl
-
 first_second : (k : Axis) (s d : ℤ) → along (across (first_of k) s d) (second_of k) ≡ pos 0
 first_second X s d = refl
 first_second Y s d = refl
 first_second Z s d = refl
-
-first_main : (k : Axis) (s d : ℤ) → along (across (first_of k) s d) k ≡ pos 0
-first_main X s d = refl
-first_main Y s d = refl
-first_main Z s d = refl
 
 -- ---- the edge planes along an axis
 pub edge_level : (s : ℤ) (u v : Corner) (k : Axis) → along (times_plane s (edge_through u v (unit k))) k ≡ pos 0
@@ -119,6 +109,7 @@ edge_level s u v X = solve 3 (λ s y z. s ⊗ (y ⊗ num (pos 0) ⊖ z ⊗ num (
 edge_level s u v Y = solve 3 (λ s z x. s ⊗ (z ⊗ num (pos 0) ⊖ x ⊗ num (pos 0)) ≈ num (pos 0)) cancels s (v.z -ℤ u.z) (v.x -ℤ u.x)
 edge_level s u v Z = solve 3 (λ s x y. s ⊗ (x ⊗ num (pos 0) ⊖ y ⊗ num (pos 0)) ≈ num (pos 0)) cancels s (v.x -ℤ u.x) (v.y -ℤ u.y)
 
+-- the bounds of an edge plane are within those of a support plane
 pub edge_support : {p : Plane} → IsEdgeSized p → IsSupportSized p
 edge_support s =
     record { a = small_within (omega arith) s.a; b = small_within (omega arith) s.b; c = small_within (omega arith) s.c; d = small_within (omega arith) s.d }
@@ -136,17 +127,17 @@ edges_behind side t k p v f =
         f (times_plane s (edge_through u w (unit k))) (edge_support (edge_sized u w k s iu iw (sign_small (along (support_of t) k)))) (edge_level s u w k)
 
 -- ---- a segment by signs
-pub exchanged : (m b : Bool) (v : ℤ) → cond (m && b) v (pos 0) ≡ cond b (cond m v (pos 0)) (pos 0)
-exchanged true true v = refl
-exchanged true false v = refl
-exchanged false true v = refl
-exchanged false false v = refl
+pub nested_cond_is_and : (m b : Bool) (v : ℤ) → cond (m && b) v (pos 0) ≡ cond b (cond m v (pos 0)) (pos 0)
+nested_cond_is_and true true v = refl
+nested_cond_is_and true false v = refl
+nested_cond_is_and false true v = refl
+nested_cond_is_and false false v = refl
 
 told : (k : Axis) (p q : Spot) (t : Tri) (b : Bool) (s e : Sign) → pos 0 <ℤ p.w → pos 0 <ℤ q.w → DifferAlong k p q → sgn (value_at (support_of t) p) ≡ s → sgn (value_at (support_of t) q) ≡ e → all_negative (edge_planes t k) p ≡ b → leg (face_of t) p q ≡ cond b (signed_crossing s e) (pos 0)
 told k p q t b s e wp wq d es ee eb =
     let x = value_at (support_of t) p in let y = value_at (support_of t) q in
     let m = ap is_neg (sgn-mul x y) ∙ (λ i. is_neg (times (es i) (ee i))) in let f = sign-number y ∙ ap number ee in
-    leg_is k p q t wp wq d ∙ (λ i. cond (m i && eb i) (f i) (pos 0)) ∙ exchanged (is_neg (times s e)) b (number e)
+    leg_is k p q t wp wq d ∙ (λ i. cond (m i && eb i) (f i) (pos 0)) ∙ nested_cond_is_and (is_neg (times s e)) b (number e)
 
 back : (s e : Sign) → signed_crossing e s ≡ neg_ℤ (signed_crossing s e)
 back Neg Neg = refl
@@ -176,6 +167,7 @@ either_test : {P : Type 0} (f g : Bool) → (f ≡ false → P) → (g ≡ false
 either_test true g x y e = y e
 either_test false g x y e = x refl
 
+-- a number with the sign `Neg` is below 0
 pub negative_sign : (z : ℤ) → sgn z ≡ Neg → z <ℤ pos 0
 negative_sign z e = negative_out z (ap is_neg e)
 
@@ -187,20 +179,24 @@ pub record IsEnd (k : Axis) (a b c : Meet) (turn : Sign → Sign) (e : Spot) : T
   pub level : turn Zero ≡ Zero
   pub level_out : (s : Sign) → turn s ≡ Zero → s ≡ Zero
 
+-- the first sign stays if the second is Zero
 pub or_zero : (s t : Sign) → t ≡ Zero → or_sign s t ≡ s
 or_zero Neg t e = refl
 or_zero Zero t e = e
 or_zero Pos t e = refl
 
+-- the start of a path has a positive weight
 pub start_weight : (lo : Vector) (n : ℕ) → 2 ^ 27 ≤ n → pos 0 <ℤ (stop_at_start lo n).w
 start_weight lo n l =
     let p = powers (pos n) (omega (arith, ints, l)) in let h = p.one_below in omega (arith, linear, h)
 
+-- two points that differ along one axis alone do so in either order
 pub differ_back : (k : Axis) (p q : Spot) → DifferAlong k p q → DifferAlong k q p
 differ_back X p q d = (sym d.0, sym d.1)
 differ_back Y p q d = (sym d.0, sym d.1)
 differ_back Z p q d = (sym d.0, sym d.1)
 
+-- the floor at the end is that of the first corner's coordinate
 pub floor_is : (w : Path) (k : Axis) → floor_at_end w k ≡ int_div_euclid (along_point k (spot_of w.corner)) w.corner.w
 floor_is w X = refl
 floor_is w Y = refl

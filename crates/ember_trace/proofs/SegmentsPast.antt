@@ -70,11 +70,13 @@ across X s d = record { a = s; b = pos 0; c = pos 0; d = s *ℤ d }
 across Y s d = record { a = pos 0; b = s; c = pos 0; d = s *ℤ d }
 across Z s d = record { a = pos 0; b = pos 0; c = s; d = s *ℤ d }
 
+-- the value of a plane across an axis, by the coordinate along it
 pub value_across : (k : Axis) (s d : ℤ) (v : Spot) → value_at (across k s d) v ≡ s *ℤ (along_point k v -ℤ d *ℤ v.w)
 value_across X s d v = solve 6 (λ s d x y z w. s ⊗ x ⊕ num (pos 0) ⊗ y ⊕ num (pos 0) ⊗ z ⊖ s ⊗ d ⊗ w ≈ s ⊗ (x ⊖ d ⊗ w)) cancels s d v.x v.y v.z v.w
 value_across Y s d v = solve 6 (λ s d x y z w. num (pos 0) ⊗ x ⊕ s ⊗ y ⊕ num (pos 0) ⊗ z ⊖ s ⊗ d ⊗ w ≈ s ⊗ (y ⊖ d ⊗ w)) cancels s d v.x v.y v.z v.w
 value_across Z s d v = solve 6 (λ s d x y z w. num (pos 0) ⊗ x ⊕ num (pos 0) ⊗ y ⊕ s ⊗ z ⊖ s ⊗ d ⊗ w ≈ s ⊗ (z ⊖ d ⊗ w)) cancels s d v.x v.y v.z v.w
 
+-- the entry along its axis of a plane's normal that has only this entry
 pub across_along : (k : Axis) (s d : ℤ) → along (across k s d) k ≡ s
 across_along X s d = refl
 across_along Y s d = refl
@@ -86,6 +88,7 @@ across_with k s d u v =
     let by = u.w *ℤ along_point k v -ℤ v.w *ℤ along_point k u in
     value_with (across k s d) k u v ∙ (λ i. v.w *ℤ value_across k s d u i +ℤ by *ℤ across_along k s d i) ∙ solve 6 (λ s d x y v w. w ⊗ (s ⊗ (x ⊖ d ⊗ v)) ⊕ (v ⊗ y ⊖ w ⊗ x) ⊗ s ≈ v ⊗ (s ⊗ (y ⊖ d ⊗ w))) cancels s d (along_point k u) (along_point k v) u.w v.w ∙ ap (λ (z : ℤ). u.w *ℤ z) (sym (value_across k s d v))
 
+-- a plane across an axis has the sizes of a support plane
 pub across_sized : (k : Axis) (s d : ℤ) → Small 1 s → Small 2047 d → IsSupportSized (across k s d)
 across_sized k s d i j = by k
   where
@@ -121,7 +124,7 @@ least_small {m} a b i j = by (int_lt b a)
     by true = j
     by false = i
 
-pub greatest_small : {m : ℕ} (a b : ℤ) → Small m a → Small m b → Small m (int_max a b)
+greatest_small : {m : ℕ} (a b : ℤ) → Small m a → Small m b → Small m (int_max a b)
 greatest_small {m} a b i j = by (int_lt b a)
   where
     by : (t : Bool) → Small m (cond t a b)
@@ -152,9 +155,11 @@ corner_is X u = refl
 corner_is Y u = refl
 corner_is Z u = refl
 
+-- the least coordinate of a valid triangle is small
 pub low_small : (t : Tri) (k : Axis) → IsValidTri t → Small 2047 (interval_along (aabb_of_tri t) k).low
 low_small t k v = let o = aabb t k v in o.small_low
 
+-- the high ends of a valid triangle's bounding box are at most 2047 in size
 pub high_small : (t : Tri) (k : Axis) → IsValidTri t → Small 2047 (interval_along (aabb_of_tri t) k).high
 high_small t k v = let o = aabb t k v in o.small_high
 
@@ -188,6 +193,7 @@ floor_high (pos a) (pos b) p = omega (arith, ints, above_quotient a b (omega (ar
 floor_high (negsuc a) (pos b) p = omega (arith, ints, div-mul-le_self a b)
 floor_high y (negsuc b) p = absurd (omega (arith, ints))
 
+-- a fraction is below a whole number that is above the fraction's floor
 pub below_floor : (y w h : ℤ) → pos 0 <ℤ w → (int_div_euclid y w +ℤ pos 1) ≤ℤ h → y <ℤ (h *ℤ w)
 below_floor y w h p l =
     let f = int_div_euclid y w in let z : pos 0 ≤ℤ w = omega (arith, linear, p) in

@@ -1,4 +1,4 @@
--- Triangles in the plane of a face: their edge planes aren't parallel to it, so what isn't cut by
+-- Triangles in the plane of a face: their edge planes aren't plane_over_face_is_parallel to it, so what isn't cut by
 -- them lies inside such a triangle if one of its points lies in the closed face.
 use Rattle.std.proofs.Common.{◌≡◌, ◌≢◌, ⊎_elim, sym, ap, subst, ◌∙◌, arith, true, false, not, ◌&&◌, [], ◌∷◌, ℤ, pos, ◌*ℤ◌, neg_ℤ, ◌<ℤ◌, ◌≤ℤ◌}
 use borrow.Author.Differences.{ints}
@@ -28,7 +28,7 @@ use Rattle.ember_law.proofs.CornerSides.{main_entry}
 use Rattle.ember_trace.proofs.Corners.{Parallel, no_entry}
 use Rattle.ember_trace.proofs.SegmentCrossings.{edge_level}
 use Rattle.ember_trace.proofs.FilledFaces.{uncut_flat}
-use Rattle.ember_trace.proofs.FlatPlanes.{parallel, shared, corner_a}
+use Rattle.ember_trace.proofs.FlatPlanes.{plane_over_face_is_parallel, shared, corner_a}
 
 -- ---- the planes of coplanar triangles
 pub record OnPlane (t u : Tri) : Type 0 where
@@ -38,6 +38,7 @@ pub record OnPlane (t u : Tri) : Type 0 where
   pub normal_t : is_flat t ≡ false
   pub normal_u : is_flat u ≡ false
 
+-- a coplanar triangle lies on the plane
 pub on_plane : (t u : Tri) → is_coplanar t u ≡ true → OnPlane t u
 unfolding is_coplanar
 on_plane t u e =
@@ -71,7 +72,7 @@ turned {n} {p} l =
     }
 
 -- a point of the plane of t lies on that of u
-pub on_other : (t u : Tri) (w : Spot) → is_coplanar t u ≡ true → value_at (support_of t) w ≡ pos 0 → value_at (support_of u) w ≡ pos 0
+on_other : (t u : Tri) (w : Spot) → is_coplanar t u ≡ true → value_at (support_of t) w ≡ pos 0 → value_at (support_of u) w ≡ pos 0
 on_other t u w e z =
     let o = on_plane t u e in
     shared (support_of u) (support_of t) (spot_of_corner u.a) w (turned (parallel_planes t u o)) (omega (arith, ints)) (corner_a u) o.a z (λ a b c. clash (flat_in t (record { a = a; b = b; c = c })) o.normal_t)
@@ -120,7 +121,7 @@ shared_inside t u f v w s e xa xb xc iv cv iw =
     let q = and_parts (not (is_positive (value_at (times_plane g eb) v))) (none_positive (times_plane g ec ∷ []) v) p.1 in
     let r = and_parts (not (is_positive (value_at (times_plane g ec) v))) true q.1 in
     let across : along (support_of t) k ≢ pos 0 = λ z. let l = no_entry (support_of u) (support_of t) k (turned (parallel_planes t u o)) nz z in clash (flat_in t (record { a = l.0; b = l.1; c = l.2 })) o.normal_t in
-    let level = λ (h : Plane) (z : along h k ≡ pos 0) (y : Everywhere f (λ x. value_at h x ≡ pos 0)). no_entry (support_of t) h k (subst (λ (n : Plane). Parallel n h) s (parallel f h v iv y)) across z in
+    let level = λ (h : Plane) (z : along h k ≡ pos 0) (y : Everywhere f (λ x. value_at h x ≡ pos 0)). no_entry (support_of t) h k (subst (λ (n : Plane). Parallel n h) s (plane_over_face_is_parallel f h v iv y)) across z in
     let na = negative_in (one_side f (times_plane g ea) v w xa (λ y. first_edge u k nz (without u k nz ea (level (times_plane g ea) (edge_level g u.a u.b k) y))) iv (not_positive_out (value_at (times_plane g ea) v) p.0) iw) in
     let nb = negative_in (one_side f (times_plane g eb) v w xb (λ y. second_edge u k nz (without u k nz eb (level (times_plane g eb) (edge_level g u.b u.c k) y))) iv (not_positive_out (value_at (times_plane g eb) v) q.0) iw) in
     let nc = negative_in (one_side f (times_plane g ec) v w xc (λ y. third_edge u k nz (without u k nz ec (level (times_plane g ec) (edge_level g u.c u.a k) y))) iv (not_positive_out (value_at (times_plane g ec) v) r.0) iw) in

@@ -33,9 +33,11 @@ once p Z at s t =
 valid : (p : Plane) → IsMoved p → IsValidPlane p
 valid p s = record { a = s.a; b = s.b; c = s.c; d = small_within (omega arith) s.d }
 
+-- a support plane that is slid once is valid
 pub slid_once : (p : Plane) (k : Axis) (at : ℤ) → IsSupportSized p → Small 2048 at → IsValidPlane (slid p k at)
 slid_once p k at s t = valid (slid p k at) (once p k at s t)
 
+-- the constant of a support plane with one coordinate fixed is below 2^38 in size
 pub slid_constant : (p : Plane) (k : Axis) (at : ℤ) → IsSupportSized p → Small 2048 at → Small 274877906943 (slid p k at).d
 slid_constant p k at s t = small_within (omega arith) (once p k at s t).d
 
@@ -47,5 +49,6 @@ twice p Y at s t =
 twice p Z at s t =
     record { a = s.a; b = s.b; c = none; d = small_within (omega arith) (moved_once p.d p.c at s.d s.c t) }
 
+-- a support plane that is slid twice is valid
 pub slid_twice : (p : Plane) (j k : Axis) (at by : ℤ) → IsSupportSized p → Small 2048 at → Small 2048 by → IsValidPlane (slid (slid p j at) k by)
 slid_twice p j k at by s t u = twice (slid p j at) k by (once p j at s t) u

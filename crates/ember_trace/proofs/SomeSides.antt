@@ -44,7 +44,7 @@ abbrev pub OnOneSide : Spot → Spot → Type 0
 OnOneSide p r = (h : Plane) → IsSupportSized h → sgn (value_at h p) ≡ sgn (value_at h r)
 
 -- their rays cross a triangle alike
-pub crossing_on_one_side : (k : Axis) (p r : Spot) → pos 0 <ℤ p.w → pos 0 <ℤ r.w → OnOneSide p r → (t : Tri) → IsValidTri t → crossing (face_of t) k p ≡ crossing (face_of t) k r
+crossing_on_one_side : (k : Axis) (p r : Spot) → pos 0 <ℤ p.w → pos 0 <ℤ r.w → OnOneSide p r → (t : Tri) → IsValidTri t → crossing (face_of t) k p ≡ crossing (face_of t) k r
 crossing_on_one_side k p r wp wr same t v =
     let h = support_of t in let e = same h (support_sized t v) in
     let m = ap is_neg (sgn-mul (value_at h p) (along h k)) ∙ (λ i. is_neg (times (e i) (sgn (along h k)))) ∙ sym (ap is_neg (sgn-mul (value_at h r) (along h k))) in

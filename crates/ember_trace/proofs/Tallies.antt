@@ -10,6 +10,7 @@ taken_push : (less : NearTriangle → ℤ) (fs : List NearTriangle) (f : NearTri
 taken_push less [] f counts = refl
 taken_push less (g ∷ fs) f counts = taken_push less fs f (with_more counts g.tri.mesh (neg_ℤ (less g)))
 
+-- one more near triangle's crossings are subtracted
 pub taken_more : (less : NearTriangle → ℤ) (fs : List NearTriangle) (i : ℕ) (f : NearTriangle) (counts old new : List ℤ) (by : ℤ) → i < length fs → f ≡ get_or fs i f → old ≡ taken less (take i fs) counts → by ≡ less f → new ≡ with_more old f.tri.mesh (neg_ℤ by) → new ≡ taken less (take (i + 1) fs) counts
 taken_more less fs i f counts old new by l h e b n =
     let all : take (i + 1) fs ≡ take i fs ++ f ∷ [] = take_more fs i f l ∙ ap (λ (g : NearTriangle). take i fs ++ g ∷ []) (sym h) in
@@ -19,6 +20,7 @@ counted_push : (more : Tri → ℤ) (ts : List Tri) (t : Tri) (counts : List ℤ
 counted_push more [] t counts = refl
 counted_push more (u ∷ ts) t counts = counted_push more ts t (with_more counts u.mesh (more u))
 
+-- one more triangle's crossings are added
 pub counted_more : (more : Tri → ℤ) (ts : List Tri) (i : ℕ) (d : Tri) (counts old new : List ℤ) (by : ℤ) → i < length ts → old ≡ counted more (take i ts) counts → by ≡ more (get_or ts i d) → new ≡ with_more old (get_or ts i d).mesh by → new ≡ counted more (take (i + 1) ts) counts
 counted_more more ts i d counts old new by l e b n =
     let t = get_or ts i d in

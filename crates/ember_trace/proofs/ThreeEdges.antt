@@ -20,5 +20,6 @@ all_three side t k p q r x y z ep eq er ex ey ez =
     let c = ez ∙ ap (λ (h : Plane). is_neg (side h)) (sym (same_some er)) ∙ sym (and_true _) in
     λ i. a i && (b i && c i)
 
+-- if the first two of three are true, the third decides
 pub last_of_three : (x y z b : Bool) → x ≡ true → y ≡ true → x && (y && z) ≡ b → z ≡ b
 last_of_three x y z b p q e = sym (λ i. p i && (q i && z)) ∙ e

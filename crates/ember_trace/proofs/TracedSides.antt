@@ -41,12 +41,12 @@ use Rattle.ember_trace.specs.NearTriangles.{AreNearTriangles, HasReferenceSide}
 use Rattle.ember_trace.specs.Paths.{coordinate, first_of, second_of, side_at_end, IsPathTo}
 use Rattle.ember_trace.specs.Crossings.{taken, segments_in_wall, last_segment, crossing_before, crossing_after, AreTraced}
 use Rattle.ember_trace.specs.Boxed.{LiesIn, AreSides}
-use Rattle.ember_trace.proofs.Places.{coordinate_small}
+use Rattle.ember_trace.proofs.Coordinates.{coordinate_small}
 use Rattle.ember_trace.proofs.PathVertices.{entries, differ_with, differ_last, opposite_value}
 use Rattle.ember_trace.proofs.VertexSides.{AreStops, stop_at_start, stop_after_first, stop_after_second, start_sign}
 use Rattle.ember_trace.proofs.Corners.{AreFirst, first_corners, none_at}
 use Rattle.ember_trace.proofs.SegmentCrossings.{IsEnd, differ_back, start_weight, first_legs, final_leg}
-use Rattle.ember_trace.proofs.RegionEnds.{find, far_out, stops_from, before_end, after_end}
+use Rattle.ember_trace.proofs.RegionEnds.{first_corners_found, far_out, stops_from, before_end, after_end}
 use Rattle.ember_trace.proofs.ClearVertices.{generic_clear, has_with, has_start, start_generic, first_generic, second_generic, end_generic}
 use Rattle.ember_trace.proofs.FarSegments.{last_far}
 use Rattle.ember_trace.proofs.SomeSides.{vector_on_one_side}
@@ -59,6 +59,7 @@ level_value X h v = solve 5 (λ h x y z w. num (pos 1) ⊗ x ⊕ num (pos 0) ⊗
 level_value Y h v = solve 5 (λ h x y z w. num (pos 0) ⊗ x ⊕ num (pos 1) ⊗ y ⊕ num (pos 0) ⊗ z ⊖ h ⊗ w ≈ y ⊖ h ⊗ w) cancels h v.x v.y v.z v.w
 level_value Z h v = solve 5 (λ h x y z w. num (pos 0) ⊗ x ⊕ num (pos 0) ⊗ y ⊕ num (pos 1) ⊗ z ⊖ h ⊗ w ≈ z ⊖ h ⊗ w) cancels h v.x v.y v.z v.w
 
+-- an inside point of a face that lies in a box is in the box
 pub in_box : (c : Cell) (f : Face) (q : Spot) → LiesIn c f → is_inside f q ≡ true → HasPoint c q
 in_box c f q l i =
     record { weight = (inside_parts f q i).0; on_x = across X (wall 0 _ refl) (wall 1 _ refl); on_y = across Y (wall 2 _ refl) (wall 3 _ refl); on_z = across Z (wall 4 _ refl) (wall 5 _ refl) }
@@ -111,7 +112,7 @@ module _ (ts ns : List Tri) (c : Cell) (counts : List ℤ) (fits : Fits ts ns c 
   c2 : AreClear (faces_of ts) p2
   c2 = generic_clear p2 ts h2.weight (second_generic k c.lo v.corner v.next v.last q n s) fits.scene.valid
 
-  pub clear_end : AreClear (faces_of ts) p3
+  clear_end : AreClear (faces_of ts) p3
   clear_end = generic_clear p3 ts end.weight (end_generic k v.corner v.next v.last q s.close turn p3 end) fits.scene.valid
 
   legs_one : leg_vector ts p1 p0 ≡ leg_vector ns p1 p0
@@ -134,7 +135,7 @@ module _ (ts ns : List Tri) (c : Cell) (counts : List ℤ) (fits : Fits ts ns c 
   abbrev less : NearTriangle → ℤ
   less f = segments_in_wall w f +ℤ last_segment w f (or_sign (side_at_end w f.support) (turn (sgn (along f.support k))))
 
-  pub end_vector : vector k ts p3 ≡ taken less fs counts
+  end_vector : vector k ts p3 ≡ taken less fs counts
   end_vector =
       let a = legs_law ts 64 fits.scene k k p3 p2 end.weight h2.weight (differ_back k p2 p3 line) clear_end c2 in
       let b = legs_law ts 64 fits.scene (second_of k) k p2 p1 h2.weight h1.weight (differ_back (second_of k) p1 p2 (differ_with (second_of k) p1 q)) c2 c1 in
@@ -165,10 +166,10 @@ module _ (ns : List Tri) (c : Cell) (counts : List ℤ) (f : Face) (v : Path) (i
   told = λ i. record v { first = is.first i; second = is.second i; main = is.main i }
 
   -- the traced counts are the sides in each scene that fits
-  pub traced_sides : (fs : List NearTriangle) → AreNearTriangles ns c fs → (before after : List ℤ) → before ≡ taken (crossing_before v) fs counts → after ≡ taken (crossing_after v) fs counts → LiesIn c f → (ts : List Tri) → Fits ts ns c counts → IsSides ts f before after
+  traced_sides : (fs : List NearTriangle) → AreNearTriangles ns c fs → (before after : List ℤ) → before ≡ taken (crossing_before v) fs counts → after ≡ taken (crossing_after v) fs counts → LiesIn c f → (ts : List Tri) → Fits ts ns c counts → IsSides ts f before after
   unfolding crossing_before crossing_after
   traced_sides fs near_triangles before after eb ea l ts fits =
-      let u = find f v.corner v.next v.last first in let has = in_box c f u.q l u.inside in
+      let u = first_corners_found f v.corner v.next v.last first in let has = in_box c f u.q l u.inside in
       let n = far_out u.q in let stops = stops_from k c.lo v.corner v.next v.last u.q u.close small in
       let line = λ (m s : ℤ). differ_last k (stop_at_start c.lo n) u.q m s in
       record {
@@ -183,5 +184,6 @@ module _ (ns : List Tri) (c : Cell) (counts : List ℤ) (f : Face) (v : Path) (i
             record { clear = clear_end ts ns c counts fits k v is.lo u.q n stops has fs near_triangles (λ t. t) _ e (line (pos m) (pos s)); counts_are = end_vector ts ns c counts fits k v is.lo u.q n stops has fs near_triangles (λ t. t) _ e (line (pos m) (pos s)) ∙ sym (ea ∙ ap (λ (w : Path). taken (crossing_after w) fs counts) told) };
       }
 
+-- the traced counts are the region's sides, in each scene that fits
 pub are_sides : (ns : List Tri) (c : Cell) (counts : List ℤ) (f : Face) (s : Sides) (fs : List NearTriangle) → AreNearTriangles ns c fs → AreTraced c fs counts f s → AreSides ns c counts f s
 are_sides ns c counts f s fs near_triangles t = traced_sides ns c counts f t.way t.is_way fs near_triangles s.before.counts s.after.counts t.before t.after

@@ -48,6 +48,7 @@ or_sign_assoc Neg t r = refl
 or_sign_assoc Zero t r = refl
 or_sign_assoc Pos t r = refl
 
+-- two signs of which neither decides are both Zero
 pub both_zero : (s t : Sign) → or_sign s t ≡ Zero → (s ≡ Zero) × (t ≡ Zero)
 both_zero Neg t e = absurd (clash e)
   where
@@ -136,9 +137,11 @@ once_level X lo h e = (e.1, e.2)
 once_level Y lo h e = (e.0, e.2)
 once_level Z lo h e = (e.0, e.1)
 
+-- the second sign counts if the first is Zero
 pub or_next : (s t : Sign) → s ≡ Zero → t ≡ or_sign s t
 or_next s t e = sym (ap (λ (s : Sign). or_sign s t) e)
 
+-- the first of two signs decides if it isn't Zero
 pub or_first : (s t : Sign) → (s ≡ Zero → ⊥) → s ≡ or_sign s t
 or_first Neg t n = refl
 or_first Zero t n = absurd (n refl)
@@ -166,10 +169,12 @@ module _ (k : Axis) (lo : Vector) (a b c : Meet) (q : Spot) (n : ℕ) (s : AreSt
   large_above : 33554431 < n
   large_above = let l = s.large in omega arith
 
+  -- at a path's start, a plane has the sign that it has at the reference point
   pub start_sign : (h : Plane) → IsSupportSized h → sgn (value_at h start) ≡ sgn (value_at h (reference_at lo))
   start_sign h i =
       sign_near n h lo large_above i.a i.b i.c ∙ sym (sign_near (2 ^ 27) h lo (omega arith) i.a i.b i.c)
 
+  -- the sign of a plane behind a path's first segment
   pub first_sign : (h : Plane) → IsSupportSized h → sgn (value_at h (stop_after_first k lo q n)) ≡ or_sign (inside_side (slid_twice_to k lo h) a b c) (sgn (value_at h (reference_at lo)))
   first_sign h i = either _ _ _ strict level
     where
@@ -187,6 +192,7 @@ module _ (k : Axis) (lo : Vector) (a b c : Meet) (q : Spot) (n : ℕ) (s : AreSt
           let l = twice_level k lo h (s.close.apart g z (slid_last (slid_once_to (second_of k) lo h) k _)) in
           ap sgn (level_with h (first_of k) start q l) ∙ sgn_scaled (value_at h start) s.close.weight ∙ start_sign h i
 
+  -- the sign of a plane behind a path's second segment
   pub second_sign : (h : Plane) → IsSupportSized h → sgn (value_at h (stop_after_second k lo q n)) ≡ or_sign (inside_side (slid_once_to k lo h) a b c) (sgn (value_at h (reference_at lo)))
   second_sign h i = either _ _ _ strict level
     where
@@ -214,10 +220,12 @@ beside m s v n i ls l =
     ap sgn f ∙ next_sign m v (pos s *ℤ n) small l ∙ ap (λ (t : Sign). or_sign (sgn v) t) (sgn_scaled {c = pos s} n (omega (arith, ints)))
 
 module _ (k : Axis) (q : Spot) (h : Plane) (i : Small 33554431 (along h k)) where
+  -- the sign of a plane a small step ahead
   pub after_sign : (m s : ℕ) → 1 ≤ s → 33554431 * s < m → sgn (value_at h (moved (scaled (pos m) q) k (pos s))) ≡ or_sign (sgn (value_at h q)) (sgn (along h k))
   after_sign m s ls l =
       ap sgn (value_moved h (scaled (pos m) q) k (pos s) ∙ ap (λ (z : ℤ). z +ℤ pos s *ℤ along h k) (value_scaled (pos m) h q)) ∙ beside m s (value_at h q) (along h k) i ls l
 
+  -- the sign of a plane a small step back
   pub before_sign : (m s : ℕ) → 1 ≤ s → 33554431 * s < m → sgn (value_at h (moved (scaled (pos m) q) k (neg_ℤ (pos s)))) ≡ or_sign (sgn (value_at h q)) (flip (sgn (along h k)))
   before_sign m s ls l =
       let e = value_moved h (scaled (pos m) q) k (neg_ℤ (pos s)) ∙ ap (λ (z : ℤ). z +ℤ neg_ℤ (pos s) *ℤ along h k) (value_scaled (pos m) h q) ∙ solve 3 (λ v s n. v ⊕ neg s ⊗ n ≈ v ⊕ s ⊗ neg n) cancels (pos m *ℤ value_at h q) (pos s) (along h k) in

@@ -20,7 +20,7 @@ abbrev pub AreSides : List Tri → Cell → List ℤ → Face → Sides → Type
 AreSides near c counts f s =
     LiesIn c f → (scene : List Tri) → Fits scene near c counts → IsSides scene f s.before.counts s.after.counts
 
--- no others are sides of the face
+-- the face has no other sides than these
 abbrev pub AreAllSides : List Tri → Face → Sides → Type 0
 AreAllSides scene f s =
     (before after : List ℤ) → IsSides scene f before after → (before ≡ s.before.counts) × (after ≡ s.after.counts)
@@ -33,11 +33,12 @@ pub record IsRegion (near : List Tri) (c : Cell) (f : Face) : Type 0 where
   pub index : ℕ
   pub here : slice_get regions index ≡ Some f
 
+-- if the face is a region of the box, they are its sides in each scene that fits what is known at the box
 abbrev pub AreRegionSides : List Tri → Cell → List ℤ → Face → Sides → Type 0
 AreRegionSides near c counts f s =
     IsRegion near c f → (scene : List Tri) → Fits scene near c counts → IsSides scene f s.before.counts s.after.counts
 
--- in each scene that fits, the region has no other sides
+-- if the face is a region of the box, it has no other sides in any scene that fits
 abbrev pub AreOnlySides : List Tri → Cell → List ℤ → Face → Sides → Type 0
 AreOnlySides near c counts f s =
     IsRegion near c f → (scene : List Tri) → Fits scene near c counts → AreAllSides scene f s

@@ -25,7 +25,8 @@ use Rattle.ember_trace.specs.declared.side_vectors.Sides.{Sides}
 use Rattle.ember_trace.specs.NearTriangles.{AreNearTriangles}
 use Rattle.ember_trace.specs.Paths.{coordinate, inside_side, side_at_start, side_at_end, side_after_first, side_after_second, floor_at_end, HasAxes, IsPathTo}
 
--- a segment from one side of a plane to another passes it: 1 from behind to the front, -1 back
+-- the signed crossing of a segment from one side of a plane to another: 1 from behind to the front, -1 back,
+-- otherwise 0
 abbrev pub signed_crossing : Sign → Sign → ℤ
 signed_crossing from to = if is_neg (times from to) then number to else pos 0
 
@@ -39,19 +40,19 @@ interval_along s X = s.x
 interval_along s Y = s.y
 interval_along s Z = s.z
 
--- a coordinate a little above the whole number is strictly within
+-- a coordinate a little above the whole number is strictly within the interval
 abbrev pub contains_above : Interval → ℤ → Bool
 contains_above s at = int_le s.low at && int_lt at s.high
 
--- a coordinate from this whole number to the next can be within
+-- a coordinate from this whole number to the next can be within the interval
 abbrev pub may_contain : Interval → ℤ → Bool
 may_contain s floor = int_le s.low floor && int_le floor s.high
 
--- moved into the root: bounding boxes contain it, or lie below or above it, as before
+-- a coordinate clamped to the root; bounding boxes contain it, or lie below or above it, as before
 abbrev pub in_root : ℤ → ℤ
 in_root z = if int_lt z (negsuc 2047) then negsuc 2047 else if int_lt (pos 2048) z then pos 2048 else z
 
--- the floors of a path's end along its axes; along the main axis no less than where the last segment begins
+-- the clamped floors of a path's end along its axes, along the main axis at least that of the last segment's start
 pub record AreEnds (w : Path) (at : Ends) : Type 0 where
   pub axes : HasAxes w
   pub first : at.first ≡ in_root (floor_at_end w w.first)
@@ -59,12 +60,13 @@ pub record AreEnds (w : Path) (at : Ends) : Type 0 where
   pub top : at.top ≡ int_max (in_root (floor_at_end w w.main)) (coordinate w.lo w.main)
 
 -- ---- the segments
--- seen along a segment, it runs through the triangle
+-- the first segment, seen along itself, runs through the triangle
 abbrev pub is_on_first : Path → NearTriangle → Bool
 is_on_first w f =
     contains_above (interval_along f.aabb w.second) (coordinate w.lo w.second) &&
     all_behind (λ p. side_at_start w p) (edge_planes f.tri w.first)
 
+-- the second segment, seen along itself, runs through the triangle
 abbrev pub is_on_second : Path → NearTriangle → Bool
 is_on_second w f =
     may_contain (interval_along f.aabb w.first) (floor_at_end w w.first) &&
@@ -76,9 +78,11 @@ may_end w f =
     may_contain (interval_along f.aabb w.first) (floor_at_end w w.first) &&
     may_contain (interval_along f.aabb w.second) (floor_at_end w w.second)
 
+-- the last segment, seen along itself, runs through the triangle
 abbrev pub is_on_last : Path → NearTriangle → Bool
 is_on_last w f = may_end w f && all_behind (λ p. side_at_end w p) (edge_planes f.tri w.main)
 
+-- the signed crossings of the first and of the second segment with the triangle
 abbrev pub first_segment : Path → NearTriangle → ℤ
 first_segment w f = if is_on_first w f then signed_crossing f.start (side_after_first w f.support) else pos 0
 
@@ -86,12 +90,13 @@ abbrev pub second_segment : Path → NearTriangle → ℤ
 second_segment w f =
     if is_on_second w f then signed_crossing (side_after_first w f.support) (side_after_second w f.support) else pos 0
 
--- both run in the low wall of the main axis
+-- the crossings of both together; they run just above the low wall across the main axis
 abbrev pub segments_in_wall : Path → NearTriangle → ℤ
 segments_in_wall w f =
     if contains_above (interval_along f.aabb w.main) (coordinate w.lo w.main)
     then first_segment w f +ℤ second_segment w f else pos 0
 
+-- the signed crossing of the last segment, if it ends on this side of the triangle's plane
 abbrev pub last_segment : Path → NearTriangle → Sign → ℤ
 last_segment w f end = if is_on_last w f then signed_crossing (side_after_second w f.support) end else pos 0
 
@@ -102,6 +107,7 @@ side_before p k s = or_sign s (flip (sgn (along p k)))
 abbrev pub side_after : Plane → Axis → Sign → Sign
 side_after p k s = or_sign s (sgn (along p k))
 
+-- the signed crossings of the path that ends directly before the region, and of that which ends directly after it
 unfoldable pub crossing_before : Path → NearTriangle → ℤ
 crossing_before w f = segments_in_wall w f +ℤ last_segment w f (side_before f.support w.main (side_at_end w f.support))
 
@@ -109,7 +115,7 @@ unfoldable pub crossing_after : Path → NearTriangle → ℤ
 crossing_after w f = segments_in_wall w f +ℤ last_segment w f (side_after f.support w.main (side_at_end w f.support))
 
 -- ---- the sides
--- the counts less the crossings with each triangle, taken from its mesh
+-- the counts less, for each near triangle, this number, which is subtracted from the count of its mesh
 abbrev pub taken : (NearTriangle → ℤ) → List NearTriangle → List ℤ → List ℤ
 taken less fs counts = fold (λ (vs : List ℤ) (f : NearTriangle). with_more vs f.tri.mesh (neg_ℤ (less f))) counts fs
 
@@ -120,7 +126,7 @@ pub record AreTraced (c : Cell) (fs : List NearTriangle) (counts : List ℤ) (r 
   pub before : s.before.counts ≡ taken (crossing_before way) fs counts
   pub after : s.after.counts ≡ taken (crossing_after way) fs counts
 
--- those by the triangles near the box
+-- the same, by the triangles near the box
 pub record AreTracedBy (near : List Tri) (c : Cell) (counts : List ℤ) (r : Face) (s : Sides) : Type 0 where
   pub near_triangles : List NearTriangle
   pub are_near : AreNearTriangles near c near_triangles
@@ -144,6 +150,7 @@ ray_after t k u v w =
     then signed_crossing (side_after (support_of t) k (inside_side (support_of t) u v w))
     (sgn (along (support_of t) k)) else pos 0
 
+-- the counts plus, for each triangle, this number for its mesh
 abbrev pub counted : (Tri → ℤ) → List Tri → List ℤ → List ℤ
 counted more ts counts = fold (λ (vs : List ℤ) (t : Tri). with_more vs t.mesh (more t)) counts ts
 

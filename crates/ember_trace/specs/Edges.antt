@@ -11,17 +11,19 @@ use Rattle.ember_point.specs.Points.{spot_of, slid}
 use Rattle.ember_trace.specs.declared.path.Path.{Path}
 use Rattle.ember_trace.specs.Paths.{second_of, slid_to_start}
 
--- the plane along an axis through an edge, times a sign
+-- the plane through an edge parallel to an axis, times a sign
 abbrev pub edge_times : Corner → Corner → Axis → ℤ → Plane
 edge_times u v k s = times_plane s (edge_through u v (unit k))
 
+-- the side of a plane on which a point lies
 abbrev pub side_at : Plane → Meet → Sign
 side_at p m = sgn (value_at p (spot_of m))
 
--- the plane along the second axis, with the coordinates along this axis and along the main axis fixed
+-- the plane through an edge parallel to the second axis, with its coordinates along that axis and along the
+-- main axis fixed
 abbrev pub fixed_edge : Corner → Corner → Axis → ℤ → ℤ → ℤ → Plane
 fixed_edge u v main s by at = slid (slid (edge_times u v (second_of main) s) (second_of main) by) main at
 
--- the plane along the second axis, with those two coordinates fixed to the path's start
+-- the same plane, with those two coordinates fixed to those of the path's start
 abbrev pub edge_after_first : Path → Corner → Corner → ℤ → Plane
 edge_after_first w u v s = slid_to_start w w.main (slid_to_start w w.second (edge_times u v w.second s))

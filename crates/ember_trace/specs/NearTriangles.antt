@@ -8,26 +8,28 @@ use Rattle.ember_box.specs.Boxes.{Cell}
 use Rattle.ember_ref.specs.References.{reference_of}
 use Rattle.ember_trace.specs.declared.near_triangle.NearTriangle.{NearTriangle}
 
+-- the triangle alone
 abbrev pub tri_of : NearTriangle → Tri
 tri_of f = f.tri
 
--- the side of the triangle's plane on which the reference point of the box lies
+-- the near triangle's start is the side of its plane on which the reference point of the box lies
 pub record HasReferenceSide (c : Cell) (f : NearTriangle) : Type 0 where
   pub start : f.start ≡ sgn (value_at f.support (reference_of (c.lo.x ∷ c.lo.y ∷ c.lo.z ∷ [])))
 
--- these triangles, as they are near this box
+-- the near triangles of the box that are made of these triangles, in order
 pub record AreNearTriangles (ts : List Tri) (c : Cell) (fs : List NearTriangle) : Type 0 where
   pub tris : map tri_of fs ≡ ts
   pub starts : All (HasReferenceSide c) fs
 
--- counts of a box: at most a crossing with each triangle of a scene for each halving
+-- counts of a box are at most 36 * 262144 in size: for each halving, at most one crossing with each triangle
+-- of a scene
 abbrev pub AreBoxCounts : List ℤ → Type 0
 AreBoxCounts counts = All (Small 9437184) counts
 
--- the counts stay within a bound that grows by three for each of so many triangles
+-- counts of at most m in size become counts of at most m + 3 * number
 abbrev pub AreWithinBound : ℕ → List ℤ → List ℤ → Type 0
 AreWithinBound number old new = (m : ℕ) → All (Small m) old → All (Small (m + 3 * number)) new
 
--- counts beside a region: at most three crossings more with each triangle
+-- counts beside a region are at most 39 * 262144 in size: at most three more crossings with each triangle
 abbrev pub AreSideCounts : List ℤ → Type 0
 AreSideCounts counts = All (Small 10223616) counts

@@ -22,15 +22,17 @@ coordinate at X = slice_index_or at 0 (pos 0)
 coordinate at Y = slice_index_or at 1 (pos 0)
 coordinate at Z = slice_index_or at 2 (pos 0)
 
--- the side of the inside points that are close to the first of three corners, and closest to the
--- line from there to the second: that of the first corner which isn't on the plane
+-- the side of a plane on which the path's end lies, an inside point beside the first of three corners, and
+-- closer still to the line from there to the second: that of the first corner which isn't on the plane
 abbrev pub inside_side : Plane → Meet → Meet → Meet → Sign
 inside_side p a b c =
     or_sign (sgn (value_at p (spot_of a))) (or_sign (sgn (value_at p (spot_of b))) (sgn (value_at p (spot_of c))))
 
+-- the side of a plane on which the path begins
 abbrev pub side_at_start : Path → Plane → Sign
 side_at_start w p = sgn (value_at p (reference_of w.lo))
 
+-- the side of a plane on which it ends
 abbrev pub side_at_end : Path → Plane → Sign
 side_at_end w p = inside_side p w.corner w.next w.last
 
@@ -38,7 +40,7 @@ side_at_end w p = inside_side p w.corner w.next w.last
 abbrev pub slid_to_start : Path → Axis → Plane → Plane
 slid_to_start w k p = slid p k (coordinate w.lo k)
 
--- after the first segment, two coordinates are those of the start, and after the second segment one
+-- the sides on which the first and the second segment end: there two coordinates are those of the start, or one
 abbrev pub side_after_first : Path → Plane → Sign
 side_after_first w p =
     or_sign (side_at_end w (slid_to_start w w.main (slid_to_start w w.second p))) (side_at_start w p)
@@ -46,13 +48,13 @@ side_after_first w p =
 abbrev pub side_after_second : Path → Plane → Sign
 side_after_second w p = or_sign (side_at_end w (slid_to_start w w.main p)) (side_at_start w p)
 
--- the whole number at or below the coordinate of the first corner
+-- the floor of the coordinate of the first corner
 abbrev pub floor_at_end : Path → Axis → ℤ
 floor_at_end w X = int_div_euclid w.corner.x w.corner.w
 floor_at_end w Y = int_div_euclid w.corner.y w.corner.w
 floor_at_end w Z = int_div_euclid w.corner.z w.corner.w
 
--- the other two axes in order
+-- the first and the second of the other two axes
 abbrev pub first_of : Axis → Axis
 first_of X = Y
 first_of Y = X
@@ -63,7 +65,7 @@ second_of X = Z
 second_of Y = Z
 second_of Z = Y
 
--- the axes of a path are those of its last
+-- the first two axes of a path are the two other than its main axis, in order
 pub record HasAxes (w : Path) : Type 0 where
   pub first : w.first ≡ first_of w.main
   pub second : w.second ≡ second_of w.main

@@ -1,4 +1,4 @@
-// How segments pass planes.
+// The signed crossings of segments with planes.
 ghost use Rattle.std.specs.Prelude.{◌≡◌};
 ghost use Rattle.ember_algebra.specs.Size.{Small};
 ghost use Rattle.ember_algebra.specs.Sign.{flip, sgn, sign, is_nil};
@@ -28,6 +28,7 @@ pub fn signed_crossing(from: Sign, to: Sign) -> i32
     }
 }
 
+// The opposite sign.
 fn flipped(s: Sign) -> Sign
     ensures { result ≡ flip s }
 {
@@ -38,6 +39,7 @@ fn flipped(s: Sign) -> Sign
     }
 }
 
+// The first of two signs that isn't zero.
 fn or_sign(first: Sign, second: Sign) -> Sign
     ensures { result ≡ or_sign first second }
 {
@@ -47,7 +49,7 @@ fn or_sign(first: Sign, second: Sign) -> Sign
     }
 }
 
-// The sign of the plane's slope along an axis.
+// The slope of a plane along an axis: the sign of its normal's entry there.
 fn slope(p: &Plane, k: Axis) -> Sign
     ensures { result ≡ sgn (along p.now k) }
 {
@@ -58,14 +60,14 @@ fn slope(p: &Plane, k: Axis) -> Sign
     }
 }
 
-/// The plane's normal has no entry along an axis.
+/// Whether the entry of the plane's normal along an axis is 0.
 pub fn is_level(p: &Plane, k: Axis) -> bool
     ensures { result ≡ is_nil (sgn (along p.now k)) }
 {
     matches!(slope(p, k), Sign::Zero)
 }
 
-/// The sign of the plane's slope along an axis, as a number.
+/// The sign of the normal's entry along an axis, as a number.
 pub fn slope_number(p: &Plane, k: Axis) -> i64
     ensures value { result ≡ sign (along p.now k) }
     ensures small { Small 1 result }
@@ -77,14 +79,16 @@ pub fn slope_number(p: &Plane, k: Axis) -> i64
     }
 }
 
-/// The side of the plane directly before a point, along an axis, if the point itself is on this side.
+/// The side of the plane on which the point directly before another one along an axis lies. `at` is
+/// the side of that other one.
 pub fn side_before(p: &Plane, k: Axis, at: Sign) -> Sign
     ensures { result ≡ side_before p.now k at }
 {
     or_sign(at, flipped(slope(p, k)))
 }
 
-/// The side directly after the point.
+/// The side of the plane on which the point directly after another one along an axis lies. `at` is
+/// the side of that other one.
 pub fn side_after(p: &Plane, k: Axis, at: Sign) -> Sign
     ensures { result ≡ side_after p.now k at }
 {

@@ -22,7 +22,7 @@ struct Line {
     ghost small_d: { Small 16760836 d },
 }
 
-// The line through two points of the plane, times a sign.
+// The line through two points, times a sign.
 fn line_through(from_p: i32, from_q: i32, to_p: i32, to_q: i32, s: i64) -> Line
     requires from_p { Small 2047 from_p }
     requires from_q { Small 2047 from_q }
@@ -39,6 +39,7 @@ fn line_through(from_p: i32, from_q: i32, to_p: i32, to_q: i32, s: i64) -> Line
     Line { a, b, d }
 }
 
+// The side of the line on which the point (p / w, q / w) lies.
 fn line_side(l: &Line, p: i128, q: i128, w: i128) -> Sign
     requires p { Small 4611686018427387903 p }
     requires q { Small 4611686018427387903 q }
@@ -48,7 +49,8 @@ fn line_side(l: &Line, p: i128, q: i128, w: i128) -> Sign
     sign_of(narrow_product(l.a, p) - narrow_product(l.b, q) - narrow_product(l.d, w))
 }
 
-/// The side of the plane along an axis through an edge, times a sign, on which a narrow point lies.
+/// Take the plane through an edge parallel to the axis, times a sign. On which side of it is this
+/// narrow point?
 pub fn edge_side(u: &Corner, v: &Corner, k: Axis, s: i64, m: &Meet) -> Sign
     requires from { IsValidCorner u.now }
     requires to { IsValidCorner v.now }
@@ -63,7 +65,7 @@ pub fn edge_side(u: &Corner, v: &Corner, k: Axis, s: i64, m: &Meet) -> Sign
     }
 }
 
-/// The plane along an axis through an edge, times a sign.
+/// The plane through an edge parallel to the axis, times a sign.
 pub fn edge_plane_times(u: &Corner, v: &Corner, k: Axis, s: i64) -> Plane
     requires from { IsValidCorner u.now }
     requires to { IsValidCorner v.now }
@@ -135,6 +137,7 @@ fn mark_at_last(l: &Line, at: i32) -> Mark
     }
 }
 
+// The side of the mark on which the coordinate x / w lies.
 fn mark_side(k: &Mark, x: i128, w: i128) -> Sign
     requires x { Small 4611686018427387903 x }
     requires w { Small 4611686018427387903 w }
@@ -143,8 +146,8 @@ fn mark_side(k: &Mark, x: i128, w: i128) -> Sign
     sign_of(narrow_product(k.n, x) - narrow_product(k.e, w))
 }
 
-/// The side of the plane along the second axis through an edge, times a sign, on which a narrow point
-/// lies that is moved to this coordinate along the main axis.
+/// Take the plane through an edge parallel to the second axis of a path with this main axis, times
+/// a sign. On which side of it is this narrow point, once moved to `at` along the main axis?
 pub fn moved_edge_side(u: &Corner, v: &Corner, main: Axis, s: i64, at: i32, m: &Meet) -> Sign
     requires from { IsValidCorner u.now }
     requires to { IsValidCorner v.now }

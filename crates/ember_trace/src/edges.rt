@@ -1,4 +1,4 @@
-// Behind which edges of a triangle the segments of a path run, near narrow corners.
+// Behind which edges of a triangle the segments of a path run, if the region's corners are narrow.
 ghost use Rattle.std.specs.Prelude.{◌≡◌, true};
 ghost use Rattle.ember_algebra.specs.Size.{Small};
 ghost use Rattle.ember_algebra.specs.Sign.{is_neg};
@@ -18,7 +18,8 @@ use ember_algebra::Sign;
 use ember_model::{Axis, Corner};
 use ember_point::Meet;
 
-// The side at the end of the plane along an axis through an edge, times a sign.
+// Take the plane through an edge parallel to the axis, times a sign. On which side of it does the
+// path end?
 fn edge_side_at_end(u: &Corner, v: &Corner, k: Axis, s: i64, way: &Path) -> Sign
     requires from { IsValidCorner u.now }
     requires to { IsValidCorner v.now }
@@ -35,6 +36,7 @@ fn edge_side_at_end(u: &Corner, v: &Corner, k: Axis, s: i64, way: &Path) -> Sign
     }
 }
 
+// Whether the path ends behind the plane through an edge parallel to the axis, times a sign.
 fn edge_is_behind(u: &Corner, v: &Corner, k: Axis, s: i64, way: &Path) -> bool
     requires from { IsValidCorner u.now }
     requires to { IsValidCorner v.now }
@@ -45,7 +47,8 @@ fn edge_is_behind(u: &Corner, v: &Corner, k: Axis, s: i64, way: &Path) -> bool
     matches!(edge_side_at_end(u, v, k, s, way), Sign::Neg)
 }
 
-/// All edge planes along the last segment are negative where it ends, near narrow corners.
+/// Whether the last segment, seen along itself, runs through the triangle: all edge planes parallel
+/// to it are negative at its end. The corners of the region are narrow.
 pub fn narrow_last_is_behind(f: &NearTriangle, way: &Path) -> bool
     requires { way.now.narrow ≡ true }
     ensures { result ≡ all_behind (λ p. side_at_end way.now p) (edge_planes f.now.tri way.now.main) }
@@ -57,8 +60,8 @@ pub fn narrow_last_is_behind(f: &NearTriangle, way: &Path) -> bool
         && (edge_is_behind(&t.b, &t.c, k, s, way) && edge_is_behind(&t.c, &t.a, k, s, way))
 }
 
-// The side of the plane along the second axis through an edge, times a sign, on which a corner lies that
-// is moved to where the first segment ends.
+// Take the plane through an edge parallel to the second axis, times a sign. On which side of it is
+// this corner, once its second and main coordinates are those of the path's start?
 fn corner_side_after_first(u: &Corner, v: &Corner, s: i64, way: &Path, m: &Meet) -> Sign
     requires from { IsValidCorner u.now }
     requires to { IsValidCorner v.now }
@@ -70,8 +73,9 @@ fn corner_side_after_first(u: &Corner, v: &Corner, s: i64, way: &Path, m: &Meet)
     moved_edge_side(u, v, way.main, s, coordinate(way.lo, way.main), m)
 }
 
-// The side of that plane on which the inside point lies if it is moved to where the first segment
-// ends. It is `Zero` if all three corners are on the plane when they are moved there.
+// Take the plane through an edge parallel to the second axis, times a sign. On which side of it is
+// the region's inside point, once its second and main coordinates are those of the path's start?
+// The corners moved in this way decide: the result is `Zero` if all three are then on the plane.
 fn told_side_after_first(u: &Corner, v: &Corner, s: i64, way: &Path) -> Sign
     requires from { IsValidCorner u.now }
     requires to { IsValidCorner v.now }
@@ -89,7 +93,8 @@ fn told_side_after_first(u: &Corner, v: &Corner, s: i64, way: &Path) -> Sign
     }
 }
 
-// The side after the first segment of the plane along the second axis through an edge, times a sign.
+// Take the plane through an edge parallel to the second axis, times a sign. On which side of it
+// does the first segment end?
 fn edge_side_after_first(u: &Corner, v: &Corner, s: i64, way: &Path) -> Sign
     requires from { IsValidCorner u.now }
     requires to { IsValidCorner v.now }
@@ -104,6 +109,8 @@ fn edge_side_after_first(u: &Corner, v: &Corner, s: i64, way: &Path) -> Sign
     }
 }
 
+// Whether the first segment ends behind the plane through an edge parallel to the second axis,
+// times a sign.
 fn edge_is_behind_after_first(u: &Corner, v: &Corner, s: i64, way: &Path) -> bool
     requires from { IsValidCorner u.now }
     requires to { IsValidCorner v.now }
@@ -115,7 +122,8 @@ fn edge_is_behind_after_first(u: &Corner, v: &Corner, s: i64, way: &Path) -> boo
     matches!(edge_side_after_first(u, v, s, way), Sign::Neg)
 }
 
-/// All edge planes along the second segment are negative where it begins, near narrow corners.
+/// Whether the second segment, seen along itself, runs through the triangle: all edge planes
+/// parallel to it are negative at its start. The corners of the region are narrow.
 pub fn narrow_second_is_behind(f: &NearTriangle, way: &Path) -> bool
     requires axes { HasAxes way.now }
     requires narrow { way.now.narrow ≡ true }
@@ -128,7 +136,7 @@ pub fn narrow_second_is_behind(f: &NearTriangle, way: &Path) -> bool
             && edge_is_behind_after_first(&t.c, &t.a, s, way))
 }
 
-// Whether the path begins behind the plane along an axis through an edge, times a sign.
+// Whether the path begins behind the plane through an edge parallel to the axis, times a sign.
 fn edge_is_behind_at_start(u: &Corner, v: &Corner, k: Axis, s: i64, way: &Path) -> bool
     requires from { IsValidCorner u.now }
     requires to { IsValidCorner v.now }
@@ -138,7 +146,8 @@ fn edge_is_behind_at_start(u: &Corner, v: &Corner, k: Axis, s: i64, way: &Path) 
     matches!(way.side_at_start(&edge_plane_times(u, v, k, s)), Sign::Neg)
 }
 
-/// All edge planes along the first segment are negative where it begins.
+/// Whether the first segment, seen along itself, runs through the triangle: all edge planes
+/// parallel to it are negative at its start.
 pub fn edges_are_behind_at_start(f: &NearTriangle, way: &Path) -> bool
     ensures { result ≡ all_behind (λ p. side_at_start way.now p) (edge_planes f.now.tri way.now.first) }
 {

@@ -14,6 +14,7 @@ use ember_model::{OutOfMemory, Tri, support_of};
 use ember_ref::lex_side;
 use std::alloc::Global;
 
+// A triangle near a box with the least corner `lo`, with what each path needs of it.
 fn near_triangle_of(t: &Tri, lo: [i32; 3]) -> NearTriangle
     requires valid { IsValidTri t.now }
     requires mesh { HasMesh 64 t.now }
@@ -31,7 +32,8 @@ fn near_triangle_of(t: &Tri, lo: [i32; 3]) -> NearTriangle
 }
 
 /// The triangles near a box, in order, each with its support plane, its bounding box, and the side
-/// of the plane on which the box's reference point lies. Meshes are numbered from 1 to 64.
+/// of the plane on which the box's reference point lies. Meshes are numbered from 1 to 64. The only
+/// error is out-of-memory.
 pub fn near_triangles(
     alloc: Global,
     near: &[Tri],

@@ -3,9 +3,12 @@
 //
 //     (s1, s2, s3) -> (e1, s2, s3) -> (e1, e2, s3) -> (e1, e2, e3).
 //
-// It ends directly before or directly after e. For e take the inside point a + h (b - a) + h^2 (c - a) of the
-// region, with its first three corners a, b, c and any h > 0 that is small enough. So e lies on the side of a
-// plane on which the first of these corners lies that isn't on the plane.
+// It ends directly before or directly after e. For e take the region's inside point
+//
+//     a + h (b - a) + h^2 (c - a),
+//
+// with its first three corners a, b, c and any h > 0 that is small enough. So e is on the same side
+// of a plane as the first of these corners that isn't on the plane.
 ghost use Rattle.std.specs.Prelude.{◌≡◌, ◌&&◌, All};
 ghost use Rattle.ember_algebra.specs.Size.{Small};
 ghost use Rattle.ember_point.specs.Points.{spot_of, is_narrow};
@@ -13,9 +16,9 @@ ghost use Rattle.ember_point.specs.Points.{spot_of, is_narrow};
 use ember_model::Axis;
 use ember_point::Meet;
 
-/// A path begins beside the corner `lo` of its box, at the reference point. Its segments run along `first`,
-/// `second` and `main`. `corner`, `next` and `last` are the first three corners of the region. `narrow` says
-/// whether all three are narrow points.
+/// A path begins beside the corner `lo` of its box, at the reference point. Its three segments run
+/// along the axes `first`, `second` and `main`, in this order. `corner`, `next` and `last` are the
+/// first three corners of the region. `narrow` says whether all three are narrow points.
 #[derive(Clone, Copy)]
 pub struct Path {
     pub lo: [i32; 3],

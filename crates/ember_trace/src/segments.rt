@@ -19,6 +19,7 @@ use ember_algebra::Sign;
 use ember_box::{Aabb, Interval};
 use ember_model::{Axis, Plane, edge_plane};
 
+// The interval of a bounding box along an axis.
 fn interval_along(s: &Aabb, k: Axis) -> Interval
     ensures { result ≡ interval_along s.now k }
 {
@@ -29,22 +30,23 @@ fn interval_along(s: &Aabb, k: Axis) -> Interval
     }
 }
 
-// A coordinate a little above the whole number is strictly within.
+// Whether a coordinate a little above the whole number is strictly within.
 fn contains_above(s: &Interval, at: i32) -> bool
     ensures { result ≡ contains_above s.now at }
 {
     s.low <= at && at < s.high
 }
 
-// A coordinate from this whole number to the next can be within.
+// Whether a coordinate from this whole number to the next can be within.
 fn may_contain(s: &Interval, floor: i32) -> bool
     ensures { result ≡ may_contain s.now floor }
 {
     s.low <= floor && floor <= s.high
 }
 
-/// The whole numbers at or below the coordinates of a path's end, moved into the root. What lies
-/// above `top` along the main axis lies above the whole last segment.
+/// The floors of the coordinates of a path's end, clamped to the root: along its first axis, along
+/// its second, and along its main axis, there at least that of the last segment's start (`top`).
+/// A triangle whose least main coordinate is above `top` lies above the whole last segment.
 #[derive(Clone, Copy)]
 pub struct Ends {
     pub first: i32,
@@ -52,6 +54,7 @@ pub struct Ends {
     pub top: i32,
 }
 
+// Clamps a coordinate to the root.
 fn in_root(floor: i128) -> i32
     ensures value { result ≡ in_root floor }
     ensures small { Small 2048 result }
@@ -65,6 +68,7 @@ fn in_root(floor: i128) -> i32
     }
 }
 
+// The floor of a coordinate of the path's end, clamped to the root.
 fn floor_in_root(way: &Path, k: Axis) -> i32
     ensures value { result ≡ in_root (floor_at_end way.now k) }
     ensures small { Small 2048 result }
@@ -72,7 +76,7 @@ fn floor_in_root(way: &Path, k: Axis) -> i32
     in_root(way.floor_at_end(k))
 }
 
-// Above this along the main axis lies what is above both ends of the last segment.
+// The floor of the last segment's higher end, along the main axis, clamped to the root.
 fn top_of(way: &Path) -> i32
     ensures value { result ≡
         int_max (in_root (floor_at_end way.now way.now.main)) (coordinate way.now.lo way.now.main) }
@@ -81,7 +85,7 @@ fn top_of(way: &Path) -> i32
     floor_in_root(way, way.main).max(coordinate(way.lo, way.main))
 }
 
-/// The ends of a path.
+/// The clamped floors of a path's end.
 pub fn ends_of(way: &Path) -> Ends
     requires { HasAxes way.now }
     ensures { AreEnds way.now result }
@@ -92,12 +96,14 @@ pub fn ends_of(way: &Path) -> Ends
     Ends { first, second, top }
 }
 
+// Whether the sign is `Neg`.
 fn is_neg(s: Sign) -> bool
     ensures { result ≡ is_neg s }
 {
     matches!(s, Sign::Neg)
 }
 
+// Whether the first segment ends behind the plane.
 fn is_behind_after_first(way: &Path, p: &Plane) -> bool
     requires { IsSupportSized p.now }
     ensures { result ≡ is_neg (side_after_first way.now p.now) }
@@ -105,6 +111,7 @@ fn is_behind_after_first(way: &Path, p: &Plane) -> bool
     is_neg(way.side_after_first(p))
 }
 
+// Whether the path ends behind the plane.
 fn is_behind_at_end(way: &Path, p: &Plane) -> bool
     requires { IsValidPlane p.now }
     ensures { result ≡ is_neg (side_at_end way.now p.now) }
@@ -112,7 +119,7 @@ fn is_behind_at_end(way: &Path, p: &Plane) -> bool
     is_neg(way.side_at_end(p))
 }
 
-// All edge planes along the first segment are negative where it begins.
+// Whether all edge planes parallel to the first segment are negative at its start.
 fn first_is_behind(f: &NearTriangle, way: &Path) -> bool
     ensures { result ≡ all_behind (λ p. side_at_start way.now p) (edge_planes f.now.tri way.now.first) }
 {
@@ -122,7 +129,7 @@ fn first_is_behind(f: &NearTriangle, way: &Path) -> bool
     edges_are_behind_at_start(f, way)
 }
 
-// All edge planes along the second segment are negative where it begins.
+// Whether all edge planes parallel to the second segment are negative at its start.
 fn second_is_behind(f: &NearTriangle, way: &Path) -> bool
     requires { HasAxes way.now }
     ensures { result ≡ all_behind (λ p. side_after_first way.now p) (edge_planes f.now.tri way.now.second) }
@@ -140,7 +147,7 @@ fn second_is_behind(f: &NearTriangle, way: &Path) -> bool
             && is_behind_after_first(way, &edge_plane(t, 2, k)))
 }
 
-// All edge planes along the last segment are negative where it ends.
+// Whether all edge planes parallel to the last segment are negative at its end.
 fn last_is_behind(f: &NearTriangle, way: &Path) -> bool
     ensures { result ≡ all_behind (λ p. side_at_end way.now p) (edge_planes f.now.tri way.now.main) }
 {
@@ -157,6 +164,8 @@ fn last_is_behind(f: &NearTriangle, way: &Path) -> bool
             && is_behind_at_end(way, &edge_plane(t, 2, k)))
 }
 
+// Whether the first segment, seen along itself, runs through the triangle. The bounding box is
+// tested first.
 fn is_on_first(f: &NearTriangle, way: &Path) -> bool
     ensures { result ≡ is_on_first way.now f.now }
 {
@@ -166,6 +175,7 @@ fn is_on_first(f: &NearTriangle, way: &Path) -> bool
     ) && first_is_behind(f, way)
 }
 
+// Whether the end of the path can be within the bounding box along the first axis.
 fn may_end_along_first(f: &NearTriangle, way: &Path, at: &Ends) -> bool
     requires { AreEnds way.now at.now }
     ensures { result ≡ may_contain (interval_along f.now.aabb way.now.first) (floor_at_end way.now way.now.first) }
@@ -173,6 +183,7 @@ fn may_end_along_first(f: &NearTriangle, way: &Path, at: &Ends) -> bool
     may_contain(&interval_along(&f.aabb, way.first), at.first)
 }
 
+// Whether the end of the path can be within the bounding box along the second axis.
 fn may_end_along_second(f: &NearTriangle, way: &Path, at: &Ends) -> bool
     requires { AreEnds way.now at.now }
     ensures { result ≡ may_contain (interval_along f.now.aabb way.now.second) (floor_at_end way.now way.now.second) }
@@ -180,6 +191,7 @@ fn may_end_along_second(f: &NearTriangle, way: &Path, at: &Ends) -> bool
     may_contain(&interval_along(&f.aabb, way.second), at.second)
 }
 
+// Whether the end of the path can be within the bounding box along both.
 fn may_end(f: &NearTriangle, way: &Path, at: &Ends) -> bool
     requires { AreEnds way.now at.now }
     ensures { result ≡ may_end way.now f.now }
@@ -187,6 +199,7 @@ fn may_end(f: &NearTriangle, way: &Path, at: &Ends) -> bool
     may_end_along_first(f, way, at) && may_end_along_second(f, way, at)
 }
 
+// Whether the second segment, seen along itself, runs through the triangle.
 fn is_on_second(f: &NearTriangle, way: &Path, at: &Ends) -> bool
     requires { AreEnds way.now at.now }
     ensures { result ≡ is_on_second way.now f.now }
@@ -194,6 +207,7 @@ fn is_on_second(f: &NearTriangle, way: &Path, at: &Ends) -> bool
     may_end_along_first(f, way, at) && second_is_behind(f, way)
 }
 
+// Whether the last segment, seen along itself, runs through the triangle.
 fn is_on_last(f: &NearTriangle, way: &Path, at: &Ends) -> bool
     requires { AreEnds way.now at.now }
     ensures { result ≡ is_on_last way.now f.now }
@@ -201,6 +215,7 @@ fn is_on_last(f: &NearTriangle, way: &Path, at: &Ends) -> bool
     may_end(f, way, at) && last_is_behind(f, way)
 }
 
+// The signed crossing of the first segment with the triangle.
 fn first_segment(f: &NearTriangle, way: &Path) -> i32
     ensures value { result ≡ first_segment way.now f.now }
     ensures small { Small 1 result }
@@ -212,6 +227,7 @@ fn first_segment(f: &NearTriangle, way: &Path) -> i32
     }
 }
 
+// The signed crossing of the second segment with the triangle.
 fn second_segment(f: &NearTriangle, way: &Path, at: &Ends) -> i32
     requires { AreEnds way.now at.now }
     ensures value { result ≡ second_segment way.now f.now }
@@ -227,6 +243,8 @@ fn second_segment(f: &NearTriangle, way: &Path, at: &Ends) -> i32
     }
 }
 
+// Whether the path's start is strictly within the bounding box along the main axis. The first two
+// segments run at this coordinate.
 fn is_in_wall(f: &NearTriangle, way: &Path) -> bool
     ensures { result ≡ contains_above (interval_along f.now.aabb way.now.main) (coordinate way.now.lo way.now.main) }
 {
@@ -236,7 +254,7 @@ fn is_in_wall(f: &NearTriangle, way: &Path) -> bool
     )
 }
 
-// The crossings of the segments in the low wall of the main axis.
+// The crossings of the first two segments, which run just above the low wall across the main axis.
 fn segments_in_wall(f: &NearTriangle, way: &Path, at: &Ends) -> i32
     requires { AreEnds way.now at.now }
     ensures value { result ≡ segments_in_wall way.now f.now }
@@ -249,8 +267,8 @@ fn segments_in_wall(f: &NearTriangle, way: &Path, at: &Ends) -> i32
     }
 }
 
-/// The signed crossings of the two paths to a region with a triangle: that which ends before the
-/// region, and that which ends after it.
+/// The signed crossings of the two paths to a region with a triangle: of the path that ends before
+/// the region, and of the path that ends after it.
 #[derive(Clone, Copy)]
 pub struct Crossings {
     pub before: i32,
@@ -280,13 +298,14 @@ fn last_segments_by_sides(f: &NearTriangle, way: &Path, at: &Ends) -> Crossings
     }
 }
 
+// Whether the bounding box lies above the whole last segment along the main axis.
 fn lies_above(f: &NearTriangle, way: &Path, at: &Ends) -> bool
     ensures { result ≡ int_lt at.now.top (interval_along f.now.aabb way.now.main).low }
 {
     at.top < interval_along(&f.aabb, way.main).low
 }
 
-// The crossings of the last segments, known at once if the triangle lies above the end of the path.
+// The crossings of the last segments: none if the triangle lies above both ends.
 fn last_segments(f: &NearTriangle, way: &Path, at: &Ends) -> Crossings
     requires { AreEnds way.now at.now }
     ensures before { result.before ≡
@@ -305,7 +324,7 @@ fn last_segments(f: &NearTriangle, way: &Path, at: &Ends) -> Crossings
     }
 }
 
-/// The crossings of the paths with a triangle.
+/// The signed crossings of the two paths with a triangle.
 pub fn crossings_of(f: &NearTriangle, way: &Path, at: &Ends) -> Crossings
     requires { AreEnds way.now at.now }
     ensures before { result.before ≡ crossing_before way.now f.now }

@@ -18,7 +18,7 @@ use ember_model::{OutOfMemory, Tri, Vector};
 use ember_poly::Ring;
 use std::alloc::Global;
 
-// Takes from the count of a mesh, 1 to 64.
+// Subtracts `less` from the count of a mesh, 1 to 64.
 fn take_from(v: &mut Vector, mesh: u32, less: i32)
     requires first { 1 ≤ mesh }
     requires last { mesh ≤ 64 }
@@ -30,7 +30,8 @@ fn take_from(v: &mut Vector, mesh: u32, less: i32)
     v.counts[mesh as usize - 1] -= less;
 }
 
-// Takes from both counts of a mesh what crosses the paths before and after a region: mostly nothing.
+// Subtracts from both counts of a mesh the crossings of the paths before and after a region. Mostly
+// there are none.
 fn take_crossings(sides: &mut Sides, mesh: u32, less: &Crossings)
     requires first { 1 ≤ mesh }
     requires last { mesh ≤ 64 }
@@ -51,10 +52,11 @@ fn take_crossings(sides: &mut Sides, mesh: u32, less: &Crossings)
     take_from(&mut sides.after, mesh, less.after);
 }
 
-/// Overwrites `sides` with the sides of a region of a box, from the winding numbers at the
-/// reference point of the box and the crossings of two paths from there to the region with the
-/// triangles near the box: the winding numbers directly before and after it, in every scene that
-/// fits what is known at the box.
+/// Overwrites `sides` with the sides of a region of a box: the winding numbers directly before and
+/// after it, in every scene that fits what is known at the box. `v` has the winding numbers at the
+/// box's reference point p. For the end q of a path, w(p) = w(q) + the signed crossings of the path
+/// from p to q. So this subtracts from those numbers the crossings of two paths: one that ends
+/// directly before the region, and one that ends directly after it.
 pub fn put_sides_beside(near: &[NearTriangle], c: &Cell, v: &Vector, r: &Ring, sides: &mut Sides)
     requires few { length near.now ≤ 262144 }
     requires counts { AreBoxCounts v.now.counts }
@@ -74,7 +76,7 @@ pub fn put_sides_beside(near: &[NearTriangle], c: &Cell, v: &Vector, r: &Ring, s
     }
 }
 
-/// The sides of a region of a box, as `put_sides_beside` puts them.
+/// The sides of a region of a box, as `put_sides_beside` puts them. Only tests call this.
 pub fn sides_beside(near: &[NearTriangle], c: &Cell, v: &Vector, r: &Ring) -> Sides
     requires few { length near.now ≤ 262144 }
     requires counts { AreBoxCounts v.now.counts }
@@ -93,7 +95,7 @@ pub fn sides_beside(near: &[NearTriangle], c: &Cell, v: &Vector, r: &Ring) -> Si
 }
 
 /// The sides of a region of a box, as `sides_beside` gives them for the triangles near the box.
-/// Meshes are numbered from 1 to 64.
+/// Meshes are numbered from 1 to 64. Only tests call this. The only error is out-of-memory.
 pub fn sides_traced(
     alloc: Global,
     near: &[Tri],

@@ -15,7 +15,7 @@ use ember_point::{Meet, is_narrow, narrow_side, side, slide};
 use ember_poly::{Ring, corners, support};
 use ember_ref::lex_side;
 
-// The two other axes, in order.
+// The first of the two other axes.
 fn first_of(k: Axis) -> Axis
     ensures { result ≡ first_of k }
 {
@@ -25,6 +25,7 @@ fn first_of(k: Axis) -> Axis
     }
 }
 
+// The second of the two other axes.
 fn second_of(k: Axis) -> Axis
     ensures { result ≡ second_of k }
 {
@@ -34,6 +35,7 @@ fn second_of(k: Axis) -> Axis
     }
 }
 
+// Whether all three points are narrow.
 fn are_narrow(first: &Meet, second: &Meet, third: &Meet) -> bool
     ensures { result ≡ is_narrow (spot_of first.now) &&
         (is_narrow (spot_of second.now) && is_narrow (spot_of third.now)) }
@@ -104,7 +106,7 @@ fn narrow_inside_side(p: &Plane, first: &Meet, second: &Meet, third: &Meet) -> S
     }
 }
 
-// The whole number at or below a fraction: in 64 bits if both numbers fit into them.
+// The floor of n / w. It divides in 64 bits if both numbers fit.
 fn floor(n: i128, w: i128) -> i128
     requires { pos 0 <ℤ w }
     ensures { result ≡ int_div_euclid n w }
@@ -134,7 +136,7 @@ impl Path {
         lex_side(p, self.lo)
     }
 
-    /// The side of a plane on which the inside point lies.
+    /// The side of a plane on which the path's end, the region's inside point, lies.
     pub fn side_at_end(&self, p: &Plane) -> Sign
         requires { IsValidPlane p.now }
         ensures { result ≡ side_at_end self.now p.now }
@@ -146,7 +148,7 @@ impl Path {
         }
     }
 
-    /// The side at the end of the first segment.
+    /// The side of a plane on which the first segment ends.
     pub fn side_after_first(&self, p: &Plane) -> Sign
         requires { IsSupportSized p.now }
         ensures { result ≡ side_after_first self.now p.now }
@@ -158,7 +160,7 @@ impl Path {
         }
     }
 
-    /// The side at the end of the second segment.
+    /// The side of a plane on which the second segment ends.
     pub fn side_after_second(&self, p: &Plane) -> Sign
         requires { IsSupportSized p.now }
         ensures { result ≡ side_after_second self.now p.now }
@@ -169,7 +171,7 @@ impl Path {
         }
     }
 
-    /// The whole number at or below the inside point's coordinate.
+    /// The floor of the coordinate of the region's first corner, beside which the path ends.
     pub fn floor_at_end(&self, k: Axis) -> i128
         ensures { result ≡ floor_at_end self.now k }
     {

@@ -31,6 +31,7 @@ struct Corners {
     third: Meet,
 }
 
+// The side of a plane on which the region's inside point lies.
 fn side_of(p: &Plane, at: &Corners) -> Sign
     requires { IsValidPlane p.now }
     ensures { result ≡ inside_side p.now at.now.first at.now.second at.now.third }
@@ -38,6 +39,7 @@ fn side_of(p: &Plane, at: &Corners) -> Sign
     inside_side(p, &at.first, &at.second, &at.third)
 }
 
+// Whether the region's inside point is behind the plane.
 fn is_behind(p: &Plane, at: &Corners) -> bool
     requires { IsValidPlane p.now }
     ensures { result ≡ is_neg (inside_side p.now at.now.first at.now.second at.now.third) }
@@ -45,7 +47,7 @@ fn is_behind(p: &Plane, at: &Corners) -> bool
     matches!(side_of(p, at), Sign::Neg)
 }
 
-// The line through the inside point along the axis runs through the triangle.
+// Whether the line through the inside point along the axis runs through the triangle.
 fn is_pierced(t: &Tri, k: Axis, at: &Corners) -> bool
     requires { IsValidTri t.now }
     ensures { result ≡ is_pierced t.now k at.now.first at.now.second at.now.third }
@@ -68,7 +70,7 @@ fn ray_before(t: &Tri, k: Axis, at: &Corners) -> i32
     }
 }
 
-// The crossing of the ray that begins directly after it.
+// The crossing of the ray that begins directly after the inside point.
 fn ray_after(t: &Tri, k: Axis, at: &Corners) -> i32
     requires { IsValidTri t.now }
     ensures value { result ≡ ray_after t.now k at.now.first at.now.second at.now.third }
@@ -83,8 +85,8 @@ fn ray_after(t: &Tri, k: Axis, at: &Corners) -> i32
 }
 
 /// The sides of a region, from the crossings of whole rays along its main axis with all triangles:
-/// the winding numbers directly before and after it.
-/// Meshes are numbered from 1 to 64.
+/// the winding numbers directly before and after it. Meshes are numbered from 1 to 64.
+/// Only tests call this.
 pub fn sides_by_rays(tris: &[Tri], r: &Ring) -> Sides
     requires valid { All IsValidTri tris.now }
     requires numbered { All (HasMesh 64) tris.now }
@@ -110,7 +112,8 @@ pub fn sides_by_rays(tris: &[Tri], r: &Ring) -> Sides
     Sides { before, after }
 }
 
-/// The sides of a region of a box, as `sides_by_rays` gives them for all triangles of the scene.
+/// The sides of a region, as `sides_by_rays` gives them for all triangles of the scene. Only tests
+/// call this. It never fails.
 pub fn sides_whole(_alloc: Global, s: &Scene, r: &Ring) -> Result<Sides, OutOfMemory>
     ensures counted { IfOk result (λ x. AreRayCounts s.now.tris r.now x) }
     ensures sides { IfOk result (λ x. IsSides s.now.tris r.now x.before.counts x.after.counts) }

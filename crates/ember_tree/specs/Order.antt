@@ -4,8 +4,8 @@ use Rattle.std.specs.Int.{leading_zeros, w64}
 use Rattle.std.specs.List.Sorted.{IsPermutation, IsNonDecreasingBy}
 use Rattle.ember_tree.specs.declared.part.Part.{Part}
 
--- a path with its first digit moved to the front of 64: a box's left half keeps its key, and all of the right half
--- comes after all of the left one
+-- a path shifted left until its highest bit is bit 63: a box's left half has the box's key, and all boxes in the
+-- right half have greater keys than all boxes in the left one
 abbrev pub tree_key : ℕ → ℕ
 tree_key path = path * 2 ^ leading_zeros w64 path
 

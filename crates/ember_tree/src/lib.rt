@@ -1,4 +1,4 @@
-//! The items of a run's leaves, brought into the order of the tree.
+//! The items of a run's leaves, brought into the order of the tree. The run itself is steal_pool's.
 #![tactic(auto)]
 
 mod part;

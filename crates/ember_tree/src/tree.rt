@@ -1,14 +1,14 @@
-// Parts come in any order, and their items leave in that of the tree.
+// Brings the items of parts, which may be in any order, into the order of the tree.
 ghost use Rattle.std.specs.Prelude.{◌≡◌, ◌*◌, ◌^◌, IfOk};
 ghost use Rattle.ember_tree.specs.Order.{tree_key, IsMerged};
 
 use crate::Part;
 use std::alloc::{AllocError, Global};
 
-/// The error of a call for which memory is short.
+/// The out-of-memory error.
 pub type OutOfMemory = AllocError;
 
-// The sort key of a path: its first digit moved to the front of 64 binary digits.
+// The sort key of a path: the path shifted left until its highest bit is bit 63.
 fn sort_key(path: u64) -> u64
     ensures { result ≡ tree_key path }
 {
@@ -18,9 +18,9 @@ fn sort_key(path: u64) -> u64
     path * (1u64 << path.leading_zeros())
 }
 
-/// The items in the order of the tree, left half first. No path is the beginning of another, read as binary digits,
-/// and each is from 1 to `2^37 - 1`; so the result doesn't depend on the order of the parts. Its one error is
-/// out-of-memory.
+/// The items in the order of the tree, left half first. If no path, read as binary digits, is the
+/// beginning of another one, the result doesn't depend on the order of the parts. The paths of a
+/// run's leaves are such. The only error is out-of-memory.
 pub fn merge<I: Drop>(alloc: Global, parts: Vec<Part<I>>) -> Result<Vec<I>, OutOfMemory>
     ensures { IfOk result (λ v. IsMerged parts.items v.items) }
 {
@@ -31,6 +31,7 @@ pub fn merge<I: Drop>(alloc: Global, parts: Vec<Part<I>>) -> Result<Vec<I>, OutO
         { sort_key(part.path) },
     )?;
     let mut items = Vec::with_capacity(alloc, sorted.len())?;
+    // Reversed and popped, the parts give up their items in order.
     sorted.reverse();
     while let Some(part) = sorted.pop() {
         items.push_reserved(part.item);

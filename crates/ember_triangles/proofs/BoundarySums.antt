@@ -19,7 +19,7 @@ ended plane line corner s = cond (is_on plane line s) (ended_at corner s) (pos 0
 
 module _ (plane line corner : ℕ) where
   -- a boundary as one sum over all segments
-  pub boundary_total : (ss : List Segment) → boundary plane line corner ss ≡ total (ended plane line corner) ss
+  boundary_total : (ss : List Segment) → boundary plane line corner ss ≡ total (ended plane line corner) ss
   boundary_total ss = total-filter (ended_at corner) (is_on plane line) ss
 
   -- the boundary of two lists
@@ -70,7 +70,7 @@ module _ (plane line corner : ℕ) where
           let on = All-head (λ (s : Segment). s.line ≡ l) s ss h in
           sum (ended plane line corner s) (total (ended plane line corner) ss) (ended_off s (ap (eqb line) on ∙ e)) (none ss (All-tail (λ (s : Segment). s.line ≡ l) s ss h))
 
--- ---- segments that come in
--- segments that come behind the others
+-- ---- segments that are added
+-- segments that are added after the others
 pub adds_more : (before more : List Segment) → AddsBoundary before more (before ++ more)
 adds_more before more = record { each = λ plane line corner. boundary-append plane line corner before more }

@@ -2,5 +2,5 @@ pub mod Totals
 pub mod BoundarySums
 pub mod Strands
 pub mod MarkSums
-pub mod Walks
+pub mod LineSweeps
 pub mod Lines

@@ -12,7 +12,7 @@ use Rattle.ember_triangles.specs.Walks.{AddsBoundary}
 use Rattle.ember_triangles.proofs.BoundarySums.{boundary-append, boundary-permutation, adds_more}
 
 -- ---- two opposite segments
--- two segments that come one after the other
+-- two segments, one after the other
 pub both_stay : (before : List Segment) (s t : Segment) → AddsBoundary before (s ∷ t ∷ []) ((before ++ s ∷ []) ++ t ∷ [])
 both_stay before s t =
     subst (AddsBoundary before (s ∷ t ∷ [])) (sym (append_assoc before (s ∷ []) (t ∷ []))) (adds_more before (s ∷ t ∷ []))

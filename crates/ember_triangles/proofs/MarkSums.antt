@@ -59,7 +59,7 @@ module _ (line : ℕ) where
       record { corners = λ plane corner. nothing_more (boundary plane line corner done) (total (change_at plane corner) ms) (total (change_at plane corner) ns) (change_at plane corner a) (h.corners plane corner) (total-push (change_at plane corner) ms ns a e) (ap (λ w. only_at corner a.corner (change plane w)) aw ∙ only_at-zero corner a.corner); whole = λ plane. nothing_yet (total (change_by plane) ms) (total (change_by plane) ns) (change_by plane a) (h.whole plane) (total-push (change_by plane) ms ns a e) (ap (change plane) aw) }
 
   -- the order of the marks doesn't matter
-  pub marks_in_order : (ss : List Segment) (ms ns : List Mark) → IsPermutation ms ns → AreMarks line ss ms → AreMarks line ss ns
+  marks_in_order : (ss : List Segment) (ms ns : List Mark) → IsPermutation ms ns → AreMarks line ss ms → AreMarks line ss ns
   marks_in_order ss ms ns p h =
       record { corners = λ plane corner. ap (λ (z : ℤ). boundary plane line corner ss +ℤ z) (total-permutation (change_at plane corner) ms ns p) ∙ h.corners plane corner; whole = λ plane. total-permutation (change_by plane) ms ns p ∙ h.whole plane }
 

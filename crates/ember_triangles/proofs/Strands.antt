@@ -1,4 +1,4 @@
--- Strands, and the segments that they stand for
+-- Strands, and their segments
 use Rattle.std.proofs.Common.{◌≡◌, ℕ, ◌+◌, ◌<◌, Bool, true, false, cond, List, [], ◌∷◌, ◌++◌, length, take, get_or, ℤ, pos, ◌+ℤ◌, ◌-ℤ◌, refl, sym, ap, subst, ◌∙◌, arith, eqb}
 use Rattle.std.proofs.lemmas.List.{take_more}
 use Rattle.ember_algebra.proofs.Laws.{linear}
@@ -86,7 +86,7 @@ module _ (w : Walk) (before : List Segment) (s : Segment) (on : s.line ≡ w.lin
 -- ---- the segments of all strands
 module _ (w : Walk) where
   -- the segments of two lists of strands
-  pub more_strands : (xs ys : List Strand) (before middle after : List Segment) → AddsStretch w xs before middle → AddsStretch w ys middle after → AddsStretch w (xs ++ ys) before after
+  more_strands : (xs ys : List Strand) (before middle after : List Segment) → AddsStretch w xs before middle → AddsStretch w ys middle after → AddsStretch w (xs ++ ys) before after
   more_strands xs ys before middle after h k =
       record { corners = λ plane corner. corners plane corner; others = λ plane line corner e. k.others plane line corner e ∙ h.others plane line corner e }
     where

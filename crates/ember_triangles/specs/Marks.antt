@@ -24,7 +24,7 @@ only_at corner c value = if nat_eq corner c then value else pos 0
 abbrev pub change_at : ℕ → ℕ → Mark → ℤ
 change_at plane corner m = only_at corner m.corner (change_by plane m)
 
--- the marks stand for the starts and ends of the segments, which are on the line
+-- the marks are the starts and ends of the segments, which are on the line
 pub record AreMarks (line : ℕ) (ss : List Segment) (ms : List Mark) : Type 0 where
   pub corners : (plane corner : ℕ) → boundary plane line corner ss +ℤ total (change_at plane corner) ms ≡ pos 0
   pub whole : (plane : ℕ) → total (change_by plane) ms ≡ pos 0

@@ -9,7 +9,7 @@ use Rattle.ember_triangles.specs.declared.walk.Walk.{Walk}
 use Rattle.ember_triangles.specs.Strands.{coefficient}
 use Rattle.ember_triangles.specs.Marks.{change_by, only_at, change_at}
 
--- from `before` to `after` the boundary of the segments `more` comes in
+-- the boundary of `after` is that of `before` and that of `more`
 pub record AddsBoundary (before more after : List Segment) : Type 0 where
   pub each : (plane line corner : ℕ) →
       boundary plane line corner after ≡ boundary plane line corner before +ℤ boundary plane line corner more

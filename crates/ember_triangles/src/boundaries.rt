@@ -19,7 +19,7 @@ fn are_opposite(s: &Segment, t: &Segment) -> bool
     s.start == t.end && s.end == t.start
 }
 
-// Opposite segments of one plane cancel, those of two planes stay.
+// Appends two opposite segments, unless they are of one plane: then they cancel.
 fn push_opposite(s: &Segment, t: &Segment, boundaries: &mut Boundaries) -> Result<(), MeshFault>
     requires line { s.now.line ≡ t.now.line }
     requires start { s.now.start ≡ t.now.end }
@@ -35,7 +35,8 @@ fn push_opposite(s: &Segment, t: &Segment, boundaries: &mut Boundaries) -> Resul
     Ok(())
 }
 
-// Splits a line's segments at its corners, and joins what is left where no plane's chain changes.
+// Splits a line's segments at its corners, cancels opposite ones, and joins the rest at each corner
+// at which no plane's chain changes.
 fn walk_along(
     alloc: Global,
     tables: &Tables,
@@ -85,9 +86,9 @@ fn count_on(segments: &[Segment], line: u32) -> usize
     segments.len()
 }
 
-/// The boundaries of the planes' parts, in order of planes, from the segments in order of lines: in each
-/// plane they have the chains of the segments. On a line there are only corners at which some plane's
-/// chain changes or the line is split.
+/// The boundaries of the planes' parts, in order of planes, from the segments in order of lines: in
+/// each plane they have the chains of the segments. On a line there are only corners at which some
+/// plane's chain changes or the line is split.
 pub fn boundaries_of(
     alloc: Global,
     tables: &Tables,

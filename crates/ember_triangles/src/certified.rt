@@ -11,9 +11,10 @@ use ember_key::LineKey;
 use ember_model::Plane;
 use std::alloc::Global;
 
-/// Triangles that cut up the faces whose edges are the segments. `planes`, `lines` and `corners` are what
-/// the segments' numbers stand for; of a line only its direction counts. It is a fault if faces of one
-/// plane overlap, if the faces aren't closed along a line, or if no certified triangles are found.
+/// Triangles that cut up the faces whose edges are the segments. `planes`, `lines` and `corners`
+/// are what the segments' numbers denote; of a line only its direction counts. It is a fault if
+/// faces of one plane overlap, if the faces aren't closed along a line, or if no certified
+/// triangles are found.
 pub fn certified_triangles(
     alloc: Global,
     planes: &[Plane],

@@ -21,7 +21,7 @@ pub enum MeshFault {
     /// The boundary of the plane's part surrounds no part.
     #[error("no triangles were found in plane {0}")]
     NoTriangles(u32),
-    /// Splitting lines at corners came to no end.
+    /// Splitting lines at corners didn't end.
     #[error("no triangles were found")]
     NoEnd,
     /// There are segments on the line 2^32 - 1, or too many diagonals.

@@ -13,7 +13,7 @@ use ember_wide::compare_fractions;
 use std::alloc::Global;
 use std::cmp::Ordering;
 
-/// What a mark stands for.
+/// What a mark is.
 #[derive(Clone, Copy, Debug, PartialEq, Eq)]
 pub enum What {
     /// A segment of the plane starts.
@@ -55,7 +55,7 @@ fn order_along(axis: Axis, p: &SpacePoint, q: &SpacePoint) -> Ordering {
     compare_fractions(coordinate(p, axis), p.w, coordinate(q, axis), q.w)
 }
 
-// Along the axis. Marks of one corner stand together.
+// The order of marks along the axis. Marks of one corner follow each other.
 fn mark_order(axis: Axis, m: &Mark, n: &Mark) -> Ordering {
     match order_along(axis, &m.point, &n.point) {
         Ordering::Equal => m.corner.cmp(&n.corner),

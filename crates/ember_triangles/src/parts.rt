@@ -31,7 +31,7 @@ pub fn empty_parts(alloc: Global, segments: &[Segment]) -> Result<Vec<PlanePart>
     Ok(parts)
 }
 
-// The segments of the plane among those in order of planes.
+// The segments of the plane among segments in order of planes.
 fn segments_of(segments: &[Segment], plane: u32) -> &[Segment] {
     let first = segments.partition_point(|s| s.plane < plane);
     let behind = segments.partition_point(|s| s.plane <= plane);
@@ -39,8 +39,9 @@ fn segments_of(segments: &[Segment], plane: u32) -> &[Segment] {
 }
 
 impl PlanePart {
-    /// Cuts the part inside its own ones of the segments into triangles, unless it has been cut inside
-    /// these before. If a corner lies inside a segment, it gives the split that is needed first.
+    /// Cuts the part inside its own ones of the segments into triangles, unless it has been cut
+    /// inside these before. If a corner lies inside a segment, returns the split that is needed
+    /// first.
     pub fn renew(
         &mut self,
         alloc: Global,
@@ -66,7 +67,8 @@ impl PlanePart {
     }
 }
 
-/// The triangles of all parts. The lines of diagonals begin with the first free one, in each plane anew.
+/// The triangles of all parts. The lines of diagonals begin with the first free one, in each plane
+/// anew.
 pub fn all_triangles(
     alloc: Global,
     parts: &[PlanePart],

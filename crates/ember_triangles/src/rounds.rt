@@ -9,7 +9,7 @@ use crate::walk::Boundaries;
 use ember_certificate::{Segment, Triangle};
 use std::alloc::Global;
 
-// The line behind those of all segments: the lines of diagonals begin there.
+// The line after those of all segments: the lines of diagonals begin there.
 fn first_free_line(segments: &[Segment]) -> Result<u32, MeshFault> {
     let mut free: u32 = 0;
     for s in segments {
@@ -21,7 +21,7 @@ fn first_free_line(segments: &[Segment]) -> Result<u32, MeshFault> {
     Ok(free)
 }
 
-// Cuts the parts, and gives the splits that are needed before all of them can be cut.
+// Cuts the parts, and returns the splits that are needed before all of them can be cut.
 fn cut_once(
     alloc: Global,
     tables: &Tables,
@@ -42,8 +42,8 @@ fn cut_once(
     Ok(needed)
 }
 
-/// Triangles of the planes' parts, plane by plane in the order of their first segments. Nobody has checked
-/// them yet.
+/// Triangles of the planes' parts, plane by plane in the order of their first segments. Nobody has
+/// checked them yet.
 pub fn found_triangles(
     alloc: Global,
     tables: &Tables,

@@ -8,7 +8,7 @@ pub struct Split {
     pub corner: u32,
 }
 
-/// Adds splits to those in order, and says whether one of them is new.
+/// Adds splits to those in order, and returns whether one of them is new.
 pub fn add_splits(splits: &mut Vec<Split>, more: &[Split]) -> Result<bool, OutOfMemory> {
     let before = splits.len();
     splits.extend_from_slice(more)?;
@@ -17,7 +17,7 @@ pub fn add_splits(splits: &mut Vec<Split>, more: &[Split]) -> Result<bool, OutOf
     Ok(before < splits.len())
 }
 
-/// The splits of the line among those in order.
+/// The splits of the line among splits in order.
 pub fn splits_on(splits: &[Split], line: u32) -> &[Split] {
     let first = splits.partition_point(|s| s.line < line);
     let behind = splits.partition_point(|s| s.line <= line);

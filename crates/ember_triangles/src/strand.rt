@@ -4,8 +4,8 @@ ghost use Rattle.ember_triangles.specs.Strands.{sign_in, coefficient};
 
 use crate::fault::MeshFault;
 
-/// What the segments of a plane leave over a stretch of a line: one that runs over it, or one that runs
-/// back over it.
+/// What the segments of a plane leave over a stretch of a line: one that runs over it, or one that
+/// runs back over it.
 #[derive(Clone, Copy, Debug, PartialEq, Eq)]
 pub enum Strand {
     Over(u32),
@@ -13,6 +13,7 @@ pub enum Strand {
 }
 
 impl Strand {
+    // The number of the strand's plane.
     pub fn plane(&self) -> u32 {
         match self {
             Strand::Over(plane) => *plane,

@@ -3,7 +3,7 @@ use ember_certificate::SpacePoint;
 use ember_key::LineKey;
 use ember_model::Plane;
 
-/// What the numbers of planes, lines and corners stand for.
+/// What the numbers of planes, lines and corners denote.
 #[derive(Clone, Copy)]
 pub struct Tables<'a> {
     pub planes: &'a [Plane],

@@ -11,7 +11,8 @@ pub struct Through {
     pub line: u32,
 }
 
-/// The splits of all lines along which a boundary runs through a corner, where there are two or more.
+/// If the boundary of a plane's part runs through a corner along two or more lines, the splits of
+/// these lines at the corner; of all planes and corners.
 pub fn crossings(alloc: Global, through: Vec<Through>) -> Result<Vec<Split>, MeshFault> {
     let mut sorted = through;
     sorted.sort_unstable();

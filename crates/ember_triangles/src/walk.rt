@@ -18,8 +18,9 @@ pub struct Boundaries {
     pub through: Vec<Through>,
 }
 
-/// A walk along a line: the corner at which it is, what changes there so far, and the strands of the
-/// stretch that ends there, with the corner at which they start. Strands are in order of planes.
+/// A walk along a line: the corner at which it is, what changes there so far, and the strands of
+/// the stretch that ends there, with the corner at which they start. Strands are in order of
+/// planes.
 #[derive(Drop)]
 pub struct Walk {
     line: u32,
@@ -99,8 +100,8 @@ impl Walk {
         }
     }
 
-    /// Leaves the corner. It is run through if no coefficient changes and the line isn't split there;
-    /// otherwise a stretch ends there and another one begins.
+    /// Leaves the corner. It is run through if no coefficient changes and the line isn't split
+    /// there; otherwise a stretch ends there and another one begins.
     pub fn settle(&mut self, boundaries: &mut Boundaries) -> Result<(), MeshFault>
         ensures walked { (line : ℕ) (done : List Mark) (before : List Segment) →
             IsWalked line done before self.old boundaries.old.segments.items →

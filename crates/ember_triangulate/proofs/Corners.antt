@@ -10,6 +10,7 @@ use Rattle.ember_triangulate.specs.Corners.{IsCornerOf, HasCornersOf}
 pub read_is_contained : (ss : List Segment) (k : ℕ) (s : Segment) → k < length ss → s ≡ get_or ss k s → Contains ss s
 read_is_contained ss k s l e = (k, l, sym e)
 
+-- a segment that is found in a list is in it
 pub found_is_contained : (ss : List Segment) (k : ℕ) (s : Segment) → Some s ≡ slice_get ss k → Contains ss s
 found_is_contained ss k s e =
     (k, slice_get_within ss k s (sym e), get_or_from_slice_get ss k s s (sym e))
@@ -18,6 +19,7 @@ found_is_contained ss k s e =
 pub end_is_corner : (ss : List Segment) (s : Segment) → Contains ss s → IsCornerOf ss s.end
 end_is_corner ss s c = (s, c, inr refl)
 
+-- the start of a segment is a corner of the boundary
 pub start_is_corner : (ss : List Segment) (s : Segment) → Contains ss s → IsCornerOf ss s.start
 start_is_corner ss s c = (s, c, inl refl)
 

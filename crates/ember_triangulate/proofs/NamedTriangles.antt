@@ -41,14 +41,13 @@ key_from_same_pair e f (inr p) = (λ i. pair_key (p.0 i) (p.1 i)) ∙ turned f.e
     turned u v = omega arith
 
 -- ---- extended tables
-pub extended_by_nothing : (ls : Lines) → AreExtended ls ls
-extended_by_nothing ls = record { kept = λ u v l p. p; right = λ ss first p. p }
 
+-- lines that extend lines that extend lines
 pub extended_twice : {a b c : Lines} → AreExtended a b → AreExtended b c → AreExtended a c
 extended_twice p q =
     record { kept = λ u v l h. q.kept u v l (p.kept u v l h); right = λ ss first h. q.right ss first (p.right ss first h) }
 
-pub line_is_kept : {a b : Lines} → AreExtended a b → (e : Segment) → HasLineIn a e → HasLineIn b e
+line_is_kept : {a b : Lines} → AreExtended a b → (e : Segment) → HasLineIn a e → HasLineIn b e
 line_is_kept p e h = p.kept e.start e.end e.line h
 
 -- ---- one triangle
@@ -99,7 +98,7 @@ edges_in-append (t ∷ ts) us =
 
 module _ (plane : ℕ) (cs : List (List ℕ)) (a b : Lines) (x : AreExtended a b) (ts : List Triangle) (c : List ℕ) (t : Triangle) where
   -- one more triangle
-  pub one_more_is_named : AreNamed plane cs a ts → IsNamed plane c b t → AreNamed plane (cs ++ c ∷ []) b (ts ++ t ∷ [])
+  one_more_is_named : AreNamed plane cs a ts → IsNamed plane c b t → AreNamed plane (cs ++ c ∷ []) b (ts ++ t ∷ [])
   one_more_is_named h n =
       record {
         corners = map-append corners_of ts (t ∷ []) ∙ (λ i. h.corners i ++ n.corners i ∷ []);

@@ -13,14 +13,9 @@ use Rattle.ember_triangulate.proofs.NextLines.{put_at_key, put_elsewhere}
 abbrev key_of : Segment → ℕ
 key_of s = edge_key s.start s.end
 
--- the table of no segments
-pub none_have_lines : (lines : ℕ → Option ℕ) → ((q : ℕ) → lines q ≡ None) → AreLinesOf [] lines
-none_have_lines lines h =
-    record { sound = λ q l e. absurd (let n = h q in cc); complete = λ s c. absurd (omega (arith, c.1)) }
-
 module _ (ss : List Segment) (s : Segment) (before after : ℕ → Option ℕ) (put : (q : ℕ) → after q ≡ cond (eqb (key_of s) q) (Some s.line) (before q)) where
   -- the table after one more segment
-  pub one_more_has_line : AreLinesOf ss before → AreLinesOf (ss ++ s ∷ []) after
+  one_more_has_line : AreLinesOf ss before → AreLinesOf (ss ++ s ∷ []) after
   one_more_has_line h =
       record { sound = λ q l e. found q l e (cases_eq (key_of s) q); complete = λ t c. has t (Contains-push_cases ss s t c) (cases_eq (key_of s) (key_of t)) }
     where

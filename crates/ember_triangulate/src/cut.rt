@@ -104,9 +104,9 @@ fn touch(boundary: &[Segment], corner: usize, edge: usize) -> Cut
     }
 }
 
-/// Cuts the part of the plane to the left of its boundary, seen from its front, into triangles that go
-/// round counter-clockwise. The boundary is any number of closed rings of segments, which share no more
-/// than corners; no corner is added. No segment may run through a corner: it is a touch.
+/// Cuts the part of the plane to the left of its boundary, seen from its front, into triangles that
+/// go round counter-clockwise. The boundary is any number of closed rings of segments, which share
+/// no more than corners; no corner is added. No segment may run through a corner: it is a touch.
 pub fn triangles_of(
     alloc: Global,
     plane: &Plane,

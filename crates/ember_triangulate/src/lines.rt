@@ -81,9 +81,9 @@ impl Lines {
     }
 }
 
-/// The triangles with the lines of their edges: an edge with the start and the end of a segment of the
-/// boundary has its line, and each pair of corners that a diagonal joins has a line of its own, from
-/// the first free line on. None if there aren't enough lines below 2^32.
+/// The triangles with the lines of their edges: an edge with the start and the end of a segment of
+/// the boundary has its line, and each pair of corners that a diagonal joins has a line of its own,
+/// from the first free line on. None if there aren't enough lines below 2^32.
 pub fn with_lines(
     alloc: Global,
     plane: u32,

@@ -4,14 +4,16 @@ use crate::stop::Stop;
 use std::alloc::Global;
 use std::collections::VecDeque;
 
-/// The left side of what isn't cut yet between a floor and its ceiling: the places of its corners from
-/// the floor up. It bends only to the left, so the places rise up to the peak and fall behind it.
+/// The left side of what isn't cut yet between a floor and its ceiling: the places of its corners
+/// from the floor up. It bends only to the left, so the places rise up to the peak and fall after
+/// it.
 #[derive(Drop)]
 pub struct ReflexChain {
     places: VecDeque<usize>,
 }
 
 impl ReflexChain {
+    // The chain of one corner, with this index.
     pub fn of(alloc: Global, place: usize) -> Result<ReflexChain, Stop> {
         let mut places = VecDeque::new(alloc);
         places.push_back(place)?;
@@ -83,7 +85,7 @@ impl ReflexChain {
         Ok(())
     }
 
-    // Where the place furthest to the right is.
+    // The index of the place furthest to the right.
     fn peak(&self) -> usize {
         let mut low = 0;
         let mut high = self.places.len().saturating_sub(1);

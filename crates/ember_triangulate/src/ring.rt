@@ -79,12 +79,13 @@ fn distance(p: &PlanePoint, q: &PlanePoint) -> u128 {
     along_x.saturating_add(along_y)
 }
 
+// Whether the diagonal from `p` to `r` cuts the quadrilateral into two triangles that turn left.
 fn are_halves(p: &PlanePoint, q: &PlanePoint, r: &PlanePoint, s: &PlanePoint) -> bool {
     is_left_turn(p, q, r) && is_left_turn(p, r, s)
 }
 
-// Whether the better diagonal is the one between the first and the third point, or the other one, or
-// neither lies inside: the shorter one of those that do.
+// Whether the better diagonal is the one between the first and the third point, or the other one,
+// or neither lies inside: the shorter one of those that do.
 fn is_first_better(points: &[PlanePoint; 4]) -> Option<bool> {
     let [p, q, r, s] = points;
     let first = are_halves(p, q, r, s);

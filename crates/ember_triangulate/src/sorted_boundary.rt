@@ -16,8 +16,8 @@ pub struct Place {
     pub segment: usize,
 }
 
-/// A segment of the boundary between the places of its ends. Above a floor is the plane's part, below
-/// a ceiling.
+/// A segment of the boundary between the places of its ends. Above a floor is the plane's part,
+/// below a ceiling.
 #[derive(Clone, Copy)]
 pub struct Edge {
     pub left: usize,
@@ -26,8 +26,8 @@ pub struct Edge {
     pub segment: usize,
 }
 
-/// The corners of a boundary from left to right, and its edges by their left ends, those of one left
-/// end from below.
+/// The corners of a boundary from left to right, and its edges by their left ends, those of one
+/// left end from below.
 #[derive(Drop)]
 pub struct SortedBoundary {
     pub places: Vec<Place>,
@@ -35,6 +35,7 @@ pub struct SortedBoundary {
 }
 
 impl SortedBoundary {
+    // The boundary with its corners sorted from left to right, as seen from the plane's front.
     pub fn of(
         alloc: Global,
         plane: &Plane,
@@ -47,7 +48,8 @@ impl SortedBoundary {
         Ok(SortedBoundary { places, edges })
     }
 
-    /// The edges whose left end is the place.
+    /// The range of the edges whose left end is the place: the index of the first, and the index
+    /// after the last.
     pub fn edges_from(&self, place: usize) -> (usize, usize) {
         (
             self.edges.partition_point(|e| e.left < place),
@@ -64,6 +66,7 @@ pub fn turn_at(places: &[Place], a: usize, b: usize, c: usize) -> Sign {
     turn(&a.point, &b.point, &c.point)
 }
 
+// Whether the places with these indices turn left.
 pub fn turns_left(places: &[Place], a: usize, b: usize, c: usize) -> bool {
     match turn_at(places, a, b, c) {
         Sign::Pos => true,

@@ -46,6 +46,7 @@ impl Sweep<'_> {
             .ok_or(Stop::NotFound)
     }
 
+    // Whether the edge with this number is a floor.
     fn is_floor(&self, number: usize) -> bool {
         match self.boundary.edges.get(number) {
             Some(e) => e.is_floor,
@@ -73,7 +74,7 @@ impl Sweep<'_> {
         }
     }
 
-    // Behind the edges that end at the place, of which the first would be at `first`.
+    // The index after the edges that end at the place; the first of these would be at `first`.
     fn behind_ended(&self, first: usize, place: usize) -> Result<usize, Stop> {
         let mut behind = first;
         let rest = self.status.get(first..).ok_or(Stop::NotFound)?;
@@ -130,7 +131,7 @@ impl Sweep<'_> {
         self.exchange(first, behind, start, end)
     }
 
-    // Ends the edges, and gives the chain above the last of them.
+    // Ends the edges, and returns the chain above the last of them.
     fn end_edges(
         &mut self,
         first: usize,
@@ -161,7 +162,8 @@ impl Sweep<'_> {
         Ok(Some(chain))
     }
 
-    // Splits the chain above the floor at a place where only new edges are, and gives the upper part.
+    // Splits the chain above the floor at a place where only new edges are, and returns the upper
+    // part.
     fn split_chain(
         &mut self,
         floor: Option<usize>,
@@ -217,7 +219,7 @@ impl Sweep<'_> {
         Ok(())
     }
 
-    // Puts the new edges in the place of the ended ones.
+    // Replaces the ended edges by the new ones.
     fn exchange(
         &mut self,
         first: usize,

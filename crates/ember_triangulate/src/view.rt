@@ -13,6 +13,7 @@ pub struct View {
 }
 
 impl View {
+    // The view of the plane from its front, along its main axis.
     pub fn of(plane: &Plane) -> View {
         let axis = main_axis(plane);
         let along = match axis {
@@ -26,7 +27,7 @@ impl View {
         }
     }
 
-    /// The point without its coordinate along the axis.
+    /// The point as seen from the front: without its coordinate along the axis.
     pub fn seen(&self, p: &SpacePoint) -> PlanePoint {
         let (x, y) = match self.axis {
             Axis::X => (p.y, p.z),
@@ -41,7 +42,7 @@ impl View {
     }
 }
 
-/// From left to right, and from below where two points are above each other.
+/// The order of points from left to right, and from below for points above each other.
 pub fn sweep_order(p: &PlanePoint, q: &PlanePoint) -> Ordering {
     match compare_fractions(p.x, p.w, q.x, q.w) {
         Ordering::Equal => compare_fractions(p.y, p.w, q.y, q.w),
@@ -49,6 +50,7 @@ pub fn sweep_order(p: &PlanePoint, q: &PlanePoint) -> Ordering {
     }
 }
 
+// Whether the three points turn left.
 pub fn is_left_turn(p: &PlanePoint, q: &PlanePoint, r: &PlanePoint) -> bool {
     match turn(p, q, r) {
         Sign::Pos => true,

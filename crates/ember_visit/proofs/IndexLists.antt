@@ -26,6 +26,7 @@ use Rattle.ember_visit.specs.Jobs.{near_of, IsJob}
 pub all_listed : (P : Tri → Type 0) (ts : List Tri) (is : List ℕ) → All P ts → All (λ i. i < length ts) is → All P (listed ts is)
 all_listed P ts is a within = All-map P (λ i. tri_at ts i) is (All-weaker (λ i. i < length ts) (λ i. P (tri_at ts i)) (λ i l. All-get_or P ts i no_tri l a) is within)
 
+-- meshes numbered up to n are numbered up to 64
 pub numbered_less : (n : ℕ) (ts : List Tri) → n ≤ 64 → All (HasMesh n) ts → All (HasMesh 64) ts
 numbered_less n ts le a = All-weaker (HasMesh n) (HasMesh 64) (λ t h. record { first = h.first; last = omega (arith, h.last, le) }) ts a
 
@@ -39,6 +40,7 @@ range_below : (from n most : ℕ) → from + n ≤ most → All (λ i. i < most)
 range_below from zero most le = λ k d l. absurd (omega arith)
 range_below from (suc n) most le = All-cons (λ i. i < most) from (range_with_len (from + 1) n) (omega arith) (range_below (from + 1) n most (omega arith))
 
+-- all indices of a list are in range
 pub all_places : (ts : List Tri) → All (λ i. i < length ts) (all_indices ts)
 all_places ts = range_below 0 (length ts) (length ts) (omega arith)
 
@@ -59,7 +61,7 @@ few_faces m ts =
       count_by-le-length same ts,
     )
 
-pub vector_small : (ts : List Tri) (c : Cell) → length ts ≤ 262144 → All (Small 262144) (vector_at ts c)
+vector_small : (ts : List Tri) (c : Cell) → length ts ≤ 262144 → All (Small 262144) (vector_at ts c)
 vector_small ts c few =
     All-map (Small 262144) (λ m. wind X (faces_of (of_mesh m ts)) (reference c)) meshes (λ k d l.
     let m = get_or meshes k d in
@@ -67,26 +69,24 @@ vector_small ts c few =
 
 -- ---- what a job keeps
 module _ (ts : List Tri) (j : Job) (h : IsJob ts j) where
+  -- a job lists indices of triangles of the scene
   pub job_places : All (λ i. i < length ts) j.list
   job_places = subst (All (λ i. i < length ts)) (sym h.list) (near_in_range ts j.cell (all_indices ts) (all_places ts))
 
+  -- a job lists no more triangles than a scene may have
   pub few_listed : length ts ≤ 262144 → length j.list ≤ 262144
   few_listed few =
       let p : ℕ → Bool = λ i. is_near j.cell (tri_at ts i) in
       omega (arith, few, ap length h.list, length-filter p (all_indices ts), count_by-le-length p (all_indices ts), length-range_with_len 0 (length ts))
 
+  -- a job's winding numbers are within the number of triangles
   pub counts_within : (m : ℕ) → 262144 ≤ m → length ts ≤ 262144 → All (Small m) j.at.counts
   counts_within m le few =
       subst (All (Small m)) (sym h.at) (λ k d l. small_within le (vector_small ts j.cell few k d l))
 
+  -- the triangles near a job's box are those that it lists
   pub near_listed : near ts j.cell ≡ near_of ts j
   near_listed = sym (ap (listed ts) h.list ∙ listed_near_all ts j.cell)
-
--- a mesh more, and one triangle less to come
-pub moved_in : (now before rest all : Bool) → (before || (now || rest)) ≡ all → ((now || before) || rest) ≡ all
-moved_in true true rest all e = e
-moved_in true false rest all e = e
-moved_in false before rest all e = e
 
 -- one number more
 pub range_more : (n : ℕ) → range_with_len 0 (n + 1) ≡ range_with_len 0 n ++ n ∷ []

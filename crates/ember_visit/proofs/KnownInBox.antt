@@ -76,7 +76,7 @@ module _ (ts : List Tri) (n : ℕ) (s : IsScene ts n) where
     same = λ m h far. count_is a ts p m h ∙ winds_far a b c p q (of_mesh m ts) (s.balanced m) (all_far c m ts far) f g (of_mesh_all (λ f. IsClear f p) m ts cp) (of_mesh_all (λ f. IsClear f q) m ts cq) ∙ sym (count_is b ts q m h);
   }
 
-  pub known_inside : (f : Formula) → IsFit 64 f → (j : Job) → IsJob ts j → (known : Bool) → box_value ts f j ≡ Some known → (a : Axis) (p : Spot) → HasPoint j.cell p → AreClear (faces_of ts) p → truth (vector a ts p) f ≡ known
+  known_inside : (f : Formula) → IsFit 64 f → (j : Job) → IsJob ts j → (known : Bool) → box_value ts f j ≡ Some known → (a : Axis) (p : Spot) → HasPoint j.cell p → AreClear (faces_of ts) p → truth (vector a ts p) f ≡ known
   unfolding box_value
   known_inside f fit j h known e a p has clear =
       let r = far_agree j.cell X a (reference j.cell) p (has_reference j.cell) has (clear_references j.cell.lo ts s.valid) clear in

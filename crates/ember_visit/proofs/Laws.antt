@@ -28,12 +28,14 @@ same_reference : (c : Cell) (k : Axis) → reference (left_half c k) ≡ referen
 same_reference c k = refl
 
 module _ (ts : List Tri) (n : ℕ) (s : IsScene ts n) (j : Job) (h : IsJob ts j) (k : Axis) (may : 0 < j.cell.log k) where
+  -- the left half's job is a job of the scene
   pub left_is_job : IsJob ts (left_job ts j k)
   left_is_job = record {
     list = ap (near_indices ts (left_half j.cell k)) h.list ∙ left_places ts j.cell k (all_indices ts) may;
     at = h.at ∙ ap (vector X ts) (sym (same_reference j.cell k));
   }
 
+  -- the right half's job is a job of the scene
   pub right_is_job : IsJob ts (right_job ts j k)
   right_is_job = record {
     list = ap (near_indices ts (right_half j.cell k)) h.list ∙ right_places ts j.cell k (all_indices ts) may;
@@ -59,12 +61,14 @@ module _ (ts : List Tri) (f : Formula) (j low high : Job) where
   unfolding shape
   into e = halved_into (box_value ts f j) (is_leaf (near_of ts j) j.cell) (left_job ts j axis) (right_job ts j axis) low high e
 
+  -- the halves of a job of a scene are jobs of it
   pub halves_are_jobs : (n : ℕ) → IsScene ts n → IsJob ts j → shape ts f j ≡ halved low high → IsJob ts low × IsJob ts high
   halves_are_jobs n s h e =
       let i = into e in
       let may = halvable_unless_leaf (near_of ts j) j.cell i.not_leaf in
       (subst (IsJob ts) i.is_low (left_is_job ts n s j h axis may), subst (IsJob ts) i.is_high (right_is_job ts n s j h axis may))
 
+  -- the halves of a job are jobs of the two halves of its box
   pub halves_are_split : shape ts f j ≡ halved low high → IsSplit j.cell low.cell high.cell
   halves_are_split e =
       let i = into e in record {

@@ -9,6 +9,7 @@ use Rattle.ember_box.specs.Reference.{vector_at}
 use Rattle.ember_ref.specs.References.{carried}
 use Rattle.ember_job.specs.declared.job.Job.{Job}
 
+-- the job of a box with these triangles and winding numbers
 abbrev pub job_of : Cell → List ℕ → List ℤ → Job
 job_of cell list counts = record { cell = cell; list = list; at = record { counts = counts } }
 
@@ -21,7 +22,7 @@ pub record IsJob (ts : List Tri) (j : Job) : Type 0 where
   pub list : j.list ≡ near_indices ts j.cell (all_indices ts)
   pub at : j.at.counts ≡ vector_at ts j.cell
 
--- the root, with the triangles near it and no windings
+-- the root's job: the triangles near the root, and all winding numbers 0
 abbrev pub root_job : List Tri → Job
 root_job ts = job_of root (near_indices ts root (all_indices ts)) (replicate 64 (pos 0))
 
@@ -34,6 +35,7 @@ abbrev pub right_job : List Tri → Job → Axis → Job
 right_job ts j k = job_of (right_half j.cell k) (near_indices ts (right_half j.cell k) j.list)
     (carried (near_of ts j) j.cell k j.at.counts)
 
+-- the two half jobs along an axis
 pub record AreHalfJobs (ts : List Tri) (j : Job) (k : Axis) (low high : Job) : Type 0 where
   pub is_low : low ≡ left_job ts j k
   pub is_high : high ≡ right_job ts j k

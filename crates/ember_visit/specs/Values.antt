@@ -11,7 +11,7 @@ use Rattle.ember_job.specs.declared.job.Job.{Job}
 use Rattle.ember_job.specs.Works.{Shape, halved, leafed, passed}
 use Rattle.ember_visit.specs.Jobs.{near_of, left_job, right_job}
 
--- a triangle of the mesh is among these
+-- whether a triangle of the mesh is among these
 abbrev pub has_mesh : List Tri → ℕ → Bool
 has_mesh [] n = false
 has_mesh (t ∷ ts) n = n == t.mesh || has_mesh ts n
@@ -26,10 +26,12 @@ pub record HasCorner (c : Cell) (v : Vector) : Type 0 where
   pub from : (k : Axis) → low c k ≤ℤ along k v
   pub until : (k : Axis) → along k v <ℤ high c k
 
+-- skipped if the value is known
 abbrev pub unless_known : Option Bool → Shape → Shape
 unless_known (Some b) s = passed
 unless_known None s = s
 
+-- a leaf if the first is true
 abbrev pub leaf_or : Bool → Shape → Shape
 leaf_or true s = leafed
 leaf_or false s = s

@@ -11,7 +11,7 @@ use ember_model::{Axis, OutOfMemory, Scene, Tri};
 use ember_ref::shift_listed;
 use std::alloc::Global;
 
-/// The listed triangles, in the order of the list.
+/// The triangles with the indices of the list, in its order. The only error is out-of-memory.
 pub fn tris_at(alloc: Global, tris: &[Tri], list: &[u32]) -> Result<Vec<Tri>, OutOfMemory>
     requires { All (λ i. i < length tris.now) list.now }
     ensures { IfOk result (λ found. found.items ≡ listed tris.now list.now) }
@@ -56,8 +56,8 @@ fn jobs_of(s: &Scene, job: &Job, axis: Axis, near_low: Vec<u32>, near_high: Vec<
 
 /// The two halves of a job along an axis, each with those of the job's triangles that are near it
 /// and with the winding numbers at its own reference point. The side along the axis is above 1,
-/// the list holds indices of the scene's triangles, at most 262,144, and each count leaves room for
-/// a crossing with each of them.
+/// the list has at most 262,144 indices of the scene's triangles, and each count leaves room for
+/// a crossing with each of them. The only error is out-of-memory.
 pub fn halve_job(alloc: Global, s: &Scene, job: &Job, axis: Axis) -> Result<(Job, Job), OutOfMemory>
     requires side { 0 < job.now.cell.log axis }
     requires places { All (λ i. i < length s.now.tris) job.now.list }
@@ -69,9 +69,9 @@ pub fn halve_job(alloc: Global, s: &Scene, job: &Job, axis: Axis) -> Result<(Job
     Ok(jobs_of(s, job, axis, near_low, near_high))
 }
 
-/// None if the box of a job is a leaf, and otherwise the two halves of the job along the halving axis
-/// of its box. The list holds indices of the scene's triangles, at most 262,144, and each count
-/// leaves room for a crossing with each of them.
+/// `None` if the box of a job is a leaf, and otherwise the two halves of the job along the halving
+/// axis of its box. The list has at most 262,144 indices of the scene's triangles, and each count
+/// leaves room for a crossing with each of them. The only error is out-of-memory.
 pub fn halve_unless_leaf(
     alloc: Global,
     s: &Scene,

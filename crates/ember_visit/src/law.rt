@@ -20,7 +20,7 @@ pub fn halves_of_a_job_are_jobs()
         0 < job.cell.log k → IsJob ts (left_job ts job k) × IsJob ts (right_job ts job k) }
 {}
 
-/// What is known of a box is true in it: at the winding numbers at the reference point of each
+/// If the value of a box is known, the expression has this value at the reference point of each
 /// corner in the box.
 pub fn known_values_are_true()
     ensures { (ts : List Tri) (meshes : ℕ) (f : Formula) (job : Job) (known : Bool) (v : Vector) →

@@ -1,5 +1,6 @@
-//! The jobs of a run over a scene: that of the root, what is known of an expression in the whole
-//! box of a job, and the jobs of its halves.
+//! The jobs of a run over a scene: the root's job, the value of an expression in the whole box of a
+//! job, if it is known, and the jobs of the halves. ember_known decides which values are known,
+//! ember_box whether a box is a leaf. ember_step puts these together: what becomes of one box.
 #![tactic(auto)]
 
 mod halving;

@@ -9,7 +9,7 @@ use ember_job::{Job, Numbers};
 use ember_model::{OutOfMemory, Scene, Vector};
 use std::alloc::Global;
 
-// The numbers below `count`.
+// The numbers from 0 up to `count`, which isn't among them.
 fn numbers_below(alloc: Global, count: u32) -> Result<Vec<u32>, OutOfMemory>
     ensures { IfOk result (λ numbers. numbers.items ≡ range_with_len 0 count) }
 {
@@ -20,8 +20,8 @@ fn numbers_below(alloc: Global, count: u32) -> Result<Vec<u32>, OutOfMemory>
     Ok(numbers)
 }
 
-/// The root box with the triangles near it and with all winding numbers 0, since its reference
-/// point lies outside all meshes.
+/// The job of the root box: the triangles near it, and all winding numbers 0, since its reference
+/// point is outside all meshes. The only error is out-of-memory.
 pub fn root_job(alloc: Global, s: &Scene) -> Result<Job, OutOfMemory>
     ensures value { IfOk result (λ job. job ≡ jobs.root_job s.now.tris) }
     ensures valid { IfOk result (λ job. IsJob s.now.tris job) }

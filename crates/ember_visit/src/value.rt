@@ -28,10 +28,11 @@ fn meshes_of(tris: &[Tri], list: &[u32]) -> Mask
     meshes
 }
 
-/// The value of the expression in the whole box of a job, if it is known: a mesh with a
-/// triangle in the job's list is undecided, and each other mesh counts as in the job's vector. It
-/// is the truth at each vector with the same counts of those other meshes. The list holds indices
-/// of the scene's triangles, and each count is at most 2^24 in size.
+/// The value of the expression in the whole box of a job, or `None` if it isn't known. A mesh with
+/// a triangle in the job's list is undecided; the other meshes have the job's winding numbers. A
+/// known value is the expression's truth at each vector that agrees with the job's in those other
+/// meshes. The list has indices of the scene's triangles, and each winding number is at most 2^24
+/// in size.
 #[tactic(none)]
 pub fn box_value(e: &Expr, s: &Scene, job: &Job) -> Option<bool>
     requires places { All (λ i. i < length s.now.tris) job.now.list }

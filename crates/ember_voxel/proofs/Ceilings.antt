@@ -6,6 +6,7 @@ use Rattle.std.proofs.lemmas.Int.{ints}
 use Rattle.std.proofs.Math.Nat.{mul-le-mul_right, div-mul-le_self, pow-le-pow_right}
 use Rattle.ember_box.proofs.Orders.{same_test, le_in, le_out}
 
+-- (a + 1) b is a b + b
 pub times_more : (a b : ℕ) → (a + 1) * b ≡ a * b + b
 times_more a b = omega arith
 
@@ -13,6 +14,7 @@ module _ (d : ℕ) (some : 0 < d) (x : ℕ) where
   abbrev rounded : ℕ
   rounded = (x + (d - 1)) / d
 
+  -- i is below the rounded quotient exactly if i d is below x
   pub below_rounded : (i : ℕ) → nat_lt i rounded ≡ nat_lt (i * d) x
   below_rounded i = same_test (nat_lt i rounded) (nat_lt (i * d) x) forth back where
     forth : nat_lt i rounded ≡ true → nat_lt (i * d) x ≡ true
@@ -26,24 +28,27 @@ module _ (d : ℕ) (some : 0 < d) (x : ℕ) where
         let h : i + 1 ≤ rounded = le-div (i + 1) (x + (d - 1)) d some (omega (arith, ltb-true (i * d) x e, times_more i d, some)) in
         lt-ltb i rounded (omega (arith, h))
 
+  -- and at or above it exactly if i d is at or above x
   pub from_rounded : (i : ℕ) → nat_le rounded i ≡ nat_le x (i * d)
   from_rounded i = by (nat_lt i rounded) refl where
     by : (b : Bool) → nat_lt i rounded ≡ b → nat_le rounded i ≡ nat_le x (i * d)
     by true e = lt-leb rounded i (ltb-true i rounded e) ∙ sym (lt-leb x (i * d) (ltb-true (i * d) x (sym (below_rounded i) ∙ e)))
     by false e = le-leb rounded i (ltb-false i rounded e) ∙ sym (le-leb x (i * d) (ltb-false (i * d) x (sym (below_rounded i) ∙ e)))
 
+  -- the rounded quotient is at most m if x is at most m d
   pub rounded_within : (m : ℕ) → x ≤ m * d → rounded ≤ m
   rounded_within m le = leb-true rounded m (from_rounded m ∙ le-leb x (m * d) le)
 
+-- along an axis there are at most 4096 cells
 pub few_cells : (size : ℕ) → 2 ^ (12 - size) ≤ 4096
 few_cells size = pow-le-pow_right (omega arith) (let e : 12 - size ≤ 12 = omega arith in e)
 
--- along an axis: x and y are where the box begins and ends, counted from the root's corner
-pub begins : (low : ℤ) (x n : ℕ) → pos x ≡ low +ℤ pos 2048 → nat_le x n ≡ int_le low (pos n -ℤ pos 2048)
-begins low x n e = same_test (nat_le x n) (int_le low (pos n -ℤ pos 2048)) (λ p. le_in low (pos n -ℤ pos 2048) (omega (arith, ints, e, leb-true x n p))) (λ p. le-leb x n (omega (arith, ints, e, le_out low (pos n -ℤ pos 2048) p)))
+-- along an axis: x and y are where the box box_begins_at and box_ends_at, counted from the root's corner
+pub box_begins_at : (low : ℤ) (x n : ℕ) → pos x ≡ low +ℤ pos 2048 → nat_le x n ≡ int_le low (pos n -ℤ pos 2048)
+box_begins_at low x n e = same_test (nat_le x n) (int_le low (pos n -ℤ pos 2048)) (λ p. le_in low (pos n -ℤ pos 2048) (omega (arith, ints, e, leb-true x n p))) (λ p. le-leb x n (omega (arith, ints, e, le_out low (pos n -ℤ pos 2048) p)))
 
-pub ends : (low side : ℤ) (y n : ℕ) → pos y ≡ low +ℤ side +ℤ pos 2048 → nat_lt n y ≡ int_lt (pos n -ℤ pos 2048) (low +ℤ side)
-ends low side y n e = grind (arith, ints)
+pub box_ends_at : (low side : ℤ) (y n : ℕ) → pos y ≡ low +ℤ side +ℤ pos 2048 → nat_lt n y ≡ int_lt (pos n -ℤ pos 2048) (low +ℤ side)
+box_ends_at low side y n e = grind (arith, ints)
 
 -- all cells along an axis make up the root's side
 pub all_cells : (size : ℕ) → size ≤ 12 → 2 ^ (12 - size) * 2 ^ size ≡ 4096

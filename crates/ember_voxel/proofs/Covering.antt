@@ -45,6 +45,7 @@ in_second true false true false = refl
 in_second false b true t = refl
 in_second a b false t = refl
 
+-- a factor in both cases of an "or" is a factor of the whole
 pub in_third : (a b t : Bool) → ((a && t) || (b && t)) ≡ ((a || b) && t)
 in_third true b true = refl
 in_third true true false = refl
@@ -68,6 +69,7 @@ root_span size i le within =
     let some : 0 < 2 ^ size = pow_pos size in
     and_from (int_le (neg_ℤ (pos 2048)) (corner size i)) (int_lt (corner size i) (neg_ℤ (pos 2048) +ℤ pos (2 ^ 12))) (le_in (neg_ℤ (pos 2048)) (corner size i) (omega (arith, ints))) (lt_in (corner size i) (neg_ℤ (pos 2048) +ℤ pos (2 ^ 12)) (omega (arith, ints, below, some)))
 
+-- the root has the least corner of every cell
 pub root_covers : (size i j l : ℕ) → size ≤ 12 → i < 2 ^ (12 - size) → j < 2 ^ (12 - size) → l < 2 ^ (12 - size) → contains_cell size root i j l ≡ true
 root_covers size i j l le p q r = λ t. root_span size l le r t && (root_span size j le q t && root_span size i le p t)
 
@@ -77,6 +79,7 @@ within size c k i e =
     let p = and_parts (int_le (low c k) (corner size i)) (int_lt (corner size i) (high c k)) e in
     (le_out (low c k) (corner size i) p.0, lt_out (corner size i) (high c k) p.1)
 
+-- a box that covers a lattice cell contains the cell's least corner
 pub covered : (size : ℕ) (c : Cell) (i j l : ℕ) → contains_cell size c i j l ≡ true → HasCorner c (least_corner size i j l)
 covered size c i j l e = record { from = λ k. (at k).0; until = λ k. (at k).1 } where
   p : (contains_along size c Z l ≡ true) × ((contains_along size c Y j && contains_along size c X i) ≡ true)
@@ -90,6 +93,7 @@ covered size c i j l e = record { from = λ k. (at k).0; until = λ k. (at k).1 
   at Y = within size c Y j q.0
   at Z = within size c Z l p.0
 
+-- a box has its own least corner
 pub own_corner : (c : Cell) → HasCorner c c.lo
 own_corner c = record { from = λ k. omega (arith, linear); until = λ k. let some = pow_pos (c.log k) in omega (arith, ints) }
 
@@ -120,6 +124,7 @@ begins_there size log i lo e = subst (λ n. IsOnGrid lo n → lo ≤ℤ corner s
     let d = 2 ^ size in
     let m = same_multiple d s.index i (omega (arith, ints, s.at, from)) (omega (arith, ints, s.at, until)) in omega (arith, ints, s.at, m))
 
+-- the least corner of a box that is one cell is the cell's
 pub least_is : (size : ℕ) (c : Cell) (i j l : ℕ) → IsHalvedByLongest c → is_lattice_cell size c ≡ true → contains_cell size c i j l ≡ true → c.lo ≡ least_corner size i j l
 least_is size c i j l even last e =
     let p = and_parts (c.log X == size) (c.log Y == size && c.log Z == size) last in let q = and_parts (c.log Y == size) (c.log Z == size) p.1 in

@@ -1,6 +1,6 @@
 pub mod Rows
 pub mod Ceilings
-pub mod Written
+pub mod GridTexts
 pub mod Covering
-pub mod Whole
+pub mod CellValues
 pub mod OneText

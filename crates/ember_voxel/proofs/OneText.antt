@@ -21,6 +21,7 @@ module _ (n : ℕ) (bit : ℕ → ℕ → ℕ → Bool) (a b : List ℕ) (f : Is
       let some : zero < n + 1 = omega arith in
       subst (λ m. get_or a m 0 ≡ get_or b m 0) (div-add-mod' k (n + 1)) (same_char (k / (n + 1)) (k % (n + 1)) ((div-lt_iff_lt-mul some).1 (omega (arith, within, f.size))) (mod-lt k some)))
 
+-- bits have one text
 pub one_text : (size : ℕ) (bit : ℕ → ℕ → ℕ → Bool) (text other : List ℕ) → IsTextOfBits size bit text → IsTextOfBits size bit other → text ≡ other
 one_text size bit text other f g =
     f.is ∙ ap (λ rows. header_of size (2 ^ (12 - size)) ++ rows ++ (codes "end " ++ decimal (count_by is_one rows) ++ codes "\n")) (same_rows (2 ^ (12 - size)) bit f.rows g.rows f.grid g.grid) ∙ sym g.is

@@ -20,7 +20,7 @@ lt_same k i apart = by (nat_lt k i) refl where
   by true p = lt-ltb k (i + 1) (omega (arith, ltb-true k i p))
   by false p = le-ltb k (i + 1) (omega (arith, ltb-false k i p, apart))
 
-pub one_more : (from k i : ℕ) → from ≤ i → (nat_le from k && nat_lt k (i + 1)) ≡ (k == i || (nat_le from k && nat_lt k i))
+one_more : (from k i : ℕ) → from ≤ i → (nat_le from k && nat_lt k (i + 1)) ≡ (k == i || (nat_le from k && nat_lt k i))
 one_more from k i le = by (eqb_tells k i) where
   by : (((k == i) ≡ true) × (k ≡ i)) ⊎ (((k == i) ≡ false) × (k ≡ i → ⊥)) → (nat_le from k && nat_lt k (i + 1)) ≡ (k == i || (nat_le from k && nat_lt k i))
   by (inl s) =
@@ -29,7 +29,7 @@ one_more from k i le = by (eqb_tells k i) where
       (λ t. a t && b t) ∙ ap (λ e. e || (nat_le from k && nat_lt k i)) (sym s.0)
   by (inr d) = ap (λ t. nat_le from k && t) (lt_same k i d.1) ∙ ap (λ e. e || (nat_le from k && nat_lt k i)) (sym d.0)
 
-pub none_yet : (from k : ℕ) → (nat_le from k && nat_lt k from) ≡ false
+none_yet : (from k : ℕ) → (nat_le from k && nat_lt k from) ≡ false
 none_yet from k = by (nat_lt k from) refl where
   none : (b : Bool) → (b && false) ≡ false
   none true = refl
@@ -45,7 +45,7 @@ none_yet from k = by (nat_lt k from) refl where
       by' true p' = absurd (omega (arith, l, leb-true m n p'))
 
 -- ---- places
-pub same_place : (w q r i k : ℕ) → i < w → k < w → (q * w + k == r * w + i) ≡ (q == r && k == i)
+same_place : (w q r i k : ℕ) → i < w → k < w → (q * w + k == r * w + i) ≡ (q == r && k == i)
 same_place w q r i k l m = same_test (q * w + k == r * w + i) (q == r && k == i) forth back where
   forth : (q * w + k == r * w + i) ≡ true → (q == r && k == i) ≡ true
   forth e =
@@ -60,7 +60,7 @@ same_place w q r i k l m = same_test (q * w + k == r * w + i) (q == r && k == i)
       let b : k ≡ i = eqb-true k i (and_parts (q == r) (k == i) e).1 in
       eq-eqb (q * w + k) (r * w + i) (λ x. a x * w + b x)
 
-pub write_at : (n r i q k v : ℕ) (xs : List ℕ) → i < n + 1 → k < n + 1 → r * (n + 1) + i < length xs → char_at n (set xs (r * (n + 1) + i) v) q k ≡ (if q == r && k == i then v else char_at n xs q k)
+write_at : (n r i q k v : ℕ) (xs : List ℕ) → i < n + 1 → k < n + 1 → r * (n + 1) + i < length xs → char_at n (set xs (r * (n + 1) + i) v) q k ≡ (if q == r && k == i then v else char_at n xs q k)
 write_at n r i q k v xs l m within = by (eqb_tells (q * (n + 1) + k) (r * (n + 1) + i)) where
   by : (((q * (n + 1) + k == r * (n + 1) + i) ≡ true) × (q * (n + 1) + k ≡ r * (n + 1) + i)) ⊎ (((q * (n + 1) + k == r * (n + 1) + i) ≡ false) × (q * (n + 1) + k ≡ r * (n + 1) + i → ⊥)) → char_at n (set xs (r * (n + 1) + i) v) q k ≡ (if q == r && k == i then v else char_at n xs q k)
   by (inl s) =
@@ -102,12 +102,14 @@ pub record RowSet (n r from i : ℕ) (old now : List ℕ) : Type 0 where
   pub cells : (q k : ℕ) → k < n → char_at n now q k ≡ (if q == r && (nat_le from k && nat_lt k i) then 49 else char_at n old q k)
   pub feeds : KeepsFeeds n old now
 
+-- before the first cell, nothing is set
 pub row_none : (n r from : ℕ) (old : List ℕ) → RowSet n r from from old old
 row_none n r from old = record {
   cells = λ q k l. sym (ap (λ b. if q == r && b then 49 else char_at n old q k) (none_yet from k) ∙ nothing (q == r) 49 (char_at n old q k));
   feeds = record { kept = λ q. refl };
 }
 
+-- one more cell of a row is set
 pub row_more : (n r from i start : ℕ) (old now : List ℕ) → start ≡ r * (n + 1) → from ≤ i → i < n → start + i < length now → RowSet n r from i old now → RowSet n r from (i + 1) old (set now (start + i) 49)
 row_more n r from i start old now e le l within s =
     subst (λ p. RowSet n r from (i + 1) old (set now (p + i) 49)) (sym e) (record { cells = cells'; feeds = record { kept = feeds' } }) where
@@ -133,12 +135,14 @@ pub record LayerSet (n l from j : ℕ) (x : Extent) (old now : List ℕ) : Type 
   pub cells : (i k m : ℕ) → i < n → k < n → m < n → char_at n now (m * n + k) i ≡ (if m == l && ((nat_le from k && nat_lt k j) && between x i) then 49 else char_at n old (m * n + k) i)
   pub feeds : KeepsFeeds n old now
 
+-- before the first row, nothing is set
 pub layer_none : (n l from : ℕ) (x : Extent) (old : List ℕ) → LayerSet n l from from x old old
 layer_none n l from x old = record {
   cells = λ i k m a b c. sym (ap (λ t. if m == l && (t && between x i) then 49 else char_at n old (m * n + k) i) (none_yet from k) ∙ nothing (m == l) 49 (char_at n old (m * n + k) i));
   feeds = record { kept = λ q. refl };
 }
 
+-- one more row of a layer is set
 pub layer_more : (n l from j r : ℕ) (x : Extent) (old now new : List ℕ) → r ≡ l * n + j → from ≤ j → j < n → LayerSet n l from j x old now → ((q i : ℕ) → i < n → char_at n new q i ≡ (if q == r && between x i then 49 else char_at n now q i)) → KeepsFeeds n now new → LayerSet n l from (j + 1) x old new
 layer_more n l from j r x old now new e le lj s row feeds = record {
   cells = λ i k m a b c.
@@ -155,12 +159,14 @@ pub record BlockSet (n from l : ℕ) (x y : Extent) (old now : List ℕ) : Type 
   pub cells : (i k m : ℕ) → i < n → k < n → m < n → char_at n now (m * n + k) i ≡ (if (nat_le from m && nat_lt m l) && (between y k && between x i) then 49 else char_at n old (m * n + k) i)
   pub feeds : KeepsFeeds n old now
 
+-- before the first layer, nothing is set
 pub block_none : (n from : ℕ) (x y : Extent) (old : List ℕ) → BlockSet n from from x y old old
 block_none n from x y old = record {
   cells = λ i k m a b c. sym (ap (λ t. if t && (between y k && between x i) then 49 else char_at n old (m * n + k) i) (none_yet from m));
   feeds = record { kept = λ q. refl };
 }
 
+-- one more layer of a block is set
 pub block_more : (n from l : ℕ) (x y : Extent) (old now new : List ℕ) → from ≤ l → BlockSet n from l x y old now → ((i k m : ℕ) → i < n → k < n → m < n → char_at n new (m * n + k) i ≡ (if m == l && (between y k && between x i) then 49 else char_at n now (m * n + k) i)) → KeepsFeeds n now new → BlockSet n from (l + 1) x y old new
 block_more n from l x y old now new le s layer feeds = record {
   cells = λ i k m a b c.
@@ -176,6 +182,7 @@ pub record FillsSet (size n : ℕ) (fills : List Fill) (old now : List ℕ) : Ty
   pub cells : (i j m : ℕ) → i < n → j < n → m < n → char_at n now (m * n + j) i ≡ (if is_set size fills i j m then 49 else char_at n old (m * n + j) i)
   pub feeds : KeepsFeeds n old now
 
+-- the cells of one more box are set
 pub fills_more : (size n k : ℕ) (fills : List Fill) (f : Fill) (old now new : List ℕ) → k < length fills → f ≡ get_or fills k f → FillsSet size n (take k fills) old now → ((i j m : ℕ) → i < n → j < n → m < n → char_at n new (m * n + j) i ≡ (if sets_cell size i j m f then 49 else char_at n now (m * n + j) i)) → KeepsFeeds n now new → FillsSet size n (take (k + 1) fills) old new
 fills_more size n k fills f old now new within is s one feeds = record {
   cells = λ i j m a b c.
@@ -202,6 +209,7 @@ row_end n = let e : length (replicate n 48) + 0 ≡ n = omega (arith, length-rep
 row_cell : (n i : ℕ) → i < n → get_or (blank_row n) i 0 ≡ 48
 row_cell n i l = get_or_append_left (replicate n 48) line_end 0 i (omega (arith, l, length-replicate {A = ℕ} n 48)) ∙ get_or-replicate n i 48 0 l
 
+-- one more blank row is appended
 pub adds_more : (n count : ℕ) (old now new row : List ℕ) → AddsRows n count old now → row ≡ blank_row n → new ≡ now ++ row → AddsRows n (count + 1) old new
 adds_more n count old now new row s is e = record {
   rows = s.rows ++ row;

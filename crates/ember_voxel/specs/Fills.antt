@@ -13,9 +13,10 @@ use Rattle.ember_voxel.specs.Lattice.{shape}
 abbrev pub fill_of : Formula → Job → Fill
 fill_of f j = record { cell = j.cell; bit = truth j.at.counts f }
 
+-- the item of a leaf
 abbrev pub IsFill : Formula → Job → Fill → Type 0
 IsFill f j it = it ≡ fill_of f j
 
--- those of the leaves under the root, in order
+-- the items of the leaves below the root, in order
 abbrev pub leaf_fills : List Tri → Formula → ℕ → List Fill
 leaf_fills ts f size = map (fill_of f) (leaves (shape ts f size) (root_job ts))

@@ -20,17 +20,20 @@ contains_along size c k i = int_le (low c k) (corner size i) && int_lt (corner s
 abbrev pub contains_cell : ℕ → Cell → ℕ → ℕ → ℕ → Bool
 contains_cell size c i j l = contains_along size c Z l && (contains_along size c Y j && contains_along size c X i)
 
+-- the box has the value 1, and the cell's least corner lies in it
 abbrev pub sets_cell : ℕ → ℕ → ℕ → ℕ → Fill → Bool
 sets_cell size i j l f = f.bit && contains_cell size f.cell i j l
 
--- some box of the value 1 has the cell
+-- some box of the value 1 has the cell's least corner
 abbrev pub is_set : ℕ → List Fill → ℕ → ℕ → ℕ → Bool
 is_set size fills i j l = list_any (sets_cell size i j l) fills
 
 -- ---- rows of n cells and a line feed each
+-- the character at index i of row r
 abbrev pub char_at : ℕ → List ℕ → ℕ → ℕ → ℕ
 char_at n rows r i = slice_index_or rows (r * (n + 1) + i) 0
 
+-- whether a byte is the character 1
 abbrev pub is_one : ℕ → Bool
 is_one c = c == 49
 
@@ -40,6 +43,7 @@ pub record IsGrid (n : ℕ) (bit : ℕ → ℕ → ℕ → Bool) (rows : List �
   pub cell : (i j l : ℕ) → i < n → j < n → l < n → char_at n rows (l * n + j) i ≡ (if bit i j l then 49 else 48)
   pub feed : (r : ℕ) → r < n * n → char_at n rows r n ≡ 10
 
+-- the first line
 abbrev pub header_of : ℕ → ℕ → List ℕ
 header_of size n = codes "voxels " ++ decimal size ++ codes " " ++ decimal n ++ codes "\n"
 
@@ -50,28 +54,31 @@ pub record IsTextOfBits (size : ℕ) (bit : ℕ → ℕ → ℕ → Bool) (text 
   pub is : text ≡ header_of size (2 ^ (12 - size)) ++ rows ++
       (codes "end " ++ decimal (count_by is_one rows) ++ codes "\n")
 
--- the text of the cells that these boxes have
+-- the text of the lattice in which the cells of these boxes are set, as far as the boxes have the value 1
 abbrev pub IsGridText : ℕ → List Fill → List ℕ → Type 0
 IsGridText size fills text = IsTextOfBits size (is_set size fills) text
 
 -- ---- while it is made
+-- the cell i is one of the extent's
 abbrev pub between : Extent → ℕ → Bool
 between e i = nat_le e.from i && nat_lt i e.end
 
--- cells up to the last of a row
+-- the extent has cells of a row of n
 pub record IsExtent (n : ℕ) (e : Extent) : Type 0 where
   pub order : e.from ≤ e.end
   pub bound : e.end ≤ n
 
+-- the line feeds stay
 pub record KeepsFeeds (n : ℕ) (old new : List ℕ) : Type 0 where
   pub kept : (r : ℕ) → char_at n new r n ≡ char_at n old r n
 
--- so many rows with no cell set
+-- `count` rows with no cell set
 pub record AreBlank (n count : ℕ) (rows : List ℕ) : Type 0 where
   pub size : length rows ≡ count * (n + 1)
   pub cell : (r i : ℕ) → r < count → i < n → char_at n rows r i ≡ 48
   pub feed : (r : ℕ) → r < count → char_at n rows r n ≡ 10
 
+-- `count` such rows were appended
 pub record AddsRows (n count : ℕ) (old new : List ℕ) : Type 0 where
   pub rows : List ℕ
   pub is : new ≡ old ++ rows

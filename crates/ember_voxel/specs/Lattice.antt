@@ -16,7 +16,7 @@ longest c =
     if nat_le (c.log Y) (c.log X) && nat_le (c.log Z) (c.log X) then X
     else (if nat_le (c.log Z) (c.log Y) then Y else Z)
 
--- boxes that come from the root by halving the longest side
+-- the boxes that are made from the root by halving the longest side
 pub data IsHalvedByLongest : Cell → Type 0 where
   whole : IsHalvedByLongest root
   low : (c : Cell) → IsHalvedByLongest c → 0 < c.log (longest c) → IsHalvedByLongest (left_half c (longest c))
@@ -37,7 +37,7 @@ abbrev pub ends : Option Bool → Bool → Bool
 ends None last = last
 ends (Some b) last = true
 
--- and otherwise it is halved along its longest side
+-- what becomes of a job: a leaf, or its box is halved along its longest side
 unfoldable pub shape : List Tri → Formula → ℕ → Job → Shape
 shape ts f size j =
     leaf_or (ends (box_value ts f j) (is_lattice_cell size j.cell))

@@ -4,7 +4,7 @@ ghost use Rattle.std.specs.Prelude.{◌≡◌};
 use ember_box::Cell;
 use std::marker::Model;
 
-/// A box at whose lattice cells the expression has one value.
+/// A box, and the one value that the expression has at its lattice cells.
 #[derive(Drop)]
 pub struct Fill {
     pub cell: Cell,

@@ -1,4 +1,5 @@
-// The text of all lattice cells.
+// The text of all lattice cells. Along each axis there are n cells, with the indices 0 to n - 1. A
+// row is the line of the cells with one j along y and one l along z.
 ghost use Rattle.std.specs.Prelude.{◌≡◌, ℕ, ◌+◌, ◌-◌, ◌*◌, ◌^◌, ◌<◌, ◌≤◌, ◌==◌, ◌&&◌, Bool, nat_lt, nat_le, pos, ◌+ℤ◌, codes, decimal, ◌++◌, length, count_by, if◌then◌else◌, IfOk, OnOk};
 ghost use Rattle.ember_voxel.specs.Grid.{char_at, between, contains_cell, sets_cell, is_set, is_one, IsExtent, IsGridText, AddsRows, KeepsFeeds, header_of};
 ghost use Rattle.ember_box.specs.Boxes as boxes;
@@ -10,7 +11,8 @@ use ember_model::{Axis, OutOfMemory};
 use itoa::Buffer;
 use std::alloc::Global;
 
-// The lattice cells of a box along one axis, from the first one up to the one after the last.
+// The lattice cells of a box along one axis: the index of the first one, and of the one after the
+// last.
 #[derive(Clone, Copy)]
 pub struct Extent {
     pub from: usize,
@@ -25,7 +27,7 @@ pub struct Block {
     pub z: Extent,
 }
 
-// How many cells lie along each axis.
+// The number of cells along each axis.
 fn cells_along(size: u8) -> usize
     requires { size ≤ 12 }
     ensures value { result ≡ 2 ^ (12 - size) }
@@ -34,7 +36,7 @@ fn cells_along(size: u8) -> usize
     1usize << (12 - size)
 }
 
-// A row for each pair of coordinates y and z.
+// The number of rows: one for each pair of indices along y and z.
 fn row_count(n: usize) -> usize
     requires { n ≤ 4096 }
     ensures value { result ≡ n * n }
@@ -43,7 +45,7 @@ fn row_count(n: usize) -> usize
     n * n
 }
 
-// The row of the cells with the coordinates j along y and l along z.
+// The index of the row of the cells with the indices j along y and l along z.
 fn row_of(n: usize, j: usize, l: usize) -> usize
     requires few { n ≤ 4096 }
     requires j { j < n }
@@ -54,7 +56,7 @@ fn row_of(n: usize, j: usize, l: usize) -> usize
     l * n + j
 }
 
-// Where a row of n cells and a line feed begins.
+// The index of the first byte of row `r`. A row has n cells and a line feed.
 fn row_start(n: usize, r: usize) -> usize
     requires few { n ≤ 4096 }
     requires row { r < n * n }
@@ -64,7 +66,7 @@ fn row_start(n: usize, r: usize) -> usize
     r * (n + 1)
 }
 
-// Sets cells of a row.
+// Sets the cells `x` of a row.
 fn set_row(rows: &mut [u8], n: usize, r: usize, x: &Extent)
     requires few { n ≤ 4096 }
     requires size { length rows.old ≡ n * n * (n + 1) }
@@ -81,7 +83,7 @@ fn set_row(rows: &mut [u8], n: usize, r: usize, x: &Extent)
     }
 }
 
-// Sets the cells of a block that have the coordinate l along z.
+// Sets the cells of a block that have the index l along z.
 fn set_layer(rows: &mut [u8], n: usize, l: usize, x: &Extent, y: &Extent)
     requires few { n ≤ 4096 }
     requires size { length rows.old ≡ n * n * (n + 1) }
@@ -117,7 +119,7 @@ fn set_block(rows: &mut [u8], n: usize, b: &Block)
     }
 }
 
-// How far a box begins from the corner of the root box, along an axis.
+// The distance along an axis from the root's low wall to the box's.
 fn offset(c: &Cell, k: Axis) -> usize
     ensures value { pos result ≡ boxes.low c.now k +ℤ pos 2048 }
     ensures within { result + 2 ^ c.now.log k ≤ 4096 }
@@ -126,7 +128,7 @@ fn offset(c: &Cell, k: Axis) -> usize
     (c.low(k) + 2048) as usize
 }
 
-// How many cells begin before a place, counted from the corner of the root box.
+// The number of cells whose least corner is nearer to the root's low wall than `x`, along an axis.
 fn cells_before(size: u8, x: usize) -> usize
     requires size { size ≤ 12 }
     requires x { x ≤ 4096 }
@@ -137,7 +139,7 @@ fn cells_before(size: u8, x: usize) -> usize
     (x + ((1usize << size) - 1)) >> size
 }
 
-// The cells whose least corner lies in the box, along an axis.
+// The cells whose least corner is in the box, along an axis.
 fn extent_along(size: u8, c: &Cell, k: Axis) -> Extent
     requires { size ≤ 12 }
     ensures extent { IsExtent (2 ^ (12 - size)) result }
@@ -151,6 +153,7 @@ fn extent_along(size: u8, c: &Cell, k: Axis) -> Extent
     }
 }
 
+// The cells whose least corner is in the box.
 fn block_of(size: u8, c: &Cell) -> Block
     requires { size ≤ 12 }
     ensures x { IsExtent (2 ^ (12 - size)) result.x }
@@ -182,6 +185,7 @@ fn set_fill(rows: &mut [u8], size: u8, n: usize, fill: &Fill)
     }
 }
 
+// Sets the cells of all boxes whose value is 1.
 fn set_fills(rows: &mut [u8], size: u8, n: usize, fills: &[Fill])
     requires few { size ≤ 12 }
     requires cells { n ≡ 2 ^ (12 - size) }
@@ -210,6 +214,7 @@ fn put_rows(alloc: Global, n: usize, text: &mut Vec<u8>) -> Result<(), OutOfMemo
     Ok(())
 }
 
+// Appends a number.
 fn put_number(number: u64, text: &mut Vec<u8>) -> Result<(), OutOfMemory>
     ensures { OnOk result (text.new.items ≡ text.old.items ++ decimal number) }
 {
@@ -217,7 +222,7 @@ fn put_number(number: u64, text: &mut Vec<u8>) -> Result<(), OutOfMemory>
     text.extend_from_slice(buffer.format(number).as_bytes())
 }
 
-// The first line.
+// The first line, with room for the whole text.
 fn header(alloc: Global, size: u8, n: usize) -> Result<Vec<u8>, OutOfMemory>
     requires { n ≤ 4096 }
     ensures { IfOk result (λ text. text.items ≡ header_of size n) }
@@ -241,16 +246,18 @@ fn put_end(ones: u64, text: &mut Vec<u8>) -> Result<(), OutOfMemory>
     Ok(())
 }
 
+// The number of characters `1`.
 fn count_ones(rows: &[u8]) -> u64
     ensures { result ≡ count_by is_one rows.now }
 {
     rows.iter().filter(|c| **c == b'1').count() as u64
 }
 
-/// The text of a lattice whose cells have the side `2^size`, with `size` at most 12: the line
-/// `voxels S n`, with n cells along each axis, a line for each row along x, by z and then by y,
-/// with `1` for each cell whose least corner lies in a box of the value 1 and `0` for each other
-/// one, and the line `end N` with the number of ones.
+/// The text of a lattice whose cells have the side `2^size`, with `size` at most 12. First the line
+/// `voxels S n`, with the size and the number n of cells along each axis. Then a line for each row
+/// along x, by z and then by y, with `1` for each cell whose least corner is in a box of the value
+/// 1 and `0` for each other cell. Last the line `end N` with the number of ones. The only error is
+/// out-of-memory.
 pub fn grid_text(alloc: Global, size: u8, fills: &[Fill]) -> Result<Vec<u8>, OutOfMemory>
     requires { size ≤ 12 }
     ensures { IfOk result (λ text. IsGridText size fills.now text.items) }

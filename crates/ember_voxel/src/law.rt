@@ -9,18 +9,19 @@ ghost use Rattle.ember_voxel.specs.Voxels.{IsVoxelText};
 use ember_expr::{Expr, tree};
 use ember_model::Scene;
 
-/// The boxes of one value in which the halvings end give each cell of the lattice the value at its
-/// own reference point: what is known of a box is true at each cell's, and a box of which nothing
-/// is known is one cell.
+/// The leaves of the halvings, boxes of one value, give each cell of the lattice the expression's
+/// value at the cell's own reference point. If the value of a leaf is known, it is the value at
+/// each of its cells; a leaf whose value isn't known is one cell.
 pub fn each_cell_has_its_value(_s: &Scene, e: &Expr)
     ensures { (size : ℕ) (fills : List Fill) (text : List ℕ) → size ≤ 12 →
         fills ≡ leaf_fills _s.now.tris (formula_of e.now) size → IsGridText size fills text →
         IsVoxelText _s.now.tris (formula_of e.now) size text }
 {
+    // This call only brings in what holds of every expression.
     tree(e);
 }
 
-/// The bits of its cells give a lattice one text.
+/// A lattice with these bits has one text.
 pub fn bits_have_one_text()
     ensures { (size : ℕ) (bit : ℕ → ℕ → ℕ → Bool) (text other : List ℕ) → IsTextOfBits size bit text →
         IsTextOfBits size bit other → text ≡ other }

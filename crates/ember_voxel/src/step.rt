@@ -16,8 +16,8 @@ use ember_model::{Axis, Scene};
 use ember_visit::{box_value, halve_job};
 use std::alloc::Global;
 
-/// Sampling an expression over a scene on the lattice of cells with the side `2^size`, with
-/// `size` from 4 to 12.
+/// The work that samples an expression over a scene on the lattice of cells with the side `2^size`,
+/// with `size` from 4 to 12. Its item for a leaf is the box and its value.
 #[derive(Drop)]
 pub struct VoxelWork<'a> {
     pub scene: &'a Scene,
@@ -70,14 +70,15 @@ fn longest(c: &Cell) -> Axis
     }
 }
 
-// All sides are 2^size.
+// Whether all sides are 2^size.
 fn is_lattice_cell(c: &Cell, size: u8) -> bool
     ensures { result ≡ lattice.is_lattice_cell size c.now }
 {
     c.log(Axis::X) == size && (c.log(Axis::Y) == size && c.log(Axis::Z) == size)
 }
 
-// The value of the expression in the whole box, or in a box of one lattice cell.
+// The value of a leaf: that of the expression in the whole box, if it is known, or at the reference
+// point of a box that is one lattice cell. `None` if the box is no leaf.
 fn bit_of(e: &Expr, s: &Scene, size: u8, job: &Job) -> Option<bool>
     requires places { All (λ i. i < length s.now.tris) job.now.list }
     requires counts { AreCounts job.now.at.counts }
@@ -97,9 +98,9 @@ fn bit_of(e: &Expr, s: &Scene, size: u8, job: &Job) -> Option<bool>
     }
 }
 
-/// What becomes of a job: a leaf with the box and the expression's value, if that is known in
+/// What becomes of a job: a leaf with the box and the expression's value, if the value is known in
 /// the whole box or if the box is a cell of the lattice; otherwise its halves along the longest
-/// side, the first one in a tie.
+/// side, the first one in a tie. The only error is out-of-memory.
 pub fn voxel_step(
     alloc: Global,
     s: &Scene,

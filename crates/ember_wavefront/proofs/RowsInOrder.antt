@@ -16,7 +16,7 @@ after_fault fault (row ∷ rows) = refl
 pub row_read : (all : Result Content Fault) (content new : Content) (line : ℕ) (words : List Piece) (rows more : List Row) → all ≡ after_rows (Ok content) rows → rows ≡ record { line = line; words = words } ∷ more → after_words line content words ≡ Ok new → all ≡ after_rows (Ok new) more
 row_read all content new line words rows more so_far is read = so_far ∙ ap (after_rows (Ok content)) is ∙ ap (λ r. after_rows r more) read
 
--- the first row has a fault, or memory is short
+-- the first row has a fault, or out-of-memory
 pub row_fault : (all : Result Content Fault) (content : Content) (error : WavefrontFault) (line : ℕ) (words read : List Piece) (rows more : List Row) → all ≡ after_rows (Ok content) rows → rows ≡ record { line = line; words = words } ∷ more → read ≡ words → (error ≡ OutOfMemory) ⊎ (after_words line content read ≡ Err (fault_of error)) → (error ≡ OutOfMemory) ⊎ (all ≡ Err (fault_of error))
 row_fault all content error line words read rows more so_far is same (inl memory) = inl memory
 row_fault all content error line words read rows more so_far is same (inr fault) =

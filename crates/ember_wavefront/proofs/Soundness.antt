@@ -17,6 +17,7 @@ use Rattle.ember_wavefront.specs.Faults.{Fault, FewCorners}
 use Rattle.ember_wavefront.specs.Rows.{Row, rows_of}
 use Rattle.ember_wavefront.specs.ReadWavefront.{point_in, counted, vertex_named, corner_or_fault, with_corner, corners_of, fan_or_fault, facets_in, keyword_of, with_point, with_facets, after_keyword, after_words, after_rows, content_in, near_or_fault, with_triangles, as_mesh, read_wavefront_of}
 
+-- all corners of the triangle are indices below n
 abbrev pub IsBelow : ℕ → Facet → Type 0
 IsBelow v f = All (λ c. c < v) f.corners
 

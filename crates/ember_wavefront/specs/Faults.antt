@@ -3,6 +3,7 @@ use Rattle.std.specs.Prelude.{ℕ, List}
 use Rattle.ember_wavefront.specs.declared.fault.WavefrontFault.{WavefrontFault}
 use Rattle.ember_wavefront.specs.declared.fault.WavefrontFault.TheVariants as error
 
+-- a fault as definitions see it: words are their bytes
 pub data Fault : Type 0 where
   FewCoordinates : ℕ → Fault
   NotANumber : ℕ → List ℕ → Fault

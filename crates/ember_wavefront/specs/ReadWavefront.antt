@@ -1,4 +1,4 @@
--- What the bytes of an OBJ file stand for: points and triangles, or the first fault
+-- What the bytes of an OBJ file mean: points and triangles, or the first fault
 use Rattle.std.specs.Prelude.{ℕ, ◌-◌, Bool, ◌&&◌, List, [], ◌∷◌, ◌++◌, if◌then◌else◌, ◌==◌, nat_lt, nat_le, length, Option, None, Some, Result, Ok, Err}
 use Rattle.ember_dec.specs.Decimal.{number_from, is_minus}
 use Rattle.ember_number.specs.Fractions.{Fraction}
@@ -32,12 +32,12 @@ abbrev pub point_of_words : ℕ → Option (Piece × Piece × Piece) → Result 
 point_of_words line None = Err (FewCoordinates line)
 point_of_words line (Some t) = point_of_three (coordinate_in line t.0) (coordinate_in line t.1) (coordinate_in line t.2)
 
--- the point of the words behind `v`
+-- the point of the words after `v`
 abbrev pub point_in : ℕ → List Piece → Result Point Fault
 point_in line words = point_of_words line (first_three words)
 
 -- ---- faces
--- the index of the vertex with this number, counted from 1, or back from the last of so many
+-- the index of the vertex with this number, counted from 1, or back from the last of n
 abbrev pub counted : ℕ → Bool → ℕ → Option ℕ
 counted vertices back number =
     if nat_lt 0 number && nat_le number vertices
@@ -51,7 +51,7 @@ vertex_at vertices number =
     then counted vertices (is_minus number) (number_from 0 (size_digits number))
     else None
 
--- the vertex that a reference names by what stands before its first slash
+-- the vertex that a reference names by the bytes before its first slash
 abbrev pub vertex_named : ℕ → Piece → Option ℕ
 vertex_named vertices reference = vertex_at vertices (before is_slash reference.text)
 
@@ -83,11 +83,12 @@ abbrev pub fan_or_fault : ℕ → Result (List ℕ) Fault → Result (List Facet
 fan_or_fault line (Err fault) = Err fault
 fan_or_fault line (Ok corners) = if nat_lt (length corners) 3 then Err (FewCorners line) else Ok (fan line corners)
 
--- the triangles of the references behind `f`, with so many vertices before the line
+-- the triangles of the references after `f`, with n vertices before the line
 abbrev pub facets_in : ℕ → ℕ → List Piece → Result (List Facet) Fault
 facets_in line vertices references = fan_or_fault line (corners_of line vertices references)
 
 -- ---- rows in order, up to the first fault
+-- `v`, `f` or another keyword
 abbrev pub keyword_of : List ℕ → Keyword
 keyword_of [] = Other
 keyword_of (b ∷ []) = if b == 118 then Vertex else if b == 102 then Face else Other
@@ -101,11 +102,13 @@ abbrev pub with_facets : Content → Result (List Facet) Fault → Result Conten
 with_facets content (Err fault) = Err fault
 with_facets content (Ok facets) = Ok (record content { facets = content.facets ++ facets })
 
+-- what is read after a line with this keyword and these words
 abbrev pub after_keyword : ℕ → Content → Keyword → List Piece → Result Content Fault
 after_keyword line content Vertex words = with_point content (point_in line words)
 after_keyword line content Face words = with_facets content (facets_in line (length content.points) words)
 after_keyword line content Other words = Ok content
 
+-- what is read after a line with these words
 abbrev pub after_words : ℕ → Content → List Piece → Result Content Fault
 after_words line content [] = Ok content
 after_words line content (word ∷ words) = after_keyword line content (keyword_of word.text) words
@@ -116,18 +119,22 @@ after_rows so_far [] = so_far
 after_rows (Err fault) (row ∷ rows) = Err fault
 after_rows (Ok content) (row ∷ rows) = after_rows (after_words row.line content row.words) rows
 
+-- the content of these rows, whether it is a mesh or not
 abbrev pub content_in : List Row → Result Content Fault
 content_in rows = after_rows (Ok (record { points = []; facets = [] })) rows
 
 -- ---- what no mesh has
+-- the content, unless a triangle is too far out
 abbrev pub near_or_fault : Content → Option ℕ → Result Content Fault
 near_or_fault content None = Ok content
 near_or_fault content (Some place) = Err (TooLarge place)
 
+-- the content, if it has triangles and none is too far out
 abbrev pub with_triangles : Content → List Facet → Result Content Fault
 with_triangles content [] = Err NoTriangles
 with_triangles content (f ∷ fs) = near_or_fault content (first_far content)
 
+-- the content, if it is a mesh
 abbrev pub as_mesh : Result Content Fault → Result Content Fault
 as_mesh (Err fault) = Err fault
 as_mesh (Ok content) = with_triangles content content.facets

@@ -26,7 +26,7 @@ abbrev pub joined_to : ℕ → List Piece → List Row → List Row
 joined_to line words [] = record { line = line; words = words } ∷ []
 joined_to line words (row ∷ rows) = record { line = line; words = words ++ row.words } ∷ rows
 
--- the rows of these physical lines, of which the first has this number
+-- the rows of these physical lines; the first has this number
 abbrev pub rows_from : ℕ → List Piece → List Row
 rows_from number [] = []
 rows_from number (line ∷ lines) =

@@ -1,7 +1,7 @@
 // What makes a file no mesh.
 use thiserror::Error;
 
-/// The first fault of a file, or want of memory. Lines are counted from 1, and a line that is joined
+/// The first fault of a file, or out-of-memory. Lines are counted from 1, and a line that is joined
 /// from several has the number of the first of them.
 #[derive(Clone, Copy, Debug, PartialEq, Eq, Error)]
 pub enum WavefrontFault<'a> {

@@ -5,7 +5,7 @@ ghost use Rattle.ember_obj.specs.Lines.{unmarked, without_return, is_hash, is_co
 
 const MARK: [u8; 3] = [0xEF, 0xBB, 0xBF];
 
-// The bytes behind a byte order mark at the beginning.
+// The bytes after a byte order mark at the beginning.
 pub(crate) fn skip_mark(bytes: &[u8]) -> &[u8]
     ensures mark { result.now ≡ unmarked bytes.now }
     ensures length { length result.now ≤ length bytes.now }
@@ -29,13 +29,14 @@ fn trim_return(line: &[u8]) -> &[u8]
     }
 }
 
+// Whether the line has a `#`.
 fn has_comment(line: &[u8]) -> bool
     ensures { result ≡ list_any is_hash line.now }
 {
     line.iter().any(|b| *b == b'#')
 }
 
-// What stands before the backslash at the end of the line, if the next line is joined to this one.
+// The bytes before the backslash at the end of the line, if the next line is joined to this one.
 pub(crate) fn before_backslash(line: &[u8]) -> Option<&[u8]>
     ensures joined { MatchOption result
         (is_continued (without_return line.now) ≡ false)

@@ -131,18 +131,20 @@ fn read_mesh<'a>(alloc: Global, bytes: &'a [u8]) -> Result<Surface<'a>, Wavefron
 
 /// The vertices and triangles of an OBJ file, or its first fault.
 ///
-/// A byte order mark at the beginning doesn't count. A line ends with a line feed or with the file. If
-/// it has no `#` and ends with a backslash, a carriage return behind it aside, the next line is joined to
-/// it. A `#` and what follows it in its line don't count. Spaces, tabs and carriage returns separate words.
+/// A byte order mark at the beginning doesn't count. A line ends with a line feed or with the file.
+/// If it has no `#` and ends with a backslash, or with one and a carriage return, the next line is
+/// joined to it. A `#` and what follows it in its line don't count. Spaces, tabs and carriage
+/// returns separate words.
 ///
-/// A line with the first word `v` is a vertex, of which the next three words are decimals. A line with
-/// the first word `f` is a face of at least three references, each a number and maybe a slash and more
-/// behind it. The number `k` names the k-th vertex of the file, from 1, and `-k` the k-th of those before
-/// the line, from the last. It must stand before the line. Other lines aren't read.
+/// A line with the first word `v` is a vertex: the next three words are decimals. A line with the
+/// first word `f` is a face of at least three references, each a number and maybe a slash and more
+/// after it. The number `k` names the k-th vertex of the file, from 1, and `-k` the k-th of those
+/// before the line, from the last. It must be before the line. Other lines aren't read.
 ///
-/// A face is cut into triangles from its first corner, and its line is their place. Faults come in the
-/// order of lines, [`NoTriangles`](WavefrontFault::NoTriangles) and [`TooLarge`](WavefrontFault::TooLarge)
-/// after all others. The coordinates borrow their digits from `bytes`, and a fault its bad word.
+/// A face is cut into triangles from its first corner, and its line is their place. Faults are
+/// reported in the order of lines, [`NoTriangles`](WavefrontFault::NoTriangles) and
+/// [`TooLarge`](WavefrontFault::TooLarge) after all others. The coordinates borrow their digits
+/// from `bytes`, and a fault its bad word. There are at most 2^28 bytes.
 pub fn read_wavefront(alloc: Global, bytes: &[u8]) -> Result<Surface<'_>, WavefrontFault<'_>>
     requires { length bytes.now ≤ 268435456 }
     ensures ok { IfOk result (λ s. read_wavefront_of bytes.now ≡ Ok (content_of s)) }

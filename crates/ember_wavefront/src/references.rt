@@ -37,7 +37,7 @@ fn find_vertex(vertices: u32, number: &[u8]) -> Option<u32>
     count_to(vertices, back, append_digits(0, digits, MOST))
 }
 
-// The index of the vertex that a reference of a line names, of so many.
+// The index of the vertex that a reference of a line names, of this number of vertices.
 pub(crate) fn read_reference<'a>(
     line: u32,
     vertices: u32,

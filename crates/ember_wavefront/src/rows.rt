@@ -1,4 +1,4 @@
-// Lines that are joined from physical lines, as their words.
+// Lines joined from physical lines, as their words.
 ghost use Rattle.std.specs.Prelude.{◌≡◌, ◌+◌, ◌<◌, ◌≤◌, ◌∷◌, ◌++◌, length, map, OnOk, IfOk};
 ghost use Rattle.ember_scan.specs.Parts.{piece_of, words_in};
 ghost use Rattle.ember_wavefront.specs.Rows.{goes_on, words_on};
@@ -29,7 +29,7 @@ fn add_words<'a>(words: &mut Vec<Part<'a>>, text: Part<'a>) -> Result<(), AllocE
     Ok(())
 }
 
-// Appends the words of a physical line. Whether the next one is joined to it.
+// Appends the words of a physical line. Returns whether the next one is joined to it.
 fn add_line<'a>(words: &mut Vec<Part<'a>>, line: Part<'a>) -> Result<bool, AllocError>
     ensures words { OnOk result
         (map piece_of words.new.items ≡ map piece_of words.old.items ++ words_on (piece_of line.entry)) }
@@ -48,7 +48,8 @@ fn add_line<'a>(words: &mut Vec<Part<'a>>, line: Part<'a>) -> Result<bool, Alloc
     }
 }
 
-// Puts the words of the first joined line into `words`, in place of what it holds. Gives what follows.
+// Puts the words of the first joined line into `words`, in place of what it holds. Returns what
+// follows.
 #[tactic(auto, using(crate::proofs::Joins::row_goes_on, crate::proofs::Joins::row_ends, crate::proofs::Joins::row_ends_file, crate::proofs::Joins::first_row_number, crate::proofs::Joins::no_lines))]
 pub(crate) fn next_row<'a>(
     words: &mut Vec<Part<'a>>,

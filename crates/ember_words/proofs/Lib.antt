@@ -1,8 +1,8 @@
 pub mod Numbers
 pub mod Parts
-pub mod Getters
+pub mod ClapValues
 pub mod Refusals
 pub mod OptionWalk
-pub mod Taken
+pub mod CanonicalWords
 pub mod Limited
 pub mod NamedFiles

@@ -212,6 +212,7 @@ command_limits : (words : List Text) → IfSome (command_of words) IsWithinLimit
 command_limits [] = tt
 command_limits (name ∷ words) = and_then IsWithinLimits (λ v. taken_by v (name ∷ words)) (λ v. unrefused IsWithinLimits _ _ (values_limits v _)) (verb_of name)
 
+-- a command that was read is within the limits
 pub read_limits : (words : List Text) (result : Result Command WordsFault) → Reads (command_of words) result → IfOk result IsWithinLimits
 read_limits words (Ok command) h = subst (λ (value : Option Command). IfSome value IsWithinLimits) h (command_limits words)
 read_limits words (Err fault) h = tt

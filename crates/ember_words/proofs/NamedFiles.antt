@@ -289,7 +289,7 @@ module _ (id : Text) where
         by (Some r) f = f.0 f.1
 
     -- the values of this id, where there are any
-    pub all_hold : (names : Names) (words : List Text) → IfSome (all_of id (rows_after c names words)) (λ values. 0 < length values)
+    all_hold : (names : Names) (words : List Text) → IfSome (all_of id (rows_after c names words)) (λ values. 0 < length values)
     all_hold names words = found_values (rows_after c names words) (rows_hold names words)
 
 -- ---- the commands
@@ -412,6 +412,7 @@ names_files (name ∷ words) = named_by (verb_of name) (name ∷ words)
 pub words_name_files : (words : List Text) (given : Command) → command_of words ≡ Some given → NamesFiles given
 words_name_files words given e = subst (λ (o : Option Command). IfSome o NamesFiles) e (names_files words)
 
+-- a command that was read names a file if it may name several
 pub read_files : (words : List Text) (result : Result Command WordsFault) → Reads (command_of words) result → IfOk result NamesFiles
 read_files words (Ok given) h = words_name_files words given h
 read_files words (Err fault) h = tt

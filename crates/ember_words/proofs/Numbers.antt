@@ -1,4 +1,4 @@
--- What `parse` reads from decimal digits, and where a hyphen stands first
+-- What `parse` reads from decimal digits, and texts that begin with a hyphen
 use Rattle.std.proofs.Common.{◌≡◌, ◌≢◌, ℕ, ◌<◌, ◌≤◌, ◌^◌, List, [], ◌∷◌, length, Bool, true, false, Option, Some, None, Result, Ok, Err, refl, ap, arith, rules, inl, inr, cond}
 use Rattle.std.specs.Prelude.{IfSome, MatchOption}
 use Rattle.std.specs.Borrow.{Bor}
@@ -20,14 +20,16 @@ empty_parse {E} (Ok n) h =
     absurd (omega arith)
 empty_parse (Err e) h = refl
 
-pub parsed : {E : Type 0} (most : ℕ) (text : List ℕ) (r : Result ℕ E) → ParsesUnsigned 64 10 text r → list_all is_ascii_digit text ≡ true → length text ≤ most → most ≤ 18
+-- the library's `parse` of at most 18 digits gives the decimal
+pub digits_parse : {E : Type 0} (most : ℕ) (text : List ℕ) (r : Result ℕ E) → ParsesUnsigned 64 10 text r → list_all is_ascii_digit text ≡ true → length text ≤ most → most ≤ 18
     → result_ok r ≡ decimal_of most text
-parsed most [] r h digits short few = empty_parse r h
-parsed most (b ∷ bs) r h digits short few =
+digits_parse most [] r h digits short few = empty_parse r h
+digits_parse most (b ∷ bs) r h digits short few =
     let small : digits_value 10 (b ∷ bs) < 10 ^ 18 = digits_value_short own (b ∷ bs) 18 digits (omega arith) in
     let is : r ≡ Ok (digits_value 10 (b ∷ bs)) = parse_gives own 64 (b ∷ bs) r h digits (omega arith) (omega arith) in
     rw (is, digits) (grind (arith, nat_tests))
 
+-- a decimal of at most 18 digits is below 10^18
 pub decimal_small : (most : ℕ) (text : List ℕ) → most ≤ 18 → IfSome (decimal_of most text) (λ n. n < 10 ^ 18)
 decimal_small most text few = go (is_decimal most text) refl
   where
@@ -35,15 +37,16 @@ decimal_small most text few = go (is_decimal most text) refl
     go false e = tt
     go true e = digits_value_short own text 18 (grind (arith, nat_tests)) (grind (arith, nat_tests))
 
+-- a text with too many bytes is no decimal
 pub no_decimal : (most : ℕ) (text : List ℕ) → most < length text → decimal_of most text ≡ None
 no_decimal most text long = grind (arith, nat_tests)
 
 -- a text without its hyphen
-pub signs : (text : List ℕ) (r : Option (Bor (List ℕ))) → MatchOption r ((rest : List ℕ) → text ≢ 45 ∷ rest) (λ x. text ≡ 45 ∷ x.now)
+pub minus_is_stripped : (text : List ℕ) (r : Option (Bor (List ℕ))) → MatchOption r ((rest : List ℕ) → text ≢ 45 ∷ rest) (λ x. text ≡ 45 ∷ x.now)
     → MatchOption r ((false ≡ is_minus text) × (text ≡ without_minus text)) (λ x. (true ≡ is_minus text) × (x.now ≡ without_minus text))
-signs text (Some x) h = rw h (refl, refl)
-signs [] None h = (refl, refl)
-signs (b ∷ bs) None h = elim (eqb_tells b 45) [
+minus_is_stripped text (Some x) h = rw h (refl, refl)
+minus_is_stripped [] None h = (refl, refl)
+minus_is_stripped (b ∷ bs) None h = elim (eqb_tells b 45) [
   | inl e ↦ absurd (h bs (ap (λ x. x ∷ bs) e.1))
   | inr e ↦ rw e.0 (refl, refl)
 ]

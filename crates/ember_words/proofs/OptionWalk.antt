@@ -25,20 +25,20 @@ or_else_empty : (a b : Kinds) → or_else a b ≡ [] → (a ≡ []) × (b ≡ []
 or_else_empty [] b h = (refl, h)
 or_else_empty (k ∷ ks) b h = cc
 
-pub reaches_none : (s : Shape) (w : Walk) → Reaches s w [] w
+reaches_none : (s : Shape) (w : Walk) → Reaches s w [] w
 unfolding clap_on_literals
 reaches_none s w = record { walks = refl; free = refl }
 
-pub reaches_one : (s : Shape) (w end : Walk) (word : Text) → walked s.rules [] w word ≡ end → turn_fault s [] w word ≡ [] → Reaches s w (word ∷ []) end
+reaches_one : (s : Shape) (w end : Walk) (word : Text) → walked s.rules [] w word ≡ end → turn_fault s [] w word ≡ [] → Reaches s w (word ∷ []) end
 unfolding walk_fault
 reaches_one s w end word e f = record { walks = e; free = rw f refl }
 
-pub reaches_more : (s : Shape) (w middle end : Walk) (word : Text) (words : List Text) → walked s.rules [] w word ≡ middle → turn_fault s [] w word ≡ [] → Reaches s middle words end
+reaches_more : (s : Shape) (w middle end : Walk) (word : Text) (words : List Text) → walked s.rules [] w word ≡ middle → turn_fault s [] w word ≡ [] → Reaches s middle words end
     → Reaches s w (word ∷ words) end
 unfolding walk_fault
 reaches_more s w middle end word words e f r = record { walks = rw e r.walks; free = rw (f, e) r.free }
 
-pub reaches_then : (s : Shape) (w middle end : Walk) (xs ys : List Text) → Reaches s w xs middle → Reaches s middle ys end → Reaches s w (xs ++ ys) end
+reaches_then : (s : Shape) (w middle end : Walk) (xs ys : List Text) → Reaches s w xs middle → Reaches s middle ys end → Reaches s w (xs ++ ys) end
 unfolding walk_fault
 reaches_then s w middle end [] ys a b = rw a.walks b
 reaches_then s w middle end (x ∷ xs) ys a b =
@@ -95,7 +95,7 @@ name_walks : (s : Shape) (last name : Text) (r : Bool) (d : List Text) → IsOpt
 unfolding walked
 name_walks s last name r d o rows p = simp (o.dash, o.apart, o.by_long)
 
-pub plain_word : (word : Text) → is_minus word ≡ false → (bytes_eq word (45 ∷ 45 ∷ []) ≡ false) × (long_of word ≡ None) × (short_of word ≡ None)
+plain_word : (word : Text) → is_minus word ≡ false → (bytes_eq word (45 ∷ 45 ∷ []) ≡ false) × (long_of word ≡ None) × (short_of word ≡ None)
 plain_word [] h = (refl, refl, refl)
 plain_word (b ∷ bs) h = (rw h refl, rw h refl, rw h refl)
 
@@ -109,7 +109,7 @@ value_walks s last name r d o rows value h =
 abbrev pub row_of_values : Text → List Text → Row
 row_of_values name values = record { id = name; values = values; count = None; source = Some CommandLine; reading = AsWritten }
 
--- a new argument's row stands last
+-- a new argument's row is the last
 fresh : (name : Text) (values : List Text) (rows : List Row) → has_row name rows ≡ false → with_values name AsWritten CommandLine values (without name rows) ≡ rows ++ row_of_values name values ∷ []
 fresh name values [] h = refl
 fresh name values (row ∷ rows) h = go (bytes_eq row.id name) refl h (fresh name values rows)
@@ -153,8 +153,9 @@ pub record Gives (s : Shape) (last : Text) (w : Walk) (words : List Text) (rows 
   pub reaches : Reaches s w words end
   pub stands : Stands s last end rows
 
-pub begins : (s : Shape) (last : Text) → Gives s last (walk_from nothing_held) [] []
-begins s last = record {
+-- a walk over the words walk_begins with nothing given
+pub walk_begins : (s : Shape) (last : Text) → Gives s last (walk_from nothing_held) [] []
+walk_begins s last = record {
   end = walk_from nothing_held;
   reaches = reaches_none s (walk_from nothing_held);
   stands = record { held = []; pending = None; rests = refl; settles = refl; free = refl; other = refl };
@@ -256,6 +257,7 @@ flag_given s last name f rows held p settles free new = record {
   };
 }
 
+-- a flag, if it is given, adds its row
 pub flag_gives : (s : Shape) (last name : Text) → IsFlag s name → (w : Walk) (words : List Text) (rows : List Row) (given : Bool)
     → Gives s last w words rows → has_row name rows ≡ false → Gives s last w (words ++ flag_words name given) (rows ++ flag_rows name given)
 flag_gives s last name f w words rows false before new = rw (append-nil words, append-nil rows) before
@@ -311,6 +313,7 @@ word_free s last l rows p word h other free =
     let plain = plain_word word h in
     simp (plain.0, plain.1, plain.2, l.by_index, other, free)
 
+-- one plain word ends a walk, given to the last option
 pub word_ends : (s : Shape) (last : Text) → IsLast s last (word_rule last) → (w : Walk) (words : List Text) (rows : List Row) (word : Text) → Gives s last w words rows → is_minus word ≡ false
     → Reaches s w (words ++ word ∷ []) (at_word last rows word)
 word_ends s last l w words rows word before h =
@@ -356,6 +359,7 @@ more_words s last l rows words (word ∷ more) plain =
     reaches_more s (at_words last rows words) (at_words last rows (words ++ word ∷ [])) (at_words last rows (words ++ word ∷ more)) word more (next_walks s last l rows words word plain.0)
     (next_free s last l rows words word plain.0) (rw (append_assoc words (word ∷ []) more) at rest)
 
+-- plain words end a walk, each of them given to the last option
 pub words_end : (s : Shape) (last : Text) → IsLast s last (words_rule last) → (w : Walk) (words : List Text) (rows : List Row) (word : Text) (more : List Text) → Gives s last w words rows
     → is_minus word ≡ false → ArePlain more → Reaches s w (words ++ word ∷ more) (at_words last rows (word ∷ more))
 words_end s last l w words rows word more before h plain =
@@ -376,6 +380,7 @@ has_row-append name (x ∷ xs) ys = rw (has_row-append name xs ys) (or_assoc (by
     or_assoc true b c = refl
     or_assoc false b c = refl
 
+-- a name that wasn't given isn't given after another one
 pub still_new : (name other : Text) (rows : List Row) (g : Option Given) → bytes_eq other name ≡ false → has_row name rows ≡ false → has_row name (rows ++ given_rows other g) ≡ false
 still_new name other rows None apart new = rw (append-nil rows) new
 still_new name other rows (Some g) apart new = rw (has_row-append name rows (given_rows other (Some g)), new) (rw apart refl)

@@ -17,6 +17,7 @@ parts_cut : (front rest : List ℕ) → ((i : ℕ) → i < length front → get_
 parts_cut [] rest free = refl
 parts_cut (b ∷ bs) rest free = rw (not_comma b (free 0 (omega arith)), parts_cut bs rest (λ i low. free (suc i) (omega arith))) refl
 
+-- a text cut at its first comma
 pub parts_once : (text : List ℕ) (r : Option (Bor (List ℕ) × Bor (List ℕ)))
     → MatchOption r ((i : ℕ) → i < length text → get_or text i 0 ≢ 44) (λ x. (text ≡ x.0.now ++ (44 ∷ x.1.now)) × ((i : ℕ) → i < length x.0.now → get_or x.0.now i 0 ≢ 44))
     → MatchOption r (parts_of text ≡ text ∷ []) (λ x. parts_of text ≡ x.0.now ∷ parts_of x.1.now)

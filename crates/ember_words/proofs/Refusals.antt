@@ -9,6 +9,7 @@ use Rattle.ember_words.specs.declared.command.WordsFault.{WordsFault}
 use Rattle.ember_words.specs.declared.command.WordsFault.TheVariants.{Words, OutOfMemory}
 use Rattle.ember_words.specs.Meaning.{Reads, Parses, app_for, taken_by, unless_refused}
 
+-- clap's model holds of each command
 pub simple_and_free : (v : Verb) → is_simple_and_free (app_for v) ≡ true
 simple_and_free verb.Faces = refl
 simple_and_free verb.At = refl
@@ -22,6 +23,7 @@ none_where_refused : {T : Type 0} (kinds : Kinds) (value : Option T) → kinds �
 none_where_refused [] value some = absurd (some refl)
 none_where_refused (kind ∷ kinds) value some = refl
 
-pub refused : (v : Verb) (words : List Text) (fault : WordsFault) → Parses (app_for v) words (Err fault) → Reads (taken_by v words) (Err fault)
-refused v words Words h = none_where_refused _ _ h
-refused v words OutOfMemory h = tt
+-- words that clap refuses give no command
+pub parse_refusal_is_fault : (v : Verb) (words : List Text) (fault : WordsFault) → Parses (app_for v) words (Err fault) → Reads (taken_by v words) (Err fault)
+parse_refusal_is_fault v words Words h = none_where_refused _ _ h
+parse_refusal_is_fault v words OutOfMemory h = tt

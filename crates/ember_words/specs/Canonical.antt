@@ -10,10 +10,12 @@ pub record Given : Type 0 where
   pub value : Text
   pub attached : Bool
 
+-- an option with its value, in one word or in two
 abbrev pub given_words : Text → Given → List Text
 given_words name g =
     if g.attached then (codes "--" ++ (name ++ (codes "=" ++ g.value))) ∷ [] else (codes "--" ++ name) ∷ g.value ∷ []
 
+-- the words of an option, if it is given
 abbrev pub option_words : Text → Option Given → List Text
 option_words name None = []
 option_words name (Some g) = given_words name g
@@ -30,6 +32,7 @@ abbrev pub value_or : Text → Option Given → Text
 value_or default None = default
 value_or default (Some g) = g.value
 
+-- the word of a flag, if it is given
 abbrev pub flag_words : Text → Bool → List Text
 flag_words name given = if given then (codes "--" ++ name) ∷ [] else []
 
@@ -65,6 +68,7 @@ arguments_of (pairs_line workers places file more) =
     (option_words (codes "workers") workers ++ option_words (codes "places") places) ++ (file ∷ more)
 arguments_of (slice_line height file) = given_words (codes "at") height ++ (file ∷ [])
 
+-- the name of the command
 abbrev pub name_of : Line → Text
 name_of (faces_line places file) = codes "faces"
 name_of (at_line point expr places file more) = codes "at"
@@ -74,6 +78,7 @@ name_of (voxels_line expr size workers places file more) = codes "voxels"
 name_of (pairs_line workers places file more) = codes "pairs"
 name_of (slice_line height file) = codes "slice"
 
+-- the words of a command in the canonical spelling
 abbrev pub words_of : Line → List Text
 words_of line = name_of line ∷ arguments_of line
 

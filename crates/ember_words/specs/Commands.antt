@@ -9,12 +9,15 @@ use Rattle.clap.specs.declared.builder.action.ArgAction.TheVariants.{SetTrue}
 abbrev pub optional : Text → Rule
 optional name = record (new_rule name) { long = Some name }
 
+-- an option with a value, which must be given
 abbrev pub wanted : Text → Rule
 wanted name = record (new_rule name) { long = Some name; required = true }
 
+-- an option with a value, and the value if it isn't given
 abbrev pub defaulted : Text → Text → Rule
 defaulted name value = record (new_rule name) { long = Some name; defaults = value ∷ [] }
 
+-- an option without a value
 abbrev pub flag : Text → Rule
 flag name = record (new_rule name) { long = Some name; action = Some SetTrue }
 
@@ -22,6 +25,7 @@ flag name = record (new_rule name) { long = Some name; action = Some SetTrue }
 abbrev pub one_word : Text → Rule
 one_word name = record (new_rule name) { required = true }
 
+-- one or more words that aren't options
 abbrev pub several_words : Text → Rule
 several_words name = record (new_rule name) {
   required = true;

@@ -23,11 +23,12 @@ within least most n = if nat_le least n && nat_le n most then Some n else None
 abbrev pub number_of : ℕ → ℕ → Text → Option ℕ
 number_of least most text = option_and_then (within least most) (decimal_of 9 text)
 
--- a hyphen (45) stands first
+-- the text begins with a hyphen (45)
 abbrev pub is_minus : Text → Bool
 is_minus [] = false
 is_minus (b ∷ bs) = b == 45
 
+-- the text after a hyphen at its beginning
 abbrev pub without_minus : Text → Text
 without_minus [] = []
 without_minus (b ∷ bs) = if b == 45 then bs else b ∷ bs
@@ -63,6 +64,7 @@ parts_of (b ∷ bs) = if b == 44 then [] ∷ parts_of bs else in_front b (parts_
 abbrev pub is_small_number : ℤ → Bool
 is_small_number z = nat_le (unsigned_abs z) 1099511627775
 
+-- whether the point is valid
 abbrev pub is_valid_spot : Spot → Bool
 is_valid_spot p = is_small_number p.x &&
     (is_small_number p.y && (is_small_number p.z && (is_small_number p.w && int_lt (pos 0) p.w)))
@@ -94,6 +96,7 @@ nonempty_of (b ∷ bs) = Some (b ∷ bs)
 abbrev pub are_names : List Text → Bool
 are_names names = nat_le (length names) 64 && list_all (λ name. not (is_empty name)) names
 
+-- the file names, if they are within the limits
 abbrev pub names_of : List Text → Option (List Text)
 names_of names = if are_names names then Some names else None
 

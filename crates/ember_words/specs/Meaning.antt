@@ -17,13 +17,13 @@ use Rattle.ember_words.specs.declared.verb.Verb.TheVariants as verb
 use Rattle.ember_words.specs.Limits.{height_of, is_set, names_of, nonempty_of, number_of, optional_of, point_of}
 use Rattle.ember_words.specs.Commands.{faces_app, at_app, bool_app, demo_app, voxels_app, pairs_app, slice_app}
 
--- the result is the value; or the words are refused, if there is none; or memory ran out
+-- the result is the value; or the words are refused, if there is none; or out-of-memory
 abbrev pub Reads : {T : Type 0} → Option T → Result T WordsFault → Type 0
 Reads value (Ok x) = value ≡ Some x
 Reads value (Err Words) = value ≡ None
 Reads value (Err OutOfMemory) = ⊤
 
--- clap found these matches in the words of a command; or it refuses the words; or memory ran out
+-- clap found these matches in the words of a command; or it refuses the words; or out-of-memory
 abbrev pub Parses : App → List Text → Result ArgMatches WordsFault → Type 0
 Parses app words (Ok m) = (fault_of app words ≡ []) × (rows_of (found_of m) ≡ matches_of app words)
 Parses app words (Err Words) = fault_of app words ≢ []
@@ -31,6 +31,7 @@ Parses app words (Err OutOfMemory) = ⊤
 
 -- ---- values of the rows that clap finds
 
+-- the number of an argument, if it is from `least` to `most`
 abbrev pub number_in : ℕ → ℕ → Text → List Row → Option ℕ
 number_in least most id rows = option_and_then (number_of least most) (first_of id rows)
 
@@ -41,9 +42,11 @@ workers_in = number_in 1 64 (codes "workers")
 abbrev pub places_in : List Row → Option ℕ
 places_in = number_in 0 3 (codes "places")
 
+-- the text of an argument, if it isn't empty
 abbrev pub text_in : Text → List Row → Option Text
 text_in id rows = option_and_then nonempty_of (first_of id rows)
 
+-- the file names, if they are within the limits
 abbrev pub files_in : List Row → Option (List Text)
 files_in rows = option_and_then names_of (all_of (codes "files") rows)
 
@@ -108,6 +111,7 @@ slice_of rows = slice_with (option_and_then height_of (first_of (codes "at") row
 
 -- ---- the words
 
+-- the value, unless clap has a fault
 abbrev pub unless_refused : {T : Type 0} → Kinds → Option T → Option T
 unless_refused [] value = value
 unless_refused (kind ∷ kinds) value = None
@@ -124,6 +128,7 @@ verb_of name =
     else (if bytes_eq name (codes "slice") then Some verb.Slice
     else None))))))
 
+-- clap's model of the parser for a command
 abbrev pub app_for : Verb → App
 app_for verb.Faces = faces_app
 app_for verb.At = at_app

@@ -1,4 +1,4 @@
-// The commands that clap reads the words with: one for each command of the program, without subcommands.
+// One clap parser for each command of ember.
 ghost use Rattle.std.specs.Prelude.{◌≡◌, IfOk, false};
 ghost use Rattle.clap.specs.Walk.{rule_of};
 ghost use Rattle.clap.specs.Simple.{app_of, with_rule};
@@ -18,6 +18,7 @@ fn option<'a>(alloc: Global, name: &'a str) -> Arg<'a>
     Arg::new(alloc, name).long(name)
 }
 
+// `--name`, with one value of text, which must be given.
 fn required<'a>(alloc: Global, name: &'a str) -> Arg<'a>
     ensures rule { rule_of result ≡ wanted name.entry.now }
     ensures local { result.global ≡ false }
@@ -25,6 +26,7 @@ fn required<'a>(alloc: Global, name: &'a str) -> Arg<'a>
     Arg::new(alloc, name).long(name).required(true)
 }
 
+// `--name`, with one value of text, and this one if it isn't given.
 fn with_default<'a>(alloc: Global, name: &'a str, value: &'a str) -> Arg<'a>
     ensures rule { rule_of result ≡ defaulted name.entry.now value.entry.now }
     ensures local { result.global ≡ false }
@@ -32,6 +34,7 @@ fn with_default<'a>(alloc: Global, name: &'a str, value: &'a str) -> Arg<'a>
     Arg::new(alloc, name).long(name).default_value(value)
 }
 
+// `--name`, without a value.
 fn switch<'a>(alloc: Global, name: &'a str) -> Arg<'a>
     ensures rule { rule_of result ≡ flag name.entry.now }
     ensures local { result.global ≡ false }
@@ -39,6 +42,7 @@ fn switch<'a>(alloc: Global, name: &'a str) -> Arg<'a>
     Arg::new(alloc, name).long(name).action(ArgAction::SetTrue)
 }
 
+// One word that isn't an option.
 fn word<'a>(alloc: Global, name: &'a str) -> Arg<'a>
     ensures rule { rule_of result ≡ one_word name.entry.now }
     ensures local { result.global ≡ false }
@@ -46,6 +50,7 @@ fn word<'a>(alloc: Global, name: &'a str) -> Arg<'a>
     Arg::new(alloc, name).required(true)
 }
 
+// One or more words that aren't options.
 fn words<'a>(alloc: Global, name: &'a str) -> Arg<'a>
     ensures rule { rule_of result ≡ several_words name.entry.now }
     ensures local { result.global ≡ false }
@@ -130,7 +135,7 @@ fn slice_command<'a>(alloc: Global) -> Result<Command<'a>, AllocError>
     with(command, word(alloc, "file"))
 }
 
-/// What clap reads the words of this command with.
+/// The clap parser for the words of this command.
 pub fn command_for<'a>(alloc: Global, verb: Verb) -> Result<Command<'a>, AllocError>
     ensures { IfOk result (λ c. app_of c ≡ app_for verb) }
 {

@@ -7,8 +7,8 @@ use ember_model::Spot;
 use std::alloc::{AllocError, AllocFailed};
 use thiserror::Error;
 
-/// What the words ask for. `workers` is 1 to 64, `places` 0 to 3; there are 1 to 64 files, and no
-/// name and no expression is empty.
+/// What the words ask for. Numbers have the type in which they are read. `workers` is 1 to 64,
+/// `places` 0 to 3; there are 1 to 64 files, and no name and no expression is empty.
 #[derive(Drop)]
 pub enum Command {
     /// Write the face of each triangle of a file.

@@ -8,14 +8,15 @@ ghost use Rattle.ember_words.specs.Limits.{decimal_of, number_of, is_minus, with
 
 use ember_model::Spot;
 
+// Whether all bytes are decimal digits.
 fn are_digits(text: &[u8]) -> bool
     ensures { result ≡ list_all is_ascii_digit text.now }
 {
     text.iter().all(|byte| byte.is_ascii_digit())
 }
 
-// The number that one to `most` decimal digits write.
-#[tactic(auto, using(crate::proofs::Numbers::parsed, crate::proofs::Numbers::no_decimal))]
+// `text` as a number, if it has 1 to `most` decimal digits and nothing else.
+#[tactic(auto, using(crate::proofs::Numbers::digits_parse, crate::proofs::Numbers::no_decimal))]
 fn decimal(text: &str, most: usize) -> Option<u64>
     requires { most ≤ 18 }
     ensures value { result ≡ decimal_of most text.now }
@@ -27,7 +28,7 @@ fn decimal(text: &str, most: usize) -> Option<u64>
     text.parse::<u64>().ok()
 }
 
-// One to nine decimal digits of a number from `least` to `most`.
+// `text` as a number from `least` to `most`, if it is one, in 1 to 9 decimal digits.
 pub fn number(text: &str, least: u32, most: u32) -> Option<u32>
     ensures { result ≡ number_of least most text.now }
 {
@@ -38,7 +39,7 @@ pub fn number(text: &str, least: u32, most: u32) -> Option<u32>
     Some(value as u32)
 }
 
-// Whether a hyphen stands first, and what stands after it.
+// Whether the text begins with a hyphen, and the text after it.
 fn sign(text: &str) -> (bool, &str)
     ensures minus { result.0 ≡ is_minus text.now }
     ensures rest { result.1.now ≡ without_minus text.now }
@@ -49,7 +50,7 @@ fn sign(text: &str) -> (bool, &str)
     }
 }
 
-// An optional hyphen and one to `most` decimal digits.
+// `text` as a whole number, if it has 1 to `most` decimal digits after an optional hyphen.
 fn whole(text: &str, most: usize) -> Option<i64>
     requires { most ≤ 18 }
     ensures { result ≡ whole_of most text.now }
@@ -59,7 +60,7 @@ fn whole(text: &str, most: usize) -> Option<i64>
     Some(if minus { -size } else { size })
 }
 
-// A plane of `slice`, from -2048 to 2047.
+// `text` as the level of `slice`, from -2048 to 2047.
 pub fn height(text: &str) -> Option<i32>
     ensures { result ≡ height_of text.now }
 {
@@ -70,7 +71,7 @@ pub fn height(text: &str) -> Option<i32>
     Some(value as i32)
 }
 
-// The part before the first comma, and what stands after it.
+// The part before the first comma, and the text after it.
 fn part(text: &str) -> (&str, Option<&str>)
     ensures { MatchOption result.1 (parts_of text.now ≡ result.0.now ∷ []) (λ rest. parts_of text.now ≡
         result.0.now ∷ parts_of rest.now) }
@@ -81,12 +82,14 @@ fn part(text: &str) -> (&str, Option<&str>)
     }
 }
 
+// Whether the number is below 2^40 in size.
 fn is_small(value: i64) -> bool
     ensures { result ≡ is_small_number value }
 {
     value.unsigned_abs() <= 1_099_511_627_775
 }
 
+// Whether the point is valid: all numbers are below 2^40 in size, and the weight is above 0.
 #[tactic(auto, using(crate::proofs::Limited::spot_decides))]
 fn is_valid(point: &Spot) -> bool
     ensures value { result ≡ is_valid_spot point.now }
@@ -116,7 +119,7 @@ fn four_parts(text: &str) -> Option<(&str, &str, &str, &str)>
     Some((x, y, z, w))
 }
 
-// Four whole numbers with commas between them that are a valid spot.
+// `text` as a valid point, if it is four whole numbers with commas between them.
 pub fn point(text: &str) -> Option<Spot>
     ensures { result ≡ point_of text.now }
 {

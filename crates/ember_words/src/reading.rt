@@ -1,4 +1,5 @@
-// Reading the words.
+// Reading the words. In contracts, `rows_of (found_of matches)` is clap's model of what it found:
+// one row for each argument, with its name and its values.
 ghost use Rattle.std.specs.Prelude.{◌≡◌, ◌≢◌, IfOk, true, codes, map, option_and_then, string_bytes};
 ghost use Rattle.clap.specs.Walk.{first_of, rows_of};
 ghost use Rattle.clap.specs.Matches.{found_of};
@@ -21,7 +22,7 @@ use clap::{ArgMatches, Error};
 use ember_model::Spot;
 use std::alloc::Global;
 
-// Want of memory, or the words.
+// Out-of-memory if clap ran out of it, otherwise that the words are refused.
 fn refusal(error: &Error) -> WordsFault
     ensures memory { kind_of error.now ≡ ErrorKind.OutOfMemory → result ≡ WordsFault.OutOfMemory }
     ensures words { result ≡ WordsFault.Words → kind_of error.now ≢ ErrorKind.OutOfMemory }
@@ -186,7 +187,7 @@ fn matches_by<'a>(
     parse(command_for(alloc, verb)?, words)
 }
 
-#[tactic(auto, using(crate::proofs::Refusals::refused))]
+#[tactic(auto, using(crate::proofs::Refusals::parse_refusal_is_fault))]
 fn read_by<'a>(alloc: Global, verb: Verb, words: &'a [String]) -> Result<Command, WordsFault>
     ensures { Reads (taken_by verb (map string_bytes words.entry.now)) result }
 {
@@ -209,13 +210,12 @@ fn read(alloc: Global, words: &[String]) -> Result<Command, WordsFault>
 
 /// The command that the words after the program's name give.
 ///
-/// The first word names the command, by its bytes; clap reads the words after it, and the values
-/// that it finds are within the limits. `WordsFault::Words` comes exactly if the first word is
-/// missing or names no command, if clap refuses the words for another cause than memory,
-/// or if a value is past its limits. A command that may name several files names one at least.
-/// Words in the canonical spelling are read as the command of their values, and refused only if
-/// one of these is past its limits.
-#[tactic(auto, using(crate::proofs::Taken::canonical_reads, crate::proofs::Limited::read_limits, crate::proofs::NamedFiles::read_files))]
+/// The first word names the command, by its bytes. Clap reads the words after it, and the values
+/// that it finds are within the limits. The words are refused exactly if the first word is missing
+/// or names no command, if clap refuses them, or if a value is past its limits. A command that may
+/// name several files names at least one. Words in the canonical spelling are read as the command
+/// of their values, and refused only if one of these is past its limits.
+#[tactic(auto, using(crate::proofs::CanonicalWords::canonical_reads, crate::proofs::Limited::read_limits, crate::proofs::NamedFiles::read_files))]
 pub fn read_words(alloc: Global, words: &[String]) -> Result<Command, WordsFault>
     ensures command { Reads (command_of (map string_bytes words.now)) result }
     ensures limits { IfOk result IsWithinLimits }

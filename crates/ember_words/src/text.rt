@@ -33,7 +33,7 @@ impl Text {
     }
 }
 
-/// A list of texts.
+/// A vector of texts, which contracts see as a list.
 #[derive(Drop)]
 pub struct Texts {
     texts: Vec<Text>,

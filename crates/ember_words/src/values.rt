@@ -13,7 +13,7 @@ use clap::ArgMatches;
 use std::alloc::Global;
 
 // The first value of an argument.
-#[tactic(auto, using(crate::proofs::Getters::first_value_rows))]
+#[tactic(auto, using(crate::proofs::ClapValues::first_value_rows))]
 pub fn first<'a>(matches: &ArgMatches<'a>, id: &str) -> Option<&'a str>
     ensures { option_map (λ text. text.now) result ≡ first_of id.now (rows_of (found_of matches.now)) }
 {
@@ -21,7 +21,7 @@ pub fn first<'a>(matches: &ArgMatches<'a>, id: &str) -> Option<&'a str>
 }
 
 // All values of an argument.
-#[tactic(auto, using(crate::proofs::Getters::raw_values_rows))]
+#[tactic(auto, using(crate::proofs::ClapValues::raw_values_rows))]
 pub fn all<'m, 'a>(matches: &'m ArgMatches<'a>, id: &str) -> Option<&'m [&'a str]>
     ensures { option_map (λ texts. map (λ text. text.now) texts.now) result ≡
         all_of id.now (rows_of (found_of matches.now)) }
@@ -75,6 +75,7 @@ pub fn optional_value(
     }
 }
 
+// Whether no name is empty.
 fn have_bytes(names: &[&str]) -> bool
     ensures { result ≡ list_all (λ name. not (is_empty name.now)) names.now }
 {
@@ -82,7 +83,7 @@ fn have_bytes(names: &[&str]) -> bool
 }
 
 // Whether there are at most 64 names, each with a byte.
-#[tactic(auto, using(crate::proofs::Getters::names_held))]
+#[tactic(auto, using(crate::proofs::ClapValues::names_held))]
 fn are_file_names(names: &[&str]) -> bool
     ensures { result ≡ are_names (map (λ name. name.now) names.now) }
 {

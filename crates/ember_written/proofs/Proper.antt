@@ -37,6 +37,7 @@ one ps cs t h =
     (found cs t.second.start (slice_get cs t.second.start) refl f.1)
     (found cs t.third.start (slice_get cs t.third.start) refl f.2)
 
+-- the corners of proper triangles are in the table
 pub proper_corners : (ps : List Plane) (cs : List SpacePoint) (ts : List Triangle) → All (IsProper ps cs) ts → list_all (has_corners (length cs)) ts ≡ true
 proper_corners ps cs ts h =
     list_all-from_AllPass (has_corners (length cs)) ts (λ k d l. one ps cs (get_or ts k d) (h k d l))

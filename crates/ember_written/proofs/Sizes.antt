@@ -15,14 +15,14 @@ size_of_product n x y a b e l k =
     let same : unsigned_abs (value_of n) ≡ unsigned_abs (x *ℤ y) = ap unsigned_abs e in
     omega (arith, size_of_value n, same, product_size x y a b l k)
 
--- a step's numerator, as code reads it
+-- a step's code_gives_numerator, as code reads it
 pub read_step : (z : ℤ) (n : ℕ) → z ≡ pos n → n < 2 ^ 40 → to_z w128 (of_z w128 z) ≡ pos n
 read_step z n e l = rw e (to_z-of_z (fits_126 (pos n) (omega (arith, l))))
 
--- the steps of the code give the numerator
-pub numerator : (p q f n : Wide) (x w o s z : ℤ) → value_of p ≡ x *ℤ pos 1 → value_of q ≡ o *ℤ w → value_of f ≡ value_of p +ℤ value_of q → z ≡ s → value_of n ≡ value_of f *ℤ z → value_of n ≡ (x +ℤ o *ℤ w) *ℤ s
+-- the steps of the code give the code_gives_numerator
+pub code_gives_numerator : (p q f n : Wide) (x w o s z : ℤ) → value_of p ≡ x *ℤ pos 1 → value_of q ≡ o *ℤ w → value_of f ≡ value_of p +ℤ value_of q → z ≡ s → value_of n ≡ value_of f *ℤ z → value_of n ≡ (x +ℤ o *ℤ w) *ℤ s
 unfolding lib.IntN.one
-numerator p q f n x w o s z e g h k i =
+code_gives_numerator p q f n x w o s z e g h k i =
     let once : value_of p ≡ x = e ∙ *ℤ-one x in
     i ∙ rw (k, h, once, g) refl
 

@@ -4,7 +4,7 @@ use Rattle.ember_number.specs.Fractions.{Fraction}
 use Rattle.ember_round.specs.Nearest.{nearest_whole}
 use Rattle.ember_round.specs.Decimals.{decimal_text}
 
--- the text of the nearest decimal of at most so many places
+-- the text of the nearest decimal of at most this many places
 abbrev pub decimal_of : Fraction → ℕ → List ℕ
 decimal_of v places =
     let size = nearest_whole (unsigned_abs v.numerator * 10 ^ places) v.denominator in

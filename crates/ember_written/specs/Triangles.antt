@@ -10,7 +10,7 @@ use Rattle.ember_certificate.specs.declared.triangle.Triangle.{Triangle}
 use Rattle.ember_written.specs.Floats.{AreFloatPoints}
 use Rattle.ember_written.specs.Normals.{normal_at}
 
--- the corners of the triangle are among so many
+-- the corners of the triangle are indices below this number
 abbrev pub has_corners : ℕ → Triangle → Bool
 has_corners count t =
     nat_lt t.first.start count && (nat_lt t.second.start count && nat_lt t.third.start count)
@@ -38,7 +38,7 @@ vanishes t = same_point t.a t.b || (same_point t.b t.c || same_point t.c t.a)
 abbrev pub kept : List WrittenTriangle → List WrittenTriangle
 kept ts = filter (λ t. not (vanishes t)) ts
 
--- the triangles with their corners rounded, in order, without those of which two corners became equal
+-- the triangles with their corners rounded, in order, without those with two corners that became equal
 pub record AreWritten (s : Step) (o : Offset) (planes : List Plane) (cs : List SpacePoint) (ts : List Triangle)
     (ws : List WrittenTriangle) : Type 0 where
   pub points : List FloatPoint

@@ -17,10 +17,11 @@ use std::cmp::Ordering;
 // 10^21: a longer decimal isn't written. With 17 places it has fewer than 128 bits.
 const LIMIT: u128 = 1_000_000_000_000_000_000_000;
 
-/// Appends the decimal of at most `places` places that is nearest to where the corner lies along the axis, in the
-/// user's unit; of two equally near, the one whose last place is even. It has no zeros at the end, no bare point, and
-/// no sign if it is 0. There are at most 17 places. It is a fault if the corner is 10^21 or more from zero along the
-/// axis, and then nothing is appended; the other fault is want of memory.
+/// Appends the decimal of at most `places` places that is nearest to where the corner lies along
+/// the axis, in the user's unit; of two equally near, the one whose last place is even. It has no
+/// zeros at the end, no bare point, and no sign if it is 0. There are at most 17 places. It is a
+/// fault if the corner is 10^21 or more from zero along the axis, and then nothing is appended; the
+/// other fault is out-of-memory.
 pub fn put_place(
     corner: &SpacePoint,
     axis: Axis,

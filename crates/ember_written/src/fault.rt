@@ -7,7 +7,8 @@ use std::alloc::{AllocError, AllocFailed};
 /// Why corners aren't written.
 #[derive(Clone, Copy, Debug, PartialEq, Eq, thiserror::Error)]
 pub enum PlaceFault {
-    /// Along some axis a corner is too far from zero: 2^128 - 2^103 or more for a float, 10^21 or more for a decimal.
+    /// Along some axis a corner is too far from zero: 2^128 - 2^103 or more for a float, 10^21 or
+    /// more for a decimal.
     #[error("a corner is too far from zero")]
     TooFar,
     #[error("out of memory")]

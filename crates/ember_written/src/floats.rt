@@ -13,9 +13,9 @@ use ember_snap::{Offset, Step};
 use ember_stl_bytes::FloatPoint;
 use std::alloc::Global;
 
-/// The bits of the binary32 that is nearest to where the corner lies along the axis, in the user's unit; of two
-/// equally near, the one with the even significand. It is never -0. None if this place is 2^128 - 2^103 or more from
-/// zero, which rounds to infinity.
+/// The bits of the binary32 that is nearest to where the corner lies along the axis, in the user's
+/// unit; of two equally near, the one with the even significand. It is never -0. None if this place
+/// is 2^128 - 2^103 or more from zero, which rounds to infinity.
 pub fn float_place(corner: &SpacePoint, axis: Axis, step: &Step, offset: &Offset) -> Option<u32>
     requires { IsStep step.now }
     ensures infinite { result ≡ None ↔ IsInfinite (place_of step.now offset.now axis corner.now) }

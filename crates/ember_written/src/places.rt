@@ -33,7 +33,8 @@ fn offset_along(axis: Axis, offset: &Offset) -> i128
     }
 }
 
-// The coordinate and the offset times the weight, together, times the numerator of a step: below 2^243 in size.
+// The coordinate and the offset times the weight, together, times the numerator of a step: below
+// 2^243 in size.
 fn numerator_of(coordinate: i128, weight: i128, offset: i128, step: u64) -> Wide
     requires coordinate { Small 77371252455336267181195263 coordinate }
     requires weight { Small 37778931862957161709567 weight }
@@ -44,8 +45,8 @@ fn numerator_of(coordinate: i128, weight: i128, offset: i128, step: u64) -> Wide
     from_zero.times(i128::from(step))
 }
 
-/// Where the corner lies along the axis, in the user's unit: `step * (coordinate / weight + offset)`, exactly. Every
-/// corner of every grid has a place: the numerator is below 2^243 in size.
+/// Where the corner lies along the axis, in the user's unit: `step * (coordinate / weight +
+/// offset)`, exactly. Every corner of every grid has a place: the numerator is below 2^243 in size.
 pub fn exact_place(corner: &SpacePoint, axis: Axis, step: &Step, offset: &Offset) -> Ratio
     requires { IsStep step.now }
     ensures { fraction_of result ≡ place_of step.now offset.now axis corner.now }

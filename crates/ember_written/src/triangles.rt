@@ -14,6 +14,7 @@ use ember_snap::{Offset, Step};
 use ember_stl_bytes::{FloatPoint, WrittenTriangle};
 use std::alloc::{AllocError, Global};
 
+// Whether the numbers of the triangle's corners are below `count`.
 fn has_corners(t: &Triangle, count: usize) -> bool
     ensures { result ≡ has_corners count t.now }
 {
@@ -21,7 +22,7 @@ fn has_corners(t: &Triangle, count: usize) -> bool
         && ((t.second.start as usize) < count && (t.third.start as usize) < count)
 }
 
-/// Whether all corners of the triangles are in a table of so many corners.
+/// Whether all corners of the triangles are in a table of this many corners.
 pub fn have_corners(triangles: &[Triangle], count: usize) -> bool
     ensures { result ≡ list_all (has_corners count) triangles.now }
 {
@@ -47,12 +48,14 @@ fn triangle_at(planes: &[Plane], points: &[FloatPoint], t: &Triangle) -> Written
     }
 }
 
+// Whether the two points have the same bits.
 fn is_same_point(p: &FloatPoint, q: &FloatPoint) -> bool
     ensures { result ≡ same_point p.now q.now }
 {
     p.x == q.x && (p.y == q.y && p.z == q.z)
 }
 
+// Whether two corners of the triangle are equal.
 fn vanishes(t: &WrittenTriangle) -> bool
     ensures { result ≡ vanishes t.now }
 {
@@ -85,13 +88,15 @@ fn written_triangles(
     Ok(written)
 }
 
-/// The triangles as a binary STL has them: each coordinate of a corner is the binary32 nearest to it in the user's
-/// unit, and triangles of which two corners became equal are left out. The others keep their order, also those
-/// without an area. A corner is rounded once, so that triangles that shared it still do. A normal is that of the
-/// triangle's plane with the length 1, or 0 if the table has no such plane.
+/// The triangles as a binary STL has them: each coordinate of a corner is the binary32 nearest to
+/// it in the user's unit, and triangles with two corners that became equal are left out. The others
+/// keep their order, also those without an area. A corner is rounded once, so that triangles that
+/// shared it still do. A normal is that of the triangle's plane with the length 1, or 0 if the
+/// table has no such plane.
 ///
-/// `planes` and `corners` are what the triangles' numbers stand for. Each corner of a triangle is in the table, as
-/// of certified triangles. A corner of the table that is 2^128 - 2^103 or more from zero is a fault.
+/// `planes` and `corners` are the tables to which the triangles' numbers refer. Each corner of a
+/// triangle is in the table, as of certified triangles. A corner of the table that is 2^128 - 2^103
+/// or more from zero is a fault.
 pub fn float_triangles(
     alloc: Global,
     planes: &[Plane],

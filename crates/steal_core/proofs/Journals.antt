@@ -88,7 +88,7 @@ record Ran (n room : ℕ) (owner : ℕ → ℕ) (t : Tree) (p : ℕ) (before aft
   pub halved : (k : ℕ) → halved_by k events ≡ halved_in k owner t p
   pub finished : (k : ℕ) → finished_by k events ≡ others_in k owner t p
 
--- the right half of a box comes to its number: at once, or by a deque that holds nothing else
+-- the right half of a box gets to its worker: at once, or by a deque that holds nothing else
 record Shares (n room : ℕ) (i j p : ℕ) (front back : List Placed) : Type 0 where
   pub events : List Event
   pub run : Run (core n room (front ++ placed (Hand i) p ∷ back)) events (core n room ((front ++ placed Ended p ∷ back) ++ placed (Hand i) (2 * p) ∷ placed (Hand j) (2 * p + 1) ∷ []))

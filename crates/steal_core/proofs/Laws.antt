@@ -8,7 +8,7 @@ use Rattle.steal_core.specs.declared.place.Event.{Event}
 use Rattle.steal_core.specs.declared.place.Event.TheVariants.{Push, Hold, Pop, Steal, Drain, Finish}
 use Rattle.steal_core.specs.Core.{Core, placed, begin, AllEnded, IsEnded, ended_times, Halves, Moves, Steps, Reached, at_start, stepped, refused, weigh, weigh_ended, if_ended, one, IsGood}
 
--- a box in a hand ends, and its two halves come
+-- a box in a hand ends, and its two halves are added
 record Grows (p : ℕ) (old new : Core) : Type 0 where
   pub there : (h : ℕ → ℕ) → h p ≤ weigh h old.boxes
   pub ended : (h : ℕ → ℕ) → weigh_ended h new.boxes ≡ weigh_ended h old.boxes + h p
@@ -20,11 +20,11 @@ record Stays (old new : Core) : Type 0 where
   pub same : (h : ℕ → ℕ) → weigh h new.boxes ≡ weigh h old.boxes
   pub ended : (h : ℕ → ℕ) → weigh_ended h old.boxes ≤ weigh_ended h new.boxes
 
-pub weigh_append : (h : ℕ → ℕ) (xs ys : List Placed) → weigh h (xs ++ ys) ≡ weigh h xs + weigh h ys
+weigh_append : (h : ℕ → ℕ) (xs ys : List Placed) → weigh h (xs ++ ys) ≡ weigh h xs + weigh h ys
 weigh_append h [] ys = omega arith
 weigh_append h (x ∷ xs) ys = omega (arith, weigh_append h xs ys)
 
-pub ended_append : (h : ℕ → ℕ) (xs ys : List Placed) → weigh_ended h (xs ++ ys) ≡ weigh_ended h xs + weigh_ended h ys
+ended_append : (h : ℕ → ℕ) (xs ys : List Placed) → weigh_ended h (xs ++ ys) ≡ weigh_ended h xs + weigh_ended h ys
 ended_append h [] ys = omega arith
 ended_append h (x ∷ xs) ys = omega (arith, ended_append h xs ys)
 
@@ -122,7 +122,7 @@ halves by path right old new free m =
       comes = λ h. rw (before, after) (omega (arith, weigh_append h middle two, weigh_append h m.front (placed (Hand by) path ∷ m.back), weigh_append h m.front (placed Ended path ∷ m.back)));
     }
 
-pub steps_good : (e : Event) (old new : Core) → IsGood old → Steps e old new → IsGood new
+steps_good : (e : Event) (old new : Core) → IsGood old → Steps e old new → IsGood new
 steps_good (Push by path) old new good s = grows_good path old new good (halves by path (Deque by) old new (λ n. refl) s.1)
 steps_good (Hold by path) old new good s = grows_good path old new good (halves by path (Hand by) old new (λ n. refl) s.1)
 steps_good (Pop by) old new good s = stays_good old new good (moves (Deque by) (Hand by) s.1 s.2 s.3 old new (λ n. refl) s.4)
@@ -138,6 +138,7 @@ begins_good workers room = record {
   siblings = λ p above. omega (arith, one_other (2 * p) 1 (λ e. absurd (omega arith)), one_other (2 * p + 1) 1 (λ e. absurd (omega arith)));
 }
 
+-- every state that is reached is good
 pub all_good : (workers room : ℕ) (es : List Event) (s : Core) → Reached workers room es s → IsGood s
 all_good workers room es s at_start = begins_good workers room
 all_good workers room es s (stepped before e old new r step) = steps_good e old new (all_good workers room before old r) step
@@ -151,5 +152,6 @@ ended_is_all h (x ∷ xs) a = omega (arith, at x.place a.0, ended_is_all h xs a.
   at (Deque i) e = absurd e
   at Ended e = refl
 
+-- once all boxes have ended, a left half has ended as often as its sibling
 pub ended_pairs : (workers room : ℕ) (es : List Event) (s : Core) → Reached workers room es s → AllEnded s.boxes → (p : ℕ) → 0 < p → ended_times (2 * p) s.boxes ≡ ended_times (2 * p + 1) s.boxes
 ended_pairs workers room es s r a p above = ended_is_all (one (2 * p)) s.boxes a ∙ (all_good workers room es s r).siblings p above ∙ sym (ended_is_all (one (2 * p + 1)) s.boxes a)

@@ -6,19 +6,22 @@ use Rattle.steal_core.specs.declared.place.Placed.{Placed}
 use Rattle.steal_core.specs.declared.place.Event.{Event}
 use Rattle.steal_core.specs.declared.place.Event.TheVariants.{Push, Hold, Pop, Steal, Drain, Finish}
 
--- a state: the number of workers, how many boxes it has room for, and each box with its place, in the order in which
--- they came
+-- a state: the number of workers, for how many boxes it has room, and each box with its place, in the order in which
+-- the boxes were made
 pub record Core : Type 0 where
   pub workers : ℕ
   pub room : ℕ
   pub boxes : List Placed
 
+-- a state by its fields
 abbrev pub core : ℕ → ℕ → List Placed → Core
 core workers room boxes = record { workers = workers; room = room; boxes = boxes }
 
+-- a box by its fields
 abbrev pub placed : Place → ℕ → Placed
 placed place path = record { place = place; path = path }
 
+-- the start: worker 0 holds box 1
 abbrev pub begin : ℕ → ℕ → Core
 begin workers room = core workers room (placed (Hand 0) 1 ∷ [])
 
@@ -40,6 +43,7 @@ in_deque from Ended = false
 abbrev pub is_queued : ℕ → Placed → Bool
 is_queued from s = in_deque from s.place
 
+-- it is true for none
 abbrev pub HasNone : (Placed → Bool) → List Placed → Type 0
 HasNone P [] = Unit {0}
 HasNone P (s ∷ ss) = (P s ≡ false) × HasNone P ss
@@ -53,7 +57,8 @@ abbrev pub LastAt : (Placed → Bool) → List Placed → ℕ → Type 0
 LastAt P boxes i = (front back : List Placed) × (s : Placed) × (boxes ≡ front ++ s ∷ back) × (P s ≡ true) ×
     HasNone P back × (i ≡ length front)
 
--- each event's step
+-- ---- each event's step
+-- a box in a hand ended, and its halves were added, the left one in the same hand
 pub record Halves (by path : ℕ) (right : Place) (old new : Core) : Type 0 where
   pub front : List Placed
   pub back : List Placed
@@ -61,10 +66,12 @@ pub record Halves (by path : ℕ) (right : Place) (old new : Core) : Type 0 wher
   pub is_new : new ≡ core old.workers old.room ((front ++ placed Ended path ∷ back) ++ placed (Hand by) (2 * path) ∷
       placed right (2 * path + 1) ∷ [])
 
+-- a box moved to another place
 pub record Moves (from to : Place) (path : ℕ) (front back : List Placed) (old new : Core) : Type 0 where
   pub old_boxes : old.boxes ≡ front ++ placed from path ∷ back
   pub is_new : new ≡ core old.workers old.room (front ++ placed to path ∷ back)
 
+-- the step of an event. Pop and Drain take the last box of a deque, Steal takes the first
 abbrev pub Steps : Event → Core → Core → Type 0
 Steps (Push by path) old new = (by < old.workers) × Halves by path (Deque by) old new
 Steps (Hold by path) old new = (by ≤ old.workers) × Halves by path (Hand by) old new
@@ -77,9 +84,11 @@ Steps (Drain from) old new = (from < old.workers) × (path : ℕ) × (front back
 Steps (Finish by path) old new =
     (by ≤ old.workers) × (front back : List Placed) × Moves (Hand by) Ended path front back old new
 
+-- the event is no step in this state
 abbrev pub NoStep : Event → Core → Type 0
 NoStep e old = (new : Core) → Steps e old new → ⊥
 
+-- there is room for the event
 abbrev pub Fits : Event → Core → Type 0
 Fits (Push by path) old = (length old.boxes + 2 ≤ old.room) × (path < 2 ^ 36)
 Fits (Hold by path) old = (length old.boxes + 2 ≤ old.room) × (path < 2 ^ 36)
@@ -88,6 +97,7 @@ Fits (Steal by from) old = Unit {0}
 Fits (Drain from) old = Unit {0}
 Fits (Finish by path) old = Unit {0}
 
+-- what `apply` did, by its answer
 abbrev pub OnAnswer : Bool → Event → Core → Core → Type 0
 OnAnswer true e old new = Steps e old new
 OnAnswer false e old new = (new ≡ old) × NoStep e old
@@ -100,33 +110,13 @@ pub data Reached (workers room : ℕ) : List Event → Core → Type 0 where
   refused : (es : List Event) (e : Event) (old : Core) → Reached workers room es old → NoStep e old →
       Reached workers room (es ++ e ∷ []) old
 
--- a hand, a deque, and the ended boxes, as lists of paths
-abbrev pub is_in_hand : ℕ → Placed → Bool
-is_in_hand k s = in_hand k s.place
-
-abbrev pub has_ended : Place → Bool
-has_ended (Hand i) = false
-has_ended (Deque i) = false
-has_ended Ended = true
-
-abbrev pub paths_where : (Placed → Bool) → Core → List ℕ
-paths_where P c = map (λ s. s.path) (filter P c.boxes)
-
-abbrev pub hand : ℕ → Core → List ℕ
-hand k c = paths_where (is_in_hand k) c
-
-abbrev pub deque : ℕ → Core → List ℕ
-deque k c = paths_where (is_queued k) c
-
-abbrev pub ended : Core → List ℕ
-ended c = paths_where (λ s. has_ended s.place) c
-
 -- every hand and deque is empty
 abbrev pub IsEnded : Place → Type 0
 IsEnded (Hand i) = ⊥
 IsEnded (Deque i) = ⊥
 IsEnded Ended = Unit {0}
 
+-- every box of the list has ended
 abbrev pub AllEnded : List Placed → Type 0
 AllEnded [] = Unit {0}
 AllEnded (s ∷ ss) = IsEnded s.place × AllEnded ss
@@ -145,6 +135,7 @@ abbrev pub weigh_ended : (ℕ → ℕ) → List Placed → ℕ
 weigh_ended h [] = 0
 weigh_ended h (s ∷ ss) = if_ended s.place (h s.path) + weigh_ended h ss
 
+-- 1 for x itself, otherwise 0
 abbrev pub one : ℕ → ℕ → ℕ
 one x y = if y == x then 1 else 0
 
@@ -152,7 +143,8 @@ one x y = if y == x then 1 else 0
 abbrev pub ended_times : ℕ → List Placed → ℕ
 ended_times path boxes = weigh_ended (one path) boxes
 
--- no box stands twice, each but 1 has its parent ended, and a box and its sibling are both there or both not
+-- no box is in two places, no path is 0, each box but box 1 has an ended parent, and a box exists exactly if its
+-- sibling does
 pub record IsGood (s : Core) : Type 0 where
   pub once : (x : ℕ) → weigh (one x) s.boxes ≤ 1
   pub positive : weigh (one 0) s.boxes ≡ 0

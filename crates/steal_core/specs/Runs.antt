@@ -7,7 +7,7 @@ use Rattle.steal_core.specs.declared.place.Event.{Event}
 use Rattle.steal_core.specs.declared.place.Event.TheVariants.{Push, Hold, Pop, Steal, Drain, Finish}
 use Rattle.steal_core.specs.Core.{Core, core, begin, Steps, AllEnded}
 
--- a list of steps
+-- a list of events leads from one state to another, each by its step
 pub data Run : Core → List Event → Core → Type 0 where
   none : (a : Core) → Run a [] a
   then : (e : Event) (es : List Event) (a b c : Core) → Steps e a b → Run b es c → Run a (e ∷ es) c
@@ -17,12 +17,14 @@ pub data Tree : Type 0 where
   rests : Tree
   halved : Tree → Tree → Tree
 
--- the rules of journals, where `owner path` is the number of the journal in which the box stands
+-- the rules of journals for the box p and the tree below it; `owner path` is the number of the journal that has the
+-- box, and n is the caller's
 abbrev pub Rules : ℕ → (ℕ → ℕ) → Tree → ℕ → Type 0
 Rules n owner rests p = owner p ≤ n
 Rules n owner (halved l r) p = (owner p ≤ n) × (owner (2 * p) ≡ owner p) × (owner p ≡ n → owner (2 * p + 1) ≡ n) ×
     Rules n owner l (2 * p) × Rules n owner r (2 * p + 1)
 
+-- p is added if its number is k
 abbrev pub keep : ℕ → ℕ → ℕ → List ℕ → List ℕ
 keep k i p ps = if i == k then p ∷ ps else ps
 
@@ -54,7 +56,8 @@ finished_by k (Steal by from ∷ es) = finished_by k es
 finished_by k (Drain from ∷ es) = finished_by k es
 finished_by k (Finish by path ∷ es) = keep k by path (finished_by k es)
 
--- a list of steps from the start, after which all is ended, in which each number ends just the boxes of its journal
+-- a list of steps from the start, after which all boxes have ended, in which each number ends exactly the boxes of
+-- its journal
 pub record IsRun (n room : ℕ) (owner : ℕ → ℕ) (tree : Tree) : Type 0 where
   pub events : List Event
   pub last : List Placed

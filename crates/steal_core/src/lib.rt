@@ -1,6 +1,7 @@
-//! The box core: which box of a run each worker holds, has queued or has ended, and how boxes move.
+//! The core: a model of which boxes of a run each worker holds, has queued or has ended, and of how
+//! boxes move.
 //!
-//! It is a model: it runs no box. Worker `k` of `n` workers has hand `k` and deque `k`; number `n`
+//! It runs no box. Worker `k` of `n` workers has hand `k` and deque `k`; number `n`
 //! is the caller, who has only a hand. At the start worker 0 holds box 1. The halves of the box
 //! with the path `p` have the paths `2 * p` and `2 * p + 1`.
 #![tactic(auto)]

@@ -1,4 +1,4 @@
-// Where a box is, and what can happen to it.
+// Where a box is in the model, and what can happen to it.
 
 /// Where a box is.
 #[derive(Clone, Copy, Debug)]
@@ -21,7 +21,8 @@ pub struct Placed {
 /// What happens to a box.
 #[derive(Clone, Copy, Debug)]
 pub enum Event {
-    /// The box in the hand becomes its left half, and the right half goes to the back of the own deque.
+    /// The box in the hand becomes its left half, and the right half goes to the back of the own
+    /// deque.
     Push { by: u32, path: u64 },
     /// The box in the hand becomes both its halves: its push was refused.
     Hold { by: u32, path: u64 },

@@ -1,4 +1,4 @@
-// The state of a run.
+// The model as code. The program doesn't use it.
 ghost use Rattle.std.specs.Prelude.{◌≡◌, ◌+◌, ◌<◌, ◌≤◌, ◌^◌, ◌++◌, ◌∷◌, ℕ, List, true, false, length, vec_capacity, vec_len, IfOk, MatchOption};
 ghost use Rattle.steal_core.specs.declared.place.Place.TheVariants.{Hand, Deque, Ended};
 ghost use Rattle.steal_core.specs.declared.place.Placed.{Placed};
@@ -9,10 +9,11 @@ use crate::{Event, Place, Placed};
 use std::alloc::{AllocError, Global};
 use std::marker::Model;
 
-/// The error of a call for which memory is short.
+/// The out-of-memory error.
 pub type OutOfMemory = AllocError;
 
-/// Where each box of a run is, with the number of workers and the number of boxes that there is room for.
+/// A state of the model: where each box is, the number of workers, and for how many boxes there is
+/// room.
 #[derive(Drop)]
 pub struct State {
     workers: u32,
@@ -54,7 +55,7 @@ fn queued(placed: &Placed, from: u32) -> bool
     }
 }
 
-// The place of that box in that hand.
+// The index of that box in that hand.
 fn find_held(boxes: &[Placed], by: u32, path: u64) -> Option<usize>
     ensures { MatchOption result (HasNone (is_held by path) boxes.now) (λ i. FirstAt (is_held by path) boxes.now i) }
 {
@@ -70,7 +71,7 @@ fn find_held(boxes: &[Placed], by: u32, path: u64) -> Option<usize>
     None
 }
 
-// The place of the first box of that deque.
+// The index of the first box of that deque.
 fn find_first(boxes: &[Placed], from: u32) -> Option<usize>
     ensures { MatchOption result (HasNone (is_queued from) boxes.now) (λ i. FirstAt (is_queued from) boxes.now i) }
 {
@@ -86,7 +87,7 @@ fn find_first(boxes: &[Placed], from: u32) -> Option<usize>
     None
 }
 
-// The place of the last box of that deque.
+// The index of the last box of that deque.
 fn find_last(boxes: &[Placed], from: u32) -> Option<usize>
     ensures { MatchOption result (HasNone (is_queued from) boxes.now) (λ i. LastAt (is_queued from) boxes.now i) }
 {
@@ -101,8 +102,9 @@ fn find_last(boxes: &[Placed], from: u32) -> Option<usize>
 }
 
 impl State {
-    /// The start: worker 0 holds box 1, and all else is empty. It reserves room for this many `boxes`, in hands,
-    /// deques and ended together; there are 1 to 64 `workers`. Its one error is want of memory.
+    /// The start: worker 0 holds box 1, and all else is empty. It reserves room for `boxes` boxes,
+    /// in hands, deques and ended together. There are 1 to 64 `workers`. The only error is
+    /// out-of-memory.
     #[tactic(none)]
     pub fn new(alloc: Global, workers: u32, boxes: u32) -> Result<State, OutOfMemory>
         requires { (1 ≤ workers) × (workers ≤ 64) × (1 ≤ boxes) }
@@ -120,7 +122,7 @@ impl State {
         })
     }
 
-    // Puts the box at i somewhere else.
+    // Moves the box at index `i` to another place.
     fn relocate(&mut self, i: usize, to: Place)
         requires { i < length self.old.boxes }
         ensures { (front back : List Placed) (s : Placed) → self.old.boxes ≡ front ++ s ∷ back → i ≡ length front →
@@ -130,7 +132,8 @@ impl State {
         self.boxes[i] = Placed { place: to, path };
     }
 
-    // Ends the box at i, and its halves come.
+    // Ends the box at index `i`, and adds its halves: the left one in the same hand, the right one
+    // at the place `right`.
     fn halve(&mut self, i: usize, by: u32, path: u64, right: Place)
         requires at { FirstAt (is_held by path) self.old.boxes i }
         requires fits { (length self.old.boxes + 2 ≤ self.old.room) × (path < 2 ^ 36) }
@@ -150,6 +153,7 @@ impl State {
         });
     }
 
+    // The event Push. `false` if it is no step.
     fn push(&mut self, by: u32, path: u64) -> bool
         requires { Fits (Push by path) self.old }
         ensures { OnAnswer result (Push by path) self.old self.new }
@@ -164,6 +168,7 @@ impl State {
         true
     }
 
+    // The event Hold. `false` if it is no step.
     fn hold(&mut self, by: u32, path: u64) -> bool
         requires { Fits (Hold by path) self.old }
         ensures { OnAnswer result (Hold by path) self.old self.new }
@@ -178,6 +183,7 @@ impl State {
         true
     }
 
+    // The event Pop. `false` if it is no step.
     fn pop(&mut self, by: u32) -> bool
         ensures { OnAnswer result (Pop by) self.old self.new }
     {
@@ -191,6 +197,7 @@ impl State {
         true
     }
 
+    // The event Steal. `false` if it is no step.
     #[tactic(none)]
     fn steal(&mut self, by: u32, from: u32) -> bool
         ensures { OnAnswer result (Steal by from) self.old self.new }
@@ -205,6 +212,7 @@ impl State {
         true
     }
 
+    // The event Drain. `false` if it is no step.
     #[tactic(none)]
     fn drain(&mut self, from: u32) -> bool
         ensures { OnAnswer result (Drain from) self.old self.new }
@@ -219,6 +227,7 @@ impl State {
         true
     }
 
+    // The event Finish. `false` if it is no step.
     fn finish(&mut self, by: u32, path: u64) -> bool
         ensures { OnAnswer result (Finish by path) self.old self.new }
     {
@@ -232,8 +241,9 @@ impl State {
         true
     }
 
-    /// Does the event's step. It answers false exactly if the event is no step, and then nothing changes. A Push
-    /// or a Hold needs room for two more boxes, and a path below 2^36. It takes no memory.
+    /// Does the event's step. Returns `false`, and changes nothing, exactly if the event is no step
+    /// in this state. A Push or a Hold needs room for two more boxes, and a path below 2^36. It
+    /// allocates nothing.
     #[tactic(none)]
     pub fn apply(&mut self, event: Event) -> bool
         requires { Fits event self.old }

@@ -37,7 +37,7 @@ none_balances w a b x = record {
 }
 
 -- workers that are all done have all finished
-pub each_finished : {P K I : Type 0} (visited : Job → Type 0) (answers : Job → I → Type 0) (w : Weight) (ts : List (Stealer Job Global HandleView P)) (ss vs : List (WorkerState K I)) → length vs ≡ length ss
+each_finished : {P K I : Type 0} (visited : Job → Type 0) (answers : Job → I → Type 0) (w : Weight) (ts : List (Stealer Job Global HandleView P)) (ss vs : List (WorkerState K I)) → length vs ≡ length ss
     → ((i : ℕ) (d : WorkerState K I) → i < length ss → FinishesIfDone visited answers w ts (slice_index_or ss i d) (slice_index_or vs i d)) → All (λ s. s.done ≡ true) vs → EachFinished visited answers w ts ss vs
 each_finished visited answers w ts [] [] len each done = tt
 each_finished visited answers w ts [] (v ∷ vs) len each done = absurd (omega (arith, len))
@@ -47,7 +47,7 @@ each_finished visited answers w ts (s ∷ ss) (v ∷ vs) len each done = (
   each_finished visited answers w ts ss vs (omega (arith, len)) (λ i d l. each (suc i) d (omega (arith, l))) (λ k d l. done (suc k) d (omega (arith, l))),
 )
 
--- the same, where the workers were lent as a slice and stand in their vector again
+-- the same, if the workers were lent as a slice and are in their vector again
 pub each_finished_back : {P K I : Type 0} (visited : Job → Type 0) (answers : Job → I → Type 0) (w : Weight) (ts : List (Stealer Job Global HandleView P)) (n : ℕ) (ss vs rest : List (WorkerState K I)) → n ≡ length ss → length vs ≡ length ss
     → ((i : ℕ) (d : WorkerState K I) → i < length ss → FinishesIfDone visited answers w ts (slice_index_or ss i d) (slice_index_or vs i d)) → All (λ s. s.done ≡ true) (take n (vs ++ rest)) → EachFinished visited answers w ts ss (take n (vs ++ rest))
 each_finished_back visited answers w ts n ss vs rest count len each done =
@@ -66,26 +66,32 @@ each_sums visited answers w ts (s ∷ ss) (v ∷ vs) h g e = omega (arith, e.0.b
 pub drained_one : (h : Job → ℕ) (v w : HandleView) (x : Job) → w ≡ with_taken v (x ∷ []) → (weigh h w.taken ≡ weigh h v.taken + h x) × (weigh h w.pushed ≡ weigh h v.pushed)
 drained_one h v w x e = (omega (arith, ap (λ (u : HandleView). weigh h u.taken) e, weigh_append h v.taken (x ∷ [])), ap (λ (u : HandleView). weigh h u.pushed) e)
 
+-- what one more deque was pushed
 pub pushed_snoc : {P : Type 0} (h : Job → ℕ) (os : List (Worker Job Global HandleView P)) (o : Worker Job Global HandleView P) → all_pushed h (os ++ o ∷ []) ≡ all_pushed h os + weigh h (worker_view o).pushed
 pushed_snoc h [] o = omega arith
 pushed_snoc h (x ∷ os) o = omega (arith, pushed_snoc h os o)
 
+-- what one more deque gave
 pub popped_snoc : {P : Type 0} (h : Job → ℕ) (os : List (Worker Job Global HandleView P)) (o : Worker Job Global HandleView P) → all_popped h (os ++ o ∷ []) ≡ all_popped h os + weigh h (worker_view o).taken
 popped_snoc h [] o = omega arith
 popped_snoc h (x ∷ os) o = omega (arith, popped_snoc h os o)
 
+-- one more state adds what it holds
 pub held_snoc : {K I : Type 0} (w : Weight) (h : Entry → ℕ) (g : ℕ → ℕ) (ss : List (WorkerState K I)) (v : WorkerState K I) → all_held w h g (ss ++ v ∷ []) ≡ all_held w h g ss + held w h g (account v)
 held_snoc w h g [] v = omega arith
 held_snoc w h g (s ∷ ss) v = omega (arith, held_snoc w h g ss v)
 
+-- one more state adds what it has received
 pub received_snoc : {K I : Type 0} (w : Weight) (h : Entry → ℕ) (g : ℕ → ℕ) (ss : List (WorkerState K I)) (v : WorkerState K I) → all_received w h g (ss ++ v ∷ []) ≡ all_received w h g ss + received w h g (account v)
 received_snoc w h g [] v = omega arith
 received_snoc w h g (s ∷ ss) v = omega (arith, received_snoc w h g ss v)
 
+-- idle states hold nothing
 pub idle_held : {K I : Type 0} (w : Weight) (h : Entry → ℕ) (g : ℕ → ℕ) (ss : List (WorkerState K I)) → All (λ s. IsIdle w s) ss → all_held w h g ss ≡ 0
 idle_held w h g [] a = refl
 idle_held w h g (s ∷ ss) a = omega (arith, (a 0 s (omega arith)).held_none h g, idle_held w h g ss (λ k d l. a (suc k) d (omega arith)))
 
+-- idle states have received nothing
 pub idle_received : {K I : Type 0} (w : Weight) (h : Entry → ℕ) (g : ℕ → ℕ) (ss : List (WorkerState K I)) → All (λ s. IsIdle w s) ss → all_received w h g ss ≡ 0
 idle_received w h g [] a = refl
 idle_received w h g (s ∷ ss) a = omega (arith, (a 0 s (omega arith)).received_none h g, idle_received w h g ss (λ k d l. a (suc k) d (omega arith)))
@@ -95,5 +101,6 @@ map_snoc : {A C : Type 0} (f : A → C) (xs : List A) (x : A) (ys : List C) → 
 map_snoc f [] x ys = refl
 map_snoc f (y ∷ xs) x ys = ap (λ r. f y ∷ r) (map_snoc f xs x ys)
 
+-- one more journal was moved from the states to the list
 pub journals_next : {A B C : Type 0} (f : A → C) (k : B → C) (js ks : List A) (ss ts : List B) (j : A) (s : B) → ks ≡ js ++ j ∷ [] → ss ≡ s ∷ ts → f j ≡ k s → map f ks ++ map k ts ≡ map f js ++ map k ss
 journals_next f k js ks ss ts j s is there same = ap (λ xs. map f xs ++ map k ts) is ∙ map_snoc f js j (map k ts) ∙ ap (λ x. map f js ++ x ∷ map k ts) same ∙ ap (λ xs. map f js ++ map k xs) (sym there)

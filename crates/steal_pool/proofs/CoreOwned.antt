@@ -19,8 +19,8 @@ use Rattle.steal_pool.specs.Journals.{times, times_halved, if_halved_at, journal
 use Rattle.steal_pool.specs.CoreRuns.{unless_halved, IsCoreRun}
 use Rattle.steal_pool.proofs.DequeSteps.{weigh_append}
 use Rattle.steal_pool.proofs.Trees.{low_less, high_less}
-use Rattle.steal_pool.proofs.Places.{base, Fits, are_halves, fits_low, fits_high}
-use Rattle.steal_pool.proofs.Owned.{turn_of, turn_is, Up, up_append, up_from, once, top, owner, owner_has, some_journal, owner_is, only, keep_weighs, by_owner, outer}
+use Rattle.steal_pool.proofs.LeafOrder.{base, Fits, are_halves, fits_low, fits_high}
+use Rattle.steal_pool.proofs.RunOfCore.{turn_of, turn_is, Up, up_append, up_from, path_weighs_once, top, owner, owner_has, some_journal, owner_is, only, keep_weighs, by_owner, weights_exchange}
 
 halved_nil : (κ : Kind) → if_halved κ 0 ≡ 0
 halved_nil Halved = refl
@@ -71,7 +71,7 @@ module _ (shape : Job → Shape) (valid : Job → Type 0) where
   tree_passed zero j is = refl
   tree_passed (suc d) j is = ap (tree_shape (tree_within d)) is
 
-  -- the visited boxes stand in the order of their turns
+  -- the visited boxes are in the order of their turns
   ups : (d : ℕ) (j : Job) → halvings_left j.cell ≡ d → Splits shape valid → valid j → Fits j → (s : Shape) → shape j ≡ s → Up (turn_of j.cell.path) (top j) (visited shape j)
   ups d j at h v f leafed is = subst (Up (turn_of j.cell.path) (top j)) (sym (leaf_visits shape (halvings_left j.cell) j is)) (omega arith, omega (arith, turn_is j f, room (base j) (2 ^ halvings_left j.cell) (pow_pos (halvings_left j.cell))))
   ups d j at h v f passed is = subst (Up (turn_of j.cell.path) (top j)) (sym (passed_visits shape (halvings_left j.cell) j is)) (omega arith, omega (arith, turn_is j f, room (base j) (2 ^ halvings_left j.cell) (pow_pos (halvings_left j.cell))))
@@ -96,9 +96,9 @@ module _ (shape : Job → Shape) (valid : Job → Type 0) where
     all w = weigh w (map (entry_of shape) (visited shape root))
 
     few : (p : ℕ) → weigh (times p) js ≤ 1
-    few p = omega (arith, rules.once (at_entry (one p)), weigh_map (entry_of shape) (at_entry (one p)) (visited shape root), once (turn_of root.cell.path) (top root) p (visited shape root) (ups (halvings_left root.cell) root refl h v f (shape root) refl))
+    few p = omega (arith, rules.once (at_entry (one p)), weigh_map (entry_of shape) (at_entry (one p)) (visited shape root), path_weighs_once (turn_of root.cell.path) (top root) p (visited shape root) (ups (halvings_left root.cell) root refl h v f (shape root) refl))
 
-    -- below j stands a part of what stands below the root
+    -- what is visited below j is a part of what is visited below the root
     abbrev Part : Job → Type 0
     Part j = (w : Entry → ℕ) → weigh w (map (entry_of shape) (visited shape j)) ≤ all w
 
@@ -201,8 +201,8 @@ module _ (shape : Job → Shape) (valid : Job → Type 0) where
           last = r.last;
           run = r.run;
           ended = r.ended;
-          halved = λ k path. ap (weigh (one path)) (r.halved k) ∙ sym (ap (λ p. weigh (one path) (halved_in k own (tree root) p)) at) ∙ halves_sum k (one path) (halvings_left root.cell) root refl v (shape root) refl ∙ sym (rules.once (by_owner if_halved halved_nil own k (one path))) ∙ (outer if_halved halved_nil own k (one path) 0 js in_place).0 k (start k);
-          finished = λ k path. ap (weigh (one path)) (r.finished k) ∙ sym (ap (λ p. weigh (one path) (others_in k own (tree root) p)) at) ∙ others_sum k (one path) (halvings_left root.cell) root refl v (shape root) refl ∙ sym (rules.once (by_owner unless_halved unless_nil own k (one path))) ∙ (outer unless_halved unless_nil own k (one path) 0 js in_place).0 k (start k);
+          halved = λ k path. ap (weigh (one path)) (r.halved k) ∙ sym (ap (λ p. weigh (one path) (halved_in k own (tree root) p)) at) ∙ halves_sum k (one path) (halvings_left root.cell) root refl v (shape root) refl ∙ sym (rules.once (by_owner if_halved halved_nil own k (one path))) ∙ (weights_exchange if_halved halved_nil own k (one path) 0 js in_place).0 k (start k);
+          finished = λ k path. ap (weigh (one path)) (r.finished k) ∙ sym (ap (λ p. weigh (one path) (others_in k own (tree root) p)) at) ∙ others_sum k (one path) (halvings_left root.cell) root refl v (shape root) refl ∙ sym (rules.once (by_owner unless_halved unless_nil own k (one path))) ∙ (weights_exchange unless_halved unless_nil own k (one path) 0 js in_place).0 k (start k);
         }
       where
         start : (a : ℕ) → a ≡ 0 + a

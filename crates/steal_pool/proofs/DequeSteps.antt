@@ -11,6 +11,7 @@ use Rattle.steal_pool.specs.declared.protocol.HandleView.{HandleView}
 use Rattle.ember_job.specs.Weights.{weigh}
 use Rattle.steal_pool.specs.Protocol.{handle, owner_lent, guest_lent, Fits, JobsConserved, TookAllPushed}
 
+-- the weight of two lists together is the sum of their weights
 pub weigh_append : {X : Type 0} (h : X → ℕ) (xs ys : List X) → weigh h (xs ++ ys) ≡ weigh h xs + weigh h ys
 weigh_append h [] ys = omega arith
 weigh_append h (x ∷ xs) ys = omega (arith, weigh_append h xs ys)
@@ -69,14 +70,16 @@ module _ (P : Job → Type 0) where
   right : (xs ys : List Job) → All P (xs ++ ys) → All P ys
   right xs ys h = subst (All P) (drop-append_seam xs ys) (All-drop P (length xs) (xs ++ ys) h)
 
-  pub begins : JobsConserved P [] (handle true 0 [] [] ∷ [])
-  begins = record { owner = 0; visited_all = λ i d l. absurd (omega arith); fits = only; same = λ h. refl; lent = refl } where
+  -- the protocol holds of a new deque
+  pub protocol_begins : JobsConserved P [] (handle true 0 [] [] ∷ [])
+  protocol_begins = record { owner = 0; visited_all = λ i d l. absurd (omega arith); fits = only; same = λ h. refl; lent = refl } where
     only : (port : ℕ) (v : HandleView) → get_elem? (handle true 0 [] [] ∷ []) port ≡ some v → Fits 0 port v
     only zero u at = ((λ _. refl), λ other. absurd (other refl))
     only (suc j) u at = absurd (some-ne-none u (sym at))
 
-  pub pushes : (port : ℕ) (v : HandleView) (xs : List Job) → v.owns ≡ true → All P xs → Pushes (JobsConserved P) port v xs (λ w. w ≡ handle v.owns v.lent (v.pushed ++ xs) v.taken)
-  pushes port v xs own new items views k at =
+  -- a push by the owner keeps the protocol
+  pub protocol_pushes : (port : ℕ) (v : HandleView) (xs : List Job) → v.owns ≡ true → All P xs → Pushes (JobsConserved P) port v xs (λ w. w ≡ handle v.owns v.lent (v.pushed ++ xs) v.taken)
+  protocol_pushes port v xs own new items views k at =
       let w : HandleView = handle v.owns v.lent (v.pushed ++ xs) v.taken in
       let here : port ≡ k.owner = (k.fits port v at).0 own in (
         w,
@@ -106,15 +109,17 @@ module _ (P : Job → Type 0) where
       mine true e other none = other ((k.fits port v at).0 e)
       mine false e other none = absurd (omega (arith, out e, none))
 
-  pub takes : (port : ℕ) (v : HandleView) → (v.owns ≡ false → 0 < v.lent) → Takes (JobsConserved P) port v 1 (λ xs w. (w ≡ handle v.owns v.lent v.pushed (v.taken ++ xs)) × All P xs)
-  takes port v out xs items views some_box few k at = (handle v.owns v.lent v.pushed (v.taken ++ xs), took port v xs (xs ++ items) items views k at (right xs items k.visited_all) (λ h. weigh_append h xs items) out, (refl, left xs items k.visited_all))
+  -- a handle that may take does, and the protocol holds
+  pub protocol_takes : (port : ℕ) (v : HandleView) → (v.owns ≡ false → 0 < v.lent) → Takes (JobsConserved P) port v 1 (λ xs w. (w ≡ handle v.owns v.lent v.pushed (v.taken ++ xs)) × All P xs)
+  protocol_takes port v out xs items views some_box few k at = (handle v.owns v.lent v.pushed (v.taken ++ xs), took port v xs (xs ++ items) items views k at (right xs items k.visited_all) (λ h. weigh_append h xs items) out, (refl, left xs items k.visited_all))
 
-  pub pops : (port : ℕ) (v : HandleView) → (v.owns ≡ false → 0 < v.lent) → Pops (JobsConserved P) port v (λ xs w. (w ≡ handle v.owns v.lent v.pushed (v.taken ++ xs)) × All P xs)
-  pops port v out x items views k at = (handle v.owns v.lent v.pushed (v.taken ++ x ∷ []), took port v (x ∷ []) (items ++ x ∷ []) items views k at (left items (x ∷ []) k.visited_all) (λ h. omega (arith, weigh_append h items (x ∷ []))) out, (refl, right items (x ∷ []) k.visited_all))
+  -- a handle that may take protocol_pops, and the protocol holds
+  pub protocol_pops : (port : ℕ) (v : HandleView) → (v.owns ≡ false → 0 < v.lent) → Pops (JobsConserved P) port v (λ xs w. (w ≡ handle v.owns v.lent v.pushed (v.taken ++ xs)) × All P xs)
+  protocol_pops port v out x items views k at = (handle v.owns v.lent v.pushed (v.taken ++ x ∷ []), took port v (x ∷ []) (items ++ x ∷ []) items views k at (left items (x ∷ []) k.visited_all) (λ h. omega (arith, weigh_append h items (x ∷ []))) out, (refl, right items (x ∷ []) k.visited_all))
 
   -- a pass is made for a stealer
-  pub forks : (port : ℕ) (v : HandleView) → v.owns ≡ true → Forks (JobsConserved P) port v (handle v.owns (v.lent + 1) v.pushed v.taken) (handle false 1 [] [])
-  forks port v own items views k at =
+  pub protocol_lends : (port : ℕ) (v : HandleView) → v.owns ≡ true → Forks (JobsConserved P) port v (handle v.owns (v.lent + 1) v.pushed v.taken) (handle false 1 [] [])
+  protocol_lends port v own items views k at =
       let w : HandleView = handle v.owns (v.lent + 1) v.pushed v.taken in
       let new : HandleView = handle false 1 [] [] in
       let vs : List HandleView = set views port w in
@@ -131,8 +136,8 @@ module _ (P : Job → Type 0) where
       }
 
   -- a pass comes back
-  pub merges : (port : ℕ) (v : HandleView) (other : ℕ) (u : HandleView) → v.owns ≡ true → Merges (JobsConserved P) port v other u (handle v.owns (v.lent - u.lent) v.pushed (v.taken ++ u.taken)) (handle false 0 [] [])
-  merges port v other u own items views k at two there =
+  pub protocol_takes_back : (port : ℕ) (v : HandleView) (other : ℕ) (u : HandleView) → v.owns ≡ true → Merges (JobsConserved P) port v other u (handle v.owns (v.lent - u.lent) v.pushed (v.taken ++ u.taken)) (handle false 0 [] [])
+  protocol_takes_back port v other u own items views k at two there =
       let both : HandleView = handle v.owns (v.lent - u.lent) v.pushed (v.taken ++ u.taken) in
       let spent : HandleView = handle false 0 [] [] in
       let vs : List HandleView = set views port both in

@@ -42,6 +42,7 @@ halves_end visited answers w j low high b old new p here l r is there fits =
       both = λ h. omega (arith, entered (at_halves h) old new (entry p Halved) is, ap h low_at, ap h high_at);
     }
 
+-- the halves of an outcome that fits are those of visited boxes
 pub halves_fit : {I : Type 0} (visited : Job → Type 0) (answers : Job → I → Type 0) (w : Weight) (j low high : Job) (b : BoxHalves) → b.low ≡ low → b.high ≡ high → OutcomeFits visited answers w j (Halves low high) → AreHalves visited j (Some b)
 halves_fit visited answers w j low high b l r fits = (
   subst visited (sym l) fits.0,

@@ -6,8 +6,8 @@ pub mod LendingSteps
 pub mod StateLists
 pub mod JournalLists
 pub mod Trees
-pub mod Places
+pub mod LeafOrder
 pub mod Merging
-pub mod Owned
+pub mod RunOfCore
 pub mod CoreOwned
 pub mod RootGiven

@@ -1,4 +1,4 @@
--- The items of a run's parts, merged, answer the leaves of the visited tree in order.
+-- The items of a run's parts, parts_merge_to_leaves, answer the leaves of the visited tree in order.
 use Rattle.std.proofs.Common.{◌≡◌, ◌⊎◌, ℕ, zero, suc, ◌+◌, ◌*◌, ◌^◌, ◌<◌, ◌≤◌, All, List, [], ◌∷◌, ◌++◌, length, map, slice_index_or, refl, sym, ap, ap₂, ◌∙◌, subst, inl, inr, arith}
 use Rattle.std.proofs.lemmas.Bool.Decides.{eqb_tells}
 use Rattle.std.proofs.lemmas.Nat.{pow_pos}
@@ -20,7 +20,7 @@ use Rattle.ember_tree.specs.Order.{tree_key, IsMerged}
 use Rattle.steal_pool.specs.Steps.{IsPart, by_path, at_job}
 use Rattle.steal_pool.specs.Journals.{AnswersLeaf, AreParts}
 use Rattle.steal_pool.proofs.Trees.{low_less, high_less}
-use Rattle.steal_pool.proofs.Places.{base, Fits, Within, place_is, leaves_within, one_more}
+use Rattle.steal_pool.proofs.LeafOrder.{base, Fits, Within, place_is, leaves_within, one_more}
 
 abbrev low_in : Job → Shape → Job
 low_in j (halved l r) = l
@@ -52,7 +52,7 @@ module _ (shape : Job → Shape) (valid : Job → Type 0) where
     at leafed = inl refl
     at passed = inl refl
 
-  -- the halves of what stands in the tree stand there
+  -- the halves of a visited box are visited
   closed : (d : ℕ) (j : Job) → halvings_left j.cell ≡ d → Splits shape valid → valid j → (s : Shape) → shape j ≡ s → (x a b : Job) → In x (visited shape j) → shape x ≡ halved a b → In a (visited shape j) × In b (visited shape j)
   closed d j at h v leafed is x a b i e = elim (subst (In x) (leaf_visits shape (halvings_left j.cell) j is) i) [ inl same ↦ absurd (no_leaf (shape x) a b (ap shape same ∙ is) e) | inr none ↦ absurd none ]
   closed d j at h v passed is x a b i e = elim (subst (In x) (passed_visits shape (halvings_left j.cell) j is) i) [ inl same ↦ absurd (no_passed (shape x) a b (ap shape same ∙ is) e) | inr none ↦ absurd none ]
@@ -86,7 +86,7 @@ module _ (shape : Job → Shape) (valid : Job → Type 0) where
   leaf_stands x (j ∷ js) (inl same) e = subst (λ s. In x (if_leafed j s ++ leaves_among shape js)) (sym (ap shape (sym same) ∙ e)) (inl same)
   leaf_stands x (j ∷ js) (inr i) e = in_append_right x (if_leafed j (shape j)) (leaves_among shape js) (leaf_stands x js i e)
 
--- what stands in ascending places
+-- a job of a list with ascending places
 inside_from : (lo hi : ℕ) (x : Job) (js : List Job) → Within lo hi js → In x js → lo ≤ base x
 inside_from lo hi x [] w i = absurd i
 inside_from lo hi x (j ∷ js) w (inl e) = omega (arith, w.0, ap base e)
@@ -179,8 +179,9 @@ module _ {I : Type 0} where
     start : (n : ℕ) → n ≡ 0 + n
     start n = omega arith
 
-  pub merged : (shape : Job → Shape) (item : Job → I → Type 0) (valid : Job → Type 0) → Splits shape valid → (root : Job) → valid root → Fits root → (parts : List (Part I)) (items : List I) → AreParts shape item root parts → IsMerged parts items → EachAnswers item (leaves shape root) items
-  merged shape item valid h root v f parts items are m =
+  -- the parts_merge_to_leaves items of a run answer the leaves, in their order
+  pub parts_merge_to_leaves : (shape : Job → Shape) (item : Job → I → Type 0) (valid : Job → Type 0) → Splits shape valid → (root : Job) → valid root → Fits root → (parts : List (Part I)) (items : List I) → AreParts shape item root parts → IsMerged parts items → EachAnswers item (leaves shape root) items
+  parts_merge_to_leaves shape item valid h root v f parts items are m =
       let w = leaves_within shape valid (halvings_left root.cell) root refl h v f (shape root) refl in
       subst (EachAnswers item (leaves shape root)) (sym m.are)
       (answered shape root item (base root) (base root + 2 ^ halvings_left root.cell) (leaves shape root) w

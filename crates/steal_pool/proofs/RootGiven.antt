@@ -26,6 +26,7 @@ pub record IsGiven {K I : Type 0} (job : Job) (old new : WorkerState K I) : Type
   pub hand : new.hand.items ≡ old.hand.items ++ job ∷ []
 
 module _ {P K I : Type 0} (visited : Job → Type 0) (answers : Job → I → Type 0) (w : Weight) (ts : List (Stealer Job Global HandleView P)) (root : Job) (qs ss vs : List (WorkerState K I)) (s v : WorkerState K I) where
+  -- after the root was given to the last state, all states are ready
   pub given_ready : All (IsNew visited answers w ts) qs → qs ≡ ss ++ s ∷ [] → vs ≡ ss ++ v ∷ [] → IsGiven root s v → visited root → All (IsReady visited answers ts) vs
   given_ready new is there given mine =
       let last = All_last (IsNew visited answers w ts) qs ss s new is in
@@ -39,6 +40,7 @@ module _ {P K I : Type 0} (visited : Job → Type 0) (answers : Job → I → Ty
         no_journal = ap (λ o. o.journal.items) given.output ∙ last.ready.no_journal;
       }))
 
+  -- they hold the root alone
   pub given_holds : All (IsNew visited answers w ts) qs → qs ≡ ss ++ s ∷ [] → vs ≡ ss ++ v ∷ [] → IsGiven root s v → HoldRoot w root vs
   given_holds new is there given =
       let last = All_last (IsNew visited answers w ts) qs ss s new is in record {
@@ -64,6 +66,7 @@ module _ {P K I : Type 0} (visited : Job → Type 0) (answers : Job → I → Ty
         );
       }
 
+  -- the last state has it in hand
   pub given_last : vs ≡ ss ++ v ∷ [] → IsGiven root s v → LastHolds root.cell.path vs
   given_last there given = record {
     front = ss;

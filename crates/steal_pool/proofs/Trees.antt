@@ -26,6 +26,7 @@ use Rattle.steal_pool.proofs.DequeSteps.{weigh_append}
 pub low_less : (c l r : Cell) → IsSplit c l r → halvings_left l + 1 ≡ halvings_left c
 low_less c l r s = ap (λ x. halvings_left x + 1) s.is_low ∙ left_less c s.axis s.may_halve
 
+-- the right half has one halving less left than its box
 pub high_less : (c l r : Cell) → IsSplit c l r → halvings_left r + 1 ≡ halvings_left c
 high_less c l r s = ap (λ x. halvings_left x + 1) s.is_high ∙ left_less c s.axis s.may_halve
 
@@ -53,12 +54,12 @@ module _ (shape : Job → Shape) where
   leaves_weigh g (j ∷ js) = omega (arith, leaf_at g j (shape j), weigh_append (at_job g) (if_leafed j (shape j)) (leaves_among shape js), leaves_weigh g js)
 
   module _ {I : Type 0} (item : Job → I → Type 0) (valid : Job → Type 0) (root : Job) where
-    pub visited_valid : Splits shape valid → valid root → (j : Job) → IsVisited shape root j → valid j
+    visited_valid : Splits shape valid → valid root → (j : Job) → IsVisited shape root j → valid j
     visited_valid s v j root_visited = v
     visited_valid s v j (left_visited p l r w is) = (s p l r (visited_valid s v p w) is).0.0
     visited_valid s v j (right_visited p l r w is) = (s p l r (visited_valid s v p w) is).0.1
 
-    pub outcome_fits : Splits shape valid → (j : Job) (o : Outcome I) → IsVisited shape root j → valid j → Answers shape item j o → OutcomeFits (IsVisited shape root) (AnswersLeaf shape item) (tree_weight shape) j o
+    outcome_fits : Splits shape valid → (j : Job) (o : Outcome I) → IsVisited shape root j → valid j → Answers shape item j o → OutcomeFits (IsVisited shape root) (AnswersLeaf shape item) (tree_weight shape) j o
     outcome_fits s j (Halves l r) w v e =
         let cut = (s j l r v e).1 in
         let low = low_less j.cell l.cell r.cell cut in
@@ -144,8 +145,9 @@ begins_both path none journal is stays h = omega (arith, stays h, ap (weigh (at_
 pub caller_is : (path n : ℕ) (js : List (List Entry)) (halvings_left : ℕ) → (r : RunJournals path n js halvings_left) → journal_of n js ≡ r.caller
 caller_is path n js halvings_left r = ap₂ (λ k xs. journal_of k xs) (sym r.count) r.is ∙ last_journal (r.first ∷ r.others) r.caller
 
-pub many : (path n : ℕ) (js : List (List Entry)) (halvings_left : ℕ) → RunJournals path n js halvings_left → length js ≡ n + 1
-many path n js halvings_left r = ap length r.is ∙ snoc (r.first ∷ r.others) r.caller ∙ ap (λ k. k + 1) r.count where
+-- a run of n workers has n + 1 journals
+pub journals_are_workers_and_caller : (path n : ℕ) (js : List (List Entry)) (halvings_left : ℕ) → RunJournals path n js halvings_left → length js ≡ n + 1
+journals_are_workers_and_caller path n js halvings_left r = ap length r.is ∙ snoc (r.first ∷ r.others) r.caller ∙ ap (λ k. k + 1) r.count where
   snoc : (xs : List (List Entry)) (x : List Entry) → length (xs ++ x ∷ []) ≡ length xs + 1
   snoc [] x = refl
   snoc (y ∷ xs) x = omega (arith, snoc xs x)
@@ -154,6 +156,7 @@ module _ (shape : Job → Shape) (root : Job) {I : Type 0} (parts : List (Part I
   abbrev pub Sums : Type 0
   Sums = (h : Entry → ℕ) (g : ℕ → ℕ) → weigh (weigh h) js + weigh (by_path g) parts ≡ tree_weight shape h g root
 
+  -- journals of a run of the root keep the rules
   pub keep_rules : (n halvings_left : ℕ) → root.cell.path ≡ 1 → Sums → RunJournals root.cell.path n js halvings_left → KeepRules shape root n js
   keep_rules n halvings_left at sums r =
       let keeps : EachKeeps js = subst EachKeeps (sym r.is) (keeps_snoc (r.first ∷ r.others) r.caller (begins_left root.cell.path r.first r.begun, r.lefts) (both_left r.caller r.both)) in record {
@@ -163,6 +166,7 @@ module _ (shape : Job → Shape) (root : Job) {I : Type 0} (parts : List (Part I
         rights = λ path some. subst (λ j. 0 < times (2 * path + 1) j) (sym (caller_is root.cell.path n js halvings_left r)) (keeps_right path r.caller r.both (subst (λ j. 0 < times_halved path j) (caller_is root.cell.path n js halvings_left r) some));
       }
 
+  -- the parts of a run are those of the visited leaves
   pub are_parts : (item : Job → I → Type 0) → Sums → All (IsPart (IsVisited shape root) (AnswersLeaf shape item)) parts → AreParts shape item root parts
   are_parts item sums all = record {
     once = λ g. omega (arith, sums (λ _. 0) g, no_weight (weigh (λ (e : Entry). 0)) (λ j. no_weight (λ (e : Entry). 0) (λ e. refl) j) js, leaves_weigh shape g (visited shape root));

@@ -10,20 +10,23 @@ use Rattle.ember_job.specs.declared.job.Kind.TheVariants.{Halved, Leafed, Passed
 use Rattle.ember_job.specs.declared.job.Entry.{Entry}
 use Rattle.steal_pool.specs.Journals.{times_halved, journal_of}
 
+-- a number, or 0 for a halved box
 abbrev pub unless_halved : Kind → ℕ → ℕ
 unless_halved Halved n = 0
 unless_halved Leafed n = n
 unless_halved Passed n = n
 
--- how often a path stands in a journal as that of a box that is not halved
+-- 1 for an entry with this path that isn't of a halved box, otherwise 0
 abbrev pub unless_halved_at : ℕ → Entry → ℕ
 unless_halved_at path e = unless_halved e.kind (one path e.path)
 
+-- how often a path occurs in a journal as that of a box that isn't halved
 abbrev pub times_finished : ℕ → List Entry → ℕ
 times_finished path journal = weigh (unless_halved_at path) journal
 
--- a list of steps of the core from the start, after which every hand and deque is empty, in which each number ended
--- by Push or Hold just the halved boxes of its journal, and by Finish just the others
+-- a list of steps of the core from the start, after which every hand and deque is empty. In it each number (of a
+-- worker, or of the caller) ends by Push or Hold exactly the halved boxes of its journal, and by Finish exactly the
+-- others
 pub record IsCoreRun (workers room : ℕ) (journals : List (List Entry)) : Type 0 where
   pub events : List Event
   pub last : List Placed

@@ -12,7 +12,7 @@ use Rattle.ember_job.specs.declared.job.Entry.{Entry}
 use Rattle.steal_pool.specs.Protocol.{handle, new_pass, with_one_lent}
 use Rattle.steal_pool.specs.Steps.{Weight, EachPass, all_taken, ended}
 
--- each owner's end is of the deque with its index, and its view is like this
+-- each owner's end is of the deque with its index, and its view has the property Q
 abbrev pub EachOwner : {P : Type 0} → (HandleView → Type 0) → List (Stealer Job Global HandleView P) →
     List (Worker Job Global HandleView P) → Type 0
 EachOwner Q [] [] = Unit {0}
@@ -20,22 +20,24 @@ EachOwner Q [] (o ∷ os) = ⊥
 EachOwner Q (t ∷ ts) [] = ⊥
 EachOwner Q (t ∷ ts) (o ∷ os) = ((worker_deque o ≡ stealer_deque t) × Q (worker_view o)) × EachOwner Q ts os
 
--- with this many passes out, before anything was pushed, and at any time
+-- the view of an owner with this many passes out: before anything was pushed, and at any time
 abbrev pub Fresh : ℕ → HandleView → Type 0
 Fresh lent v = v ≡ handle true lent [] []
 
 abbrev pub Lent : ℕ → HandleView → Type 0
 Lent lent v = (v.owns ≡ true) × (v.lent ≡ lent)
 
+-- the weight of all jobs that the owners pushed
 abbrev pub all_pushed : {P : Type 0} → (Job → ℕ) → List (Worker Job Global HandleView P) → ℕ
 all_pushed h [] = 0
 all_pushed h (o ∷ os) = weigh h (worker_view o).pushed + all_pushed h os
 
+-- the weight of all jobs that the owners took, by pops and by passes that came back
 abbrev pub all_popped : {P : Type 0} → (Job → ℕ) → List (Worker Job Global HandleView P) → ℕ
 all_popped h [] = 0
 all_popped h (o ∷ os) = weigh h (worker_view o).taken + all_popped h os
 
--- the first i owners have made one pass more
+-- the first i owners have made one more pass
 abbrev pub Lending : {P : Type 0} → ℕ → ℕ → List (Stealer Job Global HandleView P) →
     List (Worker Job Global HandleView P) → List (Pass Job HandleView Global) → Type 0
 Lending lent zero ts os [] = EachOwner (Fresh lent) ts os
@@ -47,7 +49,7 @@ Lending lent (suc i) [] os ps = ⊥
 Lending lent (suc i) (t ∷ ts) [] ps = ⊥
 Lending lent (suc i) (t ∷ ts) (o ∷ os) [] = ⊥
 
--- the first i owners have taken in one pass more
+-- the first i owners have taken back one more pass
 abbrev pub Absorbing : {P : Type 0} → ℕ → ℕ → List (Stealer Job Global HandleView P) →
     List (Worker Job Global HandleView P) → List (Pass Job HandleView Global) → Type 0
 Absorbing lent zero ts os ps = EachOwner (Lent (lent + 1)) ts os × EachPass ts ps
@@ -61,7 +63,7 @@ abbrev pub AllBack : {P : Type 0} → List (Worker Job Global HandleView P) → 
 AllBack [] = Unit {0}
 AllBack (o ∷ os) = Lent 0 (worker_view o) × AllBack os
 
--- the passes of each row are those of all deques
+-- each row has one pass on each deque
 abbrev pub EachRow : {P : Type 0} → List (Stealer Job Global HandleView P) →
     List (Vec (Pass Job HandleView Global) Global) → Type 0
 EachRow ts rows = All (λ r. EachPass ts r.items) rows

@@ -6,6 +6,7 @@ use Rattle.ember_job.specs.Weights.{weigh}
 use Rattle.ember_job.specs.declared.job.Job.{Job}
 use Rattle.steal_pool.specs.declared.protocol.HandleView.{HandleView}
 
+-- the view of a handle, by its fields
 abbrev pub handle : Bool → ℕ → List Job → List Job → HandleView
 handle owns lent pushed taken = record { owns = owns; lent = lent; pushed = pushed; taken = taken }
 
@@ -37,15 +38,18 @@ IsPush job r old new = MatchResult r (λ _. new ≡ with_pushed old (job ∷ [])
 abbrev pub IsTake : (Job → Type 0) → Option Job → HandleView → HandleView → Type 0
 IsTake visited r old new = MatchOption r (new ≡ old) (λ x. (new ≡ with_taken old (x ∷ [])) × visited x)
 
+-- how many passes are out by the owner's handle, and 0 for another handle
 abbrev pub owner_lent : Bool → ℕ → ℕ
 owner_lent true n = n
 owner_lent false n = 0
 
+-- a guest is a handle that isn't the owner's: 1 while its pass is out, and 0 for the owner's
 abbrev pub guest_lent : Bool → ℕ → ℕ
 guest_lent true n = 0
 guest_lent false n = n
 
--- one handle at most is the owner's, no other has pushed, and a spent pass has taken nothing
+-- a port is the index of a handle of the deque, and v is the view of the handle `port`: only the handle `owner` is the
+-- owner's, no other has pushed, and a spent pass has taken nothing
 abbrev pub Fits : ℕ → ℕ → HandleView → Type 0
 Fits owner port v = (v.owns ≡ true → port ≡ owner) × (port ≢ owner → (v.pushed ≡ []) × (v.lent ≡ 0 → v.taken ≡ []))
 

@@ -5,18 +5,19 @@ use Rattle.ember_job.specs.declared.job.Entry.{Entry}
 use Rattle.steal_pool.specs.declared.state.WorkerState.{WorkerState}
 use Rattle.steal_pool.specs.Steps.{at_job, at_entry, at_left, at_halves}
 
--- the left half of each halved box stands in the journal
+-- the left half of each halved box is in the journal
 abbrev pub KeepsLeft : List Entry → Type 0
 KeepsLeft journal = (h : ℕ → ℕ) → weigh (at_left h) journal ≤ weigh (at_entry h) journal
 
--- both halves of each halved box stand there
+-- both halves of each halved box are in the journal
 abbrev pub KeepsBoth : List Entry → Type 0
 KeepsBoth journal = (h : ℕ → ℕ) → weigh (at_halves h) journal ≤ weigh (at_entry h) journal
 
--- this box stands there, too
+-- this box is in the journal, and so is the left half of each halved box
 abbrev pub Begins : ℕ → List Entry → Type 0
 Begins path journal = (h : ℕ → ℕ) → h path + weigh (at_left h) journal ≤ weigh (at_entry h) journal
 
+-- the same of each journal
 abbrev pub EachKeeps : List (List Entry) → Type 0
 EachKeeps [] = Unit {0}
 EachKeeps (j ∷ js) = KeepsLeft j × EachKeeps js
@@ -28,7 +29,7 @@ pub record LastHolds {K I : Type 0} (path : ℕ) (states : List (WorkerState K I
   pub is : states ≡ front ++ last ∷ []
   pub holds : (h : ℕ → ℕ) → h path ≤ weigh (at_job h) last.hand.items
 
--- each worker's journal holds what was in its hand, and the left halves
+-- each worker's journal has what was in the worker's hand, and the left half of each halved box
 abbrev pub EachStays : {K I : Type 0} → List (WorkerState K I) → List (List Entry) → Type 0
 EachStays [] [] = Unit {0}
 EachStays [] (j ∷ js) = ⊥

@@ -16,6 +16,7 @@ use Rattle.steal_pool.specs.Steps.{Weight, EachPass, IsPart, by_path}
 use Rattle.steal_pool.specs.Owners.{EachOwner, all_pushed, all_popped, rows_taken}
 use Rattle.steal_pool.specs.Workers.{IsReady, IsIdle, all_held, all_received}
 
+-- each state's deque is that with its index, and the view of its owner's end has the property Q
 abbrev pub EachState : {K I : Type 0} → (HandleView → Type 0) →
     List (Stealer Job Global HandleView (JobProtocol K)) → List (WorkerState K I) → Type 0
 EachState Q [] [] = Unit {0}
@@ -53,6 +54,7 @@ pub record IsNew {P K I : Type 0} (visited : Job → Type 0) (answers : Job → 
   pub ready : IsReady visited answers stealers s
   pub idle : IsIdle weight s
 
+-- the journals of the workers, in order
 abbrev pub journals_of : {K I : Type 0} → List (WorkerState K I) → List (List Entry)
 journals_of states = map (λ s. s.output.journal.items) states
 
@@ -72,12 +74,12 @@ pub record HoldRoot {K I : Type 0} (weight : Weight) (root : Job) (states : List
   pub held : (h : Entry → ℕ) (g : ℕ → ℕ) → all_held weight h g states ≡ weight h g root
   pub received : (h : Entry → ℕ) (g : ℕ → ℕ) → all_received weight h g states ≡ 0
 
--- all that the workers held at the start stands in the journals and among the parts
+-- all that the workers held at the start, but for what they had received, is in the journals and among the parts
 abbrev pub Conserves : {K I : Type 0} → Weight → List (WorkerState K I) → List (List Entry) → List (Part I) → Type 0
 Conserves weight states journals parts = (h : Entry → ℕ) (g : ℕ → ℕ) →
     weigh (weigh h) journals + weigh (by_path g) parts + all_received weight h g states ≡ all_held weight h g states
 
--- the whole tree below a box stands in the journals and among the parts
+-- the whole tree below a box is in the journals and among the parts
 abbrev pub HoldsTree : {I : Type 0} → Weight → Job → List (List Entry) → List (Part I) → Type 0
 HoldsTree weight root journals parts =
     (h : Entry → ℕ) (g : ℕ → ℕ) → weigh (weigh h) journals + weigh (by_path g) parts ≡ weight h g root

@@ -1,4 +1,5 @@
--- What a worker has ended and holds, against what it was given and has taken.
+-- What a worker has ended and holds, against what it was given and has taken. Lists are compared by weights: two lists
+-- with the same sum for every weight are permutations of each other.
 use Rattle.std.specs.Prelude.{◌≡◌, ℕ, ◌+◌, ◌*◌, ◌≤◌, List, [], ◌∷◌, Result, IfOk, Option, Some, None, MatchOption, Vec}
 use Rattle.std.specs.Borrow.{Bor}
 use Rattle.std.specs.declared.alloc.Global.{Global}
@@ -23,11 +24,12 @@ use Rattle.steal_pool.specs.declared.protocol.HandleView.{HandleView}
 abbrev pub by_path : {I : Type 0} → (ℕ → ℕ) → Part I → ℕ
 by_path g p = g p.path
 
--- how a box weighs with all below it, by the weights of entries and of the paths of leaves
+-- what a box weighs with all below it, by the weights of entries and of the paths of leaves
 abbrev pub Weight : Type 0
 Weight = (Entry → ℕ) → (ℕ → ℕ) → Job → ℕ
 
--- what the outcome of a visited box is
+-- the outcome of a visited box. Halves are visited too, have the paths 2p and 2p + 1 and may be halved once less; the
+-- item of a leaf answers the job; and the box weighs its entry plus its halves, or plus its leaf
 abbrev pub OutcomeFits : {I : Type 0} → (Job → Type 0) → (Job → I → Type 0) → Weight → Job → Outcome I → Type 0
 OutcomeFits visited answers weight j (Halves l r) = visited l × visited r × (l.cell.path ≡ 2 * j.cell.path) ×
     (r.cell.path ≡ 2 * j.cell.path + 1) × (halvings_left l.cell + 1 ≡ halvings_left j.cell) ×
@@ -82,7 +84,7 @@ at_left h e = if_halved e.kind (h (2 * e.path))
 abbrev pub at_halves : (ℕ → ℕ) → Entry → ℕ
 at_halves h e = if_halved e.kind (h (2 * e.path) + h (2 * e.path + 1))
 
--- the sum of all that was ended, by the weights of entries and of the paths of leaves
+-- the weight of all that was ended: the entries of the journal, and the paths of the parts
 abbrev pub ended : {I : Type 0} → (Entry → ℕ) → (ℕ → ℕ) → Output I → ℕ
 ended h g o = weigh h o.journal.items + weigh (by_path g) o.parts.items
 
@@ -93,6 +95,7 @@ AreHalves visited j (Some b) =
     visited b.low × visited b.high × (halvings_left b.low.cell + 1 ≡ halvings_left j.cell) ×
     (halvings_left b.high.cell + 1 ≡ halvings_left j.cell)
 
+-- the left half, if any, and both halves, if any, as lists
 abbrev pub low_job : Option BoxHalves → List Job
 low_job None = []
 low_job (Some b) = b.low ∷ []
@@ -101,7 +104,10 @@ abbrev pub half_jobs : Option BoxHalves → List Job
 half_jobs None = []
 half_jobs (Some b) = b.low ∷ b.high ∷ []
 
--- a box ended: its entry was written, its item was added if it is a leaf, and its halves, if any, are still to be run
+-- a box ended: its entry was written, its item was added if it is a leaf, and its halves, if any, are still to be run.
+-- `sums`: what is ended now and the halves still to be run weigh what was ended before and this box. `path`: the
+-- journal has grown by the box's path. `low`, `both`: if it was halved, the journal's halved boxes have its left half,
+-- and both halves, more
 pub record EndsBox {I : Type 0} (weight : Weight) (job : Job) (old new : Output I)
     (halves : Option BoxHalves) : Type 0 where
   pub sums : (h : Entry → ℕ) (g : ℕ → ℕ) →
@@ -112,16 +118,17 @@ pub record EndsBox {I : Type 0} (weight : Weight) (job : Job) (old new : Output 
   pub both : (h : ℕ → ℕ) → weigh (at_halves h) new.journal.items ≡ weigh (at_halves h) old.journal.items +
       weigh (at_job h) (half_jobs halves)
 
--- a box was run with all below it
+-- a box was run with all below it: what is ended now weighs what was ended before and this box
 abbrev pub AddsBox : {I : Type 0} → Weight → Job → Output I → Output I → Type 0
 AddsBox weight job old new = (h : Entry → ℕ) (g : ℕ → ℕ) → ended h g new ≡ ended h g old + weight h g job
 
--- both halves of each box that was halved since then stand in the journal
+-- both halves of each box that was halved between old and new are in the journal: for every weight, the journal has
+-- grown by at least the weight of these halves
 abbrev pub KeepsHalves : {I : Type 0} → Output I → Output I → Type 0
 KeepsHalves old new = (h : ℕ → ℕ) → weigh (at_entry h) old.journal.items + weigh (at_halves h) new.journal.items ≤
     weigh (at_entry h) new.journal.items + weigh (at_halves h) old.journal.items
 
--- and so does this box
+-- and so is the box with this path
 abbrev pub KeepsHalvesAnd : {I : Type 0} → ℕ → Output I → Output I → Type 0
 KeepsHalvesAnd path old new = (h : ℕ → ℕ) →
     weigh (at_entry h) old.journal.items + weigh (at_halves h) new.journal.items + h path ≤

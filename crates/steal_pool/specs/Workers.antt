@@ -18,22 +18,23 @@ pub record Account (I : Type 0) : Type 0 where
   pub owner : HandleView
   pub passes : List (Pass Job HandleView Global)
 
+-- the account of a worker's state
 abbrev pub account : {K I : Type 0} → WorkerState K I → Account I
 account s = record { hand = s.hand.items; output = s.output; owner = worker_view s.owner; passes = s.passes.items }
 
--- what it has ended, holds and has pushed
+-- the weight of what a worker has ended, holds in hand and has pushed
 abbrev pub held : {I : Type 0} → Weight → (Entry → ℕ) → (ℕ → ℕ) → Account I → ℕ
 held weight h g a = ended h g a.output + weigh (weight h g) a.hand + weigh (weight h g) a.owner.pushed
 
--- what it has popped and stolen
+-- the weight of what it has popped and stolen
 abbrev pub received : {I : Type 0} → Weight → (Entry → ℕ) → (ℕ → ℕ) → Account I → ℕ
 received weight h g a = weigh (weight h g) a.owner.taken + all_taken (weight h g) a.passes
 
--- the paths in the journal and in the hand
+-- the weight of the paths in its journal and in its hand
 abbrev pub own_paths : {I : Type 0} → (ℕ → ℕ) → Account I → ℕ
 own_paths h a = weigh (at_entry h) a.output.journal.items + weigh (at_job h) a.hand
 
--- the paths of the left halves of the halved boxes of the journal
+-- the weight of the paths of the left halves of its journal's halved boxes
 abbrev pub left_paths : {I : Type 0} → (ℕ → ℕ) → Account I → ℕ
 left_paths h a = weigh (at_left h) a.output.journal.items
 
@@ -46,6 +47,7 @@ pub record Balances {I : Type 0} (weight : Weight) (jobs : List Job) (old new : 
   pub stays : (h : ℕ → ℕ) → own_paths h old + left_paths h new + weigh (at_job h) jobs ≤ own_paths h new +
       left_paths h old
 
+-- the hand is empty if there is no job
 abbrev pub EmptyIfNone : Option Job → List Job → Type 0
 EmptyIfNone None hand = hand ≡ []
 EmptyIfNone (Some j) hand = Unit {0}
@@ -61,26 +63,26 @@ pub record Releases {I : Type 0} (weight : Weight) (job : Option Job) (old new :
   pub stays : (h : ℕ → ℕ) →
       weigh (at_job h) old.hand ≤ weigh (at_job h) new.hand + weigh (at_job h) (option_to_list job)
 
--- it owns its deque, and has jobs of visited boxes and items that answer
+-- a worker owns its deque, and has jobs of visited boxes and items that answer
 pub record IsSound {K I : Type 0} (visited : Job → Type 0) (answers : Job → I → Type 0)
     (s : WorkerState K I) : Type 0 where
   pub owns : (worker_view s.owner).owns ≡ true
   pub visited_all : All visited s.hand.items
   pub found_all : All (IsPart visited answers) s.output.parts.items
 
--- it may begin
+-- a worker may begin: it is sound, has a pass on each deque, and has ended nothing
 pub record IsReady {P K I : Type 0} (visited : Job → Type 0) (answers : Job → I → Type 0)
     (stealers : List (Stealer Job Global HandleView P)) (s : WorkerState K I) : Type 0 where
   pub each : EachPass stealers s.passes.items
   pub sound : IsSound visited answers s
   pub no_journal : s.output.journal.items ≡ []
 
--- nothing was given to it, ended or taken
+-- nothing was given to a worker, and it has ended and taken nothing
 pub record IsIdle {K I : Type 0} (weight : Weight) (s : WorkerState K I) : Type 0 where
   pub held_none : (h : Entry → ℕ) (g : ℕ → ℕ) → held weight h g (account s) ≡ 0
   pub received_none : (h : Entry → ℕ) (g : ℕ → ℕ) → received weight h g (account s) ≡ 0
 
--- it has ended all that came into its hand
+-- a worker has finished: its hand is empty, and it has ended or pushed all that it was given or took
 pub record HasFinished {P K I : Type 0} (visited : Job → Type 0) (answers : Job → I → Type 0) (weight : Weight)
     (stealers : List (Stealer Job Global HandleView P)) (old new : WorkerState K I) : Type 0 where
   pub deque : worker_deque new.owner ≡ worker_deque old.owner
@@ -89,7 +91,7 @@ pub record HasFinished {P K I : Type 0} (visited : Job → Type 0) (answers : Jo
   pub hand : new.hand.items ≡ []
   pub balance : Balances weight [] (account old) (account new)
 
--- it has, or it says that it is not done
+-- if a worker says that it is done, it has finished
 pub record FinishesIfDone {P K I : Type 0} (visited : Job → Type 0) (answers : Job → I → Type 0) (weight : Weight)
     (stealers : List (Stealer Job Global HandleView P)) (old new : WorkerState K I) : Type 0 where
   pub finished : new.done ≡ true → HasFinished visited answers weight stealers old new
@@ -109,6 +111,7 @@ EachFinished visited answers weight stealers (s ∷ ss) [] = ⊥
 EachFinished visited answers weight stealers (s ∷ ss) (v ∷ vs) =
     HasFinished visited answers weight stealers s v × EachFinished visited answers weight stealers ss vs
 
+-- the same of two vectors
 abbrev pub AllFinish : {P K I : Type 0} → (Job → Type 0) → (Job → I → Type 0) → Weight →
     List (Stealer Job Global HandleView P) → Vec (WorkerState K I) Global → Vec (WorkerState K I) Global → Type 0
 AllFinish visited answers weight stealers old new = EachFinished visited answers weight stealers old.items new.items

@@ -1,4 +1,4 @@
-// Boxes run to their end by one caller.
+// One box, and all boxes below one. All geometry happens in `ask`: it calls the step.
 ghost use Rattle.std.specs.Prelude.{◌≡◌, All, IfOk, OnOk};
 ghost use Rattle.crossbeam_deque.specs.Handles.{worker_view};
 ghost use Rattle.steal_pool.specs.Protocol.{IsDrain};
@@ -15,7 +15,8 @@ use ember_tree::Part;
 use std::alloc::Global;
 use std::sync::Wait;
 
-// The outcome of a visited box.
+// Calls the step at a visited box: what becomes of the box? `call` is the step's closure, such as
+// the one in the macro `finds!` of ember_query that calls `text_step`.
 fn ask<K: VisitedJobs + BoxWeight<I>, I, F: Fn(&Job) -> Result<Outcome<I>, OutOfMemory>>(
     call: &F,
     job: &Job,
@@ -27,8 +28,10 @@ fn ask<K: VisitedJobs + BoxWeight<I>, I, F: Fn(&Job) -> Result<Outcome<I>, OutOf
     call(job)
 }
 
-// Enters a box into the journal, with the item of a leaf, and hands back its halves, if any. The jobs lie on this
-// function's stack only while it runs, so that a recursion over halves needs little of it.
+// Calls the step at a box, which decides what becomes of it and makes the item of a leaf. Enters
+// the box into the journal, adds the item to the parts, and returns the halves, if any: they are
+// still to be run. The jobs are on the stack only while this function runs, so the recursion of
+// `run_below` needs little of it.
 #[tactic(auto, using(crate::proofs::DequeSteps::weigh_append))]
 pub fn end_box<
     K: VisitedJobs + BoxWeight<I>,
@@ -73,7 +76,7 @@ pub fn end_box<
     }
 }
 
-// Runs a box and all below it, left half first.
+// Runs a box and all below it, left half first. The only error is out-of-memory.
 #[tactic(auto, using(crate::proofs::DequeSteps::weigh_append))]
 pub fn run_below<
     K: VisitedJobs + BoxWeight<I>,
@@ -102,7 +105,8 @@ pub fn run_below<
     run_below::<K, I, F, G>(alloc, call, gate, halves.high, output)
 }
 
-// Pops the job that was pushed last, if all passes came back.
+// Pops the job that was pushed last. All passes are back, so `None` proves that all pushed jobs
+// were taken.
 fn drain_next<K: VisitedJobs>(owner: &mut Owner<K>) -> Option<BoxedJob>
     requires { Lent 0 (worker_view owner.old) }
     ensures { IsDrain K.is_visited result (worker_view owner.old) (worker_view owner.new) }
@@ -110,7 +114,8 @@ fn drain_next<K: VisitedJobs>(owner: &mut Owner<K>) -> Option<BoxedJob>
     owner.pop_as::<Drained<K>>()
 }
 
-// Runs what is left in a deque to its end.
+// Runs what is left in a deque to its end. All passes on it are back. The only error is
+// out-of-memory.
 #[tactic(auto, using(crate::proofs::DequeSteps::weigh_append, crate::proofs::AccountSums::drained_one))]
 pub fn drain<
     R: Wait,

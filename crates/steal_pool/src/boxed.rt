@@ -5,7 +5,8 @@ use ember_job::{Job, OutOfMemory};
 use std::alloc::Global;
 use std::marker::Model;
 
-/// A job on the heap, so that hands, deques and steals move one word. Contracts see the job.
+/// A job on the heap (in a `Box`), so that hands, deques and steals move one word. Contracts see
+/// the job.
 #[derive(Drop)]
 pub struct BoxedJob {
     job: Box<Job>,
@@ -23,6 +24,7 @@ impl Model for BoxedJob {
 }
 
 impl BoxedJob {
+    // Moves the job to the heap.
     pub fn new(alloc: Global, job: Job) -> Result<BoxedJob, OutOfMemory>
         ensures { IfOk result (λ boxed. boxed ≡ job) }
     {
@@ -31,6 +33,7 @@ impl BoxedJob {
         })
     }
 
+    // The job.
     pub fn job(&self) -> &Job
         ensures { result.now ≡ self.now }
     {
@@ -38,7 +41,7 @@ impl BoxedJob {
     }
 }
 
-/// The halves of a box, which are still to be run.
+/// The jobs of the two halves of a box, which are still to be run.
 #[derive(Drop)]
 pub struct BoxHalves {
     pub low: BoxedJob,

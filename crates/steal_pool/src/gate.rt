@@ -4,6 +4,7 @@ use std::thread;
 
 /// A worker calls it before each box, with the path of the box.
 pub trait Gate {
+    /// Called before the box with this path is run. It may wait.
     fn enter(&self, path: u64);
 }
 
@@ -15,8 +16,9 @@ impl Gate for OpenGate {
     fn enter(&self, _path: u64) {}
 }
 
-/// The gate of the tests. It holds each box of one depth until all boxes of that depth have come,
-/// each for at most `TURNS` turns. Once a box has waited so long, it lets every box pass.
+/// The gate of the tests. It holds each box of one depth until all boxes of that depth have
+/// arrived, each for at most `TURNS` turns. Once a box has waited for so many turns, it lets every
+/// box pass.
 #[derive(Drop)]
 pub struct DepthGate {
     depth: u32,
@@ -24,7 +26,7 @@ pub struct DepthGate {
     tired: AtomicU64,
 }
 
-/// How long a box waits at most.
+/// For how many turns a box waits at most.
 pub const TURNS: u64 = 1_000_000_000;
 
 impl DepthGate {

@@ -3,8 +3,8 @@ ghost use Rattle.steal_pool.specs.Laws.{MergedAnswerLeaves, AnswersAreEqual, Jou
 
 use ember_job::{OneItem, Work};
 
-/// The items of a run's parts, merged, answer the leaves of the visited tree in its order, for
-/// every number of workers and every schedule.
+/// The items of a run's parts, merged, answer the leaves of the visited tree in its order, whatever
+/// the number of workers and the schedule.
 pub fn merged_items_answer_the_leaves<W: Work>(_work: &W)
     ensures { MergedAnswerLeaves (W.valid _work.now) (W.shape _work.now) (W.item _work.now) }
 {}

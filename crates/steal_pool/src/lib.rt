@@ -1,4 +1,9 @@
 //! Workers that share boxes by their deques.
+//!
+//! The pool has no geometry. For each box it calls the step (`end_box` in alone.rt), and the step
+//! says what becomes of the box: for `bool` that is `text_step` of ember_step, which asks
+//! ember_visit and ember_box, and for a leaf ember_leaf. ember_tree brings the items into the order
+//! of the tree.
 #![tactic(auto)]
 
 mod alone;

@@ -1,13 +1,20 @@
-// Ghost words of one run: which jobs it visits, and what a box weighs. Private functions take them as a type parameter
-// `K` of no size, so that their contracts can speak of the run. `run_alone` and `run_tree` put in `Brand`, a type for
-// which each call of theirs has its own meaning of these words.
+// Ghost names of one run: which jobs it visits, which items answer a job, and what a box weighs.
+//
+// The protocol of a deque is fixed by types, so it must get these names from a type. That type is
+// the parameter `K` of the private functions. It has no size, and only contracts use it.
+//
+// `run_alone` and `run_tree` put in `Brand`. What the names of `Brand` mean is chosen anew for each
+// call that has `Brand` as its `K`, by the arguments of that call: see the `Invariants.antt` in
+// proofs/tree/run_alone and proofs/tree/run_tree. They are chosen from the work and the root, so
+// `run_alone_named` and `run_named` take the work as an argument, though no code reads it. The
+// impls for `Brand` here are only the default.
 ghost use Rattle.std.specs.Prelude.{ℕ};
 ghost use Rattle.ember_job.specs.declared.job.Job.{Job};
 ghost use Rattle.ember_job.specs.declared.job.Entry.{Entry};
 
 use std::marker::Brand;
 
-/// Which jobs are those of visited boxes.
+/// Which jobs are those of visited boxes: in a run, those that are reached from its root.
 pub trait VisitedJobs {
     ghost is_visited: { Job → Type 0 };
 }
@@ -16,7 +23,8 @@ impl VisitedJobs for Brand {
     ghost is_visited = { λ _. Unit {0} };
 }
 
-/// How a box weighs with all below it, and which items answer a job.
+/// What a box weighs with all below it, by the weights of entries and of the paths of leaves; and
+/// which items answer a job.
 pub trait BoxWeight<I> {
     ghost weight: { (Entry → ℕ) → (ℕ → ℕ) → Job → ℕ };
 

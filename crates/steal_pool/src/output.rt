@@ -2,7 +2,7 @@
 use ember_job::Entry;
 use ember_tree::Part;
 
-/// The boxes that were ended, and the items of the leaves among them.
+/// The boxes that were ended (the journal), and the items of the leaves among them (the parts).
 #[derive(Drop)]
 pub struct Output<I> {
     pub journal: Vec<Entry>,

@@ -1,4 +1,4 @@
-// Passes are made before the workers start, and taken in after them.
+// Makes passes on deques before the workers start, and takes them back after the workers are done.
 ghost use Rattle.std.specs.Prelude.{◌≡◌, ◌+◌, ◌<◌, true, [], ◌∷◌, MatchOption, ℕ, IfOk, OnOk, length};
 ghost use Rattle.crossbeam_deque.specs.Handles.{view, IsPassOf, worker_deque, worker_view};
 ghost use Rattle.ember_job.specs.declared.job.Job.{Job};
@@ -13,7 +13,7 @@ use crossbeam_deque::Pass;
 use ember_job::OutOfMemory;
 use std::alloc::Global;
 
-// Makes a pass.
+// Makes a pass on a deque.
 fn lend<K: VisitedJobs>(owner: &mut Owner<K>) -> Pass<BoxedJob, HandleView>
     requires { (worker_view owner.old).owns ≡ true }
     ensures { Lends owner.old owner.new result }
@@ -21,7 +21,7 @@ fn lend<K: VisitedJobs>(owner: &mut Owner<K>) -> Pass<BoxedJob, HandleView>
     owner.another::<ForStealer>()
 }
 
-// Takes a pass in.
+// Takes a pass back: what it has taken now counts as taken by the owner.
 fn absorb<K: VisitedJobs>(owner: &mut Owner<K>, pass: Pass<BoxedJob, HandleView>)
     requires owns { (worker_view owner.old).owns ≡ true }
     requires pass { IsPassOf (worker_deque owner.old) pass }
@@ -31,7 +31,7 @@ fn absorb<K: VisitedJobs>(owner: &mut Owner<K>, pass: Pass<BoxedJob, HandleView>
     owner.absorb::<ForStealer>(pass);
 }
 
-// A pass on each deque, after `lent` were made on each.
+// Makes a pass on each deque, on which `lent` were made before.
 pub fn lend_each<K: VisitedJobs>(
     alloc: Global,
     stealers: &Vec<JobStealer<K>>,
@@ -52,7 +52,7 @@ pub fn lend_each<K: VisitedJobs>(
     Ok(passes)
 }
 
-// Takes the first pass.
+// Removes the first pass of the list.
 fn first_pass(passes: &mut Vec<Pass<BoxedJob, HandleView>>) -> Option<Pass<BoxedJob, HandleView>>
     ensures { MatchOption result (passes.old.items ≡ []) (λ p. passes.old.items ≡ p ∷ passes.new.items) }
 {
@@ -62,7 +62,7 @@ fn first_pass(passes: &mut Vec<Pass<BoxedJob, HandleView>>) -> Option<Pass<Boxed
     Some(passes.remove(0))
 }
 
-// Takes in a worker's passes, while `lent + 1` are out on each deque.
+// Takes back a worker's passes, one on each deque. Before it, `lent + 1` are out on each.
 pub fn absorb_each<K: VisitedJobs>(
     stealers: &Vec<JobStealer<K>>,
     owners: &mut Vec<Owner<K>>,

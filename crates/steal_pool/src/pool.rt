@@ -1,4 +1,5 @@
-// The states of all workers, before and after their run.
+// A run by workers: makes the deques and the states of all workers, runs them, and takes apart what
+// they leave.
 ghost use Rattle.std.specs.Prelude.{◌≡◌, ◌+◌, ◌<◌, ◌≤◌, true, [], ◌∷◌, ◌++◌, ℕ, All, IfOk, OnOk, MatchOption, length, vec_len};
 ghost use Rattle.crossbeam_deque.specs.Handles.{worker_deque, worker_view};
 ghost use Rattle.ember_job.specs.declared.job.Job.{Job};
@@ -29,16 +30,17 @@ use std::thread::Threads;
 // The room of a new deque, which grows when it is full.
 const DEQUE_ROOM: usize = 64;
 
-// The room of a hand, so that holding a box takes no memory.
+// The room of a hand, so that holding a box needs no further memory.
 const HAND_ROOM: usize = 40;
 
-/// The deques.
+/// All deques: of each the end from which others steal, and its owner's end.
 #[derive(Drop)]
 pub struct Deques<K: VisitedJobs> {
     pub stealers: Vec<JobStealer<K>>,
     pub owners: Vec<Owner<K>>,
 }
 
+// Makes a deque.
 fn make_owner<K: VisitedJobs>(alloc: Global) -> Result<Owner<K>, OutOfMemory>
     ensures { IfOk result (λ o. worker_view o ≡ handle true 0 [] []) }
 {
@@ -108,7 +110,7 @@ fn make_state<K: VisitedJobs + BoxWeight<I>, I>(
     })
 }
 
-// Takes the first owner.
+// Removes the first owner of the list.
 fn first_owner<K: VisitedJobs>(owners: &mut Vec<Owner<K>>) -> Option<Owner<K>>
     ensures first { MatchOption result (owners.old.items ≡ []) (λ p. owners.old.items ≡ p ∷ owners.new.items) }
     ensures len { MatchOption result (owners.new.items ≡ []) (λ _. vec_len owners.old ≡ vec_len owners.new + 1) }
@@ -119,7 +121,7 @@ fn first_owner<K: VisitedJobs>(owners: &mut Vec<Owner<K>>) -> Option<Owner<K>>
     Some(owners.remove(0))
 }
 
-// Takes the first state.
+// Removes the first state of the list.
 fn first_state<K: VisitedJobs, I>(states: &mut Vec<WorkerState<K, I>>) -> Option<WorkerState<K, I>>
     ensures first { MatchOption result (states.old.items ≡ []) (λ p. states.old.items ≡ p ∷ states.new.items) }
     ensures len { MatchOption result (states.new.items ≡ []) (λ _. vec_len states.old ≡ vec_len states.new + 1) }
@@ -157,7 +159,7 @@ fn make_states<K: VisitedJobs + BoxWeight<I>, I: Drop>(
     Ok(states)
 }
 
-// All states are taken apart.
+// Takes all states apart, in order.
 fn take_apart<K: VisitedJobs + BoxWeight<I>, I: Drop>(
     alloc: Global,
     stealers: &Vec<JobStealer<K>>,
@@ -201,7 +203,7 @@ fn take_apart<K: VisitedJobs + BoxWeight<I>, I: Drop>(
     })
 }
 
-// Takes in all passes.
+// Takes back all passes.
 #[tactic(auto, using(crate::proofs::DequeSteps::weigh_append))]
 fn absorb_all<K: VisitedJobs>(
     stealers: &Vec<JobStealer<K>>,
@@ -248,7 +250,8 @@ fn drain_all<
     Ok(())
 }
 
-// Gives the root to the last worker, which runs on the calling thread even if no thread can be started.
+// Gives the root to the last state, that of worker 0. It runs on the calling thread, even if no
+// thread can be started (README.md, "How a worker works").
 fn give_root<K: VisitedJobs + BoxWeight<I>, I: Drop>(
     stealers: &Vec<JobStealer<K>>,
     mut states: Vec<WorkerState<K, I>>,
@@ -311,7 +314,7 @@ fn run_states<
     let mut rest = Output { journal, parts };
     drain_all(rt, alloc, call, gate, owners, &mut rest)?;
     let Output { journal, parts } = rest;
-    // The root was given to the last state, and the journal with the root is to be the first, that of worker 0.
+    // Worker 0, who was given the root, has the last state. Its journal must be the first.
     journals.reverse();
     let left = journal.len() as u64;
     journals.push(journal)?;
@@ -322,8 +325,8 @@ fn run_states<
     })
 }
 
-// The run of a root by 1 or more workers. It doesn't use the work. The work is an argument only
-// because the meaning of the ghost words of names.rt is picked from the arguments.
+// The run of a root by 1 or more workers. No code reads the work. It is an argument because what
+// the names of `K` mean at a call is chosen by the call's arguments (names.rt).
 pub fn run_named<
     R: Threads + Wait + Sync,
     K: VisitedJobs + BoxWeight<I> + Send + Sync,

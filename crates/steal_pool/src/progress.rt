@@ -1,4 +1,4 @@
-// The two words that all workers share.
+// The two atomic words that all workers share.
 use crossbeam_utils::CachePadded;
 use std::sync::Wait;
 use std::sync::atomic::{AtomicU64, Ordering};
@@ -8,13 +8,14 @@ use std::time::Duration;
 // The volume of the root box, in units of the smallest box.
 const WHOLE: u64 = 1 << 36;
 
-// How often an idle worker looks at all deques before it sleeps.
+// How often an idle worker tries all deques before it sleeps.
 const ROUNDS: u32 = 64;
 
-// The first sleep of an idle worker in microseconds. Each is twice as long as the one before, for at most `DOUBLINGS`
-// times.
+// The first sleep of an idle worker, in microseconds. Each later one is twice as long as the one
+// before it, until it was doubled `DOUBLINGS` times.
 const FIRST_SLEEP: u64 = 62;
 
+// How often the length of a sleep is doubled. The longest one is then 62 * 2^4 = 992 microseconds.
 const DOUBLINGS: u32 = 4;
 
 /// How far a run is. No contract says what the words contain.
@@ -27,6 +28,7 @@ pub struct Progress {
 }
 
 impl Progress {
+    /// The start: no box has ended, and nobody need stop.
     pub fn new() -> Progress {
         Progress {
             finished: CachePadded::new(AtomicU64::new(0)),
@@ -40,6 +42,7 @@ impl Progress {
         finished.fetch_add(volume(path), Ordering::SeqCst);
     }
 
+    /// Whether the boxes that ended make up the whole root, so that no box is left.
     pub fn is_whole(&self) -> bool {
         let finished: &AtomicU64 = &self.finished;
         finished.load(Ordering::SeqCst) == WHOLE
@@ -52,13 +55,14 @@ impl Progress {
         stop.wake_all();
     }
 
+    /// Whether memory ran out for some worker.
     pub fn is_stopped(&self) -> bool {
         let stop: &AtomicU64 = &self.stop;
         stop.load(Ordering::SeqCst) != 0
     }
 
-    /// What an idle worker does after it found nothing in `rounds` rounds over all deques: it lets
-    /// others run, and later sleeps for at most a millisecond.
+    /// What an idle worker does after it found nothing in `rounds` rounds over all deques: it
+    /// yields, and from 64 rounds on it sleeps for at most a millisecond.
     pub fn back_off<R: Wait>(&self, rt: &R, rounds: u32) {
         if rounds < ROUNDS {
             thread::yield_now();

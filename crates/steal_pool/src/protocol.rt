@@ -1,4 +1,5 @@
-// The rule that all handles of a deque keep.
+// The protocol of a deque: what holds of all its handles together. See README.md, "Why nothing is
+// lost".
 ghost use Rattle.std.specs.Prelude.{◌≡◌, All};
 ghost use Rattle.ember_job.specs.declared.job.Job.{Job};
 ghost use Rattle.steal_pool.specs.Protocol.{JobsConserved, TookAllPushed, handle, new_pass, with_pushed, with_taken, with_one_lent, with_returned};
@@ -24,7 +25,7 @@ pub struct HandleView {
     pub taken: LinkedList<Job>,
 }
 
-/// The rule of one deque: jobs of visited boxes, none lost and none twice.
+/// The protocol of one deque: it has jobs of visited boxes, none is lost, and none is taken twice.
 pub struct JobProtocol<K: VisitedJobs> {
     of: PhantomData<K>,
 }

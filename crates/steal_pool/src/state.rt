@@ -1,4 +1,4 @@
-// What one worker has.
+// What one worker has, and what all workers hand over.
 use crate::boxed::BoxedJob;
 use crate::names::VisitedJobs;
 use crate::output::Output;
@@ -14,7 +14,7 @@ pub struct WorkerState<K: VisitedJobs, I> {
     pub owner: Owner<K>,
     /// A pass on each deque, in the order of the deques.
     pub passes: Vec<Pass<BoxedJob, HandleView>>,
-    /// The boxes that it holds outside its deque, which others can't steal.
+    /// The boxes that it holds outside its deque. Others can't steal them.
     pub hand: Vec<BoxedJob>,
     pub output: Output<I>,
     /// Whether it left with an empty hand because no box was left to run.

@@ -15,7 +15,7 @@ use std::sync::Wait;
 use std::thread;
 use std::thread::Threads;
 
-// A worker's run, which stops the others if memory is short.
+// A worker's run. If memory is short, it makes the other workers stop.
 fn run_worker<
     R: Wait,
     K: VisitedJobs + BoxWeight<I>,
@@ -44,8 +44,9 @@ fn run_worker<
     }
 }
 
-// Runs all workers at once, half of them in a new thread at each step, so that the stack grows as the logarithm of
-// their number. The last one runs in this thread, and first if no thread can be made.
+// Runs all workers at once. `for_each_mut` runs half of them in a new thread at each step, so the
+// stack grows as the logarithm of their number. The last worker runs in this thread, and before the
+// others if no thread can be started.
 fn run_each<
     R: Threads + Wait + Sync,
     K: VisitedJobs + BoxWeight<I> + Send + Sync,
@@ -75,7 +76,7 @@ fn run_each<
     thread::for_each_mut(rt, workers, workers.len().max(1), &one);
 }
 
-// Whether each worker is done.
+// `true` only if each worker is done.
 fn are_done<K: VisitedJobs, I>(workers: &[WorkerState<K, I>]) -> bool
     ensures { result ≡ true → All (λ s. s.done ≡ true) workers.now }
 {
@@ -87,7 +88,7 @@ fn are_done<K: VisitedJobs, I>(workers: &[WorkerState<K, I>]) -> bool
     true
 }
 
-// Runs all workers to their end. It fails if memory is short in one of them.
+// Runs all workers to their end. The error means that memory was short in one of them.
 pub fn run_workers<
     R: Threads + Wait + Sync,
     K: VisitedJobs + BoxWeight<I> + Send + Sync,

@@ -1,4 +1,5 @@
-// A run of a stored step, by one caller alone or by many workers.
+// Runs of a step, by this thread alone or by many workers. The step itself is called in `end_box`
+// (alone.rt).
 ghost use Rattle.std.specs.Prelude.{◌≡◌, ◌+◌, ◌≤◌, ◌++◌, ◌∷◌, [], IfOk, All, length};
 ghost use Rattle.ember_box.specs.Boxes as boxes;
 ghost use Rattle.ember_job.specs.Works.{AnswersAll};
@@ -20,7 +21,8 @@ use std::marker::Brand;
 use std::sync::Wait;
 use std::thread::Threads;
 
-// The run of one caller. The work stands among the arguments, since the names of a run are picked from them.
+// The run by this thread alone. No code reads the work. It is an argument because what the names of
+// `K` mean at a call is chosen by the call's arguments (names.rt).
 fn run_alone_named<
     K: VisitedJobs + BoxWeight<I>,
     W,
@@ -52,8 +54,8 @@ fn run_alone_named<
 
 /// Runs the root and all that is visited below it, in this thread alone, left halves first, and
 /// enters the gate before each box. The root is a valid job of the root box. There is one journal,
-/// that of worker 0, and nothing is left to the caller. It makes no deque and waits for nobody. Its
-/// one error is want of memory.
+/// that of worker 0, and nothing is left to the caller. It makes no deque and waits for nobody. The
+/// only error is out-of-memory.
 pub fn run_alone<W: Work, F: Fn(&Job) -> Result<Outcome<W::Item>, OutOfMemory>, G: Gate>(
     alloc: Global,
     root: Job,
@@ -77,8 +79,8 @@ where
 
 /// Runs the root and all that is visited below it by 1 to 64 `workers` and, after them, the caller,
 /// and enters the gate before each box. The root is a valid job of the root box. There are `workers
-/// + 1` journals; the last is the caller's, and `left` is its length. Its one error is want of
-/// memory.
+/// + 1` journals; the last is the caller's, and `left` is its length. The only error is
+/// out-of-memory.
 pub fn run_tree<
     R: Threads + Wait + Sync,
     W: Work + Sync,

@@ -38,7 +38,7 @@ fn pop<K: VisitedJobs>(owner: &mut Owner<K>) -> Option<BoxedJob>
     owner.pop_as::<Taken<K>>()
 }
 
-// Steals the job that was pushed first.
+// Steals the job that was pushed first. `None` if there is none, or if another worker was faster.
 fn steal<K: VisitedJobs>(
     stealer: &JobStealer<K>,
     pass: &mut Pass<BoxedJob, HandleView>,
@@ -54,7 +54,7 @@ fn steal<K: VisitedJobs>(
     }
 }
 
-// Steals from the deque of this number.
+// Steals from the deque with this index.
 fn steal_from<K: VisitedJobs>(
     stealers: &Vec<JobStealer<K>>,
     passes: &mut Vec<Pass<BoxedJob, HandleView>>,
@@ -92,7 +92,8 @@ fn share<K: VisitedJobs>(
     Ok(())
 }
 
-// Runs a box: it ends, or its halves go to the hand and the deque.
+// Runs a box: calls the step (`end_box`). The box ends, or its left half goes to the hand and its
+// right half to the deque.
 #[tactic(auto, using(crate::proofs::DequeSteps::weigh_append))]
 fn run_box<
     K: VisitedJobs + BoxWeight<I>,
@@ -125,7 +126,8 @@ fn run_box<
     Ok(())
 }
 
-// Takes a job from the hand, from the own deque, or from the deque of this number.
+// Takes a job from the hand, otherwise from the own deque, otherwise from the deque with the index
+// `from`.
 #[tactic(auto, using(crate::proofs::DequeSteps::weigh_append))]
 fn next_job<K: VisitedJobs + BoxWeight<I>, I>(
     stealers: &Vec<JobStealer<K>>,
@@ -149,13 +151,14 @@ fn next_job<K: VisitedJobs + BoxWeight<I>, I>(
     steal_from(stealers, &mut worker.passes, from)
 }
 
-// The deque to steal from after this one: the first again after the last.
+// The index of the deque to steal from after this one. After the last comes the first.
 fn next_deque(from: usize, count: usize) -> usize {
     let next = from.wrapping_add(1);
     if next < count { next } else { 0 }
 }
 
-// Runs boxes until all are ended. It fails if memory is short here or elsewhere.
+// Runs boxes until all are ended. The error means that memory was short, here or for another
+// worker.
 #[tactic(auto, using(crate::proofs::AccountSums::balances_then, crate::proofs::AccountSums::released_balances, crate::proofs::AccountSums::none_balances))]
 pub fn work<
     R: Wait,

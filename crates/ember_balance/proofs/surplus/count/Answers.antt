@@ -1,7 +1,7 @@
 use Rattle.std.proofs.Common.{◌∙◌, ap, arith}
 use Rattle.std.proofs.lemmas.List.{take_all}
 use Rattle.ember_balance.specs.Counts.{count}
-use Rattle.ember_balance.proofs.Walk.{count_yes, count_no}
+use Rattle.ember_balance.proofs.SortedSurplus.{count_yes, count_no}
 use Rattle.ember_balance.proofs.surplus.count.Goals.{then-number-other, else-number-other}
 use Rattle.ember_balance.proofs.surplus.count.Goals as goal
 

@@ -1,5 +1,5 @@
 use Rattle.std.proofs.Common.{◌∙◌, Some, None, slice_index_or, arith}
-use Rattle.ember_balance.proofs.Walk.{answered, walk_no_first, walk_stops, walk_no_second}
+use Rattle.ember_balance.proofs.SortedSurplus.{answered, walk_no_first, walk_stops, walk_no_second}
 use Rattle.ember_balance.proofs.surplus.first_surplus.Goals as goal
 
 pub returns-then-i-there : goal.returns-then-i-there

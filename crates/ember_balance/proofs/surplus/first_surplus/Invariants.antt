@@ -1,5 +1,5 @@
 use Rattle.std.proofs.Common.{◌≡◌, ◌≤◌, length, drop}
-use Rattle.ember_balance.proofs.Walk.{walk}
+use Rattle.ember_balance.proofs.SortedSurplus.{walk}
 use Rattle.ember_balance.proofs.surplus.first_surplus.Given as goal
 
 abbrev pub invariant-loop-number : goal.invariant-loop-number

@@ -1,4 +1,4 @@
-use Rattle.ember_chain.proofs.Missed.{clear_shifted_faces}
+use Rattle.ember_chain.proofs.ShiftedPoints.{clear_shifted_faces}
 use Rattle.ember_chain.proofs.law.outlined_faces_are_missed_nearby.Goals as goal
 
 pub returns : goal.returns

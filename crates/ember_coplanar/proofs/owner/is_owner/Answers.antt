@@ -5,7 +5,7 @@ use Rattle.ember_model.specs.Owners.{is_coplanar}
 use Rattle.ember_model.proofs.SignTests.{clash}
 use Rattle.ember_coplanar.proofs.Coplanar.{lies_on_both}
 use Rattle.ember_coplanar.proofs.Containing.{some_inj}
-use Rattle.ember_coplanar.proofs.Owning.{own_lies, own_is, before, before_is, next_place}
+use Rattle.ember_coplanar.proofs.Owning.{own_lies, own_is, index_in_take_is_less, before_is, next_place}
 use Rattle.ember_coplanar.proofs.owner.is_owner.Goals.{else-same_plane-via-then-same_plane+else-contains, else-same_plane-via-else-same_plane}
 use Rattle.ember_coplanar.proofs.owner.is_owner.Goals as goal
 
@@ -16,7 +16,7 @@ contains-requires-clause-plane c =
 pub returns-then-contains : goal.returns-then-contains
 returns-then-contains c =
     let ts = c.args.near.now in let l = c.loop-t-test.true in
-    (λ e. absurd (clash e refl), λ o. absurd (o.first c.loop-t.t-index _ _ (before ts c.args.i c.loop-t.t-index l) (before_is ts c.args.i c.loop-t.t-index _ l) (own_is ts c.args.i _ c.requires.index) (sym c.same_plane.ensures ∙ c.if-same_plane.true) (c.contains.ensures.0 c.if-contains.true)))
+    (λ e. absurd (clash e refl), λ o. absurd (o.first c.loop-t.t-index _ _ (index_in_take_is_less ts c.args.i c.loop-t.t-index l) (before_is ts c.args.i c.loop-t.t-index _ l) (own_is ts c.args.i _ c.requires.index) (sym c.same_plane.ensures ∙ c.if-same_plane.true) (c.contains.ensures.0 c.if-contains.true)))
 
 pub loop-t-preserved : goal.loop-t-preserved
 loop-t-preserved c j t u l p q e h =

@@ -1,6 +1,6 @@
 use Rattle.std.proofs.Common.{arith, rules, take, subst, sym, ◌∙◌}
 use Rattle.std.specs.Io.KnownBytes.{Consumes}
-use Rattle.ember_io.proofs.ToldBytes.{Consumes-append, TellsMore-step, appended}
+use Rattle.ember_io.proofs.ToldBytes.{Consumes-append, TellsMore-step, success_has_appended}
 use Rattle.ember_io.proofs.shelf.read_all.Goals as goal
 
 pub returns-then-is_err-clause-read_fault : goal.returns-then-is_err-clause-read_fault
@@ -18,7 +18,7 @@ loop-count-preserved g c =
     let i = c.loop-count.invariant in
     let piece = take c.in-Ok-read.count c.read.new.buf in
     let went = sym c.is_err.ensures.value ∙ c.if-is_err.false in
-    let longer = appended c.extend_from_slice.result c.loop-count.bytes.items piece c.extend_from_slice.new.self.items went c.extend_from_slice.ensures.items in
+    let longer = success_has_appended c.extend_from_slice.result c.loop-count.bytes.items piece c.extend_from_slice.new.self.items went c.extend_from_slice.ensures.items in
     let told = g.S.Shelf.contents c.args.shelf.now c.args.name.now in record {
       contents = c.in-Ok-read.ensures.contents ∙ i.contents;
       begun = c.in-Ok-read.ensures.begun ∙ i.begun;

@@ -1,8 +1,8 @@
 use Rattle.std.proofs.Common.{◌∙◌, sym, subst}
 use Rattle.ember_leaf.specs.TriRelations.{IsRelation}
 use Rattle.ember_leaf.specs.Lower.{misses}
-use Rattle.ember_leaf.proofs.Lower.{flat_misses, apart_misses, across_added}
-use Rattle.ember_leaf.proofs.UnmetPlanes.{adds_flat, adds_apart, adds_all, support_blades, added_blades, added_cutters}
+use Rattle.ember_leaf.proofs.LowerTriangles.{flat_misses, apart_misses, across_added}
+use Rattle.ember_leaf.proofs.UnmetPlanes.{adds_flat, adds_apart, adds_all, support_cutting_planes, added_cutting_planes, added_cutters}
 use Rattle.ember_leaf.proofs.cutters.add.Goals as goal
 
 pub returns-then-is_flat-clause-cutting_planes : goal.returns-then-is_flat-clause-cutting_planes
@@ -17,7 +17,7 @@ returns-in-Apart-clause-cutting_planes c =
 pub returns-in_ok-add_cutter-in-Across-clause-cutting_planes : goal.returns-in_ok-add_cutter-in-Across-clause-cutting_planes
 returns-in_ok-add_cutter-in-Across-clause-cutting_planes c =
     let t = c.args.own.now.tri in let u = c.args.g.now.tri in
-    λ e b. adds_all c.args.list.now.items c.add_cutter.new.list.items (support_blades t u (sym c.is_flat.ensures ∙ c.if-is_flat.false) (subst (IsRelation t u) c.in-Across.is c.relation_of.ensures)) (added_blades c.in_ok-add_cutter-in-Across.ensures)
+    λ e b. adds_all c.args.list.now.items c.add_cutter.new.list.items (support_cutting_planes t u (sym c.is_flat.ensures ∙ c.if-is_flat.false) (subst (IsRelation t u) c.in-Across.is c.relation_of.ensures)) (added_cutting_planes c.in_ok-add_cutter-in-Across.ensures)
 
 pub returns-in_ok-add_cutter-in-Across-clause-cutters : goal.returns-in_ok-add_cutter-in-Across-clause-cutters
 returns-in_ok-add_cutter-in-Across-clause-cutters c =

@@ -1,8 +1,8 @@
 use Rattle.std.proofs.Common.{subst}
 use Rattle.ember_leaf.specs.Cutters.{IsAdded}
 use Rattle.ember_leaf.specs.Lower.{covers}
-use Rattle.ember_leaf.proofs.Lower.{coplanar_added, coplanar_lies, coplanar_blades}
-use Rattle.ember_leaf.proofs.Sharing.{coplanar_turned}
+use Rattle.ember_leaf.proofs.LowerTriangles.{coplanar_added, coplanar_lies, coplanar_cutting_planes}
+use Rattle.ember_leaf.proofs.CoplanarFaces.{coplanar_turned}
 use Rattle.ember_leaf.proofs.UnmetPlanes.{added_cutters}
 use Rattle.ember_leaf.proofs.cutters.add_coplanar.Goals as goal
 
@@ -23,7 +23,7 @@ pub returns-clause-cutting_planes : goal.returns-clause-cutting_planes
 returns-clause-cutting_planes c =
     let t = c.args.own.now.tri in let u = c.args.g.now.tri in
     let a = subst (λ k. IsAdded u k c.args.list.now.items c.add_cutter.new.list.items) c.role_of.ensures c.in_ok-add_cutter.ensures in
-    λ e b. coplanar_blades t u c.args.is_before b c.requires.normal c.requires.plane a
+    λ e b. coplanar_cutting_planes t u c.args.is_before b c.requires.normal c.requires.plane a
 
 pub returns-clause-owners : goal.returns-clause-owners
 returns-clause-owners c =

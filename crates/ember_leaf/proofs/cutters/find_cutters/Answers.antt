@@ -8,22 +8,22 @@ use Rattle.ember_box.specs.Regions.{cutting_planes_at}
 use Rattle.ember_leaf.specs.declared.leaf_triangle.LeafTriangle.{LeafTriangle}
 use Rattle.ember_leaf.specs.declared.cutter.Cutter.{Cutter}
 use Rattle.ember_leaf.specs.LeafTriangles.{tris_in}
-use Rattle.ember_leaf.specs.Cutters.{blades_in, owners_in, IsCutterOf, IsBounded, OmitsUnmet, all_seen}
+use Rattle.ember_leaf.specs.Cutters.{cutting_planes_in, owners_in, IsCutterOf, IsBounded, OmitsUnmet, all_seen}
 use Rattle.ember_leaf.specs.Lower.{AreLower}
 use Rattle.ember_leaf.proofs.RegionOrder.{own_is, listed_too, all_listed}
-use Rattle.ember_leaf.proofs.Lower.{lt_out, lt_in, none_listed, own_listed, other_listed, cover_found}
+use Rattle.ember_leaf.proofs.LowerTriangles.{lt_out, lt_in, none_listed, own_listed, other_listed, cover_found}
 use Rattle.ember_leaf.proofs.UnmetPlanes.{own_next, other_next}
 use Rattle.ember_leaf.proofs.cutters.find_cutters.Goals.{else-j-i-via-then-j-i+in_ok-add_near+else-branch, else-j-i-via-else-j-i}
 use Rattle.ember_leaf.proofs.cutters.find_cutters.Goals as goal
 
 abbrev IsNext : Tri → Aabb → List Tri → ℕ → ℕ → List Cutter → Type 0
 IsNext t b ts i n cs =
-    All (IsCutterOf t) cs × OmitsUnmet (IsBounded t b) (flat_map (cutting_planes_at ts i) (range_with_len 0 n)) (blades_in cs) × AreLower ts i t b n (owners_in cs)
+    All (IsCutterOf t) cs × OmitsUnmet (IsBounded t b) (flat_map (cutting_planes_at ts i) (range_with_len 0 n)) (cutting_planes_in cs) × AreLower ts i t b n (owners_in cs)
 
 pub loop-j-init : goal.loop-j-init
 loop-j-init c =
     let t = c.args.own.now.tri in let e = c.clear.ensures.items in
-    (subst (All (IsCutterOf t)) (sym e) (All-nil (IsCutterOf t)), subst (λ cs. OmitsUnmet (IsBounded t c.args.bounds.now) [] (blades_in cs)) (sym e) all_seen, none_listed (tris_in c.args.near.now) c.args.i t c.args.bounds.now (owners_in c.clear.new.self.items) (ap owners_in e))
+    (subst (All (IsCutterOf t)) (sym e) (All-nil (IsCutterOf t)), subst (λ cs. OmitsUnmet (IsBounded t c.args.bounds.now) [] (cutting_planes_in cs)) (sym e) all_seen, none_listed (tris_in c.args.near.now) c.args.i t c.args.bounds.now (owners_in c.clear.new.self.items) (ap owners_in e))
 
 pub loop-j-preserved : goal.loop-j-preserved
 loop-j-preserved c =
@@ -42,7 +42,7 @@ returns-then-branch-clause-owners c =
 pub returns-clause-cutting_planes : goal.returns-clause-cutting_planes
 returns-clause-cutting_planes c =
     let near = c.args.near.now in let e = all_listed near c.loop-j.j c.loop-j-test.false c.loop-j.auto.j-end in
-    λ h. subst (λ (n : ℕ). OmitsUnmet (IsBounded c.args.own.now.tri c.args.bounds.now) (flat_map (cutting_planes_at (tris_in near) c.args.i) (range_with_len 0 n)) (blades_in c.loop-j.list.items)) e c.loop-j.invariant.1
+    λ h. subst (λ (n : ℕ). OmitsUnmet (IsBounded c.args.own.now.tri c.args.bounds.now) (flat_map (cutting_planes_at (tris_in near) c.args.i) (range_with_len 0 n)) (cutting_planes_in c.loop-j.list.items)) e c.loop-j.invariant.1
 
 pub returns-clause-owners : goal.returns-clause-owners
 returns-clause-owners c =

@@ -3,9 +3,9 @@ use Rattle.std.specs.List.{range_with_len}
 use Rattle.ember_box.specs.Regions.{cutting_planes_at}
 use Rattle.ember_leaf.specs.Lower.{AreLower}
 use Rattle.ember_leaf.specs.LeafTriangles.{tris_in}
-use Rattle.ember_leaf.specs.Cutters.{blades_in, owners_in, IsCutterOf, IsBounded, OmitsUnmet}
+use Rattle.ember_leaf.specs.Cutters.{cutting_planes_in, owners_in, IsCutterOf, IsBounded, OmitsUnmet}
 use Rattle.ember_leaf.proofs.cutters.find_cutters.Given as goal
 
 abbrev pub invariant-loop-j : goal.invariant-loop-j
 invariant-loop-j l =
-    All (IsCutterOf l.own.tri) l.list.items × OmitsUnmet (IsBounded l.own.tri l.bounds) (flat_map (cutting_planes_at (tris_in l.near) l.i) (range_with_len 0 l.j)) (blades_in l.list.items) × AreLower (tris_in l.near) l.i l.own.tri l.bounds l.j (owners_in l.list.items)
+    All (IsCutterOf l.own.tri) l.list.items × OmitsUnmet (IsBounded l.own.tri l.bounds) (flat_map (cutting_planes_at (tris_in l.near) l.i) (range_with_len 0 l.j)) (cutting_planes_in l.list.items) × AreLower (tris_in l.near) l.i l.own.tri l.bounds l.j (owners_in l.list.items)

@@ -3,7 +3,7 @@ use Rattle.std.proofs.lemmas.List.{length-map}
 use Rattle.ember_algebra.specs.Relations.{Each, none}
 use Rattle.ember_expr.specs.Formula.{formula_of}
 use Rattle.ember_trace.specs.NearTriangles.{tri_of}
-use Rattle.ember_leaf.specs.Leaves.{tris_of}
+use Rattle.ember_leaf.specs.KeptRegions.{tris_of}
 use Rattle.ember_leaf.specs.LeafTriangles.{tris_in}
 use Rattle.ember_leaf.specs.Written.{IsWrittenOf}
 use Rattle.ember_leaf.proofs.RegionOrder.{placed_none}

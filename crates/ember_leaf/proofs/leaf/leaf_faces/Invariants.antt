@@ -1,7 +1,7 @@
 use Rattle.std.specs.List.{range_with_len}
 use Rattle.ember_algebra.specs.Relations.{Each}
 use Rattle.ember_expr.specs.Formula.{formula_of}
-use Rattle.ember_leaf.specs.Leaves.{ArePlacedBelow, tris_of}
+use Rattle.ember_leaf.specs.KeptRegions.{ArePlacedBelow, tris_of}
 use Rattle.ember_leaf.specs.Written.{IsWrittenOf, WhereFits}
 use Rattle.ember_leaf.proofs.leaf.leaf_faces.Given as goal
 

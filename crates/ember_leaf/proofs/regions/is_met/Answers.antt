@@ -1,14 +1,14 @@
 use Rattle.std.proofs.Common.{◌↔◌, IsTrue, subst}
 use Rattle.ember_model.specs.Faces.{Meets}
-use Rattle.ember_leaf.proofs.Pieces.{shares}
-use Rattle.ember_leaf.proofs.RegionCuts.{blade_face}
+use Rattle.ember_leaf.proofs.Pieces.{cutter_shares_plane}
+use Rattle.ember_leaf.proofs.RegionCuts.{cutting_plane_face}
 use Rattle.ember_leaf.proofs.regions.is_met.Goals as goal
 
 pub is_met_flat-requires : goal.is_met_flat-requires
 is_met_flat-requires c =
-    record { plane = shares c.args.c.now c.args.r.now c.requires c.in_default.not-Across; somewhere = c.requires.somewhere }
+    record { plane = cutter_shares_plane c.args.c.now c.args.r.now c.requires c.in_default.not-Across; somewhere = c.requires.somewhere }
 
 pub returns-in-Across : goal.returns-in-Across
 returns-in-Across c =
     let u = c.args.c.now in
-    subst (λ f. IsTrue c.meets_face.result ↔ Meets c.args.r.now f) (blade_face u.tri u.face u.sides) c.meets_face.ensures
+    subst (λ f. IsTrue c.meets_face.result ↔ Meets c.args.r.now f) (cutting_plane_face u.tri u.face u.sides) c.meets_face.ensures

@@ -1,8 +1,8 @@
 use Rattle.std.proofs.Common.{subst}
 use Rattle.ember_leaf.specs.Contact.{IsContact}
 use Rattle.ember_leaf.proofs.Contacts.{parting_unmet, contact_met}
-use Rattle.ember_leaf.proofs.RegionCuts.{never, always}
-use Rattle.ember_leaf.proofs.Sharing.{meets_flat}
+use Rattle.ember_leaf.proofs.RegionCuts.{never, true_iff_given}
+use Rattle.ember_leaf.proofs.CoplanarFaces.{meets_flat}
 use Rattle.ember_leaf.proofs.regions.is_met_flat.Goals as goal
 
 pub returns-in-Apart : goal.returns-in-Apart
@@ -13,7 +13,7 @@ returns-in-Apart c =
 pub returns-in-Met : goal.returns-in-Met
 returns-in-Met c =
     let u = c.args.c.now in let o = c.outline.ensures in
-    always (contact_met c.args.r.now _ _ o.outline o.paired u.tri u.normal c.requires.somewhere c.requires.plane (subst (IsContact _ u.tri) c.in-Met.is c.contact_of.ensures))
+    true_iff_given (contact_met c.args.r.now _ _ o.outline o.paired u.tri u.normal c.requires.somewhere c.requires.plane (subst (IsContact _ u.tri) c.in-Met.is c.contact_of.ensures))
 
 pub returns-in-Unknown : goal.returns-in-Unknown
 returns-in-Unknown c =

@@ -1,20 +1,20 @@
 use Rattle.ember_leaf.proofs.relation.relation_of.Goals as goal
 use Rattle.std.proofs.Common.{◌∙◌}
 use Rattle.ember_leaf.specs.TriRelations.{all_in_front, all_behind, all_on}
-use Rattle.ember_leaf.proofs.TriRelations.{tested, apart_in_front, apart_behind, coplanar_is}
+use Rattle.ember_leaf.proofs.TriRelations.{heights_test_moved, apart_in_front, apart_behind, coplanar_is}
 
 pub returns-then-all_in_front : goal.returns-then-all_in_front
 returns-then-all_in_front c =
-    apart_in_front c.args.f.now.tri c.args.g.now.tri c.requires.first c.requires.second (tested all_in_front c.args.g.now.tri c.args.f.now.plane c.heights_of-theirs.ensures c.all_in_front.ensures c.if-all_in_front.true)
+    apart_in_front c.args.f.now.tri c.args.g.now.tri c.requires.first c.requires.second (heights_test_moved all_in_front c.args.g.now.tri c.args.f.now.plane c.heights_of-theirs.ensures c.all_in_front.ensures c.if-all_in_front.true)
 
 pub returns-then-all_behind : goal.returns-then-all_behind
 returns-then-all_behind c =
-    apart_behind c.args.f.now.tri c.args.g.now.tri c.requires.first c.requires.second (tested all_behind c.args.g.now.tri c.args.f.now.plane c.heights_of-theirs.ensures c.all_behind.ensures c.if-all_behind.true)
+    apart_behind c.args.f.now.tri c.args.g.now.tri c.requires.first c.requires.second (heights_test_moved all_behind c.args.g.now.tri c.args.f.now.plane c.heights_of-theirs.ensures c.all_behind.ensures c.if-all_behind.true)
 
 pub coplanar_relation-requires-clause-plane : goal.coplanar_relation-requires-clause-plane
 coplanar_relation-requires-clause-plane c =
-    coplanar_is c.args.f.now.tri c.args.g.now.tri c.requires.first c.requires.second ∙ tested all_on c.args.g.now.tri c.args.f.now.plane c.heights_of-theirs.ensures c.all_on.ensures c.if-all_on.true
+    coplanar_is c.args.f.now.tri c.args.g.now.tri c.requires.first c.requires.second ∙ heights_test_moved all_on c.args.g.now.tri c.args.f.now.plane c.heights_of-theirs.ensures c.all_on.ensures c.if-all_on.true
 
 pub crossing_relation-requires-clause-plane : goal.crossing_relation-requires-clause-plane
 crossing_relation-requires-clause-plane c =
-    coplanar_is c.args.f.now.tri c.args.g.now.tri c.requires.first c.requires.second ∙ tested all_on c.args.g.now.tri c.args.f.now.plane c.heights_of-theirs.ensures c.all_on.ensures c.if-all_on.false
+    coplanar_is c.args.f.now.tri c.args.g.now.tri c.requires.first c.requires.second ∙ heights_test_moved all_on c.args.g.now.tri c.args.f.now.plane c.heights_of-theirs.ensures c.all_on.ensures c.if-all_on.false

@@ -1,5 +1,5 @@
 use Rattle.std.proofs.Common.{◌≡◌, take}
-use Rattle.ember_leaf.specs.Leaves.{tris_of}
+use Rattle.ember_leaf.specs.KeptRegions.{tris_of}
 use Rattle.ember_leaf.specs.LeafTriangles.{tris_in}
 use Rattle.ember_leaf.proofs.triangles.leaf_triangles.Given as goal
 

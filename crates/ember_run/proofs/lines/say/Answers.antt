@@ -1,5 +1,5 @@
 use Rattle.std.proofs.Common.{arith}
-use Rattle.ember_run.proofs.Pieces.{piece_said, piece_stopped}
+use Rattle.ember_run.proofs.ErrTexts.{piece_said, piece_stopped}
 use Rattle.ember_run.proofs.lines.say.Goals as goal
 
 pub returns-in_default : goal.returns-in_default

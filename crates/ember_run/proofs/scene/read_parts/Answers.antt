@@ -1,5 +1,5 @@
 use Rattle.std.proofs.Common.{arith, ◌≡◌, Err, IfErr, ap, rules, ◌∙◌}
-use Rattle.ember_run.proofs.Pieces.{rose_later}
+use Rattle.ember_run.proofs.ErrTexts.{rose_later}
 use Rattle.ember_run.specs.declared.status.Status.TheVariants.{OutOfMemory}
 use Rattle.ember_run.proofs.Stops.{memory_scene_stop}
 use Rattle.ember_run.proofs.SceneFiles.{more_parts, part_stop}

@@ -7,14 +7,14 @@ use Rattle.ember_algebra.specs.Size.{Small}
 use Rattle.ember_algebra.proofs.Exact.{kept, ◌&◌, done, exact}
 use Rattle.ember_slice.specs.Segments.{IsSliceText, IsFirstEndless}
 use Rattle.ember_slice.specs.Texts.{HasSegments}
-use Rattle.ember_slice.proofs.SliceTexts.{begun, one_more, face_taken, finished, first_endless}
+use Rattle.ember_slice.proofs.SliceTexts.{header_begins_text, one_more, face_taken, finished, first_endless}
 use Rattle.ember_slice.proofs.text.slice_text.Goals as goal
 
 pub loop-face-init : goal.loop-face-init
 loop-face-init c =
     let e = c.from.ensures ∙ to_z-of_z c.ranges.at in
     let s : Small 2048 c.from.result = record { small = omega (arith, ints, e, c.requires.low, c.requires.high) } in
-    record { done = begun _ _ _ _ c.new-text.ensures.items (exact (s & done) (kept 0) tt ∙ c.from.ensures) c.in_ok-put_line.ensures; number = refl; count = omega arith }
+    record { done = header_begins_text _ _ _ _ c.new-text.ensures.items (exact (s & done) (kept 0) tt ∙ c.from.ensures) c.in_ok-put_line.ensures; number = refl; count = omega arith }
 
 pub loop-face-preserved : goal.loop-face-preserved
 loop-face-preserved c =

@@ -1,5 +1,5 @@
 use Rattle.ember_step.proofs.KnownBesideBox.{known_has_one}
-use Rattle.ember_leaf.proofs.OneList.{value_on_sides, nothing_written}
+use Rattle.ember_leaf.proofs.WrittenRegionsUnique.{value_on_sides, nothing_written}
 use Rattle.ember_step.proofs.law.known_boxes_write_nothing.Goals as goal
 
 pub returns-clause-value : goal.returns-clause-value

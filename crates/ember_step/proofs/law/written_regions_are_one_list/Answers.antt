@@ -1,4 +1,4 @@
-use Rattle.ember_leaf.proofs.OneList.{written_in_unique, written_unique}
+use Rattle.ember_leaf.proofs.WrittenRegionsUnique.{written_in_unique, written_unique}
 use Rattle.ember_step.proofs.law.written_regions_are_one_list.Goals as goal
 
 pub returns-clause-leaf : goal.returns-clause-leaf

@@ -1,4 +1,4 @@
-use Rattle.ember_tables.proofs.Rounds.{last_is, last_is_none}
+use Rattle.ember_tables.proofs.FaceLoops.{last_is, last_is_none}
 use Rattle.ember_tables.proofs.face_edge.last_or.Goals as goal
 
 pub returns-in-Some : goal.returns-in-Some

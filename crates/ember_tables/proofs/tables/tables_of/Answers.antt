@@ -8,7 +8,7 @@ use Rattle.ember_tables.specs.Edges.{IsValidEdge}
 use Rattle.ember_tables.specs.Numberings.{plane_numbers, line_numbers, corner_numbers}
 use Rattle.ember_tables.specs.Drafts.{IsDraft}
 use Rattle.ember_tables.proofs.Numbers.{distinct, distinct_by}
-use Rattle.ember_tables.proofs.Rounds.{valid_edges}
+use Rattle.ember_tables.proofs.FaceLoops.{valid_edges}
 use Rattle.ember_tables.proofs.Segments.{corner_numbers_by}
 use Rattle.ember_tables.proofs.tables.tables_of.Goals as goal
 

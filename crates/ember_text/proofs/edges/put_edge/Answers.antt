@@ -2,7 +2,7 @@ use Rattle.std.proofs.Common.{◌≡◌, ℤ, ◌∷◌, [], ◌++◌, refl, sub
 use Rattle.ember_algebra.proofs.Exact.{wide, kept, ◌&◌, done, exact}
 use Rattle.ember_model.specs.FaceFiles.{line_of}
 use Rattle.ember_point.specs.Points.{spot_of}
-use Rattle.ember_text.proofs.Grown.{on_ok_weaker}
+use Rattle.ember_text.proofs.GrownBytes.{on_ok_weaker}
 use Rattle.ember_text.proofs.edges.put_edge.Goals as goal
 
 eight : {a b c d x y z w a' b' c' d' x' y' z' w' : ℤ} → a ≡ a' → b ≡ b' → c ≡ c' → d ≡ d' → x ≡ x' → y ≡ y' → z ≡ z' → w ≡ w' → a ∷ b ∷ c ∷ d ∷ x ∷ y ∷ z ∷ w ∷ [] ≡ a' ∷ b' ∷ c' ∷ d' ∷ x' ∷ y' ∷ z' ∷ w' ∷ []

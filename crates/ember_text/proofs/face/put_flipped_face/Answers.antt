@@ -1,6 +1,6 @@
 use Rattle.std.proofs.Common.{◌≡◌, arith, sym, length}
 use Rattle.ember_poly.specs.Sides.{ring_edges}
-use Rattle.ember_text.proofs.Grown.{on_ok_weaker}
+use Rattle.ember_text.proofs.GrownBytes.{on_ok_weaker}
 use Rattle.ember_text.proofs.Pairs.{length-ring_edges}
 use Rattle.ember_text.proofs.Written.{flipped_written}
 use Rattle.ember_text.proofs.face.put_flipped_face.Goals as goal

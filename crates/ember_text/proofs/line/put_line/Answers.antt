@@ -1,6 +1,6 @@
 use Rattle.std.proofs.Common.{◌≡◌, ◌++◌, ◌∷◌, [], ap, ◌∙◌, arith, drop}
 use Rattle.ember_model.specs.FaceFiles.{fields}
-use Rattle.ember_text.proofs.Grown.{on_ok_if, written_before}
+use Rattle.ember_text.proofs.GrownBytes.{on_ok_if, written_before}
 use Rattle.ember_text.proofs.line.put_line.Goals as goal
 
 pub returns-clause-ok : goal.returns-clause-ok

@@ -2,7 +2,7 @@ use Rattle.std.proofs.Common.{subst}
 use Rattle.ember_leaf.specs.declared.kept.Kept.{Kept}
 use Rattle.ember_text.specs.Documents.{written_face}
 use Rattle.ember_text.specs.Texts.{Writes}
-use Rattle.ember_text.proofs.Grown.{grown_none}
+use Rattle.ember_text.proofs.GrownBytes.{grown_none}
 use Rattle.ember_text.proofs.GrowingTexts.{more_good_texts}
 use Rattle.ember_text.proofs.texts.put_faces.Goals as goal
 

@@ -1,7 +1,7 @@
 use Rattle.std.proofs.Common.{rules, ◌++◌, map, reverse, sym, ap, ◌∙◌, arith}
 use Rattle.std.proofs.lemmas.List.{append-nil, reverse-reverse}
 use Rattle.std.proofs.lemmas.List.Sorted.{IsNonDecreasingBy-from_sort_by_key}
-use Rattle.ember_tree.proofs.Places.{nothing_left}
+use Rattle.ember_tree.proofs.SortKeys.{nothing_left}
 use Rattle.ember_tree.specs.Order.{tree_key}
 use Rattle.ember_tree.proofs.tree.merge.Goals as goal
 

@@ -1,5 +1,5 @@
 use Rattle.std.proofs.Common.{arith}
-use Rattle.ember_tree.proofs.Places.{sort_key_fits}
+use Rattle.ember_tree.proofs.SortKeys.{sort_key_fits}
 use Rattle.ember_tree.proofs.tree.sort_key.Goals as goal
 
 pub overflow_mul-result : goal.overflow_mul-result

@@ -1,7 +1,7 @@
 use Rattle.std.proofs.Common.{List, sym, subst}
 use Rattle.ember_triangles.specs.declared.marks.Mark.{Mark}
 use Rattle.ember_triangles.specs.Marks.{AreMarks}
-use Rattle.ember_triangles.proofs.Walks.{on_both, next_mark, no_mark_left, ended_line}
+use Rattle.ember_triangles.proofs.LineSweeps.{on_both, next_mark, no_mark_left, ended_line}
 use Rattle.ember_triangles.proofs.boundaries.walk_along.Goals as goal
 
 pub loop-m-init : goal.loop-m-init

@@ -1,7 +1,7 @@
 use Rattle.std.proofs.Common.{◌≡◌, ◌+◌, ◌*◌, ◌^◌, ◌<◌, ◌%◌, ◌&&◌, pos, ap, ◌∙◌, arith}
 use Rattle.std.proofs.lemmas.Nat.{one_shl}
 use Rattle.ember_box.specs.Boxes as boxes
-use Rattle.ember_voxel.proofs.Ceilings.{begins, ends, further, in_order}
+use Rattle.ember_voxel.proofs.Ceilings.{box_begins_at, box_ends_at, further, in_order}
 use Rattle.ember_voxel.proofs.grid.extent_along.Goals as goal
 
 pub returns-clause-extent : goal.returns-clause-extent
@@ -18,6 +18,6 @@ returns-clause-cells c = λ i.
     let y = c.offset-low.result + 1 * 2 ^ c.log.result % 18446744073709551616 in
     let small : c.log.result < 64 = omega (arith, c.log.ensures, c.offset-low.ensures.log) in
     let side : 1 * 2 ^ c.log.result % 18446744073709551616 ≡ 2 ^ log = one_shl c.log.result 64 small ∙ ap (λ l. 2 ^ l) c.log.ensures in
-    let from = c.cells_before.ensures.from i ∙ begins low c.offset-low.result n c.offset-low.ensures.value in
-    let until = c.cells_before-2.ensures.below i ∙ ends low (pos (2 ^ log)) y n (further low c.offset-low.result (1 * 2 ^ c.log.result % 18446744073709551616) (2 ^ log) c.offset-low.ensures.value side) in
+    let from = c.cells_before.ensures.from i ∙ box_begins_at low c.offset-low.result n c.offset-low.ensures.value in
+    let until = c.cells_before-2.ensures.below i ∙ box_ends_at low (pos (2 ^ log)) y n (further low c.offset-low.result (1 * 2 ^ c.log.result % 18446744073709551616) (2 ^ log) c.offset-low.ensures.value side) in
     λ t. from t && until t

@@ -2,7 +2,7 @@ use Rattle.std.proofs.Common.{List, subst}
 use Rattle.ember_expr.specs.Formula.{formula_of}
 use Rattle.ember_voxel.specs.declared.fill.Fill.{Fill}
 use Rattle.ember_voxel.specs.Grid.{IsGridText}
-use Rattle.ember_voxel.proofs.Whole.{voxels_are}
+use Rattle.ember_voxel.proofs.CellValues.{voxels_are}
 use Rattle.ember_voxel.proofs.law.each_cell_has_its_value.Goals as goal
 
 pub returns : goal.returns

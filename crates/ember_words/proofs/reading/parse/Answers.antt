@@ -1,4 +1,4 @@
-use Rattle.ember_words.proofs.Getters.{first_half}
+use Rattle.ember_words.proofs.ClapValues.{first_half}
 use Rattle.ember_words.proofs.reading.parse.Goals as goal
 
 pub returns-in-Ok : goal.returns-in-Ok

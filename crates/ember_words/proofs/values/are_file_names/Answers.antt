@@ -1,5 +1,5 @@
 use Rattle.std.proofs.Common.{sym, ◌∙◌, arith}
-use Rattle.ember_words.proofs.Getters.{names_held, too_many_names}
+use Rattle.ember_words.proofs.ClapValues.{names_held, too_many_names}
 use Rattle.ember_words.proofs.values.are_file_names.Goals as goal
 
 pub returns-then-names-le64 : goal.returns-then-names-le64

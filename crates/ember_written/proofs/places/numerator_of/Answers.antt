@@ -3,7 +3,7 @@ use borrow.Author.Differences.{ints}
 use mir.Syntax.{w128}
 use Rattle.ember_wide.specs.Whole.{size_of, value_of}
 use Rattle.ember_wide.proofs.Determinants.{size_of_sum}
-use Rattle.ember_written.proofs.Sizes.{size_of_product, read_step, numerator}
+use Rattle.ember_written.proofs.Sizes.{size_of_product, read_step, code_gives_numerator}
 use Rattle.ember_written.proofs.places.numerator_of.Goals as goal
 
 pub plus-from_zero-requires : goal.plus-from_zero-requires
@@ -28,4 +28,4 @@ pub returns : goal.returns
 returns c =
     let e : value_of c.product.result ≡ c.args.coordinate *ℤ pos 1 = c.product.ensures ∙ rw (to_z-of_z c.ranges.coordinate) refl in
     let f : value_of c.product-2.result ≡ c.args.offset *ℤ c.args.weight = c.product-2.ensures ∙ rw (to_z-of_z c.ranges.offset, to_z-of_z c.ranges.weight) refl in
-    numerator c.product.result c.product-2.result c.plus-from_zero.result c.times.result c.args.coordinate c.args.weight c.args.offset (pos c.args.step) (to_z w128 (of_z w128 c.from.result)) e f c.plus-from_zero.ensures (read_step c.from.result c.args.step c.from.ensures c.requires.step) c.times.ensures
+    code_gives_numerator c.product.result c.product-2.result c.plus-from_zero.result c.times.result c.args.coordinate c.args.weight c.args.offset (pos c.args.step) (to_z w128 (of_z w128 c.from.result)) e f c.plus-from_zero.ensures (read_step c.from.result c.args.step c.from.ensures c.requires.step) c.times.ensures

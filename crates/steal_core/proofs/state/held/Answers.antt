@@ -1,5 +1,5 @@
 use Rattle.std.proofs.Common.{refl}
-use Rattle.steal_core.proofs.Places.{equal_self, in_another_hand}
+use Rattle.steal_core.proofs.CodeSteps.{equal_self, in_another_hand}
 use Rattle.steal_core.proofs.state.held.Goals as goal
 
 pub returns-then-hand-by : goal.returns-then-hand-by

@@ -1,6 +1,6 @@
 use Rattle.std.proofs.Common.{ap}
 use Rattle.ember_box.specs.Boxes.{Cell}
-use Rattle.steal_pool.proofs.Places.{fits_root}
+use Rattle.steal_pool.proofs.LeafOrder.{fits_root}
 use Rattle.steal_pool.proofs.CoreOwned.{core_run}
 use Rattle.steal_pool.proofs.law.journals_are_a_run_of_the_core.Goals as goal
 

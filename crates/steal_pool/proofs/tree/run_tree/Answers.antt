@@ -1,7 +1,7 @@
 use Rattle.std.proofs.Common.{ap, ◌∙◌, sym, length}
 use Rattle.ember_box.specs.Boxes.{Cell}
 use Rattle.ember_job.specs.Visited.{root_visited}
-use Rattle.steal_pool.proofs.Trees.{runs_visited, keep_rules, are_parts, many, caller_is}
+use Rattle.steal_pool.proofs.Trees.{runs_visited, keep_rules, are_parts, journals_are_workers_and_caller, caller_is}
 use Rattle.steal_pool.proofs.tree.run_tree.Goals as goal
 
 pub run_named-requires-clause-call : goal.run_named-requires-clause-call
@@ -21,7 +21,7 @@ returns-clause-journals g c =
     c.in_ok-harvest.harvest.left (ap (λ (x : Cell). x.path) c.requires.cell) c.in_ok-harvest.ensures.sums c.in_ok-harvest.ensures.journals
 
 pub returns-clause-count : goal.returns-clause-count
-returns-clause-count g c = many c.args.root.cell.path c.args.workers c.in_ok-harvest.harvest.journals c.in_ok-harvest.harvest.left c.in_ok-harvest.ensures.journals
+returns-clause-count g c = journals_are_workers_and_caller c.args.root.cell.path c.args.workers c.in_ok-harvest.harvest.journals c.in_ok-harvest.harvest.left c.in_ok-harvest.ensures.journals
 
 pub returns-clause-left : goal.returns-clause-left
 returns-clause-left g c = c.in_ok-harvest.ensures.journals.last ∙ ap length (sym (caller_is c.args.root.cell.path c.args.workers c.in_ok-harvest.harvest.journals c.in_ok-harvest.harvest.left c.in_ok-harvest.ensures.journals))

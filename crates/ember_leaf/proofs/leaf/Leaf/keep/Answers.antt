@@ -3,7 +3,7 @@ use Rattle.std.specs.Vec.Iter.{into_iter_items}
 use Rattle.std.proofs.lemmas.List.{append-nil}
 use Rattle.ember_algebra.specs.Relations.{none}
 use Rattle.ember_expr.specs.Formula.{formula_of}
-use Rattle.ember_leaf.specs.Leaves.{tris_of}
+use Rattle.ember_leaf.specs.KeptRegions.{tris_of}
 use Rattle.ember_leaf.specs.Written.{AtRegion}
 use Rattle.ember_leaf.proofs.RegionOrder.{placed_push}
 use Rattle.ember_leaf.proofs.WrittenRegions.{grown_none, grown_more, grown_owned, all_yielded}

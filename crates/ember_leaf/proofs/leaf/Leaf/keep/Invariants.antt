@@ -2,7 +2,7 @@ use Rattle.std.proofs.Common.{◌≡◌, ◌+◌, ◌++◌}
 use Rattle.std.specs.Vec.Iter.{into_iter_items}
 use Rattle.ember_algebra.specs.Relations.{Each}
 use Rattle.ember_expr.specs.Formula.{formula_of}
-use Rattle.ember_leaf.specs.Leaves.{ArePlacedBelow, tris_of}
+use Rattle.ember_leaf.specs.KeptRegions.{ArePlacedBelow, tris_of}
 use Rattle.ember_leaf.specs.Written.{AtRegion, WhereFits, HasGrown}
 use Rattle.ember_leaf.proofs.leaf.Leaf.keep.Given as goal
 

@@ -1,7 +1,7 @@
 use Rattle.std.proofs.Common.{arith}
 use Rattle.ember_expr.specs.Formula.{formula_of}
 use Rattle.ember_law.proofs.CountBounds.{all_within}
-use Rattle.ember_leaf.specs.Leaves.{tris_of}
+use Rattle.ember_leaf.specs.KeptRegions.{tris_of}
 use Rattle.ember_leaf.proofs.WrittenRegions.{is_written, is_even}
 use Rattle.ember_leaf.proofs.leaf.Leaf.kept.Goals as goal
 

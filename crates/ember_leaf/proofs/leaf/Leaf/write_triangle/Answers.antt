@@ -11,16 +11,16 @@ use Rattle.ember_box.specs.Regions as regions
 use Rattle.ember_leaf.specs.declared.wall.Wall.{Wall}
 use Rattle.ember_leaf.specs.Lower.{AreLowerOrCovered}
 use Rattle.ember_leaf.specs.Written.{hidden}
-use Rattle.ember_leaf.proofs.Lower.{is_covered}
+use Rattle.ember_leaf.proofs.LowerTriangles.{is_covered}
 use Rattle.ember_leaf.proofs.WrittenRegions.{grown_none, none_started, none_flat}
 use Rattle.ember_model.specs.declared.tri.Tri.{Tri}
 use Rattle.ember_box.specs.Near.{tri_at}
-use Rattle.ember_leaf.specs.Leaves.{tris_of}
+use Rattle.ember_leaf.specs.KeptRegions.{tris_of}
 use Rattle.ember_leaf.specs.LeafTriangles.{tris_in}
 use Rattle.ember_leaf.proofs.RegionOrder.{own_is, same_place, same_tri, same_listed}
 use Rattle.ember_leaf.specs.Walls.{wall_of, IsClippedBy}
 use Rattle.ember_leaf.proofs.WallClips.{left_parts}
-use Rattle.ember_leaf.specs.Cutters.{blades_in, owners_in, CanCut, IsBounded, OmitsUnmet, common_of, AreCut}
+use Rattle.ember_leaf.specs.Cutters.{cutting_planes_in, owners_in, CanCut, IsBounded, OmitsUnmet, common_of, AreCut}
 use Rattle.ember_leaf.proofs.LeafRegions.{leaf_owned, owned_planes, owned_inside, owned_each, all_can}
 use Rattle.ember_leaf.proofs.leaf.Leaf.write_triangle.Goals.{then-is_flat-via-then-is_flat, then-is_flat-via-else-is_flat+then-is_outside}
 use Rattle.ember_leaf.proofs.leaf.Leaf.write_triangle.Goals as goal
@@ -61,7 +61,7 @@ keep_one-requires-clause-regions c =
     let s = c.args.self.now in let near = s.near.now in let ns = tris_of near in let i = c.args.i in let f = get_or s.triangles.now i c.index-self-i.result in
     let ring = c.in-Some.ring in let b = c.common_spans-bounds.result in let cs = c.find_cutters.new.list.items in let k = c.in_ok-find_cutters.ensures in
     let empty : cs ≡ [] = nil_from_length cs (sym c.find_cutters.new.list.ok.0 ∙ eqb-true _ _ (sym c.is_empty.ensures ∙ c.if-is_empty.true)) in
-    leaf_owned s.cell.now f ring ns i c.args.walls.now cs b (ring ∷ []) (same_tri s.triangles.now near c.requires.same i c.requires.index c.index-self-i.result) (same_listed s.triangles.now near c.requires.same i c.requires.index) c.requires.walls (c.common_spans-bounds.ensures ∙ ap (common_of f.aabb) c.requires.aabb) (subst (λ o. IsClippedBy (map wall_of c.args.walls.now) f.tri (option_to_list o)) c.in-Some.is c.in_ok-ring.ensures) (subst (λ ts. OmitsUnmet (IsBounded f.tri b) (cutting_planes ts i) (blades_in cs)) c.requires.same (k.cutting_planes c.if-branch.false)) k.cutters (subst (λ ts. AreLowerOrCovered ts i f.tri b (owners_in cs) false) c.requires.same (subst (AreLowerOrCovered (tris_in s.triangles.now) i f.tri b (owners_in cs)) c.if-branch.false k.owners)) (subst (λ us. AreCut us (ring ∷ []) (ring ∷ [])) (sym empty) done)
+    leaf_owned s.cell.now f ring ns i c.args.walls.now cs b (ring ∷ []) (same_tri s.triangles.now near c.requires.same i c.requires.index c.index-self-i.result) (same_listed s.triangles.now near c.requires.same i c.requires.index) c.requires.walls (c.common_spans-bounds.ensures ∙ ap (common_of f.aabb) c.requires.aabb) (subst (λ o. IsClippedBy (map wall_of c.args.walls.now) f.tri (option_to_list o)) c.in-Some.is c.in_ok-ring.ensures) (subst (λ ts. OmitsUnmet (IsBounded f.tri b) (cutting_planes ts i) (cutting_planes_in cs)) c.requires.same (k.cutting_planes c.if-branch.false)) k.cutters (subst (λ ts. AreLowerOrCovered ts i f.tri b (owners_in cs) false) c.requires.same (subst (AreLowerOrCovered (tris_in s.triangles.now) i f.tri b (owners_in cs)) c.if-branch.false k.owners)) (subst (λ us. AreCut us (ring ∷ []) (ring ∷ [])) (sym empty) done)
 
 pub keep_one-requires-clause-region : goal.keep_one-requires-clause-region
 keep_one-requires-clause-region c =
@@ -82,7 +82,7 @@ pub keep-requires-clause-regions : goal.keep-requires-clause-regions
 keep-requires-clause-regions c =
     let s = c.args.self.now in let near = s.near.now in let ns = tris_of near in let i = c.args.i in let f = get_or s.triangles.now i c.index-self-i.result in
     let ring = c.in-Some.ring in let b = c.common_spans-bounds.result in let cs = c.find_cutters.new.list.items in let k = c.in_ok-find_cutters.ensures in
-    leaf_owned s.cell.now f ring ns i c.args.walls.now cs b c.in_ok-list.list.items (same_tri s.triangles.now near c.requires.same i c.requires.index c.index-self-i.result) (same_listed s.triangles.now near c.requires.same i c.requires.index) c.requires.walls (c.common_spans-bounds.ensures ∙ ap (common_of f.aabb) c.requires.aabb) (subst (λ o. IsClippedBy (map wall_of c.args.walls.now) f.tri (option_to_list o)) c.in-Some.is c.in_ok-ring.ensures) (subst (λ ts. OmitsUnmet (IsBounded f.tri b) (cutting_planes ts i) (blades_in cs)) c.requires.same (k.cutting_planes c.if-branch.false)) k.cutters (subst (λ ts. AreLowerOrCovered ts i f.tri b (owners_in cs) false) c.requires.same (subst (AreLowerOrCovered (tris_in s.triangles.now) i f.tri b (owners_in cs)) c.if-branch.false k.owners)) (subst (λ us. AreCut us (ring ∷ []) c.in_ok-list.list.items) c.deref.ensures.value c.in_ok-list.ensures)
+    leaf_owned s.cell.now f ring ns i c.args.walls.now cs b c.in_ok-list.list.items (same_tri s.triangles.now near c.requires.same i c.requires.index c.index-self-i.result) (same_listed s.triangles.now near c.requires.same i c.requires.index) c.requires.walls (c.common_spans-bounds.ensures ∙ ap (common_of f.aabb) c.requires.aabb) (subst (λ o. IsClippedBy (map wall_of c.args.walls.now) f.tri (option_to_list o)) c.in-Some.is c.in_ok-ring.ensures) (subst (λ ts. OmitsUnmet (IsBounded f.tri b) (cutting_planes ts i) (cutting_planes_in cs)) c.requires.same (k.cutting_planes c.if-branch.false)) k.cutters (subst (λ ts. AreLowerOrCovered ts i f.tri b (owners_in cs) false) c.requires.same (subst (AreLowerOrCovered (tris_in s.triangles.now) i f.tri b (owners_in cs)) c.if-branch.false k.owners)) (subst (λ us. AreCut us (ring ∷ []) c.in_ok-list.list.items) c.deref.ensures.value c.in_ok-list.ensures)
 
 pub keep-requires-clause-plane : goal.keep-requires-clause-plane
 keep-requires-clause-plane c =

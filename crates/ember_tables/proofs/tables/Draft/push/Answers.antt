@@ -3,7 +3,7 @@ use Rattle.std.proofs.lemmas.List.{length_push}
 use Rattle.ember_model.specs.Valid.{IsValidPlane}
 use Rattle.ember_tables.specs.Numberings.{plane_numbers, line_numbers, corner_numbers}
 use Rattle.ember_tables.proofs.Lists.{all_put, entry_with}
-use Rattle.ember_tables.proofs.Segments.{pushed}
+use Rattle.ember_tables.proofs.Segments.{segment_pushed}
 use Rattle.ember_tables.proofs.tables.Draft.push.Goals as goal
 
 pub returns-clause-ok : goal.returns-clause-ok
@@ -22,7 +22,7 @@ returns-clause-ok c =
       lines = l.kept line_numbers (sym kl) d.lines;
       corners = b.kept corner_numbers (sym kb) corners;
       valid = all_put IsValidPlane k.plane old.planes.entries.items qs p.entries d.valid y.valid;
-      segments = pushed old.planes.entries.items qs old.lines.entries.items ms old.corners.entries.items ds es k done edge old.segments.items c.push.new.self.items _ c.in_ok-push.ensures.items d.segments y p.entries l.entries a.entries b.entries
+      segments = segment_pushed old.planes.entries.items qs old.lines.entries.items ms old.corners.entries.items ds es k done edge old.segments.items c.push.new.self.items _ c.in_ok-push.ensures.items d.segments y p.entries l.entries a.entries b.entries
           (entry_with qs c.in_ok-plane.plane (λ x. plane_numbers x ≡ c.plane_numbers.result) (λ x. plane_numbers x ≡ plane_numbers k.plane) (λ x e. e ∙ kp) (p.number plane_numbers (sym kp) d.planes))
           (entry_with ms c.in_ok-line.line (λ x. line_numbers x ≡ c.line_numbers.result) (λ x. line_numbers x ≡ line_numbers k.line) (λ x e. e ∙ kl) (l.number line_numbers (sym kl) d.lines))
           (entry_with ds c.in_ok-start.start (λ x. corner_numbers x ≡ c.corner_numbers.result) (λ x. corner_numbers x ≡ corner_numbers k.start) (λ x e. e ∙ ka) (a.number corner_numbers (sym ka) d.corners))

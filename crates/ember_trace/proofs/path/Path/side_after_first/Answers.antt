@@ -3,7 +3,7 @@ use Rattle.ember_model.specs.declared.plane.Plane.{Plane}
 use Rattle.ember_model.specs.Valid.{IsValidPlane}
 use Rattle.ember_trace.specs.Paths.{slid_to_start}
 use Rattle.ember_trace.proofs.Slides.{slid_once, slid_twice}
-use Rattle.ember_trace.proofs.Places.{coordinate_small}
+use Rattle.ember_trace.proofs.Coordinates.{coordinate_small}
 use Rattle.ember_trace.proofs.path.Path.side_after_first.Goals as goal
 
 pub slid_to_start-slid-requires-clause-result : goal.slid_to_start-slid-requires-clause-result

@@ -1,7 +1,7 @@
 use Rattle.std.proofs.Common.{sym, subst}
 use Rattle.ember_model.specs.Valid.{IsValidPlane}
 use Rattle.ember_trace.proofs.Slides.{slid_once}
-use Rattle.ember_trace.proofs.Places.{coordinate_small}
+use Rattle.ember_trace.proofs.Coordinates.{coordinate_small}
 use Rattle.ember_trace.proofs.path.Path.side_after_second.Goals as goal
 
 pub slid_to_start-requires-clause-result : goal.slid_to_start-requires-clause-result

@@ -2,7 +2,7 @@ use Rattle.std.proofs.Common.{◌+ℤ◌, refl, sym, ap, ◌∙◌}
 use Rattle.ember_triangles.specs.declared.marks.What.{What}
 use Rattle.ember_triangles.specs.Strands.{coefficient}
 use Rattle.ember_triangles.specs.Marks.{change}
-use Rattle.ember_triangles.proofs.Walks.{changed, on_all, unchanged}
+use Rattle.ember_triangles.proofs.LineSweeps.{changed, on_all, unchanged}
 use Rattle.ember_triangles.proofs.walk.Walk.change.Goals as goal
 
 pub returns-in-Start : goal.returns-in-Start

@@ -1,5 +1,5 @@
 use Rattle.std.proofs.Common.{refl}
-use Rattle.ember_triangles.proofs.Walks.{went}
+use Rattle.ember_triangles.proofs.LineSweeps.{went}
 use Rattle.ember_triangles.proofs.walk.Walk.go_to.Goals as goal
 
 pub returns-clause-walked : goal.returns-clause-walked

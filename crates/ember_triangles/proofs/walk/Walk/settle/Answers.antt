@@ -1,5 +1,5 @@
 use Rattle.std.proofs.Common.{refl}
-use Rattle.ember_triangles.proofs.Walks.{settled}
+use Rattle.ember_triangles.proofs.LineSweeps.{settled}
 use Rattle.ember_triangles.proofs.walk.Walk.settle.Goals as goal
 
 pub returns-clause-walked : goal.returns-clause-walked

@@ -1,7 +1,7 @@
 use Rattle.std.proofs.Common.{◌<◌, refl, ap, ◌∙◌, subst, length, arith}
 use Rattle.steal_core.specs.Core.{Core, is_queued, LastAt}
 use Rattle.steal_core.specs.declared.place.Place.TheVariants.{Hand}
-use Rattle.steal_core.proofs.Places.{Relocates, no_drain, seen, last_below, steps_drain}
+use Rattle.steal_core.proofs.CodeSteps.{Relocates, no_drain, has_none_same, last_below, steps_drain}
 use Rattle.steal_core.proofs.state.State.drain.Goals as goal
 
 pub same-self : goal.same-self
@@ -14,7 +14,7 @@ pub same-self-in_default : goal.same-self-in_default
 same-self-in_default c = refl
 
 pub returns-in_default : goal.returns-in_default
-returns-in_default c = (refl, no_drain c.args.from c.args.self.now (seen (is_queued c.args.from) c.deref.result.now c.args.self.now.boxes c.in_default.ensures (c.deref.ensures.value ∙ ap (λ (s : Core). s.boxes) c.self.view_is)))
+returns-in_default c = (refl, no_drain c.args.from c.args.self.now (has_none_same (is_queued c.args.from) c.deref.result.now c.args.self.now.boxes c.in_default.ensures (c.deref.ensures.value ∙ ap (λ (s : Core). s.boxes) c.self.view_is)))
 
 pub same-self-2 : goal.same-self-2
 same-self-2 c = refl

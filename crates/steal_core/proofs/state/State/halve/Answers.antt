@@ -1,6 +1,6 @@
 use Rattle.std.proofs.Common.{sym, ◌∙◌, ap, ◌++◌, ◌∷◌, [], ◌*◌, ◌+◌, subst}
 use Rattle.steal_core.specs.Core.{Core, Halves, FirstAt, core, placed, is_held}
-use Rattle.steal_core.proofs.Places.{steps_halve}
+use Rattle.steal_core.proofs.CodeSteps.{steps_halve}
 use Rattle.steal_core.proofs.state.State.halve.Goals as goal
 
 pub returns : goal.returns

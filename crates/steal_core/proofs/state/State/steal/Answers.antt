@@ -1,6 +1,6 @@
 use Rattle.std.proofs.Common.{◌<◌, refl, ap, ◌∙◌, subst, length, arith}
 use Rattle.steal_core.specs.Core.{Core, is_queued, FirstAt}
-use Rattle.steal_core.proofs.Places.{no_steal, seen, first_below, steps_steal}
+use Rattle.steal_core.proofs.CodeSteps.{no_steal, has_none_same, first_below, steps_steal}
 use Rattle.steal_core.proofs.state.State.steal.Goals as goal
 use Rattle.steal_core.proofs.state.State.steal.Goals.{then-by-self-via-then-by-self, then-by-self-via-else-by-self+then-from-self}
 
@@ -21,7 +21,7 @@ pub same-self-in_default : goal.same-self-in_default
 same-self-in_default c = refl
 
 pub returns-in_default : goal.returns-in_default
-returns-in_default c = (refl, no_steal c.args.by c.args.from c.args.self.now (seen (is_queued c.args.from) c.deref.result.now c.args.self.now.boxes c.in_default.ensures (c.deref.ensures.value ∙ ap (λ (s : Core). s.boxes) c.self.view_is)))
+returns-in_default c = (refl, no_steal c.args.by c.args.from c.args.self.now (has_none_same (is_queued c.args.from) c.deref.result.now c.args.self.now.boxes c.in_default.ensures (c.deref.ensures.value ∙ ap (λ (s : Core). s.boxes) c.self.view_is)))
 
 pub same-self-2 : goal.same-self-2
 same-self-2 c = refl

@@ -21,6 +21,7 @@ is_known (Refused status) = true
 is_known (Writes output) = true
 is_known (Slices at bytes) = true
 
+-- an unknown verdict is no refusal
 pub unknown_refused : {refusal : Status} → Unknown ≡ Refused refusal → ⊥
 unknown_refused e = let h : false ≡ true = ap (λ (v : Verdict). is_known v) e in absurd (cc)
 

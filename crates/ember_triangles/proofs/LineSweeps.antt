@@ -89,7 +89,7 @@ pub on_both : {V E A B Q : Type 0} (r : Result V E) → OnOk r A → OnOk r B �
 on_both (Ok x) a b f = f a b
 on_both (Err e) a b f = tt
 
--- nothing comes in
+-- nothing is added
 pub unchanged : (b z : ℤ) → z ≡ pos 0 → b ≡ b +ℤ z
 unchanged b z e = omega (arith, linear, e)
 
@@ -105,7 +105,7 @@ module _ (line : ℕ) (before : List Segment) (ms : List Mark) (i : ℕ) (w : Wa
   no_mark_left l h = subst (λ (ns : List Mark). IsWalked line ns before w after) (take_all i ms l) h
 
 module _ (line : ℕ) (ss : List Segment) (ms : List Mark) (before after : List Segment) (w : Walk) where
-  -- at the end of the line the boundary of its segments has come in
+  -- at the end of the line the boundary of its segments has been added
   pub ended_line : AreMarks line ss ms → All (λ (s : Segment). s.line ≡ line) ss → w.changes.items ≡ [] → IsWalked line ms before w after → AddsBoundary before ss after
   ended_line a on z h = record { each = λ plane l corner. by plane l corner (eqb l line) refl }
     where

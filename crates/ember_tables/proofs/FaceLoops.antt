@@ -18,41 +18,20 @@ last_found e (d ∷ ds) = last_found d ds
 one_less : (e : Plane) (es : List Plane) → length (e ∷ es) - 1 ≡ length es
 one_less e es = omega arith
 
+-- the last plane of a list that has one
 pub last_is : (p : Plane) (es : List Plane) (x : Plane) → Some x ≡ slice_get es (length es - 1) → x ≡ last_or p es
 last_is p [] x h = absurd (none-some x (sym h))
 last_is p (e ∷ es) x h = same_Some x (last_or e es) (h ∙ ap (slice_get (e ∷ es)) (one_less e es) ∙ last_found e es)
 
+-- in a list without planes the given one is taken
 pub last_is_none : (p : Plane) (es : List Plane) → None ≡ slice_get es (length es - 1) → p ≡ last_or p es
 last_is_none p [] h = refl
 last_is_none p (e ∷ es) h = absurd (none-some (last_or e es) (h ∙ ap (slice_get (e ∷ es)) (one_less e es) ∙ last_found e es))
 
 -- ---- round one face
 module _ (face : ℕ) (n first : Plane) where
-  pub begin : (edges others : List Plane) (before : Plane) (items : List FaceEdge) → edges ≡ first ∷ others → before ≡ last_or first others → items ++ edges_behind face n first before edges ≡ items ++ edges_round face n edges
-  begin edges others before items e b =
-      ap (λ (p : Plane). items ++ edges_behind face n first p edges) b ∙ ap (λ (es : List Plane). items ++ edges_behind face n first (last_or first others) es) e ∙ sym (ap (λ (es : List Plane). items ++ edges_round face n es) e)
-
-  abbrev edge_with : Plane → Plane → Plane → FaceEdge
-  edge_with before plane after = record { face = face; support = n; before = before; plane = plane; after = after }
-
-  pub walk : (rest behind : List Plane) (before edge after : Plane) (items more total : List FaceEdge) → rest ≡ edge ∷ behind → after ≡ first_or first behind → more ≡ items ++ record { face = face; support = n; before = before; plane = edge; after = after } ∷ [] → items ++ edges_behind face n first before rest ≡ total → more ++ edges_behind face n first edge behind ≡ total
-  walk rest behind before edge after items more total e a m h =
-      ap (λ (is : List FaceEdge). is ++ edges_behind face n first edge behind) m ∙ append_assoc items (edge_with before edge after ∷ []) (edges_behind face n first edge behind) ∙ ap (λ (p : Plane). items ++ edge_with before edge p ∷ edges_behind face n first edge behind) a ∙ sym (ap (λ (es : List Plane). items ++ edges_behind face n first before es) e) ∙ h
-
-  pub end : (rest : List Plane) (before : Plane) (items total : List FaceEdge) → length rest ≡ 0 → items ++ edges_behind face n first before rest ≡ total → items ≡ total
-  end rest before items total z h =
-      sym (append-nil items) ∙ sym (ap (λ (es : List Plane). items ++ edges_behind face n first before es) (nil_from_length rest z)) ∙ h
 
 -- ---- one face after another
-pub next_face : (faces : List Face) (i : ℕ) (f : Face) (items more total : List FaceEdge) → i < length faces → f ≡ get_or faces i f → more ≡ items ++ edges_round i f.support f.edges → items ++ edges_of i (drop i faces) ≡ total → more ++ edges_of (i + 1) (drop (i + 1) faces) ≡ total
-next_face faces i f items more total l e m h =
-    let d = drop_more faces i f l ∙ ap (λ (g : Face). g ∷ drop (i + 1) faces) (sym e) in
-    let rest = edges_of (i + 1) (drop (i + 1) faces) in
-    ap (λ (is : List FaceEdge). is ++ rest) m ∙ append_assoc items (edges_round i f.support f.edges) rest ∙ sym (ap (λ (fs : List Face). items ++ edges_of i fs) d) ∙ h
-
-pub last_face : (faces : List Face) (i : ℕ) (items total : List FaceEdge) → length faces ≤ i → items ++ edges_of i (drop i faces) ≡ total → items ≡ total
-last_face faces i items total l h =
-    sym (append-nil items) ∙ sym (ap (λ (fs : List Face). items ++ edges_of i fs) (drop_all i faces l)) ∙ h
 
 -- ---- valid edges
 valid_first : (p : Plane) (es : List Plane) → IsValidPlane p → All IsValidPlane es → IsValidPlane (first_or p es)
@@ -75,6 +54,7 @@ valid_round face n (e ∷ es) vn h =
     let ve = All-head IsValidPlane e es h in
     valid_behind face n e (last_or e es) (e ∷ es) vn ve (valid_last e es ve (All-tail IsValidPlane e es h)) h
 
+-- the edges of valid faces are valid
 pub valid_edges : (face : ℕ) (fs : List Face) → All IsValidFace fs → All IsValidEdge (edges_of face fs)
 valid_edges face [] h = All-nil IsValidEdge
 valid_edges face (f ∷ fs) h =

@@ -15,14 +15,17 @@ flat pieces = flat_map {X = Bor (List ℕ)} {A = ℕ} (λ p. p.now) pieces
 next : (pieces : List (Bor (List ℕ))) (i : ℕ) (d : Bor (List ℕ)) (text front : List ℕ) → i < length pieces → text ≡ front ++ flat (drop i pieces) → text ≡ front ++ ((get_or pieces i d).now ++ flat (drop (i + 1) pieces))
 next pieces i d text front l e = e ∙ ap (λ (ps : List (Bor (List ℕ))). front ++ flat ps) (drop_more pieces i d l)
 
+-- one more piece was taken
 pub piece_said : (old mid new : Option (List ℕ)) (pieces : List (Bor (List ℕ))) (i : ℕ) (d : Bor (List ℕ)) (text front : List ℕ) → i < length pieces → text ≡ front ++ flat (drop i pieces) → Appends old mid front → Appends mid new (get_or pieces i d).now
     → (x : List ℕ) × (text ≡ x ++ flat (drop (i + 1) pieces)) × Appends old new x
 piece_said old mid new pieces i d text front l e p q =
     (front ++ (get_or pieces i d).now, next pieces i d text front l e ∙ sym (append_assoc front (get_or pieces i d).now (flat (drop (i + 1) pieces))), Appends-append old mid new front (get_or pieces i d).now p q)
 
+-- if a count rose later, it has risen in all
 pub rose_later : (a b c : ℕ) → a ≤ b → Rose b c → Rose a c
 rose_later a b c l r = omega (arith, l, r)
 
+-- a piece whose fault ends the text
 pub piece_stopped : (a b c : ℕ) (old mid new : Option (List ℕ)) (pieces : List (Bor (List ℕ))) (i : ℕ) (d : Bor (List ℕ)) (text front : List ℕ) → a ≤ b → b ≤ c → Rose b c → i < length pieces → text ≡ front ++ flat (drop i pieces) → Appends old mid front → AppendsPrefix mid new (get_or pieces i d).now
     → AppendsUntilFault a c old new text
 piece_stopped a b c old mid new pieces i d text front l m r h e p q =

@@ -10,8 +10,7 @@ use Rattle.ember_trace.specs.declared.near_triangle.NearTriangle.{NearTriangle}
 use Rattle.ember_trace.specs.NearTriangles.{tri_of}
 use Rattle.ember_leaf.specs.declared.kept.Kept.{Kept}
 
--- a face in the plane of the triangle, which is not flat; nothing says that it is one of its
--- regions
+-- a face in the plane of the triangle, which isn't flat; it needn't be one of the triangle's regions
 pub record IsRegionOf (t : Tri) (f : Face) : Type 0 where
   pub normal : is_flat t ≡ false
   pub support : f.support ≡ support_of t
@@ -21,20 +20,21 @@ pub record IsKeptOf (t : Tri) (i : ℕ) (k : Kept) : Type 0 where
   pub number : k.tri ≡ i
   pub region : IsRegionOf t k.ring
 
--- a region of a triangle of the list
+-- a written region whose triangle is in the list
 pub record IsPlaced (ts : List Tri) (k : Kept) : Type 0 where
   pub index : k.tri < length ts
   pub region : IsRegionOf (tri_at ts k.tri) k.ring
 
--- by their triangles in order
+-- written regions of triangles of the list, in the order of their triangles
 pub record ArePlaced (ts : List Tri) (ks : List Kept) : Type 0 where
   pub each : All (IsPlaced ts) ks
   pub ordered : AllPairs (λ k l. k.tri ≤ l.tri) ks
 
--- of the first n triangles
+-- the same, of the first n triangles alone
 pub record ArePlacedBelow (ts : List Tri) (n : ℕ) (ks : List Kept) : Type 0 where
   pub placed : ArePlaced ts ks
   pub below : All (λ k. k.tri < n) ks
 
+-- the triangles alone
 abbrev pub tris_of : List NearTriangle → List Tri
 tris_of fs = map tri_of fs

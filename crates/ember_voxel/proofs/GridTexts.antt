@@ -38,9 +38,9 @@ front (x ∷ h) r b e = ap (λ n. take n (x ∷ (h ++ r))) e ∙ ap (λ xs. x �
 row_within : (n j l : ℕ) → j < n → l < n → l * n + j < n * n
 row_within n j l p q = let h : (l + 1) * n ≤ n * n = mul-le-mul_right n (let g : l + 1 ≤ n = omega (arith, q) in g) in omega (arith, h, p, times_more l n)
 
--- the whole text, of the parts that the steps tell of
-pub made : (size n b l ones : ℕ) (fills : List Fill) (h t d r c text : List ℕ) → n ≡ 2 ^ (12 - size) → h ≡ header_of size n → AddsRows n (n * n) h t → d ≡ t → b ≡ length h → l ≡ length t → length r ≡ length (take (length d - b) (drop b d)) → ((i j m : ℕ) → i < n → j < n → m < n → char_at n r (m * n + j) i ≡ (if is_set size fills i j m then 49 else char_at n (take (length d - b) (drop b d)) (m * n + j) i)) → KeepsFeeds n (take (length d - b) (drop b d)) r → c ≡ after_write l b t d r → ones ≡ count_by is_one (take (length c - b) (drop b c)) → text ≡ after_write l b t d r ++ (codes "end " ++ decimal ones ++ codes "\n") → IsGridText size fills text
-made size n b l ones fills h t d r c text is_n is_h s is_d is_b is_l len cells feeds is_c is_ones is_text = record {
+-- the whole text, from what each step of `grid_text` parts_make_text
+pub parts_make_text : (size n b l ones : ℕ) (fills : List Fill) (h t d r c text : List ℕ) → n ≡ 2 ^ (12 - size) → h ≡ header_of size n → AddsRows n (n * n) h t → d ≡ t → b ≡ length h → l ≡ length t → length r ≡ length (take (length d - b) (drop b d)) → ((i j m : ℕ) → i < n → j < n → m < n → char_at n r (m * n + j) i ≡ (if is_set size fills i j m then 49 else char_at n (take (length d - b) (drop b d)) (m * n + j) i)) → KeepsFeeds n (take (length d - b) (drop b d)) r → c ≡ after_write l b t d r → ones ≡ count_by is_one (take (length c - b) (drop b c)) → text ≡ after_write l b t d r ++ (codes "end " ++ decimal ones ++ codes "\n") → IsGridText size fills text
+parts_make_text size n b l ones fills h t d r c text is_n is_h s is_d is_b is_l len cells feeds is_c is_ones is_text = record {
   rows = r;
   grid = subst (λ m. IsGrid m (is_set size fills) r) is_n grid;
   is = subst (λ m. text ≡ header_of size m ++ r ++ (codes "end " ++ decimal (count_by is_one r) ++ codes "\n")) is_n text_is;

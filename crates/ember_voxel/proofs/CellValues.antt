@@ -78,6 +78,7 @@ module _ (ts : List Tri) (n : ℕ) (s : IsScene ts n) (f : Formula) (fit : IsFit
   lit_is le p q r =
       lit_under (halvings_left root) (root_job ts) (omega arith) (root_is_voxel_job ts n size s le) ∙ ap (λ t. t && cell_value ts f size i j l) (root_covers size i j l le p q r)
 
+-- the text by the leaves' values is that of the cells' values
 pub voxels_are : (ts : List Tri) (n : ℕ) → IsScene ts n → (f : Formula) → IsFit 64 f → (size : ℕ) (text : List ℕ) → size ≤ 12 → IsGridText size (leaf_fills ts f size) text → IsVoxelText ts f size text
 voxels_are ts n s f fit size text le g = record {
   rows = g.rows;

@@ -14,7 +14,7 @@ use Rattle.ember_words.specs.declared.verb.Verb.TheVariants.{Faces, At, Boole, D
 use Rattle.ember_words.specs.Meaning.{Reads, app_for, command_of, taken_by}
 use Rattle.ember_words.specs.Canonical.{Given, IsCanonical, Line, arguments_of, command_with, words_of}
 use Rattle.ember_words.specs.Canonical.{faces_line, at_line, bool_line, demo_line, voxels_line, pairs_line, slice_line}
-use Rattle.ember_words.proofs.OptionWalk.{IsFlag, IsOption, Reaches, at_word, at_words, begins, flag_gives, flag_rows, given_rows, option_gives, still_new, word_ends, words_end}
+use Rattle.ember_words.proofs.OptionWalk.{IsFlag, IsOption, Reaches, at_word, at_words, walk_begins, flag_gives, flag_rows, given_rows, option_gives, still_new, word_ends, words_end}
 
 abbrev top_of : Verb → Shape
 top_of v = (built (app_for v)).top
@@ -32,7 +32,7 @@ faces_read words (Some places) file r = simp (r.walks, r.free)
 
 faces_taken : (places : Option Given) (file : Text) → IsCanonical (faces_line places file) → command_of (words_of (faces_line places file)) ≡ command_with (faces_line places file)
 faces_taken places file h =
-    let options = option_gives (top_of Faces) (codes "file") (codes "places") false (codes "0" ∷ []) faces_places (walk_from nothing_held) [] [] places (begins (top_of Faces) (codes "file")) refl h.0 in
+    let options = option_gives (top_of Faces) (codes "file") (codes "places") false (codes "0" ∷ []) faces_places (walk_from nothing_held) [] [] places (walk_begins (top_of Faces) (codes "file")) refl h.0 in
     faces_read (arguments_of (faces_line places file)) places file
     (word_ends (top_of Faces) (codes "file") (record { by_index = refl; itself = refl }) (walk_from nothing_held) _ _ file options h.1)
 
@@ -49,7 +49,7 @@ demo_read words (Some workers) boxes r = simp (r.walks, r.free)
 
 demo_taken : (workers : Option Given) (boxes : Text) → IsCanonical (demo_line workers boxes) → command_of (words_of (demo_line workers boxes)) ≡ command_with (demo_line workers boxes)
 demo_taken workers boxes h =
-    let options = option_gives (top_of Demo) (codes "boxes") (codes "workers") false (codes "1" ∷ []) demo_workers (walk_from nothing_held) [] [] workers (begins (top_of Demo) (codes "boxes")) refl h.0 in
+    let options = option_gives (top_of Demo) (codes "boxes") (codes "workers") false (codes "1" ∷ []) demo_workers (walk_from nothing_held) [] [] workers (walk_begins (top_of Demo) (codes "boxes")) refl h.0 in
     demo_read (arguments_of (demo_line workers boxes)) workers boxes
     (word_ends (top_of Demo) (codes "boxes") (record { by_index = refl; itself = refl }) (walk_from nothing_held) _ _ boxes options h.1)
 
@@ -65,7 +65,7 @@ slice_read words height file r = simp (r.walks, r.free)
 
 slice_taken : (height : Given) (file : Text) → IsCanonical (slice_line height file) → command_of (words_of (slice_line height file)) ≡ command_with (slice_line height file)
 slice_taken height file h =
-    let options = option_gives (top_of Slice) (codes "file") (codes "at") true [] slice_at (walk_from nothing_held) [] [] (Some height) (begins (top_of Slice) (codes "file")) refl h.0 in
+    let options = option_gives (top_of Slice) (codes "file") (codes "at") true [] slice_at (walk_from nothing_held) [] [] (Some height) (walk_begins (top_of Slice) (codes "file")) refl h.0 in
     slice_read (arguments_of (slice_line height file)) height file
     (word_ends (top_of Slice) (codes "file") (record { by_index = refl; itself = refl }) (walk_from nothing_held) _ _ file options h.1)
 
@@ -100,7 +100,7 @@ pairs_taken : (workers places : Option Given) (file : Text) (more : List Text) �
 pairs_taken workers places file more h =
     let s = top_of Pairs in
     let last = codes "files" in
-    let counted = option_gives s last (codes "workers") false (codes "1" ∷ []) pairs_workers (walk_from nothing_held) [] [] workers (begins s last) refl h.0 in
+    let counted = option_gives s last (codes "workers") false (codes "1" ∷ []) pairs_workers (walk_from nothing_held) [] [] workers (walk_begins s last) refl h.0 in
     let placed =
     option_gives s last (codes "places") false (codes "0" ∷ []) pairs_places (walk_from nothing_held) _ _ places counted
     (still_new (codes "places") (codes "workers") [] workers refl refl) h.1 in
@@ -133,7 +133,7 @@ at_taken : (point : Given) (expr places : Option Given) (file : Text) (more : Li
 at_taken point expr places file more h =
     let s = top_of At in
     let last = codes "files" in
-    let pointed = option_gives s last (codes "point") true [] at_point (walk_from nothing_held) [] [] (Some point) (begins s last) refl h.0 in
+    let pointed = option_gives s last (codes "point") true [] at_point (walk_from nothing_held) [] [] (Some point) (walk_begins s last) refl h.0 in
     let asked = option_gives s last (codes "expr") false [] at_expr (walk_from nothing_held) _ _ expr pointed refl h.1 in
     let placed =
     option_gives s last (codes "places") false (codes "0" ∷ []) at_places (walk_from nothing_held) _ _ places asked
@@ -177,7 +177,7 @@ bool_taken expr workers places report file more h =
     let last = codes "files" in
     let e : List Row = given_rows (codes "expr") (Some expr) in
     let w : List Row = e ++ given_rows (codes "workers") workers in
-    let asked = option_gives s last (codes "expr") true [] bool_expr (walk_from nothing_held) [] [] (Some expr) (begins s last) refl h.0 in
+    let asked = option_gives s last (codes "expr") true [] bool_expr (walk_from nothing_held) [] [] (Some expr) (walk_begins s last) refl h.0 in
     let counted = option_gives s last (codes "workers") false (codes "1" ∷ []) bool_workers (walk_from nothing_held) _ _ workers asked refl h.1 in
     let placed =
     option_gives s last (codes "places") false (codes "0" ∷ []) bool_places (walk_from nothing_held) _ _ places counted
@@ -219,7 +219,7 @@ voxels_taken expr size workers places file more h =
     let s = top_of Voxels in
     let last = codes "files" in
     let e : List Row = given_rows (codes "expr") (Some expr) ++ given_rows (codes "size") (Some size) in
-    let asked = option_gives s last (codes "expr") true [] voxels_expr (walk_from nothing_held) [] [] (Some expr) (begins s last) refl h.0 in
+    let asked = option_gives s last (codes "expr") true [] voxels_expr (walk_from nothing_held) [] [] (Some expr) (walk_begins s last) refl h.0 in
     let sized = option_gives s last (codes "size") true [] voxels_size (walk_from nothing_held) _ _ (Some size) asked refl h.1 in
     let counted = option_gives s last (codes "workers") false (codes "1" ∷ []) voxels_workers (walk_from nothing_held) _ _ workers sized refl h.2 in
     let placed =
@@ -239,6 +239,7 @@ canonical (voxels_line expr size workers places file more) h = voxels_taken expr
 canonical (pairs_line workers places file more) h = pairs_taken workers places file more h
 canonical (slice_line height file) h = slice_taken height file h
 
+-- canonical words are read as the command of their values
 pub canonical_reads : (words : List Text) (result : Result Command WordsFault) → Reads (command_of words) result
     → (line : Line) → IsCanonical line → words ≡ words_of line → Reads (command_with line) result
 canonical_reads words result reads line h is = subst (λ (value : Option Command). Reads value result) (ap command_of is ∙ canonical line h) reads

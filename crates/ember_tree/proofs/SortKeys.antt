@@ -5,9 +5,10 @@ use Rattle.std.proofs.lemmas.Nat.{leading_top, pow_pos, pow_below, pow-add}
 use Rattle.std.proofs.Math.Nat.{mul-lt-mul_of_pos_right}
 use Rattle.ember_tree.specs.Order.{tree_key}
 
-pub few_zeros : (p : ℕ) → 0 < p → p < 2 ^ 64 → leading_zeros w64 p < 64
+few_zeros : (p : ℕ) → 0 < p → p < 2 ^ 64 → leading_zeros w64 p < 64
 few_zeros p above fits = omega (arith, (leading_top 64 p above fits).1)
 
+-- the sort key of a path above 0 fits into 64 bits
 pub sort_key_fits : (p : ℕ) → 0 < p → p < 2 ^ 64 → p * (1 * 2 ^ leading_zeros w64 p % 2 ^ 64) < 2 ^ 64
 sort_key_fits p above fits =
     let t = leading_top 64 p above (omega (arith, fits)) in

@@ -14,10 +14,10 @@ use Rattle.ember_model.specs.Points.{scaled}
 use Rattle.ember_model.specs.Faces.{size, is_inside, hit}
 use Rattle.ember_model.proofs.SignTests.{size_positive, nonzero_out, zero_out}
 use Rattle.ember_model.proofs.PlaneValues.{value_hit, value_scaled, size-is}
-use Rattle.ember_model.proofs.Hits.{Scales, scales, inside_scaled}
+use Rattle.ember_model.proofs.Hits.{Scales, scaled_point_scales, inside_scaled}
 use Rattle.ember_meaning.proofs.Lines.{is_below, key, is_same_place}
 use Rattle.ember_meaning.proofs.OnLine.{size_up}
-use Rattle.ember_meaning.proofs.Parts.{on_support}
+use Rattle.ember_meaning.proofs.FaceParts.{on_support}
 
 -- not below and not above: equal, by cross multiplication
 same_fraction : (a b : ℤ) → (not (int_lt a b) && not (int_lt b a)) ≡ true → a ≡ b
@@ -34,7 +34,7 @@ same_inside a p f g r u v h =
     let n = f.support in let m = g.support in
     let c = same_fraction ((key a p f).num *ℤ pos (suc (key a p g).den)) ((key a p g).num *ℤ pos (suc (key a p f).den)) h in
     let e = ap (λ (z : ℤ). (key a p f).num *ℤ z) (sym (size_up (along m a) v)) ∙ c ∙ ap (λ (z : ℤ). (key a p g).num *ℤ z) (size_up (along n a) u) in
-    sym (inside_scaled (size (along m a)) (hit n a p) (scaled (size (along m a)) (hit n a p)) r (size_positive (along m a) (nonzero_out (along m a) v)) (scales (size (along m a)) (hit n a p))) ∙ inside_scaled (size (along n a)) (hit m a p) (scaled (size (along m a)) (hit n a p)) r (size_positive (along n a) (nonzero_out (along n a) u)) (same_hits a p n m (crossed (sign (along n a) *ℤ value_at n p) (sign (along m a) *ℤ value_at m p) (size (along n a)) (size (along m a)) e))
+    sym (inside_scaled (size (along m a)) (hit n a p) (scaled (size (along m a)) (hit n a p)) r (size_positive (along m a) (nonzero_out (along m a) v)) (scaled_point_scales (size (along m a)) (hit n a p))) ∙ inside_scaled (size (along n a)) (hit m a p) (scaled (size (along m a)) (hit n a p)) r (size_positive (along n a) (nonzero_out (along n a) u)) (same_hits a p n m (crossed (sign (along n a) *ℤ value_at n p) (sign (along m a) *ℤ value_at m p) (size (along n a)) (size (along m a)) e))
   where
     crossed : (x y s t : ℤ) → neg_ℤ x *ℤ t ≡ neg_ℤ y *ℤ s → x *ℤ t ≡ y *ℤ s
     crossed x y s t e =

@@ -1,4 +1,4 @@
--- The triangles that are listed before another one in its plane tell the owners of its regions.
+-- The triangles that are listed before another one in its plane decide which of its regions it owns.
 use Rattle.std.proofs.Common.{◌≡◌, ◌⊎◌, inl, inr, refl, sym, ap, subst, ◌∙◌, arith, ℕ, zero, suc, ◌+◌, ◌<◌, nat_lt, Bool, true, false, None, Some, slice_get, List, [], ◌∷◌, ◌++◌, length, All}
 use Rattle.std.proofs.lemmas.Option.{slice_get_within, get_or_from_slice_get, slice_get-get_or}
 use Rattle.std.proofs.lemmas.List.Elements.{All-nil, All-push, All-get_or}
@@ -27,9 +27,9 @@ use Rattle.ember_leaf.specs.Written.{IsCovered}
 use Rattle.ember_leaf.proofs.TriRelations.{coplanar_flats}
 use Rattle.ember_leaf.proofs.RegionOrder.{face_support}
 use Rattle.ember_leaf.proofs.Cutting.{all_every}
-use Rattle.ember_leaf.proofs.Leaving.{every_all}
-use Rattle.ember_leaf.proofs.Sharing.{coplanar_turned}
-use Rattle.ember_leaf.proofs.UnmetPlanes.{away_unmet, added_blades, added_owners, adds_all, edge_blades}
+use Rattle.ember_leaf.proofs.OwnedRegions.{every_all}
+use Rattle.ember_leaf.proofs.CoplanarFaces.{coplanar_turned}
+use Rattle.ember_leaf.proofs.UnmetPlanes.{away_unmet, added_cutting_planes, added_owners, adds_all, edge_cutting_planes}
 
 -- ---- one triangle
 module _ (t u : Tri) (b : Aabb) (f : Face) (h : ContainsPart t b u f) where
@@ -47,16 +47,19 @@ module _ (t u : Tri) (b : Aabb) (f : Face) (h : ContainsPart t b u f) where
       let n = coplanar_flats u t h.coplanar in
       lies_flat t u (face_of t) h.somewhere.at (face_support t) n.1 n.0 held_inside (record { holds = λ v i. shared_face u t v h.coplanar (inside_closed (face_of t) v i) })
 
+-- a flat triangle contains no part of t
 pub flat_misses : (t u : Tri) (b : Aabb) → is_flat u ≡ true → (f : Face) → ContainsPart t b u f → ⊥
 flat_misses t u b e f h = clash e (coplanar_flats u t h.coplanar).0
 
+-- a triangle that is disjoint from t contains no part of t
 pub apart_misses : (t u : Tri) (b : Aabb) → AreDisjoint t u → (f : Face) → ContainsPart t b u f → ⊥
 apart_misses t u b a f h =
     clash (meets t u b f h).holds (a.holds h.somewhere.at (held_inside t u b f h))
 
-pub across_misses : (t u : Tri) (b : Aabb) → is_coplanar t u ≡ false → (f : Face) → ContainsPart t b u f → ⊥
+across_misses : (t u : Tri) (b : Aabb) → is_coplanar t u ≡ false → (f : Face) → ContainsPart t b u f → ⊥
 across_misses t u b e f h = clash (coplanar_too t u b f h) e
 
+-- a triangle whose bounding box doesn't meet the bounds contains no part of t within them
 pub away_misses : (t u : Tri) (b s : Aabb) → s ≡ aabb_of_tri u → aabbs_meet b s ≡ false → (f : Face) → ContainsPart t b u f → ⊥
 away_misses t u b s e q f h =
     away_unmet t u b s e q (coplanar_flats u t h.coplanar).0 f h.bounded (meets t u b f h)
@@ -68,17 +71,20 @@ coplanar_added t u true {old} {new} e a b =
 coplanar_added t u false {old} {new} e a b =
     subst (λ (l : List Tri). AddsLower t u b false (owners_in old) false l) (sym (added_owners a ∙ append-nil (owners_in old))) (follows refl)
 
+-- a triangle in another plane adds no owner
 pub across_added : (t u : Tri) (is_before : Bool) {old new : List Cutter} → is_coplanar t u ≡ false → IsAdded u Across old new → (b : Aabb) → AddsLower t u b is_before (owners_in old) false (owners_in new)
 across_added t u is_before {old} {new} e a b =
     subst (λ (l : List Tri). AddsLower t u b is_before (owners_in old) false l) (sym (added_owners a ∙ append-nil (owners_in old))) (misses (across_misses t u b e))
 
+-- a coplanar triangle lies relative to t as its role says, whether it comes before t or not
 pub coplanar_lies : (is_before : Bool) (t u : Tri) → is_coplanar t u ≡ true → LiesAs (role_if is_before) t u
 coplanar_lies true t u e = e
 coplanar_lies false t u e = e
 
-pub coplanar_blades : (t u : Tri) (is_before : Bool) {old new : List Cutter} (b : Aabb) → is_flat u ≡ false → is_coplanar t u ≡ true → IsAdded u (role_if is_before) old new → AddsCuttingPlanes (IsBounded t b) (cutting_planes_of t u) old new
-coplanar_blades t u true {old} {new} b n e a = adds_all old new (edge_blades t u n e) (added_blades a)
-coplanar_blades t u false {old} {new} b n e a = adds_all old new (edge_blades t u n e) (added_blades a)
+-- a coplanar triangle, once added, has its cutting planes in the list
+pub coplanar_cutting_planes : (t u : Tri) (is_before : Bool) {old new : List Cutter} (b : Aabb) → is_flat u ≡ false → is_coplanar t u ≡ true → IsAdded u (role_if is_before) old new → AddsCuttingPlanes (IsBounded t b) (cutting_planes_of t u) old new
+coplanar_cutting_planes t u true {old} {new} b n e a = adds_all old new (edge_cutting_planes t u n e) (added_cutting_planes a)
+coplanar_cutting_planes t u false {old} {new} b n e a = adds_all old new (edge_cutting_planes t u n e) (added_cutting_planes a)
 
 -- those that own are of lower number and in the plane of t
 owner_lower : (t : Tri) (c : Cutter) → IsCutterOf t c → Every (IsLower t) (owners_by c)
@@ -89,6 +95,7 @@ owner_lower t c h = by c.role h.lies
     by Coplanar l = tt
     by Owner l = (record { valid = c.valid; coplanar = coplanar_turned c.tri t l }, tt)
 
+-- the owners in a list of cutters are valid triangles in the plane of t
 pub owners_lower : (t : Tri) (cs : List Cutter) → All (IsCutterOf t) cs → All (IsLower t) (owners_in cs)
 owners_lower t cs h = every_all (IsLower t) (owners_in cs) (by cs (all_every (IsCutterOf t) cs h))
   where
@@ -124,14 +131,17 @@ below_next (suc m) (suc n) l = up (below_next m n (omega (arith, l)))
     up (inl k) = inl (omega (arith, k))
     up (inr e) = inr (ap suc e)
 
+-- numbers of which the test answers true are in order
 pub lt_out : (j i : ℕ) → nat_lt j i ≡ true → j < i
 lt_out j i e = grind arith
 
+-- j < i as a truth value
 pub lt_in : (j i : ℕ) → j < i → nat_lt j i ≡ true
 lt_in j i l = grind arith
 
 -- ---- one triangle more
 module _ (ts : List Tri) (i : ℕ) (t : Tri) (b : Aabb) where
+  -- before the first triangle the list is empty
   pub none_listed : (lower : List Tri) → lower ≡ [] → AreLower ts i t b 0 lower
   none_listed lower e =
       record { stand = subst (All (IsListedBefore ts i)) (sym e) (All-nil (IsListedBefore ts i)); held = λ m l k f h. absurd (omega (arith, l)) }
@@ -146,6 +156,7 @@ module _ (ts : List Tri) (i : ℕ) (t : Tri) (b : Aabb) where
       by m k f h (inr e) =
           absurd (n (omega (arith, e, k)) f (subst (λ (n : ℕ). ContainsPart t b (tri_at ts n) f) e h))
 
+  -- t itself adds nothing
   pub own_listed : (j : ℕ) (lower : List Tri) → AreLower ts i t b j lower → j ≡ i → AreLower ts i t b (j + 1) lower
   own_listed j lower a e = kept_list j lower a (λ l f h. omega (arith, l, e))
 
@@ -160,6 +171,7 @@ module _ (ts : List Tri) (i : ℕ) (t : Tri) (b : Aabb) where
       by m k f h (inr q) =
           record { index = length lower; tri = u; here = get_last lower u; holds = (subst (λ (v : Tri). ContainsPart t b v f) (ap (tri_at ts) q ∙ sym e) h).within }
 
+  -- one more triangle that isn't known to cover t
   pub other_listed : (j : ℕ) (u : Tri) (is_before : Bool) (old new : List Tri) {covered : Bool} → AreLower ts i t b j old → (is_before ≡ true → j < i) → (j < i → is_before ≡ true) → j < length ts → u ≡ tri_at ts j → covered ≡ false → AddsLower t u b is_before old covered new → AreLower ts i t b (j + 1) new
   other_listed j u is_before old new a f g w e q (covers x y z) = absurd (clash refl q)
   other_listed j u is_before old new a f g w e q (joins x y) = joined_list j u old a (f x) w e
@@ -168,6 +180,7 @@ module _ (ts : List Tri) (i : ℕ) (t : Tri) (b : Aabb) where
   other_listed j u is_before old new a f g w e q (follows x) =
       kept_list j old a (λ l r h. absurd (clash (g l) x))
 
+  -- one more triangle that covers t
   pub cover_found : (j : ℕ) (u : Tri) (is_before : Bool) (old new : List Tri) {covered : Bool} → (is_before ≡ true → j < i) → j < length ts → u ≡ tri_at ts j → covered ≡ true → AddsLower t u b is_before old covered new → HasCover ts i t
   cover_found j u is_before old new f w e q (covers x y z) =
       record { cover = u; stands = record { index = j; before = f x; here = slice_get-get_or ts j no_tri w ∙ ap (λ (v : Tri). Some v) (sym e) }; coplanar = y; contains = z }

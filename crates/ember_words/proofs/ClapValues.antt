@@ -12,24 +12,29 @@ use Rattle.clap.specs.Matches.{first_value, matched_of, raw_values}
 use Rattle.clap.specs.declared.parser.matches.Found.{Found}
 use Rattle.clap.proofs.WalkLemmas.{first_value-rows, raw_values-rows}
 
+-- the first value of an argument is that of its row
 pub first_value_rows : (f : Found) (id : Text) → first_value f id ≡ first_of id (rows_of f)
 first_value_rows = first_value-rows
 
+-- all values of an argument are those of its row
 pub raw_values_rows : (f : Found) (id : Text) → option_map raw_values (matched_of f id) ≡ all_of id (rows_of f)
 raw_values_rows = raw_values-rows
 
+-- at most 64 names are file names exactly if none is empty
 pub names_held : (names : List (Bor Text)) → length names ≤ 64 → are_names (map (λ name. name.now) names) ≡ list_all (λ name. not (is_empty name.now)) names
 names_held names few =
     let same = list_all-map (λ name. not (is_empty name)) (λ (name : Bor Text). name.now) names in
     let fits : nat_le (length (map (λ (name : Bor Text). name.now) names)) 64 ≡ true = simp length-map (grind (arith, nat_tests)) in
     rw (fits, same) refl
 
+-- more than 64 names aren't file names
 pub too_many_names : (names : List (Bor Text)) → 64 < length names → nat_le (length names) 64 ≡ are_names (map (λ name. name.now) names)
 too_many_names names many =
     let few : nat_le (length names) 64 ≡ false = grind (arith, nat_tests) in
     let fits : nat_le (length (map (λ (name : Bor Text). name.now) names)) 64 ≡ false = simp length-map few in
     rw (few, fits) refl
 
+-- the first part of a true conjunction is true
 pub first_half : (a b : Bool) → (a && b) ≡ true → a ≡ true
 first_half true b h = refl
 first_half false b h = h

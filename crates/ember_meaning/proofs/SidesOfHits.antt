@@ -26,7 +26,7 @@ use Rattle.ember_leaf.specs.Written.{front}
 use Rattle.ember_trace.specs.Boxed.{IsRegion}
 use Rattle.ember_trace.proofs.CutRegions.{IsCutOut, region_cut}
 use Rattle.ember_trace.proofs.OneSides.{OneSign, sees_before, sees_after}
-use Rattle.ember_meaning.proofs.Regular.{behind, before_hit, after_hit}
+use Rattle.ember_meaning.proofs.HitConditions.{behind, before_hit, after_hit}
 
 -- ---- signs
 below_zero : (s : ℤ) → is_zero s ≡ false → is_positive s ≡ false → s <ℤ pos 0

@@ -91,7 +91,7 @@ module _ (scene : List Tri) (f : Formula) (c : Cell) (near : List Tri) (one : (f
   of_unique i us vs (hidden h) (hidden k) = refl
 
   -- the written regions of a leaf are one list
-  pub leaf_unique : (us vs : List Kept) → IsWrittenIn scene f c near us → IsWrittenIn scene f c near vs → us ≡ vs
+  leaf_unique : (us vs : List Kept) → IsWrittenIn scene f c near us → IsWrittenIn scene f c near vs → us ≡ vs
   leaf_unique us vs u v = each_unique of_unique u v
 
 -- ---- if the expression has one value

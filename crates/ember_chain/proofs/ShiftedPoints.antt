@@ -14,7 +14,7 @@ use Rattle.ember_law.proofs.Generic.{at_hit_of}
 use Rattle.ember_poly.proofs.InsideSigns.{eventually_each}
 use Rattle.ember_chain.specs.Chains.{face_from, IsOutlined}
 use Rattle.ember_chain.proofs.ClearCorners.{off_face_is_clear}
-use Rattle.ember_chain.proofs.Ready.{all_of, each_axis}
+use Rattle.ember_chain.proofs.ClearRectangle.{all_of, each_axis}
 
 module _ (p : Spot) (weight : pos 0 <ℤ p.w) where
   clear_shifted_face : (w : WrittenFace) → IsOutlined w → Eventually (λ k. IsClear (face_from w) (shifted p (pos k)))

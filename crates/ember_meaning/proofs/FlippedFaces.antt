@@ -13,7 +13,7 @@ use Rattle.ember_model.specs.Planes.{value_at, along, opposite}
 use Rattle.ember_model.specs.Points.{scaled, moved}
 use Rattle.ember_model.specs.Faces.{size, is_inside, hit, flipped_face}
 use Rattle.ember_meaning.proofs.Lines.{key, is_hit, amount}
-use Rattle.ember_meaning.proofs.Parts.{value-opposite}
+use Rattle.ember_meaning.proofs.FaceParts.{value-opposite}
 
 zero-neg : (z : ℤ) → is_zero (neg_ℤ z) ≡ is_zero z
 zero-neg (pos zero) = refl
@@ -28,6 +28,7 @@ size-neg (negsuc n) = refl
 neg-neg : (a b : ℤ) → neg_ℤ a *ℤ neg_ℤ b ≡ a *ℤ b
 neg-neg a b = solve 2 (λ a b. neg a ⊗ neg b ≈ a ⊗ b) cancels a b
 
+-- a flipped face has the same inside points
 pub inside-turned : (f : Face) (v : Spot) → is_inside (flipped_face f) v ≡ is_inside f v
 inside-turned f v =
     ap (λ b. is_positive v.w && (b && list_all (λ e. is_negative (value_at e v)) f.edges)) (ap is_zero (value-opposite f.support v) ∙ zero-neg (value_at f.support v))
@@ -48,6 +49,7 @@ hit-opposite n a v =
 key_num : (n v : ℤ) → neg_ℤ (sign (neg_ℤ n) *ℤ neg_ℤ v) ≡ neg_ℤ (sign n *ℤ v)
 key_num n v = ap neg_ℤ (ap (λ (z : ℤ). z *ℤ neg_ℤ v) (sign-neg n) ∙ neg-neg (sign n) v)
 
+-- a flipped face has the same key
 pub key-turned : (a : Axis) (p : Spot) (f : Face) → key a p (flipped_face f) ≡ key a p f
 key-turned a p f =
     let e = along-opposite a f.support in let d = value-opposite f.support p in
@@ -55,11 +57,13 @@ key-turned a p f =
     let m = ap (λ (z : ℤ). pred (unsigned_abs z)) e ∙ ap pred (size-neg (along f.support a)) in
     λ i. record { num = n i; den = m i }
 
+-- a flipped face is hit where the face is
 pub is_hit-turned : (a : Axis) (p : Spot) (f : Face) → is_hit a p (flipped_face f) ≡ is_hit a p f
 is_hit-turned a p f =
     let e = ap is_zero (along-opposite a f.support) ∙ zero-neg (along f.support a) in
     let d = ap (is_inside (flipped_face f)) (hit-opposite f.support a p) ∙ inside-turned f (hit f.support a p) in
     λ i. not (e i) && d i
 
+-- and the negative amount
 pub amount-turned : (a : Axis) (f : Face) → amount a (flipped_face f) ≡ neg_ℤ (amount a f)
 amount-turned a f = ap sign (along-opposite a f.support) ∙ sign-neg (along f.support a)

@@ -11,6 +11,7 @@ entry_small m [] i h = record { small = omega arith }
 entry_small m (x ∷ xs) zero h = All-head (Small m) x xs h
 entry_small m (x ∷ xs) (suc i) h = entry_small m xs i (All-tail (Small m) x xs h)
 
+-- a coordinate of small numbers is small
 pub coordinate_small : (m : ℕ) (at : List ℤ) (k : Axis) → All (Small m) at → Small m (coordinate at k)
 coordinate_small m at X h = entry_small m at 0 h
 coordinate_small m at Y h = entry_small m at 1 h

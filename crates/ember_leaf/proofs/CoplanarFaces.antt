@@ -28,9 +28,9 @@ use Rattle.ember_coplanar.proofs.Owning.{lies_by_support}
 use Rattle.ember_ref.proofs.FarTriangles.{inside_closed}
 use Rattle.ember_trace.proofs.FlatPlanes.{lies_flat, shared_face}
 use Rattle.ember_leaf.specs.declared.cutter.Cutter.{Cutter}
-use Rattle.ember_leaf.specs.Leaves.{IsRegionOf}
+use Rattle.ember_leaf.specs.KeptRegions.{IsRegionOf}
 use Rattle.ember_leaf.specs.Cutters.{AreDisjoint, ShareAPlane}
-use Rattle.ember_leaf.proofs.RegionCuts.{blade_face}
+use Rattle.ember_leaf.proofs.RegionCuts.{cutting_plane_face}
 use Rattle.ember_leaf.proofs.TriRelations.{coplanar_flats}
 use Rattle.ember_leaf.proofs.RegionOrder.{face_support}
 use Rattle.ember_leaf.proofs.TriFaces.{has_inside, inside_ring, closed_ring, ring_inside}
@@ -41,6 +41,7 @@ coplanar_turned t u e =
     let n = coplanar_flats u t e in let s = has_inside t n.1 in
     lies_flat t u (face_of t) s.at (face_support t) n.1 n.0 s.inside (record { holds = λ v i. shared_face u t v e (inside_closed (face_of t) v i) })
 
+-- a face in the plane of t lies in one plane with a triangle that is coplanar with t
 pub share_a_plane : (t u : Tri) (f : Face) → IsRegionOf t f → is_coplanar t u ≡ true → ShareAPlane u f
 share_a_plane t u f r e = record { face = on_triangle; triangle = on_face }
   where
@@ -87,7 +88,7 @@ module _ (t : Tri) (f : Face) (v u : Spot) (iv : InFace f.support f.edges v) (iu
       both : {a b : ℤ} (m : ℤ) → a ≡ pos 0 → b ≡ pos 0 → m *ℤ a +ℤ pos 1 *ℤ b ≡ pos 0
       both m p q = rw (p, q) (solve 1 (λ m. m ⊗ num (pos 0) ⊕ num (pos 1) ⊗ num (pos 0) ≈ num (pos 0)) cancels m)
 
-  pub some_shared : is_in_closed (face_of t) v ≡ true → Somewhere f (λ x. is_inside (face_of t) x ≡ true)
+  some_shared : is_in_closed (face_of t) v ≡ true → Somewhere f (λ x. is_inside (face_of t) x ≡ true)
   some_shared c =
       let e = moved_inside in let m = e.from in let one : pos 0 <ℤ pos 1 = omega (arith, linear) in
       record { at = moved m; inside = inside_in f (moved m) (e.holds m (omega arith)); holds = ring_inside t (moved m) (inside_sum (pos m) (pos 1) (support_of t) (tri_sides t) v u (least m) one (closed_ring t v c) (inside_ring t u iu)) }
@@ -104,7 +105,7 @@ meets_inside t f n s m =
 -- ---- by the edge planes of the triangle alone
 pub meets_flat : {b : Bool} (f : Face) (c : Cutter) (es : List Plane) → ShareAPlane c.tri f → HasInside f → c.support ≡ support_of c.tri → es ≡ edges_of c.tri → IsTrue b ↔ Somewhere f (λ v. none_positive es v ≡ true) → IsTrue b ↔ Meets f (face_of c.tri)
 meets_flat {b} f c es s i n e k =
-    subst (λ g. IsTrue b ↔ Meets f g) (blade_face c.tri n e) (λ t. met_on f c.support es flat (k.0 t), λ m. k.1 (met_free f es c.support m))
+    subst (λ g. IsTrue b ↔ Meets f g) (cutting_plane_face c.tri n e) (λ t. met_on f c.support es flat (k.0 t), λ m. k.1 (met_free f es c.support m))
   where
     zero : (v : Spot) → is_inside f v ≡ true → is_zero (value_at c.support v) ≡ true
     zero v j = zero_in (ap (λ (p : Plane). value_at p v) n ∙ s.face v j)

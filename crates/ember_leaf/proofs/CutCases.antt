@@ -20,7 +20,7 @@ use Rattle.ember_poly.proofs.InsideSigns.{opposite_plane}
 use Rattle.ember_poly.proofs.ReachBySigns.{over_opposite, over_from_opposite, most_opposite, least_from_opposite}
 use Rattle.ember_trace.proofs.FilledFaces.{inside_below}
 use Rattle.ember_leaf.proofs.WallClips.{inside_in_below}
-use Rattle.ember_leaf.proofs.Systems.{Row, dot, Inequality, Solves, IsDecided, every_parts, decide}
+use Rattle.ember_leaf.proofs.LinearInequalities.{Row, dot, Inequality, Solves, IsDecided, every_parts, system_is_decided}
 
 -- ---- planes as inequalities of the four coordinates of a point
 abbrev row : Plane → Row 4
@@ -104,7 +104,7 @@ module _ (n : Plane) (gs hs : List Plane) where
       record { inside = record { flat = omega (arith, linear, a, b, o); weight = omega (arith, linear, w, e); within = u.1 }; loose = m.1.1 }
 
   fits_decided : ((v : Spot) × Fits v) ⊎ ((v : Spot) → Fits v → ⊥)
-  fits_decided = by (decide 4 system)
+  fits_decided = by (system_is_decided 4 system)
     where
       by : IsDecided 4 system → ((v : Spot) × Fits v) ⊎ ((v : Spot) → Fits v → ⊥)
       by (inl r) = inl (spot r.0, fits_out (spot r.0) r.1)
@@ -162,8 +162,8 @@ cuts_decided f p = by (under_decided f p) (under_decided f (opposite p))
     by (inr n) b = inr (λ c. n c.low)
 
 -- what a cutting plane leaves of a face
-pub at_blade : (b : CuttingPlane) (f : Face) → (fs : List Face) × AtCuttingPlane b f fs
-at_blade b f = by (meets_decided f b.face) (cuts_decided f b.plane)
+pub at_cutting_plane : (b : CuttingPlane) (f : Face) → (fs : List Face) × AtCuttingPlane b f fs
+at_cutting_plane b f = by (meets_decided f b.face) (cuts_decided f b.plane)
   where
     by : Decided (Meets f b.face) → Decided (Cuts f b.plane) → (fs : List Face) × AtCuttingPlane b f fs
     by (inl m) (inl c) = (below f b.plane ∷ above f b.plane ∷ [], splits m c)

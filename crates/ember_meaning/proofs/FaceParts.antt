@@ -18,16 +18,18 @@ by_tests (pos zero) f g h = g refl
 by_tests (pos (suc n)) f g h = f refl
 by_tests (negsuc n) f g h = h refl
 
+-- no number is both zero and negative
 pub not_zero_negative : (z : ℤ) → is_zero z ≡ true → is_negative z ≡ true → ⊥
 not_zero_negative (pos zero) e h = false≢true h
 not_zero_negative (pos (suc n)) e h = false≢true h
 not_zero_negative (negsuc n) e h = false≢true e
 
-pub negative-neg : (z : ℤ) → is_negative (neg_ℤ z) ≡ is_positive z
+negative-neg : (z : ℤ) → is_negative (neg_ℤ z) ≡ is_positive z
 negative-neg (pos zero) = refl
 negative-neg (pos (suc n)) = refl
 negative-neg (negsuc n) = refl
 
+-- the opposite plane has the opposite value
 pub value-opposite : (p : Plane) (v : Spot) → value_at (opposite p) v ≡ neg_ℤ (value_at p v)
 value-opposite p v =
     solve 8 (λ a b c d x y z w. neg a ⊗ x ⊕ neg b ⊗ y ⊕ neg c ⊗ z ⊖ neg d ⊗ w ≈ neg (a ⊗ x ⊕ b ⊗ y ⊕ c ⊗ z ⊖ d ⊗ w)) cancels p.a p.b p.c p.d v.x v.y v.z v.w
@@ -40,14 +42,17 @@ and_end true true false d = refl
 and_end true false c d = refl
 and_end false b c d = refl
 
+-- inside the part below: inside the face, and below the plane
 pub is_inside-below : (f : Face) (p : Plane) (v : Spot) → is_inside (below f p) v ≡ (is_inside f v && is_negative (value_at p v))
 is_inside-below f p v =
     rw (list_all-append (λ e. is_negative (value_at e v)) f.edges (p ∷ [])) (and_end (is_positive v.w) (is_zero (value_at f.support v)) (list_all (λ e. is_negative (value_at e v)) f.edges) (is_negative (value_at p v)))
 
+-- a point is inside the part above a plane exactly if it is inside the face and above the plane
 pub is_inside-above : (f : Face) (p : Plane) (v : Spot) → is_inside (above f p) v ≡ (is_inside f v && is_positive (value_at p v))
 is_inside-above f p v =
     is_inside-below f (opposite p) v ∙ ap (λ b. is_inside f v && b) (ap is_negative (value-opposite p v) ∙ negative-neg (value_at p v))
 
+-- an inside point lies on the support plane
 pub on_support : (f : Face) (v : Spot) → is_inside f v ≡ true → is_zero (value_at f.support v) ≡ true
 on_support f v e =
     (and_parts (is_zero (value_at f.support v)) (list_all (λ e. is_negative (value_at e v)) f.edges) (and_parts (is_positive v.w) (is_zero (value_at f.support v) && list_all (λ e. is_negative (value_at e v)) f.edges) e).1).0

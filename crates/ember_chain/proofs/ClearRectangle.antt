@@ -21,8 +21,8 @@ use Rattle.ember_law.proofs.GenericClear.{off_clear, clear_faces}
 use Rattle.ember_poly.proofs.Chains.{each_map}
 use Rattle.ember_poly.proofs.InsideSigns.{eventually_each}
 use Rattle.ember_chain.specs.Chains.{is_zero_vector, coverage, directed_edges, face_from, IsOutlined}
-use Rattle.ember_chain.proofs.Setting.{ahead, IsGeneral, IsGeneralFace, IsOffEnds, component, corner}
-use Rattle.ember_chain.proofs.Ahead.{general_ahead, coverage_ahead}
+use Rattle.ember_chain.proofs.RectangleRound.{ahead, IsGeneral, IsGeneralFace, IsOffEnds, component, corner}
+use Rattle.ember_chain.proofs.PointAhead.{general_ahead, coverage_ahead}
 use Rattle.ember_chain.proofs.Rectangle.{off_corner, weight_corner}
 use Rattle.ember_chain.proofs.ClearCorners.{off_face_is_clear}
 use Rattle.ember_chain.proofs.EdgeForm.{outline_weights}

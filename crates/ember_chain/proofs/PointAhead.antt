@@ -20,7 +20,7 @@ use Rattle.ember_model.proofs.SignTests.{negative_in, negative_not, nonzero_out,
 use Rattle.ember_model.proofs.Tuples.{plane_tuple, spot_tuple, normalE}
 use Rattle.ember_chain.specs.Chains.{DirectedEdge, displacement, is_zero_vector, is_on_line, is_parallel, reached, coverage}
 use Rattle.ember_chain.proofs.Displacements.{displacementE, square_positive, zero_not}
-use Rattle.ember_chain.proofs.Setting.{ahead, IsGeneral, IsOffEnds, component}
+use Rattle.ember_chain.proofs.RectangleRound.{ahead, IsGeneral, IsOffEnds, component}
 
 -- ---- directions
 pub record HasComponent (d : Vector) : Type 0 where
@@ -41,7 +41,7 @@ abbrev aheadE : TupleE → VectorE → Expr → TupleE
 aheadE x d m = record { x = m ⊗ x.x ⊕ d.x; y = m ⊗ x.y ⊕ d.y; z = m ⊗ x.z ⊕ d.z; w = m ⊗ x.w }
 
 -- the value of a plane ahead
-pub value_ahead : (h : Plane) (x : Spot) (d : Vector) (m : ℤ) → value_at h (ahead x d m) ≡ m *ℤ value_at h x +ℤ dot (normal h) d
+value_ahead : (h : Plane) (x : Spot) (d : Vector) (m : ℤ) → value_at h (ahead x d m) ≡ m *ℤ value_at h x +ℤ dot (normal h) d
 value_ahead h x d m =
     identity (tuple ∷ tuple ∷ vector ∷ scalar ∷ []) (λ h x d m. valueE h (aheadE x d m) ≈ m ⊗ valueE h x ⊕ dotE (normalE h) d) cancels (plane_tuple h) (spot_tuple x) d m
 

@@ -119,6 +119,7 @@ all_joined_solved n us [] x xs h k = tt
 all_joined_solved n us (l ∷ ls) x xs h k =
     every_append (λ b. Solves n b xs) (against n us l) (all_joined n us ls) (against_solved n us l x xs h k.0) (all_joined_solved n us ls x xs h k.1)
 
+-- what holds of each member of a joined list holds of each member of both parts
 pub every_parts : {X : Type 0} (P : X → Type 0) (xs ys : List X) → Every P (xs ++ ys) → Every P xs × Every P ys
 every_parts P [] ys h = (tt, h)
 every_parts P (x ∷ xs) ys h = let k = every_parts P xs ys h.1 in ((h.0, k.0), k.1)
@@ -316,6 +317,6 @@ module _ (n : ℕ) (bs : List (Inequality (suc n))) (s : Sorted n bs) where
       inr (λ x h. let k = s.forth x.0 x.1 h in f x.1 (every_append (λ b. Solves n b x.1) (all_joined n s.uppers s.lowers) s.others (all_joined_solved n s.uppers s.lowers x.0 x.1 k.0 k.1) k.2))
 
 -- each system has a solution, or it has none
-pub decide : (n : ℕ) (bs : List (Inequality n)) → IsDecided n bs
-decide zero bs = decide_none bs
-decide (suc n) bs = let s = sort n bs in up n bs s (decide n (left n bs s))
+pub system_is_decided : (n : ℕ) (bs : List (Inequality n)) → IsDecided n bs
+system_is_decided zero bs = decide_none bs
+system_is_decided (suc n) bs = let s = sort n bs in up n bs s (system_is_decided n (left n bs s))

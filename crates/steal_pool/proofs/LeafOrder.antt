@@ -1,4 +1,4 @@
--- The leaves of a tree stand in ascending places, and two visited jobs with one path are one.
+-- The leaves of a tree have ascending places, and two visited jobs with one path are one.
 use Rattle.std.proofs.Common.{◌≡◌, ℕ, zero, suc, ◌+◌, ◌-◌, ◌*◌, ◌^◌, ◌<◌, ◌≤◌, List, [], ◌∷◌, ◌++◌, refl, sym, ap, ◌∙◌, subst, arith}
 use Rattle.std.proofs.Math.Nat.{lt_of_mul-lt-mul_right, pow-succ'}
 use Rattle.std.proofs.lemmas.Nat.{pow-add, pow_pos}
@@ -21,6 +21,7 @@ pub record Fits (j : Job) : Type 0 where
   pub from : 2 ^ 36 ≤ j.cell.path * 2 ^ halvings_left j.cell
   pub below : j.cell.path * 2 ^ halvings_left j.cell + 2 ^ halvings_left j.cell ≤ 2 ^ 37
 
+-- a job of the root fits
 pub fits_root : (j : Job) → j.cell ≡ root → Fits j
 fits_root j at = record {
   few = subst (λ (c : Cell). halvings_left c ≤ 36) (sym at) (omega arith);
@@ -51,6 +52,7 @@ pub record AreHalves (j l r : Job) : Type 0 where
   pub low_size : 2 * 2 ^ halvings_left l.cell ≡ 2 ^ halvings_left j.cell
   pub high_size : 2 * 2 ^ halvings_left r.cell ≡ 2 ^ halvings_left j.cell
 
+-- the depths and the places of the halves of a box
 pub are_halves : (j l r : Job) → IsSplit j.cell l.cell r.cell → AreHalves j l r
 are_halves j l r s =
     let low = low_less j.cell l.cell r.cell s in
@@ -64,6 +66,7 @@ are_halves j l r s =
       high_size = (low_base j.cell.path (2 * j.cell.path) (halvings_left j.cell) (halvings_left r.cell) high refl).1;
     }
 
+-- the left half of a box that fits fits
 pub fits_low : (j l r : Job) → IsSplit j.cell l.cell r.cell → Fits j → Fits l
 fits_low j l r s f =
     let h = are_halves j l r s in record {
@@ -72,6 +75,7 @@ fits_low j l r s f =
       below = omega (arith, f.below, h.low_base, h.low_size);
     }
 
+-- and so does the right half
 pub fits_high : (j l r : Job) → IsSplit j.cell l.cell r.cell → Fits j → Fits r
 fits_high j l r s f =
     let h = are_halves j l r s in record {
@@ -80,10 +84,11 @@ fits_high j l r s f =
       below = omega (arith, f.below, h.high_base, h.high_size);
     }
 
+-- (a + 1) x is a x + x
 pub one_more : (a x : ℕ) → (a + 1) * x ≡ a * x + x
 one_more a x = omega arith
 
--- a path's digits tell how deep its box lies
+-- how many leading zeros the path of a box with this depth has
 pub zeros_are : (j : Job) → Fits j → halvings_left j.cell + 27 ≡ leading_zeros w64 j.cell.path
 zeros_are j f = leading_unique 64 j.cell.path (halvings_left j.cell + 27) (37 - halvings_left j.cell) (omega (arith, f.few)) small (omega (arith, twice, large)) where
   whole : 2 ^ (37 - halvings_left j.cell) * 2 ^ halvings_left j.cell ≡ 2 ^ 37
@@ -113,7 +118,7 @@ place_is j f = ap (λ n. j.cell.path * 2 ^ n) (sym (zeros_are j f)) ∙ ap (λ x
   assoc : (a b c : ℕ) → a * (b * c) ≡ a * b * c
   assoc a b c = omega arith
 
--- these jobs stand in ascending places, from one bound to another
+-- these jobs have ascending places, from one bound to another
 abbrev pub Within : ℕ → ℕ → List Job → Type 0
 Within lo hi [] = lo ≤ hi
 Within lo hi (j ∷ js) = (lo ≤ base j) × Fits j × Within (base j + 1) hi js
@@ -127,7 +132,7 @@ within_append lo mid hi [] ys a b = within_from mid lo hi ys a b
 within_append lo mid hi (x ∷ xs) ys a b = (a.0, a.1, within_append (base x + 1) mid hi xs ys a.2 b)
 
 module _ (shape : Job → Shape) (valid : Job → Type 0) where
-  -- the leaves of a job stand within its place
+  -- the leaves of a job are within its place
   pub leaves_within : (d : ℕ) (j : Job) → halvings_left j.cell ≡ d → Splits shape valid → valid j → Fits j → (s : Shape) → shape j ≡ s → Within (base j) (base j + 2 ^ halvings_left j.cell) (leaves_among shape (visited shape j))
   leaves_within d j at h v f leafed is =
       subst (λ js. Within (base j) (base j + 2 ^ halvings_left j.cell) (leaves_among shape js)) (sym (leaf_visits shape (halvings_left j.cell) j is))

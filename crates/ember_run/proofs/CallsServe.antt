@@ -18,7 +18,7 @@ use Rattle.ember_run.specs.Stops.{IsFileIn, IsStop, with_others}
 use Rattle.ember_run.specs.Slices.{IsFaceFault, IsSliceRefusal, IsSliceable}
 use Rattle.ember_run.specs.Verdict.{Contents, Verdict, Unknown, Refused, Writes, Slices, first_told, names_of, told_verdict, verdict_before, verdict_of}
 use Rattle.ember_run.specs.declared.status.FaceFault.{FaceFault}
-use Rattle.ember_run.proofs.Before.{refused_with_any, unknown_refused}
+use Rattle.ember_run.proofs.RefusedBeforeFiles.{refused_with_any, unknown_refused}
 use Rattle.ember_run.proofs.SliceFaults.{one_fault, slice_or_fault, sliceable_or_fault}
 use Rattle.ember_run.proofs.SolidVerdicts.{err_text}
 use Rattle.ember_run.proofs.Stops.{before_is_refusal, file_is_refusal, length_told, none_some}
@@ -171,7 +171,7 @@ served command shelf out err status text rows is said =
       err_text = (text, is, said);
     }
 
--- ---- a call whose command is answered
+-- ---- a call whose command is replied_call_serves
 not_refusal : (status : Status) → (status ≡ Done) ⊎ (status ≡ WriteFault) → is_refusal status ≡ true → ⊥
 not_refusal status (inl e) r = absurd (cc)
 not_refusal status (inr e) r = absurd (cc)
@@ -188,10 +188,11 @@ touched : (status : Status) → (status ≡ Done) ⊎ (status ≡ WriteFault) �
 touched status (inl e) d w = d e
 touched status (inr e) d w = w e
 
-pub answered : (command : Command) (shelf : ShelfCall) (out err : SinkCall) (status : Status) (reply : Reply) (text line : List ℕ) → shelf.told_after ≡ shelf.told → shelf.faults ≤ shelf.faults_after → out.faults ≤ out.faults_after → IsReply command shelf.told reply → text ≡ reply.text.items → line ≡ reply.report.items
+-- a reply that was written, or begun, is served
+pub replied_call_serves : (command : Command) (shelf : ShelfCall) (out err : SinkCall) (status : Status) (reply : Reply) (text line : List ℕ) → shelf.told_after ≡ shelf.told → shelf.faults ≤ shelf.faults_after → out.faults ≤ out.faults_after → IsReply command shelf.told reply → text ≡ reply.text.items → line ≡ reply.report.items
     → (status ≡ Done → Appends out.taken out.taken_after text × IsFlushed out.taken_after out.flushed) → (status ≡ WriteFault → HasSinkFailed out × AppendsPrefix out.taken out.taken_after text) → (status ≡ Done) ⊎ (status ≡ WriteFault)
     → AppendsUntilFault err.faults err.faults_after err.taken err.taken_after (text_on_err (names_of (Some command)) status line) → Serves (Some command) shelf out err status
-answered command shelf out err status reply text line same later out_later is t l done fault either said =
+replied_call_serves command shelf out err status reply text line same later out_later is t l done fault either said =
     let verdict = told_verdict (Some command) shelf.told in
     let is_text : IsText verdict text = subst (λ (bytes : List ℕ). IsText verdict bytes) (sym t) is.text in
     served (Some command) shelf out err status (text_on_err (names_of (Some command)) status line)
@@ -213,9 +214,9 @@ answered command shelf out err status reply text line same later out_later is t 
     (err_text (Some command) shelf.told status line (λ d. subst (λ (bytes : List ℕ). IsReportIf (asks_report (Some command)) verdict bytes) (sym l) is.report)) said
 
 -- ---- a call that has no answer
-pub stopped : (command : Command) (shelf : ShelfCall) (out err : SinkCall) (status : Status) → shelf.told_after ≡ shelf.told → shelf.faults ≤ shelf.faults_after → out.faults ≤ out.faults_after → out.taken_after ≡ out.taken → IsStop (verdict_of (Some command)) (names_of (Some command)) shelf status
+pub stopped_call_serves : (command : Command) (shelf : ShelfCall) (out err : SinkCall) (status : Status) → shelf.told_after ≡ shelf.told → shelf.faults ≤ shelf.faults_after → out.faults ≤ out.faults_after → out.taken_after ≡ out.taken → IsStop (verdict_of (Some command)) (names_of (Some command)) shelf status
     → AppendsUntilFault err.faults err.faults_after err.taken err.taken_after (text_on_err (names_of (Some command)) status []) → Serves (Some command) shelf out err status
-stopped command shelf out err status same later out_later untouched stop said =
+stopped_call_serves command shelf out err status same later out_later untouched stop said =
     served (Some command) shelf out err status (text_on_err (names_of (Some command)) status [])
     (record {
       contents = same;
@@ -235,44 +236,3 @@ stopped command shelf out err status same later out_later untouched stop said =
     (err_text (Some command) shelf.told status [] (λ e. absurd (stop.no_other.0 e))) said
 
 -- ---- words that ask for nothing, or that no memory was left to read
-pub words_refused : (shelf : ShelfCall) (out err : SinkCall) → shelf.told_after ≡ shelf.told → shelf.faults ≤ shelf.faults_after → out.faults ≤ out.faults_after → out.taken_after ≡ out.taken
-    → AppendsUntilFault err.faults err.faults_after err.taken err.taken_after (line_on_err [] Words) → Serves None shelf out err Words
-words_refused shelf out err same later out_later untouched said =
-    served None shelf out err Words (line_on_err [] Words)
-    (record {
-      contents = same;
-      later = later;
-      out_later = out_later;
-      done = λ e. absurd (cc);
-      refused = λ r. refl;
-      words = λ e. refl;
-      before_files = λ b. refl;
-      in_file = λ i e. absurd (none_some e);
-      one_of = λ i e. absurd (none_some e);
-      memory = refl;
-      read_fault = λ i e. absurd (cc);
-      write_fault = λ e. absurd (cc);
-      untouched = λ d w. untouched;
-    })
-    refl said
-
-pub memory_short : (command : Option Command) (shelf : ShelfCall) (out err : SinkCall) → shelf.told_after ≡ shelf.told → shelf.faults ≤ shelf.faults_after → out.faults ≤ out.faults_after → out.taken_after ≡ out.taken
-    → AppendsUntilFault err.faults err.faults_after err.taken err.taken_after (line_on_err [] OutOfMemory) → Serves command shelf out err OutOfMemory
-memory_short command shelf out err same later out_later untouched said =
-    served command shelf out err OutOfMemory (line_on_err [] OutOfMemory)
-    (record {
-      contents = same;
-      later = later;
-      out_later = out_later;
-      done = λ e. absurd (cc);
-      refused = λ r. absurd (cc);
-      words = λ e. absurd (cc);
-      before_files = λ b. absurd (cc);
-      in_file = λ i e. absurd (none_some e);
-      one_of = λ i e. absurd (none_some e);
-      memory = refl;
-      read_fault = λ i e. absurd (cc);
-      write_fault = λ e. absurd (cc);
-      untouched = λ d w. untouched;
-    })
-    refl said
