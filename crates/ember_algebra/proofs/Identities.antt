@@ -1,12 +1,10 @@
 -- Identities of vectors and planes, to be used by name.
-use Rattle.std.proofs.Common.{◌≡◌, ap, ◌∙◌, arith, [], ◌∷◌, ℤ, pos, ◌+ℤ◌, ◌-ℤ◌, ◌*ℤ◌}
+use Rattle.std.proofs.Common.{◌≡◌, ap, ◌∙◌, arith, [], ◌∷◌, ℤ, pos, ◌-ℤ◌, ◌*ℤ◌}
 use lib.IntN.{zero-*ℤ}
-use Rattle.ember_algebra.specs.Vector.{Vector, Tuple, zero_v, minus_v, plus_v, scale_v, dot, cross, det, normal}
+use Rattle.ember_algebra.specs.Vector.{Vector, zero_v, minus_v, scale_v, dot, cross}
 use Rattle.ember_algebra.proofs.Laws.{linear}
-use Rattle.ember_algebra.proofs.Ring.{◌⊖◌, ◌⊗◌, ◌≈◌, num, cancels}
-use Rattle.ember_algebra.proofs.Vectors.{vector, tuple, identity, same_v, vector_identity, ◌≈v◌, cancels_v, minusE, plusE, scaleE, dotE, crossE, detE, normalE, vector_partE, valueE}
-
--- ---- a triangle's normal
+use Rattle.ember_algebra.proofs.Ring.{◌⊖◌, ◌⊗◌, ◌≈◌, cancels}
+use Rattle.ember_algebra.proofs.Vectors.{vector, identity, same_v, vector_identity, ◌≈v◌, cancels_v, minusE, scaleE, dotE, crossE}
 
 -- ---- products of three and four vectors
 
@@ -39,5 +37,3 @@ orthogonal_parallel n f g p q =
   where
     by : (a b : ℤ) → pos 0 *ℤ a -ℤ pos 0 *ℤ b ≡ pos 0
     by a b = omega (arith, linear, zero-*ℤ a, zero-*ℤ b)
-
--- ---- three planes and the point on them

@@ -1,9 +1,7 @@
 -- The plane lemma and the quadrant law by the signs alone: each pattern of signs that the identities allow is tried.
 use Rattle.std.proofs.Common.{◌≡◌, Bool, not, T, ℤ, pos, negsuc, ◌+ℤ◌, ◌-ℤ◌}
 use Rattle.ember_algebra.specs.Sign.{Sign, flip, times, number, is_pos, is_neg, is_nil}
-use Rattle.ember_algebra.proofs.Signs.{◌and◌, ◌or◌, same_z, same_z_out, pick, may_sum, zero_sum, sum3, level_if_null, signs, every, given, use_given, ◌⇒◌, use_if}
-
--- ---- the plane lemma, of two points (x1, y1), (x2, y2) off the axes and d = y1 x2 - x1 y2
+use Rattle.ember_algebra.proofs.Signs.{◌and◌, ◌or◌, same_z, same_z_out, pick, may_sum, zero_sum, sum3, level_if_null, signs, every, given, use_given, ◌⇒◌}
 
 -- ---- the quadrant law
 -- for corners u, v, w, directions f, g and h = f × g: d is the sign of det u v w, n that of a normal's product with a direction,

@@ -1,7 +1,7 @@
 -- The quadrant law of a triangle seen from a point, whose corners are integer vectors, and the plane lemma on integers:
 -- the crossing along one direction less that along another is the sum of the three edges' terms.
-use Rattle.std.proofs.Common.{◌≡◌, ◌≢◌, ⊎_elim, Bool, true, false, refl, ap, ◌∙◌, arith, not, T, [], ◌∷◌, ℤ, pos, ◌+ℤ◌, ◌-ℤ◌, ◌*ℤ◌, neg_ℤ, ◌<ℤ◌}
-use Rattle.ember_algebra.specs.Sign.{sgn, times, is_neg, is_nil}
+use Rattle.std.proofs.Common.{◌≡◌, ◌≢◌, ⊎_elim, Bool, true, false, refl, ap, ◌∙◌, arith, not, T, [], ◌∷◌, ℤ, pos, ◌+ℤ◌, ◌-ℤ◌, ◌*ℤ◌}
+use Rattle.ember_algebra.specs.Sign.{sgn, is_nil}
 use Rattle.ember_algebra.specs.Vector.{Vector, dot, cross, det, minus_v}
 use lib.IntN.{*ℤ-zero, zero-*ℤ}
 use lib.Dec.{not_T}
@@ -11,10 +11,8 @@ use Rattle.ember_algebra.proofs.Order.{zero_product}
 use Rattle.ember_algebra.proofs.Laws.{linear}
 use Rattle.ember_algebra.proofs.Ring.{◌⊕◌, ◌⊖◌, ◌⊗◌, ◌≈◌, num, cancels}
 use Rattle.ember_algebra.proofs.Vectors.{vector, identity, dotE, crossE, detE, minusE, normalE}
-use Rattle.ember_algebra.proofs.Signs.{◌and◌, ◌⇒◌, sum_may, sgn-mul, sgn-neg, neg_from_sgn, both, products_may, zero_sum_from, sum3_from, level_from, null_from, not_null, zero_from_sgn}
+use Rattle.ember_algebra.proofs.Signs.{◌and◌, both, products_may, zero_sum_from, sum3_from, level_from, null_from, not_null, zero_from_sgn}
 use Rattle.ember_algebra.proofs.Quadrant.{crossing, edge, may_f, may_both, quadrant_law}
-
--- ---- the plane lemma
 
 -- ---- the quadrant law
 -- the crossing along f of the triangle with corners u, v, w, seen from the origin

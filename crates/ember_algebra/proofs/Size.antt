@@ -1,5 +1,5 @@
 -- Bounds on the absolute value, which say that a signed operation does not overflow.
-use Rattle.std.proofs.Common.{◌≡◌, sym, subst, to_z, of_z, to_z-of_z, ℕ, ◌+◌, ◌*◌, ◌^◌, ◌≤◌, arith, T, ltb, ltb→lt, ℤ, ◌+ℤ◌, ◌-ℤ◌, ◌*ℤ◌, neg_ℤ, SFits, mul-le-mul}
+use Rattle.std.proofs.Common.{◌≡◌, ℕ, ◌+◌, ◌*◌, ◌^◌, ◌≤◌, arith, T, ltb, ltb→lt, ℤ, ◌+ℤ◌, ◌-ℤ◌, ◌*ℤ◌, neg_ℤ, SFits, mul-le-mul}
 use Rattle.std.proofs.lemmas.Int.{unsigned_abs-mul, fits_signed_from_abs}
 use borrow.Author.Differences.{ints, fits_out}
 use mir.Syntax.{Width}

@@ -10,7 +10,7 @@ use Rattle.ember_box.specs.declared.half_boxes.HalfBoxes.{HalfBoxes}
 use Rattle.ember_box.specs.Boxes.{Cell, low, left_half, right_half}
 use Rattle.ember_box.specs.Near.{is_near}
 use Rattle.ember_box.specs.Aabbs.{interval_on, aabb_of_cell, aabb_of_tri, aabbs_meet, within, is_level, crosses}
-use Rattle.ember_box.specs.Sums.{number, IsPlaneOf, may_cross, AreHalves, meets_left, meets_right, near_halves}
+use Rattle.ember_box.specs.Sums.{IsPlaneOf, may_cross, AreHalves, meets_left, meets_right}
 use Rattle.ember_box.proofs.FlatAlongAxis.{level_crossed}
 use Rattle.ember_box.proofs.Orders.{and_implied}
 use Rattle.ember_box.proofs.NearByAabbs.{near_is, AreInside, are_inside, inside_crossed, left_crossed, right_crossed}

@@ -2,13 +2,12 @@
 -- whole, and at the root every triangle is near.
 use Rattle.std.proofs.Common.{◌≡◌, ℕ, suc, ◌+◌, ◌*◌, ◌<◌, refl, sym, ap, ◌∙◌, arith, Bool, true, false, not, ◌&&◌, ◌||◌, cond, if◌then◌else◌, nat_lt, nat_le, List, [], ◌∷◌, filter, map, length, All}
 use Rattle.std.specs.List.{range_with_len}
-use Rattle.std.proofs.lemmas.List.Elements.{All-filter, All-head, All-tail, All-weaker, All-get_or}
+use Rattle.std.proofs.lemmas.List.Elements.{All-filter}
 use Rattle.ember_model.specs.declared.tri.Tri.{Tri}
 use Rattle.ember_model.specs.declared.point.Axis.{Axis}
 use Rattle.ember_model.specs.declared.point.Axis.TheVariants.{X, Y, Z}
-use Rattle.ember_model.specs.Valid.{IsValidTri}
-use Rattle.ember_box.specs.Boxes.{Cell, root, left_half, right_half}
-use Rattle.ember_box.specs.Near.{is_near, near, no_tri, tri_at, listed, near_indices, all_indices}
+use Rattle.ember_box.specs.Boxes.{Cell, left_half, right_half}
+use Rattle.ember_box.specs.Near.{is_near, near, tri_at, listed, near_indices, all_indices}
 use Rattle.ember_box.specs.Halving.{half_sum, is_no_better, halving_axis, is_unprofitable, is_leaf}
 use Rattle.ember_box.proofs.NearByAabbs.{left_near, right_near}
 
@@ -127,5 +126,3 @@ is_leaf_listed ts c = ap (λ us. is_leaf us c) (listed_near_all ts c) ∙ is_lea
 -- near indices are indices of the list
 pub near_in_range : (ts : List Tri) (c : Cell) (is : List ℕ) → All (λ i. i < length ts) is → All (λ i. i < length ts) (near_indices ts c is)
 near_in_range ts c is a = All-filter (λ i. is_near c (tri_at ts i)) (λ i. i < length ts) is a
-
--- ---- the root

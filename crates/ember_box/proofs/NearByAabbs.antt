@@ -13,10 +13,9 @@ use Rattle.ember_model.specs.declared.point.Corner.{Corner}
 use Rattle.ember_model.specs.declared.point.Axis.{Axis}
 use Rattle.ember_model.specs.declared.point.Axis.TheVariants.{X, Y, Z}
 use Rattle.ember_model.specs.Planes.{vector_of, support_of}
-use Rattle.ember_model.specs.Valid.{IsValidCorner, IsValidTri}
 use Rattle.ember_box.specs.declared.aabb.Interval.{Interval}
 use Rattle.ember_box.specs.declared.aabb.Aabb.{Aabb}
-use Rattle.ember_box.specs.Boxes.{Cell, along, low, high, left_half, right_half, root}
+use Rattle.ember_box.specs.Boxes.{Cell, along, low, high, left_half, right_half}
 use Rattle.ember_box.specs.Near.{spans_meet, is_near}
 use Rattle.ember_box.specs.Aabbs.{aabb_of_cell, interval_over, aabb_of_tri, intervals_meet, aabbs_meet, covers, within, has, holds, crosses}
 use Rattle.ember_box.proofs.Orders.{le_in, le_out, and_assoc, one_of_three, least_of, greatest_of, reaches_is, All3, all3, from3}

@@ -1,5 +1,5 @@
 -- Triangles that face the front of their plane: along the main axis their corners turn as they do from the front
-use Rattle.std.proofs.Common.{◌≡◌, ◌≢◌, refl, sym, ap, ◌∙◌, arith, ℤ, pos, ◌-ℤ◌, ◌*ℤ◌, ◌<ℤ◌, true, ◌&&◌, [], ◌∷◌}
+use Rattle.std.proofs.Common.{◌≡◌, ◌≢◌, sym, ap, ◌∙◌, arith, ℤ, pos, ◌-ℤ◌, ◌*ℤ◌, ◌<ℤ◌, true, ◌&&◌, [], ◌∷◌}
 use Rattle.ember_algebra.specs.Vector.{Vector, zero_v, dot, cross}
 use Rattle.ember_algebra.specs.Det.{det3}
 use Rattle.ember_algebra.specs.Sign.{sgn, is_pos, is_zero, is_positive}

@@ -1,5 +1,5 @@
 -- A face of the plane of a triangle lies in the triangle exactly if it is below the three edge planes
-use Rattle.std.proofs.Common.{◌≡◌, ℕ, refl, sym, ap, subst, ◌∙◌, Bool, true, false, Option, Some, None, List, [], ◌∷◌, slice_get, zero, suc, ℤ, pos, negsuc}
+use Rattle.std.proofs.Common.{◌≡◌, ℕ, refl, sym, ap, subst, ◌∙◌, Bool, true, false, Option, Some, None, List, [], ◌∷◌, slice_get, zero, suc}
 use Rattle.std.specs.List.{list_all}
 use Rattle.std.proofs.lemmas.Bool.{and_parts, and_from}
 use Rattle.ember_algebra.specs.Sign.{is_negative, is_zero, is_positive}
@@ -8,15 +8,12 @@ use Rattle.ember_model.specs.declared.point.Axis.{Axis}
 use Rattle.ember_model.specs.declared.tri.Tri.{Tri}
 use Rattle.ember_model.specs.declared.face.Face.{Face}
 use Rattle.ember_model.specs.Planes.{value_at, support_of, main_axis, edge_planes}
-use Rattle.ember_model.specs.Faces.{Everywhere, Cuts, face_of, edges_of, Contains}
+use Rattle.ember_model.specs.Faces.{Everywhere, face_of, edges_of, Contains}
 use Rattle.ember_model.proofs.SignTests.{clash}
-use Rattle.ember_poly.specs.Cuts.{IsWhole}
 use Rattle.ember_coplanar.specs.TrianglePlane.{LiesOn}
 
 abbrev pub IsBelow : Face → Plane → Type 0
 IsBelow f p = Everywhere f (λ v. is_negative (value_at p v) ≡ true)
-
--- ---- a face that is above a plane, or on it, or on both sides is not below it
 
 -- ---- the three edge planes
 -- no option is both None and Some

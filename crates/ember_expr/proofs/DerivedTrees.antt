@@ -11,7 +11,7 @@ use Rattle.ember_expr.specs.declared.grammar.Joint.TheVariants as joint
 use Rattle.ember_expr.specs.declared.grammar.Scope.{Scope}
 use Rattle.ember_expr.specs.Formula.{Formula, Not, Mesh, Odd, Compare}
 use Rattle.ember_expr.specs.Grammar.{read, Rule, ◌>>=◌, mesh_number, sum, after_first, begins_with, joins, join, more_parts, chain_of, part_of, or, is_open, is_close, closed, relation, rel_at, comparison, inside, odd, not_at, not_with, deeper, not, ended, whole}
-use Rattle.ember_expr.specs.Derivation.{IsTerm, IsSum, Phrase, Derives, depth, IsFitWord, IsFitMesh, words}
+use Rattle.ember_expr.specs.Derivation.{Phrase, Derives, depth, IsFitWord, IsFitMesh, words}
 use Rattle.ember_expr.specs.Derivation as grammar
 use Rattle.ember_expr.proofs.Derived.{IfReads, if_bind, if_test, mesh_fits, Front, FrontOf, FitSum, sum_front, signed_part_is_appended}
 

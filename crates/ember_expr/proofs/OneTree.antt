@@ -2,7 +2,7 @@
 use Rattle.std.proofs.Common.{◌≡◌, ℕ, ◌≤◌, max, Bool, true, false, if◌then◌else◌, nat_le, List, [], ◌∷◌, map, length, refl, ap, sym, subst, ◌∙◌, arith, rules, Ok, Err, Result, inl, inr}
 use Rattle.ember_algebra.specs.Relations.{Every}
 use Rattle.ember_expr.specs.declared.fault.ExprFault.{ExprFault}
-use Rattle.ember_expr.specs.declared.fault.ExprFault.TheVariants.{Syntax, Deep, NoMesh, Long, OutOfMemory}
+use Rattle.ember_expr.specs.declared.fault.ExprFault.TheVariants.{Syntax, NoMesh, Long}
 use Rattle.ember_expr.specs.declared.fault.ExprFault.TheVariants as fault
 use Rattle.ember_expr.specs.declared.token.Word.{Word}
 use Rattle.ember_expr.specs.declared.token.Word.TheVariants as word

@@ -1,11 +1,8 @@
 -- The nearest binary32, from the significand at its place.
-use Rattle.std.proofs.Common.{◌≡◌, ℕ, ◌+◌, ◌-◌, ◌*◌, ◌^◌, ◌%◌, ◌<◌, ◌≤◌, Bool, true, false, cond, pos, neg_ℤ, ◌-ℤ◌, ◌*ℤ◌, Some, subst, mul-le-mul, refl, sym, ap, ◌∙◌, arith}
+use Rattle.std.proofs.Common.{◌≡◌, ℕ, ◌+◌, ◌-◌, ◌*◌, ◌^◌, ◌%◌, ◌<◌, ◌≤◌, Bool, true, false, pos, neg_ℤ, Some, subst, mul-le-mul, refl, sym, ap, ◌∙◌, arith}
 use Rattle.std.specs.Prelude.{not}
-use Rattle.std.specs.Int.RustNames.{unsigned_abs}
 use Rattle.std.proofs.lemmas.Nat.{pow_pos}
 use Rattle.ember_number.specs.Fractions.{Fraction, signed}
-use Rattle.ember_number.specs.Floats.{binary32_value}
-use Rattle.ember_number.specs.Values.{binary_value}
 use Rattle.ember_number.proofs.Rounding.{by_lt}
 use Rattle.ember_round.specs.Nearest.{IsNearest}
 use Rattle.ember_float.specs.Scaling.{IsScaled}

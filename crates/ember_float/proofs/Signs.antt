@@ -1,5 +1,5 @@
 -- How far numbers with signs are apart.
-use Rattle.std.proofs.Common.{◌≡◌, ℕ, zero, suc, ◌+◌, ◌-◌, ◌*◌, Bool, true, false, pos, neg_ℤ, ◌-ℤ◌, ◌*ℤ◌, refl, arith}
+use Rattle.std.proofs.Common.{◌≡◌, ℕ, zero, suc, ◌+◌, ◌*◌, Bool, true, false, pos, ◌-ℤ◌, ◌*ℤ◌, refl, arith}
 use Rattle.std.specs.Prelude.{not}
 use borrow.Author.Differences.{ints}
 use Rattle.std.specs.Int.RustNames.{unsigned_abs}

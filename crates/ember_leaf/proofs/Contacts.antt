@@ -1,5 +1,5 @@
 -- What the corners of a triangle show of a region in its plane.
-use Rattle.std.proofs.Common.{◌≡◌, ◌⊎◌, inl, inr, refl, sym, ap, subst, ◌∙◌, arith, ℕ, zero, suc, ◌+◌, ◌<◌, Bool, true, false, ◌&&◌, ◌≤◌, ◌<ℤ◌, List, [], ◌∷◌, ◌++◌, map, length, take, get_or, ℤ, pos}
+use Rattle.std.proofs.Common.{◌≡◌, ◌⊎◌, inl, inr, refl, sym, ap, subst, ◌∙◌, arith, ℕ, zero, suc, ◌+◌, ◌<◌, Bool, true, false, ◌&&◌, ◌<ℤ◌, List, [], ◌∷◌, ◌++◌, map, length, take, get_or, ℤ, pos}
 use Rattle.std.specs.List.{AllByRecursion}
 use Rattle.std.proofs.lemmas.List.{take_more}
 use borrow.Author.Differences.{ints}
@@ -26,7 +26,6 @@ use Rattle.ember_poly.proofs.TriangleRing.{stands}
 use Rattle.ember_leaf.specs.Contact.{no_plane, HasParting, IsBehind}
 use Rattle.ember_leaf.specs.Cutters.{ShareAPlane}
 use Rattle.ember_leaf.proofs.TriRelations.{front_at_least, under_least}
-use Rattle.ember_leaf.proofs.RegionCuts.{take_all}
 use Rattle.ember_leaf.proofs.TriFaces.{closed_at_least, closed_ring, ring_closed}
 
 -- ---- one plane more

@@ -1,23 +1,15 @@
 -- Written regions of one triangle after another.
-use Rattle.std.proofs.Common.{◌≡◌, refl, sym, ap, subst, ◌∙◌, arith, ℕ, ◌+◌, ◌<◌, ◌≤◌, Bool, Some, List, [], ◌∷◌, ◌++◌, length, get_or, None, take, All}
+use Rattle.std.proofs.Common.{◌≡◌, refl, sym, ap, subst, ◌∙◌, arith, ℕ, ◌+◌, ◌<◌, ◌≤◌, List, [], ◌∷◌, ◌++◌, length, get_or, take}
 use Rattle.std.proofs.lemmas.List.{get_or-map, length-map, map-append, take_more, take_all}
 use Rattle.std.proofs.lemmas.List.Elements.{All-nil, All-push}
 use Rattle.std.proofs.lemmas.List.Quantifiers.{all_pairs_push}
 use Rattle.ember_model.specs.declared.tri.Tri.{Tri}
-use Rattle.ember_model.specs.declared.plane.Plane.{Plane}
-use Rattle.ember_model.specs.declared.face.Face.{Face}
 use Rattle.ember_model.specs.Planes.{support_of}
 use Rattle.ember_model.specs.Faces.{face_of}
-use Rattle.ember_model.specs.Owners.{lies_in_plane_of}
 use Rattle.ember_box.specs.Near.{tri_at, no_tri}
-use Rattle.ember_coplanar.specs.TrianglePlane.{LiesOn}
-use Rattle.ember_coplanar.proofs.Coplanar.{lies_on_both}
-use Rattle.ember_coplanar.proofs.Owning.{lies_by_support}
 use Rattle.ember_trace.specs.declared.near_triangle.NearTriangle.{NearTriangle}
 use Rattle.ember_trace.specs.NearTriangles.{tri_of}
 use Rattle.ember_leaf.specs.declared.kept.Kept.{Kept}
-use Rattle.ember_leaf.specs.declared.heights.Heights.{Heights}
-use Rattle.ember_leaf.specs.TriRelations.{IsLower, heights_of, all_on}
 use Rattle.ember_leaf.specs.declared.leaf_triangle.LeafTriangle.{LeafTriangle}
 use Rattle.ember_leaf.specs.LeafTriangles.{tri_in, tris_in}
 use Rattle.ember_leaf.specs.KeptRegions.{IsRegionOf, IsKeptOf, IsPlaced, ArePlacedBelow, tris_of}

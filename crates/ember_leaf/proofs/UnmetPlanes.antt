@@ -15,7 +15,7 @@ use Rattle.ember_model.proofs.SignTests.{clash}
 use Rattle.ember_model.proofs.Hits.{closed_parts}
 use Rattle.ember_box.specs.declared.aabb.Aabb.{Aabb}
 use Rattle.ember_box.specs.Aabbs.{aabb_of_tri, aabbs_meet, intervals_meet}
-use Rattle.ember_box.specs.Regions.{AtCuttingPlane, splits, whole, cutting_planes_of, cutting_planes_at}
+use Rattle.ember_box.specs.Regions.{AtCuttingPlane, whole, cutting_planes_of, cutting_planes_at}
 use Rattle.ember_box.specs.Near.{tri_at}
 use Rattle.ember_box.specs.Regions as regions
 use Rattle.ember_model.specs.declared.point.Axis.TheVariants.{X, Y, Z}

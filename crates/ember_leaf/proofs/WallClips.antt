@@ -1,5 +1,5 @@
 -- A wall more, and what it leaves of a part of a triangle.
-use Rattle.std.proofs.Common.{◌≡◌, refl, sym, ap, subst, ◌∙◌, arith, ℕ, ◌+◌, ◌<◌, ◌⊎◌, inl, inr, Bool, true, false, not, ◌&&◌, if◌then◌else◌, List, [], ◌∷◌, length, take, drop, get_or, map, Option, None, Some, ℤ, pos, neg_ℤ, ◌-ℤ◌, ◌<ℤ◌, ◌≤ℤ◌}
+use Rattle.std.proofs.Common.{◌≡◌, refl, sym, ap, subst, ◌∙◌, arith, ℕ, ◌+◌, ◌<◌, ◌⊎◌, inl, inr, Bool, true, false, not, ◌&&◌, if◌then◌else◌, List, [], ◌∷◌, length, take, drop, get_or, map, ℤ, pos, ◌-ℤ◌, ◌<ℤ◌, ◌≤ℤ◌}
 use Rattle.std.specs.Int.{int_min}
 use Rattle.std.proofs.lemmas.Int.{clamps, by_lt_z}
 use Rattle.std.proofs.lemmas.List.{append-nil, map-append, take_more, take-append-drop}
@@ -37,13 +37,10 @@ use Rattle.ember_leaf.specs.TriRelations.{heights_of, all_on}
 use Rattle.ember_leaf.specs.declared.clip.Remainder.{Remainder}
 use Rattle.ember_leaf.specs.declared.clip.Remainder.TheVariants.{Whole, Nothing, Unknown}
 use Rattle.ember_leaf.specs.declared.wall.Wall as leaf
-use Rattle.ember_leaf.specs.Walls.{wall_of, level_by, interval_along, IsPartOf, IsLowRemainder, IsHighRemainder, IsRemainder, IsClippedBy}
+use Rattle.ember_leaf.specs.Walls.{wall_of, interval_along, IsPartOf, IsLowRemainder, IsHighRemainder, IsRemainder, IsClippedBy}
 use Rattle.ember_leaf.proofs.RegionOrder.{face_support}
-use Rattle.ember_coplanar.proofs.Containing.{some_inj}
 use Rattle.ember_leaf.proofs.TriFaces.{AtCorners, AtCorner, has_inside, inside_ring, inside_under, inside_over, closed_at_least, closed_on}
 use Rattle.ember_leaf.proofs.TriRelations.{corner_over, on_on}
-
--- ---- planes
 
 -- ---- chains of walls
 each_one : {X S : Type 0} {R : X → List S → Type 0} {x : X} {ys : List S} → R x ys → Each R (x ∷ []) ys

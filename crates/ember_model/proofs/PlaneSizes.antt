@@ -9,9 +9,8 @@ use Rattle.ember_model.specs.declared.tri.Tri.{Tri}
 use Rattle.ember_model.specs.declared.plane.Plane.{Plane}
 use Rattle.ember_model.specs.declared.point.Axis.{Axis}
 use Rattle.ember_model.specs.declared.point.Axis.TheVariants.{X, Y, Z}
-use Rattle.ember_model.specs.Planes.{unit, along, main_axis, support_of, edge_through, edge_planes, times_plane}
-use Rattle.ember_model.specs.Valid.{IsValidCorner, IsValidTri, IsValidPlane, IsValidFace}
-use Rattle.ember_model.specs.Faces.{face_of, edges_of}
+use Rattle.ember_model.specs.Planes.{unit, support_of, edge_through, times_plane}
+use Rattle.ember_model.specs.Valid.{IsValidCorner, IsValidTri, IsValidPlane}
 use Rattle.ember_model.specs.Sizes.{IsSupportSized, IsEdgeSized}
 
 -- a plane with the sizes of a support plane is valid

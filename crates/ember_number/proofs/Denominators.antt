@@ -3,7 +3,6 @@ use Rattle.std.proofs.Common.{◌<◌, ◌+◌, length}
 use Rattle.std.proofs.lemmas.Nat.{pow_pos}
 use Rattle.ember_number.specs.declared.values.Number.{Number}
 use Rattle.ember_number.specs.declared.values.Number.TheVariants as number
-use Rattle.ember_number.specs.Fractions.{Fraction}
 use Rattle.ember_number.specs.Values.{value_of, places_left}
 use Rattle.ember_number.proofs.DigitNumbers.{pow_ten_pos}
 

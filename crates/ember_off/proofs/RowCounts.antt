@@ -1,10 +1,9 @@
 -- How many rows and words there are
-use Rattle.std.proofs.Common.{◌≡◌, ℕ, true, false, ◌<◌, ◌≤◌, ◌+◌, ◌^◌, List, [], ◌∷◌, ◌++◌, length, min, take, drop, refl, ap, ap₂, arith, Option, None, Some, Err, inl, inr}
+use Rattle.std.proofs.Common.{◌≡◌, ℕ, true, false, ◌<◌, ◌≤◌, ◌+◌, ◌^◌, List, [], ◌∷◌, ◌++◌, length, min, take, drop, refl, ap, ap₂, arith, Option, None, Some, inl, inr}
 use Rattle.std.specs.Prelude.{◌==◌, if◌then◌else◌, nat_le}
 use Rattle.std.specs.Option.{option_map}
 use Rattle.std.proofs.lemmas.Bool.{cases_Bool, leb-true, leb-false}
 use Rattle.ember_scan.specs.Parts.{Piece, is_separator, before_lines, lines_from, closed, words_from, uncommented, words_of}
-use Rattle.ember_off.specs.declared.fault.OffFault.TheVariants.{NoCounts, FewLines}
 use Rattle.ember_off.specs.Rows.{Words, with_row, rows_from}
 use Rattle.ember_off.specs.Limits.{capped}
 use Rattle.ember_off.specs.ReadOff.{Counts, points_of, facets_of, whole, counted, two_counts}

@@ -3,7 +3,7 @@ use Rattle.std.proofs.Common.{◌≡◌, ℕ, zero, suc, Bool, true, false, ◌<
 use Rattle.std.specs.Prelude.{if◌then◌else◌, nat_lt, nat_le, IfOk, IfSome}
 use Rattle.std.proofs.lemmas.Bool.{cases_Bool, ltb-true, leb-true}
 use Rattle.std.proofs.lemmas.List.{length-map, length-take-le}
-use Rattle.std.proofs.lemmas.List.Elements.{All-nil, All-cons, All-head, All-tail, All-append}
+use Rattle.std.proofs.lemmas.List.Elements.{All-nil, All-cons, All-append}
 use Rattle.ember_scan.specs.Parts.{Piece}
 use Rattle.ember_surface.specs.declared.surface.Facet.{Facet}
 use Rattle.ember_surface.specs.declared.surface.Surface.{Surface}

@@ -1,6 +1,5 @@
 pub mod ReferenceSigns
 pub mod ReferenceLegs
-pub mod CarriedCounts
 pub mod ClearReferences
 pub mod NearPoints
 pub mod BoxPoints

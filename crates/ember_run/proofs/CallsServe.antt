@@ -10,7 +10,7 @@ use Rattle.ember_run.specs.declared.reply.Reply.{Reply}
 use Rattle.ember_run.specs.Outputs.{Output}
 use Rattle.ember_run.specs.CallOutcome.{AsksOutput, AsksRefusal, IsBegun, IsRefusal, IsText, IsWritten, hides_memory, is_before_files, is_refusal, refused_file}
 use Rattle.ember_run.specs.Devices.{ShelfCall, SinkCall, HasShelfFailed, HasSinkFailed}
-use Rattle.ember_run.specs.Lines.{line_on_err, text_on_err}
+use Rattle.ember_run.specs.Lines.{text_on_err}
 use Rattle.ember_run.specs.Messages.{AppendsUntilFault}
 use Rattle.ember_run.specs.Reported.{IsErrText, IsReportIf, asks_report}
 use Rattle.ember_run.specs.Serves.{IsReply, Serves}
@@ -21,7 +21,7 @@ use Rattle.ember_run.specs.declared.status.FaceFault.{FaceFault}
 use Rattle.ember_run.proofs.RefusedBeforeFiles.{refused_with_any, unknown_refused}
 use Rattle.ember_run.proofs.SliceFaults.{one_fault, slice_or_fault, sliceable_or_fault}
 use Rattle.ember_run.proofs.SolidVerdicts.{err_text}
-use Rattle.ember_run.proofs.Stops.{before_is_refusal, file_is_refusal, length_told, none_some}
+use Rattle.ember_run.proofs.Stops.{before_is_refusal, file_is_refusal, length_told}
 
 -- what a status must be for, by the verdict v
 pub record Owes (v : Verdict) (R W : Type 0) (old new : Option (List ℕ)) (status : Status) : Type 0 where
@@ -234,5 +234,3 @@ stopped_call_serves command shelf out err status same later out_later untouched 
       untouched = λ d w. untouched;
     })
     (err_text (Some command) shelf.told status [] (λ e. absurd (stop.no_other.0 e))) said
-
--- ---- words that ask for nothing, or that no memory was left to read

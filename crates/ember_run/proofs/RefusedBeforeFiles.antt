@@ -1,6 +1,6 @@
 -- What is refused with no file known is refused with any.
 use Rattle.std.proofs.Common.{◌≡◌, ℕ, Bool, true, false, List, [], ◌∷◌, length, Some, None, Result, Ok, Err, sym, ap, subst, arith}
-use Rattle.std.specs.Prelude.{codes, if◌then◌else◌, pos, replicate}
+use Rattle.std.specs.Prelude.{if◌then◌else◌, pos, replicate}
 use Rattle.std.specs.declared.option.Option.{Option}
 use Rattle.ember_expr.specs.declared.fault.ExprFault.{ExprFault}
 use Rattle.ember_expr.specs.Formula.{Formula}

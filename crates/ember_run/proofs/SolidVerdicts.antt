@@ -1,5 +1,5 @@
 -- The verdicts of `bool` and `demo`, step by step.
-use Rattle.std.proofs.Common.{◌≡◌, ℕ, Bool, true, false, not, List, [], length, pos, Some, Vec, Global, refl, sym, ap, subst, ◌∙◌}
+use Rattle.std.proofs.Common.{◌≡◌, ℕ, Bool, true, false, not, List, length, pos, refl, sym, ap, subst, ◌∙◌}
 use Rattle.std.specs.Prelude.{codes, replicate, if◌then◌else◌}
 use Rattle.ember_expr.specs.Formula.{Formula}
 use Rattle.ember_expr.specs.Truth.{truth}
@@ -10,8 +10,6 @@ use Rattle.ember_report.specs.Reports.{line_of}
 use Rattle.ember_run.specs.declared.status.Status.{Status}
 use Rattle.ember_run.specs.declared.status.Status.TheVariants.{Done, Words, ReadFault, WriteFault, ObjRefused, MeshRefused, ExprRefused, Unbounded, Limit, NotClear, FaceRefused, OutOfMemory}
 use Rattle.ember_run.specs.Outputs.{SolidFaces, SolidReport}
-use Rattle.ember_run.specs.declared.reply.Reply.{Reply}
-use Rattle.ember_run.specs.Serves.{IsReply}
 use Rattle.ember_run.specs.Reported.{IsErrText, IsReport, IsReportIf, asks_report}
 use Rattle.ember_run.specs.Lines.{text_on_err}
 use Rattle.ember_words.specs.declared.command.Command.{Command}

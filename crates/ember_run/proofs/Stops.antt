@@ -8,9 +8,9 @@ use Rattle.ember_model.specs.declared.tri.Tri.{Tri}
 use Rattle.ember_obj.specs.declared.fault.ObjFault.{ObjFault}
 use Rattle.ember_obj.specs.declared.fault.ObjFault.TheVariants as obj
 use Rattle.ember_run.specs.CallOutcome.{IsRefusal, hides_memory, is_before_files, is_refusal, refused_file}
-use Rattle.ember_run.specs.Devices.{ShelfCall, HasShelfFailed}
-use Rattle.ember_run.specs.Stops.{IsAfterFiles, IsFileIn, IsOfWords, IsSceneStop, IsStop, IsWordsStop, with_others}
-use Rattle.ember_run.specs.Verdict.{Contents, Verdict, Unknown, Refused, after_scene, first_told, file_at}
+use Rattle.ember_run.specs.Devices.{ShelfCall}
+use Rattle.ember_run.specs.Stops.{IsAfterFiles, IsOfWords, IsSceneStop, IsStop, IsWordsStop, with_others}
+use Rattle.ember_run.specs.Verdict.{Contents, Verdict, Unknown, Refused, after_scene, first_told}
 use Rattle.ember_run.specs.declared.status.LimitKind.TheVariants.{Triangles}
 use Rattle.ember_run.specs.declared.status.Status.{Status}
 use Rattle.ember_run.specs.declared.status.Status.TheVariants.{Done, Words, ReadFault, WriteFault, ObjRefused, MeshRefused, ExprRefused, Unbounded, Limit, NotClear, FaceRefused, OutOfMemory}

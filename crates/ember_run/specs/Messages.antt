@@ -1,5 +1,5 @@
 -- What a sink for messages took
-use Rattle.std.specs.Prelude.{⊤, ℕ, ◌≤◌, List, None, Some}
+use Rattle.std.specs.Prelude.{ℕ, ◌≤◌, List}
 use Rattle.std.specs.declared.option.Option.{Option}
 use Rattle.std.specs.Io.KnownBytes.{Appends}
 use Rattle.ember_io.specs.Causes.{Rose}

@@ -1,7 +1,6 @@
 -- Where cells land on a grid.
-use Rattle.std.proofs.Common.{◌≡◌, ◌<◌, ℕ, Bool, true, false, ◌&&◌, List, refl, ◌∙◌, sym, arith, ℤ, pos, negsuc, ◌+ℤ◌, ◌-ℤ◌, ◌*ℤ◌, ◌<ℤ◌, ◌≤ℤ◌, int_le}
+use Rattle.std.proofs.Common.{◌≡◌, Bool, true, false, ◌&&◌, List, refl, arith, ℤ, pos, negsuc, ◌+ℤ◌, ◌-ℤ◌, ◌≤ℤ◌, int_le}
 use borrow.Author.Differences.{ints}
-use Rattle.std.specs.Int.{int_div_euclid}
 use Rattle.ember_algebra.proofs.Laws.{linear}
 use Rattle.ember_number.specs.declared.values.Number.{Number}
 use Rattle.ember_number.proofs.DigitNumbers.{both_true}
@@ -9,10 +8,9 @@ use Rattle.ember_snap.specs.declared.steps.Step.{Step}
 use Rattle.ember_snap.specs.declared.spans.Coordinates.{Coordinates}
 use Rattle.ember_snap.specs.declared.spans.Span.{Span}
 use Rattle.ember_snap.specs.declared.spans.Spans.{Spans}
-use Rattle.ember_snap.specs.Spans.{IsSpan, AreSpans, IsNarrow, AreNarrow}
+use Rattle.ember_snap.specs.Spans.{IsSpan, AreSpans}
 use Rattle.ember_snap.specs.Offsets.{middle_of, is_central, offset_of, LandsAlong, LandsOnGrid}
-use Rattle.ember_snap.proofs.Floors.{floor_low, floor_high, floor_is}
-use Rattle.ember_snap.proofs.SpanSteps.{at_one}
+use Rattle.ember_snap.proofs.Floors.{floor_low, floor_high}
 
 -- cells land where the least and the greatest do
 lands_between : (s : Step) (xs : List Number) (span : Span) (o : ℤ) → IsSpan s xs span → negsuc 2046 ≤ℤ (span.least -ℤ o) → (span.greatest -ℤ o) ≤ℤ pos 2047 → LandsAlong s xs o

@@ -1,7 +1,6 @@
 -- The corners of a fan
 use Rattle.std.proofs.Common.{ℕ, ◌<◌, List, [], ◌∷◌, All}
 use Rattle.std.proofs.lemmas.List.Elements.{All-nil, All-cons, All-head, All-tail}
-use Rattle.ember_surface.specs.declared.surface.Facet.{Facet}
 use Rattle.ember_surface.specs.Surfaces.{fan, fan_round, IsWithin}
 
 fan_round_within : (v place first : ℕ) (others : List ℕ) → first < v → All (λ c. c < v) others → All (IsWithin v) (fan_round place first others)

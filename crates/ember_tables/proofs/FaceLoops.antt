@@ -1,13 +1,11 @@
 -- Sides round faces
-use Rattle.std.proofs.Common.{◌≡◌, ℕ, ◌+◌, ◌-◌, ◌<◌, ◌≤◌, List, [], ◌∷◌, ◌++◌, length, drop, get_or, slice_get, Some, None, refl, sym, ap, ◌∙◌, append_assoc, arith}
+use Rattle.std.proofs.Common.{◌≡◌, ℕ, ◌+◌, ◌-◌, List, [], ◌∷◌, length, slice_get, Some, None, refl, sym, ap, ◌∙◌, arith}
 use Rattle.std.specs.List.{All}
-use Rattle.std.proofs.lemmas.List.{append-nil, drop_more, drop_all, nil_from_length}
 use Rattle.std.proofs.lemmas.List.Elements.{All-nil, All-cons, All-head, All-tail, All-append}
 use Rattle.std.proofs.lemmas.Option.{none-some, same_Some}
 use Rattle.ember_model.specs.declared.plane.Plane.{Plane}
 use Rattle.ember_model.specs.declared.face.Face.{Face}
 use Rattle.ember_model.specs.Valid.{IsValidPlane, IsValidFace}
-use Rattle.ember_tables.specs.declared.face_edge.FaceEdge.{FaceEdge}
 use Rattle.ember_tables.specs.Edges.{first_or, last_or, edges_behind, edges_round, edges_of, IsValidEdge}
 
 -- ---- the last plane
@@ -27,11 +25,6 @@ last_is p (e ∷ es) x h = same_Some x (last_or e es) (h ∙ ap (slice_get (e �
 pub last_is_none : (p : Plane) (es : List Plane) → None ≡ slice_get es (length es - 1) → p ≡ last_or p es
 last_is_none p [] h = refl
 last_is_none p (e ∷ es) h = absurd (none-some (last_or e es) (h ∙ ap (slice_get (e ∷ es)) (one_less e es) ∙ last_found e es))
-
--- ---- round one face
-module _ (face : ℕ) (n first : Plane) where
-
--- ---- one face after another
 
 -- ---- valid edges
 valid_first : (p : Plane) (es : List Plane) → IsValidPlane p → All IsValidPlane es → IsValidPlane (first_or p es)

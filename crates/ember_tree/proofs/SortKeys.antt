@@ -1,9 +1,8 @@
 -- A path moved to the front of 64 digits fits them.
-use Rattle.std.proofs.Common.{◌≡◌, ℕ, zero, suc, ◌+◌, ◌*◌, ◌^◌, ◌%◌, ◌<◌, ◌≤◌, List, [], ◌∷◌, ◌++◌, length, sym, ap, ◌∙◌, subst, arith}
+use Rattle.std.proofs.Common.{◌≡◌, ℕ, suc, ◌+◌, ◌*◌, ◌^◌, ◌%◌, ◌<◌, List, [], ◌∷◌, ◌++◌, length, sym, ap, ◌∙◌, subst, arith}
 use Rattle.std.specs.Int.{leading_zeros, w64}
 use Rattle.std.proofs.lemmas.Nat.{leading_top, pow_pos, pow_below, pow-add}
 use Rattle.std.proofs.Math.Nat.{mul-lt-mul_of_pos_right}
-use Rattle.ember_tree.specs.Order.{tree_key}
 
 few_zeros : (p : ℕ) → 0 < p → p < 2 ^ 64 → leading_zeros w64 p < 64
 few_zeros p above fits = omega (arith, (leading_top 64 p above fits).1)

@@ -1,5 +1,5 @@
 -- Corners of a boundary
-use Rattle.std.proofs.Common.{◌≡◌, Option, Some, inl, inr, ℕ, ◌<◌, List, [], ◌∷◌, length, get_or, refl, sym}
+use Rattle.std.proofs.Common.{◌≡◌, Some, inl, inr, ℕ, ◌<◌, List, [], ◌∷◌, length, get_or, refl, sym}
 use Rattle.std.specs.List.{All, Contains, slice_get}
 use Rattle.std.proofs.lemmas.List.Elements.{All-nil, All-cons}
 use Rattle.std.proofs.lemmas.Option.{slice_get_within, get_or_from_slice_get}

@@ -1,5 +1,5 @@
 -- Triangles whose edges have lines
-use Rattle.std.proofs.Common.{◌≡◌, ◌⊎◌, inl, inr, ℕ, ◌+◌, ◌*◌, ◌<◌, ◌≤◌, min, max, Option, Some, None, List, [], ◌∷◌, ◌++◌, length, get_or, take, map, refl, sym, ap, subst, ◌∙◌, arith, true, ◌↔◌}
+use Rattle.std.proofs.Common.{◌≡◌, ◌⊎◌, inl, inr, ℕ, ◌+◌, ◌<◌, ◌≤◌, min, max, Option, Some, None, List, [], ◌∷◌, ◌++◌, length, get_or, take, refl, sym, ap, subst, ◌∙◌, arith, true}
 use Rattle.std.specs.List.{All, Contains}
 use Rattle.std.specs.Option.{IfSome, is_some}
 use Rattle.std.proofs.lemmas.Bool.{cases_lt, eq-eqb}
@@ -9,8 +9,8 @@ use Rattle.ember_certificate.specs.declared.segment.Segment.{Segment}
 use Rattle.ember_certificate.specs.declared.triangle.Triangle.{Triangle}
 use Rattle.ember_certificate.specs.Certificate.{is_round, edges_in}
 use Rattle.ember_triangulate.specs.declared.lines.Lines.{Lines}
-use Rattle.ember_triangulate.specs.Diagonals.{edge_key, pair_key, line_at, AreNumbered}
-use Rattle.ember_triangulate.specs.Lines.{corners_of, HasEndsOf, IsOnBoundary, HasLine, HaveSamePair, HaveOwnLines, AreWithLines, AreLinesOf, boundary_line, IsLineIn, HasLineIn, AreRight, AreExtended, IsNamed, AreNamed}
+use Rattle.ember_triangulate.specs.Diagonals.{edge_key, pair_key, line_at}
+use Rattle.ember_triangulate.specs.Lines.{corners_of, HasEndsOf, IsOnBoundary, HasLine, HaveSamePair, HaveOwnLines, AreWithLines, boundary_line, IsLineIn, HasLineIn, AreRight, AreExtended, IsNamed, AreNamed}
 
 -- ---- keys
 -- a key has one start and one end

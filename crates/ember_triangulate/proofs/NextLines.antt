@@ -1,7 +1,6 @@
 -- Lines of diagonals
-use Rattle.std.proofs.Common.{◌≡◌, ◌⊎◌, inl, inr, ℕ, ◌+◌, ◌<◌, ◌≤◌, suc, cond, Option, Some, None, refl, sym, subst, ◌∙◌, arith, eqb}
-use Rattle.std.proofs.lemmas.Bool.{cases_eq, eq-eqb, ne_eqb}
-use Rattle.ember_triangulate.specs.Diagonals.{AreNumbered}
+use Rattle.std.proofs.Common.{◌≡◌, ℕ, cond, Option, Some, refl, ◌∙◌, eqb}
+use Rattle.std.proofs.lemmas.Bool.{eq-eqb, ne_eqb}
 
 module _ (before after : ℕ → Option ℕ) (key line : ℕ) (put : (q : ℕ) → after q ≡ cond (eqb key q) (Some line) (before q)) where
   -- the key has the line that was put there

@@ -1,6 +1,5 @@
 pub mod Sizes
 pub mod Ratios
 pub mod Points
-pub mod Kept
 pub mod Proper
 pub mod Signs

@@ -1,5 +1,5 @@
 -- The code's answers as steps.
-use Rattle.std.proofs.Common.{◌≡◌, ℕ, zero, suc, ◌+◌, ◌*◌, ◌<◌, ◌≤◌, List, [], ◌∷◌, ◌++◌, length, ◌==◌, ◌&&◌, Bool, true, false, true≢false, refl, sym, ap, ap₂, ◌∙◌, subst, append_assoc, length-append, slice_set, slice_index_or, inl, inr, arith}
+use Rattle.std.proofs.Common.{◌≡◌, ℕ, zero, suc, ◌+◌, ◌*◌, ◌<◌, List, [], ◌∷◌, ◌++◌, length, ◌==◌, ◌&&◌, Bool, true, false, true≢false, refl, sym, ap, ap₂, ◌∙◌, subst, append_assoc, length-append, slice_set, slice_index_or, inl, inr, arith}
 use Rattle.std.proofs.lemmas.Bool.Decides.{eqb_tells}
 use Rattle.steal_core.specs.declared.place.Place.{Place}
 use Rattle.steal_core.specs.declared.place.Place.TheVariants.{Hand, Deque, Ended}

@@ -1,5 +1,5 @@
 -- The boxes of a run: in hands, in deques, and ended.
-use Rattle.std.specs.Prelude.{◌≡◌, ℕ, ◌+◌, ◌*◌, ◌/◌, ◌^◌, ◌<◌, ◌≤◌, List, [], ◌∷◌, ◌++◌, length, if◌then◌else◌, ◌==◌, ◌&&◌, Bool, true, false, map, filter}
+use Rattle.std.specs.Prelude.{◌≡◌, ℕ, ◌+◌, ◌*◌, ◌/◌, ◌^◌, ◌<◌, ◌≤◌, List, [], ◌∷◌, ◌++◌, length, if◌then◌else◌, ◌==◌, ◌&&◌, Bool, true, false}
 use Rattle.steal_core.specs.declared.place.Place.{Place}
 use Rattle.steal_core.specs.declared.place.Place.TheVariants.{Hand, Deque, Ended}
 use Rattle.steal_core.specs.declared.place.Placed.{Placed}

@@ -1,7 +1,5 @@
 -- Runs of the core over a tree of boxes, each with a number that ends it.
 use Rattle.std.specs.Prelude.{◌≡◌, ℕ, ◌+◌, ◌*◌, ◌≤◌, List, [], ◌∷◌, ◌++◌, if◌then◌else◌, ◌==◌}
-use Rattle.steal_core.specs.declared.place.Place.{Place}
-use Rattle.steal_core.specs.declared.place.Place.TheVariants.{Hand, Deque, Ended}
 use Rattle.steal_core.specs.declared.place.Placed.{Placed}
 use Rattle.steal_core.specs.declared.place.Event.{Event}
 use Rattle.steal_core.specs.declared.place.Event.TheVariants.{Push, Hold, Pop, Steal, Drain, Finish}
