@@ -15,7 +15,7 @@ use Rattle.ember_mesh_words.specs.declared.arguments.Argument.TheVariants.{File,
 use Rattle.ember_mesh_words.specs.declared.arguments.WordMeaning.{WordMeaning}
 use Rattle.ember_mesh_words.specs.declared.arguments.WordMeaning.TheVariants.{Whole, Waiting, Unknown}
 use Rattle.ember_mesh_words.specs.Names.{Text, setting_of}
-use Rattle.ember_mesh_words.specs.Arguments.{in_front, parts_of, with_value, attached_in, said, said_by, waiting_in, prepend, arguments_with, arguments_from}
+use Rattle.ember_mesh_words.specs.Arguments.{in_front, parts_of, with_value, attached_in, is_help, said, said_by, waiting_in, prepend, arguments_with, arguments_from}
 use Rattle.ember_mesh_words.specs.Commands.{Reads, command_of, command_with}
 use Rattle.ember_mesh_words.specs.Spelling.{name_of, option_of, spelling_of, AreSpelled}
 

@@ -1,5 +1,5 @@
 -- The canonical spelling of the commands: the name, the options in the table's order, then the file names or BOXES
-use Rattle.std.specs.Prelude.{◌≡◌, ◌<◌, ◌-◌, ◌^◌, length, ⊤, ℕ, Bool, false, codes, List, [], ◌∷◌, ◌++◌, Option, Some, None}
+use Rattle.std.specs.Prelude.{◌≡◌, ◌<◌, ◌-◌, ◌^◌, length, ⊤, ℕ, Bool, false, codes, List, [], ◌∷◌, ◌++◌, Option, Some, None, if◌then◌else◌}
 use Rattle.clap.specs.Walk.{Text}
 use Rattle.ember_words.specs.declared.command.Command.{Command}
 use Rattle.ember_words.specs.Limits.{height_of, is_minus, names_of, nonempty_of, number_of, optional_of, point_of}
