@@ -5,15 +5,15 @@
 mod aabb;
 mod cell;
 mod half_boxes;
+mod halved_box;
 mod law;
-mod looks;
 mod near_parts;
 mod nearness;
 mod sums;
 
 pub use aabb::{Aabb, Interval, aabb_of_cell, aabb_of_tri, aabbs_meet, aabbs_meet_beside};
 pub use cell::{Cell, halves, root};
+pub use halved_box::{HalvedBox, halve_box};
 pub use law::near_triangles_decide_the_halving;
-pub use looks::{HalvedBox, halved};
 pub use nearness::{near, near_halves, near_list, near_tri};
 pub use sums::{halving, is_leaf, split_axis};

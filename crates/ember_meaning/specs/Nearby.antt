@@ -7,14 +7,14 @@ use Rattle.ember_model.specs.declared.point.Spot.{Spot}
 use Rattle.ember_model.specs.declared.point.Axis.{Axis}
 use Rattle.ember_model.specs.Clear.{AreClear}
 use Rattle.ember_model.specs.Meshes.{wind, vector, faces_of}
-use Rattle.ember_model.specs.Points.{shifted}
+use Rattle.ember_model.specs.Points.{offset_by}
 use Rattle.ember_expr.specs.Formula.{Formula}
 use Rattle.ember_expr.specs.Truth.{truth}
 use Rattle.ember_meaning.specs.Meaning.{one_if, HasMeaning}
 
 -- P holds of the point p shifted along all axes, if the shift is small enough
 abbrev pub WhereShifted : Spot → (Spot → Type 0) → Type 0
-WhereShifted p P = Eventually (λ k. P (shifted p (pos k)))
+WhereShifted p P = Eventually (λ k. P (offset_by p (pos k)))
 
 -- ---- any point, shifted
 -- near each point, clear or not, the faces have the meaning

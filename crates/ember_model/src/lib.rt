@@ -23,5 +23,5 @@ pub use rays::{crossing, face_crossing, leg};
 pub use scene::Scene;
 pub use tri::{Lines, Soup, Tri, Tris};
 pub use triangle_planes::{OutOfMemory, edge_plane, face_of, main_axis, support_of};
-pub use values::value;
+pub use values::plane_value;
 pub use vector::Vector;

@@ -1,5 +1,5 @@
 -- Rings: a closed list of sides, each an edge plane and the corner where its edge starts
-use Rattle.std.specs.Prelude.{◌⊎◌, ◌≡◌, ℕ, ◌<◌, length, List, [], ◌∷◌, ◌++◌, ℤ, pos, ◌-ℤ◌, ◌*ℤ◌, ◌<ℤ◌, ◌≤ℤ◌}
+use Rattle.std.specs.Prelude.{◌⊎◌, ◌≡◌, ℕ, ◌<◌, length, List, [], ◌∷◌, ◌++◌, ℤ, pos, ◌-ℤ◌, ◌*ℤ◌, ◌<ℤ◌, ◌≤ℤ◌, ⊤}
 use lib.ListN.{get_or}
 use Rattle.std.specs.List.{AllByRecursion}
 use Rattle.ember_algebra.specs.Vector.{det}
@@ -44,7 +44,7 @@ pub record IsCornerOf (n g : Plane) (s : Side) : Type 0 where
 -- an open chain: the edge g, and then the sides xs, each at the end of the one before.
 -- An edge is negative at all corners but its own two.
 abbrev pub IsSideChain : Plane → Plane → List Side → Type 0
-IsSideChain n g [] = Unit {0}
+IsSideChain n g [] = ⊤
 IsSideChain n g (s ∷ xs) =
     IsCornerOf n g s × AllByRecursion (λ t. IsBelow g t.corner) xs ×
     AllByRecursion (λ t. IsBelow t.plane s.corner) xs × IsSideChain n s.plane xs
@@ -52,7 +52,7 @@ IsSideChain n g (s ∷ xs) =
 -- the list isn't empty
 abbrev pub Long : List Side → Type 0
 Long [] = ⊥
-Long (s ∷ xs) = Unit {0}
+Long (s ∷ xs) = ⊤
 
 -- a ring: at least three sides, and a chain from its first edge and from its second
 abbrev pub IsConvexRing : Plane → List Side → Type 0
@@ -138,11 +138,11 @@ pub record IsNotBelow (p : Plane) (v : Spot) : Type 0 where
 -- ---- edges
 -- a plane across the edge of g: its value grows in the direction of this edge, counter-clockwise seen from the front
 -- of n
-abbrev pub along : Plane → Plane → Plane
-along n g =
+abbrev pub edge_direction : Plane → Plane → Plane
+edge_direction n g =
     record { a = n.b *ℤ g.c -ℤ n.c *ℤ g.b; b = n.c *ℤ g.a -ℤ n.a *ℤ g.c; c = n.a *ℤ g.b -ℤ n.b *ℤ g.a; d = pos 0 }
 
 -- the plane is negative at all corners but one at most
 abbrev pub IsBelowAllButOne : Plane → List Side → Type 0
-IsBelowAllButOne h [] = Unit {0}
+IsBelowAllButOne h [] = ⊤
 IsBelowAllButOne h (s ∷ xs) = (IsBelow h s.corner × IsBelowAllButOne h xs) ⊎ AllByRecursion (λ r. IsBelow h r.corner) xs

@@ -9,14 +9,14 @@ mod law;
 mod level;
 mod meeting;
 mod passage;
-mod reach_cut;
+mod reach_and_cut;
 mod reaching;
 mod ring;
 
 pub use cutting::{above, clip, cut, parts};
 pub use draft::Draft;
 pub use law::rings_are_valid_and_bounded;
-pub use meeting::{meets, meets_face, meets_within};
-pub use reach_cut::{Cut, Reach};
+pub use meeting::{has_point_within, meets, meets_face};
+pub use reach_and_cut::{Cut, Reach};
 pub use reaching::reach;
 pub use ring::{Ring, copy, corners, edges, main_edges, of_tri, outline, support};

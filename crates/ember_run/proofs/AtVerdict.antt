@@ -13,10 +13,10 @@ use Rattle.ember_run.specs.declared.status.Status.{Status}
 use Rattle.ember_run.specs.declared.status.Status.TheVariants.{Done, Words, ReadFault, WriteFault, NotClear}
 use Rattle.ember_run.specs.Outputs.{Counts, counts_text}
 use Rattle.ember_run.specs.Devices.{ShelfCall}
-use Rattle.ember_run.specs.Stops.{IsAfterFiles, IsStop}
-use Rattle.ember_run.specs.CallOutcome.{IsRefusal, IsSameIfTold, IsText, is_refusal}
+use Rattle.ember_run.specs.NoReplies.{IsAfterFiles, IsNoReply}
+use Rattle.ember_run.specs.Statuses.{IsRefusal, IsSameIfTold, IsText, is_refusal}
 use Rattle.ember_run.specs.Verdict.{Contents, Verdict, Refused, Writes, after_given, after_scene, at_verdict, counts_verdict}
-use Rattle.ember_run.proofs.Stops.{after_stop}
+use Rattle.ember_run.proofs.NoReplies.{after_no_reply}
 use Rattle.ember_run.proofs.Verdicts.{refusal_then, text_then}
 
 -- what the words ask for, over m meshes
@@ -53,9 +53,9 @@ text_if point expr places m contents formula tris (Ok text) e given scene is =
 text_if point expr places m contents formula tris (Err error) e given scene is = tt
 
 -- a refusal for a scene is one for the files that were read as it
-pub point_stop_if : {A : Type 0} (point : Spot) (expr : Option (List ℕ)) (places m : ℕ) (names : List (List ℕ)) (shelf : ShelfCall) (formula : Option Formula) (tris : List Tri) (result : Result A Status) → length (map shelf.told names) ≡ m → Given expr m formula → SceneRead places (map shelf.told names) tris → IfErr result (λ status. is_refusal status ≡ true → IsRefusal status (counts_verdict point m formula tris)) → IfErr result IsAfterFiles → ((i : ℕ) → result ≢ Err (ReadFault i)) → (result ≢ Err Done) × (result ≢ Err Words) × (result ≢ Err WriteFault) → IfErr result (IsStop (at_verdict point expr places) names shelf)
-point_stop_if point expr places m names shelf formula tris (Ok value) e given scene refused kind only no_other = tt
-point_stop_if point expr places m names shelf formula tris (Err status) e given scene refused kind only no_other =
-    after_stop (at_verdict point expr places) names shelf status kind
+pub point_is_no_reply_if : {A : Type 0} (point : Spot) (expr : Option (List ℕ)) (places m : ℕ) (names : List (List ℕ)) (shelf : ShelfCall) (formula : Option Formula) (tris : List Tri) (result : Result A Status) → length (map shelf.told names) ≡ m → Given expr m formula → SceneRead places (map shelf.told names) tris → IfErr result (λ status. is_refusal status ≡ true → IsRefusal status (counts_verdict point m formula tris)) → IfErr result IsAfterFiles → ((i : ℕ) → result ≢ Err (ReadFault i)) → (result ≢ Err Done) × (result ≢ Err Words) × (result ≢ Err WriteFault) → IfErr result (IsNoReply (at_verdict point expr places) names shelf)
+point_is_no_reply_if point expr places m names shelf formula tris (Ok value) e given scene refused kind only never = tt
+point_is_no_reply_if point expr places m names shelf formula tris (Err status) e given scene refused kind only never =
+    after_no_reply (at_verdict point expr places) names shelf status kind
     (λ r. refusal_then status (at_verdict point expr places (map shelf.told names)) (counts_verdict point m formula tris) (at_same point expr places m (map shelf.told names) formula tris e given scene) (refused r))
-    (λ i f. only i (ap Err f)) (λ f. no_other.0 (ap Err f), λ f. no_other.1 (ap Err f), λ f. no_other.2 (ap Err f))
+    (λ i f. only i (ap Err f)) (λ f. never.0 (ap Err f), λ f. never.1 (ap Err f), λ f. never.2 (ap Err f))

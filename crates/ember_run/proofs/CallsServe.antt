@@ -8,20 +8,20 @@ use Rattle.ember_run.specs.declared.status.Status.{Status}
 use Rattle.ember_run.specs.declared.status.Status.TheVariants.{Done, Words, ReadFault, WriteFault, ObjRefused, MeshRefused, ExprRefused, Unbounded, Limit, NotClear, FaceRefused, OutOfMemory}
 use Rattle.ember_run.specs.declared.reply.Reply.{Reply}
 use Rattle.ember_run.specs.Outputs.{Output}
-use Rattle.ember_run.specs.CallOutcome.{AsksOutput, AsksRefusal, IsBegun, IsRefusal, IsText, IsWritten, hides_memory, is_before_files, is_refusal, refused_file}
+use Rattle.ember_run.specs.Statuses.{AsksOutput, AsksRefusal, IsBegun, IsRefusal, IsText, IsWritten, hides_memory, is_before_files, is_refusal, refused_file}
 use Rattle.ember_run.specs.Devices.{ShelfCall, SinkCall, HasShelfFailed, HasSinkFailed}
 use Rattle.ember_run.specs.Lines.{text_on_err}
 use Rattle.ember_run.specs.Messages.{AppendsUntilFault}
-use Rattle.ember_run.specs.Reported.{IsErrText, IsReportIf, asks_report}
+use Rattle.ember_run.specs.Reported.{IsErrText, IsReportOfVerdictIfAsked, asks_report}
 use Rattle.ember_run.specs.Serves.{IsReply, Serves}
-use Rattle.ember_run.specs.Stops.{IsFileIn, IsStop, with_others}
+use Rattle.ember_run.specs.NoReplies.{IsFileIn, IsNoReply, with_others}
 use Rattle.ember_run.specs.Slices.{IsFaceFault, IsSliceRefusal, IsSliceable}
 use Rattle.ember_run.specs.Verdict.{Contents, Verdict, Unknown, Refused, Writes, Slices, first_told, names_of, told_verdict, verdict_before, verdict_of}
 use Rattle.ember_run.specs.declared.status.FaceFault.{FaceFault}
 use Rattle.ember_run.proofs.RefusedBeforeFiles.{refused_with_any, unknown_refused}
 use Rattle.ember_run.proofs.SliceFaults.{one_fault, slice_or_fault, sliceable_or_fault}
 use Rattle.ember_run.proofs.SolidVerdicts.{err_text}
-use Rattle.ember_run.proofs.Stops.{before_is_refusal, file_is_refusal, length_told}
+use Rattle.ember_run.proofs.NoReplies.{before_is_refusal, file_is_refusal, length_told}
 
 -- what a status must be for, by the verdict v
 pub record Owes (v : Verdict) (R W : Type 0) (old new : Option (List ℕ)) (status : Status) : Type 0 where
@@ -121,7 +121,7 @@ pub record Rows (command : Option Command) (shelf : ShelfCall) (out : SinkCall) 
   pub contents : shelf.told_after ≡ shelf.told
   pub later : shelf.faults ≤ shelf.faults_after
   pub out_later : out.faults ≤ out.faults_after
-  pub done : status ≡ Done → IsWritten (told_verdict command shelf.told) out.taken out.taken_after × IsFlushed out.taken_after out.flushed
+  pub done : status ≡ Done → IsWritten (told_verdict command shelf.told) out.taken out.taken_after × IsFlushed out.taken_after out.flushed_after
   pub refused : is_refusal status ≡ true → IsRefusal status (told_verdict command shelf.told)
   pub read_fault : (i : ℕ) → status ≡ ReadFault i → HasShelfFailed shelf × (shelf.fault_at ≡ i) × (verdict_before i command shelf.told ≡ Unknown) × IsFileIn (names_of command) i
   pub words : status ≡ Words → command ≡ None
@@ -190,7 +190,7 @@ touched status (inr e) d w = w e
 
 -- a reply that was written, or begun, is served
 pub replied_call_serves : (command : Command) (shelf : ShelfCall) (out err : SinkCall) (status : Status) (reply : Reply) (text line : List ℕ) → shelf.told_after ≡ shelf.told → shelf.faults ≤ shelf.faults_after → out.faults ≤ out.faults_after → IsReply command shelf.told reply → text ≡ reply.text.items → line ≡ reply.report.items
-    → (status ≡ Done → Appends out.taken out.taken_after text × IsFlushed out.taken_after out.flushed) → (status ≡ WriteFault → HasSinkFailed out × AppendsPrefix out.taken out.taken_after text) → (status ≡ Done) ⊎ (status ≡ WriteFault)
+    → (status ≡ Done → Appends out.taken out.taken_after text × IsFlushed out.taken_after out.flushed_after) → (status ≡ WriteFault → HasSinkFailed out × AppendsPrefix out.taken out.taken_after text) → (status ≡ Done) ⊎ (status ≡ WriteFault)
     → AppendsUntilFault err.faults err.faults_after err.taken err.taken_after (text_on_err (names_of (Some command)) status line) → Serves (Some command) shelf out err status
 replied_call_serves command shelf out err status reply text line same later out_later is t l done fault either said =
     let verdict = told_verdict (Some command) shelf.told in
@@ -211,26 +211,26 @@ replied_call_serves command shelf out err status reply text line same later out_
       write_fault = λ e. let f = fault e in (f.0, (text, is_text, f.1));
       untouched = λ d w. absurd (touched status either d w);
     })
-    (err_text (Some command) shelf.told status line (λ d. subst (λ (bytes : List ℕ). IsReportIf (asks_report (Some command)) verdict bytes) (sym l) is.report)) said
+    (err_text (Some command) shelf.told status line (λ d. subst (λ (bytes : List ℕ). IsReportOfVerdictIfAsked (asks_report (Some command)) verdict bytes) (sym l) is.report)) said
 
 -- ---- a call that has no answer
-pub stopped_call_serves : (command : Command) (shelf : ShelfCall) (out err : SinkCall) (status : Status) → shelf.told_after ≡ shelf.told → shelf.faults ≤ shelf.faults_after → out.faults ≤ out.faults_after → out.taken_after ≡ out.taken → IsStop (verdict_of (Some command)) (names_of (Some command)) shelf status
+pub stopped_call_serves : (command : Command) (shelf : ShelfCall) (out err : SinkCall) (status : Status) → shelf.told_after ≡ shelf.told → shelf.faults ≤ shelf.faults_after → out.faults ≤ out.faults_after → out.taken_after ≡ out.taken → IsNoReply (verdict_of (Some command)) (names_of (Some command)) shelf status
     → AppendsUntilFault err.faults err.faults_after err.taken err.taken_after (text_on_err (names_of (Some command)) status []) → Serves (Some command) shelf out err status
-stopped_call_serves command shelf out err status same later out_later untouched stop said =
+stopped_call_serves command shelf out err status same later out_later untouched no_reply said =
     served (Some command) shelf out err status (text_on_err (names_of (Some command)) status [])
     (record {
       contents = same;
       later = later;
       out_later = out_later;
-      done = λ e. absurd (stop.no_other.0 e);
-      refused = stop.refused;
-      words = λ e. absurd (stop.no_other.1 e);
-      before_files = stop.before_files;
-      in_file = stop.in_file;
-      one_of = stop.one_of;
-      memory = stop.memory;
-      read_fault = stop.read_fault;
-      write_fault = λ e. absurd (stop.no_other.2 e);
+      done = λ e. absurd (no_reply.never.0 e);
+      refused = no_reply.refused;
+      words = λ e. absurd (no_reply.never.1 e);
+      before_files = no_reply.before_files;
+      in_file = no_reply.in_file;
+      one_of = no_reply.one_of;
+      memory = no_reply.memory;
+      read_fault = no_reply.read_fault;
+      write_fault = λ e. absurd (no_reply.never.2 e);
       untouched = λ d w. untouched;
     })
-    (err_text (Some command) shelf.told status [] (λ e. absurd (stop.no_other.0 e))) said
+    (err_text (Some command) shelf.told status [] (λ e. absurd (no_reply.never.0 e))) said

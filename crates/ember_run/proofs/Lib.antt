@@ -1,6 +1,6 @@
 pub mod ErrTexts
 pub mod Verdicts
-pub mod Stops
+pub mod NoReplies
 pub mod Expressions
 pub mod RefusedBeforeFiles
 pub mod SceneFiles

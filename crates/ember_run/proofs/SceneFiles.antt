@@ -14,12 +14,12 @@ use Rattle.ember_model.specs.declared.tri.Tri.{Tri}
 use Rattle.ember_run.specs.declared.status.Status.{Status}
 use Rattle.ember_run.specs.declared.status.LimitKind.TheVariants.{Triangles}
 use Rattle.ember_run.specs.declared.status.Status.TheVariants.{Done, Words, ReadFault, WriteFault, MeshRefused, Limit}
-use Rattle.ember_run.specs.CallOutcome.{IsRefusal, IsSameIfTold, hides_memory, is_refusal, refused_file}
+use Rattle.ember_run.specs.Statuses.{IsRefusal, IsSameIfTold, hides_memory, is_refusal, refused_file}
 use Rattle.ember_run.specs.Devices.{ShelfCall, HasShelfFailed}
 use Rattle.ember_run.specs.Scenes.{HasParts}
-use Rattle.ember_run.specs.Stops.{IsAfterFiles, IsFileIn, IsSceneStop, with_others}
+use Rattle.ember_run.specs.NoReplies.{IsAfterFiles, IsFileIn, IsNoScene, with_others}
 use Rattle.ember_run.specs.Verdict.{Contents, Verdict, Unknown, after_balance, after_file, after_files, after_mesh, after_scene, after_total, first_told}
-use Rattle.ember_run.proofs.Stops.{after_stop, before_is_refusal, before_no_file, file_is_refusal, same_number}
+use Rattle.ember_run.proofs.NoReplies.{after_no_reply, before_is_refusal, before_no_file, file_is_refusal, same_number}
 use Rattle.ember_run.proofs.Verdicts.{same_self, same_then, refusal_then, untold_then, above}
 
 -- ---- one mesh
@@ -115,10 +115,10 @@ with_part told files k d others l =
     ap (λ (xs : Contents). xs ++ drop (k + 1) others) (take_told told (k + 1) files) ∙ more_read told files k d (drop (k + 1) others) l
 
 -- a file that can't be read as a mesh stops the scene
-pub part_stop : (places : ℕ) (now : List ℕ → Option (List ℕ)) (files : List (List ℕ)) (k number : ℕ) (d name : List ℕ) (parts : List Closed) (shelf : ShelfCall) (status : Status) → k < length files → HasParts places (map shelf.told (take k files)) parts → now ≡ shelf.told → number ≡ k + 1 → name ≡ get_or files k d
+pub part_is_no_reply : (places : ℕ) (now : List ℕ → Option (List ℕ)) (files : List (List ℕ)) (k number : ℕ) (d name : List ℕ) (parts : List Closed) (shelf : ShelfCall) (status : Status) → k < length files → HasParts places (map shelf.told (take k files)) parts → now ≡ shelf.told → number ≡ k + 1 → name ≡ get_or files k d
     → (is_refusal status ≡ true → (next : List Tri → Verdict) → IsRefusal status (after_mesh places number (now name) next)) → (is_refusal status ≡ true → refused_file status ≡ Some number) → ((i : ℕ) → status ≡ ReadFault i → (i ≡ number) × HasShelfFailed shelf × (shelf.fault_at ≡ i)) → hides_memory status ≡ false → (status ≢ Done) × (status ≢ Words) × (status ≢ WriteFault)
-    → IsSceneStop places files shelf status
-part_stop places now files k number d name parts shelf status l h t e n refused file read_fault memory no_other next =
+    → IsNoScene places files shelf status
+part_is_no_reply places now files k number d name parts shelf status l h t e n refused file read_fault memory never next =
     let told = shelf.told in
     let r = all_contents told files k d l in
     record {
@@ -133,7 +133,7 @@ part_stop places now files k number d name parts shelf status l h t e n refused 
       one_of = λ i f. this_file files k i l (same_number i number (sym f ∙ file (file_is_refusal status i f)) ∙ e);
       read_fault = λ i f. let a = read_fault i f in (a.1, a.2, part_unread places told files k i parts next l h (a.0 ∙ e), this_file files k i l (a.0 ∙ e));
       memory = memory;
-      no_other = no_other;
+      never = never;
     }
 
 -- ---- all files
@@ -158,8 +158,8 @@ joined_if places contents parts (Ok scene) h e = λ next. scene_joined places co
 joined_if places contents parts (Err error) h e = tt
 
 -- a refusal of the joined meshes is one of the files
-pub stop_if : {A : Type 0} (places : ℕ) (names : List (List ℕ)) (shelf : ShelfCall) (parts : List Closed) (result : Result A Status) → HasParts places (map shelf.told names) parts → IfErr result (λ status. is_refusal status ≡ true → (next : List Tri → Verdict) → IsRefusal status (after_total (triangles_of parts) next)) → IfErr result IsAfterFiles → ((i : ℕ) → result ≢ Err (ReadFault i)) → (result ≢ Err Done) × (result ≢ Err Words) × (result ≢ Err WriteFault) → IfErr result (IsSceneStop places names shelf)
-stop_if places names shelf parts (Ok value) h refused kind only no_other = tt
-stop_if places names shelf parts (Err status) h refused kind only no_other = λ next.
-    after_stop (λ contents. after_scene places contents next) names shelf status kind (λ r. scene_refused places (map shelf.told names) parts status next h (refused r next))
-    (λ i f. only i (ap Err f)) (λ f. no_other.0 (ap Err f), λ f. no_other.1 (ap Err f), λ f. no_other.2 (ap Err f))
+pub no_reply_if : {A : Type 0} (places : ℕ) (names : List (List ℕ)) (shelf : ShelfCall) (parts : List Closed) (result : Result A Status) → HasParts places (map shelf.told names) parts → IfErr result (λ status. is_refusal status ≡ true → (next : List Tri → Verdict) → IsRefusal status (after_total (triangles_of parts) next)) → IfErr result IsAfterFiles → ((i : ℕ) → result ≢ Err (ReadFault i)) → (result ≢ Err Done) × (result ≢ Err Words) × (result ≢ Err WriteFault) → IfErr result (IsNoScene places names shelf)
+no_reply_if places names shelf parts (Ok value) h refused kind only never = tt
+no_reply_if places names shelf parts (Err status) h refused kind only never = λ next.
+    after_no_reply (λ contents. after_scene places contents next) names shelf status kind (λ r. scene_refused places (map shelf.told names) parts status next h (refused r next))
+    (λ i f. only i (ap Err f)) (λ f. never.0 (ap Err f), λ f. never.1 (ap Err f), λ f. never.2 (ap Err f))

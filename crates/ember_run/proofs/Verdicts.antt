@@ -7,7 +7,7 @@ use Rattle.std.specs.Result.{IsErrAnd}
 use Rattle.ember_io.specs.Shelves.{Tells, TellsMore}
 use Rattle.ember_model.specs.declared.tri.Tri.{Tri}
 use Rattle.ember_obj.specs.declared.fault.ObjFault.{ObjFault}
-use Rattle.ember_obj.specs.Table.{Faces}
+use Rattle.ember_obj.specs.Table.{FileTriangles}
 use Rattle.ember_obj.specs.ReadObj.{read_obj_of}
 use Rattle.ember_run.specs.declared.status.LimitKind.TheVariants.{Bytes}
 use Rattle.ember_run.specs.declared.status.Status.{Status}
@@ -15,7 +15,7 @@ use Rattle.ember_run.specs.declared.status.Status.TheVariants.{ObjRefused, Limit
 use Rattle.ember_run.specs.FaceTexts.{IsFaceFileOf}
 use Rattle.ember_run.specs.Outputs.{FaceTexts}
 use Rattle.ember_run.specs.Verdict.{Verdict, Unknown, Refused, Writes, Slices, after_bytes, after_file, after_triangles, faces_verdict}
-use Rattle.ember_run.specs.CallOutcome.{IsRefusal, IsSameIfTold, IsText}
+use Rattle.ember_run.specs.Statuses.{IsRefusal, IsSameIfTold, IsText}
 
 -- ---- one step after another
 pub same_self : (v : Verdict) → IsSameIfTold v v
@@ -80,14 +80,14 @@ bytes_too_long i count None next e h = tt
 bytes_too_long i count (Some bytes) next e h = subst (λ (n : ℕ). IsRefusal (Limit (Bytes i) n) (after_bytes i (Some bytes) next)) (sym e) (rw (above (length bytes) 268435456 h) refl)
 
 -- triangles that were read are passed on
-pub file_read : (places i : ℕ) (told : Option (List ℕ)) (bytes : List ℕ) (faces : Faces) (next : List Tri → Verdict) → ((next : List ℕ → Verdict) → IsSameIfTold (after_bytes i told next) (next bytes)) → read_obj_of places i bytes ≡ Ok faces → IsSameIfTold (after_file places i told next) (next faces.tris)
+pub file_read : (places i : ℕ) (told : Option (List ℕ)) (bytes : List ℕ) (faces : FileTriangles) (next : List Tri → Verdict) → ((next : List ℕ → Verdict) → IsSameIfTold (after_bytes i told next) (next bytes)) → read_obj_of places i bytes ≡ Ok faces → IsSameIfTold (after_file places i told next) (next faces.tris)
 file_read places i told bytes faces next read e =
-    same_then (after_file places i told next) (after_triangles i (read_obj_of places i bytes) next) (next faces.tris) (read (λ bytes. after_triangles i (read_obj_of places i bytes) next)) (subst (λ (r : Result Faces ObjFault). IsSameIfTold (after_triangles i r next) (next faces.tris)) (sym e) (same_self (next faces.tris)))
+    same_then (after_file places i told next) (after_triangles i (read_obj_of places i bytes) next) (next faces.tris) (read (λ bytes. after_triangles i (read_obj_of places i bytes) next)) (subst (λ (r : Result FileTriangles ObjFault). IsSameIfTold (after_triangles i r next) (next faces.tris)) (sym e) (same_self (next faces.tris)))
 
 -- a file with a fault is refused
 pub file_refused : (places i : ℕ) (told : Option (List ℕ)) (bytes : List ℕ) (fault : ObjFault) (next : List Tri → Verdict) → ((next : List ℕ → Verdict) → IsSameIfTold (after_bytes i told next) (next bytes)) → read_obj_of places i bytes ≡ Err fault → IsRefusal (ObjRefused i fault) (after_file places i told next)
 file_refused places i told bytes fault next read e =
-    refusal_then (ObjRefused i fault) (after_file places i told next) (after_triangles i (read_obj_of places i bytes) next) (read (λ bytes. after_triangles i (read_obj_of places i bytes) next)) (subst (λ (r : Result Faces ObjFault). IsRefusal (ObjRefused i fault) (after_triangles i r next)) (sym e) refl)
+    refusal_then (ObjRefused i fault) (after_file places i told next) (after_triangles i (read_obj_of places i bytes) next) (read (λ bytes. after_triangles i (read_obj_of places i bytes) next)) (subst (λ (r : Result FileTriangles ObjFault). IsRefusal (ObjRefused i fault) (after_triangles i r next)) (sym e) refl)
 
 -- the faces of the triangles that were read
 pub faces_read : (told : Option (List ℕ)) (places : ℕ) (tris : List Tri) (bytes : List ℕ) → ((next : List Tri → Verdict) → IsSameIfTold (after_file places 1 told next) (next tris)) → IsFaceFileOf tris bytes → IsText (faces_verdict places told) bytes

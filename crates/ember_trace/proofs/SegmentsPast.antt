@@ -29,7 +29,7 @@ use Rattle.ember_model.proofs.Legs.{leg_off, leg_on, ends_nonzero, between_insid
 use Rattle.ember_law.proofs.CornerSides.{above_corners}
 use Rattle.ember_law.proofs.FlatTriangles.{flat_case, flat_out, flat_leg}
 use Rattle.ember_box.specs.declared.aabb.Interval.{Interval}
-use Rattle.ember_box.specs.Boxes.{along as along_vector}
+use Rattle.ember_box.specs.Boxes.{entry_along as along_vector}
 use Rattle.ember_box.specs.Aabbs.{interval_over, aabb_of_tri}
 use Rattle.ember_ref.proofs.NearPoints.{coordinate as along_point}
 use Rattle.ember_ref.proofs.FarTriangles.{inside_closed}
@@ -77,7 +77,7 @@ value_across Y s d v = solve 6 (λ s d x y z w. num (pos 0) ⊗ x ⊕ s ⊗ y �
 value_across Z s d v = solve 6 (λ s d x y z w. num (pos 0) ⊗ x ⊕ num (pos 0) ⊗ y ⊕ s ⊗ z ⊖ s ⊗ d ⊗ w ≈ s ⊗ (z ⊖ d ⊗ w)) cancels s d v.x v.y v.z v.w
 
 -- the entry along its axis of a plane's normal that has only this entry
-pub across_along : (k : Axis) (s d : ℤ) → along (across k s d) k ≡ s
+pub across_along : (k : Axis) (s d : ℤ) → entry_along (across k s d) k ≡ s
 across_along X s d = refl
 across_along Y s d = refl
 across_along Z s d = refl

@@ -8,7 +8,7 @@ use Rattle.ember_model.specs.Sides.{IsSides}
 use Rattle.ember_box.specs.Boxes.{Cell}
 use Rattle.ember_box.specs.Reference.{Fits}
 use Rattle.ember_box.specs.Regions.{walls, IsRegions}
-use Rattle.ember_trace.specs.declared.side_vectors.Sides.{Sides}
+use Rattle.ember_trace.specs.declared.region_sides.Sides.{Sides}
 
 -- the inside of the face lies in the closed box
 abbrev pub LiesIn : Cell → Face → Type 0

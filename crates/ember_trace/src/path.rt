@@ -17,18 +17,19 @@ use ember_model::Axis;
 use ember_point::Meet;
 
 /// A path begins beside the corner `lo` of its box, at the reference point. Its three segments run
-/// along the axes `first`, `second` and `main`, in this order. `corner`, `next` and `last` are the
-/// first three corners of the region. `narrow` says whether all three are narrow points.
+/// along `first_axis`, `second_axis` and `main`, in this order. It ends beside the first three
+/// corners of the region. `narrow` says whether all three are narrow points.
 #[derive(Clone, Copy)]
 pub struct Path {
     pub lo: [i32; 3],
-    pub first: Axis,
-    pub second: Axis,
+    pub first_axis: Axis,
+    pub second_axis: Axis,
     pub main: Axis,
-    pub corner: Meet,
-    pub next: Meet,
-    pub last: Meet,
+    pub first_corner: Meet,
+    pub second_corner: Meet,
+    pub third_corner: Meet,
     pub narrow: bool,
     ghost small: { All (Small 2048) lo },
-    ghost corners: { narrow ≡ is_narrow (spot_of corner) && (is_narrow (spot_of next) && is_narrow (spot_of last)) },
+    ghost corners: { narrow ≡ is_narrow (spot_of first_corner) &&
+        (is_narrow (spot_of second_corner) && is_narrow (spot_of third_corner)) },
 }

@@ -9,4 +9,4 @@ returns-in-Ok g c =
 
 pub returns-in-Err : goal.returns-in-Err
 returns-in-Err g c =
-    let e = c.in-Err.ensures in stopped_call_serves _ _ _ _ _ e.contents e.later (omega arith) refl e.stop c.say_status-in-Err.ensures
+    let e = c.in-Err.ensures in stopped_call_serves _ _ _ _ _ e.contents e.later (omega arith) refl e.no_reply c.say_status-in-Err.ensures
