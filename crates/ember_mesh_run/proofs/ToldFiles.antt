@@ -1,0 +1,71 @@
+-- Files with the names of a request and bytes that a shelf tells
+use Rattle.std.proofs.Common.{◌≡◌, ◌≤◌, ◌+◌, ℕ, List, [], ◌∷◌, Some, map, length, take, get_or, sym, ap, subst, ◌∙◌, arith}
+use Rattle.std.proofs.lemmas.List.{length-map, length-take-le, take-map, get_or-take}
+use Rattle.std.proofs.lemmas.List.Elements.{All-nil, All-cons, All-take}
+use Rattle.std.proofs.lemmas.Option.{get_or_from_slice_get, slice_get-get_or, slice_get_within}
+use Rattle.std.specs.declared.alloc.Global.{Global}
+use Rattle.std.specs.declared.option.Option.{Option}
+use Rattle.std.specs.Prelude.{Vec}
+use Rattle.std.specs.List.{All, AllZip, slice_get}
+use Rattle.ember_boolean.specs.declared.files.MeshFile.{MeshFile}
+use Rattle.ember_boolean.specs.Files.{IsSmall, AreReadings}
+use Rattle.ember_io.specs.Shelves.{Tells}
+use Rattle.ember_surface.specs.declared.surface.Surface.{Surface}
+use Rattle.ember_mesh_run.specs.Files.{AreBytes, AreContents, AreFiles, AreRead}
+
+abbrev name_in : MeshFile → List ℕ
+name_in file = file.name.now
+
+abbrev bytes_in : MeshFile → List ℕ
+bytes_in file = file.bytes.now
+
+abbrev IsTold : (List ℕ → Option (List ℕ)) → MeshFile → Type 0
+IsTold told file = Tells (told file.name.now) file.bytes.now
+
+all_told : (told : List ℕ → Option (List ℕ)) (files : List MeshFile) → AllZip (AreBytes told) (map name_in files) (map bytes_in files) → All (IsTold told) files
+all_told told [] h = All-nil (IsTold told)
+all_told told (file ∷ files) h = All-cons (IsTold told) file files h.0.tells (all_told told files h.1)
+
+all_small : (told : List ℕ → Option (List ℕ)) (files : List MeshFile) → AllZip (AreBytes told) (map name_in files) (map bytes_in files) → All IsSmall files
+all_small told [] h = All-nil IsSmall
+all_small told (file ∷ files) h = All-cons IsSmall file files h.0.small (all_small told files h.1)
+
+-- files with these names and bytes are those of the shelf
+pub files_are_told : (told : List ℕ → Option (List ℕ)) (names contents : List (List ℕ)) (files : List MeshFile) → map name_in files ≡ names → map bytes_in files ≡ contents → AllZip (AreBytes told) names contents → AreFiles told names files
+files_are_told told names contents files n b h =
+    let named : AllZip (AreBytes told) (map name_in files) contents = subst (λ (ns : List (List ℕ)). AllZip (AreBytes told) ns contents) (sym n) h in
+    let zipped : AllZip (AreBytes told) (map name_in files) (map bytes_in files) = subst (λ (bs : List (List ℕ)). AllZip (AreBytes told) (map name_in files) bs) (sym b) named in
+    record { named = n; tells = all_told told files zipped; small = all_small told files zipped }
+
+-- and if they are read, none of them is refused
+pub files_are_read : (told : List ℕ → Option (List ℕ)) (names contents : List (List ℕ)) (files : List MeshFile) (surfaces : List Surface) → map name_in files ≡ names → map bytes_in files ≡ contents → AllZip (AreBytes told) names contents → AreReadings files surfaces → AreRead told names
+files_are_read told names contents files surfaces n b h read =
+    record { files = files; are_files = files_are_told told names contents files n b h; surfaces = surfaces; readings = read }
+
+-- bytes that are told are small
+pub contents_are_small : (told : List ℕ → Option (List ℕ)) (names : List (List ℕ)) (contents : List (Vec ℕ Global)) → AreContents told names contents → All (λ (bytes : Vec ℕ Global). length bytes.items ≤ 268435456) contents
+contents_are_small told names [] h = All-nil (λ (bytes : Vec ℕ Global). length bytes.items ≤ 268435456)
+contents_are_small told [] (bytes ∷ more) h = absurd h
+contents_are_small told (name ∷ names) (bytes ∷ more) h =
+    All-cons (λ (bytes : Vec ℕ Global). length bytes.items ≤ 268435456) bytes more h.0.small (contents_are_small told names more h.1)
+
+-- ---- files up to one of them
+-- there are as many files as names
+pub files_are_as_many : (told : List ℕ → Option (List ℕ)) (names : List (List ℕ)) (files : List MeshFile) → AreFiles told names files → length files ≡ length names
+files_are_as_many told names files h = sym (length-map files name_in) ∙ ap length h.named
+
+-- the first n files are those of the first n names
+pub files_up_to : (told : List ℕ → Option (List ℕ)) (names : List (List ℕ)) (files : List MeshFile) (n : ℕ) → AreFiles told names files → AreFiles told (take n names) (take n files)
+files_up_to told names files n h = record {
+  named = sym (take-map name_in n files) ∙ ap (λ (ns : List (List ℕ)). take n ns) h.named;
+  tells = All-take (IsTold told) n files h.tells;
+  small = All-take IsSmall n files h.small;
+}
+
+-- a file is among the files up to it
+pub file_up_to : (files : List MeshFile) (index : ℕ) (file : MeshFile) → slice_get files index ≡ Some file → slice_get (take (index + 1) files) index ≡ Some file
+file_up_to files index file found =
+    let inside = slice_get_within files index file found in
+    let long = length-take-le (index + 1) files (omega (arith, inside)) in
+    let same : get_or (take (index + 1) files) index file ≡ file = get_or-take (index + 1) files index file (omega arith) ∙ get_or_from_slice_get files index file file found in
+    slice_get-get_or (take (index + 1) files) index file (omega (arith, long)) ∙ ap (λ (f : MeshFile). Some f) same
