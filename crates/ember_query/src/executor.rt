@@ -1,6 +1,6 @@
 // Who runs the boxes: the calling thread alone, or several workers. `run_alone` and `run_tree` of
 // steal_pool run them, and call the closure of the step for each box. `run_query!` below writes
-// these closures: `text_step` and the like, where all geometry begins.
+// this closure. It calls the step of the query, such as `text_step`, and there all geometry begins.
 ghost use Rattle.std.specs.Prelude.{◌≡◌, ◌≤◌, IfOk};
 ghost use Rattle.ember_box.specs.Boxes as boxes;
 ghost use Rattle.ember_job.specs.Visited.{leaves};
