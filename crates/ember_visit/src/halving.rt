@@ -23,7 +23,9 @@ pub fn listed_tris(alloc: Global, tris: &[Tri], list: &[u32]) -> Result<Vec<Tri>
     Ok(found)
 }
 
-// The jobs of the halves of a job along an axis, by the indices of the triangles near each.
+// The jobs of the halves of a job along an axis, by the indices of the triangles near each. The
+// left half has the box's own reference point, so only the right half's winding numbers are
+// shifted.
 #[tactic(none)]
 fn jobs_of(
     s: &Scene,
