@@ -1,15 +1,14 @@
 -- Steps as decimals: trillionths, and fractions without zeros at their end.
-use Rattle.std.proofs.Common.{◌≡◌, ◌≤◌, ◌<◌, ◌⊎◌, ⊎_elim, inl, inr, ℕ, zero, suc, Bool, true, false, cond, nat_lt, Some, None, ◌+◌, ◌-◌, ◌*◌, ◌/◌, ◌%◌, ◌^◌, refl, subst, ◌∙◌, sym, ap, arith, ℤ, pos, negsuc, neg_ℤ, ◌*ℤ◌, ◌<ℤ◌, ◌≤ℤ◌, mul-pos}
+use Rattle.std.proofs.Common.{◌≡◌, ◌≤◌, ◌<◌, ◌⊎◌, ⊎_elim, inl, inr, ℕ, zero, suc, Bool, true, false, cond, nat_lt, Option, Some, None, ◌+◌, ◌-◌, ◌*◌, ◌/◌, ◌%◌, ◌^◌, refl, subst, ◌∙◌, sym, ap, arith, ℤ, pos, negsuc, neg_ℤ, ◌*ℤ◌, ◌<ℤ◌, ◌≤ℤ◌, mul-pos}
 use borrow.Author.Differences.{ints}
 use Rattle.std.specs.Int.{int_div_euclid}
 use Rattle.std.specs.Int.RustNames.{unsigned_abs}
 use Rattle.std.proofs.lemmas.Bool.{cases_lt}
 use Rattle.std.proofs.lemmas.Bool.Decides.{nat_tests}
 use Rattle.std.proofs.lemmas.Nat.{pow-add}
-use Rattle.std.proofs.Math.Nat.{sub-add_cancel, mul-mod_left, mul-le-mul_right, le-mul_of_pos_right, pow-le-pow_right, eq_of_mul-eq-mul_left, eq_of_mul-eq-mul_right}
+use Rattle.std.proofs.Math.Nat.{pow-suc, sub-add_cancel, mul-mod_left, mul-le-mul_right, le-mul_of_pos_right, pow-le-pow_right, eq_of_mul-eq-mul_left, eq_of_mul-eq-mul_right}
 use Rattle.ember_algebra.proofs.Laws.{linear, *ℤ-neg, neg-*ℤ}
 use lib.IntN.{*ℤ_comm}
-use Rattle.std.proofs.Math.Option.{some-injective}
 use Rattle.std.proofs.Math.IntN.{neg_ℤ-neg_ℤ}
 use Rattle.ember_number.specs.Fractions.{Fraction, is_below_limit, floor_times, floor_of_multiple}
 use Rattle.ember_number.proofs.DigitNumbers.{pow_ten_pos}
@@ -25,11 +24,15 @@ pow_split i j h = ap (λ (n : ℕ). 10 ^ n) (sym (sub-add_cancel h)) ∙ pow-add
 pow_next : (i : ℕ) → 0 < i → 10 ^ i ≡ 10 ^ (i - 1) * 10
 pow_next i p = pow_split 1 i (omega arith)
 
+-- what is left of a number without the zero at its end isn't 0
+pub place_left : (m : ℕ) → 0 < m → m % 10 ≡ 0 → 0 < m / 10
+place_left m p z = omega arith
+
 -- a zero at the end of a number is one place less
 pub place_dropped : (m p t : ℕ) → 0 < p → p ≤ 12 → m % 10 ≡ 0 → m * 10 ^ (12 - p) ≡ t → m / 10 * 10 ^ (12 - (p - 1)) ≡ t
 place_dropped m p t q h z e =
     let more : 12 - (p - 1) ≡ suc (12 - p) = omega arith in
-    let power : 10 ^ suc (12 - p) ≡ 10 ^ (12 - p) * 10 = pow_next (suc (12 - p)) (omega arith) in
+    let power : 10 ^ suc (12 - p) ≡ 10 ^ (12 - p) * 10 = pow-suc 10 (12 - p) in
     let tens : m ≡ m / 10 * 10 = omega arith in
     let both : m * 10 ^ (12 - p) ≡ m / 10 * 10 * 10 ^ (12 - p) = ap (λ (n : ℕ). n * 10 ^ (12 - p)) tens in
     rw (more, power) (omega (arith, both, e))
@@ -138,7 +141,8 @@ step_positive (pos zero) (pos zero) f d over under p q o e h =
 step_positive (pos (suc a)) (pos zero) f d over under p q o e h =
     let product : 0 < f * suc a = mul-pos p (omega arith) in absurd (omega (arith, ints, e, product))
 step_positive (pos a) (negsuc t) f d over under p q o e h = absurd (omega (arith, ints, e, q))
-step_positive (negsuc a) z f d over under p q o e h = absurd (omega (arith, ints, h))
+step_positive (negsuc a) z f d over under p q o e h =
+    let product = mul-pos o q in absurd (omega (arith, ints, h, product))
 
 -- ---- both ways of rounding
 -- rounding down and up give the same for a whole number only
@@ -177,12 +181,15 @@ negated_limit v = by v.numerator
     by (pos (suc n)) = refl
     by (negsuc n) = refl
 
+pub some_inj : {X : Type 0} {x y : X} → Some x ≡ Some y → x ≡ y
+some_inj {X} {x} {y} e = ap (λ (o : Option X). elim o as (λ _. X) [ None ↦ x | Some z ↦ z ]) e
+
 -- what a floor that is given tells
 pub floor_given : (f : ℕ) (v : Fraction) (z : ℤ) → Some z ≡ floor_times f v → z ≡ floor_of_multiple f v
 floor_given f v z h = by (is_below_limit v) h
   where
     by : (b : Bool) → Some z ≡ cond b (Some (floor_of_multiple f v)) None → z ≡ floor_of_multiple f v
-    by true h = some-injective z (floor_of_multiple f v) h
+    by true h = some_inj h
     by false h = absurd (cc)
 
 -- and one that isn't

@@ -1,16 +1,15 @@
 -- The steps of a text, from the trillionths of its value.
 use Rattle.std.proofs.Common.{◌≡◌, ◌≤◌, ◌<◌, ℕ, true, Some, List, ◌*◌, ◌-◌, ◌^◌, ◌∙◌, sym, subst, arith, ℤ, pos, ◌*ℤ◌, ◌<ℤ◌}
-use Rattle.std.proofs.Math.Option.{some-injective}
 use Rattle.ember_number.specs.Fractions.{Fraction, is_below_limit}
 use Rattle.ember_number.specs.Texts.{value_of_text}
 use Rattle.ember_snap.specs.declared.steps.Step.{Step}
 use Rattle.ember_snap.specs.Decimals.{IsMultiple, IsStepOfTrillionths, IsStepOf, IsLeastStepOf}
-use Rattle.ember_snap.proofs.DecimalSteps.{trillionths_of_step, step_from_trillionths, step_has_trillionths, step_below_limit, step_positive}
+use Rattle.ember_snap.proofs.DecimalSteps.{some_inj, trillionths_of_step, step_from_trillionths, step_has_trillionths, step_below_limit, step_positive}
 
 -- a step of the text has the text's value
 same_value : (text : List ℕ) (v : Fraction) (s : Step) → value_of_text text ≡ Some v → (o : IsStepOf text s) → (v.numerator *ℤ pos s.denominator) ≡ pos (s.numerator * v.denominator)
 same_value text v s e o =
-    subst (λ (w : Fraction). (w.numerator *ℤ pos s.denominator) ≡ pos (s.numerator * w.denominator)) (some-injective o.value v (sym o.spells ∙ e)) o.same
+    subst (λ (w : Fraction). (w.numerator *ℤ pos s.denominator) ≡ pos (s.numerator * w.denominator)) (some_inj (sym o.spells ∙ e)) o.same
 
 -- and as many trillionths
 pub in_trillionths : (text : List ℕ) (v : Fraction) (t : ℕ) (s : Step) → value_of_text text ≡ Some v → 0 < v.denominator → IsMultiple (10 ^ 12) v (pos t) → IsStepOf text s → IsStepOfTrillionths t s

@@ -1,4 +1,4 @@
-use Rattle.std.proofs.Common.{◌≡◌, ◌∙◌, sym, subst, arith, neg_ℤ, ℤ, Some}
+use Rattle.std.proofs.Common.{◌≡◌, ◌^◌, subst, arith, neg_ℤ, Some}
 use borrow.Author.Differences.{ints}
 use mir.Syntax.{w128}
 use mir.Val.{to_z, of_z}
@@ -8,11 +8,12 @@ use Rattle.ember_number.proofs.Denominators.{denominator_pos}
 use Rattle.ember_snap.specs.Decimals.{negated}
 use Rattle.ember_snap.proofs.DecimalSteps.{floors_meet, whole_floors, floor_given}
 use Rattle.ember_snap.proofs.decimals.trillionths_of.Goals as goal
+use Rattle.ember_snap.proofs.decimals.trillionths_of.Goals.{In_ok-ceiling}
 
-down : (c : goal.After-in_ok-ceiling) → c.in_ok-floor.floor ≡ floor_of_multiple (10 ^ 12) (value_of c.args.number.now)
+down : (c : In_ok-ceiling) → c.in_ok-floor.floor ≡ floor_of_multiple (10 ^ 12) (value_of c.args.number.now)
 down c = floor_given (10 ^ 12) (value_of c.args.number.now) c.in_ok-floor.floor c.in_ok-floor.ensures.value
 
-up : (c : goal.After-in_ok-ceiling) → c.in_ok-ceiling.field-0 ≡ floor_of_multiple (10 ^ 12) (negated (value_of c.args.number.now))
+up : (c : In_ok-ceiling) → c.in_ok-ceiling.field-0 ≡ floor_of_multiple (10 ^ 12) (negated (value_of c.args.number.now))
 up c =
     floor_given (10 ^ 12) (negated (value_of c.args.number.now)) c.in_ok-ceiling.field-0
     (subst (λ (v : Fraction). Some c.in_ok-ceiling.field-0 ≡ floor_times (10 ^ 12) v) c.negated.ensures c.in_ok-ceiling.ensures.value)
