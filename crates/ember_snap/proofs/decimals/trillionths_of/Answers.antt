@@ -32,3 +32,8 @@ returns-else-floor-ceiling-clause-none c = λ t whole below.
     let v = value_of c.args.number.now in
     let met = whole_floors v.numerator (10 ^ 12) v.denominator c.in_ok-floor.floor c.in_ok-ceiling.field-0 t (denominator_pos c.args.number.now) (down c) (up c) whole in
     absurd (omega (arith, ints, c.if-floor-ceiling.false, met, c.in_ok-floor.ensures.small, c.in_ok-ceiling.ensures.small))
+
+pub returns-then-floor-ceiling-clause-small : goal.returns-then-floor-ceiling-clause-small
+returns-then-floor-ceiling-clause-small c =
+    let stored : to_z w128 (of_z w128 c.in_ok-floor.floor) ≡ c.in_ok-floor.floor = omega (arith, ints, c.in_ok-floor.ensures.small) in
+    rw stored c.in_ok-floor.ensures.small
