@@ -1,5 +1,5 @@
 -- Files with the names of a request and bytes that a shelf tells
-use Rattle.std.proofs.Common.{◌≡◌, ◌<◌, ◌≤◌, ◌+◌, ℕ, List, [], ◌∷◌, ◌++◌, Some, map, length, take, get_or, sym, ap, subst, ◌∙◌, arith}
+use Rattle.std.proofs.Common.{◌≡◌, ◌<◌, ◌≤◌, ◌+◌, ℕ, suc, refl, List, [], ◌∷◌, ◌++◌, Some, map, length, take, get_or, sym, ap, subst, ◌∙◌, arith}
 use Rattle.std.proofs.lemmas.List.{length-map, length-take-le, take-map, get_or-take, take_all, take_more, map-append}
 use Rattle.std.proofs.lemmas.List.Elements.{All-nil, All-cons, All-head, All-tail, All-map, All-take, AllZip-push}
 use Rattle.std.proofs.lemmas.Option.{get_or_from_slice_get, slice_get-get_or, slice_get_within}
@@ -19,7 +19,7 @@ name_in file = file.name.now
 abbrev bytes_in : MeshFile → List ℕ
 bytes_in file = file.bytes.now
 
-abbrev items_of : Vec ℕ Global → List ℕ
+abbrev pub items_of : Vec ℕ Global → List ℕ
 items_of bytes = bytes.items
 
 abbrev IsTold : (List ℕ → Option (List ℕ)) → MeshFile → Type 0
@@ -107,3 +107,15 @@ file_up_to files index file found =
     let long = length-take-le (index + 1) files (omega (arith, inside)) in
     let same : get_or (take (index + 1) files) index file ≡ file = get_or-take (index + 1) files index file (omega arith) ∙ get_or_from_slice_get files index file file found in
     slice_get-get_or (take (index + 1) files) index file (omega (arith, long)) ∙ ap (λ (f : MeshFile). Some f) same
+
+-- ---- contents of all files
+-- there is one for each name
+pub contents_are_as_many : (told : List ℕ → Option (List ℕ)) (names : List (List ℕ)) (contents : List (Vec ℕ Global)) → AreContents told names contents → length contents ≡ length names
+contents_are_as_many told [] [] h = refl
+contents_are_as_many told [] (bytes ∷ more) h = absurd h
+contents_are_as_many told (name ∷ names) [] h = absurd h
+contents_are_as_many told (name ∷ names) (bytes ∷ more) h = ap suc (contents_are_as_many told names more h.1)
+
+-- as many names as contents are all names
+pub all_names : (names : List (List ℕ)) (contents : List (Vec ℕ Global)) → length contents ≡ length names → take (length contents) names ≡ names
+all_names names contents e = take_all (length contents) names (omega (arith, e))
