@@ -14,7 +14,7 @@ use Rattle.ember_number.specs.Fractions.{Fraction, is_below_limit, floor_times, 
 use Rattle.ember_number.proofs.DigitNumbers.{pow_ten_pos}
 use Rattle.ember_snap.specs.declared.steps.Step.{Step}
 use Rattle.ember_snap.specs.Steps.{IsStep}
-use Rattle.ember_snap.specs.Decimals.{negated, IsReduced, IsDecimalStep, IsStepOfTrillionths}
+use Rattle.ember_snap.specs.Decimals.{IsReduced, IsDecimalStep, IsStepOfTrillionths}
 use Rattle.ember_snap.proofs.Floors.{floor_low, floor_is}
 
 -- ---- powers of ten
@@ -172,15 +172,7 @@ whole_floors a f d y z t p e g h =
     let second : z ≡ neg_ℤ t = g ∙ floor_of_whole (pos f *ℤ neg_ℤ a) (neg_ℤ t) d p sign in
     first ∙ sym (neg_ℤ-neg_ℤ t) ∙ ap neg_ℤ (sym second)
 
--- a number with the other sign is as far below the limit
-pub negated_limit : (v : Fraction) → is_below_limit (negated v) ≡ is_below_limit v
-negated_limit v = by v.numerator
-  where
-    by : (n : ℤ) → nat_lt (unsigned_abs (neg_ℤ n)) (10 ^ 15 * v.denominator) ≡ nat_lt (unsigned_abs n) (10 ^ 15 * v.denominator)
-    by (pos zero) = refl
-    by (pos (suc n)) = refl
-    by (negsuc n) = refl
-
+-- the values of two equal options are equal
 pub some_inj : {X : Type 0} {x y : X} → Some x ≡ Some y → x ≡ y
 some_inj {X} {x} {y} e = ap (λ (o : Option X). elim o as (λ _. X) [ None ↦ x | Some z ↦ z ]) e
 
@@ -191,7 +183,3 @@ floor_given f v z h = by (is_below_limit v) h
     by : (b : Bool) → Some z ≡ cond b (Some (floor_of_multiple f v)) None → z ≡ floor_of_multiple f v
     by true h = some_inj h
     by false h = absurd (cc)
-
--- and one that isn't
-pub floor_not_given : (f : ℕ) (v : Fraction) → None ≡ floor_times f v → is_below_limit v ≡ true → ⊥
-floor_not_given f v h b = absurd (cc (h, b))

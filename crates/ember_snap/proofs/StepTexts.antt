@@ -3,8 +3,6 @@ use Rattle.std.proofs.Common.{◌≡◌, ◌≤◌, ◌<◌, ℕ, true, Option, 
 use borrow.Author.Differences.{ints}
 use Rattle.std.specs.Prelude.{IfSome, IfNone}
 use Rattle.std.specs.Int.RustNames.{unsigned_abs}
-use mir.Syntax.{w128}
-use mir.Val.{of_z}
 use Rattle.ember_number.specs.Fractions.{Fraction, is_below_limit}
 use Rattle.ember_number.specs.Texts.{value_of_text}
 use Rattle.ember_snap.specs.declared.steps.Step.{Step}
@@ -66,7 +64,7 @@ no_step_if_not_whole text v None e p none = λ s o.
     none (pos (s.numerator * 10 ^ (12 - o.step.places))) (whole_trillionths text v s e o) (text_below_limit text v s e p o)
 no_step_if_not_whole text v (Some s) e p none = tt
 
--- the bits of a number above 0 are the number
-pub bits_of_positive : (z : ℤ) → pos 0 <ℤ z → pos (of_z w128 z) ≡ z
-bits_of_positive (pos n) p = refl
-bits_of_positive (negsuc n) p = absurd (omega (arith, ints))
+-- the size of a number above 0 is the number
+pub size_of_positive : (z : ℤ) → pos 0 <ℤ z → pos (unsigned_abs z) ≡ z
+size_of_positive (pos n) p = refl
+size_of_positive (negsuc n) p = absurd (omega (arith, ints))

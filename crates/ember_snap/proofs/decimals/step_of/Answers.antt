@@ -1,11 +1,12 @@
 use Rattle.std.proofs.Common.{◌≡◌, ◌<◌, Some, pos, ◌<ℤ◌, sym, arith}
 use borrow.Author.Differences.{ints}
 use mir.Syntax.{w128}
-use mir.Val.{of_z}
+use mir.Val.{to_z, of_z}
+use Rattle.std.specs.Int.RustNames.{unsigned_abs}
 use Rattle.ember_number.specs.Texts.{value_of_text}
 use Rattle.ember_number.specs.Values.{value_of}
 use Rattle.ember_number.proofs.Denominators.{denominator_pos}
-use Rattle.ember_snap.proofs.StepTexts.{text_positive, least_if_given, no_step_if_none, no_step_if_not_whole, bits_of_positive}
+use Rattle.ember_snap.proofs.StepTexts.{text_positive, least_if_given, no_step_if_none, no_step_if_not_whole, size_of_positive}
 use Rattle.ember_snap.proofs.decimals.step_of.Goals as goal
 
 pub returns-in_err-trillionths-clause-none : goal.returns-in_err-trillionths-clause-none
@@ -29,7 +30,8 @@ returns-clause-some c =
     let s = c.step_of_trillionths in
     let spells : value_of_text c.args.text.now ≡ Some (value_of number) = sym c.in_ok-number.ensures in
     let positive : pos 0 <ℤ t.trillionths = omega (arith, ints, c.if-trillionths-le0.false, t.ensures.small) in
-    least_if_given c.args.text.now (value_of number) t.trillionths (of_z w128 t.trillionths) s.result spells (denominator_pos number) t.ensures.some (bits_of_positive t.trillionths positive) s.ensures.some s.ensures.least
+    let stored : to_z w128 (of_z w128 t.trillionths) ≡ t.trillionths = omega (arith, ints, t.ensures.small) in
+    least_if_given c.args.text.now (value_of number) t.trillionths (unsigned_abs (to_z w128 (of_z w128 t.trillionths))) s.result spells (denominator_pos number) t.ensures.some (rw stored (size_of_positive t.trillionths positive)) s.ensures.some s.ensures.least
 
 pub returns-clause-none : goal.returns-clause-none
 returns-clause-none c =
@@ -38,4 +40,5 @@ returns-clause-none c =
     let s = c.step_of_trillionths in
     let spells : value_of_text c.args.text.now ≡ Some (value_of number) = sym c.in_ok-number.ensures in
     let positive : pos 0 <ℤ t.trillionths = omega (arith, ints, c.if-trillionths-le0.false, t.ensures.small) in
-    no_step_if_none c.args.text.now (value_of number) t.trillionths (of_z w128 t.trillionths) s.result spells (denominator_pos number) t.ensures.some (bits_of_positive t.trillionths positive) s.ensures.none
+    let stored : to_z w128 (of_z w128 t.trillionths) ≡ t.trillionths = omega (arith, ints, t.ensures.small) in
+    no_step_if_none c.args.text.now (value_of number) t.trillionths (unsigned_abs (to_z w128 (of_z w128 t.trillionths))) s.result spells (denominator_pos number) t.ensures.some (rw stored (size_of_positive t.trillionths positive)) s.ensures.none
