@@ -1,5 +1,5 @@
 -- The causes of the statuses of files that give no output
-use Rattle.std.proofs.Common.{◌≡◌, ◌+◌, ◌-◌, ◌≤◌, inl, inr, ℕ, List, length, take, sym, subst, arith}
+use Rattle.std.proofs.Common.{◌≡◌, ◌+◌, ◌-◌, ◌≤◌, inl, inr, ℕ, List, length, take, refl, sym, subst, arith}
 use Rattle.std.proofs.lemmas.List.{length-take-le, take-take}
 use Rattle.std.proofs.lemmas.Option.{slice_get_within}
 use Rattle.std.specs.declared.option.Option.{Option}
@@ -16,37 +16,53 @@ use Rattle.ember_grid.specs.declared.choice.Wanted.{Wanted}
 use Rattle.ember_scene.specs.declared.fault.SceneFault.TheVariants as scene
 use Rattle.ember_io.specs.declared.shelf.ReadEnd.{ReadEnd}
 use Rattle.ember_io.specs.declared.shelf.ReadEnd.TheVariants as read
-use Rattle.ember_mesh_run.specs.Causes.{IsEndAt, IsFilesCause, IsRefusalCause, IsRefused}
-use Rattle.ember_mesh_run.specs.Files.{AreFiles}
+use Rattle.ember_io.specs.Shelves.{TellsMore}
+use Rattle.ember_mesh_run.specs.Calls.{ShelfCall, HasShelfFailed}
+use Rattle.ember_mesh_run.specs.Causes.{end_status, IsEndAt, IsFilesCause, IsLong, IsReadingCause, IsRefusalCause, IsRefused, IsUnreadable}
+use Rattle.ember_mesh_run.specs.Files.{AreFiles, AreRead, IsFileIn}
+use Rattle.ember_mesh_run.specs.Lines.{name_of}
 use Rattle.ember_mesh_run.specs.Statuses.{HasReason, IsStatusOf, NamesFile}
 use Rattle.ember_mesh_run.proofs.ToldFiles.{file_up_to, files_are_as_many, files_up_to}
 use Rattle.ember_mesh_run.specs.declared.status.Status.{Status}
 use Rattle.ember_mesh_run.specs.declared.status.Status.TheVariants.{Done, Words, UnwrittenFormat, StepOfNoGrid, ReadFault, WriteFault, FileRefused, NoTriangles, NotClosed, ExprRefused, Unbounded, LongFile, TooManyTriangles, TooManyWritten, StepTooSmall, TooFar, OutOfMemory, Uncertified}
 
--- a file that is refused ends the reading of the files after it
-pub refusal_ends : (told : List ℕ → Option (List ℕ)) (names : List (List ℕ)) (i : ℕ) (end : ReadEnd) (status : Status) → IsRefusalCause told names status → IsEndAt told names i end status
-refusal_ends told names i read.ReadFault (FileRefused j reason) h = h
-refusal_ends told names i (read.TooLong count) (FileRefused j reason) h = h
-refusal_ends told names i read.OutOfMemory (FileRefused j reason) h = h
-refusal_ends told names i read.ReadFault OutOfMemory h = tt
-refusal_ends told names i (read.TooLong count) OutOfMemory h = tt
-refusal_ends told names i read.OutOfMemory OutOfMemory h = tt
-refusal_ends told names i end Done h = absurd h
-refusal_ends told names i end (Words why) h = absurd h
-refusal_ends told names i end UnwrittenFormat h = absurd h
-refusal_ends told names i end StepOfNoGrid h = absurd h
-refusal_ends told names i end (ReadFault j) h = absurd h
-refusal_ends told names i end WriteFault h = absurd h
-refusal_ends told names i end NoTriangles h = absurd h
-refusal_ends told names i end (NotClosed o format) h = absurd h
-refusal_ends told names i end (ExprRefused fault) h = absurd h
-refusal_ends told names i end Unbounded h = absurd h
-refusal_ends told names i end (LongFile j) h = absurd h
-refusal_ends told names i end (TooManyTriangles count) h = absurd h
-refusal_ends told names i end TooManyWritten h = absurd h
-refusal_ends told names i end (StepTooSmall finest) h = absurd h
-refusal_ends told names i end TooFar h = absurd h
-refusal_ends told names i end (Uncertified fault) h = absurd h
+-- the files before one that can't be read are read
+pub read_before : (told : List ℕ → Option (List ℕ)) (names : List (List ℕ)) (n : ℕ) → AreRead told (take n names) → AreRead told (take (n + 1 - 1) names)
+read_before told names n h =
+    let back : n ≡ n + 1 - 1 = omega arith in subst (λ (k : ℕ). AreRead told (take k names)) back h
+
+-- a file that is refused is one that isn't read
+refusal_is_cause : (names : List (List ℕ)) (shelf : ShelfCall) (status : Status) → IsRefusalCause shelf.told names status → IsReadingCause names shelf status
+refusal_is_cause names shelf Done h = absurd h
+refusal_is_cause names shelf (Words why) h = absurd h
+refusal_is_cause names shelf UnwrittenFormat h = absurd h
+refusal_is_cause names shelf StepOfNoGrid h = absurd h
+refusal_is_cause names shelf (ReadFault i) h = absurd h
+refusal_is_cause names shelf WriteFault h = absurd h
+refusal_is_cause names shelf (FileRefused i reason) h = h
+refusal_is_cause names shelf NoTriangles h = absurd h
+refusal_is_cause names shelf (NotClosed o format) h = absurd h
+refusal_is_cause names shelf (ExprRefused fault) h = absurd h
+refusal_is_cause names shelf Unbounded h = absurd h
+refusal_is_cause names shelf (LongFile i) h = absurd h
+refusal_is_cause names shelf (TooManyTriangles count) h = absurd h
+refusal_is_cause names shelf TooManyWritten h = absurd h
+refusal_is_cause names shelf (StepTooSmall finest) h = absurd h
+refusal_is_cause names shelf TooFar h = absurd h
+refusal_is_cause names shelf OutOfMemory h = tt
+refusal_is_cause names shelf (Uncertified fault) h = absurd h
+
+ended : (names : List (List ℕ)) (shelf : ShelfCall) (i : ℕ) (end : ReadEnd) → IsFileIn names i → AreRead shelf.told (take (i - 1) names) → (end ≡ read.ReadFault → HasShelfFailed shelf × (shelf.fault_at ≡ i)) → ((count : ℕ) → end ≡ read.TooLong count → TellsMore (shelf.told (name_of names i)) 268435456) → IsReadingCause names shelf (end_status i end)
+ended names shelf i read.ReadFault one before failed long =
+    let f = failed refl in record { one_of = one; failed = f.0; place = f.1; before = before }
+ended names shelf i (read.TooLong count) one before failed long = record { one_of = one; long = long count refl; before = before }
+ended names shelf i read.OutOfMemory one before failed long = tt
+
+-- why reading ended at file i is why not all files are read
+pub end_is_cause : (names : List (List ℕ)) (shelf : ShelfCall) (i : ℕ) (end : ReadEnd) (status : Status) → IsFileIn names i → IsEndAt shelf.told names i end status → (end ≡ read.ReadFault → HasShelfFailed shelf × (shelf.fault_at ≡ i)) → ((count : ℕ) → end ≡ read.TooLong count → TellsMore (shelf.told (name_of names i)) 268435456) → IsReadingCause names shelf status
+end_is_cause names shelf i end status one (inl h) failed long = refusal_is_cause names shelf status h
+end_is_cause names shelf i end status one (inr h) failed long =
+    subst (λ (s : Status). IsReadingCause names shelf s) (sym h.0) (ended names shelf i end one h.1 failed long)
 
 -- ---- the file of a fault
 -- a file that isn't read is one of the files
@@ -157,3 +173,24 @@ refused_among_more told names n i reason l h =
       first = h.first;
       reason_is = h.reason_is;
     }
+
+-- the same, as a cause
+pub cause_among_more : (told : List ℕ → Option (List ℕ)) (names : List (List ℕ)) (n : ℕ) (status : Status) → n ≤ length names → IsRefusalCause told (take n names) status → IsRefusalCause told names status
+cause_among_more told names n Done l h = absurd h
+cause_among_more told names n (Words why) l h = absurd h
+cause_among_more told names n UnwrittenFormat l h = absurd h
+cause_among_more told names n StepOfNoGrid l h = absurd h
+cause_among_more told names n (ReadFault i) l h = absurd h
+cause_among_more told names n WriteFault l h = absurd h
+cause_among_more told names n (FileRefused i reason) l h = refused_among_more told names n i (string_bytes reason) l h
+cause_among_more told names n NoTriangles l h = absurd h
+cause_among_more told names n (NotClosed o format) l h = absurd h
+cause_among_more told names n (ExprRefused fault) l h = absurd h
+cause_among_more told names n Unbounded l h = absurd h
+cause_among_more told names n (LongFile i) l h = absurd h
+cause_among_more told names n (TooManyTriangles count) l h = absurd h
+cause_among_more told names n TooManyWritten l h = absurd h
+cause_among_more told names n (StepTooSmall finest) l h = absurd h
+cause_among_more told names n TooFar l h = absurd h
+cause_among_more told names n OutOfMemory l h = tt
+cause_among_more told names n (Uncertified fault) l h = absurd h

@@ -4,3 +4,4 @@ pub mod FileStatuses
 pub mod Shown
 pub mod ErrTexts
 pub mod KeptNames
+pub mod Outcomes

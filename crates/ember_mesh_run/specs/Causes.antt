@@ -65,11 +65,16 @@ IsReadingCause names shelf (ReadFault i) = IsUnreadable shelf names i
 IsReadingCause names shelf (LongFile i) = IsLong shelf.told names i
 IsReadingCause names shelf status = IsRefusalCause shelf.told names status
 
--- the status that comes of the way in which reading file i ended: a file before it is refused, or none is
+-- the status that comes of the way in which reading file i ended, if no file before it is refused
+abbrev pub end_status : ℕ → ReadEnd → Status
+end_status i read.ReadFault = ReadFault i
+end_status i (read.TooLong count) = LongFile i
+end_status i read.OutOfMemory = OutOfMemory
+
+-- a file before file i is refused, or none is, and this is the status of its end
 abbrev pub IsEndAt : (List ℕ → Option (List ℕ)) → List (List ℕ) → ℕ → ReadEnd → Status → Type 0
-IsEndAt told names i read.ReadFault (ReadFault number) = (number ≡ i) × AreRead told (take (i - 1) names)
-IsEndAt told names i (read.TooLong count) (LongFile number) = (number ≡ i) × AreRead told (take (i - 1) names)
-IsEndAt told names i end status = IsRefusalCause told names status
+IsEndAt told names i end status =
+    IsRefusalCause told names status ⊎ ((status ≡ end_status i end) × AreRead told (take (i - 1) names))
 
 -- ---- all files together
 -- the files have this fault

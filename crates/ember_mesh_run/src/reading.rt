@@ -29,9 +29,9 @@ pub fn mesh_files<'a>(
         map (λ file. file.bytes.now) files.items ≡ map (λ bytes. bytes.items) contents.now) }
 {
     let mut files = Vec::with_capacity(alloc, contents.len())?;
-    for (name, bytes) in names.iter().zip(contents) {
+    for (index, bytes) in contents.iter().enumerate() {
         files.push(MeshFile {
-            name: name.as_str().as_bytes(),
+            name: names[index].as_str().as_bytes(),
             bytes: bytes.as_slice(),
         })?;
     }

@@ -65,8 +65,13 @@ pub fn solid_output<S: Shelf, C: Fn(&Query) -> Result<Answer, OutOfMemory>>(
     ensures stop { IfErr result
         (IsStop request.now (shelf_call S.contents S.faults S.fault_at shelf.old shelf.new)) }
 {
-    let asked = asked_by(alloc, request)?;
+    let asked = match asked_by(alloc, request) {
+        Ok(asked) => asked,
+        Err(status) => return Err(status),
+    };
     let names = request.files.items();
-    let contents = read_contents(alloc, shelf, names)?;
-    output_of_contents(alloc, names, &contents, &asked, executor)
+    match read_contents(alloc, shelf, names) {
+        Ok(contents) => output_of_contents(alloc, names, &contents, &asked, executor),
+        Err(status) => Err(status),
+    }
 }

@@ -105,7 +105,10 @@ fn write_solid<S: Shelf, T: Target, C: Fn(&Query) -> Result<Answer, OutOfMemory>
         (shelf_call S.contents S.faults S.fault_at shelf.old shelf.new)
         (target_call T.held T.begun T.faults target.old target.new)) }
 {
-    let output = solid_output(alloc, request, shelf, executor)?;
+    let output = match solid_output(alloc, request, shelf, executor) {
+        Ok(output) => output,
+        Err(status) => return Err(status),
+    };
     let report = report_of(alloc, request, &output)?;
     match write_file(alloc, target, request.output.as_str(), &output.bytes) {
         Ok(()) => Ok(report),

@@ -35,7 +35,7 @@ fn whole(number: &Number) -> Result<i128, Fail> {
     }
 }
 
-fn corner(vertex: &Vertex) -> Result<Corner, Fail> {
+fn corner_of(vertex: &Vertex) -> Result<Corner, Fail> {
     let (x, y, z) = (whole(&vertex.x)?, whole(&vertex.y)?, whole(&vertex.z)?);
     let key = x.saturating_mul(2 * LIMIT).saturating_add(y);
     let key = key.saturating_mul(2 * LIMIT).saturating_add(z);
@@ -55,7 +55,7 @@ fn corners_in(alloc: Global, bytes: &[u8]) -> Result<Vec<Corner>, Fail> {
         return Err(Fail::from("no STL"));
     };
     for vertex in surface.vertices.iter() {
-        corners.push(corner(vertex)?)?;
+        corners.push(corner_of(vertex)?)?;
     }
     Ok(corners)
 }

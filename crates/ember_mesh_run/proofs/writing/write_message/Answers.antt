@@ -1,0 +1,12 @@
+use Rattle.std.proofs.Common.{[], refl}
+use Rattle.ember_mesh_run.proofs.writing.write_message.Goals as goal
+
+pub returns-in-Ok-clause-outcome : goal.returns-in-Ok-clause-outcome
+returns-in-Ok-clause-outcome g c =
+    let e = c.in-Ok.ensures in
+    ([], (record { taken = e.taken; flushed = e.flushed }, refl), c.say.ensures)
+
+pub returns-in-Err-clause-outcome : goal.returns-in-Err-clause-outcome
+returns-in-Err-clause-outcome g c =
+    let e = c.in-Err.ensures in
+    (_, (record { failed = e.cause.failed; prefix = e.prefix }, refl), c.say-in-Err.ensures)

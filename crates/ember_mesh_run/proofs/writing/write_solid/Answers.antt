@@ -1,0 +1,37 @@
+use Rattle.std.proofs.Common.{inl}
+use Rattle.ember_mesh_run.specs.Calls.{shelf_call, target_call}
+use Rattle.ember_mesh_run.specs.Serves.{IsUnmet}
+use Rattle.ember_mesh_run.proofs.KeptNames.{names_hold_the_same}
+use Rattle.ember_mesh_run.proofs.Outcomes.{fault_is_unmet, memory_given, memory_is_unmet, stop_is_unmet}
+use Rattle.ember_mesh_run.proofs.Shown.{output_step_is_shown}
+use Rattle.ember_mesh_run.proofs.writing.write_solid.Goals as goal
+
+pub report_of-requires : goal.report_of-requires
+report_of-requires g c = output_step_is_shown c.args.request.now (g.S.Shelf.contents c.args.shelf.now) c.in-Ok.output c.in-Ok.ensures.output
+
+pub returns-in-Err-clause-stop : goal.returns-in-Err-clause-stop
+returns-in-Err-clause-stop g c =
+    let shelf = shelf_call g.S.Shelf.contents g.S.Shelf.faults g.S.Shelf.fault_at c.args.shelf.now c.solid_output.new.shelf in
+    let target = target_call g.T.Target.held g.T.Target.begun g.T.Target.faults c.args.target.now c.args.target.now in
+    stop_is_unmet c.args.request.now shelf target c.in-Err.status (names_hold_the_same (g.T.Target.held c.args.target.now)) c.in-Err.ensures.stop
+
+pub returns-in_err-report-clause-stop : goal.returns-in_err-report-clause-stop
+returns-in_err-report-clause-stop g c =
+    let shelf = shelf_call g.S.Shelf.contents g.S.Shelf.faults g.S.Shelf.fault_at c.args.shelf.now c.solid_output.new.shelf in
+    let target = target_call g.T.Target.held g.T.Target.begun g.T.Target.faults c.args.target.now c.args.target.now in
+    memory_given (IsUnmet c.args.request.now shelf target) c.from_residual.result c.from_residual.ensures.1 (memory_is_unmet c.args.request.now shelf target (inl (names_hold_the_same (g.T.Target.held c.args.target.now))))
+
+pub returns-in-Ok-write_file-clause-written : goal.returns-in-Ok-write_file-clause-written
+returns-in-Ok-write_file-clause-written g c = record {
+  output = c.in-Ok.output;
+  is_output = c.in-Ok.ensures.output;
+  written = c.in-Ok-write_file.ensures.written;
+  text_is = c.in_ok-report.ensures;
+}
+
+pub returns-in-Err-write_file-clause-stop : goal.returns-in-Err-write_file-clause-stop
+returns-in-Err-write_file-clause-stop g c =
+    let shelf = shelf_call g.S.Shelf.contents g.S.Shelf.faults g.S.Shelf.fault_at c.args.shelf.now c.solid_output.new.shelf in
+    let target = target_call g.T.Target.held g.T.Target.begun g.T.Target.faults c.args.target.now c.write_file.new.target in
+    let e = c.in-Err-write_file.ensures in
+    fault_is_unmet c.args.request.now shelf target c.in-Ok.output c.in-Err-write_file.status c.in-Ok.ensures.output e.held e.cause
