@@ -5,8 +5,9 @@ use Rattle.ember_io.specs.Sinks.{IsFlushed}
 use Rattle.ember_words.specs.declared.command.Command.{Command}
 use Rattle.ember_words.specs.Canonical.{CommandLine, IsCanonical, command_with, words_of}
 use Rattle.ember_words.specs.WordsCommand.{command_of}
-use Rattle.ember_run.specs.Statuses.{AsksOutput, AsksRefusal, IsBegun, IsRefusal, IsText, IsWritten, hides_memory, is_before_files, is_refusal, refused_file}
+use Rattle.ember_run.specs.Statuses.{AsksOutput, AsksRefusal, HasBegun, HasWritten, IsBegun, IsRefusal, IsText, IsWritten, hides_memory, is_before_files, is_refusal, refused_file}
 use Rattle.ember_run.specs.Devices.{ShelfCall, SinkCall, HasShelfFailed, HasSinkFailed}
+use Rattle.ember_run.specs.Held.{MayHold}
 use Rattle.ember_run.specs.Messages.{AppendsUntilFault}
 use Rattle.ember_run.specs.Reported.{IsErrText, IsReportOfVerdictIfAsked, asks_report}
 use Rattle.ember_run.specs.NoReplies.{IsFileIn, with_others}
@@ -35,8 +36,14 @@ pub record Serves (command : Option Command) (shelf : ShelfCall) (out err : Sink
   -- the whole output was taken, and is flushed
   pub done : status ≡ Done → IsWritten (told_verdict command shelf.told) out.taken out.taken_after ×
       IsFlushed out.taken_after out.flushed_after
+  -- the output is that of contents that the files may have, told or not
+  pub done_read : status ≡ Done → MayHold shelf.told (names_of command)
+      (λ contents. HasWritten (verdict_of command contents) out.taken out.taken_after)
   -- a refusal is that of the verdict
   pub refused : is_refusal status ≡ true → IsRefusal status (told_verdict command shelf.told)
+  -- a refusal is that of contents that the files may have, told or not
+  pub refused_read : is_refusal status ≡ true → MayHold shelf.told (names_of command)
+      (λ contents. AsksRefusal status (verdict_of command contents))
   -- the words alone decide whether they are refused
   pub words : status ≡ Words → command ≡ None
   pub no_command : command ≡ None → (status ≡ Words) ⊎ (status ≡ OutOfMemory)
@@ -58,6 +65,9 @@ pub record Serves (command : Option Command) (shelf : ShelfCall) (out err : Sink
   -- a write fault: out failed, and took a prefix of the output
   pub write_fault : status ≡ WriteFault → HasSinkFailed out ×
       IsBegun (told_verdict command shelf.told) out.taken out.taken_after
+  -- it is one of the output of contents that the files may have
+  pub begun_read : status ≡ WriteFault → MayHold shelf.told (names_of command)
+      (λ contents. HasBegun (verdict_of command contents) out.taken out.taken_after)
   -- with any other status, out took nothing
   pub untouched : status ≢ Done → status ≢ WriteFault → out.taken_after ≡ out.taken
   -- if no device failed, the call does what the verdict asks for, or memory was short
