@@ -23,6 +23,6 @@ returns-in_ok-put-2-clause-part c =
     let long : ahead ≤ at.below_count = c.if-passage-ahead.false in
     record {
       index = ahead;
-      order = c.in_ok-put-2.ensures.order ∙ kept_around (sides r) at a.plane a.plane_index ahead (omega (arith, count, same, first)) (omega (arith, count, first)) (omega (arith, same, kept)) long c.set_start-else-at-ahead.ensures.order;
+      order = c.in_ok-put-2.ensures.order ∙ kept_around (sides r) at a.plane a.plane_index ahead (omega (arith, count, same, first)) (omega (arith, count, first)) (omega (arith, same, kept)) long c.set_start-else-passage-ahead.ensures.order;
       paired = c.in_ok-put-2.ensures.paired;
     }
