@@ -206,6 +206,22 @@ words_are_no_reply after next places m names shelf status count no_reply =
       never = (λ e. subst (λ (status : Status). IsOfWords status) e kind, λ e. subst (λ (status : Status). IsOfWords status) e kind, λ e. subst (λ (status : Status). IsOfWords status) e kind);
     }
 
+-- so is one of a command without files
+pub words_alone_are_no_reply : (verdict : Verdict) (names : List (List ℕ)) (shelf : ShelfCall) (status : Status) → IsNoReplyToWords verdict status → IsNoReply (λ contents. verdict) names shelf status
+words_alone_are_no_reply verdict names shelf status no_reply =
+    let kind = no_reply.of_words in
+    let is : is_refusal status ≡ true → IsRefusal status verdict = λ r. subst (λ (v : Verdict). IsRefusal status v) (sym (no_reply.refused r)) refl in
+    record {
+      refused = is;
+      held = λ r. held_always shelf.told names (λ contents. IsRefusal status verdict) (λ contents l. is r);
+      before_files = λ b. no_reply.refused (before_is_refusal status b);
+      in_file = λ i e. absurd (words_no_file status i kind e);
+      one_of = λ i e. absurd (words_no_file status i kind e);
+      read_fault = λ i e. absurd (subst (λ (status : Status). IsOfWords status) e kind);
+      memory = words_memory status kind;
+      never = (λ e. subst (λ (status : Status). IsOfWords status) e kind, λ e. subst (λ (status : Status). IsOfWords status) e kind, λ e. subst (λ (status : Status). IsOfWords status) e kind);
+    }
+
 scene_asked : {T : Type 0} (after : ℕ → (T → Verdict) → Verdict) (next : ℕ → T → List Tri → Verdict) (places m : ℕ) (t : T) → ((then : T → Verdict) → after m then ≡ then t) → (contents : Contents) → length contents ≡ m → asks after next places contents ≡ after_scene places contents (next m t)
 scene_asked after next places m t given contents e =
     subst (λ (n : ℕ). after n (λ t. after_scene places contents (next n t)) ≡ after_scene places contents (next m t)) (sym e) (given (λ t. after_scene places contents (next m t)))
