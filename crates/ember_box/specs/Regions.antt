@@ -44,7 +44,8 @@ FaceIsAbove f p = Everywhere f (λ v. is_positive (value_at p v) ≡ true)
 abbrev pub FaceLiesOn : Face → Plane → Type 0
 FaceLiesOn f p = Everywhere f (λ v. is_zero (value_at p v) ≡ true)
 
--- what a wall leaves of a face
+-- what a wall leaves of a face. A box doesn't contain its high walls: a face in the plane of one
+-- belongs to the box beyond it (`in_high`)
 pub data AreLeftByWall (w : Wall) (f : Face) : List Face → Type 0 where
   cut : Cuts f w.plane → AreLeftByWall w f (below f w.plane ∷ [])
   outside : FaceIsAbove f w.plane → AreLeftByWall w f []

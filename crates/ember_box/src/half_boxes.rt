@@ -1,4 +1,6 @@
-// Whether a triangle whose bounding box meets a box is near the halves of the box.
+// Whether a triangle whose bounding box meets a box is near the halves of the box along one axis:
+// for `near_halves`, which `voxels` uses. near_parts.rt does it for all axes at once, and uses only
+// `plane_to_test` of this file.
 ghost use Rattle.std.specs.Prelude.{◌≡◌, ◌<◌};
 ghost use Rattle.ember_model.specs.Valid.{IsValidTri};
 ghost use Rattle.ember_box.specs.Aabbs.{aabb_of_tri, IsAabbSized};

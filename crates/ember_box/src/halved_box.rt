@@ -107,6 +107,7 @@ pub fn halve_box_among(
     ensures lists { IfOk result (λ h.
         IfSome h (λ v. AreNearLists tris.now c.now v.axis list.now v.left.items v.right.items)) }
 {
+    // At most the listed triangles are near the box.
     if is_few(list.len() as u64) {
         return Ok(None);
     }

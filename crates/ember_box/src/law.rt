@@ -6,7 +6,7 @@ ghost use Rattle.ember_box.specs.Near.{all_indices, listed, near, near_indices};
 ghost use Rattle.ember_box.specs.Halving.{halving_axis, is_leaf};
 
 /// The triangles near a box alone decide whether it is a leaf, and along which axis it is halved.
-/// The near list of a box has the indices of just these triangles. So `halved`, `is_leaf` and
+/// The near list of a box has the indices of just these triangles. So `halve_box`, `is_leaf` and
 /// `split_axis` give the same for this list as for all triangles.
 pub fn near_triangles_decide_the_halving()
     ensures list { (tris : List Tri) (c : CellView) →

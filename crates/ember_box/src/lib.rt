@@ -1,5 +1,10 @@
 //! Boxes of space: the root box, its halves and the paths that name them, which triangles are near
 //! a box, along which axis it is halved, and where halving ends.
+//!
+//! `bool` and `pairs` call `halve_box` (halved_box.rt) for a box. In one pass over the triangles
+//! near the box it finds near which halves each of them is (near_parts.rt), and by the sums of
+//! these numbers whether the box is a leaf, or else its axis (sums.rt). `voxels` chooses the axis
+//! itself, and calls `near_halves` (nearness.rt, half_boxes.rt). README.md says what to read first.
 #![tactic(auto)]
 
 mod aabb;

@@ -34,7 +34,9 @@ fn is_near(aabb: &Aabb, t: &Tri) -> bool
     aabbs_meet(&spans, aabb) && is_crossed(aabb, &spans, t)
 }
 
-// Whether the plane of a triangle, whose bounding box meets a box, crosses the box.
+// Whether the plane of a triangle, whose bounding box meets a box, crosses the box. No plane is
+// computed if the triangle lies across an axis or has its first corner in the box: then a point of
+// its plane is in the box.
 fn is_crossed(aabb: &Aabb, spans: &Aabb, t: &Tri) -> bool
     requires tri { IsValidTri t.now }
     requires spans { spans.now ≡ aabb_of_tri t.now }
@@ -157,7 +159,8 @@ pub fn near_halves_among(
 }
 
 /// The indices of the listed triangles that are near the left half of the box along the axis, and
-/// of those near the right half, in order. The side along the axis is above 1.
+/// of those near the right half, in order. The side along the axis is above 1. The program calls
+/// this for `voxels` alone.
 pub fn near_halves(
     alloc: Global,
     s: &Scene,

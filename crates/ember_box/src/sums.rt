@@ -203,6 +203,7 @@ pub fn halving_of(tris: &[Tri], list: &[u32], c: &Cell) -> Option<Axis>
         else Some (halvings.halving_axis (listed tris.now list.now) c.now)) }
     ensures halvable { IfSome result (λ k. 0 < c.now.log k) }
 {
+    // At most the listed triangles are near the box.
     if is_few(list.len() as u64) {
         return None;
     }

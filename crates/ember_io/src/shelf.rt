@@ -1,4 +1,5 @@
-// Sources of named files, read one at a time.
+// Sources of named files, read one at a time. `ReadsAtMost`, `ReadConsumes` and `IsAtEnd` are words
+// of Rattle's library; `rt lemma NAME` prints their definitions.
 ghost use Rattle.std.specs.Prelude.{◌≡◌, ◌<◌, ◌≤◌, ◌+◌, ◌^◌, List, ℕ, [], length, Some, IfOk, OnOk, OnErr, IsErrOf};
 ghost use Rattle.std.specs.declared.option.Option.{Option};
 ghost use Rattle.std.specs.Io.{ReadsAtMost};

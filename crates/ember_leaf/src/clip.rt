@@ -182,11 +182,11 @@ fn remainder_at(wall: &Wall, triangle: &LeafTriangle) -> Remainder
     }
 }
 
-/// `true` only if no part of the triangle belongs to the box. Bounding boxes alone are tested:
-/// walls that cut nothing off are passed over, and the answer is `true` if the next wall cuts
-/// everything off. It is `false`, which shows nothing, at the first wall for which the bounding box
-/// decides nothing, even if a later wall cuts everything off: the definition of clipping says what
-/// each wall leaves, and at such a wall only the clip finds that.
+/// `true` only if no part of the triangle belongs to the box; `false` shows nothing. Bounding boxes
+/// alone are tested, wall by wall. Walls that cut nothing off are passed over, and a wall that cuts
+/// everything off ends the test with `true`. A wall for which the bounding box decides nothing ends
+/// it with `false`, even if a later wall cuts everything off: by the definition, each wall clips
+/// what the one before it leaves, and what such a wall leaves only the clip finds.
 pub fn is_outside(walls: &[Wall], triangle: &LeafTriangle) -> bool
     requires { is_flat triangle.now.tri ≡ false }
     ensures { result ≡ true → IsClippedBy (map wall_of walls.now) triangle.now.tri [] }

@@ -194,6 +194,7 @@ impl Leaf<'_> {
         }
         if let Some(ring) = clip_to_box(alloc, draft, target, walls, cutters.len().min(ROOM))? {
             if cutters.is_empty() {
+                // What the clip leaves is the only region, so no list is made.
                 self.add_if_written(ring, i, sides, kept)?;
             } else {
                 let list = regions(alloc, ring, cutters)?;

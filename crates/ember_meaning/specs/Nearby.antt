@@ -22,8 +22,8 @@ abbrev pub HaveMeaningNearby : List Tri → Formula → List Face → Type 0
 HaveMeaningNearby scene x faces =
     (p : Spot) → pos 0 <ℤ p.w → WhereShifted p (λ q. (a b : Axis) → HasMeaning scene x faces a b q)
 
--- at a point that is clear of the scene's faces, the expression at its own winding numbers is what the faces wind at
--- the shifted point
+-- let a point be clear of the scene's faces. The faces wind once around the shifted point if the
+-- expression is true of the winding numbers at the point itself, and otherwise not at all
 abbrev pub WindNearbyAsHere : List Tri → Formula → List Face → Type 0
 WindNearbyAsHere scene x faces =
     (p : Spot) → pos 0 <ℤ p.w → AreClear (faces_of scene) p → WhereShifted p

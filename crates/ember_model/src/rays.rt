@@ -24,7 +24,7 @@ pub fn meets(front: i128, slope: i64) -> bool
     (front < 0 && slope > 0) || (front > 0 && slope < 0)
 }
 
-// The point at which it does.
+// The point at which such a ray meets the plane, if it does.
 #[tactic(none)]
 pub fn hit_on_ray(front: i128, slope: i64, axis: Axis) -> RayPoint
     requires front { Small (2 ^ 80) front }

@@ -21,7 +21,7 @@ fn put_number(word: &[u8], number: u64, out: &mut Vec<u8>) -> Result<(), OutOfMe
 fn put_pair(pair: &Pair, out: &mut Vec<u8>) -> Result<(), OutOfMemory>
     ensures { OnOk result (out.new.items ≡ out.old.items ++ texts.pair_line pair.now) }
 {
-    put_number(b"pair ", u64::from(pair.low), out)?;
+    put_number(b"p ", u64::from(pair.low), out)?;
     put_number(b" ", u64::from(pair.high), out)?;
     out.push(b'\n')?;
     Ok(())

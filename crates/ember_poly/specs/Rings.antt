@@ -42,7 +42,7 @@ pub record IsCornerOf (n g : Plane) (s : Side) : Type 0 where
   pub turns : pos 0 <ℤ orientation n g s.plane
 
 -- an open chain: the edge g, and then the sides xs, each at the end of the one before.
--- An edge is negative at all corners but its own two.
+-- The plane of an edge is negative at all corners but the edge's own two.
 abbrev pub IsSideChain : Plane → Plane → List Side → Type 0
 IsSideChain n g [] = ⊤
 IsSideChain n g (s ∷ xs) =
@@ -85,13 +85,14 @@ pub record IsInClosedRing (n : Plane) (xs : List Side) (v : Spot) : Type 0 where
 pub record IsNotHigher (p : Plane) (v s : Spot) : Type 0 where
   pub not_above : (value_at p v *ℤ s.w) ≤ℤ (value_at p s *ℤ v.w)
 
--- the face of a ring: its plane and all the planes that have cut it, in order of their index
+-- the inside points of a ring's face, by its support plane and all its edge planes: those of its
+-- triangle and those that have cut it
 pub record InFace (n : Plane) (gs : List Plane) (v : Spot) : Type 0 where
   pub flat : value_at n v ≡ pos 0
   pub weight : pos 0 <ℤ v.w
   pub within : AllByRecursion (λ g. IsBelow g v) gs
 
--- the closed face
+-- the points of the closed face
 pub record InClosedFace (n : Plane) (gs : List Plane) (v : Spot) : Type 0 where
   pub flat : value_at n v ≡ pos 0
   pub weight : pos 0 <ℤ v.w
@@ -102,7 +103,8 @@ pub record IsInPlanes (gs : List Plane) (s : Side) : Type 0 where
   pub index : s.plane_index < length gs
   pub here : get_or gs s.plane_index s.plane ≡ s.plane
 
--- the sides are planes of the list, and all planes of the list follow from the sides
+-- the planes of the sides are in the list, and they alone decide: a point that is below all of them
+-- is below all planes of the list, and likewise for `below or on`
 pub record Represents (n : Plane) (gs : List Plane) (xs : List Side) : Type 0 where
   pub sound : IsConvexRing n xs
   pub listed : AllByRecursion (λ s. IsInPlanes gs s) xs

@@ -1,5 +1,10 @@
 //! Convex faces with their corners: the face of a triangle, its edges in order round it, on which
 //! sides of a plane it lies, its parts below and above one, and the triangles that it meets.
+//!
+//! The type is `Ring` (ring.rt), and boundary.rt keeps its sides. A `Draft` (draft.rt) is a face
+//! that planes clip in place: passage.rt finds where a plane cuts it, and level.rt does that for a
+//! wall in small numbers. cutting.rt makes the parts of a ring. reaching.rt finds on which sides of
+//! a plane a ring lies, meeting.rt whether it meets a triangle. README.md says what to read first.
 #![tactic(auto)]
 
 mod boundary;

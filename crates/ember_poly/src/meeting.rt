@@ -183,7 +183,8 @@ fn has_point_within_by_chords(r: &Ring, edges: &[Plane]) -> bool
 enum Overlap {
     // It has none: it lies above one of the planes.
     Apart,
-    // It has one: at most one plane cuts the ring, and it lies above none of them.
+    // It has one: the ring lies above none of the planes, and at most one of them cuts it. Then any
+    // inside point will do, or any below the one that cuts.
     Met,
     // Not known.
     Unknown,

@@ -278,6 +278,8 @@ pub fn find_passage(
     let below_count = classified.below_count;
     let last = ahead(entry_edge, below_count, boundary.corners.len());
     let level = level_of(plane);
+    // `point_of` takes planes whose normals have a positive determinant. The boundary passes the
+    // plane in opposite directions at the two points, so the edge and the support change places.
     Passage {
         entry_edge,
         below_count,

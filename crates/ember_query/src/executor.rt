@@ -1,6 +1,7 @@
 // Who runs the boxes: the calling thread alone, or several workers. `run_alone` and `run_tree` of
-// steal_pool run them, and call the closure of the step for each box. `run_query!` below writes
-// these closures: `text_step` and the like, where all geometry begins.
+// steal_pool run them, and call the closure of the step for each box. `run_query!` below makes the
+// root's job and writes this closure. It calls the step of the query, such as `text_step`, where the
+// geometry of each box begins.
 ghost use Rattle.std.specs.Prelude.{◌≡◌, ◌≤◌, IfOk};
 ghost use Rattle.ember_box.specs.Boxes as boxes;
 ghost use Rattle.ember_job.specs.Visited.{leaves};

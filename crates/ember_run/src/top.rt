@@ -237,7 +237,8 @@ pub fn run_one<S: Shelf, O: Sink, E: Sink, G: Gate>(
 
 /// Does what the words ask for, with as many workers as they say: writes the output to `out`, and
 /// the report or the status's line to `err`. What is written doesn't depend on the number of
-/// workers. With one worker, the calling thread does everything.
+/// workers. With one worker, the calling thread does everything. `gate` is called before each box;
+/// the program's does nothing.
 pub fn run<R: Threads + Wait + Sync, S: Shelf, O: Sink, E: Sink, G: Gate + Sync>(
     rt: &R,
     alloc: Global,

@@ -77,7 +77,7 @@ value_across Y s d v = solve 6 (λ s d x y z w. num (pos 0) ⊗ x ⊕ s ⊗ y �
 value_across Z s d v = solve 6 (λ s d x y z w. num (pos 0) ⊗ x ⊕ num (pos 0) ⊗ y ⊕ s ⊗ z ⊖ s ⊗ d ⊗ w ≈ s ⊗ (z ⊖ d ⊗ w)) cancels s d v.x v.y v.z v.w
 
 -- the entry along its axis of a plane's normal that has only this entry
-pub across_along : (k : Axis) (s d : ℤ) → entry_along (across k s d) k ≡ s
+pub across_along : (k : Axis) (s d : ℤ) → along (across k s d) k ≡ s
 across_along X s d = refl
 across_along Y s d = refl
 across_along Z s d = refl

@@ -48,8 +48,8 @@ contains_above s at = int_le s.low at && int_lt at s.high
 abbrev pub may_contain : Interval → ℤ → Bool
 may_contain s floor = int_le s.low floor && int_le floor s.high
 
--- a coordinate clamped to the root: this changes no comparison with the bounding box of a triangle, which is
--- inside the root
+-- a coordinate clamped to the root (negsuc 2047 is -2048): this changes no comparison with the
+-- bounding box of a triangle, which is inside the root
 abbrev pub in_root : ℤ → ℤ
 in_root z = if int_lt z (negsuc 2047) then negsuc 2047 else if int_lt (pos 2048) z then pos 2048 else z
 
@@ -104,7 +104,9 @@ segments_in_wall w f =
 abbrev pub last_segment : Path → NearTriangle → Sign → ℤ
 last_segment w f end = if is_on_last w f then signed_crossing (side_after_second w f.support) end else pos 0
 
--- the sides of a plane directly before and after a point at which its side is this
+-- the side of a plane on which the point directly before another one along the axis lies, or the
+-- point directly after it. The other one lies on the side s. If it is on the plane, the entry of
+-- the normal along the axis decides.
 abbrev pub side_before : Plane → Axis → Sign → Sign
 side_before p k s = or_sign s (flip (sgn (along p k)))
 
@@ -119,7 +121,8 @@ unfoldable pub crossing_after : Path → NearTriangle → ℤ
 crossing_after w f = segments_in_wall w f +ℤ last_segment w f (side_after f.support w.main (side_at_end w f.support))
 
 -- ---- the sides
--- the counts less, for each near triangle, this number, which is subtracted from the count of its mesh
+-- the counts after a subtraction for each near triangle: of the number that `less` gives, from the
+-- count of its mesh
 abbrev pub taken : (NearTriangle → ℤ) → List NearTriangle → List ℤ → List ℤ
 taken less fs counts = fold (λ (vs : List ℤ) (f : NearTriangle). with_more vs f.tri.mesh (neg_ℤ (less f))) counts fs
 

@@ -105,7 +105,7 @@ pub fn edge_plane_times(u: &Corner, v: &Corner, k: Axis, s: i64) -> Plane
     }
 }
 
-// The point of a line along an axis at which `n x - e` is 0.
+// A point of an axis: the coordinate x at which `n x - e` is 0.
 #[derive(Clone, Copy)]
 struct AxisPoint {
     n: i64,
@@ -114,7 +114,7 @@ struct AxisPoint {
     ghost small_e: { Small 25145348 e },
 }
 
-// The point of the line with p = `at`, as a point along the axis of q.
+// Where the line has p = `at`: a point of the axis of q.
 fn axis_point_at_first(line: &EdgeLine, at: i32) -> AxisPoint
     requires { Small 2048 at }
     ensures n { result.n ≡ neg_ℤ line.now.dp }
@@ -126,7 +126,7 @@ fn axis_point_at_first(line: &EdgeLine, at: i32) -> AxisPoint
     }
 }
 
-// The point of the line with q = `at`, as a point along the axis of p.
+// Where the line has q = `at`: a point of the axis of p.
 fn axis_point_at_last(line: &EdgeLine, at: i32) -> AxisPoint
     requires { Small 2048 at }
     ensures n { result.n ≡ line.now.dq }
@@ -149,7 +149,8 @@ fn axis_point_side(point: &AxisPoint, x: i128, w: i128) -> Sign
 
 /// The side of the plane through the edge from `u` to `v` and parallel to the second axis of a path
 /// with this main axis, times the sign `s`, on which the narrow point `m` is, moved to `at` along
-/// the main axis.
+/// the main axis. The plane has no entry along the second axis, so the clause may fix the
+/// coordinate along it to any number `by`.
 pub fn moved_edge_side(u: &Corner, v: &Corner, main: Axis, s: i64, at: i32, m: &Meet) -> Sign
     requires from { IsValidCorner u.now }
     requires to { IsValidCorner v.now }

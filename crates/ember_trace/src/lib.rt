@@ -1,4 +1,8 @@
-//! The winding numbers on both sides of a region.
+//! The winding numbers on both sides of a region. README.md says how.
+//!
+//! `trace_sides` (sides.rt) makes a path to the region (path.rt, vertices.rt) and counts how often
+//! the path crosses each near triangle (segments.rt). edges.rt and edge_lines.rt say behind which
+//! edges of a triangle a segment runs. Only tests use whole_rays.rt.
 #![tactic(auto)]
 
 mod crossing_signs;

@@ -1,5 +1,6 @@
-// The path from the reference point s of a box to a point e of a region: three segments along the axes, the
-// last one along the region's main axis. With the coordinates in the order of the path's axes, it leads
+// The path from the reference point s of a box to a point e of a region: three segments along the
+// axes, the last one along the region's main axis. With the coordinates in the order of the path's
+// axes, it leads
 //
 //     (s1, s2, s3) -> (e1, s2, s3) -> (e1, e2, s3) -> (e1, e2, e3).
 //

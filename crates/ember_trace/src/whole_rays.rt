@@ -1,4 +1,4 @@
-// The sides of a region, by whole rays.
+// The sides of a region, by whole rays. Only tests use this; the program traces a path (sides.rt).
 ghost use Rattle.std.specs.Prelude.{◌≡◌, ◌≤◌, All, IfOk, length};
 ghost use Rattle.ember_algebra.specs.Size.{Small};
 ghost use Rattle.ember_algebra.specs.Sign.{is_neg};

@@ -21,7 +21,8 @@ has_mesh (t ∷ ts) n = n == t.mesh || has_mesh ts n
 unfoldable pub box_value : List Tri → Formula → Job → Option Bool
 box_value ts f j = known (has_mesh (near_of ts j)) j.at.counts f
 
--- the corner lies in the half-open box, so the reference point of a box with this least corner does
+-- the corner lies in the half-open box. Then so does the reference point of each box that has it as
+-- its least corner: that point is less than 1 above the corner along each axis.
 pub record HasCorner (c : Cell) (v : Vector) : Type 0 where
   pub from : (k : Axis) → low c k ≤ℤ entry_along k v
   pub until : (k : Axis) → entry_along k v <ℤ high c k

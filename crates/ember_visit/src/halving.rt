@@ -23,7 +23,9 @@ pub fn listed_tris(alloc: Global, tris: &[Tri], list: &[u32]) -> Result<Vec<Tri>
     Ok(found)
 }
 
-// The jobs of the halves of a job along an axis, by the indices of the triangles near each.
+// The jobs of the halves of a job along an axis, by the indices of the triangles near each. The
+// left half has the box's own reference point, so only the right half's winding numbers are
+// shifted.
 #[tactic(none)]
 fn jobs_of(
     s: &Scene,
@@ -61,9 +63,10 @@ fn jobs_of(
 }
 
 /// The two halves of a job along an axis, each with those of the job's triangles that are near it
-/// and with the winding numbers at its own reference point. The side along the axis is above 1,
-/// the list has at most 262,144 indices of the scene's triangles, and each count leaves room for
-/// a crossing with each of them. The only error is out-of-memory.
+/// and with the winding numbers at its own reference point. The side along the axis is above 1, the
+/// list has at most 262,144 indices of the scene's triangles, and each count leaves room for a
+/// crossing with each of them. The program calls this for `voxels`, which chooses the axis itself;
+/// `bool` calls `halve_unless_leaf`. The only error is out-of-memory.
 pub fn halve_job(alloc: Global, s: &Scene, job: &Job, axis: Axis) -> Result<(Job, Job), OutOfMemory>
     requires side { 0 < job.now.cell.log axis }
     requires places { All (λ i. i < length s.now.tris) job.now.list }

@@ -1,4 +1,7 @@
--- What command the words give
+-- What command the words give. `App`, `fault_of`, `matches_of`, `rows_of` and `found_of` are words
+-- of the ported clap: an `App` is a parser, `fault_of app words` has the faults of the words (none
+-- if the parser takes them), and `matches_of app words` has a row for each argument, with the
+-- argument's name and its values
 use Rattle.std.specs.Prelude.{◌≡◌, ◌≢◌, ⊤, ℕ, ℤ, Bool, codes, List, [], ◌∷◌, Option, Some, None, Result, Ok, Err, option_and_then, if◌then◌else◌}
 use Rattle.std.specs.Str.{bytes_eq}
 use Rattle.clap.specs.Walk.{Row, Text, all_of, first_of, rows_of}

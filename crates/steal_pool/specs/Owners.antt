@@ -20,10 +20,11 @@ EachOwner Q [] (o ∷ os) = ⊥
 EachOwner Q (t ∷ ts) [] = ⊥
 EachOwner Q (t ∷ ts) (o ∷ os) = ((worker_deque o ≡ stealer_deque t) × Q (worker_view o)) × EachOwner Q ts os
 
--- the view of an owner with this many passes out: before anything was pushed, and at any time
+-- the view of an owner with this many passes out, before anything was pushed
 abbrev pub Fresh : ℕ → HandleView → Type 0
 Fresh lent v = v ≡ handle true lent [] []
 
+-- the same at any time, whatever was pushed and taken
 abbrev pub Lent : ℕ → HandleView → Type 0
 Lent lent v = (v.owns ≡ true) × (v.lent ≡ lent)
 

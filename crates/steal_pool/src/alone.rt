@@ -115,7 +115,7 @@ fn drain_next<K: VisitedJobs>(owner: &mut Owner<K>) -> Option<HeapJob>
 }
 
 // Runs what is left in a deque to its end. All passes on it are back. The only error is
-// out-of-memory.
+// out-of-memory. `forever` has no end, so only a return leaves the loop.
 #[tactic(auto, using(crate::proofs::DequeSteps::weigh_append, crate::proofs::AccountSums::drained_one))]
 pub fn drain<
     R: Wait,

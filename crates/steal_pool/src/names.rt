@@ -8,8 +8,10 @@
 // the proof of the caller chooses what the names mean in this one call, by the arguments of the
 // call: see the `Invariants.antt` in proofs/tree/run_alone and proofs/tree/run_tree. They choose by
 // the work and the root, so `run_alone_named` and `run_named` take the work as an argument, though
-// no code reads it. Rust needs the impls for `Brand` here; what they say would hold only if a
-// caller chose nothing.
+// no code reads it. The contracts of `run_alone` and `run_tree` don't have the names: in place of
+// them they have `IsVisited` of ember_job and `AnswersLeaf` (`AreParts` in specs/Journals.antt).
+// The weight of a box with all below it is `tree_weight` there. Rust needs the impls for `Brand`
+// here; what they say would hold only if a caller chose nothing.
 ghost use Rattle.std.specs.Prelude.{ℕ, ⊤};
 ghost use Rattle.ember_job.specs.declared.job.Job.{Job};
 ghost use Rattle.ember_job.specs.declared.job.Entry.{Entry};

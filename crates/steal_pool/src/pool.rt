@@ -30,7 +30,9 @@ use std::thread::Threads;
 // The room of a new deque, which grows when it is full.
 const DEQUE_ROOM: usize = 64;
 
-// The room of a hand, so that holding a box needs no further memory.
+// The room of a hand, so that holding a box needs no further memory. A worker takes a box from a
+// deque only if its hand is empty. So even if all pushes are refused, a hand has at most one left
+// half, and one right half of each depth up to 36, the greatest depth.
 const HAND_ROOM: usize = 40;
 
 /// All deques: of each the end from which others steal, and its owner's end.
@@ -159,7 +161,7 @@ fn make_states<K: VisitedJobs + BoxWeight<I>, I: Drop>(
     Ok(states)
 }
 
-// Takes all states apart, in order.
+// Takes all states apart, in order. Their hands are dropped: they are empty (`MayLeave`).
 fn take_apart<K: VisitedJobs + BoxWeight<I>, I: Drop>(
     alloc: Global,
     stealers: &Vec<JobStealer<K>>,

@@ -1,5 +1,11 @@
 // The protocol of a deque: what holds of all its handles together. See README.md, "Why nothing is
 // lost".
+//
+// Contracts of this crate use words of crossbeam_deque: `worker_view` and `view` give the
+// `HandleView` of the owner's end and of a pass, `worker_deque` and `stealer_deque` say which deque
+// an end is of, and `IsPassOf d p` says that p is a pass on the deque d. In a `then` below, v and w
+// are the views before and after a call, and xs has the jobs that it pushed or took. The trait
+// `Outcome` is that of crossbeam_deque, not the enum of ember_job.
 ghost use Rattle.std.specs.Prelude.{◌≡◌, All};
 ghost use Rattle.ember_job.specs.declared.job.Job.{Job};
 ghost use Rattle.steal_pool.specs.Protocol.{JobsConserved, TookAllPushed, handle, new_pass, with_pushed, with_taken, with_one_lent, with_returned};

@@ -127,7 +127,7 @@ fn run_box<
 }
 
 // Takes a job from the hand, otherwise from the own deque, otherwise from the deque with the index
-// `from`.
+// `from`. If that is the own one again, it is empty and gives nothing.
 #[tactic(auto, using(crate::proofs::DequeSteps::weigh_append))]
 fn next_job<K: VisitedJobs + BoxWeight<I>, I>(
     stealers: &Vec<JobStealer<K>>,
@@ -158,7 +158,7 @@ fn next_deque(from: usize, count: usize) -> usize {
 }
 
 // Runs boxes until the finished ones make up the root. The error means that memory was short, here
-// or for another worker.
+// or for another worker. `forever` has no end, so only a return leaves the loop.
 #[tactic(auto, using(crate::proofs::AccountSums::balances_then, crate::proofs::AccountSums::released_balances, crate::proofs::AccountSums::none_balances))]
 pub fn work<
     R: Wait,
