@@ -18,12 +18,12 @@ use Rattle.ember_obj.specs.ReadObj.{read_obj_of}
 use Rattle.ember_obj.specs.Table.{FileTriangles}
 use Rattle.ember_words.specs.declared.command.Command.{Command}
 use Rattle.ember_words.specs.declared.command.Command.TheVariants as command
-use Rattle.ember_run.specs.Outputs.{Counts, Lattice, MeetingPairs, SolidFaces, SolidReport}
+use Rattle.ember_run.specs.Outputs.{Counts, FaceTexts, Lattice, MeetingPairs, SolidFaces, SolidReport}
 use Rattle.ember_run.specs.declared.status.LimitKind.TheVariants.{Bytes, Triangles}
 use Rattle.ember_run.specs.declared.status.Status.{Status}
 use Rattle.ember_run.specs.declared.status.Status.TheVariants.{Limit, NotClear, Unbounded}
 use Rattle.ember_run.specs.Statuses.{AsksRefusal, AsksText, IsRefusal, IsText}
-use Rattle.ember_run.specs.Verdict.{Contents, Verdict, Unknown, Refused, Writes, Slices, after_balance, after_bounded, after_bytes, after_files, after_given, after_mesh, after_parse, after_scene, after_total, after_triangles, counts_verdict, names_of, verdict_of}
+use Rattle.ember_run.specs.Verdict.{Contents, Verdict, Unknown, Refused, Writes, Slices, after_balance, after_bounded, after_bytes, after_files, after_given, after_parse, after_scene, after_triangles, counts_verdict, names_of, verdict_of}
 use Rattle.ember_run.proofs.RefusedBeforeFiles.{is_known}
 
 -- ---- what a known verdict says
@@ -53,7 +53,7 @@ triangles_known : (i : ℕ) (read : Result FileTriangles ObjFault) (next : List 
 triangles_known i (Err fault) next h = refl
 triangles_known i (Ok faces) next h = h faces.tris
 
-pub file_known : (places i : ℕ) (bytes : List ℕ) (next : List Tri → Verdict) → ((tris : List Tri) → is_known (next tris) ≡ true) → is_known (after_bytes i (Some bytes) (λ bytes. after_triangles i (read_obj_of places i bytes) next)) ≡ true
+file_known : (places i : ℕ) (bytes : List ℕ) (next : List Tri → Verdict) → ((tris : List Tri) → is_known (next tris) ≡ true) → is_known (after_bytes i (Some bytes) (λ bytes. after_triangles i (read_obj_of places i bytes) next)) ≡ true
 file_known places i bytes next h =
     bytes_known i bytes (λ bytes. after_triangles i (read_obj_of places i bytes) next) (triangles_known i (read_obj_of places i bytes) next h)
 
@@ -88,16 +88,22 @@ counts_known point meshes formula tris =
 pub verdict_known : (command : Option Command) (contents : List (List ℕ)) → length contents ≡ length (names_of command) → is_known (verdict_of command (map Some contents)) ≡ true
 verdict_known None contents l = refl
 verdict_known (Some (command.Faces places file)) [] l = absurd (omega (arith, l))
-verdict_known (Some (command.Faces places file)) (bytes ∷ contents) l = file_known places 1 bytes _ (λ tris. refl)
+verdict_known (Some (command.Faces places file)) (bytes ∷ contents) l =
+    file_known places 1 bytes (λ tris. Writes (FaceTexts tris)) (λ tris. refl)
 verdict_known (Some (command.At point expr places files)) contents l =
-    given_known expr (length (map Some contents)) _
-    (λ formula. scene_known places contents _ (counts_known point (length (map Some contents)) formula))
+    let meshes = length (map Some contents) in
+    given_known expr meshes (λ formula. after_scene places (map Some contents) (counts_verdict point meshes formula))
+    (λ formula. scene_known places contents (counts_verdict point meshes formula) (counts_known point meshes formula))
 verdict_known (Some (command.Boole expr workers places report files)) contents l =
-    parse_known (expr_of expr (length (map Some contents))) _
-    (λ formula. either_known (truth (replicate 64 (pos 0)) formula) (Refused Unbounded) _ refl (scene_known places contents _ (λ tris. refl)))
-verdict_known (Some (command.Demo boxes workers)) contents l = parse_known (expr_of (codes "m1|m2") 2) _ (λ formula. refl)
+    let next = λ (formula : Formula). after_scene places (map Some contents) (λ tris. Writes (SolidFaces tris formula)) in
+    parse_known (expr_of expr (length (map Some contents))) (λ formula. after_bounded formula (next formula))
+    (λ formula. either_known (truth (replicate 64 (pos 0)) formula) (Refused Unbounded) (next formula) refl (scene_known places contents (λ tris. Writes (SolidFaces tris formula)) (λ tris. refl)))
+verdict_known (Some (command.Demo boxes workers)) contents l =
+    parse_known (expr_of (codes "m1|m2") 2) (λ formula. Writes (SolidReport (scene_of boxes) formula)) (λ formula. refl)
 verdict_known (Some (command.Voxels expr size workers places files)) contents l =
-    parse_known (expr_of expr (length (map Some contents))) _ (λ formula. scene_known places contents _ (λ tris. refl))
-verdict_known (Some (command.Pairs workers places files)) contents l = scene_known places contents _ (λ tris. refl)
+    parse_known (expr_of expr (length (map Some contents))) (λ formula. after_scene places (map Some contents) (λ tris. Writes (Lattice tris formula size)))
+    (λ formula. scene_known places contents (λ tris. Writes (Lattice tris formula size)) (λ tris. refl))
+verdict_known (Some (command.Pairs workers places files)) contents l =
+    scene_known places contents (λ tris. Writes (MeetingPairs tris)) (λ tris. refl)
 verdict_known (Some (command.Slice at file)) [] l = absurd (omega (arith, l))
-verdict_known (Some (command.Slice at file)) (bytes ∷ contents) l = bytes_known 1 bytes _ refl
+verdict_known (Some (command.Slice at file)) (bytes ∷ contents) l = bytes_known 1 bytes (λ bytes. Slices at bytes) refl

@@ -81,7 +81,7 @@ pub bytes_too_long : (i count : ℕ) (told : Option (List ℕ)) (next : List ℕ
 bytes_too_long i count None next e h = tt
 bytes_too_long i count (Some bytes) next e h = subst (λ (n : ℕ). IsRefusal (Limit (Bytes i) n) (after_bytes i (Some bytes) next)) (sym e) (rw (above (length bytes) 268435456 h) refl)
 
-too_long_held : (i count : ℕ) → count ≡ 268435457 → (bytes : List ℕ) × (268435456 < length bytes) → MayHoldOne None (λ content. (next : List ℕ → Verdict) → IsRefusal (Limit (Bytes i) count) (after_bytes i content next))
+too_long_held : (i count : ℕ) → count ≡ 268435457 → ((bytes : List ℕ) × (268435456 < length bytes)) → MayHoldOne None (λ content. (next : List ℕ → Verdict) → IsRefusal (Limit (Bytes i) count) (after_bytes i content next))
 too_long_held i count e bytes = (bytes.0, tt, λ next. bytes_too_long i count (Some bytes.0) next e bytes.1)
 
 -- the same over contents that the file may have
