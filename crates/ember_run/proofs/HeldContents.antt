@@ -57,4 +57,4 @@ held_only told name P h = (h.0 ∷ [], (h.1, tt), h.2)
 
 -- some bytes are more than n
 pub more_bytes : (n : ℕ) → (bytes : List ℕ) × (n < length bytes)
-more_bytes n = (replicate (n + 1) 0, omega (arith, length-replicate (n + 1) 0))
+more_bytes n = (replicate (n + 1) 0, omega (arith, length-replicate {A = ℕ} (n + 1) 0))

@@ -14,7 +14,7 @@ use Rattle.ember_run.specs.Slices.{IsSlice, IsSliceRefusal}
 use Rattle.ember_run.specs.Statuses.{IsRefusal, IsSameIfTold, IsText, hides_memory, is_refusal, refused_file}
 use Rattle.ember_run.specs.Verdict.{Contents, Verdict, Unknown, Writes, Slices, after_bytes, after_file, faces_verdict, file_at, first_told, slice_verdict}
 use Rattle.ember_run.proofs.HeldContents.{held_one_then, held_only}
-use Rattle.ember_run.proofs.NoReplies.{before_is_refusal, before_no_file, file_is_refusal, memory_is_no_reply, same_number}
+use Rattle.ember_run.proofs.NoReplies.{before_is_refusal, before_no_file, file_is_refusal, same_number}
 use Rattle.ember_run.proofs.Verdicts.{bytes_read, faces_read, refusal_then, text_then}
 
 -- a file that is refused, or can't be read; `after` is the verdict by its contents
