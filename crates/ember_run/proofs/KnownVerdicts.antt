@@ -23,7 +23,7 @@ use Rattle.ember_run.specs.declared.status.LimitKind.TheVariants.{Bytes, Triangl
 use Rattle.ember_run.specs.declared.status.Status.{Status}
 use Rattle.ember_run.specs.declared.status.Status.TheVariants.{Limit, NotClear, Unbounded}
 use Rattle.ember_run.specs.Statuses.{AsksRefusal, AsksText, IsRefusal, IsText}
-use Rattle.ember_run.specs.Verdict.{Contents, Verdict, Unknown, Refused, Writes, Slices, after_balance, after_bounded, after_bytes, after_files, after_given, after_parse, after_scene, after_triangles, counts_verdict, names_of, verdict_of}
+use Rattle.ember_run.specs.Verdict.{Verdict, Unknown, Refused, Writes, Slices, after_balance, after_bounded, after_bytes, after_files, after_given, after_parse, after_scene, after_triangles, counts_verdict, names_of, verdict_of}
 use Rattle.ember_run.proofs.RefusedBeforeFiles.{is_known}
 
 -- ---- what a known verdict says

@@ -1,5 +1,5 @@
 -- Why a command over one file has no reply.
-use Rattle.std.proofs.Common.{◌≡◌, ◌≢◌, ℕ, ◌-◌, ◌≤◌, ℤ, zero, suc, true, false, List, [], ◌∷◌, length, map, Some, None, Result, Ok, Err, IfOk, IfErr, Vec, Global, refl, sym, ap, subst, arith, ◌∙◌}
+use Rattle.std.proofs.Common.{◌≡◌, ◌≢◌, ℕ, ◌-◌, ◌≤◌, ℤ, true, false, List, [], ◌∷◌, length, Some, None, Result, Ok, Err, IfOk, IfErr, Vec, Global, refl, sym, ap, subst, arith, ◌∙◌}
 use Rattle.std.specs.declared.option.Option.{Option}
 use Rattle.ember_io.specs.Shelves.{Tells}
 use Rattle.ember_model.specs.declared.tri.Tri.{Tri}
@@ -12,7 +12,7 @@ use Rattle.ember_run.specs.NoReplies.{IsNoReply, with_others}
 use Rattle.ember_run.specs.Outputs.{FaceTexts}
 use Rattle.ember_run.specs.Slices.{IsSlice, IsSliceRefusal}
 use Rattle.ember_run.specs.Statuses.{IsRefusal, IsSameIfTold, IsText, hides_memory, is_refusal, refused_file}
-use Rattle.ember_run.specs.Verdict.{Contents, Verdict, Unknown, Writes, Slices, after_bytes, after_file, faces_verdict, file_at, first_told, slice_verdict}
+use Rattle.ember_run.specs.Verdict.{Verdict, Unknown, Writes, Slices, after_bytes, after_file, faces_verdict, file_at, first_told, slice_verdict}
 use Rattle.ember_run.proofs.HeldContents.{held_one_then, held_only}
 use Rattle.ember_run.proofs.NoReplies.{before_is_refusal, before_no_file, file_is_refusal, same_number}
 use Rattle.ember_run.proofs.Verdicts.{bytes_read, faces_read, refusal_then, text_then}

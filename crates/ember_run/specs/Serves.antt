@@ -27,9 +27,9 @@ abbrev pub ReadsCanonical : List (List ℕ) → Type 0
 ReadsCanonical words =
     (line : CommandLine) → IsCanonical line → words ≡ words_of line → command_of words ≡ command_with line
 
--- what a call promises if its words ask for this command, or for none. The fields say nothing of
--- `told_verdict` if it is Unknown, nor of bytes that aren't told; those that end in `_read` say what then holds. The system's files and streams
--- tell no bytes (README.md, "What is guaranteed")
+-- what a call promises if its words ask for this command, or for none. The fields say nothing of `told_verdict` if it is
+-- Unknown, nor of bytes that aren't told; those whose names end in `_read` say what holds then, too. The system's files
+-- and streams tell no bytes (README.md, "What is guaranteed")
 pub record Serves (command : Option Command) (shelf : ShelfCall) (out err : SinkCall) (status : Status) : Type 0 where
   -- the shelf has what it had, and no count of faults falls
   pub contents : shelf.told_after ≡ shelf.told

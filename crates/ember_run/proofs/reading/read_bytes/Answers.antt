@@ -1,4 +1,4 @@
-use Rattle.std.proofs.Common.{◌≡◌, ℕ, List, rules, arith}
+use Rattle.std.proofs.Common.{◌≡◌, rules, arith}
 use Rattle.ember_io.specs.Shelves.{TellsMore}
 use Rattle.ember_run.proofs.Verdicts.{bytes_too_long_held}
 use Rattle.ember_run.proofs.reading.read_bytes.Goals as goal

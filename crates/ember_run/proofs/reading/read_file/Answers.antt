@@ -1,4 +1,4 @@
-use Rattle.std.proofs.Common.{◌≡◌, ℕ, List, true}
+use Rattle.std.proofs.Common.{◌≡◌, List, true}
 use Rattle.ember_model.specs.declared.tri.Tri.{Tri}
 use Rattle.ember_run.specs.Held.{MayHoldOne}
 use Rattle.ember_run.specs.Statuses.{IsRefusal, is_refusal}
