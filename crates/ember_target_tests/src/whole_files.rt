@@ -124,6 +124,8 @@ fn a_file_of_the_system_is_written_whole(rt: HostRuntime) -> Result<(), Fail> {
     let left = std::fs::read(&rt, "whole.out.new-0")?;
     assert_eq!(rt; left.as_slice(), OLD);
     assert!(rt; !std::fs::exists(&rt, "whole.out.new-1")?);
+    std::fs::remove_file(&rt, "whole.out")?;
+    std::fs::remove_file(&rt, "whole.out.new-0")?;
     Ok(())
 }
 
@@ -138,5 +140,6 @@ fn a_file_of_the_system_that_cannot_be_written_leaves_no_other(
     }
     assert!(rt; std::fs::metadata(&rt, "folder.out")?.is_dir());
     assert!(rt; !std::fs::exists(&rt, "folder.out.new-0")?);
+    std::fs::remove_dir(&rt, "folder.out")?;
     Ok(())
 }
