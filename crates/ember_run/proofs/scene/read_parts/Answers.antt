@@ -22,5 +22,5 @@ loop-file-preserved g c =
       contents = e.contents ∙ l.contents;
       later = omega arith;
       number = omega arith;
-      parts = more_parts _ _ _ _ _ _ _ _ _ _ _ c.loop-file-test.true l.parts l.contents l.number (c.as_str.ensures ∙ c.file-item.is) c.in_ok-push.ensures.items e.number e.read;
+      parts = more_parts _ _ _ _ _ _ _ _ _ _ _ c.loop-file-test.true l.parts l.contents l.number (c.as_str.ensures ∙ c.file-item.is) c.in_ok-push.ensures.items e.number e.ok;
     }
