@@ -13,7 +13,7 @@ use Rattle.ember_snap.specs.declared.steps.Step.{Step}
 use Rattle.ember_written.specs.Decimals.{decimal_of, IsTooLong}
 use Rattle.ember_mesh_run.specs.Lines.{step_text, shown}
 
-over : ℕ → ℤ → Fraction
+abbrev over : ℕ → ℤ → Fraction
 over d z = record { numerator = z; denominator = d }
 
 -- the numerator over the denominator, with its places, fits into 128 bits
