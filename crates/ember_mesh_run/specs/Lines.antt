@@ -1,6 +1,6 @@
 -- The number of a status, and its line on standard error
-use Rattle.std.specs.Prelude.{⊤, ℕ, ◌<◌, ◌+◌, ◌-◌, ◌*◌, ◌^◌, List, [], ◌++◌, length, codes, decimal, get_or, pos, nat_le, unsigned_abs, if◌then◌else◌, string_bytes}
-use Rattle.ember_certificate.specs.declared.space_point.SpacePoint.{SpacePoint}
+use Rattle.std.specs.Prelude.{⊤, ℕ, ℤ, ◌+ℤ◌, ◌*ℤ◌, ◌<◌, ◌+◌, ◌-◌, ◌*◌, ◌^◌, List, [], ◌++◌, length, codes, decimal, get_or, pos, nat_le, Some, None, unsigned_abs, if◌then◌else◌, string_bytes}
+use Rattle.std.specs.declared.option.Option.{Option}
 use Rattle.ember_expr.specs.declared.fault.ExprFault.{ExprFault}
 use Rattle.ember_expr.specs.declared.fault.ExprFault.TheVariants as expr
 use Rattle.ember_format.specs.declared.format.Format.{Format}
@@ -11,7 +11,6 @@ use Rattle.ember_mesh_words.specs.declared.command.WantedStep.{WantedStep}
 use Rattle.ember_mesh_words.specs.declared.command.WantedStep.TheVariants as step
 use Rattle.ember_mesh_words.specs.declared.faults.Refusal.{Refusal}
 use Rattle.ember_mesh_words.specs.declared.faults.Refusal.TheVariants as refusal
-use Rattle.ember_model.specs.declared.point.Axis.TheVariants.{X, Y, Z}
 use Rattle.ember_model.specs.declared.point.Corner.{Corner}
 use Rattle.ember_number.specs.Fractions.{Fraction}
 use Rattle.ember_scene.specs.declared.fault.Open.{Open}
@@ -21,7 +20,6 @@ use Rattle.ember_solid_mesh.specs.declared.fault.SolidFault.{SolidFault}
 use Rattle.ember_solid_mesh.specs.declared.fault.SolidFault.TheVariants as solid
 use Rattle.ember_triangles.specs.declared.fault.TrianglesFault.TheVariants as mesh
 use Rattle.ember_written.specs.Decimals.{decimal_of}
-use Rattle.ember_written.specs.Places.{place_of}
 use Rattle.ember_mesh_run.specs.declared.status.Status.{Status}
 use Rattle.ember_mesh_run.specs.declared.status.Status.TheVariants.{Done, Words, UnwrittenFormat, StepOfNoGrid, ReadFault, WriteFault, FileRefused, NoTriangles, NotClosed, ExprRefused, Unbounded, LongFile, TooManyTriangles, TooManyWritten, StepTooSmall, TooFar, OutOfMemory, Uncertified}
 
@@ -70,16 +68,19 @@ abbrev pub shown : Fraction → List ℕ
 shown v =
     if nat_le (10 ^ 21 * v.denominator) (unsigned_abs v.numerator) then codes "?" else decimal_of v 12
 
--- a corner of the grid as a point of space
-abbrev pub point_of : Corner → SpacePoint
-point_of c = record { x = c.x; y = c.y; z = c.z; w = pos 1 }
+-- where a coordinate of a corner lies in the user's unit: as that of a point of weight 1
+abbrev pub grid_place : Grid → ℤ → ℤ → Fraction
+grid_place g x offset = record {
+  numerator = (x +ℤ offset *ℤ pos 1) *ℤ pos g.step.numerator;
+  denominator = g.step.denominator * 1;
+}
 
 -- `(X Y Z)` in the user's unit
 abbrev pub corner_text : Grid → Corner → List ℕ
 corner_text g c =
-    codes "(" ++ (shown (place_of g.step g.offset X (point_of c)) ++
-    (codes " " ++ (shown (place_of g.step g.offset Y (point_of c)) ++
-    (codes " " ++ (shown (place_of g.step g.offset Z (point_of c)) ++ codes ")")))))
+    codes "(" ++ (shown (grid_place g c.x g.offset.x) ++
+    (codes " " ++ (shown (grid_place g c.y g.offset.y) ++
+    (codes " " ++ (shown (grid_place g c.z g.offset.z) ++ codes ")")))))
 
 -- ---- words
 -- the word with this number, from 0
@@ -144,10 +145,18 @@ open_text o format =
     (codes " " ++ (decimal o.place ++ codes "; close the hole in the modeller")))))))))
 
 -- ---- the solid
+-- the plane of the result that has no triangles
+abbrev pub plane_without : SolidFault → Option ℕ
+plane_without (solid.NotCut (mesh.NoTriangles plane)) = Some plane
+plane_without fault = None
+
+-- what has no triangles: one plane, or none is known
+abbrev pub not_found_text : Option ℕ → List ℕ
+not_found_text (Some plane) = codes "triangles of plane " ++ (decimal plane ++ codes " not found")
+not_found_text None = codes "triangles of the result not found"
+
 abbrev pub solid_text : SolidFault → List ℕ
-solid_text (solid.NotCut (mesh.NoTriangles plane)) =
-    codes "triangles of plane " ++ (decimal plane ++ codes " not found")
-solid_text fault = codes "triangles of the result not found"
+solid_text fault = not_found_text (plane_without fault)
 
 -- ---- all of them
 -- why a request isn't met

@@ -38,8 +38,8 @@ returns-in-Ok-clause-read c = λ told h.
     let made = c.in_ok-files.ensures in
     files_are_read told _ _ c.in_ok-files.files.items c.in-Ok.field-0.items made.names made.bytes h (subst (λ (files : List MeshFile). AreReadings files c.in-Ok.field-0.items) c.deref.ensures.value c.in-Ok.ensures.readings)
 
-pub returns-in-Err-clause-cause : goal.returns-in-Err-clause-cause
-returns-in-Err-clause-cause c = λ told h.
+pub returns-clause-cause : goal.returns-clause-cause
+returns-clause-cause c = λ told h.
     let made = c.in_ok-files.ensures in
     let files = c.in_ok-files.files.items in
     let fault = subst (λ (files : List MeshFile). IsReadFault files c.in-Err.fault) c.deref.ensures.value c.in-Err.ensures.fault in

@@ -47,8 +47,8 @@ returns-in-Ok-clause-output g c = λ told h.
       is_output = subst (λ (files : List MeshFile). IsOutput files (formula_of c.args.asked.now.expr) c.args.asked.now.wanted c.in-Ok.output) c.deref.ensures.value c.in-Ok.ensures.output;
     }
 
-pub returns-in-Err-clause-cause : goal.returns-in-Err-clause-cause
-returns-in-Err-clause-cause g c = λ told h.
+pub returns-clause-cause : goal.returns-clause-cause
+returns-clause-cause g c = λ told h.
     let made = c.in_ok-files.ensures in
     let files = c.in_ok-files.files.items in
     let formula = formula_of c.args.asked.now.expr in

@@ -10,5 +10,17 @@ line_of-requires g c =
     let target = target_call g.T.Target.held g.T.Target.begun g.T.Target.faults c.args.target.now c.write_solid.new.target in
     cause_is_shown c.args.request.now shelf target c.in-Err.status (omega (arith, c.requires.limits.files)) c.in-Err.ensures.stop.cause
 
+pub returns-in-Ok-clause-outcome : goal.returns-in-Ok-clause-outcome
+returns-in-Ok-clause-outcome g c = (_, c.in-Ok.ensures.written, c.say.ensures)
+
 pub returns-in-Err-in-Ok-clause-outcome : goal.returns-in-Err-in-Ok-clause-outcome
-returns-in-Err-in-Ok-clause-outcome g c = ?
+returns-in-Err-in-Ok-clause-outcome g c =
+    let shelf = shelf_call g.S.Shelf.contents g.S.Shelf.faults g.S.Shelf.fault_at c.args.shelf.now c.write_solid.new.shelf in
+    let target = target_call g.T.Target.held g.T.Target.begun g.T.Target.faults c.args.target.now c.write_solid.new.target in
+    (_, unmet_outcome c.args.request.now shelf target c.in-Err.status _ c.in-Err.ensures.stop (c.deref-in-Ok.ensures.value ∙ c.in-Ok-line_of.ensures), c.say-in-Ok.ensures)
+
+pub returns-in-Err-in-Err-clause-outcome : goal.returns-in-Err-in-Err-clause-outcome
+returns-in-Err-in-Err-clause-outcome g c =
+    let shelf = shelf_call g.S.Shelf.contents g.S.Shelf.faults g.S.Shelf.fault_at c.args.shelf.now c.write_solid.new.shelf in
+    let target = target_call g.T.Target.held g.T.Target.begun g.T.Target.faults c.args.target.now c.write_solid.new.target in
+    (_, memory_outcome c.args.request.now shelf target c.in-Err.status _ c.in-Err.ensures.stop refl, c.say_out_of_memory.ensures.said)

@@ -6,7 +6,7 @@ returns-in-Ok-clause-outcome g c =
     let e = c.in-Ok.ensures in
     ([], (record { taken = e.taken; flushed = e.flushed }, refl), c.say.ensures)
 
-pub returns-in-Err-clause-outcome : goal.returns-in-Err-clause-outcome
-returns-in-Err-clause-outcome g c =
+pub returns-clause-outcome : goal.returns-clause-outcome
+returns-clause-outcome g c =
     let e = c.in-Err.ensures in
     (_, (record { failed = e.cause.failed; prefix = e.prefix }, refl), c.say-in-Err.ensures)

@@ -29,8 +29,8 @@ returns-in-Ok-write_file-clause-written g c = record {
   text_is = c.in_ok-report.ensures;
 }
 
-pub returns-in-Err-write_file-clause-stop : goal.returns-in-Err-write_file-clause-stop
-returns-in-Err-write_file-clause-stop g c =
+pub returns-clause-stop : goal.returns-clause-stop
+returns-clause-stop g c =
     let shelf = shelf_call g.S.Shelf.contents g.S.Shelf.faults g.S.Shelf.fault_at c.args.shelf.now c.solid_output.new.shelf in
     let target = target_call g.T.Target.held g.T.Target.begun g.T.Target.faults c.args.target.now c.write_file.new.target in
     let e = c.in-Err-write_file.ensures in
