@@ -1,4 +1,6 @@
 use Rattle.std.proofs.Common.{[], refl}
+use Rattle.std.specs.Prelude.{codes}
+use Rattle.ember_mesh_run.specs.Lines.{line}
 use Rattle.ember_mesh_run.proofs.writing.write_message.Goals as goal
 
 pub returns-in-Ok-clause-outcome : goal.returns-in-Ok-clause-outcome
@@ -9,4 +11,4 @@ returns-in-Ok-clause-outcome g c =
 pub returns-clause-outcome : goal.returns-clause-outcome
 returns-clause-outcome g c =
     let e = c.in-Err.ensures in
-    (_, (record { failed = e.cause.failed; prefix = e.prefix }, refl), c.say-in-Err.ensures)
+    (line (codes "cannot write to standard output"), (record { failed = e.cause.failed; prefix = e.prefix }, refl), c.say-in-Err.ensures)
