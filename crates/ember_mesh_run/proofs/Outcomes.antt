@@ -1,6 +1,6 @@
 -- What comes of a request, and of words
 use Rattle.std.proofs.Common.{◌≡◌, ◌⊎◌, ◌≤◌, inl, inr, ℕ, List, length, refl, sym, subst}
-use Rattle.std.specs.Prelude.{Result, Ok, Err, IfErr, None, false, codes}
+use Rattle.std.specs.Prelude.{Result, Ok, Err, IfErr, IsErrAnd, None, false, codes}
 use Rattle.ember_boolean.specs.declared.writing.Output.{Output}
 use Rattle.ember_mesh_words.specs.declared.command.Command.{Command}
 use Rattle.ember_mesh_words.specs.declared.command.Command.TheVariants.{Boole, Help, Version}
@@ -18,7 +18,7 @@ use Rattle.ember_mesh_run.specs.declared.status.Status.{Status}
 use Rattle.ember_mesh_run.specs.declared.status.Status.TheVariants.{Done, Words, UnwrittenFormat, StepOfNoGrid, ReadFault, WriteFault, FileRefused, NoTriangles, NotClosed, ExprRefused, Unbounded, LongFile, TooManyTriangles, TooManyWritten, StepTooSmall, TooFar, OutOfMemory, Uncertified}
 
 -- what holds of want of memory holds of an error that it made
-pub memory_given : {T : Type 0} (P : Status → Type 0) (result : Result T Status) → IfErr result (λ status. status ≡ OutOfMemory) → P OutOfMemory → IfErr result P
+pub memory_given : {T : Type 0} (P : Status → Type 0) (result : Result T Status) → IsErrAnd result (λ status. status ≡ OutOfMemory) → P OutOfMemory → IfErr result P
 memory_given P (Ok x) e h = tt
 memory_given P (Err status) e h = subst P (sym e) h
 

@@ -36,7 +36,7 @@ returns-in-Err-Refused g c =
     let is : command_of words ≡ Err c.in-Err-Refused.why = subst (λ (fault : WordsFault). Reads (command_of words) (Err fault)) c.in-Err-Refused.field-0-is c.in-Err-Refused.ensures.command in
     call_serves words (Err c.in-Err-Refused.why) _ _ _ _ c.refuse_words.result e.outcome.0 is (record { same = refl; later = omega arith }) c.requires.begun (omega arith) (omega arith) (e.outcome.1, names_hold_the_same (g.T.Target.held c.args.target.now), refl) e.outcome.2 e.memory
 
-pub returns : goal.returns
-returns g c =
+pub returns-in-Err-OutOfMemory : goal.returns-in-Err-OutOfMemory
+returns-in-Err-OutOfMemory g c =
     let words = map string_bytes c.args.words.now in
     call_serves words (command_of words) _ _ _ _ _ _ refl (record { same = refl; later = omega arith }) c.requires.begun (omega arith) (omega arith) (words_without_memory words (command_of words) _ _ _ _ (names_hold_the_same (g.T.Target.held c.args.target.now)) refl refl) c.say_out_of_memory.ensures refl

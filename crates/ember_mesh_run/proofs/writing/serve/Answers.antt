@@ -24,8 +24,8 @@ returns-in-Ok-line_of-clause-outcome g c =
     let text = c.in-Ok-line_of.line.items in
     (text, unmet_outcome c.args.request.now shelf target c.in-Err.status text c.in-Err.ensures.stop c.in-Ok-line_of.ensures, subst (λ (text : List ℕ). TakesUntilFault err text) c.deref-in-Ok-line_of.ensures.value c.say-in-Ok-line_of.ensures)
 
-pub returns-clause-outcome : goal.returns-clause-outcome
-returns-clause-outcome g c =
+pub returns-in-Err-line_of-clause-outcome : goal.returns-in-Err-line_of-clause-outcome
+returns-in-Err-line_of-clause-outcome g c =
     let shelf = shelf_call g.S.Shelf.contents g.S.Shelf.faults g.S.Shelf.fault_at c.args.shelf.now c.write_solid.new.shelf in
     let target = target_call g.T.Target.held g.T.Target.begun g.T.Target.faults c.args.target.now c.write_solid.new.target in
     let text = line (codes "out of memory") in

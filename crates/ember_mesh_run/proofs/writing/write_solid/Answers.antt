@@ -22,7 +22,7 @@ pub returns-in_err-report-clause-stop : goal.returns-in_err-report-clause-stop
 returns-in_err-report-clause-stop g c =
     let shelf = shelf_call g.S.Shelf.contents g.S.Shelf.faults g.S.Shelf.fault_at c.args.shelf.now c.solid_output.new.shelf in
     let target = target_call g.T.Target.held g.T.Target.begun g.T.Target.faults c.args.target.now c.args.target.now in
-    memory_given (IsUnmet c.args.request.now shelf target) c.from_residual.result (search rules) (memory_is_unmet c.args.request.now shelf target (inl (names_hold_the_same (g.T.Target.held c.args.target.now))))
+    memory_given (IsUnmet c.args.request.now shelf target) c.from_residual.result c.from_residual.ensures.1 (memory_is_unmet c.args.request.now shelf target (inl (names_hold_the_same (g.T.Target.held c.args.target.now))))
 
 pub returns-in-Ok-write_file-clause-written : goal.returns-in-Ok-write_file-clause-written
 returns-in-Ok-write_file-clause-written g c =
