@@ -21,9 +21,9 @@ loop-name-preserved g c =
       later = omega (arith, i.later, e.later);
       count = omega (arith, i.count, ap length c.in_ok-push-in-Ok.ensures.items);
       contents = contents_more _ c.args.names.now c.loop-name.name-index _ _ _ _ c.loop-name-test.true i.contents c.in_ok-push-in-Ok.ensures.items (record {
-      tells = subst (λ (told : List ℕ → Option (List ℕ)). Tells (told (get_or c.args.names.now c.loop-name.name-index _)) c.in-Ok.bytes.items) i.same (subst (λ (name : List ℕ). Tells (g.S.Shelf.contents c.loop-name.shelf name) c.in-Ok.bytes.items) (c.as_str.ensures ∙ c.name-item.is) e.whole);
-      small = e.most;
-    });
+        tells = subst (λ (told : List ℕ → Option (List ℕ)). Tells (told (get_or c.args.names.now c.loop-name.name-index _)) c.in-Ok.bytes.items) i.same (subst (λ (name : List ℕ). Tells (g.S.Shelf.contents c.loop-name.shelf name) c.in-Ok.bytes.items) (c.as_str.ensures ∙ c.name-item.is) e.whole);
+        small = e.most;
+      });
     }
 
 pub status_after-requires-clause-small : goal.status_after-requires-clause-small

@@ -32,7 +32,7 @@ returns-in-Ok-write_file-clause-written g c =
       output = c.in-Ok.output;
       is_output = c.in-Ok.ensures.output;
       written = subst (λ (name : List ℕ). Puts held after name (Some c.in-Ok.output.bytes.items)) c.as_str.ensures
-      (subst (λ (bytes : List ℕ). Puts held after c.as_str.result.now (Some bytes)) c.deref.ensures.value c.in-Ok-write_file.ensures.written);
+          (subst (λ (bytes : List ℕ). Puts held after c.as_str.result.now (Some bytes)) c.deref.ensures.value c.in-Ok-write_file.ensures.written);
       text_is = c.in_ok-report.ensures;
     }
 
