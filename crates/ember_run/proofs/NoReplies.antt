@@ -9,8 +9,10 @@ use Rattle.ember_obj.specs.declared.fault.ObjFault.{ObjFault}
 use Rattle.ember_obj.specs.declared.fault.ObjFault.TheVariants as obj
 use Rattle.ember_run.specs.Statuses.{IsRefusal, hides_memory, is_before_files, is_refusal, refused_file}
 use Rattle.ember_run.specs.Devices.{ShelfCall}
+use Rattle.ember_run.specs.Held.{MayHold}
 use Rattle.ember_run.specs.NoReplies.{IsAfterFiles, IsOfWords, IsNoScene, IsNoReply, IsNoReplyToWords, with_others}
 use Rattle.ember_run.specs.Verdict.{Contents, Verdict, Unknown, Refused, after_scene, first_told}
+use Rattle.ember_run.proofs.HeldContents.{held_always, held_then}
 use Rattle.ember_run.specs.declared.status.LimitKind.TheVariants.{Triangles}
 use Rattle.ember_run.specs.declared.status.Status.{Status}
 use Rattle.ember_run.specs.declared.status.Status.TheVariants.{Done, Words, ReadFault, WriteFault, ObjRefused, MeshRefused, ExprRefused, Unbounded, Limit, NotClear, FaceRefused, OutOfMemory}
@@ -139,6 +141,7 @@ memory_after status e = subst (λ (status : Status). IsAfterFiles status) (sym e
 memory_is_no_reply_to_any : (verdict : Contents → Verdict) (names : List (List ℕ)) (shelf : ShelfCall) → IsNoReply verdict names shelf OutOfMemory
 memory_is_no_reply_to_any verdict names shelf = record {
   refused = λ r. absurd (cc);
+  held = λ r. absurd (cc);
   before_files = λ b. absurd (cc);
   in_file = λ i e. absurd (none_some e);
   one_of = λ i e. absurd (none_some e);
@@ -192,7 +195,26 @@ words_are_no_reply after next places m names shelf status count no_reply =
     let kind = (no_reply (λ t. Unknown)).of_words in
     record {
       refused = λ r. subst (λ (v : Verdict). IsRefusal status v) (sym (words_refuse after next places m status no_reply r contents all)) refl;
+      held = λ r.
+          held_always shelf.told names (λ contents. IsRefusal status (asks after next places contents))
+          (λ contents l. subst (λ (v : Verdict). IsRefusal status v) (sym (words_refuse after next places m status no_reply r contents (l ∙ count))) refl);
       before_files = λ b. words_refuse after next places m status no_reply (before_is_refusal status b) (first_told 0 contents) (length_told 0 contents ∙ all);
+      in_file = λ i e. absurd (words_no_file status i kind e);
+      one_of = λ i e. absurd (words_no_file status i kind e);
+      read_fault = λ i e. absurd (subst (λ (status : Status). IsOfWords status) e kind);
+      memory = words_memory status kind;
+      never = (λ e. subst (λ (status : Status). IsOfWords status) e kind, λ e. subst (λ (status : Status). IsOfWords status) e kind, λ e. subst (λ (status : Status). IsOfWords status) e kind);
+    }
+
+-- so is one of a command without files
+pub words_alone_are_no_reply : (verdict : Verdict) (names : List (List ℕ)) (shelf : ShelfCall) (status : Status) → IsNoReplyToWords verdict status → IsNoReply (λ contents. verdict) names shelf status
+words_alone_are_no_reply verdict names shelf status no_reply =
+    let kind = no_reply.of_words in
+    let is : is_refusal status ≡ true → IsRefusal status verdict = λ r. subst (λ (v : Verdict). IsRefusal status v) (sym (no_reply.refused r)) refl in
+    record {
+      refused = is;
+      held = λ r. held_always shelf.told names (λ contents. IsRefusal status verdict) (λ contents l. is r);
+      before_files = λ b. no_reply.refused (before_is_refusal status b);
       in_file = λ i e. absurd (words_no_file status i kind e);
       one_of = λ i e. absurd (words_no_file status i kind e);
       read_fault = λ i e. absurd (subst (λ (status : Status). IsOfWords status) e kind);
@@ -212,6 +234,9 @@ scene_is_no_reply after next places m names shelf status t count given no_reply 
     let s = no_reply (next m t) in
     record {
       refused = λ r. subst (λ (v : Verdict). IsRefusal status v) (sym (scene_asked after next places m t given contents (all ∙ count))) (s.refused r);
+      held = λ r.
+          held_then shelf.told names (λ contents. IsRefusal status (after_scene places contents (next m t))) (λ contents. IsRefusal status (asks after next places contents))
+          (λ contents l h. subst (λ (v : Verdict). IsRefusal status v) (sym (scene_asked after next places m t given contents (l ∙ count))) h) (s.held r);
       before_files = λ b. scene_asked after next places m t given (first_told 0 contents) (length_told 0 contents ∙ all ∙ count) ∙ s.before_files b;
       in_file = λ i e others l. subst (λ (v : Verdict). IsRefusal status v) (sym (scene_asked after next places m t given (with_others i contents others) (length_others i contents others (l ∙ sym all) ∙ all ∙ count))) (s.in_file i e others l);
       one_of = s.one_of;
@@ -221,9 +246,10 @@ scene_is_no_reply after next places m names shelf status t count given no_reply 
     }
 
 -- ---- statuses after all files
-pub after_no_reply : (verdict : Contents → Verdict) (names : List (List ℕ)) (shelf : ShelfCall) (status : Status) → IsAfterFiles status → (is_refusal status ≡ true → IsRefusal status (verdict (map shelf.told names))) → ((i : ℕ) → status ≢ ReadFault i) → (status ≢ Done) × (status ≢ Words) × (status ≢ WriteFault) → IsNoReply verdict names shelf status
-after_no_reply verdict names shelf status kind refused only never = record {
+pub after_no_reply : (verdict : Contents → Verdict) (names : List (List ℕ)) (shelf : ShelfCall) (status : Status) → IsAfterFiles status → (is_refusal status ≡ true → IsRefusal status (verdict (map shelf.told names))) → (is_refusal status ≡ true → MayHold shelf.told names (λ contents. IsRefusal status (verdict contents))) → ((i : ℕ) → status ≢ ReadFault i) → (status ≢ Done) × (status ≢ Words) × (status ≢ WriteFault) → IsNoReply verdict names shelf status
+after_no_reply verdict names shelf status kind refused held only never = record {
   refused = refused;
+  held = held;
   before_files = λ b. let h : true ≡ false = sym b ∙ kind.not_before in absurd (cc);
   in_file = λ i e. absurd (none_some (sym kind.no_file ∙ e));
   one_of = λ i e. absurd (none_some (sym kind.no_file ∙ e));

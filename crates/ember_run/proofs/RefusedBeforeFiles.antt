@@ -15,7 +15,8 @@ use Rattle.ember_run.specs.declared.status.Status.{Status}
 use Rattle.ember_run.specs.declared.status.Status.TheVariants.{Unbounded}
 use Rattle.ember_run.proofs.NoReplies.{asks, length_told}
 
-abbrev is_known : Verdict → Bool
+-- whether the verdict depends on no contents that aren't told
+abbrev pub is_known : Verdict → Bool
 is_known Unknown = false
 is_known (Refused status) = true
 is_known (Writes output) = true

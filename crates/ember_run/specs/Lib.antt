@@ -8,6 +8,7 @@ pub mod Outputs
 pub mod OfScenes
 pub mod Slices
 pub mod Verdict
+pub mod Held
 pub mod Accepted
 pub mod Statuses
 pub mod Reported

@@ -3,6 +3,7 @@ use Rattle.std.specs.Prelude.{◌≡◌, ◌≢◌, ◌≤◌, ⊤, ℕ, ◌-◌
 use Rattle.ember_model.specs.declared.tri.Tri.{Tri}
 use Rattle.ember_run.specs.Statuses.{IsRefusal, hides_memory, is_before_files, is_refusal, refused_file}
 use Rattle.ember_run.specs.Devices.{ShelfCall, HasShelfFailed}
+use Rattle.ember_run.specs.Held.{MayHold}
 use Rattle.ember_run.specs.Verdict.{Contents, Verdict, Unknown, Refused, after_scene, first_told}
 use Rattle.ember_run.specs.declared.status.Status.{Status}
 use Rattle.ember_run.specs.declared.status.Status.TheVariants.{Done, Words, ReadFault, WriteFault, ExprRefused, Unbounded, OutOfMemory}
@@ -21,6 +22,8 @@ pub record IsNoReply (verdict : Contents → Verdict) (names : List (List ℕ)) 
     (status : Status) : Type 0 where
   -- a refusal is that of the verdict
   pub refused : is_refusal status ≡ true → IsRefusal status (verdict (map shelf.told names))
+  -- it is that of contents that the files may have
+  pub held : is_refusal status ≡ true → MayHold shelf.told names (λ contents. IsRefusal status (verdict contents))
   -- a refusal of the words or of the expression doesn't depend on any file
   pub before_files : is_before_files status ≡ true → verdict (first_told 0 (map shelf.told names)) ≡ Refused status
   -- a refusal of file i doesn't depend on the contents of the files after it

@@ -101,6 +101,13 @@ AsksRefusal status (Refused refusal) = refusal ≡ status
 AsksRefusal status (Writes output) = ⊥
 AsksRefusal status (Slices at bytes) = IsSliceRefusal at bytes status
 
+-- the verdict is told, and is an output with these bytes
+abbrev pub AsksText : Verdict → List ℕ → Type 0
+AsksText Unknown bytes = ⊥
+AsksText (Refused refusal) bytes = ⊥
+AsksText (Writes output) bytes = IsOutput output bytes
+AsksText (Slices at file) bytes = IsSlice at file bytes
+
 -- the verdict, if told, is an output, and it was written
 abbrev pub IsWritten : Verdict → Option (List ℕ) → Option (List ℕ) → Type 0
 IsWritten verdict old new = (bytes : List ℕ) × IsText verdict bytes × Appends old new bytes
@@ -108,3 +115,11 @@ IsWritten verdict old new = (bytes : List ℕ) × IsText verdict bytes × Append
 -- the verdict, if told, is an output, and a prefix of it was written
 abbrev pub IsBegun : Verdict → Option (List ℕ) → Option (List ℕ) → Type 0
 IsBegun verdict old new = (bytes : List ℕ) × IsText verdict bytes × AppendsPrefix old new bytes
+
+-- the verdict is told, and is an output that was written
+abbrev pub HasWritten : Verdict → Option (List ℕ) → Option (List ℕ) → Type 0
+HasWritten verdict old new = (bytes : List ℕ) × AsksText verdict bytes × Appends old new bytes
+
+-- the verdict is told, and is an output of which a prefix was written
+abbrev pub HasBegun : Verdict → Option (List ℕ) → Option (List ℕ) → Type 0
+HasBegun verdict old new = (bytes : List ℕ) × AsksText verdict bytes × AppendsPrefix old new bytes

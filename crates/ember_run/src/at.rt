@@ -10,6 +10,7 @@ ghost use Rattle.ember_run.specs.OptionalExpr.{given_formula};
 ghost use Rattle.ember_run.specs.Outputs.{count_line, count_lines, counts_text, value_line, value_lines};
 ghost use Rattle.ember_run.specs.Statuses.{IsRefusal, IsText, is_refusal};
 ghost use Rattle.ember_run.specs.Devices.{shelf_call};
+ghost use Rattle.ember_run.specs.Held.{MayHold};
 ghost use Rattle.ember_run.specs.NoReplies.{IsAfterFiles, IsNoReply};
 ghost use Rattle.ember_run.specs.Verdict.{at_verdict, counts_verdict};
 
@@ -164,6 +165,8 @@ pub fn at_output<S: Shelf>(
     ensures later { S.faults shelf.old ≤ S.faults shelf.new }
     ensures text { IfOk result (λ text.
         IsText (at_verdict point.now expr.now places (map (S.contents shelf.old) files.now)) text.items) }
+    ensures held { IfOk result (λ text. MayHold (S.contents shelf.old) files.now
+        (λ contents. IsText (at_verdict point.now expr.now places contents) text.items)) }
     ensures no_reply { IfErr result
         (IsNoReply (at_verdict point.now expr.now places) files.now
         (shelf_call S.contents S.faults S.fault_at shelf.old shelf.new)) }

@@ -6,6 +6,7 @@ ghost use Rattle.ember_query.specs.Solids.{IsSolidText};
 ghost use Rattle.ember_run.specs.Reported.{IsReportOfVerdictIfAsked};
 ghost use Rattle.ember_run.specs.Statuses.{IsText};
 ghost use Rattle.ember_run.specs.Devices.{shelf_call};
+ghost use Rattle.ember_run.specs.Held.{MayHold};
 ghost use Rattle.ember_run.specs.NoReplies.{IsNoReply, IsNoReplyToWords};
 ghost use Rattle.ember_run.specs.Solids.{IsReportTextIfAsked, IsReportText, line_if_asked};
 ghost use Rattle.ember_run.specs.Verdict.{bool_verdict, demo_verdict};
@@ -73,6 +74,8 @@ pub fn boole_output<S: Shelf, C: Fn(&Query) -> Result<Answer, OutOfMemory>>(
     ensures later { S.faults shelf.old ≤ S.faults shelf.new }
     ensures text { IfOk result (λ reply.
         IsText (bool_verdict expr.now places (map (S.contents shelf.old) files.now)) reply.text.items) }
+    ensures held { IfOk result (λ reply. MayHold (S.contents shelf.old) files.now
+        (λ contents. IsText (bool_verdict expr.now places contents) reply.text.items)) }
     ensures report { IfOk result (λ reply.
         IsReportOfVerdictIfAsked reported (bool_verdict expr.now places (map
         (S.contents shelf.old) files.now)) reply.report.items) }

@@ -4,6 +4,7 @@ ghost use Rattle.ember_query.specs.Queries.{IsExecutor};
 ghost use Rattle.ember_run.specs.PairLists.{IsPairsText};
 ghost use Rattle.ember_run.specs.Statuses.{IsText};
 ghost use Rattle.ember_run.specs.Devices.{shelf_call};
+ghost use Rattle.ember_run.specs.Held.{MayHold};
 ghost use Rattle.ember_run.specs.NoReplies.{IsNoReply};
 ghost use Rattle.ember_run.specs.Verdict.{pairs_verdict};
 
@@ -49,6 +50,8 @@ pub fn pairs_output<S: Shelf, C: Fn(&Query) -> Result<Answer, OutOfMemory>>(
     ensures later { S.faults shelf.old ≤ S.faults shelf.new }
     ensures text { IfOk result
         (λ text. IsText (pairs_verdict places (map (S.contents shelf.old) files.now)) text.items) }
+    ensures held { IfOk result (λ text. MayHold (S.contents shelf.old) files.now
+        (λ contents. IsText (pairs_verdict places contents) text.items)) }
     ensures no_reply { IfErr result
         (IsNoReply (pairs_verdict places) files.now
         (shelf_call S.contents S.faults S.fault_at shelf.old shelf.new)) }

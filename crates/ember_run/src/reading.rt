@@ -1,7 +1,9 @@
 // The bytes and the triangles of a file.
 ghost use Rattle.std.specs.Prelude.{ℕ, List, ◌≡◌, ◌≢◌, ◌≤◌, length, true, false, All, Some, Err, IfOk, IfErr};
 ghost use Rattle.ember_io.specs.Causes.{HasRisen};
+ghost use Rattle.ember_io.specs.Shelves.{Tells};
 ghost use Rattle.ember_model.specs.declared.tri.Tri.{Tri};
+ghost use Rattle.ember_run.specs.Held.{MayHoldOne};
 ghost use Rattle.ember_run.specs.Statuses.{IsRefusal, IsSameIfTold, hides_memory, is_refusal, refused_file};
 ghost use Rattle.ember_run.specs.Verdict.{Verdict, after_bytes, after_file};
 
@@ -30,9 +32,13 @@ pub fn read_bytes<S: Shelf>(
     ensures later { S.faults shelf.old ≤ S.faults shelf.new }
     ensures ok { IfOk result (λ bytes. (next : List ℕ → Verdict) →
         IsSameIfTold (after_bytes number (S.contents shelf.old name.now) next) (next bytes.items)) }
+    ensures held { IfOk result (λ bytes. Tells (S.contents shelf.old name.now) bytes.items) }
     ensures few { IfOk result (λ bytes. length bytes.items ≤ 268435456) }
     ensures refused { IfErr result (λ status. is_refusal status ≡ true → (next : List ℕ → Verdict) →
         IsRefusal status (after_bytes number (S.contents shelf.old name.now) next)) }
+    ensures refused_held { IfErr result (λ status. is_refusal status ≡ true →
+        MayHoldOne (S.contents shelf.old name.now)
+        (λ content. (next : List ℕ → Verdict) → IsRefusal status (after_bytes number content next))) }
     ensures file { IfErr result (λ status. is_refusal status ≡ true → refused_file status ≡ Some number) }
     ensures memory { IfErr result (λ status. hides_memory status ≡ false) }
     ensures read_fault { (i : ℕ) → result ≡ Err (Status.ReadFault i) →
@@ -65,10 +71,16 @@ pub fn read_file<S: Shelf>(
     ensures later { S.faults shelf.old ≤ S.faults shelf.new }
     ensures ok { IfOk result (λ soup. (next : List Tri → Verdict) →
         IsSameIfTold (after_file places number (S.contents shelf.old name.now) next) (next soup.tris)) }
+    ensures held { IfOk result (λ soup. MayHoldOne (S.contents shelf.old name.now)
+        (λ content. (next : List Tri → Verdict) →
+        IsSameIfTold (after_file places number content next) (next soup.tris))) }
     ensures few { IfOk result (λ soup. length soup.tris ≤ 262144) }
     ensures mesh { IfOk result (λ soup. All (λ t. t.mesh ≡ number) soup.tris) }
     ensures refused { IfErr result (λ status. is_refusal status ≡ true → (next : List Tri → Verdict) →
         IsRefusal status (after_file places number (S.contents shelf.old name.now) next)) }
+    ensures refused_held { IfErr result (λ status. is_refusal status ≡ true →
+        MayHoldOne (S.contents shelf.old name.now)
+        (λ content. (next : List Tri → Verdict) → IsRefusal status (after_file places number content next))) }
     ensures file { IfErr result (λ status. is_refusal status ≡ true → refused_file status ≡ Some number) }
     ensures memory { IfErr result (λ status. hides_memory status ≡ false) }
     ensures read_fault { (i : ℕ) → result ≡ Err (Status.ReadFault i) →

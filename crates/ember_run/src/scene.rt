@@ -6,6 +6,7 @@ ghost use Rattle.std.specs.Prelude.{ℕ, List, ◌≡◌, ◌≢◌, ◌≤◌, 
 ghost use Rattle.ember_io.specs.Causes.{HasRisen};
 ghost use Rattle.ember_mesh.specs.Joined.{AreNumbered, triangles_of};
 ghost use Rattle.ember_model.specs.declared.tri.Tri.{Tri};
+ghost use Rattle.ember_run.specs.Held.{MayHold, MayHoldOne};
 ghost use Rattle.ember_run.specs.Scenes.{HasParts};
 ghost use Rattle.ember_run.specs.Statuses.{IsRefusal, IsSameIfTold, hides_memory, is_refusal, refused_file};
 ghost use Rattle.ember_run.specs.Devices.{shelf_call};
@@ -34,9 +35,15 @@ fn read_mesh<S: Shelf>(
     ensures later { S.faults shelf.old ≤ S.faults shelf.new }
     ensures ok { IfOk result (λ mesh. (next : List Tri → Verdict) →
         IsSameIfTold (after_mesh places number (S.contents shelf.old name.now) next) (next mesh.tris)) }
+    ensures held { IfOk result (λ mesh. MayHoldOne (S.contents shelf.old name.now)
+        (λ content. (next : List Tri → Verdict) →
+        IsSameIfTold (after_mesh places number content next) (next mesh.tris))) }
     ensures number { IfOk result (λ mesh. All (λ t. t.mesh ≡ number) mesh.tris) }
     ensures refused { IfErr result (λ status. is_refusal status ≡ true → (next : List Tri → Verdict) →
         IsRefusal status (after_mesh places number (S.contents shelf.old name.now) next)) }
+    ensures refused_held { IfErr result (λ status. is_refusal status ≡ true →
+        MayHoldOne (S.contents shelf.old name.now)
+        (λ content. (next : List Tri → Verdict) → IsRefusal status (after_mesh places number content next))) }
     ensures file { IfErr result (λ status. is_refusal status ≡ true → refused_file status ≡ Some number) }
     ensures memory { IfErr result (λ status. hides_memory status ≡ false) }
     ensures read_fault { (i : ℕ) → result ≡ Err (Status.ReadFault i) →
@@ -67,6 +74,8 @@ fn read_parts<S: Shelf>(
     ensures contents { S.contents shelf.new ≡ S.contents shelf.old }
     ensures later { S.faults shelf.old ≤ S.faults shelf.new }
     ensures parts { IfOk result (λ parts. HasParts places (map (S.contents shelf.old) files.now) parts.items) }
+    ensures held { IfOk result (λ parts. MayHold (S.contents shelf.old) files.now
+        (λ contents. HasParts places contents parts.items)) }
     ensures no_reply { IfErr result
         (IsNoScene places files.now (shelf_call S.contents S.faults S.fault_at shelf.old shelf.new)) }
 {
@@ -124,6 +133,9 @@ pub fn read_scene<S: Shelf>(
     ensures later { S.faults shelf.old ≤ S.faults shelf.new }
     ensures ok { IfOk result (λ scene. (next : List Tri → Verdict) →
         IsSameIfTold (after_scene places (map (S.contents shelf.old) files.now) next) (next scene.tris)) }
+    ensures held { IfOk result (λ scene. MayHold (S.contents shelf.old) files.now
+        (λ contents. (next : List Tri → Verdict) →
+        IsSameIfTold (after_scene places contents next) (next scene.tris))) }
     ensures meshes { IfOk result (λ scene. scene.meshes ≡ length files.now) }
     ensures no_reply { IfErr result
         (IsNoScene places files.now (shelf_call S.contents S.faults S.fault_at shelf.old shelf.new)) }

@@ -4,6 +4,7 @@ ghost use Rattle.ember_model.specs.FaceFiles.{IsFaceFile};
 ghost use Rattle.ember_model.specs.Valid.{IsValidFace};
 ghost use Rattle.ember_run.specs.Statuses.{IsText, is_refusal};
 ghost use Rattle.ember_run.specs.Devices.{shelf_call};
+ghost use Rattle.ember_run.specs.Held.{MayHold};
 ghost use Rattle.ember_run.specs.NoReplies.{IsNoReply};
 ghost use Rattle.ember_run.specs.Slices.{IsSlice, IsSliceRefusal};
 ghost use Rattle.ember_run.specs.Verdict.{file_at, slice_verdict};
@@ -83,6 +84,8 @@ pub fn slice_output<S: Shelf>(
     ensures contents { S.contents shelf.new ≡ S.contents shelf.old }
     ensures later { S.faults shelf.old ≤ S.faults shelf.new }
     ensures text { IfOk result (λ text. IsText (slice_verdict at (S.contents shelf.old file.now)) text.items) }
+    ensures held { IfOk result (λ text. MayHold (S.contents shelf.old) (file.now ∷ [])
+        (λ contents. IsText (slice_verdict at (file_at contents 1)) text.items)) }
     ensures no_reply { IfErr result
         (IsNoReply (λ contents. slice_verdict at (file_at contents 1)) (file.now ∷ [])
         (shelf_call S.contents S.faults S.fault_at shelf.old shelf.new)) }

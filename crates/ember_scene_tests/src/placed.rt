@@ -151,30 +151,3 @@ fn no_surfaces_are_no_scene(rt: HostRuntime) -> Result<(), Fail> {
     assert_eq!(rt; fault_of(rt.alloc(), &[])?, Some(SceneFault::NoTriangles));
     Ok(())
 }
-
-// The surface of a file, each triangle this many times.
-fn repeated(alloc: Global, bytes: &[u8], times: u32) -> Result<Surface<'_>, Fail> {
-    let surface = surface_of(alloc, bytes)?;
-    let mut facets = Vec::new(alloc);
-    for _ in 0..times {
-        facets.extend_from_slice(surface.facets.as_slice())?;
-    }
-    Ok(Surface {
-        vertices: surface.vertices,
-        facets,
-    })
-}
-
-#[test]
-fn a_surface_of_too_many_triangles_ends_the_search_for_open_ones(
-    rt: HostRuntime,
-) -> Result<(), Fail> {
-    let large = repeated(rt.alloc(), TETRA, 65_537)?;
-    let open = surface_of(rt.alloc(), OPEN)?;
-    let surfaces = vec![in rt.alloc(); large, open]?;
-    assert_eq!(rt;
-        place(rt.alloc(), &surfaces, Wanted::Nice)?.err(),
-        Some(SceneFault::TooManyTriangles(262_151))
-    );
-    Ok(())
-}

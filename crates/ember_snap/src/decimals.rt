@@ -1,5 +1,5 @@
 // Steps as decimals.
-ghost use Rattle.std.specs.Prelude.{◌≡◌, ◌<◌, ◌≤◌, ◌*◌, ◌^◌, ◌-◌, ℤ, true, IfSome, IfNone};
+ghost use Rattle.std.specs.Prelude.{◌≡◌, ◌<◌, ◌≤◌, ◌*◌, ◌^◌, ◌-◌, ℤ, true, unsigned_abs, IfSome, IfNone};
 ghost use Rattle.ember_number.specs.Fractions.{is_below_limit};
 ghost use Rattle.ember_number.specs.Values.{value_of};
 ghost use Rattle.ember_snap.specs.Decimals.{negated, IsMultiple, IsReduced, IsStepOfTrillionths, IsStepOf, IsLeastStepOf};
@@ -38,6 +38,7 @@ fn negated<'a>(number: &Number<'a>) -> Number<'a>
 // How many trillionths the number is, if it is a whole number of them and below 10^15 in size.
 fn trillionths_of(number: &Number) -> Option<i128>
     ensures some { IfSome result (IsMultiple TRILLIONTHS (value_of number.now)) }
+    ensures small { IfSome result (λ trillionths. unsigned_abs trillionths < 2 ^ 106) }
     ensures none { IfNone result ((trillionths : ℤ) → IsMultiple TRILLIONTHS (value_of number.now) trillionths →
         is_below_limit (value_of number.now) ≡ true → ⊥) }
 {

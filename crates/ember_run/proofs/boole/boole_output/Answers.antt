@@ -4,8 +4,11 @@ use Rattle.ember_run.specs.Outputs.{SolidFaces}
 use Rattle.ember_run.specs.Reported.{IsReportOfVerdictIfAsked}
 use Rattle.ember_run.specs.Statuses.{IsText}
 use Rattle.ember_run.specs.Devices.{shelf_call}
+use Rattle.ember_run.specs.Held.{MayHold}
 use Rattle.ember_run.specs.NoReplies.{IsNoReply}
 use Rattle.ember_run.specs.Verdict.{Writes, after_bounded_expr, bool_verdict}
+use Rattle.ember_run.proofs.HeldContents.{held_then}
+use Rattle.ember_run.proofs.SceneVerdicts.{SceneRead}
 use Rattle.ember_run.proofs.SolidFiles.{solid_file}
 use Rattle.ember_run.proofs.SolidVerdicts.{solid_reported, solid_written}
 use Rattle.ember_run.proofs.NoReplies.{scene_is_no_reply, words_are_no_reply}
@@ -36,3 +39,10 @@ returns-clause-report g c =
     let a = c.args in let told = g.S.Shelf.contents a.shelf.now in let names = c.items-files.result.now in
     subst (λ (names : List (List ℕ)). IsReportOfVerdictIfAsked a.reported (bool_verdict a.expr.now a.places (map told names)) c.in_ok-reply.reply.report.items) c.items-files.ensures
     (solid_reported a.reported a.expr.now a.places _ (map told names) _ _ _ (length-map names told) c.in-Ok.ensures.expr c.in-Ok-read_scene.ensures.ok c.in_ok-reply.ensures.report)
+
+pub returns-clause-held : goal.returns-clause-held
+returns-clause-held g c =
+    let a = c.args in let told = g.S.Shelf.contents a.shelf.now in let names = c.items-files.result.now in let scene = c.in-Ok-read_scene.scene in
+    subst (λ (names : List (List ℕ)). MayHold told names (λ contents. IsText (bool_verdict a.expr.now a.places contents) c.in_ok-reply.reply.text.items)) c.items-files.ensures
+    (held_then told names (λ contents. SceneRead a.places contents scene.tris) (λ contents. IsText (bool_verdict a.expr.now a.places contents) c.in_ok-reply.reply.text.items)
+    (λ contents l read. solid_written a.expr.now a.places _ contents _ _ _ l c.in-Ok.ensures.expr read (solid_file a.expr.now _ _ scene _ c.in-Ok.ensures.expr c.in_ok-reply.ensures.text)) c.in-Ok-read_scene.ensures.held)
