@@ -5,3 +5,5 @@ pub mod Shown
 pub mod ErrTexts
 pub mod KeptNames
 pub mod Outcomes
+pub mod ShownSteps
+pub mod Appended

@@ -1,5 +1,6 @@
 -- The number of a status, and its line on standard error
-use Rattle.std.specs.Prelude.{⊤, ℕ, ℤ, ◌+ℤ◌, ◌*ℤ◌, ◌<◌, ◌+◌, ◌-◌, ◌*◌, ◌^◌, List, [], ◌++◌, length, codes, decimal, get_or, pos, nat_le, unsigned_abs, if◌then◌else◌, string_bytes}
+use Rattle.std.specs.Prelude.{⊤, ℕ, ℤ, ◌+ℤ◌, ◌*ℤ◌, ◌<◌, ◌+◌, ◌-◌, ◌*◌, ◌^◌, List, [], ◌++◌, length, codes, decimal, get_or, pos, nat_le, Some, None, unsigned_abs, if◌then◌else◌, string_bytes}
+use Rattle.std.specs.declared.option.Option.{Option}
 use Rattle.ember_expr.specs.declared.fault.ExprFault.{ExprFault}
 use Rattle.ember_expr.specs.declared.fault.ExprFault.TheVariants as expr
 use Rattle.ember_format.specs.declared.format.Format.{Format}
@@ -144,10 +145,18 @@ open_text o format =
     (codes " " ++ (decimal o.place ++ codes "; close the hole in the modeller")))))))))
 
 -- ---- the solid
+-- the plane of the result that has no triangles
+abbrev pub plane_without : SolidFault → Option ℕ
+plane_without (solid.NotCut (mesh.NoTriangles plane)) = Some plane
+plane_without fault = None
+
+-- what has no triangles: one plane, or none is known
+abbrev pub not_found_text : Option ℕ → List ℕ
+not_found_text (Some plane) = codes "triangles of plane " ++ (decimal plane ++ codes " not found")
+not_found_text None = codes "triangles of the result not found"
+
 abbrev pub solid_text : SolidFault → List ℕ
-solid_text (solid.NotCut (mesh.NoTriangles plane)) =
-    codes "triangles of plane " ++ (decimal plane ++ codes " not found")
-solid_text fault = codes "triangles of the result not found"
+solid_text fault = not_found_text (plane_without fault)
 
 -- ---- all of them
 -- why a request isn't met

@@ -1,7 +1,7 @@
 // The line on standard error of a request that isn't met, or of words that are refused.
 ghost use Rattle.std.specs.Prelude.{◌≡◌, ◌++◌, ◌+◌, ◌<◌, codes, decimal, map, IfOk, OnOk, string_bytes};
 ghost use Rattle.ember_snap.specs.Steps.{IsStep};
-ghost use Rattle.ember_mesh_run.specs.Lines.{IsShown, expr_text, file_text, line, noun_of, open_text, place_text, refusal_text, solid_text, step_text, why_of, word_text, word_at};
+ghost use Rattle.ember_mesh_run.specs.Lines.{IsShown, expr_text, file_text, line, noun_of, open_text, place_text, plane_without, refusal_text, solid_text, step_text, why_of, word_text, word_at};
 
 use crate::status::Status;
 use crate::texts::{line, name_among, put_corner, put_count, put_step, wanted_text};
@@ -171,16 +171,26 @@ fn put_not_closed(
     put_open(fault, format, text)
 }
 
+// The plane of the result that has no triangles.
+fn plane_without(fault: &SolidFault) -> Option<u32>
+    ensures { result ≡ plane_without fault.now }
+{
+    match fault {
+        SolidFault::NotCut(TrianglesFault::NoTriangles(plane)) => Some(*plane),
+        _ => None,
+    }
+}
+
 fn put_solid_fault(fault: &SolidFault, text: &mut Vec<u8>) -> Result<(), OutOfMemory>
     ensures { OnOk result (text.new.items ≡ text.old.items ++ solid_text fault.now) }
 {
-    match fault {
-        SolidFault::NotCut(TrianglesFault::NoTriangles(plane)) => {
+    match plane_without(fault) {
+        Some(plane) => {
             text.extend_from_slice(b"triangles of plane ")?;
-            put_count(u64::from(*plane), text)?;
+            put_count(u64::from(plane), text)?;
             text.extend_from_slice(b" not found")
         }
-        _ => text.extend_from_slice(b"triangles of the result not found"),
+        None => text.extend_from_slice(b"triangles of the result not found"),
     }
 }
 

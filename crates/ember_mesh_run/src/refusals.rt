@@ -1,6 +1,8 @@
 // The statuses of files that give no output.
-ghost use Rattle.std.specs.Prelude.{◌<◌, ◌≤◌, length, All};
+ghost use Rattle.std.specs.Prelude.{◌≡◌, ◌<◌, ◌≤◌, length, All, IfOk, string_bytes};
 ghost use Rattle.ember_boolean.specs.Files.{IsSmall};
+ghost use Rattle.ember_file.specs.Faults.{fault_of};
+ghost use Rattle.ember_file.specs.Reasons.{reason_of};
 ghost use Rattle.ember_mesh_run.specs.Statuses.{IsRefusalStatus, IsStatusOf, NamesFile};
 
 use crate::status::Status;
@@ -8,7 +10,17 @@ use ember_boolean::{BooleanFault, MeshFile};
 use ember_file::{FileFault, put_reason};
 use ember_format::format_of;
 use ember_scene::{Open, SceneFault};
-use std::alloc::Global;
+use std::alloc::{AllocError, Global};
+
+// Why a file is refused for this fault.
+fn reason_in(alloc: Global, file: &MeshFile, fault: &FileFault) -> Result<String, AllocError>
+    ensures { IfOk result (λ reason. string_bytes reason ≡
+        reason_of file.now.bytes.now (fault_of fault.now)) }
+{
+    let mut reason = String::new(alloc);
+    put_reason(file.bytes, fault, &mut reason)?;
+    Ok(reason)
+}
 
 // The file with this index is refused for this fault.
 fn refused(alloc: Global, files: &[MeshFile], index: u32, fault: &FileFault) -> Status
@@ -17,9 +29,8 @@ fn refused(alloc: Global, files: &[MeshFile], index: u32, fault: &FileFault) -> 
     ensures { IsRefusalStatus files.now index fault.now result }
 {
     let file = files[index as usize];
-    let mut reason = String::new(alloc);
-    match put_reason(file.bytes, fault, &mut reason) {
-        Ok(()) => Status::FileRefused(index + 1, reason),
+    match reason_in(alloc, &file, fault) {
+        Ok(reason) => Status::FileRefused(index + 1, reason),
         Err(_) => Status::OutOfMemory,
     }
 }

@@ -65,8 +65,13 @@ fn put_all_counts(
 ) -> Result<(), OutOfMemory>
     ensures { OnOk result (text.new.items ≡ text.old.items ++ counts_lines names.now counts.now) }
 {
-    for (name, counts) in names.iter().zip(counts) {
+    let mut file = 0;
+    for name in names {
+        let Some(counts) = counts.get(file) else {
+            return Ok(());
+        };
         put_counts(alloc, name.as_str().as_bytes(), counts, text)?;
+        file += 1;
     }
     Ok(())
 }
