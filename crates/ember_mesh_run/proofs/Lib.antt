@@ -7,3 +7,4 @@ pub mod KeptNames
 pub mod Outcomes
 pub mod ShownSteps
 pub mod Appended
+pub mod CountLines

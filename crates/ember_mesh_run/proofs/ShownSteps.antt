@@ -1,6 +1,5 @@
 -- A step as a decimal.
-use Rattle.std.proofs.Common.{◌≡◌, ℕ, Bool, true, false, cond, codes, nat_le, refl, ◌+◌, ◌*◌, ◌^◌, ◌<◌, ℤ, pos, sym, ap, ◌∙◌, arith}
-use Rattle.std.proofs.lemmas.Bool.Decides.{nat_tests}
+use Rattle.std.proofs.Common.{◌≡◌, ℕ, ◌+◌, ◌*◌, ◌^◌, ◌<◌, ℤ, pos, sym, ap, ◌∙◌, arith}
 use Rattle.std.specs.Int.RustNames.{unsigned_abs}
 use Rattle.ember_number.specs.Fractions.{Fraction}
 use Rattle.ember_round.specs.Decimals.{decimal_text}
@@ -10,8 +9,7 @@ use Rattle.ember_wide.specs.Whole.{size_of, value_of}
 use Rattle.ember_wide.proofs.Determinants.{size_of_value}
 use Rattle.ember_written.proofs.Signs.{decimal_of_ratio, fits_with_places}
 use Rattle.ember_snap.specs.declared.steps.Step.{Step}
-use Rattle.ember_written.specs.Decimals.{decimal_of, IsTooLong}
-use Rattle.ember_mesh_run.specs.Lines.{step_text, shown}
+use Rattle.ember_mesh_run.specs.Lines.{step_text}
 
 abbrev over : ℕ → ℤ → Fraction
 over d z = record { numerator = z; denominator = d }
@@ -26,20 +24,3 @@ step_fits w s p small e =
 pub step_shown : (w : Wide) (s : Step) → 0 < s.denominator → s.denominator < 2 ^ 64 → value_of w ≡ pos s.numerator → decimal_text w.negative (nearest_whole (size_of w.size * 10 ^ 12) s.denominator) 12 ≡ step_text s
 step_shown w s p small e =
     decimal_of_ratio (record { numerator = w; denominator = s.denominator; positive = p; small = omega (arith, small) }) (over s.denominator (pos s.numerator)) (ap (over s.denominator) e) 12
-
--- ---- places in the user's unit
--- a number that isn't too long is shown
-pub short_is_shown : (v : Fraction) → (IsTooLong v → ⊥) → decimal_of v 12 ≡ shown v
-short_is_shown v short = by (nat_le (10 ^ 21 * v.denominator) (unsigned_abs v.numerator)) refl
-  where
-    by : (b : Bool) → nat_le (10 ^ 21 * v.denominator) (unsigned_abs v.numerator) ≡ b → decimal_of v 12 ≡ cond b (codes "?") (decimal_of v 12)
-    by true e = absurd (short (grind (arith, nat_tests, e)))
-    by false e = refl
-
--- and one that is too long has a question mark
-pub long_is_hidden : (v : Fraction) → IsTooLong v → codes "?" ≡ shown v
-long_is_hidden v long = by (nat_le (10 ^ 21 * v.denominator) (unsigned_abs v.numerator)) refl
-  where
-    by : (b : Bool) → nat_le (10 ^ 21 * v.denominator) (unsigned_abs v.numerator) ≡ b → codes "?" ≡ cond b (codes "?") (decimal_of v 12)
-    by true e = refl
-    by false e = absurd (grind (arith, nat_tests, e, long))

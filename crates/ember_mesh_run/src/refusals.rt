@@ -1,5 +1,5 @@
 // The statuses of files that give no output.
-ghost use Rattle.std.specs.Prelude.{◌≡◌, ◌<◌, ◌≤◌, length, All, IfOk, string_bytes};
+ghost use Rattle.std.specs.Prelude.{◌≡◌, ◌<◌, ◌≤◌, length, slice_get, Some, All, IfOk, string_bytes};
 ghost use Rattle.ember_boolean.specs.Files.{IsSmall};
 ghost use Rattle.ember_file.specs.Faults.{fault_of};
 ghost use Rattle.ember_file.specs.Reasons.{reason_of};
@@ -22,13 +22,21 @@ fn reason_in(alloc: Global, file: &MeshFile, fault: &FileFault) -> Result<String
     Ok(reason)
 }
 
+// The file with this index.
+fn file_at<'a>(files: &[MeshFile<'a>], index: u32) -> MeshFile<'a>
+    requires { index < length files.now }
+    ensures { slice_get files.now index ≡ Some result }
+{
+    files[index as usize]
+}
+
 // The file with this index is refused for this fault.
 fn refused(alloc: Global, files: &[MeshFile], index: u32, fault: &FileFault) -> Status
     requires few { length files.now ≤ 64 }
     requires there { index < length files.now }
     ensures { IsRefusalStatus files.now index fault.now result }
 {
-    let file = files[index as usize];
+    let file = file_at(files, index);
     match reason_in(alloc, &file, fault) {
         Ok(reason) => Status::FileRefused(index + 1, reason),
         Err(_) => Status::OutOfMemory,
