@@ -1,23 +1,24 @@
 -- What comes of a request, and of words
 use Rattle.std.proofs.Common.{◌≡◌, ◌⊎◌, ◌≤◌, inl, inr, ℕ, List, length, refl, sym, subst}
-use Rattle.std.specs.Prelude.{Result, Ok, Err, IfErr, codes}
+use Rattle.std.specs.Prelude.{Result, Ok, Err, IfErr, IsErrAnd, None, false, codes}
 use Rattle.ember_boolean.specs.declared.writing.Output.{Output}
 use Rattle.ember_mesh_words.specs.declared.command.Command.{Command}
 use Rattle.ember_mesh_words.specs.declared.command.Command.TheVariants.{Boole, Help, Version}
 use Rattle.ember_mesh_words.specs.declared.command.Request.{Request}
 use Rattle.ember_mesh_words.specs.declared.faults.Refusal.{Refusal}
-use Rattle.ember_mesh_run.specs.Calls.{ShelfCall, TargetCall, SinkCall, HoldsAll, HoldsAllBut}
-use Rattle.ember_mesh_run.specs.Causes.{IsCause, IsStop, IsWriteCause}
+use Rattle.ember_mesh_words.specs.Commands.{command_of}
+use Rattle.ember_mesh_run.specs.Calls.{ShelfCall, TargetCall, SinkCall, HoldsAll, HoldsAllBut, KeepsContents, TakesUntilFault}
+use Rattle.ember_mesh_run.specs.Causes.{IsCause, IsStop, IsWriteCause, hides_memory}
 use Rattle.ember_mesh_run.specs.Lines.{IsShown, line, why_of}
 use Rattle.ember_mesh_run.specs.Outputs.{IsOutputFor}
-use Rattle.ember_mesh_run.specs.Serves.{IsOutcome, IsSolidOutcome, IsUnmet}
+use Rattle.ember_mesh_run.specs.Serves.{IsOutcome, IsSolidOutcome, IsUnmet, MeshServes}
 use Rattle.ember_mesh_run.proofs.Shown.{stop_is_shown}
 use Rattle.ember_mesh_run.proofs.Stops.{stop_tells_memory}
 use Rattle.ember_mesh_run.specs.declared.status.Status.{Status}
 use Rattle.ember_mesh_run.specs.declared.status.Status.TheVariants.{Done, Words, UnwrittenFormat, StepOfNoGrid, ReadFault, WriteFault, FileRefused, NoTriangles, NotClosed, ExprRefused, Unbounded, LongFile, TooManyTriangles, TooManyWritten, StepTooSmall, TooFar, OutOfMemory, Uncertified}
 
 -- what holds of want of memory holds of an error that it made
-pub memory_given : {T : Type 0} (P : Status → Type 0) (result : Result T Status) → IfErr result (λ status. status ≡ OutOfMemory) → P OutOfMemory → IfErr result P
+pub memory_given : {T : Type 0} (P : Status → Type 0) (result : Result T Status) → IsErrAnd result (λ status. status ≡ OutOfMemory) → P OutOfMemory → IfErr result P
 memory_given P (Ok x) e h = tt
 memory_given P (Err status) e h = subst P (sym e) h
 
@@ -114,3 +115,17 @@ words_without_memory words (Ok Help) shelf target out text same untouched e = ((
 words_without_memory words (Ok Version) shelf target out text same untouched e = ((untouched, e), same)
 words_without_memory words (Ok (Boole request)) shelf target out text same untouched e =
     (record { unmet = memory_is_unmet request shelf target (inl same); text_is = e }, untouched)
+
+-- ---- calls
+-- a call whose words give this command
+pub call_serves : (words : List (List ℕ)) (command : Result Command Refusal) (shelf : ShelfCall) (target : TargetCall) (out err : SinkCall) (status : Status) (text : List ℕ) → command_of words ≡ command → KeepsContents shelf → target.begun ≡ None → target.faults ≤ target.faults_after → out.faults ≤ out.faults_after → IsOutcome words command shelf target out status text → TakesUntilFault err text → hides_memory status ≡ false → MeshServes words shelf target out err status
+call_serves words command shelf target out err status text is contents begun later out_later outcome said memory = record {
+  contents = contents;
+  none_begun = begun;
+  target_later = later;
+  out_later = out_later;
+  text = text;
+  outcome = subst (λ (c : Result Command Refusal). IsOutcome words c shelf target out status text) (sym is) outcome;
+  said = said;
+  memory = memory;
+}

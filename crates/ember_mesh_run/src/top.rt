@@ -31,7 +31,10 @@ fn refuse_words<E: Sink>(alloc: Global, words: &[String], why: Refusal, err: &mu
             say(err, &line);
             Status::Words(why)
         }
-        Err(_) => say_out_of_memory(err),
+        Err(_) => {
+            say_out_of_memory(err);
+            Status::OutOfMemory
+        }
     }
 }
 
@@ -75,7 +78,10 @@ fn run_by<S: Shelf, T: Target, O: Sink, E: Sink, C: Fn(u32, &Query) -> Result<An
         Ok(Command::Help) => write_message(out, err, USAGE),
         Ok(Command::Version) => write_message(out, err, VERSION),
         Err(WordsFault::Refused(why)) => refuse_words(alloc, words, why, err),
-        Err(WordsFault::OutOfMemory) => say_out_of_memory(err),
+        Err(WordsFault::OutOfMemory) => {
+            say_out_of_memory(err);
+            Status::OutOfMemory
+        }
     }
 }
 

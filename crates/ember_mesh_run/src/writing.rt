@@ -31,13 +31,11 @@ pub fn say<E: Sink>(err: &mut E, text: &[u8])
 }
 
 /// Writes the line of out-of-memory to err. It allocates nothing.
-pub fn say_out_of_memory<E: Sink>(err: &mut E) -> Status
-    ensures status { result ≡ Status.OutOfMemory }
-    ensures said { TakesUntilFault (sink_call E.taken E.flushed E.faults err.old err.new)
+pub fn say_out_of_memory<E: Sink>(err: &mut E)
+    ensures { TakesUntilFault (sink_call E.taken E.flushed E.faults err.old err.new)
         (line (codes "out of memory")) }
 {
     say(err, MEMORY_LINE);
-    Status::OutOfMemory
 }
 
 /// Writes a message to `out`, or the line of a failure to err.
@@ -147,7 +145,10 @@ pub fn serve<S: Shelf, T: Target, E: Sink, C: Fn(&Query) -> Result<Answer, OutOf
                 say(err, &line);
                 status
             }
-            Err(_) => say_out_of_memory(err),
+            Err(_) => {
+                say_out_of_memory(err);
+                Status::OutOfMemory
+            }
         },
     }
 }
