@@ -18,7 +18,7 @@ use Rattle.ember_io.specs.declared.shelf.ReadEnd.{ReadEnd}
 use Rattle.ember_io.specs.declared.shelf.ReadEnd.TheVariants as read
 use Rattle.ember_io.specs.Shelves.{TellsMore}
 use Rattle.ember_mesh_run.specs.Calls.{ShelfCall, HasShelfFailed}
-use Rattle.ember_mesh_run.specs.Causes.{end_status, IsEndAt, IsFilesCause, IsLong, IsReadingCause, IsRefusalCause, IsRefused, IsUnreadable}
+use Rattle.ember_mesh_run.specs.Causes.{end_status, IsEndAt, IsFilesCause, IsReadingCause, IsRefusalCause, IsRefused}
 use Rattle.ember_mesh_run.specs.Files.{AreFiles, AreRead, IsFileIn}
 use Rattle.ember_mesh_run.specs.Lines.{name_of}
 use Rattle.ember_mesh_run.specs.Statuses.{HasReason, IsStatusOf, NamesFile}

@@ -1,4 +1,4 @@
-use Rattle.std.proofs.Common.{codes, decimal, List, ℕ, ◌++◌, ap, ◌∙◌, refl}
+use Rattle.std.proofs.Common.{codes, decimal, ℕ, ◌++◌, ap, ◌∙◌, refl}
 use Rattle.ember_mesh_run.proofs.Appended.{after2, on_ok_if, on_ok_same}
 use Rattle.ember_mesh_run.proofs.lines.put_expr_fault.Goals as goal
 

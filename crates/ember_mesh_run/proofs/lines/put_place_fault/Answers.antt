@@ -1,4 +1,4 @@
-use Rattle.std.proofs.Common.{codes, decimal, List, ℕ, ◌++◌, ap, ◌∙◌}
+use Rattle.std.proofs.Common.{codes, decimal, ℕ, ◌++◌, ap, ◌∙◌}
 use Rattle.ember_mesh_run.proofs.Appended.{after4, on_ok_same}
 use Rattle.ember_mesh_run.proofs.lines.put_place_fault.Goals as goal
 

@@ -1,4 +1,4 @@
-use Rattle.std.proofs.Common.{codes, decimal, List, ℕ, ◌++◌, ap, ◌∙◌, refl, sym}
+use Rattle.std.proofs.Common.{codes, decimal, ℕ, ◌++◌, ap, ◌∙◌, refl, sym}
 use Rattle.ember_mesh_run.proofs.Appended.{after3, on_ok_if}
 use Rattle.ember_mesh_run.proofs.lines.put_solid_fault.Goals as goal
 

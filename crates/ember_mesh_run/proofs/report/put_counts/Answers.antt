@@ -1,4 +1,4 @@
-use Rattle.std.proofs.Common.{◌≡◌, codes, decimal, List, ℕ, ◌++◌, ap, ◌∙◌}
+use Rattle.std.proofs.Common.{codes, decimal, List, ℕ, ◌++◌, ap, ◌∙◌}
 use Rattle.ember_mesh_run.specs.Lines.{line}
 use Rattle.ember_mesh_run.proofs.Appended.{after7, on_ok_same}
 use Rattle.ember_mesh_run.proofs.report.put_counts.Goals as goal

@@ -1,4 +1,4 @@
-use Rattle.std.proofs.Common.{◌≡◌, codes, List, ℕ, ℤ, ◌++◌, ap, ◌∙◌, to_z-of_z, rules}
+use Rattle.std.proofs.Common.{◌≡◌, codes, ℤ, ◌++◌, ap, ◌∙◌, to_z-of_z, rules}
 use mir.Syntax.{w32, w128}
 use mir.Val.{to_z, of_z}
 use Rattle.ember_mesh_run.specs.Lines.{shown, grid_place}

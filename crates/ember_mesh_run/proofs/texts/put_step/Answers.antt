@@ -1,4 +1,4 @@
-use Rattle.std.proofs.Common.{◌≡◌, List, ℕ, ℤ, pos, ◌++◌, ◌*ℤ◌, ap, ◌∙◌, arith}
+use Rattle.std.proofs.Common.{◌≡◌, List, ℕ, pos, ◌++◌, ap, arith}
 use borrow.Author.Differences.{ints}
 use Rattle.ember_wide.specs.Whole.{value_of}
 use Rattle.ember_mesh_run.proofs.Appended.{on_ok_same}

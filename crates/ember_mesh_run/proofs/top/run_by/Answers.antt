@@ -1,5 +1,5 @@
-use Rattle.std.proofs.Common.{◌≡◌, List, ℕ, map, refl, subst, arith}
-use Rattle.std.specs.Prelude.{string_bytes, Result, Ok, Err}
+use Rattle.std.proofs.Common.{◌≡◌, map, refl, subst, arith}
+use Rattle.std.specs.Prelude.{string_bytes, Ok, Err}
 use Rattle.ember_mesh_words.specs.Commands.{Reads, command_of}
 use Rattle.ember_mesh_words.specs.declared.command.Command.{Command}
 use Rattle.ember_mesh_words.specs.declared.command.Command.TheVariants.{Boole, Help, Version}

@@ -1,4 +1,4 @@
-use Rattle.std.proofs.Common.{List, ℕ, ap, ◌∙◌, arith, refl, subst}
+use Rattle.std.proofs.Common.{List, ℕ, arith, refl, subst}
 use Rattle.std.specs.Prelude.{codes}
 use Rattle.ember_mesh_run.specs.Calls.{TakesUntilFault, shelf_call, sink_call, target_call}
 use Rattle.ember_mesh_run.specs.Lines.{line}

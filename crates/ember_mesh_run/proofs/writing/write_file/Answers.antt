@@ -1,4 +1,3 @@
-use Rattle.std.proofs.Common.{inl, inr, refl}
 use Rattle.ember_mesh_run.specs.Calls.{target_call}
 use Rattle.ember_mesh_run.proofs.KeptNames.{names_are_kept}
 use Rattle.ember_mesh_run.proofs.writing.write_file.Goals as goal
