@@ -17,7 +17,7 @@ options
   -o OUT             the name of the result, which ends in .stl
   --step S           the step of the grid on which the meshes are exact: nice
                      (if not given), finest, or a decimal above 0
-  --workers N        1 to 64 (4 if not given); the result is the same for all
+  --workers N        1 to 64 (4 if not given); the solid is the same for all
   --digits N         0 to 17 decimal places, for formats that have decimals
   --quiet            no report
 

@@ -120,9 +120,8 @@ pub fn run_mesh_one<S: Shelf, T: Target, O: Sink, E: Sink, G: Gate>(
 
 /// Does what the words ask for, with as many workers as they say. The files that they name are read
 /// from the shelf, and the file of the result is written to the target, whole or not at all. `help`
-/// and the version go to `out`; the report, or the line of the status, goes to `err`. What is
-/// written doesn't depend on the number of workers. With one worker, the calling thread does
-/// everything.
+/// and the version go to `out`; the report, or the line of the status, goes to `err`. The solid
+/// doesn't depend on the number of workers. With one worker, the calling thread does everything.
 pub fn run_mesh<R: Threads + Wait + Sync, S: Shelf, T: Target, O: Sink, E: Sink, G: Gate + Sync>(
     rt: &R,
     alloc: Global,

@@ -3,12 +3,12 @@ use Rattle.std.specs.List.{All}
 use Rattle.std.proofs.lemmas.List.{take_all}
 use Rattle.ember_boolean.specs.declared.files.MeshFile.{MeshFile}
 use Rattle.ember_boolean.specs.Files.{IsSmall}
-use Rattle.ember_scene_tests.proofs.Checked.{All-more}
+use Rattle.ember_scene_tests.proofs.Checked.{All-next}
 use Rattle.ember_scene_tests.proofs.outputs.are_small.Goals as goal
 
 pub loop-file-preserved : goal.loop-file-preserved
 loop-file-preserved c =
-    All-more IsSmall c.args.files.now c.loop-file.file-index c.file-item.result c.loop-file-test.true c.file-item.is c.loop-file.invariant (c.is_small.ensures c.if-not-is_small.false)
+    All-next IsSmall c.args.files.now c.loop-file.file-index _ c.loop-file-test.true c.loop-file.invariant (c.is_small.ensures c.if-not-is_small.false)
 
 pub returns : goal.returns
 returns c =
