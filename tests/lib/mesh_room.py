@@ -49,7 +49,7 @@ class Room:
         quiet = run(self.program, [*words, "--quiet"], self.folder)
         same = quiet == (0, b"", b"") and self.files() == {**before, self.folder / "out.stl": data}
         self.check("--quiet", None if same else f"differs: {quiet}")
-        (self.folder / "out.stl").unlink()
+        (self.folder / "out.stl").unlink(missing_ok=True)
 
     def refuses(self, words, status, line, out="out.stl", old=True, **more):
         """A status and its line; the folder stays as it was, with and without an old OUT."""
@@ -65,7 +65,7 @@ class Room:
                 fault = "a file changed, or a new one was left"
             self.check(" ".join(map(str, words))[:90] + (" over an old OUT" if content else ""), fault)
         if old:
-            (self.folder / (out or "out.stl")).unlink()
+            (self.folder / (out or "out.stl")).unlink(missing_ok=True)
 
 
 def fault_of_result(data, triangles, positions, shared, volume, corners):
