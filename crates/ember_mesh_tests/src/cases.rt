@@ -1,4 +1,6 @@
 // Calls over devices in memory, by several workers and by one alike.
+ghost use Rattle.std.specs.Prelude.{◌≡◌, None, IfOk};
+
 use ember_io::{Calls, FileSet, MemoryShelf, MemorySink};
 use ember_mesh_run::{Status, run_mesh, run_mesh_one};
 use ember_target::MemoryTarget;
@@ -61,7 +63,9 @@ pub fn sink_of(alloc: Global) -> Result<MemorySink, Fail> {
 }
 
 /// A target in which out.stl holds something, and whose calls of these numbers fail.
-pub fn target_of(alloc: Global, failing: Calls) -> Result<MemoryTarget, Fail> {
+pub fn target_of(alloc: Global, failing: Calls) -> Result<MemoryTarget, Fail>
+    ensures { IfOk result (λ target. target.begun ≡ None) }
+{
     let mut target = MemoryTarget::new(alloc, 4096, failing);
     target.put("out.stl", BEFORE)?;
     Ok(target)
