@@ -9,7 +9,7 @@ use steal_pool::OpenGate;
 
 // The exit status if a word of the command line isn't text. All others are those of
 // `Status::number` in ember_run.
-const NO_WORDS: u8 = 13;
+const WORDS_ARE_NO_TEXT: u8 = 13;
 
 // The exit status of `Status::OutOfMemory`, for the time before `run`.
 const NO_MEMORY: u8 = 12;
@@ -33,7 +33,7 @@ fn main(rt: HostRuntime) -> ExitCode {
         Err(fault) if matches!(fault.kind(), io::ErrorKind::OutOfMemory) => {
             return ExitCode::from(NO_MEMORY);
         }
-        Err(_) => return ExitCode::from(NO_WORDS),
+        Err(_) => return ExitCode::from(WORDS_ARE_NO_TEXT),
     };
     let Ok(words) = words.skip(1).collect::<Vec<String>>(rt.alloc()) else {
         return ExitCode::from(NO_MEMORY);

@@ -1,5 +1,5 @@
 -- What holds for every large number, and a polynomial's value at one
-use Rattle.std.specs.Prelude.{ℕ, ◌≤◌, List, [], ◌∷◌, ℤ, pos, negsuc, zero, suc, ◌+ℤ◌, ◌*ℤ◌}
+use Rattle.std.specs.Prelude.{ℕ, ◌≤◌, List, [], ◌∷◌, ℤ, pos, negsuc, zero, suc, ◌+ℤ◌, ◌*ℤ◌, ⊤}
 use Rattle.ember_algebra.specs.Size.{Small}
 
 -- P holds of all numbers from some number on
@@ -21,5 +21,5 @@ first_sign (negsuc n ∷ vs) = negsuc 0
 
 -- all members are at most m in size
 abbrev pub EachSmall : ℕ → List ℤ → Type 0
-EachSmall m [] = Unit {0}
+EachSmall m [] = ⊤
 EachSmall m (v ∷ vs) = Small m v × EachSmall m vs

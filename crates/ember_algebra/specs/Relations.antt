@@ -1,5 +1,5 @@
 -- Lists that are made member by member, or step by step
-use Rattle.std.specs.Prelude.{List, [], ◌∷◌, ◌++◌}
+use Rattle.std.specs.Prelude.{List, [], ◌∷◌, ◌++◌, ⊤}
 
 -- ys is, in order, what the members of xs give
 pub data Each {X Y : Type 0} (R : X → List Y → Type 0) : List X → List Y → Type 0 where
@@ -13,5 +13,5 @@ pub data Chain {X A : Type 0} (R : X → A → A → Type 0) : List X → A → 
 
 -- each member has the property
 abbrev pub Every : {X : Type 0} → (X → Type 0) → List X → Type 0
-Every P [] = Unit {0}
+Every P [] = ⊤
 Every P (x ∷ xs) = P x × Every P xs

@@ -124,8 +124,9 @@ fn two_way_numbers(alloc: Global, tris: &[Tri]) -> Result<Vec<u128>, OutOfMemory
     Ok(numbers)
 }
 
-// `true` only if the triangles are balanced; `false` shows nothing. Sorts one list, and
-// `least_loose` sorts two.
+// `true` only if the triangles are balanced. The quick test: it sorts one list, and `least_loose`
+// sorts two. Its `false` would be right too, since the list is sorted, but that isn't proved:
+// `least_loose` decides.
 fn are_balanced(alloc: Global, tris: &[Tri]) -> Result<bool, OutOfMemory>
     requires valid { All IsValidTri tris.now }
     requires few { length tris.now ≤ 262144 }

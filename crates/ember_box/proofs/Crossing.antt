@@ -19,7 +19,7 @@ use Rattle.ember_box.specs.declared.aabb.Interval.{Interval}
 use Rattle.ember_box.specs.declared.aabb.Aabb.{Aabb}
 use Rattle.ember_box.specs.Boxes.{Cell, low, high, side}
 use Rattle.ember_box.specs.Near.{spot_of_vector, corners}
-use Rattle.ember_box.specs.Aabbs.{aabb_of_cell, least_end, greatest_end, least, greatest, crosses}
+use Rattle.ember_box.specs.Aabbs.{aabb_of_cell, least_end, greatest_end, least_value, greatest_value, crosses}
 use Rattle.ember_box.proofs.Orders.{le_in, le_out}
 
 -- ---- one axis
@@ -55,11 +55,11 @@ pub record IsIn (b : Aabb) (x y z : ℤ) : Type 0 where
   pub on_y : IsBetween b.y y
   pub on_z : IsBetween b.z z
 
-least_at : (p : Plane) (b : Aabb) (x y z : ℤ) → IsIn b x y z → least p b ≤ℤ (p.a *ℤ x +ℤ p.b *ℤ y +ℤ p.c *ℤ z)
+least_at : (p : Plane) (b : Aabb) (x y z : ℤ) → IsIn b x y z → least_value p b ≤ℤ (p.a *ℤ x +ℤ p.b *ℤ y +ℤ p.c *ℤ z)
 least_at p b x y z i =
     omega (arith, linear, least_term p.a x b.x i.on_x, least_term p.b y b.y i.on_y, least_term p.c z b.z i.on_z)
 
-greatest_at : (p : Plane) (b : Aabb) (x y z : ℤ) → IsIn b x y z → (p.a *ℤ x +ℤ p.b *ℤ y +ℤ p.c *ℤ z) ≤ℤ greatest p b
+greatest_at : (p : Plane) (b : Aabb) (x y z : ℤ) → IsIn b x y z → (p.a *ℤ x +ℤ p.b *ℤ y +ℤ p.c *ℤ z) ≤ℤ greatest_value p b
 greatest_at p b x y z i =
     omega (arith, linear, greatest_term p.a x b.x i.on_x, greatest_term p.b y b.y i.on_y, greatest_term p.c z b.z i.on_z)
 
@@ -67,7 +67,7 @@ greatest_at p b x y z i =
 pub crosses_at : (p : Plane) (b : Aabb) (x y z : ℤ) → IsIn b x y z → p.a *ℤ x +ℤ p.b *ℤ y +ℤ p.c *ℤ z ≡ p.d → crosses p b ≡ true
 unfolding crosses
 crosses_at p b x y z i e =
-    and_from (int_le (least p b) p.d) (int_le p.d (greatest p b)) (le_in (least p b) p.d (omega (arith, linear, least_at p b x y z i, e))) (le_in p.d (greatest p b) (omega (arith, linear, greatest_at p b x y z i, e)))
+    and_from (int_le (least_value p b) p.d) (int_le p.d (greatest_value p b)) (le_in (least_value p b) p.d (omega (arith, linear, least_at p b x y z i, e))) (le_in p.d (greatest_value p b) (omega (arith, linear, greatest_at p b x y z i, e)))
 
 -- ---- the eight corners
 abbrev corner : ℤ → ℤ → ℤ → Spot
@@ -120,14 +120,14 @@ corner_in c s t u =
     }
 
 -- all positive, where the least is above the constant
-all_positive : (c : Cell) (p : Plane) → p.d <ℤ least p (aabb_of_cell c) → list_all (λ v. is_positive (value_at p v)) (corners c) ≡ true
+all_positive : (c : Cell) (p : Plane) → p.d <ℤ least_value p (aabb_of_cell c) → list_all (λ v. is_positive (value_at p v)) (corners c) ≡ true
 all_positive c p h =
     eight_in c (λ v. is_positive (value_at p v)) (λ s t u. positive_in (above (if s then high c X else low c X) (if t then high c Y else low c Y) (if u then high c Z else low c Z) (corner_in c s t u)))
   where
     above : (x y z : ℤ) → IsIn (aabb_of_cell c) x y z → pos 0 <ℤ value_at p (corner x y z)
     above x y z i = omega (arith, linear, least_at p (aabb_of_cell c) x y z i)
 
-all_negative : (c : Cell) (p : Plane) → greatest p (aabb_of_cell c) <ℤ p.d → list_all (λ v. is_negative (value_at p v)) (corners c) ≡ true
+all_negative : (c : Cell) (p : Plane) → greatest_value p (aabb_of_cell c) <ℤ p.d → list_all (λ v. is_negative (value_at p v)) (corners c) ≡ true
 all_negative c p h =
     eight_in c (λ v. is_negative (value_at p v)) (λ s t u. negative_in (under (if s then high c X else low c X) (if t then high c Y else low c Y) (if u then high c Z else low c Z) (corner_in c s t u)))
   where
@@ -135,13 +135,13 @@ all_negative c p h =
     under x y z i = omega (arith, linear, greatest_at p (aabb_of_cell c) x y z i)
 
 -- and only there
-least_above : (c : Cell) (p : Plane) → list_all (λ v. is_positive (value_at p v)) (corners c) ≡ true → p.d <ℤ least p (aabb_of_cell c)
+least_above : (c : Cell) (p : Plane) → list_all (λ v. is_positive (value_at p v)) (corners c) ≡ true → p.d <ℤ least_value p (aabb_of_cell c)
 least_above c p e =
     let h = (eight_out c (λ v. is_positive (value_at p v)) e).at (is_negative p.a) (is_negative p.b) (is_negative p.c) in
     let m = positive_out (value_at p (corner (least_end p.a (aabb_of_cell c).x) (least_end p.b (aabb_of_cell c).y) (least_end p.c (aabb_of_cell c).z))) h in
     omega (arith, linear, m)
 
-greatest_under : (c : Cell) (p : Plane) → list_all (λ v. is_negative (value_at p v)) (corners c) ≡ true → greatest p (aabb_of_cell c) <ℤ p.d
+greatest_under : (c : Cell) (p : Plane) → list_all (λ v. is_negative (value_at p v)) (corners c) ≡ true → greatest_value p (aabb_of_cell c) <ℤ p.d
 greatest_under c p e =
     let h = (eight_out c (λ v. is_negative (value_at p v)) e).at (not (is_negative p.a)) (not (is_negative p.b)) (not (is_negative p.c)) in
     let m = negative_out (value_at p (corner (if not (is_negative p.a) then high c X else low c X) (if not (is_negative p.b) then high c Y else low c Y) (if not (is_negative p.c) then high c Z else low c Z))) h in
@@ -157,29 +157,29 @@ greatest_under c p e =
 pub crosses_is : (c : Cell) (p : Plane) → (not (list_all (λ v. is_positive (value_at p v)) (corners c)) && not (list_all (λ v. is_negative (value_at p v)) (corners c))) ≡ crosses p (aabb_of_cell c)
 unfolding crosses
 crosses_is c p =
-    λ i. opposite (list_all (λ v. is_positive (value_at p v)) (corners c)) (int_le (least p (aabb_of_cell c)) p.d) not_above not_both i && opposite (list_all (λ v. is_negative (value_at p v)) (corners c)) (int_le p.d (greatest p (aabb_of_cell c))) not_under not_two i
+    λ i. opposite (list_all (λ v. is_positive (value_at p v)) (corners c)) (int_le (least_value p (aabb_of_cell c)) p.d) not_above not_both i && opposite (list_all (λ v. is_negative (value_at p v)) (corners c)) (int_le p.d (greatest_value p (aabb_of_cell c))) not_under not_two i
   where
     opposite : (s t : Bool) → (s ≡ true → t ≡ true → ⊥) → (s ≡ false → t ≡ true) → not s ≡ t
     opposite true true f g = absurd (f refl refl)
     opposite true false f g = refl
     opposite false t f g = sym (g refl)
 
-    not_above : list_all (λ v. is_positive (value_at p v)) (corners c) ≡ true → int_le (least p (aabb_of_cell c)) p.d ≡ true → ⊥
-    not_above e d = omega (arith, linear, least_above c p e, le_out (least p (aabb_of_cell c)) p.d d)
+    not_above : list_all (λ v. is_positive (value_at p v)) (corners c) ≡ true → int_le (least_value p (aabb_of_cell c)) p.d ≡ true → ⊥
+    not_above e d = omega (arith, linear, least_above c p e, le_out (least_value p (aabb_of_cell c)) p.d d)
 
-    not_under : list_all (λ v. is_negative (value_at p v)) (corners c) ≡ true → int_le p.d (greatest p (aabb_of_cell c)) ≡ true → ⊥
-    not_under e d = omega (arith, linear, greatest_under c p e, le_out p.d (greatest p (aabb_of_cell c)) d)
+    not_under : list_all (λ v. is_negative (value_at p v)) (corners c) ≡ true → int_le p.d (greatest_value p (aabb_of_cell c)) ≡ true → ⊥
+    not_under e d = omega (arith, linear, greatest_under c p e, le_out p.d (greatest_value p (aabb_of_cell c)) d)
 
     clash : (s : Bool) → s ≡ true → s ≡ false → ⊥
     clash s p q = cc
 
-    not_both : list_all (λ v. is_positive (value_at p v)) (corners c) ≡ false → int_le (least p (aabb_of_cell c)) p.d ≡ true
+    not_both : list_all (λ v. is_positive (value_at p v)) (corners c) ≡ false → int_le (least_value p (aabb_of_cell c)) p.d ≡ true
     not_both e =
-        by_lt_z p.d (least p (aabb_of_cell c)) (λ h. absurd (clash (list_all (λ v. is_positive (value_at p v)) (corners c)) (all_positive c p h) e)) (λ h. le_in (least p (aabb_of_cell c)) p.d h)
+        by_lt_z p.d (least_value p (aabb_of_cell c)) (λ h. absurd (clash (list_all (λ v. is_positive (value_at p v)) (corners c)) (all_positive c p h) e)) (λ h. le_in (least_value p (aabb_of_cell c)) p.d h)
 
-    not_two : list_all (λ v. is_negative (value_at p v)) (corners c) ≡ false → int_le p.d (greatest p (aabb_of_cell c)) ≡ true
+    not_two : list_all (λ v. is_negative (value_at p v)) (corners c) ≡ false → int_le p.d (greatest_value p (aabb_of_cell c)) ≡ true
     not_two e =
-        by_lt_z (greatest p (aabb_of_cell c)) p.d (λ h. absurd (clash (list_all (λ v. is_negative (value_at p v)) (corners c)) (all_negative c p h) e)) (λ h. le_in p.d (greatest p (aabb_of_cell c)) h)
+        by_lt_z (greatest_value p (aabb_of_cell c)) p.d (λ h. absurd (clash (list_all (λ v. is_negative (value_at p v)) (corners c)) (all_negative c p h) e)) (λ h. le_in p.d (greatest_value p (aabb_of_cell c)) h)
 
 -- ---- a box in another
 pub record IsWithin (b h : Aabb) : Type 0 where
@@ -202,7 +202,7 @@ start_within false b h l k = k
 pub crosses_more : (p : Plane) (b h : Aabb) → IsWithin b h → crosses p h ≡ true → crosses p b ≡ true
 unfolding crosses
 crosses_more p b h w e =
-    let parts = and_parts (int_le (least p h) p.d) (int_le p.d (greatest p h)) e in
+    let parts = and_parts (int_le (least_value p h) p.d) (int_le p.d (greatest_value p h)) e in
     let l = least_at p b (least_end p.a h.x) (least_end p.b h.y) (least_end p.c h.z) (record { on_x = end_within (is_negative p.a) b.x h.x w.x_low w.x_high; on_y = end_within (is_negative p.b) b.y h.y w.y_low w.y_high; on_z = end_within (is_negative p.c) b.z h.z w.z_low w.z_high }) in
     let g = greatest_at p b (greatest_end p.a h.x) (greatest_end p.b h.y) (greatest_end p.c h.z) (record { on_x = start_within (is_negative p.a) b.x h.x w.x_low w.x_high; on_y = start_within (is_negative p.b) b.y h.y w.y_low w.y_high; on_z = start_within (is_negative p.c) b.z h.z w.z_low w.z_high }) in
-    and_from (int_le (least p b) p.d) (int_le p.d (greatest p b)) (le_in (least p b) p.d (omega (arith, linear, l, le_out (least p h) p.d parts.0))) (le_in p.d (greatest p b) (omega (arith, linear, g, le_out p.d (greatest p h) parts.1)))
+    and_from (int_le (least_value p b) p.d) (int_le p.d (greatest_value p b)) (le_in (least_value p b) p.d (omega (arith, linear, l, le_out (least_value p h) p.d parts.0))) (le_in p.d (greatest_value p b) (omega (arith, linear, g, le_out p.d (greatest_value p h) parts.1)))

@@ -9,7 +9,7 @@ use Rattle.ember_box.specs.declared.aabb.Aabb.{Aabb}
 use Rattle.ember_box.specs.declared.half_boxes.HalfBoxes.{HalfBoxes}
 use Rattle.ember_box.specs.Boxes.{Cell, low, left_half, right_half}
 use Rattle.ember_box.specs.Near.{is_near}
-use Rattle.ember_box.specs.Aabbs.{interval_on, aabb_of_cell, aabb_of_tri, aabbs_meet, within, is_level, crosses}
+use Rattle.ember_box.specs.Aabbs.{interval_on, aabb_of_cell, aabb_of_tri, aabbs_meet, contains_aabb, is_level, crosses}
 use Rattle.ember_box.specs.Sums.{IsPlaneOf, may_cross, AreHalves, meets_left, meets_right}
 use Rattle.ember_box.proofs.FlatAlongAxis.{level_crossed}
 use Rattle.ember_box.proofs.Orders.{and_implied}
@@ -26,7 +26,7 @@ crossed_by whole c t p plane crossed = by p plane ∙ sym (near_is c t)
   where
     by : (p : Option Plane) → IsPlaneOf whole t p → aabbs_meet (aabb_of_tri t) (aabb_of_cell c) && may_cross (aabb_of_cell c) p ≡ aabbs_meet (aabb_of_tri t) (aabb_of_cell c) && crosses (support_of t) (aabb_of_cell c)
     by None e =
-        always (aabbs_meet (aabb_of_tri t) (aabb_of_cell c)) ∙ and_implied (aabbs_meet (aabb_of_tri t) (aabb_of_cell c)) (crosses (support_of t) (aabb_of_cell c)) (λ o. or_either (is_level (aabb_of_tri t)) (within whole (aabb_of_tri t)) e (λ l. level_crossed c t l o) (λ i. crossed (are_inside whole t i) o))
+        always (aabbs_meet (aabb_of_tri t) (aabb_of_cell c)) ∙ and_implied (aabbs_meet (aabb_of_tri t) (aabb_of_cell c)) (crosses (support_of t) (aabb_of_cell c)) (λ o. or_either (is_level (aabb_of_tri t)) (contains_aabb whole (aabb_of_tri t)) e (λ l. level_crossed c t l o) (λ i. crossed (are_inside whole t i) o))
       where
         or_either : {P : Type 0} (p q : Bool) → p || q ≡ true → (p ≡ true → P) → (q ≡ true → P) → P
         or_either true q e f g = f refl
@@ -42,9 +42,9 @@ module _ (c : Cell) (t : Tri) (p : Option Plane) (o : aabbs_meet (aabb_of_tri t)
   -- whether the left half is met is whether the triangle is near it
   pub seen_low : (k : Axis) (h : HalfBoxes) → 0 < c.log k → AreHalves c k h → meets_left h (interval_on k (aabb_of_tri t)) p ≡ is_near (left_half c k) t
   seen_low k h above are =
-      parts p ∙ (λ i. meets i && may_cross (are.is_low i) p) ∙ crossed_by (aabb_of_cell c) (left_half c k) t p plane (left_crossed c k t)
+      parts p ∙ (λ i. meets i && may_cross (are.is_left i) p) ∙ crossed_by (aabb_of_cell c) (left_half c k) t p plane (left_crossed c k t)
     where
-      parts : (p : Option Plane) → meets_left h (interval_on k (aabb_of_tri t)) p ≡ int_le (interval_on k (aabb_of_tri t)).low h.middle && may_cross h.low p
+      parts : (p : Option Plane) → meets_left h (interval_on k (aabb_of_tri t)) p ≡ int_le (interval_on k (aabb_of_tri t)).low h.middle && may_cross h.left p
       parts None = sym (always (int_le (interval_on k (aabb_of_tri t)).low h.middle))
       parts (Some p) = refl
 
@@ -55,9 +55,9 @@ module _ (c : Cell) (t : Tri) (p : Option Plane) (o : aabbs_meet (aabb_of_tri t)
   -- whether the right half is met is whether the triangle is near it
   pub seen_high : (k : Axis) (h : HalfBoxes) → 0 < c.log k → AreHalves c k h → meets_right h (interval_on k (aabb_of_tri t)) p ≡ is_near (right_half c k) t
   seen_high k h above are =
-      parts p ∙ (λ i. meets i && may_cross (are.is_high i) p) ∙ crossed_by (aabb_of_cell c) (right_half c k) t p plane (right_crossed c k t above)
+      parts p ∙ (λ i. meets i && may_cross (are.is_right i) p) ∙ crossed_by (aabb_of_cell c) (right_half c k) t p plane (right_crossed c k t above)
     where
-      parts : (p : Option Plane) → meets_right h (interval_on k (aabb_of_tri t)) p ≡ int_le h.middle (interval_on k (aabb_of_tri t)).high && may_cross h.high p
+      parts : (p : Option Plane) → meets_right h (interval_on k (aabb_of_tri t)) p ≡ int_le h.middle (interval_on k (aabb_of_tri t)).high && may_cross h.right p
       parts None = sym (always (int_le h.middle (interval_on k (aabb_of_tri t)).high))
       parts (Some p) = refl
 

@@ -15,9 +15,9 @@ use Rattle.ember_model.specs.declared.point.Axis.TheVariants.{X, Y, Z}
 use Rattle.ember_model.specs.Planes.{vector_of, support_of}
 use Rattle.ember_box.specs.declared.aabb.Interval.{Interval}
 use Rattle.ember_box.specs.declared.aabb.Aabb.{Aabb}
-use Rattle.ember_box.specs.Boxes.{Cell, along, low, high, left_half, right_half}
+use Rattle.ember_box.specs.Boxes.{Cell, entry_along, low, high, left_half, right_half}
 use Rattle.ember_box.specs.Near.{spans_meet, is_near}
-use Rattle.ember_box.specs.Aabbs.{aabb_of_cell, interval_over, aabb_of_tri, intervals_meet, aabbs_meet, covers, within, has, holds, crosses}
+use Rattle.ember_box.specs.Aabbs.{aabb_of_cell, interval_over, aabb_of_tri, intervals_meet, aabbs_meet, covers, contains_aabb, contains_coordinate, contains_corner, crosses}
 use Rattle.ember_box.proofs.Orders.{le_in, le_out, and_assoc, one_of_three, least_of, greatest_of, reaches_is, All3, all3, from3}
 use Rattle.ember_box.proofs.Crossing.{IsBetween, IsIn, IsWithin, crosses_at, crosses_is, crosses_more}
 
@@ -56,15 +56,15 @@ crossed_b t b i = crosses_at (support_of t) b t.b.x t.b.y t.b.z i (on_plane_b t)
 crossed_c : (t : Tri) (b : Aabb) → IsInside b t.c → crosses (support_of t) b ≡ true
 crossed_c t b i = crosses_at (support_of t) b t.c.x t.c.y t.c.z i (on_plane_c t)
 
-between_out : (s : Interval) (x : ℤ) → has s x ≡ true → IsBetween s x
+between_out : (s : Interval) (x : ℤ) → contains_coordinate s x ≡ true → IsBetween s x
 between_out s x e =
     let r = and_parts (int_le s.low x) (int_le x s.high) e in
     record { from = le_out s.low x r.0; to = le_out x s.high r.1 }
 
 -- a corner that passes the test lies in the bounding box
-pub inside_out : (b : Aabb) (u : Corner) → holds b u ≡ true → IsInside b u
+pub inside_out : (b : Aabb) (u : Corner) → contains_corner b u ≡ true → IsInside b u
 inside_out b u e =
-    let r = all3 (has b.x u.x) (has b.y u.y) (has b.z u.z) e in
+    let r = all3 (contains_coordinate b.x u.x) (contains_coordinate b.y u.y) (contains_coordinate b.z u.z) e in
     record { on_x = between_out b.x u.x r.one; on_y = between_out b.y u.y r.two; on_z = between_out b.z u.z r.three }
 
 -- ---- halves
@@ -73,12 +73,12 @@ pub halves_end : (l : ℤ) (n : ℕ) → 0 < n → l +ℤ pos (2 ^ pred n) +ℤ 
 halves_end l zero above = absurd (omega arith)
 halves_end l (suc m) above = let e = pow-succ' 2 m in omega (arith, ints, e)
 
-left_in : (c : Cell) (k : Axis) (u : Corner) → IsInside (aabb_of_cell c) u → along k (vector_of u) ≤ℤ high (left_half c k) k → IsInside (aabb_of_cell (left_half c k)) u
+left_in : (c : Cell) (k : Axis) (u : Corner) → IsInside (aabb_of_cell c) u → entry_along k (vector_of u) ≤ℤ high (left_half c k) k → IsInside (aabb_of_cell (left_half c k)) u
 left_in c X u i h = record { on_x = record { from = i.on_x.from; to = h }; on_y = i.on_y; on_z = i.on_z }
 left_in c Y u i h = record { on_x = i.on_x; on_y = record { from = i.on_y.from; to = h }; on_z = i.on_z }
 left_in c Z u i h = record { on_x = i.on_x; on_y = i.on_y; on_z = record { from = i.on_z.from; to = h } }
 
-right_in : (c : Cell) (k : Axis) (u : Corner) → 0 < c.log k → IsInside (aabb_of_cell c) u → low (right_half c k) k ≤ℤ along k (vector_of u) → IsInside (aabb_of_cell (right_half c k)) u
+right_in : (c : Cell) (k : Axis) (u : Corner) → 0 < c.log k → IsInside (aabb_of_cell c) u → low (right_half c k) k ≤ℤ entry_along k (vector_of u) → IsInside (aabb_of_cell (right_half c k)) u
 right_in c X u p i h =
     let e = halves_end (low c X) (c.log X) p in
     record { on_x = record { from = h; to = omega (arith, linear, i.on_x.to, e) }; on_y = i.on_y; on_z = i.on_z }
@@ -106,7 +106,7 @@ covered x y z s e =
     (record { from = omega (arith, ints, clamps, l); to = omega (arith, ints, clamps, h) }, (record { from = omega (arith, ints, clamps, l); to = omega (arith, ints, clamps, h) }, record { from = omega (arith, ints, clamps, l); to = omega (arith, ints, clamps, h) }))
 
 -- the corners of a triangle lie in a bounding box that contains the triangle's
-pub are_inside : (b : Aabb) (t : Tri) → within b (aabb_of_tri t) ≡ true → AreInside b t
+pub are_inside : (b : Aabb) (t : Tri) → contains_aabb b (aabb_of_tri t) ≡ true → AreInside b t
 are_inside b t e =
     let r = all3 (covers b.x (aabb_of_tri t).x) (covers b.y (aabb_of_tri t).y) (covers b.z (aabb_of_tri t).z) e in
     let x = covered t.a.x t.b.x t.c.x b.x r.one in let y = covered t.a.y t.b.y t.c.y b.y r.two in let z = covered t.a.z t.b.z t.c.z b.z r.three in
@@ -117,19 +117,19 @@ are_inside b t e =
     }
 
 -- a half is crossed if the triangle lies in the box and its bounding box meets the half
-some_left : (c : Cell) (k : Axis) (t : Tri) → AreInside (aabb_of_cell c) t → int_le (along k (vector_of t.a)) (high (left_half c k) k) || (int_le (along k (vector_of t.b)) (high (left_half c k) k) || int_le (along k (vector_of t.c)) (high (left_half c k) k)) ≡ true → crosses (support_of t) (aabb_of_cell (left_half c k)) ≡ true
+some_left : (c : Cell) (k : Axis) (t : Tri) → AreInside (aabb_of_cell c) t → int_le (entry_along k (vector_of t.a)) (high (left_half c k) k) || (int_le (entry_along k (vector_of t.b)) (high (left_half c k) k) || int_le (entry_along k (vector_of t.c)) (high (left_half c k) k)) ≡ true → crosses (support_of t) (aabb_of_cell (left_half c k)) ≡ true
 some_left c k t i e =
     let h = high (left_half c k) k in
-    ⊎_elim (λ p. crossed_a t (aabb_of_cell (left_half c k)) (left_in c k t.a i.of_a (le_out (along k (vector_of t.a)) h p)))
-    (λ q. ⊎_elim (λ p. crossed_b t (aabb_of_cell (left_half c k)) (left_in c k t.b i.of_b (le_out (along k (vector_of t.b)) h p))) (λ p. crossed_c t (aabb_of_cell (left_half c k)) (left_in c k t.c i.of_c (le_out (along k (vector_of t.c)) h p))) q)
-    (one_of_three (int_le (along k (vector_of t.a)) h) (int_le (along k (vector_of t.b)) h) (int_le (along k (vector_of t.c)) h) e)
+    ⊎_elim (λ p. crossed_a t (aabb_of_cell (left_half c k)) (left_in c k t.a i.of_a (le_out (entry_along k (vector_of t.a)) h p)))
+    (λ q. ⊎_elim (λ p. crossed_b t (aabb_of_cell (left_half c k)) (left_in c k t.b i.of_b (le_out (entry_along k (vector_of t.b)) h p))) (λ p. crossed_c t (aabb_of_cell (left_half c k)) (left_in c k t.c i.of_c (le_out (entry_along k (vector_of t.c)) h p))) q)
+    (one_of_three (int_le (entry_along k (vector_of t.a)) h) (int_le (entry_along k (vector_of t.b)) h) (int_le (entry_along k (vector_of t.c)) h) e)
 
-some_right : (c : Cell) (k : Axis) (t : Tri) → 0 < c.log k → AreInside (aabb_of_cell c) t → int_le (low (right_half c k) k) (along k (vector_of t.a)) || (int_le (low (right_half c k) k) (along k (vector_of t.b)) || int_le (low (right_half c k) k) (along k (vector_of t.c))) ≡ true → crosses (support_of t) (aabb_of_cell (right_half c k)) ≡ true
+some_right : (c : Cell) (k : Axis) (t : Tri) → 0 < c.log k → AreInside (aabb_of_cell c) t → int_le (low (right_half c k) k) (entry_along k (vector_of t.a)) || (int_le (low (right_half c k) k) (entry_along k (vector_of t.b)) || int_le (low (right_half c k) k) (entry_along k (vector_of t.c))) ≡ true → crosses (support_of t) (aabb_of_cell (right_half c k)) ≡ true
 some_right c k t p i e =
     let l = low (right_half c k) k in
-    ⊎_elim (λ h. crossed_a t (aabb_of_cell (right_half c k)) (right_in c k t.a p i.of_a (le_out l (along k (vector_of t.a)) h)))
-    (λ q. ⊎_elim (λ h. crossed_b t (aabb_of_cell (right_half c k)) (right_in c k t.b p i.of_b (le_out l (along k (vector_of t.b)) h))) (λ h. crossed_c t (aabb_of_cell (right_half c k)) (right_in c k t.c p i.of_c (le_out l (along k (vector_of t.c)) h))) q)
-    (one_of_three (int_le l (along k (vector_of t.a))) (int_le l (along k (vector_of t.b))) (int_le l (along k (vector_of t.c))) e)
+    ⊎_elim (λ h. crossed_a t (aabb_of_cell (right_half c k)) (right_in c k t.a p i.of_a (le_out l (entry_along k (vector_of t.a)) h)))
+    (λ q. ⊎_elim (λ h. crossed_b t (aabb_of_cell (right_half c k)) (right_in c k t.b p i.of_b (le_out l (entry_along k (vector_of t.b)) h))) (λ h. crossed_c t (aabb_of_cell (right_half c k)) (right_in c k t.c p i.of_c (le_out l (entry_along k (vector_of t.c)) h))) q)
+    (one_of_three (int_le l (entry_along k (vector_of t.a))) (int_le l (entry_along k (vector_of t.b))) (int_le l (entry_along k (vector_of t.c))) e)
 
 overlaps : (a b : Aabb) → aabbs_meet a b ≡ true → All3 (intervals_meet a.x b.x) (intervals_meet a.y b.y) (intervals_meet a.z b.z)
 overlaps a b e = all3 (intervals_meet a.x b.x) (intervals_meet a.y b.y) (intervals_meet a.z b.z) e

@@ -10,20 +10,20 @@ use Rattle.ember_model.specs.Faces.{Cuts}
 use Rattle.ember_model.proofs.SignTests.{negative_out, positive_out, zero_out}
 use Rattle.ember_box.specs.Boxes.{Cell}
 use Rattle.ember_box.specs.Near.{tri_at}
-use Rattle.ember_box.specs.Regions.{Wall, FaceIsAbove, FaceLiesOn, AtWall, cut, outside, in_high, stays, IsStart, CuttingPlane, AtCuttingPlane, splits, whole, cutting_planes, IsRegions}
+use Rattle.ember_box.specs.Regions.{Wall, FaceIsAbove, FaceLiesOn, AreLeftByWall, cut, outside, in_high, stays, IsStart, CuttingPlane, AreLeftByCuttingPlane, splits, whole, cutting_planes, IsRegions}
 
 -- a face that a plane cuts doesn't lie above it, nor on it
 cut_not_above : (f : Face) (w : Wall) → Cuts f w.plane → FaceIsAbove f w.plane → ⊥
 cut_not_above f w c a =
-    let v = value_at w.plane c.low.at in let n : v <ℤ pos 0 = negative_out v c.low.holds in
-    let p : pos 0 <ℤ v = positive_out v (a.holds c.low.at c.low.inside) in absurd (omega (arith, linear, n, p))
+    let v = value_at w.plane c.some_below.at in let n : v <ℤ pos 0 = negative_out v c.some_below.holds in
+    let p : pos 0 <ℤ v = positive_out v (a.holds c.some_below.at c.some_below.inside) in absurd (omega (arith, linear, n, p))
 
 cut_not_on : (f : Face) (w : Wall) → Cuts f w.plane → FaceLiesOn f w.plane → ⊥
 cut_not_on f w c o =
-    let v = value_at w.plane c.low.at in let n : v <ℤ pos 0 = negative_out v c.low.holds in
-    let z : v ≡ pos 0 = zero_out v (o.holds c.low.at c.low.inside) in absurd (omega (arith, linear, n, z))
+    let v = value_at w.plane c.some_below.at in let n : v <ℤ pos 0 = negative_out v c.some_below.holds in
+    let z : v ≡ pos 0 = zero_out v (o.holds c.some_below.at c.some_below.inside) in absurd (omega (arith, linear, n, z))
 
-wall_unique : (w : Wall) (f : Face) (ys zs : List Face) → AtWall w f ys → AtWall w f zs → ys ≡ zs
+wall_unique : (w : Wall) (f : Face) (ys zs : List Face) → AreLeftByWall w f ys → AreLeftByWall w f zs → ys ≡ zs
 wall_unique w f ys zs (cut c) (cut d) = refl
 wall_unique w f ys zs (cut c) (outside a) = absurd (cut_not_above f w c a)
 wall_unique w f ys zs (cut c) (in_high h o) = absurd (cut_not_on f w c o)
@@ -41,7 +41,7 @@ wall_unique w f ys zs (stays n a o) (outside b) = absurd (a b)
 wall_unique w f ys zs (stays n a o) (in_high h p) = absurd (o h p)
 wall_unique w f ys zs (stays n a o) (stays m b p) = refl
 
-cutting_plane_unique : (b : CuttingPlane) (f : Face) (ys zs : List Face) → AtCuttingPlane b f ys → AtCuttingPlane b f zs → ys ≡ zs
+cutting_plane_unique : (b : CuttingPlane) (f : Face) (ys zs : List Face) → AreLeftByCuttingPlane b f ys → AreLeftByCuttingPlane b f zs → ys ≡ zs
 cutting_plane_unique b f ys zs (splits m c) (splits n d) = refl
 cutting_plane_unique b f ys zs (splits m c) (whole n) = absurd (n m c)
 cutting_plane_unique b f ys zs (whole n) (splits m c) = absurd (n m c)
@@ -54,4 +54,4 @@ start_unique c t fs gs r q =
 -- the regions of a triangle in a box are one list
 pub regions_unique : (c : Cell) (ts : List Tri) (i : ℕ) (fs gs : List Face) → IsRegions c ts i fs → IsRegions c ts i gs → fs ≡ gs
 regions_unique c ts i fs gs r q =
-    chain_unique (λ b x y z. each_unique (cutting_plane_unique b)) r.cuts (subst (λ s. Chain (λ b. Each (AtCuttingPlane b)) (cutting_planes ts i) s gs) (sym (start_unique c (tri_at ts i) r.start q.start r.is_start q.is_start)) q.cuts)
+    chain_unique (λ b x y z. each_unique (cutting_plane_unique b)) r.cuts (subst (λ s. Chain (λ b. Each (AreLeftByCuttingPlane b)) (cutting_planes ts i) s gs) (sym (start_unique c (tri_at ts i) r.start q.start r.is_start q.is_start)) q.cuts)

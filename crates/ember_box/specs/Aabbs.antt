@@ -63,8 +63,8 @@ abbrev pub covers : Interval → Interval → Bool
 covers b a = int_le b.low a.low && int_le a.high b.high
 
 -- the first contains the second
-abbrev pub within : Aabb → Aabb → Bool
-within b a = covers b.x a.x && covers b.y a.y && covers b.z a.z
+abbrev pub contains_aabb : Aabb → Aabb → Bool
+contains_aabb whole spans = covers whole.x spans.x && covers whole.y spans.y && covers whole.z spans.z
 
 -- its ends are equal
 abbrev pub is_point : Interval → Bool
@@ -75,12 +75,12 @@ abbrev pub is_level : Aabb → Bool
 is_level b = is_point b.x || is_point b.y || is_point b.z
 
 -- whether the interval contains the coordinate
-abbrev pub has : Interval → ℤ → Bool
-has b x = int_le b.low x && int_le x b.high
+abbrev pub contains_coordinate : Interval → ℤ → Bool
+contains_coordinate b x = int_le b.low x && int_le x b.high
 
 -- the corner lies in it
-abbrev pub holds : Aabb → Corner → Bool
-holds b u = has b.x u.x && has b.y u.y && has b.z u.z
+abbrev pub contains_corner : Aabb → Corner → Bool
+contains_corner b u = contains_coordinate b.x u.x && contains_coordinate b.y u.y && contains_coordinate b.z u.z
 
 -- the ends of an interval at which n * x is least and greatest
 abbrev pub least_end : ℤ → Interval → ℤ
@@ -90,19 +90,19 @@ abbrev pub greatest_end : ℤ → Interval → ℤ
 greatest_end n s = if is_negative n then s.low else s.high
 
 -- the value of a plane at a point, without its constant
-abbrev pub combined : Plane → ℤ → ℤ → ℤ → ℤ
-combined p x y z = p.a *ℤ x +ℤ p.b *ℤ y +ℤ p.c *ℤ z
+abbrev pub value_without_constant : Plane → ℤ → ℤ → ℤ → ℤ
+value_without_constant p x y z = p.a *ℤ x +ℤ p.b *ℤ y +ℤ p.c *ℤ z
 
 -- a plane's least and greatest value over a box, without its constant
-abbrev pub least : Plane → Aabb → ℤ
-least p b = combined p (least_end p.a b.x) (least_end p.b b.y) (least_end p.c b.z)
+abbrev pub least_value : Plane → Aabb → ℤ
+least_value p b = value_without_constant p (least_end p.a b.x) (least_end p.b b.y) (least_end p.c b.z)
 
-abbrev pub greatest : Plane → Aabb → ℤ
-greatest p b = combined p (greatest_end p.a b.x) (greatest_end p.b b.y) (greatest_end p.c b.z)
+abbrev pub greatest_value : Plane → Aabb → ℤ
+greatest_value p b = value_without_constant p (greatest_end p.a b.x) (greatest_end p.b b.y) (greatest_end p.c b.z)
 
 -- whether the corners of the bounding box aren't all strictly on one side of the plane
 unfoldable pub crosses : Plane → Aabb → Bool
-crosses p b = int_le (least p b) p.d && int_le p.d (greatest p b)
+crosses p b = int_le (least_value p b) p.d && int_le p.d (greatest_value p b)
 
 -- ---- sizes
 pub record IsIntervalSized (s : Interval) : Type 0 where

@@ -14,10 +14,10 @@ pub record Cell : Type 0 where
   pub path : ℕ
 
 -- the coordinate of a vector along an axis
-abbrev pub along : Axis → Vector → ℤ
-along X v = v.x
-along Y v = v.y
-along Z v = v.z
+abbrev pub entry_along : Axis → Vector → ℤ
+entry_along X v = v.x
+entry_along Y v = v.y
+entry_along Z v = v.z
 
 -- v with k more along an axis
 abbrev pub shifted_by : Axis → ℤ → Vector → Vector
@@ -31,7 +31,7 @@ side c k = pos (2 ^ c.log k)
 
 -- the least coordinate of a box along an axis
 abbrev pub low : Cell → Axis → ℤ
-low c k = along k c.lo
+low c k = entry_along k c.lo
 
 -- the coordinate at which a box ends along an axis
 abbrev pub high : Cell → Axis → ℤ
@@ -61,7 +61,7 @@ put Z n f X = f X
 put Z n f Y = f Y
 put Z n f Z = n
 
--- the halves along an axis: the lower one, and the upper one
+-- the halves along an axis: the left one, which is the lower one, and the right one
 abbrev pub left_half : Cell → Axis → Cell
 left_half c k = record { lo = c.lo; log = put k (pred (c.log k)) c.log; path = 2 * c.path }
 
@@ -81,7 +81,8 @@ pub record IsOnGrid (low : ℤ) (log : ℕ) : Type 0 where
   pub at : low +ℤ pos 2048 ≡ pos (index * 2 ^ log)
   pub within : (index + 1) * 2 ^ log ≤ 4096
 
--- what every box keeps
+-- what every box keeps. `from` and `below` say that the path has one binary digit more than the depth: with one
+-- digit more for each halving left, it has 37.
 pub record IsCell (c : Cell) : Type 0 where
   pub sits : (k : Axis) → IsOnGrid (low c k) (c.log k)
   pub from : 2 ^ 36 ≤ c.path * 2 ^ halvings_left c
@@ -97,6 +98,7 @@ three x y z Z = z
 abbrev pub cell_with : ℤ → ℤ → ℤ → ℕ → ℕ → ℕ → ℕ → Cell
 cell_with x y z i j k path = record { lo = record { x = x; y = y; z = z }; log = three i j k; path = path }
 
+-- a lemma, which stands here because `cell_code` needs it: the function made of the three values is the function
 pub same_log : (f : Axis → ℕ) (k : Axis) → three (f X) (f Y) (f Z) k ≡ f k
 same_log f X = refl
 same_log f Y = refl

@@ -2,7 +2,7 @@
 use Rattle.std.specs.Prelude.{◌≡◌, ℕ, Option, None, Some, List}
 use Rattle.ember_model.specs.declared.tri.Tri.{Tri}
 use Rattle.ember_model.specs.declared.point.Axis.{Axis}
-use Rattle.ember_box.specs.declared.looks.HalvedBox.{HalvedBox}
+use Rattle.ember_box.specs.declared.halved_box.HalvedBox.{HalvedBox}
 use Rattle.ember_box.specs.Boxes.{Cell, left_half, right_half}
 use Rattle.ember_box.specs.Near.{near_indices}
 
@@ -11,7 +11,7 @@ abbrev pub axis_of : Option HalvedBox → Option Axis
 axis_of None = None
 axis_of (Some h) = Some h.axis
 
--- the indices of the list whose triangles are near the lower half, and those near the upper half
-pub record AreNearLists (ts : List Tri) (c : Cell) (k : Axis) (is low high : List ℕ) : Type 0 where
-  pub is_low : low ≡ near_indices ts (left_half c k) is
-  pub is_high : high ≡ near_indices ts (right_half c k) is
+-- the indices of the list whose triangles are near the left half, and those near the right half
+pub record AreNearLists (ts : List Tri) (c : Cell) (k : Axis) (is left right : List ℕ) : Type 0 where
+  pub is_left : left ≡ near_indices ts (left_half c k) is
+  pub is_right : right ≡ near_indices ts (right_half c k) is

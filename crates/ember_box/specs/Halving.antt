@@ -10,7 +10,7 @@ use Rattle.ember_box.specs.Near.{near}
 abbrev pub is_halvable : Cell → Axis → Bool
 is_halvable c k = nat_lt 0 (c.log k)
 
--- the sum of an axis: the number of triangles near the lower half, plus the number near the upper half
+-- the sum of an axis: the number of triangles near the left half, plus the number near the right half
 unfoldable pub half_sum : List Tri → Cell → Axis → ℕ
 half_sum ts c k = length (near ts (left_half c k)) + length (near ts (right_half c k))
 
@@ -34,7 +34,7 @@ is_leaf ts c =
     nat_le (length (near ts c)) 16 || is_unprofitable ts c X && is_unprofitable ts c Y && is_unprofitable ts c Z
 
 -- ---- the full tree
--- the leaves under a box, the lower half's first; at most this many halvings deep
+-- the leaves under a box, the left half's first; at most this many halvings deep
 abbrev pub leaves_within : List Tri → ℕ → Cell → List Cell
 leaves_within ts zero c = c ∷ []
 leaves_within ts (suc n) c =

@@ -10,15 +10,15 @@ use Rattle.ember_model.specs.declared.point.Axis.{Axis}
 use Rattle.ember_model.specs.declared.point.Axis.TheVariants.{X, Y, Z}
 use Rattle.ember_model.specs.Planes.{vector_of, value_at, support_of}
 use Rattle.ember_model.specs.Points.{moved}
-use Rattle.ember_box.specs.Boxes.{Cell, along, side, low, high}
+use Rattle.ember_box.specs.Boxes.{Cell, entry_along, side, low, high}
 
 -- along the axis the triangle's bounding box meets the closed box
 abbrev pub spans_meet : Cell → Tri → Axis → Bool
 spans_meet c t k =
-    (int_le (along k (vector_of t.a)) (high c k) ||
-    (int_le (along k (vector_of t.b)) (high c k) || int_le (along k (vector_of t.c)) (high c k))) &&
-    (int_le (low c k) (along k (vector_of t.a)) ||
-    (int_le (low c k) (along k (vector_of t.b)) || int_le (low c k) (along k (vector_of t.c))))
+    (int_le (entry_along k (vector_of t.a)) (high c k) ||
+    (int_le (entry_along k (vector_of t.b)) (high c k) || int_le (entry_along k (vector_of t.c)) (high c k))) &&
+    (int_le (low c k) (entry_along k (vector_of t.a)) ||
+    (int_le (low c k) (entry_along k (vector_of t.b)) || int_le (low c k) (entry_along k (vector_of t.c))))
 
 -- the triangle's bounding box meets the closed box
 abbrev pub boxes_meet : Cell → Tri → Bool

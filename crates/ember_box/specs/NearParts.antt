@@ -13,7 +13,7 @@ use Rattle.ember_box.specs.declared.near_parts.Middles.{Middles}
 use Rattle.ember_box.specs.declared.near_parts.NearPair.{NearPair}
 use Rattle.ember_box.specs.declared.near_parts.NearParts.{NearParts}
 use Rattle.ember_box.specs.Boxes.{Cell, low, left_half, right_half}
-use Rattle.ember_box.specs.Aabbs.{aabb_of_cell, least, greatest, IsAabbSized}
+use Rattle.ember_box.specs.Aabbs.{aabb_of_cell, least_value, greatest_value, IsAabbSized}
 use Rattle.ember_box.specs.Near.{is_near, tri_at}
 
 -- ---- the halves
@@ -38,25 +38,25 @@ pub record AreMiddlesSized (b : Middles) : Type 0 where
 -- ---- a plane
 -- how far its constant lies above its least value over a box, and below its greatest
 pub record AreMargins (p : Plane) (b : Aabb) (m : Margins) : Type 0 where
-  pub above : m.above ≡ p.d -ℤ least p b
-  pub below : m.below ≡ greatest p b -ℤ p.d
+  pub above : m.above ≡ p.d -ℤ least_value p b
+  pub below : m.below ≡ greatest_value p b -ℤ p.d
 
 -- how much the value of a plane with the entry n of its normal grows over a half
 abbrev pub rise : ℤ → ℤ → ℤ
 rise n half = if is_negative n then neg_ℤ (n *ℤ half) else n *ℤ half
 
--- the margin that shrinks in the lower half, and the one that shrinks in the upper half
-abbrev pub margin_of_low : ℤ → Margins → ℤ
-margin_of_low n m = if is_negative n then m.above else m.below
+-- the margin that shrinks in the left half, and the one that shrinks in the right half
+abbrev pub margin_of_left : ℤ → Margins → ℤ
+margin_of_left n m = if is_negative n then m.above else m.below
 
-abbrev pub margin_of_high : ℤ → Margins → ℤ
-margin_of_high n m = if is_negative n then m.below else m.above
+abbrev pub margin_of_right : ℤ → Margins → ℤ
+margin_of_right n m = if is_negative n then m.below else m.above
 
 -- ---- the near parts
 -- whether the triangle is near the left half along the axis, and whether near the right one
 pub record IsNearPair (c : Cell) (k : Axis) (t : Tri) (p : NearPair) : Type 0 where
-  pub low : p.low ≡ is_near (left_half c k) t
-  pub high : p.high ≡ is_near (right_half c k) t
+  pub left : p.left ≡ is_near (left_half c k) t
+  pub right : p.right ≡ is_near (right_half c k) t
 
 -- whether the triangle is near the box, and near its halves along each axis on which its side is above 1
 pub record AreNearParts (c : Cell) (t : Tri) (p : NearParts) : Type 0 where
@@ -66,7 +66,7 @@ pub record AreNearParts (c : Cell) (t : Tri) (p : NearParts) : Type 0 where
   pub z : 0 < c.log Z → IsNearPair c Z t p.z
 
 abbrev pub no_pair : NearPair
-no_pair = record { low = false; high = false }
+no_pair = record { left = false; right = false }
 
 -- the near parts of a triangle that isn't near the box
 abbrev pub no_parts : NearParts
@@ -77,6 +77,6 @@ pair_on X p = p.x
 pair_on Y p = p.y
 pair_on Z p = p.z
 
--- ps has the near parts of the triangles of the first indices, one after another
+-- item i of ps has the near parts of the triangle whose index is item i of the list `is`
 pub record AreNearPartsAt (ts : List Tri) (c : Cell) (is : List ℕ) (ps : List NearParts) : Type 0 where
   pub each : (i : ℕ) → i < length ps → AreNearParts c (tri_at ts (slice_index_or is i 0)) (slice_index_or ps i no_parts)

@@ -4,14 +4,14 @@ use Rattle.ember_algebra.specs.Vector.{Vector}
 use Rattle.ember_model.specs.declared.tri.Tri.{Tri}
 use Rattle.ember_model.specs.declared.point.Spot.{Spot}
 use Rattle.ember_model.specs.declared.point.Axis.TheVariants.{X}
-use Rattle.ember_model.specs.Points.{shifted}
+use Rattle.ember_model.specs.Points.{offset_by}
 use Rattle.ember_model.specs.Meshes.{vector, IsScene}
 use Rattle.ember_box.specs.Boxes.{Cell}
 use Rattle.ember_box.specs.Near.{spot_of_vector, near}
 
 -- lo + (2^-27, 2^-54, 2^-81), with the weight 2^81
 abbrev pub reference_at : Vector → Spot
-reference_at lo = shifted (spot_of_vector lo) (pos (2 ^ 27))
+reference_at lo = offset_by (spot_of_vector lo) (pos (2 ^ 27))
 
 -- the reference point of a box
 abbrev pub reference : Cell → Spot

@@ -44,18 +44,19 @@ FaceIsAbove f p = Everywhere f (λ v. is_positive (value_at p v) ≡ true)
 abbrev pub FaceLiesOn : Face → Plane → Type 0
 FaceLiesOn f p = Everywhere f (λ v. is_zero (value_at p v) ≡ true)
 
--- what a wall leaves of a face
-pub data AtWall (w : Wall) (f : Face) : List Face → Type 0 where
-  cut : Cuts f w.plane → AtWall w f (below f w.plane ∷ [])
-  outside : FaceIsAbove f w.plane → AtWall w f []
-  in_high : w.is_high ≡ true → FaceLiesOn f w.plane → AtWall w f []
+-- what a wall leaves of a face. A box doesn't contain its high walls: a face in the plane of one
+-- belongs to the box beyond it (`in_high`)
+pub data AreLeftByWall (w : Wall) (f : Face) : List Face → Type 0 where
+  cut : Cuts f w.plane → AreLeftByWall w f (below f w.plane ∷ [])
+  outside : FaceIsAbove f w.plane → AreLeftByWall w f []
+  in_high : w.is_high ≡ true → FaceLiesOn f w.plane → AreLeftByWall w f []
   stays : (Cuts f w.plane → ⊥) → (FaceIsAbove f w.plane → ⊥) → (w.is_high ≡ true → FaceLiesOn f w.plane → ⊥) →
-      AtWall w f (f ∷ [])
+      AreLeftByWall w f (f ∷ [])
 
 -- the start of a triangle in a box: one face, or none
 abbrev pub IsStart : Cell → Tri → List Face → Type 0
 IsStart c t fs =
-    Chain (λ w. Each (AtWall w)) (walls c) (elim (is_flat t) [ true ↦ [] | false ↦ face_of t ∷ [] ]) fs
+    Chain (λ w. Each (AreLeftByWall w)) (walls c) (elim (is_flat t) [ true ↦ [] | false ↦ face_of t ∷ [] ]) fs
 
 -- ---- regions
 -- a plane that cuts what meets the face
@@ -73,11 +74,12 @@ cutting_planes_of t u =
     ]
 
 -- what a cutting plane leaves of a face
-pub data AtCuttingPlane (b : CuttingPlane) (f : Face) : List Face → Type 0 where
-  splits : Meets f b.face → Cuts f b.plane → AtCuttingPlane b f (below f b.plane ∷ above f b.plane ∷ [])
-  whole : (Meets f b.face → Cuts f b.plane → ⊥) → AtCuttingPlane b f (f ∷ [])
+pub data AreLeftByCuttingPlane (b : CuttingPlane) (f : Face) : List Face → Type 0 where
+  splits : Meets f b.face → Cuts f b.plane → AreLeftByCuttingPlane b f (below f b.plane ∷ above f b.plane ∷ [])
+  whole : (Meets f b.face → Cuts f b.plane → ⊥) → AreLeftByCuttingPlane b f (f ∷ [])
 
--- the cutting planes for triangle i of a leaf whose near triangles are these: those of each other triangle, in order
+-- the cutting planes that triangle j of a leaf with these near triangles has for triangle i: none if they are
+-- the same
 abbrev pub cutting_planes_at : List Tri → ℕ → ℕ → List CuttingPlane
 cutting_planes_at ts i j = elim (nat_eq j i) [ true ↦ [] | false ↦ cutting_planes_of (tri_at ts i) (tri_at ts j) ]
 
@@ -89,4 +91,4 @@ cutting_planes ts i = flat_map (λ j. cutting_planes_at ts i j) (range_with_len 
 pub record IsRegions (c : Cell) (ts : List Tri) (i : ℕ) (fs : List Face) : Type 0 where
   pub start : List Face
   pub is_start : IsStart c (tri_at ts i) start
-  pub cuts : Chain (λ b. Each (AtCuttingPlane b)) (cutting_planes ts i) start fs
+  pub cuts : Chain (λ b. Each (AreLeftByCuttingPlane b)) (cutting_planes ts i) start fs

@@ -1,5 +1,5 @@
 -- What decides whether a triangle is near a box and near its halves, and what is counted
-use Rattle.std.specs.Prelude.{◌≡◌, ℕ, ◌+◌, ◌*◌, ◌<◌, ◌≤◌, Bool, true, ◌&&◌, ◌||◌, if◌then◌else◌, Option, None, Some, int_le, List, length}
+use Rattle.std.specs.Prelude.{◌≡◌, ℕ, ◌+◌, ◌*◌, ◌<◌, ◌≤◌, Bool, true, ◌&&◌, ◌||◌, if◌then◌else◌, Option, None, Some, int_le, List, length, ⊤}
 use Rattle.ember_model.specs.declared.tri.Tri.{Tri}
 use Rattle.ember_model.specs.declared.plane.Plane.{Plane}
 use Rattle.ember_model.specs.declared.point.Axis.{Axis}
@@ -11,7 +11,7 @@ use Rattle.ember_box.specs.declared.aabb.Aabb.{Aabb}
 use Rattle.ember_box.specs.declared.half_boxes.HalfBoxes.{HalfBoxes}
 use Rattle.ember_box.specs.declared.sums.Sums.{Sums}
 use Rattle.ember_box.specs.Boxes.{Cell, low, left_half, right_half}
-use Rattle.ember_box.specs.Aabbs.{aabb_of_cell, aabb_of_tri, within, is_level, crosses, IsAabbSized}
+use Rattle.ember_box.specs.Aabbs.{aabb_of_cell, aabb_of_tri, contains_aabb, is_level, crosses, IsAabbSized}
 use Rattle.ember_box.specs.Near.{is_near, near}
 use Rattle.ember_box.specs.Halving.{half_sum}
 
@@ -22,11 +22,11 @@ number b = if b then 1 else 0
 -- ---- one triangle
 -- the plane to test: none if the triangle lies in the box or across an axis
 abbrev pub IsPlaneOf : Aabb → Tri → Option Plane → Type 0
-IsPlaneOf whole t None = is_level (aabb_of_tri t) || within whole (aabb_of_tri t) ≡ true
+IsPlaneOf whole t None = is_level (aabb_of_tri t) || contains_aabb whole (aabb_of_tri t) ≡ true
 IsPlaneOf whole t (Some p) = p ≡ support_of t
 
 abbrev pub IsPlaneSized : Option Plane → Type 0
-IsPlaneSized None = Unit {0}
+IsPlaneSized None = ⊤
 IsPlaneSized (Some p) = IsSupportSized p
 
 -- the plane to test crosses the bounding box, or there is no plane to test
@@ -37,22 +37,22 @@ may_cross b (Some p) = crosses p b
 -- ---- the halves along an axis
 -- the bounding boxes of the halves of a box along an axis, and where they touch
 pub record AreHalves (c : Cell) (k : Axis) (h : HalfBoxes) : Type 0 where
-  pub is_low : h.low ≡ aabb_of_cell (left_half c k)
-  pub is_high : h.high ≡ aabb_of_cell (right_half c k)
+  pub is_left : h.left ≡ aabb_of_cell (left_half c k)
+  pub is_right : h.right ≡ aabb_of_cell (right_half c k)
   pub is_middle : h.middle ≡ low (right_half c k) k
 
 pub record AreHalvesSized (h : HalfBoxes) : Type 0 where
-  pub sized_low : IsAabbSized h.low
-  pub sized_high : IsAabbSized h.high
+  pub sized_left : IsAabbSized h.left
+  pub sized_right : IsAabbSized h.right
 
 -- what meets the box meets a half if its interval along the axis reaches the middle
 abbrev pub meets_left : HalfBoxes → Interval → Option Plane → Bool
 meets_left h a None = int_le a.low h.middle
-meets_left h a (Some p) = int_le a.low h.middle && crosses p h.low
+meets_left h a (Some p) = int_le a.low h.middle && crosses p h.left
 
 abbrev pub meets_right : HalfBoxes → Interval → Option Plane → Bool
 meets_right h a None = int_le h.middle a.high
-meets_right h a (Some p) = int_le h.middle a.high && crosses p h.high
+meets_right h a (Some p) = int_le h.middle a.high && crosses p h.right
 
 -- the number of halves along an axis that a triangle is near
 unfoldable pub near_halves : Cell → Axis → Tri → ℕ

@@ -4,7 +4,7 @@ ghost use Rattle.ember_algebra.specs.Size.{Small};
 ghost use Rattle.ember_model.specs.Sizes.{IsSupportSized};
 ghost use Rattle.ember_box.specs.Boxes as boxes;
 ghost use Rattle.ember_box.specs.NearParts.{AreMargins};
-ghost use Rattle.ember_box.specs.Aabbs.{interval_between, interval_over, interval_on, aabb_of_cell, aabb_of_tri, intervals_meet, aabbs_meet, aabbs_meet_beside, covers, within, is_point, is_level, has, holds, least_end, greatest_end, combined, least, greatest, crosses, IsIntervalSized, IsAabbSized};
+ghost use Rattle.ember_box.specs.Aabbs.{interval_between, interval_over, interval_on, aabb_of_cell, aabb_of_tri, intervals_meet, aabbs_meet, aabbs_meet_beside, covers, contains_aabb, is_point, is_level, contains_coordinate, contains_corner, least_end, greatest_end, value_without_constant, least_value, greatest_value, crosses, IsIntervalSized, IsAabbSized};
 
 use crate::cell::Cell;
 use ember_model::{Axis, Corner, Plane, Tri};
@@ -89,154 +89,158 @@ pub fn aabb_of_tri(t: &Tri) -> Aabb
 }
 
 // The interval of a bounding box along an axis.
-pub fn interval_on(b: &Aabb, axis: Axis) -> Interval
-    ensures { result ≡ interval_on axis b.now }
+pub fn interval_on(aabb: &Aabb, axis: Axis) -> Interval
+    ensures { result ≡ interval_on axis aabb.now }
 {
     match axis {
-        Axis::X => b.x,
-        Axis::Y => b.y,
-        Axis::Z => b.z,
+        Axis::X => aabb.x,
+        Axis::Y => aabb.y,
+        Axis::Z => aabb.z,
     }
 }
 
 // Whether the intervals have a common coordinate.
-fn intervals_meet(a: &Interval, b: &Interval) -> bool
-    ensures { result ≡ intervals_meet a.now b.now }
+fn intervals_meet(first: &Interval, second: &Interval) -> bool
+    ensures { result ≡ intervals_meet first.now second.now }
 {
-    a.low <= b.high && b.low <= a.high
+    first.low <= second.high && second.low <= first.high
 }
 
 /// Whether the two bounding boxes have a common point.
-pub fn aabbs_meet(a: &Aabb, b: &Aabb) -> bool
-    ensures { result ≡ aabbs_meet a.now b.now }
+pub fn aabbs_meet(first: &Aabb, second: &Aabb) -> bool
+    ensures { result ≡ aabbs_meet first.now second.now }
 {
-    intervals_meet(&a.x, &b.x) && intervals_meet(&a.y, &b.y) && intervals_meet(&a.z, &b.z)
+    intervals_meet(&first.x, &second.x)
+        && intervals_meet(&first.y, &second.y)
+        && intervals_meet(&first.z, &second.z)
 }
 
 /// Whether along both axes other than this one the interval of the triangle's bounding box and that
-/// of `b` have a common coordinate.
-pub fn aabbs_meet_beside(t: &Tri, b: &Aabb, axis: Axis) -> bool
-    ensures { result ≡ aabbs_meet_beside axis (aabb_of_tri t.now) b.now }
+/// of `aabb` have a common coordinate.
+pub fn aabbs_meet_beside(t: &Tri, aabb: &Aabb, axis: Axis) -> bool
+    ensures { result ≡ aabbs_meet_beside axis (aabb_of_tri t.now) aabb.now }
 {
     match axis {
-        Axis::X => intervals_meet(&along_y(t), &b.y) && intervals_meet(&along_z(t), &b.z),
-        Axis::Y => intervals_meet(&along_x(t), &b.x) && intervals_meet(&along_z(t), &b.z),
-        Axis::Z => intervals_meet(&along_x(t), &b.x) && intervals_meet(&along_y(t), &b.y),
+        Axis::X => intervals_meet(&along_y(t), &aabb.y) && intervals_meet(&along_z(t), &aabb.z),
+        Axis::Y => intervals_meet(&along_x(t), &aabb.x) && intervals_meet(&along_z(t), &aabb.z),
+        Axis::Z => intervals_meet(&along_x(t), &aabb.x) && intervals_meet(&along_y(t), &aabb.y),
     }
 }
 
-// Whether `b` contains `a`.
-fn covers(b: &Interval, a: &Interval) -> bool
-    ensures { result ≡ covers b.now a.now }
+// Whether `outer` contains `inner`.
+fn covers(outer: &Interval, inner: &Interval) -> bool
+    ensures { result ≡ covers outer.now inner.now }
 {
-    b.low <= a.low && a.high <= b.high
+    outer.low <= inner.low && inner.high <= outer.high
 }
 
-/// Whether the bounding box `b` contains `a`.
-pub fn within(b: &Aabb, a: &Aabb) -> bool
-    ensures { result ≡ within b.now a.now }
+/// Whether the bounding box `whole` contains `spans`.
+pub fn contains_aabb(whole: &Aabb, spans: &Aabb) -> bool
+    ensures { result ≡ contains_aabb whole.now spans.now }
 {
-    covers(&b.x, &a.x) && covers(&b.y, &a.y) && covers(&b.z, &a.z)
+    covers(&whole.x, &spans.x) && covers(&whole.y, &spans.y) && covers(&whole.z, &spans.z)
 }
 
 // Whether the interval has only one coordinate.
-fn is_point(s: &Interval) -> bool
-    ensures { result ≡ is_point s.now }
+fn is_point(interval: &Interval) -> bool
+    ensures { result ≡ is_point interval.now }
 {
-    s.high <= s.low
+    interval.high <= interval.low
 }
 
 /// Whether the bounding box has no extent along some axis.
-pub fn is_level(b: &Aabb) -> bool
-    ensures { result ≡ is_level b.now }
+pub fn is_level(aabb: &Aabb) -> bool
+    ensures { result ≡ is_level aabb.now }
 {
-    is_point(&b.x) || is_point(&b.y) || is_point(&b.z)
+    is_point(&aabb.x) || is_point(&aabb.y) || is_point(&aabb.z)
 }
 
 // Whether the interval contains the coordinate.
-fn has(b: &Interval, x: i32) -> bool
-    ensures { result ≡ has b.now x }
+fn contains_coordinate(interval: &Interval, x: i32) -> bool
+    ensures { result ≡ contains_coordinate interval.now x }
 {
-    b.low <= x && x <= b.high
+    interval.low <= x && x <= interval.high
 }
 
 /// Whether the corner lies in the bounding box.
-pub fn holds(b: &Aabb, u: &Corner) -> bool
-    ensures { result ≡ holds b.now u.now }
+pub fn contains_corner(aabb: &Aabb, u: &Corner) -> bool
+    ensures { result ≡ contains_corner aabb.now u.now }
 {
-    has(&b.x, u.x) && has(&b.y, u.y) && has(&b.z, u.z)
+    contains_coordinate(&aabb.x, u.x)
+        && contains_coordinate(&aabb.y, u.y)
+        && contains_coordinate(&aabb.z, u.z)
 }
 
 // The end of the interval at which `n` times the coordinate is least.
-fn least_end(n: i64, s: &Interval) -> i32
-    requires { IsIntervalSized s.now }
-    ensures value { result ≡ least_end n s.now }
+fn least_end(n: i64, interval: &Interval) -> i32
+    requires { IsIntervalSized interval.now }
+    ensures value { result ≡ least_end n interval.now }
     ensures small { Small 2048 result }
 {
-    if n < 0 { s.high } else { s.low }
+    if n < 0 { interval.high } else { interval.low }
 }
 
 // The end of the interval at which `n` times the coordinate is greatest.
-fn greatest_end(n: i64, s: &Interval) -> i32
-    requires { IsIntervalSized s.now }
-    ensures value { result ≡ greatest_end n s.now }
+fn greatest_end(n: i64, interval: &Interval) -> i32
+    requires { IsIntervalSized interval.now }
+    ensures value { result ≡ greatest_end n interval.now }
     ensures small { Small 2048 result }
 {
-    if n < 0 { s.low } else { s.high }
+    if n < 0 { interval.low } else { interval.high }
 }
 
 // The value of the plane at a point, without its constant.
 #[tactic(none)]
-fn combined(p: &Plane, x: i32, y: i32, z: i32) -> i64
+fn value_without_constant(p: &Plane, x: i32, y: i32, z: i32) -> i64
     requires plane { IsSupportSized p.now }
     requires x { Small 2048 x }
     requires y { Small 2048 y }
     requires z { Small 2048 z }
-    ensures value { result ≡ combined p.now x y z }
+    ensures value { result ≡ value_without_constant p.now x y z }
     ensures small { Small (2 ^ 38) result }
 {
     p.a * x as i64 + p.b * y as i64 + p.c * z as i64
 }
 
 // The least value of the plane over the bounding box, without its constant.
-fn least(p: &Plane, b: &Aabb) -> i64
+fn least_value(p: &Plane, aabb: &Aabb) -> i64
     requires plane { IsSupportSized p.now }
-    requires spans { IsAabbSized b.now }
-    ensures value { result ≡ least p.now b.now }
+    requires spans { IsAabbSized aabb.now }
+    ensures value { result ≡ least_value p.now aabb.now }
     ensures small { Small (2 ^ 38) result }
 {
-    combined(
+    value_without_constant(
         p,
-        least_end(p.a, &b.x),
-        least_end(p.b, &b.y),
-        least_end(p.c, &b.z),
+        least_end(p.a, &aabb.x),
+        least_end(p.b, &aabb.y),
+        least_end(p.c, &aabb.z),
     )
 }
 
 // The greatest value of the plane over the bounding box, without its constant.
-fn greatest(p: &Plane, b: &Aabb) -> i64
+fn greatest_value(p: &Plane, aabb: &Aabb) -> i64
     requires plane { IsSupportSized p.now }
-    requires spans { IsAabbSized b.now }
-    ensures value { result ≡ greatest p.now b.now }
+    requires spans { IsAabbSized aabb.now }
+    ensures value { result ≡ greatest_value p.now aabb.now }
     ensures small { Small (2 ^ 38) result }
 {
-    combined(
+    value_without_constant(
         p,
-        greatest_end(p.a, &b.x),
-        greatest_end(p.b, &b.y),
-        greatest_end(p.c, &b.z),
+        greatest_end(p.a, &aabb.x),
+        greatest_end(p.b, &aabb.y),
+        greatest_end(p.c, &aabb.z),
     )
 }
 
 /// Whether the corners of the bounding box aren't all strictly on one side of the plane: the
 /// plane's least value at them isn't positive, and its greatest isn't negative.
 #[tactic(auto, unfolding(crate::specs::Aabbs::crosses))]
-pub fn crosses(p: &Plane, b: &Aabb) -> bool
+pub fn crosses(p: &Plane, aabb: &Aabb) -> bool
     requires plane { IsSupportSized p.now }
-    requires spans { IsAabbSized b.now }
-    ensures { result ≡ crosses p.now b.now }
+    requires spans { IsAabbSized aabb.now }
+    ensures { result ≡ crosses p.now aabb.now }
 {
-    least(p, b) <= p.d && p.d <= greatest(p, b)
+    least_value(p, aabb) <= p.d && p.d <= greatest_value(p, aabb)
 }
 
 // How far a plane's constant is above the least value over a bounding box, and below the greatest.
@@ -258,14 +262,14 @@ fn difference(a: i64, b: i64) -> i64
 }
 
 // The margins of the plane over the bounding box.
-pub fn margins_of(p: &Plane, b: &Aabb) -> Margins
+pub fn margins_of(p: &Plane, aabb: &Aabb) -> Margins
     requires plane { IsSupportSized p.now }
-    requires spans { IsAabbSized b.now }
-    ensures { AreMargins p.now b.now result }
+    requires spans { IsAabbSized aabb.now }
+    ensures { AreMargins p.now aabb.now result }
 {
     Margins {
-        above: difference(p.d, least(p, b)),
-        below: difference(greatest(p, b), p.d),
+        above: difference(p.d, least_value(p, aabb)),
+        below: difference(greatest_value(p, aabb), p.d),
     }
 }
 

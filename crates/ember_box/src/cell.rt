@@ -19,9 +19,9 @@ pub struct Cell {
 }
 
 impl Model for Cell {
-    ghost use Rattle.ember_box.specs.Boxes.{Cell as Box, cell_code, cell_of, IsCell};
+    ghost use Rattle.ember_box.specs.Boxes.{Cell as CellView, cell_code, cell_of, IsCell};
 
-    ghost Value = { Box };
+    ghost Value = { CellView };
 
     ghost coded = { cell_code };
 

@@ -1,75 +1,77 @@
-// Whether a triangle whose bounding box meets a box is near the halves of the box.
+// Whether a triangle whose bounding box meets a box is near the halves of the box along one axis:
+// for `near_halves`, which `voxels` uses. near_parts.rt does it for all axes at once, and uses only
+// `plane_to_test` of this file.
 ghost use Rattle.std.specs.Prelude.{◌≡◌, ◌<◌};
 ghost use Rattle.ember_model.specs.Valid.{IsValidTri};
 ghost use Rattle.ember_box.specs.Aabbs.{aabb_of_tri, IsAabbSized};
 ghost use Rattle.ember_box.specs.Sums.{IsPlaneOf, IsPlaneSized, meets_left, meets_right, AreHalves, AreHalvesSized};
 
-use crate::aabb::{Aabb, Interval, aabb_of_cell, crosses, is_level, within};
+use crate::aabb::{Aabb, Interval, aabb_of_cell, contains_aabb, crosses, is_level};
 use crate::cell::{Cell, halves};
 use ember_model::{Axis, Plane, Tri, support_of};
 
-// The plane to test, of a triangle with the bounding box `spans`. None if bounding boxes alone
-// decide: if the triangle lies in the box or across an axis, it is near each half that its bounding
-// box meets.
-pub fn plane_of(whole: &Aabb, spans: &Aabb, t: &Tri) -> Option<Plane>
+// The plane to test, of a triangle with the bounding box `spans`. None if the triangle lies in the
+// box, or in a plane perpendicular to an axis: then it is near each half that its bounding box
+// meets, so bounding boxes alone decide.
+pub fn plane_to_test(whole: &Aabb, spans: &Aabb, t: &Tri) -> Option<Plane>
     requires valid { IsValidTri t.now }
     requires spans { spans.now ≡ aabb_of_tri t.now }
     ensures value { IsPlaneOf whole.now t.now result }
     ensures sized { IsPlaneSized result }
 {
-    if is_level(spans) || within(whole, spans) {
+    if is_level(spans) || contains_aabb(whole, spans) {
         None
     } else {
         Some(support_of(t))
     }
 }
 
-// The bounding boxes of the left (lower) and the right (upper) half of a box along an axis, and the
-// coordinate at which they touch.
+// The bounding boxes of the left and the right half of a box along an axis, and the coordinate at
+// which they touch.
 #[derive(Clone, Copy)]
 pub struct HalfBoxes {
-    pub low: Aabb,
-    pub high: Aabb,
+    pub left: Aabb,
+    pub right: Aabb,
     pub middle: i32,
 }
 
 // The halves of the box along the axis, along which its side is above 1.
-pub fn halves_of(c: &Cell, k: Axis) -> HalfBoxes
+pub fn half_boxes_of(c: &Cell, k: Axis) -> HalfBoxes
     requires { 0 < c.now.log k }
     ensures value { AreHalves c.now k result }
     ensures sized { AreHalvesSized result }
 {
-    let (low, high) = halves(c, k);
+    let (left, right) = halves(c, k);
     HalfBoxes {
-        low: aabb_of_cell(&low),
-        high: aabb_of_cell(&high),
-        middle: high.low(k),
+        left: aabb_of_cell(&left),
+        right: aabb_of_cell(&right),
+        middle: right.low(k),
     }
 }
 
 // Whether a triangle is near the left half. Its bounding box meets the box, and has the interval
 // `span` along the axis of the halves. It is near if it begins no later than that half ends, and if
 // the plane to test, if any, crosses the half.
-pub fn meets_left(h: &HalfBoxes, span: &Interval, plane: &Option<Plane>) -> bool
-    requires halves { AreHalvesSized h.now }
+pub fn meets_left(halves: &HalfBoxes, span: &Interval, plane: &Option<Plane>) -> bool
+    requires halves { AreHalvesSized halves.now }
     requires plane { IsPlaneSized plane.now }
-    ensures { result ≡ meets_left h.now span.now plane.now }
+    ensures { result ≡ meets_left halves.now span.now plane.now }
 {
     match plane {
-        None => span.low <= h.middle,
-        Some(p) => span.low <= h.middle && crosses(p, &h.low),
+        None => span.low <= halves.middle,
+        Some(p) => span.low <= halves.middle && crosses(p, &halves.left),
     }
 }
 
 // Whether such a triangle is near the right half: it ends no earlier than that half begins, and the
 // plane to test, if any, crosses the half.
-pub fn meets_right(h: &HalfBoxes, span: &Interval, plane: &Option<Plane>) -> bool
-    requires halves { AreHalvesSized h.now }
+pub fn meets_right(halves: &HalfBoxes, span: &Interval, plane: &Option<Plane>) -> bool
+    requires halves { AreHalvesSized halves.now }
     requires plane { IsPlaneSized plane.now }
-    ensures { result ≡ meets_right h.now span.now plane.now }
+    ensures { result ≡ meets_right halves.now span.now plane.now }
 {
     match plane {
-        None => h.middle <= span.high,
-        Some(p) => h.middle <= span.high && crosses(p, &h.high),
+        None => halves.middle <= span.high,
+        Some(p) => halves.middle <= span.high && crosses(p, &halves.right),
     }
 }

@@ -6,14 +6,14 @@ ghost use Rattle.ember_model.specs.declared.tri.Tri.{Tri};
 ghost use Rattle.ember_model.specs.Valid.{IsValidTri};
 ghost use Rattle.ember_model.specs.Planes.{support_of};
 ghost use Rattle.ember_model.specs.Sizes.{IsSupportSized};
-ghost use Rattle.ember_box.specs.Boxes.{Cell as Box};
+ghost use Rattle.ember_box.specs.Boxes.{Cell as CellView};
 ghost use Rattle.ember_box.specs.Aabbs.{aabb_of_cell, aabb_of_tri, aabbs_meet, IsAabbSized};
 ghost use Rattle.ember_box.specs.Sums.{IsPlaneOf};
 ghost use Rattle.ember_box.specs.NearParts.{rise, no_parts, pair_on, IsMiddle, AreMiddles, AreMiddlesSized, AreNearParts};
 
 use crate::aabb::{Aabb, Interval, Margins, aabb_of_cell, aabb_of_tri, aabbs_meet, margins_of};
 use crate::cell::{Cell, halves};
-use crate::half_boxes::plane_of;
+use crate::half_boxes::plane_to_test;
 use ember_model::{Axis, Plane, Tri};
 
 // The coordinate at which the halves of a box along an axis touch, and how long each half is along
@@ -34,12 +34,12 @@ pub struct Middles {
     pub z: Middle,
 }
 
-// Whether a triangle is near the left (lower) half of a box along an axis, and whether the right
-// (upper) one.
+// Whether a triangle is near the left half of a box along an axis, and whether near the right one.
+// The left half is the lower one.
 #[derive(Clone, Copy)]
 pub struct NearPair {
-    pub low: bool,
-    pub high: bool,
+    pub left: bool,
+    pub right: bool,
 }
 
 // Whether a triangle is near a box, and near its halves along each axis.
@@ -60,8 +60,8 @@ fn middle_along(c: &Cell, k: Axis) -> Middle
     if c.log(k) == 0 {
         return Middle { at: low, half: 0 };
     }
-    let (_, high) = halves(c, k);
-    let at = high.low(k);
+    let (_, right) = halves(c, k);
+    let at = right.low(k);
     Middle { at, half: at - low }
 }
 
@@ -83,8 +83,8 @@ fn no_parts() -> NearParts
     ensures { result ≡ no_parts }
 {
     let none = NearPair {
-        low: false,
-        high: false,
+        left: false,
+        right: false,
     };
     NearParts {
         whole: false,
@@ -95,27 +95,27 @@ fn no_parts() -> NearParts
 }
 
 // Which halves an interval along their axis reaches.
-fn pair_by_span(h: &Middle, span: &Interval) -> NearPair
-    ensures low { result.low ≡ int_le span.now.low h.now.at }
-    ensures high { result.high ≡ int_le h.now.at span.now.high }
+fn pair_by_span(middle: &Middle, span: &Interval) -> NearPair
+    ensures left { result.left ≡ int_le span.now.low middle.now.at }
+    ensures right { result.right ≡ int_le middle.now.at span.now.high }
 {
     NearPair {
-        low: span.low <= h.at,
-        high: h.at <= span.high,
+        left: span.low <= middle.at,
+        right: middle.at <= span.high,
     }
 }
 
 // The near parts of a triangle whose bounding box meets the box. Its plane crosses each half that
 // its bounding box meets, so bounding boxes alone decide.
-fn parts_by_spans(b: &Middles, spans: &Aabb) -> NearParts
-    ensures { (c : Box) (t : Tri) → AreMiddles c b.now → spans.now ≡ aabb_of_tri t →
-        aabbs_meet spans.now b.now.whole ≡ true → IsPlaneOf b.now.whole t None → AreNearParts c t result }
+fn parts_by_spans(middles: &Middles, spans: &Aabb) -> NearParts
+    ensures { (c : CellView) (t : Tri) → AreMiddles c middles.now → spans.now ≡ aabb_of_tri t →
+        aabbs_meet spans.now middles.now.whole ≡ true → IsPlaneOf middles.now.whole t None → AreNearParts c t result }
 {
     NearParts {
         whole: true,
-        x: pair_by_span(&b.x, &spans.x),
-        y: pair_by_span(&b.y, &spans.y),
-        z: pair_by_span(&b.z, &spans.z),
+        x: pair_by_span(&middles.x, &spans.x),
+        y: pair_by_span(&middles.y, &spans.y),
+        z: pair_by_span(&middles.z, &spans.z),
     }
 }
 
@@ -150,67 +150,94 @@ fn slope_of(n: i64, half: i32) -> Slope
 }
 
 impl Slope {
-    // The margin that shrinks in the lower half.
-    fn margin_of_low(&self, m: &Margins) -> i64
-        ensures { result ≡ (if self.now.falls then m.now.above else m.now.below) }
+    // The margin that is smaller by `rise` over the left half: the one at the end of the range of
+    // values that only the right half reaches.
+    fn margin_of_left(&self, margins: &Margins) -> i64
+        ensures { result ≡ (if self.now.falls then margins.now.above else margins.now.below) }
     {
-        if self.falls { m.above } else { m.below }
+        if self.falls {
+            margins.above
+        } else {
+            margins.below
+        }
     }
 
-    // The margin that shrinks in the upper half.
-    fn margin_of_high(&self, m: &Margins) -> i64
-        ensures { result ≡ (if self.now.falls then m.now.below else m.now.above) }
+    // The margin that is smaller by `rise` over the right half: the one at the end of the range of
+    // values that only the left half reaches.
+    fn margin_of_right(&self, margins: &Margins) -> i64
+        ensures { result ≡ (if self.now.falls then margins.now.below else margins.now.above) }
     {
-        if self.falls { m.below } else { m.above }
+        if self.falls {
+            margins.below
+        } else {
+            margins.above
+        }
     }
 }
 
-// Which halves the interval reaches and the plane crosses. The plane crosses the box, with these
-// margins.
-fn pair_by_plane(h: &Middle, span: &Interval, s: &Slope, m: &Margins) -> NearPair
-    ensures low { result.low ≡ int_le span.now.low h.now.at && int_le s.now.rise (if s.now.falls then m.now.above
-        else m.now.below) }
-    ensures high { result.high ≡ int_le h.now.at span.now.high && int_le s.now.rise (if s.now.falls then m.now.below
-        else m.now.above) }
+// Which halves the interval reaches and the plane crosses, of a box that the plane crosses with
+// these margins. Over a half, one end of the range of the plane's values is that of the box, and
+// the other is nearer by `rise`. So the plane crosses the half exactly if the margin at that other
+// end is at least `rise`.
+fn pair_by_plane(middle: &Middle, span: &Interval, slope: &Slope, margins: &Margins) -> NearPair
+    ensures left { result.left ≡ int_le span.now.low middle.now.at && int_le slope.now.rise (if slope.now.falls
+        then margins.now.above else margins.now.below) }
+    ensures right { result.right ≡ int_le middle.now.at span.now.high && int_le slope.now.rise (if slope.now.falls
+        then margins.now.below else margins.now.above) }
 {
     NearPair {
-        low: span.low <= h.at && s.rise <= s.margin_of_low(m),
-        high: h.at <= span.high && s.rise <= s.margin_of_high(m),
+        left: span.low <= middle.at && slope.rise <= slope.margin_of_left(margins),
+        right: middle.at <= span.high && slope.rise <= slope.margin_of_right(margins),
     }
 }
 
 // The near parts of a triangle with this plane, whose bounding box meets the box.
-fn parts_by_plane(b: &Middles, spans: &Aabb, p: &Plane) -> NearParts
-    requires sized { AreMiddlesSized b.now }
+fn parts_by_plane(middles: &Middles, spans: &Aabb, p: &Plane) -> NearParts
+    requires sized { AreMiddlesSized middles.now }
     requires plane { IsSupportSized p.now }
-    ensures { (c : Box) (t : Tri) → AreMiddles c b.now → spans.now ≡ aabb_of_tri t →
-        aabbs_meet spans.now b.now.whole ≡ true → p.now ≡ support_of t → AreNearParts c t result }
+    ensures { (c : CellView) (t : Tri) → AreMiddles c middles.now → spans.now ≡ aabb_of_tri t →
+        aabbs_meet spans.now middles.now.whole ≡ true → p.now ≡ support_of t → AreNearParts c t result }
 {
-    let m = margins_of(p, &b.whole);
-    if !m.are_both() {
+    let margins = margins_of(p, &middles.whole);
+    if !margins.are_both() {
         return no_parts();
     }
     NearParts {
         whole: true,
-        x: pair_by_plane(&b.x, &spans.x, &slope_of(p.a, b.x.half), &m),
-        y: pair_by_plane(&b.y, &spans.y, &slope_of(p.b, b.y.half), &m),
-        z: pair_by_plane(&b.z, &spans.z, &slope_of(p.c, b.z.half), &m),
+        x: pair_by_plane(
+            &middles.x,
+            &spans.x,
+            &slope_of(p.a, middles.x.half),
+            &margins,
+        ),
+        y: pair_by_plane(
+            &middles.y,
+            &spans.y,
+            &slope_of(p.b, middles.y.half),
+            &margins,
+        ),
+        z: pair_by_plane(
+            &middles.z,
+            &spans.z,
+            &slope_of(p.c, middles.z.half),
+            &margins,
+        ),
     }
 }
 
 // Whether the triangle is near the box, and near its halves along each axis.
-pub fn near_parts(b: &Middles, t: &Tri) -> NearParts
+pub fn near_parts(middles: &Middles, t: &Tri) -> NearParts
     requires valid { IsValidTri t.now }
-    requires sized { AreMiddlesSized b.now }
-    ensures { (c : Box) → AreMiddles c b.now → AreNearParts c t.now result }
+    requires sized { AreMiddlesSized middles.now }
+    ensures { (c : CellView) → AreMiddles c middles.now → AreNearParts c t.now result }
 {
     let spans = aabb_of_tri(t);
-    if !aabbs_meet(&spans, &b.whole) {
+    if !aabbs_meet(&spans, &middles.whole) {
         return no_parts();
     }
-    match plane_of(&b.whole, &spans, t) {
-        None => parts_by_spans(b, &spans),
-        Some(p) => parts_by_plane(b, &spans, &p),
+    match plane_to_test(&middles.whole, &spans, t) {
+        None => parts_by_spans(middles, &spans),
+        Some(p) => parts_by_plane(middles, &spans, &p),
     }
 }
 

@@ -2,16 +2,16 @@
 ghost use Rattle.std.specs.Prelude.{◌≡◌, ◌+◌, ◌<◌, ◌≤◌, ◌++◌, [], ◌∷◌, true, length, All, IfOk, if◌then◌else◌, vec_len, vec_capacity};
 ghost use Rattle.ember_model.specs.Valid.{IsValidTri};
 ghost use Rattle.ember_model.specs.Planes.{support_of};
-ghost use Rattle.ember_box.specs.Boxes.{Cell as Box, left_half, right_half};
+ghost use Rattle.ember_box.specs.Boxes.{Cell as CellView, left_half, right_half};
 ghost use Rattle.ember_box.specs.Aabbs.{aabb_of_cell, aabb_of_tri, aabbs_meet, crosses, IsAabbSized};
 ghost use Rattle.ember_box.specs.Near.{is_near, tri_at, near_indices};
 ghost use Rattle.ember_box.specs.Sums.{AreHalves, AreHalvesSized};
 
 use crate::aabb::{
-    Aabb, aabb_of_cell, aabb_of_tri, aabbs_meet, crosses, holds, interval_on, is_level,
+    Aabb, aabb_of_cell, aabb_of_tri, aabbs_meet, contains_corner, crosses, interval_on, is_level,
 };
 use crate::cell::Cell;
-use crate::half_boxes::{HalfBoxes, halves_of, meets_left, meets_right, plane_of};
+use crate::half_boxes::{HalfBoxes, half_boxes_of, meets_left, meets_right, plane_to_test};
 use ember_model::{Axis, OutOfMemory, Scene, Tri, support_of};
 use std::alloc::Global;
 
@@ -25,27 +25,29 @@ pub fn near_tri(c: &Cell, t: &Tri) -> bool
 }
 
 // Whether the triangle is near the box that has this bounding box.
-fn is_near(b: &Aabb, t: &Tri) -> bool
+fn is_near(aabb: &Aabb, t: &Tri) -> bool
     requires tri { IsValidTri t.now }
-    requires spans { IsAabbSized b.now }
-    ensures { (c : Box) → b.now ≡ aabb_of_cell c → result ≡ is_near c t.now }
+    requires spans { IsAabbSized aabb.now }
+    ensures { (c : CellView) → aabb.now ≡ aabb_of_cell c → result ≡ is_near c t.now }
 {
     let spans = aabb_of_tri(t);
-    aabbs_meet(&spans, b) && is_crossed(b, &spans, t)
+    aabbs_meet(&spans, aabb) && is_crossed(aabb, &spans, t)
 }
 
-// Whether the plane of a triangle, whose bounding box meets a box, crosses the box.
-fn is_crossed(b: &Aabb, spans: &Aabb, t: &Tri) -> bool
+// Whether the plane of a triangle, whose bounding box meets a box, crosses the box. No plane is
+// computed if the triangle lies across an axis or has its first corner in the box: then a point of
+// its plane is in the box.
+fn is_crossed(aabb: &Aabb, spans: &Aabb, t: &Tri) -> bool
     requires tri { IsValidTri t.now }
     requires spans { spans.now ≡ aabb_of_tri t.now }
-    requires sized { IsAabbSized b.now }
-    ensures { (c : Box) → b.now ≡ aabb_of_cell c → aabbs_meet (aabb_of_tri t.now) b.now ≡ true →
-        result ≡ crosses (support_of t.now) b.now }
+    requires sized { IsAabbSized aabb.now }
+    ensures { (c : CellView) → aabb.now ≡ aabb_of_cell c → aabbs_meet (aabb_of_tri t.now) aabb.now ≡ true →
+        result ≡ crosses (support_of t.now) aabb.now }
 {
-    if is_level(spans) || holds(b, &t.a) {
+    if is_level(spans) || contains_corner(aabb, &t.a) {
         return true;
     }
-    crosses(&support_of(t), b)
+    crosses(&support_of(t), aabb)
 }
 
 /// Whether triangle `i` of the scene is near the box. Only tests call this.
@@ -57,13 +59,13 @@ pub fn near(s: &Scene, c: &Cell, i: u32) -> bool
 }
 
 // Whether triangle `i` of the list is near the box that has this bounding box.
-fn near_at(tris: &[Tri], b: &Aabb, i: u32) -> bool
+fn near_at(tris: &[Tri], aabb: &Aabb, i: u32) -> bool
     requires valid { All IsValidTri tris.now }
     requires index { i < length tris.now }
-    requires spans { IsAabbSized b.now }
-    ensures { (c : Box) → b.now ≡ aabb_of_cell c → result ≡ is_near c (tri_at tris.now i) }
+    requires spans { IsAabbSized aabb.now }
+    ensures { (c : CellView) → aabb.now ≡ aabb_of_cell c → result ≡ is_near c (tri_at tris.now i) }
 {
-    is_near(b, &tris[i as usize])
+    is_near(aabb, &tris[i as usize])
 }
 
 /// Those of the listed indices whose triangles are near the box, in order.
@@ -77,10 +79,10 @@ pub fn near_among(
     requires places { All (λ i. i < length tris.now) list.now }
     ensures { IfOk result (λ v. v.items ≡ near_indices tris.now c.now list.now) }
 {
-    let b = aabb_of_cell(c);
+    let aabb = aabb_of_cell(c);
     let mut found = Vec::with_capacity(alloc, list.len())?;
     for i in list {
-        if near_at(tris, &b, *i) {
+        if near_at(tris, &aabb, *i) {
             found.push(*i)?;
         }
     }
@@ -88,7 +90,7 @@ pub fn near_among(
 }
 
 /// The indices of the listed triangles that are near the box, in order. The program calls this for
-/// the root; below it, `halved` finds the lists of the halves.
+/// the root; below it, `halve_box` finds the lists of the halves.
 pub fn near_list(alloc: Global, s: &Scene, list: &[u32], c: &Cell) -> Result<Vec<u32>, OutOfMemory>
     requires { All (λ i. i < length s.now.tris) list.now }
     ensures { IfOk result (λ v. v.items ≡ near_indices s.now.tris c.now list.now) }
@@ -108,26 +110,29 @@ pub fn push_if(belongs: bool, i: u32, list: &mut Vec<u32>)
     }
 }
 
-// Whether the triangle is near the lower half of a box along an axis, and whether near the upper
+// Whether the triangle is near the left half of a box along an axis, and whether near the right
 // one.
-fn near_each(whole: &Aabb, h: &HalfBoxes, k: Axis, t: &Tri) -> (bool, bool)
+fn near_each(whole: &Aabb, halves: &HalfBoxes, k: Axis, t: &Tri) -> (bool, bool)
     requires valid { IsValidTri t.now }
-    requires sized { AreHalvesSized h.now }
-    ensures { (c : Box) → 0 < c.log k → whole.now ≡ aabb_of_cell c → AreHalves c k h.now →
+    requires sized { AreHalvesSized halves.now }
+    ensures { (c : CellView) → 0 < c.log k → whole.now ≡ aabb_of_cell c → AreHalves c k halves.now →
         (result.0 ≡ is_near (left_half c k) t.now) × (result.1 ≡ is_near (right_half c k) t.now) }
 {
     let spans = aabb_of_tri(t);
     if aabbs_meet(&spans, whole) {
-        let plane = plane_of(whole, &spans, t);
+        let plane = plane_to_test(whole, &spans, t);
         let span = interval_on(&spans, k);
-        (meets_left(h, &span, &plane), meets_right(h, &span, &plane))
+        (
+            meets_left(halves, &span, &plane),
+            meets_right(halves, &span, &plane),
+        )
     } else {
         (false, false)
     }
 }
 
-/// Those of the listed indices whose triangles are near the lower half of the box along the
-/// axis, and those that are near the upper half, in order.
+/// Those of the listed indices whose triangles are near the left half of the box along the
+/// axis, and those that are near the right half, in order.
 pub fn near_halves_among(
     alloc: Global,
     tris: &[Tri],
@@ -142,19 +147,20 @@ pub fn near_halves_among(
         (v.1.items ≡ near_indices tris.now (right_half c.now axis) list.now)) }
 {
     let whole = aabb_of_cell(c);
-    let halves = halves_of(c, axis);
-    let mut low = Vec::with_capacity(alloc, list.len())?;
-    let mut high = Vec::with_capacity(alloc, list.len())?;
+    let halves = half_boxes_of(c, axis);
+    let mut left = Vec::with_capacity(alloc, list.len())?;
+    let mut right = Vec::with_capacity(alloc, list.len())?;
     for i in list {
-        let (in_low, in_high) = near_each(&whole, &halves, axis, &tris[*i as usize]);
-        push_if(in_low, *i, &mut low);
-        push_if(in_high, *i, &mut high);
+        let (is_near_left, is_near_right) = near_each(&whole, &halves, axis, &tris[*i as usize]);
+        push_if(is_near_left, *i, &mut left);
+        push_if(is_near_right, *i, &mut right);
     }
-    Ok((low, high))
+    Ok((left, right))
 }
 
-/// The indices of the listed triangles that are near the lower half of the box along the axis, and
-/// of those near the upper half, in order. The side along the axis is above 1.
+/// The indices of the listed triangles that are near the left half of the box along the axis, and
+/// of those near the right half, in order. The side along the axis is above 1. The program calls
+/// this for `voxels` alone.
 pub fn near_halves(
     alloc: Global,
     s: &Scene,

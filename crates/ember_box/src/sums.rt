@@ -4,7 +4,7 @@ ghost use Rattle.ember_model.specs.Valid.{IsValidTri};
 ghost use Rattle.ember_model.specs.declared.tri.Tri.{Tri};
 ghost use Rattle.ember_model.specs.declared.point.Axis.{Axis};
 ghost use Rattle.ember_model.specs.declared.point.Axis.TheVariants.{X, Y, Z};
-ghost use Rattle.ember_box.specs.Boxes.{Cell as Box};
+ghost use Rattle.ember_box.specs.Boxes.{Cell as CellView};
 ghost use Rattle.ember_box.specs.Near.{all_indices, listed, near_indices};
 ghost use Rattle.ember_box.specs.Halving as halvings;
 ghost use Rattle.ember_box.specs.Sums.{number, AreSumsOfOne, AreFew, AreSums};
@@ -27,10 +27,10 @@ fn number(b: bool) -> u64
 
 // How many halves along an axis the triangle is near.
 fn number_of(pair: &NearPair) -> u64
-    ensures value { result ≡ number pair.now.low + number pair.now.high }
+    ensures value { result ≡ number pair.now.left + number pair.now.right }
     ensures bound { result ≤ 2 }
 {
-    number(pair.low) + number(pair.high)
+    number(pair.left) + number(pair.right)
 }
 
 // How many triangles of a list are near a box, and the sum of each axis: how many are near its
@@ -45,15 +45,15 @@ pub struct Sums {
 }
 
 // The sums of one triangle.
-pub fn sums_of(p: &NearParts) -> Sums
-    ensures sums { (c : Box) (t : Tri) → AreNearParts c t p.now → AreSumsOfOne c t result }
+pub fn sums_of(parts: &NearParts) -> Sums
+    ensures sums { (c : CellView) (t : Tri) → AreNearParts c t parts.now → AreSumsOfOne c t result }
     ensures few { AreFew result }
 {
     Sums {
-        near: number(p.whole),
-        x: number_of(&p.x),
-        y: number_of(&p.y),
-        z: number_of(&p.z),
+        near: number(parts.whole),
+        x: number_of(&parts.x),
+        y: number_of(&parts.y),
+        z: number_of(&parts.z),
     }
 }
 
@@ -120,7 +120,8 @@ pub fn least_axis(c: &Cell, sums: &Sums) -> Axis
 }
 
 // Whether halving along the axis isn't possible, or isn't worth it: the halves together have at
-// least 7/4 as many near triangles as the box.
+// least 7/4 as many near triangles as the box. The number 7/4 is part of the definition of a leaf,
+// and so of what is written (docs/DECISIONS.md): a measurement alone can't change it.
 fn is_unprofitable(log: u8, near: u64, sum: u64) -> bool
     ensures { result ≡ (not (nat_lt 0 log) || nat_le (7 * near) (4 * sum)) }
 {
@@ -155,7 +156,7 @@ pub fn is_leaf_by(c: &Cell, sums: &Sums) -> bool
 
 /// The axis along which the box is halved: the one with the least sum, the first of them in a tie,
 /// of those along which the side is above 1. The sum of an axis is the number of listed triangles
-/// near the lower half plus the number near the upper half. Some side is above 1. If the list has
+/// near the left half plus the number near the right half. Some side is above 1. If the list has
 /// all triangles near the box, in order, this is the axis that all triangles of the scene give.
 /// Only tests call this.
 #[tactic(auto, using(crate::proofs::Halvable::halvable_along))]
@@ -202,6 +203,7 @@ pub fn halving_of(tris: &[Tri], list: &[u32], c: &Cell) -> Option<Axis>
         else Some (halvings.halving_axis (listed tris.now list.now) c.now)) }
     ensures halvable { IfSome result (λ k. 0 < c.now.log k) }
 {
+    // At most the listed triangles are near the box.
     if is_few(list.len() as u64) {
         return None;
     }

@@ -4,7 +4,7 @@ use Rattle.ember_algebra.specs.Sums.{total}
 use Rattle.ember_algebra.proofs.Laws.{linear}
 use Rattle.ember_algebra.proofs.Sums.{total-map, total-neg, total_same, total_same_occurrences}
 use Rattle.ember_certificate.specs.declared.segment.Segment.{Segment}
-use Rattle.ember_certificate.specs.Closed.{IsClosed}
+use Rattle.ember_certificate.specs.Closed.{AreSegmentsClosed}
 use Rattle.ember_certificate.specs.Keys.{edge_key, reverse_key}
 use Rattle.ember_certificate.proofs.Boundaries.{numbers_are_equal}
 use Rattle.ember_certificate.proofs.ClosedKeys.{keys_from_closed}
@@ -22,7 +22,7 @@ reverse_high s = omega (arith, s.sized.start_small)
 reverse_low : (s : Segment) → reverse_key s % 4294967296 ≡ s.start
 reverse_low s = omega (arith, s.sized.start_small)
 
-module _ (g : ℕ → ℕ → ℤ) (odd : (u v : ℕ) → g v u ≡ neg_ℤ (g u v)) (ss : List Segment) (h : IsClosed ss) where
+module _ (g : ℕ → ℕ → ℤ) (odd : (u v : ℕ) → g v u ≡ neg_ℤ (g u v)) (ss : List Segment) (h : AreSegmentsClosed ss) where
   abbrev of_key : ℕ → ℤ
   of_key n = g (n / 4294967296) (n % 4294967296)
 

@@ -5,7 +5,7 @@ use Rattle.std.proofs.lemmas.List.Sums.{sum_by-cons}
 use Rattle.std.proofs.Math.Bool.{and_comm}
 use Rattle.ember_balance.specs.Counts.{count}
 use Rattle.ember_certificate.specs.declared.segment.Segment.{Segment}
-use Rattle.ember_certificate.specs.Closed.{runs, IsClosed}
+use Rattle.ember_certificate.specs.Closed.{runs, AreSegmentsClosed}
 use Rattle.ember_certificate.specs.Keys.{edge_key, reverse_key}
 
 pair_same : (u v i j : ℕ) → v < 4294967296 → j < 4294967296 → eqb (u * 4294967296 + v) (i * 4294967296 + j) ≡ eqb u i && eqb v j
@@ -49,7 +49,7 @@ module _ (u v : ℕ) (lv : 4294967296 ≤ v) where
       sum_by-cons (λ (t : Segment). cond (eqb v t.start && eqb u t.end) 1 0) s ss ∙ (λ i. cond (e i && eqb u s.end) 1 0 + r i)
 
 module _ (ss : List Segment) where
-  pub closed_from_keys : ((n : ℕ) → count n (map edge_key ss) ≡ count n (map reverse_key ss)) → IsClosed ss
+  pub closed_from_keys : ((n : ℕ) → count n (map edge_key ss) ≡ count n (map reverse_key ss)) → AreSegmentsClosed ss
   closed_from_keys h = record { each = λ u v. by u v (cases_lt v 4294967296) }
     where
       by : (u v : ℕ) → (v < 4294967296) ⊎ (4294967296 ≤ v) → runs u v ss ≡ runs v u ss
@@ -58,7 +58,7 @@ module _ (ss : List Segment) where
       by u v (inr lv) = none_to u v lv ss ∙ sym (none_from u v lv ss)
 
   -- the edges and the reverses of closed segments have the same keys
-  pub keys_from_closed : IsClosed ss → (n : ℕ) → count n (map edge_key ss) ≡ count n (map reverse_key ss)
+  pub keys_from_closed : AreSegmentsClosed ss → (n : ℕ) → count n (map edge_key ss) ≡ count n (map reverse_key ss)
   keys_from_closed h n =
       subst (λ (m : ℕ). count m (map edge_key ss) ≡ count m (map reverse_key ss)) (digits n) (at (n / 4294967296) (n % 4294967296) (omega arith))
     where

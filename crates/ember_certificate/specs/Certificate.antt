@@ -5,7 +5,7 @@ use Rattle.ember_certificate.specs.declared.segment.Segment.{Segment}
 use Rattle.ember_certificate.specs.declared.space_point.SpacePoint.{SpacePoint}
 use Rattle.ember_certificate.specs.declared.triangle.Triangle.{Triangle}
 use Rattle.ember_certificate.specs.Chains.{HaveSameChains}
-use Rattle.ember_certificate.specs.Closed.{IsClosed}
+use Rattle.ember_certificate.specs.Closed.{AreSegmentsClosed}
 use Rattle.ember_certificate.specs.Facing.{spot_of, FacesFront}
 
 -- ---- one triangle
@@ -49,4 +49,4 @@ pub record IsCertified (ps : List Plane) (cs : List SpacePoint) (faces : List Se
     (ts : List Triangle) : Type 0 where
   pub proper : All (IsProper ps cs) ts
   pub chains : HaveSameChains faces (edges_in ts)
-  pub closed : IsClosed (edges_in ts)
+  pub closed : AreSegmentsClosed (edges_in ts)

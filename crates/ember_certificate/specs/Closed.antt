@@ -8,7 +8,7 @@ abbrev pub runs : ℕ → ℕ → List Segment → ℕ
 runs u v ss = count_by (λ s. nat_eq u s.start && nat_eq v s.end) ss
 
 -- from each corner to each other one run as many segments as back
-pub record IsClosed (ss : List Segment) : Type 0 where
+pub record AreSegmentsClosed (ss : List Segment) : Type 0 where
   pub each : (u v : ℕ) → runs u v ss ≡ runs v u ss
 
 -- f changes its sign with the direction

@@ -1,6 +1,6 @@
 // Whether segments are closed.
 ghost use Rattle.std.specs.Prelude.{◌≡◌, ◌↔◌, map, IfOk, IsTrue};
-ghost use Rattle.ember_certificate.specs.Closed.{IsClosed};
+ghost use Rattle.ember_certificate.specs.Closed.{AreSegmentsClosed};
 ghost use Rattle.ember_certificate.specs.Keys.{edge_key, reverse_key};
 
 use crate::keys::{edge_key, reverse_key};
@@ -32,7 +32,7 @@ fn reverse_keys(alloc: Global, segments: &[Segment]) -> Result<Vec<u128>, OutOfM
 /// Whether the segments are closed: for each two corners, as many segments lead from the first to
 /// the second as lead back. Its one error is out-of-memory.
 pub fn are_closed(alloc: Global, segments: &[Segment]) -> Result<bool, OutOfMemory>
-    ensures { IfOk result (λ closed. IsTrue closed ↔ IsClosed segments.now) }
+    ensures { IfOk result (λ closed. IsTrue closed ↔ AreSegmentsClosed segments.now) }
 {
     let there = edge_keys(alloc, segments)?;
     let back = reverse_keys(alloc, segments)?;

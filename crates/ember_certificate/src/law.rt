@@ -2,7 +2,7 @@
 ghost use Rattle.std.specs.Prelude.{◌≡◌, ℕ, ℤ, pos, List};
 ghost use Rattle.ember_algebra.specs.Sums.{total};
 ghost use Rattle.ember_certificate.specs.declared.segment.Segment.{Segment};
-ghost use Rattle.ember_certificate.specs.Closed.{IsClosed, IsOdd};
+ghost use Rattle.ember_certificate.specs.Closed.{AreSegmentsClosed, IsOdd};
 ghost use Rattle.ember_certificate.specs.Chains.{sum_on, HaveSameBoundary, HaveSameChains};
 
 /// Segments whose chains have the same boundary have the same chain over each point of each line,
@@ -26,5 +26,6 @@ pub fn one_boundary_has_one_sum()
 /// Over closed segments any quantity that changes its sign with the direction of a segment adds up
 /// to 0.
 pub fn closed_segments_cancel()
-    ensures { (ss : List Segment) → IsClosed ss → (f : ℕ → ℕ → ℤ) → IsOdd f → total (λ s. f s.start s.end) ss ≡ pos 0 }
+    ensures { (ss : List Segment) → AreSegmentsClosed ss → (f : ℕ → ℕ → ℤ) → IsOdd f →
+        total (λ s. f s.start s.end) ss ≡ pos 0 }
 {}

@@ -48,7 +48,8 @@ starts_at x d es = count_by (λ e. is_same_point e.from x && is_parallel d e) es
 abbrev pub ends_at : Spot → Vector → List DirectedEdge → ℕ
 ends_at x d es = count_by (λ e. is_same_point e.to x && is_parallel d e) es
 
--- on each line, each point is as often the start of an edge as the end of one
+-- take any line, by its direction d, and any point x on it: of the edges on this line, as many start at x as
+-- end there
 abbrev pub IsClosed : List DirectedEdge → Type 0
 IsClosed es =
     (x : Spot) (d : Vector) → pos 0 <ℤ x.w → is_zero_vector d ≡ false → starts_at x d es ≡ ends_at x d es

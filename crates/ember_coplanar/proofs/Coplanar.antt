@@ -13,7 +13,7 @@ use Rattle.ember_model.specs.declared.point.Spot.{Spot}
 use Rattle.ember_model.specs.declared.plane.Plane.{Plane}
 use Rattle.ember_model.specs.declared.tri.Tri.{Tri}
 use Rattle.ember_model.specs.declared.face.Face.{Face}
-use Rattle.ember_model.specs.Planes.{value_at, vector_of, side_of, plane_through, support_of}
+use Rattle.ember_model.specs.Planes.{value_at, vector_of, vector_between, plane_through, support_of}
 use Rattle.ember_model.specs.Faces.{is_flat}
 use Rattle.ember_model.specs.Owners.{spot_of_corner, lies_in_plane_of, is_coplanar}
 use Rattle.ember_model.specs.Edges.{normal}
@@ -36,7 +36,7 @@ away c v = minus_v (record { x = v.x; y = v.y; z = v.z }) (scale_v v.w (vector_o
 abbrev awayE : VectorE → TupleE → VectorE
 awayE c v = minusE (vector_partE v) (scaleE v.w c)
 
-along_side : (p : Plane) (c d : Corner) → dot (normal p) (side_of c d) ≡ value_at p (spot_of_corner d) -ℤ value_at p (spot_of_corner c)
+along_side : (p : Plane) (c d : Corner) → dot (normal p) (vector_between c d) ≡ value_at p (spot_of_corner d) -ℤ value_at p (spot_of_corner c)
 along_side p c d =
     identity (tuple ∷ vector ∷ vector ∷ []) (λ p c d. dotE (vector_partE p) (minusE d c) ≈ valueE p (cornerE d) ⊖ valueE p (cornerE c)) cancels (plane_tuple p) (vector_of c) (vector_of d)
 
@@ -66,10 +66,10 @@ square_not_zero n h e =
 
 module _ (p : Plane) (u : Tri) (a : value_at p (spot_of_corner u.a) ≡ pos 0) (b : value_at p (spot_of_corner u.b) ≡ pos 0) (c : value_at p (spot_of_corner u.c) ≡ pos 0) (v : Spot) (s : value_at (support_of u) v ≡ pos 0) where
   abbrev e : Vector
-  e = side_of u.a u.b
+  e = vector_between u.a u.b
 
   abbrev f : Vector
-  f = side_of u.a u.c
+  f = vector_between u.a u.c
 
   abbrev q : Vector
   q = away u.a v

@@ -1,4 +1,5 @@
-//! Coplanar triangles, and which of them owns a region of their plane.
+//! Coplanar triangles, and which of them owns a region of their plane. Only tests call these
+//! functions: ember_leaf finds owners as it cuts. Its proofs use the lemmas of this crate.
 #![tactic(auto)]
 
 mod owner;

@@ -8,8 +8,8 @@ ghost use Rattle.ember_dec.specs.Decimal.{before_point, behind_point, number_fro
 
 use thiserror::Error;
 
-/// Why a text is no coordinate. The program doesn't print these texts, but its own: see
-/// `src/lines.rt` of ember_run.
+/// Why a text is no coordinate, numbered from 1 in the order in which the faults are looked for.
+/// The program doesn't print these texts, but its own: see `src/lines.rt` of ember_run.
 #[derive(Clone, Copy, Debug, PartialEq, Eq, Error)]
 pub enum DecFault {
     /// It isn't a sign, if there is one, and digits with at most one point among them.
@@ -40,7 +40,7 @@ fn are_zeros(text: &[u8]) -> bool
     text.iter().all(|b| *b == b'0')
 }
 
-// `start` followed by these digits, as a number, at most the limit.
+// `start` followed by these digits, as a number, or the limit if the number is above it.
 #[tactic(auto, using(crate::proofs::Capped::number_from_capped))]
 fn append_digits(start: u32, digits: &[u8]) -> u32
     requires digits { list_all is_ascii_digit digits.now ≡ true }
@@ -55,7 +55,7 @@ fn append_digits(start: u32, digits: &[u8]) -> u32
     value
 }
 
-// `start` followed by this many zeros, as a number, at most the limit.
+// `start` followed by this many zeros, as a number, or the limit if the number is above it.
 fn append_zeros(start: u32, count: usize) -> u32
     requires { start ≤ LIMIT }
     ensures value { result ≡ min LIMIT (number_from start (replicate count 48)) }
@@ -80,7 +80,8 @@ fn split_places(fraction: &[u8], places: usize) -> (&[u8], &[u8])
     }
 }
 
-// The size in units of the number with these digits before and after the point, at most the limit.
+// The size in units of the number with these digits before and after the point, or the limit if the
+// size is above it.
 #[tactic(auto, using(crate::proofs::Capped::capped_parts))]
 fn capped_units(places: usize, whole: &[u8], fraction: &[u8]) -> u32
     requires whole { list_all is_ascii_digit whole.now ≡ true }

@@ -3,13 +3,13 @@ use mathlib.Core.Path.{fun_ext}
 use Rattle.std.proofs.Common.{◌≡◌, ℕ, zero, suc, Bool, true, false, if◌then◌else◌, List, [], ◌∷◌, ◌++◌, length, refl, ap, ◌∙◌, Some, None, Ok, Err, Result, Option}
 use Rattle.ember_expr.specs.declared.fault.ExprFault.{ExprFault}
 use Rattle.ember_expr.specs.declared.fault.ExprFault.TheVariants.{Syntax}
-use Rattle.ember_expr.specs.declared.formula.Term.{Term}
+use Rattle.ember_expr.specs.declared.trees.Term.{Term}
 use Rattle.ember_expr.specs.declared.token.Word.{Word}
 use Rattle.ember_expr.specs.declared.token.Word.TheVariants as word
 use Rattle.ember_expr.specs.declared.token.Token.{Token}
 use Rattle.ember_expr.specs.declared.grammar.Scope.{Scope}
 use Rattle.ember_expr.specs.Formula.{Formula, Not, Mesh, Odd, Compare}
-use Rattle.ember_expr.specs.Grammar.{Read, read, Rule, ◌>>=◌, limited, mesh_number, wind_at, wind, is_star, product, scaled, term_at, term, sign_before, after_first, where_some, more_terms, is_minus, first_term, sum, or, is_open, closed, relation, comparison, inside, odd, not_at, not_with, deeper}
+use Rattle.ember_expr.specs.Grammar.{Read, read, Rule, ◌>>=◌, limited, mesh_number, wind_at, mesh_winding, is_star, product, after_number, term_at, term, sign_before, after_first, where_some, more_terms, is_minus, first_term, sum, or, is_open, expect_close, relation, comparison, inside, odd, not_at, not_with, deeper}
 
 -- what a number and the number of a mesh become, by the place of their token
 pub record Checks : Type 0 where
@@ -67,11 +67,11 @@ comparison_by c scope tokens =
 abbrev pub odd_by : Checks → Scope → Option (Rule Formula) → Rule Formula
 odd_by c scope inner [] = Err (Syntax scope.end)
 odd_by c scope inner (t ∷ ts) =
-    if is_open t.word then inside inner t.place (λ _. sum_by c scope ts >>= λ s. closed scope s.rest >>= λ rest. read (Odd s.part) rest) else Err (Syntax t.place)
+    if is_open t.word then inside inner t.place (λ _. sum_by c scope ts >>= λ s. expect_close scope s.rest >>= λ rest. read (Odd s.part) rest) else Err (Syntax t.place)
 
 abbrev pub not_at_by : Checks → Scope → Option (Rule Formula) → Token → Word → List Token → Result (Read Formula) ExprFault
 not_at_by c scope inner t word.Bang ts = inside inner t.place (λ not. not ts >>= λ a. read (Not a.part) a.rest)
-not_at_by c scope inner t word.Open ts = inside inner t.place (λ not. or not ts >>= λ a. closed scope a.rest >>= λ rest. read a.part rest)
+not_at_by c scope inner t word.Open ts = inside inner t.place (λ not. or not ts >>= λ a. expect_close scope a.rest >>= λ rest. read a.part rest)
 not_at_by c scope inner t (word.Mesh n) ts = c.mesh t.place n >>= λ mesh. read (Mesh mesh) ts
 not_at_by c scope inner t word.Odd ts = odd_by c scope inner ts
 not_at_by c scope inner t _ ts = comparison_by c scope (t ∷ ts)
@@ -96,16 +96,16 @@ wind_at_same : (scope : Scope) (t : Token) (w : Word) (ts : List Token) → wind
 wind_at_same scope t (word.Wind n) ts = refl
 wind_at_same scope t _ ts = refl
 
-wind_same : (scope : Scope) (ts : List Token) → wind scope ts ≡ wind_by (limits scope) scope ts
+wind_same : (scope : Scope) (ts : List Token) → mesh_winding scope ts ≡ wind_by (limits scope) scope ts
 wind_same scope [] = refl
 wind_same scope (t ∷ ts) = wind_at_same scope t t.word ts
 
-scaled_same : (scope : Scope) (minus : Bool) (n : ℕ) (ts : List Token) → scaled scope minus n ts ≡ scaled_by (limits scope) scope minus n ts
+scaled_same : (scope : Scope) (minus : Bool) (n : ℕ) (ts : List Token) → after_number scope minus n ts ≡ scaled_by (limits scope) scope minus n ts
 scaled_same scope minus n [] = refl
 scaled_same scope minus n (t ∷ ts) = ap (λ (r : Result (Read ℕ) ExprFault). if is_star t.word then (r >>= λ w. read (product minus n w.part) w.rest) else read (product minus n 0) (t ∷ ts)) (wind_same scope ts)
 
 term_at_same : (scope : Scope) (minus : Bool) (t : Token) (w : Word) (ts : List Token) → term_at scope minus t w ts ≡ term_at_by (limits scope) scope minus t w ts
-term_at_same scope minus t (word.Number n) ts = same_after (limited t.place n) (λ k. scaled scope minus k ts) (λ k. scaled_by (limits scope) scope minus k ts) (λ k. scaled_same scope minus k ts)
+term_at_same scope minus t (word.Number n) ts = same_after (limited t.place n) (λ k. after_number scope minus k ts) (λ k. scaled_by (limits scope) scope minus k ts) (λ k. scaled_same scope minus k ts)
 term_at_same scope minus t _ ts = refl
 
 term_same : (scope : Scope) (minus : Bool) (ts : List Token) → term scope minus ts ≡ term_by (limits scope) scope minus ts
@@ -143,7 +143,7 @@ comparison_same scope ts = ap (λ rule. comparison_of rule scope ts) (sum_rule_s
 odd_same : (scope : Scope) (inner : Option (Rule Formula)) (ts : List Token) → odd scope inner ts ≡ odd_by (limits scope) scope inner ts
 odd_same scope inner [] = refl
 odd_same scope inner (t ∷ ts) =
-    ap (λ (r : Result (Read (List Term)) ExprFault). if is_open t.word then inside inner t.place (λ _. r >>= λ s. closed scope s.rest >>= λ rest. read (Odd s.part) rest) else Err (Syntax t.place)) (sum_same scope ts)
+    ap (λ (r : Result (Read (List Term)) ExprFault). if is_open t.word then inside inner t.place (λ _. r >>= λ s. expect_close scope s.rest >>= λ rest. read (Odd s.part) rest) else Err (Syntax t.place)) (sum_same scope ts)
 
 not_at_same : (scope : Scope) (inner : Option (Rule Formula)) (t : Token) (w : Word) (ts : List Token) → not_at scope inner t w ts ≡ not_at_by (limits scope) scope inner t w ts
 not_at_same scope inner t word.Bang ts = refl

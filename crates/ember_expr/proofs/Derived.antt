@@ -3,12 +3,12 @@ use Rattle.std.proofs.Common.{◌≡◌, ℕ, zero, suc, ◌≤◌, Bool, true, 
 use Rattle.ember_algebra.specs.Relations.{Every}
 use Rattle.ember_algebra.proofs.Relations.{every_append}
 use Rattle.ember_expr.specs.declared.fault.ExprFault.{ExprFault}
-use Rattle.ember_expr.specs.declared.formula.Term.{Term}
+use Rattle.ember_expr.specs.declared.trees.Term.{Term}
 use Rattle.ember_expr.specs.declared.token.Word.{Word}
 use Rattle.ember_expr.specs.declared.token.Word.TheVariants as word
 use Rattle.ember_expr.specs.declared.token.Token.{Token}
 use Rattle.ember_expr.specs.declared.grammar.Scope.{Scope}
-use Rattle.ember_expr.specs.Grammar.{Read, read, ◌>>=◌, limited, existing, mesh_number, wind_at, wind, scaled, term_at, term, product, is_star, minus_of, sign_before, after_first, where_some, more_terms, is_minus, first_term, sum}
+use Rattle.ember_expr.specs.Grammar.{Read, read, ◌>>=◌, limited, existing, mesh_number, wind_at, mesh_winding, after_number, term_at, term, product, is_star, minus_of, sign_before, after_first, where_some, more_terms, is_minus, first_term, sum}
 use Rattle.ember_expr.specs.Derivation.{IsTerm, IsSum, IsFitWord, IsFitMesh, words}
 use Rattle.ember_expr.specs.Derivation as grammar
 
@@ -77,7 +77,7 @@ wind_at_front scope t (word.Wind n) ts =
     if_bind (λ x. (n ≡ x) × IsFitMesh scope.meshes n) (λ r. WindFront scope.meshes (word.Wind n ∷ words ts) r.part r.rest) (mesh_number scope t.place n) (λ mesh. read mesh ts) (mesh_fits scope t.place n) (λ x fit. subst (λ k. WindFront scope.meshes (word.Wind n ∷ words ts) k ts) fit.0 (record { split = refl; fit = fit.1 }))
 wind_at_front scope t _ ts = tt
 
-wind_front : (scope : Scope) (ts : List Token) → IfReads (λ r. WindFront scope.meshes (words ts) r.part r.rest) (wind scope ts)
+wind_front : (scope : Scope) (ts : List Token) → IfReads (λ r. WindFront scope.meshes (words ts) r.part r.rest) (mesh_winding scope ts)
 wind_front scope [] = tt
 wind_front scope (t ∷ ts) = wind_at_front scope t t.word ts
 
@@ -85,14 +85,14 @@ star_at : (w : Word) → is_star w ≡ true → w ≡ word.Star
 star_at word.Star e = refl
 star_at _ e = cc
 
-scaled_front : (scope : Scope) (minus : Bool) (n : ℕ) (fit : n ≤ 1000000) (ts : List Token) → IfReads (FrontOf (FitTerm scope.meshes minus) (word.Number n ∷ words ts)) (scaled scope minus n ts)
+scaled_front : (scope : Scope) (minus : Bool) (n : ℕ) (fit : n ≤ 1000000) (ts : List Token) → IfReads (FrontOf (FitTerm scope.meshes minus) (word.Number n ∷ words ts)) (after_number scope minus n ts)
 scaled_front scope minus n fit [] = record { ws = word.Number n ∷ []; split = refl; holds = (grammar.number, (fit, tt)) }
 scaled_front scope minus n fit (t ∷ ts) =
-    if_test (FrontOf (FitTerm scope.meshes minus) (word.Number n ∷ t.word ∷ words ts)) (is_star t.word) (wind scope ts >>= λ w. read (product minus n w.part) w.rest) (read (product minus n 0) (t ∷ ts)) (λ star. if_bind (λ r. WindFront scope.meshes (words ts) r.part r.rest) (FrontOf (FitTerm scope.meshes minus) (word.Number n ∷ t.word ∷ words ts)) (wind scope ts) (λ w. read (product minus n w.part) w.rest) (wind_front scope ts) (λ r front. record { ws = word.Number n ∷ word.Star ∷ word.Wind r.part ∷ []; split = rw (star_at t.word star) (ap (λ us. word.Number n ∷ word.Star ∷ us) front.split); holds = (grammar.times, (fit, (tt, (front.fit, tt)))) })) (λ other. record { ws = word.Number n ∷ []; split = refl; holds = (grammar.number, (fit, tt)) })
+    if_test (FrontOf (FitTerm scope.meshes minus) (word.Number n ∷ t.word ∷ words ts)) (is_star t.word) (mesh_winding scope ts >>= λ w. read (product minus n w.part) w.rest) (read (product minus n 0) (t ∷ ts)) (λ star. if_bind (λ r. WindFront scope.meshes (words ts) r.part r.rest) (FrontOf (FitTerm scope.meshes minus) (word.Number n ∷ t.word ∷ words ts)) (mesh_winding scope ts) (λ w. read (product minus n w.part) w.rest) (wind_front scope ts) (λ r front. record { ws = word.Number n ∷ word.Star ∷ word.Wind r.part ∷ []; split = rw (star_at t.word star) (ap (λ us. word.Number n ∷ word.Star ∷ us) front.split); holds = (grammar.times, (fit, (tt, (front.fit, tt)))) })) (λ other. record { ws = word.Number n ∷ []; split = refl; holds = (grammar.number, (fit, tt)) })
 
 term_at_front : (scope : Scope) (minus : Bool) (t : Token) (w : Word) (ts : List Token) → IfReads (FrontOf (FitTerm scope.meshes minus) (w ∷ words ts)) (term_at scope minus t w ts)
 term_at_front scope minus t (word.Number n) ts =
-    if_bind (λ x. (n ≡ x) × (n ≤ 1000000)) (FrontOf (FitTerm scope.meshes minus) (word.Number n ∷ words ts)) (limited t.place n) (λ factor. scaled scope minus factor ts) (limited_fits t.place n) (λ x fit. subst (λ k. IfReads (FrontOf (FitTerm scope.meshes minus) (word.Number n ∷ words ts)) (scaled scope minus k ts)) fit.0 (scaled_front scope minus n fit.1 ts))
+    if_bind (λ x. (n ≡ x) × (n ≤ 1000000)) (FrontOf (FitTerm scope.meshes minus) (word.Number n ∷ words ts)) (limited t.place n) (λ factor. after_number scope minus factor ts) (limited_fits t.place n) (λ x fit. subst (λ k. IfReads (FrontOf (FitTerm scope.meshes minus) (word.Number n ∷ words ts)) (after_number scope minus k ts)) fit.0 (scaled_front scope minus n fit.1 ts))
 term_at_front scope minus t (word.Wind n) ts =
     if_bind (λ x. (n ≡ x) × IsFitMesh scope.meshes n) (FrontOf (FitTerm scope.meshes minus) (word.Wind n ∷ words ts)) (mesh_number scope t.place n) (λ mesh. read (product minus 1 mesh) ts) (mesh_fits scope t.place n) (λ x fit. subst (λ k. Front (FitTerm scope.meshes minus) (word.Wind n ∷ words ts) (product minus 1 k) ts) fit.0 (record { ws = word.Wind n ∷ []; split = refl; holds = (grammar.wind, (fit.1, tt)) }))
 term_at_front scope minus t _ ts = tt

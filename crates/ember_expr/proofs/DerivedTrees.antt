@@ -6,11 +6,11 @@ use Rattle.ember_expr.specs.declared.fault.ExprFault.{ExprFault}
 use Rattle.ember_expr.specs.declared.token.Word.{Word}
 use Rattle.ember_expr.specs.declared.token.Word.TheVariants as word
 use Rattle.ember_expr.specs.declared.token.Token.{Token}
-use Rattle.ember_expr.specs.declared.grammar.Joint.{Joint}
-use Rattle.ember_expr.specs.declared.grammar.Joint.TheVariants as joint
+use Rattle.ember_expr.specs.declared.grammar.Operator.{Operator}
+use Rattle.ember_expr.specs.declared.grammar.Operator.TheVariants as operator
 use Rattle.ember_expr.specs.declared.grammar.Scope.{Scope}
 use Rattle.ember_expr.specs.Formula.{Formula, Not, Mesh, Odd, Compare}
-use Rattle.ember_expr.specs.Grammar.{read, Rule, ◌>>=◌, mesh_number, sum, after_first, begins_with, joins, join, more_parts, chain_of, part_of, or, is_open, is_close, closed, relation, rel_at, comparison, inside, odd, not_at, not_with, deeper, not, ended, whole}
+use Rattle.ember_expr.specs.Grammar.{read, Rule, ◌>>=◌, mesh_number, sum, after_first, begins_with, joins, join, more_parts, chain_of, part_of, or, is_open, is_close, expect_close, relation, rel_at, comparison, inside, odd, not_at, not_with, deeper, not, ended, whole}
 use Rattle.ember_expr.specs.Derivation.{Phrase, Derives, depth, IsFitWord, IsFitMesh, words}
 use Rattle.ember_expr.specs.Derivation as grammar
 use Rattle.ember_expr.proofs.Derived.{IfReads, if_bind, if_test, mesh_fits, Front, FrontOf, FitSum, sum_front, signed_part_is_appended}
@@ -22,61 +22,61 @@ pub record IsWithin (meshes left : ℕ) (p : Phrase) (ws : List Word) (f : Formu
   pub fit : Every (IsFitWord meshes) ws
 
 -- ---- chains
-abbrev pub chain_phrase : Joint → Phrase
-chain_phrase joint.Or = grammar.or
-chain_phrase joint.Xor = grammar.xor
-chain_phrase joint.And = grammar.and
+abbrev pub chain_phrase : Operator → Phrase
+chain_phrase operator.Or = grammar.or
+chain_phrase operator.Xor = grammar.xor
+chain_phrase operator.And = grammar.and
 
-abbrev pub part_phrase : Joint → Phrase
-part_phrase joint.Or = grammar.xor
-part_phrase joint.Xor = grammar.and
-part_phrase joint.And = grammar.not
+abbrev pub part_phrase : Operator → Phrase
+part_phrase operator.Or = grammar.xor
+part_phrase operator.Xor = grammar.and
+part_phrase operator.And = grammar.not
 
-abbrev pub joint_word : Joint → Word
-joint_word joint.Or = word.Bar
-joint_word joint.Xor = word.Hat
-joint_word joint.And = word.Amp
+abbrev pub operator_word : Operator → Word
+operator_word operator.Or = word.Bar
+operator_word operator.Xor = word.Hat
+operator_word operator.And = word.Amp
 
 -- a word that joins is the operator's word
-pub joint_at : (kind : Joint) (w : Word) → joins kind w ≡ true → w ≡ joint_word kind
-joint_at joint.Or word.Bar e = refl
-joint_at joint.Xor word.Hat e = refl
-joint_at joint.And word.Amp e = refl
-joint_at _ _ e = cc
+pub operator_at : (kind : Operator) (w : Word) → joins kind w ≡ true → w ≡ operator_word kind
+operator_at operator.Or word.Bar e = refl
+operator_at operator.Xor word.Hat e = refl
+operator_at operator.And word.Amp e = refl
+operator_at _ _ e = cc
 
-joint_split : (kind : Joint) (ts : List Token) → begins_with kind ts ≡ true → words ts ≡ joint_word kind ∷ words (after_first ts)
-joint_split kind [] e = cc
-joint_split kind (t ∷ ts) e = ap (λ w. w ∷ words ts) (joint_at kind t.word e)
+operator_split : (kind : Operator) (ts : List Token) → begins_with kind ts ≡ true → words ts ≡ operator_word kind ∷ words (after_first ts)
+operator_split kind [] e = cc
+operator_split kind (t ∷ ts) e = ap (λ w. w ∷ words ts) (operator_at kind t.word e)
 
-one_part : (meshes left : ℕ) (kind : Joint) (ws : List Word) (a : Formula) → IsWithin meshes left (part_phrase kind) ws a → IsWithin meshes left (chain_phrase kind) ws a
-one_part meshes left joint.Or ws a h = record { derived = grammar.one_xor h.derived; shallow = h.shallow; fit = h.fit }
-one_part meshes left joint.Xor ws a h = record { derived = grammar.one_and h.derived; shallow = h.shallow; fit = h.fit }
-one_part meshes left joint.And ws a h = record { derived = grammar.one_not h.derived; shallow = h.shallow; fit = h.fit }
+one_part : (meshes left : ℕ) (kind : Operator) (ws : List Word) (a : Formula) → IsWithin meshes left (part_phrase kind) ws a → IsWithin meshes left (chain_phrase kind) ws a
+one_part meshes left operator.Or ws a h = record { derived = grammar.one_xor h.derived; shallow = h.shallow; fit = h.fit }
+one_part meshes left operator.Xor ws a h = record { derived = grammar.one_and h.derived; shallow = h.shallow; fit = h.fit }
+one_part meshes left operator.And ws a h = record { derived = grammar.one_not h.derived; shallow = h.shallow; fit = h.fit }
 
 both : (meshes left : ℕ) (w : Word) (vs ws : List Word) → IsFitWord meshes w → Every (IsFitWord meshes) vs → Every (IsFitWord meshes) ws → Every (IsFitWord meshes) (vs ++ w ∷ ws)
 both meshes left w vs ws fit before after = every_append (IsFitWord meshes) vs (w ∷ ws) before (fit, after)
 
-one_more_part : (meshes left : ℕ) (kind : Joint) (vs ws : List Word) (a b : Formula) → IsWithin meshes left (chain_phrase kind) vs a → IsWithin meshes left (part_phrase kind) ws b → IsWithin meshes left (chain_phrase kind) (vs ++ joint_word kind ∷ ws) (join kind a b)
-one_more_part meshes left joint.Or vs ws a b h k = record { derived = grammar.bar h.derived k.derived; shallow = omega (arith, h.shallow, k.shallow); fit = both meshes left word.Bar vs ws tt h.fit k.fit }
-one_more_part meshes left joint.Xor vs ws a b h k = record { derived = grammar.hat h.derived k.derived; shallow = omega (arith, h.shallow, k.shallow); fit = both meshes left word.Hat vs ws tt h.fit k.fit }
-one_more_part meshes left joint.And vs ws a b h k = record { derived = grammar.amp h.derived k.derived; shallow = omega (arith, h.shallow, k.shallow); fit = both meshes left word.Amp vs ws tt h.fit k.fit }
+one_more_part : (meshes left : ℕ) (kind : Operator) (vs ws : List Word) (a b : Formula) → IsWithin meshes left (chain_phrase kind) vs a → IsWithin meshes left (part_phrase kind) ws b → IsWithin meshes left (chain_phrase kind) (vs ++ operator_word kind ∷ ws) (join kind a b)
+one_more_part meshes left operator.Or vs ws a b h k = record { derived = grammar.bar h.derived k.derived; shallow = omega (arith, h.shallow, k.shallow); fit = both meshes left word.Bar vs ws tt h.fit k.fit }
+one_more_part meshes left operator.Xor vs ws a b h k = record { derived = grammar.hat h.derived k.derived; shallow = omega (arith, h.shallow, k.shallow); fit = both meshes left word.Hat vs ws tt h.fit k.fit }
+one_more_part meshes left operator.And vs ws a b h k = record { derived = grammar.amp h.derived k.derived; shallow = omega (arith, h.shallow, k.shallow); fit = both meshes left word.Amp vs ws tt h.fit k.fit }
 
 -- a rule reads phrases of this name
 abbrev pub ReadsPhrase : ℕ → ℕ → Phrase → Rule Formula → Type 0
 ReadsPhrase meshes left p rule = (ts : List Token) → IfReads (FrontOf (IsWithin meshes left p) (words ts)) (rule ts)
 
-more_parts_front : (meshes left : ℕ) (kind : Joint) (part : Rule Formula) → ReadsPhrase meshes left (part_phrase kind) part → (count : ℕ) (vs all : List Word) (tree : Formula) (ts : List Token) → all ≡ vs ++ words ts → IsWithin meshes left (chain_phrase kind) vs tree → IfReads (FrontOf (IsWithin meshes left (chain_phrase kind)) all) (more_parts kind part count tree ts)
+more_parts_front : (meshes left : ℕ) (kind : Operator) (part : Rule Formula) → ReadsPhrase meshes left (part_phrase kind) part → (count : ℕ) (vs all : List Word) (tree : Formula) (ts : List Token) → all ≡ vs ++ words ts → IsWithin meshes left (chain_phrase kind) vs tree → IfReads (FrontOf (IsWithin meshes left (chain_phrase kind)) all) (more_parts kind part count tree ts)
 more_parts_front meshes left kind part reads zero vs all tree ts split is = record { ws = vs; split = split; holds = is }
 more_parts_front meshes left kind part reads (suc count) vs all tree ts split is =
-    if_test (FrontOf (IsWithin meshes left (chain_phrase kind)) all) (begins_with kind ts) (part (after_first ts) >>= λ next. more_parts kind part count (join kind tree next.part) next.rest) (read tree ts) (λ joins. if_bind (FrontOf (IsWithin meshes left (part_phrase kind)) (words (after_first ts))) (FrontOf (IsWithin meshes left (chain_phrase kind)) all) (part (after_first ts)) (λ next. more_parts kind part count (join kind tree next.part) next.rest) (reads (after_first ts)) (λ next front. more_parts_front meshes left kind part reads count (vs ++ joint_word kind ∷ front.ws) all (join kind tree next.part) next.rest (signed_part_is_appended vs (joint_word kind) all (words (after_first ts)) front.ws next.rest (split ∙ ap (λ u. vs ++ u) (joint_split kind ts joins)) front.split) (one_more_part meshes left kind vs front.ws tree next.part is front.holds))) (λ ends. record { ws = vs; split = split; holds = is })
+    if_test (FrontOf (IsWithin meshes left (chain_phrase kind)) all) (begins_with kind ts) (part (after_first ts) >>= λ next. more_parts kind part count (join kind tree next.part) next.rest) (read tree ts) (λ joins. if_bind (FrontOf (IsWithin meshes left (part_phrase kind)) (words (after_first ts))) (FrontOf (IsWithin meshes left (chain_phrase kind)) all) (part (after_first ts)) (λ next. more_parts kind part count (join kind tree next.part) next.rest) (reads (after_first ts)) (λ next front. more_parts_front meshes left kind part reads count (vs ++ operator_word kind ∷ front.ws) all (join kind tree next.part) next.rest (signed_part_is_appended vs (operator_word kind) all (words (after_first ts)) front.ws next.rest (split ∙ ap (λ u. vs ++ u) (operator_split kind ts joins)) front.split) (one_more_part meshes left kind vs front.ws tree next.part is front.holds))) (λ ends. record { ws = vs; split = split; holds = is })
 
-chain_front : (meshes left : ℕ) (kind : Joint) (part : Rule Formula) → ReadsPhrase meshes left (part_phrase kind) part → ReadsPhrase meshes left (chain_phrase kind) (chain_of kind part)
+chain_front : (meshes left : ℕ) (kind : Operator) (part : Rule Formula) → ReadsPhrase meshes left (part_phrase kind) part → ReadsPhrase meshes left (chain_phrase kind) (chain_of kind part)
 chain_front meshes left kind part reads ts =
     if_bind (FrontOf (IsWithin meshes left (part_phrase kind)) (words ts)) (FrontOf (IsWithin meshes left (chain_phrase kind)) (words ts)) (part ts) (λ first. more_parts kind part (length first.rest) first.part first.rest) (reads ts) (λ first front. more_parts_front meshes left kind part reads (length first.rest) front.ws (words ts) first.part first.rest front.split (one_part meshes left kind front.ws first.part front.holds))
 
 or_front : (meshes left : ℕ) (not : Rule Formula) → ReadsPhrase meshes left grammar.not not → ReadsPhrase meshes left grammar.or (or not)
 or_front meshes left not reads =
-    chain_front meshes left joint.Or (part_of joint.Or not) (chain_front meshes left joint.Xor (part_of joint.Xor not) (chain_front meshes left joint.And not reads))
+    chain_front meshes left operator.Or (part_of operator.Or not) (chain_front meshes left operator.Xor (part_of operator.Xor not) (chain_front meshes left operator.And not reads))
 
 -- ---- atoms
 close_at : (w : Word) → is_close w ≡ true → w ≡ word.Close
@@ -87,7 +87,7 @@ open_at : (w : Word) → is_open w ≡ true → w ≡ word.Open
 open_at word.Open e = refl
 open_at _ e = cc
 
-closed_front : (scope : Scope) (ts : List Token) → IfReads (λ rest. words ts ≡ word.Close ∷ words rest) (closed scope ts)
+closed_front : (scope : Scope) (ts : List Token) → IfReads (λ rest. words ts ≡ word.Close ∷ words rest) (expect_close scope ts)
 closed_front scope [] = tt
 closed_front scope (t ∷ ts) = if_test (λ rest. words (t ∷ ts) ≡ word.Close ∷ words rest) (is_close t.word) (Ok ts) (Err _) (λ e. ap (λ w. w ∷ words ts) (close_at t.word e)) (λ e. tt)
 
@@ -120,13 +120,13 @@ record Deeper (meshes left : ℕ) (rule : Rule Formula) : Type 0 where
 odd_front : (scope : Scope) (left : ℕ) (inner : Option (Rule Formula)) → ((rule : Rule Formula) → inner ≡ Some rule → Deeper scope.meshes left rule) → (ts : List Token) → IfReads (FrontOf (IsWithin scope.meshes left grammar.not) (word.Odd ∷ words ts)) (odd scope inner ts)
 odd_front scope left inner deeper [] = tt
 odd_front scope left inner deeper (t ∷ ts) =
-    if_test (FrontOf (IsWithin scope.meshes left grammar.not) (word.Odd ∷ t.word ∷ words ts)) (is_open t.word) (inside inner t.place (λ _. sum scope ts >>= λ s. closed scope s.rest >>= λ rest. read (Odd s.part) rest)) (Err _) (λ opens. if_inside (FrontOf (IsWithin scope.meshes left grammar.not) (word.Odd ∷ t.word ∷ words ts)) inner t.place (λ _. sum scope ts >>= λ s. closed scope s.rest >>= λ rest. read (Odd s.part) rest) (λ rule some. if_bind (FrontOf (FitSum scope.meshes) (words ts)) (FrontOf (IsWithin scope.meshes left grammar.not) (word.Odd ∷ t.word ∷ words ts)) (sum scope ts) (λ s. closed scope s.rest >>= λ rest. read (Odd s.part) rest) (sum_front scope ts) (λ s front. if_bind (λ rest. words s.rest ≡ word.Close ∷ words rest) (FrontOf (IsWithin scope.meshes left grammar.not) (word.Odd ∷ t.word ∷ words ts)) (closed scope s.rest) (λ rest. read (Odd s.part) rest) (closed_front scope s.rest) (λ rest close. record { ws = word.Odd ∷ word.Open ∷ front.ws ++ word.Close ∷ []; split = rw (open_at t.word opens) (ap (λ u. word.Odd ∷ word.Open ∷ u) (before_close (words ts) front.ws s.rest rest front.split close)); holds = record { derived = grammar.one_atom (grammar.odd front.holds.0); shallow = omega (arith, (deeper rule some).is); fit = (tt, (tt, both scope.meshes left word.Close front.ws [] tt front.holds.1 tt)) } })))) (λ other. tt)
+    if_test (FrontOf (IsWithin scope.meshes left grammar.not) (word.Odd ∷ t.word ∷ words ts)) (is_open t.word) (inside inner t.place (λ _. sum scope ts >>= λ s. expect_close scope s.rest >>= λ rest. read (Odd s.part) rest)) (Err _) (λ opens. if_inside (FrontOf (IsWithin scope.meshes left grammar.not) (word.Odd ∷ t.word ∷ words ts)) inner t.place (λ _. sum scope ts >>= λ s. expect_close scope s.rest >>= λ rest. read (Odd s.part) rest) (λ rule some. if_bind (FrontOf (FitSum scope.meshes) (words ts)) (FrontOf (IsWithin scope.meshes left grammar.not) (word.Odd ∷ t.word ∷ words ts)) (sum scope ts) (λ s. expect_close scope s.rest >>= λ rest. read (Odd s.part) rest) (sum_front scope ts) (λ s front. if_bind (λ rest. words s.rest ≡ word.Close ∷ words rest) (FrontOf (IsWithin scope.meshes left grammar.not) (word.Odd ∷ t.word ∷ words ts)) (expect_close scope s.rest) (λ rest. read (Odd s.part) rest) (closed_front scope s.rest) (λ rest close. record { ws = word.Odd ∷ word.Open ∷ front.ws ++ word.Close ∷ []; split = rw (open_at t.word opens) (ap (λ u. word.Odd ∷ word.Open ∷ u) (before_close (words ts) front.ws s.rest rest front.split close)); holds = record { derived = grammar.one_atom (grammar.odd front.holds.0); shallow = omega (arith, (deeper rule some).is); fit = (tt, (tt, both scope.meshes left word.Close front.ws [] tt front.holds.1 tt)) } })))) (λ other. tt)
 
 not_at_front : (scope : Scope) (left : ℕ) (inner : Option (Rule Formula)) → ((rule : Rule Formula) → inner ≡ Some rule → Deeper scope.meshes left rule) → (t : Token) (w : Word) (ts : List Token) → t.word ≡ w → IfReads (FrontOf (IsWithin scope.meshes left grammar.not) (w ∷ words ts)) (not_at scope inner t w ts)
 not_at_front scope left inner deeper t word.Bang ts e =
     if_inside (FrontOf (IsWithin scope.meshes left grammar.not) (word.Bang ∷ words ts)) inner t.place (λ not. not ts >>= λ a. read (Not a.part) a.rest) (λ rule some. let d = deeper rule some in if_bind (FrontOf (IsWithin scope.meshes d.less grammar.not) (words ts)) (FrontOf (IsWithin scope.meshes left grammar.not) (word.Bang ∷ words ts)) (rule ts) (λ a. read (Not a.part) a.rest) (d.reads ts) (λ a front. record { ws = word.Bang ∷ front.ws; split = ap (λ u. word.Bang ∷ u) front.split; holds = record { derived = grammar.bang front.holds.derived; shallow = omega (arith, d.is, front.holds.shallow); fit = (tt, front.holds.fit) } }))
 not_at_front scope left inner deeper t word.Open ts e =
-    if_inside (FrontOf (IsWithin scope.meshes left grammar.not) (word.Open ∷ words ts)) inner t.place (λ not. or not ts >>= λ a. closed scope a.rest >>= λ rest. read a.part rest) (λ rule some. let d = deeper rule some in if_bind (FrontOf (IsWithin scope.meshes d.less grammar.or) (words ts)) (FrontOf (IsWithin scope.meshes left grammar.not) (word.Open ∷ words ts)) (or rule ts) (λ a. closed scope a.rest >>= λ rest. read a.part rest) (or_front scope.meshes d.less rule d.reads ts) (λ a front. if_bind (λ rest. words a.rest ≡ word.Close ∷ words rest) (FrontOf (IsWithin scope.meshes left grammar.not) (word.Open ∷ words ts)) (closed scope a.rest) (λ rest. read a.part rest) (closed_front scope a.rest) (λ rest close. record { ws = word.Open ∷ front.ws ++ word.Close ∷ []; split = ap (λ u. word.Open ∷ u) (before_close (words ts) front.ws a.rest rest front.split close); holds = record { derived = grammar.one_atom (grammar.parentheses front.holds.derived); shallow = omega (arith, d.is, front.holds.shallow); fit = (tt, both scope.meshes left word.Close front.ws [] tt front.holds.fit tt) } })))
+    if_inside (FrontOf (IsWithin scope.meshes left grammar.not) (word.Open ∷ words ts)) inner t.place (λ not. or not ts >>= λ a. expect_close scope a.rest >>= λ rest. read a.part rest) (λ rule some. let d = deeper rule some in if_bind (FrontOf (IsWithin scope.meshes d.less grammar.or) (words ts)) (FrontOf (IsWithin scope.meshes left grammar.not) (word.Open ∷ words ts)) (or rule ts) (λ a. expect_close scope a.rest >>= λ rest. read a.part rest) (or_front scope.meshes d.less rule d.reads ts) (λ a front. if_bind (λ rest. words a.rest ≡ word.Close ∷ words rest) (FrontOf (IsWithin scope.meshes left grammar.not) (word.Open ∷ words ts)) (expect_close scope a.rest) (λ rest. read a.part rest) (closed_front scope a.rest) (λ rest close. record { ws = word.Open ∷ front.ws ++ word.Close ∷ []; split = ap (λ u. word.Open ∷ u) (before_close (words ts) front.ws a.rest rest front.split close); holds = record { derived = grammar.one_atom (grammar.parentheses front.holds.derived); shallow = omega (arith, d.is, front.holds.shallow); fit = (tt, both scope.meshes left word.Close front.ws [] tt front.holds.fit tt) } })))
 not_at_front scope left inner deeper t (word.Mesh n) ts e =
     if_bind (λ x. (n ≡ x) × IsFitMesh scope.meshes n) (FrontOf (IsWithin scope.meshes left grammar.not) (word.Mesh n ∷ words ts)) (mesh_number scope t.place n) (λ mesh. read (Mesh mesh) ts) (mesh_fits scope t.place n) (λ x fit. subst (λ k. Front (IsWithin scope.meshes left grammar.not) (word.Mesh n ∷ words ts) (Mesh k) ts) fit.0 (record { ws = word.Mesh n ∷ []; split = refl; holds = record { derived = grammar.one_atom grammar.mesh; shallow = omega arith; fit = (fit.1, tt) } }))
 not_at_front scope left inner deeper t word.Odd ts e = odd_front scope left inner deeper ts

@@ -2,9 +2,9 @@
 use Rattle.std.proofs.Common.{◌≡◌, ℕ, zero, suc, ◌<◌, ◌≤◌, Bool, true, List, [], ◌∷◌, ◌++◌, length, refl, ◌∙◌, arith, Some, None, Result, Err, ◌⊎◌, inl, inr}
 use Rattle.ember_expr.specs.declared.fault.ExprFault.{ExprFault}
 use Rattle.ember_expr.specs.declared.fault.ExprFault.TheVariants.{OutOfMemory}
-use Rattle.ember_expr.specs.declared.formula.Term.{Term}
+use Rattle.ember_expr.specs.declared.trees.Term.{Term}
 use Rattle.ember_expr.specs.declared.token.Token.{Token}
-use Rattle.ember_expr.specs.declared.grammar.Joint.{Joint}
+use Rattle.ember_expr.specs.declared.grammar.Operator.{Operator}
 use Rattle.ember_expr.specs.declared.grammar.Scope.{Scope}
 use Rattle.ember_expr.specs.Formula.{Formula}
 use Rattle.ember_expr.specs.Grammar.{Read, read, Rule, term, sign_before, after_first, more_terms, begins_with, more_parts}
@@ -41,23 +41,23 @@ pub no_term : (scope : Scope) (whole : Result (Read (List Term)) ExprFault) (ter
 no_term scope whole terms rest so_far = last_term scope whole terms rest so_far.count so_far.same
 
 -- ---- chains
-pub record IsChainSoFar (kind : Joint) (part : Rule Formula) (whole : Result (Read Formula) ExprFault) (tree : Formula) (rest : List Token) : Type 0 where
+pub record IsChainSoFar (kind : Operator) (part : Rule Formula) (whole : Result (Read Formula) ExprFault) (tree : Formula) (rest : List Token) : Type 0 where
   pub count : ℕ
   pub enough : length rest ≤ count
   pub same : whole ≡ more_parts kind part count tree rest
 
-no_joint : (kind : Joint) (rest : List Token) → begins_with kind rest ≡ true → 1 ≤ length rest
-no_joint kind [] e = cc
-no_joint kind (t ∷ ts) e = omega arith
+no_operator : (kind : Operator) (rest : List Token) → begins_with kind rest ≡ true → 1 ≤ length rest
+no_operator kind [] e = cc
+no_operator kind (t ∷ ts) e = omega arith
 
-wrong_part : (kind : Joint) (part : Rule Formula) (whole : Result (Read Formula) ExprFault) (tree : Formula) (rest : List Token) (fault : ExprFault) (count : ℕ) → length rest ≤ count → whole ≡ more_parts kind part count tree rest → begins_with kind rest ≡ true → part (after_first rest) ≡ Err fault → whole ≡ Err fault
-wrong_part kind part whole tree rest fault zero enough same joint read = absurd (omega (arith, no_joint kind rest joint))
-wrong_part kind part whole tree rest fault (suc count) enough same joint read = same ∙ rw joint (rw read refl)
+wrong_part : (kind : Operator) (part : Rule Formula) (whole : Result (Read Formula) ExprFault) (tree : Formula) (rest : List Token) (fault : ExprFault) (count : ℕ) → length rest ≤ count → whole ≡ more_parts kind part count tree rest → begins_with kind rest ≡ true → part (after_first rest) ≡ Err fault → whole ≡ Err fault
+wrong_part kind part whole tree rest fault zero enough same operator read = absurd (omega (arith, no_operator kind rest operator))
+wrong_part kind part whole tree rest fault (suc count) enough same operator read = same ∙ rw operator (rw read refl)
 
-bad_part : (kind : Joint) (part : Rule Formula) (whole : Result (Read Formula) ExprFault) (tree : Formula) (rest : List Token) (fault : ExprFault) → IsChainSoFar kind part whole tree rest → begins_with kind rest ≡ true → part (after_first rest) ≡ Err fault → whole ≡ Err fault
+bad_part : (kind : Operator) (part : Rule Formula) (whole : Result (Read Formula) ExprFault) (tree : Formula) (rest : List Token) (fault : ExprFault) → IsChainSoFar kind part whole tree rest → begins_with kind rest ≡ true → part (after_first rest) ≡ Err fault → whole ≡ Err fault
 bad_part kind part whole tree rest fault so_far = wrong_part kind part whole tree rest fault so_far.count so_far.enough so_far.same
 
 -- the fault of a part is that of the whole
-pub fault_of_part : (kind : Joint) (part : Rule Formula) (whole : Result (Read Formula) ExprFault) (tree : Formula) (rest : List Token) (fault : ExprFault) → IsChainSoFar kind part whole tree rest → begins_with kind rest ≡ true → (fault ≡ OutOfMemory) ⊎ (part (after_first rest) ≡ Err fault) → (fault ≡ OutOfMemory) ⊎ (whole ≡ Err fault)
-fault_of_part kind part whole tree rest fault so_far joint (inl memory) = inl memory
-fault_of_part kind part whole tree rest fault so_far joint (inr e) = inr (bad_part kind part whole tree rest fault so_far joint e)
+pub fault_of_part : (kind : Operator) (part : Rule Formula) (whole : Result (Read Formula) ExprFault) (tree : Formula) (rest : List Token) (fault : ExprFault) → IsChainSoFar kind part whole tree rest → begins_with kind rest ≡ true → (fault ≡ OutOfMemory) ⊎ (part (after_first rest) ≡ Err fault) → (fault ≡ OutOfMemory) ⊎ (whole ≡ Err fault)
+fault_of_part kind part whole tree rest fault so_far operator (inl memory) = inl memory
+fault_of_part kind part whole tree rest fault so_far operator (inr e) = inr (bad_part kind part whole tree rest fault so_far operator e)

@@ -12,9 +12,9 @@ tokens_after_passed_bytes (suc more) place (b ∷ bs) =
     tokens_after_passed_bytes more (place + 1) bs ∙ ap (λ p. tokens_from 0 p (drop more bs)) (omega arith)
 
 -- one token more of a text
-pub one_token : (place b : ℕ) (bs : List ℕ) (before whole : List Token) → whole ≡ before ++ tokens_from 0 place (b ∷ bs) → (b == 32) ≡ false → whole ≡ (before ++ record { word = (lexeme_of b bs).word; place = place } ∷ []) ++ tokens_from 0 (place + (1 + (lexeme_of b bs).more)) (drop (lexeme_of b bs).more bs)
+pub one_token : (place b : ℕ) (bs : List ℕ) (before whole : List Token) → whole ≡ before ++ tokens_from 0 place (b ∷ bs) → (b == 32) ≡ false → whole ≡ (before ++ record { word = (lexeme_of b bs).word; place = place } ∷ []) ++ tokens_from 0 (place + (1 + (lexeme_of b bs).bytes_after)) (drop (lexeme_of b bs).bytes_after bs)
 one_token place b bs before whole same h =
-    same ∙ rw h (rw (tokens_after_passed_bytes (lexeme_of b bs).more (place + 1) bs) (rw append_assoc (ap (λ p. before ++ record { word = (lexeme_of b bs).word; place = place } ∷ tokens_from 0 p (drop (lexeme_of b bs).more bs)) (omega arith))))
+    same ∙ rw h (rw (tokens_after_passed_bytes (lexeme_of b bs).bytes_after (place + 1) bs) (rw append_assoc (ap (λ p. before ++ record { word = (lexeme_of b bs).word; place = place } ∷ tokens_from 0 p (drop (lexeme_of b bs).bytes_after bs)) (omega arith))))
 
 -- two values that are equal up to the limit stay so
 same_capped : (v w : ℕ) (ds : List ℕ) → min 1000001 v ≡ min 1000001 w → min 1000001 (value_from v ds) ≡ min 1000001 (value_from w ds)

@@ -1,11 +1,11 @@
 -- Where the rules of terms and sums stop.
 use Rattle.std.proofs.Common.{◌≡◌, ℕ, Bool, true, false, List, [], ◌∷◌, ◌++◌, refl, sym, subst, None}
-use Rattle.ember_expr.specs.declared.formula.Term.{Term}
+use Rattle.ember_expr.specs.declared.trees.Term.{Term}
 use Rattle.ember_expr.specs.declared.token.Word.{Word}
 use Rattle.ember_expr.specs.declared.token.Word.TheVariants as word
 use Rattle.ember_expr.specs.declared.token.Token.{Token}
 use Rattle.ember_expr.specs.declared.grammar.Scope.{Scope}
-use Rattle.ember_expr.specs.Grammar.{read, ◌>>=◌, limited, mesh_number, wind, product, scaled, term, sign_before, more_terms, first_term, sum}
+use Rattle.ember_expr.specs.Grammar.{read, ◌>>=◌, limited, mesh_number, mesh_winding, product, after_number, term, sign_before, more_terms, first_term, sum}
 use Rattle.ember_expr.specs.Derivation.{IsTerm, IsSum, words}
 use Rattle.ember_expr.specs.Derivation as grammar
 use Rattle.ember_expr.proofs.Rules.{last_term}
@@ -22,13 +22,13 @@ IsWind ws m = ws ≡ word.Wind m ∷ []
 some_wind : Completes IsWind []
 some_wind = record { more = word.Wind 1 ∷ []; part = 1; holds = refl }
 
-wind_at_stops : (scope : Scope) (w : Word) (place : ℕ) (ts : List Token) → Stops IsWind scope (wind scope) (token w place ∷ ts)
+wind_at_stops : (scope : Scope) (w : Word) (place : ℕ) (ts : List Token) → Stops IsWind scope (mesh_winding scope) (token w place ∷ ts)
 wind_at_stops scope (word.Wind n) place ts =
-    step_stops IsWind scope (wind scope) (λ us. mesh_number scope place n >>= λ m. read m us) (token (word.Wind n) place) ts (λ us. refl) (check_stops (λ ws m. IsWind (word.Wind n ∷ ws) m) scope n (mesh_number scope place n) (λ m us. read m us) ts (limits_pass scope (word.Wind n) place) (read_stops (λ ws m. IsWind (word.Wind n ∷ ws) m) scope (λ us. read n us) n ts refl (λ us same. refl)))
-wind_at_stops scope w place ts = fault_at IsWind scope (wind scope) (token w place) ts some_wind (λ us. refl)
+    step_stops IsWind scope (mesh_winding scope) (λ us. mesh_number scope place n >>= λ m. read m us) (token (word.Wind n) place) ts (λ us. refl) (check_stops (λ ws m. IsWind (word.Wind n ∷ ws) m) scope n (mesh_number scope place n) (λ m us. read m us) ts (limits_pass scope (word.Wind n) place) (read_stops (λ ws m. IsWind (word.Wind n ∷ ws) m) scope (λ us. read n us) n ts refl (λ us same. refl)))
+wind_at_stops scope w place ts = fault_at IsWind scope (mesh_winding scope) (token w place) ts some_wind (λ us. refl)
 
-wind_stops : (scope : Scope) (ts : List Token) → Stops IsWind scope (wind scope) ts
-wind_stops scope [] = fault_at_end IsWind scope (wind scope) some_wind refl
+wind_stops : (scope : Scope) (ts : List Token) → Stops IsWind scope (mesh_winding scope) ts
+wind_stops scope [] = fault_at_end IsWind scope (mesh_winding scope) some_wind refl
 wind_stops scope (t ∷ ts) = wind_at_stops scope t.word t.place ts
 
 -- a term that begins with this number
@@ -38,15 +38,15 @@ IsScaled minus n ws t = IsTerm minus (word.Number n ∷ ws) t
 times_wind : (minus : Bool) (n m : ℕ) (ws : List Word) → IsWind ws m → IsScaled minus n (word.Star ∷ ws) (product minus n m)
 times_wind minus n m ws is = subst (λ us. IsScaled minus n (word.Star ∷ us) (product minus n m)) (sym is) grammar.times
 
-scaled_at_stops : (scope : Scope) (minus : Bool) (n : ℕ) (w : Word) (place : ℕ) (ts : List Token) → Stops (IsScaled minus n) scope (scaled scope minus n) (token w place ∷ ts)
+scaled_at_stops : (scope : Scope) (minus : Bool) (n : ℕ) (w : Word) (place : ℕ) (ts : List Token) → Stops (IsScaled minus n) scope (after_number scope minus n) (token w place ∷ ts)
 scaled_at_stops scope minus n word.Star place ts =
-    step_stops (IsScaled minus n) scope (scaled scope minus n) (λ us. wind scope us >>= λ w. read (product minus n w.part) w.rest) (token word.Star place) ts (λ us. refl) (both_stop IsWind (λ ws t. IsScaled minus n (word.Star ∷ ws) t) scope (wind scope) (λ m us. read (product minus n m) us) ts (λ ws m is. complete_now (λ ws t. IsScaled minus n (word.Star ∷ ws) t) ws (product minus n m) (times_wind minus n m ws is)) (wind_stops scope ts) (λ m before rest is. read_after (λ ws t. IsScaled minus n (word.Star ∷ ws) t) scope (words before) (product minus n m) rest (times_wind minus n m (words before) is)))
+    step_stops (IsScaled minus n) scope (after_number scope minus n) (λ us. mesh_winding scope us >>= λ w. read (product minus n w.part) w.rest) (token word.Star place) ts (λ us. refl) (both_stop IsWind (λ ws t. IsScaled minus n (word.Star ∷ ws) t) scope (mesh_winding scope) (λ m us. read (product minus n m) us) ts (λ ws m is. complete_now (λ ws t. IsScaled minus n (word.Star ∷ ws) t) ws (product minus n m) (times_wind minus n m ws is)) (wind_stops scope ts) (λ m before rest is. read_after (λ ws t. IsScaled minus n (word.Star ∷ ws) t) scope (words before) (product minus n m) rest (times_wind minus n m (words before) is)))
 scaled_at_stops scope minus n w place ts =
-    read_stops (IsScaled minus n) scope (scaled scope minus n) (product minus n 0) (token w place ∷ ts) grammar.number (λ us same. by_same (λ vs. scaled scope minus n vs ≡ read (product minus n 0) vs) (token w place) ts us same (λ vs. refl))
+    read_stops (IsScaled minus n) scope (after_number scope minus n) (product minus n 0) (token w place ∷ ts) grammar.number (λ us same. by_same (λ vs. after_number scope minus n vs ≡ read (product minus n 0) vs) (token w place) ts us same (λ vs. refl))
 
-scaled_stops : (scope : Scope) (minus : Bool) (n : ℕ) (ts : List Token) → Stops (IsScaled minus n) scope (scaled scope minus n) ts
+scaled_stops : (scope : Scope) (minus : Bool) (n : ℕ) (ts : List Token) → Stops (IsScaled minus n) scope (after_number scope minus n) ts
 scaled_stops scope minus n [] =
-    read_stops (IsScaled minus n) scope (scaled scope minus n) (product minus n 0) [] grammar.number (λ us same. by_none (λ vs. scaled scope minus n vs ≡ read (product minus n 0) vs) us same refl)
+    read_stops (IsScaled minus n) scope (after_number scope minus n) (product minus n 0) [] grammar.number (λ us same. by_none (λ vs. after_number scope minus n vs ≡ read (product minus n 0) vs) us same refl)
 scaled_stops scope minus n (t ∷ ts) = scaled_at_stops scope minus n t.word t.place ts
 
 some_term : (minus : Bool) → Completes (IsTerm minus) []
@@ -54,7 +54,7 @@ some_term minus = record { more = word.Number 1 ∷ []; part = product minus 1 0
 
 term_at_stops : (scope : Scope) (minus : Bool) (w : Word) (place : ℕ) (ts : List Token) → Stops (IsTerm minus) scope (term scope minus) (token w place ∷ ts)
 term_at_stops scope minus (word.Number n) place ts =
-    step_stops (IsTerm minus) scope (term scope minus) (λ us. limited place n >>= λ k. scaled scope minus k us) (token (word.Number n) place) ts (λ us. refl) (check_stops (IsScaled minus n) scope n (limited place n) (λ k us. scaled scope minus k us) ts (limits_pass scope (word.Number n) place) (scaled_stops scope minus n ts))
+    step_stops (IsTerm minus) scope (term scope minus) (λ us. limited place n >>= λ k. after_number scope minus k us) (token (word.Number n) place) ts (λ us. refl) (check_stops (IsScaled minus n) scope n (limited place n) (λ k us. after_number scope minus k us) ts (limits_pass scope (word.Number n) place) (scaled_stops scope minus n ts))
 term_at_stops scope minus (word.Wind n) place ts =
     step_stops (IsTerm minus) scope (term scope minus) (λ us. mesh_number scope place n >>= λ m. read (product minus 1 m) us) (token (word.Wind n) place) ts (λ us. refl) (check_stops (λ ws t. IsTerm minus (word.Wind n ∷ ws) t) scope n (mesh_number scope place n) (λ m us. read (product minus 1 m) us) ts (limits_pass scope (word.Wind n) place) (read_stops (λ ws t. IsTerm minus (word.Wind n ∷ ws) t) scope (λ us. read (product minus 1 n) us) (product minus 1 n) ts grammar.wind (λ us same. refl)))
 term_at_stops scope minus w place ts = fault_at (IsTerm minus) scope (term scope minus) (token w place) ts (some_term minus) (λ us. refl)

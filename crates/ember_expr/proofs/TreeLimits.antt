@@ -1,6 +1,6 @@
 -- Trees within the limits.
 use Rattle.std.proofs.Common.{ℕ, ◌≤◌, List, arith}
-use Rattle.ember_expr.specs.declared.formula.Term.{Term}
+use Rattle.ember_expr.specs.declared.trees.Term.{Term}
 use Rattle.ember_expr.specs.Formula.{Formula, Or, Xor, And, Not, Mesh, Odd, Compare, IsFit, IsFitSum}
 
 more_terms_fit : (m n : ℕ) → m ≤ n → (sum : List Term) → IsFitSum m sum → IsFitSum n sum

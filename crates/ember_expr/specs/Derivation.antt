@@ -1,8 +1,8 @@
 -- The grammar of expressions as a relation: which words have which tree, rule by rule, and the limits beside it
-use Rattle.std.specs.Prelude.{ℕ, ◌+◌, ◌≤◌, max, Bool, true, false, List, [], ◌∷◌, ◌++◌, map, length}
+use Rattle.std.specs.Prelude.{ℕ, ◌+◌, ◌≤◌, max, Bool, true, false, List, [], ◌∷◌, ◌++◌, map, length, ⊤}
 use Rattle.ember_algebra.specs.Relations.{Every}
-use Rattle.ember_expr.specs.declared.formula.Rel.{Rel}
-use Rattle.ember_expr.specs.declared.formula.Term.{Term}
+use Rattle.ember_expr.specs.declared.trees.Rel.{Rel}
+use Rattle.ember_expr.specs.declared.trees.Term.{Term}
 use Rattle.ember_expr.specs.declared.token.Word.{Word}
 use Rattle.ember_expr.specs.declared.token.Word.TheVariants.{Bar, Hat, Amp, Bang, Open, Close, Plus, Minus, Star, Number, Wind}
 use Rattle.ember_expr.specs.declared.token.Word.TheVariants as word
@@ -88,7 +88,7 @@ abbrev pub IsFitWord : ℕ → Word → Type 0
 IsFitWord meshes (word.Number n) = n ≤ 1000000
 IsFitWord meshes (word.Mesh n) = IsFitMesh meshes n
 IsFitWord meshes (word.Wind n) = IsFitMesh meshes n
-IsFitWord meshes _ = Unit {0}
+IsFitWord meshes _ = ⊤
 
 -- the tokens without their places
 abbrev pub words : List Token → List Word

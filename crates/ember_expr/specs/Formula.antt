@@ -1,9 +1,9 @@
 -- The tree of an expression without its places in memory, and the limits of its numbers
 use Rattle.std.specs.Prelude.{ℕ, ◌≤◌, List, length, All}
-use Rattle.ember_expr.specs.declared.formula.Rel.{Rel}
-use Rattle.ember_expr.specs.declared.formula.Term.{Term}
-use Rattle.ember_expr.specs.declared.formula.Tree.{Tree}
-use Rattle.ember_expr.specs.declared.formula.Tree.TheVariants as tree
+use Rattle.ember_expr.specs.declared.trees.Rel.{Rel}
+use Rattle.ember_expr.specs.declared.trees.Term.{Term}
+use Rattle.ember_expr.specs.declared.trees.Tree.{Tree}
+use Rattle.ember_expr.specs.declared.trees.Tree.TheVariants as tree
 
 -- an expression as definitions see it
 pub data Formula : Type 0 where

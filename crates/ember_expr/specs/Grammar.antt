@@ -1,15 +1,15 @@
 -- The grammar of expressions, rule by rule: the tree, or the first token with a fault
 use Rattle.std.specs.Prelude.{ℕ, zero, suc, Bool, true, false, ◌&&◌, if◌then◌else◌, List, [], ◌∷◌, ◌++◌, length, nat_le, Option, Some, None, Result, Ok, Err}
-use Rattle.ember_expr.specs.declared.formula.Rel.{Rel}
-use Rattle.ember_expr.specs.declared.formula.Term.{Term}
+use Rattle.ember_expr.specs.declared.trees.Rel.{Rel}
+use Rattle.ember_expr.specs.declared.trees.Term.{Term}
 use Rattle.ember_expr.specs.declared.fault.ExprFault.{ExprFault}
 use Rattle.ember_expr.specs.declared.fault.ExprFault.TheVariants.{Syntax, Deep, NoMesh, Long}
 use Rattle.ember_expr.specs.declared.fault.ExprFault.TheVariants as fault
 use Rattle.ember_expr.specs.declared.token.Word.{Word}
 use Rattle.ember_expr.specs.declared.token.Word.TheVariants as word
 use Rattle.ember_expr.specs.declared.token.Token.{Token}
-use Rattle.ember_expr.specs.declared.grammar.Joint.{Joint}
-use Rattle.ember_expr.specs.declared.grammar.Joint.TheVariants as joint
+use Rattle.ember_expr.specs.declared.grammar.Operator.{Operator}
+use Rattle.ember_expr.specs.declared.grammar.Operator.TheVariants as operator
 use Rattle.ember_expr.specs.declared.grammar.Scope.{Scope}
 use Rattle.ember_expr.specs.Formula.{Formula, Or, Xor, And, Not, Mesh, Odd, Compare}
 use Rattle.ember_expr.specs.Tokens.{tokens_of}
@@ -59,9 +59,9 @@ wind_at scope t (word.Wind n) ts = do
 wind_at scope t _ ts = Err (Syntax t.place)
 
 -- the rule of wN
-abbrev pub wind : Scope → Rule ℕ
-wind scope [] = Err (Syntax scope.end)
-wind scope (t ∷ ts) = wind_at scope t t.word ts
+abbrev pub mesh_winding : Scope → Rule ℕ
+mesh_winding scope [] = Err (Syntax scope.end)
+mesh_winding scope (t ∷ ts) = wind_at scope t t.word ts
 
 abbrev pub is_star : Word → Bool
 is_star word.Star = true
@@ -71,16 +71,16 @@ abbrev pub product : Bool → ℕ → ℕ → Term
 product minus factor mesh = record { minus = minus; factor = factor; mesh = mesh }
 
 -- after a number
-abbrev pub scaled : Scope → Bool → ℕ → Rule Term
-scaled scope minus factor [] = read (product minus factor 0) []
-scaled scope minus factor (t ∷ ts) =
-    if is_star t.word then (wind scope ts >>= λ w. read (product minus factor w.part) w.rest)
+abbrev pub after_number : Scope → Bool → ℕ → Rule Term
+after_number scope minus factor [] = read (product minus factor 0) []
+after_number scope minus factor (t ∷ ts) =
+    if is_star t.word then (mesh_winding scope ts >>= λ w. read (product minus factor w.part) w.rest)
     else read (product minus factor 0) (t ∷ ts)
 
 abbrev pub term_at : Scope → Bool → Token → Word → List Token → Result (Read Term) ExprFault
 term_at scope minus t (word.Number n) ts = do
   factor ← limited t.place n
-  scaled scope minus factor ts
+  after_number scope minus factor ts
 term_at scope minus t (word.Wind n) ts = do
   mesh ← mesh_number scope t.place n
   read (product minus 1 mesh) ts
@@ -131,43 +131,43 @@ sum scope tokens = do
 
 -- ---- chains: or = xor { "|" xor }, xor = and { "^" and }, and = not { "&" not }
 -- the word is that of the operator
-abbrev pub joins : Joint → Word → Bool
-joins joint.Or word.Bar = true
-joins joint.Xor word.Hat = true
-joins joint.And word.Amp = true
+abbrev pub joins : Operator → Word → Bool
+joins operator.Or word.Bar = true
+joins operator.Xor word.Hat = true
+joins operator.And word.Amp = true
 joins _ _ = false
 
-abbrev pub begins_with : Joint → List Token → Bool
+abbrev pub begins_with : Operator → List Token → Bool
 begins_with kind [] = false
 begins_with kind (t ∷ ts) = joins kind t.word
 
 -- the formula of two operands with an operator
-abbrev pub join : Joint → Formula → Formula → Formula
-join joint.Or a b = Or a b
-join joint.Xor a b = Xor a b
-join joint.And a b = And a b
+abbrev pub join : Operator → Formula → Formula → Formula
+join operator.Or a b = Or a b
+join operator.Xor a b = Xor a b
+join operator.And a b = And a b
 
 -- at most `count` further parts, each of at least one token; a chain groups from the left
-abbrev pub more_parts : Joint → Rule Formula → ℕ → Formula → Rule Formula
+abbrev pub more_parts : Operator → Rule Formula → ℕ → Formula → Rule Formula
 more_parts kind part zero tree tokens = read tree tokens
 more_parts kind part (suc count) tree tokens =
     if begins_with kind tokens
     then (part (after_first tokens) >>= λ next. more_parts kind part count (join kind tree next.part) next.rest)
     else read tree tokens
 
-abbrev pub chain_of : Joint → Rule Formula → Rule Formula
+abbrev pub chain_of : Operator → Rule Formula → Rule Formula
 chain_of kind part tokens = do
   first ← part tokens
   more_parts kind part (length first.rest) first.part first.rest
 
 -- the parts of a chain, over the rule of `not`
-abbrev pub part_of : Joint → Rule Formula → Rule Formula
-part_of joint.And not = not
-part_of joint.Xor not = chain_of joint.And not
-part_of joint.Or not = chain_of joint.Xor (chain_of joint.And not)
+abbrev pub part_of : Operator → Rule Formula → Rule Formula
+part_of operator.And not = not
+part_of operator.Xor not = chain_of operator.And not
+part_of operator.Or not = chain_of operator.Xor (chain_of operator.And not)
 
 abbrev pub or : Rule Formula → Rule Formula
-or not = chain_of joint.Or (part_of joint.Or not)
+or not = chain_of operator.Or (part_of operator.Or not)
 
 -- ---- atoms
 abbrev pub is_open : Word → Bool
@@ -179,9 +179,9 @@ is_close word.Close = true
 is_close _ = false
 
 -- the tokens after a `)`
-abbrev pub closed : Scope → List Token → Result (List Token) ExprFault
-closed scope [] = Err (Syntax scope.end)
-closed scope (t ∷ ts) = if is_close t.word then Ok ts else Err (Syntax t.place)
+abbrev pub expect_close : Scope → List Token → Result (List Token) ExprFault
+expect_close scope [] = Err (Syntax scope.end)
+expect_close scope (t ∷ ts) = if is_close t.word then Ok ts else Err (Syntax t.place)
 
 abbrev pub rel_at : Token → Word → List Token → Result (Read Rel) ExprFault
 rel_at t (word.Compare rel) ts = read rel ts
@@ -208,14 +208,14 @@ inside (Some inner) place go = go inner
 abbrev pub odd : {A : Type 0} → Scope → Option A → Rule Formula
 odd scope inner [] = Err (Syntax scope.end)
 odd scope inner (t ∷ ts) =
-    if is_open t.word then inside inner t.place (λ _. sum scope ts >>= λ s. closed scope s.rest >>= λ rest.
+    if is_open t.word then inside inner t.place (λ _. sum scope ts >>= λ s. expect_close scope s.rest >>= λ rest.
     read (Odd s.part) rest) else Err (Syntax t.place)
 
 -- not = "!" not | "(" or ")" | mN | odd | comparison; `inner` is the rule of `not` one place deeper
 abbrev pub not_at : Scope → Option (Rule Formula) → Token → Word → List Token → Result (Read Formula) ExprFault
 not_at scope inner t word.Bang ts = inside inner t.place (λ not. not ts >>= λ a. read (Not a.part) a.rest)
 not_at scope inner t word.Open ts =
-    inside inner t.place (λ not. or not ts >>= λ a. closed scope a.rest >>= λ rest. read a.part rest)
+    inside inner t.place (λ not. or not ts >>= λ a. expect_close scope a.rest >>= λ rest. read a.part rest)
 not_at scope inner t (word.Mesh n) ts = mesh_number scope t.place n >>= λ mesh. read (Mesh mesh) ts
 not_at scope inner t word.Odd ts = odd scope inner ts
 not_at scope inner t _ ts = comparison scope (t ∷ ts)
@@ -224,14 +224,14 @@ abbrev pub not_with : Scope → Option (Rule Formula) → Rule Formula
 not_with scope inner [] = Err (Syntax scope.end)
 not_with scope inner (t ∷ ts) = not_at scope inner t t.word ts
 
--- the rule of `not` inside one more parenthesis or `!`, if at most `left` may still follow
+-- the rule of `not` inside one more parenthesis or `!`, if at most `depth_left` may still follow
 abbrev pub deeper : Scope → ℕ → Option (Rule Formula)
 deeper scope zero = None
-deeper scope (suc left) = Some (not_with scope (deeper scope left))
+deeper scope (suc depth_left) = Some (not_with scope (deeper scope depth_left))
 
--- the rule of `not`, if at most `left` parentheses and signs `!` may be inside one another
+-- the rule of `not`, if at most `depth_left` parentheses and signs `!` may be inside one another
 abbrev pub not : Scope → ℕ → Rule Formula
-not scope left = not_with scope (deeper scope left)
+not scope depth_left = not_with scope (deeper scope depth_left)
 
 -- ---- the whole text
 -- the tree, if no token is left
@@ -241,7 +241,7 @@ ended tree (t ∷ ts) = Err (Syntax t.place)
 
 -- an `or`, and no token after it
 unfoldable pub whole : Scope → ℕ → List Token → Result Formula ExprFault
-whole scope left tokens = or (not scope left) tokens >>= λ e. ended e.part e.rest
+whole scope depth_left tokens = or (not scope depth_left) tokens >>= λ e. ended e.part e.rest
 
 -- the tree of a text, or its first fault
 abbrev pub expr_of : List ℕ → ℕ → Result Formula ExprFault

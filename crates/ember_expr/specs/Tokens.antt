@@ -1,8 +1,8 @@
 -- The tokens of a text: at each place the longest one, and spaces between tokens
 use Rattle.std.specs.Prelude.{ℕ, zero, suc, ◌+◌, ◌-◌, ◌*◌, ◌==◌, min, ◌&&◌, if◌then◌else◌, List, [], ◌∷◌, length}
 use Rattle.std.specs.Char.{is_ascii_digit}
-use Rattle.ember_expr.specs.declared.formula.Rel.{Rel}
-use Rattle.ember_expr.specs.declared.formula.Rel.TheVariants.{Less, LessEqual, Equal, NotEqual, GreaterEqual, Greater}
+use Rattle.ember_expr.specs.declared.trees.Rel.{Rel}
+use Rattle.ember_expr.specs.declared.trees.Rel.TheVariants.{Less, LessEqual, Equal, NotEqual, GreaterEqual, Greater}
 use Rattle.ember_expr.specs.declared.token.Word.{Word}
 use Rattle.ember_expr.specs.declared.token.Word.TheVariants.{Bar, Hat, Amp, Bang, Open, Close, Plus, Minus, Star, Compare, Odd, Number, Mesh, Wind, Unknown}
 use Rattle.ember_expr.specs.declared.token.Token.{Token}
@@ -23,23 +23,23 @@ abbrev pub number_from : ℕ → List ℕ → ℕ
 number_from start bs = min 1000001 (value_from start (digit_run bs))
 
 abbrev pub unknown : Lexeme
-unknown = record { word = Unknown; more = 0 }
+unknown = record { word = Unknown; bytes_after = 0 }
 
--- a letter and a number of `more` digits
+-- a letter and a number of `bytes_after` digits
 abbrev pub named_by : Word → ℕ → Lexeme
-named_by word more = if more == 0 then unknown else record { word = word; more = more }
+named_by word bytes_after = if bytes_after == 0 then unknown else record { word = word; bytes_after = bytes_after }
 
 -- after an `o`
 abbrev pub odd_in : List ℕ → Lexeme
 odd_in [] = unknown
 odd_in (b ∷ []) = unknown
-odd_in (b ∷ c ∷ bs) = if b == 100 && c == 100 then record { word = Odd; more = 2 } else unknown
+odd_in (b ∷ c ∷ bs) = if b == 100 && c == 100 then record { word = Odd; bytes_after = 2 } else unknown
 
 -- a sign, which a `=` directly after it turns into the other one
 abbrev pub before_equals : Word → Rel → List ℕ → Lexeme
-before_equals plain joined [] = record { word = plain; more = 0 }
+before_equals plain joined [] = record { word = plain; bytes_after = 0 }
 before_equals plain joined (b ∷ bs) =
-    if b == 61 then record { word = Compare joined; more = 1 } else record { word = plain; more = 0 }
+    if b == 61 then record { word = Compare joined; bytes_after = 1 } else record { word = plain; bytes_after = 0 }
 
 abbrev pub sign_of : ℕ → Word
 sign_of b =
@@ -50,12 +50,12 @@ sign_of b =
 -- the longest token at the front of a text, by its first byte: 109 is `m`, 119 `w`, 111 `o`, 33 `!`, 60 `<`, 62 `>`
 abbrev pub lexeme_of : ℕ → List ℕ → Lexeme
 lexeme_of b bs =
-    if is_ascii_digit b then record { word = Number (number_from (b - 48) bs); more = length (digit_run bs) }
+    if is_ascii_digit b then record { word = Number (number_from (b - 48) bs); bytes_after = length (digit_run bs) }
     else if b == 109 then named_by (Mesh (number_from 0 bs)) (length (digit_run bs)) else if b == 119
     then named_by (Wind (number_from 0 bs)) (length (digit_run bs)) else if b == 111 then odd_in bs
     else if b == 33 then before_equals Bang NotEqual bs else if b == 60
     then before_equals (Compare Less) LessEqual bs else if b == 62
-    then before_equals (Compare Greater) GreaterEqual bs else record { word = sign_of b; more = 0 }
+    then before_equals (Compare Greater) GreaterEqual bs else record { word = sign_of b; bytes_after = 0 }
 
 -- the tokens from a place on, where the first `within` bytes are part of the token before
 abbrev pub tokens_from : ℕ → ℕ → List ℕ → List Token
@@ -63,7 +63,7 @@ tokens_from within place [] = []
 tokens_from (suc within) place (b ∷ bs) = tokens_from within (place + 1) bs
 tokens_from zero place (b ∷ bs) =
     if b == 32 then tokens_from zero (place + 1) bs else record { word = (lexeme_of b bs).word; place = place } ∷
-    tokens_from (lexeme_of b bs).more (place + 1) bs
+    tokens_from (lexeme_of b bs).bytes_after (place + 1) bs
 
 abbrev pub tokens_of : List ℕ → List Token
 tokens_of text = tokens_from 0 0 text

@@ -1,9 +1,9 @@
 -- The truth of an expression at the winding numbers of all meshes
 use Rattle.std.specs.Prelude.{ℕ, ◌-◌, ◌%◌, ◌==◌, ℤ, pos, neg_ℤ, ◌+ℤ◌, ◌*ℤ◌, Bool, not, ◌&&◌, ◌||◌, if◌then◌else◌, List, [], ◌∷◌, All, slice_index_or, unsigned_abs, int_lt, int_le}
 use Rattle.ember_algebra.specs.Size.{Small}
-use Rattle.ember_expr.specs.declared.formula.Rel.{Rel}
-use Rattle.ember_expr.specs.declared.formula.Rel.TheVariants.{Less, LessEqual, Equal, NotEqual, GreaterEqual, Greater}
-use Rattle.ember_expr.specs.declared.formula.Term.{Term}
+use Rattle.ember_expr.specs.declared.trees.Rel.{Rel}
+use Rattle.ember_expr.specs.declared.trees.Rel.TheVariants.{Less, LessEqual, Equal, NotEqual, GreaterEqual, Greater}
+use Rattle.ember_expr.specs.declared.trees.Term.{Term}
 use Rattle.ember_expr.specs.Formula.{Formula, Or, Xor, And, Not, Mesh, Odd, Compare}
 
 -- the winding number of mesh n
@@ -15,24 +15,24 @@ abbrev pub AreCounts : List ℤ → Type 0
 AreCounts counts = All (Small 16777216) counts
 
 -- what a factor multiplies: the winding number of its mesh, or 1 for a plain number (mesh 0)
-abbrev pub counted : List ℤ → ℕ → ℤ
-counted counts n = if n == 0 then pos 1 else count_of counts n
+abbrev pub mesh_factor : List ℤ → ℕ → ℤ
+mesh_factor counts n = if n == 0 then pos 1 else count_of counts n
 
 -- the factor times the winding number, or the factor alone for a plain number; it may be negative
-abbrev pub size_of : List ℤ → Term → ℤ
-size_of counts t = pos t.factor *ℤ counted counts t.mesh
+abbrev pub unsigned_value_of : List ℤ → Term → ℤ
+unsigned_value_of counts t = pos t.factor *ℤ mesh_factor counts t.mesh
 
 abbrev pub signed : Bool → ℤ → ℤ
 signed minus z = if minus then neg_ℤ z else z
 
 -- the value of a term
-abbrev pub value_of : List ℤ → Term → ℤ
-value_of counts t = signed t.minus (size_of counts t)
+abbrev pub term_value : List ℤ → Term → ℤ
+term_value counts t = signed t.minus (unsigned_value_of counts t)
 
 -- a number and the terms that follow it
 abbrev pub sum_from : ℤ → List ℤ → List Term → ℤ
 sum_from start counts [] = start
-sum_from start counts (t ∷ ts) = sum_from (start +ℤ value_of counts t) counts ts
+sum_from start counts (t ∷ ts) = sum_from (start +ℤ term_value counts t) counts ts
 
 -- the value of a sum
 abbrev pub sum_of : List ℤ → List Term → ℤ

@@ -6,10 +6,10 @@ ghost use Rattle.ember_expr.specs.Grammar.{expr_of};
 ghost use Rattle.ember_expr.specs.declared.fault.ExprFault.TheVariants.{OutOfMemory};
 
 use crate::fault::ExprFault;
-use crate::formula::Tree;
-use crate::grammar::{Scope, formula};
+use crate::grammar::{Scope, read_tree};
 use crate::token::tokens;
-use crate::truth::holds;
+use crate::trees::Tree;
+use crate::truth::truth_of;
 use ember_model::Vector;
 use std::alloc::Global;
 use std::marker::Model;
@@ -24,23 +24,24 @@ const MOST_DEPTH: u32 = 64;
 /// from 1 to 64, every other number is at most 1,000,000, and each sum has at most 4096 terms.
 #[derive(Drop)]
 pub struct Expr {
-    // The tree, of which contracts also take the formula.
-    formula: Tree,
+    // Contracts see this tree, and mostly its `Formula`, which has no pointers.
+    tree: Tree,
 }
 
 impl Model for Expr {
-    ghost use Rattle.ember_expr.specs.declared.formula.Tree.{Tree};
-    ghost use Rattle.ember_expr.specs.contracts.formula.Tree as tree;
+    ghost use Rattle.ember_expr.specs.declared.trees.Tree.{Tree};
+    ghost use Rattle.ember_expr.specs.contracts.trees.Tree as trees;
     ghost use Rattle.ember_expr.specs.Formula.{formula_of, IsFit};
     ghost use Rattle.std.specs.Coded.{codes};
 
     ghost Value = { Tree };
 
-    ghost view = { λ e. e.formula };
+    ghost view = { λ e. e.tree };
 
-    ghost invariant = { λ e. IsFit 64 (formula_of e.formula) };
+    ghost invariant = { λ e. IsFit 64 (formula_of e.tree) };
 
-    ghost coded = { Prim.hlevel (codes, tree.the_row.coded) };
+    // for the prover only: how a tree is stored
+    ghost coded = { Prim.hlevel (codes, trees.the_row.coded) };
 }
 
 /// The expression of a text for this number of meshes, at most 64, or the first fault in it.
@@ -58,8 +59,8 @@ pub fn parse(alloc: Global, text: &[u8], meshes: u32) -> Result<Expr, ExprFault>
         end: text.len() as u32,
     };
     let tokens = tokens(alloc, text)?;
-    let formula = formula(alloc, scope, MOST_DEPTH, &tokens)?;
-    Ok(Expr { formula })
+    let tree = read_tree(alloc, scope, MOST_DEPTH, &tokens)?;
+    Ok(Expr { tree })
 }
 
 /// Whether the expression holds at these winding numbers, each of which is at most 2^24 in size.
@@ -67,7 +68,7 @@ pub fn value(e: &Expr, v: &Vector) -> bool
     requires { AreCounts v.now.counts }
     ensures { result ≡ truth v.now.counts (formula_of e.now) }
 {
-    holds(&e.formula, v)
+    truth_of(&e.tree, v)
 }
 
 /// The tree of the expression.
@@ -75,7 +76,7 @@ pub fn tree(e: &Expr) -> &Tree
     ensures tree { result.now ≡ e.now }
     ensures fit { IsFit 64 (formula_of e.now) }
 {
-    &e.formula
+    &e.tree
 }
 
 /// Whether the expression is false if all winding numbers are 0.

@@ -1,12 +1,12 @@
 // The grammar of expressions, by recursive descent over the tokens.
 ghost use Rattle.std.specs.Prelude.{◌≡◌, ◌≤◌, ◌<◌, ◌+◌, ◌⊎◌, ◌++◌, ◌∷◌, [], IfOk, IfErr, OnOk, IfSome, MatchResult, MatchOption, length, Ok, Err, Some, None};
 ghost use Rattle.ember_expr.specs.Formula.{formula_of, IsFit, IsFitSum, IsFitTerm, IsMeshNumber};
-ghost use Rattle.ember_expr.specs.Grammar.{read, misplaced, limited, mesh_number, wind, scaled, term, sign_before, after_first, first_term, sum, begins_with, join, chain_of, part_of, closed, relation, comparison, odd, not, deeper, whole};
+ghost use Rattle.ember_expr.specs.Grammar.{read, misplaced, limited, mesh_number, mesh_winding, after_number, term, sign_before, after_first, first_term, sum, begins_with, join, chain_of, part_of, expect_close, relation, comparison, odd, not, deeper, whole};
 ghost use Rattle.ember_expr.specs.declared.fault.ExprFault.TheVariants.{Deep, OutOfMemory};
 
 use crate::fault::ExprFault;
-use crate::formula::{Rel, Sum, Term, Tree};
 use crate::token::{Token, Word};
+use crate::trees::{Rel, Sum, Term, Tree};
 use std::alloc::Global;
 
 /// The number of meshes, and the length of the text.
@@ -18,7 +18,7 @@ pub struct Scope {
 
 /// The Boolean operators that join two or more operands; the first binds loosest.
 #[derive(Clone, Copy, Debug, PartialEq, Eq)]
-pub enum Joint {
+pub enum Operator {
     Or,
     Xor,
     And,
@@ -70,9 +70,9 @@ fn mesh_number(scope: Scope, place: u32, number: u32) -> Result<u32, ExprFault>
 }
 
 // wN
-fn wind(scope: Scope, tokens: &[Token]) -> Result<(u32, &[Token]), ExprFault>
-    ensures read { MatchResult result (λ r. wind scope tokens.now ≡ read r.0 r.1.now) (λ e. wind scope tokens.now ≡
-        Err e) }
+fn mesh_winding(scope: Scope, tokens: &[Token]) -> Result<(u32, &[Token]), ExprFault>
+    ensures ok { MatchResult result (λ r. mesh_winding scope tokens.now ≡ read r.0 r.1.now) (λ e.
+        mesh_winding scope tokens.now ≡ Err e) }
     ensures exists { IfOk result (λ r. IsMeshNumber scope.meshes r.0) }
     ensures shorter { IfOk result (λ r. length r.1.now < length tokens.now) }
 {
@@ -91,15 +91,15 @@ fn wind(scope: Scope, tokens: &[Token]) -> Result<(u32, &[Token]), ExprFault>
 }
 
 // What follows a number: `*` and wN, or nothing.
-fn scaled(
+fn after_number(
     scope: Scope,
     minus: bool,
     factor: u32,
     tokens: &[Token],
 ) -> Result<(Term, &[Token]), ExprFault>
     requires { factor ≤ 1000000 }
-    ensures read { MatchResult result (λ r. scaled scope minus factor tokens.now ≡ read r.0 r.1.now) (λ e.
-        scaled scope minus factor tokens.now ≡ Err e) }
+    ensures ok { MatchResult result (λ r. after_number scope minus factor tokens.now ≡ read r.0 r.1.now) (λ e.
+        after_number scope minus factor tokens.now ≡ Err e) }
     ensures fit { IfOk result (λ r. IsFitTerm scope.meshes r.0) }
     ensures shorter { IfOk result (λ r. length r.1.now ≤ length tokens.now) }
 {
@@ -113,7 +113,7 @@ fn scaled(
                 after,
             ),
         ) => {
-            let (mesh, rest) = wind(scope, after)?;
+            let (mesh, rest) = mesh_winding(scope, after)?;
             Ok((
                 Term {
                     minus,
@@ -136,7 +136,7 @@ fn scaled(
 
 // term = number [ "*" wN ] | wN
 fn term(scope: Scope, minus: bool, tokens: &[Token]) -> Result<(Term, &[Token]), ExprFault>
-    ensures read { MatchResult result (λ r. term scope minus tokens.now ≡ read r.0 r.1.now) (λ e.
+    ensures ok { MatchResult result (λ r. term scope minus tokens.now ≡ read r.0 r.1.now) (λ e.
         term scope minus tokens.now ≡ Err e) }
     ensures fit { IfOk result (λ r. IsFitTerm scope.meshes r.0) }
     ensures shorter { IfOk result (λ r. length r.1.now < length tokens.now) }
@@ -147,7 +147,7 @@ fn term(scope: Scope, minus: bool, tokens: &[Token]) -> Result<(Term, &[Token]),
     match token.word {
         Word::Number(number) => {
             let factor = limited(token.place, number)?;
-            scaled(scope, minus, factor, after)
+            after_number(scope, minus, factor, after)
         }
         Word::Wind(number) => {
             let mesh = mesh_number(scope, token.place, number)?;
@@ -178,7 +178,7 @@ fn sign_before(tokens: &[Token]) -> Option<bool>
 
 // [ "-" ] term
 fn first_term(scope: Scope, tokens: &[Token]) -> Result<(Term, &[Token]), ExprFault>
-    ensures read { MatchResult result (λ r. first_term scope tokens.now ≡ read r.0 r.1.now) (λ e.
+    ensures ok { MatchResult result (λ r. first_term scope tokens.now ≡ read r.0 r.1.now) (λ e.
         first_term scope tokens.now ≡ Err e) }
     ensures fit { IfOk result (λ r. IsFitTerm scope.meshes r.0) }
     ensures shorter { IfOk result (λ r. length r.1.now < length tokens.now) }
@@ -192,7 +192,7 @@ fn first_term(scope: Scope, tokens: &[Token]) -> Result<(Term, &[Token]), ExprFa
 // sum = [ "-" ] term { ( "+" | "-" ) term }
 fn sum(alloc: Global, scope: Scope, tokens: &[Token]) -> Result<(Sum, &[Token]), ExprFault>
     requires { length tokens.now ≤ 4096 }
-    ensures read { IfOk result (λ r. sum scope tokens.now ≡ read r.0 r.1.now) }
+    ensures ok { IfOk result (λ r. sum scope tokens.now ≡ read r.0 r.1.now) }
     ensures fault { IfErr result (λ e. (e ≡ OutOfMemory) ⊎ (sum scope tokens.now ≡ Err e)) }
     ensures fit { IfOk result (λ r. IsFitSum scope.meshes r.0) }
     ensures shorter { IfOk result (λ r. length r.1.now < length tokens.now) }
@@ -219,8 +219,9 @@ fn add(terms: &mut Vec<Term>, next: Term) -> Result<(), ExprFault>
 }
 
 // The tokens after a `)`.
-fn closed(scope: Scope, tokens: &[Token]) -> Result<&[Token], ExprFault>
-    ensures read { MatchResult result (λ r. closed scope tokens.now ≡ Ok r.now) (λ e. closed scope tokens.now ≡ Err e) }
+fn expect_close(scope: Scope, tokens: &[Token]) -> Result<&[Token], ExprFault>
+    ensures ok { MatchResult result (λ r. expect_close scope tokens.now ≡ Ok r.now) (λ e.
+        expect_close scope tokens.now ≡ Err e) }
     ensures shorter { IfOk result (λ r. length r.now < length tokens.now) }
 {
     match tokens.split_first() {
@@ -238,7 +239,7 @@ fn closed(scope: Scope, tokens: &[Token]) -> Result<&[Token], ExprFault>
 }
 
 fn relation(scope: Scope, tokens: &[Token]) -> Result<(Rel, &[Token]), ExprFault>
-    ensures read { MatchResult result (λ r. relation scope tokens.now ≡ read r.0 r.1.now) (λ e.
+    ensures ok { MatchResult result (λ r. relation scope tokens.now ≡ read r.0 r.1.now) (λ e.
         relation scope tokens.now ≡ Err e) }
     ensures shorter { IfOk result (λ r. length r.1.now < length tokens.now) }
 {
@@ -259,30 +260,30 @@ fn relation(scope: Scope, tokens: &[Token]) -> Result<(Rel, &[Token]), ExprFault
 // sum rel sum
 fn comparison(alloc: Global, scope: Scope, tokens: &[Token]) -> Result<(Tree, &[Token]), ExprFault>
     requires { length tokens.now ≤ 4096 }
-    ensures read { IfOk result (λ r. comparison scope tokens.now ≡ read (formula_of r.0) r.1.now) }
+    ensures ok { IfOk result (λ r. comparison scope tokens.now ≡ read (formula_of r.0) r.1.now) }
     ensures fault { IfErr result (λ e. (e ≡ OutOfMemory) ⊎ (comparison scope tokens.now ≡ Err e)) }
     ensures fit { IfOk result (λ r. IsFit scope.meshes (formula_of r.0)) }
     ensures shorter { IfOk result (λ r. length r.1.now < length tokens.now) }
 {
-    let (left, rest) = sum(alloc, scope, tokens)?;
+    let (lhs, rest) = sum(alloc, scope, tokens)?;
     let (rel, rest) = relation(scope, rest)?;
-    let (right, rest) = sum(alloc, scope, rest)?;
-    Ok((Tree::Compare(left, rel, right), rest))
+    let (rhs, rest) = sum(alloc, scope, rest)?;
+    Ok((Tree::Compare(lhs, rel, rhs), rest))
 }
 
-// The depth left inside this `(` or `!`, if `left` is the depth left for it: how many of them may
-// be inside one another. It is too deep if none is left. In the clauses `not` is the grammar's
-// rule.
-fn one_deeper(left: u32, place: u32) -> Result<u32, ExprFault>
-    ensures inner { (scope : Scope) →
-        MatchResult result (λ less. deeper scope left ≡ Some (not scope less)) (λ e. (deeper scope left ≡ None) ×
-        (e ≡ Deep place)) }
-    ensures less { IfOk result (λ less. less + 1 ≡ left) }
+// How many `(` and `!` may be nested inside this one, if `depth_left` may be nested from this one
+// on. If none may, it is too deep. In the clauses `not` is the grammar's rule, as in
+// docs/FORMATS.md, and not the negation.
+fn one_deeper(depth_left: u32, place: u32) -> Result<u32, ExprFault>
+    ensures rule { (scope : Scope) →
+        MatchResult result (λ inner. deeper scope depth_left ≡ Some (not scope inner))
+        (λ e. (deeper scope depth_left ≡ None) × (e ≡ Deep place)) }
+    ensures one_less { IfOk result (λ inner. inner + 1 ≡ depth_left) }
 {
-    if left == 0 {
+    if depth_left == 0 {
         Err(ExprFault::Deep(place))
     } else {
-        Ok(left - 1)
+        Ok(depth_left - 1)
     }
 }
 
@@ -290,12 +291,12 @@ fn one_deeper(left: u32, place: u32) -> Result<u32, ExprFault>
 fn odd(
     alloc: Global,
     scope: Scope,
-    left: u32,
+    depth_left: u32,
     tokens: &[Token],
 ) -> Result<(Tree, &[Token]), ExprFault>
     requires { length tokens.now ≤ 4096 }
-    ensures read { IfOk result (λ r. odd scope (deeper scope left) tokens.now ≡ read (formula_of r.0) r.1.now) }
-    ensures fault { IfErr result (λ e. (e ≡ OutOfMemory) ⊎ (odd scope (deeper scope left) tokens.now ≡ Err e)) }
+    ensures ok { IfOk result (λ r. odd scope (deeper scope depth_left) tokens.now ≡ read (formula_of r.0) r.1.now) }
+    ensures fault { IfErr result (λ e. (e ≡ OutOfMemory) ⊎ (odd scope (deeper scope depth_left) tokens.now ≡ Err e)) }
     ensures fit { IfOk result (λ r. IsFit scope.meshes (formula_of r.0)) }
     ensures shorter { IfOk result (λ r. length r.1.now < length tokens.now) }
 {
@@ -309,9 +310,9 @@ fn odd(
                 after,
             ),
         ) => {
-            let _inner = one_deeper(left, *place)?;
+            let _inner = one_deeper(depth_left, *place)?;
             let (terms, rest) = sum(alloc, scope, after)?;
-            let rest = closed(scope, rest)?;
+            let rest = expect_close(scope, rest)?;
             Ok((Tree::Odd(terms), rest))
         }
         _ => Err(misplaced(scope, tokens)),
@@ -319,44 +320,49 @@ fn odd(
 }
 
 // Whether the next token is this operator.
-fn begins_with(kind: Joint, tokens: &[Token]) -> bool
+fn begins_with(kind: Operator, tokens: &[Token]) -> bool
     ensures { result ≡ begins_with kind tokens.now }
 {
     let Some(token) = tokens.first() else {
         return false;
     };
     match (kind, token.word) {
-        (Joint::Or, Word::Bar) => true,
-        (Joint::Xor, Word::Hat) => true,
-        (Joint::And, Word::Amp) => true,
+        (Operator::Or, Word::Bar) => true,
+        (Operator::Xor, Word::Hat) => true,
+        (Operator::And, Word::Amp) => true,
         _ => false,
     }
 }
 
 // The tree of two operands with this operator.
-fn join(alloc: Global, kind: Joint, a: Tree, b: Tree) -> Result<Tree, ExprFault>
+fn join(alloc: Global, kind: Operator, a: Tree, b: Tree) -> Result<Tree, ExprFault>
     ensures tree { IfOk result (λ t. formula_of t ≡ join kind (formula_of a) (formula_of b)) }
     ensures fault { IfErr result (λ e. e ≡ OutOfMemory) }
 {
     let a = Box::new(alloc, a)?;
     let b = Box::new(alloc, b)?;
     match kind {
-        Joint::Or => Ok(Tree::Or(a, b)),
-        Joint::Xor => Ok(Tree::Xor(a, b)),
-        Joint::And => Ok(Tree::And(a, b)),
+        Operator::Or => Ok(Tree::Or(a, b)),
+        Operator::Xor => Ok(Tree::Xor(a, b)),
+        Operator::And => Ok(Tree::And(a, b)),
     }
 }
 
-/// The tree of a text of these tokens, if at most `left` parentheses and signs `!` may be
+/// The tree of a text of these tokens, if at most `depth_left` parentheses and signs `!` may be
 /// inside one another.
 #[tactic(auto, unfolding(crate::specs::Grammar::whole))]
-pub fn formula(alloc: Global, scope: Scope, left: u32, tokens: &[Token]) -> Result<Tree, ExprFault>
+pub fn read_tree(
+    alloc: Global,
+    scope: Scope,
+    depth_left: u32,
+    tokens: &[Token],
+) -> Result<Tree, ExprFault>
     requires { length tokens.now ≤ 4096 }
-    ensures tree { IfOk result (λ t. whole scope left tokens.now ≡ Ok (formula_of t)) }
-    ensures fault { IfErr result (λ e. (e ≡ OutOfMemory) ⊎ (whole scope left tokens.now ≡ Err e)) }
+    ensures tree { IfOk result (λ t. whole scope depth_left tokens.now ≡ Ok (formula_of t)) }
+    ensures fault { IfErr result (λ e. (e ≡ OutOfMemory) ⊎ (whole scope depth_left tokens.now ≡ Err e)) }
     ensures fit { IfOk result (λ t. IsFit scope.meshes (formula_of t)) }
 {
-    let (tree, rest) = chain(alloc, scope, Joint::Or, left, tokens)?;
+    let (tree, rest) = chain(alloc, scope, Operator::Or, depth_left, tokens)?;
     match rest.first() {
         None => Ok(tree),
         Some(token) => Err(ExprFault::Syntax(token.place)),
@@ -368,21 +374,21 @@ pub fn formula(alloc: Global, scope: Scope, left: u32, tokens: &[Token]) -> Resu
 fn chain(
     alloc: Global,
     scope: Scope,
-    kind: Joint,
-    left: u32,
+    kind: Operator,
+    depth_left: u32,
     tokens: &[Token],
 ) -> Result<(Tree, &[Token]), ExprFault>
     requires { length tokens.now ≤ 4096 }
-    ensures read { IfOk result (λ r. chain_of kind (part_of kind (not scope left)) tokens.now ≡
+    ensures ok { IfOk result (λ r. chain_of kind (part_of kind (not scope depth_left)) tokens.now ≡
         read (formula_of r.0) r.1.now) }
     ensures fault { IfErr result (λ e. (e ≡ OutOfMemory) ⊎
-        (chain_of kind (part_of kind (not scope left)) tokens.now ≡ Err e)) }
+        (chain_of kind (part_of kind (not scope depth_left)) tokens.now ≡ Err e)) }
     ensures fit { IfOk result (λ r. IsFit scope.meshes (formula_of r.0)) }
     ensures shorter { IfOk result (λ r. length r.1.now < length tokens.now) }
 {
-    let (mut tree, mut rest) = part(alloc, scope, kind, left, tokens)?;
+    let (mut tree, mut rest) = part(alloc, scope, kind, depth_left, tokens)?;
     'parts: while begins_with(kind, rest) {
-        let (next, after) = part(alloc, scope, kind, left, after_first(rest))?;
+        let (next, after) = part(alloc, scope, kind, depth_left, after_first(rest))?;
         tree = join(alloc, kind, tree, next)?;
         rest = after;
     }
@@ -394,20 +400,20 @@ fn chain(
 fn part(
     alloc: Global,
     scope: Scope,
-    kind: Joint,
-    left: u32,
+    kind: Operator,
+    depth_left: u32,
     tokens: &[Token],
 ) -> Result<(Tree, &[Token]), ExprFault>
     requires { length tokens.now ≤ 4096 }
-    ensures read { IfOk result (λ r. part_of kind (not scope left) tokens.now ≡ read (formula_of r.0) r.1.now) }
-    ensures fault { IfErr result (λ e. (e ≡ OutOfMemory) ⊎ (part_of kind (not scope left) tokens.now ≡ Err e)) }
+    ensures ok { IfOk result (λ r. part_of kind (not scope depth_left) tokens.now ≡ read (formula_of r.0) r.1.now) }
+    ensures fault { IfErr result (λ e. (e ≡ OutOfMemory) ⊎ (part_of kind (not scope depth_left) tokens.now ≡ Err e)) }
     ensures fit { IfOk result (λ r. IsFit scope.meshes (formula_of r.0)) }
     ensures shorter { IfOk result (λ r. length r.1.now < length tokens.now) }
 {
     match kind {
-        Joint::Or => chain(alloc, scope, Joint::Xor, left, tokens),
-        Joint::Xor => chain(alloc, scope, Joint::And, left, tokens),
-        Joint::And => not(alloc, scope, left, tokens),
+        Operator::Or => chain(alloc, scope, Operator::Xor, depth_left, tokens),
+        Operator::Xor => chain(alloc, scope, Operator::And, depth_left, tokens),
+        Operator::And => not(alloc, scope, depth_left, tokens),
     }
 }
 
@@ -416,12 +422,12 @@ fn part(
 fn not(
     alloc: Global,
     scope: Scope,
-    left: u32,
+    depth_left: u32,
     tokens: &[Token],
 ) -> Result<(Tree, &[Token]), ExprFault>
     requires { length tokens.now ≤ 4096 }
-    ensures read { IfOk result (λ r. not scope left tokens.now ≡ read (formula_of r.0) r.1.now) }
-    ensures fault { IfErr result (λ e. (e ≡ OutOfMemory) ⊎ (not scope left tokens.now ≡ Err e)) }
+    ensures ok { IfOk result (λ r. not scope depth_left tokens.now ≡ read (formula_of r.0) r.1.now) }
+    ensures fault { IfErr result (λ e. (e ≡ OutOfMemory) ⊎ (not scope depth_left tokens.now ≡ Err e)) }
     ensures fit { IfOk result (λ r. IsFit scope.meshes (formula_of r.0)) }
     ensures shorter { IfOk result (λ r. length r.1.now < length tokens.now) }
 {
@@ -430,21 +436,21 @@ fn not(
     };
     match token.word {
         Word::Bang => {
-            let inner = one_deeper(left, token.place)?;
+            let inner = one_deeper(depth_left, token.place)?;
             let (tree, rest) = not(alloc, scope, inner, after)?;
             Ok((Tree::Not(Box::new(alloc, tree)?), rest))
         }
         Word::Open => {
-            let inner = one_deeper(left, token.place)?;
-            let (tree, rest) = chain(alloc, scope, Joint::Or, inner, after)?;
-            let rest = closed(scope, rest)?;
+            let inner = one_deeper(depth_left, token.place)?;
+            let (tree, rest) = chain(alloc, scope, Operator::Or, inner, after)?;
+            let rest = expect_close(scope, rest)?;
             Ok((tree, rest))
         }
         Word::Mesh(number) => {
             let mesh = mesh_number(scope, token.place, number)?;
             Ok((Tree::Mesh(mesh), after))
         }
-        Word::Odd => odd(alloc, scope, left, after),
+        Word::Odd => odd(alloc, scope, depth_left, after),
         _ => comparison(alloc, scope, tokens),
     }
 }

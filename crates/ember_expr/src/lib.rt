@@ -4,14 +4,14 @@
 
 mod expression;
 mod fault;
-mod formula;
 mod grammar;
 mod law;
 mod token;
+mod trees;
 mod truth;
 
 pub use expression::{Expr, bounded, parse, tree, value};
 pub use fault::ExprFault;
-pub use formula::{Rel, Sum, Term, Tree};
 pub use law::{syntax_faults_stand_at_the_first_bad_token, texts_have_the_tree_of_the_grammar};
-pub use truth::holds;
+pub use trees::{Rel, Sum, Term, Tree};
+pub use truth::truth_of;

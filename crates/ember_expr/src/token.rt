@@ -2,7 +2,7 @@
 ghost use Rattle.std.specs.Prelude.{◌≡◌, ◌≤◌, ◌<◌, ◌++◌, ◌∷◌, [], IfOk, OnOk, length, min};
 ghost use Rattle.ember_expr.specs.Tokens.{tokens_of, lexeme_of, sign_of, before_equals, named_by, odd_in, digit_run, value_from};
 
-use crate::formula::Rel;
+use crate::trees::Rel;
 use std::alloc::{AllocError, Global};
 
 /// What a token is.
@@ -36,11 +36,11 @@ pub struct Token {
     pub place: u32,
 }
 
-/// The longest word at the front of a text. It has `more` bytes after its first one.
+/// The longest word at the front of a text. It has `bytes_after` bytes after its first one.
 #[derive(Clone, Copy, Debug, PartialEq, Eq)]
 pub struct Lexeme {
     pub word: Word,
-    pub more: usize,
+    pub bytes_after: usize,
 }
 
 // Each number above the largest that is allowed is read as this one.
@@ -63,8 +63,8 @@ pub fn tokens(alloc: Global, text: &[u8]) -> Result<Vec<Token>, AllocError>
         }
         let lexeme = longest(*first, after);
         add(&mut tokens, lexeme.word, place)?;
-        rest = after.split_at(lexeme.more).1;
-        place += 1 + lexeme.more as u32;
+        rest = after.split_at(lexeme.bytes_after).1;
+        place += 1 + lexeme.bytes_after as u32;
     }
     Ok(tokens)
 }
@@ -80,23 +80,23 @@ fn add(tokens: &mut Vec<Token>, word: Word, place: u32) -> Result<(), AllocError
 // The longest word of a text that has this first byte.
 fn longest(first: u8, after: &[u8]) -> Lexeme
     ensures lexeme { result ≡ lexeme_of first after.now }
-    ensures within { result.more ≤ length after.now }
+    ensures within { result.bytes_after ≤ length after.now }
 {
     if first.is_ascii_digit() {
-        let (value, more) = number(u32::from(first - b'0'), after);
+        let (value, bytes_after) = number(u32::from(first - b'0'), after);
         return Lexeme {
             word: Word::Number(value),
-            more,
+            bytes_after,
         };
     }
     match first {
         b'm' => {
-            let (mesh, more) = number(0, after);
-            named(Word::Mesh(mesh), more)
+            let (mesh, bytes_after) = number(0, after);
+            named(Word::Mesh(mesh), bytes_after)
         }
         b'w' => {
-            let (mesh, more) = number(0, after);
-            named(Word::Wind(mesh), more)
+            let (mesh, bytes_after) = number(0, after);
+            named(Word::Wind(mesh), bytes_after)
         }
         b'o' => odd(after),
         b'!' => equals(Word::Bang, Rel::NotEqual, after),
@@ -104,7 +104,7 @@ fn longest(first: u8, after: &[u8]) -> Lexeme
         b'>' => equals(Word::Compare(Rel::Greater), Rel::GreaterEqual, after),
         _ => Lexeme {
             word: sign(first),
-            more: 0,
+            bytes_after: 0,
         },
     }
 }
@@ -114,66 +114,66 @@ fn longest(first: u8, after: &[u8]) -> Lexeme
 fn number(start: u32, text: &[u8]) -> (u32, usize)
     requires { start < 10 }
     ensures value { result.0 ≡ min 1000001 (value_from start (digit_run text.now)) }
-    ensures more { result.1 ≡ length (digit_run text.now) }
+    ensures bytes_after { result.1 ≡ length (digit_run text.now) }
     ensures within { result.1 ≤ length text.now }
 {
     let mut value = start;
-    let mut more = 0;
+    let mut bytes_after = 0;
     let mut rest = text;
     'digits: while let Some((digit, after)) = rest.split_first() {
         if !digit.is_ascii_digit() {
             break;
         }
         value = LARGE.min(value * 10 + u32::from(*digit - b'0'));
-        more += 1;
+        bytes_after += 1;
         rest = after;
     }
-    (value, more)
+    (value, bytes_after)
 }
 
-// A letter and a number of `more` digits.
-fn named(word: Word, more: usize) -> Lexeme
-    ensures { result ≡ named_by word more }
+// A letter and a number of `bytes_after` digits.
+fn named(word: Word, bytes_after: usize) -> Lexeme
+    ensures { result ≡ named_by word bytes_after }
 {
-    if more == 0 {
+    if bytes_after == 0 {
         return Lexeme {
             word: Word::Unknown,
-            more: 0,
+            bytes_after: 0,
         };
     }
-    Lexeme { word, more }
+    Lexeme { word, bytes_after }
 }
 
 // The word that an `o` begins.
 fn odd(after: &[u8]) -> Lexeme
     ensures lexeme { result ≡ odd_in after.now }
-    ensures within { result.more ≤ length after.now }
+    ensures within { result.bytes_after ≤ length after.now }
 {
     match after {
         [b'd', b'd', ..] => Lexeme {
             word: Word::Odd,
-            more: 2,
+            bytes_after: 2,
         },
         _ => Lexeme {
             word: Word::Unknown,
-            more: 0,
+            bytes_after: 0,
         },
     }
 }
 
-// A sign, which a `=` directly after it turns into the other one.
+// The word `plain`, or the relation `joined` if a `=` follows directly.
 fn equals(plain: Word, joined: Rel, after: &[u8]) -> Lexeme
     ensures lexeme { result ≡ before_equals plain joined after.now }
-    ensures within { result.more ≤ length after.now }
+    ensures within { result.bytes_after ≤ length after.now }
 {
     match after.split_first() {
         Some((b'=', _)) => Lexeme {
             word: Word::Compare(joined),
-            more: 1,
+            bytes_after: 1,
         },
         _ => Lexeme {
             word: plain,
-            more: 0,
+            bytes_after: 0,
         },
     }
 }

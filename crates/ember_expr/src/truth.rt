@@ -2,9 +2,9 @@
 ghost use Rattle.std.specs.Prelude.{◌≡◌, ◌≤◌, pos, ◌*ℤ◌};
 ghost use Rattle.ember_algebra.specs.Size.{Small};
 ghost use Rattle.ember_expr.specs.Formula.{formula_of, IsFit, IsFitSum, IsFitTerm, IsMeshNumber};
-ghost use Rattle.ember_expr.specs.Truth.{AreCounts, count_of, size_of, signed, value_of, sum_of, holds_between, truth};
+ghost use Rattle.ember_expr.specs.Truth.{AreCounts, count_of, unsigned_value_of, signed, term_value, sum_of, holds_between, truth};
 
-use crate::formula::{Rel, Term, Tree};
+use crate::trees::{Rel, Term, Tree};
 use ember_model::Vector;
 
 // The winding number of a mesh.
@@ -29,10 +29,10 @@ fn product(factor: u32, count: i64) -> i64
 
 // The factor times the winding number, or the factor alone for a plain number: the value of the
 // term before its sign is applied. It may be negative.
-fn size(term: &Term, v: &Vector) -> i64
+fn unsigned_value(term: &Term, v: &Vector) -> i64
     requires fit { IsFitTerm 64 term.now }
     requires counts { AreCounts v.now.counts }
-    ensures value { result ≡ size_of v.now.counts term.now }
+    ensures value { result ≡ unsigned_value_of v.now.counts term.now }
     ensures small { Small 16777216000000 result }
 {
     if term.mesh == 0 {
@@ -42,22 +42,22 @@ fn size(term: &Term, v: &Vector) -> i64
 }
 
 // The number, negated if `minus` holds.
-fn signed(minus: bool, size: i64) -> i64
-    requires { Small 16777216000000 size }
-    ensures value { result ≡ signed minus size }
+fn signed(minus: bool, number: i64) -> i64
+    requires { Small 16777216000000 number }
+    ensures value { result ≡ signed minus number }
     ensures small { Small 16777216000000 result }
 {
-    if minus { -size } else { size }
+    if minus { -number } else { number }
 }
 
 // The value of a term at these winding numbers.
 fn term_value(term: &Term, v: &Vector) -> i64
     requires fit { IsFitTerm 64 term.now }
     requires counts { AreCounts v.now.counts }
-    ensures value { result ≡ value_of v.now.counts term.now }
+    ensures value { result ≡ term_value v.now.counts term.now }
     ensures small { Small 16777216000000 result }
 {
-    signed(term.minus, size(term, v))
+    signed(term.minus, unsigned_value(term, v))
 }
 
 // The value of a sum at these winding numbers.
@@ -88,22 +88,22 @@ fn holds_between(rel: Rel, x: i64, y: i64) -> bool
 }
 
 /// Whether the tree holds at these winding numbers, each of which is at most 2^24 in size.
-pub fn holds(tree: &Tree, v: &Vector) -> bool
+pub fn truth_of(tree: &Tree, v: &Vector) -> bool
     requires fit { IsFit 64 (formula_of tree.now) }
     requires counts { AreCounts v.now.counts }
     ensures { result ≡ truth v.now.counts (formula_of tree.now) }
 {
     match tree {
-        Tree::Or(a, b) => holds(a, v) || holds(b, v),
+        Tree::Or(a, b) => truth_of(a, v) || truth_of(b, v),
         Tree::Xor(a, b) => {
-            if holds(a, v) {
-                !holds(b, v)
+            if truth_of(a, v) {
+                !truth_of(b, v)
             } else {
-                holds(b, v)
+                truth_of(b, v)
             }
         }
-        Tree::And(a, b) => holds(a, v) && holds(b, v),
-        Tree::Not(a) => !holds(a, v),
+        Tree::And(a, b) => truth_of(a, v) && truth_of(b, v),
+        Tree::Not(a) => !truth_of(a, v),
         Tree::Mesh(mesh) => count(*mesh, v) >= 1,
         Tree::Odd(sum) => sum_value(sum.items(), v) % 2 != 0,
         Tree::Compare(a, rel, b) => {

@@ -2,7 +2,7 @@
 use Rattle.std.proofs.Common.{◌≡◌, ℕ, ◌+◌, ◌-◌, ◌*◌, ◌/◌, ◌%◌, ◌^◌, ◌<◌, ◌≤◌, Bool, true, false, cond, eqb, Option, Some, None, refl, sym, ap, ◌∙◌, arith}
 use Rattle.std.proofs.lemmas.Bool.Decides.{nat_tests}
 use Rattle.std.proofs.lemmas.Option.{none-some, same_Some}
-use Rattle.ember_number.specs.Fractions.{Fraction, signed}
+use Rattle.ember_number.specs.Fractions.{Fraction, signed_whole}
 use Rattle.ember_number.specs.Floats.{binary32_value}
 use Rattle.ember_number.specs.Values.{binary_value}
 use Rattle.ember_number.proofs.Rounding.{by_lt}
@@ -48,7 +48,7 @@ fields minus exponent fraction bits l h e =
     rw (sign_read minus (exponent * 8388608 + fraction) bits (omega arith) e, exponent_read minus exponent fraction bits (omega arith) h e, fraction_read minus exponent fraction bits h e, last) refl
 
 abbrev numbered : Bool → ℕ → Option Fraction
-numbered minus n = Some (record { numerator = signed minus n; denominator = 2 ^ 149 })
+numbered minus n = Some (record { numerator = signed_whole minus n; denominator = 2 ^ 149 })
 
 least_place : (minus : Bool) (place m bits : ℕ) → m < 8388608 → place ≡ 0 → bits ≡ sign_bit minus + (place * 8388608 + m) → binary32_value bits ≡ numbered minus (m * 2 ^ place)
 least_place minus place m bits l z e = fields minus 0 m bits (omega arith) l (omega (arith, e, z)) ∙ ap (λ (k : ℕ). numbered minus (m * 2 ^ k)) (sym z)

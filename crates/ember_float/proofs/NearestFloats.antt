@@ -2,7 +2,7 @@
 use Rattle.std.proofs.Common.{◌≡◌, ℕ, ◌+◌, ◌-◌, ◌*◌, ◌^◌, ◌%◌, ◌<◌, ◌≤◌, Bool, true, false, pos, neg_ℤ, Some, subst, mul-le-mul, refl, sym, ap, ◌∙◌, arith}
 use Rattle.std.specs.Prelude.{not}
 use Rattle.std.proofs.lemmas.Nat.{pow_pos}
-use Rattle.ember_number.specs.Fractions.{Fraction, signed}
+use Rattle.ember_number.specs.Fractions.{Fraction, signed_whole}
 use Rattle.ember_number.proofs.Rounding.{by_lt}
 use Rattle.ember_round.specs.Nearest.{IsNearest}
 use Rattle.ember_float.specs.Scaling.{IsScaled}
@@ -40,7 +40,7 @@ unfolding gap
 from_zero x d = omega arith
 
 abbrev number : Bool → ℕ → Fraction
-number minus n = record { numerator = signed minus n; denominator = 2 ^ 149 }
+number minus n = record { numerator = signed_whole minus n; denominator = 2 ^ 149 }
 
 no_sign : (minus : Bool) → number (not minus) 0 ≡ number minus 0
 no_sign false = refl
@@ -91,20 +91,20 @@ module _ (n d place m : ℕ) (p : 0 < d) (scaled : IsScaled n d place m) where
 
   -- ---- with signs
   module _ (minus : Bool) where
-    distance_here : distance (signed minus n) d (number minus (m * 2 ^ place)) ≡ gap (n * 2 ^ 149) (m * (d * 2 ^ place))
+    distance_here : distance (signed_whole minus n) d (number minus (m * 2 ^ place)) ≡ gap (n * 2 ^ 149) (m * (d * 2 ^ place))
     distance_here = distance_same minus n d (m * 2 ^ place) (2 ^ 149) ∙ ap (λ (k : ℕ). gap (n * 2 ^ 149) k) regrouped
 
-    near_same : (s q : ℕ) → s < 2 ^ 24 → distance (signed minus n) d (number minus (m * 2 ^ place)) ≤ distance (signed minus n) d (number minus (s * 2 ^ q))
+    near_same : (s q : ℕ) → s < 2 ^ 24 → distance (signed_whole minus n) d (number minus (m * 2 ^ place)) ≤ distance (signed_whole minus n) d (number minus (s * 2 ^ q))
     near_same s q l = rw (distance_here, distance_same minus n d (s * 2 ^ q) (2 ^ 149)) (near_size s q l)
 
-    near_other : (v : ℕ) → distance (signed minus n) d (number minus (m * 2 ^ place)) ≤ distance (signed minus n) d (number (not minus) v)
+    near_other : (v : ℕ) → distance (signed_whole minus n) d (number minus (m * 2 ^ place)) ≤ distance (signed_whole minus n) d (number (not minus) v)
     near_other v = rw (distance_here, distance_other minus n d v (2 ^ 149)) (omega (arith, near_zero))
 
-    even_same : (s q : ℕ) → s < 2 ^ 24 → (number minus (s * 2 ^ q) ≡ number minus (m * 2 ^ place) → ⊥) → distance (signed minus n) d (number minus (s * 2 ^ q)) ≤ distance (signed minus n) d (number minus (m * 2 ^ place)) → m % 2 ≡ 0
+    even_same : (s q : ℕ) → s < 2 ^ 24 → (number minus (s * 2 ^ q) ≡ number minus (m * 2 ^ place) → ⊥) → distance (signed_whole minus n) d (number minus (s * 2 ^ q)) ≤ distance (signed_whole minus n) d (number minus (m * 2 ^ place)) → m % 2 ≡ 0
     even_same s q l other as_near =
         even_size s q l (λ e. other (ap (λ (k : ℕ). number minus k) e)) (rw (distance_here, distance_same minus n d (s * 2 ^ q) (2 ^ 149)) at as_near)
 
-    even_other : (v : ℕ) → (number (not minus) v ≡ number minus (m * 2 ^ place) → ⊥) → distance (signed minus n) d (number (not minus) v) ≤ distance (signed minus n) d (number minus (m * 2 ^ place)) → m % 2 ≡ 0
+    even_other : (v : ℕ) → (number (not minus) v ≡ number minus (m * 2 ^ place) → ⊥) → distance (signed_whole minus n) d (number (not minus) v) ≤ distance (signed_whole minus n) d (number minus (m * 2 ^ place)) → m % 2 ≡ 0
     even_other v other as_near =
         let sum : n * 2 ^ 149 + v * d ≤ gap (n * 2 ^ 149) (m * (d * 2 ^ place)) = rw (distance_here, distance_other minus n d v (2 ^ 149)) at as_near in
         let none : v * d ≡ 0 * d = omega (arith, sum, near_zero) in
@@ -139,12 +139,12 @@ module _ (n d place m : ℕ) (p : 0 < d) (scaled : IsScaled n d place m) (below 
 
   -- a float of this sign, or of the other if it is 0
   module _ (minus sign : Bool) (bits : ℕ) (same : number sign (m * 2 ^ place) ≡ number minus (m * 2 ^ place)) (is : bits ≡ sign_bit sign + (place * 8388608 + m)) where
-    near_any : (w : Fraction) → Float w → distance (signed minus n) d (number minus (m * 2 ^ place)) ≤ distance (signed minus n) d w
-    near_any w f = rw f.3.is (either_sign (λ (b : Bool). distance (signed minus n) d (number minus (m * 2 ^ place)) ≤ distance (signed minus n) d (number b (f.1 * 2 ^ f.2))) minus f.0 (near_same n d place m p scaled minus f.1 f.2 f.3.short) (near_other n d place m p scaled minus (f.1 * 2 ^ f.2)))
+    near_any : (w : Fraction) → Float w → distance (signed_whole minus n) d (number minus (m * 2 ^ place)) ≤ distance (signed_whole minus n) d w
+    near_any w f = rw f.3.is (either_sign (λ (b : Bool). distance (signed_whole minus n) d (number minus (m * 2 ^ place)) ≤ distance (signed_whole minus n) d (number b (f.1 * 2 ^ f.2))) minus f.0 (near_same n d place m p scaled minus f.1 f.2 f.3.short) (near_other n d place m p scaled minus (f.1 * 2 ^ f.2)))
 
-    even_any : (w : Fraction) → Float w → (w ≡ number minus (m * 2 ^ place) → ⊥) → distance (signed minus n) d w ≤ distance (signed minus n) d (number minus (m * 2 ^ place)) → m % 2 ≡ 0
+    even_any : (w : Fraction) → Float w → (w ≡ number minus (m * 2 ^ place) → ⊥) → distance (signed_whole minus n) d w ≤ distance (signed_whole minus n) d (number minus (m * 2 ^ place)) → m % 2 ≡ 0
     even_any w f other as_near =
-        either_sign (λ (b : Bool). (number b (f.1 * 2 ^ f.2) ≡ number minus (m * 2 ^ place) → ⊥) → distance (signed minus n) d (number b (f.1 * 2 ^ f.2)) ≤ distance (signed minus n) d (number minus (m * 2 ^ place)) → m % 2 ≡ 0)
+        either_sign (λ (b : Bool). (number b (f.1 * 2 ^ f.2) ≡ number minus (m * 2 ^ place) → ⊥) → distance (signed_whole minus n) d (number b (f.1 * 2 ^ f.2)) ≤ distance (signed_whole minus n) d (number minus (m * 2 ^ place)) → m % 2 ≡ 0)
         minus f.0 (even_same n d place m p scaled minus f.1 f.2 f.3.short) (even_other n d place m p scaled minus (f.1 * 2 ^ f.2))
         (λ e. other (f.3.is ∙ e)) (rw f.3.is at as_near)
 
@@ -152,7 +152,7 @@ module _ (n d place m : ℕ) (p : 0 < d) (scaled : IsScaled n d place m) (below 
     even_bits false e h = omega arith
     even_bits true e h = omega arith
 
-    nearest_float : (bits ≡ 2 ^ 31 → ⊥) → IsNearestBinary32 (signed minus n) d bits
+    nearest_float : (bits ≡ 2 ^ 31 → ⊥) → IsNearestBinary32 (signed_whole minus n) d bits
     nearest_float nonzero = record {
       value = number minus (m * 2 ^ place);
       finite = joined_value sign place m bits top most least is_finite is ∙ ap (λ (v : Fraction). Some v) same;

@@ -27,8 +27,8 @@ abbrev pub quad : ℕ → Corner → Corner → Corner → Corner → List Tri
 quad m a b c d = record { a = a; b = b; c = c; mesh = m } ∷ record { a = a; b = c; c = d; mesh = m } ∷ []
 
 -- the faces of a box with the corners c1 to c4 below and c5 to c8 above, in their order round it
-abbrev pub faces_of : ℕ → Corner → Corner → Corner → Corner → Corner → Corner → Corner → Corner → List Tri
-faces_of m c1 c2 c3 c4 c5 c6 c7 c8 =
+abbrev pub block_faces : ℕ → Corner → Corner → Corner → Corner → Corner → Corner → Corner → Corner → List Tri
+block_faces m c1 c2 c3 c4 c5 c6 c7 c8 =
     quad m c1 c4 c3 c2 ++ quad m c5 c6 c7 c8 ++ quad m c1 c2 c6 c5 ++ quad m c2 c3 c7 c6 ++ quad m c3 c4 c8 c7 ++
     quad m c4 c1 c5 c8
 
@@ -40,5 +40,5 @@ unfoldable pub triangles_of : ℕ → Block → List Tri
 triangles_of m b =
     let p = b.low in
     let q = b.high in
-    faces_of m (corner p.x p.y p.z) (corner q.x p.y p.z) (corner q.x q.y p.z) (corner p.x q.y p.z)
+    block_faces m (corner p.x p.y p.z) (corner q.x p.y p.z) (corner q.x q.y p.z) (corner p.x q.y p.z)
     (corner p.x p.y q.z) (corner q.x p.y q.z) (corner q.x q.y q.z) (corner p.x q.y q.z)

@@ -6,7 +6,7 @@ use crate::scenes::scene_of_files;
 use crate::shapes::triangle;
 use crate::texts::{APART, C, D, STAR, TETRA, TOUCHING};
 use ember_box::{
-    Cell, HalvedBox, halved, halves, halving, is_leaf, near_halves, near_list, near_tri, root,
+    Cell, HalvedBox, halve_box, halves, halving, is_leaf, near_halves, near_list, near_tri, root,
     split_axis,
 };
 use ember_job::Job;
@@ -189,7 +189,7 @@ fn each_half_keeps_the_triangles_that_reach_it(rt: HostRuntime) -> Result<(), Fa
 fn look_at(alloc: Global, s: &Scene, job: &Job) -> Result<Option<HalvedBox>, OutOfMemory>
     requires { IsJob s.now.tris job.now }
 {
-    halved(alloc, s, job.list.items(), &job.cell)
+    halve_box(alloc, s, job.list.items(), &job.cell)
 }
 
 #[test]
@@ -197,16 +197,16 @@ fn one_look_tells_the_axis_and_the_lists_of_both_halves(rt: HostRuntime) -> Resu
     let alloc = rt.alloc();
     let scene = scene_of_files(alloc, &[APART, APART, APART, APART, APART])?;
     let job = root_job(alloc, &scene)?;
-    let Some(HalvedBox { axis, low, high }) = look_at(alloc, &scene, &job)? else {
+    let Some(HalvedBox { axis, left, right }) = look_at(alloc, &scene, &job)? else {
         return Err(Fail::from("a leaf"));
     };
     assert_eq!(rt; axis, Axis::Y);
     assert_eq!(rt;
-        low.as_slice(),
+        left.as_slice(),
         [2, 3, 6, 7, 10, 11, 14, 15, 18, 19].as_slice()
     );
     assert_eq!(rt;
-        high.as_slice(),
+        right.as_slice(),
         [0, 1, 4, 5, 8, 9, 12, 13, 16, 17].as_slice()
     );
     Ok(())

@@ -4,7 +4,7 @@ ghost use Rattle.ember_model.specs.Valid.{IsValidSpot, IsValidTri};
 use crate::shapes::{plane, slid, spot, tetra, triangle};
 use ember_model::{
     Axis, Face, OutOfMemory, Plane, Spot, Tri, clear, crossing, edge_plane, face_clear,
-    face_crossing, face_of, leg, main_axis, support_of, value,
+    face_crossing, face_of, leg, main_axis, plane_value, support_of,
 };
 use std::alloc::Global;
 use std::test::Fail;
@@ -146,7 +146,7 @@ fn crossings_of_rays_with_the_side_of_a_cube(rt: HostRuntime) {
     for (k, corners, want) in rows {
         assert_eq!(rt; crossing(&p, k, &triangle(corners)), want);
     }
-    assert_eq!(rt; value(&support_of(&triangle(HIGH)), &p), -96);
+    assert_eq!(rt; plane_value(&support_of(&triangle(HIGH)), &p), -96);
 }
 
 #[test]

@@ -8,7 +8,7 @@ use ember_job::Job;
 use ember_leaf::{Kept, KeptList, leaf_faces};
 use ember_model::{OutOfMemory, Scene};
 use ember_text::{document_of, faces_text};
-use ember_visit::{root_job, tris_at};
+use ember_visit::{listed_tris, root_job};
 use std::alloc::Global;
 use std::test::Fail;
 
@@ -16,7 +16,7 @@ use std::test::Fail;
 fn regions(alloc: Global, s: &Scene, e: &Expr, job: &Job) -> Result<KeptList, OutOfMemory>
     requires { IsJob s.now.tris job.now }
 {
-    let near = tris_at(alloc, s.tris.items(), job.list.items())?;
+    let near = listed_tris(alloc, s.tris.items(), job.list.items())?;
     leaf_faces(alloc, e, &job.cell, &near, &job.at)
 }
 

@@ -16,7 +16,7 @@ use ember_model::{Axis, OutOfMemory, Scene, Tri, Vector};
 use ember_poly::{Ring, of_tri};
 use ember_step::{box_step, root_job};
 use ember_trace::{Sides, near_triangles, sides_beside, sides_traced, sides_whole};
-use ember_visit::tris_at;
+use ember_visit::listed_tris;
 use std::alloc::Global;
 use std::process::Abort;
 use std::test::Fail;
@@ -48,7 +48,7 @@ fn sides_by_each_way(
 ) -> Result<[Sides; 3], OutOfMemory>
     requires { IsJob s.now.tris job.now }
 {
-    let near = tris_at(alloc, s.tris.items(), job.list.items())?;
+    let near = listed_tris(alloc, s.tris.items(), job.list.items())?;
     let (traced, beside) = sides_near(alloc, &near, &job.cell, &job.at, ring)?;
     let whole = sides_whole(alloc, s, ring)?;
     Ok([traced, beside, whole])
@@ -146,10 +146,10 @@ fn see_below(
     requires { IsJob s.now.tris job.now }
 {
     match box_step(alloc, s, e, job)? {
-        Outcome::Halves(low, high) => {
+        Outcome::Halves(left_job, right_job) => {
             if left > 0 {
-                see_below(alloc, s, e, &low, left - 1, seen)?;
-                see_below(alloc, s, e, &high, left - 1, seen)?;
+                see_below(alloc, s, e, &left_job, left - 1, seen)?;
+                see_below(alloc, s, e, &right_job, left - 1, seen)?;
             }
             Ok(())
         }

@@ -8,7 +8,7 @@ use ember_expr::Expr;
 use ember_gen::scene_of;
 use ember_job::Job;
 use ember_model::{Axis, OutOfMemory, Scene, Tri};
-use ember_visit::{box_value, halve_job, halve_unless_leaf, root_job, tris_at};
+use ember_visit::{box_value, halve_job, halve_unless_leaf, listed_tris, root_job};
 use std::alloc::Global;
 use std::test::Fail;
 
@@ -54,7 +54,7 @@ fn halves_of(alloc: Global, s: &Scene, job: &Job) -> Result<(Job, Job), OutOfMem
 fn listed(alloc: Global, s: &Scene, job: &Job) -> Result<Vec<Tri>, OutOfMemory>
     requires { IsJob s.now.tris job.now }
 {
-    tris_at(alloc, s.tris.items(), job.list.items())
+    listed_tris(alloc, s.tris.items(), job.list.items())
 }
 
 #[test]

@@ -22,7 +22,7 @@ use Rattle.ember_model.proofs.SignTests.{zero_out, clash}
 use Rattle.ember_grid.specs.declared.grid.Grid.{Grid}
 use Rattle.ember_grid.specs.Corners.{corner_on, corner_from, corner_at}
 use Rattle.ember_grid.specs.Images.{images}
-use Rattle.ember_grid.specs.Closed.{is_same_number, is_same_position, first_at, position_from, position_of, IsClosed}
+use Rattle.ember_grid.specs.Closed.{is_same_number, is_same_position, first_at, position_from, position_of, IsSurfaceClosed}
 use Rattle.ember_grid.proofs.Maps.{map_keeps_closed}
 
 -- a floor of a fraction that is multiplied above and below
@@ -102,7 +102,7 @@ position_keeps g vs i s = by (slice_get vs i) refl
         let r = first_is_there v vs i e in ap (corner_from g) r.found ∙ same_corner_on g r.vertex v s r.same
 
 -- a surface that is closed by its positions is closed on the grid
-pub closed_on_grid : (g : Grid) (s : Surface) (mesh : ℕ) → IsStep g.step → IsClosed s → IsBalanced (images (corner_at g s.vertices.items) mesh s.facets.items)
+pub closed_on_grid : (g : Grid) (s : Surface) (mesh : ℕ) → IsStep g.step → IsSurfaceClosed s → IsBalanced (images (corner_at g s.vertices.items) mesh s.facets.items)
 closed_on_grid g s mesh step h =
     let vs = s.vertices.items in
     let one : (λ (i : ℕ). corner_at g vs (position_of vs i)) ≡ (λ (i : ℕ). corner_at g vs i) = λ k i. position_keeps g vs i step k in

@@ -62,5 +62,5 @@ abbrev pub position_of : List Vertex → ℕ → ℕ
 position_of vertices index = position_from vertices index (slice_get vertices index)
 
 -- the surface is closed by the positions of its vertices
-abbrev pub IsClosed : Surface → Type 0
-IsClosed s = AreClosed (position_of s.vertices.items) s.facets.items
+abbrev pub IsSurfaceClosed : Surface → Type 0
+IsSurfaceClosed s = AreClosed (position_of s.vertices.items) s.facets.items

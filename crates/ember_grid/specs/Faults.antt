@@ -1,5 +1,5 @@
 -- Surfaces of too many triangles
-use Rattle.std.specs.Prelude.{◌≡◌, ℕ, ◌<◌, List, length}
+use Rattle.std.specs.Prelude.{◌≡◌, ℕ, ◌<◌, List, length, ⊤}
 use Rattle.ember_surface.specs.declared.surface.Facet.{Facet}
 use Rattle.ember_model.specs.declared.point.Corner.{Corner}
 use Rattle.ember_grid.specs.declared.fault.SnapFault.{SnapFault}
@@ -9,4 +9,4 @@ use Rattle.ember_grid.specs.Images.{images}
 -- more than 262,144 triangles are left
 abbrev pub IsSnapFault : (ℕ → Corner) → List Facet → SnapFault → Type 0
 IsSnapFault at fs (TooManyTriangles count) = (count ≡ length (images at 0 fs)) × (262144 < count)
-IsSnapFault at fs OutOfMemory = Unit {0}
+IsSnapFault at fs OutOfMemory = ⊤

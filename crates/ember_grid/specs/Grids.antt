@@ -1,5 +1,5 @@
 -- The grid of a scene, and why there is none
-use Rattle.std.specs.Prelude.{◌≡◌, List, [], None}
+use Rattle.std.specs.Prelude.{◌≡◌, List, [], None, ⊤}
 use Rattle.std.specs.List.{find}
 use Rattle.ember_snap.specs.declared.steps.Step.{Step}
 use Rattle.ember_snap.specs.declared.spans.Coordinates.{Coordinates}
@@ -21,8 +21,8 @@ IsWithinLimit s = find (is_facet_too_large s.vertices.items) s.facets.items ≡ 
 
 -- a given step is in range
 abbrev pub IsChoice : Wanted → Type 0
-IsChoice Nice = Unit {0}
-IsChoice Finest = Unit {0}
+IsChoice Nice = ⊤
+IsChoice Finest = ⊤
 IsChoice (Given step) = IsStep step
 
 -- the least nice step at which the coordinates fit, the finest one, or the given one
@@ -55,4 +55,4 @@ abbrev pub IsGridFault : List Surface → Wanted → GridFault → Type 0
 IsGridFault surfaces wanted NoTriangles = corners_in surfaces ≡ []
 IsGridFault surfaces wanted (StepTooSmall finest) =
     (c : Coordinates) × HasCoordinates surfaces c × IsTooSmall c wanted finest
-IsGridFault surfaces wanted OutOfMemory = Unit {0}
+IsGridFault surfaces wanted OutOfMemory = ⊤

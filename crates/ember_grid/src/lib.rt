@@ -5,6 +5,7 @@
 mod choice;
 mod coordinates;
 mod corners;
+mod counting;
 mod fault;
 mod grid;
 mod laws;
@@ -12,6 +13,7 @@ mod places;
 mod snapping;
 
 pub use choice::{Wanted, grid_of};
+pub use counting::count_images;
 pub use fault::{GridFault, SnapFault};
 pub use grid::Grid;
 pub use laws::maps_keep_meshes_closed;

@@ -9,7 +9,7 @@ ghost use Rattle.ember_model.specs.Faces.{is_flat};
 ghost use Rattle.ember_model.specs.Meshes.{IsBalanced};
 ghost use Rattle.ember_grid.specs.Corners.{corner_at, Lands};
 ghost use Rattle.ember_grid.specs.Images.{image, images, kept, vanished, flat_ones, places_of, AreSnapped};
-ghost use Rattle.ember_grid.specs.Closed.{IsClosed};
+ghost use Rattle.ember_grid.specs.Closed.{IsSurfaceClosed};
 ghost use Rattle.ember_grid.specs.Faults.{IsSnapFault};
 
 use crate::corners::{has_equal_corners, image};
@@ -149,7 +149,7 @@ pub fn snap_surface(
     ensures flat { IfOk result (λ s. s.flat ≡ length (flat_ones s.soup.tris)) }
     ensures few { IfOk result (λ s. length s.soup.tris ≤ 262144) }
     ensures mesh { IfOk result (λ s. All (λ t. t.mesh ≡ mesh) s.soup.tris) }
-    ensures closed { IfOk result (λ s. IsClosed surface.now → IsBalanced s.soup.tris) }
+    ensures closed { IfOk result (λ s. IsSurfaceClosed surface.now → IsBalanced s.soup.tris) }
     ensures fault { IfErr result (IsSnapFault
         (corner_at grid.now surface.now.vertices.items) surface.now.facets.items) }
 {

@@ -1,6 +1,6 @@
 -- What contracts see of the shelves and the sink in memory.
 use Rattle.std.specs.Prelude.{◌≡◌, ℕ, ◌<◌, ◌≤◌, List, length, None, ◌⊎◌, Contains}
-use Rattle.ember_io.specs.Causes.{counted}
+use Rattle.ember_io.specs.Causes.{next_count}
 use Rattle.ember_io.specs.Files.{first_of}
 
 -- a shelf whose chosen calls fail
@@ -44,8 +44,8 @@ pub record IsSameSink (old new : SinkState) : Type 0 where
 
 -- the next call is chosen to fail, or no file has that name
 abbrev pub FailsToBegin : ShelfState → List ℕ → Type 0
-FailsToBegin s name = Contains s.failing (counted s.calls) ⊎ (first_of s.files name ≡ None)
+FailsToBegin s name = Contains s.failing (next_count s.calls) ⊎ (first_of s.files name ≡ None)
 
 -- the next call is chosen to fail, or there are bytes to take and the room is used up
 abbrev pub FailsToWrite : SinkState → List ℕ → Type 0
-FailsToWrite s bytes = Contains s.failing (counted s.calls) ⊎ ((0 < length bytes) × (s.room ≤ length s.bytes))
+FailsToWrite s bytes = Contains s.failing (next_count s.calls) ⊎ ((0 < length bytes) × (s.room ≤ length s.bytes))

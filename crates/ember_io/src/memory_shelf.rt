@@ -2,7 +2,7 @@
 ghost use Rattle.std.specs.Prelude.{◌≡◌, ◌<◌, ◌↔◌, [], min, length, Some, IsErr, IfOk, OnOk, OnErr, Contains};
 ghost use Rattle.std.specs.Io.{ReadsAtMost};
 ghost use Rattle.std.specs.Io.KnownBytes.{ReadConsumes};
-ghost use Rattle.ember_io.specs.Causes.{counted, HasCause, CountsFault};
+ghost use Rattle.ember_io.specs.Causes.{next_count, HasCause, CountsFault};
 ghost use Rattle.ember_io.specs.Files.{first_of};
 ghost use Rattle.ember_io.specs.Memory.{IsSameShelf, FailsToBegin};
 ghost use Rattle.ember_io.specs.Shelves.{MarksFault};
@@ -108,7 +108,7 @@ impl Shelf for MemoryShelf {
         // It fails exactly at the chosen calls and at unknown names.
         ensures fails { IsErr result ↔ FailsToBegin self.old name.now }
         ensures counts { CountsFault self.old.faults self.new.faults result }
-        ensures calls { self.new.calls ≡ counted self.old.calls }
+        ensures calls { self.new.calls ≡ next_count self.old.calls }
         ensures same { IsSameShelf self.old self.new }
     {
         self.calls = self.calls.saturating_add(1);
@@ -135,10 +135,10 @@ impl Shelf for MemoryShelf {
         ensures mark { MarksFault self.old.fault_at self.new.fault_at self.old.begun result }
 
         // It fails exactly at the chosen calls, and otherwise gives as much as fits, up to a piece.
-        ensures fails { IsErr result ↔ Contains self.old.failing (counted self.old.calls) }
+        ensures fails { IsErr result ↔ Contains self.old.failing (next_count self.old.calls) }
         ensures count { IfOk result (λ n. n ≡ min self.old.piece (min (length buf.old) (length self.old.unread))) }
         ensures counts { CountsFault self.old.faults self.new.faults result }
-        ensures calls { self.new.calls ≡ counted self.old.calls }
+        ensures calls { self.new.calls ≡ next_count self.old.calls }
         ensures same { IsSameShelf self.old self.new }
     {
         self.calls = self.calls.saturating_add(1);

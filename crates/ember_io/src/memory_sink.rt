@@ -2,7 +2,7 @@
 ghost use Rattle.std.specs.Prelude.{◌≡◌, ◌<◌, ◌≤◌, ◌↔◌, ◌-◌, [], min, length, Some, IsErr, IfOk, OnOk, OnErr, Contains};
 ghost use Rattle.std.specs.Io.{WritesAtMost};
 ghost use Rattle.std.specs.Io.KnownBytes.{WriteAppends};
-ghost use Rattle.ember_io.specs.Causes.{counted, HasCause, CountsFault};
+ghost use Rattle.ember_io.specs.Causes.{next_count, HasCause, CountsFault};
 ghost use Rattle.ember_io.specs.Memory.{IsSameSink, FailsToWrite};
 ghost use Rattle.ember_io.specs.Sinks.{IsFlushed};
 
@@ -105,7 +105,7 @@ impl Sink for MemorySink {
             min self.old.piece (min (length piece.now) (self.old.room - length self.old.bytes))) }
         ensures still { self.new.flushed ≡ self.old.flushed }
         ensures counts { CountsFault self.old.faults self.new.faults result }
-        ensures calls { self.new.calls ≡ counted self.old.calls }
+        ensures calls { self.new.calls ≡ next_count self.old.calls }
         ensures same { IsSameSink self.old self.new }
     {
         self.calls = self.calls.saturating_add(1);
@@ -128,10 +128,10 @@ impl Sink for MemorySink {
         ensures cause { HasCause self.old.faults self.new.faults result }
 
         // It fails exactly at the chosen calls.
-        ensures fails { IsErr result ↔ Contains self.old.failing (counted self.old.calls) }
+        ensures fails { IsErr result ↔ Contains self.old.failing (next_count self.old.calls) }
         ensures counts { CountsFault self.old.faults self.new.faults result }
         ensures still { OnErr result (self.new.flushed ≡ self.old.flushed) }
-        ensures calls { self.new.calls ≡ counted self.old.calls }
+        ensures calls { self.new.calls ≡ next_count self.old.calls }
         ensures same { IsSameSink self.old self.new }
     {
         self.calls = self.calls.saturating_add(1);

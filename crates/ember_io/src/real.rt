@@ -9,13 +9,13 @@ use std::io::{Error, ErrorKind, Read, Write};
 use std::rt::Files;
 use std::{fs, thread};
 
-// Whether a call that ended with this error is tried again: a signal interrupted it, or the device
-// isn't ready yet.
-fn is_passing(error: &Error) -> bool {
+// Whether a read or a write that ended with this error is tried again: a signal interrupted it, or
+// the device isn't ready yet.
+fn is_transient(error: &Error) -> bool {
     matches!(error.kind(), ErrorKind::Interrupted | ErrorKind::WouldBlock)
 }
 
-/// The files of the system. Every error of the system is a fault. But a call that a signal
+/// The files of the system. Every error of the system is a fault. But a read that a signal
 /// interrupted, or for which the device isn't ready yet, is tried again.
 #[derive(Drop)]
 pub struct FileShelf<'a, R: Files> {
@@ -80,7 +80,7 @@ impl<'a, R: Files> Shelf for FileShelf<'a, R> {
         for _ in 0..u64::MAX {
             match file.read(buf) {
                 Ok(count) => return Ok(count),
-                Err(error) if is_passing(&error) => thread::yield_now(),
+                Err(error) if is_transient(&error) => thread::yield_now(),
                 Err(_) => break,
             }
         }
@@ -120,7 +120,7 @@ impl<W: Write + Drop> Sink for StdSink<W> {
         for _ in 0..u64::MAX {
             match self.to.write(piece) {
                 Ok(count) if count > 0 || piece.is_empty() => return Ok(count),
-                Err(error) if is_passing(&error) => thread::yield_now(),
+                Err(error) if is_transient(&error) => thread::yield_now(),
                 _ => break,
             }
         }

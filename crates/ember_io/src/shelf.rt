@@ -1,9 +1,10 @@
-// Sources of named files, read one at a time.
+// Sources of named files, read one at a time. `ReadsAtMost`, `ReadConsumes` and `IsAtEnd` are words
+// of Rattle's library; `rt lemma NAME` prints their definitions.
 ghost use Rattle.std.specs.Prelude.{◌≡◌, ◌<◌, ◌≤◌, ◌+◌, ◌^◌, List, ℕ, [], length, Some, IfOk, OnOk, OnErr, IsErrOf};
 ghost use Rattle.std.specs.declared.option.Option.{Option};
 ghost use Rattle.std.specs.Io.{ReadsAtMost};
 ghost use Rattle.std.specs.Io.KnownBytes.{ReadConsumes, IsAtEnd};
-ghost use Rattle.ember_io.specs.Causes.{Rose, HasCause};
+ghost use Rattle.ember_io.specs.Causes.{HasRisen, HasCause};
 ghost use Rattle.ember_io.specs.Shelves.{Tells, TellsMore, MarksFault};
 
 use crate::Failed;
@@ -83,7 +84,7 @@ pub fn read_all<S: Shelf>(
     ensures at_end { OnOk result (IsAtEnd (S.unread shelf.new)) }
 
     ensures later { S.faults shelf.old ≤ S.faults shelf.new }
-    ensures read_fault { IsErrOf result ReadEnd.ReadFault → Rose (S.faults shelf.old) (S.faults shelf.new) }
+    ensures read_fault { IsErrOf result ReadEnd.ReadFault → HasRisen (S.faults shelf.old) (S.faults shelf.new) }
     ensures fault_at { IsErrOf result ReadEnd.ReadFault → S.fault_at shelf.new ≡ number }
     ensures unmarked { ¬ (IsErrOf result ReadEnd.ReadFault) → S.fault_at shelf.new ≡ S.fault_at shelf.old }
 

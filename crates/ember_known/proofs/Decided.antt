@@ -1,11 +1,11 @@
 -- If the three-valued truth is decided, it is the truth, whatever the undecided meshes count.
 use Rattle.std.proofs.Common.{◌≡◌, ℕ, suc, ◌≤◌, ◌==◌, ℤ, pos, int_le, ◌+ℤ◌, ◌*ℤ◌, Bool, true, false, not, ◌&&◌, ◌||◌, inl, inr, List, [], ◌∷◌, All, Option, Some, None, IfSome, refl, sym, ap, ap₂, ◌∙◌, subst, arith}
 use Rattle.std.proofs.lemmas.Bool.Decides.{eqb_tells}
-use Rattle.ember_expr.specs.declared.formula.Term.{Term}
+use Rattle.ember_expr.specs.declared.trees.Term.{Term}
 use Rattle.ember_expr.specs.Formula.{Formula, Or, Xor, And, Not, Mesh, Odd, Compare, IsFit, IsFitTerm, IsMeshNumber}
-use Rattle.ember_expr.specs.Truth.{counted, signed, value_of, sum_from, is_odd, holds_between, differ, truth}
-use Rattle.ember_known.specs.Known.{mentions, plain_unless, known_and, known_or, known_xor, known_not, known}
-use Rattle.ember_known.specs.Law.{AgreeOutside}
+use Rattle.ember_expr.specs.Truth.{mesh_factor, signed, term_value, sum_from, is_odd, holds_between, differ, truth}
+use Rattle.ember_known.specs.Known.{mentions, truth_unless, known_and, known_or, known_xor, known_not, known}
+use Rattle.ember_known.specs.Laws.{AgreeOutside}
 
 -- if it is decided, it is this truth
 abbrev pub Tells : Option Bool → Bool → Type 0
@@ -37,7 +37,7 @@ not_tells : (x : Option Bool) (s : Bool) → Tells x s → Tells (known_not x) (
 not_tells None s a = tt
 not_tells (Some p) s a = ap not a
 
-plain_tells : (u x t : Bool) → (u ≡ false → t ≡ x) → Tells (plain_unless u x) t
+plain_tells : (u x t : Bool) → (u ≡ false → t ≡ x) → Tells (truth_unless u x) t
 plain_tells true x t same = tt
 plain_tells false x t same = same refl
 
@@ -46,7 +46,7 @@ neither true b e = (e, absurd (let f : true ≡ false = e in grind arith))
 neither false b e = (refl, e)
 
 module _ (undecided : ℕ → Bool) (counts others : List ℤ) (agree : AgreeOutside undecided counts others) where
-  counted_same : (n : ℕ) → n ≤ 64 → (not (n == 0) && undecided n) ≡ false → counted others n ≡ counted counts n
+  counted_same : (n : ℕ) → n ≤ 64 → (not (n == 0) && undecided n) ≡ false → mesh_factor others n ≡ mesh_factor counts n
   counted_same n last e = elim (eqb_tells n 0) [
     | inl zero_is ↦ rw zero_is.0 refl
     | inr more ↦ rw more.0 (sym (agree.same n (record { first = omega (arith, more.1); last = last }) (rw_false more.0 e)))
@@ -58,8 +58,8 @@ module _ (undecided : ℕ → Bool) (counts others : List ℤ) (agree : AgreeOut
   sum_same start [] fit none = refl
   sum_same start (t ∷ ts) fit none =
       let both = neither (not (t.mesh == 0) && undecided t.mesh) (mentions undecided ts) none in
-      let here : value_of others t ≡ value_of counts t = ap (λ z. signed t.minus (pos t.factor *ℤ z)) (counted_same t.mesh (fit 0 t (omega arith)).mesh both.0) in
-      ap (λ z. sum_from (start +ℤ z) others ts) here ∙ sum_same (start +ℤ value_of counts t) ts (λ i d l. fit (suc i) d (omega (arith, l))) both.1
+      let here : term_value others t ≡ term_value counts t = ap (λ z. signed t.minus (pos t.factor *ℤ z)) (counted_same t.mesh (fit 0 t (omega arith)).mesh both.0) in
+      ap (λ z. sum_from (start +ℤ z) others ts) here ∙ sum_same (start +ℤ term_value counts t) ts (λ i d l. fit (suc i) d (omega (arith, l))) both.1
 
   tells : (f : Formula) → IsFit 64 f → Tells (known undecided counts f) (truth others f)
   tells (Or a b) fit = or_tells (known undecided counts a) (known undecided counts b) (truth others a) (truth others b) (tells a fit.0) (tells b fit.1)
@@ -93,9 +93,9 @@ module _ (u w : ℕ → Bool) (same : (n : ℕ) → IsMeshNumber 64 n → u n �
   known_same counts (Xor a b) fit = ap₂ known_xor (known_same counts a fit.0) (known_same counts b fit.1)
   known_same counts (And a b) fit = ap₂ known_and (known_same counts a fit.0) (known_same counts b fit.1)
   known_same counts (Not a) fit = ap known_not (known_same counts a fit)
-  known_same counts (Mesh n) fit = ap (λ b. plain_unless b (truth counts (Mesh n))) (same n fit)
-  known_same counts (Odd sum) fit = ap (λ b. plain_unless b (truth counts (Odd sum))) (mentions_same sum fit.terms)
-  known_same counts (Compare left rel right) fit = ap₂ (λ a b. plain_unless (a || b) (truth counts (Compare left rel right))) (mentions_same left fit.0.terms) (mentions_same right fit.1.terms)
+  known_same counts (Mesh n) fit = ap (λ b. truth_unless b (truth counts (Mesh n))) (same n fit)
+  known_same counts (Odd sum) fit = ap (λ b. truth_unless b (truth counts (Odd sum))) (mentions_same sum fit.terms)
+  known_same counts (Compare left rel right) fit = ap₂ (λ a b. truth_unless (a || b) (truth counts (Compare left rel right))) (mentions_same left fit.0.terms) (mentions_same right fit.1.terms)
 
 -- a decided truth is the truth, whatever the winding numbers of the undecided meshes are
 pub decided_if : (undecided : ℕ → Bool) (counts : List ℤ) (f : Formula) → IsFit 64 f → (o : Option Bool) → o ≡ known undecided counts f → IfSome o (λ b. (others : List ℤ) → AgreeOutside undecided counts others → truth others f ≡ b)

@@ -1,6 +1,6 @@
 -- The three-valued truth: some meshes are undecided, and an expression may be undecided with them
 use Rattle.std.specs.Prelude.{ℕ, ◌==◌, ℤ, Bool, true, false, not, ◌&&◌, ◌||◌, if◌then◌else◌, List, [], ◌∷◌, Option, Some, None}
-use Rattle.ember_expr.specs.declared.formula.Term.{Term}
+use Rattle.ember_expr.specs.declared.trees.Term.{Term}
 use Rattle.ember_expr.specs.Formula.{Formula, Or, Xor, And, Not, Mesh, Odd, Compare}
 use Rattle.ember_expr.specs.Truth.{differ, truth}
 
@@ -10,8 +10,8 @@ mentions undecided [] = false
 mentions undecided (t ∷ ts) = not (t.mesh == 0) && undecided t.mesh || mentions undecided ts
 
 -- the truth, unless it is undecided
-abbrev pub plain_unless : Bool → Bool → Option Bool
-plain_unless undecided value = if undecided then None else Some value
+abbrev pub truth_unless : Bool → Bool → Option Bool
+truth_unless undecided value = if undecided then None else Some value
 
 -- false if one part is false, true if both are true
 abbrev pub known_and : Option Bool → Option Bool → Option Bool
@@ -46,7 +46,7 @@ known undecided counts (Or a b) = known_or (known undecided counts a) (known und
 known undecided counts (Xor a b) = known_xor (known undecided counts a) (known undecided counts b)
 known undecided counts (And a b) = known_and (known undecided counts a) (known undecided counts b)
 known undecided counts (Not a) = known_not (known undecided counts a)
-known undecided counts (Mesh n) = plain_unless (undecided n) (truth counts (Mesh n))
-known undecided counts (Odd sum) = plain_unless (mentions undecided sum) (truth counts (Odd sum))
+known undecided counts (Mesh n) = truth_unless (undecided n) (truth counts (Mesh n))
+known undecided counts (Odd sum) = truth_unless (mentions undecided sum) (truth counts (Odd sum))
 known undecided counts (Compare left rel right) =
-    plain_unless (mentions undecided left || mentions undecided right) (truth counts (Compare left rel right))
+    truth_unless (mentions undecided left || mentions undecided right) (truth counts (Compare left rel right))

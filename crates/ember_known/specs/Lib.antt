@@ -1,3 +1,3 @@
 pub mod Masks
 pub mod Known
-pub mod Law
+pub mod Laws

@@ -2,8 +2,10 @@
 //! undecided.
 #![tactic(auto)]
 
+mod law;
 mod mask;
 mod truth;
 
+pub use law::decided_is_true;
 pub use mask::Mask;
-pub use truth::{decided_is_true, known};
+pub use truth::known;

@@ -1,14 +1,14 @@
 // The three-valued truth of a tree.
-ghost use Rattle.std.specs.Prelude.{◌≡◌, ℕ, Bool, ℤ, List, Some, IfSome};
-ghost use Rattle.ember_expr.specs.Formula.{Formula, formula_of, IsFit, IsFitSum, IsMeshNumber};
+ghost use Rattle.std.specs.Prelude.{◌≡◌, ℕ, Bool, ℤ, List, IfSome};
+ghost use Rattle.ember_expr.specs.Formula.{formula_of, IsFit, IsFitSum, IsMeshNumber};
 ghost use Rattle.ember_expr.specs.Truth.{AreCounts, truth};
 ghost use Rattle.ember_known.specs.Masks.{is_in};
 ghost use Rattle.ember_known.specs.Known as three_valued;
-ghost use Rattle.ember_known.specs.Known.{mentions, plain_unless};
-ghost use Rattle.ember_known.specs.Law.{AgreeOutside};
+ghost use Rattle.ember_known.specs.Known.{mentions, truth_unless};
+ghost use Rattle.ember_known.specs.Laws.{AgreeOutside};
 
 use crate::Mask;
-use ember_expr::{Expr, Term, Tree, holds, tree};
+use ember_expr::{Expr, Term, Tree, tree, truth_of};
 use ember_model::Vector;
 
 // Whether a sum mentions an undecided mesh.
@@ -25,15 +25,15 @@ fn mentions(terms: &[Term], m: Mask) -> bool
 }
 
 // The truth of the tree at these winding numbers, or None if it mentions an undecided mesh.
-fn plain_unless(undecided: bool, tree: &Tree, v: &Vector) -> Option<bool>
+fn truth_unless(undecided: bool, tree: &Tree, v: &Vector) -> Option<bool>
     requires fit { IsFit 64 (formula_of tree.now) }
     requires counts { AreCounts v.now.counts }
-    ensures { result ≡ plain_unless undecided (truth v.now.counts (formula_of tree.now)) }
+    ensures { result ≡ truth_unless undecided (truth v.now.counts (formula_of tree.now)) }
 {
     if undecided {
         None
     } else {
-        Some(holds(tree, v))
+        Some(truth_of(tree, v))
     }
 }
 
@@ -68,10 +68,10 @@ fn known_in(tree: &Tree, v: &Vector, m: Mask) -> Option<bool>
             Some(a) => Some(!a),
             None => None,
         },
-        Tree::Mesh(mesh) => plain_unless(m.has(*mesh), tree, v),
-        Tree::Odd(sum) => plain_unless(mentions(sum.items(), m), tree, v),
+        Tree::Mesh(mesh) => truth_unless(m.has(*mesh), tree, v),
+        Tree::Odd(sum) => truth_unless(mentions(sum.items(), m), tree, v),
         Tree::Compare(a, _, b) => {
-            plain_unless(mentions(a.items(), m) || mentions(b.items(), m), tree, v)
+            truth_unless(mentions(a.items(), m) || mentions(b.items(), m), tree, v)
         }
     }
 }
@@ -89,10 +89,3 @@ pub fn known(e: &Expr, v: &Vector, m: &Mask) -> Option<bool>
 {
     known_in(tree(e), v, *m)
 }
-
-/// A law: if the three-valued truth is decided, it is the truth at each vector that agrees with
-/// this one at all meshes except the undecided ones.
-pub fn decided_is_true()
-    ensures { (undecided : ℕ → Bool) (counts others : List ℤ) (f : Formula) (b : Bool) → IsFit 64 f →
-        AgreeOutside undecided counts others → three_valued.known undecided counts f ≡ Some b → truth others f ≡ b }
-{}

@@ -9,7 +9,7 @@ use Rattle.ember_model.specs.declared.point.Spot.{Spot}
 use Rattle.ember_model.specs.declared.point.Axis.{Axis}
 use Rattle.ember_model.specs.declared.point.Axis.TheVariants.{X, Y, Z}
 use Rattle.ember_model.specs.Planes.{unit}
-use Rattle.ember_model.specs.Points.{shifted}
+use Rattle.ember_model.specs.Points.{offset_by}
 use Rattle.ember_model.specs.Faces.{face_of, crossing}
 use Rattle.ember_model.specs.Clear.{AreClear}
 use Rattle.ember_model.specs.Meshes.{wind, faces_of, IsBalanced}
@@ -28,7 +28,7 @@ two_axes : (a b : Axis) → IsAcross (unit a) (unit b) → (p : Spot) (ts : List
 two_axes a b h p ts l w c =
     let fs = faces_of ts in
     let e = eventually_both (weight_shifted p w) (eventually_both (wind_shifted a p fs w c) (eventually_both (wind_shifted b p fs w c) (eventually_both (generic_shifted (unit a) p ts w) (generic_shifted (unit b) p ts w)))) in
-    let k = e.from in let q = shifted p (pos k) in let r = e.holds k (le_refl k) in
+    let k = e.from in let q = offset_by p (pos k) in let r = e.holds k (le_refl k) in
     r.1.0 ∙ wind_seen a q ts r.0 ∙ directions_agree (unit a) (unit b) q ts l h r.1.1.1.0 r.1.1.1.1 ∙ sym (wind_seen b q ts r.0) ∙ sym r.1.1.0
 
 xy : (p : Spot) (ts : List Tri) → IsBalanced ts → pos 0 <ℤ p.w → AreClear (faces_of ts) p → wind X (faces_of ts) p ≡ wind Y (faces_of ts) p

@@ -17,7 +17,7 @@ use Rattle.ember_model.specs.declared.point.Spot.{Spot}
 use Rattle.ember_model.specs.declared.point.Axis.{Axis}
 use Rattle.ember_model.specs.declared.face.Face.{Face}
 use Rattle.ember_model.specs.Planes.{vector_of, value_at, along, support_of, edge_through}
-use Rattle.ember_model.specs.Points.{shifted}
+use Rattle.ember_model.specs.Points.{offset_by}
 use Rattle.ember_model.specs.Faces.{size, hit, crossing}
 use Rattle.ember_model.specs.Clear.{IsClear, AreClear}
 use Rattle.ember_model.specs.Meshes.{wind}
@@ -63,16 +63,16 @@ generic_off f p t m =
         }
 
 -- a point shifted by little enough is off the triangle for the direction f
-pub off_all : (f : Vector) (p : Spot) (t : Tri) → pos 0 <ℤ p.w → Eventually (λ n. IsOff f (shifted p (pos n)) t)
+pub off_all : (f : Vector) (p : Spot) (t : Tri) → pos 0 <ℤ p.w → Eventually (λ n. IsOff f (offset_by p (pos n)) t)
 off_all f p t w =
     eventually_map (λ n h. record { weight = h.0; plane = h.1.0; first = h.1.1.0; second = h.1.1.1.0; third = h.1.1.1.1 })
     (eventually_both (weight_shifted p w) (eventually_both (off_shifted p (support_of t)) (eventually_both (off_shifted p (edge_through t.a t.b f)) (eventually_both (off_shifted p (edge_through t.b t.c f)) (off_shifted p (edge_through t.c t.a f))))))
 
 -- a point that is shifted by little enough is generic
-pub generic_shifted : (f : Vector) (p : Spot) (ts : List Tri) → pos 0 <ℤ p.w → Eventually (λ k. AreGeneric f (shifted p (pos k)) ts)
+pub generic_shifted : (f : Vector) (p : Spot) (ts : List Tri) → pos 0 <ℤ p.w → Eventually (λ k. AreGeneric f (offset_by p (pos k)) ts)
 generic_shifted f p [] w = eventually_true (λ k. tt)
 generic_shifted f p (t ∷ ts) w =
-    eventually_both (eventually_map (λ k m. generic_off f (shifted p (pos k)) t m) (off_all f p t w)) (generic_shifted f p ts w)
+    eventually_both (eventually_map (λ k m. generic_off f (offset_by p (pos k)) t m) (off_all f p t w)) (generic_shifted f p ts w)
 
 -- ---- the same crossings
 -- the plane whose value at p is that of g at the hit
@@ -90,17 +90,17 @@ follows_at_hit : (g n : Plane) (a : Axis) (p q : Spot) → Follows p q (at_hit_o
 follows_at_hit g n a p q f =
     record { up = λ u. rw (value_at_hit g n a q) at (f.up (rw (value_at_hit g n a p) u)); down = λ u. rw (value_at_hit g n a q) at (f.down (rw (value_at_hit g n a p) u)) }
 
-follow_hits : (n : Plane) (es : List Plane) (a : Axis) (p : Spot) → Eventually (λ k. FollowsEach (hit n a p) (hit n a (shifted p (pos k))) es)
+follow_hits : (n : Plane) (es : List Plane) (a : Axis) (p : Spot) → Eventually (λ k. FollowsEach (hit n a p) (hit n a (offset_by p (pos k))) es)
 follow_hits n [] a p = eventually_true (λ k. tt)
 follow_hits n (e ∷ es) a p =
-    eventually_both (eventually_map (λ k f. follows_at_hit e n a p (shifted p (pos k)) f) (follows_shifted p (at_hit_of e n a))) (follow_hits n es a p)
+    eventually_both (eventually_map (λ k f. follows_at_hit e n a p (offset_by p (pos k)) f) (follows_shifted p (at_hit_of e n a))) (follow_hits n es a p)
 
-crossing_shifted : (f : Face) (a : Axis) (p : Spot) → pos 0 <ℤ p.w → IsClear f p → Eventually (λ k. crossing f a p ≡ crossing f a (shifted p (pos k)))
+crossing_shifted : (f : Face) (a : Axis) (p : Spot) → pos 0 <ℤ p.w → IsClear f p → Eventually (λ k. crossing f a p ≡ crossing f a (offset_by p (pos k)))
 crossing_shifted f a p w c =
-    eventually_map (λ k h. same_crossing f a p (shifted p (pos k)) w h.0 c h.1.0 h.1.1) (eventually_both (weight_shifted p w) (eventually_both (follows_shifted p f.support) (follow_hits f.support f.edges a p)))
+    eventually_map (λ k h. same_crossing f a p (offset_by p (pos k)) w h.0 c h.1.0 h.1.1) (eventually_both (weight_shifted p w) (eventually_both (follows_shifted p f.support) (follow_hits f.support f.edges a p)))
 
 -- at a clear point and at points shifted by little enough, faces wind the same
-pub wind_shifted : (a : Axis) (p : Spot) (fs : List Face) → pos 0 <ℤ p.w → AreClear fs p → Eventually (λ k. wind a fs p ≡ wind a fs (shifted p (pos k)))
+pub wind_shifted : (a : Axis) (p : Spot) (fs : List Face) → pos 0 <ℤ p.w → AreClear fs p → Eventually (λ k. wind a fs p ≡ wind a fs (offset_by p (pos k)))
 wind_shifted a p [] w c = eventually_true (λ k. refl)
 wind_shifted a p (f ∷ fs) w c =
     eventually_map (λ k h. λ i. h.0 i +ℤ h.1 i) (eventually_both (crossing_shifted f a p w c.0) (wind_shifted a p fs w c.1))

@@ -17,8 +17,8 @@ use Rattle.ember_model.specs.declared.plane.Plane.{Plane}
 use Rattle.ember_model.specs.declared.point.Spot.{Spot}
 use Rattle.ember_model.specs.declared.point.Axis.{Axis}
 use Rattle.ember_model.specs.declared.point.Axis.TheVariants.{X, Y, Z}
-use Rattle.ember_model.specs.Planes.{vector_of, unit, value_at, along, main_axis, times_plane, support_of, edge_through, edge_planes, side_of}
-use Rattle.ember_model.specs.Points.{scaled, moved, shifted}
+use Rattle.ember_model.specs.Planes.{vector_of, unit, value_at, along, main_axis, times_plane, support_of, edge_through, edge_planes, vector_between}
+use Rattle.ember_model.specs.Points.{scaled, moved, offset_by}
 use Rattle.ember_model.specs.Faces.{size, hit, is_in_closed, is_inside, edges_of, face_of, is_flat}
 use Rattle.ember_model.specs.Clear.{IsClear, IsClearOf, AreClear}
 use Rattle.ember_model.specs.Meshes.{faces_of}
@@ -110,9 +110,9 @@ edge_normal t a p m nz =
     let i3 = identity s (λ a b c f. dotE (crossE (minusE b a) (minusE c a)) f ≈ neg (dotE (minusE b a) (crossE (minusE a c) f))) cancels va vb vc f in
     let e = along_dot n a in
     record {
-      first = λ z. let h = m.first z in let d = dot_zero (side_of t.a t.c) (cross (side_of t.a t.b) f) h.0 h.1 h.2 in nz (e ∙ i1 ∙ ap neg_ℤ d);
-      second = λ z. let h = m.second z in let d = dot_zero (side_of t.a t.b) (cross (side_of t.b t.c) f) h.0 h.1 h.2 in nz (e ∙ i2 ∙ d);
-      third = λ z. let h = m.third z in let d = dot_zero (side_of t.a t.b) (cross (side_of t.c t.a) f) h.0 h.1 h.2 in nz (e ∙ i3 ∙ ap neg_ℤ d);
+      first = λ z. let h = m.first z in let d = dot_zero (vector_between t.a t.c) (cross (vector_between t.a t.b) f) h.0 h.1 h.2 in nz (e ∙ i1 ∙ ap neg_ℤ d);
+      second = λ z. let h = m.second z in let d = dot_zero (vector_between t.a t.b) (cross (vector_between t.b t.c) f) h.0 h.1 h.2 in nz (e ∙ i2 ∙ d);
+      third = λ z. let h = m.third z in let d = dot_zero (vector_between t.a t.b) (cross (vector_between t.c t.a) f) h.0 h.1 h.2 in nz (e ∙ i3 ∙ ap neg_ℤ d);
     }
 
 -- a point that misses the planes of a triangle along the three axes is clear of it
@@ -126,10 +126,10 @@ off_clear p t x y z nf =
     each Z nz = edge_normal t Z p z nz
 
 -- a point that is shifted by little enough is clear of all triangles
-pub clear_shifted : (p : Spot) (ts : List Tri) → pos 0 <ℤ p.w → Eventually (λ k. AllByRecursion (λ t. IsClearOf t (shifted p (pos k))) ts)
+pub clear_shifted : (p : Spot) (ts : List Tri) → pos 0 <ℤ p.w → Eventually (λ k. AllByRecursion (λ t. IsClearOf t (offset_by p (pos k))) ts)
 clear_shifted p [] w = eventually_true (λ k. tt)
 clear_shifted p (t ∷ ts) w =
-    eventually_both (eventually_map (λ k h. off_clear (shifted p (pos k)) t h.0 h.1.0 h.1.1) (eventually_both (off_all (unit X) p t w) (eventually_both (off_all (unit Y) p t w) (off_all (unit Z) p t w)))) (clear_shifted p ts w)
+    eventually_both (eventually_map (λ k h. off_clear (offset_by p (pos k)) t h.0 h.1.0 h.1.1) (eventually_both (off_all (unit X) p t w) (eventually_both (off_all (unit Y) p t w) (off_all (unit Z) p t w)))) (clear_shifted p ts w)
 
 -- points that are clear of triangles are clear of their faces
 pub clear_faces : (p : Spot) (ts : List Tri) → AllByRecursion (λ t. IsClearOf t p) ts → AreClear (faces_of ts) p

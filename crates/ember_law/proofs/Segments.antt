@@ -25,7 +25,7 @@ use Rattle.ember_model.specs.declared.point.Spot.{Spot}
 use Rattle.ember_model.specs.declared.point.Axis.{Axis}
 use Rattle.ember_model.specs.declared.point.Axis.TheVariants.{X, Y}
 use Rattle.ember_model.specs.Planes.{vector_of, unit, value_at, along, main_axis, times_plane, support_of, edge_through}
-use Rattle.ember_model.specs.Points.{shifted}
+use Rattle.ember_model.specs.Points.{offset_by}
 use Rattle.ember_model.specs.Faces.{size, between, is_in_closed, is_flat, face_of}
 use Rattle.ember_model.specs.Clear.{AreClear}
 use Rattle.ember_model.specs.Meshes.{wind, faces_of, IsBalanced}
@@ -90,22 +90,22 @@ sight_off c w p q d l h e nd z =
     let n = h (sight_value c p q ∙ z) in
     nd (e ∙ dot_zero w c (cancel_zero p.w c.x l n.0) (cancel_zero p.w c.y l n.1) (cancel_zero p.w c.z l n.2))
 
-strict_shifted : (g : Vector) (p q : Spot) (t : Tri) → pos 0 <ℤ p.w → IsGeneric g p t → Eventually (λ n. IsStrict (toward p (shifted q (pos n))) p t)
+strict_shifted : (g : Vector) (p q : Spot) (t : Tri) → pos 0 <ℤ p.w → IsGeneric g p t → Eventually (λ n. IsStrict (toward p (offset_by q (pos n))) p t)
 strict_shifted g p q t l s =
     let u = seen p t.a in let v = seen p t.b in let w = seen p t.c in
     let r = vector ∷ vector ∷ vector ∷ [] in
     eventually_map (λ n h. record {
       off = s.off;
-      first = sight_off (cross u v) w p (shifted q (pos n)) (det u v w) l h.0 (identity r (λ u v w. detE u v w ≈ dotE w (crossE u v)) cancels u v w) s.off;
-      second = sight_off (cross v w) u p (shifted q (pos n)) (det u v w) l h.1.0 (identity r (λ u v w. detE u v w ≈ dotE u (crossE v w)) cancels u v w) s.off;
-      third = sight_off (cross w u) v p (shifted q (pos n)) (det u v w) l h.1.1 (identity r (λ u v w. detE u v w ≈ dotE v (crossE w u)) cancels u v w) s.off;
+      first = sight_off (cross u v) w p (offset_by q (pos n)) (det u v w) l h.0 (identity r (λ u v w. detE u v w ≈ dotE w (crossE u v)) cancels u v w) s.off;
+      second = sight_off (cross v w) u p (offset_by q (pos n)) (det u v w) l h.1.0 (identity r (λ u v w. detE u v w ≈ dotE u (crossE v w)) cancels u v w) s.off;
+      third = sight_off (cross w u) v p (offset_by q (pos n)) (det u v w) l h.1.1 (identity r (λ u v w. detE u v w ≈ dotE v (crossE w u)) cancels u v w) s.off;
     }) (eventually_both (off_shifted q (sight (cross u v) p)) (eventually_both (off_shifted q (sight (cross v w) p)) (off_shifted q (sight (cross w u) p))))
 
-are_strict_shifted : (g : Vector) (p q : Spot) (ts : List Tri) → pos 0 <ℤ p.w → AreGeneric g p ts → Eventually (λ n. AreStrict (toward p (shifted q (pos n))) p ts)
+are_strict_shifted : (g : Vector) (p q : Spot) (ts : List Tri) → pos 0 <ℤ p.w → AreGeneric g p ts → Eventually (λ n. AreStrict (toward p (offset_by q (pos n))) p ts)
 are_strict_shifted g p q [] l s = eventually_true (λ n. tt)
 are_strict_shifted g p q (t ∷ ts) l s = eventually_both (by s.0) (are_strict_shifted g p q ts l s.1)
   where
-    by : IsFlat t ⊎ IsGeneric g p t → Eventually (λ n. IsFlat t ⊎ IsStrict (toward p (shifted q (pos n))) p t)
+    by : IsFlat t ⊎ IsGeneric g p t → Eventually (λ n. IsFlat t ⊎ IsStrict (toward p (offset_by q (pos n))) p t)
     by (inl f) = eventually_true (λ n. inl f)
     by (inr r) = eventually_map (λ n h. inr h) (strict_shifted g p q t l r)
 
@@ -309,20 +309,20 @@ are_apart p q (t ∷ ts) wp wq h = by (is_flat t) refl h (are_apart p q ts wp wq
     by true e h r = (inl (flat_out t e), r h)
     by false e h r = (inr (missed_face_has_separating_edge (face_of t) p q wp wq h.0), r h.1)
 
-near_shifted : (p q : Spot) (ts : List Tri) → AreApart p q ts → Eventually (λ k. AreApart (shifted p (pos k)) q ts)
+near_shifted : (p q : Spot) (ts : List Tri) → AreApart p q ts → Eventually (λ k. AreApart (offset_by p (pos k)) q ts)
 near_shifted p q [] s = eventually_true (λ k. tt)
 near_shifted p q (t ∷ ts) s = eventually_both (by s.0) (near_shifted p q ts s.1)
   where
-    by : IsFlat t ⊎ Separates (face_of t) p q → Eventually (λ k. IsFlat t ⊎ Separates (face_of t) (shifted p (pos k)) q)
+    by : IsFlat t ⊎ Separates (face_of t) p q → Eventually (λ k. IsFlat t ⊎ Separates (face_of t) (offset_by p (pos k)) q)
     by (inl f) = eventually_true (λ k. inl f)
     by (inr s) =
         eventually_map (λ k h. inr (record { plane = s.plane; near = h.up s.near; far = s.far; low = s.low })) (follows_shifted p s.plane)
 
-far_shifted : (p q : Spot) (ts : List Tri) → AreApart p q ts → Eventually (λ k. AreApart p (shifted q (pos k)) ts)
+far_shifted : (p q : Spot) (ts : List Tri) → AreApart p q ts → Eventually (λ k. AreApart p (offset_by q (pos k)) ts)
 far_shifted p q [] s = eventually_true (λ k. tt)
 far_shifted p q (t ∷ ts) s = eventually_both (by s.0) (far_shifted p q ts s.1)
   where
-    by : IsFlat t ⊎ Separates (face_of t) p q → Eventually (λ k. IsFlat t ⊎ Separates (face_of t) p (shifted q (pos k)))
+    by : IsFlat t ⊎ Separates (face_of t) p q → Eventually (λ k. IsFlat t ⊎ Separates (face_of t) p (offset_by q (pos k)))
     by (inl f) = eventually_true (λ k. inl f)
     by (inr s) =
         eventually_map (λ k h. inr (record { plane = s.plane; near = s.near; far = h.up s.far; low = s.low })) (follows_shifted q s.plane)
@@ -365,7 +365,7 @@ by_way a b p q v w ts l lp lq kp kq lv lw ev ew h gv gw sv s =
 pub segment_law : (a b : Axis) (p q : Spot) (ts : List Tri) → IsBalanced ts → pos 0 <ℤ p.w → pos 0 <ℤ q.w → AreClear (faces_of ts) p → AreClear (faces_of ts) q → AllByRecursion (MissesFace p q) (faces_of ts) → wind a (faces_of ts) p ≡ wind b (faces_of ts) q
 segment_law a b p q ts l lp lq kp kq h =
     let e = eventually_both (weight_shifted p lp) (eventually_both (wind_shifted X p (faces_of ts) lp kp) (eventually_both (generic_shifted (unit X) p ts lp) (near_shifted p q ts (are_apart p q ts lp lq h)))) in
-    let p' = shifted p (pos e.from) in let r = e.holds e.from (le_refl e.from) in
+    let p' = offset_by p (pos e.from) in let r = e.holds e.from (le_refl e.from) in
     let d = eventually_both (weight_shifted q lq) (eventually_both (wind_shifted X q (faces_of ts) lq kq) (eventually_both (generic_shifted (unit X) q ts lq) (eventually_both (far_shifted p' q ts r.1.1.1) (eventually_both (are_strict_shifted (unit X) p' q ts r.0 r.1.1.0) (off_shifted q (sight (unit Y) p')))))) in
-    let q' = shifted q (pos d.from) in let s = d.holds d.from (le_refl d.from) in
+    let q' = offset_by q (pos d.from) in let s = d.holds d.from (le_refl d.from) in
     by_way a b p q p' q' ts l lp lq kp kq r.0 s.0 r.1.0 s.1.0 (across_x p' q' r.0 s.1.1.1.1.1) r.1.1.0 s.1.1.0 s.1.1.1.1.0 s.1.1.1.0

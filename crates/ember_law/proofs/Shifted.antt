@@ -9,14 +9,14 @@ use Rattle.ember_algebra.proofs.Ring.{◌⊕◌, ◌⊖◌, ◌⊗◌, ◌≈◌
 use Rattle.ember_model.specs.declared.plane.Plane.{Plane}
 use Rattle.ember_model.specs.declared.point.Spot.{Spot}
 use Rattle.ember_model.specs.Planes.{value_at}
-use Rattle.ember_model.specs.Points.{shifted}
+use Rattle.ember_model.specs.Points.{offset_by}
 use Rattle.ember_model.proofs.NearClearPoints.{Follows}
 
 abbrev pub NoNormal : Plane → Type 0
 NoNormal h = (h.a ≡ pos 0) × (h.b ≡ pos 0) × (h.c ≡ pos 0)
 
 -- a plane's value at a shifted point, as a polynomial
-pub value_shifted : (h : Plane) (p : Spot) (m : ℤ) → value_at h (shifted p m) ≡ horner m (value_at h p) (h.a ∷ h.b ∷ h.c ∷ [])
+pub value_shifted : (h : Plane) (p : Spot) (m : ℤ) → value_at h (offset_by p m) ≡ horner m (value_at h p) (h.a ∷ h.b ∷ h.c ∷ [])
 value_shifted h p m =
     solve 9 (λ a b c d x y z w m. a ⊗ (m ⊗ m ⊗ m ⊗ x ⊕ m ⊗ m) ⊕ b ⊗ (m ⊗ m ⊗ m ⊗ y ⊕ m) ⊕ c ⊗ (m ⊗ m ⊗ m ⊗ z ⊕ num (pos 1)) ⊖ d ⊗ (m ⊗ m ⊗ m ⊗ w) ≈ (((a ⊗ x ⊕ b ⊗ y ⊕ c ⊗ z ⊖ d ⊗ w) ⊗ m ⊕ a) ⊗ m ⊕ b) ⊗ m ⊕ c) cancels h.a h.b h.c h.d p.x p.y p.z p.w m
 
@@ -27,7 +27,7 @@ sizes : (h : Plane) → EachSmall (reach h) (h.a ∷ h.b ∷ h.c ∷ [])
 sizes h = (record { small = omega arith }, (record { small = omega arith }, (record { small = omega arith }, tt)))
 
 -- a point that is shifted by little enough stays on its side of a plane
-pub follows_shifted : (p : Spot) (h : Plane) → Eventually (λ n. Follows p (shifted p (pos n)) h)
+pub follows_shifted : (p : Spot) (h : Plane) → Eventually (λ n. Follows p (offset_by p (pos n)) h)
 follows_shifted p h =
     record {
       from = reach h + 1;
@@ -56,12 +56,12 @@ off_horner n v a b c l s e =
     (λ p. let q = horner_neg (a ∷ b ∷ c ∷ []) v l s p in absurd (omega (arith, linear, q, e)))
 
 -- a point that is shifted by little enough is on no plane with a normal
-pub off_shifted : (p : Spot) (h : Plane) → Eventually (λ n. value_at h (shifted p (pos n)) ≡ pos 0 → NoNormal h)
+pub off_shifted : (p : Spot) (h : Plane) → Eventually (λ n. value_at h (offset_by p (pos n)) ≡ pos 0 → NoNormal h)
 off_shifted p h =
     record { from = reach h + 1; holds = λ n l e. off_horner n (value_at h p) h.a h.b h.c (omega arith) (sizes h) (sym (value_shifted h p (pos n)) ∙ e) }
 
 -- the weight of a point that is shifted by little enough is positive
-pub weight_shifted : (p : Spot) → pos 0 <ℤ p.w → Eventually (λ n. pos 0 <ℤ (shifted p (pos n)).w)
+pub weight_shifted : (p : Spot) → pos 0 <ℤ p.w → Eventually (λ n. pos 0 <ℤ (offset_by p (pos n)).w)
 weight_shifted p w =
     record { from = 1; holds = λ n l. let m : pos 0 <ℤ pos n = omega (arith, ints) in pos_mul (pos_mul (pos_mul m m) m) w }
 

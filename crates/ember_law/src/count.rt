@@ -21,7 +21,7 @@ pub fn add_count(v: &mut Vector, mesh: u32, more: i32)
     v.counts[mesh as usize - 1] += more;
 }
 
-// The crossings of the ray from p along the axis with any triangles.
+// Adds the crossings of the ray from the point along the axis with these triangles, closed or not.
 pub fn count_rays(tris: &[Tri], point: &Spot, axis: Axis, v: &mut Vector)
     requires valid { All IsValidTri tris.now }
     requires numbered { All (HasMesh 64) tris.now }
@@ -36,7 +36,7 @@ pub fn count_rays(tris: &[Tri], point: &Spot, axis: Axis, v: &mut Vector)
     }
 }
 
-// The crossings of the segment from p to q with any triangles.
+// Adds the crossings of the segment from p to q with these triangles, closed or not.
 pub fn count_segments(tris: &[Tri], p: &Spot, q: &Spot, a: Axis, v: &mut Vector)
     requires valid { All IsValidTri tris.now }
     requires numbered { All (HasMesh 64) tris.now }

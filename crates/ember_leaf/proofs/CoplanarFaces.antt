@@ -28,7 +28,7 @@ use Rattle.ember_coplanar.proofs.Owning.{lies_by_support}
 use Rattle.ember_ref.proofs.FarTriangles.{inside_closed}
 use Rattle.ember_trace.proofs.FlatPlanes.{lies_flat, shared_face}
 use Rattle.ember_leaf.specs.declared.cutter.Cutter.{Cutter}
-use Rattle.ember_leaf.specs.KeptRegions.{IsRegionOf}
+use Rattle.ember_leaf.specs.KeptRegions.{LiesInPlaneOf}
 use Rattle.ember_leaf.specs.Cutters.{AreDisjoint, ShareAPlane}
 use Rattle.ember_leaf.proofs.RegionCuts.{cutting_plane_face}
 use Rattle.ember_leaf.proofs.TriRelations.{coplanar_flats}
@@ -42,7 +42,7 @@ coplanar_turned t u e =
     lies_flat t u (face_of t) s.at (face_support t) n.1 n.0 s.inside (record { holds = λ v i. shared_face u t v e (inside_closed (face_of t) v i) })
 
 -- a face in the plane of t lies in one plane with a triangle that is coplanar with t
-pub share_a_plane : (t u : Tri) (f : Face) → IsRegionOf t f → is_coplanar t u ≡ true → ShareAPlane u f
+pub share_a_plane : (t u : Tri) (f : Face) → LiesInPlaneOf t f → is_coplanar t u ≡ true → ShareAPlane u f
 share_a_plane t u f r e = record { face = on_triangle; triangle = on_face }
   where
     on_face : (v : Spot) → is_in_closed (face_of u) v ≡ true → value_at f.support v ≡ pos 0

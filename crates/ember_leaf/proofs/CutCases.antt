@@ -13,7 +13,7 @@ use Rattle.ember_model.specs.declared.face.Face.{Face}
 use Rattle.ember_model.specs.Planes.{value_at, opposite}
 use Rattle.ember_model.specs.Faces.{Somewhere, Cuts, Meets, is_inside, is_in_closed, below, above}
 use Rattle.ember_model.proofs.SignTests.{positive_in, positive_out, negative_in, negative_out}
-use Rattle.ember_box.specs.Regions.{CuttingPlane, AtCuttingPlane, splits, whole}
+use Rattle.ember_box.specs.Regions.{CuttingPlane, AreLeftByCuttingPlane, splits, whole}
 use Rattle.ember_poly.specs.Rings.{IsBelow, IsNotAbove, InFace}
 use Rattle.ember_poly.proofs.FaceTests.{inside_in, inside_out, closed_in, closed_out}
 use Rattle.ember_poly.proofs.InsideSigns.{opposite_plane}
@@ -157,15 +157,15 @@ cuts_decided f p = by (under_decided f p) (under_decided f (opposite p))
         record { at = s.at; inside = s.inside; holds = negative_in (over_opposite p s.at (record { over = positive_out (value_at p s.at) s.holds })).under }
 
     by : Decided (Somewhere f (λ v. is_negative (value_at p v) ≡ true)) → Decided (Somewhere f (λ v. is_negative (value_at (opposite p) v) ≡ true)) → Decided (Cuts f p)
-    by (inl a) (inl b) = inl (record { low = a; high = over b })
-    by (inl a) (inr n) = inr (λ c. n (turned c.high))
-    by (inr n) b = inr (λ c. n c.low)
+    by (inl a) (inl b) = inl (record { some_below = a; some_above = over b })
+    by (inl a) (inr n) = inr (λ c. n (turned c.some_above))
+    by (inr n) b = inr (λ c. n c.some_below)
 
 -- what a cutting plane leaves of a face
-pub at_cutting_plane : (b : CuttingPlane) (f : Face) → (fs : List Face) × AtCuttingPlane b f fs
+pub at_cutting_plane : (b : CuttingPlane) (f : Face) → (fs : List Face) × AreLeftByCuttingPlane b f fs
 at_cutting_plane b f = by (meets_decided f b.face) (cuts_decided f b.plane)
   where
-    by : Decided (Meets f b.face) → Decided (Cuts f b.plane) → (fs : List Face) × AtCuttingPlane b f fs
+    by : Decided (Meets f b.face) → Decided (Cuts f b.plane) → (fs : List Face) × AreLeftByCuttingPlane b f fs
     by (inl m) (inl c) = (below f b.plane ∷ above f b.plane ∷ [], splits m c)
     by (inl m) (inr n) = (f ∷ [], whole (λ x c. n c))
     by (inr n) c = (f ∷ [], whole (λ m x. n m))

@@ -10,13 +10,13 @@ use Rattle.ember_model.specs.declared.face.Face.{Face}
 use Rattle.ember_model.specs.Planes.{value_at, opposite}
 use Rattle.ember_model.specs.Faces.{Contains, Somewhere, below}
 use Rattle.ember_model.proofs.SignTests.{negative_in, positive_out}
-use Rattle.ember_box.specs.Regions.{CuttingPlane, AtCuttingPlane, splits, whole}
+use Rattle.ember_box.specs.Regions.{CuttingPlane, AreLeftByCuttingPlane, splits, whole}
 use Rattle.ember_poly.specs.Cuts.{HasInside}
 use Rattle.ember_poly.proofs.ReachBySigns.{over_opposite}
 use Rattle.ember_trace.proofs.FilledFaces.{inside_below}
 use Rattle.ember_leaf.specs.declared.cutter.Cutter.{Cutter}
 use Rattle.ember_leaf.specs.declared.cutter.Role.{Role}
-use Rattle.ember_leaf.specs.declared.cutter.Role.TheVariants.{Across, Coplanar, Owner}
+use Rattle.ember_leaf.specs.declared.cutter.Role.TheVariants.{Across, Later, Earlier}
 use Rattle.ember_leaf.specs.Cutters.{ShareAPlane, SharesAs, CanCut, AreCut}
 use Rattle.ember_leaf.proofs.WallClips.{each_every, inside_in_below}
 use Rattle.ember_leaf.proofs.OwnedRegions.{left_every, every_all, regions_left}
@@ -51,12 +51,12 @@ piece_below : (f g : Face) (p : Plane) → IsPieceOf f g → Somewhere g (λ v. 
 piece_below f g p h s =
     record { support = h.support; within = record { holds = λ v i. h.within.holds v (inside_below g p v i).0 }; somewhere = record { at = s.at; inside = inside_in_below g p s.at s.inside s.holds; holds = tt } }
 
-piece_kept : (f : Face) (b : CuttingPlane) (g : Face) (gs : List Face) → IsPieceOf f g → AtCuttingPlane b g gs → Every (IsPieceOf f) gs
+piece_kept : (f : Face) (b : CuttingPlane) (g : Face) (gs : List Face) → IsPieceOf f g → AreLeftByCuttingPlane b g gs → Every (IsPieceOf f) gs
 piece_kept f b g gs h (splits m c) =
-    (piece_below f g b.plane h c.low, (piece_below f g (opposite b.plane) h (record { at = c.high.at; inside = c.high.inside; holds = negative_in (over_opposite b.plane c.high.at (record { over = positive_out (value_at b.plane c.high.at) c.high.holds })).under }), tt))
+    (piece_below f g b.plane h c.some_below, (piece_below f g (opposite b.plane) h (record { at = c.some_above.at; inside = c.some_above.inside; holds = negative_in (over_opposite b.plane c.some_above.at (record { over = positive_out (value_at b.plane c.some_above.at) c.some_above.holds })).under }), tt))
 piece_kept f b g gs h (whole n) = (h, tt)
 
-pieces_kept : (f : Face) {bs : List CuttingPlane} {gs hs : List Face} → Chain (λ b. Each (AtCuttingPlane b)) bs gs hs → Every (IsPieceOf f) gs → Every (IsPieceOf f) hs
+pieces_kept : (f : Face) {bs : List CuttingPlane} {gs hs : List Face} → Chain (λ b. Each (AreLeftByCuttingPlane b)) bs gs hs → Every (IsPieceOf f) gs → Every (IsPieceOf f) hs
 pieces_kept f done h = h
 pieces_kept f (step {x = b} r c) h =
     pieces_kept f c (each_every (IsPieceOf f) (IsPieceOf f) (piece_kept f b) r h)
@@ -75,8 +75,8 @@ piece_can c f g h p = record { shares = by c.role h.shares; somewhere = p.somewh
 
     by : (k : Role) → SharesAs k c.tri f → SharesAs k c.tri g
     by Across s = tt
-    by Coplanar s = shared s
-    by Owner s = shared s
+    by Later s = shared s
+    by Earlier s = shared s
 
 -- a cutter that can cut the start can cut all regions of it
 pub all_can_cut : (cs : List Cutter) (f : Face) (gs : List Face) → AreCut cs (f ∷ []) gs → (c : Cutter) → CanCut c f → All (CanCut c) gs

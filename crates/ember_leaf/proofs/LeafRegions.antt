@@ -23,7 +23,7 @@ use Rattle.ember_box.specs.declared.aabb.Aabb.{Aabb}
 use Rattle.ember_box.specs.Boxes.{Cell, low, high}
 use Rattle.ember_box.specs.Near.{tri_at}
 use Rattle.ember_box.specs.Aabbs.{aabb_of_cell, interval_between}
-use Rattle.ember_box.specs.Regions.{level, walls, IsStart, AtCuttingPlane, splits, whole, cutting_planes, IsRegions}
+use Rattle.ember_box.specs.Regions.{level, walls, IsStart, AreLeftByCuttingPlane, splits, whole, cutting_planes, IsRegions}
 use Rattle.ember_box.specs.Regions as regions
 use Rattle.ember_ref.proofs.NearPoints.{coordinate}
 use Rattle.ember_ref.proofs.FarTriangles.{inside_closed}
@@ -37,10 +37,10 @@ use Rattle.ember_leaf.specs.declared.wall.Wall as leaf
 use Rattle.ember_leaf.specs.declared.cutter.Cutter.{Cutter}
 use Rattle.ember_leaf.specs.declared.leaf_triangle.LeafTriangle.{LeafTriangle}
 use Rattle.ember_leaf.specs.Walls.{wall_of, IsPartOf, IsClippedBy}
-use Rattle.ember_leaf.specs.TriRelations.{IsLower}
+use Rattle.ember_leaf.specs.TriRelations.{IsValidCoplanar}
 use Rattle.ember_leaf.specs.declared.cutter.Role.{Role}
-use Rattle.ember_leaf.specs.declared.cutter.Role.TheVariants.{Across, Coplanar, Owner}
-use Rattle.ember_leaf.specs.KeptRegions.{IsRegionOf}
+use Rattle.ember_leaf.specs.declared.cutter.Role.TheVariants.{Across, Later, Earlier}
+use Rattle.ember_leaf.specs.KeptRegions.{LiesInPlaneOf}
 use Rattle.ember_leaf.specs.Lower.{AreLower, DecidesOwner}
 use Rattle.ember_leaf.specs.Written.{AreOwned}
 use Rattle.ember_poly.specs.Cuts.{HasInside}
@@ -98,7 +98,7 @@ start_lies_in c t f s =
     regions_lie_in c (t ∷ []) 0 0 (f ∷ []) f (record { start = f ∷ []; is_start = s; cuts = done }) refl
 
 -- ---- regions
-bounded_keeps : (t : Tri) (s : Aabb) (b : regions.CuttingPlane) (f : Face) (fs : List Face) → IsBounded t s f → AtCuttingPlane b f fs → Every (IsBounded t s) fs
+bounded_keeps : (t : Tri) (s : Aabb) (b : regions.CuttingPlane) (f : Face) (fs : List Face) → IsBounded t s f → AreLeftByCuttingPlane b f fs → Every (IsBounded t s) fs
 bounded_keeps t s b f fs h (splits m c) =
     (record { within = record { holds = λ v i. h.within.holds v (inside_below f b.plane v i).0 }; bounds = record { holds = λ v i. h.bounds.holds v (inside_below f b.plane v i).0 } }, (record { within = record { holds = λ v i. h.within.holds v (inside_below f (opposite b.plane) v i).0 }; bounds = record { holds = λ v i. h.bounds.holds v (inside_below f (opposite b.plane) v i).0 } }, tt))
 bounded_keeps t s b f fs h (whole n) = (h, tt)
@@ -113,13 +113,13 @@ module _ (c : Cell) (f : LeafTriangle) (ring : Face) where
           let k = inside_closed (face_of f.tri) v i in
           subst (λ (b : Aabb). IsWithinAabb b v) (sym f.bounds) (record { x = bounds X f.tri v n k; y = bounds Y f.tri v n k; z = bounds Z f.tri v n k })
 
-  leaf_regions : (ts : List Tri) (i : ℕ) (ws : List leaf.Wall) (bs : List regions.CuttingPlane) (s : Aabb) (list : List Face) → f.tri ≡ tri_at ts i → map wall_of ws ≡ walls c → s ≡ common_of f.aabb (aabb_of_cell c) → IsClippedBy (map wall_of ws) f.tri (ring ∷ []) → OmitsUnmet (IsBounded f.tri s) (cutting_planes ts i) bs → Chain (λ b. Each (AtCuttingPlane b)) bs (ring ∷ []) list → IsRegions c ts i list
+  leaf_regions : (ts : List Tri) (i : ℕ) (ws : List leaf.Wall) (bs : List regions.CuttingPlane) (s : Aabb) (list : List Face) → f.tri ≡ tri_at ts i → map wall_of ws ≡ walls c → s ≡ common_of f.aabb (aabb_of_cell c) → IsClippedBy (map wall_of ws) f.tri (ring ∷ []) → OmitsUnmet (IsBounded f.tri s) (cutting_planes ts i) bs → Chain (λ b. Each (AreLeftByCuttingPlane b)) bs (ring ∷ []) list → IsRegions c ts i list
   leaf_regions ts i ws bs s list e w q l h k =
       let start : IsStart c f.tri (ring ∷ []) = subst (λ (vs : List regions.Wall). IsClippedBy vs f.tri (ring ∷ [])) w l in
       record { start = ring ∷ []; is_start = subst (λ (t : Tri). IsStart c t (ring ∷ [])) e start; cuts = unmet_planes_change_nothing (bounded_keeps f.tri s) h (part_bounded s q (left_parts f.tri start).0 (start_lies_in c f.tri ring start), tt) k }
 
 -- the list of triangles before a triangle decides whether it owns each of its regions
-owners_told : (c : Cell) (f : LeafTriangle) (ts : List Tri) (i : ℕ) (lower : List Tri) (s : Aabb) (list : List Face) → f.tri ≡ tri_at ts i → i < length ts → s ≡ common_of f.aabb (aabb_of_cell c) → IsRegions c ts i list → Every (IsPartOf f.tri) list → All (IsLower f.tri) lower → AreLower ts i f.tri s (length ts) lower → All (DecidesOwner lower ts i) list
+owners_told : (c : Cell) (f : LeafTriangle) (ts : List Tri) (i : ℕ) (lower : List Tri) (s : Aabb) (list : List Face) → f.tri ≡ tri_at ts i → i < length ts → s ≡ common_of f.aabb (aabb_of_cell c) → IsRegions c ts i list → Every (IsPartOf f.tri) list → All (IsValidCoplanar f.tri) lower → AreLower ts i f.tri s (length ts) lower → All (DecidesOwner lower ts i) list
 owners_told c f ts i lower s list e w q r p k a j d l =
     let g = get_or list j d in let at = slice_get-get_or list j d l in let part = every_at (IsPartOf f.tri) list j g p at in
     tells_owner ts i f.tri s e w lower g k a (part_bounded c f g s q part (regions_lie_in c ts i j list g r at)) part.somewhere
@@ -153,7 +153,7 @@ leaf_owned c f ring ts i ws cs s list e l w q h sheds lies lower k =
 
 module _ (c : Cell) (ts : List Tri) (i : ℕ) (list : List Face) (o : AreOwned c ts i list) where
   -- owned regions are regions of their triangle
-  pub owned_planes : All (IsRegionOf (tri_at ts i)) list
+  pub owned_planes : All (LiesInPlaneOf (tri_at ts i)) list
   owned_planes =
       let t = tri_at ts i in let r = o.are_regions in
       parts_regions t list (left_every (IsPartOf t) o.owned (cuts_keep t r.cuts (left_parts t r.is_start)))
@@ -174,5 +174,5 @@ all_can t ring cs r h =
   where
     by : (u : Tri) (k : Role) → LiesAs k t u → SharesAs k u ring
     by u Across l = tt
-    by u Coplanar l = share_a_plane t u ring r.plane l
-    by u Owner l = share_a_plane t u ring r.plane l
+    by u Later l = share_a_plane t u ring r.plane l
+    by u Earlier l = share_a_plane t u ring r.plane l

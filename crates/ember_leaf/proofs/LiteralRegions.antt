@@ -19,7 +19,7 @@ use Rattle.ember_box.specs.Halving.{leaves}
 use Rattle.ember_trace.proofs.SomeSides.{HasSides, face_has_sides}
 use Rattle.ember_leaf.specs.declared.kept.Kept.{Kept}
 use Rattle.ember_leaf.specs.Walls.{IsPartOf}
-use Rattle.ember_leaf.specs.Written.{AtRegion, unowned, even, written, IsCovered, regional, IsWrittenIn}
+use Rattle.ember_leaf.specs.Written.{IsWrittenOfRegion, unowned, even, written, IsCovered, regional, IsWrittenIn}
 use Rattle.ember_leaf.specs.Scenes.{HasOneValue, regions, IsWritten}
 use Rattle.ember_leaf.specs.Literal.{IsLiterallyWrittenOf, IsLiterallyWrittenIn, IsLiterallyWritten}
 use Rattle.ember_leaf.proofs.WrittenRegionsUnique.{covered_writes_nothing, nothing_written, written_unique}
@@ -33,7 +33,7 @@ part_has_sides scene valid t g p =
     face_has_sides scene valid g p.somewhere.at p.somewhere.inside (subst (λ (n : Plane). along n (main_axis n) ≢ pos 0) (sym p.plane.support) (main_entry t p.plane.normal))
 
 module _ (scene : List Tri) (f : Formula) (valid : All IsValidTri scene) where
-  at_region : (near : List Tri) (i : ℕ) (t : Tri) (g : Face) → IsPartOf t g → ((ks : List Kept) → AtRegion scene f near i g ks → ⊥) → ⊥
+  at_region : (near : List Tri) (i : ℕ) (t : Tri) (g : Face) → IsPartOf t g → ((ks : List Kept) → IsWrittenOfRegion scene f near i g ks → ⊥) → ⊥
   at_region near i t g p n = either (IsOwner near i g) by
     where
       by_value : IsOwner near i g → (s : HasSides scene g) → ((truth s.before f ≡ truth s.after f) ⊎ (truth s.before f ≡ truth s.after f → ⊥)) → ⊥

@@ -19,9 +19,9 @@ use Rattle.ember_poly.specs.Cuts.{HasInside}
 use Rattle.ember_trace.proofs.FlatPlanes.{lies_flat, shared_face}
 use Rattle.ember_leaf.specs.declared.cutter.Cutter.{Cutter}
 use Rattle.ember_leaf.specs.declared.cutter.Role.{Role}
-use Rattle.ember_leaf.specs.declared.cutter.Role.TheVariants.{Across, Coplanar, Owner}
+use Rattle.ember_leaf.specs.declared.cutter.Role.TheVariants.{Across, Later, Earlier}
 use Rattle.ember_leaf.specs.Cutters.{role_if, owner_as, owners_by, owners_in, LiesAs, IsCutterOf, IsAdded, AddsCuttingPlanes, IsBounded}
-use Rattle.ember_leaf.specs.TriRelations.{AreDisjoint, IsLower, HasContaining}
+use Rattle.ember_leaf.specs.TriRelations.{MissesClosedFace, IsValidCoplanar, HasContaining}
 use Rattle.ember_leaf.specs.Lower.{IsListedBefore, ContainsPart, AddsLower, covers, joins, misses, follows, AreLower, HasCover, DecidesOwner}
 use Rattle.ember_leaf.specs.Written.{IsCovered}
 use Rattle.ember_leaf.proofs.TriRelations.{coplanar_flats}
@@ -52,7 +52,7 @@ pub flat_misses : (t u : Tri) (b : Aabb) → is_flat u ≡ true → (f : Face) �
 flat_misses t u b e f h = clash e (coplanar_flats u t h.coplanar).0
 
 -- a triangle that is disjoint from t contains no part of t
-pub apart_misses : (t u : Tri) (b : Aabb) → AreDisjoint t u → (f : Face) → ContainsPart t b u f → ⊥
+pub apart_misses : (t u : Tri) (b : Aabb) → MissesClosedFace t u → (f : Face) → ContainsPart t b u f → ⊥
 apart_misses t u b a f h =
     clash (meets t u b f h).holds (a.holds h.somewhere.at (held_inside t u b f h))
 
@@ -87,22 +87,22 @@ coplanar_cutting_planes t u true {old} {new} b n e a = adds_all old new (edge_cu
 coplanar_cutting_planes t u false {old} {new} b n e a = adds_all old new (edge_cutting_planes t u n e) (added_cutting_planes a)
 
 -- those that own are of lower number and in the plane of t
-owner_lower : (t : Tri) (c : Cutter) → IsCutterOf t c → Every (IsLower t) (owners_by c)
+owner_lower : (t : Tri) (c : Cutter) → IsCutterOf t c → Every (IsValidCoplanar t) (owners_by c)
 owner_lower t c h = by c.role h.lies
   where
-    by : (k : Role) → LiesAs k t c.tri → Every (IsLower t) (owner_as k c.tri)
+    by : (k : Role) → LiesAs k t c.tri → Every (IsValidCoplanar t) (owner_as k c.tri)
     by Across l = tt
-    by Coplanar l = tt
-    by Owner l = (record { valid = c.valid; coplanar = coplanar_turned c.tri t l }, tt)
+    by Later l = tt
+    by Earlier l = (record { valid = c.valid; coplanar = coplanar_turned c.tri t l }, tt)
 
 -- the owners in a list of cutters are valid triangles in the plane of t
-pub owners_lower : (t : Tri) (cs : List Cutter) → All (IsCutterOf t) cs → All (IsLower t) (owners_in cs)
-owners_lower t cs h = every_all (IsLower t) (owners_in cs) (by cs (all_every (IsCutterOf t) cs h))
+pub owners_lower : (t : Tri) (cs : List Cutter) → All (IsCutterOf t) cs → All (IsValidCoplanar t) (owners_in cs)
+owners_lower t cs h = every_all (IsValidCoplanar t) (owners_in cs) (by cs (all_every (IsCutterOf t) cs h))
   where
-    by : (cs : List Cutter) → Every (IsCutterOf t) cs → Every (IsLower t) (owners_in cs)
+    by : (cs : List Cutter) → Every (IsCutterOf t) cs → Every (IsValidCoplanar t) (owners_in cs)
     by [] e = tt
     by (c ∷ cs) e =
-        every_append (IsLower t) (owners_by c) (owners_in cs) (owner_lower t c e.0) (by cs e.1)
+        every_append (IsValidCoplanar t) (owners_by c) (owners_in cs) (owner_lower t c e.0) (by cs e.1)
 
 -- ---- lists
 all_at : {X : Type 0} (P : X → Type 0) (xs : List X) (i : ℕ) (x : X) → All P xs → slice_get xs i ≡ Some x → P x
@@ -193,11 +193,11 @@ module _ (ts : List Tri) (i : ℕ) (t : Tri) (b : Aabb) where
     there : slice_get ts i ≡ Some t
     there = slice_get-get_or ts i no_tri w ∙ ap (λ (v : Tri). Some v) (sym e)
 
-    pub tells_owner : (lower : List Tri) (f : Face) → All (IsLower t) lower → AreLower ts i t b (length ts) lower → IsBounded t b f → HasInside f → DecidesOwner lower ts i f
+    pub tells_owner : (lower : List Tri) (f : Face) → All (IsValidCoplanar t) lower → AreLower ts i t b (length ts) lower → IsBounded t b f → HasInside f → DecidesOwner lower ts i f
     tells_owner lower f k a d s =
         record {
           free = λ n. record { first = λ j v u l at own c q. let h = by j u at v own c q l in all_at (λ r. Contains (face_of r) f → ⊥) lower h.index h.tri n h.here h.holds };
-          held = λ h o. let r = all_at (IsListedBefore ts i) lower h.index h.tri a.stand h.here in o.first r.index t h.tri r.before r.here there (all_at (IsLower t) lower h.index h.tri k h.here).coplanar h.holds;
+          held = λ h o. let r = all_at (IsListedBefore ts i) lower h.index h.tri a.stand h.here in o.first r.index t h.tri r.before r.here there (all_at (IsValidCoplanar t) lower h.index h.tri k h.here).coplanar h.holds;
         }
       where
         by : (j : ℕ) (u : Tri) → slice_get ts j ≡ Some u → (v : Tri) → slice_get ts i ≡ Some v → is_coplanar u v ≡ true → Contains (face_of u) f → j < i → HasContaining lower f

@@ -10,7 +10,7 @@ use Rattle.ember_model.specs.declared.plane.Plane.{Plane}
 use Rattle.ember_model.specs.declared.face.Face.{Face}
 use Rattle.ember_model.specs.Planes.{opposite}
 use Rattle.ember_model.specs.Faces.{face_of, Meets}
-use Rattle.ember_box.specs.Regions.{CuttingPlane, AtCuttingPlane, splits, whole}
+use Rattle.ember_box.specs.Regions.{CuttingPlane, AreLeftByCuttingPlane, splits, whole}
 use Rattle.ember_trace.proofs.FilledFaces.{inside_below}
 use Rattle.ember_leaf.specs.declared.cutter.Cutter.{Cutter}
 use Rattle.ember_leaf.specs.TriRelations.{HasContaining}
@@ -20,7 +20,7 @@ use Rattle.ember_leaf.proofs.CutCases.{at_cutting_plane}
 
 -- ---- cutting planes, one after another
 abbrev AreCutBy : List CuttingPlane → List Face → List Face → Type 0
-AreCutBy bs fs gs = Chain (λ b. Each (AtCuttingPlane b)) bs fs gs
+AreCutBy bs fs gs = Chain (λ b. Each (AreLeftByCuttingPlane b)) bs fs gs
 
 -- cutting two lists and joining the results cuts the joined list
 pub cuts_both : {bs : List CuttingPlane} {fs gs us vs : List Face} → AreCutBy bs fs gs → AreCutBy bs us vs → AreCutBy bs (fs ++ us) (gs ++ vs)
@@ -37,7 +37,7 @@ cuts_unmet t [] f n = done
 cuts_unmet t (p ∷ ps) f n = step (more (whole (λ m c. n m)) none) (cuts_unmet t ps f n)
 
 -- some list of faces is what cutting planes leave
-each_left : (b : CuttingPlane) (fs : List Face) → (gs : List Face) × Each (AtCuttingPlane b) fs gs
+each_left : (b : CuttingPlane) (fs : List Face) → (gs : List Face) × Each (AreLeftByCuttingPlane b) fs gs
 each_left b [] = ([], none)
 each_left b (f ∷ fs) = let h = at_cutting_plane b f in let k = each_left b fs in (h.0 ++ k.0, more h.1 k.1)
 
@@ -50,7 +50,7 @@ cuts_every : (P : Face → Type 0) → ((f : Face) (p : Plane) → P f → P (re
 cuts_every P k done h = h
 cuts_every P k (step {x = b} r c) h = cuts_every P k c (each_every P P by r h)
   where
-    by : (f : Face) (gs : List Face) → P f → AtCuttingPlane b f gs → Every P gs
+    by : (f : Face) (gs : List Face) → P f → AreLeftByCuttingPlane b f gs → Every P gs
     by f gs p (splits m c) = (k f b.plane p, (k f (opposite b.plane) p, tt))
     by f gs p (whole n) = (p, tt)
 

@@ -11,11 +11,11 @@ use Rattle.ember_model.specs.declared.face.Face.{Face}
 use Rattle.ember_model.specs.Planes.{value_at, support_of, opposite}
 use Rattle.ember_model.specs.Faces.{face_of, edges_of, is_flat, is_inside, Contains, Cuts, Meets, below, above}
 use Rattle.ember_model.proofs.SignTests.{negative_in, negative_out, positive_out, zero_out}
-use Rattle.ember_box.specs.Regions.{AtCuttingPlane}
+use Rattle.ember_box.specs.Regions.{AreLeftByCuttingPlane}
 use Rattle.ember_poly.specs.Rings.{IsBelow}
 use Rattle.ember_poly.specs.Cuts.{HasInside, IsWhole, AreParts, IsReach}
-use Rattle.ember_poly.specs.declared.reach_cut.Reach.{Reach}
-use Rattle.ember_poly.specs.declared.reach_cut.Reach.TheVariants.{Below, Above, On, Both}
+use Rattle.ember_poly.specs.declared.reach_and_cut.Reach.{Reach}
+use Rattle.ember_poly.specs.declared.reach_and_cut.Reach.TheVariants.{Below, Above, On, Both}
 use Rattle.ember_poly.proofs.Chains.{each-push}
 use Rattle.ember_poly.proofs.FaceTests.{inside_in, inside_out, closed_out}
 use Rattle.ember_poly.proofs.ReachBySigns.{over_from_opposite}
@@ -23,10 +23,10 @@ use Rattle.ember_ref.proofs.FarTriangles.{inside_closed}
 use Rattle.ember_trace.proofs.FilledFaces.{inside_below}
 use Rattle.ember_leaf.specs.declared.cutter.Cutter.{Cutter}
 use Rattle.ember_leaf.specs.declared.cutter.Role.{Role}
-use Rattle.ember_leaf.specs.declared.cutter.Role.TheVariants.{Across, Coplanar, Owner}
+use Rattle.ember_leaf.specs.declared.cutter.Role.TheVariants.{Across, Later, Earlier}
 use Rattle.ember_leaf.specs.TriRelations.{HasContaining}
 use Rattle.ember_leaf.specs.Written.{HasGrown}
-use Rattle.ember_leaf.specs.Cutters.{planes_as, owner_as, cutting_planes_with, owners_by, ended, left, dropped, AreDisjoint, IsFree, AreLeft, AtCutter, AtPlane, IsUncut, AtEdges, AreAround, AreLast, ShareAPlane, SharesAs, CanCut}
+use Rattle.ember_leaf.specs.Cutters.{planes_as, owner_as, cutting_planes_with, owners_by, ended, left, dropped, AreDisjoint, IsFree, AreLeft, AreLeftByCutter, AreLeftByPlane, IsUncut, AreLeftByEdges, AreAround, CutOutTriangle, ShareAPlane, SharesAs, CanCut}
 use Rattle.ember_leaf.proofs.WallClips.{inside_in_below}
 use Rattle.ember_leaf.proofs.RegionCuts.{take_all, region_parts, region_whole}
 use Rattle.ember_leaf.proofs.OwnedRegions.{cuts_both, cuts_unmet, without_append, none_dropped}
@@ -35,36 +35,36 @@ use Rattle.ember_leaf.proofs.CoplanarFaces.{unmet_disjoint, meets_inside}
 -- ---- a region that the triangle doesn't meet
 free_as : (k : Role) (t : Tri) (f : Face) → AreDisjoint (face_of t) f → IsFree (owner_as k t) f
 free_as Across t f d = record { free = tt }
-free_as Coplanar t f d = record { free = tt }
-free_as Owner t f d = record { free = (d, tt) }
+free_as Later t f d = record { free = tt }
+free_as Earlier t f d = record { free = (d, tt) }
 
 -- a region that a triangle doesn't meet is left as it is
-pub unmet_left : (c : Cutter) (f : Face) → (Meets f (face_of c.tri) → ⊥) → AtCutter c f (f ∷ [])
+pub unmet_left : (c : Cutter) (f : Face) → (Meets f (face_of c.tri) → ⊥) → AreLeftByCutter c f (f ∷ [])
 unmet_left c f n =
     record { all = f ∷ []; cuts = cuts_unmet c.tri (planes_as c.role c.tri) f n; without = left (free_as c.role c.tri f (unmet_disjoint c.tri f n)) ended }
 
 -- ---- a triangle in another plane
-plane_left : (t : Tri) (p : Plane) (f : Face) {gs : List Face} → Meets f (face_of t) → AtPlane p f gs → AreLeft (cutting_planes_with t (p ∷ [])) [] (f ∷ []) gs
+plane_left : (t : Tri) (p : Plane) (f : Face) {gs : List Face} → Meets f (face_of t) → AreLeftByPlane p f gs → AreLeft (cutting_planes_with t (p ∷ [])) [] (f ∷ []) gs
 plane_left t p f {gs} m h =
-    record { all = gs; cuts = step (subst (λ (l : List Face). Each (AtCuttingPlane (record { face = face_of t; plane = p })) (f ∷ []) l) (append-nil gs) (more (h (face_of t) m) none)) done; without = none_dropped gs (λ g. record { free = tt }) }
+    record { all = gs; cuts = step (subst (λ (l : List Face). Each (AreLeftByCuttingPlane (record { face = face_of t; plane = p })) (f ∷ []) l) (append-nil gs) (more (h (face_of t) m) none)) done; without = none_dropped gs (λ g. record { free = tt }) }
 
 -- what the support plane of a triangle in another plane leaves of a region is what the triangle leaves
-pub across_left : (c : Cutter) (p : Plane) (f : Face) {old new : List Face} → c.role ≡ Across → p ≡ support_of c.tri → Meets f (face_of c.tri) → HasGrown (AtPlane p f) old new → HasGrown (AtCutter c f) old new
+pub across_left : (c : Cutter) (p : Plane) (f : Face) {old new : List Face} → c.role ≡ Across → p ≡ support_of c.tri → Meets f (face_of c.tri) → HasGrown (AreLeftByPlane p f) old new → HasGrown (AreLeftByCutter c f) old new
 across_left c p f {old} {new} e q m g =
-    record { more = g.more; is = g.is; holds = subst (λ (k : Role). AreLeft (cutting_planes_with c.tri (planes_as k c.tri)) (owner_as k c.tri) (f ∷ []) g.more) (sym e) (plane_left c.tri (support_of c.tri) f m (subst (λ (p : Plane). AtPlane p f g.more) q g.holds)) }
+    record { more = g.more; is = g.is; holds = subst (λ (k : Role). AreLeft (cutting_planes_with c.tri (planes_as k c.tri)) (owner_as k c.tri) (f ∷ []) g.more) (sym e) (plane_left c.tri (support_of c.tri) f m (subst (λ (p : Plane). AreLeftByPlane p f g.more) q g.holds)) }
 
 -- a plane that cuts a region leaves its two parts
-pub plane_parts : (p : Plane) (f low high : Face) (old mid new : List Face) → AreParts f p low high → mid ≡ old ++ low ∷ [] → new ≡ mid ++ high ∷ [] → HasGrown (AtPlane p f) old new
+pub plane_parts : (p : Plane) (f low high : Face) (old mid new : List Face) → AreParts f p low high → mid ≡ old ++ low ∷ [] → new ≡ mid ++ high ∷ [] → HasGrown (AreLeftByPlane p f) old new
 plane_parts p f low high old mid new a e q =
     record { more = low ∷ high ∷ []; is = q ∙ ap (λ (l : List Face). l ++ high ∷ []) e ∙ append_assoc old (low ∷ []) (high ∷ []); holds = λ g m. region_parts (record { face = g; plane = p }) f low high m a }
 
 -- a plane that doesn't cut a region leaves it whole
-pub plane_whole : (p : Plane) (f : Face) (k : Reach) (old new : List Face) → IsReach f p k → (k ≡ Both → ⊥) → new ≡ old ++ f ∷ [] → HasGrown (AtPlane p f) old new
+pub plane_whole : (p : Plane) (f : Face) (k : Reach) (old new : List Face) → IsReach f p k → (k ≡ Both → ⊥) → new ≡ old ++ f ∷ [] → HasGrown (AreLeftByPlane p f) old new
 plane_whole p f k old new r n e =
     record { more = f ∷ []; is = e; holds = λ g m. region_whole (record { face = g; plane = p }) f k r n }
 
 -- ---- a triangle in the same plane, which has inside points in common with the region
-module _ (t : Tri) (p : Plane) (ps : List Plane) (f : Face) (h : AreLast t (p ∷ ps) f) where
+module _ (t : Tri) (p : Plane) (ps : List Plane) (f : Face) (h : CutOutTriangle t (p ∷ ps) f) where
   abbrev rest_around : AreAround t ps
   rest_around =
       record { inside = λ v i. (h.around.inside v i).1; closed = λ v i. (h.around.closed v i).1 }
@@ -76,8 +76,8 @@ module _ (t : Tri) (p : Plane) (ps : List Plane) (f : Face) (h : AreLast t (p �
   meets_too =
       record { at = h.shared.at; inside = h.shared.inside; holds = inside_closed (face_of t) h.shared.at h.shared.holds }
 
-  low_last : AreLast t ps (below f p)
-  low_last =
+  low_cuts_out : CutOutTriangle t ps (below f p)
+  low_cuts_out =
       record {
         around = rest_around;
         shared = record { at = h.shared.at; inside = inside_in_below f p h.shared.at h.shared.inside (negative_in shared_under.under); holds = h.shared.holds };
@@ -93,7 +93,7 @@ module _ (t : Tri) (p : Plane) (ps : List Plane) (f : Face) (h : AreLast t (p �
       let o = high_over m.at m.inside in let a = (h.around.closed m.at m.holds).0.at_most in omega (arith, linear, o, a)
 
   -- if the plane doesn't cut the region, all of the region is below it
-  pub all_under : (k : Reach) → IsReach f p k → (k ≡ Both → ⊥) → AreLast t ps f
+  pub all_under : (k : Reach) → IsReach f p k → (k ≡ Both → ⊥) → CutOutTriangle t ps f
   all_under Below r n =
       record { around = rest_around; shared = h.shared; within = λ v i us. h.within v i (record { under = negative_out (value_at p v) (r.everywhere.holds v i) }, us) }
   all_under Above r n =
@@ -118,35 +118,35 @@ module _ (t : Tri) (p : Plane) (ps : List Plane) (f : Face) (h : AreLast t (p �
       }
 
 -- if the planes cut out what lies in the triangle, the rest of them do so from the part below the first
-pub low_is_last : (t : Tri) (p : Plane) (ps : List Plane) (f low high : Face) → AreLast t (p ∷ ps) f → AreParts f p low high → AreLast t ps low
-low_is_last t p ps f low high h a = subst (AreLast t ps) (sym a.is_low) (low_last t p ps f h)
+pub low_is_cut_out : (t : Tri) (p : Plane) (ps : List Plane) (f low high : Face) → CutOutTriangle t (p ∷ ps) f → AreParts f p low high → CutOutTriangle t ps low
+low_is_cut_out t p ps f low high h a = subst (CutOutTriangle t ps) (sym a.is_low) (low_cuts_out t p ps f h)
 
 -- ---- after the last edge plane
-none_held : (t : Tri) (f : Face) → AreLast t [] f → HasContaining (t ∷ []) f
+none_held : (t : Tri) (f : Face) → CutOutTriangle t [] f → HasContaining (t ∷ []) f
 none_held t f h = record { index = 0; tri = t; here = refl; holds = record { holds = λ v i. h.within v i tt } }
 
 -- after all planes, an owner leaves nothing of the part inside it
-pub last_dropped : (c : Cutter) (f : Face) (old : List Face) → c.role ≡ Owner → AreLast c.tri [] f → HasGrown (AtEdges c [] f) old old
-last_dropped c f old e h =
+pub cut_out_dropped : (c : Cutter) (f : Face) (old : List Face) → c.role ≡ Earlier → CutOutTriangle c.tri [] f → HasGrown (AreLeftByEdges c [] f) old old
+cut_out_dropped c f old e h =
     record { more = []; is = sym (append-nil old); holds = subst (λ (k : Role). AreLeft [] (owner_as k c.tri) (f ∷ []) []) (sym e) (record { all = f ∷ []; cuts = done; without = dropped (none_held c.tri f h) ended }) }
 
 -- after all planes, a triangle that isn't an owner leaves the part inside it
-pub last_left : (c : Cutter) (f : Face) (old new : List Face) → (c.role ≡ Owner → ⊥) → new ≡ old ++ f ∷ [] → HasGrown (AtEdges c [] f) old new
-last_left c f old new n e =
+pub cut_out_left : (c : Cutter) (f : Face) (old new : List Face) → (c.role ≡ Earlier → ⊥) → new ≡ old ++ f ∷ [] → HasGrown (AreLeftByEdges c [] f) old new
+cut_out_left c f old new n e =
     record { more = f ∷ []; is = e; holds = record { all = f ∷ []; cuts = done; without = left (none c.role n) ended } }
   where
-    none : (k : Role) → (k ≡ Owner → ⊥) → IsFree (owner_as k c.tri) f
+    none : (k : Role) → (k ≡ Earlier → ⊥) → IsFree (owner_as k c.tri) f
     none Across m = record { free = tt }
-    none Coplanar m = record { free = tt }
-    none Owner m = absurd (m refl)
+    none Later m = record { free = tt }
+    none Earlier m = absurd (m refl)
 
 -- a plane that doesn't cut the region leaves it to the planes after it
-pub whole_grown : (c : Cutter) (p : Plane) (ps : List Plane) (f : Face) (k : Reach) (old new : List Face) → AreLast c.tri (p ∷ ps) f → IsReach f p k → (k ≡ Both → ⊥) → HasGrown (AtEdges c ps f) old new → HasGrown (AtEdges c (p ∷ ps) f) old new
+pub whole_grown : (c : Cutter) (p : Plane) (ps : List Plane) (f : Face) (k : Reach) (old new : List Face) → CutOutTriangle c.tri (p ∷ ps) f → IsReach f p k → (k ≡ Both → ⊥) → HasGrown (AreLeftByEdges c ps f) old new → HasGrown (AreLeftByEdges c (p ∷ ps) f) old new
 whole_grown c p ps f k old new h r n g =
     record { more = g.more; is = g.is; holds = whole_left c.tri p ps f h (owners_by c) k r n g.holds }
 
 -- a plane that cuts the region leaves the part below to the planes after it, and then the part above
-pub parts_grown : (c : Cutter) (p : Plane) (ps : List Plane) (f low high : Face) (old mid new : List Face) → AreLast c.tri (p ∷ ps) f → AreParts f p low high → HasGrown (AtEdges c ps low) old mid → new ≡ mid ++ high ∷ [] → HasGrown (AtEdges c (p ∷ ps) f) old new
+pub parts_grown : (c : Cutter) (p : Plane) (ps : List Plane) (f low high : Face) (old mid new : List Face) → CutOutTriangle c.tri (p ∷ ps) f → AreParts f p low high → HasGrown (AreLeftByEdges c ps low) old mid → new ≡ mid ++ high ∷ [] → HasGrown (AreLeftByEdges c (p ∷ ps) f) old new
 parts_grown c p ps f low high old mid new h a g e =
     record { more = g.more ++ high ∷ []; is = e ∙ ap (λ (l : List Face). l ++ high ∷ []) g.is ∙ append_assoc old g.more (high ∷ []); holds = parts_left c.tri p ps f h c.role low high a g.holds }
 
@@ -181,22 +181,22 @@ pub all_uncut : (f : Face) (ps : List Plane) (i : ℕ) → length ps ≤ i → A
 all_uncut f ps i l h = subst (AreUncut f) (take_all i ps l) h
 
 -- what the owner contains is left out
-owned_dropped : (c : Cutter) (ps : List Plane) (f : Face) (old : List Face) → c.role ≡ Owner → AreLast c.tri ps f → AreUncut f ps → HasGrown (AtEdges c ps f) old old
-owned_dropped c [] f old e h u = last_dropped c f old e h
+owned_dropped : (c : Cutter) (ps : List Plane) (f : Face) (old : List Face) → c.role ≡ Earlier → CutOutTriangle c.tri ps f → AreUncut f ps → HasGrown (AreLeftByEdges c ps f) old old
+owned_dropped c [] f old e h u = cut_out_dropped c f old e h
 owned_dropped c (p ∷ ps) f old e h u =
     whole_grown c p ps f u.0.side old old h u.0.lies u.0.uncut (owned_dropped c ps f old e (all_under c.tri p ps f h u.0.side u.0.lies u.0.uncut) u.1)
 
 -- a plane cuts the region, and its part below is the owner's
-pub above_grown : (c : Cutter) (p : Plane) (ps : List Plane) (f high : Face) (old new : List Face) → c.role ≡ Owner → AreLast c.tri (p ∷ ps) f → Cuts f p → AreUncut f ps → high ≡ above f p → new ≡ old ++ high ∷ [] → HasGrown (AtEdges c (p ∷ ps) f) old new
+pub above_grown : (c : Cutter) (p : Plane) (ps : List Plane) (f high : Face) (old new : List Face) → c.role ≡ Earlier → CutOutTriangle c.tri (p ∷ ps) f → Cuts f p → AreUncut f ps → high ≡ above f p → new ≡ old ++ high ∷ [] → HasGrown (AreLeftByEdges c (p ∷ ps) f) old new
 above_grown c p ps f high old new e h k u a q =
-    parts_grown c p ps f (below f p) high old old new h (record { cuts = k; is_low = refl; is_high = a }) (owned_dropped c ps (below f p) old e (low_last c.tri p ps f h) (uncut_parts f (below f p) ps within some u)) q
+    parts_grown c p ps f (below f p) high old old new h (record { cuts = k; is_low = refl; is_high = a }) (owned_dropped c ps (below f p) old e (low_cuts_out c.tri p ps f h) (uncut_parts f (below f p) ps within some u)) q
   where
     within : Contains f (below f p)
     within = record { holds = λ v i. (inside_below f p v i).0 }
 
     some : HasInside (below f p)
     some =
-        record { at = k.low.at; inside = inside_in_below f p k.low.at k.low.inside k.low.holds; holds = tt }
+        record { at = k.some_below.at; inside = inside_in_below f p k.some_below.at k.some_below.inside k.some_below.holds; holds = tt }
 
 -- ---- all edge planes
 around : (t : Tri) → AreAround t (edges_of t)
@@ -208,8 +208,8 @@ inside_all : (t : Tri) (v : Spot) → value_at (support_of t) v ≡ pos 0 → po
 unfolding face_of
 inside_all t v e w us = inside_in (face_of t) v (record { flat = e; weight = w; within = us })
 
-all_last : (t : Tri) (f : Face) → is_flat t ≡ false → ShareAPlane t f → Meets f (face_of t) → AreLast t (edges_of t) f
-all_last t f n s m =
+all_cut_out : (t : Tri) (f : Face) → is_flat t ≡ false → ShareAPlane t f → Meets f (face_of t) → CutOutTriangle t (edges_of t) f
+all_cut_out t f n s m =
     record { around = around t; shared = meets_inside t f n s m; within = λ v i us. inside_all t v (s.face v i) (inside_out f v i).weight us }
 
 -- a coplanar cutter and the region lie in one plane
@@ -218,13 +218,13 @@ cutter_shares_plane c f h n = by c.role n h.shares
   where
     by : (k : Role) → (k ≡ Across → ⊥) → SharesAs k c.tri f → ShareAPlane c.tri f
     by Across n s = absurd (n refl)
-    by Coplanar n s = s
-    by Owner n s = s
+    by Later n s = s
+    by Earlier n s = s
 
 -- the edge planes of a coplanar triangle that meets a region cut out of it what lies in the triangle
-pub edges_last : (c : Cutter) (es : List Plane) (f : Face) → CanCut c f → c.role ≢ Across → es ≡ edges_of c.tri → Meets f (face_of c.tri) → AreLast c.tri es f
-edges_last c es f h n e m =
-    subst (λ (ps : List Plane). AreLast c.tri ps f) (sym e) (all_last c.tri f c.normal (cutter_shares_plane c f h n) m)
+pub edges_cut_out : (c : Cutter) (es : List Plane) (f : Face) → CanCut c f → c.role ≢ Across → es ≡ edges_of c.tri → Meets f (face_of c.tri) → CutOutTriangle c.tri es f
+edges_cut_out c es f h n e m =
+    subst (λ (ps : List Plane). CutOutTriangle c.tri ps f) (sym e) (all_cut_out c.tri f c.normal (cutter_shares_plane c f h n) m)
 
 -- ---- the first plane of a list and the rest
 abbrev rest_of : {A : Type 0} → List A → List A

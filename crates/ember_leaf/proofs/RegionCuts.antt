@@ -13,16 +13,16 @@ use Rattle.ember_model.specs.Planes.{support_of, opposite, value_at}
 use Rattle.ember_model.specs.Faces.{face_of, edges_of, Meets, Cuts}
 use Rattle.ember_model.specs.ClearTest.{face_with}
 use Rattle.ember_model.proofs.SignTests.{negative_in, negative_out, positive_out, zero_out}
-use Rattle.ember_box.specs.Regions.{CuttingPlane, AtCuttingPlane, splits, whole}
+use Rattle.ember_box.specs.Regions.{CuttingPlane, AreLeftByCuttingPlane, splits, whole}
 use Rattle.ember_poly.specs.Cuts.{AreParts, IsReach}
-use Rattle.ember_poly.specs.declared.reach_cut.Reach.{Reach}
-use Rattle.ember_poly.specs.declared.reach_cut.Reach.TheVariants.{Below, Above, On, Both}
+use Rattle.ember_poly.specs.declared.reach_and_cut.Reach.{Reach}
+use Rattle.ember_poly.specs.declared.reach_and_cut.Reach.TheVariants.{Below, Above, On, Both}
 use Rattle.ember_poly.proofs.ReachBySigns.{over_opposite}
 use Rattle.ember_leaf.specs.declared.cutter.Cutter.{Cutter}
-use Rattle.ember_leaf.specs.KeptRegions.{IsRegionOf}
+use Rattle.ember_leaf.specs.KeptRegions.{LiesInPlaneOf}
 use Rattle.ember_leaf.specs.Walls.{IsPartOf}
 use Rattle.ember_leaf.specs.Written.{HasGrown}
-use Rattle.ember_leaf.specs.Cutters.{AtCutter, AreSplit, AreCut, MeetsFirst}
+use Rattle.ember_leaf.specs.Cutters.{AreLeftByCutter, AreSplit, AreCut, MeetsFirst}
 use Rattle.ember_leaf.proofs.WallClips.{part_below, each_every}
 
 -- the face of a cutter is that of its triangle
@@ -59,12 +59,12 @@ test_iff_out {b} q e h = q.0 (subst IsTrue (sym h ∙ e) truth)
     truth = search rules
 
 -- a cutting plane leaves both parts of a face that it cuts
-pub region_parts : (b : CuttingPlane) (f x y : Face) → Meets f b.face → AreParts f b.plane x y → AtCuttingPlane b f (x ∷ y ∷ [])
+pub region_parts : (b : CuttingPlane) (f x y : Face) → Meets f b.face → AreParts f b.plane x y → AreLeftByCuttingPlane b f (x ∷ y ∷ [])
 region_parts b f x y m p =
-    subst (λ (l : List Face). AtCuttingPlane b f l) (sym (λ i. p.is_low i ∷ p.is_high i ∷ [])) (splits m p.cuts)
+    subst (λ (l : List Face). AreLeftByCuttingPlane b f l) (sym (λ i. p.is_low i ∷ p.is_high i ∷ [])) (splits m p.cuts)
 
 -- a cutting plane leaves a face as it is that it doesn't cut
-pub region_whole : (b : CuttingPlane) (f : Face) (k : Reach) → IsReach f b.plane k → (k ≡ Both → ⊥) → AtCuttingPlane b f (f ∷ [])
+pub region_whole : (b : CuttingPlane) (f : Face) (k : Reach) → IsReach f b.plane k → (k ≡ Both → ⊥) → AreLeftByCuttingPlane b f (f ∷ [])
 region_whole b f k h n = whole (λ m. no_cut f b.plane k h n)
   where
     negative_positive : (z : ℤ) → is_negative z ≡ true → is_positive z ≡ true → ⊥
@@ -76,9 +76,9 @@ region_whole b f k h n = whole (λ m. no_cut f b.plane k h n)
 
     no_cut : (f : Face) (p : Plane) (k : Reach) → IsReach f p k → (k ≡ Both → ⊥) → Cuts f p → ⊥
     no_cut f p Below k n c =
-        negative_positive _ (k.everywhere.holds c.high.at c.high.inside) c.high.holds
-    no_cut f p Above k n c = negative_positive _ c.low.holds (k.everywhere.holds c.low.at c.low.inside)
-    no_cut f p On k n c = zero_negative _ (k.everywhere.holds c.low.at c.low.inside) c.low.holds
+        negative_positive _ (k.everywhere.holds c.some_above.at c.some_above.inside) c.some_above.holds
+    no_cut f p Above k n c = negative_positive _ c.some_below.holds (k.everywhere.holds c.some_below.at c.some_below.inside)
+    no_cut f p On k n c = zero_negative _ (k.everywhere.holds c.some_below.at c.some_below.inside) c.some_below.holds
     no_cut f p Both k n c = n refl
 
 -- ---- regions one after another
@@ -87,7 +87,7 @@ first_met b rest {f} {list} {yielded} h e q =
     subst (MeetsFirst b) (sym e ∙ ap (λ (l : List Face). l ++ f ∷ rest) q) h
 
 -- the list has split_grows_list by what a triangle leaves of one region
-pub split_grows_list : (b : Cutter) (old fs : List Face) (f : Face) (out new : List Face) → ((front : List Face) → AreSplit b front old → AreSplit b (front ++ fs) out) → HasGrown (AtCutter b f) out new → (front : List Face) → AreSplit b front old → AreSplit b (front ++ (fs ++ f ∷ [])) new
+pub split_grows_list : (b : Cutter) (old fs : List Face) (f : Face) (out new : List Face) → ((front : List Face) → AreSplit b front old → AreSplit b (front ++ fs) out) → HasGrown (AreLeftByCutter b f) out new → (front : List Face) → AreSplit b front old → AreSplit b (front ++ (fs ++ f ∷ [])) new
 split_grows_list b old fs f out new k g front h =
     subst (λ (l : List Face). AreSplit b l new) (append_assoc front fs (f ∷ [])) (subst (λ (l : List Face). AreSplit b ((front ++ fs) ++ f ∷ []) l) (sym g.is) (each_push (k front h) g.holds))
 
@@ -96,7 +96,7 @@ pub grown_by_one : (P : List Face → Type 0) (f : Face) (old new : List Face) �
 grown_by_one P f old new p e = record { more = f ∷ []; is = e; holds = p }
 
 -- one more region that the cutter leaves whole
-pub whole_more : (b : Cutter) (list : List Face) (i : ℕ) (d : Face) → i < length list → d ≡ get_or list i d → AreSplit b (take i list) (take i list) → AtCutter b d (d ∷ []) → AreSplit b (take (i + 1) list) (take (i + 1) list)
+pub whole_more : (b : Cutter) (list : List Face) (i : ℕ) (d : Face) → i < length list → d ≡ get_or list i d → AreSplit b (take i list) (take i list) → AreLeftByCutter b d (d ∷ []) → AreSplit b (take (i + 1) list) (take (i + 1) list)
 whole_more b list i d l e h r = rw (take_more list i d l, ← e) (each_push h r)
 
 -- the first k members of a list with at most k members are all of it
@@ -121,18 +121,18 @@ cut_begun f {none} {new} e q =
     subst (AreCut [] (f ∷ [])) (sym (q ∙ ap (λ (fs : List Face). fs ++ f ∷ []) e)) done
 
 -- ---- what is left is a part of the triangle
-cutting_plane_keeps : (t : Tri) (b : CuttingPlane) (f : Face) (fs : List Face) → IsPartOf t f → AtCuttingPlane b f fs → Every (IsPartOf t) fs
+cutting_plane_keeps : (t : Tri) (b : CuttingPlane) (f : Face) (fs : List Face) → IsPartOf t f → AreLeftByCuttingPlane b f fs → Every (IsPartOf t) fs
 cutting_plane_keeps t b f fs h (splits m c) =
-    (part_below t f b.plane h c.low, (part_below t f (opposite b.plane) h (record { at = c.high.at; inside = c.high.inside; holds = negative_in (over_opposite b.plane c.high.at (record { over = positive_out (value_at b.plane c.high.at) c.high.holds })).under }), tt))
+    (part_below t f b.plane h c.some_below, (part_below t f (opposite b.plane) h (record { at = c.some_above.at; inside = c.some_above.inside; holds = negative_in (over_opposite b.plane c.some_above.at (record { over = positive_out (value_at b.plane c.some_above.at) c.some_above.holds })).under }), tt))
 cutting_plane_keeps t b f fs h (whole n) = (h, tt)
 
 -- cuts keep parts of a triangle parts of it
-pub cuts_keep : (t : Tri) {bs : List CuttingPlane} {fs gs : List Face} → Chain (λ b. Each (AtCuttingPlane b)) bs fs gs → Every (IsPartOf t) fs → Every (IsPartOf t) gs
+pub cuts_keep : (t : Tri) {bs : List CuttingPlane} {fs gs : List Face} → Chain (λ b. Each (AreLeftByCuttingPlane b)) bs fs gs → Every (IsPartOf t) fs → Every (IsPartOf t) gs
 cuts_keep t done h = h
 cuts_keep t (step {x = b} r c) h =
     cuts_keep t c (each_every (IsPartOf t) (IsPartOf t) (cutting_plane_keeps t b) r h)
 
 -- parts of a triangle lie in its plane
-pub parts_regions : (t : Tri) (fs : List Face) → Every (IsPartOf t) fs → All (IsRegionOf t) fs
-parts_regions t [] h = All-nil (IsRegionOf t)
-parts_regions t (f ∷ fs) h = All-cons (IsRegionOf t) f fs h.0.plane (parts_regions t fs h.1)
+pub parts_regions : (t : Tri) (fs : List Face) → Every (IsPartOf t) fs → All (LiesInPlaneOf t) fs
+parts_regions t [] h = All-nil (LiesInPlaneOf t)
+parts_regions t (f ∷ fs) h = All-cons (LiesInPlaneOf t) f fs h.0.plane (parts_regions t fs h.1)

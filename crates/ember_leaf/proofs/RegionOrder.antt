@@ -12,7 +12,7 @@ use Rattle.ember_trace.specs.NearTriangles.{tri_of}
 use Rattle.ember_leaf.specs.declared.kept.Kept.{Kept}
 use Rattle.ember_leaf.specs.declared.leaf_triangle.LeafTriangle.{LeafTriangle}
 use Rattle.ember_leaf.specs.LeafTriangles.{tri_in, tris_in}
-use Rattle.ember_leaf.specs.KeptRegions.{IsRegionOf, IsKeptOf, IsPlaced, ArePlacedBelow, tris_of}
+use Rattle.ember_leaf.specs.KeptRegions.{LiesInPlaneOf, IsKeptOf, IsPlaced, ArePlacedBelow, tris_of}
 
 -- ---- the plane of a triangle
 
@@ -29,7 +29,7 @@ placed_none ts n ks e =
 at_number : (fs : List NearTriangle) (n : ℕ) (k : Kept) → n < length fs → IsKeptOf (tri_at (tris_of fs) n) n k → IsPlaced (tris_of fs) k
 at_number fs n k l h =
     let e = h.number in let q = length-map fs tri_of in
-    record { index = omega (arith, e, q, l); region = subst (λ (m : ℕ). IsRegionOf (tri_at (tris_of fs) m) k.ring) (sym h.number) h.region }
+    record { index = omega (arith, e, q, l); plane = subst (λ (m : ℕ). LiesInPlaneOf (tri_at (tris_of fs) m) k.ring) (sym h.number) h.plane }
 
 -- one more written region of the next triangle
 pub placed_push : (fs : List NearTriangle) (n : ℕ) (ks new : List Kept) (k : Kept) → n < length fs → ArePlacedBelow (tris_of fs) (n + 1) ks → IsKeptOf (tri_at (tris_of fs) n) n k → new ≡ ks ++ k ∷ [] → ArePlacedBelow (tris_of fs) (n + 1) new

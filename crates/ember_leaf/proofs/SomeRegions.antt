@@ -9,16 +9,16 @@ use Rattle.ember_model.specs.Owners.{IsOwner}
 use Rattle.ember_expr.specs.Formula.{Formula}
 use Rattle.ember_box.specs.Boxes.{Cell}
 use Rattle.ember_box.specs.Near.{tri_at}
-use Rattle.ember_box.specs.Regions.{Wall, walls, FaceIsAbove, FaceLiesOn, AtWall, cut, outside, in_high, stays, CuttingPlane, cutting_planes, AtCuttingPlane, splits, whole, IsRegions}
+use Rattle.ember_box.specs.Regions.{Wall, walls, FaceIsAbove, FaceLiesOn, AreLeftByWall, cut, outside, in_high, stays, CuttingPlane, cutting_planes, AreLeftByCuttingPlane, splits, whole, IsRegions}
 use Rattle.ember_leaf.specs.declared.kept.Kept.{Kept}
-use Rattle.ember_leaf.specs.Written.{AtRegion, unowned, AreRegionsWritten, IsWrittenOf, regional, hidden}
+use Rattle.ember_leaf.specs.Written.{IsWrittenOfRegion, unowned, AreRegionsWritten, IsWrittenOf, regional, hidden}
 use Rattle.ember_leaf.proofs.WrittenRegionsUnique.{hidden_owns_none}
 
 -- ---- either it holds or it doesn't
 pub either : (P : Type 0) → ((P ⊎ (P → ⊥)) → ⊥) → ⊥
 either P n = n (inr (λ p. n (inl p)))
 
-at_wall : (w : Wall) (f : Face) → ((fs : List Face) → AtWall w f fs → ⊥) → ⊥
+at_wall : (w : Wall) (f : Face) → ((fs : List Face) → AreLeftByWall w f fs → ⊥) → ⊥
 at_wall w f n = either (Cuts f w.plane) by_cut
   where
     by_on : (Cuts f w.plane → ⊥) → (FaceIsAbove f w.plane → ⊥) → ((w.is_high ≡ true × FaceLiesOn f w.plane) ⊎ (w.is_high ≡ true × FaceLiesOn f w.plane → ⊥)) → ⊥
@@ -33,7 +33,7 @@ at_wall w f n = either (Cuts f w.plane) by_cut
     by_cut (inl c) = n (below f w.plane ∷ []) (cut c)
     by_cut (inr c) = either (FaceIsAbove f w.plane) (by_above c)
 
-at_cutting_plane : (b : CuttingPlane) (f : Face) → ((fs : List Face) → AtCuttingPlane b f fs → ⊥) → ⊥
+at_cutting_plane : (b : CuttingPlane) (f : Face) → ((fs : List Face) → AreLeftByCuttingPlane b f fs → ⊥) → ⊥
 at_cutting_plane b f n = either (Meets f b.face × Cuts f b.plane) by
   where
     by : ((Meets f b.face × Cuts f b.plane) ⊎ (Meets f b.face × Cuts f b.plane → ⊥)) → ⊥
@@ -60,7 +60,7 @@ pub some_regions : (c : Cell) (ts : List Tri) (i : ℕ) → ((fs : List Face) �
 some_regions c ts i n =
     some_chain (λ w fs. some_each (at_wall w) fs) (walls c) (elim (is_flat (tri_at ts i)) [ true ↦ [] | false ↦ face_of (tri_at ts i) ∷ [] ]) (λ start s. some_chain (λ b fs. some_each (at_cutting_plane b) fs) (cutting_planes ts i) start (λ fs k. n fs (record { start = start; is_start = s; cuts = k })))
 
-all_unowned : (scene : List Tri) (f : Formula) (near : List Tri) (i : ℕ) (fs : List Face) → Every (λ g. IsOwner near i g → ⊥) fs → Each (AtRegion scene f near i) fs []
+all_unowned : (scene : List Tri) (f : Formula) (near : List Tri) (i : ℕ) (fs : List Face) → Every (λ g. IsOwner near i g → ⊥) fs → Each (IsWrittenOfRegion scene f near i) fs []
 all_unowned scene f near i [] h = none
 all_unowned scene f near i (g ∷ gs) h = more (unowned h.0) (all_unowned scene f near i gs h.1)
 

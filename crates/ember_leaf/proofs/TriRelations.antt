@@ -18,7 +18,7 @@ use Rattle.ember_model.specs.Faces.{is_flat, face_of, edges_of, is_in_closed, Ev
 use Rattle.ember_model.specs.Owners.{is_coplanar}
 use Rattle.ember_model.proofs.SignTests.{negative_out, positive_out, not_positive_out, zero_out, and_parts, not_true, clash, negative_in}
 use Rattle.ember_box.specs.declared.aabb.Interval.{Interval}
-use Rattle.ember_box.specs.Boxes.{along}
+use Rattle.ember_box.specs.Boxes.{entry_along}
 use Rattle.ember_box.specs.Aabbs.{aabb_of_tri, intervals_meet}
 use Rattle.ember_box.proofs.Orders.{le_in}
 use Rattle.ember_ref.proofs.NearPoints.{past_corners, coordinate}
@@ -28,7 +28,7 @@ use Rattle.ember_poly.proofs.ReachBySigns.{under_opposite, closed_from_inside}
 use Rattle.ember_poly.proofs.TriangleRing.{tri_sides}
 use Rattle.ember_leaf.specs.Contact.{no_plane}
 use Rattle.ember_leaf.specs.declared.heights.Heights.{Heights}
-use Rattle.ember_leaf.specs.TriRelations.{IsBehindEdge, heights_of, none_behind, none_in_front, all_behind, all_in_front, all_on, AreDisjoint}
+use Rattle.ember_leaf.specs.TriRelations.{IsBehindEdge, heights_of, none_behind, none_in_front, all_behind, all_in_front, all_on, MissesClosedFace}
 use Rattle.ember_leaf.specs.Cutters.{IsWithinInterval}
 use Rattle.ember_leaf.proofs.TriFaces.{AtCorners, AtCorner, inside_ring, closed_ring, inside_under, inside_over, closed_over, closed_at_least, ring_inside, closed_on}
 
@@ -116,7 +116,7 @@ corner_under p t h e =
     pick (inr (inr o)) = inr (inr (inl (record { under = o })))
 
 -- ---- no common point
-apart : (t u : Tri) → ((v : Spot) → IsInsideRing (support_of t) (tri_sides t) v → IsInClosedRing (support_of u) (tri_sides u) v → ⊥) → AreDisjoint t u
+apart : (t u : Tri) → ((v : Spot) → IsInsideRing (support_of t) (tri_sides t) v → IsInClosedRing (support_of u) (tri_sides u) v → ⊥) → MissesClosedFace t u
 apart t u f =
     record { holds = λ v i. off (is_in_closed (face_of u) v) (λ e. f v (inside_ring t v i) (closed_ring u v e)) }
   where
@@ -132,22 +132,22 @@ zero_under e u = omega (arith, linear, e, u.under)
 
 module _ (t u : Tri) (nt : is_flat t ≡ false) (nu : is_flat u ≡ false) where
   -- a triangle all of whose corners are in front of t's plane is disjoint from t
-  pub apart_in_front : all_in_front (heights_of (support_of t) u) ≡ true → AreDisjoint t u
+  pub apart_in_front : all_in_front (heights_of (support_of t) u) ≡ true → MissesClosedFace t u
   apart_in_front e =
       apart t u (λ v i k. zero_over i.flat (closed_over u nu (support_of t) v (front_over (support_of t) u e) k))
 
   -- and so is one all of whose corners are behind it
-  pub apart_behind : all_behind (heights_of (support_of t) u) ≡ true → AreDisjoint t u
+  pub apart_behind : all_behind (heights_of (support_of t) u) ≡ true → MissesClosedFace t u
   apart_behind e =
       let s = support_of t in let h = behind_under s u e in
       apart t u (λ v i k. zero_over (opposite_plane s v ∙ ap neg_ℤ i.flat) (closed_over u nu (opposite s) v (under_opposite s _ h.0, (under_opposite s _ h.1.0, (under_opposite s _ h.1.1.0, tt))) k))
 
-  apart_own_front : none_behind (heights_of (support_of u) t) ≡ true → all_on (heights_of (support_of u) t) ≡ false → AreDisjoint t u
+  apart_own_front : none_behind (heights_of (support_of u) t) ≡ true → all_on (heights_of (support_of u) t) ≡ false → MissesClosedFace t u
   apart_own_front e f =
       let s = support_of u in let h = front_at_least s t e in
       apart t u (λ v i k. zero_over k.flat (inside_over t nt s v h (corner_over s t h f) i))
 
-  apart_own_behind : none_in_front (heights_of (support_of u) t) ≡ true → all_on (heights_of (support_of u) t) ≡ false → AreDisjoint t u
+  apart_own_behind : none_in_front (heights_of (support_of u) t) ≡ true → all_on (heights_of (support_of u) t) ≡ false → MissesClosedFace t u
   apart_own_behind e f =
       let s = support_of u in let h = behind_at_most s t e in
       apart t u (λ v i k. zero_under k.flat (inside_under t nt s v h (corner_under s t h f) i))
@@ -161,7 +161,7 @@ intervals_with_point_meet a b x w p h k =
     order l h q =
         cancel_le p (omega (arith, linear, q, solve 2 (λ w l. w ⊗ l ≈ l ⊗ w) cancels w l, solve 2 (λ w h. w ⊗ h ≈ h ⊗ w) cancels w h))
 
-held : (k : Axis) (s : Interval) (t : Tri) (v : Spot) → is_flat t ≡ false → (s.low ≤ℤ along k (vector_of t.a)) × (s.low ≤ℤ along k (vector_of t.b)) × (s.low ≤ℤ along k (vector_of t.c)) → (along k (vector_of t.a) ≤ℤ s.high) × (along k (vector_of t.b) ≤ℤ s.high) × (along k (vector_of t.c) ≤ℤ s.high) → is_in_closed (face_of t) v ≡ true → IsWithinInterval s (coordinate k v) v.w
+held : (k : Axis) (s : Interval) (t : Tri) (v : Spot) → is_flat t ≡ false → (s.low ≤ℤ entry_along k (vector_of t.a)) × (s.low ≤ℤ entry_along k (vector_of t.b)) × (s.low ≤ℤ entry_along k (vector_of t.c)) → (entry_along k (vector_of t.a) ≤ℤ s.high) × (entry_along k (vector_of t.b) ≤ℤ s.high) × (entry_along k (vector_of t.c) ≤ℤ s.high) → is_in_closed (face_of t) v ≡ true → IsWithinInterval s (coordinate k v) v.w
 held k s t v n l h e =
     record { low = below (past_corners k (pos 1) s.low t v n (one l.0) (one l.1) (one l.2) e); high = above (past_corners k (neg_ℤ (pos 1)) (neg_ℤ s.high) t v n (minus h.0) (minus h.1) (minus h.2) e) }
   where
@@ -218,7 +218,7 @@ under_least u l = omega (arith, linear, u.under, l.at_least)
 most_over : {p : Plane} {v : Spot} → IsNotAbove p v → IsAbove p v → ⊥
 most_over m o = omega (arith, linear, m.at_most, o.over)
 
-edge_parts_triangles : (t u : Tri) (i : ℕ) (p : Plane) → is_flat t ≡ false → is_flat u ≡ false → slice_get (edges_of t) i ≡ Some p → none_behind (heights_of p u) ≡ true → all_on (heights_of p u) ≡ false → AreDisjoint t u × AreDisjoint u t
+edge_parts_triangles : (t u : Tri) (i : ℕ) (p : Plane) → is_flat t ≡ false → is_flat u ≡ false → slice_get (edges_of t) i ≡ Some p → none_behind (heights_of p u) ≡ true → all_on (heights_of p u) ≡ false → MissesClosedFace t u × MissesClosedFace u t
 edge_parts_triangles t u i p n m e f g =
     let h = front_at_least p u f in
     (apart t u (λ v a b. under_least (edge_under t i p v e a) (closed_at_least u m p v h b)), apart u t (λ v a b. most_over (edge_at_most t i p v e b) (inside_over u m p v h (corner_over p u h g) a)))
@@ -260,7 +260,7 @@ edge_here t es i e l =
     subst (λ us. slice_get us i ≡ Some (get_or es i no_plane)) e (slice_get-get_or es i no_plane (subst (λ us. i < length us) (sym e) l))
 
 -- an edge plane of t that has u in front of it keeps the two apart
-pub parted_by : (t u : Tri) (es : List Plane) (i : ℕ) {h : Heights} {b : Bool} → is_flat t ≡ false → is_flat u ≡ false → es ≡ edges_of t → i < 3 → h ≡ heights_of (get_or es i no_plane) u → b ≡ none_behind h && not (all_on h) → b ≡ true → AreDisjoint t u × AreDisjoint u t
+pub parted_by : (t u : Tri) (es : List Plane) (i : ℕ) {h : Heights} {b : Bool} → is_flat t ≡ false → is_flat u ≡ false → es ≡ edges_of t → i < 3 → h ≡ heights_of (get_or es i no_plane) u → b ≡ none_behind h && not (all_on h) → b ≡ true → MissesClosedFace t u × MissesClosedFace u t
 parted_by t u es i {h} n m e l q r z =
     let p = get_or es i no_plane in
     let x = and_parts (none_behind (heights_of p u)) (not (all_on (heights_of p u))) (heights_test_moved (λ h. none_behind h && not (all_on h)) u {p = p} refl q r z) in
@@ -268,13 +268,13 @@ parted_by t u es i {h} n m e l q r z =
 
 module _ (t u : Tri) (n : is_flat t ≡ false) (m : is_flat u ≡ false) where
   -- if t is in front of u's plane and not in it, t has no inside point in u
-  pub own_in_front : {s : Plane} {h : Heights} {b : Bool} → s ≡ support_of u → h ≡ heights_of s t → b ≡ none_behind h && not (all_on h) → b ≡ true → AreDisjoint t u
+  pub own_in_front : {s : Plane} {h : Heights} {b : Bool} → s ≡ support_of u → h ≡ heights_of s t → b ≡ none_behind h && not (all_on h) → b ≡ true → MissesClosedFace t u
   own_in_front e q r z =
       let x = and_parts (none_behind (heights_of (support_of u) t)) (not (all_on (heights_of (support_of u) t))) (heights_test_moved (λ h. none_behind h && not (all_on h)) t e q r z) in
       apart_own_front t u n m x.0 (not_true (all_on (heights_of (support_of u) t)) x.1)
 
   -- if t is behind u's plane and not in it, t has no inside point in u
-  pub own_behind : {s : Plane} {h : Heights} {b : Bool} → s ≡ support_of u → h ≡ heights_of s t → b ≡ none_in_front h && not (all_on h) → b ≡ true → AreDisjoint t u
+  pub own_behind : {s : Plane} {h : Heights} {b : Bool} → s ≡ support_of u → h ≡ heights_of s t → b ≡ none_in_front h && not (all_on h) → b ≡ true → MissesClosedFace t u
   own_behind e q r z =
       let x = and_parts (none_in_front (heights_of (support_of u) t)) (not (all_on (heights_of (support_of u) t))) (heights_test_moved (λ h. none_in_front h && not (all_on h)) t e q r z) in
       apart_own_behind t u n m x.0 (not_true (all_on (heights_of (support_of u) t)) x.1)

@@ -15,14 +15,14 @@ use Rattle.ember_model.proofs.SignTests.{clash}
 use Rattle.ember_model.proofs.Hits.{closed_parts}
 use Rattle.ember_box.specs.declared.aabb.Aabb.{Aabb}
 use Rattle.ember_box.specs.Aabbs.{aabb_of_tri, aabbs_meet, intervals_meet}
-use Rattle.ember_box.specs.Regions.{AtCuttingPlane, whole, cutting_planes_of, cutting_planes_at}
+use Rattle.ember_box.specs.Regions.{AreLeftByCuttingPlane, whole, cutting_planes_of, cutting_planes_at}
 use Rattle.ember_box.specs.Near.{tri_at}
 use Rattle.ember_box.specs.Regions as regions
 use Rattle.ember_model.specs.declared.point.Axis.TheVariants.{X, Y, Z}
 use Rattle.std.proofs.lemmas.Bool.{and_from}
 use Rattle.ember_leaf.specs.declared.cutter.Cutter.{Cutter}
 use Rattle.ember_leaf.specs.declared.cutter.Role.{Role}
-use Rattle.ember_leaf.specs.TriRelations.{AreDisjoint}
+use Rattle.ember_leaf.specs.TriRelations.{MissesClosedFace}
 use Rattle.ember_leaf.specs.Cutters.{planes_as, owner_as, LiesAs, IsCutterOf, IsAdded, cutting_planes_with, cutting_planes_by, cutting_planes_in, owners_by, owners_in, IsBounded, OmitsUnmet, all_seen, stays, goes, AddsCuttingPlanes}
 use Rattle.ember_leaf.proofs.WallClips.{each_every}
 use Rattle.ember_leaf.proofs.TriRelations.{intervals_with_point_meet, bounds}
@@ -52,12 +52,12 @@ module _ {P : Face → Type 0} where
       subst (λ l. OmitsUnmet P (front ++ bs) l) (ap (λ l. cutting_planes_in old ++ l) e ∙ sym q) (sheds_append r (same bs))
 
 -- what is shed changes nothing
-pub unmet_planes_change_nothing : {P : Face → Type 0} → ((b : regions.CuttingPlane) (f : Face) (fs : List Face) → P f → AtCuttingPlane b f fs → Every P fs) → {xs ys : List regions.CuttingPlane} {fs gs : List Face} → OmitsUnmet P xs ys → Every P fs → Chain (λ b. Each (AtCuttingPlane b)) ys fs gs → Chain (λ b. Each (AtCuttingPlane b)) xs fs gs
+pub unmet_planes_change_nothing : {P : Face → Type 0} → ((b : regions.CuttingPlane) (f : Face) (fs : List Face) → P f → AreLeftByCuttingPlane b f fs → Every P fs) → {xs ys : List regions.CuttingPlane} {fs gs : List Face} → OmitsUnmet P xs ys → Every P fs → Chain (λ b. Each (AreLeftByCuttingPlane b)) ys fs gs → Chain (λ b. Each (AreLeftByCuttingPlane b)) xs fs gs
 unmet_planes_change_nothing k all_seen h done = done
 unmet_planes_change_nothing {P} k (stays {b = b} r) h (step q c) = step q (unmet_planes_change_nothing k r (each_every P P (k b) q h) c)
 unmet_planes_change_nothing {P} k (goes {b = b} f r) h c = step (untouched _ h) (unmet_planes_change_nothing k r h c)
   where
-    untouched : (fs : List Face) → Every P fs → Each (AtCuttingPlane b) fs fs
+    untouched : (fs : List Face) → Every P fs → Each (AreLeftByCuttingPlane b) fs fs
     untouched [] h = none
     untouched (g ∷ gs) h = more (whole (λ m q. f g h.0 m)) (untouched gs h.1)
 
@@ -94,7 +94,7 @@ adds_flat t u b old e =
     adds_none (cutting_planes_of t u) old (subst (Every (λ c. (f : Face) → IsBounded t b f → Meets f c.face → ⊥)) (sym (flat_cutting_planes t u e)) tt)
 
 -- a triangle that is disjoint from t needs none either
-pub adds_apart : (t u : Tri) (b : Aabb) (old : List Cutter) → AreDisjoint t u → AddsCuttingPlanes (IsBounded t b) (cutting_planes_of t u) old old
+pub adds_apart : (t u : Tri) (b : Aabb) (old : List Cutter) → MissesClosedFace t u → AddsCuttingPlanes (IsBounded t b) (cutting_planes_of t u) old old
 adds_apart t u b old a =
     adds_none (cutting_planes_of t u) old (every_cutting_plane (λ c. (f : Face) → IsBounded t b f → Meets f c.face → ⊥) t u (λ n p f k m. clash m.holds (a.holds m.at (k.within.holds m.at m.inside))))
 

@@ -13,25 +13,25 @@ use Rattle.ember_model.specs.Sides.{IsSides}
 use Rattle.ember_expr.specs.Formula.{Formula}
 use Rattle.ember_box.specs.Boxes.{Cell}
 use Rattle.ember_box.specs.Near.{tri_at}
-use Rattle.ember_box.specs.Regions.{walls, AtWall, AtCuttingPlane, cutting_planes, IsStart, IsRegions}
+use Rattle.ember_box.specs.Regions.{walls, AreLeftByWall, AreLeftByCuttingPlane, cutting_planes, IsStart, IsRegions}
 use Rattle.ember_box.specs.Regions as regions
 use Rattle.ember_trace.specs.Boxed.{LiesIn}
 use Rattle.ember_trace.proofs.BoxedRegions.{regions_lie_in}
 use Rattle.ember_leaf.specs.declared.kept.Kept.{Kept}
 use Rattle.ember_leaf.specs.Cutters.{Without, ended, left, dropped}
-use Rattle.ember_leaf.specs.Written.{AtRegion, unowned, even, written, AreOwned, IsWrittenOf, regional, IsWrittenIn, IsFlip, WhereFits, HasGrown}
+use Rattle.ember_leaf.specs.Written.{IsWrittenOfRegion, unowned, even, written, AreOwned, IsWrittenOf, regional, IsWrittenIn, IsFlip, WhereFits, HasGrown}
 use Rattle.ember_leaf.proofs.UnmetPlanes.{range_more}
 
 -- ---- one region
 module _ (scene : List Tri) (f : Formula) (near : List Tri) (i : ℕ) (face : Face) (before after : List ℤ) (s : IsSides scene face before after) where
   -- an owned region with different values on its sides is written
-  pub is_written : (turn : Option Bool) (flipped : Bool) → IsOwner near i face → IsFlip f face before after turn → turn ≡ Some flipped → AtRegion scene f near i face (record { tri = i; flipped = flipped; ring = face } ∷ [])
+  pub is_written : (turn : Option Bool) (flipped : Bool) → IsOwner near i face → IsFlip f face before after turn → turn ≡ Some flipped → IsWrittenOfRegion scene f near i face (record { tri = i; flipped = flipped; ring = face } ∷ [])
   is_written turn flipped o t e =
       let k = subst (IsFlip f face before after) e t in
-      subst (λ (b : Bool). AtRegion scene f near i face (record { tri = i; flipped = b; ring = face } ∷ [])) (sym k.1) (written o s k.0)
+      subst (λ (b : Bool). IsWrittenOfRegion scene f near i face (record { tri = i; flipped = b; ring = face } ∷ [])) (sym k.1) (written o s k.0)
 
   -- a region with one value on both sides isn't written
-  pub is_even : (turn : Option Bool) → IsFlip f face before after turn → turn ≡ None → AtRegion scene f near i face []
+  pub is_even : (turn : Option Bool) → IsFlip f face before after turn → turn ≡ None → IsWrittenOfRegion scene f near i face []
   is_even turn t e = even s (subst (IsFlip f face before after) e t)
 
 -- ---- a list that grows
@@ -44,15 +44,15 @@ grown_more ns c counts R fs f old mid new ks g r e =
     record { more = g.more ++ ks; is = e ∙ ap (λ (l : List Kept). l ++ ks) g.is ∙ append_assoc old g.more ks; holds = λ scene h. each_push (g.holds scene h) (r scene h) }
 
 -- nothing is written of the regions that the triangle doesn't own
-all_written_of : (scene ns : List Tri) (f : Formula) (i : ℕ) {all fs : List Face} {ks : List Kept} → Without (λ g. IsOwner ns i g → ⊥) (IsOwner ns i) all fs → Each (AtRegion scene f ns i) fs ks → Each (AtRegion scene f ns i) all ks
+all_written_of : (scene ns : List Tri) (f : Formula) (i : ℕ) {all fs : List Face} {ks : List Kept} → Without (λ g. IsOwner ns i g → ⊥) (IsOwner ns i) all fs → Each (IsWrittenOfRegion scene f ns i) fs ks → Each (IsWrittenOfRegion scene f ns i) all ks
 all_written_of scene ns f i ended none = none
 all_written_of scene ns f i (left o w) (more r e) = more r (all_written_of scene ns f i w e)
 all_written_of scene ns f i (dropped n w) e = more (unowned n) (all_written_of scene ns f i w e)
 
 -- owned regions, each with what is written of it, are what is written of their triangle
-pub grown_owned : (ns : List Tri) (c : Cell) (counts : List ℤ) (f : Formula) (i : ℕ) (fs gs : List Face) (old new : List Kept) → HasGrown (WhereFits ns c counts (λ scene. Each (AtRegion scene f ns i) fs)) old new → fs ≡ gs → AreOwned c ns i gs → HasGrown (WhereFits ns c counts (λ scene. IsWrittenOf scene f c ns i)) old new
+pub grown_owned : (ns : List Tri) (c : Cell) (counts : List ℤ) (f : Formula) (i : ℕ) (fs gs : List Face) (old new : List Kept) → HasGrown (WhereFits ns c counts (λ scene. Each (IsWrittenOfRegion scene f ns i) fs)) old new → fs ≡ gs → AreOwned c ns i gs → HasGrown (WhereFits ns c counts (λ scene. IsWrittenOf scene f c ns i)) old new
 grown_owned ns c counts f i fs gs old new g e o =
-    record { more = g.more; is = g.is; holds = λ scene h. regional (record { faces = o.all; are_regions = o.are_regions; are_written = all_written_of scene ns f i o.owned (subst (λ (l : List Face). Each (AtRegion scene f ns i) l g.more) e (g.holds scene h)) }) }
+    record { more = g.more; is = g.is; holds = λ scene h. regional (record { faces = o.all; are_regions = o.are_regions; are_written = all_written_of scene ns f i o.owned (subst (λ (l : List Face). Each (IsWrittenOfRegion scene f ns i) l g.more) e (g.holds scene h)) }) }
 
 -- once nothing is left to yield, all of the list has been yielded
 pub all_yielded : (ys rest : List Face) {all list : List Face} → ys ++ rest ≡ all → length rest ≡ 0 → all ≡ list → ys ≡ list
@@ -60,17 +60,17 @@ all_yielded ys [] e l q = sym (append-nil ys) ∙ e ∙ q
 all_yielded ys (f ∷ fs) e l q = absurd (omega (arith, l))
 
 -- ---- no region
-none_cut : (bs : List regions.CuttingPlane) → Chain (λ b. Each (AtCuttingPlane b)) bs [] []
+none_cut : (bs : List regions.CuttingPlane) → Chain (λ b. Each (AreLeftByCuttingPlane b)) bs [] []
 none_cut [] = done
 none_cut (b ∷ bs) = step none (none_cut bs)
 
-none_left : (ws : List regions.Wall) → Chain (λ w. Each (AtWall w)) ws [] []
+none_left : (ws : List regions.Wall) → Chain (λ w. Each (AreLeftByWall w)) ws [] []
 none_left [] = done
 none_left (w ∷ ws) = step none (none_left ws)
 
 flat_start : (c : Cell) (t : Tri) → is_flat t ≡ true → IsStart c t []
 flat_start c t e =
-    subst (λ (fs : List Face). Chain (λ w. Each (AtWall w)) (walls c) fs []) (λ j. elim (sym e j) as (λ x. List Face) [ true ↦ [] | false ↦ face_of t ∷ [] ]) (none_left (walls c))
+    subst (λ (fs : List Face). Chain (λ w. Each (AreLeftByWall w)) (walls c) fs []) (λ j. elim (sym e j) as (λ x. List Face) [ true ↦ [] | false ↦ face_of t ∷ [] ]) (none_left (walls c))
 
 module _ (scene : List Tri) (f : Formula) (c : Cell) (ns : List Tri) (i : ℕ) where
   -- nothing is written of a triangle without a start

@@ -24,7 +24,7 @@ use Rattle.ember_trace.proofs.BoxedRegions.{regions_lie_in, region_inside}
 use Rattle.ember_trace.proofs.OneSides.{one_sides}
 use Rattle.ember_trace.proofs.TracedSides.{in_box}
 use Rattle.ember_leaf.specs.declared.kept.Kept.{Kept}
-use Rattle.ember_leaf.specs.Written.{front, AtRegion, unowned, even, written, AreRegionsWritten, IsCovered, IsWrittenOf, regional, hidden, IsWrittenIn}
+use Rattle.ember_leaf.specs.Written.{front, IsWrittenOfRegion, unowned, even, written, AreRegionsWritten, IsCovered, IsWrittenOf, regional, hidden, IsWrittenIn}
 use Rattle.ember_leaf.specs.Scenes.{HasOneValue, LeafGives, regions, nothing, IsWritten}
 
 -- what holds at each place holds of each member
@@ -49,7 +49,7 @@ hidden_owns_none near c i faces r h =
     every_from (λ g. IsOwner near i g → ⊥) faces (λ j g e o. o.first h.index h.own h.cover h.before h.here h.there h.coplanar (record { holds = λ v w. h.contains.holds v (subst (λ (t : Tri). is_inside (face_of t) v ≡ true) (get_or_from_slice_get near i h.own no_tri h.there) (region_inside c near i j faces g r e v w)) }))
 
 module _ (scene : List Tri) (f : Formula) (c : Cell) (near : List Tri) where
-  none_owned : (i : ℕ) (g : Face) (ks : List Kept) → (IsOwner near i g → ⊥) → AtRegion scene f near i g ks → ks ≡ []
+  none_owned : (i : ℕ) (g : Face) (ks : List Kept) → (IsOwner near i g → ⊥) → IsWrittenOfRegion scene f near i g ks → ks ≡ []
   none_owned i g ks n (unowned m) = refl
   none_owned i g ks n (even s e) = refl
   none_owned i g ks n (written o s e) = absurd (n o)
@@ -66,7 +66,7 @@ SidesAreOne scene face =
     (before after other_before other_after : List ℤ) → IsSides scene face before after → IsSides scene face other_before other_after → (before ≡ other_before) × (after ≡ other_after)
 
 module _ (scene : List Tri) (f : Formula) (c : Cell) (near : List Tri) (one : (face : Face) → IsRegion near c face → SidesAreOne scene face) where
-  region_unique : (i : ℕ) (g : Face) (us vs : List Kept) → IsRegion near c g → AtRegion scene f near i g us → AtRegion scene f near i g vs → us ≡ vs
+  region_unique : (i : ℕ) (g : Face) (us vs : List Kept) → IsRegion near c g → IsWrittenOfRegion scene f near i g us → IsWrittenOfRegion scene f near i g vs → us ≡ vs
   region_unique i g us vs r (unowned n) (unowned m) = refl
   region_unique i g us vs r (unowned n) (even x e) = refl
   region_unique i g us vs r (unowned n) (written o x e) = absurd (n o)
@@ -85,7 +85,7 @@ module _ (scene : List Tri) (f : Formula) (c : Cell) (near : List Tri) (one : (f
 
   of_unique : (i : ℕ) (us vs : List Kept) → IsWrittenOf scene f c near i us → IsWrittenOf scene f c near i vs → us ≡ vs
   of_unique i us vs (regional u) (regional v) =
-      each_unique_where (IsRegion near c) (λ g xs ys r p q. region_unique i g xs ys r p q) (each_region near c i u.faces u.are_regions) u.are_written (subst (λ (gs : List Face). Each (AtRegion scene f near i) gs vs) (sym (regions_unique c near i u.faces v.faces u.are_regions v.are_regions)) v.are_written)
+      each_unique_where (IsRegion near c) (λ g xs ys r p q. region_unique i g xs ys r p q) (each_region near c i u.faces u.are_regions) u.are_written (subst (λ (gs : List Face). Each (IsWrittenOfRegion scene f near i) gs vs) (sym (regions_unique c near i u.faces v.faces u.are_regions v.are_regions)) v.are_written)
   of_unique i us vs (regional u) (hidden h) = covered_writes_nothing scene f c near i us h u
   of_unique i us vs (hidden h) (regional v) = sym (covered_writes_nothing scene f c near i vs h v)
   of_unique i us vs (hidden h) (hidden k) = refl
@@ -106,7 +106,7 @@ module _ (scene : List Tri) (f : Formula) (c : Cell) (one : HasOneValue scene f 
       )
 
   module _ (near : List Tri) (has : (g : Face) → IsRegion near c g → (v : Spot) → is_inside g v ≡ true → HasPoint c v) where
-    none_at : (i : ℕ) (g : Face) (ks : List Kept) → IsRegion near c g → AtRegion scene f near i g ks → ks ≡ []
+    none_at : (i : ℕ) (g : Face) (ks : List Kept) → IsRegion near c g → IsWrittenOfRegion scene f near i g ks → ks ≡ []
     none_at i g ks r (unowned n) = refl
     none_at i g ks r (even s e) = refl
     none_at i g ks r (written {before = b} {after = a} o s e) =

@@ -1,5 +1,5 @@
 -- What the corners of a triangle show of a region in its plane
-use Rattle.std.specs.Prelude.{◌≡◌, ◌⊎◌, ℕ, ◌<◌, true, List, length, slice_index_or, pos}
+use Rattle.std.specs.Prelude.{◌≡◌, ◌⊎◌, ℕ, ◌<◌, true, List, length, slice_index_or, pos, ⊤}
 use Rattle.std.specs.List.{AllByRecursion}
 use Rattle.ember_model.specs.declared.plane.Plane.{Plane}
 use Rattle.ember_model.specs.declared.tri.Tri.{Tri}
@@ -28,4 +28,4 @@ IsBehind es c = AllByRecursion (λ g. IsBelow g (spot_of_corner c)) es
 abbrev pub IsContact : List Plane → Tri → Contact → Type 0
 IsContact es t Apart = HasParting es t
 IsContact es t Met = IsBehind es t.a ⊎ (IsBehind es t.b ⊎ IsBehind es t.c)
-IsContact es t Unknown = Unit {0}
+IsContact es t Unknown = ⊤

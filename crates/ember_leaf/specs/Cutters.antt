@@ -1,5 +1,5 @@
 -- What triangles leave of the regions of another one
-use Rattle.std.specs.Prelude.{◌≡◌, ◌≢◌, Bool, true, false, List, [], ◌∷◌, ◌++◌, map, flat_map, ℤ, pos, ◌*ℤ◌, ◌≤ℤ◌}
+use Rattle.std.specs.Prelude.{◌≡◌, ◌≢◌, Bool, true, false, List, [], ◌∷◌, ◌++◌, map, flat_map, ℤ, pos, ◌*ℤ◌, ◌≤ℤ◌, ⊤}
 use Rattle.std.specs.List.{AllByRecursion}
 use Rattle.std.specs.Int.{int_min, int_max}
 use Rattle.ember_algebra.specs.Relations.{Each, Chain}
@@ -13,13 +13,13 @@ use Rattle.ember_model.specs.Owners.{is_coplanar}
 use Rattle.ember_box.specs.declared.aabb.Interval.{Interval}
 use Rattle.ember_box.specs.declared.aabb.Aabb.{Aabb}
 use Rattle.ember_box.specs.Aabbs.{interval_between}
-use Rattle.ember_box.specs.Regions.{CuttingPlane, AtCuttingPlane}
+use Rattle.ember_box.specs.Regions.{CuttingPlane, AreLeftByCuttingPlane}
 use Rattle.ember_poly.specs.Rings.{IsBelow, IsNotAbove}
-use Rattle.ember_poly.specs.declared.reach_cut.Reach.{Reach}
-use Rattle.ember_poly.specs.declared.reach_cut.Reach.TheVariants.{Both}
+use Rattle.ember_poly.specs.declared.reach_and_cut.Reach.{Reach}
+use Rattle.ember_poly.specs.declared.reach_and_cut.Reach.TheVariants.{Both}
 use Rattle.ember_poly.specs.Cuts.{HasInside, IsReach}
 use Rattle.ember_leaf.specs.declared.cutter.Role.{Role}
-use Rattle.ember_leaf.specs.declared.cutter.Role.TheVariants.{Across, Coplanar, Owner}
+use Rattle.ember_leaf.specs.declared.cutter.Role.TheVariants.{Across, Later, Earlier}
 use Rattle.ember_leaf.specs.declared.cutter.Cutter.{Cutter}
 use Rattle.ember_leaf.specs.TriRelations.{HasContaining}
 
@@ -27,25 +27,25 @@ use Rattle.ember_leaf.specs.TriRelations.{HasContaining}
 -- the planes by which it cuts
 abbrev pub planes_as : Role → Tri → List Plane
 planes_as Across t = support_of t ∷ []
-planes_as Coplanar t = edges_of t
-planes_as Owner t = edges_of t
+planes_as Later t = edges_of t
+planes_as Earlier t = edges_of t
 
 -- the triangle itself, if it owns what it contains
 abbrev pub owner_as : Role → Tri → List Tri
 owner_as Across t = []
-owner_as Coplanar t = []
-owner_as Owner t = t ∷ []
+owner_as Later t = []
+owner_as Earlier t = t ∷ []
 
 -- the role of a triangle in the plane of another one, by whether it comes before that one
 abbrev pub role_if : Bool → Role
-role_if true = Owner
-role_if false = Coplanar
+role_if true = Earlier
+role_if false = Later
 
 -- u lies relative to t, whose regions it cuts, as its role says
 abbrev pub LiesAs : Role → Tri → Tri → Type 0
-LiesAs Across t u = Unit {0}
-LiesAs Coplanar t u = is_coplanar t u ≡ true
-LiesAs Owner t u = is_coplanar t u ≡ true
+LiesAs Across t u = ⊤
+LiesAs Later t u = is_coplanar t u ≡ true
+LiesAs Earlier t u = is_coplanar t u ≡ true
 
 -- the cutter lies relative to t as its role says
 pub record IsCutterOf (t : Tri) (c : Cutter) : Type 0 where
@@ -70,11 +70,11 @@ cutting_planes_by c = cutting_planes_with c.tri (planes_as c.role c.tri)
 abbrev pub cutting_planes_in : List Cutter → List CuttingPlane
 cutting_planes_in cs = flat_map cutting_planes_by cs
 
--- the cutter's triangle, if its role is `Owner`
+-- the cutter's triangle, if its role is `Earlier`
 abbrev pub owners_by : Cutter → List Tri
 owners_by c = owner_as c.role c.tri
 
--- the triangles of the list with the role `Owner`
+-- the triangles of the list with the role `Earlier`
 abbrev pub owners_in : List Cutter → List Tri
 owners_in cs = flat_map owners_by cs
 
@@ -96,16 +96,16 @@ pub record IsFree (ts : List Tri) (f : Face) : Type 0 where
 -- the cutting planes leave these faces, but for some that the triangles contain
 pub record AreLeft (bs : List CuttingPlane) (ts : List Tri) (fs gs : List Face) : Type 0 where
   pub all : List Face
-  pub cuts : Chain (λ b. Each (AtCuttingPlane b)) bs fs all
+  pub cuts : Chain (λ b. Each (AreLeftByCuttingPlane b)) bs fs all
   pub without : Without (HasContaining ts) (IsFree ts) all gs
 
 -- what a triangle leaves of a region
-abbrev pub AtCutter : Cutter → Face → List Face → Type 0
-AtCutter c f gs = AreLeft (cutting_planes_by c) (owners_by c) (f ∷ []) gs
+abbrev pub AreLeftByCutter : Cutter → Face → List Face → Type 0
+AreLeftByCutter c f gs = AreLeft (cutting_planes_by c) (owners_by c) (f ∷ []) gs
 
 -- what it leaves of each region
 abbrev pub AreSplit : Cutter → List Face → List Face → Type 0
-AreSplit c fs gs = Each (AtCutter c) fs gs
+AreSplit c fs gs = Each (AreLeftByCutter c) fs gs
 
 -- the list has grown by what the triangle leaves of fs
 abbrev pub IsSplitBehind : Cutter → List Face → List Face → List Face → Type 0
@@ -117,7 +117,7 @@ AreCut cs fs gs = Chain AreSplit cs fs gs
 
 -- the first region meets the triangle's closed face
 abbrev pub MeetsFirst : Cutter → List Face → Type 0
-MeetsFirst c [] = Unit {0}
+MeetsFirst c [] = ⊤
 MeetsFirst c (f ∷ fs) = Meets f (face_of c.tri)
 
 -- planes that are negative inside the triangle, and nowhere positive in its closed face
@@ -127,14 +127,14 @@ pub record AreAround (t : Tri) (ps : List Plane) : Type 0 where
 
 -- the planes cut out of f the part inside the triangle, which isn't empty: an inside point of f that is below
 -- all of them is inside the triangle
-pub record AreLast (t : Tri) (ps : List Plane) (f : Face) : Type 0 where
+pub record CutOutTriangle (t : Tri) (ps : List Plane) (f : Face) : Type 0 where
   pub around : AreAround t ps
   pub shared : Somewhere f (λ v. is_inside (face_of t) v ≡ true)
   pub within : (v : Spot) → is_inside f v ≡ true → AllByRecursion (λ p. IsBelow p v) ps → is_inside (face_of t) v ≡ true
 
 -- what a plane leaves of a region that meets the face of the plane's triangle, whichever face that is
-abbrev pub AtPlane : Plane → Face → List Face → Type 0
-AtPlane p f gs = (g : Face) → Meets f g → AtCuttingPlane (record { face = g; plane = p }) f gs
+abbrev pub AreLeftByPlane : Plane → Face → List Face → Type 0
+AreLeftByPlane p f gs = (g : Face) → Meets f g → AreLeftByCuttingPlane (record { face = g; plane = p }) f gs
 
 -- the plane doesn't cut f
 pub record IsUncut (f : Face) (p : Plane) : Type 0 where
@@ -143,8 +143,8 @@ pub record IsUncut (f : Face) (p : Plane) : Type 0 where
   pub uncut : side ≢ Both
 
 -- what the planes leave of a region
-abbrev pub AtEdges : Cutter → List Plane → Face → List Face → Type 0
-AtEdges c ps f gs = AreLeft (cutting_planes_with c.tri ps) (owners_by c) (f ∷ []) gs
+abbrev pub AreLeftByEdges : Cutter → List Plane → Face → List Face → Type 0
+AreLeftByEdges c ps f gs = AreLeft (cutting_planes_with c.tri ps) (owners_by c) (f ∷ []) gs
 
 -- the triangle and the face lie in one plane
 pub record ShareAPlane (t : Tri) (f : Face) : Type 0 where
@@ -153,9 +153,9 @@ pub record ShareAPlane (t : Tri) (f : Face) : Type 0 where
 
 -- they lie in one plane if the triangle cuts by its edge planes
 abbrev pub SharesAs : Role → Tri → Face → Type 0
-SharesAs Across t f = Unit {0}
-SharesAs Coplanar t f = ShareAPlane t f
-SharesAs Owner t f = ShareAPlane t f
+SharesAs Across t f = ⊤
+SharesAs Later t f = ShareAPlane t f
+SharesAs Earlier t f = ShareAPlane t f
 
 -- the cutter may be applied to f: f has an inside point, and lies in the cutter's plane if the role says so
 pub record CanCut (c : Cutter) (f : Face) : Type 0 where

@@ -11,19 +11,19 @@ use Rattle.ember_trace.specs.NearTriangles.{tri_of}
 use Rattle.ember_leaf.specs.declared.kept.Kept.{Kept}
 
 -- a face in the plane of the triangle, which isn't flat; it needn't be one of the triangle's regions
-pub record IsRegionOf (t : Tri) (f : Face) : Type 0 where
+pub record LiesInPlaneOf (t : Tri) (f : Face) : Type 0 where
   pub normal : is_flat t ≡ false
   pub support : f.support ≡ support_of t
 
 -- a written region of triangle i, which is t
 pub record IsKeptOf (t : Tri) (i : ℕ) (k : Kept) : Type 0 where
   pub number : k.tri ≡ i
-  pub region : IsRegionOf t k.ring
+  pub plane : LiesInPlaneOf t k.ring
 
 -- a written region whose triangle is in the list
 pub record IsPlaced (ts : List Tri) (k : Kept) : Type 0 where
   pub index : k.tri < length ts
-  pub region : IsRegionOf (tri_at ts k.tri) k.ring
+  pub plane : LiesInPlaneOf (tri_at ts k.tri) k.ring
 
 -- written regions of triangles of the list, in the order of their triangles
 pub record ArePlaced (ts : List Tri) (ks : List Kept) : Type 0 where

@@ -17,8 +17,8 @@ use Rattle.ember_ref.proofs.NearPoints.{HasPoint}
 use Rattle.ember_leaf.specs.declared.kept.Kept.{Kept}
 use Rattle.ember_leaf.specs.Written.{IsWrittenIn}
 
--- the expression has this value at all clear points directly beside v: those at which a step along
--- an axis ends, if it is small
+-- the expression has this value at all clear points directly beside v: for each axis and number `by`, at the
+-- point v moved by `by` / (m * w) along the axis, if it is clear and m is large enough (from some m on)
 pub record IsBeside (scene : List Tri) (f : Formula) (v : Spot) (value : Bool) : Type 0 where
   pub steps : (k : Axis) (by : ℤ) → Eventually (λ m. AreClear (faces_of scene) (moved (scaled (pos m) v) k by) →
       (a : Axis) → truth (vector a scene (moved (scaled (pos m) v) k by)) f ≡ value)

@@ -40,8 +40,8 @@ all_on h = is_zero h.a && (is_zero h.b && is_zero h.c)
 
 -- no inside point of t lies in the closed face of u; of boundary points of t it says nothing, so t
 -- and u can't be exchanged
-abbrev pub AreDisjoint : Tri → Tri → Type 0
-AreDisjoint t u = Everywhere (face_of t) (λ v. is_in_closed (face_of u) v ≡ false)
+abbrev pub MissesClosedFace : Tri → Tri → Type 0
+MissesClosedFace t u = Everywhere (face_of t) (λ v. is_in_closed (face_of u) v ≡ false)
 
 -- the inside of u lies behind the edge plane of t with this index
 abbrev pub IsBehindEdge : Tri → Tri → ℕ → Type 0
@@ -50,12 +50,12 @@ IsBehindEdge t u i =
 
 -- how t lies relative to the closed face of u; `Across` and `Coplanar` only say whether both lie in one plane
 abbrev pub IsRelation : Tri → Tri → Relation → Type 0
-IsRelation t u Apart = AreDisjoint t u
+IsRelation t u Apart = MissesClosedFace t u
 IsRelation t u Across = is_coplanar t u ≡ false
 IsRelation t u Coplanar = is_coplanar t u ≡ true
 
 -- a valid triangle u in the plane of t; used for the triangles before t, though the index isn't part of it
-pub record IsLower (t u : Tri) : Type 0 where
+pub record IsValidCoplanar (t u : Tri) : Type 0 where
   pub valid : IsValidTri u
   pub coplanar : is_coplanar u t ≡ true
 

@@ -1,4 +1,5 @@
--- Which regions of a leaf are written
+-- Which regions of a leaf are written. specs/Regions.antt of ember_box defines the regions, and
+-- specs/Owners.antt and specs/Sides.antt of ember_model define owners and sides.
 use Rattle.std.specs.Prelude.{◌≡◌, ◌≢◌, ℕ, ◌<◌, Bool, true, Option, None, Some, slice_get, if◌then◌else◌, ℤ, List, [], ◌∷◌, ◌++◌, length}
 use Rattle.std.specs.List.{range_with_len}
 use Rattle.ember_algebra.specs.Relations.{Each}
@@ -22,22 +23,25 @@ abbrev pub front : Face → List ℤ → List ℤ → List ℤ
 front f before after =
     if is_positive (along f.support (main_axis f.support)) then after else before
 
--- what is written of a region of triangle i: nothing if another triangle owns it, or if the expression has
--- one value on both sides; otherwise the region, with its normal on the side on which the expression is false
-pub data AtRegion (scene : List Tri) (f : Formula) (near : List Tri) (i : ℕ) (face : Face) : List Kept → Type 0 where
-  unowned : (IsOwner near i face → ⊥) → AtRegion scene f near i face []
+-- what is written of a region of triangle i: nothing if another triangle owns it, or if the expression has one
+-- value on both sides; otherwise the region, and whether it must be flipped so that its normal points to the
+-- side on which the expression is false
+pub data IsWrittenOfRegion (scene : List Tri) (f : Formula) (near : List Tri) (i : ℕ)
+    (face : Face) : List Kept → Type 0 where
+  unowned : (IsOwner near i face → ⊥) → IsWrittenOfRegion scene f near i face []
   even : {before after : List ℤ} → IsSides scene face before after → truth before f ≡ truth after f →
-      AtRegion scene f near i face []
+      IsWrittenOfRegion scene f near i face []
   written : {before after : List ℤ} → IsOwner near i face → IsSides scene face before after →
       truth before f ≢ truth after f →
-      AtRegion scene f near i face (record { tri = i; flipped = truth (front face before after) f; ring = face } ∷ [])
+      IsWrittenOfRegion scene f near i face
+      (record { tri = i; flipped = truth (front face before after) f; ring = face } ∷ [])
 
 -- the regions of triangle i of a leaf with these near triangles, and what is written of each
 pub record AreRegionsWritten (scene : List Tri) (f : Formula) (c : Cell) (near : List Tri) (i : ℕ)
     (ks : List Kept) : Type 0 where
   pub faces : List Face
   pub are_regions : IsRegions c near i faces
-  pub are_written : Each (AtRegion scene f near i) faces ks
+  pub are_written : Each (IsWrittenOfRegion scene f near i) faces ks
 
 -- a triangle before triangle i, in its plane, contains its face, and so owns all its regions
 pub record IsCovered (near : List Tri) (i : ℕ) : Type 0 where

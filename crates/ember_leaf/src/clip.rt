@@ -5,7 +5,7 @@ ghost use Rattle.ember_model.specs.Valid.{IsValidPlane};
 ghost use Rattle.ember_box.specs.Aabbs.{IsIntervalSized};
 ghost use Rattle.ember_model.specs.Planes.{opposite};
 ghost use Rattle.ember_model.specs.Faces.{is_flat, face_of};
-ghost use Rattle.ember_box.specs.Regions.{level, AtWall};
+ghost use Rattle.ember_box.specs.Regions.{level, AreLeftByWall};
 ghost use Rattle.ember_box.specs.Regions as regions;
 ghost use Rattle.ember_poly.specs.Drafts.{face_in, HoldsRing};
 ghost use Rattle.ember_leaf.specs.Cutters.{common, common_of};
@@ -19,57 +19,58 @@ use ember_poly::{Draft, Reach, Ring};
 use std::alloc::Global;
 
 // The interval of a bounding box along an axis.
-fn span(b: &Aabb, k: Axis) -> Interval
-    ensures { result ≡ interval_along b.now k }
+fn span(spans: &Aabb, k: Axis) -> Interval
+    ensures { result ≡ interval_along spans.now k }
 {
     match k {
-        Axis::X => b.x,
-        Axis::Y => b.y,
-        Axis::Z => b.z,
+        Axis::X => spans.x,
+        Axis::Y => spans.y,
+        Axis::Z => spans.z,
     }
 }
 
 // What two intervals have in common.
-fn common(a: &Interval, b: &Interval) -> Interval
-    ensures { result ≡ common a.now b.now }
+fn common(first: &Interval, second: &Interval) -> Interval
+    ensures { result ≡ common first.now second.now }
 {
     Interval {
-        low: a.low.max(b.low),
-        high: a.high.min(b.high),
+        low: first.low.max(second.low),
+        high: first.high.min(second.high),
     }
 }
 
-/// What two bounding boxes have in common. An interval is empty if its low end is above its high end.
-pub fn common_spans(a: &Aabb, b: &Aabb) -> Aabb
-    ensures { result ≡ common_of a.now b.now }
+/// What two bounding boxes have in common. An interval is empty if its low end is above its high
+/// end.
+pub fn common_spans(first: &Aabb, second: &Aabb) -> Aabb
+    ensures { result ≡ common_of first.now second.now }
 {
     Aabb {
-        x: common(&a.x, &b.x),
-        y: common(&a.y, &b.y),
-        z: common(&a.z, &b.z),
+        x: common(&first.x, &second.x),
+        y: common(&first.y, &second.y),
+        z: common(&first.z, &second.z),
     }
 }
 
 // The wall at the low end of a box's interval along an axis.
-fn low_wall(s: &Interval, axis: Axis) -> Wall
-    requires { IsIntervalSized s.now }
-    ensures { wall_of result ≡ record { plane = opposite (level axis s.now.low); is_high = false } }
+fn low_wall(interval: &Interval, axis: Axis) -> Wall
+    requires { IsIntervalSized interval.now }
+    ensures { wall_of result ≡ record { plane = opposite (level axis interval.now.low); is_high = false } }
 {
     Wall {
         axis,
-        at: s.low,
+        at: interval.low,
         is_high: false,
     }
 }
 
 // The wall at the high end of a box's interval along an axis.
-fn high_wall(s: &Interval, axis: Axis) -> Wall
-    requires { IsIntervalSized s.now }
-    ensures { wall_of result ≡ record { plane = level axis s.now.high; is_high = true } }
+fn high_wall(interval: &Interval, axis: Axis) -> Wall
+    requires { IsIntervalSized interval.now }
+    ensures { wall_of result ≡ record { plane = level axis interval.now.high; is_high = true } }
 {
     Wall {
         axis,
-        at: s.high,
+        at: interval.high,
         is_high: true,
     }
 }
@@ -78,14 +79,14 @@ fn high_wall(s: &Interval, axis: Axis) -> Wall
 pub fn walls(c: &Cell) -> [Wall; 6]
     ensures { map wall_of result ≡ regions.walls c.now }
 {
-    let b = aabb_of_cell(c);
+    let aabb = aabb_of_cell(c);
     [
-        low_wall(&b.x, Axis::X),
-        high_wall(&b.x, Axis::X),
-        low_wall(&b.y, Axis::Y),
-        high_wall(&b.y, Axis::Y),
-        low_wall(&b.z, Axis::Z),
-        high_wall(&b.z, Axis::Z),
+        low_wall(&aabb.x, Axis::X),
+        high_wall(&aabb.x, Axis::X),
+        low_wall(&aabb.y, Axis::Y),
+        high_wall(&aabb.y, Axis::Y),
+        low_wall(&aabb.z, Axis::Z),
+        high_wall(&aabb.z, Axis::Z),
     ]
 }
 
@@ -119,15 +120,15 @@ fn level(axis: Axis, n: i64, d: i64) -> Plane
 }
 
 // The plane of the wall, negative in the box.
-fn plane_of(w: &Wall) -> Plane
-    ensures value { result ≡ (wall_of w.now).plane }
+fn plane_of(wall: &Wall) -> Plane
+    ensures value { result ≡ (wall_of wall.now).plane }
     ensures valid { IsValidPlane result }
 {
-    let at = i64::from(w.at);
-    if w.is_high {
-        level(w.axis, 1, at)
+    let at = i64::from(wall.at);
+    if wall.is_high {
+        level(wall.axis, 1, at)
     } else {
-        level(w.axis, -1, -at)
+        level(wall.axis, -1, -at)
     }
 }
 
@@ -144,12 +145,12 @@ enum Remainder {
 }
 
 // What an interval decides about clipping at a low wall.
-fn remainder_at_low(s: &Interval, w: &Wall) -> Remainder
-    ensures { IsLowRemainder s.now w.now.at result }
+fn remainder_at_low(interval: &Interval, wall: &Wall) -> Remainder
+    ensures { IsLowRemainder interval.now wall.now.at result }
 {
-    if s.low >= w.at {
+    if interval.low >= wall.at {
         Remainder::Whole
-    } else if s.high <= w.at {
+    } else if interval.high <= wall.at {
         Remainder::Nothing
     } else {
         Remainder::Unknown
@@ -157,12 +158,12 @@ fn remainder_at_low(s: &Interval, w: &Wall) -> Remainder
 }
 
 // What an interval decides about clipping at a high wall.
-fn remainder_at_high(s: &Interval, w: &Wall) -> Remainder
-    ensures { IsHighRemainder s.now w.now.at result }
+fn remainder_at_high(interval: &Interval, wall: &Wall) -> Remainder
+    ensures { IsHighRemainder interval.now wall.now.at result }
 {
-    if s.low >= w.at {
+    if interval.low >= wall.at {
         Remainder::Nothing
-    } else if s.high <= w.at {
+    } else if interval.high <= wall.at {
         Remainder::Whole
     } else {
         Remainder::Unknown
@@ -170,26 +171,28 @@ fn remainder_at_high(s: &Interval, w: &Wall) -> Remainder
 }
 
 // What the bounding box of a triangle decides about clipping at a wall.
-fn remainder_at(w: &Wall, f: &LeafTriangle) -> Remainder
-    ensures { IsRemainder (wall_of w.now) f.now.tri result }
+fn remainder_at(wall: &Wall, triangle: &LeafTriangle) -> Remainder
+    ensures { IsRemainder (wall_of wall.now) triangle.now.tri result }
 {
-    let s = span(&f.aabb, w.axis);
-    if w.is_high {
-        remainder_at_high(&s, w)
+    let interval = span(&triangle.aabb, wall.axis);
+    if wall.is_high {
+        remainder_at_high(&interval, wall)
     } else {
-        remainder_at_low(&s, w)
+        remainder_at_low(&interval, wall)
     }
 }
 
-/// `true` only if no part of the triangle belongs to the box. Bounding boxes alone are tested: of
-/// the walls in order, the first one that may cut something off cuts everything off. `false` shows
-/// nothing.
-pub fn is_outside(walls: &[Wall], f: &LeafTriangle) -> bool
-    requires { is_flat f.now.tri ≡ false }
-    ensures { result ≡ true → IsClippedBy (map wall_of walls.now) f.now.tri [] }
+/// `true` only if no part of the triangle belongs to the box; `false` shows nothing. Bounding boxes
+/// alone are tested, wall by wall. Walls that cut nothing off are passed over, and a wall that cuts
+/// everything off ends the test with `true`. A wall for which the bounding box decides nothing ends
+/// it with `false`, even if a later wall cuts everything off: by the definition, each wall clips
+/// what the one before it leaves, and what such a wall leaves only the clip finds.
+pub fn is_outside(walls: &[Wall], triangle: &LeafTriangle) -> bool
+    requires { is_flat triangle.now.tri ≡ false }
+    ensures { result ≡ true → IsClippedBy (map wall_of walls.now) triangle.now.tri [] }
 {
-    for w in walls {
-        match remainder_at(w, f) {
+    for wall in walls {
+        match remainder_at(wall, triangle) {
             Remainder::Whole => {}
             Remainder::Nothing => return true,
             Remainder::Unknown => return false,
@@ -200,36 +203,40 @@ pub fn is_outside(walls: &[Wall], f: &LeafTriangle) -> bool
 
 // Clips a face at the wall. Returns whether anything is left. A face in the plane of a wall belongs
 // to the box that has this wall as its low one.
-fn at_wall(draft: &mut Draft, w: &Wall) -> Result<bool, OutOfMemory>
+fn clip_at_wall(draft: &mut Draft, wall: &Wall) -> Result<bool, OutOfMemory>
     requires { HoldsRing draft.old }
     ensures ring { OnOk result (HoldsRing draft.new) }
-    ensures left { IfOk result (λ some. AtWall (wall_of w.now) (face_in draft.old) (if some
+    ensures left { IfOk result (λ some. AreLeftByWall (wall_of wall.now) (face_in draft.old) (if some
         then face_in draft.new ∷ [] else [])) }
 {
-    let side = draft.clip(&plane_of(w))?;
+    let side = draft.clip(&plane_of(wall))?;
     match side {
         Reach::Below => Ok(true),
         Reach::Above => Ok(false),
-        Reach::On => Ok(!w.is_high),
+        Reach::On => Ok(!wall.is_high),
         Reach::Both => Ok(true),
     }
 }
 
 // Clips the face of a triangle at the walls, one after another. Returns whether anything is left.
-fn within_walls(draft: &mut Draft, f: &LeafTriangle, walls: &[Wall]) -> Result<bool, OutOfMemory>
-    requires normal { is_flat f.now.tri ≡ false }
+fn clip_at_walls(
+    draft: &mut Draft,
+    triangle: &LeafTriangle,
+    walls: &[Wall],
+) -> Result<bool, OutOfMemory>
+    requires normal { is_flat triangle.now.tri ≡ false }
     requires ring { HoldsRing draft.old }
-    requires whole { face_in draft.old ≡ face_of f.now.tri }
+    requires whole { face_in draft.old ≡ face_of triangle.now.tri }
     ensures ring { OnOk result (HoldsRing draft.new) }
-    ensures left { IfOk result (λ some. IsClippedBy (map wall_of walls.now) f.now.tri (if some
+    ensures left { IfOk result (λ some. IsClippedBy (map wall_of walls.now) triangle.now.tri (if some
         then face_in draft.new ∷ [] else [])) }
 {
-    for w in walls {
-        match remainder_at(w, f) {
+    for wall in walls {
+        match remainder_at(wall, triangle) {
             Remainder::Whole => {}
             Remainder::Nothing => return Ok(false),
             Remainder::Unknown => {
-                if !at_wall(draft, w)? {
+                if !clip_at_wall(draft, wall)? {
                     return Ok(false);
                 }
             }
@@ -244,15 +251,15 @@ fn within_walls(draft: &mut Draft, f: &LeafTriangle, walls: &[Wall]) -> Result<b
 pub fn clip_to_box(
     alloc: Global,
     draft: &mut Draft,
-    f: &LeafTriangle,
+    triangle: &LeafTriangle,
     walls: &[Wall],
     room: usize,
 ) -> Result<Option<Ring>, OutOfMemory>
-    requires { is_flat f.now.tri ≡ false }
-    ensures { IfOk result (λ out. IsClippedBy (map wall_of walls.now) f.now.tri (option_to_list out)) }
+    requires { is_flat triangle.now.tri ≡ false }
+    ensures { IfOk result (λ out. IsClippedBy (map wall_of walls.now) triangle.now.tri (option_to_list out)) }
 {
-    draft.begin(&f.tri, &f.support, &f.edges)?;
-    if within_walls(draft, f, walls)? {
+    draft.begin(&triangle.tri, &triangle.support, &triangle.edges)?;
+    if clip_at_walls(draft, triangle, walls)? {
         Ok(Some(draft.ring(alloc, room)?))
     } else {
         Ok(None)

@@ -28,15 +28,15 @@ struct Behind {
 
 impl Behind {
     // Those of the corners that are also behind the plane with these heights.
-    fn and(&self, h: &Heights) -> Behind
-        ensures a { result.a ≡ self.now.a && is_negative h.now.a }
-        ensures b { result.b ≡ self.now.b && is_negative h.now.b }
-        ensures c { result.c ≡ self.now.c && is_negative h.now.c }
+    fn and(&self, heights: &Heights) -> Behind
+        ensures a { result.a ≡ self.now.a && is_negative heights.now.a }
+        ensures b { result.b ≡ self.now.b && is_negative heights.now.b }
+        ensures c { result.c ≡ self.now.c && is_negative heights.now.c }
     {
         Behind {
-            a: self.a && is_behind(h.a),
-            b: self.b && is_behind(h.b),
-            c: self.c && is_behind(h.c),
+            a: self.a && is_behind(heights.a),
+            b: self.b && is_behind(heights.b),
+            c: self.c && is_behind(heights.c),
         }
     }
 }
@@ -54,11 +54,11 @@ pub fn contact_of(edges: &[Plane], t: &Tri) -> Contact
         c: true,
     };
     for i in 0..edges.len() {
-        let h = heights_of(&edges[i], t);
-        if h.none_behind() {
+        let heights = heights_of(&edges[i], t);
+        if heights.none_behind() {
             return Contact::Apart;
         }
-        behind = behind.and(&h);
+        behind = behind.and(&heights);
     }
     if behind.a || (behind.b || behind.c) {
         Contact::Met

@@ -12,10 +12,10 @@ pub enum Role {
     /// In another plane: by its support plane.
     Across,
     /// In the same plane, with a higher index: by its edge planes.
-    Coplanar,
+    Later,
     /// In the same plane, with a lower index: by its edge planes. It owns each region that it
     /// contains.
-    Owner,
+    Earlier,
 }
 
 /// A triangle that cuts the regions of another one.
@@ -28,7 +28,7 @@ pub struct Cutter {
     ghost valid: { IsValidTri tri },
     ghost normal: { is_flat tri ≡ false },
     ghost face: { support ≡ support_of tri },
-    ghost sides: { edges ≡ edges_of tri },
+    ghost edge_planes: { edges ≡ edges_of tri },
     ghost sized: { IsValidPlane support },
-    ghost sides_sized: { All IsValidPlane edges },
+    ghost edges_sized: { All IsValidPlane edges },
 }

@@ -1,6 +1,7 @@
-// The other triangles near a leaf that may cut the regions of one. That one is `own`, and `g` is
-// one of the others. `find_cutters` calls `add_near` for each of them, this calls `add` if bounding
-// boxes meet, and this calls `add_coplanar` for a coplanar one.
+// The other triangles near a leaf that may cut the regions of one. That one is `target`, and
+// `other` is one of the others. `find_cutters` calls `add_near_unless_covering` for each of them,
+// this calls `add_unless_covering` if bounding boxes meet, and this calls
+// `add_coplanar_unless_covering` for a coplanar one.
 ghost use Rattle.std.specs.Prelude.{◌≡◌, false, true, All, IfOk, OnOk};
 ghost use Rattle.ember_model.specs.Faces.{is_flat};
 ghost use Rattle.ember_model.specs.Owners.{is_coplanar};
@@ -17,14 +18,18 @@ use ember_box::{Aabb, aabbs_meet};
 use ember_model::OutOfMemory;
 
 // Adds the triangle with its role.
-fn add_cutter(list: &mut Vec<Cutter>, g: &LeafTriangle, role: Role) -> Result<(), OutOfMemory>
-    requires { is_flat g.now.tri ≡ false }
-    ensures { OnOk result (IsAdded g.now.tri role list.old.items list.new.items) }
+fn add_cutter(
+    list: &mut Vec<Cutter>,
+    triangle: &LeafTriangle,
+    role: Role,
+) -> Result<(), OutOfMemory>
+    requires { is_flat triangle.now.tri ≡ false }
+    ensures { OnOk result (IsAdded triangle.now.tri role list.old.items list.new.items) }
 {
     list.push(Cutter {
-        tri: g.tri,
-        support: g.support,
-        edges: g.edges,
+        tri: triangle.tri,
+        support: triangle.support,
+        edges: triangle.edges,
         role,
     })?;
     Ok(())
@@ -35,107 +40,108 @@ fn role_of(is_before: bool) -> Role
     ensures { result ≡ role_if is_before }
 {
     if is_before {
-        Role::Owner
+        Role::Earlier
     } else {
-        Role::Coplanar
+        Role::Later
     }
 }
 
-// Adds `g`, which lies in the plane of `own` and may meet it. Returns `true`, and adds nothing, if
-// `g` comes before `own` and is known to cover it.
-fn add_coplanar(
+// Adds `other`, which lies in the plane of `target` and may meet it. Returns `true`, and adds
+// nothing, if `other` comes before `target` and is known to cover it.
+fn add_coplanar_unless_covering(
     list: &mut Vec<Cutter>,
-    own: &LeafTriangle,
-    g: &LeafTriangle,
+    target: &LeafTriangle,
+    other: &LeafTriangle,
     is_before: bool,
 ) -> Result<bool, OutOfMemory>
-    requires normal { is_flat g.now.tri ≡ false }
-    requires plane { is_coplanar own.now.tri g.now.tri ≡ true }
-    requires own { is_flat own.now.tri ≡ false }
-    requires cutters { All (IsCutterOf own.now.tri) list.old.items }
-    ensures cutters { OnOk result (All (IsCutterOf own.now.tri) list.new.items) }
-    ensures cutting_planes { IfOk result (AddsPlanesOf own.now.tri g.now.tri list.old.items list.new.items) }
-    ensures owners { IfOk result (AddsOwners own.now.tri g.now.tri is_before list.old.items list.new.items) }
+    requires normal { is_flat other.now.tri ≡ false }
+    requires plane { is_coplanar target.now.tri other.now.tri ≡ true }
+    requires target { is_flat target.now.tri ≡ false }
+    requires cutters { All (IsCutterOf target.now.tri) list.old.items }
+    ensures cutters { OnOk result (All (IsCutterOf target.now.tri) list.new.items) }
+    ensures cutting_planes { IfOk result (AddsPlanesOf target.now.tri other.now.tri list.old.items list.new.items) }
+    ensures owners { IfOk result (AddsOwners target.now.tri other.now.tri is_before list.old.items list.new.items) }
 {
-    if is_before && covers(g, own) {
+    if is_before && covers(other, target) {
         return Ok(true);
     }
-    add_cutter(list, g, role_of(is_before))?;
+    add_cutter(list, other, role_of(is_before))?;
     Ok(false)
 }
 
-// Adds `g` if it may meet the regions of `own`. Returns `true`, and adds nothing, if `g` comes
-// before `own` and is known to cover it.
-fn add(
+// Adds `other` if it may meet the regions of `target`. Returns `true`, and adds nothing, if `other`
+// comes before `target` and is known to cover it.
+fn add_unless_covering(
     list: &mut Vec<Cutter>,
-    own: &LeafTriangle,
-    g: &LeafTriangle,
+    target: &LeafTriangle,
+    other: &LeafTriangle,
     is_before: bool,
 ) -> Result<bool, OutOfMemory>
-    requires own { is_flat own.now.tri ≡ false }
-    requires cutters { All (IsCutterOf own.now.tri) list.old.items }
-    ensures cutters { OnOk result (All (IsCutterOf own.now.tri) list.new.items) }
-    ensures cutting_planes { IfOk result (AddsPlanesOf own.now.tri g.now.tri list.old.items list.new.items) }
-    ensures owners { IfOk result (AddsOwners own.now.tri g.now.tri is_before list.old.items list.new.items) }
+    requires target { is_flat target.now.tri ≡ false }
+    requires cutters { All (IsCutterOf target.now.tri) list.old.items }
+    ensures cutters { OnOk result (All (IsCutterOf target.now.tri) list.new.items) }
+    ensures cutting_planes { IfOk result (AddsPlanesOf target.now.tri other.now.tri list.old.items list.new.items) }
+    ensures owners { IfOk result (AddsOwners target.now.tri other.now.tri is_before list.old.items list.new.items) }
 {
-    if is_flat(g) {
+    if is_flat(other) {
         return Ok(false);
     }
-    match relation_of(own, g) {
+    match relation_of(target, other) {
         Relation::Apart => Ok(false),
         Relation::Across => {
-            add_cutter(list, g, Role::Across)?;
+            add_cutter(list, other, Role::Across)?;
             Ok(false)
         }
-        Relation::Coplanar => add_coplanar(list, own, g, is_before),
+        Relation::Coplanar => add_coplanar_unless_covering(list, target, other, is_before),
     }
 }
 
-// Adds `g` if its bounding box meets the bounds and it may meet the regions of `own`. Returns
-// `true`, and adds nothing, if `g` comes before `own` and is known to cover it.
-fn add_near(
+// Adds `other` if its bounding box meets the bounds and it may meet the regions of `target`.
+// Returns `true`, and adds nothing, if `other` comes before `target` and is known to cover it.
+fn add_near_unless_covering(
     list: &mut Vec<Cutter>,
-    own: &LeafTriangle,
+    target: &LeafTriangle,
     bounds: &Aabb,
-    g: &LeafTriangle,
+    other: &LeafTriangle,
     is_before: bool,
 ) -> Result<bool, OutOfMemory>
-    requires own { is_flat own.now.tri ≡ false }
-    requires cutters { All (IsCutterOf own.now.tri) list.old.items }
-    ensures cutters { OnOk result (All (IsCutterOf own.now.tri) list.new.items) }
+    requires target { is_flat target.now.tri ≡ false }
+    requires cutters { All (IsCutterOf target.now.tri) list.old.items }
+    ensures cutters { OnOk result (All (IsCutterOf target.now.tri) list.new.items) }
     ensures cutting_planes { IfOk result
-        (AddsCuttingPlanesWithin bounds.now own.now.tri g.now.tri list.old.items list.new.items) }
+        (AddsCuttingPlanesWithin bounds.now target.now.tri other.now.tri list.old.items list.new.items) }
     ensures owners { IfOk result
-        (AddsOwnersWithin bounds.now own.now.tri g.now.tri is_before list.old.items list.new.items) }
+        (AddsOwnersWithin bounds.now target.now.tri other.now.tri is_before list.old.items list.new.items) }
 {
-    if aabbs_meet(bounds, &g.aabb) {
-        add(list, own, g, is_before)
+    if aabbs_meet(bounds, &other.aabb) {
+        add_unless_covering(list, target, other, is_before)
     } else {
         Ok(false)
     }
 }
 
 /// Replaces the list by the triangles that may cut the regions of triangle `i`, in order. Triangle
-/// `i` (`own`) isn't flat, and its regions lie within the bounds. Returns `true`, with an
+/// `i` (`target`) isn't flat, and its regions lie within the bounds. Returns `true`, with an
 /// incomplete list, if an earlier triangle in its plane covers it and so owns all its regions.
 /// `false` says only that the list is complete. The only error is out-of-memory.
 pub fn find_cutters(
     list: &mut Vec<Cutter>,
-    own: &LeafTriangle,
+    target: &LeafTriangle,
     bounds: &Aabb,
     near: &[LeafTriangle],
     i: usize,
 ) -> Result<bool, OutOfMemory>
-    requires normal { is_flat own.now.tri ≡ false }
-    requires own { own.now.tri ≡ tri_at (tris_in near.now) i }
-    ensures cutters { OnOk result (All (IsCutterOf own.now.tri) list.new.items) }
-    ensures cutting_planes { IfOk result (AreCuttingPlanesFound (tris_in near.now) i own.now.tri bounds.now list.new.items) }
-    ensures owners { IfOk result (AreOwnersFound (tris_in near.now) i own.now.tri bounds.now list.new.items) }
+    requires normal { is_flat target.now.tri ≡ false }
+    requires target { target.now.tri ≡ tri_at (tris_in near.now) i }
+    ensures cutters { OnOk result (All (IsCutterOf target.now.tri) list.new.items) }
+    ensures cutting_planes { IfOk result
+        (AreCuttingPlanesFound (tris_in near.now) i target.now.tri bounds.now list.new.items) }
+    ensures owners { IfOk result (AreOwnersFound (tris_in near.now) i target.now.tri bounds.now list.new.items) }
 {
     list.clear();
     for j in 0..near.len() {
-        let g = &near[j];
-        if j != i && add_near(list, own, bounds, g, j < i)? {
+        let other = &near[j];
+        if j != i && add_near_unless_covering(list, target, bounds, other, j < i)? {
             return Ok(true);
         }
     }

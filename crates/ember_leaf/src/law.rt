@@ -10,8 +10,10 @@ ghost use Rattle.ember_leaf.specs.Literal.{InScenes, HasSome, IsNothing, Covered
 /// The definition of what is written has two special cases: a triangle that an earlier coplanar one
 /// covers, and a leaf in which the expression has one value. Let the literal definition be the one
 /// without them. By it too a covered triangle and such a leaf write nothing. In a scene of closed
-/// meshes it can't fail to give a list: for a triangle, for a leaf, and for the scene. A list that it
-/// gives for a scene is the one that is written, and a list that is written can't fail to be literal.
+/// meshes it can't fail to give a list: for a triangle, for a leaf, and for the scene. (The
+/// prover's logic is constructive. To prove that there is a list would take a function that finds
+/// one, so the law says that it can't be that there is none.) A list that it gives for a scene is
+/// the one that is written, and a list that is written can't fail to be literal.
 pub fn special_cases_are_the_literal_definition()
     ensures covered { InScenes CoveredWriteNothing }
     ensures one_value { InScenes (λ s f. (c : Cell) → HasOneValue s f c → IsNothing (IsLiterallyWrittenIn s f c)) }

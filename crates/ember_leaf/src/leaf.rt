@@ -5,7 +5,7 @@ ghost use Rattle.ember_model.specs.Valid.{IsValidTri};
 ghost use Rattle.ember_model.specs.Owners.{IsOwner};
 ghost use Rattle.ember_model.specs.Meshes.{HasMesh};
 ghost use Rattle.ember_box.specs.Near.{tri_at};
-ghost use Rattle.ember_model.specs.declared.tri.Tri.{Tri as Corners};
+ghost use Rattle.ember_model.specs.declared.tri.Tri.{Tri as TriView};
 ghost use Rattle.ember_box.specs.Reference.{Fits};
 ghost use Rattle.ember_box.specs.Aabbs.{aabb_of_cell};
 ghost use Rattle.ember_box.specs.Regions.{walls as box_walls};
@@ -18,7 +18,7 @@ ghost use Rattle.ember_expr.specs.Formula.{formula_of};
 ghost use Rattle.ember_leaf.specs.Written.{IsFlip, IsWrittenIn, AreOwned};
 ghost use Rattle.ember_leaf.specs.LeafBoxes.{WritesRegion, AddsWritten};
 ghost use Rattle.ember_leaf.specs.LeafTriangles.{tris_in};
-ghost use Rattle.ember_leaf.specs.KeptRegions.{IsRegionOf, IsKeptOf, ArePlaced, ArePlacedBelow, tris_of};
+ghost use Rattle.ember_leaf.specs.KeptRegions.{LiesInPlaneOf, IsKeptOf, ArePlaced, ArePlacedBelow, tris_of};
 
 use crate::clip::{clip_to_box, common_spans, is_outside, walls};
 use crate::cutter::Cutter;
@@ -34,14 +34,15 @@ use ember_box::{Aabb, Cell, aabb_of_cell};
 use ember_expr::{Expr, value};
 use ember_model::{Axis, OutOfMemory, Plane, Tri, Vector, main_axis};
 use ember_poly::{Draft, Ring, support};
-use ember_trace::{NearTriangle, Sides, near_triangles, put_sides_beside};
+use ember_trace::{NearTriangle, Sides, near_triangles, trace_sides};
 use std::alloc::Global;
 
 // The lists of a clipped triangle reserve room for at most this many cuts.
 const ROOM: usize = 6;
 
-// Whether the plane's normal has a positive entry along its main axis.
-fn faces_on(p: &Plane) -> bool
+// Whether the plane's front is on the side of `after`: its normal has a positive entry along its
+// main axis.
+fn faces_up(p: &Plane) -> bool
     ensures { result ≡ is_positive (along p.now (main_axis p.now)) }
 {
     match main_axis(p) {
@@ -62,7 +63,7 @@ fn flip_of(e: &Expr, sides: &Sides, r: &Ring) -> Option<bool>
     let after = value(e, &sides.after);
     if before == after {
         None
-    } else if faces_on(&support(r)) {
+    } else if faces_up(&support(r)) {
         Some(after)
     } else {
         Some(before)
@@ -70,7 +71,7 @@ fn flip_of(e: &Expr, sides: &Sides, r: &Ring) -> Option<bool>
 }
 
 // What is known at a leaf box. `near` has the near triangles, and `triangles` the same in the same
-// order, with their edge planes. `at` has the winding numbers at the box's reference point.
+// order, with their edge planes. `windings` has the winding numbers at the box's reference point.
 #[derive(Clone, Copy)]
 struct Leaf<'a> {
     expr: &'a Expr,
@@ -78,23 +79,23 @@ struct Leaf<'a> {
     aabb: &'a Aabb,
     near: &'a [NearTriangle],
     triangles: &'a [LeafTriangle],
-    at: &'a Vector,
+    windings: &'a Vector,
 }
 
 impl Leaf<'_> {
     // The region of triangle `i` as it is written, or `None` if it isn't. `sides` is working room.
-    fn kept(&self, i: usize, ring: Ring, sides: &mut Sides) -> Option<Kept>
+    fn written_region(&self, i: usize, ring: Ring, sides: &mut Sides) -> Option<Kept>
         requires few { length self.now.near.now ≤ 262144 }
-        requires counts { AreBoxCounts self.now.at.now.counts }
+        requires counts { AreBoxCounts self.now.windings.now.counts }
         requires index { i < length self.now.near.now }
-        requires region { IsRegionOf (tri_at (tris_of self.now.near.now) i) ring }
-        requires starts { All (HasReferenceSide self.now.cell.now) self.now.near.now }
+        requires plane { LiesInPlaneOf (tri_at (tris_of self.now.near.now) i) ring }
+        requires reference_sides { All (HasReferenceSide self.now.cell.now) self.now.near.now }
         requires inside { LiesIn self.now.cell.now ring }
         requires owner { IsOwner (tris_of self.now.near.now) i ring }
         ensures placed { IfSome result (IsKeptOf (tri_at (tris_of self.now.near.now) i) i) }
         ensures written { WritesRegion self.now i ring (option_to_list result) }
     {
-        put_sides_beside(self.near, self.cell, self.at, &ring, sides);
+        trace_sides(self.near, self.cell, self.windings, &ring, sides);
         match flip_of(self.expr, sides, &ring) {
             Some(flipped) => Some(Kept {
                 tri: i as u32,
@@ -106,7 +107,7 @@ impl Leaf<'_> {
     }
 
     // Adds the one region of triangle `i`, if it is written.
-    fn keep_one(
+    fn add_if_written(
         &self,
         ring: Ring,
         i: usize,
@@ -114,25 +115,25 @@ impl Leaf<'_> {
         kept: &mut Vec<Kept>,
     ) -> Result<(), OutOfMemory>
         requires few { length self.now.near.now ≤ 262144 }
-        requires counts { AreBoxCounts self.now.at.now.counts }
+        requires counts { AreBoxCounts self.now.windings.now.counts }
         requires index { i < length self.now.near.now }
-        requires region { IsRegionOf (tri_at (tris_of self.now.near.now) i) ring }
+        requires plane { LiesInPlaneOf (tri_at (tris_of self.now.near.now) i) ring }
         requires regions { AreOwned self.now.cell.now (tris_of self.now.near.now) i (ring ∷ []) }
-        requires starts { All (HasReferenceSide self.now.cell.now) self.now.near.now }
+        requires reference_sides { All (HasReferenceSide self.now.cell.now) self.now.near.now }
         requires inside { LiesIn self.now.cell.now ring }
         requires owner { IsOwner (tris_of self.now.near.now) i ring }
         requires kept { ArePlacedBelow (tris_of self.now.near.now) (i + 1) kept.old.items }
         ensures placed { OnOk result (ArePlacedBelow (tris_of self.now.near.now) (i + 1) kept.new.items) }
         ensures written { OnOk result (AddsWritten self.now i kept.old.items kept.new.items) }
     {
-        if let Some(k) = self.kept(i, ring, sides) {
+        if let Some(k) = self.written_region(i, ring, sides) {
             kept.push(k)?;
         }
         Ok(())
     }
 
     // Adds the written ones of the regions that triangle `i` owns.
-    fn keep(
+    fn add_written(
         &self,
         list: Vec<Ring>,
         i: usize,
@@ -140,11 +141,11 @@ impl Leaf<'_> {
         kept: &mut Vec<Kept>,
     ) -> Result<(), OutOfMemory>
         requires few { length self.now.near.now ≤ 262144 }
-        requires counts { AreBoxCounts self.now.at.now.counts }
+        requires counts { AreBoxCounts self.now.windings.now.counts }
         requires index { i < length self.now.near.now }
-        requires plane { All (IsRegionOf (tri_at (tris_of self.now.near.now) i)) list.items }
+        requires plane { All (LiesInPlaneOf (tri_at (tris_of self.now.near.now) i)) list.items }
         requires regions { AreOwned self.now.cell.now (tris_of self.now.near.now) i list.items }
-        requires starts { All (HasReferenceSide self.now.cell.now) self.now.near.now }
+        requires reference_sides { All (HasReferenceSide self.now.cell.now) self.now.near.now }
         requires inside { All (LiesIn self.now.cell.now) list.items }
         requires owners { All (IsOwner (tris_of self.now.near.now) i) list.items }
         requires kept { ArePlacedBelow (tris_of self.now.near.now) (i + 1) kept.old.items }
@@ -152,7 +153,7 @@ impl Leaf<'_> {
         ensures written { OnOk result (AddsWritten self.now i kept.old.items kept.new.items) }
     {
         for ring in list {
-            if let Some(k) = self.kept(i, ring, sides) {
+            if let Some(k) = self.written_region(i, ring, sides) {
                 kept.push(k)?;
             }
         }
@@ -172,31 +173,32 @@ impl Leaf<'_> {
     ) -> Result<(), OutOfMemory>
         requires same { tris_in self.now.triangles.now ≡ tris_of self.now.near.now }
         requires few { length self.now.near.now ≤ 262144 }
-        requires counts { AreBoxCounts self.now.at.now.counts }
+        requires counts { AreBoxCounts self.now.windings.now.counts }
         requires index { i < length self.now.near.now }
         requires walls { map wall_of walls.now ≡ box_walls self.now.cell.now }
         requires aabb { self.now.aabb.now ≡ aabb_of_cell self.now.cell.now }
-        requires starts { All (HasReferenceSide self.now.cell.now) self.now.near.now }
+        requires reference_sides { All (HasReferenceSide self.now.cell.now) self.now.near.now }
         requires kept { ArePlacedBelow (tris_of self.now.near.now) (i + 1) kept.old.items }
         ensures placed { OnOk result (ArePlacedBelow (tris_of self.now.near.now) (i + 1) kept.new.items) }
         ensures written { OnOk result (AddsWritten self.now i kept.old.items kept.new.items) }
     {
         // The triangle whose regions are made.
-        let own = &self.triangles[i];
-        if is_flat(own) || is_outside(walls, own) {
+        let target = &self.triangles[i];
+        if is_flat(target) || is_outside(walls, target) {
             return Ok(());
         }
-        let bounds = common_spans(&own.aabb, self.aabb);
+        let bounds = common_spans(&target.aabb, self.aabb);
         // True if an earlier coplanar triangle covers this one. Then the list is incomplete.
-        if find_cutters(cutters, own, &bounds, self.triangles, i)? {
+        if find_cutters(cutters, target, &bounds, self.triangles, i)? {
             return Ok(());
         }
-        if let Some(ring) = clip_to_box(alloc, draft, own, walls, cutters.len().min(ROOM))? {
+        if let Some(ring) = clip_to_box(alloc, draft, target, walls, cutters.len().min(ROOM))? {
             if cutters.is_empty() {
-                self.keep_one(ring, i, sides, kept)?;
+                // What the clip leaves is the only region, so no list is made.
+                self.add_if_written(ring, i, sides, kept)?;
             } else {
                 let list = regions(alloc, ring, cutters)?;
-                self.keep(list, i, sides, kept)?;
+                self.add_written(list, i, sides, kept)?;
             }
         }
         Ok(())
@@ -206,8 +208,8 @@ impl Leaf<'_> {
 /// The written regions of a leaf box, by their triangles in order, and for each triangle in the
 /// order of its regions. `near` has the triangles near the box, and `v` the winding numbers at its
 /// reference point; the result is right in every scene that fits these. Meshes are numbered from 1
-/// to 64, and at most 262,144 triangles are near. The only error is out-of-memory.
-/// In clauses, `Corners` is the type of a triangle as contracts see it.
+/// to 64, and at most 262,144 triangles are near. The only error is out-of-memory. In clauses,
+/// `TriView` is `Tri` as contracts see it: the import needs another name beside the struct.
 pub fn leaf_faces(
     alloc: Global,
     e: &Expr,
@@ -220,7 +222,7 @@ pub fn leaf_faces(
     requires few { length near.now ≤ 262144 }
     requires counts { AreBoxCounts v.now.counts }
     ensures placed { IfOk result (λ ks. ArePlaced near.now ks) }
-    ensures written { IfOk result (λ ks. (scene : List Corners) → Fits scene near.now c.now v.now.counts →
+    ensures written { IfOk result (λ ks. (scene : List TriView) → Fits scene near.now c.now v.now.counts →
         IsWrittenIn scene (formula_of e.now) c.now near.now ks) }
 {
     let near_triangles = near_triangles(alloc, near, c)?;
@@ -232,7 +234,7 @@ pub fn leaf_faces(
         aabb: &aabb,
         near: &near_triangles,
         triangles: &triangles,
-        at: v,
+        windings: v,
     };
     let walls = walls(c);
     let mut cutters = Vec::new(alloc);

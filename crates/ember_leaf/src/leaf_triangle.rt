@@ -19,7 +19,7 @@ pub struct LeafTriangle {
     ghost valid: { IsValidTri tri },
     ghost plane: { support ≡ support_of tri },
     ghost sized: { IsValidPlane support },
-    ghost sides: { edges ≡ edges_of tri },
-    ghost sides_sized: { All IsValidPlane edges },
+    ghost edge_planes: { edges ≡ edges_of tri },
+    ghost edges_sized: { All IsValidPlane edges },
     ghost bounds: { aabb ≡ aabb_of_tri tri },
 }

@@ -10,54 +10,54 @@ ghost use Rattle.std.specs.Prelude.{All, IfOk, OnOk};
 ghost use Rattle.std.specs.List.{AllByRecursion};
 ghost use Rattle.ember_model.specs.Valid.{IsValidPlane};
 ghost use Rattle.ember_model.specs.Faces.{face_of, Meets};
-ghost use Rattle.ember_leaf.specs.Cutters.{AtCutter, AtEdges, AtPlane, IsUncut, AreSplit, AreCut, IsSplitBehind};
-ghost use Rattle.ember_leaf.specs.Cutters.{MeetsFirst, AreLast, ShareAPlane, CanCut};
-ghost use Rattle.ember_leaf.specs.declared.cutter.Role.TheVariants.{Owner};
+ghost use Rattle.ember_leaf.specs.Cutters.{AreLeftByCutter, AreLeftByEdges, AreLeftByPlane, IsUncut, AreSplit, AreCut, IsSplitBehind};
+ghost use Rattle.ember_leaf.specs.Cutters.{MeetsFirst, CutOutTriangle, ShareAPlane, CanCut};
+ghost use Rattle.ember_leaf.specs.declared.cutter.Role.TheVariants.{Earlier};
 ghost use Rattle.ember_poly.specs.Cuts.{HasInside};
 ghost use Rattle.ember_leaf.specs.Written.{HasGrown};
 
 use crate::contact::{Contact, contact_of};
 use crate::cutter::{Cutter, Role};
 use ember_model::{OutOfMemory, Plane};
-use ember_poly::{Reach, Ring, above, meets_face, meets_within, outline, parts, reach};
+use ember_poly::{Reach, Ring, above, has_point_within, meets_face, outline, parts, reach};
 use std::alloc::Global;
 
 // Whether the region meets a triangle in its plane: some inside point of the region lies in the
 // triangle's closed face. The triangle's corners decide most pairs, in 64 bits and without
 // computing a meet.
-fn is_met_flat(r: &Ring, c: &Cutter) -> bool
-    requires plane { ShareAPlane c.now.tri r.now }
+fn is_met_coplanar(r: &Ring, cutter: &Cutter) -> bool
+    requires plane { ShareAPlane cutter.now.tri r.now }
     requires somewhere { HasInside r.now }
-    ensures { IsTrue result ↔ Meets r.now (face_of c.now.tri) }
+    ensures { IsTrue result ↔ Meets r.now (face_of cutter.now.tri) }
 {
-    match contact_of(outline(r).0, &c.tri) {
+    match contact_of(outline(r).0, &cutter.tri) {
         Contact::Apart => false,
         Contact::Met => true,
-        Contact::Unknown => meets_within(r, &c.edges),
+        Contact::Unknown => has_point_within(r, &cutter.edges),
     }
 }
 
 // Whether the region meets the triangle: some inside point of the region lies in the triangle's
 // closed face.
-fn is_met(r: &Ring, c: &Cutter) -> bool
-    requires { CanCut c.now r.now }
-    ensures { IsTrue result ↔ Meets r.now (face_of c.now.tri) }
+fn is_met(r: &Ring, cutter: &Cutter) -> bool
+    requires { CanCut cutter.now r.now }
+    ensures { IsTrue result ↔ Meets r.now (face_of cutter.now.tri) }
 {
-    match c.role {
-        Role::Across => meets_face(r, &c.support, &c.edges),
-        _ => is_met_flat(r, c),
+    match cutter.role {
+        Role::Across => meets_face(r, &cutter.support, &cutter.edges),
+        _ => is_met_coplanar(r, cutter),
     }
 }
 
 // How many regions at the front of the list don't meet the triangle.
-fn apart(list: &[Ring], c: &Cutter) -> usize
-    requires { All (CanCut c.now) list.now }
+fn count_apart(list: &[Ring], cutter: &Cutter) -> usize
+    requires { All (CanCut cutter.now) list.now }
     ensures fits { result ≤ length list.now }
-    ensures whole { AreSplit c.now (take result list.now) (take result list.now) }
-    ensures met { MeetsFirst c.now (drop result list.now) }
+    ensures whole { AreSplit cutter.now (take result list.now) (take result list.now) }
+    ensures met { MeetsFirst cutter.now (drop result list.now) }
 {
     for i in 0..list.len() {
-        if is_met(&list[i], c) {
+        if is_met(&list[i], cutter) {
             return i;
         }
     }
@@ -67,7 +67,7 @@ fn apart(list: &[Ring], c: &Cutter) -> usize
 // Adds the two parts of a region if the plane cuts it, otherwise the region itself.
 fn add_parts(alloc: Global, r: Ring, p: &Plane, out: &mut Vec<Ring>) -> Result<(), OutOfMemory>
     requires { IsValidPlane p.now }
-    ensures { OnOk result (HasGrown (AtPlane p.now r) out.old.items out.new.items) }
+    ensures { OnOk result (HasGrown (AreLeftByPlane p.now r) out.old.items out.new.items) }
 {
     match reach(&r, p) {
         Reach::Both => {
@@ -96,15 +96,16 @@ fn is_uncut(r: &Ring, planes: &[Plane]) -> bool
     true
 }
 
-// `true` only if the part of the region below the plane that cuts it now needn't be made: the
+// `true` only if the part of the region below the plane that cuts it now would be dropped: the
 // triangle owns what it contains, and none of `planes`, its edge planes that are still to cut, cuts
-// the region.
-fn is_owned(r: &Ring, c: &Cutter, planes: &[Plane]) -> bool
+// the region. The region overlaps the triangle, so it then lies below these planes, and the part is
+// inside the triangle.
+fn needs_no_inner_part(r: &Ring, cutter: &Cutter, planes: &[Plane]) -> bool
     requires { All IsValidPlane planes.now }
-    ensures { result ≡ true → (c.now.role ≡ Owner) × AllByRecursion (IsUncut r.now) planes.now }
+    ensures { result ≡ true → (cutter.now.role ≡ Earlier) × AllByRecursion (IsUncut r.now) planes.now }
 {
-    match c.role {
-        Role::Owner => is_uncut(r, planes),
+    match cutter.role {
+        Role::Earlier => is_uncut(r, planes),
         _ => false,
     }
 }
@@ -116,44 +117,44 @@ fn is_owned(r: &Ring, c: &Cutter, planes: &[Plane]) -> bool
 fn add_pieces(
     alloc: Global,
     r: Ring,
-    c: &Cutter,
+    cutter: &Cutter,
     edges: &[Plane],
     out: &mut Vec<Ring>,
 ) -> Result<(), OutOfMemory>
     requires valid { All IsValidPlane edges.now }
-    requires last { AreLast c.now.tri edges.now r }
-    ensures { OnOk result (HasGrown (AtEdges c.now edges.now r) out.old.items out.new.items) }
+    requires cut_out { CutOutTriangle cutter.now.tri edges.now r }
+    ensures { OnOk result (HasGrown (AreLeftByEdges cutter.now edges.now r) out.old.items out.new.items) }
 {
     match edges {
-        [] => match c.role {
-            Role::Owner => {}
+        [] => match cutter.role {
+            Role::Earlier => {}
             _ => out.push(r)?,
         },
         [p, rest @ ..] => match reach(&r, p) {
             Reach::Both => {
-                if is_owned(&r, c, rest) {
+                if needs_no_inner_part(&r, cutter, rest) {
                     out.push(above(r, p)?)?;
                 } else {
                     let (low, high) = parts(alloc, r, p)?;
-                    add_pieces(alloc, low, c, rest, out)?;
+                    add_pieces(alloc, low, cutter, rest, out)?;
                     out.push(high)?;
                 }
             }
-            _ => add_pieces(alloc, r, c, rest, out)?,
+            _ => add_pieces(alloc, r, cutter, rest, out)?,
         },
     }
     Ok(())
 }
 
 // Adds what a triangle leaves of a region that meets it.
-fn add_cut(alloc: Global, r: Ring, c: &Cutter, out: &mut Vec<Ring>) -> Result<(), OutOfMemory>
-    requires met { Meets r (face_of c.now.tri) }
-    requires plane { CanCut c.now r }
-    ensures { OnOk result (HasGrown (AtCutter c.now r) out.old.items out.new.items) }
+fn add_cut(alloc: Global, r: Ring, cutter: &Cutter, out: &mut Vec<Ring>) -> Result<(), OutOfMemory>
+    requires met { Meets r (face_of cutter.now.tri) }
+    requires plane { CanCut cutter.now r }
+    ensures { OnOk result (HasGrown (AreLeftByCutter cutter.now r) out.old.items out.new.items) }
 {
-    match c.role {
-        Role::Across => add_parts(alloc, r, &c.support, out),
-        _ => add_pieces(alloc, r, c, &c.edges, out),
+    match cutter.role {
+        Role::Across => add_parts(alloc, r, &cutter.support, out),
+        _ => add_pieces(alloc, r, cutter, &cutter.edges, out),
     }
 }
 
@@ -161,19 +162,19 @@ fn add_cut(alloc: Global, r: Ring, c: &Cutter, out: &mut Vec<Ring>) -> Result<()
 fn add_all(
     alloc: Global,
     list: Vec<Ring>,
-    c: &Cutter,
+    cutter: &Cutter,
     out: &mut Vec<Ring>,
 ) -> Result<(), OutOfMemory>
-    requires met { MeetsFirst c.now list.items }
-    requires plane { All (CanCut c.now) list.items }
-    ensures { OnOk result (IsSplitBehind c.now list.items out.old.items out.new.items) }
+    requires met { MeetsFirst cutter.now list.items }
+    requires plane { All (CanCut cutter.now) list.items }
+    ensures { OnOk result (IsSplitBehind cutter.now list.items out.old.items out.new.items) }
 {
     let mut is_first = true;
     for r in list {
-        let is_cut = is_first || is_met(&r, c);
+        let is_cut = is_first || is_met(&r, cutter);
         is_first = false;
         if is_cut {
-            add_cut(alloc, r, c, out)?;
+            add_cut(alloc, r, cutter, out)?;
         } else {
             out.push(r)?;
         }
@@ -182,15 +183,15 @@ fn add_all(
 }
 
 // What one triangle leaves of the regions: it cuts each one that meets it.
-fn split_all(alloc: Global, list: Vec<Ring>, c: &Cutter) -> Result<Vec<Ring>, OutOfMemory>
-    requires { All (CanCut c.now) list.items }
-    ensures { IfOk result (λ out. AreSplit c.now list.items out.items) }
+fn split_all(alloc: Global, list: Vec<Ring>, cutter: &Cutter) -> Result<Vec<Ring>, OutOfMemory>
+    requires { All (CanCut cutter.now) list.items }
+    ensures { IfOk result (λ out. AreSplit cutter.now list.items out.items) }
 {
     let mut out = list;
-    let index = apart(&out, c);
+    let index = count_apart(&out, cutter);
     if index < out.len() {
         let others = out.split_off(index)?;
-        add_all(alloc, others, c, &mut out)?;
+        add_all(alloc, others, cutter, &mut out)?;
     }
     Ok(out)
 }
@@ -203,8 +204,8 @@ pub fn regions(alloc: Global, start: Ring, cutters: &[Cutter]) -> Result<Vec<Rin
 {
     let mut list = Vec::new(alloc);
     list.push(start)?;
-    for c in cutters {
-        list = split_all(alloc, list, c)?;
+    for cutter in cutters {
+        list = split_all(alloc, list, cutter)?;
     }
     Ok(list)
 }

@@ -3,7 +3,7 @@ ghost use Rattle.std.specs.Prelude.{◌≡◌, ◌<◌, ◌&&◌, true, false};
 ghost use Rattle.ember_algebra.specs.Sign.{is_zero};
 ghost use Rattle.ember_model.specs.Faces.{is_flat, face_of, Contains};
 ghost use Rattle.ember_model.specs.Owners.{is_coplanar};
-ghost use Rattle.ember_leaf.specs.TriRelations.{AreDisjoint, IsBehindEdge, IsRelation};
+ghost use Rattle.ember_leaf.specs.TriRelations.{MissesClosedFace, IsBehindEdge, IsRelation};
 
 use crate::heights::heights_of;
 use crate::leaf_triangle::LeafTriangle;
@@ -28,20 +28,21 @@ fn has_no_normal(p: &Plane) -> bool
 }
 
 /// Whether the triangle is flat: its normal is zero.
-pub fn is_flat(f: &LeafTriangle) -> bool
-    ensures { result ≡ is_flat f.now.tri }
+pub fn is_flat(triangle: &LeafTriangle) -> bool
+    ensures { result ≡ is_flat triangle.now.tri }
 {
-    has_no_normal(&f.support)
+    has_no_normal(&triangle.support)
 }
 
 // `true` only if an edge plane of the first triangle keeps the two apart. `false` shows nothing.
-fn separates(f: &LeafTriangle, g: &LeafTriangle) -> bool
-    requires first { is_flat f.now.tri ≡ false }
-    requires second { is_flat g.now.tri ≡ false }
-    ensures { result ≡ true → AreDisjoint f.now.tri g.now.tri × AreDisjoint g.now.tri f.now.tri }
+fn separates(first: &LeafTriangle, second: &LeafTriangle) -> bool
+    requires first { is_flat first.now.tri ≡ false }
+    requires second { is_flat second.now.tri ≡ false }
+    ensures { result ≡ true →
+        MissesClosedFace first.now.tri second.now.tri × MissesClosedFace second.now.tri first.now.tri }
 {
     for i in 0..3 {
-        if heights_of(&f.edges[i], &g.tri).lie_in_front() {
+        if heights_of(&first.edges[i], &second.tri).lie_in_front() {
             return true;
         }
     }
@@ -49,40 +50,40 @@ fn separates(f: &LeafTriangle, g: &LeafTriangle) -> bool
 }
 
 // `true` only if an edge plane of one of them keeps the two apart. `false` shows nothing.
-fn are_separated(f: &LeafTriangle, g: &LeafTriangle) -> bool
-    requires first { is_flat f.now.tri ≡ false }
-    requires second { is_flat g.now.tri ≡ false }
-    ensures { result ≡ true → AreDisjoint f.now.tri g.now.tri }
+fn are_separated(first: &LeafTriangle, second: &LeafTriangle) -> bool
+    requires first { is_flat first.now.tri ≡ false }
+    requires second { is_flat second.now.tri ≡ false }
+    ensures { result ≡ true → MissesClosedFace first.now.tri second.now.tri }
 {
-    separates(f, g) || separates(g, f)
+    separates(first, second) || separates(second, first)
 }
 
 // How a triangle lies relative to another one in its plane.
-fn coplanar_relation(f: &LeafTriangle, g: &LeafTriangle) -> Relation
-    requires first { is_flat f.now.tri ≡ false }
-    requires second { is_flat g.now.tri ≡ false }
-    requires plane { is_coplanar f.now.tri g.now.tri ≡ true }
-    ensures { IsRelation f.now.tri g.now.tri result }
+fn coplanar_relation(first: &LeafTriangle, second: &LeafTriangle) -> Relation
+    requires first { is_flat first.now.tri ≡ false }
+    requires second { is_flat second.now.tri ≡ false }
+    requires plane { is_coplanar first.now.tri second.now.tri ≡ true }
+    ensures { IsRelation first.now.tri second.now.tri result }
 {
-    if are_separated(f, g) {
+    if are_separated(first, second) {
         Relation::Apart
     } else {
         Relation::Coplanar
     }
 }
 
-// How a triangle lies relative to another one that isn't in its plane. `own` has the heights of the
-// first triangle's corners over the second's plane.
-fn crossing_relation(f: &LeafTriangle, g: &LeafTriangle) -> Relation
-    requires first { is_flat f.now.tri ≡ false }
-    requires second { is_flat g.now.tri ≡ false }
-    requires plane { is_coplanar f.now.tri g.now.tri ≡ false }
-    ensures { IsRelation f.now.tri g.now.tri result }
+// How a triangle lies relative to another one that isn't in its plane.
+fn crossing_relation(first: &LeafTriangle, second: &LeafTriangle) -> Relation
+    requires first { is_flat first.now.tri ≡ false }
+    requires second { is_flat second.now.tri ≡ false }
+    requires plane { is_coplanar first.now.tri second.now.tri ≡ false }
+    ensures { IsRelation first.now.tri second.now.tri result }
 {
-    let own = heights_of(&g.support, &f.tri);
-    if own.lie_in_front() {
+    // The first may touch the second's plane with a corner or an edge: no inside point lies there.
+    let heights = heights_of(&second.support, &first.tri);
+    if heights.lie_in_front() {
         Relation::Apart
-    } else if own.lie_behind() {
+    } else if heights.lie_behind() {
         Relation::Apart
     } else {
         Relation::Across
@@ -90,45 +91,47 @@ fn crossing_relation(f: &LeafTriangle, g: &LeafTriangle) -> Relation
 }
 
 /// How a triangle lies relative to another one. Neither is flat.
-pub fn relation_of(f: &LeafTriangle, g: &LeafTriangle) -> Relation
-    requires first { is_flat f.now.tri ≡ false }
-    requires second { is_flat g.now.tri ≡ false }
-    ensures { IsRelation f.now.tri g.now.tri result }
+pub fn relation_of(first: &LeafTriangle, second: &LeafTriangle) -> Relation
+    requires first { is_flat first.now.tri ≡ false }
+    requires second { is_flat second.now.tri ≡ false }
+    ensures { IsRelation first.now.tri second.now.tri result }
 {
-    let theirs = heights_of(&f.support, &g.tri);
-    if theirs.all_in_front() {
+    // They are apart if the second lies strictly on one side of the first's plane. If it touches
+    // this plane, even with one corner, the corner may lie inside the first.
+    let heights = heights_of(&first.support, &second.tri);
+    if heights.all_in_front() {
         Relation::Apart
-    } else if theirs.all_behind() {
+    } else if heights.all_behind() {
         Relation::Apart
-    } else if theirs.all_on() {
-        coplanar_relation(f, g)
+    } else if heights.all_on() {
+        coplanar_relation(first, second)
     } else {
-        crossing_relation(f, g)
+        crossing_relation(first, second)
     }
 }
 
 // `true` only if the inside of the second triangle lies behind this edge plane of the first.
 // `false` shows nothing.
-fn is_behind_edge(f: &LeafTriangle, g: &LeafTriangle, edge: usize) -> bool
+fn is_behind_edge(first: &LeafTriangle, second: &LeafTriangle, edge: usize) -> bool
     requires edge { edge < 3 }
-    requires second { is_flat g.now.tri ≡ false }
-    ensures { result ≡ true → IsBehindEdge f.now.tri g.now.tri edge }
+    requires second { is_flat second.now.tri ≡ false }
+    ensures { result ≡ true → IsBehindEdge first.now.tri second.now.tri edge }
 {
-    heights_of(&f.edges[edge], &g.tri).lie_behind()
+    heights_of(&first.edges[edge], &second.tri).lie_behind()
 }
 
 /// `true` only if the first triangle contains the second, which lies in its plane. `false` shows
 /// nothing.
-pub fn covers(f: &LeafTriangle, g: &LeafTriangle) -> bool
-    requires second { is_flat g.now.tri ≡ false }
-    requires plane { is_coplanar f.now.tri g.now.tri ≡ true }
-    ensures { result ≡ true → Contains (face_of f.now.tri) (face_of g.now.tri) }
+pub fn covers(first: &LeafTriangle, second: &LeafTriangle) -> bool
+    requires second { is_flat second.now.tri ≡ false }
+    requires plane { is_coplanar first.now.tri second.now.tri ≡ true }
+    ensures { result ≡ true → Contains (face_of first.now.tri) (face_of second.now.tri) }
 {
-    if !is_behind_edge(f, g, 0) {
+    if !is_behind_edge(first, second, 0) {
         return false;
     }
-    if !is_behind_edge(f, g, 1) {
+    if !is_behind_edge(first, second, 1) {
         return false;
     }
-    is_behind_edge(f, g, 2)
+    is_behind_edge(first, second, 2)
 }

@@ -10,14 +10,14 @@ use ember_trace::NearTriangle;
 use std::alloc::Global;
 
 // The triangle with its edge planes.
-fn leaf_triangle_of(f: &NearTriangle) -> LeafTriangle
-    ensures { result.tri ≡ f.now.tri }
+fn leaf_triangle_of(triangle: &NearTriangle) -> LeafTriangle
+    ensures { result.tri ≡ triangle.now.tri }
 {
     LeafTriangle {
-        tri: f.tri,
-        support: f.support,
-        edges: main_edges(&f.tri, &f.support),
-        aabb: f.aabb,
+        tri: triangle.tri,
+        support: triangle.support,
+        edges: main_edges(&triangle.tri, &triangle.support),
+        aabb: triangle.aabb,
     }
 }
 
@@ -30,8 +30,8 @@ pub fn leaf_triangles(
     ensures { IfOk result (λ list. tris_in list.items ≡ tris_of near.now) }
 {
     let mut list = Vec::with_capacity(alloc, near.len())?;
-    for f in near {
-        list.push(leaf_triangle_of(f))?;
+    for triangle in near {
+        list.push(leaf_triangle_of(triangle))?;
     }
     Ok(list)
 }

@@ -13,10 +13,10 @@ use Rattle.ember_box.specs.Boxes.{Cell, root, halvings_left}
 use Rattle.ember_box.specs.Near.{near, tri_at}
 use Rattle.ember_box.specs.Halving.{leaves}
 use Rattle.ember_box.specs.Sums.{number}
-use Rattle.ember_box.specs.Regions.{AtWall, AtCuttingPlane, walls, cutting_planes, IsRegions}
+use Rattle.ember_box.specs.Regions.{AreLeftByWall, AreLeftByCuttingPlane, walls, cutting_planes, IsRegions}
 use Rattle.ember_expr.specs.Formula.{Formula}
 use Rattle.ember_leaf.specs.declared.kept.Kept.{Kept}
-use Rattle.ember_leaf.specs.Written.{AtRegion, IsWrittenOf}
+use Rattle.ember_leaf.specs.Written.{IsWrittenOfRegion, IsWrittenOf}
 use Rattle.ember_leaf.proofs.SomeRegions.{written_by_regions}
 use Rattle.ember_leaf.specs.Scenes.{HasOneValue, LeafGives, regions, nothing}
 use Rattle.ember_meaning.proofs.CountedPoints.{hits, is_in_box, IsFair, IsFairAt, IsFairInAll}
@@ -25,18 +25,18 @@ use Rattle.ember_meaning.proofs.Leaf.{leaf_count}
 use Rattle.ember_meaning.proofs.Tree.{leaves_count}
 
 -- ---- a flat triangle has no region
-walls_of_none : {fs : List Face} (c : Cell) → (ws : List _) → Chain (λ w. Each (AtWall w)) ws [] fs → fs ≡ []
+walls_of_none : {fs : List Face} (c : Cell) → (ws : List _) → Chain (λ w. Each (AreLeftByWall w)) ws [] fs → fs ≡ []
 walls_of_none c [] done = refl
 walls_of_none c (w ∷ ws) (step none e) = walls_of_none c ws e
 
-cutting_planes_of_none : {fs : List Face} → (bs : List _) → Chain (λ b. Each (AtCuttingPlane b)) bs [] fs → fs ≡ []
+cutting_planes_of_none : {fs : List Face} → (bs : List _) → Chain (λ b. Each (AreLeftByCuttingPlane b)) bs [] fs → fs ≡ []
 cutting_planes_of_none [] done = refl
 cutting_planes_of_none (b ∷ bs) (step none e) = cutting_planes_of_none bs e
 
 flat_none : (c : Cell) (ts : List Tri) (i : ℕ) (fs : List Face) → is_flat (tri_at ts i) ≡ true → IsRegions c ts i fs → fs ≡ []
 flat_none c ts i fs e r =
-    let begun = subst (λ b. Chain (λ w. Each (AtWall w)) (walls c) (elim b [ true ↦ [] | false ↦ face_of (tri_at ts i) ∷ [] ]) r.start) e r.is_start in
-    cutting_planes_of_none (cutting_planes ts i) (subst (λ s. Chain (λ b. Each (AtCuttingPlane b)) (cutting_planes ts i) s fs) (walls_of_none c (walls c) begun) r.cuts)
+    let begun = subst (λ b. Chain (λ w. Each (AreLeftByWall w)) (walls c) (elim b [ true ↦ [] | false ↦ face_of (tri_at ts i) ∷ [] ]) r.start) e r.is_start in
+    cutting_planes_of_none (cutting_planes ts i) (subst (λ s. Chain (λ b. Each (AreLeftByCuttingPlane b)) (cutting_planes ts i) s fs) (walls_of_none c (walls c) begun) r.cuts)
 
 -- ---- the regions of one triangle in one leaf
 abbrev pub is_entry_at : Spot → ℕ → Entry → Bool
@@ -167,12 +167,12 @@ pub record Listed (scene : List Tri) (x : Formula) (ds : List Cell) (ks : List K
   pub entries : List Entry
   pub listed : Without (HasOneValue scene x) ds cells
   pub are_entries : IsEntries scene cells entries
-  pub are_written : Each (λ e us. AtRegion scene x (near scene e.cell) e.tri e.face us) entries ks
+  pub are_written : Each (λ e us. IsWrittenOfRegion scene x (near scene e.cell) e.tri e.face us) entries ks
 
 record OfLeaf (scene : List Tri) (x : Formula) (c : Cell) (is : List ℕ) (ks : List Kept) : Type 0 where
   entries : List Entry
   are_entries : Each (IsEntriesOf scene c) is entries
-  are_written : Each (λ e us. AtRegion scene x (near scene e.cell) e.tri e.face us) entries ks
+  are_written : Each (λ e us. IsWrittenOfRegion scene x (near scene e.cell) e.tri e.face us) entries ks
 
 each_map : {X Z Y : Type 0} {R : Z → List Y → Type 0} (h : X → Z) {xs : List X} {ys : List Y} → Each (λ x. R (h x)) xs ys → Each R (map h xs) ys
 each_map h none = none

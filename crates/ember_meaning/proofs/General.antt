@@ -31,9 +31,9 @@ use Rattle.ember_expr.specs.Formula.{Formula}
 use Rattle.ember_box.specs.Boxes.{Cell}
 use Rattle.ember_box.specs.Near.{near, is_near, tri_at, no_tri}
 use Rattle.ember_leaf.specs.declared.kept.Kept.{Kept}
-use Rattle.ember_leaf.specs.Written.{AtRegion, unowned, even, written}
+use Rattle.ember_leaf.specs.Written.{IsWrittenOfRegion, unowned, even, written}
 use Rattle.ember_leaf.specs.Scenes.{IsWritten, HasOneValue}
-use Rattle.ember_text.specs.Texts.{seen}
+use Rattle.ember_text.specs.Texts.{oriented_face}
 use Rattle.ember_meaning.proofs.Lines.{seen as counts_ahead}
 use Rattle.ember_text.specs.Documents.{written_face}
 use Rattle.ember_trace.proofs.CutRegions.{IsCutOut, region_cut}
@@ -103,17 +103,17 @@ module _ (scene : List Tri) (cs : List Cell) (e : Entry) (o : IsOf scene cs e) w
       and_from (not (is_flat tri_of)) (is_hit k p (face_of tri_of)) (ap not cut_out.normal) (subst (λ (n : Plane). (not (is_zero (along n k)) && is_inside (face_of tri_of) (hit n k p)) ≡ true) same_support (and_from (not (is_zero (along e.face.support k))) (is_inside (face_of tri_of) (hit e.face.support k p)) q.0 i))
 
 -- ---- a written face is hit only where a triangle is
-kept_ring : (scene : List Tri) (x : Formula) (ns : List Tri) (i : ℕ) (f : Face) (us : List Kept) (w : Kept) → AtRegion scene x ns i f us → In w us → w.ring ≡ f
+kept_ring : (scene : List Tri) (x : Formula) (ns : List Tri) (i : ℕ) (f : Face) (us : List Kept) (w : Kept) → IsWrittenOfRegion scene x ns i f us → In w us → w.ring ≡ f
 kept_ring scene x ns i f us w (unowned n) j = elim j [ ]
 kept_ring scene x ns i f us w (even s q) j = elim j [ ]
 kept_ring scene x ns i f us w (written o s n) here = refl
 kept_ring scene x ns i f us w (written o s n) (there j) = elim j [ ]
 
-seen_hit : (k : Axis) (p : Spot) (f : Face) (b : Bool) → is_hit k p (seen f b) ≡ is_hit k p f
+seen_hit : (k : Axis) (p : Spot) (f : Face) (b : Bool) → is_hit k p (oriented_face f b) ≡ is_hit k p f
 seen_hit k p f true = is_hit-turned k p f
 seen_hit k p f false = refl
 
-seen_key : (k : Axis) (p : Spot) (f : Face) (b : Bool) → key k p (seen f b) ≡ key k p f
+seen_key : (k : Axis) (p : Spot) (f : Face) (b : Bool) → key k p (oriented_face f b) ≡ key k p f
 seen_key k p f true = key-turned k p f
 seen_key k p f false = refl
 

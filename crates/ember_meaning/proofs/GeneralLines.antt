@@ -18,7 +18,7 @@ use Rattle.ember_model.specs.declared.point.Spot.{Spot}
 use Rattle.ember_model.specs.declared.point.Axis.{Axis}
 use Rattle.ember_model.specs.declared.point.Axis.TheVariants.{X, Y, Z}
 use Rattle.ember_model.specs.Planes.{value_at, along, unit, support_of, edge_through}
-use Rattle.ember_model.specs.Points.{scaled, moved, shifted}
+use Rattle.ember_model.specs.Points.{scaled, moved, offset_by}
 use Rattle.ember_model.specs.Faces.{size, hit, is_inside, is_flat, face_of}
 use Rattle.ember_model.specs.Clear.{AreClear, IsClearOf}
 use Rattle.ember_model.specs.Meshes.{faces_of}
@@ -120,9 +120,9 @@ value_at_hit g n a p =
     solve 14 (λ m k ga gb gc gd na nb nc nd x y z w. (m ⊗ ga ⊕ k ⊗ na) ⊗ x ⊕ (m ⊗ gb ⊕ k ⊗ nb) ⊗ y ⊕ (m ⊗ gc ⊕ k ⊗ nc) ⊗ z ⊖ (m ⊗ gd ⊕ k ⊗ nd) ⊗ w ≈ m ⊗ (ga ⊗ x ⊕ gb ⊗ y ⊕ gc ⊗ z ⊖ gd ⊗ w) ⊕ k ⊗ (na ⊗ x ⊕ nb ⊗ y ⊕ nc ⊗ z ⊖ nd ⊗ w)) cancels (size (along n a)) (neg_ℤ (sign (along n a)) *ℤ along g a) g.a g.b g.c g.d n.a n.b n.c n.d p.x p.y p.z p.w ∙ solve 5 (λ m s k v u. m ⊗ v ⊕ neg s ⊗ k ⊗ u ≈ m ⊗ v ⊖ s ⊗ u ⊗ k) cancels (size (along n a)) (sign (along n a)) (along g a) (value_at g p) (value_at n p) ∙ sym (value_hit g n a p)
 
 -- the lines through points directly beside p are general to any two planes
-general_to : (a : Axis) (p : Spot) → pos 0 <ℤ p.w → (n g : Plane) → Eventually (λ m. IsGeneralTo a (shifted p (pos m)) n g)
+general_to : (a : Axis) (p : Spot) → pos 0 <ℤ p.w → (n g : Plane) → Eventually (λ m. IsGeneralTo a (offset_by p (pos m)) n g)
 general_to a p w n g =
-    eventually_map (λ m h e. let q = shifted p (pos m) in let z = value_at_hit g n a q ∙ e in record { zero = λ v. sym (value_at_hit g n a v) ∙ all_zero (at_hit_of g n a) q h.0 (h.1 z) z v }) (eventually_both (weight_shifted p w) (off_shifted p (at_hit_of g n a)))
+    eventually_map (λ m h e. let q = offset_by p (pos m) in let z = value_at_hit g n a q ∙ e in record { zero = λ v. sym (value_at_hit g n a v) ∙ all_zero (at_hit_of g n a) q h.0 (h.1 z) z v }) (eventually_both (weight_shifted p w) (off_shifted p (at_hit_of g n a)))
 
 -- ---- beside a place where a plane is met
 -- the planes of a triangle, and along an axis its edges
@@ -134,15 +134,15 @@ record IsGeneralFor (k : Axis) (q : Spot) (n : Plane) (u : Tri) : Type 0 where
   pub plane : IsGeneralTo k q n (support_of u)
   pub edges : (a : Axis) → AreGeneralAlong k q n u a
 
-general_for : (k : Axis) (p : Spot) → pos 0 <ℤ p.w → (n : Plane) (u : Tri) → Eventually (λ m. IsGeneralFor k (shifted p (pos m)) n u)
+general_for : (k : Axis) (p : Spot) → pos 0 <ℤ p.w → (n : Plane) (u : Tri) → Eventually (λ m. IsGeneralFor k (offset_by p (pos m)) n u)
 general_for k p w n u =
     eventually_map (λ m h. record { plane = h.0; edges = axes m h.1.0 h.1.1.0 h.1.1.1 }) (eventually_both (general_to k p w n (support_of u)) (eventually_both (edges X) (eventually_both (edges Y) (edges Z))))
   where
-    edges : (a : Axis) → Eventually (λ m. AreGeneralAlong k (shifted p (pos m)) n u a)
+    edges : (a : Axis) → Eventually (λ m. AreGeneralAlong k (offset_by p (pos m)) n u a)
     edges a =
         eventually_both (general_to k p w n (edge_through u.a u.b (unit a))) (eventually_both (general_to k p w n (edge_through u.b u.c (unit a))) (general_to k p w n (edge_through u.c u.a (unit a))))
 
-    axes : (m : ℕ) → AreGeneralAlong k (shifted p (pos m)) n u X → AreGeneralAlong k (shifted p (pos m)) n u Y → AreGeneralAlong k (shifted p (pos m)) n u Z → (a : Axis) → AreGeneralAlong k (shifted p (pos m)) n u a
+    axes : (m : ℕ) → AreGeneralAlong k (offset_by p (pos m)) n u X → AreGeneralAlong k (offset_by p (pos m)) n u Y → AreGeneralAlong k (offset_by p (pos m)) n u Z → (a : Axis) → AreGeneralAlong k (offset_by p (pos m)) n u a
     axes m x y z X = x
     axes m x y z Y = y
     axes m x y z Z = z
@@ -237,7 +237,7 @@ stands_in (t ∷ ts) (suc i) f = let l = stands_in ts i f in omega (arith, l)
 
 module _ (scene : List Tri) (k : Axis) (p : Spot) (weight : pos 0 <ℤ p.w) where
   abbrev near_p : ℕ → Spot
-  near_p m = shifted p (pos m)
+  near_p m = offset_by p (pos m)
 
   module _ (n : Plane) (crosses : along n k ≢ pos 0) where
     abbrev met : ℕ → Spot

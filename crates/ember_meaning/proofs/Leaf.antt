@@ -19,7 +19,7 @@ use Rattle.ember_model.specs.Faces.{is_inside, is_flat, face_of}
 use Rattle.ember_box.specs.Boxes.{Cell, low, high}
 use Rattle.ember_box.specs.Near.{tri_at}
 use Rattle.ember_box.specs.Sums.{number}
-use Rattle.ember_box.specs.Regions.{AtWall, low_wall, high_wall, walls, IsRegions, cutting_planes}
+use Rattle.ember_box.specs.Regions.{AreLeftByWall, low_wall, high_wall, walls, IsRegions, cutting_planes}
 use Rattle.ember_ref.proofs.NearPoints.{coordinate}
 use Rattle.ember_meaning.proofs.CountedPoints.{hits, passes, is_in_box, IsFair}
 use Rattle.ember_meaning.proofs.RegionsPartition.{cutting_planes_count, start_count}
@@ -101,7 +101,7 @@ pub leaf_count : (c : Cell) (ts : List Tri) (i : ℕ) (x : Spot) (fs : List Face
 unfolding face_of
 leaf_count c ts i x fs e fair r =
     let t = tri_at ts i in
-    let begun = subst (λ b. Chain (λ w. Each (AtWall w)) (walls c) (elim b [ true ↦ [] | false ↦ face_of t ∷ [] ]) r.start) e r.is_start in
+    let begun = subst (λ b. Chain (λ w. Each (AreLeftByWall w)) (walls c) (elim b [ true ↦ [] | false ↦ face_of t ∷ [] ]) r.start) e r.is_start in
     let k = start_count x (support_of t) (walls c) (face_of t ∷ []) r.start fair.walls (refl, tt) begun in
     let m = cutting_planes_count x (support_of t) (cutting_planes ts i) r.start fs fair.cutting_planes k.0 r.cuts in
     m.1 ∙ k.1 ∙ ap (λ b. cond b (hits x (face_of t ∷ [])) 0) (walls_box c x) ∙ one (is_in_box c x) (is_inside (face_of t) x)

@@ -12,7 +12,7 @@ use Rattle.ember_box.specs.Halving.{leaves}
 use Rattle.ember_box.specs.Regions.{IsRegions}
 use Rattle.ember_expr.specs.Formula.{Formula}
 use Rattle.ember_leaf.specs.declared.kept.Kept.{Kept}
-use Rattle.ember_leaf.specs.Written.{AtRegion}
+use Rattle.ember_leaf.specs.Written.{IsWrittenOfRegion}
 use Rattle.ember_leaf.specs.Scenes.{HasOneValue}
 use Rattle.ember_meaning.proofs.CountedPoints.{is_in_box}
 
@@ -59,4 +59,4 @@ pub data Without {X : Type 0} (P : X → Type 0) : List X → List X → Type 0 
 pub record IsListing (scene : List Tri) (x : Formula) (ks : List Kept) (cs : List Cell) (es : List Entry) : Type 0 where
   pub listed : Without (HasOneValue scene x) (leaves scene root) cs
   pub are_entries : IsEntries scene cs es
-  pub are_written : Each (λ e us. AtRegion scene x (near scene e.cell) e.tri e.face us) es ks
+  pub are_written : Each (λ e us. IsWrittenOfRegion scene x (near scene e.cell) e.tri e.face us) es ks

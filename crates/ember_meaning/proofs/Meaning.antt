@@ -22,7 +22,7 @@ use Rattle.ember_box.specs.Boxes.{Cell, root}
 use Rattle.ember_box.specs.Near.{near}
 use Rattle.ember_box.specs.Halving.{leaves}
 use Rattle.ember_leaf.specs.declared.kept.Kept.{Kept}
-use Rattle.ember_leaf.specs.Written.{AtRegion, unowned, even, written}
+use Rattle.ember_leaf.specs.Written.{IsWrittenOfRegion, unowned, even, written}
 use Rattle.ember_leaf.specs.Scenes.{HasOneValue}
 use Rattle.ember_text.specs.Documents.{written_face}
 use Rattle.ember_meaning.proofs.CountedPoints.{is_in_box}
@@ -134,7 +134,7 @@ module _ (scene : List Tri) (x : Formula) (k : Axis) (p : Spot) (cs : List Cell)
     amount_of f n false = refl
 
     -- an entry gives the jump if it is owned and holds the place, otherwise nothing
-    entry_total : (e : Entry) (us : List Kept) → In e es → AtRegion scene x (near scene e.cell) e.tri e.face us → total_of (λ w. amount k (written_face w)) passes_here us ≡ cond (has e && owned e) jump (pos 0)
+    entry_total : (e : Entry) (us : List Kept) → In e es → IsWrittenOfRegion scene x (near scene e.cell) e.tri e.face us → total_of (λ w. amount k (written_face w)) passes_here us ≡ cond (has e && owned e) jump (pos 0)
     entry_total e us i (unowned n) =
         by (has e) (list_any (λ j. is_hit_at scene cs at j) (range_with_len 0 e.tri)) (λ h l. n (r.first_owner e i h (none_below (λ j. is_hit_at scene cs at j) e.tri l)))
       where
@@ -183,7 +183,7 @@ module _ (scene : List Tri) (x : Formula) (k : Axis) (p : Spot) (cs : List Cell)
     covered one c =
         record { cover = λ j. entries_count scene cs at j es one r.fair c; owned_if = λ e i h f. ap not (any_below (λ j. is_hit_at scene cs at j) 0 e.tri (λ j l. f j (omega arith))); not_owned_if = λ e j i h l q. ap not (any_at (λ j. is_hit_at scene cs at j) 0 e.tri j (omega arith) (ap (λ (m : ℕ). is_hit_at scene cs at m) (omega arith) ∙ q)) }
 
-    jump_here : (ws : List Kept) → Without (HasOneValue scene x) (leaves scene root) cs → IsEntries scene cs es → Each (λ e us. AtRegion scene x (near scene e.cell) e.tri e.face us) es ws → total_of (amount k) (λ w. is_same_place is_below (tri_key k p t) (key k p w)) (filter (is_hit k p) (map written_face ws)) ≡ jump
+    jump_here : (ws : List Kept) → Without (HasOneValue scene x) (leaves scene root) cs → IsEntries scene cs es → Each (λ e us. IsWrittenOfRegion scene x (near scene e.cell) e.tri e.face us) es ws → total_of (amount k) (λ w. is_same_place is_below (tri_key k p t) (key k p w)) (filter (is_hit k p) (map written_face ws)) ≡ jump
     jump_here ws n c d =
         total_of-filter (amount k) (is_hit k p) (λ w. is_same_place is_below (tri_key k p t) (key k p w)) (map written_face ws) ∙ total_of-map (amount k) (λ w. is_hit k p w && is_same_place is_below (tri_key k p t) (key k p w)) written_face ws ∙ ⊎_elim (λ s. jump_at (λ e. e.tri) has owned (λ j. is_hit_at scene cs at j) (λ w. amount k (written_face w)) passes_here jump es ws (covered (one_holds scene cs at weight n) c) entry_total d s.tri s.is_hit) (λ s. still_at (λ e. e.tri) has owned (λ j. is_hit_at scene cs at j) (λ w. amount k (written_face w)) passes_here jump es ws (covered (one_holds scene cs at weight n) c) entry_total d s.0 ∙ sym (ap (λ b. one_if b -ℤ one_if after_here) s.1 ∙ nought (one_if after_here))) r.some_hit
       where
@@ -196,7 +196,7 @@ unfolding meshes
 none_ahead = refl
 
 -- the meaning on a regular line
-pub meaning_along : (scene : List Tri) (x : Formula) (k : Axis) (p : Spot) (cs : List Cell) (es : List Entry) (ws : List Kept) → Without (HasOneValue scene x) (leaves scene root) cs → IsEntries scene cs es → Each (λ e us. AtRegion scene x (near scene e.cell) e.tri e.face us) es ws → IsFalseOutside x → IsRegularLine scene x k p cs es ws → (y : Fraction) → wind k (map written_face ws) (on_line k p y) ≡ one_if (truth (vector k scene (on_line k p y)) x)
+pub meaning_along : (scene : List Tri) (x : Formula) (k : Axis) (p : Spot) (cs : List Cell) (es : List Entry) (ws : List Kept) → Without (HasOneValue scene x) (leaves scene root) cs → IsEntries scene cs es → Each (λ e us. IsWrittenOfRegion scene x (near scene e.cell) e.tri e.face us) es ws → IsFalseOutside x → IsRegularLine scene x k p cs es ws → (y : Fraction) → wind k (map written_face ws) (on_line k p y) ≡ one_if (truth (vector k scene (on_line k p y)) x)
 meaning_along scene x k p cs es ws n c d o r y =
     along_line scene (λ v. truth v x) (map written_face ws) k p (map (tri_key k p) (tri_hits k p scene)) (record { tris = λ t i. in_map (tri_key k p) (tri_hits k p scene) t i; faces = r.placed; jumps = λ z i. jumps z (map_member_has_source (tri_key k p) (tri_hits k p scene) z i); bounded = ap (λ (v : List ℤ). truth v x) none_ahead ∙ o }) y
   where

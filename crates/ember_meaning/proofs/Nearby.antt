@@ -7,7 +7,7 @@ use Rattle.ember_model.specs.declared.tri.Tri.{Tri}
 use Rattle.ember_model.specs.declared.point.Axis.TheVariants.{X}
 use Rattle.ember_model.specs.FaceFiles.{WrittenFace}
 use Rattle.ember_model.specs.Meshes.{vector}
-use Rattle.ember_model.specs.Points.{shifted}
+use Rattle.ember_model.specs.Points.{offset_by}
 use Rattle.ember_law.proofs.Generic.{wind_shifted}
 use Rattle.ember_law.proofs.GenericClear.{clear_shifted, clear_faces}
 use Rattle.ember_law.proofs.Shifted.{weight_shifted}
@@ -24,7 +24,7 @@ module _ (scene : List Tri) (x : Formula) (ws : List WrittenFace) (lines : AllBy
   -- shifted, every point is clear of the scene and of the faces
   pub meaning_nearby : HaveMeaningNearby scene x (map face_from ws)
   meaning_nearby p weight =
-      eventually_map (λ k h. λ a b. meaning a b (shifted p (pos k)) h.0 (clear_faces (shifted p (pos k)) scene h.1.0) h.1.1) (eventually_both (weight_shifted p weight) (eventually_both (clear_shifted p scene weight) (clear_shifted_faces p weight ws lines)))
+      eventually_map (λ k h. λ a b. meaning a b (offset_by p (pos k)) h.0 (clear_faces (offset_by p (pos k)) scene h.1.0) h.1.1) (eventually_both (weight_shifted p weight) (eventually_both (clear_shifted p scene weight) (clear_shifted_faces p weight ws lines)))
 
   -- a clear point of the scene has its winding numbers at the shifted point too
   pub wind_nearby_as_here : WindNearbyAsHere scene x (map face_from ws)
@@ -39,7 +39,7 @@ module _ (scene : List Tri) (x : Formula) (ws : List WrittenFace) (lines : AllBy
   -- so they are 0 or 1, and alike along all axes
   pub wind_once_at_most : WindOnceAtMost (map face_from ws)
   wind_once_at_most p weight clear =
-      let s = wind_here_as_nearby p weight clear in (truth (vector X scene (shifted p (pos s.from))) x, λ a. s.holds s.from (le_refl s.from) a X)
+      let s = wind_here_as_nearby p weight clear in (truth (vector X scene (offset_by p (pos s.from))) x, λ a. s.holds s.from (le_refl s.from) a X)
 
 -- ---- one list of faces
 one_if_injective : (b c : Bool) → one_if b ≡ one_if c → b ≡ c

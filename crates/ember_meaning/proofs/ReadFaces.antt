@@ -19,10 +19,10 @@ use Rattle.ember_box.specs.Boxes.{Cell, root}
 use Rattle.ember_box.specs.Near.{near}
 use Rattle.ember_box.specs.Halving.{leaves}
 use Rattle.ember_leaf.specs.declared.kept.Kept.{Kept}
-use Rattle.ember_leaf.specs.Written.{AtRegion, unowned, even, written, IsWrittenOf, regional, hidden, front}
+use Rattle.ember_leaf.specs.Written.{IsWrittenOfRegion, unowned, even, written, IsWrittenOf, regional, hidden, front}
 use Rattle.ember_leaf.specs.Scenes.{LeafGives, regions, nothing, IsWritten}
 use Rattle.ember_leaf.proofs.WallClips.{each_every}
-use Rattle.ember_text.specs.Texts.{IsGoodText, seen}
+use Rattle.ember_text.specs.Texts.{IsTextInRange, oriented_face}
 use Rattle.ember_text.specs.Documents.{IsDocumentText, written_face}
 use Rattle.ember_meaning.specs.Meaning.{IsFalseOutside, HaveMeaning, ReadsWithMeaning}
 use Rattle.ember_meaning.proofs.FlippedFaces.{inside-turned}
@@ -37,13 +37,13 @@ every_one : {X : Type 0} (xs : List X) → Every (λ x. Unit {0}) xs
 every_one [] = tt
 every_one (x ∷ xs) = (tt, every_one xs)
 
-of_region : (scene : List Tri) (x : Formula) (near : List Tri) (i : ℕ) (face : Face) (ks : List Kept) → AtRegion scene x near i face ks → Every IsFilled ks
+of_region : (scene : List Tri) (x : Formula) (near : List Tri) (i : ℕ) (face : Face) (ks : List Kept) → IsWrittenOfRegion scene x near i face ks → Every IsFilled ks
 of_region scene x near i face ks (unowned n) = tt
 of_region scene x near i face ks (even s e) = tt
 of_region scene x near i face ks (written {before = a} {after = b} o s n) =
     (filled (truth (front face a b) x), tt)
   where
-    filled : (b : Bool) → HasInside (seen face b)
+    filled : (b : Bool) → HasInside (oriented_face face b)
     filled true = record { at = s.at; inside = inside-turned face s.at ∙ s.inside; holds = tt }
     filled false = record { at = s.at; inside = s.inside; holds = tt }
 
@@ -74,7 +74,7 @@ record ReadAs (fs : List Face) (texts : List ℕ) : Type 0 where
   same : HaveSamePoints fs (map face_from written)
   outlined : AllByRecursion IsOutlined written
 
-texts_read : (ks : List Kept) {texts : List ℕ} → Every IsFilled ks → Each IsGoodText (map written_face ks) texts → ReadAs (map written_face ks) texts
+texts_read : (ks : List Kept) {texts : List ℕ} → Every IsFilled ks → Each IsTextInRange (map written_face ks) texts → ReadAs (map written_face ks) texts
 texts_read [] h none = record { written = []; well_formed = All-nil IsWrittenFace; is = refl; count = refl; same = tt; outlined = tt }
 texts_read (k ∷ ks) h (more {ys = ys} {zs = zs} t ts) =
     let f = written_face k in let s = texts_read ks h.1 ts in

@@ -7,14 +7,14 @@ use Rattle.ember_model.specs.declared.point.Spot.{Spot}
 use Rattle.ember_model.specs.declared.point.Axis.{Axis}
 use Rattle.ember_model.specs.Clear.{AreClear}
 use Rattle.ember_model.specs.Meshes.{wind, vector, faces_of}
-use Rattle.ember_model.specs.Points.{shifted}
+use Rattle.ember_model.specs.Points.{offset_by}
 use Rattle.ember_expr.specs.Formula.{Formula}
 use Rattle.ember_expr.specs.Truth.{truth}
 use Rattle.ember_meaning.specs.Meaning.{one_if, HasMeaning}
 
 -- P holds of the point p shifted along all axes, if the shift is small enough
 abbrev pub WhereShifted : Spot → (Spot → Type 0) → Type 0
-WhereShifted p P = Eventually (λ k. P (shifted p (pos k)))
+WhereShifted p P = Eventually (λ k. P (offset_by p (pos k)))
 
 -- ---- any point, shifted
 -- near each point, clear or not, the faces have the meaning
@@ -22,8 +22,8 @@ abbrev pub HaveMeaningNearby : List Tri → Formula → List Face → Type 0
 HaveMeaningNearby scene x faces =
     (p : Spot) → pos 0 <ℤ p.w → WhereShifted p (λ q. (a b : Axis) → HasMeaning scene x faces a b q)
 
--- at a point that is clear of the scene's faces, the expression at its own winding numbers is what the faces wind at
--- the shifted point
+-- let a point be clear of the scene's faces. The faces wind once around the shifted point if the
+-- expression is true of the winding numbers at the point itself, and otherwise not at all
 abbrev pub WindNearbyAsHere : List Tri → Formula → List Face → Type 0
 WindNearbyAsHere scene x faces =
     (p : Spot) → pos 0 <ℤ p.w → AreClear (faces_of scene) p → WhereShifted p

@@ -21,8 +21,8 @@ pub fn written_regions_have_their_meaning()
 
 /// The document of the written regions is a face file. The faces that are read back from it have
 /// the same meaning, though each has only the planes of a region's outline. Their written edges are
-/// those outlines, and they are a closed surface: on each line, each point is the start of a
-/// written edge as often as the end of one.
+/// those outlines, and they are a closed surface. Take any line and any point on it: of the written
+/// edges that lie on this line, as many start at the point as end there.
 pub fn documents_read_with_their_meaning()
     ensures { (scene : List Tri) (f : Formula) (ks : List Kept) (bytes : List ℕ) → IsScene scene 64 → IsWritten scene f ks → IsFalseOutside f → IsDocumentText (map written_face ks) bytes → ReadsWithMeaning scene f bytes }
 {}

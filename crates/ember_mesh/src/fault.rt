@@ -11,7 +11,7 @@ use thiserror::Error;
 #[derive(Clone, Copy, Debug, PartialEq, Eq, Error)]
 pub enum MeshFault {
     /// This edge is the least that occurs more often than its reverse.
-    #[error("an edge stands more often than its reverse")]
+    #[error("an edge occurs more often than its reverse")]
     Unbalanced(Loose),
     #[error("out of memory")]
     OutOfMemory,

@@ -10,7 +10,7 @@ use Rattle.std.proofs.lemmas.Nat.{pow_pos}
 use Rattle.ember_dec.specs.Decimal.{number_from}
 use Rattle.ember_dec.proofs.Numbers.{number_from-grows}
 use Rattle.ember_number.specs.declared.values.Exponent.{Exponent}
-use Rattle.ember_number.specs.Fractions.{signed}
+use Rattle.ember_number.specs.Fractions.{signed_whole}
 use Rattle.ember_number.specs.Values.{decimal_value, places_right}
 use Rattle.ember_number.proofs.DigitNumbers.{pow_ten_pos, both_true}
 
@@ -18,14 +18,14 @@ abbrev is_zero : ℕ → Bool
 is_zero b = b == 48
 
 -- a sign and a size
-signed_zero : (minus : Bool) (size : ℕ) → size ≡ 0 → is_positive (signed minus size) ≡ false
+signed_zero : (minus : Bool) (size : ℕ) → size ≡ 0 → is_positive (signed_whole minus size) ≡ false
 signed_zero true size e = rw e refl
 signed_zero false size e = rw e refl
 
 some_size : (size : ℕ) → 0 < size → nat_lt 0 size ≡ true
 some_size size p = grind (arith, nat_tests)
 
-signed_some : (minus : Bool) (size : ℕ) → 0 < size → is_positive (signed minus size) ≡ not minus
+signed_some : (minus : Bool) (size : ℕ) → 0 < size → is_positive (signed_whole minus size) ≡ not minus
 signed_some true zero p = absurd (omega arith)
 signed_some true (suc n) p = refl
 signed_some false size p = some_size size p
@@ -59,7 +59,7 @@ all_digits : (whole fraction : List ℕ) → list_all is_ascii_digit whole ≡ t
 all_digits whole fraction w f = rw (list_all-append is_ascii_digit whole fraction, w, f) refl
 
 size_sign : (minus : Bool) (ds : List ℕ) (k : ℕ) → list_all is_ascii_digit ds ≡ true → (zero : Bool) → list_all is_zero ds ≡ zero
-    → is_positive (signed minus (number_from 0 ds * 10 ^ k)) ≡ (not minus && not zero)
+    → is_positive (signed_whole minus (number_from 0 ds * 10 ^ k)) ≡ (not minus && not zero)
 size_sign true ds k h true e = signed_zero true (number_from 0 ds * 10 ^ k) (rw (zeros ds e) (omega arith))
 size_sign false ds k h true e = signed_zero false (number_from 0 ds * 10 ^ k) (rw (zeros ds e) (omega arith))
 size_sign true ds k h false e = signed_some true (number_from 0 ds * 10 ^ k) (mul-pos (some_digit 0 ds h e) (pow_ten_pos k))
@@ -73,7 +73,7 @@ decimal_sign minus whole fraction e w f =
     (list_all-append is_zero whole fraction)
 
 -- a binary number is positive exactly if it has no minus and its significand isn't 0
-pub binary_sign : (minus : Bool) (significand power : ℕ) → is_positive (signed minus (significand * 2 ^ power)) ≡ (not minus && nat_lt 0 significand)
+pub binary_sign : (minus : Bool) (significand power : ℕ) → is_positive (signed_whole minus (significand * 2 ^ power)) ≡ (not minus && nat_lt 0 significand)
 binary_sign true zero power = signed_zero true (0 * 2 ^ power) (omega arith)
 binary_sign false zero power = signed_zero false (0 * 2 ^ power) (omega arith)
 binary_sign true (suc n) power = signed_some true (suc n * 2 ^ power) (mul-pos (omega arith) (pow_pos power))

@@ -8,7 +8,8 @@ use Rattle.ember_model.specs.declared.face.Face.{Face}
 use Rattle.ember_model.specs.Points.{scaled, moved}
 use Rattle.ember_model.specs.Faces.{is_inside, is_in_closed, is_flat, face_of}
 
--- p is not in the closed face, and a point of an axis ray from p, p + s / (m * w), that is in the closed face is inside
+-- p isn't in the closed face, and each point of the rays from p along +x, +y and +z that is in the closed face
+-- is inside it. Such a point is p moved by s / (m * w) along the axis, with m > 0 and s ≥ 0.
 pub record IsClear (f : Face) (p : Spot) : Type 0 where
   pub outside : is_in_closed f p ≡ false
   pub rays : (a : Axis) (m s : ℤ) → pos 0 <ℤ m → pos 0 ≤ℤ s → is_in_closed f (moved (scaled m p) a s) ≡ true →

@@ -31,7 +31,7 @@ is_entry es a p h = is_negative (along h a) && (is_positive (value_at h p) && no
 abbrev pub enters : List Plane → Axis → Spot → Bool
 enters es a p = list_any (is_entry es a p) es
 
--- no boundary point lies on the ray from p along a; p is not in the closed face
+-- whether the ray from p along a meets no boundary point of the face, if p isn't in the closed face
 abbrev pub is_ray_clear : Face → Axis → Spot → Bool
 is_ray_clear f a p =
     if is_zero (along f.support a) then (if is_zero (value_at f.support p) then not (enters f.edges a p) else true)

@@ -1,5 +1,5 @@
 -- The edges of a face, in their order round it
-use Rattle.std.specs.Prelude.{◌≡◌, ◌⊎◌, ℕ, ◌<◌, Bool, true, ◌&&◌, List, [], ◌∷◌, Some, slice_get, ℤ, ◌*ℤ◌, ◌<ℤ◌, ◌≤ℤ◌}
+use Rattle.std.specs.Prelude.{◌≡◌, ◌⊎◌, ℕ, ◌<◌, Bool, true, ◌&&◌, List, [], ◌∷◌, Some, slice_get, ℤ, ◌*ℤ◌, ◌<ℤ◌, ◌≤ℤ◌, ⊤}
 use Rattle.std.specs.List.{AllByRecursion}
 use Rattle.ember_algebra.specs.Vector.{Vector}
 use Rattle.ember_algebra.specs.Vector.{dot, cross}
@@ -73,7 +73,7 @@ pub record IsEdge (f : Face) (e : RingEdge) (end : Spot) : Type 0 where
 
 -- each edge ends where the next one starts, and the last one at the corner `end`
 abbrev pub IsEdgeChain : Face → Spot → List RingEdge → Type 0
-IsEdgeChain f end [] = Unit {0}
+IsEdgeChain f end [] = ⊤
 IsEdgeChain f end (e ∷ []) = IsEdge f e end
 IsEdgeChain f end (e ∷ d ∷ es) = IsEdge f e d.start × IsEdgeChain f end (d ∷ es)
 
@@ -84,7 +84,7 @@ HasEdgeOf f h (e ∷ es) = SameEdge f h e.plane ⊎ HasEdgeOf f h es
 
 -- no two members have the same edge
 abbrev pub HaveDistinctEdges : Face → List RingEdge → Type 0
-HaveDistinctEdges f [] = Unit {0}
+HaveDistinctEdges f [] = ⊤
 HaveDistinctEdges f (e ∷ es) = AllByRecursion (λ d. SameEdge f e.plane d.plane → ⊥) es × HaveDistinctEdges f es
 
 -- all edges of f that count, once round, beginning with the one whose plane is the earliest

@@ -83,8 +83,8 @@ flipped_face f = record { support = opposite f.support; edges = f.edges }
 
 -- inside points of f lie strictly on both sides of p
 pub record Cuts (f : Face) (p : Plane) : Type 0 where
-  pub low : Somewhere f (λ v. is_negative (value_at p v) ≡ true)
-  pub high : Somewhere f (λ v. is_positive (value_at p v) ≡ true)
+  pub some_below : Somewhere f (λ v. is_negative (value_at p v) ≡ true)
+  pub some_above : Somewhere f (λ v. is_positive (value_at p v) ≡ true)
 
 -- some inside point of f lies in the closed face g
 abbrev pub Meets : Face → Face → Type 0

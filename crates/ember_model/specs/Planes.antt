@@ -39,12 +39,12 @@ abbrev pub times_plane : ℤ → Plane → Plane
 times_plane k p = record { a = k *ℤ p.a; b = k *ℤ p.b; c = k *ℤ p.c; d = k *ℤ p.d }
 
 -- the vector from the corner u to the corner v
-abbrev pub side_of : Corner → Corner → Vector
-side_of u v = minus_v (vector_of v) (vector_of u)
+abbrev pub vector_between : Corner → Corner → Vector
+vector_between u v = minus_v (vector_of v) (vector_of u)
 
 -- the support plane of a triangle
 abbrev pub support_of : Tri → Plane
-support_of t = plane_through (cross (side_of t.a t.b) (side_of t.a t.c)) t.a
+support_of t = plane_through (cross (vector_between t.a t.b) (vector_between t.a t.c)) t.a
 
 -- the axis of the largest entry of the normal, the first in a tie
 abbrev pub main_axis : Plane → Axis
@@ -54,7 +54,7 @@ main_axis p =
 
 -- the plane through the edge from u to v along a direction, without the triangle's sign
 abbrev pub edge_through : Corner → Corner → Vector → Plane
-edge_through u v f = plane_through (cross (side_of u v) f) u
+edge_through u v direction = plane_through (cross (vector_between u v) direction) u
 
 -- the edge planes of a triangle parallel to an axis, negative on the triangle's side
 abbrev pub edge_planes : Tri → Axis → List Plane

@@ -8,7 +8,7 @@ use Rattle.ember_model.specs.declared.point.Axis.TheVariants.{X, Y, Z}
 abbrev pub scaled : ℤ → Spot → Spot
 scaled k s = record { x = k *ℤ s.x; y = k *ℤ s.y; z = k *ℤ s.z; w = k *ℤ s.w }
 
--- moved along an axis by a part of the weight
+-- moved along an axis by the distance by / w
 abbrev pub moved : Spot → Axis → ℤ → Spot
 moved s X by = record s { x = s.x +ℤ by }
 moved s Y by = record s { y = s.y +ℤ by }
@@ -18,9 +18,9 @@ moved s Z by = record s { z = s.z +ℤ by }
 abbrev pub plus_s : Spot → Spot → Spot
 plus_s p q = record { x = p.x +ℤ q.x; y = p.y +ℤ q.y; z = p.z +ℤ q.z; w = p.w +ℤ q.w }
 
--- p shifted a little, most along x and least along z, if m is large
-abbrev pub shifted : Spot → ℤ → Spot
-shifted p m =
+-- p offset by a little, most along x and least along z, if m is large
+abbrev pub offset_by : Spot → ℤ → Spot
+offset_by p m =
     record {
       x = m *ℤ m *ℤ m *ℤ p.x +ℤ m *ℤ m;
       y = m *ℤ m *ℤ m *ℤ p.y +ℤ m;

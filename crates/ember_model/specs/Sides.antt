@@ -15,8 +15,9 @@ pub record HasWindings (ts : List Tri) (k : Axis) (v : Spot) (counts : List ℤ)
   pub clear : AreClear (faces_of ts) v
   pub counts_are : vector k ts v ≡ counts
 
--- an inside point of f, from which every small step back along the main axis sees `before`, and every
--- small step on sees `after`; the step is s / (m * w), small if m is above s times the bound
+-- an inside point of f such that each point a small distance back along the main axis is clear and has the
+-- winding numbers `before`, and each a small distance on is clear and has `after`. The distance is s / (m * w),
+-- and it is small if m > bound * s.
 pub record IsSides (ts : List Tri) (f : Face) (before after : List ℤ) : Type 0 where
   pub at : Spot
   pub inside : is_inside f at ≡ true

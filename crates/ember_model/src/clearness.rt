@@ -12,7 +12,7 @@ use crate::point::{Axis, Spot};
 use crate::rays::{hit_on_ray, meets};
 use crate::tri::Tri;
 use crate::triangle_planes::{component, has_no_normal, main_edges, support_of};
-use crate::values::{RayPoint, all_negative, none_positive, value};
+use crate::values::{RayPoint, all_negative, none_positive, plane_value};
 
 // Whether a point at which a plane has this value lies on it.
 fn is_on(front: i128) -> bool
@@ -29,15 +29,15 @@ fn is_level(slope: i64) -> bool
 }
 
 // Whether the point lies in the closed face with this support plane and these edge planes.
-fn in_closed(p: &Spot, n: &Plane, es: &[Plane]) -> bool
+fn in_closed(p: &Spot, support: &Plane, edges: &[Plane]) -> bool
     requires spot { IsValidSpot p.now }
-    requires support { IsValidPlane n.now }
-    requires edges { All IsValidPlane es.now }
-    ensures { result ≡ is_in_closed (face_with n.now es.now) p.now }
+    requires support { IsValidPlane support.now }
+    requires edges { All IsValidPlane edges.now }
+    ensures { result ≡ is_in_closed (face_with support.now edges.now) p.now }
 {
-    is_on(value(n, p))
+    is_on(plane_value(support, p))
         && none_positive(
-            es,
+            edges,
             p,
             &RayPoint {
                 axis: Axis::X,
@@ -47,20 +47,20 @@ fn in_closed(p: &Spot, n: &Plane, es: &[Plane]) -> bool
         )
 }
 
-// Whether the ray passes from the front of `h` to its back at a point where no plane of the list is
-// positive.
-fn is_entry(p: &Spot, a: Axis, h: &Plane, es: &[Plane]) -> bool
+// Whether the ray passes from the front of `edge` to its back at a point where no plane of the list
+// is positive.
+fn is_entry(p: &Spot, a: Axis, edge: &Plane, edges: &[Plane]) -> bool
     requires spot { IsValidSpot p.now }
-    requires plane { IsValidPlane h.now }
-    requires edges { All IsValidPlane es.now }
-    ensures { result ≡ is_entry es.now a p.now h.now }
+    requires plane { IsValidPlane edge.now }
+    requires edges { All IsValidPlane edges.now }
+    ensures { result ≡ is_entry edges.now a p.now edge.now }
 {
-    let slope = component(h, a);
-    let offset = value(h, p);
+    let slope = component(edge, a);
+    let offset = plane_value(edge, p);
     slope < 0
         && (offset > 0
             && none_positive(
-                es,
+                edges,
                 p,
                 &RayPoint {
                     axis: a,
@@ -71,13 +71,13 @@ fn is_entry(p: &Spot, a: Axis, h: &Plane, es: &[Plane]) -> bool
 }
 
 // Whether a ray in the support plane enters the closed face through some edge.
-fn enters(p: &Spot, a: Axis, es: &[Plane]) -> bool
+fn enters(p: &Spot, a: Axis, edges: &[Plane]) -> bool
     requires spot { IsValidSpot p.now }
-    requires edges { All IsValidPlane es.now }
-    ensures { result ≡ enters es.now a p.now }
+    requires edges { All IsValidPlane edges.now }
+    ensures { result ≡ enters edges.now a p.now }
 {
-    for h in es {
-        if is_entry(p, a, h, es) {
+    for edge in edges {
+        if is_entry(p, a, edge, edges) {
             return true;
         }
     }
@@ -86,19 +86,19 @@ fn enters(p: &Spot, a: Axis, es: &[Plane]) -> bool
 
 // Whether the ray from the point doesn't meet the boundary of the face, if the point isn't in the
 // closed face.
-fn is_ray_clear(p: &Spot, a: Axis, n: &Plane, es: &[Plane]) -> bool
+fn is_ray_clear(p: &Spot, a: Axis, support: &Plane, edges: &[Plane]) -> bool
     requires spot { IsValidSpot p.now }
-    requires support { IsValidPlane n.now }
-    requires edges { All IsValidPlane es.now }
-    ensures { result ≡ is_ray_clear (face_with n.now es.now) a p.now }
+    requires support { IsValidPlane support.now }
+    requires edges { All IsValidPlane edges.now }
+    ensures { result ≡ is_ray_clear (face_with support.now edges.now) a p.now }
 {
-    let front = value(n, p);
-    let slope = component(n, a);
+    let front = plane_value(support, p);
+    let slope = component(support, a);
     if is_level(slope) {
-        !is_on(front) || !enters(p, a, es)
+        !is_on(front) || !enters(p, a, edges)
     } else if meets(front, slope) {
         let hit = hit_on_ray(front, slope, a);
-        !none_positive(es, p, &hit) || all_negative(es, p, &hit)
+        !none_positive(edges, p, &hit) || all_negative(edges, p, &hit)
     } else {
         true
     }
@@ -106,15 +106,16 @@ fn is_ray_clear(p: &Spot, a: Axis, n: &Plane, es: &[Plane]) -> bool
 
 // Whether the point is clear of the face with this support plane and these edge planes.
 #[tactic(none)]
-fn clear_of(p: &Spot, n: &Plane, es: &[Plane]) -> bool
+fn clear_of(p: &Spot, support: &Plane, edges: &[Plane]) -> bool
     requires spot { IsValidSpot p.now }
-    requires support { IsValidPlane n.now }
-    requires edges { All IsValidPlane es.now }
-    ensures { result ≡ is_clear (face_with n.now es.now) p.now }
+    requires support { IsValidPlane support.now }
+    requires edges { All IsValidPlane edges.now }
+    ensures { result ≡ is_clear (face_with support.now edges.now) p.now }
 {
-    !in_closed(p, n, es)
-        && (is_ray_clear(p, Axis::X, n, es)
-            && (is_ray_clear(p, Axis::Y, n, es) && is_ray_clear(p, Axis::Z, n, es)))
+    !in_closed(p, support, edges)
+        && (is_ray_clear(p, Axis::X, support, edges)
+            && (is_ray_clear(p, Axis::Y, support, edges)
+                && is_ray_clear(p, Axis::Z, support, edges)))
 }
 
 /// Whether the point is not in the closed face, and none of the rays from it along +x, +y and +z

@@ -1,6 +1,7 @@
 //! The words of the whole project: corners and triangles, planes and points, faces, winding vectors
 //! and scenes. Defines crossing, winding, clear points and balance. Its calls give the planes and
-//! the face of a triangle, and crossings, and test whether a point is clear.
+//! the face of a triangle, and crossings, and test whether a point is clear. README.md says in
+//! which order to read the files of specs/.
 #![tactic(auto)]
 
 mod clearness;
@@ -23,5 +24,5 @@ pub use rays::{crossing, face_crossing, leg};
 pub use scene::Scene;
 pub use tri::{Lines, Soup, Tri, Tris};
 pub use triangle_planes::{OutOfMemory, edge_plane, face_of, main_axis, support_of};
-pub use values::value;
+pub use values::plane_value;
 pub use vector::Vector;

@@ -11,7 +11,7 @@ use crate::face::Face;
 use crate::point::{Axis, Spot};
 use crate::tri::Tri;
 use crate::triangle_planes::{component, support_of};
-use crate::values::{RayPoint, all_negative, edge_value, value};
+use crate::values::{RayPoint, all_negative, edge_value, plane_value};
 use crate::vector3::sign_number;
 
 // Whether a ray meets a plane that has the value `front` at its start and the entry `slope` of its
@@ -24,7 +24,7 @@ pub fn meets(front: i128, slope: i64) -> bool
     (front < 0 && slope > 0) || (front > 0 && slope < 0)
 }
 
-// The point at which it does.
+// The point at which such a ray meets the plane, if it does.
 #[tactic(none)]
 pub fn hit_on_ray(front: i128, slope: i64, axis: Axis) -> RayPoint
     requires front { Small (2 ^ 80) front }
@@ -48,7 +48,7 @@ pub fn face_crossing(p: &Spot, a: Axis, f: &Face) -> i32
     ensures value { result ≡ crossing f.now a p.now }
     ensures small { Small 1 result }
 {
-    let front = value(&f.support, p);
+    let front = plane_value(&f.support, p);
     let slope = component(&f.support, a);
     if meets(front, slope) && all_negative(f.edges.items(), p, &hit_on_ray(front, slope, a)) {
         sign_number(slope) as i32
@@ -90,7 +90,7 @@ pub fn crossing(p: &Spot, a: Axis, t: &Tri) -> i32
     ensures small { Small 1 result }
 {
     let n = support_of(t);
-    let front = value(&n, p);
+    let front = plane_value(&n, p);
     let slope = component(&n, a);
     let e = edge_value(&t.a, &t.b, a, p);
     let f = edge_value(&t.b, &t.c, a, p);
@@ -105,7 +105,8 @@ pub fn crossing(p: &Spot, a: Axis, t: &Tri) -> i32
 }
 
 // Whether the three edge planes parallel to an axis are negative. `slope` is the entry of the
-// triangle's normal along it; `e`, `f` and `g` are the planes' values, still without its sign.
+// triangle's normal along it; `e`, `f` and `g` are the planes' values, still without the sign of
+// `slope`.
 fn all_behind(slope: i64, e: i128, f: i128, g: i128) -> bool
     requires e { Small (2 ^ 66) e }
     requires f { Small (2 ^ 66) f }
@@ -156,7 +157,7 @@ pub fn leg(p: &Spot, q: &Spot, a: Axis, t: &Tri) -> i32
     let f = edge_value(&t.b, &t.c, a, p);
     let g = edge_value(&t.c, &t.a, a, p);
     if all_behind(slope, e, f, g) {
-        signed_crossing(value(&n, p), value(&n, q))
+        signed_crossing(plane_value(&n, p), plane_value(&n, q))
     } else {
         0
     }

@@ -14,7 +14,7 @@ use crate::vector3::{Vector3, vector_between};
 
 /// The value of a plane at a point, `a x + b y + c z - d w`: positive in front of the plane.
 #[tactic(none)]
-pub fn value(plane: &Plane, point: &Spot) -> i128
+pub fn plane_value(plane: &Plane, point: &Spot) -> i128
     requires plane { IsValidPlane plane.now }
     requires spot { IsValidSpot point.now }
     ensures value { result ≡ value_at plane.now point.now }
@@ -26,8 +26,8 @@ pub fn value(plane: &Plane, point: &Spot) -> i128
         - plane.d as i128 * point.w as i128
 }
 
-// A point on the ray from a point `p` along an axis: `factor * p`, moved by `offset` parts of its
-// weight.
+// A point on the ray from a point `p` along an axis: `p` with all four numbers times `factor`,
+// which is the same point, then moved by the distance offset / (factor w).
 #[derive(Clone, Copy)]
 pub struct RayPoint {
     pub axis: Axis,
@@ -37,25 +37,26 @@ pub struct RayPoint {
 
 // The value of a plane at a point on the ray from `p`.
 #[tactic(none)]
-pub fn value_at_ray_point(e: &Plane, p: &Spot, r: &RayPoint) -> i128
-    requires plane { IsValidPlane e.now }
+pub fn value_at_ray_point(edge: &Plane, p: &Spot, ray_point: &RayPoint) -> i128
+    requires plane { IsValidPlane edge.now }
     requires spot { IsValidSpot p.now }
-    requires sized { IsRayPointSized r.now }
-    ensures value { result ≡ value_at e.now (point_on_ray p.now r.now) }
+    requires sized { IsRayPointSized ray_point.now }
+    ensures value { result ≡ value_at edge.now (point_on_ray p.now ray_point.now) }
     ensures small { Small (2 ^ 107) result }
 {
-    r.factor as i128 * value(e, p) + r.offset * component(e, r.axis) as i128
+    ray_point.factor as i128 * plane_value(edge, p)
+        + ray_point.offset * component(edge, ray_point.axis) as i128
 }
 
 // Whether all planes are negative at a point on the ray from `p`.
-pub fn all_negative(es: &[Plane], p: &Spot, r: &RayPoint) -> bool
-    requires planes { All IsValidPlane es.now }
+pub fn all_negative(edges: &[Plane], p: &Spot, ray_point: &RayPoint) -> bool
+    requires planes { All IsValidPlane edges.now }
     requires spot { IsValidSpot p.now }
-    requires sized { IsRayPointSized r.now }
-    ensures { result ≡ all_negative es.now (point_on_ray p.now r.now) }
+    requires sized { IsRayPointSized ray_point.now }
+    ensures { result ≡ all_negative edges.now (point_on_ray p.now ray_point.now) }
 {
-    for e in es {
-        if value_at_ray_point(e, p, r) >= 0 {
+    for edge in edges {
+        if value_at_ray_point(edge, p, ray_point) >= 0 {
             return false;
         }
     }
@@ -63,14 +64,14 @@ pub fn all_negative(es: &[Plane], p: &Spot, r: &RayPoint) -> bool
 }
 
 // Whether no plane is positive at a point on the ray from `p`.
-pub fn none_positive(es: &[Plane], p: &Spot, r: &RayPoint) -> bool
-    requires planes { All IsValidPlane es.now }
+pub fn none_positive(edges: &[Plane], p: &Spot, ray_point: &RayPoint) -> bool
+    requires planes { All IsValidPlane edges.now }
     requires spot { IsValidSpot p.now }
-    requires sized { IsRayPointSized r.now }
-    ensures { result ≡ none_positive es.now (point_on_ray p.now r.now) }
+    requires sized { IsRayPointSized ray_point.now }
+    ensures { result ≡ none_positive edges.now (point_on_ray p.now ray_point.now) }
 {
-    for e in es {
-        if value_at_ray_point(e, p, r) > 0 {
+    for edge in edges {
+        if value_at_ray_point(edge, p, ray_point) > 0 {
             return false;
         }
     }
@@ -79,18 +80,18 @@ pub fn none_positive(es: &[Plane], p: &Spot, r: &RayPoint) -> bool
 
 // The difference from a corner to a point, times the point's weight.
 #[tactic(none)]
-fn vector_from_corner(u: &Corner, s: &Spot) -> Vector3
+fn vector_from_corner(u: &Corner, p: &Spot) -> Vector3
     requires corner { IsValidCorner u.now }
-    requires spot { IsValidSpot s.now }
-    ensures x { result.x ≡ s.now.x -ℤ s.now.w *ℤ u.now.x }
-    ensures y { result.y ≡ s.now.y -ℤ s.now.w *ℤ u.now.y }
-    ensures z { result.z ≡ s.now.z -ℤ s.now.w *ℤ u.now.z }
+    requires spot { IsValidSpot p.now }
+    ensures x { result.x ≡ p.now.x -ℤ p.now.w *ℤ u.now.x }
+    ensures y { result.y ≡ p.now.y -ℤ p.now.w *ℤ u.now.y }
+    ensures z { result.z ≡ p.now.z -ℤ p.now.w *ℤ u.now.z }
     ensures small { IsVector3Within (2 ^ 52) result }
 {
     Vector3 {
-        x: s.x - s.w * u.x as i64,
-        y: s.y - s.w * u.y as i64,
-        z: s.z - s.w * u.z as i64,
+        x: p.x - p.w * u.x as i64,
+        y: p.y - p.w * u.y as i64,
+        z: p.z - p.w * u.z as i64,
     }
 }
 
@@ -107,16 +108,16 @@ fn product_difference(a: i64, x: i64, b: i64, y: i64) -> i128
     a as i128 * x as i128 - b as i128 * y as i128
 }
 
-// The value, at `s`, of the plane through the edge from `u` to `v` and parallel to the axis `k`.
-pub fn edge_value(u: &Corner, v: &Corner, k: Axis, s: &Spot) -> i128
+// The value, at `p`, of the plane through the edge from `u` to `v` and parallel to the axis `k`.
+pub fn edge_value(u: &Corner, v: &Corner, k: Axis, p: &Spot) -> i128
     requires from { IsValidCorner u.now }
     requires to { IsValidCorner v.now }
-    requires spot { IsValidSpot s.now }
-    ensures value { result ≡ value_at (edge_through u.now v.now (unit k)) s.now }
+    requires spot { IsValidSpot p.now }
+    ensures value { result ≡ value_at (edge_through u.now v.now (unit k)) p.now }
     ensures small { Small (2 ^ 66) result }
 {
     let step = vector_between(u, v);
-    let at = vector_from_corner(u, s);
+    let at = vector_from_corner(u, p);
     match k {
         Axis::X => product_difference(step.z, at.y, step.y, at.z),
         Axis::Y => product_difference(step.x, at.z, step.z, at.x),

@@ -4,7 +4,7 @@ ghost use Rattle.ember_algebra.specs.Size.{Small};
 ghost use Rattle.ember_algebra.specs.Sign.{sign};
 ghost use Rattle.ember_algebra.specs.Vector.{cross, scale_v};
 ghost use Rattle.ember_model.specs.Valid.{IsValidCorner};
-ghost use Rattle.ember_model.specs.Planes.{side_of, plane_through, unit};
+ghost use Rattle.ember_model.specs.Planes.{vector_between, plane_through, unit};
 ghost use Rattle.ember_model.specs.Vectors3.{as_vector, IsVector3Within};
 
 use crate::plane::Plane;
@@ -23,7 +23,7 @@ pub struct Vector3 {
 pub fn vector_between(from: &Corner, to: &Corner) -> Vector3
     requires from { IsValidCorner from.now }
     requires to { IsValidCorner to.now }
-    ensures value { as_vector result ≡ side_of from.now to.now }
+    ensures value { as_vector result ≡ vector_between from.now to.now }
     ensures small { IsVector3Within 4094 result }
 {
     Vector3 {
@@ -48,18 +48,18 @@ pub fn cross_product(u: &Vector3, v: &Vector3) -> Vector3
     }
 }
 
-// The plane with the normal `n` and the corner `u` on it.
+// The plane with the normal `normal` and the corner `u` on it.
 #[tactic(none)]
-pub fn plane_with(n: &Vector3, u: &Corner) -> Plane
-    requires n { IsVector3Within 33521672 n.now }
+pub fn plane_with(normal: &Vector3, u: &Corner) -> Plane
+    requires normal { IsVector3Within 33521672 normal.now }
     requires u { IsValidCorner u.now }
-    ensures { result ≡ plane_through (as_vector n.now) u.now }
+    ensures { result ≡ plane_through (as_vector normal.now) u.now }
 {
-    let d = n.x * u.x as i64 + n.y * u.y as i64 + n.z * u.z as i64;
+    let d = normal.x * u.x as i64 + normal.y * u.y as i64 + normal.z * u.z as i64;
     Plane {
-        a: n.x,
-        b: n.y,
-        c: n.z,
+        a: normal.x,
+        b: normal.y,
+        c: normal.z,
         d,
     }
 }

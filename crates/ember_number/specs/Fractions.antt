@@ -12,9 +12,9 @@ abbrev pub whole_number : ℤ → Fraction
 whole_number z = record { numerator = z; denominator = 1 }
 
 -- a size with a sign
-abbrev pub signed : Bool → ℕ → ℤ
-signed false size = pos size
-signed true size = neg_ℤ (pos size)
+abbrev pub signed_whole : Bool → ℕ → ℤ
+signed_whole false size = pos size
+signed_whole true size = neg_ℤ (pos size)
 
 -- the number is below 10^15 in size
 abbrev pub is_below_limit : Fraction → Bool

@@ -5,7 +5,7 @@ use Rattle.ember_number.specs.declared.values.Exponent.{Exponent}
 use Rattle.ember_number.specs.declared.values.Decimal.{Decimal}
 use Rattle.ember_number.specs.declared.values.Number.{Number}
 use Rattle.ember_number.specs.declared.values.Number.TheVariants as number
-use Rattle.ember_number.specs.Fractions.{Fraction, signed}
+use Rattle.ember_number.specs.Fractions.{Fraction, signed_whole}
 
 -- by how many places an exponent moves the point to the right, and to the left
 abbrev pub places_right : Exponent → ℕ
@@ -17,14 +17,14 @@ places_left e = if e.minus then e.size else 0
 -- digits before and after the point, times a power of ten
 abbrev pub decimal_value : Bool → List ℕ → List ℕ → Exponent → Fraction
 decimal_value minus whole fraction e = record {
-  numerator = signed minus (number_from 0 (whole ++ fraction) * 10 ^ places_right e);
+  numerator = signed_whole minus (number_from 0 (whole ++ fraction) * 10 ^ places_right e);
   denominator = 10 ^ (length fraction + places_left e);
 }
 
 -- a whole number times a power of two, divided by another
 abbrev pub binary_value : Bool → ℕ → ℕ → ℕ → Fraction
 binary_value minus significand power scale = record {
-  numerator = signed minus (significand * 2 ^ power);
+  numerator = signed_whole minus (significand * 2 ^ power);
   denominator = 2 ^ scale;
 }
 

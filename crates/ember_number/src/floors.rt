@@ -2,7 +2,7 @@
 ghost use Rattle.std.specs.Prelude.{◌≡◌, ◌^◌, ◌<◌, IfSome, unsigned_abs};
 ghost use Rattle.std.specs.Option.{option_map};
 ghost use Rattle.ember_number.specs.Fractions as fractions;
-ghost use Rattle.ember_number.specs.Fractions.{signed};
+ghost use Rattle.ember_number.specs.Fractions.{signed_whole};
 ghost use Rattle.ember_number.specs.Values.{value_of};
 
 use crate::binary_sizes::binary_multiple;
@@ -11,7 +11,7 @@ use crate::values::Number;
 
 fn with_sign(minus: bool, size: Option<u128>) -> Option<i128>
     requires { IfSome size (λ size. size < 2 ^ 106) }
-    ensures value { result ≡ option_map (signed minus) size }
+    ensures value { result ≡ option_map (signed_whole minus) size }
     ensures small { IfSome result (λ floor. unsigned_abs floor < 2 ^ 106) }
 {
     match size {

@@ -18,7 +18,7 @@ use Rattle.ember_obj.specs.declared.reading.Keyword.{Keyword}
 use Rattle.ember_obj.specs.declared.reading.Keyword.TheVariants.{Vertex, Face, Other}
 use Rattle.ember_obj.specs.Scan.{before, fields_of, first_three}
 use Rattle.ember_obj.specs.Lines.{Line, unmarked, joined_lines, lines_from}
-use Rattle.ember_obj.specs.References.{is_slash, is_number, size_digits, counted, named_or_fault, vertex_named, with_corner, corners_of, fan_round, fan}
+use Rattle.ember_obj.specs.References.{is_slash, is_number, size_digits, nth_corner, named_or_fault, vertex_named, with_corner, corners_of, fan_round, fan}
 use Rattle.ember_obj.specs.Table.{Table}
 use Rattle.ember_obj.specs.ReadObj.{keyword_of, coordinate_at, corner_of, corner_in, with_vertex, with_tris, with_face, after_keyword, after_fields, after_line, after_lines, table_of}
 
@@ -79,18 +79,18 @@ valid_got line [] i valid = tt
 valid_got line (p ∷ ps) zero valid = All-head IsValidCorner p ps valid
 valid_got line (p ∷ ps) (suc i) valid = valid_got line ps i (All-tail IsValidCorner p ps valid)
 
-valid_counted : (line : ℕ) (corners : List Corner) (k : ℕ) → All IsValidCorner corners → IfOk (named_or_fault line (counted corners k)) IsValidCorner
+valid_counted : (line : ℕ) (corners : List Corner) (k : ℕ) → All IsValidCorner corners → IfOk (named_or_fault line (nth_corner corners k)) IsValidCorner
 valid_counted line corners k valid =
     elim (k == 0) as (λ z. IfOk (named_or_fault line (if z then None else slice_get corners (k - 1))) IsValidCorner) [ true ↦ tt | false ↦ valid_got line corners (k - 1) valid ]
 
-valid_either : (line : ℕ) (back : Bool) (vertices : List Corner) (k : ℕ) → All IsValidCorner vertices → IfOk (named_or_fault line (counted (if back then reverse vertices else vertices) k)) IsValidCorner
+valid_either : (line : ℕ) (back : Bool) (vertices : List Corner) (k : ℕ) → All IsValidCorner vertices → IfOk (named_or_fault line (nth_corner (if back then reverse vertices else vertices) k)) IsValidCorner
 valid_either line true vertices k valid = valid_counted line (reverse vertices) k (all_reverse IsValidCorner vertices valid)
 valid_either line false vertices k valid = valid_counted line vertices k valid
 
 valid_named : (line : ℕ) (vertices : List Corner) (reference : List ℕ) → All IsValidCorner vertices → IfOk (vertex_named line vertices reference) IsValidCorner
 valid_named line vertices reference valid =
     let index : List ℕ = before is_slash reference in
-    elim (is_number (size_digits index)) as (λ d. IfOk (if d then named_or_fault line (counted (if is_minus index then reverse vertices else vertices) (number_from 0 (size_digits index))) else Err (Word line)) IsValidCorner) [
+    elim (is_number (size_digits index)) as (λ d. IfOk (if d then named_or_fault line (nth_corner (if is_minus index then reverse vertices else vertices) (number_from 0 (size_digits index))) else Err (Word line)) IsValidCorner) [
       | true ↦ valid_either line (is_minus index) vertices (number_from 0 (size_digits index)) valid
       | false ↦ tt
     ]

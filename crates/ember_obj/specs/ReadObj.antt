@@ -11,7 +11,7 @@ use Rattle.ember_obj.specs.declared.reading.Keyword.TheVariants.{Vertex, Face, O
 use Rattle.ember_obj.specs.Scan.{fields_of, first_three}
 use Rattle.ember_obj.specs.Lines.{Line, unmarked, lines_from}
 use Rattle.ember_obj.specs.References.{corners_of, fan}
-use Rattle.ember_obj.specs.Table.{Table, Faces}
+use Rattle.ember_obj.specs.Table.{Table, FileTriangles}
 
 -- `v`, `f` or another keyword
 abbrev pub keyword_of : List ℕ → Keyword
@@ -82,9 +82,9 @@ after_lines places mesh (Err fault) (line ∷ lines) = Err fault
 after_lines places mesh (Ok table) (line ∷ lines) = after_lines places mesh (after_line places mesh table line) lines
 
 -- the triangles of a file, once all lines are read
-abbrev pub faces_of : Result Table ObjFault → Result Faces ObjFault
-faces_of (Err fault) = Err fault
-faces_of (Ok table) = Ok (record { tris = table.tris; lines = table.lines })
+abbrev pub file_triangles_of : Result Table ObjFault → Result FileTriangles ObjFault
+file_triangles_of (Err fault) = Err fault
+file_triangles_of (Ok table) = Ok (record { tris = table.tris; lines = table.lines })
 
 -- the table of a file
 abbrev pub table_of : ℕ → ℕ → List ℕ → Result Table ObjFault
@@ -92,5 +92,5 @@ table_of places mesh bytes =
     after_lines places mesh (Ok (record { vertices = []; tris = []; lines = [] })) (lines_from 1 (unmarked bytes))
 
 -- the triangles of a file with their lines, or its first fault
-abbrev pub read_obj_of : ℕ → ℕ → List ℕ → Result Faces ObjFault
-read_obj_of places mesh bytes = faces_of (table_of places mesh bytes)
+abbrev pub read_obj_of : ℕ → ℕ → List ℕ → Result FileTriangles ObjFault
+read_obj_of places mesh bytes = file_triangles_of (table_of places mesh bytes)

@@ -23,8 +23,8 @@ size_digits [] = []
 size_digits (b ∷ bs) = if b == 45 then bs else b ∷ bs
 
 -- the corner with this number in the list, counted from 1
-abbrev pub counted : List Corner → ℕ → Option Corner
-counted corners k = if k == 0 then None else slice_get corners (k - 1)
+abbrev pub nth_corner : List Corner → ℕ → Option Corner
+nth_corner corners k = if k == 0 then None else slice_get corners (k - 1)
 
 -- the vertex, or the fault of an index that names none
 abbrev pub named_or_fault : ℕ → Option Corner → Result Corner ObjFault
@@ -35,7 +35,7 @@ named_or_fault line (Some corner) = Ok corner
 abbrev pub vertex_at : ℕ → List Corner → List ℕ → Result Corner ObjFault
 vertex_at line vertices index =
     if is_number (size_digits index)
-    then named_or_fault line (counted (if is_minus index then reverse vertices
+    then named_or_fault line (nth_corner (if is_minus index then reverse vertices
     else vertices) (number_from 0 (size_digits index)))
     else Err (Word line)
 

@@ -10,6 +10,6 @@ pub record Table : Type 0 where
   pub lines : List ℕ
 
 -- the triangles of a file, and for each the line of its face
-pub record Faces : Type 0 where
+pub record FileTriangles : Type 0 where
   pub tris : List Tri
   pub lines : List ℕ

@@ -74,7 +74,7 @@ pub(crate) fn skip_comment(line: &[u8]) -> &[u8]
 // Appends a part of the joined line with this number.
 fn append(text: &mut Vec<u8>, number: u32, part: &[u8]) -> Result<(), ObjFault>
     ensures ok { OnOk result (text.new.items ≡ text.old.items ++ part.now) }
-    ensures err { IfErr result (λ e. (e ≡ ObjFault.OutOfMemory) ⊎
+    ensures fault { IfErr result (λ e. (e ≡ ObjFault.OutOfMemory) ⊎
         ((e ≡ ObjFault.LongLine number) × (MOST_BYTES < length (text.old.items ++ part.now)))) }
 {
     if part.len() > MOST_BYTES.saturating_sub(text.len()) {
@@ -90,7 +90,7 @@ fn append(text: &mut Vec<u8>, number: u32, part: &[u8]) -> Result<(), ObjFault>
 fn append_continued(text: &mut Vec<u8>, number: u32, line: &[u8]) -> Result<(), ObjFault>
     requires { 0 < length line.now }
     ensures ok { OnOk result (text.new.items ≡ text.old.items ++ with_space line.now) }
-    ensures err { IfErr result (λ e. (e ≡ ObjFault.OutOfMemory) ⊎
+    ensures fault { IfErr result (λ e. (e ≡ ObjFault.OutOfMemory) ⊎
         ((e ≡ ObjFault.LongLine number) × (MOST_BYTES < length (text.old.items ++ with_space line.now)))) }
 {
     append(text, number, line.split_at(line.len() - 1).0)?;
@@ -112,7 +112,7 @@ fn append_rest<'a>(
         (record { number = number; text = text.new.items }) ∷ lines_from p.0 p.1.now) }
     ensures shorter { IfOk result (λ p. length p.1.now ≤ length bytes.now) }
     ensures numbers { IfOk result (λ p. p.0 + length p.1.now ≤ next + length bytes.now) }
-    ensures err { IfErr result (λ e. (e ≡ ObjFault.OutOfMemory) ⊎
+    ensures fault { IfErr result (λ e. (e ≡ ObjFault.OutOfMemory) ⊎
         ((e ≡ ObjFault.LongLine number) ×
         BeginsLong number (joined_to number text.old.items (lines_from next bytes.now)))) }
 {
@@ -146,7 +146,7 @@ pub(crate) fn join<'a>(
         (record { number = number; text = text.new.items }) ∷ lines_from p.0 p.1.now) }
     ensures shorter { IfOk result (λ p. length p.1.now ≤ length after.now) }
     ensures numbers { IfOk result (λ p. p.0 + length p.1.now ≤ number + 1 + length after.now) }
-    ensures err { IfErr result (λ e. (e ≡ ObjFault.OutOfMemory) ⊎
+    ensures fault { IfErr result (λ e. (e ≡ ObjFault.OutOfMemory) ⊎
         ((e ≡ ObjFault.LongLine number) ×
         BeginsLong number (joined_lines number (line.now ∷ physical_lines after.now)))) }
 {

@@ -37,29 +37,29 @@ fn keyword_in(field: &[u8]) -> Keyword
     }
 }
 
-// What is read so far, and the corners of the face being read. Contracts see it as a `Table`,
-// without these corners.
+// What is read so far, and the corners of the face being read. Contracts see the table without
+// these corners.
 #[derive(Drop)]
-struct Reader {
+struct Table {
     vertices: Vec<Corner>,
     tris: Vec<Tri>,
     lines: Vec<u32>,
     corners: Vec<Corner>,
 }
 
-impl Model for Reader {
-    ghost use Rattle.ember_obj.specs.Table.{Table};
+impl Model for Table {
+    ghost use Rattle.ember_obj.specs.Table.{Table as TableView};
 
-    ghost Value = { Table };
+    ghost Value = { TableView };
 
     ghost view = { λ s. record { vertices = s.vertices.items; tris = s.tris.items; lines = s.lines.items } };
 }
 
-impl Reader {
-    fn new(alloc: Global) -> Reader
+impl Table {
+    fn new(alloc: Global) -> Table
         ensures { result ≡ record { vertices = []; tris = []; lines = [] } }
     {
-        Reader {
+        Table {
             vertices: Vec::new(alloc),
             tris: Vec::new(alloc),
             lines: Vec::new(alloc),
@@ -71,7 +71,7 @@ impl Reader {
         requires { places ≤ 3 }
         ensures ok { OnOk result
             (with_vertex line self.old (corner_in places line (first_three (fields_of fields.now))) ≡ Ok self.new) }
-        ensures err { IfErr result (λ e. (e ≡ ObjFault.OutOfMemory) ⊎
+        ensures fault { IfErr result (λ e. (e ≡ ObjFault.OutOfMemory) ⊎
             (with_vertex line self.old (corner_in places line (first_three (fields_of fields.now))) ≡ Err e)) }
     {
         let corner = read_vertex(places, line, fields)?;
@@ -88,7 +88,7 @@ impl Reader {
     fn add_face(&mut self, mesh: u32, line: u32, fields: &[u8]) -> Result<(), ObjFault>
         ensures ok { OnOk result
             (with_face mesh line self.old (corners_of line self.old.vertices (fields_of fields.now)) ≡ Ok self.new) }
-        ensures err { IfErr result (λ e. (e ≡ ObjFault.OutOfMemory) ⊎
+        ensures fault { IfErr result (λ e. (e ≡ ObjFault.OutOfMemory) ⊎
             (with_face mesh line self.old (corners_of line self.old.vertices (fields_of fields.now)) ≡ Err e)) }
     {
         read_corners(&mut self.corners, line, &self.vertices, fields)?;
@@ -109,7 +109,7 @@ impl Reader {
         requires { places ≤ 3 }
         ensures ok { OnOk result (after_line places mesh self.old (record { number = number; text = text.now }) ≡
             Ok self.new) }
-        ensures err { IfErr result (λ e. (e ≡ ObjFault.OutOfMemory) ⊎
+        ensures fault { IfErr result (λ e. (e ≡ ObjFault.OutOfMemory) ⊎
             (after_line places mesh self.old (record { number = number; text = text.now }) ≡ Err e)) }
     {
         if text.len() > MOST_BYTES {
@@ -127,8 +127,9 @@ impl Reader {
 
     // Reads one joined line. `line` is its first physical line, and `after` has the bytes that
     // follow. Returns the number of the physical line that begins the next joined line, and the
-    // bytes from it on. In the clauses: to read the rest of the file gives the same before and
-    // after this call.
+    // bytes from it on. `joined` is room for a line of several physical lines. In the clauses:
+    // reading the file from `line` on with the table before the call gives what reading it from the
+    // returned place on with the table after the call gives.
     #[tactic(auto, using(crate::proofs::Faults::after_fault, crate::proofs::Faults::long_line))]
     fn read_line<'a>(
         &mut self,
@@ -146,7 +147,7 @@ impl Reader {
             after_lines places mesh (Ok self.new) (lines_from p.0 p.1.now)) }
         ensures shorter { IfOk result (λ p. length p.1.now ≤ length after.now) }
         ensures numbers { IfOk result (λ p. p.0 + length p.1.now ≤ number + 1 + length after.now) }
-        ensures err { IfErr result (λ e. (e ≡ ObjFault.OutOfMemory) ⊎
+        ensures fault { IfErr result (λ e. (e ≡ ObjFault.OutOfMemory) ⊎
             (after_lines places mesh (Ok self.old) (joined_lines number (line.now ∷ physical_lines after.now)) ≡
             Err e)) }
     {
@@ -177,13 +178,13 @@ pub fn read_obj(alloc: Global, bytes: &[u8], places: u8, mesh: u32) -> Result<So
     ensures few { IfOk result (λ soup. length soup.tris ≤ 262144) }
     ensures mesh { IfOk result (λ soup. All (λ t. t.mesh ≡ mesh) soup.tris) }
 {
-    let mut reader = Reader::new(alloc);
+    let mut table = Table::new(alloc);
     let mut joined = Vec::new(alloc);
     let mut rest = skip_mark(bytes);
     let mut number = 1;
     while let Some((line, after)) = next_line(rest) {
-        (number, rest) = reader.read_line(&mut joined, places, mesh, number, line, after)?;
+        (number, rest) = table.read_line(&mut joined, places, mesh, number, line, after)?;
     }
-    let Reader { tris, lines, .. } = reader;
+    let Table { tris, lines, .. } = table;
     Ok(Soup::of(Tris::of(tris), Lines::of(lines)))
 }

@@ -4,7 +4,7 @@ ghost use Rattle.std.specs.List.{list_all};
 ghost use Rattle.std.specs.Char.{is_ascii_digit};
 ghost use Rattle.ember_dec.specs.Decimal.{number_from};
 ghost use Rattle.ember_obj.specs.Scan.{fields_of};
-ghost use Rattle.ember_obj.specs.References.{counted, vertex_at, vertex_named, corners_of, fan};
+ghost use Rattle.ember_obj.specs.References.{nth_corner, vertex_at, vertex_named, corners_of, fan};
 
 use crate::fault::ObjFault;
 use crate::scan::{cut_before, next_field};
@@ -37,7 +37,7 @@ fn number_in(digits: &[u8]) -> Option<usize>
 #[tactic(auto, using(crate::proofs::Numbered::counted_past))]
 fn vertex_numbered(vertices: &[Corner], back: bool, digits: &[u8]) -> Option<Corner>
     requires { list_all is_ascii_digit digits.now ≡ true }
-    ensures { result ≡ counted (if back then reverse vertices.now else vertices.now) (number_from 0 digits.now) }
+    ensures { result ≡ nth_corner (if back then reverse vertices.now else vertices.now) (number_from 0 digits.now) }
 {
     let length = vertices.len();
     let number = number_in(digits)?;
@@ -81,7 +81,7 @@ pub(crate) fn read_corners(
     fields: &[u8],
 ) -> Result<(), ObjFault>
     ensures ok { OnOk result (corners_of line vertices.now (fields_of fields.now) ≡ Ok corners.new.items) }
-    ensures err { IfErr result (λ e. (e ≡ ObjFault.OutOfMemory) ⊎
+    ensures fault { IfErr result (λ e. (e ≡ ObjFault.OutOfMemory) ⊎
         (corners_of line vertices.now (fields_of fields.now) ≡ Err e)) }
 {
     corners.clear();

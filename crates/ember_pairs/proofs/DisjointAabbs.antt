@@ -14,18 +14,18 @@ use Rattle.ember_model.specs.declared.point.Axis.TheVariants.{X, Y, Z}
 use Rattle.ember_model.specs.Planes.{vector_of}
 use Rattle.ember_model.specs.Faces.{is_flat, face_of, is_in_closed}
 use Rattle.ember_model.proofs.Hits.{closed_parts}
-use Rattle.ember_box.specs.Boxes.{along}
+use Rattle.ember_box.specs.Boxes.{entry_along}
 use Rattle.ember_box.specs.Aabbs.{aabb_of_tri, interval_over, intervals_meet, aabbs_meet}
 use Rattle.ember_ref.proofs.NearPoints.{past_corners}
 use Rattle.ember_ref.proofs.FarTriangles.{inside_closed}
 use Rattle.ember_pairs.specs.Pairs.{AreMeeting}
 
 -- a point of both closed faces, with all corners of t past those of u along an axis
-past : (k : Axis) (t u : Tri) (v : Spot) → is_flat t ≡ false → is_flat u ≡ false → is_in_closed (face_of t) v ≡ true → is_in_closed (face_of u) v ≡ true → (l h : ℤ) → h <ℤ l → l ≤ℤ along k (vector_of t.a) → l ≤ℤ along k (vector_of t.b) → l ≤ℤ along k (vector_of t.c) → along k (vector_of u.a) ≤ℤ h → along k (vector_of u.b) ≤ℤ h → along k (vector_of u.c) ≤ℤ h → ⊥
+past : (k : Axis) (t u : Tri) (v : Spot) → is_flat t ≡ false → is_flat u ≡ false → is_in_closed (face_of t) v ≡ true → is_in_closed (face_of u) v ≡ true → (l h : ℤ) → h <ℤ l → l ≤ℤ entry_along k (vector_of t.a) → l ≤ℤ entry_along k (vector_of t.b) → l ≤ℤ entry_along k (vector_of t.c) → entry_along k (vector_of u.a) ≤ℤ h → entry_along k (vector_of u.b) ≤ℤ h → entry_along k (vector_of u.c) ≤ℤ h → ⊥
 past k t u v nt nu it iu l h g a b c d e f =
     let w = (closed_parts (face_of t) v it).0 in
-    let x = past_corners k (pos 1) l t v nt (up (along k (vector_of t.a)) a) (up (along k (vector_of t.b)) b) (up (along k (vector_of t.c)) c) it in
-    let y = past_corners k (neg_ℤ (pos 1)) (neg_ℤ h) u v nu (down (along k (vector_of u.a)) d) (down (along k (vector_of u.b)) e) (down (along k (vector_of u.c)) f) iu in
+    let x = past_corners k (pos 1) l t v nt (up (entry_along k (vector_of t.a)) a) (up (entry_along k (vector_of t.b)) b) (up (entry_along k (vector_of t.c)) c) it in
+    let y = past_corners k (neg_ℤ (pos 1)) (neg_ℤ h) u v nu (down (entry_along k (vector_of u.a)) d) (down (entry_along k (vector_of u.b)) e) (down (entry_along k (vector_of u.c)) f) iu in
     let m = mul_lt w g in
     omega (arith, linear, x, y, m, solve 2 (λ h w. neg h ⊗ w ≈ neg (w ⊗ h)) cancels h v.w, solve 2 (λ l w. l ⊗ w ≈ w ⊗ l) cancels l v.w)
   where
@@ -38,10 +38,10 @@ past k t u v nt nu it iu l h g a b c d e f =
 not_le : (a b : ℤ) → int_le a b ≡ false → b <ℤ a
 not_le a b e = grind (arith, ints)
 
-apart_along : (k : Axis) (t u : Tri) (v : Spot) → is_flat t ≡ false → is_flat u ≡ false → is_in_closed (face_of t) v ≡ true → is_in_closed (face_of u) v ≡ true → intervals_meet (interval_over (along k (vector_of t.a)) (along k (vector_of t.b)) (along k (vector_of t.c))) (interval_over (along k (vector_of u.a)) (along k (vector_of u.b)) (along k (vector_of u.c))) ≡ false → ⊥
+apart_along : (k : Axis) (t u : Tri) (v : Spot) → is_flat t ≡ false → is_flat u ≡ false → is_in_closed (face_of t) v ≡ true → is_in_closed (face_of u) v ≡ true → intervals_meet (interval_over (entry_along k (vector_of t.a)) (entry_along k (vector_of t.b)) (entry_along k (vector_of t.c))) (interval_over (entry_along k (vector_of u.a)) (entry_along k (vector_of u.b)) (entry_along k (vector_of u.c))) ≡ false → ⊥
 apart_along k t u v nt nu it iu e =
-    let a = along k (vector_of t.a) in let b = along k (vector_of t.b) in let c = along k (vector_of t.c) in
-    let d = along k (vector_of u.a) in let f = along k (vector_of u.b) in let g = along k (vector_of u.c) in
+    let a = entry_along k (vector_of t.a) in let b = entry_along k (vector_of t.b) in let c = entry_along k (vector_of t.c) in
+    let d = entry_along k (vector_of u.a) in let f = entry_along k (vector_of u.b) in let g = entry_along k (vector_of u.c) in
     let l = int_min (int_min a b) c in let h = int_max (int_max a b) c in let m = int_min (int_min d f) g in let n = int_max (int_max d f) g in
     ⊎_elim (λ q. past k t u v nt nu it iu l n (not_le l n q) (least_a a b c) (least_b a b c) (least_c a b c) (most_a d f g) (most_b d f g) (most_c d f g)) (λ q. past k u t v nu nt iu it m h (not_le m h q) (least_a d f g) (least_b d f g) (least_c d f g) (most_a a b c) (most_b a b c) (most_c a b c)) (and_cases (int_le l n) (int_le m h) e)
   where

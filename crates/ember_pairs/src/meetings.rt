@@ -34,18 +34,18 @@ fn candidate_of(t: &Tri) -> Candidate
 // `true` only if two triangles don't meet, as their corners show: those of one are strictly on one
 // side of the other's plane, or those of each are on one side of the other's plane and not all on
 // it. `false` shows nothing.
-fn are_parted(f: &Candidate, t: &Tri, g: &Candidate, u: &Tri) -> bool
+fn are_parted(first: &Candidate, t: &Tri, second: &Candidate, u: &Tri) -> bool
     requires one { IsValidTri t.now }
     requires other { IsValidTri u.now }
-    requires facet { f.now ≡ candidate_of t.now }
-    requires other_facet { g.now ≡ candidate_of u.now }
+    requires facet { first.now ≡ candidate_of t.now }
+    requires other_facet { second.now ≡ candidate_of u.now }
     ensures { IsTrue result → AreMeeting t.now u.now → ⊥ }
 {
-    let theirs = heights_of(&f.support, u);
+    let theirs = heights_of(&first.support, u);
     if theirs.are_on_one_side() {
         return true;
     }
-    let own = heights_of(&g.support, t);
+    let own = heights_of(&second.support, t);
     own.are_on_one_side() || own.lean_to_one_side() && theirs.lean_to_one_side()
 }
 
@@ -81,21 +81,21 @@ fn faces_meet(alloc: Global, t: &Tri, u: &Tri) -> Result<bool, OutOfMemory>
 // they don't.
 fn are_meeting(
     alloc: Global,
-    f: &Candidate,
+    first: &Candidate,
     t: &Tri,
-    g: &Candidate,
+    second: &Candidate,
     u: &Tri,
 ) -> Result<bool, OutOfMemory>
     requires one { IsValidTri t.now }
     requires other { IsValidTri u.now }
-    requires facet { f.now ≡ candidate_of t.now }
-    requires other_facet { g.now ≡ candidate_of u.now }
+    requires facet { first.now ≡ candidate_of t.now }
+    requires other_facet { second.now ≡ candidate_of u.now }
     ensures { IfOk result (λ b. IsTrue b ↔ AreMeeting t.now u.now) }
 {
-    if !aabbs_meet(&f.aabb, &g.aabb) {
+    if !aabbs_meet(&first.aabb, &second.aabb) {
         return Ok(false);
     }
-    if are_parted(f, t, g, u) {
+    if are_parted(first, t, second, u) {
         return Ok(false);
     }
     faces_meet(alloc, t, u)
@@ -163,11 +163,11 @@ fn meet_in(
 }
 
 // Appends a pair if its triangles meet.
-fn push_if(meet: bool, p: Pair, out: &mut Vec<Pair>) -> Result<(), OutOfMemory>
-    ensures { OnOk result (out.new.items ≡ out.old.items ++ (if meet then p ∷ [] else [])) }
+fn push_if(meet: bool, pair: Pair, out: &mut Vec<Pair>) -> Result<(), OutOfMemory>
+    ensures { OnOk result (out.new.items ≡ out.old.items ++ (if meet then pair ∷ [] else [])) }
 {
     if meet {
-        out.push(p)?;
+        out.push(pair)?;
     }
     Ok(())
 }

@@ -8,7 +8,7 @@ ghost use Rattle.ember_pairs.specs.Works.{no_windings, job_at, IsPairsJob, pairs
 
 use crate::meetings::meeting_pairs;
 use crate::pair::PairList;
-use ember_box::{Cell, HalvedBox, halved, halves, near_list, root};
+use ember_box::{Cell, HalvedBox, halve_box, halves, near_list, root};
 use ember_job::{Job, Numbers, OneItem, OutOfMemory, Outcome, Work};
 use ember_model::{Scene, Vector};
 use std::alloc::Global;
@@ -98,17 +98,17 @@ pub fn pair_step(alloc: Global, s: &Scene, job: &Job) -> Result<Outcome<PairList
     if list.len() < 2 {
         return Ok(Outcome::Skipped);
     }
-    match halved(alloc, s, list, &job.cell)? {
+    match halve_box(alloc, s, list, &job.cell)? {
         None => Ok(Outcome::Leaf(meeting_pairs(alloc, s.tris.items(), list)?)),
         Some(
             HalvedBox {
                 axis,
-                low: near_low,
-                high: near_high,
+                left: near_left,
+                right: near_right,
             },
         ) => {
-            let (low, high) = halves(&job.cell, axis);
-            Ok(Outcome::Halves(job_of(low, near_low), job_of(high, near_high)))
+            let (left, right) = halves(&job.cell, axis);
+            Ok(Outcome::Halves(job_of(left, near_left), job_of(right, near_right)))
         }
     }
 }

@@ -18,11 +18,11 @@ fn put_number(word: &[u8], number: u64, out: &mut Vec<u8>) -> Result<(), OutOfMe
 }
 
 // Appends the line of a pair.
-fn put_pair(p: &Pair, out: &mut Vec<u8>) -> Result<(), OutOfMemory>
-    ensures { OnOk result (out.new.items ≡ out.old.items ++ texts.pair_line p.now) }
+fn put_pair(pair: &Pair, out: &mut Vec<u8>) -> Result<(), OutOfMemory>
+    ensures { OnOk result (out.new.items ≡ out.old.items ++ texts.pair_line pair.now) }
 {
-    put_number(b"p ", u64::from(p.low), out)?;
-    put_number(b" ", u64::from(p.high), out)?;
+    put_number(b"p ", u64::from(pair.low), out)?;
+    put_number(b" ", u64::from(pair.high), out)?;
     out.push(b'\n')?;
     Ok(())
 }

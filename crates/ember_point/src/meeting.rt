@@ -37,12 +37,12 @@ fn cross_normals(p: &Plane, q: &Plane) -> Cross
 }
 
 // The dot product of the plane's normal and a cross product of normals. The bound is 2^78 - 1.
-fn product(p: &Plane, u: &Cross) -> i128
+fn product(p: &Plane, cross: &Cross) -> i128
     requires { IsValidPlane p.now }
-    ensures value { result ≡ dot (normal p.now) (cross_of u.now) }
+    ensures value { result ≡ dot (normal p.now) (cross_of cross.now) }
     ensures small { Small 302231454903657293676543 result }
 {
-    p.a as i128 * u.x as i128 + p.b as i128 * u.y as i128 + p.c as i128 * u.z as i128
+    p.a as i128 * cross.x as i128 + p.b as i128 * cross.y as i128 + p.c as i128 * cross.z as i128
 }
 
 // The sum `a x + b y + c z` of constants of planes times entries of cross products. The bounds are

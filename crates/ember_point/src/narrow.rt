@@ -1,5 +1,6 @@
 // Points whose numbers fit into 64 bits: finding on which side of a plane they are takes a third of
-// the steps.
+// the steps. For each region ember_trace asks once whether its first three corners are narrow, and
+// then makes these calls in place of `side`.
 ghost use Rattle.std.specs.Prelude.{◌≡◌, true, ◌*ℤ◌};
 ghost use Rattle.ember_algebra.specs.Size.{Small};
 ghost use Rattle.ember_algebra.specs.Sign.{sgn};

@@ -171,15 +171,15 @@ module _ (n p : Plane) (gs : List Plane) (xs : List Side) (at : Passage) (q : Is
 
   sound : IsConvexRing n begun
   sound =
-      subst (λ zs. IsConvexRing n zs) q.turned (turned_by n (take at.first xs) (drop at.first xs) (subst (λ zs. IsConvexRing n zs) (sym (take-append-drop at.first xs)) st.sound))
+      subst (λ zs. IsConvexRing n zs) q.turned (turned_by n (take at.entry_edge xs) (drop at.entry_edge xs) (subst (λ zs. IsConvexRing n zs) (sym (take-append-drop at.entry_edge xs)) st.sound))
 
   into : (v : Spot) → IsInsideRing n xs v → IsInsideRing n begun v
   into v k =
-      subst (λ zs. IsInsideRing n zs v) q.turned (inside_turned n v (take at.first xs) (drop at.first xs) (subst (λ zs. IsInsideRing n zs v) (sym (take-append-drop at.first xs)) k))
+      subst (λ zs. IsInsideRing n zs v) q.turned (inside_turned n v (take at.entry_edge xs) (drop at.entry_edge xs) (subst (λ zs. IsInsideRing n zs v) (sym (take-append-drop at.entry_edge xs)) k))
 
   out : (v : Spot) → IsInsideRing n begun v → IsInsideRing n xs v
   out v k =
-      subst (λ zs. IsInsideRing n zs v) (take-append-drop at.first xs) (inside_turned n v (drop at.first xs) (take at.first xs) (subst (λ zs. IsInsideRing n zs v) (sym q.turned) k))
+      subst (λ zs. IsInsideRing n zs v) (take-append-drop at.entry_edge xs) (inside_turned n v (drop at.entry_edge xs) (take at.entry_edge xs) (subst (λ zs. IsInsideRing n zs v) (sym q.turned) k))
 
   chord_line : IsLine n p y z
   chord_line =

@@ -10,8 +10,8 @@ use Rattle.ember_model.specs.Planes.{value_at}
 use Rattle.ember_model.proofs.SignTests.{negative_in, negative_not, positive_out, not_positive_out}
 use Rattle.ember_point.specs.declared.meet_point.Meet.{Meet}
 use Rattle.ember_point.specs.Points.{spot_of}
-use Rattle.ember_poly.specs.declared.reach_cut.Reach.{Reach}
-use Rattle.ember_poly.specs.declared.reach_cut.Reach.TheVariants.{Both}
+use Rattle.ember_poly.specs.declared.reach_and_cut.Reach.{Reach}
+use Rattle.ember_poly.specs.declared.reach_and_cut.Reach.TheVariants.{Both}
 use Rattle.ember_poly.specs.Rings.{IsBelow, IsAbove, IsOnPlane, IsNotAbove, IsNotBelow}
 use Rattle.ember_poly.specs.Passages.{HasSome, AreSigns, AreClassified, is_under, Stops, IsOneSidedRun, AreNotBelow, IsRunNotBelow, Enters, Straddles, EntersAt}
 use Rattle.ember_poly.proofs.Chains.{each-push, each_both}

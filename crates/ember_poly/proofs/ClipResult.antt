@@ -5,8 +5,8 @@ use Rattle.ember_model.specs.declared.plane.Plane.{Plane}
 use Rattle.ember_model.specs.declared.face.Face.{Face}
 use Rattle.ember_model.specs.Faces.{Cuts, below}
 use Rattle.ember_model.proofs.SignTests.{negative_out, positive_out, zero_out}
-use Rattle.ember_poly.specs.declared.reach_cut.Reach.{Reach}
-use Rattle.ember_poly.specs.declared.reach_cut.Reach.TheVariants.{Below, Above, On, Both}
+use Rattle.ember_poly.specs.declared.reach_and_cut.Reach.{Reach}
+use Rattle.ember_poly.specs.declared.reach_and_cut.Reach.TheVariants.{Below, Above, On, Both}
 use Rattle.ember_point.specs.declared.meet_point.Meet.{Meet}
 use Rattle.ember_poly.specs.Cuts.{IsReach, IsClip}
 use Rattle.ember_poly.specs.Sides.{IsRing}
@@ -30,17 +30,17 @@ clip_whole f p Both h n = absurd (n refl)
 -- the part below
 pub clip_cut : (f : Face) (p : Plane) (r : Reach) (g : Face) → IsClip f p r g → Cuts f p → g ≡ below f p
 clip_cut f p Below g h c =
-    absurd (apart (negative_out _ (h.0.everywhere.holds c.high.at c.high.inside)) (positive_out _ c.high.holds))
+    absurd (apart (negative_out _ (h.0.everywhere.holds c.some_above.at c.some_above.inside)) (positive_out _ c.some_above.holds))
   where
     apart : {z : ℤ} → z <ℤ pos 0 → pos 0 <ℤ z → ⊥
     apart p q = omega (arith, linear, p, q)
 clip_cut f p Above g h c =
-    absurd (apart (negative_out _ c.low.holds) (positive_out _ (h.0.everywhere.holds c.low.at c.low.inside)))
+    absurd (apart (negative_out _ c.some_below.holds) (positive_out _ (h.0.everywhere.holds c.some_below.at c.some_below.inside)))
   where
     apart : {z : ℤ} → z <ℤ pos 0 → pos 0 <ℤ z → ⊥
     apart p q = omega (arith, linear, p, q)
 clip_cut f p On g h c =
-    absurd (apart (zero_out _ (h.0.everywhere.holds c.low.at c.low.inside)) (negative_out _ c.low.holds))
+    absurd (apart (zero_out _ (h.0.everywhere.holds c.some_below.at c.some_below.inside)) (negative_out _ c.some_below.holds))
   where
     apart : {z : ℤ} → z ≡ pos 0 → z <ℤ pos 0 → ⊥
     apart p q = omega (arith, linear, p, q)

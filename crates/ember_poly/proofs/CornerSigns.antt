@@ -12,8 +12,8 @@ use Rattle.ember_model.specs.declared.plane.Plane.{Plane}
 use Rattle.ember_model.specs.Planes.{value_at}
 use Rattle.ember_point.specs.declared.meet_point.Meet.{Meet}
 use Rattle.ember_point.specs.Points.{spot_of}
-use Rattle.ember_poly.specs.declared.reach_cut.Reach.{Reach}
-use Rattle.ember_poly.specs.declared.reach_cut.Reach.TheVariants.{Below, Above, On, Both}
+use Rattle.ember_poly.specs.declared.reach_and_cut.Reach.{Reach}
+use Rattle.ember_poly.specs.declared.reach_and_cut.Reach.TheVariants.{Below, Above, On, Both}
 use Rattle.ember_poly.specs.Rings.{IsBelow, IsAbove, IsOnPlane, IsNotAbove, IsNotBelow}
 use Rattle.ember_poly.specs.Passages.{HasSome, AreSigns}
 use Rattle.ember_poly.proofs.Chains.{each-push, each_map}

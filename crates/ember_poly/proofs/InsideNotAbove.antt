@@ -130,7 +130,7 @@ module _ (f : Face) (hs : List Plane) where
 
   none_met : AllByRecursion Passed hs → HasSome (λ h. Cuts f h) hs → Somewhere f (λ v. none_positive hs v ≡ true) → ⊥
   none_met a c s =
-      let k = has_pick (λ h. Cuts f h) (λ h. In h hs) hs c (all_in_list hs) in let u = k.holds.high in
+      let k = has_pick (λ h. Cuts f h) (λ h. In h hs) hs c (all_in_list hs) in let u = k.holds.some_above in
       ⊎_elim (λ e. clash (value_at k.member u.at) (positive_out (value_at k.member u.at) u.holds) (not_positive_in (value_at k.member u.at) (none_positive_member u.at hs k.member e k.also))) (λ e. passed_last u.at s.at u.inside s.inside s.holds (last_zero u.at s.at hs e s.holds) a) (decide_free hs u.at)
     where
       later : (xs ys : List Plane) (x : Plane) → AllByRecursion (λ h. In h ys) xs → AllByRecursion (λ h. In h (x ∷ ys)) xs
@@ -170,7 +170,7 @@ module _ (f : Face) (is_cut : Bool) (gs : List Plane) (h : Plane) where
 
   counted_cut : (is_cut_twice : Bool) → Cuts f h → Counted f is_cut is_cut_twice gs → Counted f true is_cut (gs ++ h ∷ [])
   counted_cut is_cut_twice k c =
-      record { low = λ e. absurd (differ e); free = λ e. free_push (below_all e) (record { at_most = most (negative_out (value_at h k.low.at) k.low.holds) }) }
+      record { low = λ e. absurd (differ e); free = λ e. free_push (below_all e) (record { at_most = most (negative_out (value_at h k.some_below.at) k.some_below.holds) }) }
     where
       differ : true ≡ false → ⊥
       differ e = cc
@@ -180,7 +180,7 @@ module _ (f : Face) (is_cut : Bool) (gs : List Plane) (h : Plane) where
 
       below_all : is_cut ≡ false → Somewhere f (λ v. none_positive gs v ≡ true)
       below_all e =
-          record { at = k.low.at; inside = k.low.inside; holds = all_in gs k.low.at (each_map (λ h. IsLow f h) (λ h. IsNotAbove h k.low.at) gs (λ h l. record { at_most = not_positive_out (value_at h k.low.at) (l.holds k.low.at k.low.inside) }) (c.low e)) }
+          record { at = k.some_below.at; inside = k.some_below.inside; holds = all_in gs k.some_below.at (each_map (λ h. IsLow f h) (λ h. IsNotAbove h k.some_below.at) gs (λ h l. record { at_most = not_positive_out (value_at h k.some_below.at) (l.holds k.some_below.at k.some_below.inside) }) (c.low e)) }
 
 -- the same at a place of a list
 module _ (f : Face) (hs : List Plane) (is_cut is_cut_twice : Bool) (i : ℕ) (d : Plane) (m : i < length hs) (c : Counted f is_cut is_cut_twice (take i hs)) where

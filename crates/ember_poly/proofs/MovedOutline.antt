@@ -9,7 +9,7 @@ use Rattle.ember_model.specs.declared.point.Spot.{Spot}
 use Rattle.ember_model.specs.declared.face.Face.{Face}
 use Rattle.ember_model.specs.Planes.{value_at}
 use Rattle.ember_model.specs.Edges.{SamePoint, is_on_edge, HasEdge, IsEarliest, SameEdge, position_along, IsBefore, IsNotAfter, RingEdge, IsEdge, IsEdgeChain, HasEdgeOf, HaveDistinctEdges, IsOutline}
-use Rattle.ember_poly.specs.Rings.{IsNotAbove, along}
+use Rattle.ember_poly.specs.Rings.{IsNotAbove, edge_direction}
 use Rattle.ember_poly.proofs.Chains.{each_map}
 use Rattle.ember_poly.proofs.RingBelow.{not_zero}
 use Rattle.ember_poly.proofs.EdgeEnds.{position_is_value_along}
@@ -61,7 +61,7 @@ stays : (v : Spot) → pos 0 <ℤ v.w → Moved v v
 stays v p = record { same = record { x = refl; y = refl; z = refl }; from = p; to = p }
 
 reach_moved : {u v : Spot} (n g : Plane) → Moved u v → v.w *ℤ position_along n g u ≡ u.w *ℤ position_along n g v
-reach_moved {u} {v} n g m = rw (position_is_value_along n g u, position_is_value_along n g v) (same_value m.same (along n g))
+reach_moved {u} {v} n g m = rw (position_is_value_along n g u, position_is_value_along n g v) (same_value m.same (edge_direction n g))
 
 edge_moved : {u v : Spot} (f : Face) (g : Plane) → Moved u v → is_on_edge f g u ≡ true → is_on_edge f g v ≡ true
 edge_moved {u} {v} f g m e =

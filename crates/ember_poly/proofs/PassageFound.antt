@@ -199,7 +199,7 @@ module _ (n p : Plane) (es : List Plane) (ms : List Meet) (bs : List ℕ) (k c r
     pub exit_turns : (d : Plane) → pos 0 <ℤ orientation n (get_or es r d) p
     exit_turns d = subst (λ g. pos 0 <ℤ orientation n g p) (sym (last_plane d)) turns.0
 
-    pub passage_is : (y z : Meet) (d g : Plane) → IsMeet (get_or es k d) n p (spot_of z) → IsMeet n (get_or es r g) p (spot_of y) → IsPassage n p xs (record { first = k; below_count = c; entry = z; exit = y })
+    pub passage_is : (y z : Meet) (d g : Plane) → IsMeet (get_or es k d) n p (spot_of z) → IsMeet n (get_or es r g) p (spot_of y) → IsPassage n p xs (record { entry_edge = k; below_count = c; entry = z; exit = y })
     passage_is y z d g mz my =
         record {
           head = head;

@@ -91,30 +91,30 @@ module _ (xs : List Side) (at : Passage) (p : Plane) (plane_index : ℕ) where
   last = closing_side p (spot_of at.exit) plane_index
 
   abbrev head : List Side
-  head = take at.first xs
+  head = take at.entry_edge xs
 
   abbrev tail : List Side
-  tail = drop at.first xs
+  tail = drop at.entry_edge xs
 
   -- in the ring begun at the entry
-  pub part_of_rotated : (n : ℕ) → n ≡ length xs → {ys zs : List Side} → ys ≡ rotated at.first xs → zs ≡ with_start_at 0 first ys → replace_between (at.below_count + 1) n last zs ≡ rotated 0 (part_sides xs at p plane_index)
+  pub part_of_rotated : (n : ℕ) → n ≡ length xs → {ys zs : List Side} → ys ≡ rotated at.entry_edge xs → zs ≡ with_start_at 0 first ys → replace_between (at.below_count + 1) n last zs ≡ rotated 0 (part_sides xs at p plane_index)
   part_of_rotated n e {ys} {zs} ey ez =
-      ap (λ us. replace_between (at.below_count + 1) n last us) (ez ∙ ap (λ us. with_first_start first us) ey) ∙ (λ i. starting_take first at.below_count (rotated at.first xs) i ++ last ∷ none i) ∙ sym (append-nil (part_sides xs at p plane_index))
+      ap (λ us. replace_between (at.below_count + 1) n last us) (ez ∙ ap (λ us. with_first_start first us) ey) ∙ (λ i. starting_take first at.below_count (rotated at.entry_edge xs) i ++ last ∷ none i) ∙ sym (append-nil (part_sides xs at p plane_index))
     where
-      none : drop n (with_first_start first (rotated at.first xs)) ≡ []
+      none : drop n (with_first_start first (rotated at.entry_edge xs)) ≡ []
       none =
-          drop_all n (with_first_start first (rotated at.first xs)) (omega (arith, e, starting_length first (rotated at.first xs), begun_length at.first xs))
+          drop_all n (with_first_start first (rotated at.entry_edge xs)) (omega (arith, e, starting_length first (rotated at.entry_edge xs), begun_length at.entry_edge xs))
 
   -- in the ring as it is, if the sides below the plane go on at its start
-  pub kept_around : (ahead : ℕ) → ahead + at.first ≡ length xs → 0 < ahead → at.below_count < length xs → ahead ≤ at.below_count → {zs : List Side} → zs ≡ with_start_at at.first first xs → replace_between (at.below_count + 1 - ahead) at.first last zs ≡ rotated ahead (part_sides xs at p plane_index)
+  pub kept_around : (ahead : ℕ) → ahead + at.entry_edge ≡ length xs → 0 < ahead → at.below_count < length xs → ahead ≤ at.below_count → {zs : List Side} → zs ≡ with_start_at at.entry_edge first xs → replace_between (at.below_count + 1 - ahead) at.entry_edge last zs ≡ rotated ahead (part_sides xs at p plane_index)
   kept_around ahead e some within long {zs} ez =
-      ap (λ us. replace_between (at.below_count + 1 - ahead) at.first last us) ez ∙ (λ i. front i ++ last ∷ back i) ∙ sym (append_assoc (take (at.below_count + 1 - ahead) head) (last ∷ []) (with_first_start first tail)) ∙ sym (turn_split (with_first_start first tail) (take (at.below_count + 1 - ahead) head ++ last ∷ []) ahead count) ∙ sym (ap (λ us. rotated ahead us) part)
+      ap (λ us. replace_between (at.below_count + 1 - ahead) at.entry_edge last us) ez ∙ (λ i. front i ++ last ∷ back i) ∙ sym (append_assoc (take (at.below_count + 1 - ahead) head) (last ∷ []) (with_first_start first tail)) ∙ sym (turn_split (with_first_start first tail) (take (at.below_count + 1 - ahead) head ++ last ∷ []) ahead count) ∙ sym (ap (λ us. rotated ahead us) part)
     where
-      long_head : length head ≡ at.first
-      long_head = length-take-le at.first xs (omega arith)
+      long_head : length head ≡ at.entry_edge
+      long_head = length-take-le at.entry_edge xs (omega arith)
 
       long_tail : length tail ≡ ahead
-      long_tail = omega (arith, e, length-drop at.first xs)
+      long_tail = omega (arith, e, length-drop at.entry_edge xs)
 
       count : ahead ≡ length (with_first_start first tail)
       count = sym (starting_length first tail ∙ long_tail)
@@ -122,7 +122,7 @@ module _ (xs : List Side) (at : Passage) (p : Plane) (plane_index : ℕ) where
       front : take (at.below_count + 1 - ahead) (head ++ with_first_start first tail) ≡ take (at.below_count + 1 - ahead) head
       front = take-append-le (at.below_count + 1 - ahead) head (with_first_start first tail) (omega (arith, long_head, e, within, long))
 
-      back : drop at.first (head ++ with_first_start first tail) ≡ with_first_start first tail
+      back : drop at.entry_edge (head ++ with_first_start first tail) ≡ with_first_start first tail
       back =
           ap (λ k. drop k (head ++ with_first_start first tail)) (sym long_head) ∙ drop-append_seam head (with_first_start first tail)
 

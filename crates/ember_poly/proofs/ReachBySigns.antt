@@ -13,8 +13,8 @@ use Rattle.ember_model.specs.Planes.{value_at, opposite}
 use Rattle.ember_model.specs.Faces.{is_inside, Cuts}
 use Rattle.ember_model.proofs.SignTests.{negative_in, negative_out, positive_in, positive_out}
 use Rattle.ember_point.specs.declared.meet_point.Meet.{Meet}
-use Rattle.ember_poly.specs.declared.reach_cut.Reach.{Reach}
-use Rattle.ember_poly.specs.declared.reach_cut.Reach.TheVariants.{Below, Above, On, Both}
+use Rattle.ember_poly.specs.declared.reach_and_cut.Reach.{Reach}
+use Rattle.ember_poly.specs.declared.reach_and_cut.Reach.TheVariants.{Below, Above, On, Both}
 use Rattle.ember_poly.specs.Rings.{Side, IsBelow, IsAbove, IsOnPlane, IsNotAbove, IsNotBelow, IsInsideRing, IsInClosedRing, IsConvexRing, Represents}
 use Rattle.ember_poly.specs.Sides.{sides_of}
 use Rattle.ember_poly.specs.Chords.{mixed2}
@@ -172,12 +172,12 @@ module _ (n p : Plane) (gs : List Plane) (xs : List Side) (s : Represents n gs x
   corners_on_both_sides_are_cut : HasSome (λ r. IsBelow p r.corner) xs → HasSome (λ r. IsAbove p r.corner) xs → Cuts face p
   corners_on_both_sides_are_cut a b =
       let u = some_below n p xs s.sound a in let o = some_above n p xs s.sound b in
-      record { low = record { at = u.point; inside = seen_inside u.point u.inside; holds = negative_in u.holds.under }; high = record { at = o.point; inside = seen_inside o.point o.inside; holds = positive_in o.holds.over } }
+      record { some_below = record { at = u.point; inside = seen_inside u.point u.inside; holds = negative_in u.holds.under }; some_above = record { at = o.point; inside = seen_inside o.point o.inside; holds = positive_in o.holds.over } }
 
 -- a plane that corners_on_both_sides_are_cut a face does so with the opposite front
 pub cuts_opposite : (f : Face) (p : Plane) → Cuts f p → Cuts f (opposite p)
 cuts_opposite f p c =
-    record { low = record { at = c.high.at; inside = c.high.inside; holds = negative_in (over_opposite p c.high.at (record { over = positive_out (value_at p c.high.at) c.high.holds })).under }; high = record { at = c.low.at; inside = c.low.inside; holds = positive_in (under_opposite p c.low.at (record { under = negative_out (value_at p c.low.at) c.low.holds })).over } }
+    record { some_below = record { at = c.some_above.at; inside = c.some_above.inside; holds = negative_in (over_opposite p c.some_above.at (record { over = positive_out (value_at p c.some_above.at) c.some_above.holds })).under }; some_above = record { at = c.some_below.at; inside = c.some_below.inside; holds = positive_in (under_opposite p c.some_below.at (record { under = negative_out (value_at p c.some_below.at) c.some_below.holds })).over } }
 
 -- the signs of the corners give the reach of the face
 pub reach_is : (n p : Plane) (gs es : List Plane) (ms : List Meet) (bs : List ℕ) (r : Reach) → length ms ≡ length es → length bs ≡ length es → Represents n gs (sides_of es ms bs) → AreSigns p ms r → IsReach (record { support = n; edges = gs }) p r

@@ -16,7 +16,7 @@ use Rattle.ember_model.specs.Faces.{is_in_closed}
 use Rattle.ember_model.specs.Edges.{SamePoint, HasEdge}
 use Rattle.ember_model.proofs.SignTests.{positive_nonzero}
 use Rattle.ember_model.proofs.Tuples.{plane_tuple}
-use Rattle.ember_poly.specs.Rings.{IsBelow, IsNotAbove, InFace, InClosedFace, orientation, along}
+use Rattle.ember_poly.specs.Rings.{IsBelow, IsNotAbove, InFace, InClosedFace, orientation, edge_direction}
 use Rattle.ember_poly.specs.Chords.{mixed2}
 use Rattle.ember_poly.proofs.Chains.{each_map, each_both}
 use Rattle.ember_poly.proofs.Planar.{places, both_zero, turnE}
@@ -61,7 +61,7 @@ closed_follows n gs hs o io low follow r ir =
 
 -- ---- the direction of the line of n and h
 abbrev way : Plane → Plane → Spot
-way n h = record { x = (along n h).a; y = (along n h).b; z = (along n h).c; w = pos 0 }
+way n h = record { x = (edge_direction n h).a; y = (edge_direction n h).b; z = (edge_direction n h).c; w = pos 0 }
 
 abbrev wayE : TupleE → TupleE → TupleE
 wayE n g =

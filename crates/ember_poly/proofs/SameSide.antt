@@ -10,7 +10,7 @@ use Rattle.ember_model.specs.Planes.{value_at}
 use Rattle.ember_model.specs.Edges.{IsBefore, position_along}
 use Rattle.ember_model.proofs.SignTests.{positive_nonzero}
 use Rattle.ember_model.proofs.Tuples.{plane_tuple, spot_tuple, normalE}
-use Rattle.ember_poly.specs.Rings.{orientation, along}
+use Rattle.ember_poly.specs.Rings.{orientation, edge_direction}
 use Rattle.ember_poly.proofs.Planar.{places, both_zero, turnE}
 use Rattle.ember_poly.proofs.CutOrientation.{value_difference_by_orientation, pos_factor}
 use Rattle.ember_poly.proofs.EdgeEnds.{position_is_value_along}
@@ -39,9 +39,9 @@ turns_toward n g u v l = rw (turn_toward n g u v) (rising l.before)
 module _ (n g h : Plane) (u v : Spot) (l : IsBefore n g u v) (nu : value_at n u ≡ pos 0) (nv : value_at n v ≡ pos 0) (gu : value_at g u ≡ pos 0) (gv : value_at g v ≡ pos 0) (hu : value_at h u ≡ pos 0) (hv : value_at h v ≡ pos 0) where
   parallel : orientation n g h ≡ pos 0
   parallel =
-      ⊎_elim (λ z. z) (λ z. absurd (positive_nonzero far z)) (zero_product (value_difference_by_orientation n g h (along n g) u v nu nv gu gv ∙ rw (both_zero u.w v.w hv hu) (nothing (orientation n (along n g) g))))
+      ⊎_elim (λ z. z) (λ z. absurd (positive_nonzero far z)) (zero_product (value_difference_by_orientation n g h (edge_direction n g) u v nu nv gu gv ∙ rw (both_zero u.w v.w hv hu) (nothing (orientation n (edge_direction n g) g))))
     where
-      far : pos 0 <ℤ (u.w *ℤ value_at (along n g) v -ℤ v.w *ℤ value_at (along n g) u)
+      far : pos 0 <ℤ (u.w *ℤ value_at (edge_direction n g) v -ℤ v.w *ℤ value_at (edge_direction n g) u)
       far = rw (← position_is_value_along n g u, ← position_is_value_along n g v) (rising l.before)
 
       nothing : (t : ℤ) → neg_ℤ (t *ℤ pos 0) ≡ pos 0

@@ -8,13 +8,13 @@ use Rattle.ember_algebra.proofs.Vectors.{scalar, vector, identity, VectorE, Tupl
 use Rattle.ember_algebra.proofs.Order.{pos_mul}
 use Rattle.ember_model.specs.declared.point.Corner.{Corner}
 use Rattle.ember_model.specs.declared.plane.Plane.{Plane}
-use Rattle.ember_model.specs.Planes.{value_at, vector_of, side_of, plane_through, times_plane, edge_through}
+use Rattle.ember_model.specs.Planes.{value_at, vector_of, vector_between, plane_through, times_plane, edge_through}
 use Rattle.ember_model.specs.Owners.{spot_of_corner}
 use Rattle.ember_poly.specs.Rings.{Side, IsBelow, IsCornerOf, IsConvexRing, Represents, orientation}
 use Rattle.ember_poly.proofs.Planar.{turnE}
 
 abbrev pub normal_of : Corner → Corner → Corner → Vector
-normal_of u v w = cross (side_of u v) (side_of u w)
+normal_of u v w = cross (vector_between u v) (vector_between u w)
 
 abbrev pub support_plane : Corner → Corner → Corner → Plane
 support_plane u v w = plane_through (normal_of u v w) u

@@ -1,5 +1,5 @@
 -- The sides of a ring as its three lists hold them
-use Rattle.std.specs.Prelude.{◌≡◌, ℕ, ◌+◌, ◌≤◌, List, [], ◌∷◌, ◌++◌, length, take, drop}
+use Rattle.std.specs.Prelude.{◌≡◌, ℕ, ◌+◌, ◌≤◌, List, [], ◌∷◌, ◌++◌, length, take, drop, ⊤}
 use Rattle.std.specs.List.{AllByRecursion}
 use Rattle.ember_model.specs.declared.point.Spot.{Spot}
 use Rattle.ember_model.specs.declared.plane.Plane.{Plane}
@@ -25,7 +25,7 @@ with_first_start v (s ∷ xs) = with_start s v ∷ xs
 
 -- the first number is the least
 abbrev pub LeastFirst : List ℕ → Type 0
-LeastFirst [] = Unit {0}
+LeastFirst [] = ⊤
 LeastFirst (b ∷ bs) = AllByRecursion (λ c. b ≤ c) bs
 
 -- a closed list, rotated
@@ -40,10 +40,10 @@ replace_between from to x xs = take from xs ++ x ∷ drop to xs
 abbrev pub with_start_at : ℕ → Spot → List Side → List Side
 with_start_at k v xs = take k xs ++ with_first_start v (drop k xs)
 
--- the sides below the plane, from the entry to the exit, and the closing side behind them
+-- the sides below the plane, from the entry to the exit, and then the closing side
 abbrev pub part_sides : List Side → Passage → Plane → ℕ → List Side
 part_sides xs at p plane_index =
-    with_first_start (spot_of at.entry) (take (at.below_count + 1) (rotated at.first xs)) ++
+    with_first_start (spot_of at.entry) (take (at.below_count + 1) (rotated at.entry_edge xs)) ++
     closing_side p (spot_of at.exit) plane_index ∷ []
 
 -- these sides, rotated

@@ -1,5 +1,5 @@
 -- What planes leave of the chord between two points
-use Rattle.std.specs.Prelude.{◌≡◌, ◌≢◌, ◌⊎◌, true, List, ℤ, pos, ◌+ℤ◌, ◌*ℤ◌, ◌<ℤ◌, ◌≤ℤ◌}
+use Rattle.std.specs.Prelude.{◌≡◌, ◌≢◌, ◌⊎◌, true, List, ℤ, pos, ◌+ℤ◌, ◌*ℤ◌, ◌<ℤ◌, ◌≤ℤ◌, ⊤}
 use Rattle.ember_model.specs.declared.plane.Plane.{Plane}
 use Rattle.ember_model.specs.declared.point.Spot.{Spot}
 use Rattle.ember_model.specs.declared.tri.Tri.{Tri}
@@ -9,7 +9,7 @@ use Rattle.ember_model.specs.Faces.{Somewhere, Cuts, Meets as MeetsFace}
 use Rattle.ember_model.specs.Owners.{spot_of_corner}
 use Rattle.ember_model.specs.ClearTest.{face_with, none_positive}
 use Rattle.ember_point.specs.Points.{spot_of}
-use Rattle.ember_poly.specs.declared.reach_cut.Reach.TheVariants as reach
+use Rattle.ember_poly.specs.declared.reach_and_cut.Reach.TheVariants as reach
 use Rattle.ember_poly.specs.declared.meeting.Crossing.{Crossing}
 use Rattle.ember_poly.specs.declared.meeting.Crossing.TheVariants as crossing
 use Rattle.ember_poly.specs.declared.meeting.Overlap.{Overlap}
@@ -80,4 +80,4 @@ IsCrossing f p (crossing.Along y z) = IsChord f p (spot_of y) (spot_of z)
 abbrev pub IsOverlap : Face → List Plane → Overlap → Type 0
 IsOverlap f hs overlap.Apart = Somewhere f (λ v. none_positive hs v ≡ true) → ⊥
 IsOverlap f hs overlap.Met = Somewhere f (λ v. none_positive hs v ≡ true)
-IsOverlap f hs overlap.Unknown = Unit {0}
+IsOverlap f hs overlap.Unknown = ⊤

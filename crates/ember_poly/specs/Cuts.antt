@@ -1,19 +1,19 @@
 -- On which sides of a plane a face lies, and its two parts
-use Rattle.std.specs.Prelude.{◌≡◌, true}
+use Rattle.std.specs.Prelude.{◌≡◌, true, ⊤}
 use Rattle.ember_algebra.specs.Sign.{is_negative, is_zero, is_positive}
 use Rattle.ember_model.specs.declared.plane.Plane.{Plane}
 use Rattle.ember_model.specs.declared.point.Spot.{Spot}
 use Rattle.ember_model.specs.declared.face.Face.{Face}
 use Rattle.ember_model.specs.Planes.{value_at}
 use Rattle.ember_model.specs.Faces.{Somewhere, Everywhere, Cuts, below, above}
-use Rattle.ember_poly.specs.declared.reach_cut.Reach.{Reach}
-use Rattle.ember_poly.specs.declared.reach_cut.Reach.TheVariants as reach
-use Rattle.ember_poly.specs.declared.reach_cut.Cut.{Cut}
-use Rattle.ember_poly.specs.declared.reach_cut.Cut.TheVariants as cut
+use Rattle.ember_poly.specs.declared.reach_and_cut.Reach.{Reach}
+use Rattle.ember_poly.specs.declared.reach_and_cut.Reach.TheVariants as reach
+use Rattle.ember_poly.specs.declared.reach_and_cut.Cut.{Cut}
+use Rattle.ember_poly.specs.declared.reach_and_cut.Cut.TheVariants as cut
 
 -- f has an inside point
 abbrev pub HasInside : Face → Type 0
-HasInside f = Somewhere f (λ v. Unit {0})
+HasInside f = Somewhere f (λ v. ⊤)
 
 -- f has inside points, and each of them has the property
 pub record IsWhole (f : Face) (P : Spot → Type 0) : Type 0 where

@@ -1,5 +1,5 @@
 -- Where a plane passes a ring
-use Rattle.std.specs.Prelude.{◌≡◌, ◌⊎◌, ℕ, ◌+◌, ◌<◌, ◌≤◌, suc, Bool, true, false, not, List, [], ◌∷◌, ◌++◌, length, take, drop, pos}
+use Rattle.std.specs.Prelude.{◌≡◌, ◌⊎◌, ℕ, ◌+◌, ◌<◌, ◌≤◌, suc, Bool, true, false, not, List, [], ◌∷◌, ◌++◌, length, take, drop, pos, ⊤}
 use Rattle.std.specs.List.{AllByRecursion}
 use Rattle.ember_algebra.specs.Sign.{is_negative}
 use Rattle.ember_model.specs.declared.point.Axis.{Axis}
@@ -9,8 +9,8 @@ use Rattle.ember_model.specs.Planes.{value_at}
 use Rattle.ember_point.specs.declared.meet_point.Meet.{Meet}
 use Rattle.ember_point.specs.Points.{spot_of}
 use Rattle.ember_poly.specs.declared.passage.Passage.{Passage}
-use Rattle.ember_poly.specs.declared.reach_cut.Reach.{Reach}
-use Rattle.ember_poly.specs.declared.reach_cut.Reach.TheVariants.{Below, Above, On, Both}
+use Rattle.ember_poly.specs.declared.reach_and_cut.Reach.{Reach}
+use Rattle.ember_poly.specs.declared.reach_and_cut.Reach.TheVariants.{Below, Above, On, Both}
 use Rattle.ember_poly.specs.Rings.{Side, IsBelow, IsAbove, IsOnPlane, IsNotAbove, IsNotBelow, Long, IsMeet}
 
 -- the plane's normal lies along the axis
@@ -53,7 +53,7 @@ is_under p m = is_negative (value_at p (spot_of m))
 
 -- the next corner is on the other side
 abbrev pub Stops : Plane → Bool → List Meet → Type 0
-Stops p below [] = Unit {0}
+Stops p below [] = ⊤
 Stops p below (m ∷ ms) = is_under p m ≡ not below
 
 -- the first k corners lie below the plane, or none of them does, and the next one is on the other side
@@ -80,13 +80,15 @@ Enters p (m ∷ []) = ⊥
 Enters p (m ∷ c ∷ ms) = (is_under p m ≡ false) × (is_under p c ≡ true)
 
 -- begun at this index, the corners enter the plane's negative side, and `below_count` are below it
-pub record EntersAt (p : Plane) (ms : List Meet) (first below_count : ℕ) : Type 0 where
-  pub within : first < length ms
-  pub enters : Enters p (drop first ms ++ take first ms)
-  pub run : IsOneSidedRun p true (drop (first + 1) ms ++ take first ms) below_count
+pub record EntersAt (p : Plane) (ms : List Meet) (entry_edge below_count : ℕ) : Type 0 where
+  pub within : entry_edge < length ms
+  pub enters : Enters p (drop entry_edge ms ++ take entry_edge ms)
+  pub run : IsOneSidedRun p true (drop (entry_edge + 1) ms ++ take entry_edge ms) below_count
 
 -- ---- the passage
--- behind the sides below the plane: the next corner is not below the plane, and not all that is left lies on it
+-- after the sides below the plane the boundary leaves the plane's negative side: the next corner isn't below
+-- it, and some corner that is left, f's or one of the list, is above it. If three are left, that is sure, since
+-- three corners of a ring are never on one line.
 abbrev pub Leaves : Plane → Side → List Side → Type 0
 Leaves p f [] = IsAbove p f.corner
 Leaves p f (d ∷ ds) =
@@ -99,8 +101,8 @@ pub record IsPassage (n p : Plane) (xs : List Side) (at : Passage) : Type 0 wher
   pub front : List Side
   pub last : Side
   pub others : List Side
-  pub within : at.first < length xs
-  pub turned : drop at.first xs ++ take at.first xs ≡ head ∷ (front ++ last ∷ []) ++ others
+  pub within : at.entry_edge < length xs
+  pub turned : drop at.entry_edge xs ++ take at.entry_edge xs ≡ head ∷ (front ++ last ∷ []) ++ others
   pub count : at.below_count ≡ suc (length front)
   pub under : AllByRecursion (λ s. IsBelow p s.corner) (front ++ last ∷ [])
   pub enters : IsNotBelow p head.corner

@@ -1,5 +1,5 @@
 -- Rings: a closed list of sides, each an edge plane and the corner where its edge starts
-use Rattle.std.specs.Prelude.{◌⊎◌, ◌≡◌, ℕ, ◌<◌, length, List, [], ◌∷◌, ◌++◌, ℤ, pos, ◌-ℤ◌, ◌*ℤ◌, ◌<ℤ◌, ◌≤ℤ◌}
+use Rattle.std.specs.Prelude.{◌⊎◌, ◌≡◌, ℕ, ◌<◌, length, List, [], ◌∷◌, ◌++◌, ℤ, pos, ◌-ℤ◌, ◌*ℤ◌, ◌<ℤ◌, ◌≤ℤ◌, ⊤}
 use lib.ListN.{get_or}
 use Rattle.std.specs.List.{AllByRecursion}
 use Rattle.ember_algebra.specs.Vector.{det}
@@ -42,9 +42,9 @@ pub record IsCornerOf (n g : Plane) (s : Side) : Type 0 where
   pub turns : pos 0 <ℤ orientation n g s.plane
 
 -- an open chain: the edge g, and then the sides xs, each at the end of the one before.
--- An edge is negative at all corners but its own two.
+-- The plane of an edge is negative at all corners but the edge's own two.
 abbrev pub IsSideChain : Plane → Plane → List Side → Type 0
-IsSideChain n g [] = Unit {0}
+IsSideChain n g [] = ⊤
 IsSideChain n g (s ∷ xs) =
     IsCornerOf n g s × AllByRecursion (λ t. IsBelow g t.corner) xs ×
     AllByRecursion (λ t. IsBelow t.plane s.corner) xs × IsSideChain n s.plane xs
@@ -52,7 +52,7 @@ IsSideChain n g (s ∷ xs) =
 -- the list isn't empty
 abbrev pub Long : List Side → Type 0
 Long [] = ⊥
-Long (s ∷ xs) = Unit {0}
+Long (s ∷ xs) = ⊤
 
 -- a ring: at least three sides, and a chain from its first edge and from its second
 abbrev pub IsConvexRing : Plane → List Side → Type 0
@@ -85,13 +85,14 @@ pub record IsInClosedRing (n : Plane) (xs : List Side) (v : Spot) : Type 0 where
 pub record IsNotHigher (p : Plane) (v s : Spot) : Type 0 where
   pub not_above : (value_at p v *ℤ s.w) ≤ℤ (value_at p s *ℤ v.w)
 
--- the face of a ring: its plane and all the planes that have cut it, in order of their index
+-- the inside points of a ring's face, by its support plane and all its edge planes: those of its
+-- triangle and those that have cut it
 pub record InFace (n : Plane) (gs : List Plane) (v : Spot) : Type 0 where
   pub flat : value_at n v ≡ pos 0
   pub weight : pos 0 <ℤ v.w
   pub within : AllByRecursion (λ g. IsBelow g v) gs
 
--- the closed face
+-- the points of the closed face
 pub record InClosedFace (n : Plane) (gs : List Plane) (v : Spot) : Type 0 where
   pub flat : value_at n v ≡ pos 0
   pub weight : pos 0 <ℤ v.w
@@ -102,7 +103,8 @@ pub record IsInPlanes (gs : List Plane) (s : Side) : Type 0 where
   pub index : s.plane_index < length gs
   pub here : get_or gs s.plane_index s.plane ≡ s.plane
 
--- the sides are planes of the list, and all planes of the list follow from the sides
+-- the planes of the sides are in the list, and they alone decide: a point that is below all of them
+-- is below all planes of the list, and likewise for `below or on`
 pub record Represents (n : Plane) (gs : List Plane) (xs : List Side) : Type 0 where
   pub sound : IsConvexRing n xs
   pub listed : AllByRecursion (λ s. IsInPlanes gs s) xs
@@ -138,11 +140,11 @@ pub record IsNotBelow (p : Plane) (v : Spot) : Type 0 where
 -- ---- edges
 -- a plane across the edge of g: its value grows in the direction of this edge, counter-clockwise seen from the front
 -- of n
-abbrev pub along : Plane → Plane → Plane
-along n g =
+abbrev pub edge_direction : Plane → Plane → Plane
+edge_direction n g =
     record { a = n.b *ℤ g.c -ℤ n.c *ℤ g.b; b = n.c *ℤ g.a -ℤ n.a *ℤ g.c; c = n.a *ℤ g.b -ℤ n.b *ℤ g.a; d = pos 0 }
 
 -- the plane is negative at all corners but one at most
 abbrev pub IsBelowAllButOne : Plane → List Side → Type 0
-IsBelowAllButOne h [] = Unit {0}
+IsBelowAllButOne h [] = ⊤
 IsBelowAllButOne h (s ∷ xs) = (IsBelow h s.corner × IsBelowAllButOne h xs) ⊎ AllByRecursion (λ r. IsBelow h r.corner) xs

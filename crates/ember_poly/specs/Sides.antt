@@ -1,5 +1,5 @@
 -- The sides of a ring from its lists, and what a ring keeps
-use Rattle.std.specs.Prelude.{◌≡◌, ◌⊎◌, ℕ, ◌≤◌, List, [], ◌∷◌, Some, slice_get, length, All, pos}
+use Rattle.std.specs.Prelude.{◌≡◌, ◌⊎◌, ℕ, ◌≤◌, List, [], ◌∷◌, Some, slice_get, length, All, pos, ⊤}
 use Rattle.std.specs.List.{AllByRecursion}
 use Rattle.ember_model.specs.declared.plane.Plane.{Plane}
 use Rattle.ember_model.specs.declared.point.Spot.{Spot}
@@ -20,7 +20,7 @@ sides_of (e ∷ es) (m ∷ ms) (b ∷ bs) = record { plane = e; corner = spot_of
 
 -- the first side's plane has the lowest index
 abbrev pub FirstPlaneFirst : List Side → Type 0
-FirstPlaneFirst [] = Unit {0}
+FirstPlaneFirst [] = ⊤
 FirstPlaneFirst (s ∷ xs) = AllByRecursion (λ r. s.plane_index ≤ r.plane_index) xs
 
 -- some side's plane is the one with this index

@@ -144,35 +144,39 @@ impl Boundary {
         Ok(())
     }
 
-    // Keeps the edges below the plane, from the entry to the exit, and appends the edge along the
-    // cut. Afterwards the boundary may begin at any of its edges.
+    // Keeps the edges below the plane, from the entry to the exit, and puts the edge along the cut
+    // after them, as seen around the ring. Afterwards the boundary may begin at any of its edges.
     pub fn close(
         &mut self,
-        at: &Passage,
+        passage: &Passage,
         plane: Plane,
         plane_index: usize,
     ) -> Result<(), OutOfMemory>
-        requires first { at.now.first < length self.old.edges.items }
-        requires below_count { at.now.below_count < length self.old.edges.items }
+        requires entry_edge { passage.now.entry_edge < length self.old.edges.items }
+        requires below_count { passage.now.below_count < length self.old.edges.items }
         requires paired { HasEqualLengths self.old }
-        ensures part { OnOk result (IsPartOfBoundary self.old at.now plane plane_index self.new) }
+        ensures part { OnOk result (IsPartOfBoundary self.old passage.now plane plane_index self.new) }
         ensures some { OnOk result (0 < length self.new.edges.items) }
     {
         let side = ClosingSide {
             plane,
-            corner: at.exit,
+            corner: passage.exit,
             plane_index,
         };
         let len = self.edges.len();
-        let ahead = len - at.first;
-        if at.below_count < ahead {
-            self.rotate(at.first);
-            self.set_start(0, at.entry);
-            self.put(at.below_count + 1, len, side)?;
+        let ahead = len - passage.entry_edge;
+        if passage.below_count < ahead {
+            // The kept edges don't go past the end of the lists. If they don't begin with edge 0,
+            // it is cut away. The lists are rotated, and the new edge is appended.
+            self.rotate(passage.entry_edge);
+            self.set_start(0, passage.entry);
+            self.put(passage.below_count + 1, len, side)?;
             Ok(())
         } else {
-            self.set_start(at.first, at.entry);
-            self.put(at.below_count + 1 - ahead, at.first, side)?;
+            // They go past the end, so edge 0 is kept. The new edge takes the place of the edges
+            // between the last kept one and the entry, if there are any.
+            self.set_start(passage.entry_edge, passage.entry);
+            self.put(passage.below_count + 1 - ahead, passage.entry_edge, side)?;
             Ok(())
         }
     }

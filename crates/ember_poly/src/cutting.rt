@@ -6,7 +6,7 @@ ghost use Rattle.ember_model.specs.Faces.{Cuts, below, above};
 ghost use Rattle.ember_poly.specs.Cuts.{AreParts, IsClip, IsCut};
 
 use crate::draft::draft_of;
-use crate::reach_cut::{Cut, Reach};
+use crate::reach_and_cut::{Cut, Reach};
 use crate::reaching::reach;
 use crate::ring::{Ring, copy};
 use ember_model::{OutOfMemory, Plane};

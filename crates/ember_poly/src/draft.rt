@@ -10,7 +10,7 @@ ghost use Rattle.ember_poly.specs.Drafts.{face_in, HoldsRing};
 
 use crate::boundary::{Boundary, with_room};
 use crate::passage::{Passage, classify, find_passage};
-use crate::reach_cut::Reach;
+use crate::reach_and_cut::Reach;
 use crate::ring::{Ring, at_corner};
 use ember_model::{OutOfMemory, Plane, Tri};
 use std::alloc::{AllocError, Global};
@@ -84,17 +84,17 @@ impl Draft {
     }
 
     // Keeps the part below a plane that cuts the ring.
-    fn keep_part(&mut self, p: &Plane, at: &Passage) -> Result<(), OutOfMemory>
+    fn keep_part(&mut self, p: &Plane, passage: &Passage) -> Result<(), OutOfMemory>
         requires plane { IsValidPlane p.now }
         requires ring { HoldsRing self.old }
-        requires passage { IsPassage self.old.support p.now (sides self.old.boundary) at.now }
-        requires below_count { at.now.below_count < length self.old.boundary.edges.items }
+        requires passage { IsPassage self.old.support p.now (sides self.old.boundary) passage.now }
+        requires below_count { passage.now.below_count < length self.old.boundary.edges.items }
         ensures ring { OnOk result (HoldsRing self.new) }
         ensures part { OnOk result (face_in self.new ≡ below (face_in self.old) p.now) }
     {
         let plane_index = self.planes.len();
         self.planes.push(*p)?;
-        self.boundary.close(at, *p, plane_index)?;
+        self.boundary.close(passage, *p, plane_index)?;
         self.boundary.rotate_to_oldest();
         Ok(())
     }
@@ -108,11 +108,11 @@ impl Draft {
         ensures ring { OnOk result (HoldsRing self.new) }
         ensures part { IfOk result (λ side. IsClip (face_in self.old) plane.now side (face_in self.new)) }
     {
-        let at = classify(plane, self.boundary.corners.as_slice());
-        match at.reach {
+        let classified = classify(plane, self.boundary.corners.as_slice());
+        match classified.reach {
             Reach::Both => {
-                let at = find_passage(&self.support, &self.boundary, plane, &at);
-                self.keep_part(plane, &at)?;
+                let passage = find_passage(&self.support, &self.boundary, plane, &classified);
+                self.keep_part(plane, &passage)?;
                 Ok(Reach::Both)
             }
             other => Ok(other),

@@ -1,5 +1,5 @@
-// The law of rings: they are valid and bounded. In its contract `Half` is the view of a plane.
-ghost use Rattle.ember_model.specs.declared.plane.Plane.{Plane as Half};
+// The law of rings: they are valid and bounded. In its contract `PlaneView` is the view of a plane.
+ghost use Rattle.ember_model.specs.declared.plane.Plane.{Plane as PlaneView};
 ghost use Rattle.ember_model.specs.Valid.{IsValidFace};
 ghost use Rattle.ember_poly.specs.Bounds.{IsBoundedBy};
 
@@ -9,8 +9,8 @@ use crate::ring::Ring;
 /// greatest at one of its points.
 pub fn rings_are_valid_and_bounded(r: &Ring)
     ensures valid { IsValidFace r.now }
-    ensures bounded { (p : Half) → IsBoundedBy p r.now }
+    ensures bounded { (p : PlaneView) → IsBoundedBy p r.now }
 {
-    // Reading a field brings in what every ring keeps.
+    // Reads a field only so that the prover knows the invariant of a ring.
     let _support = r.support;
 }

@@ -106,12 +106,12 @@ fn line_of(p: &Plane, level: &Level) -> Line
     }
 }
 
-// Positive if the line `g` turns to `h` counter-clockwise. The bound is 2 * 33554431^2.
-fn turn(g: &Line, h: &Line) -> i64
-    ensures value { result ≡ g.now.a *ℤ h.now.b -ℤ g.now.b *ℤ h.now.a }
+// Positive if the line `first` turns to `second` counter-clockwise. The bound is 2 * 33554431^2.
+fn turn(first: &Line, second: &Line) -> i64
+    ensures value { result ≡ first.now.a *ℤ second.now.b -ℤ first.now.b *ℤ second.now.a }
     ensures small { Small 2251799679467522 result }
 {
-    g.a * h.b - g.b * h.a
+    first.a * second.b - first.b * second.a
 }
 
 // The determinant `a d - b c`. Its bound is 2 * (2^40 - 1) * 33554431.

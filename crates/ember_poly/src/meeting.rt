@@ -12,7 +12,7 @@ ghost use Rattle.ember_model.specs.Owners.{spot_of_corner};
 ghost use Rattle.ember_poly.specs.Chords.{IsOnOneSide, IsCrossing, IsOverlap, IsChordPart, IsLine, IsOpen, HasVertexWithin};
 
 use crate::passage::{classify, find_passage};
-use crate::reach_cut::Reach;
+use crate::reach_and_cut::Reach;
 use crate::reaching::reach;
 use crate::ring;
 use crate::ring::{Ring, main_edges};
@@ -52,58 +52,66 @@ fn chord_part_of(y: Sign, z: Sign) -> ChordPart
 }
 
 // Whether the point lies above the plane.
-fn is_above(h: &Plane, m: &Meet) -> bool
-    requires { IsValidPlane h.now }
-    ensures { result ≡ is_positive (value_at h.now (spot_of m.now)) }
+fn is_above(edge: &Plane, m: &Meet) -> bool
+    requires { IsValidPlane edge.now }
+    ensures { result ≡ is_positive (value_at edge.now (spot_of m.now)) }
 {
-    side(h, m) == Sign::Pos
+    side(edge, m) == Sign::Pos
 }
 
 // Whether the point lies above none of the planes.
-fn none_above(hs: &[Plane], m: &Meet) -> bool
-    requires { All IsValidPlane hs.now }
-    ensures { result ≡ none_positive hs.now (spot_of m.now) }
+fn none_above(edges: &[Plane], m: &Meet) -> bool
+    requires { All IsValidPlane edges.now }
+    ensures { result ≡ none_positive edges.now (spot_of m.now) }
 {
-    for h in hs {
-        if is_above(h, m) {
+    for edge in edges {
+        if is_above(edge, m) {
             return false;
         }
     }
     true
 }
 
-// Whether the planes `n`, `p` and `h` meet in one point, and it is above none of the planes of the
-// list.
-fn has_vertex_within(n: &Plane, p: &Plane, h: &Plane, hs: &[Plane]) -> bool
-    requires valid_n { IsValidPlane n.now }
+// Whether the planes `support`, `p` and `edge` meet in one point, and it is above none of the
+// planes of the list.
+fn has_vertex_within(support: &Plane, p: &Plane, edge: &Plane, edges: &[Plane]) -> bool
+    requires valid_support { IsValidPlane support.now }
     requires valid_p { IsValidPlane p.now }
-    requires valid_h { IsValidPlane h.now }
-    requires valid { All IsValidPlane hs.now }
-    ensures { IsTrue result ↔ HasVertexWithin n.now p.now h.now hs.now }
+    requires valid_edge { IsValidPlane edge.now }
+    requires valid { All IsValidPlane edges.now }
+    ensures { IsTrue result ↔ HasVertexWithin support.now p.now edge.now edges.now }
 {
-    match meet(n, p, h) {
-        Some(m) => none_above(hs, &m),
+    match meet(support, p, edge) {
+        Some(m) => none_above(edges, &m),
         None => false,
     }
 }
 
 // Whether some point between the chord's two ends is above none of the planes of the list.
-fn meets_chord(n: &Plane, p: &Plane, y: &Meet, z: &Meet, hs: &[Plane]) -> bool
-    requires valid_n { IsValidPlane n.now }
+fn chord_has_point_within(
+    support: &Plane,
+    p: &Plane,
+    from: &Meet,
+    to: &Meet,
+    edges: &[Plane],
+) -> bool
+    requires valid_support { IsValidPlane support.now }
     requires valid_p { IsValidPlane p.now }
-    requires valid { All IsValidPlane hs.now }
-    requires line { IsLine n.now p.now (spot_of y.now) (spot_of z.now) }
-    ensures { IsTrue result ↔ IsOpen hs.now (spot_of y.now) (spot_of z.now) }
+    requires valid { All IsValidPlane edges.now }
+    requires line { IsLine support.now p.now (spot_of from.now) (spot_of to.now) }
+    ensures { IsTrue result ↔ IsOpen edges.now (spot_of from.now) (spot_of to.now) }
 {
     let mut free = true;
-    for h in hs {
-        match chord_part_of(side(h, y), side(h, z)) {
+    for edge in edges {
+        match chord_part_of(side(edge, from), side(edge, to)) {
             ChordPart::Whole => {}
             ChordPart::Empty => {
                 return false;
             }
             ChordPart::Split => {
-                if has_vertex_within(n, p, h, hs) {
+                // If a part of the chord is left, it ends at the point of a splitting plane, and
+                // this point is above none of the planes. So only these points are tested.
+                if has_vertex_within(support, p, edge, edges) {
                     return true;
                 }
                 free = false;
@@ -128,36 +136,38 @@ fn cross(r: &Ring, p: &Plane) -> Crossing
     requires { IsValidPlane p.now }
     ensures { IsCrossing r.now p.now result }
 {
-    let entry = classify(p, r.boundary.corners.as_slice());
-    match entry.reach {
+    let classified = classify(p, r.boundary.corners.as_slice());
+    match classified.reach {
         Reach::Below => Crossing::Below,
         Reach::Above => Crossing::Above,
         Reach::On => Crossing::On,
         Reach::Both => {
-            let at = find_passage(&r.support, &r.boundary, p, &entry);
+            let passage = find_passage(&r.support, &r.boundary, p, &classified);
             // from the exit to the entry, as the edge that closes the part below
-            Crossing::Along(at.exit, at.entry)
+            Crossing::Along(passage.exit, passage.entry)
         }
     }
 }
 
 // Whether some inside point is above none of the planes, by the chords in which they cut the ring.
-fn meets_by_chords(r: &Ring, hs: &[Plane]) -> bool
-    requires planes { All IsValidPlane hs.now }
+fn has_point_within_by_chords(r: &Ring, edges: &[Plane]) -> bool
+    requires planes { All IsValidPlane edges.now }
     requires inside { HasInside r.now }
-    ensures { IsTrue result ↔ Somewhere r.now (λ v. none_positive hs.now v ≡ true) }
+    ensures { IsTrue result ↔ Somewhere r.now (λ v. none_positive edges.now v ≡ true) }
 {
     let n = ring::support(r);
     let mut free = true;
-    for h in hs {
-        match cross(r, h) {
+    for edge in edges {
+        match cross(r, edge) {
             Crossing::Below => {}
             Crossing::On => {}
             Crossing::Above => {
                 return false;
             }
             Crossing::Along(y, z) => {
-                if meets_chord(&n, h, &y, &z, hs) {
+                // If some inside point is above none of the planes, then such a point is also on
+                // the chord of a plane that cuts the ring. So only the chords are tested.
+                if chord_has_point_within(&n, edge, &y, &z, edges) {
                     return true;
                 }
                 free = false;
@@ -173,7 +183,8 @@ fn meets_by_chords(r: &Ring, hs: &[Plane]) -> bool
 enum Overlap {
     // It has none: it lies above one of the planes.
     Apart,
-    // It has one: at most one plane cuts the ring, and it lies above none of them.
+    // It has one: the ring lies above none of the planes, and at most one of them cuts it. Then any
+    // inside point will do, or any below the one that cuts.
     Met,
     // Not known.
     Unknown,
@@ -181,15 +192,15 @@ enum Overlap {
 
 // Whether the ring has an inside point above none of the planes, as far as one pass over the
 // corners for each plane shows. It computes no meet.
-fn overlap_of(r: &Ring, hs: &[Plane]) -> Overlap
-    requires planes { All IsValidPlane hs.now }
+fn overlap_of(r: &Ring, edges: &[Plane]) -> Overlap
+    requires planes { All IsValidPlane edges.now }
     requires inside { HasInside r.now }
-    ensures { IsOverlap r.now hs.now result }
+    ensures { IsOverlap r.now edges.now result }
 {
     let mut is_cut = false;
     let mut is_cut_twice = false;
-    for h in hs {
-        match reach(r, h) {
+    for edge in edges {
+        match reach(r, edge) {
             Reach::Below => {}
             Reach::On => {}
             Reach::Above => {
@@ -209,15 +220,15 @@ fn overlap_of(r: &Ring, hs: &[Plane]) -> Overlap
 }
 
 /// Whether some inside point of the ring is above none of the planes.
-pub fn meets_within(r: &Ring, hs: &[Plane]) -> bool
-    requires planes { All IsValidPlane hs.now }
+pub fn has_point_within(r: &Ring, edges: &[Plane]) -> bool
+    requires planes { All IsValidPlane edges.now }
     requires inside { HasInside r.now }
-    ensures { IsTrue result ↔ Somewhere r.now (λ v. none_positive hs.now v ≡ true) }
+    ensures { IsTrue result ↔ Somewhere r.now (λ v. none_positive edges.now v ≡ true) }
 {
-    match overlap_of(r, hs) {
+    match overlap_of(r, edges) {
         Overlap::Apart => false,
         Overlap::Met => true,
-        Overlap::Unknown => meets_by_chords(r, hs),
+        Overlap::Unknown => has_point_within_by_chords(r, edges),
     }
 }
 
@@ -231,8 +242,8 @@ pub fn meets_face(r: &Ring, support: &Plane, edges: &[Plane]) -> bool
     let n = ring::support(r);
     match cross(r, support) {
         Crossing::Below | Crossing::Above => false,
-        Crossing::On => meets_within(r, edges),
-        Crossing::Along(y, z) => meets_chord(&n, support, &y, &z, edges),
+        Crossing::On => has_point_within(r, edges),
+        Crossing::Along(y, z) => chord_has_point_within(&n, support, &y, &z, edges),
     }
 }
 

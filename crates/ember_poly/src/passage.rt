@@ -8,13 +8,13 @@ ghost use Rattle.ember_model.specs.Valid.{IsValidPlane};
 ghost use Rattle.ember_point.specs.Points.{spot_of};
 ghost use Rattle.ember_poly.specs.Rings.{IsConvexRing, IsMeet, IsAbove, IsNotAbove, orientation};
 ghost use Rattle.ember_poly.specs.Boundaries.{sides, HasEqualLengths};
-ghost use Rattle.ember_poly.specs.declared.reach_cut.Reach.TheVariants as reach;
+ghost use Rattle.ember_poly.specs.declared.reach_and_cut.Reach.TheVariants as reach;
 ghost use Rattle.ember_poly.specs.Levels.{IsLevel};
 ghost use Rattle.ember_poly.specs.Passages.{IsAlong, HasSome, AreSigns, AreClassified, is_under, Straddles, IsOneSidedRun, AreNotBelow, IsRunNotBelow, EntersAt, IsPassage};
 
 use crate::boundary::Boundary;
 use crate::level::{Level, level_of, level_point};
-use crate::reach_cut::Reach;
+use crate::reach_and_cut::Reach;
 use ember_algebra::{Sign, sign_of};
 use ember_model::{Axis, Plane};
 use ember_point::{Meet, meet, side};
@@ -24,19 +24,19 @@ use ember_point::{Meet, meet, side};
 #[derive(Clone, Copy)]
 pub struct Classification {
     pub reach: Reach,
-    // The index of the last corner before those below the plane. On its edge the boundary passes
-    // below.
-    pub first: usize,
+    // The index of the edge on which the boundary passes below the plane. It starts at the last
+    // corner before those below.
+    pub entry_edge: usize,
     // How many corners after it lie below the plane.
     pub below_count: usize,
 }
 
 // Where a plane cuts a ring: the edge on which the boundary passes below the plane, by its index
-// `first`, the number of corners below the plane, and the ends of the chord. The boundary passes
-// below the plane at `entry`, and back at `exit`.
+// `entry_edge`, the number of corners below the plane, and the ends of the chord. The boundary
+// passes below the plane at `entry`, and back at `exit`.
 #[derive(Clone, Copy)]
 pub struct Passage {
-    pub first: usize,
+    pub entry_edge: usize,
     pub below_count: usize,
     pub entry: Meet,
     pub exit: Meet,
@@ -60,7 +60,7 @@ fn axis_of(p: &Plane) -> Option<Axis>
 // Which side of a plane across an axis a point is on. `a` is the plane's entry along the axis and
 // `d` its constant; `x` is the point's coordinate along the axis and `w` its weight.
 #[inline]
-fn side_by(a: i64, d: i64, x: i128, w: i128) -> Sign
+fn side_by_coordinate(a: i64, d: i64, x: i128, w: i128) -> Sign
     requires a { Small 33554431 a }
     requires d { Small 549755813887 d }
     requires x { Small 4951760157141521099596496895 x }
@@ -72,28 +72,28 @@ fn side_by(a: i64, d: i64, x: i128, w: i128) -> Sign
 
 // The side of a plane across this axis on which the point lies.
 #[inline]
-fn side_on(p: &Plane, axis: Axis, m: &Meet) -> Sign
+fn side_across_axis(p: &Plane, axis: Axis, m: &Meet) -> Sign
     requires plane { IsValidPlane p.now }
     requires axis { IsAlong axis p.now }
     ensures { result ≡ sgn (value_at p.now (spot_of m.now)) }
 {
     match axis {
-        Axis::X => side_by(p.a, p.d, m.x, m.w),
-        Axis::Y => side_by(p.b, p.d, m.y, m.w),
-        Axis::Z => side_by(p.c, p.d, m.z, m.w),
+        Axis::X => side_by_coordinate(p.a, p.d, m.x, m.w),
+        Axis::Y => side_by_coordinate(p.b, p.d, m.y, m.w),
+        Axis::Z => side_by_coordinate(p.c, p.d, m.z, m.w),
     }
 }
 
 // The side of the plane on which the point lies. The axis is one that the plane lies across, or
 // none.
 #[inline]
-fn side_along(p: &Plane, axis: Option<Axis>, m: &Meet) -> Sign
+fn side_with_axis(p: &Plane, axis: Option<Axis>, m: &Meet) -> Sign
     requires plane { IsValidPlane p.now }
     requires axis { IfSome axis (λ k. IsAlong k p.now) }
     ensures { result ≡ sgn (value_at p.now (spot_of m.now)) }
 {
     match axis {
-        Some(k) => side_on(p, k, m),
+        Some(k) => side_across_axis(p, k, m),
         None => side(p, m),
     }
 }
@@ -104,7 +104,7 @@ fn is_above(p: &Plane, axis: Option<Axis>, m: &Meet) -> bool
     requires axis { IfSome axis (λ k. IsAlong k p.now) }
     ensures { result ≡ is_positive (value_at p.now (spot_of m.now)) }
 {
-    side_along(p, axis, m) == Sign::Pos
+    side_with_axis(p, axis, m) == Sign::Pos
 }
 
 // Length of the leading run of corners below the plane (the first `known` are known to be), and
@@ -118,7 +118,7 @@ fn count_below(p: &Plane, axis: Option<Axis>, corners: &[Meet], known: usize) ->
     ensures next { AreNotBelow p.now result.1 (take 1 (drop result.0 corners.now)) }
 {
     for i in known..corners.len() {
-        match side_along(p, axis, &corners[i]) {
+        match side_with_axis(p, axis, &corners[i]) {
             Sign::Neg => {}
             Sign::Zero => return (i, false),
             Sign::Pos => return (i, true),
@@ -137,7 +137,7 @@ fn count_not_below(p: &Plane, axis: Option<Axis>, corners: &[Meet], first: bool)
 {
     let mut high = first;
     for i in 1..corners.len() {
-        match side_along(p, axis, &corners[i]) {
+        match side_with_axis(p, axis, &corners[i]) {
             Sign::Neg => return (i, high),
             Sign::Zero => {}
             Sign::Pos => high = true,
@@ -165,14 +165,14 @@ fn is_some_above(p: &Plane, axis: Option<Axis>, corners: &[Meet], known: bool) -
     false
 }
 
-// The reach of a ring. `low` is how many of its corners are known to be below a plane, 0 only if
-// none is; `high` is whether some corner is above it.
-fn reach_by(low: usize, high: bool) -> Reach
-    ensures { (p : Plane) (ms : List Meet) → AreClassified p low high ms → AreSigns p ms result }
+// The reach of a ring. `below_count` is how many of its corners are known to be below a plane, 0
+// only if none is; `some_above` is whether some corner is above it.
+fn reach_by(below_count: usize, some_above: bool) -> Reach
+    ensures { (p : Plane) (ms : List Meet) → AreClassified p below_count some_above ms → AreSigns p ms result }
 {
-    if low == 0 {
-        if high { Reach::Above } else { Reach::On }
-    } else if high {
+    if below_count == 0 {
+        if some_above { Reach::Above } else { Reach::On }
+    } else if some_above {
         Reach::Both
     } else {
         Reach::Below
@@ -183,10 +183,13 @@ fn reach_by(low: usize, high: bool) -> Reach
 // convex, so its corners form one run below the plane and one run not below it. Seen from the first
 // corner, either may be in two parts: `leading` corners below, `rising` ones that aren't, `falling`
 // ones below again, and others that aren't. `turn` is the index of the first falling corner.
+// Example, with - for a corner below: in `--+++-` two are leading, three rising and one is falling,
+// `turn` is 5, and the run below is the last corner and the first two. `--++-+` would be two runs
+// below, so it doesn't occur.
 pub fn classify(plane: &Plane, corners: &[Meet]) -> Classification
     requires { IsValidPlane plane.now }
     ensures signs { AreSigns plane.now corners.now result.reach }
-    ensures entry { result.reach ≡ reach.Both → EntersAt plane.now corners.now result.first result.below_count }
+    ensures entry { result.reach ≡ reach.Both → EntersAt plane.now corners.now result.entry_edge result.below_count }
 {
     let axis = axis_of(plane);
     let (leading, next) = count_below(plane, axis, corners, 0);
@@ -195,18 +198,18 @@ pub fn classify(plane: &Plane, corners: &[Meet]) -> Classification
     let (falling, _) = count_below(plane, axis, &corners[turn..], 1);
     let high = is_some_above(plane, axis, &corners[turn + falling..], some_high);
     let reach = reach_by(leading + falling, high);
-    let first = turn.saturating_sub(1);
+    let entry_edge = turn.saturating_sub(1);
     if turn + falling < corners.len() {
         Classification {
             reach,
-            first,
+            entry_edge,
             below_count: falling,
         }
     } else {
         // The falling corners end the list, and go on with the leading ones.
         Classification {
             reach,
-            first,
+            entry_edge,
             below_count: falling + leading,
         }
     }
@@ -258,7 +261,7 @@ pub fn find_passage(
     support: &Plane,
     boundary: &Boundary,
     plane: &Plane,
-    at: &Classification,
+    classified: &Classification,
 ) -> Passage
     requires support { IsValidPlane support.now }
     requires edges { All IsValidPlane boundary.now.edges.items }
@@ -266,18 +269,21 @@ pub fn find_passage(
     requires paired { HasEqualLengths boundary.now }
     requires sound { IsConvexRing support.now (sides boundary.now) }
     requires straddles { Straddles plane.now boundary.now.corners.items }
-    requires entry { EntersAt plane.now boundary.now.corners.items at.now.first at.now.below_count }
+    requires entry { EntersAt plane.now boundary.now.corners.items
+        classified.now.entry_edge classified.now.below_count }
     ensures passage { IsPassage support.now plane.now (sides boundary.now) result }
     ensures below_count { result.below_count < length boundary.now.edges.items }
 {
-    let first = at.first;
-    let below_count = at.below_count;
-    let last = ahead(first, below_count, boundary.corners.len());
+    let entry_edge = classified.entry_edge;
+    let below_count = classified.below_count;
+    let last = ahead(entry_edge, below_count, boundary.corners.len());
     let level = level_of(plane);
+    // `point_of` takes planes whose normals have a positive determinant. The boundary passes the
+    // plane in opposite directions at the two points, so the edge and the support change places.
     Passage {
-        first,
+        entry_edge,
         below_count,
-        entry: point_of(&boundary.edges[first], support, plane, level),
+        entry: point_of(&boundary.edges[entry_edge], support, plane, level),
         exit: point_of(support, &boundary.edges[last], plane, level),
     }
 }

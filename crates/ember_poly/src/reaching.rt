@@ -7,7 +7,7 @@ ghost use Rattle.ember_model.specs.Valid.{IsValidPlane};
 ghost use Rattle.ember_poly.specs.Cuts.{IsReach};
 ghost use Rattle.ember_poly.specs.Passages.{AreSigns};
 
-use crate::reach_cut::Reach;
+use crate::reach_and_cut::Reach;
 use crate::ring::Ring;
 use ember_algebra::Sign;
 use ember_model::Plane;
@@ -36,7 +36,7 @@ fn with_corner(seen: Reach, at: Sign) -> Reach
 }
 
 // On which sides of the plane the corners are.
-fn signs_of(p: &Plane, corners: &[Meet]) -> Reach
+fn reach_of_corners(p: &Plane, corners: &[Meet]) -> Reach
     requires { IsValidPlane p.now }
     ensures { AreSigns p.now corners.now result }
 {
@@ -59,5 +59,5 @@ pub fn reach(r: &Ring, p: &Plane) -> Reach
     requires { IsValidPlane p.now }
     ensures { IsReach r.now p.now result }
 {
-    signs_of(p, r.boundary.corners.as_slice())
+    reach_of_corners(p, r.boundary.corners.as_slice())
 }

@@ -84,10 +84,10 @@ pub fn of_tri(alloc: Global, t: &Tri) -> Result<Option<Ring>, OutOfMemory>
     if has_no_normal(&support) {
         return Ok(None);
     }
-    let sides = main_edges(t, &support);
+    let edge_planes = main_edges(t, &support);
     let starts = [at_corner(&t.a), at_corner(&t.b), at_corner(&t.c)];
-    let planes = with_room(alloc, &sides, ROOM)?;
-    let edges = with_room(alloc, &sides, ROOM)?;
+    let planes = with_room(alloc, &edge_planes, ROOM)?;
+    let edges = with_room(alloc, &edge_planes, ROOM)?;
     let corners = with_room(alloc, &starts, ROOM)?;
     let plane_indices = with_room(alloc, &[0, 1, 2], ROOM)?;
     Ok(Some(Ring {

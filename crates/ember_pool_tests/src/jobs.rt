@@ -11,13 +11,13 @@ use std::test::Fail;
 struct Leaves {}
 
 impl Work for Leaves {
-    ghost use Rattle.std.specs.Prelude.{◌≡◌};
+    ghost use Rattle.std.specs.Prelude.{◌≡◌, ⊤};
     ghost use Rattle.std.proofs.Common.{sym, ap, true≢false};
     ghost use Rattle.ember_job.specs.Works.{leafed, is_halved};
 
     type Item = u64;
 
-    ghost valid = { λ _ _. Unit {0} };
+    ghost valid = { λ _ _. ⊤ };
 
     ghost shape = { λ _ _. leafed };
 

@@ -23,12 +23,12 @@ struct Halving {
 }
 
 impl Work for Halving {
-    ghost use Rattle.std.specs.Prelude.{◌≡◌};
+    ghost use Rattle.std.specs.Prelude.{◌≡◌, ⊤};
     ghost use Rattle.ember_pool_tests.specs.Halving.{halving_shape, is_path, halves_split as split};
 
     type Item = u64;
 
-    ghost valid = { λ _ _. Unit {0} };
+    ghost valid = { λ _ _. ⊤ };
 
     ghost shape = { λ w j. halving_shape w.floor j };
 
@@ -74,14 +74,14 @@ fn halve_step(
     if job.cell.log(Axis::X) <= floor {
         return Ok(Outcome::Leaf(path));
     }
-    let (low, high) = halves(&job.cell, Axis::X);
+    let (left_cell, right_cell) = halves(&job.cell, Axis::X);
     let left = Job {
-        cell: low,
+        cell: left_cell,
         list: Numbers::of(Vec::new(alloc)),
         at: job.at,
     };
     let right = Job {
-        cell: high,
+        cell: right_cell,
         list: Numbers::of(Vec::new(alloc)),
         at: job.at,
     };
@@ -112,7 +112,7 @@ fn run<R: Threads + Wait + Sync, G: Gate + Sync>(
     run_tree(rt, alloc, workers, root_job(alloc), &step, gate)
 }
 
-// Each path from 1 to the last one stands in the journals once, and nothing else does.
+// Each path from 1 to the last one occurs in the journals once, and nothing else does.
 fn check_journals(
     rt: &impl Abort,
     alloc: Global,

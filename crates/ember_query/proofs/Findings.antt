@@ -1,7 +1,7 @@
 -- What the leaves below a root give is what a query asks for.
 use Rattle.std.proofs.Common.{◌≡◌, ◌≤◌, ℕ, List, Vec, Global, Bor, sym, subst}
 use Rattle.ember_box.specs.Boxes as boxes
-use Rattle.ember_expr.specs.declared.formula.Tree.{Tree}
+use Rattle.ember_expr.specs.declared.trees.Tree.{Tree}
 use Rattle.ember_expr.specs.Formula.{formula_of}
 use Rattle.ember_job.specs.declared.job.Job.{Job}
 use Rattle.ember_job.specs.Visited.{leaves}
@@ -17,7 +17,7 @@ use Rattle.ember_voxel.specs.Lattice as lattice
 use Rattle.ember_voxel.specs.Laws.{root_is_voxel_job}
 use Rattle.ember_step.specs.Counts.{IsCount}
 use Rattle.ember_step.specs.Texts.{IsBoxText}
-use Rattle.ember_text.specs.Counted.{CountedText}
+use Rattle.ember_text.specs.FacesTexts.{FacesText}
 use Rattle.ember_job.specs.Items.{EachAnswers}
 use Rattle.ember_query.specs.declared.query.Answer.TheVariants as finds
 use Rattle.ember_query.specs.declared.query.RunResult.{RunResult}
@@ -44,7 +44,7 @@ fills_found asked scene expr size root fills e f are =
     subst (λ (asked : Query). IsAnswer asked (finds.Fills fills)) (sym e) (subst (λ (root : Job). EachAnswers (IsFill (formula_of expr.now)) (leaves (lattice.shape scene.now.tris (formula_of expr.now) size) root) fills.items) f are)
 
 -- what the leaves give answers the query for texts
-pub texts_found : (asked : Query) (scene : Bor Scene) (expr : Bor Tree) (root : Job) (found : RunResult CountedText) → asked ≡ query.Texts scene expr → root ≡ root_job scene.now.tris → EachAnswers (λ job text. IsBoxText scene.now.tris (formula_of expr.now) job.cell text) (leaves (values.shape scene.now.tris (formula_of expr.now)) root) found.items.items → HoldEntries (values.shape scene.now.tris (formula_of expr.now)) root found.journals → IsAnswer asked (finds.Texts found)
+pub texts_found : (asked : Query) (scene : Bor Scene) (expr : Bor Tree) (root : Job) (found : RunResult FacesText) → asked ≡ query.Texts scene expr → root ≡ root_job scene.now.tris → EachAnswers (λ job text. IsBoxText scene.now.tris (formula_of expr.now) job.cell text) (leaves (values.shape scene.now.tris (formula_of expr.now)) root) found.items.items → HoldEntries (values.shape scene.now.tris (formula_of expr.now)) root found.journals → IsAnswer asked (finds.Texts found)
 texts_found asked scene expr root found e f are holds =
     subst (λ (asked : Query). IsAnswer asked (finds.Texts found)) (sym e) (
       subst (λ (root : Job). EachAnswers (λ job text. IsBoxText scene.now.tris (formula_of expr.now) job.cell text) (leaves (values.shape scene.now.tris (formula_of expr.now)) root) found.items.items) f are,

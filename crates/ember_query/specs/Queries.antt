@@ -18,7 +18,8 @@ IsQuery (query.Fills scene expr size) = (4 ≤ size) × (size ≤ 12)
 IsQuery (query.Texts scene expr) = ⊤
 IsQuery (query.Counts scene expr) = ⊤
 
--- this is the answer to the query; it is of the same kind
+-- this is the answer to the query; it is of the same kind (`query.Pairs` is a variant of `Query`,
+-- and `finds.Pairs` the one of `Answer`)
 abbrev pub IsAnswer : Query → Answer → Type 0
 IsAnswer (query.Pairs scene) (finds.Pairs items) = ArePairsOfLeaves scene.now.tris items.items
 IsAnswer (query.Fills scene expr size) (finds.Fills fills) =

@@ -1,6 +1,7 @@
 // Who runs the boxes: the calling thread alone, or several workers. `run_alone` and `run_tree` of
-// steal_pool run them, and call the closure of the step for each box. `finds!` below writes these
-// closures: `text_step` and the like, where all geometry begins.
+// steal_pool run them, and call the closure of the step for each box. `run_query!` below makes the
+// root's job and writes this closure. It calls the step of the query, such as `text_step`, where the
+// geometry of each box begins.
 ghost use Rattle.std.specs.Prelude.{◌≡◌, ◌≤◌, IfOk};
 ghost use Rattle.ember_box.specs.Boxes as boxes;
 ghost use Rattle.ember_job.specs.Visited.{leaves};
@@ -83,10 +84,10 @@ where
     Ok(RunResult { items, journals })
 }
 
-// The answer to a query. `$found` is the call that runs the boxes below the root `$root` by the
+// The answer to a query. `$run` is the call that runs the boxes below the root `$root` by the
 // step `$step`: `results_alone` or `results_by_workers`.
-macro_rules! finds {
-    ($alloc:ident, $query:ident, | $root:ident, $step:ident | $found:expr) => {
+macro_rules! run_query {
+    ($alloc:ident, $query:ident, | $root:ident, $step:ident | $run:expr) => {
         match *$query {
             Query::Pairs(scene) => {
                 let $root = root_pairs($alloc, scene)?;
@@ -94,7 +95,7 @@ macro_rules! finds {
                     work: PairWork { scene },
                     call: |job: &Job| pair_step($alloc, scene, job),
                 };
-                Ok(Answer::Pairs($found?.items))
+                Ok(Answer::Pairs($run?.items))
             }
             Query::Fills(scene, expr, size) => {
                 let $root = root_job($alloc, scene)?;
@@ -102,7 +103,7 @@ macro_rules! finds {
                     work: VoxelWork { scene, expr, size },
                     call: |job: &Job| voxel_step($alloc, scene, expr, size, job),
                 };
-                Ok(Answer::Fills($found?.items))
+                Ok(Answer::Fills($run?.items))
             }
             Query::Texts(scene, expr) => {
                 let $root = root_job($alloc, scene)?;
@@ -110,7 +111,7 @@ macro_rules! finds {
                     work: TextWork { scene, expr },
                     call: |job: &Job| text_step($alloc, scene, expr, job),
                 };
-                Ok(Answer::Texts($found?))
+                Ok(Answer::Texts($run?))
             }
             Query::Counts(scene, expr) => {
                 let $root = root_job($alloc, scene)?;
@@ -118,7 +119,7 @@ macro_rules! finds {
                     work: CountWork { scene, expr },
                     call: |job: &Job| count_step($alloc, scene, expr, job),
                 };
-                Ok(Answer::Counts($found?))
+                Ok(Answer::Counts($run?))
             }
         }
     };
@@ -126,11 +127,11 @@ macro_rules! finds {
 
 /// The answer to a query. This thread alone runs the boxes, and calls the gate before each. The
 /// only error is out-of-memory.
-pub fn alone<G: Gate>(alloc: Global, gate: &G, query: &Query) -> Result<Answer, OutOfMemory>
+pub fn answer_alone<G: Gate>(alloc: Global, gate: &G, query: &Query) -> Result<Answer, OutOfMemory>
     requires { IsQuery query.now }
     ensures { IfOk result (IsAnswer query.now) }
 {
-    finds!(
+    run_query!(
         alloc,
         query,
         |root, step| results_alone(alloc, gate, root, &step)
@@ -139,7 +140,7 @@ pub fn alone<G: Gate>(alloc: Global, gate: &G, query: &Query) -> Result<Answer, 
 
 /// The answer to a query. 1 to 64 workers run the boxes, and call the gate before each. One worker
 /// is this thread: it makes no deque and starts no thread. The only error is out-of-memory.
-pub fn by_workers<R: Threads + Wait + Sync, G: Gate + Sync>(
+pub fn answer_by_workers<R: Threads + Wait + Sync, G: Gate + Sync>(
     rt: &R,
     alloc: Global,
     workers: u32,
@@ -150,7 +151,7 @@ pub fn by_workers<R: Threads + Wait + Sync, G: Gate + Sync>(
     requires query { IsQuery query.now }
     ensures { IfOk result (IsAnswer query.now) }
 {
-    finds!(
+    run_query!(
         alloc,
         query,
         |root, step| results_by_workers(rt, alloc, workers, gate, root, &step)

@@ -1,12 +1,12 @@
 //! Queries about the leaves of a scene, their answers, and who runs the boxes: an *executor*, a
-//! closure that answers each query, made of `alone` or `by_workers`. Also the solid of an
-//! expression over a scene.
+//! closure that answers each query, made of `answer_alone` or `answer_by_workers`. Also the solid
+//! of an expression over a scene.
 #![tactic(auto)]
 
 mod executor;
 mod query;
 mod solid;
 
-pub use executor::{alone, by_workers};
-pub use query::{Answer, Query, RunResult, counts_by, fills_by, pairs_by, texts_by};
-pub use solid::{Solid, report_by, solid_of};
+pub use executor::{answer_alone, answer_by_workers};
+pub use query::{Answer, Query, RunResult, query_counts, query_fills, query_pairs, query_texts};
+pub use solid::{Solid, query_report, solid_of};

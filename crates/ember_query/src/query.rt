@@ -2,10 +2,11 @@
 //
 // A command doesn't know who runs the boxes. It asks an `executor`, a closure from a query to its
 // answer, that it gets from `run` or `run_one` (top.rt of ember_run). They make the closure of
-// `by_workers` or `alone` (executor.rt). The macro `finds!` there takes the root's job and the step
-// of each query, and gives both to the pool. One closure answers queries of all four kinds, so it
-// packs its answer into the enum `Answer`. The functions here ask it and unpack the answer; by
-// `IsExecutor` the answer is of the query's kind, so `unreachable!` is proved never to run.
+// `answer_by_workers` or `answer_alone` (executor.rt). The macro `run_query!` there takes the
+// root's job and the step of each query, and gives both to the pool. One closure answers queries of
+// all four kinds, so it packs its answer into the enum `Answer`. The functions here ask it and
+// unpack the answer; by `IsExecutor` the answer is of the query's kind, so `unreachable!` is proved
+// never to run.
 //
 // It is a closure and not a trait, since the borrow checker doesn't accept the bounds `Sync` and
 // `Send`, which starting a thread needs, on a trait's method. See docs/DECISIONS.md, "The top
@@ -54,7 +55,7 @@ pub enum Answer {
 }
 
 /// Asks the executor for the pairs that meet in each leaf. The only error is out-of-memory.
-pub fn pairs_by<C: Fn(&Query) -> Result<Answer, OutOfMemory>>(
+pub fn query_pairs<C: Fn(&Query) -> Result<Answer, OutOfMemory>>(
     scene: &Scene,
     executor: &C,
 ) -> Result<Vec<PairList>, OutOfMemory>
@@ -69,7 +70,7 @@ pub fn pairs_by<C: Fn(&Query) -> Result<Answer, OutOfMemory>>(
 
 /// Asks the executor for the boxes of one value, down to cells with the side `2 ^ size`, for a size
 /// of 4 to 12. The only error is out-of-memory.
-pub fn fills_by<C: Fn(&Query) -> Result<Answer, OutOfMemory>>(
+pub fn query_fills<C: Fn(&Query) -> Result<Answer, OutOfMemory>>(
     scene: &Scene,
     expr: &Expr,
     size: u8,
@@ -88,7 +89,7 @@ pub fn fills_by<C: Fn(&Query) -> Result<Answer, OutOfMemory>>(
 
 /// Asks the executor for the text of the written regions of each leaf. The only error is
 /// out-of-memory.
-pub fn texts_by<C: Fn(&Query) -> Result<Answer, OutOfMemory>>(
+pub fn query_texts<C: Fn(&Query) -> Result<Answer, OutOfMemory>>(
     scene: &Scene,
     expr: &Expr,
     executor: &C,
@@ -105,7 +106,7 @@ pub fn texts_by<C: Fn(&Query) -> Result<Answer, OutOfMemory>>(
 
 /// Asks the executor for the number of written regions of each leaf. The only error is
 /// out-of-memory.
-pub fn counts_by<C: Fn(&Query) -> Result<Answer, OutOfMemory>>(
+pub fn query_counts<C: Fn(&Query) -> Result<Answer, OutOfMemory>>(
     scene: &Scene,
     expr: &Expr,
     executor: &C,

@@ -5,7 +5,7 @@ ghost use Rattle.ember_expr.specs.Formula.{formula_of};
 ghost use Rattle.ember_query.specs.Solids.{IsSolidReport, IsSolidText};
 ghost use Rattle.ember_query.specs.Queries.{IsExecutor};
 
-use crate::query::{Answer, Query, counts_by, texts_by};
+use crate::query::{Answer, Query, query_counts, query_texts};
 use ember_expr::Expr;
 use ember_model::{OutOfMemory, Scene};
 use ember_report::{Report, report_of};
@@ -32,7 +32,7 @@ pub fn solid_of<C: Fn(&Query) -> Result<Answer, OutOfMemory>>(
     ensures text { IfOk result (λ solid. IsSolidText scene.now.tris (formula_of expr.now) solid.text.items) }
     ensures report { IfOk result (λ solid. IsSolidReport scene.now.tris (formula_of expr.now) solid.report) }
 {
-    let found = texts_by(scene, expr, executor)?;
+    let found = query_texts(scene, expr, executor)?;
     let journals = found.journals;
     let faces = face_count(&found.items)?;
     let report = report_of(&journals, faces);
@@ -60,7 +60,7 @@ fn total(counts: &[u64]) -> Result<u64, OutOfMemory>
 
 /// The report of the solid of an expression over a scene. The written regions are counted leaf by
 /// leaf and not kept. The only error is out-of-memory.
-pub fn report_by<C: Fn(&Query) -> Result<Answer, OutOfMemory>>(
+pub fn query_report<C: Fn(&Query) -> Result<Answer, OutOfMemory>>(
     scene: &Scene,
     expr: &Expr,
     executor: &C,
@@ -68,7 +68,7 @@ pub fn report_by<C: Fn(&Query) -> Result<Answer, OutOfMemory>>(
     requires { IsExecutor C.pre C.post executor.now }
     ensures { IfOk result (λ report. IsSolidReport scene.now.tris (formula_of expr.now) report) }
 {
-    let found = counts_by(scene, expr, executor)?;
+    let found = query_counts(scene, expr, executor)?;
     let faces = total(&found.items)?;
     // A law, which does nothing: the visited leaves write all written regions.
     visited_leaves_write_all(scene, expr);

@@ -12,7 +12,7 @@ use Rattle.ember_model.specs.declared.point.Axis.{Axis}
 use Rattle.ember_model.specs.declared.point.Axis.TheVariants.{X, Y, Z}
 use Rattle.ember_model.specs.declared.plane.Plane.{Plane}
 use Rattle.ember_model.specs.Planes.{value_at}
-use Rattle.ember_model.specs.Points.{shifted}
+use Rattle.ember_model.specs.Points.{offset_by}
 use Rattle.ember_model.specs.Faces.{size, between}
 use Rattle.ember_law.proofs.Separation.{mix}
 use Rattle.ember_box.specs.declared.aabb.Interval.{Interval}
@@ -62,7 +62,7 @@ record HasUnit (c : Cell) (v : Vector) : Type 0 where
   to_y : (v.y +ℤ pos 1) ≤ℤ high c Y
   to_z : (v.z +ℤ pos 1) ≤ℤ high c Z
 
-has_shifted : (m : ℤ) (c : Cell) (v : Vector) → pos 1 ≤ℤ m → HasUnit c v → HasPoint c (shifted (spot_of_vector v) m)
+has_shifted : (m : ℤ) (c : Cell) (v : Vector) → pos 1 ≤ℤ m → HasUnit c v → HasPoint c (offset_by (spot_of_vector v) m)
 has_shifted m c v l u =
     let p = powers m l in let w = m *ℤ m *ℤ m in
     record {

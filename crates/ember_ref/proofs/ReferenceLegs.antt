@@ -14,7 +14,7 @@ use Rattle.ember_model.specs.declared.point.Axis.TheVariants.{X, Y, Z}
 use Rattle.ember_model.specs.declared.plane.Plane.{Plane}
 use Rattle.ember_model.specs.declared.tri.Tri.{Tri}
 use Rattle.ember_model.specs.Planes.{value_at, support_of, edge_planes}
-use Rattle.ember_model.specs.Points.{shifted, DifferAlong}
+use Rattle.ember_model.specs.Points.{offset_by, DifferAlong}
 use Rattle.ember_model.specs.Faces.{face_of, leg}
 use Rattle.ember_model.specs.ClearTest.{all_negative}
 use Rattle.ember_model.proofs.PlaneValues.{sign-number}
@@ -33,7 +33,7 @@ box_corner cs h = record { x = at cs 0 h; y = at cs 1 h; z = at cs 2 h }
     at (c ∷ cs) zero h = All-head (Small 2048) c cs h
     at (c ∷ cs) (suc i) h = at cs i (All-tail (Small 2048) c cs h)
 
-weight_near : (m : ℤ) (v : Vector) → pos 0 <ℤ m → pos 0 <ℤ (shifted (spot_of_vector v) m).w
+weight_near : (m : ℤ) (v : Vector) → pos 0 <ℤ m → pos 0 <ℤ (offset_by (spot_of_vector v) m).w
 weight_near m v l = pos_mul (pos_mul (pos_mul l l) l) (omega (arith, linear))
 
 -- a reference point has a positive weight
@@ -44,7 +44,7 @@ weight_of : (lo : List ℤ) → pos 0 <ℤ (reference_of lo).w
 unfolding reference_of
 weight_of lo = weight_at (corner_of lo)
 
-differ_along : (m : ℤ) (k : Axis) (by : ℤ) (v : Vector) → DifferAlong k (shifted (spot_of_vector (shifted_by k by v)) m) (shifted (spot_of_vector v) m)
+differ_along : (m : ℤ) (k : Axis) (by : ℤ) (v : Vector) → DifferAlong k (offset_by (spot_of_vector (shifted_by k by v)) m) (offset_by (spot_of_vector v) m)
 differ_along m X by v = (refl, refl)
 differ_along m Y by v = (refl, refl)
 differ_along m Z by v = (refl, refl)

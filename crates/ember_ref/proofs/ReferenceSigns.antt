@@ -13,7 +13,7 @@ use Rattle.ember_model.specs.declared.plane.Plane.{Plane}
 use Rattle.ember_model.specs.Planes.{value_at}
 use Rattle.ember_model.proofs.SignTests.{zero_times, zero_out}
 use Rattle.ember_law.proofs.Shifted.{value_shifted}
-use Rattle.ember_model.specs.Points.{shifted}
+use Rattle.ember_model.specs.Points.{offset_by}
 use Rattle.ember_box.specs.Near.{spot_of_vector}
 use Rattle.ember_box.specs.Reference.{reference_at}
 use Rattle.ember_ref.specs.References.{or_sign, IsLevel}
@@ -34,7 +34,7 @@ abbrev pub sign_beside : Plane → Vector → Sign
 sign_beside p v = or_sign (sgn (value_at p (spot_of_vector v))) (or_sign (sgn p.a) (or_sign (sgn p.b) (sgn p.c)))
 
 -- with any number above the entries' sizes in the place of 2^27
-pub sign_near : {m : ℕ} (n : ℕ) (p : Plane) (v : Vector) → m < n → Small m p.a → Small m p.b → Small m p.c → sgn (value_at p (shifted (spot_of_vector v) (pos n))) ≡ sign_beside p v
+pub sign_near : {m : ℕ} (n : ℕ) (p : Plane) (v : Vector) → m < n → Small m p.a → Small m p.b → Small m p.c → sgn (value_at p (offset_by (spot_of_vector v) (pos n))) ≡ sign_beside p v
 sign_near n p v l a b c =
     let x = value_at p (spot_of_vector v) in let y = x *ℤ pos n +ℤ p.a in let z = y *ℤ pos n +ℤ p.b in
     let e = next_sign n x p.a a l in let f = next_sign n y p.b b l in let g = next_sign n z p.c c l in

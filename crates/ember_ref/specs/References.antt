@@ -1,4 +1,4 @@
--- Reference points given by a box's least corner, and the winding numbers carried to that of a half
+-- Reference points given by a box's least corner, and the winding numbers shifted to that of a half
 use Rattle.std.specs.Prelude.{◌≡◌, ℤ, pos, List, slice_index_or}
 use Rattle.ember_algebra.specs.Vector.{Vector}
 use Rattle.ember_algebra.specs.Size.{Small}
@@ -42,8 +42,8 @@ IsLevel p = (p.a ≡ pos 0) × (p.b ≡ pos 0) × (p.c ≡ pos 0)
 
 -- the counts at the reference point of a box's right half: those at the box's point, plus the signed
 -- crossings of the segment from the half's point back to the box's
-abbrev pub carried : List Tri → Cell → Axis → List ℤ → List ℤ
-carried near c k counts = added counts (leg_vector near (reference (right_half c k)) (reference c))
+abbrev pub counts_at_right_half : List Tri → Cell → Axis → List ℤ → List ℤ
+counts_at_right_half near c k counts = added counts (leg_vector near (reference (right_half c k)) (reference c))
 
 -- in each scene that fits, the vector at the reference point of the right half is the new one
 abbrev pub ShiftsAll : List Tri → Cell → Axis → List ℤ → List ℤ → Type 0

@@ -1,5 +1,5 @@
 //! The reference points of boxes: points next to their least corners that lie on no triangle's
-//! plane. The sign of a plane there, and the winding numbers of a scene, carried from the reference
+//! plane. The sign of a plane there, and the winding numbers of a scene, shifted from the reference
 //! point of a box to that of its half by the triangles near the box alone.
 #![tactic(auto)]
 

@@ -1,4 +1,4 @@
-// Winding numbers carried from the reference point of a box to that of its half.
+// Winding numbers shifted from the reference point of a box to that of its half.
 ghost use Rattle.std.specs.Prelude.{◌≡◌, ℕ, ◌+◌, ◌≤◌, ◌<◌, pos, ◌+ℤ◌, All, length, if◌then◌else◌};
 ghost use Rattle.ember_algebra.specs.Size.{Small};
 ghost use Rattle.ember_algebra.specs.Sign.{number, times, is_neg};
@@ -7,14 +7,14 @@ ghost use Rattle.ember_model.specs.Points.{DifferAlong};
 ghost use Rattle.ember_model.specs.Faces.{face_of, leg};
 ghost use Rattle.ember_model.specs.Meshes.{HasMesh};
 ghost use Rattle.ember_law.specs.Counts.{HasRoom, with_more};
-ghost use Rattle.ember_box.specs.Boxes.{Cell as Box, right_half};
+ghost use Rattle.ember_box.specs.Boxes.{Cell as CellView, right_half};
 ghost use Rattle.ember_box.specs.Near.{listed};
 ghost use Rattle.ember_box.specs.Reference.{reference};
 ghost use Rattle.ember_box.specs.Aabbs.{interval_between, aabb_of_cell};
-ghost use Rattle.ember_ref.specs.References.{corner_of, reference_of, IsBoxCorner, carried, ShiftsAll};
+ghost use Rattle.ember_ref.specs.References.{corner_of, reference_of, IsBoxCorner, counts_at_right_half, ShiftsAll};
 ghost use Rattle.ember_ref.specs.Segments.{column, IsAlongAxis, IsSegmentBack};
 
-use crate::signs::{is_behind, lex_side};
+use crate::signs::{lex_side, projects_inside};
 use ember_algebra::Sign;
 use ember_box::{Aabb, Cell, Interval, aabb_of_cell, aabbs_meet_beside, halves};
 use ember_law::add_count;
@@ -51,7 +51,10 @@ fn crossing_between(t: &Tri, p: [i32; 3], q: [i32; 3], k: Axis) -> i32
 {
     let n = support_of(t);
     let passes = signed_crossing(lex_side(&n, p), lex_side(&n, q));
-    if passes != 0 && is_behind(t, k, p) {
+    // If the segment passes through the support plane, the edge planes along it bound the same
+    // triangle in that plane as those of its face, which are along its main axis. And each of them
+    // has one value on the whole segment, so one end of it suffices.
+    if passes != 0 && projects_inside(t, k, p) {
         passes
     } else {
         0
@@ -68,7 +71,9 @@ struct AxisSegment {
     aabb: Aabb,
 }
 
-// The bounding box of the box that has the side 1 along all axes but this one.
+// A bounding box of the segment between the reference points of the box's halves: as long as the
+// box along the axis, and of length 1 from its least corner along the others, since a reference
+// point is less than 1 from its corner along each axis.
 fn column(c: &Cell, k: Axis) -> Aabb
     ensures { result ≡ aabb_of_cell (column c.now k) }
 {
@@ -103,7 +108,7 @@ fn unit(low: i32) -> Interval
 // The segment from the reference point of a box's right half to that of the box.
 fn segment_back(c: &Cell, k: Axis) -> AxisSegment
     requires { 0 < c.now.log k }
-    ensures way { IsSegmentBack c.now k result }
+    ensures back { IsSegmentBack c.now k result }
     ensures straight { IsAlongAxis result }
 {
     let to = c.lo();
@@ -118,35 +123,35 @@ fn segment_back(c: &Cell, k: Axis) -> AxisSegment
 
 // The signed crossing of the segment with the inside of the triangle's face. There is none if the
 // triangle's bounding box lies beside the segment.
-fn crossing_on(t: &Tri, w: &AxisSegment) -> i32
+fn crossing_on(t: &Tri, segment: &AxisSegment) -> i32
     requires tri { IsValidTri t.now }
-    requires straight { IsAlongAxis w.now }
-    ensures value { (c : Box) (k : Axis) → 0 < c.log k → IsSegmentBack c k w.now →
+    requires straight { IsAlongAxis segment.now }
+    ensures value { (c : CellView) (k : Axis) → 0 < c.log k → IsSegmentBack c k segment.now →
         result ≡ leg (face_of t.now) (reference (right_half c k)) (reference c) }
     ensures small { Small 1 result }
 {
-    if aabbs_meet_beside(t, &w.aabb, w.axis) {
-        crossing_between(t, w.from, w.to, w.axis)
+    if aabbs_meet_beside(t, &segment.aabb, segment.axis) {
+        crossing_between(t, segment.from, segment.to, segment.axis)
     } else {
         0
     }
 }
 
 // Adds the crossing of one triangle to the count of its mesh.
-fn carry(t: &Tri, w: &AxisSegment, v: &mut Vector)
+fn add_crossing(t: &Tri, segment: &AxisSegment, v: &mut Vector)
     requires tri { IsValidTri t.now }
     requires numbered { HasMesh 64 t.now }
-    requires straight { IsAlongAxis w.now }
+    requires straight { IsAlongAxis segment.now }
     requires room { All (Small 1073741823) v.old.counts }
-    ensures value { (c : Box) (k : Axis) → 0 < c.log k → IsSegmentBack c k w.now →
+    ensures value { (c : CellView) (k : Axis) → 0 < c.log k → IsSegmentBack c k segment.now →
         v.new.counts ≡ with_more v.old.counts t.now.mesh
         (leg (face_of t.now) (reference (right_half c k)) (reference c)) }
     ensures within { (m : ℕ) → All (Small m) v.old.counts → All (Small (m + 1)) v.new.counts }
 {
-    add_count(v, t.mesh, crossing_on(t, w));
+    add_count(v, t.mesh, crossing_on(t, segment));
 }
 
-/// Carries the winding numbers from the reference point of a box to that of its right half along
+/// Shifts the winding numbers from the reference point of a box to that of its right half along
 /// an axis, by the triangles near the box. For points p and q on a line along an axis,
 /// w(p) = w(q) + the signed crossings of the segment from p to q. So it adds, to the count of each
 /// mesh, the crossings of the segment from the right half's point back to the box's.
@@ -158,13 +163,13 @@ pub fn shift(near: &[Tri], c: &Cell, k: Axis, v: &mut Vector)
     requires few { length near.now ≤ 262144 }
     requires side { 0 < c.now.log k }
     requires room { HasRoom v.old.counts }
-    ensures value { v.new.counts ≡ carried near.now c.now k v.old.counts }
+    ensures value { v.new.counts ≡ counts_at_right_half near.now c.now k v.old.counts }
     ensures law { ShiftsAll near.now c.now k v.old.counts v.new.counts }
     ensures within { (m : ℕ) → All (Small m) v.old.counts → All (Small (m + length near.now)) v.new.counts }
 {
-    let way = segment_back(c, k);
+    let segment = segment_back(c, k);
     for t in near {
-        carry(t, &way, v);
+        add_crossing(t, &segment, v);
     }
 }
 
@@ -176,12 +181,12 @@ pub fn shift_listed(tris: &[Tri], list: &[u32], c: &Cell, axis: Axis, v: &mut Ve
     requires few { length list.now ≤ 262144 }
     requires side { 0 < c.now.log axis }
     requires room { HasRoom v.old.counts }
-    ensures value { v.new.counts ≡ carried (listed tris.now list.now) c.now axis v.old.counts }
+    ensures value { v.new.counts ≡ counts_at_right_half (listed tris.now list.now) c.now axis v.old.counts }
     ensures law { ShiftsAll (listed tris.now list.now) c.now axis v.old.counts v.new.counts }
     ensures within { (m : ℕ) → All (Small m) v.old.counts → All (Small (m + length list.now)) v.new.counts }
 {
-    let way = segment_back(c, axis);
+    let segment = segment_back(c, axis);
     for i in list {
-        carry(&tris[*i as usize], &way, v);
+        add_crossing(&tris[*i as usize], &segment, v);
     }
 }

@@ -53,9 +53,11 @@ fn or_lead(at: Sign, p: &Plane) -> Sign
     }
 }
 
-/// The sign of the plane at the reference point of a box with the least corner `lo`. It is never
-/// `Zero` if the plane has a normal: the first of the plane's value at the corner and the
-/// entries of its normal that isn't 0 decides.
+/// The sign of the plane at the reference point of a box with the least corner `lo`: that of the
+/// first number that isn't 0 among the plane's value at the corner and the entries a, b and c of
+/// its normal. It is `Zero` only if the plane has no normal. The reference point is above the
+/// corner by 2^-27, 2^-54 and 2^-81, and the entries are below 2^25 in size, so each of these
+/// numbers outweighs all after it.
 pub fn lex_side(p: &Plane, lo: [i32; 3]) -> Sign
     requires plane { IsValidPlane p.now }
     requires corner { IsBoxCorner (corner_of lo) }
@@ -76,7 +78,7 @@ fn is_below(p: &Plane, at: [i32; 3]) -> bool
 
 /// Whether the reference point of a box with the least corner `at` lies, seen along the axis,
 /// inside the triangle: all edge planes parallel to that axis are negative there.
-pub fn is_behind(t: &Tri, k: Axis, at: [i32; 3]) -> bool
+pub fn projects_inside(t: &Tri, k: Axis, at: [i32; 3]) -> bool
     requires tri { IsValidTri t.now }
     requires corner { IsBoxCorner (corner_of at) }
     ensures { result ≡ all_negative (edge_planes t.now k) (reference_of at) }

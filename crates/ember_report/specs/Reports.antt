@@ -37,7 +37,7 @@ report_from journals faces =
     }
 
 -- the line of a report
-abbrev pub line_of : Report → List ℕ
-line_of r =
+abbrev pub report_line_of : Report → List ℕ
+report_line_of r =
     codes "boxes " ++ decimal r.boxes ++ codes " leaves " ++ decimal r.leaves ++ codes " skipped " ++
     decimal r.skipped ++ codes " faces " ++ decimal r.faces ++ codes "\n"

@@ -1,6 +1,6 @@
 // The line of a report.
 ghost use Rattle.std.specs.Prelude.{◌≡◌, ◌++◌, codes, decimal, IfOk, OnOk};
-ghost use Rattle.ember_report.specs.Reports.{line_of};
+ghost use Rattle.ember_report.specs.Reports.{report_line_of};
 
 use crate::Report;
 use ember_job::OutOfMemory;
@@ -19,7 +19,7 @@ fn put_number(word: &[u8], number: u64, out: &mut Vec<u8>) -> Result<(), OutOfMe
 /// The line `boxes B leaves L skipped S faces F`, with its line feed. The only error is
 /// out-of-memory.
 pub fn report_line(alloc: Global, r: &Report) -> Result<Vec<u8>, OutOfMemory>
-    ensures { IfOk result (λ line. line.items ≡ line_of r.now) }
+    ensures { IfOk result (λ line. line.items ≡ report_line_of r.now) }
 {
     let mut line = Vec::new(alloc);
     put_number(b"boxes ", r.boxes, &mut line)?;

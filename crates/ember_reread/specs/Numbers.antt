@@ -1,5 +1,5 @@
 -- Words, and numbers in their canonical spelling
-use Rattle.std.specs.Prelude.{◌≡◌, ℕ, ◌+◌, ◌-◌, ◌*◌, ◌≤◌, ◌==◌, nat_le, ℤ, Bool, true, not, ◌&&◌, if◌then◌else◌, List, [], ◌∷◌, length, decimal}
+use Rattle.std.specs.Prelude.{◌≡◌, ℕ, ◌+◌, ◌-◌, ◌*◌, ◌≤◌, ◌==◌, nat_le, ℤ, Bool, true, not, ◌&&◌, if◌then◌else◌, List, [], ◌∷◌, length, decimal, ⊤}
 use Rattle.std.specs.List.{list_all}
 use Rattle.std.specs.Char.{is_ascii_digit}
 use Rattle.std.specs.Fmt.{signed_decimal}
@@ -18,7 +18,7 @@ behind_word (b ∷ bs) = if nat_le b 32 then b ∷ bs else behind_word bs
 
 -- no word goes on here
 abbrev pub IsEnd : List ℕ → Type 0
-IsEnd [] = Unit {0}
+IsEnd [] = ⊤
 IsEnd (b ∷ bs) = b ≤ 32
 
 -- ---- numbers

@@ -24,21 +24,21 @@ use Rattle.ember_model.specs.Valid.{IsValidTri}
 use Rattle.ember_model.proofs.ClearPoints.{clear_of_to}
 use Rattle.ember_model.proofs.SignTests.{clash}
 use Rattle.ember_obj.specs.declared.fault.ObjFault.{ObjFault}
-use Rattle.ember_obj.specs.Table.{Faces, Table}
+use Rattle.ember_obj.specs.Table.{FileTriangles, Table}
 use Rattle.ember_obj.specs.ReadObj.{read_obj_of, table_of}
 use Rattle.ember_obj.specs.ReadObj as obj
 use Rattle.ember_obj.proofs.Soundness.{sound_table}
 use Rattle.ember_words.specs.declared.command.Command.{Command}
 use Rattle.ember_words.specs.declared.command.Command.TheVariants as command
-use Rattle.ember_words.specs.Meaning.{command_of}
+use Rattle.ember_words.specs.WordsCommand.{command_of}
 use Rattle.ember_words.specs.Within.{AreNames, IsWithinLimits, NamesFiles}
 use Rattle.ember_words.proofs.Limited.{read_limits}
 use Rattle.ember_words.proofs.NamedFiles.{words_name_files}
 use Rattle.ember_run.specs.Accepted.{HasTreeIfGiven, IsAccepted, IsAcceptedSlice, IsAcceptedSolid, IsBounded, IsFileOf, IsMeshOf, IsSceneOf, HasBytes}
 use Rattle.ember_run.specs.Accepted as accepted
-use Rattle.ember_run.specs.CallOutcome.{AsksOutput}
+use Rattle.ember_run.specs.Statuses.{AsksOutput}
 use Rattle.ember_run.specs.Outputs.{Output, FaceTexts, Counts, MeetingPairs, Lattice, SolidFaces, SolidReport}
-use Rattle.ember_run.specs.Verdict.{Contents, Verdict, Unknown, Refused, Writes, Slices, after_balance, after_bounded, after_bytes, after_expr, after_file, after_files, after_given, after_mesh, after_parse, after_scene, after_solid, after_total, after_triangles, counts_verdict, names_of, slice_verdict, told_verdict}
+use Rattle.ember_run.specs.Verdict.{Contents, Verdict, Unknown, Refused, Writes, Slices, after_balance, after_bounded, after_bytes, after_expr, after_file, after_files, after_given, after_mesh, after_parse, after_scene, after_bounded_expr, after_total, after_triangles, counts_verdict, names_of, slice_verdict, told_verdict}
 use Rattle.ember_run.specs.declared.status.Status.{Status}
 use Rattle.ember_run.specs.declared.status.Status.TheVariants.{Limit, NotClear, Unbounded}
 use Rattle.ember_run.specs.declared.status.LimitKind.TheVariants.{Bytes, Triangles}
@@ -83,7 +83,7 @@ bytes_from : (i : ℕ) (told : Option (List ℕ)) (bytes : List ℕ) (next : Lis
 bytes_from i told bytes next file =
     ap (λ (told : Option (List ℕ)). after_bytes i told next) file.is ∙ rw (le-leb (length bytes) 268435456 file.short) refl
 
-triangles_to : (i : ℕ) (read : Result Faces ObjFault) (next : List Tri → Verdict) (v : Verdict) → Leads (after_triangles i read next) v → (faces : Faces) × (read ≡ Ok faces) × Leads (next faces.tris) v
+triangles_to : (i : ℕ) (read : Result FileTriangles ObjFault) (next : List Tri → Verdict) (v : Verdict) → Leads (after_triangles i read next) v → (faces : FileTriangles) × (read ≡ Ok faces) × Leads (next faces.tris) v
 triangles_to i (Err fault) next v l = absurd (not_refused _ v l)
 triangles_to i (Ok faces) next v l = (faces, refl, l)
 
@@ -95,7 +95,7 @@ file_to places i told next v l =
 
 file_from : (places i : ℕ) (told : Option (List ℕ)) (tris : List Tri) (next : List Tri → Verdict) → IsFileOf places i told tris → after_file places i told next ≡ next tris
 file_from places i told tris next is =
-    bytes_from i told is.bytes (λ bytes. after_triangles i (read_obj_of places i bytes) next) is.file ∙ ap (λ (read : Result Faces ObjFault). after_triangles i read next) is.read ∙ ap next (sym is.are)
+    bytes_from i told is.bytes (λ bytes. after_triangles i (read_obj_of places i bytes) next) is.file ∙ ap (λ (read : Result FileTriangles ObjFault). after_triangles i read next) is.read ∙ ap next (sym is.are)
 
 balance_to : (i : ℕ) (loose : Option Loose) (next : Verdict) (v : Verdict) → Leads (after_balance i loose next) v → (loose ≡ None) × Leads next v
 balance_to i None next v l = (refl, l)
@@ -186,18 +186,18 @@ scene_from places contents tris next is =
     files_from places 1 [] contents is.meshes next (scene_meshes places contents tris is) ∙ ap (λ (ts : List Tri). after_total ts next) (sym is.are) ∙ total_from tris next is.few
 
 -- ---- their triangles are a scene
-abbrev tris_in : Result Faces ObjFault → List Tri
+abbrev tris_in : Result FileTriangles ObjFault → List Tri
 tris_in (Err fault) = []
 tris_in (Ok faces) = faces.tris
 
 sound_file : (places i : ℕ) (told : Option (List ℕ)) (tris : List Tri) → IsFileOf places i told tris → All IsValidTri tris × All (λ t. t.mesh ≡ i) tris
 sound_file places i told tris is = by (table_of places i is.bytes) refl is.read
   where
-    by : (table : Result Table ObjFault) → table_of places i is.bytes ≡ table → obj.faces_of table ≡ Ok is.faces → All IsValidTri tris × All (λ t. t.mesh ≡ i) tris
+    by : (table : Result Table ObjFault) → table_of places i is.bytes ≡ table → obj.file_triangles_of table ≡ Ok is.faces → All IsValidTri tris × All (λ t. t.mesh ≡ i) tris
     by (Err fault) e r = cc
     by (Ok table) e r =
         let sound = sound_table places i 1 is.bytes table [] e refl in
-        let same : table.tris ≡ tris = ap (λ (r : Result Faces ObjFault). tris_in r) r ∙ sym is.are in
+        let same : table.tris ≡ tris = ap (λ (r : Result FileTriangles ObjFault). tris_in r) r ∙ sym is.are in
         (subst (λ (ts : List Tri). All IsValidTri ts) same sound.tris, subst (λ (ts : List Tri). All (λ t. t.mesh ≡ i) ts) same sound.of_mesh)
 
 are_meshes : (places count : ℕ) (ts : List Tri) (contents : Contents) (meshes : List (List Tri)) → AreMeshes ts count → AreMeshesOf places (count + 1) contents meshes → AreMeshes (ts ++ joined meshes) (count + length contents)
@@ -271,7 +271,7 @@ output_of (Slices at bytes) other = other
 same_output : (output other : Output) → Leads (Writes output) (Writes other) → output ≡ other
 same_output output other l = ap (λ (v : Verdict). output_of v other) l.1
 
-solid_to : (expr : List ℕ) (places : ℕ) (contents : Contents) (output : Output) → 1 ≤ length contents → length contents ≤ 64 → Leads (after_solid expr (length contents) (λ formula. after_scene places contents (λ tris. Writes (SolidFaces tris formula)))) (Writes output) → (tris : List Tri) × (formula : Formula) × IsAcceptedSolid expr places contents tris formula × (SolidFaces tris formula ≡ output)
+solid_to : (expr : List ℕ) (places : ℕ) (contents : Contents) (output : Output) → 1 ≤ length contents → length contents ≤ 64 → Leads (after_bounded_expr expr (length contents) (λ formula. after_scene places contents (λ tris. Writes (SolidFaces tris formula)))) (Writes output) → (tris : List Tri) × (formula : Formula) × IsAcceptedSolid expr places contents tris formula × (SolidFaces tris formula ≡ output)
 solid_to expr places contents output some most l =
     let p = expr_to expr (length contents) _ (Writes output) l in
     let b = if_false (truth (replicate 64 (pos 0)) p.0) (after_scene places contents (λ tris. Writes (SolidFaces tris p.0))) Unbounded (Writes output) p.2 in

@@ -25,17 +25,17 @@ use Rattle.ember_obj.specs.ReadObj as obj
 use Rattle.ember_obj.proofs.Soundness.{sound_table}
 use Rattle.ember_words.specs.declared.command.Command.{Command}
 use Rattle.ember_words.specs.declared.command.Command.TheVariants as command
-use Rattle.ember_words.specs.Meaning.{command_of}
+use Rattle.ember_words.specs.WordsCommand.{command_of}
 use Rattle.ember_words.specs.Within.{IsWithinLimits}
 use Rattle.ember_words.proofs.Limited.{read_limits}
 use Rattle.ember_run.specs.OfScenes.{IsOfScene}
 use Rattle.ember_run.specs.Outputs.{Output, FaceTexts, Counts, MeetingPairs, Lattice, SolidFaces, SolidReport}
-use Rattle.ember_run.specs.Reported.{IsErrText, IsReportIf, IsReportOf, asks_report}
-use Rattle.ember_run.specs.CallOutcome.{IsText}
+use Rattle.ember_run.specs.Reported.{IsErrText, IsReportOfVerdictIfAsked, IsReportOfOutput, asks_report}
+use Rattle.ember_run.specs.Statuses.{IsText}
 use Rattle.ember_run.specs.declared.status.Status.{Status}
 use Rattle.ember_run.specs.declared.status.Status.TheVariants.{Done, Unbounded, NotClear, Limit}
 use Rattle.ember_run.specs.declared.status.LimitKind.TheVariants.{Bytes, Triangles}
-use Rattle.ember_run.specs.Verdict.{Contents, Verdict, Unknown, Refused, Writes, Slices, after_bytes, after_triangles, after_file, after_balance, after_files, after_scene, after_parse, after_given, after_bounded, after_solid, after_clear, told_verdict}
+use Rattle.ember_run.specs.Verdict.{Contents, Verdict, Unknown, Refused, Writes, Slices, after_bytes, after_triangles, after_file, after_balance, after_files, after_scene, after_parse, after_given, after_bounded, after_bounded_expr, after_clear, told_verdict}
 use Rattle.ember_run.proofs.NoneLoose.{balanced_if_none}
 use Rattle.ember_run.proofs.OneTexts.{output_one, report_one, slice_one}
 
@@ -79,7 +79,7 @@ file_scene : (places i : ℕ) (told : Option (List ℕ)) (next : List Tri → Ve
 file_scene places i told next h =
     bytes_scene i told (λ bytes. after_triangles i (obj.read_obj_of places i bytes) next) (λ bytes. read bytes (obj.table_of places i bytes) refl)
   where
-    read : (bytes : List ℕ) (table : Result Table ObjFault) → obj.table_of places i bytes ≡ table → HasScene (after_triangles i (obj.faces_of table) next)
+    read : (bytes : List ℕ) (table : Result Table ObjFault) → obj.table_of places i bytes ≡ table → HasScene (after_triangles i (obj.file_triangles_of table) next)
     read bytes (Err fault) e = tt
     read bytes (Ok table) e =
         let sound = sound_table places i 1 bytes table [] e refl in h table.tris sound.tris sound.of_mesh
@@ -111,7 +111,7 @@ given_scene None meshes next h = h None
 given_scene (Some text) meshes next h =
     parse_scene (expr_of text meshes) (λ formula. next (Some formula)) (λ formula. h (Some formula))
 
-solid_scene : (expr : List ℕ) (meshes : ℕ) (next : Formula → Verdict) → ((formula : Formula) → HasScene (next formula)) → HasScene (after_solid expr meshes next)
+solid_scene : (expr : List ℕ) (meshes : ℕ) (next : Formula → Verdict) → ((formula : Formula) → HasScene (next formula)) → HasScene (after_bounded_expr expr meshes next)
 solid_scene expr meshes next h =
     parse_scene (expr_of expr meshes) (λ formula. after_bounded formula (next formula)) (λ formula. chosen (truth (replicate 64 (pos 0)) formula) (Refused Unbounded) (next formula) (λ e. tt) (h formula))
 
@@ -156,7 +156,7 @@ input_one words told one other n a b =
     text_one (told_verdict (command_of words) told) one other (words_scene words told) n a b
 
 -- ---- one text on err
-line_one : (output : Output) (one other : List ℕ) → IsOfScene output → IsReportOf output one → IsReportOf output other → one ≡ other
+line_one : (output : Output) (one other : List ℕ) → IsOfScene output → IsReportOfOutput output one → IsReportOfOutput output other → one ≡ other
 line_one (FaceTexts tris) one other s a b = absurd a
 line_one (Counts point meshes tris expr) one other s a b = absurd a
 line_one (MeetingPairs tris) one other s a b = absurd a
@@ -165,7 +165,7 @@ line_one (SolidFaces tris formula) one other s a b =
 line_one (SolidReport tris formula) one other s a b = absurd a
 line_one (Lattice tris formula size) one other s a b = absurd a
 
-report_if_one : (asked : Bool) (verdict : Verdict) (one other : List ℕ) → HasScene verdict → verdict ≢ Unknown → IsReportIf asked verdict one → IsReportIf asked verdict other → one ≡ other
+report_if_one : (asked : Bool) (verdict : Verdict) (one other : List ℕ) → HasScene verdict → verdict ≢ Unknown → IsReportOfVerdictIfAsked asked verdict one → IsReportOfVerdictIfAsked asked verdict other → one ≡ other
 report_if_one false verdict one other s n a b = a ∙ sym b
 report_if_one true Unknown one other s n a b = absurd (n refl)
 report_if_one true (Refused status) one other s n a b = absurd a

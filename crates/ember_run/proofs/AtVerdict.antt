@@ -1,5 +1,6 @@
 -- The verdict of `at`, step by step.
 use Rattle.std.proofs.Common.{◌≡◌, ◌≢◌, ℕ, Bool, true, false, List, length, map, ℤ, Result, Ok, Err, IfOk, IfErr, Vec, Global, refl, sym, ap, subst, ◌∙◌}
+use Rattle.std.proofs.lemmas.List.{length-map}
 use Rattle.std.specs.declared.option.Option.{Option}
 use Rattle.std.specs.List.{list_all}
 use Rattle.std.specs.Prelude.{if◌then◌else◌}
@@ -13,10 +14,12 @@ use Rattle.ember_run.specs.declared.status.Status.{Status}
 use Rattle.ember_run.specs.declared.status.Status.TheVariants.{Done, Words, ReadFault, WriteFault, NotClear}
 use Rattle.ember_run.specs.Outputs.{Counts, counts_text}
 use Rattle.ember_run.specs.Devices.{ShelfCall}
-use Rattle.ember_run.specs.Stops.{IsAfterFiles, IsStop}
-use Rattle.ember_run.specs.CallOutcome.{IsRefusal, IsSameIfTold, IsText, is_refusal}
+use Rattle.ember_run.specs.Held.{MayHold}
+use Rattle.ember_run.specs.NoReplies.{IsAfterFiles, IsNoReply}
+use Rattle.ember_run.specs.Statuses.{IsRefusal, IsSameIfTold, IsText, is_refusal}
 use Rattle.ember_run.specs.Verdict.{Contents, Verdict, Refused, Writes, after_given, after_scene, at_verdict, counts_verdict}
-use Rattle.ember_run.proofs.Stops.{after_stop}
+use Rattle.ember_run.proofs.NoReplies.{after_no_reply}
+use Rattle.ember_run.proofs.HeldContents.{held_then}
 use Rattle.ember_run.proofs.Verdicts.{refusal_then, text_then}
 
 -- what the words ask for, over m meshes
@@ -52,10 +55,18 @@ text_if point expr places m contents formula tris (Ok text) e given scene is =
     text_then text.items (at_verdict point expr places contents) (counts_verdict point m formula tris) (at_same point expr places m contents formula tris e given scene) is
 text_if point expr places m contents formula tris (Err error) e given scene is = tt
 
+-- the same over contents that the files may have
+pub held_text_if : {E : Type 0} (point : Spot) (expr : Option (List ℕ)) (places m : ℕ) (told : List ℕ → Option (List ℕ)) (names : List (List ℕ)) (formula : Option Formula) (tris : List Tri) (result : Result (Vec ℕ Global) E) → length names ≡ m → Given expr m formula → MayHold told names (λ contents. SceneRead places contents tris) → IfOk result (λ text. IsText (counts_verdict point m formula tris) text.items) → IfOk result (λ text. MayHold told names (λ contents. IsText (at_verdict point expr places contents) text.items))
+held_text_if point expr places m told names formula tris (Ok text) e given scene is =
+    held_then told names (λ contents. SceneRead places contents tris) (λ contents. IsText (at_verdict point expr places contents) text.items)
+    (λ contents l s. text_then text.items (at_verdict point expr places contents) (counts_verdict point m formula tris) (at_same point expr places m contents formula tris (l ∙ e) given s) is) scene
+held_text_if point expr places m told names formula tris (Err error) e given scene is = tt
+
 -- a refusal for a scene is one for the files that were read as it
-pub point_stop_if : {A : Type 0} (point : Spot) (expr : Option (List ℕ)) (places m : ℕ) (names : List (List ℕ)) (shelf : ShelfCall) (formula : Option Formula) (tris : List Tri) (result : Result A Status) → length (map shelf.told names) ≡ m → Given expr m formula → SceneRead places (map shelf.told names) tris → IfErr result (λ status. is_refusal status ≡ true → IsRefusal status (counts_verdict point m formula tris)) → IfErr result IsAfterFiles → ((i : ℕ) → result ≢ Err (ReadFault i)) → (result ≢ Err Done) × (result ≢ Err Words) × (result ≢ Err WriteFault) → IfErr result (IsStop (at_verdict point expr places) names shelf)
-point_stop_if point expr places m names shelf formula tris (Ok value) e given scene refused kind only no_other = tt
-point_stop_if point expr places m names shelf formula tris (Err status) e given scene refused kind only no_other =
-    after_stop (at_verdict point expr places) names shelf status kind
-    (λ r. refusal_then status (at_verdict point expr places (map shelf.told names)) (counts_verdict point m formula tris) (at_same point expr places m (map shelf.told names) formula tris e given scene) (refused r))
-    (λ i f. only i (ap Err f)) (λ f. no_other.0 (ap Err f), λ f. no_other.1 (ap Err f), λ f. no_other.2 (ap Err f))
+pub point_is_no_reply_if : {A : Type 0} (point : Spot) (expr : Option (List ℕ)) (places m : ℕ) (names : List (List ℕ)) (shelf : ShelfCall) (formula : Option Formula) (tris : List Tri) (result : Result A Status) → length names ≡ m → Given expr m formula → SceneRead places (map shelf.told names) tris → MayHold shelf.told names (λ contents. SceneRead places contents tris) → IfErr result (λ status. is_refusal status ≡ true → IsRefusal status (counts_verdict point m formula tris)) → IfErr result IsAfterFiles → ((i : ℕ) → result ≢ Err (ReadFault i)) → (result ≢ Err Done) × (result ≢ Err Words) × (result ≢ Err WriteFault) → IfErr result (IsNoReply (at_verdict point expr places) names shelf)
+point_is_no_reply_if point expr places m names shelf formula tris (Ok value) e given scene held refused kind only never = tt
+point_is_no_reply_if point expr places m names shelf formula tris (Err status) e given scene held refused kind only never =
+    after_no_reply (at_verdict point expr places) names shelf status kind
+    (λ r. refusal_then status (at_verdict point expr places (map shelf.told names)) (counts_verdict point m formula tris) (at_same point expr places m (map shelf.told names) formula tris (length-map names shelf.told ∙ e) given scene) (refused r))
+    (λ r. held_then shelf.told names (λ contents. SceneRead places contents tris) (λ contents. IsRefusal status (at_verdict point expr places contents)) (λ contents l s. refusal_then status (at_verdict point expr places contents) (counts_verdict point m formula tris) (at_same point expr places m contents formula tris (l ∙ e) given s) (refused r)) held)
+    (λ i f. only i (ap Err f)) (λ f. never.0 (ap Err f), λ f. never.1 (ap Err f), λ f. never.2 (ap Err f))

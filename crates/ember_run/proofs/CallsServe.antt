@@ -8,20 +8,23 @@ use Rattle.ember_run.specs.declared.status.Status.{Status}
 use Rattle.ember_run.specs.declared.status.Status.TheVariants.{Done, Words, ReadFault, WriteFault, ObjRefused, MeshRefused, ExprRefused, Unbounded, Limit, NotClear, FaceRefused, OutOfMemory}
 use Rattle.ember_run.specs.declared.reply.Reply.{Reply}
 use Rattle.ember_run.specs.Outputs.{Output}
-use Rattle.ember_run.specs.CallOutcome.{AsksOutput, AsksRefusal, IsBegun, IsRefusal, IsText, IsWritten, hides_memory, is_before_files, is_refusal, refused_file}
+use Rattle.ember_run.specs.Statuses.{AsksOutput, AsksRefusal, AsksText, HasBegun, HasWritten, IsBegun, IsRefusal, IsText, IsWritten, hides_memory, is_before_files, is_refusal, refused_file}
 use Rattle.ember_run.specs.Devices.{ShelfCall, SinkCall, HasShelfFailed, HasSinkFailed}
-use Rattle.ember_run.specs.Lines.{text_on_err}
+use Rattle.ember_run.specs.Held.{MayHold}
+use Rattle.ember_run.specs.Lines.{line_on_err, text_on_err}
 use Rattle.ember_run.specs.Messages.{AppendsUntilFault}
-use Rattle.ember_run.specs.Reported.{IsErrText, IsReportIf, asks_report}
+use Rattle.ember_run.specs.Reported.{IsErrText, IsReportOfVerdictIfAsked, asks_report}
 use Rattle.ember_run.specs.Serves.{IsReply, Serves}
-use Rattle.ember_run.specs.Stops.{IsFileIn, IsStop, with_others}
+use Rattle.ember_run.specs.NoReplies.{IsFileIn, IsNoReply, with_others}
 use Rattle.ember_run.specs.Slices.{IsFaceFault, IsSliceRefusal, IsSliceable}
 use Rattle.ember_run.specs.Verdict.{Contents, Verdict, Unknown, Refused, Writes, Slices, first_told, names_of, told_verdict, verdict_before, verdict_of}
 use Rattle.ember_run.specs.declared.status.FaceFault.{FaceFault}
+use Rattle.ember_run.proofs.HeldContents.{contents_count}
+use Rattle.ember_run.proofs.KnownVerdicts.{known_refusal, known_text, verdict_known}
 use Rattle.ember_run.proofs.RefusedBeforeFiles.{refused_with_any, unknown_refused}
 use Rattle.ember_run.proofs.SliceFaults.{one_fault, slice_or_fault, sliceable_or_fault}
 use Rattle.ember_run.proofs.SolidVerdicts.{err_text}
-use Rattle.ember_run.proofs.Stops.{before_is_refusal, file_is_refusal, length_told}
+use Rattle.ember_run.proofs.NoReplies.{before_is_refusal, file_is_refusal, length_told, none_some}
 
 -- what a status must be for, by the verdict v
 pub record Owes (v : Verdict) (R W : Type 0) (old new : Option (List ℕ)) (status : Status) : Type 0 where
@@ -116,13 +119,28 @@ refusal_given (Slices at bytes) refusal R W old new status a o r =
     let f = refused_slice at bytes refusal a in
     subst (λ (s : Status). (status ≡ s) ⊎ (status ≡ OutOfMemory)) (sym f.1) (fault_or_memory at bytes f.0 R W old new status f.2 o r)
 
+-- ---- contents that the files may have
+-- all are given, so the verdict is known
+refusal_held : (command : Option Command) (told : List ℕ → Option (List ℕ)) (status : Status) → MayHold told (names_of command) (λ contents. IsRefusal status (verdict_of command contents)) → MayHold told (names_of command) (λ contents. AsksRefusal status (verdict_of command contents))
+refusal_held command told status h =
+    let v = verdict_of command (map Some h.0) in
+    (h.0, h.1, known_refusal status v (verdict_known command h.0 (contents_count told (names_of command) h.0 h.1)) h.2)
+
+text_held : (command : Option Command) (told : List ℕ → Option (List ℕ)) (text : List ℕ) → MayHold told (names_of command) (λ contents. IsText (verdict_of command contents) text) → MayHold told (names_of command) (λ contents. AsksText (verdict_of command contents) text)
+text_held command told text h =
+    let v = verdict_of command (map Some h.0) in
+    (h.0, h.1, known_text v text (verdict_known command h.0 (contents_count told (names_of command) h.0 h.1)) h.2)
+
 -- what the statuses say, by the verdict
 pub record Rows (command : Option Command) (shelf : ShelfCall) (out : SinkCall) (status : Status) : Type 0 where
   pub contents : shelf.told_after ≡ shelf.told
   pub later : shelf.faults ≤ shelf.faults_after
   pub out_later : out.faults ≤ out.faults_after
-  pub done : status ≡ Done → IsWritten (told_verdict command shelf.told) out.taken out.taken_after × IsFlushed out.taken_after out.flushed
+  pub done : status ≡ Done → IsWritten (told_verdict command shelf.told) out.taken out.taken_after × IsFlushed out.taken_after out.flushed_after
+  pub done_read : status ≡ Done → MayHold shelf.told (names_of command) (λ contents. HasWritten (verdict_of command contents) out.taken out.taken_after)
+  pub begun_read : status ≡ WriteFault → MayHold shelf.told (names_of command) (λ contents. HasBegun (verdict_of command contents) out.taken out.taken_after)
   pub refused : is_refusal status ≡ true → IsRefusal status (told_verdict command shelf.told)
+  pub refused_read : is_refusal status ≡ true → MayHold shelf.told (names_of command) (λ contents. AsksRefusal status (verdict_of command contents))
   pub read_fault : (i : ℕ) → status ≡ ReadFault i → HasShelfFailed shelf × (shelf.fault_at ≡ i) × (verdict_before i command shelf.told ≡ Unknown) × IsFileIn (names_of command) i
   pub words : status ≡ Words → command ≡ None
   pub before_files : is_before_files status ≡ true → verdict_before 1 command shelf.told ≡ Refused status
@@ -155,7 +173,9 @@ served command shelf out err status text rows is said =
       later = rows.later;
       out_later = rows.out_later;
       done = rows.done;
+      done_read = rows.done_read;
       refused = rows.refused;
+      refused_read = rows.refused_read;
       words = rows.words;
       no_command = λ e. before_given command shelf out status rows Words (subst (λ (command : Option Command). verdict_before 1 command shelf.told ≡ Refused Words) (sym e) refl);
       before_files = rows.before_files;
@@ -165,6 +185,7 @@ served command shelf out err status text rows is said =
       memory = rows.memory;
       read_fault = rows.read_fault;
       write_fault = rows.write_fault;
+      begun_read = rows.begun_read;
       untouched = rows.untouched;
       output_given = λ asks r w. output_given v (HasShelfFailed shelf) (HasSinkFailed out) out.taken out.taken_after status asks owes r w;
       refusal_given = λ refusal asks r. refusal_given v refusal (HasShelfFailed shelf) (HasSinkFailed out) out.taken out.taken_after status asks owes r;
@@ -189,19 +210,23 @@ touched status (inl e) d w = d e
 touched status (inr e) d w = w e
 
 -- a reply that was written, or begun, is served
-pub replied_call_serves : (command : Command) (shelf : ShelfCall) (out err : SinkCall) (status : Status) (reply : Reply) (text line : List ℕ) → shelf.told_after ≡ shelf.told → shelf.faults ≤ shelf.faults_after → out.faults ≤ out.faults_after → IsReply command shelf.told reply → text ≡ reply.text.items → line ≡ reply.report.items
-    → (status ≡ Done → Appends out.taken out.taken_after text × IsFlushed out.taken_after out.flushed) → (status ≡ WriteFault → HasSinkFailed out × AppendsPrefix out.taken out.taken_after text) → (status ≡ Done) ⊎ (status ≡ WriteFault)
+pub replied_call_serves : (command : Command) (shelf : ShelfCall) (out err : SinkCall) (status : Status) (reply : Reply) (text line : List ℕ) → shelf.told_after ≡ shelf.told → shelf.faults ≤ shelf.faults_after → out.faults ≤ out.faults_after → IsReply command shelf.told reply → MayHold shelf.told (names_of (Some command)) (λ contents. IsText (verdict_of (Some command) contents) reply.text.items) → text ≡ reply.text.items → line ≡ reply.report.items
+    → (status ≡ Done → Appends out.taken out.taken_after text × IsFlushed out.taken_after out.flushed_after) → (status ≡ WriteFault → HasSinkFailed out × AppendsPrefix out.taken out.taken_after text) → (status ≡ Done) ⊎ (status ≡ WriteFault)
     → AppendsUntilFault err.faults err.faults_after err.taken err.taken_after (text_on_err (names_of (Some command)) status line) → Serves (Some command) shelf out err status
-replied_call_serves command shelf out err status reply text line same later out_later is t l done fault either said =
+replied_call_serves command shelf out err status reply text line same later out_later is held t l done fault either said =
     let verdict = told_verdict (Some command) shelf.told in
     let is_text : IsText verdict text = subst (λ (bytes : List ℕ). IsText verdict bytes) (sym t) is.text in
+    let known_held : MayHold shelf.told (names_of (Some command)) (λ contents. AsksText (verdict_of (Some command) contents) text) = text_held (Some command) shelf.told text (subst (λ (bytes : List ℕ). MayHold shelf.told (names_of (Some command)) (λ contents. IsText (verdict_of (Some command) contents) bytes)) (sym t) held) in
     served (Some command) shelf out err status (text_on_err (names_of (Some command)) status line)
     (record {
       contents = same;
       later = later;
       out_later = out_later;
       done = λ e. let d = done e in ((text, is_text, d.0), d.1);
+      done_read = λ e. let h = known_held in (h.0, h.1, (text, h.2, (done e).0));
+      begun_read = λ e. let h = known_held in (h.0, h.1, (text, h.2, (fault e).1));
       refused = λ r. absurd (not_refusal status either r);
+      refused_read = λ r. absurd (not_refusal status either r);
       words = λ e. absurd (not_refusal status either (ap is_refusal e));
       before_files = λ b. absurd (not_refusal status either (before_is_refusal status b));
       in_file = λ i e. absurd (not_refusal status either (file_is_refusal status i e));
@@ -211,26 +236,54 @@ replied_call_serves command shelf out err status reply text line same later out_
       write_fault = λ e. let f = fault e in (f.0, (text, is_text, f.1));
       untouched = λ d w. absurd (touched status either d w);
     })
-    (err_text (Some command) shelf.told status line (λ d. subst (λ (bytes : List ℕ). IsReportIf (asks_report (Some command)) verdict bytes) (sym l) is.report)) said
+    (err_text (Some command) shelf.told status line (λ d. subst (λ (bytes : List ℕ). IsReportOfVerdictIfAsked (asks_report (Some command)) verdict bytes) (sym l) is.report)) said
 
 -- ---- a call that has no answer
-pub stopped_call_serves : (command : Command) (shelf : ShelfCall) (out err : SinkCall) (status : Status) → shelf.told_after ≡ shelf.told → shelf.faults ≤ shelf.faults_after → out.faults ≤ out.faults_after → out.taken_after ≡ out.taken → IsStop (verdict_of (Some command)) (names_of (Some command)) shelf status
+pub stopped_call_serves : (command : Command) (shelf : ShelfCall) (out err : SinkCall) (status : Status) → shelf.told_after ≡ shelf.told → shelf.faults ≤ shelf.faults_after → out.faults ≤ out.faults_after → out.taken_after ≡ out.taken → IsNoReply (verdict_of (Some command)) (names_of (Some command)) shelf status
     → AppendsUntilFault err.faults err.faults_after err.taken err.taken_after (text_on_err (names_of (Some command)) status []) → Serves (Some command) shelf out err status
-stopped_call_serves command shelf out err status same later out_later untouched stop said =
+stopped_call_serves command shelf out err status same later out_later untouched no_reply said =
     served (Some command) shelf out err status (text_on_err (names_of (Some command)) status [])
     (record {
       contents = same;
       later = later;
       out_later = out_later;
-      done = λ e. absurd (stop.no_other.0 e);
-      refused = stop.refused;
-      words = λ e. absurd (stop.no_other.1 e);
-      before_files = stop.before_files;
-      in_file = stop.in_file;
-      one_of = stop.one_of;
-      memory = stop.memory;
-      read_fault = stop.read_fault;
-      write_fault = λ e. absurd (stop.no_other.2 e);
+      done = λ e. absurd (no_reply.never.0 e);
+      done_read = λ e. absurd (no_reply.never.0 e);
+      begun_read = λ e. absurd (no_reply.never.2 e);
+      refused = no_reply.refused;
+      refused_read = λ r. refusal_held (Some command) shelf.told status (no_reply.held r);
+      words = λ e. absurd (no_reply.never.1 e);
+      before_files = no_reply.before_files;
+      in_file = no_reply.in_file;
+      one_of = no_reply.one_of;
+      memory = no_reply.memory;
+      read_fault = no_reply.read_fault;
+      write_fault = λ e. absurd (no_reply.never.2 e);
       untouched = λ d w. untouched;
     })
-    (err_text (Some command) shelf.told status [] (λ e. absurd (stop.no_other.0 e))) said
+    (err_text (Some command) shelf.told status [] (λ e. absurd (no_reply.never.0 e))) said
+
+-- ---- a call that reads no command
+pub refused_words_serve : (command : Option Command) (shelf : ShelfCall) (out err : SinkCall) → command ≡ None → shelf.told_after ≡ shelf.told → shelf.faults ≤ shelf.faults_after → out.faults ≤ out.faults_after → out.taken_after ≡ out.taken → AppendsUntilFault err.faults err.faults_after err.taken err.taken_after (line_on_err [] Words) → Serves command shelf out err Words
+refused_words_serve command shelf out err none same later out_later untouched said =
+    subst (λ (command : Option Command). Serves command shelf out err Words) (sym none)
+    (served None shelf out err Words (line_on_err [] Words)
+    (record {
+      contents = same;
+      later = later;
+      out_later = out_later;
+      done = λ e. absurd (cc);
+      done_read = λ e. absurd (cc);
+      begun_read = λ e. absurd (cc);
+      refused = λ r. refl;
+      refused_read = λ r. ([], tt, refl);
+      words = λ e. refl;
+      before_files = λ b. refl;
+      in_file = λ i e. absurd (none_some e);
+      one_of = λ i e. absurd (none_some e);
+      memory = refl;
+      read_fault = λ i e. absurd (cc);
+      write_fault = λ e. absurd (cc);
+      untouched = λ d w. untouched;
+    })
+    refl said)

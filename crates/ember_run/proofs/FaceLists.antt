@@ -8,7 +8,7 @@ use Rattle.ember_model.specs.declared.face.Face.{Face}
 use Rattle.ember_model.specs.Faces.{is_flat, face_of}
 use Rattle.ember_model.specs.Meshes.{faces_of}
 use Rattle.ember_model.specs.FaceFiles.{IsFaceText, IsFacesText, header, ending}
-use Rattle.ember_text.specs.Texts.{Writes, IsGoodText}
+use Rattle.ember_text.specs.Texts.{Writes, IsTextInRange}
 use Rattle.ember_run.specs.FaceTexts.{AddsFace, HasTexts, IsFaceFileOf, ReadsBack, written_face}
 use Rattle.ember_run.proofs.ReadBack.{nothing_back, triangle_back, join_back}
 
@@ -83,7 +83,7 @@ face_adds t r old new e w =
     record {
       text = w.text;
       is_text = rw b.0 (subst (λ (bytes : List ℕ). Each IsFaceText (face_of t ∷ []) bytes) (append-nil w.text) (more text none));
-      reads_back = rw b.0 (triangle_back t w.text b.0 (subst (λ (f : Face). IsGoodText f w.text) b.1 w.good));
+      reads_back = rw b.0 (triangle_back t w.text b.0 (subst (λ (f : Face). IsTextInRange f w.text) b.1 w.good));
       is = w.is;
       count_is = rw b.0 refl;
     }

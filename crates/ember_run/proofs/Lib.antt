@@ -1,8 +1,11 @@
 pub mod ErrTexts
 pub mod Verdicts
-pub mod Stops
+pub mod HeldContents
+pub mod NoReplies
+pub mod OneFile
 pub mod Expressions
 pub mod RefusedBeforeFiles
+pub mod KnownVerdicts
 pub mod SceneFiles
 pub mod PointCounts
 pub mod ClearFaces

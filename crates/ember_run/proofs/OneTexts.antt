@@ -14,7 +14,7 @@ use Rattle.ember_pairs.specs.Pairs.{AtPair, meeting, apart}
 use Rattle.ember_pairs.specs.Texts.{pairs_text}
 use Rattle.ember_query.specs.Runs.{run_report}
 use Rattle.ember_query.specs.Solids.{IsSolidText}
-use Rattle.ember_report.specs.Reports.{line_of}
+use Rattle.ember_report.specs.Reports.{report_line_of}
 use Rattle.ember_reread.proofs.OneOutline.{text_one, texts_one}
 use Rattle.ember_slice.specs.Segments.{IsSliceText}
 use Rattle.ember_slice.proofs.OneAnswer as slices
@@ -49,7 +49,7 @@ module _ (tris : List Tri) (meshes : ℕ) (scene : IsScene tris meshes) (formula
   pub report_one : (one other : List ℕ) → IsReportText tris formula one → IsReportText tris formula other → one ≡ other
   report_one one other a b =
       let same = kept_one a.kept b.kept a.solid.written b.solid.written in
-      a.text ∙ ap line_of (a.solid.report_is ∙ ap (λ (kept : List Kept). run_report (shape tris formula) (root_job tris) (length kept)) same ∙ sym b.solid.report_is) ∙ sym b.text
+      a.text ∙ ap report_line_of (a.solid.report_is ∙ ap (λ (kept : List Kept). run_report (shape tris formula) (root_job tris) (length kept)) same ∙ sym b.solid.report_is) ∙ sym b.text
 
 -- ---- pairs
 at_pair_one : (ts : List Tri) (p : Pair) (ps qs : List Pair) → AtPair ts p ps → AtPair ts p qs → ps ≡ qs

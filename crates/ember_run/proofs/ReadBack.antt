@@ -13,7 +13,7 @@ use Rattle.ember_model.specs.Faces.{is_flat, face_of}
 use Rattle.ember_model.specs.FaceFiles.{WrittenFace, IsWrittenFace}
 use Rattle.ember_poly.proofs.OwnOutline.{outline_is_its_own}
 use Rattle.ember_poly.proofs.TriangleOutline.{triangle_outline}
-use Rattle.ember_text.specs.Texts.{IsGoodText}
+use Rattle.ember_text.specs.Texts.{IsTextInRange}
 use Rattle.ember_run.specs.FaceTexts.{ReadsBack, written_lines, written_face}
 
 -- no faces are read back from no text
@@ -21,7 +21,7 @@ pub nothing_back : ReadsBack [] []
 nothing_back = record { written = []; well_formed = All-nil IsWrittenFace; is = refl; faces = refl; outlined = All-nil IsOutlined }
 
 -- the text of a triangle's face reads back as the face
-pub triangle_back : (t : Tri) (text : List ℕ) → is_flat t ≡ false → IsGoodText (face_of t) text → ReadsBack (face_of t ∷ []) text
+pub triangle_back : (t : Tri) (text : List ℕ) → is_flat t ≡ false → IsTextInRange (face_of t) text → ReadsBack (face_of t ∷ []) text
 unfolding face_of
 triangle_back t text e g =
     let w : WrittenFace = record { support = support_of t; edges = g.text_is.outline } in

@@ -10,12 +10,13 @@ use Rattle.ember_model.specs.declared.tri.Tri.{Tri}
 use Rattle.ember_words.specs.declared.command.Command.{Command}
 use Rattle.ember_words.specs.declared.command.Command.TheVariants as command
 use Rattle.ember_run.specs.Outputs.{Lattice, SolidFaces, MeetingPairs}
-use Rattle.ember_run.specs.Verdict.{Contents, Verdict, Unknown, Refused, Writes, Slices, after_bounded, after_expr, after_given, after_parse, after_scene, after_solid, counts_verdict, first_told, verdict_of}
+use Rattle.ember_run.specs.Verdict.{Contents, Verdict, Unknown, Refused, Writes, Slices, after_bounded, after_expr, after_given, after_parse, after_scene, after_bounded_expr, counts_verdict, first_told, verdict_of}
 use Rattle.ember_run.specs.declared.status.Status.{Status}
 use Rattle.ember_run.specs.declared.status.Status.TheVariants.{Unbounded}
-use Rattle.ember_run.proofs.Stops.{asks, length_told}
+use Rattle.ember_run.proofs.NoReplies.{asks, length_told}
 
-abbrev is_known : Verdict → Bool
+-- whether the verdict depends on no contents that aren't told
+abbrev pub is_known : Verdict → Bool
 is_known Unknown = false
 is_known (Refused status) = true
 is_known (Writes output) = true
@@ -48,7 +49,7 @@ bounded_keeps : (bounds : Bool) (follow other : Verdict) (refusal : Status) → 
 bounded_keeps true follow other refusal h e = e
 bounded_keeps false follow other refusal h e = h e
 
-solid_keeps : (text : List ℕ) (meshes : ℕ) (refusal : Status) → KeepsRefusals (after_solid text meshes) refusal
+solid_keeps : (text : List ℕ) (meshes : ℕ) (refusal : Status) → KeepsRefusals (after_bounded_expr text meshes) refusal
 solid_keeps text meshes refusal follow other h e =
     parse_keeps (expr_of text meshes) refusal (λ formula. after_bounded formula (follow formula)) (λ formula. after_bounded formula (other formula))
     (λ formula. bounded_keeps (truth (replicate 64 (pos 0)) formula) (follow formula) (other formula) refusal (h formula)) e
@@ -69,7 +70,7 @@ refused_with_any (Some (command.Faces places file)) (told ∷ contents) others r
 refused_with_any (Some (command.At point expr places files)) contents others refusal l e =
     asked_refused (after_given expr) (counts_verdict point) places contents others refusal (λ meshes. given_keeps expr meshes refusal) l e
 refused_with_any (Some (command.Boole expr workers places report files)) contents others refusal l e =
-    asked_refused (after_solid expr) (λ m formula tris. Writes (SolidFaces tris formula)) places contents others refusal (λ meshes. solid_keeps expr meshes refusal) l e
+    asked_refused (after_bounded_expr expr) (λ m formula tris. Writes (SolidFaces tris formula)) places contents others refusal (λ meshes. solid_keeps expr meshes refusal) l e
 refused_with_any (Some (command.Demo boxes workers)) contents others refusal l e = e
 refused_with_any (Some (command.Voxels expr size workers places files)) contents others refusal l e =
     asked_refused (after_expr expr) (λ m formula tris. Writes (Lattice tris formula size)) places contents others refusal (λ meshes. parse_keeps (expr_of expr meshes) refusal) l e

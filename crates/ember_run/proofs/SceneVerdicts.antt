@@ -20,7 +20,7 @@ use Rattle.ember_voxel.specs.Voxels.{IsVoxelText}
 use Rattle.ember_run.specs.Lattices.{IsLatticeText}
 use Rattle.ember_run.specs.Outputs.{Lattice, MeetingPairs}
 use Rattle.ember_run.specs.PairLists.{IsPairsText}
-use Rattle.ember_run.specs.CallOutcome.{IsSameIfTold, IsText}
+use Rattle.ember_run.specs.Statuses.{IsSameIfTold, IsText}
 use Rattle.ember_run.specs.Verdict.{Contents, Verdict, Writes, after_expr, after_scene, pairs_verdict, voxels_verdict}
 use Rattle.ember_run.proofs.Verdicts.{text_then}
 

@@ -18,7 +18,7 @@ use Rattle.ember_reread.proofs.OneReading.{face_file_is_read_once}
 use Rattle.ember_run.specs.declared.status.Status.TheVariants.{ExprRefused, Unbounded}
 use Rattle.ember_run.specs.Outputs.{SolidFaces}
 use Rattle.ember_run.specs.Solids.{IsSolidFile}
-use Rattle.ember_run.specs.Verdict.{Verdict, Unknown, Refused, Writes, after_bounded, after_parse, after_solid}
+use Rattle.ember_run.specs.Verdict.{Verdict, Unknown, Refused, Writes, after_bounded, after_parse, after_bounded_expr}
 use Rattle.ember_run.proofs.OneReading.{one_reading}
 use Rattle.ember_run.proofs.SceneVerdicts.{ExprRead}
 
@@ -34,7 +34,7 @@ given_bounded formula given false e read =
     same : Writes (SolidFaces [] given) ≡ Writes (SolidFaces [] formula) → given ≡ formula
     same q = cc
 
-false_outside : (text : List ℕ) (m : ℕ) (formula : Formula) → ExprRead (after_solid text) m formula → IsFalseOutside formula
+false_outside : (text : List ℕ) (m : ℕ) (formula : Formula) → ExprRead (after_bounded_expr text) m formula → IsFalseOutside formula
 false_outside text m formula read = by (expr_of text m) read
   where
     by : (parsed : Result Formula ExprFault) → ((next : Formula → Verdict) → after_parse parsed (λ f. after_bounded f (next f)) ≡ next formula) → IsFalseOutside formula
@@ -56,6 +56,6 @@ document_is_output tris meshes formula bytes scene outside is =
     }
 
 -- the document of a solid is a file of it: it reads back with the meaning, and is a closed surface
-pub solid_file : (text : List ℕ) (m : ℕ) (formula : Formula) (scene : Scene) (bytes : List ℕ) → ExprRead (after_solid text) m formula → IsSolidText scene.tris formula bytes → IsSolidFile scene.tris formula bytes
+pub solid_file : (text : List ℕ) (m : ℕ) (formula : Formula) (scene : Scene) (bytes : List ℕ) → ExprRead (after_bounded_expr text) m formula → IsSolidText scene.tris formula bytes → IsSolidFile scene.tris formula bytes
 solid_file text m formula scene bytes read is =
     document_is_output scene.tris scene.meshes formula bytes scene.kept (false_outside text m formula read) is

@@ -9,7 +9,7 @@ use Rattle.ember_model.specs.declared.point.Spot.{Spot}
 use Rattle.ember_model.specs.declared.tri.Tri.{Tri}
 use Rattle.ember_model.specs.Clear.{AreClear}
 use Rattle.ember_model.specs.Meshes.{IsBalanced, faces_of}
-use Rattle.ember_obj.specs.Table.{Faces}
+use Rattle.ember_obj.specs.Table.{FileTriangles}
 use Rattle.ember_obj.specs.ReadObj.{read_obj_of}
 use Rattle.ember_words.specs.declared.command.Command.{Command}
 use Rattle.ember_words.specs.declared.command.Command.TheVariants as command
@@ -27,7 +27,7 @@ pub record HasBytes (told : Option (List ℕ)) (bytes : List ℕ) : Type 0 where
 pub record IsFileOf (places i : ℕ) (told : Option (List ℕ)) (tris : List Tri) : Type 0 where
   pub bytes : List ℕ
   pub file : HasBytes told bytes
-  pub faces : Faces
+  pub faces : FileTriangles
   pub read : read_obj_of places i bytes ≡ Ok faces
   pub are : tris ≡ faces.tris
 

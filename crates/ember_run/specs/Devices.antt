@@ -1,7 +1,7 @@
 -- What a call saw of its devices, before and after it
 use Rattle.std.specs.Prelude.{ℕ, List}
 use Rattle.std.specs.declared.option.Option.{Option}
-use Rattle.ember_io.specs.Causes.{Rose}
+use Rattle.ember_io.specs.Causes.{HasRisen}
 
 -- what a call saw of a shelf, before and after it
 pub record ShelfCall : Type 0 where
@@ -20,7 +20,7 @@ pub record SinkCall : Type 0 where
   pub taken : Option (List ℕ)
   pub taken_after : Option (List ℕ)
   -- how many of them are flushed after the call
-  pub flushed : ℕ
+  pub flushed_after : ℕ
   -- how often it had failed
   pub faults : ℕ
   pub faults_after : ℕ
@@ -42,15 +42,15 @@ sink_call taken flushed faults old new =
     record {
       taken = taken old;
       taken_after = taken new;
-      flushed = flushed new;
+      flushed_after = flushed new;
       faults = faults old;
       faults_after = faults new;
     }
 
 -- it failed during the call
 abbrev pub HasShelfFailed : ShelfCall → Type 0
-HasShelfFailed shelf = Rose shelf.faults shelf.faults_after
+HasShelfFailed shelf = HasRisen shelf.faults shelf.faults_after
 
 -- the sink failed during the call
 abbrev pub HasSinkFailed : SinkCall → Type 0
-HasSinkFailed sink = Rose sink.faults sink.faults_after
+HasSinkFailed sink = HasRisen sink.faults sink.faults_after

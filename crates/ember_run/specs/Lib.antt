@@ -8,11 +8,12 @@ pub mod Outputs
 pub mod OfScenes
 pub mod Slices
 pub mod Verdict
+pub mod Held
 pub mod Accepted
-pub mod CallOutcome
+pub mod Statuses
 pub mod Reported
 pub mod Devices
-pub mod Stops
+pub mod NoReplies
 pub mod Serves
 pub mod Scenes
 pub mod OptionalExpr

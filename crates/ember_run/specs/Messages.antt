@@ -2,11 +2,11 @@
 use Rattle.std.specs.Prelude.{ℕ, ◌≤◌, List}
 use Rattle.std.specs.declared.option.Option.{Option}
 use Rattle.std.specs.Io.KnownBytes.{Appends}
-use Rattle.ember_io.specs.Causes.{Rose}
+use Rattle.ember_io.specs.Causes.{HasRisen}
 use Rattle.ember_io.specs.Sinks.{AppendsPrefix}
 
 -- it took a prefix of the text, and all of it if its count of faults didn't rise
 pub record AppendsUntilFault (faults_before faults_now : ℕ) (old new : Option (List ℕ)) (text : List ℕ) : Type 0 where
   pub later : faults_before ≤ faults_now
   pub prefix : AppendsPrefix old new text
-  pub whole : ¬ Rose faults_before faults_now → Appends old new text
+  pub whole : ¬ HasRisen faults_before faults_now → Appends old new text

@@ -22,27 +22,27 @@ asks_report (Some (command.Pairs workers places files)) = false
 asks_report (Some (command.Slice at file)) = false
 
 -- the line is the report of this output; only that of `bool` has one
-abbrev pub IsReportOf : Output → List ℕ → Type 0
-IsReportOf (FaceTexts tris) line = ⊥
-IsReportOf (Counts point meshes tris expr) line = ⊥
-IsReportOf (MeetingPairs tris) line = ⊥
-IsReportOf (SolidFaces tris formula) line = IsReportText tris formula line
-IsReportOf (SolidReport tris formula) line = ⊥
-IsReportOf (Lattice tris formula size) line = ⊥
+abbrev pub IsReportOfOutput : Output → List ℕ → Type 0
+IsReportOfOutput (FaceTexts tris) line = ⊥
+IsReportOfOutput (Counts point meshes tris expr) line = ⊥
+IsReportOfOutput (MeetingPairs tris) line = ⊥
+IsReportOfOutput (SolidFaces tris formula) line = IsReportText tris formula line
+IsReportOfOutput (SolidReport tris formula) line = ⊥
+IsReportOfOutput (Lattice tris formula size) line = ⊥
 
 -- the line is the report of what is written, if the verdict is told
-abbrev pub IsReport : Verdict → List ℕ → Type 0
-IsReport Unknown line = ⊤
-IsReport (Refused refusal) line = ⊥
-IsReport (Writes output) line = IsReportOf output line
-IsReport (Slices at bytes) line = ⊥
+abbrev pub IsReportOfVerdict : Verdict → List ℕ → Type 0
+IsReportOfVerdict Unknown line = ⊤
+IsReportOfVerdict (Refused refusal) line = ⊥
+IsReportOfVerdict (Writes output) line = IsReportOfOutput output line
+IsReportOfVerdict (Slices at bytes) line = ⊥
 
 -- a report if one is asked for, otherwise nothing
-abbrev pub IsReportIf : Bool → Verdict → List ℕ → Type 0
-IsReportIf false verdict line = line ≡ []
-IsReportIf true verdict line = IsReport verdict line
+abbrev pub IsReportOfVerdictIfAsked : Bool → Verdict → List ℕ → Type 0
+IsReportOfVerdictIfAsked false verdict line = line ≡ []
+IsReportOfVerdictIfAsked true verdict line = IsReportOfVerdict verdict line
 
 -- the text on err: after success a report, if one is asked for, otherwise the line of the status
 abbrev pub IsErrText : Option Command → (List ℕ → Option (List ℕ)) → Status → List ℕ → Type 0
-IsErrText command told Done text = IsReportIf (asks_report command) (told_verdict command told) text
+IsErrText command told Done text = IsReportOfVerdictIfAsked (asks_report command) (told_verdict command told) text
 IsErrText command told status text = text ≡ line_on_err (names_of command) status

@@ -3,7 +3,7 @@ use Rattle.std.specs.Prelude.{◌≡◌, ℕ, ◌+◌, List, ◌++◌, length}
 use Rattle.ember_mesh.specs.declared.states.Closed.{Closed}
 use Rattle.ember_mesh.specs.Joined.{AreNumbered, triangles_of}
 use Rattle.ember_model.specs.declared.tri.Tri.{Tri}
-use Rattle.ember_run.specs.CallOutcome.{IsSameIfTold}
+use Rattle.ember_run.specs.Statuses.{IsSameIfTold}
 use Rattle.ember_run.specs.Verdict.{Contents, Verdict, after_files, after_scene}
 
 -- the files with these contents were read as these meshes: whatever files follow, the verdict is that of the files that

@@ -3,13 +3,14 @@ use Rattle.std.specs.Prelude.{◌≡◌, ◌≢◌, ◌≤◌, ◌⊎◌, true, 
 use Rattle.std.specs.declared.option.Option.{Option}
 use Rattle.ember_io.specs.Sinks.{IsFlushed}
 use Rattle.ember_words.specs.declared.command.Command.{Command}
-use Rattle.ember_words.specs.Canonical.{Line, IsCanonical, command_with, words_of}
-use Rattle.ember_words.specs.Meaning.{command_of}
-use Rattle.ember_run.specs.CallOutcome.{AsksOutput, AsksRefusal, IsBegun, IsRefusal, IsText, IsWritten, hides_memory, is_before_files, is_refusal, refused_file}
+use Rattle.ember_words.specs.Canonical.{CommandLine, IsCanonical, command_with, words_of}
+use Rattle.ember_words.specs.WordsCommand.{command_of}
+use Rattle.ember_run.specs.Statuses.{AsksOutput, AsksRefusal, HasBegun, HasWritten, IsBegun, IsRefusal, IsText, IsWritten, hides_memory, is_before_files, is_refusal, refused_file}
 use Rattle.ember_run.specs.Devices.{ShelfCall, SinkCall, HasShelfFailed, HasSinkFailed}
+use Rattle.ember_run.specs.Held.{MayHold}
 use Rattle.ember_run.specs.Messages.{AppendsUntilFault}
-use Rattle.ember_run.specs.Reported.{IsErrText, IsReportIf, asks_report}
-use Rattle.ember_run.specs.Stops.{IsFileIn, with_others}
+use Rattle.ember_run.specs.Reported.{IsErrText, IsReportOfVerdictIfAsked, asks_report}
+use Rattle.ember_run.specs.NoReplies.{IsFileIn, with_others}
 use Rattle.ember_run.specs.Verdict.{Contents, Unknown, Refused, names_of, told_verdict, verdict_before, verdict_of}
 use Rattle.ember_run.specs.declared.reply.Reply.{Reply}
 use Rattle.ember_run.specs.declared.status.Status.{Status}
@@ -18,13 +19,17 @@ use Rattle.ember_run.specs.declared.status.Status.TheVariants.{Done, Words, Read
 -- the text is what the command asks for, over these contents, and the report is there if it asks for one
 pub record IsReply (command : Command) (told : List ℕ → Option (List ℕ)) (reply : Reply) : Type 0 where
   pub text : IsText (told_verdict (Some command) told) reply.text.items
-  pub report : IsReportIf (asks_report (Some command)) (told_verdict (Some command) told) reply.report.items
+  pub report : IsReportOfVerdictIfAsked (asks_report (Some command)) (told_verdict (Some command) told)
+      reply.report.items
 
 -- words in the canonical spelling give the command of their values
 abbrev pub ReadsCanonical : List (List ℕ) → Type 0
-ReadsCanonical words = (line : Line) → IsCanonical line → words ≡ words_of line → command_of words ≡ command_with line
+ReadsCanonical words =
+    (line : CommandLine) → IsCanonical line → words ≡ words_of line → command_of words ≡ command_with line
 
--- what a call promises if its words ask for this command, or for none
+-- what a call promises if its words ask for this command, or for none. The fields say nothing of `told_verdict` if it is
+-- Unknown, nor of bytes that aren't told; those whose names end in `_read` say what holds then, too. The system's files
+-- and streams tell no bytes (README.md, "What is guaranteed")
 pub record Serves (command : Option Command) (shelf : ShelfCall) (out err : SinkCall) (status : Status) : Type 0 where
   -- the shelf has what it had, and no count of faults falls
   pub contents : shelf.told_after ≡ shelf.told
@@ -32,9 +37,15 @@ pub record Serves (command : Option Command) (shelf : ShelfCall) (out err : Sink
   pub out_later : out.faults ≤ out.faults_after
   -- the whole output was taken, and is flushed
   pub done : status ≡ Done → IsWritten (told_verdict command shelf.told) out.taken out.taken_after ×
-      IsFlushed out.taken_after out.flushed
+      IsFlushed out.taken_after out.flushed_after
+  -- the output is that of contents that the files may have, told or not
+  pub done_read : status ≡ Done → MayHold shelf.told (names_of command)
+      (λ contents. HasWritten (verdict_of command contents) out.taken out.taken_after)
   -- a refusal is that of the verdict
   pub refused : is_refusal status ≡ true → IsRefusal status (told_verdict command shelf.told)
+  -- a refusal is that of contents that the files may have, told or not
+  pub refused_read : is_refusal status ≡ true → MayHold shelf.told (names_of command)
+      (λ contents. AsksRefusal status (verdict_of command contents))
   -- the words alone decide whether they are refused
   pub words : status ≡ Words → command ≡ None
   pub no_command : command ≡ None → (status ≡ Words) ⊎ (status ≡ OutOfMemory)
@@ -56,6 +67,9 @@ pub record Serves (command : Option Command) (shelf : ShelfCall) (out err : Sink
   -- a write fault: out failed, and took a prefix of the output
   pub write_fault : status ≡ WriteFault → HasSinkFailed out ×
       IsBegun (told_verdict command shelf.told) out.taken out.taken_after
+  -- it is one of the output of contents that the files may have
+  pub begun_read : status ≡ WriteFault → MayHold shelf.told (names_of command)
+      (λ contents. HasBegun (verdict_of command contents) out.taken out.taken_after)
   -- with any other status, out took nothing
   pub untouched : status ≢ Done → status ≢ WriteFault → out.taken_after ≡ out.taken
   -- if no device failed, the call does what the verdict asks for, or memory was short

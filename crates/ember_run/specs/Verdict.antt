@@ -14,7 +14,7 @@ use Rattle.ember_model.specs.declared.point.Spot.{Spot}
 use Rattle.ember_model.specs.declared.tri.Tri.{Tri}
 use Rattle.ember_model.specs.ClearTest.{is_clear_of}
 use Rattle.ember_obj.specs.declared.fault.ObjFault.{ObjFault}
-use Rattle.ember_obj.specs.Table.{Faces}
+use Rattle.ember_obj.specs.Table.{FileTriangles}
 use Rattle.ember_obj.specs.ReadObj.{read_obj_of}
 use Rattle.ember_words.specs.declared.command.Command.{Command}
 use Rattle.ember_words.specs.declared.command.Command.TheVariants as command
@@ -45,7 +45,7 @@ after_bytes i (Some bytes) next =
     if nat_le (length bytes) 268435456 then next bytes else Refused (Limit (Bytes i) 268435457)
 
 -- the file is refused, or its triangles are passed on
-abbrev pub after_triangles : ℕ → Result Faces ObjFault → (List Tri → Verdict) → Verdict
+abbrev pub after_triangles : ℕ → Result FileTriangles ObjFault → (List Tri → Verdict) → Verdict
 after_triangles i (Err fault) next = Refused (ObjRefused i fault)
 after_triangles i (Ok faces) next = next faces.tris
 
@@ -128,13 +128,13 @@ abbrev pub after_bounded : Formula → Verdict → Verdict
 after_bounded formula next = if truth (replicate 64 (pos 0)) formula then Refused Unbounded else next
 
 -- an expression that is parsed, and false outside all meshes
-abbrev pub after_solid : List ℕ → ℕ → (Formula → Verdict) → Verdict
-after_solid text meshes next = after_expr text meshes (λ formula. after_bounded formula (next formula))
+abbrev pub after_bounded_expr : List ℕ → ℕ → (Formula → Verdict) → Verdict
+after_bounded_expr text meshes next = after_expr text meshes (λ formula. after_bounded formula (next formula))
 
 -- the verdict of `bool`
 abbrev pub bool_verdict : List ℕ → ℕ → Contents → Verdict
 bool_verdict expr places contents =
-    after_solid expr (length contents) (λ formula.
+    after_bounded_expr expr (length contents) (λ formula.
     after_scene places contents (λ tris. Writes (SolidFaces tris formula)))
 
 -- the union of the two meshes

@@ -5,9 +5,9 @@ ghost use Rattle.ember_model.specs.Meshes.{IsScene};
 ghost use Rattle.ember_model.specs.declared.tri.Tri.{Tri};
 ghost use Rattle.ember_words.specs.declared.command.Command.{Command};
 ghost use Rattle.ember_words.specs.declared.command.Command.TheVariants.{Slice};
-ghost use Rattle.ember_words.specs.Meaning.{command_of};
+ghost use Rattle.ember_words.specs.WordsCommand.{command_of};
 ghost use Rattle.ember_run.specs.Accepted.{IsAccepted, IsAcceptedSlice, IsSceneOf};
-ghost use Rattle.ember_run.specs.CallOutcome.{AsksOutput};
+ghost use Rattle.ember_run.specs.Statuses.{AsksOutput};
 ghost use Rattle.ember_run.specs.Outputs.{Output};
 ghost use Rattle.ember_run.specs.Verdict.{Contents, Writes, names_of, told_verdict};
 

@@ -8,9 +8,10 @@ ghost use Rattle.ember_model.specs.Meshes.{vector};
 ghost use Rattle.ember_model.specs.Valid.{IsValidSpot, IsValidTri};
 ghost use Rattle.ember_run.specs.OptionalExpr.{given_formula};
 ghost use Rattle.ember_run.specs.Outputs.{count_line, count_lines, counts_text, value_line, value_lines};
-ghost use Rattle.ember_run.specs.CallOutcome.{IsRefusal, IsText, is_refusal};
+ghost use Rattle.ember_run.specs.Statuses.{IsRefusal, IsText, is_refusal};
 ghost use Rattle.ember_run.specs.Devices.{shelf_call};
-ghost use Rattle.ember_run.specs.Stops.{IsAfterFiles, IsStop};
+ghost use Rattle.ember_run.specs.Held.{MayHold};
+ghost use Rattle.ember_run.specs.NoReplies.{IsAfterFiles, IsNoReply};
 ghost use Rattle.ember_run.specs.Verdict.{at_verdict, counts_verdict};
 
 use crate::expression::parse_given;
@@ -121,7 +122,7 @@ fn counts_lines(
 }
 
 // The output at a point. A point that isn't clear of the scene is refused.
-#[tactic(auto, using(crate::proofs::AtVerdict::clear_text, crate::proofs::AtVerdict::unclear_refused, crate::proofs::Stops::unclear_after, crate::proofs::Stops::memory_after))]
+#[tactic(auto, using(crate::proofs::AtVerdict::clear_text, crate::proofs::AtVerdict::unclear_refused, crate::proofs::NoReplies::unclear_after, crate::proofs::NoReplies::memory_after))]
 fn text_at(
     alloc: Global,
     point: &Spot,
@@ -137,7 +138,7 @@ fn text_at(
         IsRefusal status (counts_verdict point.now meshes (given_formula expr.now) scene.now.tris)) }
     ensures kind { IfErr result IsAfterFiles }
     ensures only { (i : ℕ) → result ≢ Err (Status.ReadFault i) }
-    ensures no_other { (result ≢ Err Status.Done) × (result ≢ Err Status.Words) × (result ≢ Err Status.WriteFault) }
+    ensures never { (result ≢ Err Status.Done) × (result ≢ Err Status.Words) × (result ≢ Err Status.WriteFault) }
 {
     if !is_clear_of_all(point, scene.tris.items()) {
         return Err(Status::NotClear);
@@ -164,8 +165,10 @@ pub fn at_output<S: Shelf>(
     ensures later { S.faults shelf.old ≤ S.faults shelf.new }
     ensures text { IfOk result (λ text.
         IsText (at_verdict point.now expr.now places (map (S.contents shelf.old) files.now)) text.items) }
-    ensures stop { IfErr result
-        (IsStop (at_verdict point.now expr.now places) files.now
+    ensures held { IfOk result (λ text. MayHold (S.contents shelf.old) files.now
+        (λ contents. IsText (at_verdict point.now expr.now places contents) text.items)) }
+    ensures no_reply { IfErr result
+        (IsNoReply (at_verdict point.now expr.now places) files.now
         (shelf_call S.contents S.faults S.fault_at shelf.old shelf.new)) }
 {
     let files = files.items();

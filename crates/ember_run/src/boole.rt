@@ -3,11 +3,12 @@ ghost use Rattle.std.specs.Prelude.{◌≡◌, ◌≤◌, length, map, IfOk, IfE
 ghost use Rattle.ember_expr.specs.Formula.{formula_of};
 ghost use Rattle.ember_query.specs.Queries.{IsExecutor};
 ghost use Rattle.ember_query.specs.Solids.{IsSolidText};
-ghost use Rattle.ember_run.specs.Reported.{IsReportIf};
-ghost use Rattle.ember_run.specs.CallOutcome.{IsText};
+ghost use Rattle.ember_run.specs.Reported.{IsReportOfVerdictIfAsked};
+ghost use Rattle.ember_run.specs.Statuses.{IsText};
 ghost use Rattle.ember_run.specs.Devices.{shelf_call};
-ghost use Rattle.ember_run.specs.Stops.{IsStop, IsWordsStop};
-ghost use Rattle.ember_run.specs.Solids.{IsReportLine, IsReportText, report_lines};
+ghost use Rattle.ember_run.specs.Held.{MayHold};
+ghost use Rattle.ember_run.specs.NoReplies.{IsNoReply, IsNoReplyToWords};
+ghost use Rattle.ember_run.specs.Solids.{IsReportTextIfAsked, IsReportText, line_if_asked};
 ghost use Rattle.ember_run.specs.Verdict.{bool_verdict, demo_verdict};
 
 use crate::expression::{parse_bounded, parse_union};
@@ -18,14 +19,14 @@ use ember_expr::Expr;
 use ember_gen::scene_of;
 use ember_io::Shelf;
 use ember_model::{OutOfMemory, Scene};
-use ember_query::{Answer, Query, report_by, solid_of};
+use ember_query::{Answer, Query, query_report, solid_of};
 use ember_report::{Report, report_line};
 use ember_words::{Text, Texts};
 use std::alloc::Global;
 
 // The line of the report if it is asked for, otherwise nothing.
-fn report_if(alloc: Global, reported: bool, report: &Report) -> Result<Vec<u8>, OutOfMemory>
-    ensures { IfOk result (λ line. line.items ≡ report_lines reported report.now) }
+fn line_if_asked(alloc: Global, reported: bool, report: &Report) -> Result<Vec<u8>, OutOfMemory>
+    ensures { IfOk result (λ line. line.items ≡ line_if_asked reported report.now) }
 {
     if !reported {
         return Ok(Vec::new(alloc));
@@ -45,10 +46,10 @@ fn reply_of_solid<C: Fn(&Query) -> Result<Answer, OutOfMemory>>(
     requires { IsExecutor C.pre C.post executor.now }
     ensures text { IfOk result (λ reply. IsSolidText scene.now.tris (formula_of expr.now) reply.text.items) }
     ensures report { IfOk result
-        (λ reply. IsReportLine reported scene.now.tris (formula_of expr.now) reply.report.items) }
+        (λ reply. IsReportTextIfAsked reported scene.now.tris (formula_of expr.now) reply.report.items) }
 {
     let solid = solid_of(alloc, scene, expr, executor)?;
-    let report = report_if(alloc, reported, &solid.report)?;
+    let report = line_if_asked(alloc, reported, &solid.report)?;
     Ok(Reply {
         text: solid.text,
         report,
@@ -73,11 +74,13 @@ pub fn boole_output<S: Shelf, C: Fn(&Query) -> Result<Answer, OutOfMemory>>(
     ensures later { S.faults shelf.old ≤ S.faults shelf.new }
     ensures text { IfOk result (λ reply.
         IsText (bool_verdict expr.now places (map (S.contents shelf.old) files.now)) reply.text.items) }
+    ensures held { IfOk result (λ reply. MayHold (S.contents shelf.old) files.now
+        (λ contents. IsText (bool_verdict expr.now places contents) reply.text.items)) }
     ensures report { IfOk result (λ reply.
-        IsReportIf reported (bool_verdict expr.now places (map
+        IsReportOfVerdictIfAsked reported (bool_verdict expr.now places (map
         (S.contents shelf.old) files.now)) reply.report.items) }
-    ensures stop { IfErr result
-        (IsStop (bool_verdict expr.now places) files.now
+    ensures no_reply { IfErr result
+        (IsNoReply (bool_verdict expr.now places) files.now
         (shelf_call S.contents S.faults S.fault_at shelf.old shelf.new)) }
 {
     let files = files.items();
@@ -95,7 +98,7 @@ pub fn boole_output<S: Shelf, C: Fn(&Query) -> Result<Answer, OutOfMemory>>(
 
 // The line of the report of a solid.
 #[tactic(auto, using(crate::proofs::SolidVerdicts::is_report_text))]
-fn text_of_report<C: Fn(&Query) -> Result<Answer, OutOfMemory>>(
+fn report_text<C: Fn(&Query) -> Result<Answer, OutOfMemory>>(
     alloc: Global,
     scene: &Scene,
     expr: &Expr,
@@ -104,14 +107,14 @@ fn text_of_report<C: Fn(&Query) -> Result<Answer, OutOfMemory>>(
     requires { IsExecutor C.pre C.post executor.now }
     ensures { IfOk result (λ text. IsReportText scene.now.tris (formula_of expr.now) text.items) }
 {
-    let report = report_by(scene, expr, executor)?;
+    let report = query_report(scene, expr, executor)?;
     let text = report_line(alloc, &report)?;
     Ok(text)
 }
 
 /// The output of `demo`: the line of the report of the union of the two meshes of generated boxes.
 /// There are at most 20000 `boxes`. The error is the status with which the call ends instead.
-#[tactic(auto, using(crate::proofs::SolidVerdicts::report_written, crate::proofs::SolidVerdicts::report_refused, crate::proofs::Stops::memory_words_stop))]
+#[tactic(auto, using(crate::proofs::SolidVerdicts::report_written, crate::proofs::SolidVerdicts::report_refused, crate::proofs::NoReplies::memory_is_no_reply_to_words))]
 pub fn demo_output<C: Fn(&Query) -> Result<Answer, OutOfMemory>>(
     alloc: Global,
     boxes: u32,
@@ -120,13 +123,13 @@ pub fn demo_output<C: Fn(&Query) -> Result<Answer, OutOfMemory>>(
     requires boxes { boxes ≤ 20000 }
     requires executor { IsExecutor C.pre C.post executor.now }
     ensures text { IfOk result (λ text. IsText (demo_verdict boxes) text.items) }
-    ensures stop { IfErr result (IsWordsStop (demo_verdict boxes)) }
+    ensures no_reply { IfErr result (IsNoReplyToWords (demo_verdict boxes)) }
 {
     let expr = match parse_union(alloc) {
         Ok(expr) => expr,
         Err(status) => return Err(status),
     };
     let scene = scene_of(alloc, boxes)?;
-    let text = text_of_report(alloc, &scene, &expr, executor)?;
+    let text = report_text(alloc, &scene, &expr, executor)?;
     Ok(text)
 }

@@ -1,5 +1,5 @@
-// The laws of what is written: each output has one text, what `faces` and `at` write has its meaning, and solids are
-// closed surfaces.
+// The laws of what is written: each output has one text, what `faces` and `at` write has its
+// meaning, and solids are closed surfaces.
 ghost use Rattle.std.specs.Prelude.{◌≡◌, ◌≢◌, ◌↔◌, ℕ, ℤ, pos, ◌<ℤ◌, Bool, true, List, Some};
 ghost use Rattle.std.specs.List.{list_all};
 ghost use Rattle.std.specs.declared.option.Option.{Option};
@@ -15,11 +15,11 @@ ghost use Rattle.ember_model.specs.ClearTest.{is_clear_of};
 ghost use Rattle.ember_model.specs.Meshes.{IsBalanced, IsScene, faces_of, vector, wind};
 ghost use Rattle.ember_query.specs.Solids.{IsSolidText};
 ghost use Rattle.ember_words.specs.declared.command.Command.TheVariants.{Boole, Demo, Pairs, Voxels};
-ghost use Rattle.ember_words.specs.Meaning.{command_of};
+ghost use Rattle.ember_words.specs.WordsCommand.{command_of};
 ghost use Rattle.ember_run.specs.OfScenes.{IsOfScene};
 ghost use Rattle.ember_run.specs.Outputs.{FaceTexts, IsOutput, Output, SolidFaces};
 ghost use Rattle.ember_run.specs.Reported.{IsErrText};
-ghost use Rattle.ember_run.specs.CallOutcome.{IsText};
+ghost use Rattle.ember_run.specs.Statuses.{IsText};
 ghost use Rattle.ember_run.specs.Slices.{IsSlice};
 ghost use Rattle.ember_run.specs.Solids.{IsClosedFile};
 ghost use Rattle.ember_run.specs.Verdict.{Unknown, told_verdict};
@@ -85,8 +85,8 @@ pub fn faces_wind_as_read()
         wind axis faces point ≡ wind axis (faces_of tris) point }
 {}
 
-/// The file of a solid is a closed surface: on each line, each point is the start of a written edge
-/// as often as the end of one.
+/// The file of a solid is a closed surface. Take any line and any point on it: of the written edges
+/// that lie on this line, as many start at the point as end there.
 pub fn solids_are_closed()
     ensures { (tris : List Tri) (f : Formula) (bytes : List ℕ) → IsOutput (SolidFaces tris f) bytes →
         IsClosedFile bytes }

@@ -2,9 +2,10 @@
 ghost use Rattle.std.specs.Prelude.{◌≡◌, ◌≤◌, length, map, IfOk, IfErr};
 ghost use Rattle.ember_query.specs.Queries.{IsExecutor};
 ghost use Rattle.ember_run.specs.PairLists.{IsPairsText};
-ghost use Rattle.ember_run.specs.CallOutcome.{IsText};
+ghost use Rattle.ember_run.specs.Statuses.{IsText};
 ghost use Rattle.ember_run.specs.Devices.{shelf_call};
-ghost use Rattle.ember_run.specs.Stops.{IsStop};
+ghost use Rattle.ember_run.specs.Held.{MayHold};
+ghost use Rattle.ember_run.specs.NoReplies.{IsNoReply};
 ghost use Rattle.ember_run.specs.Verdict.{pairs_verdict};
 
 use crate::scene::read_scene;
@@ -12,7 +13,7 @@ use crate::status::Status;
 use ember_io::Shelf;
 use ember_model::{OutOfMemory, Scene};
 use ember_pairs::{gather, gathered_pairs_are_all, pairs_text};
-use ember_query::{Answer, Query, pairs_by};
+use ember_query::{Answer, Query, query_pairs};
 use ember_words::Texts;
 use std::alloc::Global;
 
@@ -25,7 +26,7 @@ fn text_of_pairs<C: Fn(&Query) -> Result<Answer, OutOfMemory>>(
     requires { IsExecutor C.pre C.post executor.now }
     ensures { IfOk result (λ text. IsPairsText scene.now.tris text.items) }
 {
-    let items = pairs_by(scene, executor)?;
+    let items = query_pairs(scene, executor)?;
     let pairs = gather(alloc, items)?;
     // A law, which does nothing: the gathered pairs are all pairs of the scene that meet.
     gathered_pairs_are_all(scene);
@@ -49,8 +50,10 @@ pub fn pairs_output<S: Shelf, C: Fn(&Query) -> Result<Answer, OutOfMemory>>(
     ensures later { S.faults shelf.old ≤ S.faults shelf.new }
     ensures text { IfOk result
         (λ text. IsText (pairs_verdict places (map (S.contents shelf.old) files.now)) text.items) }
-    ensures stop { IfErr result
-        (IsStop (pairs_verdict places) files.now
+    ensures held { IfOk result (λ text. MayHold (S.contents shelf.old) files.now
+        (λ contents. IsText (pairs_verdict places contents) text.items)) }
+    ensures no_reply { IfErr result
+        (IsNoReply (pairs_verdict places) files.now
         (shelf_call S.contents S.faults S.fault_at shelf.old shelf.new)) }
 {
     let scene = match read_scene(alloc, shelf, files.items(), places) {

@@ -1,8 +1,10 @@
 // The bytes and the triangles of a file.
 ghost use Rattle.std.specs.Prelude.{ℕ, List, ◌≡◌, ◌≢◌, ◌≤◌, length, true, false, All, Some, Err, IfOk, IfErr};
-ghost use Rattle.ember_io.specs.Causes.{Rose};
+ghost use Rattle.ember_io.specs.Causes.{HasRisen};
+ghost use Rattle.ember_io.specs.Shelves.{Tells};
 ghost use Rattle.ember_model.specs.declared.tri.Tri.{Tri};
-ghost use Rattle.ember_run.specs.CallOutcome.{IsRefusal, IsSameIfTold, hides_memory, is_refusal, refused_file};
+ghost use Rattle.ember_run.specs.Held.{MayHoldOne};
+ghost use Rattle.ember_run.specs.Statuses.{IsRefusal, IsSameIfTold, hides_memory, is_refusal, refused_file};
 ghost use Rattle.ember_run.specs.Verdict.{Verdict, after_bytes, after_file};
 
 use crate::status::{LimitKind, Status};
@@ -16,7 +18,9 @@ const MOST_BYTES: u64 = 268_435_456;
 
 /// Reads the bytes of the file with this name. `number` is its number, from 1; a status names the
 /// file by it. The error is the status: the file can't be read, it is too long, or out-of-memory.
-/// In the clauses, `next` is what is done with the bytes (specs/Verdict.antt).
+/// In the clauses, `next` is whatever is done with the bytes (specs/Verdict.antt). A clause
+/// `(next : ..) → IsSameIfTold (after_x .. next) (next r)` says: if the contents are told, the file
+/// isn't refused, and its result is r.
 #[tactic(auto, using(crate::proofs::Verdicts::bytes_read, crate::proofs::Verdicts::bytes_too_long))]
 pub fn read_bytes<S: Shelf>(
     alloc: Global,
@@ -26,17 +30,21 @@ pub fn read_bytes<S: Shelf>(
 ) -> Result<Vec<u8>, Status>
     ensures contents { S.contents shelf.new ≡ S.contents shelf.old }
     ensures later { S.faults shelf.old ≤ S.faults shelf.new }
-    ensures read { IfOk result (λ bytes. (next : List ℕ → Verdict) →
+    ensures ok { IfOk result (λ bytes. (next : List ℕ → Verdict) →
         IsSameIfTold (after_bytes number (S.contents shelf.old name.now) next) (next bytes.items)) }
+    ensures held { IfOk result (λ bytes. Tells (S.contents shelf.old name.now) bytes.items) }
     ensures few { IfOk result (λ bytes. length bytes.items ≤ 268435456) }
     ensures refused { IfErr result (λ status. is_refusal status ≡ true → (next : List ℕ → Verdict) →
         IsRefusal status (after_bytes number (S.contents shelf.old name.now) next)) }
+    ensures refused_held { IfErr result (λ status. is_refusal status ≡ true →
+        MayHoldOne (S.contents shelf.old name.now)
+        (λ content. (next : List ℕ → Verdict) → IsRefusal status (after_bytes number content next))) }
     ensures file { IfErr result (λ status. is_refusal status ≡ true → refused_file status ≡ Some number) }
     ensures memory { IfErr result (λ status. hides_memory status ≡ false) }
     ensures read_fault { (i : ℕ) → result ≡ Err (Status.ReadFault i) →
-        (i ≡ number) × Rose (S.faults shelf.old) (S.faults shelf.new) ×
+        (i ≡ number) × HasRisen (S.faults shelf.old) (S.faults shelf.new) ×
         (S.fault_at shelf.new ≡ i) }
-    ensures no_other { (result ≢ Err Status.Done) × (result ≢ Err Status.Words) × (result ≢ Err Status.WriteFault) }
+    ensures never { (result ≢ Err Status.Done) × (result ≢ Err Status.Words) × (result ≢ Err Status.WriteFault) }
 {
     match read_all(alloc, shelf, name, number, MOST_BYTES) {
         Ok(bytes) => Ok(bytes),
@@ -50,7 +58,7 @@ pub fn read_bytes<S: Shelf>(
 /// the triangles' mesh, by which a status also names the file. `places` is at most 3. The error is
 /// the status: one of `read_bytes`, or the first fault of the OBJ file. In the clauses, `next` is
 /// what is done with the triangles (specs/Verdict.antt).
-#[tactic(auto, using(crate::proofs::Verdicts::file_read, crate::proofs::Verdicts::file_refused, crate::proofs::Stops::obj_tells))]
+#[tactic(auto, using(crate::proofs::Verdicts::file_read, crate::proofs::Verdicts::file_refused, crate::proofs::NoReplies::obj_tells))]
 pub fn read_file<S: Shelf>(
     alloc: Global,
     shelf: &mut S,
@@ -61,18 +69,24 @@ pub fn read_file<S: Shelf>(
     requires { places ≤ 3 }
     ensures contents { S.contents shelf.new ≡ S.contents shelf.old }
     ensures later { S.faults shelf.old ≤ S.faults shelf.new }
-    ensures read { IfOk result (λ soup. (next : List Tri → Verdict) →
+    ensures ok { IfOk result (λ soup. (next : List Tri → Verdict) →
         IsSameIfTold (after_file places number (S.contents shelf.old name.now) next) (next soup.tris)) }
+    ensures held { IfOk result (λ soup. MayHoldOne (S.contents shelf.old name.now)
+        (λ content. (next : List Tri → Verdict) →
+        IsSameIfTold (after_file places number content next) (next soup.tris))) }
     ensures few { IfOk result (λ soup. length soup.tris ≤ 262144) }
     ensures mesh { IfOk result (λ soup. All (λ t. t.mesh ≡ number) soup.tris) }
     ensures refused { IfErr result (λ status. is_refusal status ≡ true → (next : List Tri → Verdict) →
         IsRefusal status (after_file places number (S.contents shelf.old name.now) next)) }
+    ensures refused_held { IfErr result (λ status. is_refusal status ≡ true →
+        MayHoldOne (S.contents shelf.old name.now)
+        (λ content. (next : List Tri → Verdict) → IsRefusal status (after_file places number content next))) }
     ensures file { IfErr result (λ status. is_refusal status ≡ true → refused_file status ≡ Some number) }
     ensures memory { IfErr result (λ status. hides_memory status ≡ false) }
     ensures read_fault { (i : ℕ) → result ≡ Err (Status.ReadFault i) →
-        (i ≡ number) × Rose (S.faults shelf.old) (S.faults shelf.new) ×
+        (i ≡ number) × HasRisen (S.faults shelf.old) (S.faults shelf.new) ×
         (S.fault_at shelf.new ≡ i) }
-    ensures no_other { (result ≢ Err Status.Done) × (result ≢ Err Status.Words) × (result ≢ Err Status.WriteFault) }
+    ensures never { (result ≢ Err Status.Done) × (result ≢ Err Status.Words) × (result ≢ Err Status.WriteFault) }
 {
     let bytes = read_bytes(alloc, shelf, name, number)?;
     match read_obj(alloc, &bytes, places, number) {

@@ -1,13 +1,16 @@
 // The scene of several files: each is a closed mesh, and all together have few enough triangles. In
-// the clauses, `next` is what is done with the triangles (specs/Verdict.antt).
+// the clauses, `next` is whatever is done with the triangles (specs/Verdict.antt). A clause
+// `(next : ..) → IsSameIfTold (after_x .. next) (next r)` says: if the contents are told, the files
+// aren't refused, and their result is r.
 ghost use Rattle.std.specs.Prelude.{ℕ, List, ◌≡◌, ◌≢◌, ◌≤◌, length, map, true, false, All, Some, Err, IfOk, IfErr};
-ghost use Rattle.ember_io.specs.Causes.{Rose};
+ghost use Rattle.ember_io.specs.Causes.{HasRisen};
 ghost use Rattle.ember_mesh.specs.Joined.{AreNumbered, triangles_of};
 ghost use Rattle.ember_model.specs.declared.tri.Tri.{Tri};
+ghost use Rattle.ember_run.specs.Held.{MayHold, MayHoldOne};
 ghost use Rattle.ember_run.specs.Scenes.{HasParts};
-ghost use Rattle.ember_run.specs.CallOutcome.{IsRefusal, IsSameIfTold, hides_memory, is_refusal, refused_file};
+ghost use Rattle.ember_run.specs.Statuses.{IsRefusal, IsSameIfTold, hides_memory, is_refusal, refused_file};
 ghost use Rattle.ember_run.specs.Devices.{shelf_call};
-ghost use Rattle.ember_run.specs.Stops.{IsAfterFiles, IsSceneStop};
+ghost use Rattle.ember_run.specs.NoReplies.{IsAfterFiles, IsNoScene};
 ghost use Rattle.ember_run.specs.Verdict.{Verdict, after_mesh, after_scene, after_total};
 
 use crate::reading::read_file;
@@ -30,19 +33,26 @@ fn read_mesh<S: Shelf>(
     requires { places ≤ 3 }
     ensures contents { S.contents shelf.new ≡ S.contents shelf.old }
     ensures later { S.faults shelf.old ≤ S.faults shelf.new }
-    ensures read { IfOk result (λ mesh. (next : List Tri → Verdict) →
+    ensures ok { IfOk result (λ mesh. (next : List Tri → Verdict) →
         IsSameIfTold (after_mesh places number (S.contents shelf.old name.now) next) (next mesh.tris)) }
+    ensures held { IfOk result (λ mesh. MayHoldOne (S.contents shelf.old name.now)
+        (λ content. (next : List Tri → Verdict) →
+        IsSameIfTold (after_mesh places number content next) (next mesh.tris))) }
     ensures number { IfOk result (λ mesh. All (λ t. t.mesh ≡ number) mesh.tris) }
     ensures refused { IfErr result (λ status. is_refusal status ≡ true → (next : List Tri → Verdict) →
         IsRefusal status (after_mesh places number (S.contents shelf.old name.now) next)) }
+    ensures refused_held { IfErr result (λ status. is_refusal status ≡ true →
+        MayHoldOne (S.contents shelf.old name.now)
+        (λ content. (next : List Tri → Verdict) → IsRefusal status (after_mesh places number content next))) }
     ensures file { IfErr result (λ status. is_refusal status ≡ true → refused_file status ≡ Some number) }
     ensures memory { IfErr result (λ status. hides_memory status ≡ false) }
     ensures read_fault { (i : ℕ) → result ≡ Err (Status.ReadFault i) →
-        (i ≡ number) × Rose (S.faults shelf.old) (S.faults shelf.new) ×
+        (i ≡ number) × HasRisen (S.faults shelf.old) (S.faults shelf.new) ×
         (S.fault_at shelf.new ≡ i) }
-    ensures no_other { (result ≢ Err Status.Done) × (result ≢ Err Status.Words) × (result ≢ Err Status.WriteFault) }
+    ensures never { (result ≢ Err Status.Done) × (result ≢ Err Status.Words) × (result ≢ Err Status.WriteFault) }
 {
     let soup = read_file(alloc, shelf, name, number, places)?;
+    // `check` tests nothing: `read_file` has counted the triangles. `balanced` is the test.
     match balanced(alloc, check(soup)) {
         Ok(mesh) => Ok(mesh),
         Err((_, MeshFault::Unbalanced(loose))) => {
@@ -64,8 +74,10 @@ fn read_parts<S: Shelf>(
     ensures contents { S.contents shelf.new ≡ S.contents shelf.old }
     ensures later { S.faults shelf.old ≤ S.faults shelf.new }
     ensures parts { IfOk result (λ parts. HasParts places (map (S.contents shelf.old) files.now) parts.items) }
-    ensures stop { IfErr result
-        (IsSceneStop places files.now (shelf_call S.contents S.faults S.fault_at shelf.old shelf.new)) }
+    ensures held { IfOk result (λ parts. MayHold (S.contents shelf.old) files.now
+        (λ contents. HasParts places contents parts.items)) }
+    ensures no_reply { IfErr result
+        (IsNoScene places files.now (shelf_call S.contents S.faults S.fault_at shelf.old shelf.new)) }
 {
     let mut parts = Vec::new(alloc);
     let mut number = 1;
@@ -81,7 +93,7 @@ fn read_parts<S: Shelf>(
 }
 
 // Joins the meshes into a scene, and refuses them if they have too many triangles.
-#[tactic(auto, using(crate::proofs::SceneFiles::few_joined, crate::proofs::SceneFiles::many_refused, crate::proofs::Stops::triangles_after, crate::proofs::Stops::memory_after))]
+#[tactic(auto, using(crate::proofs::SceneFiles::few_joined, crate::proofs::SceneFiles::many_refused, crate::proofs::NoReplies::triangles_after, crate::proofs::NoReplies::memory_after))]
 fn join_parts(alloc: Global, parts: Vec<Closed>) -> Result<Scene, Status>
     requires few { length parts.items ≤ 64 }
     requires numbered { AreNumbered 1 parts.items }
@@ -92,7 +104,7 @@ fn join_parts(alloc: Global, parts: Vec<Closed>) -> Result<Scene, Status>
         IsRefusal status (after_total (triangles_of parts.items) next)) }
     ensures kind { IfErr result IsAfterFiles }
     ensures only { (i : ℕ) → result ≢ Err (Status.ReadFault i) }
-    ensures no_other { (result ≢ Err Status.Done) × (result ≢ Err Status.Words) × (result ≢ Err Status.WriteFault) }
+    ensures never { (result ≢ Err Status.Done) × (result ≢ Err Status.Words) × (result ≢ Err Status.WriteFault) }
 {
     match join(alloc, Parts::of(parts)) {
         Ok(scene) => Ok(scene),
@@ -119,11 +131,14 @@ pub fn read_scene<S: Shelf>(
     requires few { length files.now ≤ 64 }
     ensures contents { S.contents shelf.new ≡ S.contents shelf.old }
     ensures later { S.faults shelf.old ≤ S.faults shelf.new }
-    ensures read { IfOk result (λ scene. (next : List Tri → Verdict) →
+    ensures ok { IfOk result (λ scene. (next : List Tri → Verdict) →
         IsSameIfTold (after_scene places (map (S.contents shelf.old) files.now) next) (next scene.tris)) }
+    ensures held { IfOk result (λ scene. MayHold (S.contents shelf.old) files.now
+        (λ contents. (next : List Tri → Verdict) →
+        IsSameIfTold (after_scene places contents next) (next scene.tris))) }
     ensures meshes { IfOk result (λ scene. scene.meshes ≡ length files.now) }
-    ensures stop { IfErr result
-        (IsSceneStop places files.now (shelf_call S.contents S.faults S.fault_at shelf.old shelf.new)) }
+    ensures no_reply { IfErr result
+        (IsNoScene places files.now (shelf_call S.contents S.faults S.fault_at shelf.old shelf.new)) }
 {
     let parts = read_parts(alloc, shelf, files, places)?;
     join_parts(alloc, parts)

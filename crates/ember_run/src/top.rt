@@ -2,14 +2,16 @@
 // (query.rt of ember_query). Each command gets it and doesn't know who runs the boxes.
 ghost use Rattle.std.specs.Prelude.{◌≡◌, ◌≤◌, ◌⊎◌, Some, IfOk, IfErr, map, string_bytes};
 ghost use Rattle.std.specs.Io.KnownBytes.{Appends};
-ghost use Rattle.ember_io.specs.Causes.{Rose};
+ghost use Rattle.ember_io.specs.Causes.{HasRisen};
 ghost use Rattle.ember_io.specs.Sinks.{AppendsPrefix, IsFlushed};
 ghost use Rattle.ember_query.specs.Queries.{IsAnswer, IsExecutor, IsExecutorOfAny, IsQuery};
-ghost use Rattle.ember_words.specs.Meaning.{command_of};
+ghost use Rattle.ember_words.specs.WordsCommand.{command_of};
 ghost use Rattle.ember_words.specs.Within.{IsWithinLimits};
 ghost use Rattle.ember_run.specs.Devices.{shelf_call, sink_call};
+ghost use Rattle.ember_run.specs.Held.{MayHold};
 ghost use Rattle.ember_run.specs.Serves.{IsReply, ReadsCanonical, Serves};
-ghost use Rattle.ember_run.specs.Stops.{IsStop};
+ghost use Rattle.ember_run.specs.NoReplies.{IsNoReply};
+ghost use Rattle.ember_run.specs.Statuses.{IsText};
 ghost use Rattle.ember_run.specs.Verdict.{names_of, verdict_of};
 
 use crate::at::at_output;
@@ -23,7 +25,7 @@ use crate::status::Status;
 use crate::voxels::voxels_output;
 use ember_io::{Shelf, Sink, write_all};
 use ember_model::OutOfMemory;
-use ember_query::{Answer, Query, alone, by_workers};
+use ember_query::{Answer, Query, answer_alone, answer_by_workers};
 use ember_words::{Command, WordsFault, read_words};
 use std::alloc::Global;
 use std::sync::Wait;
@@ -42,8 +44,10 @@ fn reply_to<S: Shelf, C: Fn(&Query) -> Result<Answer, OutOfMemory>>(
     ensures contents { S.contents shelf.new ≡ S.contents shelf.old }
     ensures later { S.faults shelf.old ≤ S.faults shelf.new }
     ensures reply { IfOk result (IsReply command.now (S.contents shelf.old)) }
-    ensures stop { IfErr result
-        (IsStop (verdict_of (Some command.now)) (names_of (Some command.now))
+    ensures held { IfOk result (λ reply. MayHold (S.contents shelf.old) (names_of (Some command.now))
+        (λ contents. IsText (verdict_of (Some command.now) contents) reply.text.items)) }
+    ensures no_reply { IfErr result
+        (IsNoReply (verdict_of (Some command.now)) (names_of (Some command.now))
         (shelf_call S.contents S.faults S.fault_at shelf.old shelf.new)) }
 {
     match command {
@@ -99,7 +103,7 @@ fn write_output<O: Sink>(out: &mut O, text: &[u8]) -> Status
     ensures done { result ≡ Status.Done →
         Appends (O.taken out.old) (O.taken out.new) text.now × IsFlushed (O.taken out.new) (O.flushed out.new) }
     ensures write_fault { result ≡ Status.WriteFault →
-        Rose (O.faults out.old) (O.faults out.new) × AppendsPrefix (O.taken out.old) (O.taken out.new) text.now }
+        HasRisen (O.faults out.old) (O.faults out.new) × AppendsPrefix (O.taken out.old) (O.taken out.new) text.now }
     ensures either { (result ≡ Status.Done) ⊎ (result ≡ Status.WriteFault) }
 {
     match write_all(out, text) {
@@ -152,13 +156,13 @@ fn workers_of(command: &Command) -> u32
     }
 }
 
-// Does what the words ask for, by an executor with the workers that they ask for, and writes the report
-// or the status's line to err.
+// Does what the words ask for, by an executor with the workers that they ask for, and writes the
+// report or the status's line to err.
 //
-// The closure here fixes the number of workers. In its clauses, `x.entry` is `x` as the closure was
-// given it, and `.now` is what a reference points to. `C.post` speaks of the executor itself
-// (`executor.entry.now`) and of the reference to the query (`query.entry`).
-fn run_by<S: Shelf, O: Sink, E: Sink, C: Fn(u32, &Query) -> Result<Answer, OutOfMemory>>(
+// The closure here fixes the number of workers. It passes on what `executor` requires and ensures:
+// `C.post` takes the executor by value (`executor.entry.now`) and the query as a reference
+// (`query.entry`).
+fn run_with<S: Shelf, O: Sink, E: Sink, C: Fn(u32, &Query) -> Result<Answer, OutOfMemory>>(
     alloc: Global,
     words: &[String],
     shelf: &mut S,
@@ -218,7 +222,7 @@ pub fn run_one<S: Shelf, O: Sink, E: Sink, G: Gate>(
         result }
     ensures canonical { ReadsCanonical (map string_bytes words.now) }
 {
-    run_by(
+    run_with(
         alloc,
         words,
         shelf,
@@ -227,13 +231,14 @@ pub fn run_one<S: Shelf, O: Sink, E: Sink, G: Gate>(
         &|_workers: u32, query: &Query| -> Result<Answer, OutOfMemory>
             requires { IsQuery query.now }
             ensures { IfOk result (IsAnswer query.entry.now) }
-        { alone(alloc, gate, query) },
+        { answer_alone(alloc, gate, query) },
     )
 }
 
 /// Does what the words ask for, with as many workers as they say: writes the output to `out`, and
 /// the report or the status's line to `err`. What is written doesn't depend on the number of
-/// workers. With one worker, the calling thread does everything.
+/// workers. With one worker, the calling thread does everything. `gate` is called before each box;
+/// the program's does nothing.
 pub fn run<R: Threads + Wait + Sync, S: Shelf, O: Sink, E: Sink, G: Gate + Sync>(
     rt: &R,
     alloc: Global,
@@ -250,7 +255,7 @@ pub fn run<R: Threads + Wait + Sync, S: Shelf, O: Sink, E: Sink, G: Gate + Sync>
         result }
     ensures canonical { ReadsCanonical (map string_bytes words.now) }
 {
-    run_by(
+    run_with(
         alloc,
         words,
         shelf,
@@ -260,6 +265,6 @@ pub fn run<R: Threads + Wait + Sync, S: Shelf, O: Sink, E: Sink, G: Gate + Sync>
             requires workers { (1 ≤ workers) × (workers ≤ 64) }
             requires query { IsQuery query.now }
             ensures { IfOk result (IsAnswer query.entry.now) }
-        { by_workers(rt, alloc, workers, gate, query) },
+        { answer_by_workers(rt, alloc, workers, gate, query) },
     )
 }

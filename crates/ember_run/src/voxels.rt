@@ -3,9 +3,10 @@ ghost use Rattle.std.specs.Prelude.{◌≡◌, ◌≤◌, length, map, IfOk, IfE
 ghost use Rattle.ember_expr.specs.Formula.{formula_of};
 ghost use Rattle.ember_query.specs.Queries.{IsExecutor};
 ghost use Rattle.ember_run.specs.Lattices.{IsLatticeText};
-ghost use Rattle.ember_run.specs.CallOutcome.{IsText};
+ghost use Rattle.ember_run.specs.Statuses.{IsText};
 ghost use Rattle.ember_run.specs.Devices.{shelf_call};
-ghost use Rattle.ember_run.specs.Stops.{IsStop};
+ghost use Rattle.ember_run.specs.Held.{MayHold};
+ghost use Rattle.ember_run.specs.NoReplies.{IsNoReply};
 ghost use Rattle.ember_run.specs.Verdict.{voxels_verdict};
 
 use crate::expression::parse_text;
@@ -14,7 +15,7 @@ use crate::status::Status;
 use ember_expr::Expr;
 use ember_io::Shelf;
 use ember_model::{OutOfMemory, Scene};
-use ember_query::{Answer, Query, fills_by};
+use ember_query::{Answer, Query, query_fills};
 use ember_voxel::{each_cell_has_its_value, grid_text};
 use ember_words::{Text, Texts};
 use std::alloc::Global;
@@ -32,7 +33,7 @@ fn text_of_voxels<C: Fn(&Query) -> Result<Answer, OutOfMemory>>(
     requires executor { IsExecutor C.pre C.post executor.now }
     ensures { IfOk result (λ text. IsLatticeText scene.now.tris (formula_of expr.now) size text.items) }
 {
-    let fills = fills_by(scene, expr, size, executor)?;
+    let fills = query_fills(scene, expr, size, executor)?;
     // A law, which does nothing: each cell has the value at its reference point.
     each_cell_has_its_value(scene, expr);
     grid_text(alloc, size, &fills)
@@ -60,8 +61,10 @@ pub fn voxels_output<S: Shelf, C: Fn(&Query) -> Result<Answer, OutOfMemory>>(
     ensures later { S.faults shelf.old ≤ S.faults shelf.new }
     ensures text { IfOk result (λ text.
         IsText (voxels_verdict expr.now size places (map (S.contents shelf.old) files.now)) text.items) }
-    ensures stop { IfErr result
-        (IsStop (voxels_verdict expr.now size places) files.now
+    ensures held { IfOk result (λ text. MayHold (S.contents shelf.old) files.now
+        (λ contents. IsText (voxels_verdict expr.now size places contents) text.items)) }
+    ensures no_reply { IfErr result
+        (IsNoReply (voxels_verdict expr.now size places) files.now
         (shelf_call S.contents S.faults S.fault_at shelf.old shelf.new)) }
 {
     let files = files.items();

@@ -1,4 +1,4 @@
-// Surfaces with fractions on the grid of their scene.
+// One surface with fractions on its grid.
 ghost use Rattle.std.specs.Prelude.{IsTrue, IfOk};
 ghost use Rattle.ember_grid.specs.Corners.{Lands};
 ghost use Rattle.ember_grid.specs.Grids.{IsChoice, IsWithinLimit};
@@ -14,14 +14,14 @@ use std::alloc::Global;
 use std::process::Abort;
 use std::test::Fail;
 
-// A thousandth. At this step a grid is 4.094 long.
-const THOUSANDTH: Step = Step {
+/// A thousandth. At this step a grid is 4.094 long.
+pub const THOUSANDTH: Step = Step {
     numerator: 1,
     denominator: 1000,
 };
 
-// Each coordinate of a corner is below 10^15 in size.
-fn is_within_limit(surface: &Surface) -> bool
+/// Each coordinate of a corner is below 10^15 in size.
+pub fn is_within_limit(surface: &Surface) -> bool
     ensures { IsTrue result → IsWithinLimit surface.now }
 {
     match first_too_large(surface) {
@@ -30,8 +30,8 @@ fn is_within_limit(surface: &Surface) -> bool
     }
 }
 
-// The surface of a file.
-fn surface_of(alloc: Global, bytes: &[u8]) -> Result<Surface<'_>, Fail>
+/// The surface of a file.
+pub fn surface_of(alloc: Global, bytes: &[u8]) -> Result<Surface<'_>, Fail>
     ensures { IfOk result IsWithinLimit }
 {
     if bytes.len() > 268_435_456 {
@@ -68,7 +68,8 @@ fn snapped_file(alloc: Global, bytes: &[u8]) -> Result<(Grid, Snapped), Fail> {
     }
 }
 
-fn grid_with(numerator: u64, denominator: u64, offset: [i128; 3]) -> Grid {
+/// The grid with a step of this numerator and denominator, and this offset along each axis.
+pub fn grid_with(numerator: u64, denominator: u64, offset: [i128; 3]) -> Grid {
     let [x, y, z] = offset;
     Grid {
         step: Step {

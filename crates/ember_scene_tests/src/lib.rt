@@ -1,8 +1,12 @@
-//! Tests of calls that take or make whole scenes: queries of a scene and its solid, and grids of surfaces.
+//! Tests of calls that take or make whole scenes: queries of a scene and its solid, and surfaces on grids.
 #![tactic(auto)]
 
 #[cfg(test)]
 mod grids;
+#[cfg(test)]
+mod outputs;
+#[cfg(test)]
+mod placed;
 #[cfg(test)]
 mod queries;
 #[cfg(test)]

@@ -8,8 +8,8 @@ use ember_expr::Expr;
 use ember_model::{OutOfMemory, Scene};
 use ember_pairs::gather;
 use ember_query::{
-    Answer, Query, Solid, alone, by_workers, counts_by, fills_by, pairs_by, report_by, solid_of,
-    texts_by,
+    Answer, Query, Solid, answer_alone, answer_by_workers, query_counts, query_fills, query_pairs,
+    query_report, query_texts, solid_of,
 };
 use ember_report::Report;
 use ember_text::face_count;
@@ -28,7 +28,7 @@ fn pair_count<C: Fn(&Query) -> Result<Answer, OutOfMemory>>(
 ) -> Result<u64, OutOfMemory>
     requires { IsExecutor C.pre C.post executor.now }
 {
-    let lists = pairs_by(scene, executor)?;
+    let lists = query_pairs(scene, executor)?;
     let pairs = gather(alloc, lists)?;
     Ok(pairs.items().len() as u64)
 }
@@ -41,7 +41,7 @@ fn fill_count<C: Fn(&Query) -> Result<Answer, OutOfMemory>>(
 ) -> Result<u64, OutOfMemory>
     requires { IsExecutor C.pre C.post executor.now }
 {
-    let fills = fills_by(scene, expr, 11, executor)?;
+    let fills = query_fills(scene, expr, 11, executor)?;
     Ok(fills.len() as u64)
 }
 
@@ -53,7 +53,7 @@ fn text_counts<C: Fn(&Query) -> Result<Answer, OutOfMemory>>(
 ) -> Result<[u64; 2], OutOfMemory>
     requires { IsExecutor C.pre C.post executor.now }
 {
-    let found = texts_by(scene, expr, executor)?;
+    let found = query_texts(scene, expr, executor)?;
     let faces = face_count(&found.items)?;
     Ok([found.items.len() as u64, faces])
 }
@@ -66,7 +66,7 @@ fn region_counts<C: Fn(&Query) -> Result<Answer, OutOfMemory>>(
 ) -> Result<[u64; 2], OutOfMemory>
     requires { IsExecutor C.pre C.post executor.now }
 {
-    let found = counts_by(scene, expr, executor)?;
+    let found = query_counts(scene, expr, executor)?;
     let mut regions = 0u64;
     for count in found.items.iter() {
         regions = regions.wrapping_add(*count);
@@ -74,7 +74,8 @@ fn region_counts<C: Fn(&Query) -> Result<Answer, OutOfMemory>>(
     Ok([found.items.len() as u64, regions])
 }
 
-// What the queries of a scene find. Of texts and of regions it is the number of leaves, and then that of faces.
+// What the queries of a scene find. Of texts and of regions it is the number of leaves, and then
+// that of faces.
 #[derive(Clone, Copy, Debug, PartialEq, Eq)]
 struct Counts {
     pairs: u64,
@@ -106,7 +107,7 @@ fn found_by<C: Fn(&Query) -> Result<Answer, OutOfMemory>>(
         regions: region_counts(scene, expr, executor)?,
     };
     let solid = solid_of(alloc, scene, expr, executor)?;
-    let report = report_by(scene, expr, executor)?;
+    let report = query_report(scene, expr, executor)?;
     Ok(Found {
         counts,
         solid,
@@ -123,7 +124,7 @@ fn found_alone(alloc: Global, scene: &Scene, expr: &Expr) -> Result<Found, OutOf
         &|query: &Query| -> Result<Answer, OutOfMemory>
             requires { IsQuery query.now }
             ensures { IfOk result (IsAnswer query.entry.now) }
-        { alone(alloc, &OpenGate, query) },
+        { answer_alone(alloc, &OpenGate, query) },
     )
 }
 
@@ -141,7 +142,7 @@ fn found_by_two<R: Threads + Wait + Sync>(
         &|query: &Query| -> Result<Answer, OutOfMemory>
             requires { IsQuery query.now }
             ensures { IfOk result (IsAnswer query.entry.now) }
-        { by_workers(rt, alloc, 2, &OpenGate, query) },
+        { answer_by_workers(rt, alloc, 2, &OpenGate, query) },
     )
 }
 

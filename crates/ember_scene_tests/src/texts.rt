@@ -41,3 +41,11 @@ v 0 0 0\nv 9 0 0\nv 0 9 0\nv 1e-3 .001 .001\nf 1 3 2\nf 1 2 4\nf 1 4 3\nf 2 3 4\
 /// The same whose last corner is near the middle of an edge.
 pub const THIN: &[u8] = b"\
 v 0 0 0\nv 9 0 0\nv 0 9 0\nv 4.5 .001 .001\nf 1 3 2\nf 1 2 4\nf 1 4 3\nf 2 3 4\n";
+
+/// The tetrahedron with fractions, without its last face.
+pub const OPEN: &[u8] = b"\
+v 0 0 0\nv 1.5 0 0\nv 0 2.25 0\nv 0 0 3.125\nf 1 3 2\nf 1 2 4\nf 1 4 3\n";
+
+/// One triangle three times, and once from behind.
+pub const LAYERS: &[u8] = b"\
+v 0 0 0\nv 1 0 0\nv 0 1 0\nf 3 2 1\nf 1 2 3\nf 1 2 3\nf 1 2 3\n";

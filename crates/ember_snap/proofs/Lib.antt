@@ -3,3 +3,5 @@ pub mod Nearest
 pub mod NiceSteps
 pub mod SpanSteps
 pub mod Landings
+pub mod DecimalSteps
+pub mod StepTexts

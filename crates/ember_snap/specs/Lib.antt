@@ -2,3 +2,4 @@ pub mod Steps
 pub mod Cells
 pub mod Spans
 pub mod Offsets
+pub mod Decimals

@@ -3,12 +3,14 @@
 #![tactic(auto)]
 
 mod cells;
+mod decimals;
 mod offsets;
 mod search;
 mod spans;
 mod steps;
 
 pub use cells::{cell, grid_number};
+pub use decimals::step_of;
 pub use offsets::{Offset, offset_at};
 pub use search::{finest_step, nice_step};
 pub use spans::{Coordinates, are_coordinates};

@@ -13,7 +13,7 @@ use Rattle.ember_query.specs.Solids.{IsSolidText}
 use Rattle.ember_reread.specs.declared.fault.RereadFault.{RereadFault}
 use Rattle.ember_reread.specs.declared.fault.RereadFault.TheVariants.{Form, OutOfMemory}
 use Rattle.ember_text.specs.Documents.{IsDocumentText, written_face}
-use Rattle.ember_text.specs.Texts.{IsGoodText}
+use Rattle.ember_text.specs.Texts.{IsTextInRange}
 use Rattle.ember_solid_mesh.specs.FaceTables.{HoldsFaces}
 
 abbrev lines_of : WrittenFace → List ℕ
@@ -26,7 +26,7 @@ record AreLines (count : ℕ) (texts : List ℕ) : Type 0 where
   is : texts ≡ flat_map lines_of written
   count_is : count ≡ length written
 
-texts_are_lines : (fs : List Face) {texts : List ℕ} → Each IsGoodText fs texts → AreLines (length fs) texts
+texts_are_lines : (fs : List Face) {texts : List ℕ} → Each IsTextInRange fs texts → AreLines (length fs) texts
 texts_are_lines [] none = record { written = []; well_formed = All-nil IsWrittenFace; is = refl; count_is = refl }
 texts_are_lines (f ∷ fs) (more {ys = ys} {zs = zs} t ts) =
     let s = texts_are_lines fs ts in

@@ -11,7 +11,7 @@ use Rattle.ember_model.specs.declared.tri.Tri.{Tri}
 use Rattle.ember_model.specs.FaceFiles.{IsFaceFile}
 use Rattle.ember_query.specs.Solids.{IsSolidText}
 use Rattle.ember_tables.specs.declared.tables.Tables.{Tables}
-use Rattle.ember_tables.specs.Edges.{edges_of}
+use Rattle.ember_tables.specs.Edges.{face_edges_of}
 use Rattle.ember_tables.specs.Tables.{AreTables}
 use Rattle.ember_solid_mesh.specs.declared.fault.SolidFault.{SolidFault}
 use Rattle.ember_solid_mesh.specs.declared.fault.SolidFault.TheVariants.{NoTables, NotCut, OutOfMemory}
@@ -21,9 +21,9 @@ use Rattle.ember_solid_mesh.specs.Faults.{IsCutFault, IsSolidFault}
 use Rattle.ember_solid_mesh.specs.Meshes.{IsMeshOf, IsSolidMesh}
 
 -- the tables of faces that a file holds are tables of the file
-pub tables_are_in : {bytes : List ℕ} {faces given : List Face} {tables : Tables} → IsFaceFile bytes faces → given ≡ faces → AreTables (edges_of 0 given) tables → AreTablesIn bytes tables
+pub tables_are_in : {bytes : List ℕ} {faces given : List Face} {tables : Tables} → IsFaceFile bytes faces → given ≡ faces → AreTables (face_edges_of 0 given) tables → AreTablesIn bytes tables
 tables_are_in {faces = faces} {tables = tables} read e are =
-    record { faces = faces; read = read; are_tables = subst (λ (faces : List Face). AreTables (edges_of 0 faces) tables) e are }
+    record { faces = faces; read = read; are_tables = subst (λ (faces : List Face). AreTables (face_edges_of 0 faces) tables) e are }
 
 -- triangles are certified of equal lists
 pub certified_of : {ps qs : List Plane} {cs ds : List SpacePoint} {ss us : List Segment} (ts : List Triangle) → ps ≡ qs → cs ≡ ds → ss ≡ us → IsCertified ps cs ss ts → IsCertified qs ds us ts

@@ -5,7 +5,7 @@ use Rattle.ember_model.specs.FaceFiles.{IsFaceFile}
 use Rattle.ember_tables.specs.declared.fault.TableFault.{TableFault}
 use Rattle.ember_tables.specs.declared.fault.TableFault.TheVariants.{OutOfMemory}
 use Rattle.ember_tables.specs.declared.tables.Tables.{Tables}
-use Rattle.ember_tables.specs.Edges.{edges_of}
+use Rattle.ember_tables.specs.Edges.{face_edges_of}
 use Rattle.ember_tables.specs.Tables.{AreTables, IsFault}
 
 -- the bytes are a face file
@@ -16,11 +16,11 @@ HoldsFaces bytes = (faces : List Face) × IsFaceFile bytes faces
 pub record AreTablesIn (bytes : List ℕ) (tables : Tables) : Type 0 where
   pub faces : List Face
   pub read : IsFaceFile bytes faces
-  pub are_tables : AreTables (edges_of 0 faces) tables
+  pub are_tables : AreTables (face_edges_of 0 faces) tables
 
 -- the bytes are a face file whose faces have this fault, and it isn't want of memory
 pub record HaveTableFault (bytes : List ℕ) (fault : TableFault) : Type 0 where
   pub faces : List Face
   pub read : IsFaceFile bytes faces
-  pub is_fault : IsFault (edges_of 0 faces) fault
+  pub is_fault : IsFault (face_edges_of 0 faces) fault
   pub of_faces : fault ≢ OutOfMemory

@@ -6,8 +6,8 @@ use Rattle.ember_query.specs.Solids.{IsSolidText}
 use Rattle.ember_tables.specs.declared.fault.TableFault.{TableFault}
 use Rattle.ember_tables.specs.declared.fault.TableFault.TheVariants as table
 use Rattle.ember_tables.specs.declared.tables.Tables.{Tables}
-use Rattle.ember_triangles.specs.declared.fault.MeshFault.{MeshFault}
-use Rattle.ember_triangles.specs.declared.fault.MeshFault.TheVariants as mesh
+use Rattle.ember_triangles.specs.declared.fault.TrianglesFault.{TrianglesFault}
+use Rattle.ember_triangles.specs.declared.fault.TrianglesFault.TheVariants as triangles
 use Rattle.ember_solid_mesh.specs.declared.fault.SolidFault.{SolidFault}
 use Rattle.ember_solid_mesh.specs.declared.fault.SolidFault.TheVariants.{NoTables, NotCut, OutOfMemory}
 use Rattle.ember_solid_mesh.specs.FaceTables.{AreTablesIn, HaveTableFault}
@@ -17,9 +17,9 @@ abbrev pub of_table_fault : TableFault → SolidFault
 of_table_fault table.OutOfMemory = OutOfMemory
 of_table_fault fault = NoTables fault
 
-abbrev pub of_mesh_fault : MeshFault → SolidFault
-of_mesh_fault mesh.OutOfMemory = OutOfMemory
-of_mesh_fault fault = NotCut fault
+abbrev pub of_triangles_fault : TrianglesFault → SolidFault
+of_triangles_fault triangles.OutOfMemory = OutOfMemory
+of_triangles_fault fault = NotCut fault
 
 -- why a face file gives no tables
 abbrev pub IsFileFault : List ℕ → SolidFault → Type 0
@@ -30,7 +30,7 @@ IsFileFault bytes OutOfMemory = ⊤
 -- why tables give no triangles
 abbrev pub IsCutFault : SolidFault → Type 0
 IsCutFault (NoTables fault) = ⊥
-IsCutFault (NotCut fault) = fault ≢ mesh.OutOfMemory
+IsCutFault (NotCut fault) = fault ≢ triangles.OutOfMemory
 IsCutFault OutOfMemory = ⊤
 
 -- ---- the faults of a solid
@@ -40,5 +40,5 @@ IsSolidFault tris formula (NoTables fault) =
     (bytes : List ℕ) × IsSolidText tris formula bytes × HaveTableFault bytes fault
 IsSolidFault tris formula (NotCut fault) =
     (bytes : List ℕ) × (tables : Tables) × IsSolidText tris formula bytes × AreTablesIn bytes tables ×
-    (fault ≢ mesh.OutOfMemory)
+    (fault ≢ triangles.OutOfMemory)
 IsSolidFault tris formula OutOfMemory = ⊤

@@ -1,10 +1,10 @@
 // Why a solid gets no mesh.
 ghost use Rattle.std.specs.Prelude.{◌≡◌};
 ghost use Rattle.ember_solid_mesh.specs.declared.fault.SolidFault.TheVariants.{OutOfMemory};
-ghost use Rattle.ember_solid_mesh.specs.Faults.{of_table_fault, of_mesh_fault};
+ghost use Rattle.ember_solid_mesh.specs.Faults.{of_table_fault, of_triangles_fault};
 
 use ember_tables::TableFault;
-use ember_triangles::MeshFault;
+use ember_triangles::TrianglesFault;
 use std::alloc::AllocError;
 use thiserror::Error;
 
@@ -14,9 +14,9 @@ pub enum SolidFault {
     /// The faces of the solid have no tables of planes, lines and corners. Never `TableFault::OutOfMemory`.
     #[error(transparent)]
     NoTables(TableFault),
-    /// No certified triangles were found for the faces. Never `MeshFault::OutOfMemory`.
+    /// No certified triangles were found for the faces. Never `TrianglesFault::OutOfMemory`.
     #[error(transparent)]
-    NotCut(MeshFault),
+    NotCut(TrianglesFault),
     #[error("out of memory")]
     OutOfMemory,
 }
@@ -40,12 +40,12 @@ impl From<TableFault> for SolidFault {
     }
 }
 
-impl From<MeshFault> for SolidFault {
-    ghost from_gives = { λ fault e. e ≡ of_mesh_fault fault };
+impl From<TrianglesFault> for SolidFault {
+    ghost from_gives = { λ fault e. e ≡ of_triangles_fault fault };
 
-    fn from(fault: MeshFault) -> SolidFault {
+    fn from(fault: TrianglesFault) -> SolidFault {
         match fault {
-            MeshFault::OutOfMemory => SolidFault::OutOfMemory,
+            TrianglesFault::OutOfMemory => SolidFault::OutOfMemory,
             fault => SolidFault::NotCut(fault),
         }
     }

@@ -20,7 +20,7 @@ use Rattle.ember_model.specs.Meshes.{wind, faces_of, of_mesh, meshes, vector, Is
 use Rattle.ember_model.proofs.SignTests.{clash}
 use Rattle.ember_expr.specs.Formula.{Formula, IsFit, IsMeshNumber}
 use Rattle.ember_expr.specs.Truth.{count_of, truth}
-use Rattle.ember_known.specs.Law.{AgreeOutside}
+use Rattle.ember_known.specs.Laws.{AgreeOutside}
 use Rattle.ember_known.proofs.Decided.{decided_tells}
 use Rattle.ember_law.specs.Laws.{MissesFace}
 use Rattle.ember_law.proofs.Shifted.{eventually_true}

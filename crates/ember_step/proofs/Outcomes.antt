@@ -44,8 +44,8 @@ module _ (ts : List Tri) (f : Formula) (j : Job) where
   leaf_by e l = goes_on e ∙ ap (λ b. leaf_or b halves) l
 
   -- any other job has these halves
-  pub halved_by : (low high : Job) → is_some (box_value ts f j) ≡ false → is_leaf (near_of ts j) j.cell ≡ false → AreHalfJobs ts j axis low high → shape ts f j ≡ halved low high
-  halved_by low high e l h = goes_on e ∙ ap (λ b. leaf_or b halves) l ∙ ap₂ halved (sym h.is_low) (sym h.is_high)
+  pub halved_by : (left right : Job) → is_some (box_value ts f j) ≡ false → is_leaf (near_of ts j) j.cell ≡ false → AreHalfJobs ts j axis left right → shape ts f j ≡ halved left right
+  halved_by left right e l h = goes_on e ∙ ap (λ b. leaf_or b halves) l ∙ ap₂ halved (sym h.is_left) (sym h.is_right)
 
 -- ---- the written regions of a leaf
 -- what holds in each scene that fits what is known at a job holds in the scene of the job

@@ -7,7 +7,8 @@ pub record IsCount {X : Type 0} (Has : List X → Type 0) (n : ℕ) : Type 0 whe
   pub has : Has items
   pub count : n ≡ length items
 
--- if only one list has the property, there is one such number
+-- a lemma that the ghost member `one_item` in src/count.rt cites: if only one list has the property, there is one
+-- such number
 pub one_count : {X : Type 0} {Has : List X → Type 0} {m n : ℕ} → ((xs ys : List X) → Has xs → Has ys → xs ≡ ys) →
     IsCount Has m → IsCount Has n → m ≡ n
 one_count one a b = a.count ∙ ap length (one a.items b.items a.has b.has) ∙ sym b.count

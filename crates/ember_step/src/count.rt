@@ -71,7 +71,7 @@ pub fn count_step(
         IsCount (IsWrittenIn s.now.tris (formula_of e.now) j.cell (near s.now.tris j.cell)) n) job.now o) }
 {
     match box_step(alloc, s, e, job)? {
-        Outcome::Halves(low, high) => Ok(Outcome::Halves(low, high)),
+        Outcome::Halves(left, right) => Ok(Outcome::Halves(left, right)),
         Outcome::Leaf(kept) => Ok(Outcome::Leaf(kept.items().len() as u64)),
         Outcome::Skipped => Ok(Outcome::Skipped),
     }

@@ -42,7 +42,7 @@ pub fn visited_leaves_write_all(_s: &Scene, e: &Expr)
         (leaves (shape _s.now.tris (formula_of e.now)) (root_job _s.now.tris)) kept →
         IsWritten _s.now.tris (formula_of e.now) kept }
 {
-    // This call only brings in what holds of every expression.
+    // Called only for its clause `fit`, which the prover then knows of `e`.
     tree(e);
 }
 
@@ -51,7 +51,7 @@ pub fn visited_leaves_write_all(_s: &Scene, e: &Expr)
 pub fn leaf_texts_join(_s: &Scene, e: &Expr)
     ensures { LeafTextsJoin _s.now.tris (formula_of e.now) }
 {
-    // This call only brings in what holds of every expression.
+    // Called only for its clause `fit`, which the prover then knows of `e`.
     tree(e);
 }
 

@@ -3,7 +3,7 @@
 //!
 //! `box_step` asks ember_visit (`box_value`) whether the box is skipped, and ember_visit
 //! (`halve_unless_leaf`, by ember_box) whether it is a leaf. ember_leaf makes the regions of a
-//! leaf. steal_pool calls the step for each box (`end_box`).
+//! leaf. steal_pool calls the step for each box (`run_step`).
 #![tactic(auto)]
 
 mod count;
@@ -12,7 +12,7 @@ mod step;
 mod text;
 
 pub use count::{CountWork, count_step};
-pub use ember_visit::{box_value, halve_job, root_job};
+pub use ember_visit::root_job;
 pub use law::{
     known_boxes_write_nothing, leaf_texts_join, visited_leaves_write_all,
     written_regions_are_one_list,

@@ -11,7 +11,7 @@ use ember_expr::Expr;
 use ember_job::{Job, OneItem, Outcome, Work};
 use ember_leaf::{KeptList, leaf_faces};
 use ember_model::{OutOfMemory, Scene};
-use ember_visit::{box_value, halve_unless_leaf, tris_at};
+use ember_visit::{box_value, halve_unless_leaf, listed_tris};
 use std::alloc::Global;
 
 /// The Boolean of an expression over a scene: the work whose item for a leaf is the list of its
@@ -55,12 +55,12 @@ impl<'a> OneItem for BoolWork<'a> {
 }
 
 // The written regions of a leaf.
-fn kept_in(alloc: Global, s: &Scene, e: &Expr, job: &Job) -> Result<KeptList, OutOfMemory>
+fn written_in(alloc: Global, s: &Scene, e: &Expr, job: &Job) -> Result<KeptList, OutOfMemory>
     requires { IsJob s.now.tris job.now }
     ensures { IfOk result (λ kept.
         IsWrittenIn s.now.tris (formula_of e.now) job.now.cell (near s.now.tris job.now.cell) kept) }
 {
-    let near = tris_at(alloc, s.tris.items(), job.list.items())?;
+    let near = listed_tris(alloc, s.tris.items(), job.list.items())?;
     leaf_faces(alloc, e, &job.cell, &near, &job.at)
 }
 
@@ -81,7 +81,7 @@ pub fn box_step(
         return Ok(Outcome::Skipped);
     }
     match halve_unless_leaf(alloc, s, job)? {
-        None => Ok(Outcome::Leaf(kept_in(alloc, s, e, job)?)),
-        Some((low, high)) => Ok(Outcome::Halves(low, high)),
+        None => Ok(Outcome::Leaf(written_in(alloc, s, e, job)?)),
+        Some((left, right)) => Ok(Outcome::Halves(left, right)),
     }
 }

@@ -63,7 +63,7 @@ pub fn text_step(
     ensures { IfOk result (λ o. AnswersByText s.now.tris (formula_of e.now) job.now o) }
 {
     match box_step(alloc, s, e, job)? {
-        Outcome::Halves(low, high) => Ok(Outcome::Halves(low, high)),
+        Outcome::Halves(left, right) => Ok(Outcome::Halves(left, right)),
         Outcome::Leaf(kept) => Ok(Outcome::Leaf(faces_text(alloc, kept.items())?)),
         Outcome::Skipped => Ok(Outcome::Skipped),
     }

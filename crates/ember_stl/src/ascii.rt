@@ -18,7 +18,7 @@ use std::alloc::Global;
 fn read_coordinate<'a>(line: u32, word: Text<'a>) -> Result<Number<'a>, StlFault>
     requires { EndsWithinFile word }
     ensures ok { IfOk result (λ n. coordinate_of line (word_of word.entry) ≡ Ok (value_of n)) }
-    ensures err { IfErr result (λ e. coordinate_of line (word_of word.entry) ≡ Err e) }
+    ensures fault { IfErr result (λ e. coordinate_of line (word_of word.entry) ≡ Err e) }
 {
     match read_decimal(word.bytes) {
         Some(number) => Ok(number),
@@ -30,7 +30,7 @@ fn read_coordinate<'a>(line: u32, word: Text<'a>) -> Result<Number<'a>, StlFault
 fn read_vertex<'a>(line: u32, words: Text<'a>) -> Result<Vertex<'a>, StlFault>
     requires { EndsWithinFile words }
     ensures ok { IfOk result (λ v. vertex_in line (first_three (words_in words.entry)) ≡ Ok (point_of v)) }
-    ensures err { IfErr result (λ e. vertex_in line (first_three (words_in words.entry)) ≡ Err e) }
+    ensures fault { IfErr result (λ e. vertex_in line (first_three (words_in words.entry)) ≡ Err e) }
 {
     let Some((x, y, z)) = three_words(words) else {
         return Err(StlFault::FewCoordinates(line));
@@ -69,7 +69,7 @@ impl<'a> Reader<'a> {
         requires text { EndsWithinFile words }
         ensures ok { OnOk result (with_vertex line (words_in words.entry) (state_of self.old) ≡
             Ok (state_of self.new)) }
-        ensures err { IfErr result (IsErrorOf (with_vertex line (words_in words.entry) (state_of self.old))) }
+        ensures fault { IfErr result (IsErrorOf (with_vertex line (words_in words.entry) (state_of self.old))) }
         ensures surface { self.new.surface ≡ self.old.surface }
         ensures count { OnOk result (length self.new.corners.items ≡ length self.old.corners.items + 1) }
     {
@@ -88,7 +88,7 @@ impl<'a> Reader<'a> {
         requires few { length self.old.surface.vertices.items + 3 < 2 ^ 32 }
         requires surface { IsSurface self.old.surface }
         ensures ok { OnOk result (with_end line (state_of self.old) ≡ Ok (state_of self.new)) }
-        ensures err { IfErr result (IsErrorOf (with_end line (state_of self.old))) }
+        ensures fault { IfErr result (IsErrorOf (with_end line (state_of self.old))) }
         ensures surface { OnOk result (IsSurface self.new.surface) }
         ensures count { OnOk result (vertex_count self.new ≡ vertex_count self.old) }
     {
@@ -113,7 +113,7 @@ impl<'a> Reader<'a> {
         requires few { vertex_count self.old + 4 < 2 ^ 32 }
         requires surface { IsSurface self.old.surface }
         ensures ok { OnOk result (after_words line (state_of self.old) (words_in text.entry) ≡ Ok (state_of self.new)) }
-        ensures err { IfErr result (IsErrorOf (after_words line (state_of self.old) (words_in text.entry))) }
+        ensures fault { IfErr result (IsErrorOf (after_words line (state_of self.old) (words_in text.entry))) }
         ensures surface { OnOk result (IsSurface self.new.surface) }
         ensures count { OnOk result (vertex_count self.new ≤ vertex_count self.old + 1) }
     {
@@ -137,7 +137,7 @@ impl<'a> Reader<'a> {
     fn end(self) -> Result<Surface<'a>, StlFault>
         requires { IsSurface self.surface }
         ensures ok { IfOk result (λ s. state_ended (state_of self.entry) ≡ Ok (content_of s)) }
-        ensures err { IfErr result (λ e. state_ended (state_of self.entry) ≡ Err e) }
+        ensures fault { IfErr result (λ e. state_ended (state_of self.entry) ≡ Err e) }
         ensures surface { IfOk result (λ s. IsSurface s) }
     {
         match self.opened {
@@ -152,7 +152,7 @@ impl<'a> Reader<'a> {
 pub(crate) fn read_ascii(alloc: Global, bytes: &[u8]) -> Result<Surface<'_>, StlFault>
     requires { length bytes.now ≤ 268435456 }
     ensures ok { IfOk result (λ s. ascii_of bytes.now ≡ Ok (content_of s)) }
-    ensures err { IfErr result (IsErrorOf (ascii_of bytes.now)) }
+    ensures fault { IfErr result (IsErrorOf (ascii_of bytes.now)) }
     ensures surface { IfOk result (λ s. IsSurface s) }
 {
     let mut reader = Reader {

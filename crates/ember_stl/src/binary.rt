@@ -33,7 +33,7 @@ fn add_facet(surface: &mut Surface, bytes: &[u8], facet: u32) -> Result<(), StlF
     requires facet { facet + 1 < 2 ^ 32 }
     ensures ok { let before = Ok (content_of surface.old) in
         OnOk result (with_facet_at bytes.now facet before ≡ Ok (content_of surface.new)) }
-    ensures err { IfErr result (IsErrorOf (with_facet_at bytes.now facet (Ok (content_of surface.old)))) }
+    ensures fault { IfErr result (IsErrorOf (with_facet_at bytes.now facet (Ok (content_of surface.old)))) }
     ensures surface { OnOk result (IsSurface surface.new) }
     ensures count { OnOk result (length surface.new.vertices.items ≡ length surface.old.vertices.items + 3) }
 {
@@ -72,7 +72,7 @@ pub(crate) fn read_binary<'a>(alloc: Global, bytes: &'a [u8]) -> Result<Surface<
     requires length { length bytes.now ≡ 84 + 50 * number_at bytes.now 80 }
     requires bytes { length bytes.now ≤ 268435456 }
     ensures ok { IfOk result (λ s. binary_of bytes.now ≡ Ok (content_of s)) }
-    ensures err { IfErr result (IsErrorOf (binary_of bytes.now)) }
+    ensures fault { IfErr result (IsErrorOf (binary_of bytes.now)) }
     ensures surface { IfOk result (λ s. IsSurface s) }
 {
     let count = read_number(bytes, COUNT_AT);

@@ -16,7 +16,7 @@ use std::alloc::Global;
 fn checked<'a>(surface: Surface<'a>, binary: bool) -> Result<Surface<'a>, StlFault>
     requires { IsSurface surface }
     ensures ok { IfOk result (λ s. spec.checked binary (Ok (content_of surface.entry)) ≡ Ok (content_of s)) }
-    ensures err { IfErr result (λ e. spec.checked binary (Ok (content_of surface.entry)) ≡ Err e) }
+    ensures fault { IfErr result (λ e. spec.checked binary (Ok (content_of surface.entry)) ≡ Err e) }
     ensures surface { IfOk result (λ s. IsSurface s) }
 {
     if surface.facets.is_empty() {

@@ -7,7 +7,7 @@ use Rattle.ember_surface.specs.Surfaces.{Point}
 use Rattle.ember_stl.specs.Binary.{number_at, finite_point, point_at}
 use Rattle.ember_stl_bytes.specs.declared.triangle.FloatPoint.{FloatPoint}
 use Rattle.ember_stl_bytes.specs.declared.triangle.WrittenTriangle.{WrittenTriangle}
-use Rattle.ember_stl_bytes.specs.Written.{header, number_bytes, point_bytes, triangle_bytes}
+use Rattle.ember_stl_bytes.specs.Written.{stl_header, number_bytes, point_bytes, triangle_bytes}
 use Rattle.ember_stl_bytes.specs.ReadBack.{IsPoint}
 
 byte_behind : (front rest : List ℕ) (at i : ℕ) → at ≡ length front + i → get_or (front ++ rest) at 0 ≡ get_or rest i 0
@@ -63,8 +63,8 @@ corner_c t rest q is = finite (number_at (triangle_bytes t ++ rest) 36) (number_
 
 -- ---- lengths, and the number of triangles
 -- the header has 80 bytes
-pub header_length : length header ≡ 80
-unfolding header
+pub header_length : length stl_header ≡ 80
+unfolding stl_header
 header_length = refl
 
 -- a number takes 4 bytes

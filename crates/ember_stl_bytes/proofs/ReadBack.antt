@@ -9,7 +9,7 @@ use Rattle.ember_stl.specs.Binary.{number_at, point_at, with_points, with_facet_
 use Rattle.ember_stl.specs.ReadStl.{is_binary, checked}
 use Rattle.ember_stl.proofs.Triangles.{facet_added}
 use Rattle.ember_stl_bytes.specs.declared.triangle.WrittenTriangle.{WrittenTriangle}
-use Rattle.ember_stl_bytes.specs.Written.{header, number_bytes, triangle_bytes, stl_bytes_of}
+use Rattle.ember_stl_bytes.specs.Written.{stl_header, number_bytes, triangle_bytes, stl_bytes_of}
 use Rattle.ember_stl_bytes.specs.ReadBack.{IsPoint, AreCorners, facets_of, IsReadBack}
 use Rattle.ember_stl_bytes.proofs.Positions.{number_behind, point_behind, corner_a, corner_b, corner_c, header_length, number_length, triangle_length, number_first}
 
@@ -62,11 +62,11 @@ flat_length (t ∷ ts) = omega (arith, length-append (triangle_bytes t) (flat_ma
 
 file_length : (ts : List WrittenTriangle) → length (stl_bytes_of ts) ≡ 84 + 50 * length ts
 file_length ts =
-    omega (arith, length-append header (number_bytes (length ts) ++ flat_map triangle_bytes ts), length-append (number_bytes (length ts)) (flat_map triangle_bytes ts), header_length, number_length (length ts), flat_length ts)
+    omega (arith, length-append stl_header (number_bytes (length ts) ++ flat_map triangle_bytes ts), length-append (number_bytes (length ts)) (flat_map triangle_bytes ts), header_length, number_length (length ts), flat_length ts)
 
 count_read : (ts : List WrittenTriangle) → number_at (stl_bytes_of ts) 80 ≡ length ts
 count_read ts =
-    number_behind header (number_bytes (length ts) ++ flat_map triangle_bytes ts) 80 0 (omega (arith, header_length)) ∙ number_first (length ts) (flat_map triangle_bytes ts)
+    number_behind stl_header (number_bytes (length ts) ++ flat_map triangle_bytes ts) 80 0 (omega (arith, header_length)) ∙ number_first (length ts) (flat_map triangle_bytes ts)
 
 tests_pass : (x y : ℕ) → 84 ≤ x → x ≡ y → (nat_le 84 x && x == y) ≡ true
 tests_pass x y l e =
@@ -78,8 +78,8 @@ binary : (ts : List WrittenTriangle) → is_binary (stl_bytes_of ts) ≡ true
 binary ts =
     tests_pass (length (stl_bytes_of ts)) (84 + 50 * number_at (stl_bytes_of ts) 80) (omega (arith, file_length ts)) (omega (arith, file_length ts, count_read ts))
 
-start_length : (n : ℕ) → length (header ++ number_bytes n) ≡ 84
-start_length n = omega (arith, length-append header (number_bytes n), header_length, number_length n)
+start_length : (n : ℕ) → length (stl_header ++ number_bytes n) ≡ 84
+start_length n = omega (arith, length-append stl_header (number_bytes n), header_length, number_length n)
 
 -- a reader finds the triangles that were written
 pub read_back : (ts : List WrittenTriangle) (bytes : List ℕ) → bytes ≡ stl_bytes_of ts → IsReadBack ts bytes
@@ -88,8 +88,8 @@ read_back ts bytes e points corners = rw e (here points corners)
     all : (points : List Point) → AreCorners ts points → binary_of (stl_bytes_of ts) ≡ Ok (content points (length ts))
     all points corners =
         ap (first_facets (stl_bytes_of ts)) (count_read ts)
-        ∙ triangles_read ts points (stl_bytes_of ts) (header ++ number_bytes (length ts)) [] 0 (length ts)
-        (sym (append_assoc header (number_bytes (length ts)) (flat_map triangle_bytes ts))) (start_length (length ts)) refl (omega arith) corners refl
+        ∙ triangles_read ts points (stl_bytes_of ts) (stl_header ++ number_bytes (length ts)) [] 0 (length ts)
+        (sym (append_assoc stl_header (number_bytes (length ts)) (flat_map triangle_bytes ts))) (start_length (length ts)) refl (omega arith) corners refl
 
     here : IsReadBack ts (stl_bytes_of ts)
     here points corners = rw (binary ts) (ap (checked true) (all points corners))

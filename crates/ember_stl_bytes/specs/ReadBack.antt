@@ -1,5 +1,5 @@
 -- What a reader makes of the bytes of a binary STL
-use Rattle.std.specs.Prelude.{◌≡◌, ℕ, zero, suc, ◌+◌, ◌*◌, true, List, [], ◌∷◌, ◌++◌, length, Some, Ok}
+use Rattle.std.specs.Prelude.{◌≡◌, ℕ, zero, suc, ◌+◌, ◌*◌, true, List, [], ◌∷◌, ◌++◌, length, Some, Ok, ⊤}
 use Rattle.ember_number.specs.Floats.{binary32_value}
 use Rattle.ember_surface.specs.declared.surface.Facet.{Facet}
 use Rattle.ember_surface.specs.Surfaces.{Point}
@@ -15,7 +15,7 @@ pub record IsPoint (p : FloatPoint) (q : Point) : Type 0 where
 
 -- the points are the corners of the triangles, in order
 abbrev pub AreCorners : List WrittenTriangle → List Point → Type 0
-AreCorners [] [] = Unit {0}
+AreCorners [] [] = ⊤
 AreCorners (t ∷ ts) (p ∷ q ∷ r ∷ points) = IsPoint t.a p × IsPoint t.b q × IsPoint t.c r × AreCorners ts points
 AreCorners ts points = ⊥
 

@@ -4,8 +4,8 @@ use Rattle.ember_stl_bytes.specs.declared.triangle.FloatPoint.{FloatPoint}
 use Rattle.ember_stl_bytes.specs.declared.triangle.WrittenTriangle.{WrittenTriangle}
 
 -- 80 bytes
-unfoldable pub header : List ℕ
-header = codes "ember-mesh: rounded from an exact result                                        "
+unfoldable pub stl_header : List ℕ
+stl_header = codes "ember-mesh: rounded from an exact result                                        "
 
 -- the four bytes of a number below 2^32, the lowest first
 unfoldable pub number_bytes : ℕ → List ℕ
@@ -21,4 +21,4 @@ triangle_bytes t =
 
 -- the header, the number of triangles, and 50 bytes for each
 abbrev pub stl_bytes_of : List WrittenTriangle → List ℕ
-stl_bytes_of ts = header ++ (number_bytes (length ts) ++ flat_map triangle_bytes ts)
+stl_bytes_of ts = stl_header ++ (number_bytes (length ts) ++ flat_map triangle_bytes ts)

@@ -1,7 +1,7 @@
 // The bytes of a binary STL.
 ghost use Rattle.std.specs.Prelude.{◌≡◌, ◌↔◌, ◌^◌, ◌≤◌, ◌++◌, length, flat_map, Err, IfOk, OnOk};
 ghost use Rattle.ember_stl_bytes.specs.declared.fault.StlWriteFault.TheVariants.{TooManyTriangles};
-ghost use Rattle.ember_stl_bytes.specs.Written.{header, number_bytes, point_bytes, triangle_bytes, stl_bytes_of};
+ghost use Rattle.ember_stl_bytes.specs.Written.{stl_header, number_bytes, point_bytes, triangle_bytes, stl_bytes_of};
 ghost use Rattle.ember_stl_bytes.specs.ReadBack.{IsReadBack};
 
 use crate::fault::StlWriteFault;
@@ -11,9 +11,9 @@ use std::alloc::{AllocError, Global};
 const HEADER: &[u8; 80] =
     b"ember-mesh: rounded from an exact result                                        ";
 
-#[tactic(auto, unfolding(crate::specs::Written::header))]
+#[tactic(auto, unfolding(crate::specs::Written::stl_header))]
 fn put_header(out: &mut Vec<u8>) -> Result<(), AllocError>
-    ensures { OnOk result (out.new.items ≡ out.old.items ++ header) }
+    ensures { OnOk result (out.new.items ≡ out.old.items ++ stl_header) }
 {
     out.extend_from_slice(HEADER)
 }

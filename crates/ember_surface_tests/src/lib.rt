@@ -6,6 +6,8 @@ mod comparisons;
 #[cfg(test)]
 mod fans;
 #[cfg(test)]
+mod files;
+#[cfg(test)]
 mod floats;
 #[cfg(test)]
 mod formats;
@@ -19,6 +21,8 @@ mod off_files;
 mod ply_files;
 #[cfg(test)]
 mod roundings;
+#[cfg(test)]
+mod steps;
 #[cfg(test)]
 mod stl_files;
 #[cfg(test)]

@@ -6,7 +6,7 @@ use Rattle.std.proofs.lemmas.Option.{none-some, same_Some}
 use Rattle.ember_model.specs.declared.plane.Plane.{Plane}
 use Rattle.ember_model.specs.declared.face.Face.{Face}
 use Rattle.ember_model.specs.Valid.{IsValidPlane, IsValidFace}
-use Rattle.ember_tables.specs.Edges.{first_or, last_or, edges_behind, edges_round, edges_of, IsValidEdge}
+use Rattle.ember_tables.specs.Edges.{first_or, last_or, edges_behind, edges_round, face_edges_of, IsValidEdge}
 
 -- ---- the last plane
 last_found : (e : Plane) (es : List Plane) → slice_get (e ∷ es) (length es) ≡ Some (last_or e es)
@@ -48,8 +48,8 @@ valid_round face n (e ∷ es) vn h =
     valid_behind face n e (last_or e es) (e ∷ es) vn ve (valid_last e es ve (All-tail IsValidPlane e es h)) h
 
 -- the edges of valid faces are valid
-pub valid_edges : (face : ℕ) (fs : List Face) → All IsValidFace fs → All IsValidEdge (edges_of face fs)
+pub valid_edges : (face : ℕ) (fs : List Face) → All IsValidFace fs → All IsValidEdge (face_edges_of face fs)
 valid_edges face [] h = All-nil IsValidEdge
 valid_edges face (f ∷ fs) h =
     let v = All-head IsValidFace f fs h in
-    All-append IsValidEdge (edges_round face f.support f.edges) (edges_of (face + 1) fs) (valid_round face f.support f.edges v.support v.edges) (valid_edges (face + 1) fs (All-tail IsValidFace f fs h))
+    All-append IsValidEdge (edges_round face f.support f.edges) (face_edges_of (face + 1) fs) (valid_round face f.support f.edges v.support v.edges) (valid_edges (face + 1) fs (All-tail IsValidFace f fs h))

@@ -28,9 +28,9 @@ edges_round face n [] = []
 edges_round face n (e ∷ es) = edges_behind face n e (last_or e es) (e ∷ es)
 
 -- the edges of all faces, which are numbered from `face` on
-abbrev pub edges_of : ℕ → List Face → List FaceEdge
-edges_of face [] = []
-edges_of face (f ∷ fs) = edges_round face f.support f.edges ++ edges_of (face + 1) fs
+abbrev pub face_edges_of : ℕ → List Face → List FaceEdge
+face_edges_of face [] = []
+face_edges_of face (f ∷ fs) = edges_round face f.support f.edges ++ face_edges_of (face + 1) fs
 
 -- all planes are valid
 pub record IsValidEdge (e : FaceEdge) : Type 0 where

@@ -1,5 +1,5 @@
 -- The tables of faces
-use Rattle.std.specs.Prelude.{◌≡◌, ◌≢◌, ◌⊎◌, ◌<◌, pos, List, length, All, Contains}
+use Rattle.std.specs.Prelude.{◌≡◌, ◌≢◌, ◌⊎◌, ◌<◌, pos, List, length, All, Contains, ⊤}
 use Rattle.std.specs.List.{AllZip}
 use Rattle.ember_algebra.specs.Vector.{zero_v}
 use Rattle.ember_model.specs.declared.plane.Plane.{Plane}
@@ -68,7 +68,7 @@ abbrev pub IsFault : List FaceEdge → TableFault → Type 0
 IsFault edges (NoLine n) = HasFault edges (NoLine n)
 IsFault edges (NoCorner n) = HasFault edges (NoCorner n)
 IsFault edges TooMany = 2147483647 < length edges
-IsFault edges OutOfMemory = Unit {0}
+IsFault edges OutOfMemory = ⊤
 
 -- ---- on the way to a segment
 -- k has the keys of the edge's plane and line, and its corners

@@ -1,7 +1,7 @@
 // The edges of faces, each with its neighbours.
 ghost use Rattle.std.specs.Prelude.{◌≡◌, ◌++◌, IfOk, IfErr, OnOk};
 ghost use Rattle.ember_tables.specs.declared.fault.TableFault.TheVariants.{OutOfMemory};
-ghost use Rattle.ember_tables.specs.Edges.{first_or, last_or, edges_round, edges_of};
+ghost use Rattle.ember_tables.specs.Edges.{first_or, last_or, edges_round, face_edges_of};
 
 use crate::fault::TableFault;
 use ember_model::{Face, Plane};
@@ -44,7 +44,7 @@ fn push_round(
     edges: &[Plane],
 ) -> Result<(), TableFault>
     ensures ok { OnOk result (list.new.items ≡ list.old.items ++ edges_round face support.now edges.now) }
-    ensures err { IfErr result (λ e. e ≡ OutOfMemory) }
+    ensures fault { IfErr result (λ e. e ≡ OutOfMemory) }
 {
     let Some((first, others)) = edges.split_first() else {
         return Ok(());
@@ -66,9 +66,9 @@ fn push_round(
 }
 
 // The edges of all faces.
-pub fn edges_of(alloc: Global, faces: &[Face]) -> Result<Vec<FaceEdge>, TableFault>
-    ensures ok { IfOk result (λ list. list.items ≡ edges_of 0 faces.now) }
-    ensures err { IfErr result (λ e. e ≡ OutOfMemory) }
+pub fn face_edges_of(alloc: Global, faces: &[Face]) -> Result<Vec<FaceEdge>, TableFault>
+    ensures ok { IfOk result (λ list. list.items ≡ face_edges_of 0 faces.now) }
+    ensures fault { IfErr result (λ e. e ≡ OutOfMemory) }
 {
     let mut list = Vec::new(alloc);
     for (number, face) in faces.iter().enumerate() {

@@ -33,16 +33,16 @@ pub fn plane_numbers(p: &Plane) -> HashKey
 }
 
 // The hash key of a line.
-pub fn line_numbers(k: &LineKey) -> HashKey
-    ensures { result ≡ line_numbers k.now }
+pub fn line_numbers(key: &LineKey) -> HashKey
+    ensures { result ≡ line_numbers key.now }
 {
     HashKey {
-        a: k.dx as i128,
-        b: k.dy as i128,
-        c: k.dz as i128,
-        d: k.mx,
-        e: k.my,
-        f: k.mz,
+        a: key.dx as i128,
+        b: key.dy as i128,
+        c: key.dz as i128,
+        d: key.mx,
+        e: key.my,
+        f: key.mz,
     }
 }
 

@@ -38,7 +38,7 @@ impl<T: Copy> Numbering<T> {
         ensures number { (f : T → HashKey) → f entry ≡ key → IsNumbering f self.old.keys.keys self.old.entries.items →
             IfOk result (λ n. HasEntry self.new.entries.items n (λ x. f x ≡ key)) }
         ensures count { OnOk result (length self.new.keys.keys ≤ length self.old.keys.keys + 1) }
-        ensures err { IfErr result (λ e. e ≡ OutOfMemory) }
+        ensures fault { IfErr result (λ e. e ≡ OutOfMemory) }
     {
         let (index, is_new) = self.keys.insert_full(key)?;
         let number = index as u32;

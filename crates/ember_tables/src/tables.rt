@@ -3,11 +3,11 @@ ghost use Rattle.std.specs.Prelude.{◌≡◌, ◌≤◌, [], ◌∷◌, ◌++�
 ghost use Rattle.ember_model.specs.Valid.{IsValidFace};
 ghost use Rattle.ember_tables.specs.declared.face_edge.FaceEdge.{FaceEdge};
 ghost use Rattle.ember_tables.specs.declared.fault.TableFault.TheVariants.{OutOfMemory};
-ghost use Rattle.ember_tables.specs.Edges.{edges_of, IsValidEdge};
+ghost use Rattle.ember_tables.specs.Edges.{face_edges_of, IsValidEdge};
 ghost use Rattle.ember_tables.specs.Tables.{IsKeyed, IsFault, AreTables};
 ghost use Rattle.ember_tables.specs.Drafts.{IsDraft, HasRoom};
 
-use crate::face_edge::{FaceEdge, edges_of};
+use crate::face_edge::{FaceEdge, face_edges_of};
 use crate::fault::TableFault;
 use crate::hash_key::{corner_numbers, line_numbers, plane_numbers};
 use crate::keyed::{Keyed, keys_of};
@@ -53,7 +53,7 @@ impl Draft {
         requires { HasRoom self.old }
         ensures ok { (done : List FaceEdge) (edge : FaceEdge) → IsDraft done self.old → IsKeyed edge keyed.now →
             OnOk result (IsDraft (done ++ edge ∷ []) self.new) }
-        ensures err { IfErr result (λ e. e ≡ OutOfMemory) }
+        ensures fault { IfErr result (λ e. e ≡ OutOfMemory) }
     {
         let plane = self
             .planes
@@ -93,10 +93,10 @@ const MOST_EDGES: usize = 2_147_483_647;
 /// point, or if there are too many edges: see [`TableFault`].
 pub fn tables_of(alloc: Global, faces: &[Face]) -> Result<Tables, TableFault>
     requires { All IsValidFace faces.now }
-    ensures tables { IfOk result (λ t. AreTables (edges_of 0 faces.now) t) }
-    ensures fault { IfErr result (λ e. IsFault (edges_of 0 faces.now) e) }
+    ensures tables { IfOk result (λ t. AreTables (face_edges_of 0 faces.now) t) }
+    ensures fault { IfErr result (λ e. IsFault (face_edges_of 0 faces.now) e) }
 {
-    let edges = edges_of(alloc, faces)?;
+    let edges = face_edges_of(alloc, faces)?;
     if edges.len() > MOST_EDGES {
         return Err(TableFault::TooMany);
     }

@@ -21,7 +21,7 @@ pub enum Output {
     IsThatOf(&'static str),
 }
 
-/// A command over files, and what comes of it. The words stand with one blank between each two.
+/// A command over files, and what comes of it. There is one blank between each two words.
 pub struct Case {
     pub words: &'static str,
     pub files: Named,
@@ -64,7 +64,7 @@ pub fn sink_of(alloc: Global, room: usize) -> Result<MemorySink, Fail> {
     Ok(MemorySink::new(alloc, room, 4096, none)?)
 }
 
-/// The words of a line, which stand with one blank between each two.
+/// The words of a line, with one blank between each two.
 pub fn words_of(alloc: Global, line: &str) -> Result<Vec<String>, Fail> {
     let mut words = Vec::new(alloc);
     for word in line.split(' ') {

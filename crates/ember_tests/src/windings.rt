@@ -4,7 +4,7 @@ ghost use Rattle.ember_model.specs.Valid.{IsValidFace, IsValidSpot};
 
 use crate::cases::{Named, give, words_of};
 use crate::texts::{C, D, N, WALL_A, WALL_B};
-use ember_model::{Axis, Face, Spot, face_crossing, value};
+use ember_model::{Axis, Face, Spot, face_crossing, plane_value};
 use ember_reread::{FaceList, read_faces};
 use std::alloc::Global;
 use std::sync::Wait;
@@ -60,9 +60,9 @@ fn is_in_closed(f: &Face, p: &Spot) -> bool
 {
     let mut behind = true;
     for edge in f.edges.items() {
-        behind = behind && value(edge, p) <= 0;
+        behind = behind && plane_value(edge, p) <= 0;
     }
-    behind && value(&f.support, p) == 0
+    behind && plane_value(&f.support, p) == 0
 }
 
 // So many closed faces hold the point.

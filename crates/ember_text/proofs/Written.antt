@@ -14,7 +14,7 @@ use Rattle.ember_model.specs.Edges.{RingEdge, IsOutline}
 use Rattle.ember_model.specs.FaceFiles.{support_line, edge_line, IsLowest, IsWrittenEdge}
 use Rattle.ember_poly.proofs.Chains.{each_map}
 use Rattle.ember_poly.proofs.MovedOutline.{AreMoved, outline_moved}
-use Rattle.ember_text.specs.Texts.{IsEdgeText, IsGoodText, Writes, turned}
+use Rattle.ember_text.specs.Texts.{IsEdgeText, IsTextInRange, Writes, turned}
 use Rattle.ember_text.proofs.TurnedEdges.{length-turned, outline_of_turned}
 
 -- two ways to say that all members have a property
@@ -41,7 +41,7 @@ lines_of (more {x = e} {xs = rs} {ys = text} {zs = texts} t rest) =
       long = ap (λ n. suc n) r.long;
     }
 
-good : (f : Face) (n : Plane) (rs : List RingEdge) (count : ℕ) {texts : List ℕ} → n ≡ f.support → IsValidPlane n → IsOutline f rs → 3 ≤ length rs → count ≡ length rs → Each IsEdgeText rs texts → IsGoodText f (support_line n count ++ texts)
+good : (f : Face) (n : Plane) (rs : List RingEdge) (count : ℕ) {texts : List ℕ} → n ≡ f.support → IsValidPlane n → IsOutline f rs → 3 ≤ length rs → count ≡ length rs → Each IsEdgeText rs texts → IsTextInRange f (support_line n count ++ texts)
 good f n rs count en vn o t ec each =
     let r = lines_of each in
     record {

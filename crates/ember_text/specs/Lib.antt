@@ -1,3 +1,3 @@
-pub mod Counted
 pub mod Documents
+pub mod FacesTexts
 pub mod Texts

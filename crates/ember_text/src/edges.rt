@@ -11,18 +11,18 @@ use crate::line::put_line;
 use ember_model::{OutOfMemory, Plane};
 use ember_point::{Meet, reduce};
 
-/// Appends the line of a face's support plane `n`, with its number of edges. If memory is short,
-/// nothing is appended.
-pub fn put_support(n: &Plane, count: usize, out: &mut Vec<u8>) -> Result<(), OutOfMemory>
-    requires { IsValidPlane n.now }
-    ensures ok { OnOk result (out.new.items ≡ out.old.items ++ support_line n.now count) }
-    ensures err { OnErr result (out.new.items ≡ out.old.items) }
+/// Appends the line of a face's support plane `support`, with its number of edges. If memory is
+/// short, nothing is appended.
+pub fn put_support(support: &Plane, count: usize, out: &mut Vec<u8>) -> Result<(), OutOfMemory>
+    requires { IsValidPlane support.now }
+    ensures ok { OnOk result (out.new.items ≡ out.old.items ++ support_line support.now count) }
+    ensures fault { OnErr result (out.new.items ≡ out.old.items) }
 {
     let numbers = [
-        n.a as i128,
-        n.b as i128,
-        n.c as i128,
-        n.d as i128,
+        support.a as i128,
+        support.b as i128,
+        support.c as i128,
+        support.d as i128,
         count as i128,
     ];
     put_line(b'f', &numbers, out)
@@ -33,7 +33,7 @@ fn put_edge(edge: &Plane, corner: &Meet, out: &mut Vec<u8>) -> Result<(), OutOfM
     requires { IsValidPlane edge.now }
     ensures ok { OnOk result (
         HasGrown (IsEdgeText (edge_with edge.now corner.now)) out.old.items out.new.items) }
-    ensures err { OnErr result (out.new.items ≡ out.old.items) }
+    ensures fault { OnErr result (out.new.items ≡ out.old.items) }
 {
     let start = reduce(corner);
     let numbers = [
@@ -56,7 +56,7 @@ pub fn put_edges(edges: &[Plane], corners: &[Meet], out: &mut Vec<u8>) -> Result
     requires valid { All IsValidPlane edges.now }
     ensures ok { OnOk result (
         HasGrown (Each IsEdgeText (ring_edges edges.now corners.now)) out.old.items out.new.items) }
-    ensures err { OnErr result (Extends out.old.items out.new.items) }
+    ensures fault { OnErr result (Extends out.old.items out.new.items) }
 {
     for i in 0..edges.len() {
         put_edge(&edges[i], &corners[i], out)?;
@@ -77,7 +77,7 @@ pub fn put_turned_edges(
     requires valid { All IsValidPlane edges.now }
     ensures ok { OnOk result (
         HasGrown (Each IsEdgeText (turned (ring_edges edges.now corners.now))) out.old.items out.new.items) }
-    ensures err { OnErr result (Extends out.old.items out.new.items) }
+    ensures fault { OnErr result (Extends out.old.items out.new.items) }
 {
     put_edge(&edges[0], &corners[1], out)?;
     let mut next = edges.len() - 1;

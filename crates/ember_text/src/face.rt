@@ -3,7 +3,7 @@ ghost use Rattle.std.specs.Prelude.{◌≡◌, OnOk, OnErr};
 ghost use Rattle.ember_model.specs.Faces.{flipped_face};
 ghost use Rattle.ember_model.specs.Planes.{opposite};
 ghost use Rattle.ember_model.specs.Valid.{IsValidPlane};
-ghost use Rattle.ember_text.specs.Texts.{Extends, Writes, seen};
+ghost use Rattle.ember_text.specs.Texts.{Extends, Writes, oriented_face};
 
 use crate::edges::{put_edges, put_support, put_turned_edges};
 use ember_model::{OutOfMemory, Plane};
@@ -27,7 +27,7 @@ fn opposite_plane(p: &Plane) -> Plane
 // Appends the lines of the face.
 fn put_face(r: &Ring, out: &mut Vec<u8>) -> Result<(), OutOfMemory>
     ensures ok { OnOk result (Writes r.now out.old.items out.new.items) }
-    ensures err { OnErr result (Extends out.old.items out.new.items) }
+    ensures fault { OnErr result (Extends out.old.items out.new.items) }
 {
     let (edges, corners) = outline(r);
     put_support(&support(r), edges.len(), out)?;
@@ -37,7 +37,7 @@ fn put_face(r: &Ring, out: &mut Vec<u8>) -> Result<(), OutOfMemory>
 // Appends the lines of the face with the opposite front.
 fn put_flipped_face(r: &Ring, out: &mut Vec<u8>) -> Result<(), OutOfMemory>
     ensures ok { OnOk result (Writes (flipped_face r.now) out.old.items out.new.items) }
-    ensures err { OnErr result (Extends out.old.items out.new.items) }
+    ensures fault { OnErr result (Extends out.old.items out.new.items) }
 {
     let (edges, corners) = outline(r);
     put_support(&opposite_plane(&support(r)), edges.len(), out)?;
@@ -45,9 +45,9 @@ fn put_flipped_face(r: &Ring, out: &mut Vec<u8>) -> Result<(), OutOfMemory>
 }
 
 // Appends the lines of the face, or, if `flipped`, of the same face with the opposite front.
-fn put_seen(r: &Ring, flipped: bool, out: &mut Vec<u8>) -> Result<(), OutOfMemory>
-    ensures ok { OnOk result (Writes (seen r.now flipped) out.old.items out.new.items) }
-    ensures err { OnErr result (Extends out.old.items out.new.items) }
+fn put_oriented_face(r: &Ring, flipped: bool, out: &mut Vec<u8>) -> Result<(), OutOfMemory>
+    ensures ok { OnOk result (Writes (oriented_face r.now flipped) out.old.items out.new.items) }
+    ensures fault { OnErr result (Extends out.old.items out.new.items) }
 {
     if flipped {
         put_flipped_face(r, out)
@@ -65,11 +65,11 @@ pub fn face_text(
     flipped: bool,
     out: &mut Vec<u8>,
 ) -> Result<(), OutOfMemory>
-    ensures ok { OnOk result (Writes (seen r.now flipped) out.old.items out.new.items) }
-    ensures err { OnErr result (out.new.items ≡ out.old.items) }
+    ensures ok { OnOk result (Writes (oriented_face r.now flipped) out.old.items out.new.items) }
+    ensures fault { OnErr result (out.new.items ≡ out.old.items) }
 {
     let begun = out.len();
-    let written = put_seen(r, flipped, out);
+    let written = put_oriented_face(r, flipped, out);
     if written.is_err() {
         out.truncate(begun);
     }

@@ -1,4 +1,7 @@
-//! The text of faces, and the face file of the written regions: the document.
+//! The text of faces, and the face file of the written regions: the document. `faces_text`
+//! (texts.rt) makes the text of a leaf, face by face (face.rt, edges.rt, line.rt), and
+//! `document_of` (whole.rt) puts the texts of all leaves together. README.md says which definitions
+//! to read first.
 #![tactic(auto)]
 
 mod edges;

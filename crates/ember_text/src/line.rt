@@ -57,7 +57,7 @@ fn write_field(n: i128, line: &mut [u8], end: usize) -> usize
 pub fn put_line(keyword: u8, numbers: &[i128], out: &mut Vec<u8>) -> Result<(), OutOfMemory>
     requires { length numbers.now ≤ 8 }
     ensures ok { OnOk result (out.new.items ≡ out.old.items ++ line_of (keyword ∷ []) numbers.now) }
-    ensures err { OnErr result (out.new.items ≡ out.old.items) }
+    ensures fault { OnErr result (out.new.items ≡ out.old.items) }
 {
     let mut line = [0; LONGEST];
     let mut at = LONGEST - 1;

@@ -1,7 +1,7 @@
 // The texts of written regions, one after another.
 ghost use Rattle.std.specs.Prelude.{◌≡◌, map, IfOk, OnOk};
 ghost use Rattle.ember_leaf.specs.Written.{HasGrown};
-ghost use Rattle.ember_text.specs.Documents.{AreGoodTexts, IsTextOf, written_face};
+ghost use Rattle.ember_text.specs.Documents.{AreTextsInRange, IsTextOf, written_face};
 
 use crate::face::face_text;
 use ember_leaf::Kept;
@@ -17,9 +17,9 @@ pub struct FacesText {
 }
 
 impl Model for FacesText {
-    ghost use Rattle.ember_text.specs.Counted.{CountedText};
+    ghost use Rattle.ember_text.specs.FacesTexts.{FacesText as FacesTextView};
 
-    ghost Value = { CountedText };
+    ghost Value = { FacesTextView };
 
     ghost view = { λ s. record { bytes = s.bytes.items; count = s.count } };
 }
@@ -44,7 +44,7 @@ impl FacesText {
 /// The only error is out-of-memory.
 pub fn put_faces(alloc: Global, kept: &[Kept], out: &mut Vec<u8>) -> Result<(), OutOfMemory>
     ensures { OnOk result (
-        HasGrown (AreGoodTexts (map written_face kept.now)) out.old.items out.new.items) }
+        HasGrown (AreTextsInRange (map written_face kept.now)) out.old.items out.new.items) }
 {
     for k in kept {
         face_text(alloc, &k.ring, k.flipped, out)?;

@@ -1,6 +1,6 @@
 // The document: the face file of written regions.
 ghost use Rattle.std.specs.Prelude.{◌≡◌, map, IfOk};
-ghost use Rattle.ember_text.specs.Documents.{IsDocumentOf, IsDocumentText, file_of, joined, written_face};
+ghost use Rattle.ember_text.specs.Documents.{IsDocumentOf, IsDocumentText, document_of, joined, written_face};
 
 use crate::file::{begin_file, put_ending};
 use crate::texts::{FacesText, put_faces};
@@ -42,7 +42,7 @@ pub fn face_count(texts: &[FacesText]) -> Result<u64, OutOfMemory>
 /// The face file of the faces with these texts: the header, the texts in order, and the last line
 /// with the number of all faces. The only error is out-of-memory.
 pub fn document_of(alloc: Global, texts: Vec<FacesText>) -> Result<Vec<u8>, OutOfMemory>
-    ensures bytes { IfOk result (λ file. file.items ≡ file_of (joined texts.items)) }
+    ensures bytes { IfOk result (λ file. file.items ≡ document_of (joined texts.items)) }
     ensures document { IfOk result (λ file. IsDocumentOf texts.items file.items) }
 {
     let count = face_count(&texts)?;

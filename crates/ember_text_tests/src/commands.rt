@@ -34,7 +34,7 @@ fn name_of(command: &Command) -> &'static str {
     }
 }
 
-// Its numbers, in the order in which they stand in `Command`; a report is 1, and what it lacks is 0.
+// Its numbers, in the order in which `Command` has them; a report is 1, and what it lacks is 0.
 fn numbers_of(command: &Command) -> [i64; 5] {
     match command {
         Command::Faces { places, .. } => [i64::from(*places), 0, 0, 0, 0],

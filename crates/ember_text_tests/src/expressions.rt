@@ -110,7 +110,7 @@ fn places_of_syntax_faults(rt: HostRuntime) {
         (b"m1)", 2),
         (b"m1=1", 2),
         (b"1=1=1", 3),
-        // a sum has no parentheses, and its first sign stands alone
+        // a sum has no parentheses, and its first sign is alone
         (b"(1+2)=3", 4),
         (b"1=--1", 3),
         (b"2*3=6", 2),

@@ -128,19 +128,19 @@ module _ (w : Path) (f : NearTriangle) where
   d = (interval_along (aabb_of_tri t) k).low
 
   abbrev m : ℕ
-  m = value_bound (spot_of w.next) + value_bound (spot_of w.last) + 1
+  m = value_bound (spot_of w.second_corner) + value_bound (spot_of w.third_corner) + 1
 
   -- the inside point, near enough
   abbrev q : Spot
-  q = close_to (pos m) (spot_of w.corner) (spot_of w.next) (spot_of w.last)
+  q = close_to (pos m) (spot_of w.first_corner) (spot_of w.second_corner) (spot_of w.third_corner)
 
   weight : pos 0 <ℤ q.w
   weight =
       let p : pos 0 <ℤ pos m = omega (arith, ints) in
-      let a = pos_mul (pos_mul p p) w.corner.valid.weight in let b = pos_mul p w.next.valid.weight in let c = w.last.valid.weight in omega (arith, linear, a, b, c)
+      let a = pos_mul (pos_mul p p) w.first_corner.valid.weight in let b = pos_mul p w.second_corner.valid.weight in let c = w.third_corner.valid.weight in omega (arith, linear, a, b, c)
 
   at_q : (h : Plane) → IsValidPlane h → sgn (value_at h q) ≡ side_at_end w h
-  at_q h i = close_sign m h (spot_of w.corner) (spot_of w.next) (spot_of w.last) i (omega arith) (omega arith)
+  at_q h i = close_sign m h (spot_of w.first_corner) (spot_of w.second_corner) (spot_of w.third_corner) i (omega arith) (omega arith)
 
   sized : IsSupportSized (support_of t)
   sized = support_sized t f.valid
@@ -150,11 +150,11 @@ module _ (w : Path) (f : NearTriangle) where
 
   below_q : floor_at_end w k <ℤ d → value_at (across k (pos 1) d) q <ℤ pos 0
   below_q l =
-      let g = across k (pos 1) d in let y = along_point k (spot_of w.corner) in let c = w.corner in
+      let g = across k (pos 1) d in let y = along_point k (spot_of w.first_corner) in let c = w.first_corner in
       let v = value_across k (pos 1) d (spot_of c) in let o = one-*ℤ (y -ℤ d *ℤ c.w) in
       let b = below_floor y c.w d c.valid.weight (let e = floor_is w k in omega (arith, linear, l, e)) in
       let first = sgn_neg {a = value_at g (spot_of c)} (omega (arith, linear, v, o, b)) in
-      negative_sign (value_at g q) (at_q g (support_valid (across_sized k (pos 1) d (record { small = omega arith }) (low_small t k f.valid))) ∙ ap (λ (s : Sign). or_sign s (or_sign (sgn (value_at g (spot_of w.next))) (sgn (value_at g (spot_of w.last))))) first)
+      negative_sign (value_at g q) (at_q g (support_valid (across_sized k (pos 1) d (record { small = omega arith }) (low_small t k f.valid))) ∙ ap (λ (s : Sign). or_sign s (or_sign (sgn (value_at g (spot_of w.second_corner))) (sgn (value_at g (spot_of w.third_corner))))) first)
 
   at_end : side_at_end w f.support ≡ sgn (value_at (support_of t) q)
   at_end = ap (λ (p : Plane). side_at_end w p) f.plane ∙ sym (at_q (support_of t) (support_valid sized))

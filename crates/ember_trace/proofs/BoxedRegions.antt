@@ -15,7 +15,7 @@ use Rattle.ember_model.specs.ClearTest.{none_positive}
 use Rattle.ember_model.proofs.SignTests.{negative_out, negative_in, positive_in, not_positive_in}
 use Rattle.ember_box.specs.Boxes.{Cell}
 use Rattle.ember_box.specs.Near.{tri_at}
-use Rattle.ember_box.specs.Regions.{Wall, walls, AtWall, cut, outside, in_high, stays, CuttingPlane, AtCuttingPlane, splits, whole, IsRegions}
+use Rattle.ember_box.specs.Regions.{Wall, walls, AreLeftByWall, cut, outside, in_high, stays, CuttingPlane, AreLeftByCuttingPlane, splits, whole, IsRegions}
 use Rattle.ember_trace.specs.Boxed.{LiesIn}
 use Rattle.ember_trace.proofs.FilledFaces.{inside_below, plane_at_inside_point_cuts}
 
@@ -35,9 +35,9 @@ not_past f p uncut aside v i =
   where
     all : (u : Spot) → is_inside f u ≡ true → pos 0 <ℤ value_at p v → is_positive (value_at p u) ≡ true
     all u j l =
-        by_sign (value_at p u) (λ m. positive_in m) (λ z. absurd (uncut (plane_at_inside_point_cuts f p v u i j l z))) (λ m. absurd (uncut (record { low = record { at = u; inside = j; holds = negative_in m }; high = record { at = v; inside = i; holds = positive_in l } })))
+        by_sign (value_at p u) (λ m. positive_in m) (λ z. absurd (uncut (plane_at_inside_point_cuts f p v u i j l z))) (λ m. absurd (uncut (record { some_below = record { at = u; inside = j; holds = negative_in m }; some_above = record { at = v; inside = i; holds = positive_in l } })))
 
-at_wall : (w : Wall) (Q : Spot → Type 0) (f : Face) (fs : List Face) → Everywhere f Q → AtWall w f fs → Every (λ g. Everywhere g (λ v. Q v × NotPast w v)) fs
+at_wall : (w : Wall) (Q : Spot → Type 0) (f : Face) (fs : List Face) → Everywhere f Q → AreLeftByWall w f fs → Every (λ g. Everywhere g (λ v. Q v × NotPast w v)) fs
 at_wall w Q f fs h (cut c) =
     (record { holds = λ v i. let j = inside_below f w.plane v i in let n = negative_out (value_at w.plane v) j.1 in (h.holds v j.0, not_positive_in (value_at w.plane v) (omega (arith, linear, n))) }, tt)
 at_wall w Q f fs h (outside a) = tt
@@ -51,7 +51,7 @@ every_map P Q f (x ∷ xs) h = (f x h.0, every_map P Q f xs h.1)
 abbrev PastNone : List Wall → Spot → Type 0
 PastNone ws v = none_positive (map (λ w. w.plane) ws) v ≡ true
 
-at_walls : {ws : List Wall} {fs gs : List Face} (Q : Spot → Type 0) → Chain (λ w. Each (AtWall w)) ws fs gs → Every (λ f. Everywhere f Q) fs → Every (λ g. Everywhere g (λ v. Q v × PastNone ws v)) gs
+at_walls : {ws : List Wall} {fs gs : List Face} (Q : Spot → Type 0) → Chain (λ w. Each (AreLeftByWall w)) ws fs gs → Every (λ f. Everywhere f Q) fs → Every (λ g. Everywhere g (λ v. Q v × PastNone ws v)) gs
 at_walls Q (done {a = fs}) h =
     every_map (λ f. Everywhere f Q) (λ f. Everywhere f (λ v. Q v × PastNone [] v)) (λ f e. record { holds = λ v i. (e.holds v i, refl) }) fs h
 at_walls Q (step {x = w} {xs = ws} {c = gs} r c) h =
@@ -61,12 +61,12 @@ at_walls Q (step {x = w} {xs = ws} {c = gs} r c) h =
     both x y = λ i. x i && y i
 
 -- ---- cutting planes
-at_cutting_plane : (b : CuttingPlane) (Q : Spot → Type 0) (f : Face) (fs : List Face) → Everywhere f Q → AtCuttingPlane b f fs → Every (λ g. Everywhere g Q) fs
+at_cutting_plane : (b : CuttingPlane) (Q : Spot → Type 0) (f : Face) (fs : List Face) → Everywhere f Q → AreLeftByCuttingPlane b f fs → Every (λ g. Everywhere g Q) fs
 at_cutting_plane b Q f fs h (splits m c) =
     (record { holds = λ v i. h.holds v (inside_below f b.plane v i).0 }, (record { holds = λ v i. h.holds v (inside_below f (opposite b.plane) v i).0 }, tt))
 at_cutting_plane b Q f fs h (whole m) = (h, tt)
 
-at_cutting_planes : {bs : List CuttingPlane} {fs gs : List Face} (Q : Spot → Type 0) → Chain (λ b. Each (AtCuttingPlane b)) bs fs gs → Every (λ f. Everywhere f Q) fs → Every (λ g. Everywhere g Q) gs
+at_cutting_planes : {bs : List CuttingPlane} {fs gs : List Face} (Q : Spot → Type 0) → Chain (λ b. Each (AreLeftByCuttingPlane b)) bs fs gs → Every (λ f. Everywhere f Q) fs → Every (λ g. Everywhere g Q) gs
 at_cutting_planes Q done h = h
 at_cutting_planes Q (step {x = b} r c) h =
     at_cutting_planes Q c (each_every (λ f. Everywhere f Q) (λ g. Everywhere g Q) (λ f fs e a. at_cutting_plane b Q f fs e a) r h)

@@ -16,7 +16,7 @@ use Rattle.ember_model.proofs.SignTests.{clash, negative_out, positive_out}
 use Rattle.ember_model.proofs.Hits.{closed_parts}
 use Rattle.ember_box.specs.Boxes.{Cell}
 use Rattle.ember_box.specs.Near.{tri_at}
-use Rattle.ember_box.specs.Regions.{Wall, AtWall, cut, outside, in_high, stays, CuttingPlane, cutting_planes_at, cutting_planes, AtCuttingPlane, splits, whole, IsRegions}
+use Rattle.ember_box.specs.Regions.{Wall, AreLeftByWall, cut, outside, in_high, stays, CuttingPlane, cutting_planes_at, cutting_planes, AreLeftByCuttingPlane, splits, whole, IsRegions}
 use Rattle.ember_poly.proofs.Chains.{each-front, each-back}
 use Rattle.ember_trace.proofs.PathVertices.{opposite_value}
 use Rattle.ember_trace.proofs.FilledFaces.{inside_below, uncut_flat}
@@ -28,21 +28,21 @@ use Rattle.ember_trace.proofs.BoxedRegions.{each_every, every_at, region_inside}
 abbrev Keeps : (Face → Type 0) → Type 0
 Keeps P = (f : Face) (p : Plane) → P f → P (below f p)
 
-wall_keeps : (P : Face → Type 0) → Keeps P → (w : Wall) (f : Face) (fs : List Face) → P f → AtWall w f fs → Every P fs
+wall_keeps : (P : Face → Type 0) → Keeps P → (w : Wall) (f : Face) (fs : List Face) → P f → AreLeftByWall w f fs → Every P fs
 wall_keeps P k w f fs h (cut c) = (k f w.plane h, tt)
 wall_keeps P k w f fs h (outside a) = tt
 wall_keeps P k w f fs h (in_high b o) = tt
 wall_keeps P k w f fs h (stays c a o) = (h, tt)
 
-walls_keep : (P : Face → Type 0) → Keeps P → {ws : List Wall} {fs gs : List Face} → Chain (λ w. Each (AtWall w)) ws fs gs → Every P fs → Every P gs
+walls_keep : (P : Face → Type 0) → Keeps P → {ws : List Wall} {fs gs : List Face} → Chain (λ w. Each (AreLeftByWall w)) ws fs gs → Every P fs → Every P gs
 walls_keep P k done h = h
 walls_keep P k (step {x = w} r c) h = walls_keep P k c (each_every P P (λ f fs e a. wall_keeps P k w f fs e a) r h)
 
-cutting_plane_keeps : (P : Face → Type 0) → Keeps P → (b : CuttingPlane) (f : Face) (fs : List Face) → P f → AtCuttingPlane b f fs → Every P fs
+cutting_plane_keeps : (P : Face → Type 0) → Keeps P → (b : CuttingPlane) (f : Face) (fs : List Face) → P f → AreLeftByCuttingPlane b f fs → Every P fs
 cutting_plane_keeps P k b f fs h (splits m c) = (k f b.plane h, (k f (opposite b.plane) h, tt))
 cutting_plane_keeps P k b f fs h (whole m) = (h, tt)
 
-cutting_planes_keep : (P : Face → Type 0) → Keeps P → {bs : List CuttingPlane} {fs gs : List Face} → Chain (λ b. Each (AtCuttingPlane b)) bs fs gs → Every P fs → Every P gs
+cutting_planes_keep : (P : Face → Type 0) → Keeps P → {bs : List CuttingPlane} {fs gs : List Face} → Chain (λ b. Each (AreLeftByCuttingPlane b)) bs fs gs → Every P fs → Every P gs
 cutting_planes_keep P k done h = h
 cutting_planes_keep P k (step {x = b} r c) h = cutting_planes_keep P k c (each_every P P (λ f fs e a. cutting_plane_keeps P k b f fs e a) r h)
 
@@ -53,15 +53,15 @@ IsUncut b g = (v : Spot) → is_inside g v ≡ true → is_in_closed b.face v �
 
 uncut_kept : (b : CuttingPlane) → Keeps (IsUncut b)
 uncut_kept b f p h v i c k =
-    h v (inside_below f p v i).0 c (record { low = record { at = k.low.at; inside = (inside_below f p k.low.at k.low.inside).0; holds = k.low.holds }; high = record { at = k.high.at; inside = (inside_below f p k.high.at k.high.inside).0; holds = k.high.holds } })
+    h v (inside_below f p v i).0 c (record { some_below = record { at = k.some_below.at; inside = (inside_below f p k.some_below.at k.some_below.inside).0; holds = k.some_below.holds }; some_above = record { at = k.some_above.at; inside = (inside_below f p k.some_above.at k.some_above.inside).0; holds = k.some_above.holds } })
 
-after_turn : (b : CuttingPlane) (f : Face) (fs : List Face) → AtCuttingPlane b f fs → Every (IsUncut b) fs
+after_turn : (b : CuttingPlane) (f : Face) (fs : List Face) → AreLeftByCuttingPlane b f fs → Every (IsUncut b) fs
 after_turn b f fs (splits m c) =
-    (λ v i c k. let l = negative_out (value_at b.plane k.high.at) (inside_below f b.plane k.high.at k.high.inside).1 in let h = positive_out (value_at b.plane k.high.at) k.high.holds in absurd (omega (arith, linear, l, h)), (λ v i c k. let l = negative_out (value_at (opposite b.plane) k.low.at) (inside_below f (opposite b.plane) k.low.at k.low.inside).1 in let h = negative_out (value_at b.plane k.low.at) k.low.holds in let e = opposite_value b.plane k.low.at in absurd (omega (arith, linear, l, h, e)), tt))
+    (λ v i c k. let l = negative_out (value_at b.plane k.some_above.at) (inside_below f b.plane k.some_above.at k.some_above.inside).1 in let h = positive_out (value_at b.plane k.some_above.at) k.some_above.holds in absurd (omega (arith, linear, l, h)), (λ v i c k. let l = negative_out (value_at (opposite b.plane) k.some_below.at) (inside_below f (opposite b.plane) k.some_below.at k.some_below.inside).1 in let h = negative_out (value_at b.plane k.some_below.at) k.some_below.holds in let e = opposite_value b.plane k.some_below.at in absurd (omega (arith, linear, l, h, e)), tt))
 after_turn b f fs (whole m) = (λ v i c k. m (record { at = v; inside = i; holds = c }) k, tt)
 
 -- after all turns
-after_all : {bs : List CuttingPlane} {fs gs : List Face} → Chain (λ b. Each (AtCuttingPlane b)) bs fs gs → Every (λ g. AllByRecursion (λ b. IsUncut b g) bs) gs
+after_all : {bs : List CuttingPlane} {fs gs : List Face} → Chain (λ b. Each (AreLeftByCuttingPlane b)) bs fs gs → Every (λ g. AllByRecursion (λ b. IsUncut b g) bs) gs
 after_all (done {a = fs}) = none_yet fs
   where
     none_yet : (fs : List Face) → Every (λ g. Unit {0}) fs

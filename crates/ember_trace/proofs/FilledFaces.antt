@@ -56,7 +56,7 @@ pub plane_at_inside_point_cuts : (f : Face) (p : Plane) (x y : Spot) → is_insi
 plane_at_inside_point_cuts f p x y hx hy px zy =
     let far = inside_past f x y hx hy in let n = far.from in
     let e = value_past p n y x in let z = zero_times (value_at p y) (pos n) zy in
-    record { low = record { at = past n y x; inside = far.holds n (le_refl n); holds = negative_in (omega (arith, linear, e, z, px)) }; high = record { at = x; inside = hx; holds = positive_in px } }
+    record { some_below = record { at = past n y x; inside = far.holds n (le_refl n); holds = negative_in (omega (arith, linear, e, z, px)) }; some_above = record { at = x; inside = hx; holds = positive_in px } }
 
 -- what a plane doesn't cut lies on it if one inside point does
 pub uncut_flat : (f : Face) (p : Plane) → (Cuts f p → ⊥) → (v : Spot) → is_inside f v ≡ true → value_at p v ≡ pos 0 → Everywhere f (λ u. value_at p u ≡ pos 0)
@@ -65,4 +65,4 @@ uncut_flat f p uncut v i z =
   where
     turned : Cuts f (opposite p) → Cuts f p
     turned c =
-        record { low = record { at = c.high.at; inside = c.high.inside; holds = negative_in (let l = positive_out (value_at (opposite p) c.high.at) c.high.holds in let e = opposite_value p c.high.at in omega (arith, linear, l, e)) }; high = record { at = c.low.at; inside = c.low.inside; holds = positive_in (let l = negative_out (value_at (opposite p) c.low.at) c.low.holds in let e = opposite_value p c.low.at in omega (arith, linear, l, e)) } }
+        record { some_below = record { at = c.some_above.at; inside = c.some_above.inside; holds = negative_in (let l = positive_out (value_at (opposite p) c.some_above.at) c.some_above.holds in let e = opposite_value p c.some_above.at in omega (arith, linear, l, e)) }; some_above = record { at = c.some_below.at; inside = c.some_below.inside; holds = positive_in (let l = negative_out (value_at (opposite p) c.some_below.at) c.some_below.holds in let e = opposite_value p c.some_below.at in omega (arith, linear, l, e)) } }

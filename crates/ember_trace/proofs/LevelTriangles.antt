@@ -50,7 +50,7 @@ empty_slid p Z at e = record { a = e.a; b = e.b; c = refl; d = moved p.d p.c at 
 
 empty_at_end : (w : Path) (p : Plane) → IsEmpty p → side_at_end w p ≡ Zero
 empty_at_end w p e =
-    let x = empty_value p (spot_of w.corner) e in let y = empty_value p (spot_of w.next) e in let z = empty_value p (spot_of w.last) e in
+    let x = empty_value p (spot_of w.first_corner) e in let y = empty_value p (spot_of w.second_corner) e in let z = empty_value p (spot_of w.third_corner) e in
     λ i. or_sign (x i) (or_sign (y i) (z i))
 
 empty_at_start : (w : Path) (p : Plane) → IsEmpty p → side_at_start w p ≡ Zero
@@ -58,8 +58,8 @@ empty_at_start w p e = empty_value p (reference_of w.lo) e
 
 empty_after_first : (w : Path) (p : Plane) → IsEmpty p → side_after_first w p ≡ Zero
 empty_after_first w p e =
-    let q = empty_slid p w.second (coordinate w.lo w.second) e in
-    let x = empty_at_end w (slid_to_start w w.main (slid_to_start w w.second p)) (empty_slid (slid_to_start w w.second p) w.main (coordinate w.lo w.main) q) in
+    let q = empty_slid p w.second_axis (coordinate w.lo w.second_axis) e in
+    let x = empty_at_end w (slid_to_start w w.main (slid_to_start w w.second_axis p)) (empty_slid (slid_to_start w w.second_axis p) w.main (coordinate w.lo w.main) q) in
     let y = empty_at_start w p e in λ i. or_sign (x i) (y i)
 
 -- the first edge plane is empty
@@ -71,12 +71,12 @@ level side f k z h =
     λ i. is_neg (e i) && (is_neg (side (times_plane s (edge_through t.b t.c (unit k)))) && (is_neg (side (times_plane s (edge_through t.c t.a (unit k)))) && true))
 
 -- so no segment along the axis runs through the triangle
-pub level_first : (w : Path) (f : NearTriangle) → is_nil (sgn (along f.support w.first)) ≡ true → all_behind (λ p. side_at_start w p) (edge_planes f.tri w.first) ≡ false
-level_first w f h = level (λ p. side_at_start w p) f w.first (empty_at_start w) h
+pub level_first : (w : Path) (f : NearTriangle) → is_nil (sgn (along f.support w.first_axis)) ≡ true → all_behind (λ p. side_at_start w p) (edge_planes f.tri w.first_axis) ≡ false
+level_first w f h = level (λ p. side_at_start w p) f w.first_axis (empty_at_start w) h
 
 -- if the normal has no entry along the second axis, the second segment doesn't run through the triangle
-pub level_second : (w : Path) (f : NearTriangle) → is_nil (sgn (along f.support w.second)) ≡ true → all_behind (λ p. side_after_first w p) (edge_planes f.tri w.second) ≡ false
-level_second w f h = level (λ p. side_after_first w p) f w.second (empty_after_first w) h
+pub level_second : (w : Path) (f : NearTriangle) → is_nil (sgn (along f.support w.second_axis)) ≡ true → all_behind (λ p. side_after_first w p) (edge_planes f.tri w.second_axis) ≡ false
+level_second w f h = level (λ p. side_after_first w p) f w.second_axis (empty_after_first w) h
 
 -- if the normal has no entry along the main axis, the last segment doesn't run through the triangle
 pub level_last : (w : Path) (f : NearTriangle) → is_nil (sgn (along f.support w.main)) ≡ true → all_behind (λ p. side_at_end w p) (edge_planes f.tri w.main) ≡ false

@@ -14,7 +14,7 @@ use Rattle.ember_law.proofs.FlatTriangles.{IsFlat}
 use Rattle.ember_law.proofs.Tallies.{tally, map_same, of_one, mesh_total_is_entry, tally_more, tally_none}
 use Rattle.ember_trace.specs.declared.near_triangle.NearTriangle.{NearTriangle}
 use Rattle.ember_trace.specs.NearTriangles.{tri_of}
-use Rattle.ember_trace.specs.Crossings.{taken, counted}
+use Rattle.ember_trace.specs.Crossings.{taken, ray_counts}
 
 -- flat triangles add nothing
 abbrev pub LeavesFlat : (Face → ℤ) → Type 0
@@ -85,11 +85,11 @@ module _ (g : Face → ℤ) (flat : LeavesFlat g) where
       taken_legs less fs (All-tail (λ f. g (face_of f.tri) ≡ neg_ℤ (less f)) f fs h) (with_more old f.tri.mesh (neg_ℤ (less f))) ∙ ap (λ (z : ℤ). added (with_more old f.tri.mesh z) (tally g (map tri_of fs))) (sym e) ∙ pushed old f.tri (map tri_of fs) f.mesh
 
   -- to add each triangle's number to its mesh's count is to add the tally
-  pub counted_rays : (more : Tri → ℤ) (ts : List Tri) → All (λ t. g (face_of t) ≡ more t) ts → All (HasMesh 64) ts → (old : List ℤ) → counted more ts old ≡ added old (tally g ts)
-  counted_rays more [] h m old = sym (tally_none g old)
-  counted_rays more (t ∷ ts) h m old =
+  pub ray_counts_rays : (more : Tri → ℤ) (ts : List Tri) → All (λ t. g (face_of t) ≡ more t) ts → All (HasMesh 64) ts → (old : List ℤ) → ray_counts more ts old ≡ added old (tally g ts)
+  ray_counts_rays more [] h m old = sym (tally_none g old)
+  ray_counts_rays more (t ∷ ts) h m old =
       let e = All-head (λ t. g (face_of t) ≡ more t) t ts h in
-      counted_rays more ts (All-tail (λ t. g (face_of t) ≡ more t) t ts h) (All-tail (HasMesh 64) t ts m) (with_more old t.mesh (more t)) ∙ ap (λ (z : ℤ). added (with_more old t.mesh z) (tally g ts)) (sym e) ∙ pushed old t ts (All-head (HasMesh 64) t ts m)
+      ray_counts_rays more ts (All-tail (λ t. g (face_of t) ≡ more t) t ts h) (All-tail (HasMesh 64) t ts m) (with_more old t.mesh (more t)) ∙ ap (λ (z : ℤ). added (with_more old t.mesh z) (tally g ts)) (sym e) ∙ pushed old t ts (All-head (HasMesh 64) t ts m)
 
 -- counts that begin with nothing
 pub added_none : (f : ℕ → ℤ) → added (replicate 64 (pos 0)) (map f meshes) ≡ map f meshes

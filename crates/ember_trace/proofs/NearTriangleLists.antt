@@ -19,7 +19,7 @@ pub more_facets : (ts : List Tri) (i : ℕ) (d : Tri) (c : Cell) (fs new : List 
 more_facets ts i d c fs new f l h t s e =
     record {
       tris = ap (λ (gs : List NearTriangle). map tri_of gs) e ∙ map-append tri_of fs (f ∷ []) ∙ ap (λ (us : List Tri). us ++ f.tri ∷ []) h.tris ∙ ap (λ (u : Tri). take i ts ++ u ∷ []) t ∙ sym (take_more ts i d l);
-      starts = subst (λ (gs : List NearTriangle). All (HasReferenceSide c) gs) (sym e) (All-push (HasReferenceSide c) fs f h.starts s);
+      reference_sides = subst (λ (gs : List NearTriangle). All (HasReferenceSide c) gs) (sym e) (All-push (HasReferenceSide c) fs f h.reference_sides s);
     }
 
 -- there are as many near triangles as triangles

@@ -18,15 +18,15 @@ use Rattle.ember_model.proofs.PlaneSizes.{support_sized}
 use Rattle.ember_law.proofs.FlatTriangles.{flat_crossing}
 use Rattle.ember_point.specs.declared.meet_point.Meet.{Meet}
 use Rattle.ember_ref.specs.References.{or_sign}
-use Rattle.ember_trace.specs.declared.side_vectors.Sides.{Sides}
+use Rattle.ember_trace.specs.declared.region_sides.Sides.{Sides}
 use Rattle.ember_trace.specs.Paths.{inside_side}
-use Rattle.ember_trace.specs.Crossings.{signed_crossing, is_pierced, counted, AreRayCounts}
+use Rattle.ember_trace.specs.Crossings.{signed_crossing, is_pierced, ray_counts, AreRayCounts}
 use Rattle.ember_trace.proofs.VertexSides.{IsClose}
 use Rattle.ember_trace.proofs.Corners.{first_corners}
 use Rattle.ember_trace.proofs.SegmentCrossings.{IsEnd, edges_behind, nested_cond_is_and, or_zero}
 use Rattle.ember_trace.proofs.ClearVertices.{generic_clear, end_generic}
 use Rattle.ember_trace.proofs.RegionEnds.{first_corners_found, before_end, after_end}
-use Rattle.ember_trace.proofs.MeshSums.{counted_rays, added_none}
+use Rattle.ember_trace.proofs.MeshSums.{ray_counts_rays, added_none}
 
 module _ (k : Axis) (a b d : Meet) (q : Spot) (close : IsClose k a b d q) (turn : Sign → Sign) (e : Spot) (end : IsEnd k a b d turn e) where
   -- the crossing of the ray from the end, as the code counts it
@@ -42,11 +42,11 @@ module _ (k : Axis) (a b d : Meet) (q : Spot) (close : IsClose k a b d q) (turn 
       let g = edges_behind (λ h. inside_side h a b d) t k e v (λ h i z. end.side h i ∙ or_zero (inside_side h a b d) (turn (sgn (along h k))) (ap turn (ap sgn z) ∙ end.level)) in
       crossing_is k e t end.weight ∙ (λ i. cond (m i && g i) (sign-number (along n k) i) (pos 0)) ∙ nested_cond_is_and (is_neg (times (or_sign (inside_side n a b d) (turn s)) s)) (is_pierced t k a b d) (number s)
 
-  end_sees : (ts : List Tri) → All IsValidTri ts → All (HasMesh 64) ts → HasWindings ts k e (counted ray ts (replicate 64 (pos 0)))
+  end_sees : (ts : List Tri) → All IsValidTri ts → All (HasMesh 64) ts → HasWindings ts k e (ray_counts ray ts (replicate 64 (pos 0)))
   end_sees ts valid numbered =
       record {
         clear = generic_clear e ts end.weight (end_generic k a b d q close turn e end) valid;
-        counts_are = sym (counted_rays (λ f. crossing f k e) (flat_crossing k e) ray ts (λ i t l. ray_crossing (get_or ts i t) (valid i t l)) numbered (replicate 64 (pos 0)) ∙ added_none _);
+        counts_are = sym (ray_counts_rays (λ f. crossing f k e) (flat_crossing k e) ray ts (λ i t l. ray_crossing (get_or ts i t) (valid i t l)) numbered (replicate 64 (pos 0)) ∙ added_none _);
       }
 
 -- the counts of the rays directly before and after a region are its sides

@@ -197,15 +197,15 @@ differ_back Y p q d = (sym d.0, sym d.1)
 differ_back Z p q d = (sym d.0, sym d.1)
 
 -- the floor at the end is that of the first corner's coordinate
-pub floor_is : (w : Path) (k : Axis) → floor_at_end w k ≡ int_div_euclid (along_point k (spot_of w.corner)) w.corner.w
+pub floor_is : (w : Path) (k : Axis) → floor_at_end w k ≡ int_div_euclid (along_point k (spot_of w.first_corner)) w.first_corner.w
 floor_is w X = refl
 floor_is w Y = refl
 floor_is w Z = refl
 
-module _ (c : Cell) (k : Axis) (v : Path) (e : v.lo ≡ entries c.lo) (q : Spot) (n : ℕ) (s : AreStops k c.lo v.corner v.next v.last q n) (f : NearTriangle) (from : HasReferenceSide c f) where
+module _ (c : Cell) (k : Axis) (v : Path) (e : v.lo ≡ entries c.lo) (q : Spot) (n : ℕ) (s : AreStops k c.lo v.first_corner v.second_corner v.third_corner q n) (f : NearTriangle) (from : HasReferenceSide c f) where
   -- the path, with its axes told by the last
   abbrev w : Path
-  w = record v { first = first_of k; second = second_of k; main = k }
+  w = record v { first_axis = first_of k; second_axis = second_of k; main = k }
 
   abbrev t : Tri
   t = f.tri
@@ -234,18 +234,18 @@ module _ (c : Cell) (k : Axis) (v : Path) (e : v.lo ≡ entries c.lo) (q : Spot)
 
   side_first : (h : Plane) → IsSupportSized h → sgn (value_at h p1) ≡ side_after_first w h
   side_first h i =
-      first_sign k c.lo v.corner v.next v.last q n s h i ∙ sym (λ j. or_sign (inside_side (slid (slid h (second_of k) (coordinate (e j) (second_of k))) k (coordinate (e j) k)) v.corner v.next v.last) (side_start h j))
+      first_sign k c.lo v.first_corner v.second_corner v.third_corner q n s h i ∙ sym (λ j. or_sign (inside_side (slid (slid h (second_of k) (coordinate (e j) (second_of k))) k (coordinate (e j) k)) v.first_corner v.second_corner v.third_corner) (side_start h j))
 
   side_second : (h : Plane) → IsSupportSized h → sgn (value_at h p2) ≡ side_after_second w h
   side_second h i =
-      second_sign k c.lo v.corner v.next v.last q n s h i ∙ sym (λ j. or_sign (inside_side (slid h k (coordinate (e j) k)) v.corner v.next v.last) (side_start h j))
+      second_sign k c.lo v.first_corner v.second_corner v.third_corner q n s h i ∙ sym (λ j. or_sign (inside_side (slid h k (coordinate (e j) k)) v.first_corner v.second_corner v.third_corner) (side_start h j))
 
   sized : IsSupportSized (support_of t)
   sized = support_sized t f.valid
 
   at_start : sgn (value_at (support_of t) p0) ≡ f.start
   at_start =
-      start_sign k c.lo v.corner v.next v.last q n s (support_of t) sized ∙ sym (from.start ∙ ap (λ (p : Plane). sgn (value_at p (reference_of (entries c.lo)))) f.plane ∙ ap (λ (r : Spot). sgn (value_at (support_of t) r)) (reference_is (entries c.lo) c refl))
+      start_sign k c.lo v.first_corner v.second_corner v.third_corner q n s (support_of t) sized ∙ sym (from.start ∙ ap (λ (p : Plane). sgn (value_at p (reference_of (entries c.lo)))) f.plane ∙ ap (λ (r : Spot). sgn (value_at (support_of t) r)) (reference_is (entries c.lo) c refl))
 
   after_first : sgn (value_at (support_of t) p1) ≡ side_after_first w f.support
   after_first = side_first (support_of t) sized ∙ ap (λ (p : Plane). side_after_first w p) (sym f.plane)
@@ -264,16 +264,16 @@ module _ (c : Cell) (k : Axis) (v : Path) (e : v.lo ≡ entries c.lo) (q : Spot)
   behind_start a i = let x = value_across a i.s i.d p0 in let l = i.past in omega (arith, linear, x, l)
 
   -- nor is the end's
-  past_end : (a : Axis) → may_contain (interval_along f.aabb a) (floor_at_end w a) ≡ false → IsPast t a (along_point a (spot_of v.corner)) v.corner.w
+  past_end : (a : Axis) → may_contain (interval_along f.aabb a) (floor_at_end w a) ≡ false → IsPast t a (along_point a (spot_of v.first_corner)) v.first_corner.w
   past_end a h =
-      past_floor t a f.valid (along_point a (spot_of v.corner)) v.corner.w v.corner.valid.weight (sym (λ j. may_contain (interval_along (f.bounds j) a) (floor_is w a j)) ∙ h)
+      past_floor t a f.valid (along_point a (spot_of v.first_corner)) v.first_corner.w v.first_corner.valid.weight (sym (λ j. may_contain (interval_along (f.bounds j) a) (floor_is w a j)) ∙ h)
 
-  behind_end : (a : Axis) (i : IsPast t a (along_point a (spot_of v.corner)) v.corner.w) → inside_side (across a i.s i.d) v.corner v.next v.last ≡ Neg
+  behind_end : (a : Axis) (i : IsPast t a (along_point a (spot_of v.first_corner)) v.first_corner.w) → inside_side (across a i.s i.d) v.first_corner v.second_corner v.third_corner ≡ Neg
   behind_end a i =
-      let g = across a i.s i.d in let x = value_across a i.s i.d (spot_of v.corner) in let l = i.past in
-      ap (λ (s : Sign). or_sign s (or_sign (sgn (value_at g (spot_of v.next))) (sgn (value_at g (spot_of v.last))))) (sgn_neg {a = value_at g (spot_of v.corner)} (omega (arith, linear, x, l)))
+      let g = across a i.s i.d in let x = value_across a i.s i.d (spot_of v.first_corner) in let l = i.past in
+      ap (λ (s : Sign). or_sign s (or_sign (sgn (value_at g (spot_of v.second_corner))) (sgn (value_at g (spot_of v.third_corner))))) (sgn_neg {a = value_at g (spot_of v.first_corner)} (omega (arith, linear, x, l)))
 
-  behind_q : (a : Axis) (i : IsPast t a (along_point a (spot_of v.corner)) v.corner.w) → value_at (across a i.s i.d) q <ℤ pos 0
+  behind_q : (a : Axis) (i : IsPast t a (along_point a (spot_of v.first_corner)) v.first_corner.w) → value_at (across a i.s i.d) q <ℤ pos 0
   behind_q a i =
       negative_sign (value_at (across a i.s i.d) q) (s.close.at_end (across a i.s i.d) (support_valid (across_sized a i.s i.d i.small_s i.small_d)) ∙ behind_end a i)
 
@@ -308,7 +308,7 @@ module _ (c : Cell) (k : Axis) (v : Path) (e : v.lo ≡ entries c.lo) (q : Spot)
       first =
           let b = all_behind (λ p. side_at_start w p) (edge_planes t (first_of k)) in
           tested (contains_above (interval_along f.aabb (second_of k)) (coordinate v.lo (second_of k))) b (signed_crossing f.start (side_after_first w f.support)) (leg (face_of t) p1 p0)
-          (leg_back (face_of t) p0 p1 w0 w1 ∙ ap neg_ℤ (told (first_of k) p0 p1 t b f.start (side_after_first w f.support) w0 w1 (differ_with (first_of k) p0 q) at_start after_first (edges_behind (λ p. side_at_start w p) t (first_of k) p0 f.valid (λ h i z. start_sign k c.lo v.corner v.next v.last q n s h i ∙ sym (side_start h)))))
+          (leg_back (face_of t) p0 p1 w0 w1 ∙ ap neg_ℤ (told (first_of k) p0 p1 t b f.start (side_after_first w f.support) w0 w1 (differ_with (first_of k) p0 q) at_start after_first (edges_behind (λ p. side_at_start w p) t (first_of k) p0 f.valid (λ h i z. start_sign k c.lo v.first_corner v.second_corner v.third_corner q n s h i ∙ sym (side_start h)))))
           (λ h. first_out (second_of k) (second_first k) h)
 
       second : leg (face_of t) p2 p1 ≡ neg_ℤ (second_segment w f)
@@ -318,7 +318,7 @@ module _ (c : Cell) (k : Axis) (v : Path) (e : v.lo ≡ entries c.lo) (q : Spot)
           (leg_back (face_of t) p1 p2 w1 w2 ∙ ap neg_ℤ (told (second_of k) p1 p2 t b (side_after_first w f.support) (side_after_second w f.support) w1 w2 (differ_with (second_of k) p1 q) after_first after_second (edges_behind (λ p. side_after_first w p) t (second_of k) p1 f.valid (λ h i z. side_first h i))))
           end_out
 
-  module _ (turn : Sign → Sign) (p3 : Spot) (end : IsEnd k v.corner v.next v.last turn p3) (line : DifferAlong k p2 p3) where
+  module _ (turn : Sign → Sign) (p3 : Spot) (end : IsEnd k v.first_corner v.second_corner v.third_corner turn p3) (line : DifferAlong k p2 p3) where
     abbrev side_end : Sign
     side_end = or_sign (side_at_end w f.support) (turn (sgn (along f.support k)))
 
@@ -326,10 +326,10 @@ module _ (c : Cell) (k : Axis) (v : Path) (e : v.lo ≡ entries c.lo) (q : Spot)
     final_leg =
         let b = all_behind (λ p. side_at_end w p) (edge_planes t k) in
         tested (may_end w f) b (signed_crossing (side_after_second w f.support) side_end) (leg (face_of t) p3 p2)
-        (told_back b (side_after_second w f.support) side_end (leg (face_of t) p3 p2) (told k p3 p2 t b side_end (side_after_second w f.support) end.weight w2 (differ_back k p2 p3 line) (end.side (support_of t) sized ∙ ap (λ (p : Plane). or_sign (side_at_end w p) (turn (sgn (along p k)))) (sym f.plane)) after_second (edges_behind (λ p. side_at_end w p) t k p3 f.valid (λ h i z. end.side h i ∙ or_zero (inside_side h v.corner v.next v.last) (turn (sgn (along h k))) (ap turn (ap sgn z) ∙ end.level)))))
+        (told_back b (side_after_second w f.support) side_end (leg (face_of t) p3 p2) (told k p3 p2 t b side_end (side_after_second w f.support) end.weight w2 (differ_back k p2 p3 line) (end.side (support_of t) sized ∙ ap (λ (p : Plane). or_sign (side_at_end w p) (turn (sgn (along p k)))) (sym f.plane)) after_second (edges_behind (λ p. side_at_end w p) t k p3 f.valid (λ h i z. end.side h i ∙ or_zero (inside_side h v.first_corner v.second_corner v.third_corner) (turn (sgn (along h k))) (ap turn (ap sgn z) ∙ end.level)))))
         (λ h. either_test (may_contain (interval_along f.aabb (first_of k)) (floor_at_end w (first_of k))) (may_contain (interval_along f.aabb (second_of k)) (floor_at_end w (second_of k))) first_out second_out h)
       where
-        at_p3 : (a : Axis) (i : IsPast t a (along_point a (spot_of v.corner)) v.corner.w) → value_at (across a i.s i.d) p3 <ℤ pos 0
+        at_p3 : (a : Axis) (i : IsPast t a (along_point a (spot_of v.first_corner)) v.first_corner.w) → value_at (across a i.s i.d) p3 <ℤ pos 0
         at_p3 a i =
             let g = across a i.s i.d in
             negative_sign (value_at g p3) (end.side g (across_sized a i.s i.d i.small_s i.small_d) ∙ ap (λ (s : Sign). or_sign s (turn (sgn (along g k)))) (behind_end a i))

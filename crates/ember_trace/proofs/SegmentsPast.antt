@@ -29,7 +29,7 @@ use Rattle.ember_model.proofs.Legs.{leg_off, leg_on, ends_nonzero, between_insid
 use Rattle.ember_law.proofs.CornerSides.{above_corners}
 use Rattle.ember_law.proofs.FlatTriangles.{flat_case, flat_out, flat_leg}
 use Rattle.ember_box.specs.declared.aabb.Interval.{Interval}
-use Rattle.ember_box.specs.Boxes.{along as along_vector}
+use Rattle.ember_box.specs.Boxes.{entry_along as along_vector}
 use Rattle.ember_box.specs.Aabbs.{interval_over, aabb_of_tri}
 use Rattle.ember_ref.proofs.NearPoints.{coordinate as along_point}
 use Rattle.ember_ref.proofs.FarTriangles.{inside_closed}

@@ -15,7 +15,7 @@ use Rattle.ember_model.specs.declared.point.Axis.{Axis}
 use Rattle.ember_model.specs.declared.point.Corner.{Corner}
 use Rattle.ember_model.specs.declared.tri.Tri.{Tri}
 use Rattle.ember_model.specs.declared.face.Face.{Face}
-use Rattle.ember_model.specs.Planes.{vector_of, unit, value_at, along, main_axis, times_plane, support_of, edge_through, side_of}
+use Rattle.ember_model.specs.Planes.{vector_of, unit, value_at, along, main_axis, times_plane, support_of, edge_through, vector_between}
 use Rattle.ember_model.specs.Faces.{is_inside, is_in_closed, is_flat, face_of, Everywhere, Cuts}
 use Rattle.ember_model.specs.Owners.{spot_of_corner, lies_in_plane_of, is_coplanar}
 use Rattle.ember_model.specs.ClearTest.{none_positive}
@@ -52,14 +52,14 @@ abbrev normal_of : Plane → Vector
 normal_of p = record { x = p.a; y = p.b; z = p.c }
 
 -- along the plane between two of its corners
-along_plane : (n : Plane) (u v : Corner) → value_at n (spot_of_corner u) ≡ pos 0 → value_at n (spot_of_corner v) ≡ pos 0 → dot (normal_of n) (side_of u v) ≡ pos 0
+along_plane : (n : Plane) (u v : Corner) → value_at n (spot_of_corner u) ≡ pos 0 → value_at n (spot_of_corner v) ≡ pos 0 → dot (normal_of n) (vector_between u v) ≡ pos 0
 along_plane n u v e h =
     let i = solve 10 (λ a b c d x y z r s t. a ⊗ (r ⊖ x) ⊕ b ⊗ (s ⊖ y) ⊕ c ⊗ (t ⊖ z) ≈ (a ⊗ r ⊕ b ⊗ s ⊕ c ⊗ t ⊖ d ⊗ num (pos 1)) ⊖ (a ⊗ x ⊕ b ⊗ y ⊕ c ⊗ z ⊖ d ⊗ num (pos 1))) cancels n.a n.b n.c n.d u.x u.y u.z v.x v.y v.z in
     omega (arith, linear, i, e, h)
 
 parallel_planes : (t u : Tri) → OnPlane t u → Parallel (support_of t) (support_of u)
 parallel_planes t u o =
-    let z = orthogonal_parallel (normal_of (support_of t)) (side_of u.a u.b) (side_of u.a u.c) (along_plane (support_of t) u.a u.b o.a o.b) (along_plane (support_of t) u.a u.c o.a o.c) in
+    let z = orthogonal_parallel (normal_of (support_of t)) (vector_between u.a u.b) (vector_between u.a u.c) (along_plane (support_of t) u.a u.b o.a o.b) (along_plane (support_of t) u.a u.c o.a o.c) in
     record { x = ap (λ (v : Vector). v.x) z; y = ap (λ (v : Vector). v.y) z; z = ap (λ (v : Vector). v.z) z }
 
 turned : {n p : Plane} → Parallel n p → Parallel p n
@@ -90,20 +90,20 @@ module _ (u : Tri) (k : Axis) (nz : along (support_of u) k ≢ pos 0) where
 
   first_edge : NoNormal (edge_through u.a u.b (unit k)) → ⊥
   first_edge h =
-      nz (along_dot (support_of u) k ∙ identity (vector ∷ vector ∷ vector ∷ vector ∷ []) (λ a b c f. dotE (crossE (minusE b a) (minusE c a)) f ≈ neg (dotE (minusE c a) (crossE (minusE b a) f))) cancels (vector_of u.a) (vector_of u.b) (vector_of u.c) (unit k) ∙ ap neg_ℤ (dot_zero (side_of u.a u.c) (cross (side_of u.a u.b) (unit k)) h.0 h.1 h.2))
+      nz (along_dot (support_of u) k ∙ identity (vector ∷ vector ∷ vector ∷ vector ∷ []) (λ a b c f. dotE (crossE (minusE b a) (minusE c a)) f ≈ neg (dotE (minusE c a) (crossE (minusE b a) f))) cancels (vector_of u.a) (vector_of u.b) (vector_of u.c) (unit k) ∙ ap neg_ℤ (dot_zero (vector_between u.a u.c) (cross (vector_between u.a u.b) (unit k)) h.0 h.1 h.2))
 
   second_edge : NoNormal (edge_through u.b u.c (unit k)) → ⊥
   second_edge h =
-      nz (along_dot (support_of u) k ∙ identity (vector ∷ vector ∷ vector ∷ vector ∷ []) (λ a b c f. dotE (crossE (minusE b a) (minusE c a)) f ≈ dotE (minusE b a) (crossE (minusE c b) f)) cancels (vector_of u.a) (vector_of u.b) (vector_of u.c) (unit k) ∙ dot_zero (side_of u.a u.b) (cross (side_of u.b u.c) (unit k)) h.0 h.1 h.2)
+      nz (along_dot (support_of u) k ∙ identity (vector ∷ vector ∷ vector ∷ vector ∷ []) (λ a b c f. dotE (crossE (minusE b a) (minusE c a)) f ≈ dotE (minusE b a) (crossE (minusE c b) f)) cancels (vector_of u.a) (vector_of u.b) (vector_of u.c) (unit k) ∙ dot_zero (vector_between u.a u.b) (cross (vector_between u.b u.c) (unit k)) h.0 h.1 h.2)
 
   third_edge : NoNormal (edge_through u.c u.a (unit k)) → ⊥
   third_edge h =
-      nz (along_dot (support_of u) k ∙ identity (vector ∷ vector ∷ vector ∷ vector ∷ []) (λ a b c f. dotE (crossE (minusE b a) (minusE c a)) f ≈ neg (dotE (minusE b a) (crossE (minusE a c) f))) cancels (vector_of u.a) (vector_of u.b) (vector_of u.c) (unit k) ∙ ap neg_ℤ (dot_zero (side_of u.a u.b) (cross (side_of u.c u.a) (unit k)) h.0 h.1 h.2))
+      nz (along_dot (support_of u) k ∙ identity (vector ∷ vector ∷ vector ∷ vector ∷ []) (λ a b c f. dotE (crossE (minusE b a) (minusE c a)) f ≈ neg (dotE (minusE b a) (crossE (minusE a c) f))) cancels (vector_of u.a) (vector_of u.b) (vector_of u.c) (unit k) ∙ ap neg_ℤ (dot_zero (vector_between u.a u.b) (cross (vector_between u.c u.a) (unit k)) h.0 h.1 h.2))
 
 -- a plane that doesn't cut a face, nor holds it, and isn't positive at a point, is negative on it
 one_side : (f : Face) (h : Plane) (v w : Spot) → (Cuts f h → ⊥) → (Everywhere f (λ x. value_at h x ≡ pos 0) → ⊥) → is_inside f v ≡ true → value_at h v ≤ℤ pos 0 → is_inside f w ≡ true → value_at h w <ℤ pos 0
 one_side f h v w uncut off iv lv iw =
-    by_sign (value_at h w) (λ l. absurd (uncut (record { low = record { at = v; inside = iv; holds = negative_in (strict (value_at h v) lv (λ z. off (uncut_flat f h uncut v iv z))) }; high = record { at = w; inside = iw; holds = positive_in l } }))) (λ z. absurd (off (uncut_flat f h uncut w iw z))) (λ l. l)
+    by_sign (value_at h w) (λ l. absurd (uncut (record { some_below = record { at = v; inside = iv; holds = negative_in (strict (value_at h v) lv (λ z. off (uncut_flat f h uncut v iv z))) }; some_above = record { at = w; inside = iw; holds = positive_in l } }))) (λ z. absurd (off (uncut_flat f h uncut w iw z))) (λ l. l)
   where
     strict : (x : ℤ) → x ≤ℤ pos 0 → (x ≡ pos 0 → ⊥) → x <ℤ pos 0
     strict x l n = by_sign x (λ p. absurd (omega (arith, linear, p, l))) (λ z. absurd (n z)) (λ p. p)

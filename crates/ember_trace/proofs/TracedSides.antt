@@ -36,7 +36,7 @@ use Rattle.ember_ref.proofs.ReferenceLegs.{weight_at}
 use Rattle.ember_ref.proofs.FarTriangles.{legs_near}
 use Rattle.ember_trace.specs.declared.near_triangle.NearTriangle.{NearTriangle}
 use Rattle.ember_trace.specs.declared.path.Path.{Path}
-use Rattle.ember_trace.specs.declared.side_vectors.Sides.{Sides}
+use Rattle.ember_trace.specs.declared.region_sides.Sides.{Sides}
 use Rattle.ember_trace.specs.NearTriangles.{AreNearTriangles, HasReferenceSide}
 use Rattle.ember_trace.specs.Paths.{coordinate, first_of, second_of, side_at_end, IsPathTo}
 use Rattle.ember_trace.specs.Crossings.{taken, segments_in_wall, last_segment, crossing_before, crossing_after, AreTraced}
@@ -81,9 +81,9 @@ module _ (k : Axis) (lo : Vector) (a b d : Meet) (q : Spot) (n : ℕ) (s : AreSt
       axes_law ts 64 i p k X (start_weight lo n s.large) (generic_clear p ts (start_weight lo n s.large) (start_generic k lo a b d q n s) i.valid) ∙ vector_on_one_side X p r (start_weight lo n s.large) (weight_at lo) (λ h j. start_sign k lo a b d q n s h j) ts i.valid
 
 -- ---- the vector at the end
-module _ (ts ns : List Tri) (c : Cell) (counts : List ℤ) (fits : Fits ts ns c counts) (k : Axis) (v : Path) (e : v.lo ≡ entries c.lo) (q : Spot) (n : ℕ) (s : AreStops k c.lo v.corner v.next v.last q n) (has : HasPoint c q) (fs : List NearTriangle) (near_triangles : AreNearTriangles ns c fs) (turn : Sign → Sign) (p3 : Spot) (end : IsEnd k v.corner v.next v.last turn p3) (line : DifferAlong k (stop_after_second k c.lo q n) p3) where
+module _ (ts ns : List Tri) (c : Cell) (counts : List ℤ) (fits : Fits ts ns c counts) (k : Axis) (v : Path) (e : v.lo ≡ entries c.lo) (q : Spot) (n : ℕ) (s : AreStops k c.lo v.first_corner v.second_corner v.third_corner q n) (has : HasPoint c q) (fs : List NearTriangle) (near_triangles : AreNearTriangles ns c fs) (turn : Sign → Sign) (p3 : Spot) (end : IsEnd k v.first_corner v.second_corner v.third_corner turn p3) (line : DifferAlong k (stop_after_second k c.lo q n) p3) where
   abbrev w : Path
-  w = record v { first = first_of k; second = second_of k; main = k }
+  w = record v { first_axis = first_of k; second_axis = second_of k; main = k }
 
   abbrev p0 : Spot
   p0 = stop_at_start c.lo n
@@ -104,16 +104,16 @@ module _ (ts ns : List Tri) (c : Cell) (counts : List ℤ) (fits : Fits ts ns c 
   h2 = has_with c (second_of k) p1 q h1 has
 
   c0 : AreClear (faces_of ts) p0
-  c0 = generic_clear p0 ts h0.weight (start_generic k c.lo v.corner v.next v.last q n s) fits.scene.valid
+  c0 = generic_clear p0 ts h0.weight (start_generic k c.lo v.first_corner v.second_corner v.third_corner q n s) fits.scene.valid
 
   c1 : AreClear (faces_of ts) p1
-  c1 = generic_clear p1 ts h1.weight (first_generic k c.lo v.corner v.next v.last q n s) fits.scene.valid
+  c1 = generic_clear p1 ts h1.weight (first_generic k c.lo v.first_corner v.second_corner v.third_corner q n s) fits.scene.valid
 
   c2 : AreClear (faces_of ts) p2
-  c2 = generic_clear p2 ts h2.weight (second_generic k c.lo v.corner v.next v.last q n s) fits.scene.valid
+  c2 = generic_clear p2 ts h2.weight (second_generic k c.lo v.first_corner v.second_corner v.third_corner q n s) fits.scene.valid
 
   clear_end : AreClear (faces_of ts) p3
-  clear_end = generic_clear p3 ts end.weight (end_generic k v.corner v.next v.last q s.close turn p3 end) fits.scene.valid
+  clear_end = generic_clear p3 ts end.weight (end_generic k v.first_corner v.second_corner v.third_corner q s.close turn p3 end) fits.scene.valid
 
   legs_one : leg_vector ts p1 p0 ≡ leg_vector ns p1 p0
   legs_one = sym (legs_near ts c p1 p0 h1 h0) ∙ ap (λ (us : List Tri). leg_vector us p1 p0) fits.near
@@ -123,7 +123,7 @@ module _ (ts ns : List Tri) (c : Cell) (counts : List ℤ) (fits : Fits ts ns c 
 
   legs_three : leg_vector ts p3 p2 ≡ leg_vector ns p3 p2
   legs_three =
-      sym (tally_kept (λ h. leg h p3 p2) (flat_leg p3 p2) (λ t. is_near c t) ts (λ i d l far. last_far c k v.corner v.next v.last q n s has turn p3 end line (get_or ts i d) (fits.scene.valid i d l) far)) ∙ ap (λ (us : List Tri). leg_vector us p3 p2) fits.near
+      sym (tally_kept (λ h. leg h p3 p2) (flat_leg p3 p2) (λ t. is_near c t) ts (λ i d l far. last_far c k v.first_corner v.second_corner v.third_corner q n s has turn p3 end line (get_or ts i d) (fits.scene.valid i d l) far)) ∙ ap (λ (us : List Tri). leg_vector us p3 p2) fits.near
 
   -- what a triangle adds on the three segments together
   abbrev legs : Face → ℤ
@@ -140,11 +140,11 @@ module _ (ts ns : List Tri) (c : Cell) (counts : List ℤ) (fits : Fits ts ns c 
       let a = legs_law ts 64 fits.scene k k p3 p2 end.weight h2.weight (differ_back k p2 p3 line) clear_end c2 in
       let b = legs_law ts 64 fits.scene (second_of k) k p2 p1 h2.weight h1.weight (differ_back (second_of k) p1 p2 (differ_with (second_of k) p1 q)) c2 c1 in
       let d = legs_law ts 64 fits.scene (first_of k) k p1 p0 h1.weight h0.weight (differ_back (first_of k) p0 p1 (differ_with (first_of k) p0 q)) c1 c0 in
-      let start = start_vector k c.lo v.corner v.next v.last q n s ts fits.scene ∙ fits.at in
+      let start = start_vector k c.lo v.first_corner v.second_corner v.third_corner q n s ts fits.scene ∙ fits.at in
       let one : vector k ts p1 ≡ added counts (leg_vector ns p1 p0) = d ∙ (λ i. added (start i) (legs_one i)) in
       let two : vector k ts p2 ≡ added counts (tally (λ h. leg h p1 p0 +ℤ leg h p2 p1) ns) = b ∙ (λ i. added (one i) (legs_two i)) ∙ tally_both (λ h. leg h p1 p0) (λ h. leg h p2 p1) ns counts in
       let three : vector k ts p3 ≡ added counts (tally legs ns) = a ∙ (λ i. added (two i) (legs_three i)) ∙ tally_both (λ h. leg h p1 p0 +ℤ leg h p2 p1) (λ h. leg h p3 p2) ns counts in
-      three ∙ ap (λ (us : List Tri). added counts (tally legs us)) (sym near_triangles.tris) ∙ sym (taken_legs legs legs_flat less fs (λ i d l. each (get_or fs i d) (near_triangles.starts i d l)) counts)
+      three ∙ ap (λ (us : List Tri). added counts (tally legs us)) (sym near_triangles.tris) ∙ sym (taken_legs legs legs_flat less fs (λ i d l. each (get_or fs i d) (near_triangles.reference_sides i d l)) counts)
     where
       each : (f : NearTriangle) → HasReferenceSide c f → legs (face_of f.tri) ≡ neg_ℤ (less f)
       each f from =
@@ -158,29 +158,29 @@ module _ (ns : List Tri) (c : Cell) (counts : List ℤ) (f : Face) (v : Path) (i
   small : (k : Axis) → Small 2048 (coordinate (entries c.lo) k)
   small k = subst (λ (lo : List ℤ). Small 2048 (coordinate lo k)) is.lo (coordinate_small 2048 v.lo k v.small)
 
-  first : AreFirst f (spot_of v.corner) (spot_of v.next) (spot_of v.last)
-  first = first_corners f is.corners v.corner v.next v.last is.are_corners is.corner is.next is.last
+  first : AreFirst f (spot_of v.first_corner) (spot_of v.second_corner) (spot_of v.third_corner)
+  first = first_corners f is.corners v.first_corner v.second_corner v.third_corner is.are_corners is.first_corner is.second_corner is.third_corner
 
   -- the path with its axes told by the last
-  told : v ≡ record v { first = first_of k; second = second_of k; main = k }
-  told = λ i. record v { first = is.first i; second = is.second i; main = is.main i }
+  told : v ≡ record v { first_axis = first_of k; second_axis = second_of k; main = k }
+  told = λ i. record v { first_axis = is.first i; second_axis = is.second i; main = is.main i }
 
   -- the traced counts are the sides in each scene that fits
   traced_sides : (fs : List NearTriangle) → AreNearTriangles ns c fs → (before after : List ℤ) → before ≡ taken (crossing_before v) fs counts → after ≡ taken (crossing_after v) fs counts → LiesIn c f → (ts : List Tri) → Fits ts ns c counts → IsSides ts f before after
   unfolding crossing_before crossing_after
   traced_sides fs near_triangles before after eb ea l ts fits =
-      let u = first_corners_found f v.corner v.next v.last first in let has = in_box c f u.q l u.inside in
-      let n = far_out u.q in let stops = stops_from k c.lo v.corner v.next v.last u.q u.close small in
+      let u = first_corners_found f v.first_corner v.second_corner v.third_corner first in let has = in_box c f u.q l u.inside in
+      let n = far_out u.q in let stops = stops_from k c.lo v.first_corner v.second_corner v.third_corner u.q u.close small in
       let line = λ (m s : ℤ). differ_last k (stop_at_start c.lo n) u.q m s in
       record {
         at = u.q;
         inside = u.inside;
         bound = 33554431;
         sees_before = λ s m ls lm.
-            let e = before_end k v.corner v.next v.last u.q u.close s m ls lm in
+            let e = before_end k v.first_corner v.second_corner v.third_corner u.q u.close s m ls lm in
             record { clear = clear_end ts ns c counts fits k v is.lo u.q n stops has fs near_triangles flip _ e (line (pos m) (neg_ℤ (pos s))); counts_are = end_vector ts ns c counts fits k v is.lo u.q n stops has fs near_triangles flip _ e (line (pos m) (neg_ℤ (pos s))) ∙ sym (eb ∙ ap (λ (w : Path). taken (crossing_before w) fs counts) told) };
         sees_after = λ s m ls lm.
-            let e = after_end k v.corner v.next v.last u.q u.close s m ls lm in
+            let e = after_end k v.first_corner v.second_corner v.third_corner u.q u.close s m ls lm in
             record { clear = clear_end ts ns c counts fits k v is.lo u.q n stops has fs near_triangles (λ t. t) _ e (line (pos m) (pos s)); counts_are = end_vector ts ns c counts fits k v is.lo u.q n stops has fs near_triangles (λ t. t) _ e (line (pos m) (pos s)) ∙ sym (ea ∙ ap (λ (w : Path). taken (crossing_after w) fs counts) told) };
       }
 

@@ -20,7 +20,7 @@ use Rattle.ember_model.specs.declared.point.Axis.{Axis}
 use Rattle.ember_model.specs.declared.point.Axis.TheVariants.{X, Y, Z}
 use Rattle.ember_model.specs.declared.plane.Plane.{Plane}
 use Rattle.ember_model.specs.Planes.{value_at, along}
-use Rattle.ember_model.specs.Points.{scaled, moved, shifted}
+use Rattle.ember_model.specs.Points.{scaled, moved, offset_by}
 use Rattle.ember_model.specs.Valid.{IsValidPlane}
 use Rattle.ember_model.specs.Sizes.{IsSupportSized}
 use Rattle.ember_model.proofs.SignTests.{sgn_scaled, zero_times}
@@ -78,7 +78,7 @@ close_sign n h u v w i lv lw =
     ap sgn (value_close h (pos n) u v w) ∙ next_sign n (a *ℤ pos n +ℤ b) c (value_small h w i) lw ∙ ap (λ (s : Sign). or_sign s (sgn c)) (next_sign n a b (value_small h v i) lv) ∙ or_sign_assoc (sgn a) (sgn b) (sgn c)
 
 -- a plane that isn't 0 at a point has the same sign near it
-follows : {m : ℕ} (n : ℕ) (g : Plane) (v : Spot) → m < n → Small m g.a → Small m g.b → Small m g.c → value_at g v ≢ pos 0 → sgn (value_at g (shifted v (pos n))) ≡ sgn (value_at g v)
+follows : {m : ℕ} (n : ℕ) (g : Plane) (v : Spot) → m < n → Small m g.a → Small m g.b → Small m g.c → value_at g v ≢ pos 0 → sgn (value_at g (offset_by v (pos n))) ≡ sgn (value_at g v)
 follows n g v l a b c nz =
     let s : EachSmall _ (g.a ∷ g.b ∷ g.c ∷ []) = (a, (b, (c, tt))) in
     ap sgn (value_shifted g v (pos n)) ∙ by_sign (value_at g v) (λ p. sgn_pos (horner_pos (g.a ∷ g.b ∷ g.c ∷ []) (value_at g v) l s p) ∙ sym (sgn_pos p)) (λ z. absurd (nz z)) (λ p. sgn_neg (horner_neg (g.a ∷ g.b ∷ g.c ∷ []) (value_at g v) l s p) ∙ sym (sgn_neg p))
@@ -113,7 +113,7 @@ pub record AreStops (k : Axis) (lo : Vector) (a b c : Meet) (q : Spot) (n : ℕ)
   pub valid_twice : (h : Plane) → IsSupportSized h → IsValidPlane (slid_twice_to k lo h)
 
 abbrev pub stop_at_start : Vector → ℕ → Spot
-stop_at_start lo n = shifted (spot_of_vector lo) (pos n)
+stop_at_start lo n = offset_by (spot_of_vector lo) (pos n)
 
 abbrev pub stop_after_first : Axis → Vector → Spot → ℕ → Spot
 stop_after_first k lo q n = with_along (first_of k) (stop_at_start lo n) q

@@ -1,4 +1,4 @@
--- What the two vectors of a region of a box are: the winding numbers directly beside it
+-- When two vectors are the sides of a region of a box, and when it has no others
 use Rattle.std.specs.Prelude.{◌≡◌, ℕ, true, List, Some, slice_get, ℤ, map}
 use Rattle.ember_model.specs.declared.tri.Tri.{Tri}
 use Rattle.ember_model.specs.declared.face.Face.{Face}
@@ -8,14 +8,14 @@ use Rattle.ember_model.specs.Sides.{IsSides}
 use Rattle.ember_box.specs.Boxes.{Cell}
 use Rattle.ember_box.specs.Reference.{Fits}
 use Rattle.ember_box.specs.Regions.{walls, IsRegions}
-use Rattle.ember_trace.specs.declared.side_vectors.Sides.{Sides}
+use Rattle.ember_trace.specs.declared.region_sides.Sides.{Sides}
 
 -- the inside of the face lies in the closed box
 abbrev pub LiesIn : Cell → Face → Type 0
 LiesIn c f = Everywhere f (λ v. none_positive (map (λ w. w.plane) (walls c)) v ≡ true)
 
--- if the inside of the region lies in the box, they are its sides in each scene that fits what
--- is known at the box
+-- the two vectors are the sides of the face in each scene that fits what is known at the box, if
+-- the inside of the face lies in the box
 abbrev pub AreSides : List Tri → Cell → List ℤ → Face → Sides → Type 0
 AreSides near c counts f s =
     LiesIn c f → (scene : List Tri) → Fits scene near c counts → IsSides scene f s.before.counts s.after.counts
@@ -33,7 +33,7 @@ pub record IsRegion (near : List Tri) (c : Cell) (f : Face) : Type 0 where
   pub index : ℕ
   pub here : slice_get regions index ≡ Some f
 
--- if the face is a region of the box, they are its sides in each scene that fits what is known at the box
+-- the same, if the face is a region of the box
 abbrev pub AreRegionSides : List Tri → Cell → List ℤ → Face → Sides → Type 0
 AreRegionSides near c counts f s =
     IsRegion near c f → (scene : List Tri) → Fits scene near c counts → IsSides scene f s.before.counts s.after.counts

@@ -20,8 +20,8 @@ use Rattle.ember_box.specs.Boxes.{Cell}
 use Rattle.ember_ref.specs.References.{or_sign}
 use Rattle.ember_trace.specs.declared.near_triangle.NearTriangle.{NearTriangle}
 use Rattle.ember_trace.specs.declared.path.Path.{Path}
-use Rattle.ember_trace.specs.declared.segments.Ends.{Ends}
-use Rattle.ember_trace.specs.declared.side_vectors.Sides.{Sides}
+use Rattle.ember_trace.specs.declared.segments.EndCell.{EndCell}
+use Rattle.ember_trace.specs.declared.region_sides.Sides.{Sides}
 use Rattle.ember_trace.specs.NearTriangles.{AreNearTriangles}
 use Rattle.ember_trace.specs.Paths.{coordinate, inside_side, side_at_start, side_at_end, side_after_first, side_after_second, floor_at_end, HasAxes, IsPathTo}
 
@@ -40,45 +40,49 @@ interval_along s X = s.x
 interval_along s Y = s.y
 interval_along s Z = s.z
 
--- a coordinate a little above the whole number is strictly within the interval
+-- the whole number plus any small number above 0 is strictly between the ends of the interval
 abbrev pub contains_above : Interval → ℤ → Bool
 contains_above s at = int_le s.low at && int_lt at s.high
 
--- a coordinate from this whole number to the next can be within the interval
+-- the interval contains a number with this floor
 abbrev pub may_contain : Interval → ℤ → Bool
 may_contain s floor = int_le s.low floor && int_le floor s.high
 
--- a coordinate clamped to the root; bounding boxes contain it, or lie below or above it, as before
+-- a coordinate clamped to the root (negsuc 2047 is -2048): this changes no comparison with the
+-- bounding box of a triangle, which is inside the root
 abbrev pub in_root : ℤ → ℤ
 in_root z = if int_lt z (negsuc 2047) then negsuc 2047 else if int_lt (pos 2048) z then pos 2048 else z
 
 -- the clamped floors of a path's end along its axes, along the main axis at least that of the last segment's start
-pub record AreEnds (w : Path) (at : Ends) : Type 0 where
+pub record IsEndCell (w : Path) (at : EndCell) : Type 0 where
   pub axes : HasAxes w
-  pub first : at.first ≡ in_root (floor_at_end w w.first)
-  pub second : at.second ≡ in_root (floor_at_end w w.second)
+  pub first : at.first ≡ in_root (floor_at_end w w.first_axis)
+  pub second : at.second ≡ in_root (floor_at_end w w.second_axis)
   pub top : at.top ≡ int_max (in_root (floor_at_end w w.main)) (coordinate w.lo w.main)
 
 -- ---- the segments
--- the first segment, seen along itself, runs through the triangle
+-- the line of the first segment runs through the triangle, by the bounding box along the second axis and by the
+-- edge planes
 abbrev pub is_on_first : Path → NearTriangle → Bool
 is_on_first w f =
-    contains_above (interval_along f.aabb w.second) (coordinate w.lo w.second) &&
-    all_behind (λ p. side_at_start w p) (edge_planes f.tri w.first)
+    contains_above (interval_along f.aabb w.second_axis) (coordinate w.lo w.second_axis) &&
+    all_behind (λ p. side_at_start w p) (edge_planes f.tri w.first_axis)
 
--- the second segment, seen along itself, runs through the triangle
+-- the line of the second segment runs through the triangle, by the bounding box along the first axis and by the
+-- edge planes
 abbrev pub is_on_second : Path → NearTriangle → Bool
 is_on_second w f =
-    may_contain (interval_along f.aabb w.first) (floor_at_end w w.first) &&
-    all_behind (λ p. side_after_first w p) (edge_planes f.tri w.second)
+    may_contain (interval_along f.aabb w.first_axis) (floor_at_end w w.first_axis) &&
+    all_behind (λ p. side_after_first w p) (edge_planes f.tri w.second_axis)
 
 -- the end of the path can be within the bounding box
 abbrev pub may_end : Path → NearTriangle → Bool
 may_end w f =
-    may_contain (interval_along f.aabb w.first) (floor_at_end w w.first) &&
-    may_contain (interval_along f.aabb w.second) (floor_at_end w w.second)
+    may_contain (interval_along f.aabb w.first_axis) (floor_at_end w w.first_axis) &&
+    may_contain (interval_along f.aabb w.second_axis) (floor_at_end w w.second_axis)
 
--- the last segment, seen along itself, runs through the triangle
+-- the line of the last segment runs through the triangle, by the bounding box along both axes and by the edge
+-- planes
 abbrev pub is_on_last : Path → NearTriangle → Bool
 is_on_last w f = may_end w f && all_behind (λ p. side_at_end w p) (edge_planes f.tri w.main)
 
@@ -100,7 +104,9 @@ segments_in_wall w f =
 abbrev pub last_segment : Path → NearTriangle → Sign → ℤ
 last_segment w f end = if is_on_last w f then signed_crossing (side_after_second w f.support) end else pos 0
 
--- the sides of a plane directly before and after a point at which its side is this
+-- the side of a plane on which the point directly before another one along the axis lies, or the
+-- point directly after it. The other one lies on the side s. If it is on the plane, the entry of
+-- the normal along the axis decides.
 abbrev pub side_before : Plane → Axis → Sign → Sign
 side_before p k s = or_sign s (flip (sgn (along p k)))
 
@@ -115,7 +121,8 @@ unfoldable pub crossing_after : Path → NearTriangle → ℤ
 crossing_after w f = segments_in_wall w f +ℤ last_segment w f (side_after f.support w.main (side_at_end w f.support))
 
 -- ---- the sides
--- the counts less, for each near triangle, this number, which is subtracted from the count of its mesh
+-- the counts after a subtraction for each near triangle: of the number that `less` gives, from the
+-- count of its mesh
 abbrev pub taken : (NearTriangle → ℤ) → List NearTriangle → List ℤ → List ℤ
 taken less fs counts = fold (λ (vs : List ℤ) (f : NearTriangle). with_more vs f.tri.mesh (neg_ℤ (less f))) counts fs
 
@@ -151,8 +158,8 @@ ray_after t k u v w =
     (sgn (along (support_of t) k)) else pos 0
 
 -- the counts plus, for each triangle, this number for its mesh
-abbrev pub counted : (Tri → ℤ) → List Tri → List ℤ → List ℤ
-counted more ts counts = fold (λ (vs : List ℤ) (t : Tri). with_more vs t.mesh (more t)) counts ts
+abbrev pub ray_counts : (Tri → ℤ) → List Tri → List ℤ → List ℤ
+ray_counts more ts counts = fold (λ (vs : List ℤ) (t : Tri). with_more vs t.mesh (more t)) counts ts
 
 -- the counts of rays that begin directly before and after the region, near its first three corners
 pub record AreRayCounts (ts : List Tri) (r : Face) (s : Sides) : Type 0 where
@@ -165,6 +172,6 @@ pub record AreRayCounts (ts : List Tri) (r : Face) (s : Sides) : Type 0 where
   pub is_second : slice_get corners 1 ≡ Some second
   pub is_third : slice_get corners 2 ≡ Some third
   pub before : s.before.counts ≡
-      counted (λ t. ray_before t (main_axis r.support) first second third) ts (replicate 64 (pos 0))
+      ray_counts (λ t. ray_before t (main_axis r.support) first second third) ts (replicate 64 (pos 0))
   pub after : s.after.counts ≡
-      counted (λ t. ray_after t (main_axis r.support) first second third) ts (replicate 64 (pos 0))
+      ray_counts (λ t. ray_after t (main_axis r.support) first second third) ts (replicate 64 (pos 0))

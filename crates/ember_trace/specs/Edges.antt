@@ -26,4 +26,4 @@ fixed_edge u v main s by at = slid (slid (edge_times u v (second_of main) s) (se
 
 -- the same plane, with those two coordinates fixed to those of the path's start
 abbrev pub edge_after_first : Path → Corner → Corner → ℤ → Plane
-edge_after_first w u v s = slid_to_start w w.main (slid_to_start w w.second (edge_times u v w.second s))
+edge_after_first w u v s = slid_to_start w w.main (slid_to_start w w.second_axis (edge_times u v w.second_axis s))

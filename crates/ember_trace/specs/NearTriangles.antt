@@ -19,7 +19,7 @@ pub record HasReferenceSide (c : Cell) (f : NearTriangle) : Type 0 where
 -- the near triangles of the box that are made of these triangles, in order
 pub record AreNearTriangles (ts : List Tri) (c : Cell) (fs : List NearTriangle) : Type 0 where
   pub tris : map tri_of fs ≡ ts
-  pub starts : All (HasReferenceSide c) fs
+  pub reference_sides : All (HasReferenceSide c) fs
 
 -- counts of a box are at most 36 * 262144 in size: for each halving, at most one crossing with each triangle
 -- of a scene

@@ -22,8 +22,8 @@ coordinate at X = slice_index_or at 0 (pos 0)
 coordinate at Y = slice_index_or at 1 (pos 0)
 coordinate at Z = slice_index_or at 2 (pos 0)
 
--- the side of a plane on which the path's end lies, an inside point beside the first of three corners, and
--- closer still to the line from there to the second: that of the first corner which isn't on the plane
+-- the side of a plane on which the path's end lies, the point a + h (b - a) + h^2 (c - a) for small h > 0: that
+-- of the first of a, b, c that isn't on the plane (src/path.rt)
 abbrev pub inside_side : Plane → Meet → Meet → Meet → Sign
 inside_side p a b c =
     or_sign (sgn (value_at p (spot_of a))) (or_sign (sgn (value_at p (spot_of b))) (sgn (value_at p (spot_of c))))
@@ -34,25 +34,27 @@ side_at_start w p = sgn (value_at p (reference_of w.lo))
 
 -- the side of a plane on which it ends
 abbrev pub side_at_end : Path → Plane → Sign
-side_at_end w p = inside_side p w.corner w.next w.last
+side_at_end w p = inside_side p w.first_corner w.second_corner w.third_corner
 
 -- the plane with the coordinate along an axis fixed to that of the start
 abbrev pub slid_to_start : Path → Axis → Plane → Plane
 slid_to_start w k p = slid p k (coordinate w.lo k)
 
--- the sides on which the first and the second segment end: there two coordinates are those of the start, or one
+-- the sides on which the first and the second segment end: there two coordinates are those of the start, or
+-- one. If the plane with these fixed is zero at all three corners, it has no entry along the segments up to
+-- there, so they end on the side of the start (src/vertices.rt).
 abbrev pub side_after_first : Path → Plane → Sign
 side_after_first w p =
-    or_sign (side_at_end w (slid_to_start w w.main (slid_to_start w w.second p))) (side_at_start w p)
+    or_sign (side_at_end w (slid_to_start w w.main (slid_to_start w w.second_axis p))) (side_at_start w p)
 
 abbrev pub side_after_second : Path → Plane → Sign
 side_after_second w p = or_sign (side_at_end w (slid_to_start w w.main p)) (side_at_start w p)
 
 -- the floor of the coordinate of the first corner
 abbrev pub floor_at_end : Path → Axis → ℤ
-floor_at_end w X = int_div_euclid w.corner.x w.corner.w
-floor_at_end w Y = int_div_euclid w.corner.y w.corner.w
-floor_at_end w Z = int_div_euclid w.corner.z w.corner.w
+floor_at_end w X = int_div_euclid w.first_corner.x w.first_corner.w
+floor_at_end w Y = int_div_euclid w.first_corner.y w.first_corner.w
+floor_at_end w Z = int_div_euclid w.first_corner.z w.first_corner.w
 
 -- the first and the second of the other two axes
 abbrev pub first_of : Axis → Axis
@@ -67,17 +69,17 @@ second_of Z = Y
 
 -- the first two axes of a path are the two other than its main axis, in order
 pub record HasAxes (w : Path) : Type 0 where
-  pub first : w.first ≡ first_of w.main
-  pub second : w.second ≡ second_of w.main
+  pub first : w.first_axis ≡ first_of w.main
+  pub second : w.second_axis ≡ second_of w.main
 
 -- the path from the reference point of the box to the region
 pub record IsPathTo (c : Cell) (r : Face) (w : Path) : Type 0 where
   pub lo : w.lo ≡ c.lo.x ∷ c.lo.y ∷ c.lo.z ∷ []
   pub main : w.main ≡ main_axis r.support
-  pub first : w.first ≡ first_of (main_axis r.support)
-  pub second : w.second ≡ second_of (main_axis r.support)
+  pub first : w.first_axis ≡ first_of (main_axis r.support)
+  pub second : w.second_axis ≡ second_of (main_axis r.support)
   pub corners : List Meet
   pub are_corners : AreCorners r corners
-  pub corner : slice_get corners 0 ≡ Some w.corner
-  pub next : slice_get corners 1 ≡ Some w.next
-  pub last : slice_get corners 2 ≡ Some w.last
+  pub first_corner : slice_get corners 0 ≡ Some w.first_corner
+  pub second_corner : slice_get corners 1 ≡ Some w.second_corner
+  pub third_corner : slice_get corners 2 ≡ Some w.third_corner

@@ -29,10 +29,10 @@ pub fn signed_crossing(from: Sign, to: Sign) -> i32
 }
 
 // The opposite sign.
-fn flipped(s: Sign) -> Sign
-    ensures { result ≡ flip s }
+fn flipped(sign: Sign) -> Sign
+    ensures { result ≡ flip sign }
 {
-    match s {
+    match sign {
         Sign::Neg => Sign::Pos,
         Sign::Zero => Sign::Zero,
         Sign::Pos => Sign::Neg,
@@ -49,8 +49,8 @@ fn or_sign(first: Sign, second: Sign) -> Sign
     }
 }
 
-// The slope of a plane along an axis: the sign of its normal's entry there.
-fn slope(p: &Plane, k: Axis) -> Sign
+// The sign of the entry of a plane's normal along an axis.
+fn normal_sign(p: &Plane, k: Axis) -> Sign
     ensures { result ≡ sgn (along p.now k) }
 {
     match k {
@@ -64,7 +64,7 @@ fn slope(p: &Plane, k: Axis) -> Sign
 pub fn is_level(p: &Plane, k: Axis) -> bool
     ensures { result ≡ is_nil (sgn (along p.now k)) }
 {
-    matches!(slope(p, k), Sign::Zero)
+    matches!(normal_sign(p, k), Sign::Zero)
 }
 
 /// The sign of the normal's entry along an axis, as a number.
@@ -72,7 +72,7 @@ pub fn slope_number(p: &Plane, k: Axis) -> i64
     ensures value { result ≡ sign (along p.now k) }
     ensures small { Small 1 result }
 {
-    match slope(p, k) {
+    match normal_sign(p, k) {
         Sign::Neg => -1,
         Sign::Zero => 0,
         Sign::Pos => 1,
@@ -84,7 +84,7 @@ pub fn slope_number(p: &Plane, k: Axis) -> i64
 pub fn side_before(p: &Plane, k: Axis, at: Sign) -> Sign
     ensures { result ≡ side_before p.now k at }
 {
-    or_sign(at, flipped(slope(p, k)))
+    or_sign(at, flipped(normal_sign(p, k)))
 }
 
 /// The side of the plane on which the point directly after another one along an axis lies. `at` is
@@ -92,7 +92,7 @@ pub fn side_before(p: &Plane, k: Axis, at: Sign) -> Sign
 pub fn side_after(p: &Plane, k: Axis, at: Sign) -> Sign
     ensures { result ≡ side_after p.now k at }
 {
-    or_sign(at, slope(p, k))
+    or_sign(at, normal_sign(p, k))
 }
 
 /// How a ray along an axis crosses the plane, if it begins on this side of it.
@@ -100,5 +100,5 @@ pub fn signed_crossing_along(from: Sign, p: &Plane, k: Axis) -> i32
     ensures value { result ≡ signed_crossing from (sgn (along p.now k)) }
     ensures small { Small 1 result }
 {
-    signed_crossing(from, slope(p, k))
+    signed_crossing(from, normal_sign(p, k))
 }

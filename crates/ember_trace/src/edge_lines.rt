@@ -11,46 +11,47 @@ use ember_algebra::{Sign, sign_of};
 use ember_model::{Axis, Corner, Plane};
 use ember_point::{Meet, narrow_product};
 
-// The line on which `a p - b q - d` is 0.
+// The line of the points (p, q) at which `dq p - dp q - d` is 0: it leads along (dp, dq). Here p
+// and q are the coordinates along two axes.
 #[derive(Clone, Copy)]
-struct Line {
-    a: i64,
-    b: i64,
+struct EdgeLine {
+    dq: i64,
+    dp: i64,
     d: i64,
-    ghost small_a: { Small 4094 a },
-    ghost small_b: { Small 4094 b },
+    ghost small_dq: { Small 4094 dq },
+    ghost small_dp: { Small 4094 dp },
     ghost small_d: { Small 16760836 d },
 }
 
 // The line through two points, times a sign.
-fn line_through(from_p: i32, from_q: i32, to_p: i32, to_q: i32, s: i64) -> Line
+fn line_through(from_p: i32, from_q: i32, to_p: i32, to_q: i32, s: i64) -> EdgeLine
     requires from_p { Small 2047 from_p }
     requires from_q { Small 2047 from_q }
     requires to_p { Small 2047 to_p }
     requires to_q { Small 2047 to_q }
     requires s { Small 1 s }
-    ensures a { result.a ≡ s *ℤ (to_q -ℤ from_q) }
-    ensures b { result.b ≡ s *ℤ (to_p -ℤ from_p) }
+    ensures dq { result.dq ≡ s *ℤ (to_q -ℤ from_q) }
+    ensures dp { result.dp ≡ s *ℤ (to_p -ℤ from_p) }
     ensures d { result.d ≡ s *ℤ (to_q -ℤ from_q) *ℤ from_p -ℤ s *ℤ (to_p -ℤ from_p) *ℤ from_q }
 {
-    let a = s * (to_q as i64 - from_q as i64);
-    let b = s * (to_p as i64 - from_p as i64);
-    let d = a * from_p as i64 - b * from_q as i64;
-    Line { a, b, d }
+    let dq = s * (to_q as i64 - from_q as i64);
+    let dp = s * (to_p as i64 - from_p as i64);
+    let d = dq * from_p as i64 - dp * from_q as i64;
+    EdgeLine { dq, dp, d }
 }
 
 // The side of the line on which the point (p / w, q / w) lies.
-fn line_side(l: &Line, p: i128, q: i128, w: i128) -> Sign
+fn line_side(line: &EdgeLine, p: i128, q: i128, w: i128) -> Sign
     requires p { Small 4611686018427387903 p }
     requires q { Small 4611686018427387903 q }
     requires w { Small 4611686018427387903 w }
-    ensures { result ≡ sgn (l.now.a *ℤ p -ℤ l.now.b *ℤ q -ℤ l.now.d *ℤ w) }
+    ensures { result ≡ sgn (line.now.dq *ℤ p -ℤ line.now.dp *ℤ q -ℤ line.now.d *ℤ w) }
 {
-    sign_of(narrow_product(l.a, p) - narrow_product(l.b, q) - narrow_product(l.d, w))
+    sign_of(narrow_product(line.dq, p) - narrow_product(line.dp, q) - narrow_product(line.d, w))
 }
 
-/// Take the plane through an edge parallel to the axis, times a sign. On which side of it is this
-/// narrow point?
+/// The side of the plane through the edge from `u` to `v` and parallel to the axis `k`, times the
+/// sign `s`, on which the narrow point `m` is.
 pub fn edge_side(u: &Corner, v: &Corner, k: Axis, s: i64, m: &Meet) -> Sign
     requires from { IsValidCorner u.now }
     requires to { IsValidCorner v.now }
@@ -75,79 +76,81 @@ pub fn edge_plane_times(u: &Corner, v: &Corner, k: Axis, s: i64) -> Plane
 {
     match k {
         Axis::X => {
-            let l = line_through(u.y, u.z, v.y, v.z, s);
+            let line = line_through(u.y, u.z, v.y, v.z, s);
             Plane {
                 a: 0,
-                b: l.a,
-                c: -l.b,
-                d: l.d,
+                b: line.dq,
+                c: -line.dp,
+                d: line.d,
             }
         }
         Axis::Y => {
-            let l = line_through(u.z, u.x, v.z, v.x, s);
+            let line = line_through(u.z, u.x, v.z, v.x, s);
             Plane {
-                a: -l.b,
+                a: -line.dp,
                 b: 0,
-                c: l.a,
-                d: l.d,
+                c: line.dq,
+                d: line.d,
             }
         }
         Axis::Z => {
-            let l = line_through(u.x, u.y, v.x, v.y, s);
+            let line = line_through(u.x, u.y, v.x, v.y, s);
             Plane {
-                a: l.a,
-                b: -l.b,
+                a: line.dq,
+                b: -line.dp,
                 c: 0,
-                d: l.d,
+                d: line.d,
             }
         }
     }
 }
 
-// The point of a line along an axis at which `n x - e` is 0.
+// A point of an axis: the coordinate x at which `n x - e` is 0.
 #[derive(Clone, Copy)]
-struct Mark {
+struct AxisPoint {
     n: i64,
     e: i64,
     ghost small_n: { Small 4094 n },
     ghost small_e: { Small 25145348 e },
 }
 
-// The point of the line that has this first coordinate.
-fn mark_at_first(l: &Line, at: i32) -> Mark
+// Where the line has p = `at`: a point of the axis of q.
+fn axis_point_at_first(line: &EdgeLine, at: i32) -> AxisPoint
     requires { Small 2048 at }
-    ensures n { result.n ≡ neg_ℤ l.now.b }
-    ensures e { result.e ≡ l.now.d -ℤ l.now.a *ℤ at }
+    ensures n { result.n ≡ neg_ℤ line.now.dp }
+    ensures e { result.e ≡ line.now.d -ℤ line.now.dq *ℤ at }
 {
-    Mark {
-        n: -l.b,
-        e: l.d - l.a * at as i64,
+    AxisPoint {
+        n: -line.dp,
+        e: line.d - line.dq * at as i64,
     }
 }
 
-// The point of the line that has this last coordinate.
-fn mark_at_last(l: &Line, at: i32) -> Mark
+// Where the line has q = `at`: a point of the axis of p.
+fn axis_point_at_last(line: &EdgeLine, at: i32) -> AxisPoint
     requires { Small 2048 at }
-    ensures n { result.n ≡ l.now.a }
-    ensures e { result.e ≡ l.now.d +ℤ l.now.b *ℤ at }
+    ensures n { result.n ≡ line.now.dq }
+    ensures e { result.e ≡ line.now.d +ℤ line.now.dp *ℤ at }
 {
-    Mark {
-        n: l.a,
-        e: l.d + l.b * at as i64,
+    AxisPoint {
+        n: line.dq,
+        e: line.d + line.dp * at as i64,
     }
 }
 
-// The side of the mark on which the coordinate x / w lies.
-fn mark_side(k: &Mark, x: i128, w: i128) -> Sign
+// The side of the point on which the coordinate x / w lies.
+fn axis_point_side(point: &AxisPoint, x: i128, w: i128) -> Sign
     requires x { Small 4611686018427387903 x }
     requires w { Small 4611686018427387903 w }
-    ensures { result ≡ sgn (k.now.n *ℤ x -ℤ k.now.e *ℤ w) }
+    ensures { result ≡ sgn (point.now.n *ℤ x -ℤ point.now.e *ℤ w) }
 {
-    sign_of(narrow_product(k.n, x) - narrow_product(k.e, w))
+    sign_of(narrow_product(point.n, x) - narrow_product(point.e, w))
 }
 
-/// Take the plane through an edge parallel to the second axis of a path with this main axis, times
-/// a sign. On which side of it is this narrow point, once moved to `at` along the main axis?
+/// The side of the plane through the edge from `u` to `v` and parallel to the second axis of a path
+/// with this main axis, times the sign `s`, on which the narrow point `m` is, moved to `at` along
+/// the main axis. The plane has no entry along the second axis, so the clause may fix the
+/// coordinate along it to any number `by`.
 pub fn moved_edge_side(u: &Corner, v: &Corner, main: Axis, s: i64, at: i32, m: &Meet) -> Sign
     requires from { IsValidCorner u.now }
     requires to { IsValidCorner v.now }
@@ -157,18 +160,18 @@ pub fn moved_edge_side(u: &Corner, v: &Corner, main: Axis, s: i64, at: i32, m: &
     ensures { (by : ℤ) → result ≡ side_at (fixed_edge u.now v.now main s by at) m.now }
 {
     match main {
-        Axis::X => mark_side(
-            &mark_at_first(&line_through(u.x, u.y, v.x, v.y, s), at),
+        Axis::X => axis_point_side(
+            &axis_point_at_first(&line_through(u.x, u.y, v.x, v.y, s), at),
             m.y,
             m.w,
         ),
-        Axis::Y => mark_side(
-            &mark_at_last(&line_through(u.x, u.y, v.x, v.y, s), at),
+        Axis::Y => axis_point_side(
+            &axis_point_at_last(&line_through(u.x, u.y, v.x, v.y, s), at),
             m.x,
             m.w,
         ),
-        Axis::Z => mark_side(
-            &mark_at_first(&line_through(u.z, u.x, v.z, v.x, s), at),
+        Axis::Z => axis_point_side(
+            &axis_point_at_first(&line_through(u.z, u.x, v.z, v.x, s), at),
             m.x,
             m.w,
         ),

@@ -1,4 +1,7 @@
 // Behind which edges of a triangle the segments of a path run, if the region's corners are narrow.
+//
+// In this file the plane (u, v, k, s) is the one through the edge from `u` to `v` and parallel to
+// the axis `k`, times the sign `s`. Where there is no `k`, it is the path's second axis.
 ghost use Rattle.std.specs.Prelude.{◌≡◌, true};
 ghost use Rattle.ember_algebra.specs.Size.{Small};
 ghost use Rattle.ember_algebra.specs.Sign.{is_neg};
@@ -18,8 +21,7 @@ use ember_algebra::Sign;
 use ember_model::{Axis, Corner};
 use ember_point::Meet;
 
-// Take the plane through an edge parallel to the axis, times a sign. On which side of it does the
-// path end?
+// The side of the plane (u, v, k, s) on which the path ends.
 fn edge_side_at_end(u: &Corner, v: &Corner, k: Axis, s: i64, way: &Path) -> Sign
     requires from { IsValidCorner u.now }
     requires to { IsValidCorner v.now }
@@ -27,16 +29,16 @@ fn edge_side_at_end(u: &Corner, v: &Corner, k: Axis, s: i64, way: &Path) -> Sign
     requires narrow { way.now.narrow ≡ true }
     ensures { result ≡ side_at_end way.now (edge_times u.now v.now k s) }
 {
-    match edge_side(u, v, k, s, &way.corner) {
-        Sign::Zero => match edge_side(u, v, k, s, &way.next) {
-            Sign::Zero => edge_side(u, v, k, s, &way.last),
+    match edge_side(u, v, k, s, &way.first_corner) {
+        Sign::Zero => match edge_side(u, v, k, s, &way.second_corner) {
+            Sign::Zero => edge_side(u, v, k, s, &way.third_corner),
             side => side,
         },
         side => side,
     }
 }
 
-// Whether the path ends behind the plane through an edge parallel to the axis, times a sign.
+// Whether the path ends behind the plane (u, v, k, s).
 fn edge_is_behind(u: &Corner, v: &Corner, k: Axis, s: i64, way: &Path) -> bool
     requires from { IsValidCorner u.now }
     requires to { IsValidCorner v.now }
@@ -47,21 +49,21 @@ fn edge_is_behind(u: &Corner, v: &Corner, k: Axis, s: i64, way: &Path) -> bool
     matches!(edge_side_at_end(u, v, k, s, way), Sign::Neg)
 }
 
-/// Whether the last segment, seen along itself, runs through the triangle: all edge planes parallel
-/// to it are negative at its end. The corners of the region are narrow.
-pub fn narrow_last_is_behind(f: &NearTriangle, way: &Path) -> bool
+/// Whether the line of the last segment runs through the triangle: all edge planes parallel to it
+/// are negative at its end. The corners of the region are narrow.
+pub fn narrow_last_is_behind(triangle: &NearTriangle, way: &Path) -> bool
     requires { way.now.narrow ≡ true }
-    ensures { result ≡ all_behind (λ p. side_at_end way.now p) (edge_planes f.now.tri way.now.main) }
+    ensures { result ≡ all_behind (λ p. side_at_end way.now p) (edge_planes triangle.now.tri way.now.main) }
 {
     let k = way.main;
-    let t = &f.tri;
-    let s = slope_number(&f.support, k);
+    let t = &triangle.tri;
+    let s = slope_number(&triangle.support, k);
     edge_is_behind(&t.a, &t.b, k, s, way)
         && (edge_is_behind(&t.b, &t.c, k, s, way) && edge_is_behind(&t.c, &t.a, k, s, way))
 }
 
-// Take the plane through an edge parallel to the second axis, times a sign. On which side of it is
-// this corner, once its second and main coordinates are those of the path's start?
+// The side of the plane (u, v, s) on which the corner `m` is, moved to the start's second and main
+// coordinate.
 fn corner_side_after_first(u: &Corner, v: &Corner, s: i64, way: &Path, m: &Meet) -> Sign
     requires from { IsValidCorner u.now }
     requires to { IsValidCorner v.now }
@@ -73,10 +75,9 @@ fn corner_side_after_first(u: &Corner, v: &Corner, s: i64, way: &Path, m: &Meet)
     moved_edge_side(u, v, way.main, s, coordinate(way.lo, way.main), m)
 }
 
-// Take the plane through an edge parallel to the second axis, times a sign. On which side of it is
-// the region's inside point, once its second and main coordinates are those of the path's start?
-// The corners moved in this way decide: the result is `Zero` if all three are then on the plane.
-fn told_side_after_first(u: &Corner, v: &Corner, s: i64, way: &Path) -> Sign
+// The side of the plane (u, v, s) on which the region's inside point is, moved in the same way. The
+// moved corners decide: the result is `Zero` if all three are on the plane.
+fn side_by_corners(u: &Corner, v: &Corner, s: i64, way: &Path) -> Sign
     requires from { IsValidCorner u.now }
     requires to { IsValidCorner v.now }
     requires s { Small 1 s }
@@ -84,59 +85,58 @@ fn told_side_after_first(u: &Corner, v: &Corner, s: i64, way: &Path) -> Sign
     requires narrow { way.now.narrow ≡ true }
     ensures { result ≡ side_at_end way.now (edge_after_first way.now u.now v.now s) }
 {
-    match corner_side_after_first(u, v, s, way, &way.corner) {
-        Sign::Zero => match corner_side_after_first(u, v, s, way, &way.next) {
-            Sign::Zero => corner_side_after_first(u, v, s, way, &way.last),
+    match corner_side_after_first(u, v, s, way, &way.first_corner) {
+        Sign::Zero => match corner_side_after_first(u, v, s, way, &way.second_corner) {
+            Sign::Zero => corner_side_after_first(u, v, s, way, &way.third_corner),
             side => side,
         },
         side => side,
     }
 }
 
-// Take the plane through an edge parallel to the second axis, times a sign. On which side of it
-// does the first segment end?
+// The side of the plane (u, v, s) on which the first segment ends. If the moved corners are all on
+// it, that is the side of the start (see `side_after_first`).
 fn edge_side_after_first(u: &Corner, v: &Corner, s: i64, way: &Path) -> Sign
     requires from { IsValidCorner u.now }
     requires to { IsValidCorner v.now }
     requires s { Small 1 s }
     requires axes { HasAxes way.now }
     requires narrow { way.now.narrow ≡ true }
-    ensures { result ≡ side_after_first way.now (edge_times u.now v.now way.now.second s) }
+    ensures { result ≡ side_after_first way.now (edge_times u.now v.now way.now.second_axis s) }
 {
-    match told_side_after_first(u, v, s, way) {
-        Sign::Zero => way.side_at_start(&edge_plane_times(u, v, way.second, s)),
+    match side_by_corners(u, v, s, way) {
+        Sign::Zero => way.side_at_start(&edge_plane_times(u, v, way.second_axis, s)),
         side => side,
     }
 }
 
-// Whether the first segment ends behind the plane through an edge parallel to the second axis,
-// times a sign.
+// Whether the first segment ends behind the plane (u, v, s).
 fn edge_is_behind_after_first(u: &Corner, v: &Corner, s: i64, way: &Path) -> bool
     requires from { IsValidCorner u.now }
     requires to { IsValidCorner v.now }
     requires s { Small 1 s }
     requires axes { HasAxes way.now }
     requires narrow { way.now.narrow ≡ true }
-    ensures { result ≡ is_neg (side_after_first way.now (edge_times u.now v.now way.now.second s)) }
+    ensures { result ≡ is_neg (side_after_first way.now (edge_times u.now v.now way.now.second_axis s)) }
 {
     matches!(edge_side_after_first(u, v, s, way), Sign::Neg)
 }
 
-/// Whether the second segment, seen along itself, runs through the triangle: all edge planes
-/// parallel to it are negative at its start. The corners of the region are narrow.
-pub fn narrow_second_is_behind(f: &NearTriangle, way: &Path) -> bool
+/// Whether the line of the second segment runs through the triangle: all edge planes parallel to it
+/// are negative at its start. The corners of the region are narrow.
+pub fn narrow_second_is_behind(triangle: &NearTriangle, way: &Path) -> bool
     requires axes { HasAxes way.now }
     requires narrow { way.now.narrow ≡ true }
-    ensures { result ≡ all_behind (λ p. side_after_first way.now p) (edge_planes f.now.tri way.now.second) }
+    ensures { result ≡ all_behind (λ p. side_after_first way.now p) (edge_planes triangle.now.tri way.now.second_axis) }
 {
-    let t = &f.tri;
-    let s = slope_number(&f.support, way.second);
+    let t = &triangle.tri;
+    let s = slope_number(&triangle.support, way.second_axis);
     edge_is_behind_after_first(&t.a, &t.b, s, way)
         && (edge_is_behind_after_first(&t.b, &t.c, s, way)
             && edge_is_behind_after_first(&t.c, &t.a, s, way))
 }
 
-// Whether the path begins behind the plane through an edge parallel to the axis, times a sign.
+// Whether the path begins behind the plane (u, v, k, s).
 fn edge_is_behind_at_start(u: &Corner, v: &Corner, k: Axis, s: i64, way: &Path) -> bool
     requires from { IsValidCorner u.now }
     requires to { IsValidCorner v.now }
@@ -146,14 +146,14 @@ fn edge_is_behind_at_start(u: &Corner, v: &Corner, k: Axis, s: i64, way: &Path) 
     matches!(way.side_at_start(&edge_plane_times(u, v, k, s)), Sign::Neg)
 }
 
-/// Whether the first segment, seen along itself, runs through the triangle: all edge planes
-/// parallel to it are negative at its start.
-pub fn edges_are_behind_at_start(f: &NearTriangle, way: &Path) -> bool
-    ensures { result ≡ all_behind (λ p. side_at_start way.now p) (edge_planes f.now.tri way.now.first) }
+/// Whether the line of the first segment runs through the triangle: all edge planes parallel to it
+/// are negative at its start.
+pub fn edges_are_behind_at_start(triangle: &NearTriangle, way: &Path) -> bool
+    ensures { result ≡ all_behind (λ p. side_at_start way.now p) (edge_planes triangle.now.tri way.now.first_axis) }
 {
-    let k = way.first;
-    let t = &f.tri;
-    let s = slope_number(&f.support, k);
+    let k = way.first_axis;
+    let t = &triangle.tri;
+    let s = slope_number(&triangle.support, k);
     edge_is_behind_at_start(&t.a, &t.b, k, s, way)
         && (edge_is_behind_at_start(&t.b, &t.c, k, s, way)
             && edge_is_behind_at_start(&t.c, &t.a, k, s, way))

@@ -1,4 +1,8 @@
-//! The winding numbers on both sides of a region.
+//! The winding numbers on both sides of a region. README.md says how.
+//!
+//! `trace_sides` (sides.rt) makes a path to the region (path.rt, vertices.rt) and counts how often
+//! the path crosses each near triangle (segments.rt). edges.rt and edge_lines.rt say behind which
+//! edges of a triangle a segment runs. Only tests use whole_rays.rt.
 #![tactic(auto)]
 
 mod crossing_signs;
@@ -8,8 +12,8 @@ mod law;
 mod near;
 mod near_triangle;
 mod path;
+mod region_sides;
 mod segments;
-mod side_vectors;
 mod sides;
 mod vertices;
 mod whole_rays;
@@ -17,6 +21,6 @@ mod whole_rays;
 pub use law::slid_support_planes_are_valid;
 pub use near::near_triangles;
 pub use near_triangle::NearTriangle;
-pub use side_vectors::Sides;
-pub use sides::{put_sides_beside, sides_beside, sides_traced};
+pub use region_sides::Sides;
+pub use sides::{sides_beside, sides_traced, trace_sides};
 pub use whole_rays::{sides_by_rays, sides_whole};

@@ -1,5 +1,6 @@
-// The path from the reference point s of a box to a point e of a region: three segments along the axes, the
-// last one along the region's main axis. With the coordinates in the order of the path's axes, it leads
+// The path from the reference point s of a box to a point e of a region: three segments along the
+// axes, the last one along the region's main axis. With the coordinates in the order of the path's
+// axes, it leads
 //
 //     (s1, s2, s3) -> (e1, s2, s3) -> (e1, e2, s3) -> (e1, e2, e3).
 //
@@ -17,18 +18,19 @@ use ember_model::Axis;
 use ember_point::Meet;
 
 /// A path begins beside the corner `lo` of its box, at the reference point. Its three segments run
-/// along the axes `first`, `second` and `main`, in this order. `corner`, `next` and `last` are the
-/// first three corners of the region. `narrow` says whether all three are narrow points.
+/// along `first_axis`, `second_axis` and `main`, in this order. It ends beside the first three
+/// corners of the region. `narrow` says whether all three are narrow points.
 #[derive(Clone, Copy)]
 pub struct Path {
     pub lo: [i32; 3],
-    pub first: Axis,
-    pub second: Axis,
+    pub first_axis: Axis,
+    pub second_axis: Axis,
     pub main: Axis,
-    pub corner: Meet,
-    pub next: Meet,
-    pub last: Meet,
+    pub first_corner: Meet,
+    pub second_corner: Meet,
+    pub third_corner: Meet,
     pub narrow: bool,
     ghost small: { All (Small 2048) lo },
-    ghost corners: { narrow ≡ is_narrow (spot_of corner) && (is_narrow (spot_of next) && is_narrow (spot_of last)) },
+    ghost corners: { narrow ≡ is_narrow (spot_of first_corner) &&
+        (is_narrow (spot_of second_corner) && is_narrow (spot_of third_corner)) },
 }

@@ -8,7 +8,7 @@ ghost use Rattle.ember_model.specs.Valid.{IsValidPlane};
 ghost use Rattle.ember_model.specs.Sizes.{IsSupportSized};
 ghost use Rattle.ember_model.specs.Planes.{edge_planes};
 ghost use Rattle.ember_trace.specs.Paths.{HasAxes, coordinate, side_at_start, side_after_first, side_at_end, floor_at_end};
-ghost use Rattle.ember_trace.specs.Crossings.{all_behind, interval_along, contains_above, may_contain, may_end, in_root, AreEnds, is_on_first, is_on_second, is_on_last, first_segment, second_segment, segments_in_wall, last_segment, side_before, side_after, crossing_before, crossing_after};
+ghost use Rattle.ember_trace.specs.Crossings.{all_behind, interval_along, contains_above, may_contain, may_end, in_root, IsEndCell, is_on_first, is_on_second, is_on_last, first_segment, second_segment, segments_in_wall, last_segment, side_before, side_after, crossing_before, crossing_after};
 
 use crate::crossing_signs::{is_level, side_after, side_before, signed_crossing};
 use crate::edges::{edges_are_behind_at_start, narrow_last_is_behind, narrow_second_is_behind};
@@ -20,35 +20,38 @@ use ember_box::{Aabb, Interval};
 use ember_model::{Axis, Plane, edge_plane};
 
 // The interval of a bounding box along an axis.
-fn interval_along(s: &Aabb, k: Axis) -> Interval
-    ensures { result ≡ interval_along s.now k }
+fn interval_along(spans: &Aabb, k: Axis) -> Interval
+    ensures { result ≡ interval_along spans.now k }
 {
     match k {
-        Axis::X => s.x,
-        Axis::Y => s.y,
-        Axis::Z => s.z,
+        Axis::X => spans.x,
+        Axis::Y => spans.y,
+        Axis::Z => spans.z,
     }
 }
 
-// Whether a coordinate a little above the whole number is strictly within.
-fn contains_above(s: &Interval, at: i32) -> bool
-    ensures { result ≡ contains_above s.now at }
+// Whether `at` plus any small number above 0 is strictly between the ends of the interval.
+fn contains_above(interval: &Interval, at: i32) -> bool
+    ensures { result ≡ contains_above interval.now at }
 {
-    s.low <= at && at < s.high
+    interval.low <= at && at < interval.high
 }
 
-// Whether a coordinate from this whole number to the next can be within.
-fn may_contain(s: &Interval, floor: i32) -> bool
-    ensures { result ≡ may_contain s.now floor }
+// Whether the interval contains a number with this floor.
+fn may_contain(interval: &Interval, floor: i32) -> bool
+    ensures { result ≡ may_contain interval.now floor }
 {
-    s.low <= floor && floor <= s.high
+    interval.low <= floor && floor <= interval.high
 }
 
-/// The floors of the coordinates of a path's end, clamped to the root: along its first axis, along
-/// its second, and along its main axis, there at least that of the last segment's start (`top`).
-/// A triangle whose least main coordinate is above `top` lies above the whole last segment.
+/// Where a path ends, by the region's first corner: the floors of its coordinates along the first
+/// and the second axis, and as `top` the greater of its floor along the main axis and the start's
+/// coordinate. A triangle whose least main coordinate is above `top` lies above the whole last
+/// segment. The floors are clamped to the root so that they fit into 32 bits, since no clause here
+/// says that the region lies in the root; a comparison with a triangle's bounding box stays the
+/// same.
 #[derive(Clone, Copy)]
-pub struct Ends {
+pub struct EndCell {
     pub first: i32,
     pub second: i32,
     pub top: i32,
@@ -86,21 +89,21 @@ fn top_of(way: &Path) -> i32
 }
 
 /// The clamped floors of a path's end.
-pub fn ends_of(way: &Path) -> Ends
+pub fn end_cell_of(way: &Path) -> EndCell
     requires { HasAxes way.now }
-    ensures { AreEnds way.now result }
+    ensures { IsEndCell way.now result }
 {
-    let first = floor_in_root(way, way.first);
-    let second = floor_in_root(way, way.second);
+    let first = floor_in_root(way, way.first_axis);
+    let second = floor_in_root(way, way.second_axis);
     let top = top_of(way);
-    Ends { first, second, top }
+    EndCell { first, second, top }
 }
 
 // Whether the sign is `Neg`.
-fn is_neg(s: Sign) -> bool
-    ensures { result ≡ is_neg s }
+fn is_neg(sign: Sign) -> bool
+    ensures { result ≡ is_neg sign }
 {
-    matches!(s, Sign::Neg)
+    matches!(sign, Sign::Neg)
 }
 
 // Whether the first segment ends behind the plane.
@@ -120,27 +123,27 @@ fn is_behind_at_end(way: &Path, p: &Plane) -> bool
 }
 
 // Whether all edge planes parallel to the first segment are negative at its start.
-fn first_is_behind(f: &NearTriangle, way: &Path) -> bool
-    ensures { result ≡ all_behind (λ p. side_at_start way.now p) (edge_planes f.now.tri way.now.first) }
+fn first_is_behind(triangle: &NearTriangle, way: &Path) -> bool
+    ensures { result ≡ all_behind (λ p. side_at_start way.now p) (edge_planes triangle.now.tri way.now.first_axis) }
 {
-    if is_level(&f.support, way.first) {
+    if is_level(&triangle.support, way.first_axis) {
         return false;
     }
-    edges_are_behind_at_start(f, way)
+    edges_are_behind_at_start(triangle, way)
 }
 
 // Whether all edge planes parallel to the second segment are negative at its start.
-fn second_is_behind(f: &NearTriangle, way: &Path) -> bool
+fn second_is_behind(triangle: &NearTriangle, way: &Path) -> bool
     requires { HasAxes way.now }
-    ensures { result ≡ all_behind (λ p. side_after_first way.now p) (edge_planes f.now.tri way.now.second) }
+    ensures { result ≡ all_behind (λ p. side_after_first way.now p) (edge_planes triangle.now.tri way.now.second_axis) }
 {
-    let k = way.second;
-    let t = &f.tri;
-    if is_level(&f.support, k) {
+    let k = way.second_axis;
+    let t = &triangle.tri;
+    if is_level(&triangle.support, k) {
         return false;
     }
     if way.narrow {
-        return narrow_second_is_behind(f, way);
+        return narrow_second_is_behind(triangle, way);
     }
     is_behind_after_first(way, &edge_plane(t, 0, k))
         && (is_behind_after_first(way, &edge_plane(t, 1, k))
@@ -148,95 +151,97 @@ fn second_is_behind(f: &NearTriangle, way: &Path) -> bool
 }
 
 // Whether all edge planes parallel to the last segment are negative at its end.
-fn last_is_behind(f: &NearTriangle, way: &Path) -> bool
-    ensures { result ≡ all_behind (λ p. side_at_end way.now p) (edge_planes f.now.tri way.now.main) }
+fn last_is_behind(triangle: &NearTriangle, way: &Path) -> bool
+    ensures { result ≡ all_behind (λ p. side_at_end way.now p) (edge_planes triangle.now.tri way.now.main) }
 {
     let k = way.main;
-    let t = &f.tri;
-    if is_level(&f.support, k) {
+    let t = &triangle.tri;
+    if is_level(&triangle.support, k) {
         return false;
     }
     if way.narrow {
-        return narrow_last_is_behind(f, way);
+        return narrow_last_is_behind(triangle, way);
     }
     is_behind_at_end(way, &edge_plane(t, 0, k))
         && (is_behind_at_end(way, &edge_plane(t, 1, k))
             && is_behind_at_end(way, &edge_plane(t, 2, k)))
 }
 
-// Whether the first segment, seen along itself, runs through the triangle. The bounding box is
-// tested first.
-fn is_on_first(f: &NearTriangle, way: &Path) -> bool
-    ensures { result ≡ is_on_first way.now f.now }
+// Whether the line of the first segment runs through the triangle. The bounding box is tested along
+// the second axis first; `segments_in_wall` has tested it along the main axis.
+fn is_on_first(triangle: &NearTriangle, way: &Path) -> bool
+    ensures { result ≡ is_on_first way.now triangle.now }
 {
     contains_above(
-        &interval_along(&f.aabb, way.second),
-        coordinate(way.lo, way.second),
-    ) && first_is_behind(f, way)
+        &interval_along(&triangle.aabb, way.second_axis),
+        coordinate(way.lo, way.second_axis),
+    ) && first_is_behind(triangle, way)
 }
 
 // Whether the end of the path can be within the bounding box along the first axis.
-fn may_end_along_first(f: &NearTriangle, way: &Path, at: &Ends) -> bool
-    requires { AreEnds way.now at.now }
-    ensures { result ≡ may_contain (interval_along f.now.aabb way.now.first) (floor_at_end way.now way.now.first) }
+fn may_end_along_first(triangle: &NearTriangle, way: &Path, at: &EndCell) -> bool
+    requires { IsEndCell way.now at.now }
+    ensures { result ≡ may_contain (interval_along triangle.now.aabb way.now.first_axis)
+        (floor_at_end way.now way.now.first_axis) }
 {
-    may_contain(&interval_along(&f.aabb, way.first), at.first)
+    may_contain(&interval_along(&triangle.aabb, way.first_axis), at.first)
 }
 
 // Whether the end of the path can be within the bounding box along the second axis.
-fn may_end_along_second(f: &NearTriangle, way: &Path, at: &Ends) -> bool
-    requires { AreEnds way.now at.now }
-    ensures { result ≡ may_contain (interval_along f.now.aabb way.now.second) (floor_at_end way.now way.now.second) }
+fn may_end_along_second(triangle: &NearTriangle, way: &Path, at: &EndCell) -> bool
+    requires { IsEndCell way.now at.now }
+    ensures { result ≡ may_contain (interval_along triangle.now.aabb way.now.second_axis)
+        (floor_at_end way.now way.now.second_axis) }
 {
-    may_contain(&interval_along(&f.aabb, way.second), at.second)
+    may_contain(&interval_along(&triangle.aabb, way.second_axis), at.second)
 }
 
 // Whether the end of the path can be within the bounding box along both.
-fn may_end(f: &NearTriangle, way: &Path, at: &Ends) -> bool
-    requires { AreEnds way.now at.now }
-    ensures { result ≡ may_end way.now f.now }
+fn may_end(triangle: &NearTriangle, way: &Path, at: &EndCell) -> bool
+    requires { IsEndCell way.now at.now }
+    ensures { result ≡ may_end way.now triangle.now }
 {
-    may_end_along_first(f, way, at) && may_end_along_second(f, way, at)
+    may_end_along_first(triangle, way, at) && may_end_along_second(triangle, way, at)
 }
 
-// Whether the second segment, seen along itself, runs through the triangle.
-fn is_on_second(f: &NearTriangle, way: &Path, at: &Ends) -> bool
-    requires { AreEnds way.now at.now }
-    ensures { result ≡ is_on_second way.now f.now }
+// Whether the line of the second segment runs through the triangle.
+fn is_on_second(triangle: &NearTriangle, way: &Path, at: &EndCell) -> bool
+    requires { IsEndCell way.now at.now }
+    ensures { result ≡ is_on_second way.now triangle.now }
 {
-    may_end_along_first(f, way, at) && second_is_behind(f, way)
+    may_end_along_first(triangle, way, at) && second_is_behind(triangle, way)
 }
 
-// Whether the last segment, seen along itself, runs through the triangle.
-fn is_on_last(f: &NearTriangle, way: &Path, at: &Ends) -> bool
-    requires { AreEnds way.now at.now }
-    ensures { result ≡ is_on_last way.now f.now }
+// Whether the line of the last segment runs through the triangle.
+fn is_on_last(triangle: &NearTriangle, way: &Path, at: &EndCell) -> bool
+    requires { IsEndCell way.now at.now }
+    ensures { result ≡ is_on_last way.now triangle.now }
 {
-    may_end(f, way, at) && last_is_behind(f, way)
+    may_end(triangle, way, at) && last_is_behind(triangle, way)
 }
 
 // The signed crossing of the first segment with the triangle.
-fn first_segment(f: &NearTriangle, way: &Path) -> i32
-    ensures value { result ≡ first_segment way.now f.now }
+fn first_segment(triangle: &NearTriangle, way: &Path) -> i32
+    ensures value { result ≡ first_segment way.now triangle.now }
     ensures small { Small 1 result }
 {
-    if is_on_first(f, way) {
-        signed_crossing(f.start, way.side_after_first(&f.support))
+    if is_on_first(triangle, way) {
+        signed_crossing(triangle.start, way.side_after_first(&triangle.support))
     } else {
         0
     }
 }
 
 // The signed crossing of the second segment with the triangle.
-fn second_segment(f: &NearTriangle, way: &Path, at: &Ends) -> i32
-    requires { AreEnds way.now at.now }
-    ensures value { result ≡ second_segment way.now f.now }
+fn second_segment(triangle: &NearTriangle, way: &Path, at: &EndCell) -> i32
+    requires { IsEndCell way.now at.now }
+    ensures value { result ≡ second_segment way.now triangle.now }
     ensures small { Small 1 result }
 {
-    if is_on_second(f, way, at) {
+    if is_on_second(triangle, way, at) {
         signed_crossing(
-            way.side_after_first(&f.support),
-            way.side_after_second(&f.support),
+            way.side_after_first(&triangle.support),
+            way.side_after_second(&triangle.support),
         )
     } else {
         0
@@ -245,23 +250,24 @@ fn second_segment(f: &NearTriangle, way: &Path, at: &Ends) -> i32
 
 // Whether the path's start is strictly within the bounding box along the main axis. The first two
 // segments run at this coordinate.
-fn is_in_wall(f: &NearTriangle, way: &Path) -> bool
-    ensures { result ≡ contains_above (interval_along f.now.aabb way.now.main) (coordinate way.now.lo way.now.main) }
+fn is_in_wall(triangle: &NearTriangle, way: &Path) -> bool
+    ensures { result ≡
+        contains_above (interval_along triangle.now.aabb way.now.main) (coordinate way.now.lo way.now.main) }
 {
     contains_above(
-        &interval_along(&f.aabb, way.main),
+        &interval_along(&triangle.aabb, way.main),
         coordinate(way.lo, way.main),
     )
 }
 
 // The crossings of the first two segments, which run just above the low wall across the main axis.
-fn segments_in_wall(f: &NearTriangle, way: &Path, at: &Ends) -> i32
-    requires { AreEnds way.now at.now }
-    ensures value { result ≡ segments_in_wall way.now f.now }
+fn segments_in_wall(triangle: &NearTriangle, way: &Path, at: &EndCell) -> i32
+    requires { IsEndCell way.now at.now }
+    ensures value { result ≡ segments_in_wall way.now triangle.now }
     ensures small { Small 2 result }
 {
-    if is_in_wall(f, way) {
-        first_segment(f, way) + second_segment(f, way, at)
+    if is_in_wall(triangle, way) {
+        first_segment(triangle, way) + second_segment(triangle, way, at)
     } else {
         0
     }
@@ -276,63 +282,67 @@ pub struct Crossings {
 }
 
 // The crossings of the last segments, one along each path.
-fn last_segments_by_sides(f: &NearTriangle, way: &Path, at: &Ends) -> Crossings
-    requires { AreEnds way.now at.now }
+fn last_segments_by_sides(triangle: &NearTriangle, way: &Path, at: &EndCell) -> Crossings
+    requires { IsEndCell way.now at.now }
     ensures before { result.before ≡
-        last_segment way.now f.now (side_before f.now.support way.now.main (side_at_end way.now f.now.support)) }
+        last_segment way.now triangle.now
+        (side_before triangle.now.support way.now.main (side_at_end way.now triangle.now.support)) }
     ensures after { result.after ≡
-        last_segment way.now f.now (side_after f.now.support way.now.main (side_at_end way.now f.now.support)) }
+        last_segment way.now triangle.now
+        (side_after triangle.now.support way.now.main (side_at_end way.now triangle.now.support)) }
     ensures small { Small 1 result.before × Small 1 result.after }
 {
-    if !is_on_last(f, way, at) {
+    if !is_on_last(triangle, way, at) {
         return Crossings {
             before: 0,
             after: 0,
         };
     }
-    let start = way.side_after_second(&f.support);
-    let end = way.side_at_end(&f.support);
+    let start = way.side_after_second(&triangle.support);
+    let end = way.side_at_end(&triangle.support);
     Crossings {
-        before: signed_crossing(start, side_before(&f.support, way.main, end)),
-        after: signed_crossing(start, side_after(&f.support, way.main, end)),
+        before: signed_crossing(start, side_before(&triangle.support, way.main, end)),
+        after: signed_crossing(start, side_after(&triangle.support, way.main, end)),
     }
 }
 
 // Whether the bounding box lies above the whole last segment along the main axis.
-fn lies_above(f: &NearTriangle, way: &Path, at: &Ends) -> bool
-    ensures { result ≡ int_lt at.now.top (interval_along f.now.aabb way.now.main).low }
+fn lies_above(triangle: &NearTriangle, way: &Path, at: &EndCell) -> bool
+    ensures { result ≡ int_lt at.now.top (interval_along triangle.now.aabb way.now.main).low }
 {
-    at.top < interval_along(&f.aabb, way.main).low
+    at.top < interval_along(&triangle.aabb, way.main).low
 }
 
 // The crossings of the last segments: none if the triangle lies above both ends.
-fn last_segments(f: &NearTriangle, way: &Path, at: &Ends) -> Crossings
-    requires { AreEnds way.now at.now }
+fn last_segments(triangle: &NearTriangle, way: &Path, at: &EndCell) -> Crossings
+    requires { IsEndCell way.now at.now }
     ensures before { result.before ≡
-        last_segment way.now f.now (side_before f.now.support way.now.main (side_at_end way.now f.now.support)) }
+        last_segment way.now triangle.now
+        (side_before triangle.now.support way.now.main (side_at_end way.now triangle.now.support)) }
     ensures after { result.after ≡
-        last_segment way.now f.now (side_after f.now.support way.now.main (side_at_end way.now f.now.support)) }
+        last_segment way.now triangle.now
+        (side_after triangle.now.support way.now.main (side_at_end way.now triangle.now.support)) }
     ensures small { Small 1 result.before × Small 1 result.after }
 {
-    if lies_above(f, way, at) {
+    if lies_above(triangle, way, at) {
         Crossings {
             before: 0,
             after: 0,
         }
     } else {
-        last_segments_by_sides(f, way, at)
+        last_segments_by_sides(triangle, way, at)
     }
 }
 
 /// The signed crossings of the two paths with a triangle.
-pub fn crossings_of(f: &NearTriangle, way: &Path, at: &Ends) -> Crossings
-    requires { AreEnds way.now at.now }
-    ensures before { result.before ≡ crossing_before way.now f.now }
-    ensures after { result.after ≡ crossing_after way.now f.now }
+pub fn crossings_of(triangle: &NearTriangle, way: &Path, at: &EndCell) -> Crossings
+    requires { IsEndCell way.now at.now }
+    ensures before { result.before ≡ crossing_before way.now triangle.now }
+    ensures after { result.after ≡ crossing_after way.now triangle.now }
     ensures small { Small 3 result.before × Small 3 result.after }
 {
-    let both = segments_in_wall(f, way, at);
-    let last = last_segments(f, way, at);
+    let both = segments_in_wall(triangle, way, at);
+    let last = last_segments(triangle, way, at);
     Crossings {
         before: both + last.before,
         after: both + last.after,

@@ -10,8 +10,8 @@ ghost use Rattle.ember_trace.specs.Crossings.{AreTraced, AreTracedBy};
 
 use crate::near::near_triangles;
 use crate::near_triangle::NearTriangle;
-use crate::segments::{Crossings, crossings_of, ends_of};
-use crate::side_vectors::Sides;
+use crate::region_sides::Sides;
+use crate::segments::{Crossings, crossings_of, end_cell_of};
 use crate::vertices::path_to;
 use ember_box::Cell;
 use ember_model::{OutOfMemory, Tri, Vector};
@@ -57,7 +57,7 @@ fn take_crossings(sides: &mut Sides, mesh: u32, less: &Crossings)
 /// box's reference point p. For the end q of a path, w(p) = w(q) + the signed crossings of the path
 /// from p to q. So this subtracts from those numbers the crossings of two paths: one that ends
 /// directly before the region, and one that ends directly after it.
-pub fn put_sides_beside(near: &[NearTriangle], c: &Cell, v: &Vector, r: &Ring, sides: &mut Sides)
+pub fn trace_sides(near: &[NearTriangle], c: &Cell, v: &Vector, r: &Ring, sides: &mut Sides)
     requires few { length near.now ≤ 262144 }
     requires counts { AreBoxCounts v.now.counts }
     ensures traced { AreTraced c.now near.now v.now.counts r.now sides.new }
@@ -67,16 +67,16 @@ pub fn put_sides_beside(near: &[NearTriangle], c: &Cell, v: &Vector, r: &Ring, s
     ensures after { AreWithinBound (length near.now) v.now.counts sides.new.after.counts }
 {
     let way = path_to(c, r);
-    let at = ends_of(&way);
+    let at = end_cell_of(&way);
     sides.before = *v;
     sides.after = *v;
-    for f in near {
-        let less = crossings_of(f, &way, &at);
-        take_crossings(sides, f.tri.mesh, &less);
+    for triangle in near {
+        let less = crossings_of(triangle, &way, &at);
+        take_crossings(sides, triangle.tri.mesh, &less);
     }
 }
 
-/// The sides of a region of a box, as `put_sides_beside` puts them. Only tests call this.
+/// The sides of a region of a box, as `trace_sides` puts them. Only tests call this.
 pub fn sides_beside(near: &[NearTriangle], c: &Cell, v: &Vector, r: &Ring) -> Sides
     requires few { length near.now ≤ 262144 }
     requires counts { AreBoxCounts v.now.counts }
@@ -90,7 +90,7 @@ pub fn sides_beside(near: &[NearTriangle], c: &Cell, v: &Vector, r: &Ring) -> Si
         before: *v,
         after: *v,
     };
-    put_sides_beside(near, c, v, r, &mut sides);
+    trace_sides(near, c, v, r, &mut sides);
     sides
 }
 

@@ -51,12 +51,12 @@ pub fn path_to(c: &Cell, r: &Ring) -> Path
     let at = corners(r);
     Path {
         lo: c.lo(),
-        first: first_of(main),
-        second: second_of(main),
+        first_axis: first_of(main),
+        second_axis: second_of(main),
         main,
-        corner: at[0],
-        next: at[1],
-        last: at[2],
+        first_corner: at[0],
+        second_corner: at[1],
+        third_corner: at[2],
         narrow: are_narrow(&at[0], &at[1], &at[2]),
     }
 }
@@ -119,12 +119,12 @@ fn floor(n: i128, w: i128) -> i128
 }
 
 // The plane with the coordinate along an axis fixed to that of the start.
-fn slid_to_start(w: &Path, k: Axis, p: &Plane) -> Plane
+fn slid_to_start(way: &Path, k: Axis, p: &Plane) -> Plane
     requires plane { IsValidPlane p.now }
-    requires result { IsValidPlane (slid_to_start w.now k p.now) }
-    ensures { result ≡ slid_to_start w.now k p.now }
+    requires result { IsValidPlane (slid_to_start way.now k p.now) }
+    ensures { result ≡ slid_to_start way.now k p.now }
 {
-    slide(p, k, coordinate(w.lo, k))
+    slide(p, k, coordinate(way.lo, k))
 }
 
 impl Path {
@@ -142,25 +142,43 @@ impl Path {
         ensures { result ≡ side_at_end self.now p.now }
     {
         if self.narrow {
-            narrow_inside_side(p, &self.corner, &self.next, &self.last)
+            narrow_inside_side(
+                p,
+                &self.first_corner,
+                &self.second_corner,
+                &self.third_corner,
+            )
         } else {
-            inside_side(p, &self.corner, &self.next, &self.last)
+            inside_side(
+                p,
+                &self.first_corner,
+                &self.second_corner,
+                &self.third_corner,
+            )
         }
     }
 
-    /// The side of a plane on which the first segment ends.
+    /// The side of a plane on which the first segment ends, at a point with the first coordinate of
+    /// the path's end and the other two of its start. The plane with these two fixed is `Zero` at
+    /// all three corners only if it has no entry along the first axis: the corners don't share that
+    /// coordinate, since it isn't the main axis. Then the segment runs parallel to the plane, and
+    /// ends on the side on which it starts.
     pub fn side_after_first(&self, p: &Plane) -> Sign
         requires { IsSupportSized p.now }
         ensures { result ≡ side_after_first self.now p.now }
     {
-        let slid = slid_to_start(self, self.second, p);
+        let slid = slid_to_start(self, self.second_axis, p);
         match self.side_at_end(&slid_to_start(self, self.main, &slid)) {
             Sign::Zero => self.side_at_start(p),
             s => s,
         }
     }
 
-    /// The side of a plane on which the second segment ends.
+    /// The side of a plane on which the second segment ends, at a point with the main coordinate of
+    /// the path's start and the other two of its end. The plane with this one fixed is `Zero` at
+    /// all three corners only if it has no entry along the first and the second axis: the corners,
+    /// seen along the main axis, aren't on one line. Then both segments run parallel to the plane,
+    /// and end on the side on which the path starts.
     pub fn side_after_second(&self, p: &Plane) -> Sign
         requires { IsSupportSized p.now }
         ensures { result ≡ side_after_second self.now p.now }
@@ -175,7 +193,7 @@ impl Path {
     pub fn floor_at_end(&self, k: Axis) -> i128
         ensures { result ≡ floor_at_end self.now k }
     {
-        let m = &self.corner;
+        let m = &self.first_corner;
         match k {
             Axis::X => floor(m.x, m.w),
             Axis::Y => floor(m.y, m.w),

@@ -1,4 +1,4 @@
-// The sides of a region, by whole rays.
+// The sides of a region, by whole rays. Only tests use this; the program traces a path (sides.rt).
 ghost use Rattle.std.specs.Prelude.{◌≡◌, ◌≤◌, All, IfOk, length};
 ghost use Rattle.ember_algebra.specs.Size.{Small};
 ghost use Rattle.ember_algebra.specs.Sign.{is_neg};
@@ -12,7 +12,7 @@ ghost use Rattle.ember_trace.specs.Paths.{inside_side};
 ghost use Rattle.ember_trace.specs.Crossings.{is_pierced, ray_before, ray_after, AreRayCounts};
 
 use crate::crossing_signs::{side_after, side_before, signed_crossing_along};
-use crate::side_vectors::Sides;
+use crate::region_sides::Sides;
 use crate::vertices::inside_side;
 use ember_algebra::Sign;
 use ember_law::add_count;
@@ -91,7 +91,7 @@ pub fn sides_by_rays(tris: &[Tri], r: &Ring) -> Sides
     requires valid { All IsValidTri tris.now }
     requires numbered { All (HasMesh 64) tris.now }
     requires few { length tris.now ≤ 262144 }
-    ensures counted { AreRayCounts tris.now r.now result }
+    ensures ray_counts { AreRayCounts tris.now r.now result }
     ensures sides { IsSides tris.now r.now result.before.counts result.after.counts }
     ensures before { All (Small (length tris.now)) result.before.counts }
     ensures after { All (Small (length tris.now)) result.after.counts }
@@ -115,7 +115,7 @@ pub fn sides_by_rays(tris: &[Tri], r: &Ring) -> Sides
 /// The sides of a region, as `sides_by_rays` gives them for all triangles of the scene. Only tests
 /// call this. It never fails.
 pub fn sides_whole(_alloc: Global, s: &Scene, r: &Ring) -> Result<Sides, OutOfMemory>
-    ensures counted { IfOk result (λ x. AreRayCounts s.now.tris r.now x) }
+    ensures ray_counts { IfOk result (λ x. AreRayCounts s.now.tris r.now x) }
     ensures sides { IfOk result (λ x. IsSides s.now.tris r.now x.before.counts x.after.counts) }
     ensures only { IfOk result (λ x. (c : Cell) → IsRegion (near s.now.tris c) c r.now →
         AreAllSides s.now.tris r.now x) }

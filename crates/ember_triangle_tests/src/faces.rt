@@ -6,7 +6,7 @@ use crate::cuts::{plane, thirds};
 use ember_certificate::{Segment, SpacePoint};
 use ember_key::LineKey;
 use ember_model::Plane;
-use ember_triangles::{MeshFault, certified_triangles};
+use ember_triangles::{TrianglesFault, certified_triangles};
 use std::alloc::Global;
 use std::test::Fail;
 
@@ -30,7 +30,7 @@ fn count_of(
     directions: &[(i64, i64, i64)],
     corners: &[SpacePoint],
     segments: &[Segment],
-) -> Result<usize, MeshFault>
+) -> Result<usize, TrianglesFault>
     requires { All IsValidPlane planes.now }
 {
     let mut lines = Vec::new(alloc);
@@ -94,7 +94,7 @@ fn push_ring(
     segments: &mut Vec<Segment>,
     ring: &[(u32, u32)],
     is_open: bool,
-) -> Result<(), MeshFault> {
+) -> Result<(), TrianglesFault> {
     let Some((_, mut start)) = ring.last().copied() else {
         return Ok(());
     };
@@ -110,7 +110,11 @@ fn push_ring(
 }
 
 // How many triangles the two sides of a sheet become.
-fn sheet_count(alloc: Global, rings: &[&[(u32, u32)]], is_open: bool) -> Result<usize, MeshFault> {
+fn sheet_count(
+    alloc: Global,
+    rings: &[&[(u32, u32)]],
+    is_open: bool,
+) -> Result<usize, TrianglesFault> {
     let planes = [plane([0, 0, 1, 0]), plane([0, 0, -1, 0])];
     let mut corners = Vec::new(alloc);
     for (x, y) in PLACES {
@@ -132,13 +136,13 @@ fn sheets(rt: HostRuntime) {
     let east: &[(u32, u32)] = &[(8, 9), (11, 10), (9, 8)];
     let west: &[(u32, u32)] = &[(10, 11), (12, 12), (8, 8)];
     let south: &[(u32, u32)] = &[(9, 13), (13, 14), (10, 8)];
-    let overlap = MeshFault::Overlap { plane: 0, line: 0 };
-    let rows: [(&[&[(u32, u32)]], bool, Result<usize, MeshFault>); 7] = [
+    let overlap = TrianglesFault::Overlap { plane: 0, line: 0 };
+    let rows: [(&[&[(u32, u32)]], bool, Result<usize, TrianglesFault>); 7] = [
         (&[], false, Ok(0)),
         // The side that two squares have in common cancels.
         (&[left], false, Ok(4)),
         (&[left, right], false, Ok(4)),
-        (&[left, right], true, Err(MeshFault::NotClosed(0))),
+        (&[left, right], true, Err(TrianglesFault::NotClosed(0))),
         (&[left, left], false, Err(overlap)),
         // A corner of the hole lies inside an edge.
         (&[both, hole], false, Ok(12)),
@@ -168,7 +172,7 @@ const TETRAHEDRON: [(u32, u32, u32, u32); 12] = [
 ];
 
 // How many triangles these edges of the tetrahedron's faces become.
-fn tetrahedron_count(alloc: Global, segments: &[Segment]) -> Result<usize, MeshFault> {
+fn tetrahedron_count(alloc: Global, segments: &[Segment]) -> Result<usize, TrianglesFault> {
     let planes = [
         plane([0, 0, -1, 0]),
         plane([0, -1, 0, 0]),
@@ -202,6 +206,6 @@ fn faces_of_a_tetrahedron(rt: HostRuntime) -> Result<(), Fail> {
     assert_eq!(rt; count, Ok(4));
     let _ = segments.pop();
     let open = tetrahedron_count(rt.alloc(), &segments);
-    assert_eq!(rt; open, Err(MeshFault::NotClosed(4)));
+    assert_eq!(rt; open, Err(TrianglesFault::NotClosed(4)));
     Ok(())
 }

@@ -6,7 +6,7 @@ use ember_expr::parse;
 use ember_mesh::{Closed, Parts, balanced, check, join};
 use ember_model::{OutOfMemory, Scene, Soup};
 use ember_obj::read_obj;
-use ember_query::{Answer, Query, alone};
+use ember_query::{Answer, Query, answer_alone};
 use ember_solid_mesh::solid_mesh;
 use std::alloc::Global;
 use std::test::Fail;
@@ -74,7 +74,7 @@ fn count_of(alloc: Global, scene: &Scene, text: &[u8]) -> Result<usize, Fail> {
         &|query: &Query| -> Result<Answer, OutOfMemory>
             requires { IsQuery query.now }
             ensures { IfOk result (IsAnswer query.entry.now) }
-        { alone(alloc, &OpenGate, query) },
+        { answer_alone(alloc, &OpenGate, query) },
     )?;
     Ok(mesh.triangles.len())
 }

@@ -3,7 +3,7 @@ ghost use Rattle.std.specs.Prelude.{◌≡◌, ◌≤◌, [], ◌∷◌, length,
 ghost use Rattle.ember_certificate.specs.Chains.{HaveSameChains};
 ghost use Rattle.ember_triangles.specs.Walks.{AddsBoundary};
 
-use crate::fault::MeshFault;
+use crate::fault::TrianglesFault;
 use crate::marks::marks_of;
 use crate::split::{Split, splits_on};
 use crate::tables::Tables;
@@ -12,26 +12,30 @@ use ember_certificate::Segment;
 use std::alloc::Global;
 
 // Whether each of the two runs back over the other.
-fn are_opposite(s: &Segment, t: &Segment) -> bool
-    ensures start { IsTrue result → s.now.start ≡ t.now.end }
-    ensures end { IsTrue result → s.now.end ≡ t.now.start }
+fn are_opposite(first: &Segment, second: &Segment) -> bool
+    ensures start { IsTrue result → first.now.start ≡ second.now.end }
+    ensures end { IsTrue result → first.now.end ≡ second.now.start }
 {
-    s.start == t.end && s.end == t.start
+    first.start == second.end && first.end == second.start
 }
 
 // Appends two opposite segments, unless they are of one plane: then they cancel.
-fn push_opposite(s: &Segment, t: &Segment, boundaries: &mut Boundaries) -> Result<(), MeshFault>
-    requires line { s.now.line ≡ t.now.line }
-    requires start { s.now.start ≡ t.now.end }
-    requires end { s.now.end ≡ t.now.start }
-    ensures { OnOk result (AddsBoundary boundaries.old.segments.items (s.now ∷ t.now ∷ [])
+fn push_opposite(
+    first: &Segment,
+    second: &Segment,
+    boundaries: &mut Boundaries,
+) -> Result<(), TrianglesFault>
+    requires line { first.now.line ≡ second.now.line }
+    requires start { first.now.start ≡ second.now.end }
+    requires end { first.now.end ≡ second.now.start }
+    ensures { OnOk result (AddsBoundary boundaries.old.segments.items (first.now ∷ second.now ∷ [])
         boundaries.new.segments.items) }
 {
-    if s.plane == t.plane {
+    if first.plane == second.plane {
         return Ok(());
     }
-    boundaries.segments.push(*s)?;
-    boundaries.segments.push(*t)?;
+    boundaries.segments.push(*first)?;
+    boundaries.segments.push(*second)?;
     Ok(())
 }
 
@@ -44,7 +48,7 @@ fn walk_along(
     segments: &[Segment],
     splits: &[Split],
     boundaries: &mut Boundaries,
-) -> Result<(), MeshFault>
+) -> Result<(), TrianglesFault>
     requires { All (λ s. s.line ≡ line) segments.now }
     ensures { OnOk result (AddsBoundary boundaries.old.segments.items segments.now boundaries.new.segments.items) }
 {
@@ -63,7 +67,7 @@ fn push_line(
     segments: &[Segment],
     splits: &[Split],
     boundaries: &mut Boundaries,
-) -> Result<(), MeshFault>
+) -> Result<(), TrianglesFault>
     requires { All (λ s. s.line ≡ line) segments.now }
     ensures { OnOk result (AddsBoundary boundaries.old.segments.items segments.now boundaries.new.segments.items) }
 {
@@ -94,7 +98,7 @@ pub fn boundaries_of(
     tables: &Tables,
     by_line: &[Segment],
     splits: &[Split],
-) -> Result<Boundaries, MeshFault>
+) -> Result<Boundaries, TrianglesFault>
     ensures { IfOk result (λ boundaries. HaveSameChains by_line.now boundaries.segments.items) }
 {
     let mut boundaries = Boundaries {

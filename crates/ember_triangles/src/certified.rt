@@ -3,7 +3,7 @@ ghost use Rattle.std.specs.Prelude.{All, IfOk};
 ghost use Rattle.ember_model.specs.Valid.{IsValidPlane};
 ghost use Rattle.ember_certificate.specs.Certificate.{IsCertified};
 
-use crate::fault::MeshFault;
+use crate::fault::TrianglesFault;
 use crate::rounds::found_triangles;
 use crate::tables::Tables;
 use ember_certificate::{Segment, SpacePoint, Triangle, is_certified};
@@ -21,7 +21,7 @@ pub fn certified_triangles(
     lines: &[LineKey],
     corners: &[SpacePoint],
     segments: &[Segment],
-) -> Result<Vec<Triangle>, MeshFault>
+) -> Result<Vec<Triangle>, TrianglesFault>
     requires { All IsValidPlane planes.now }
     ensures { IfOk result (λ ts. IsCertified planes.now corners.now segments.now ts.items) }
 {
@@ -32,7 +32,7 @@ pub fn certified_triangles(
     };
     let triangles = found_triangles(alloc, &tables, segments)?;
     if !is_certified(alloc, planes, corners, segments, &triangles)? {
-        return Err(MeshFault::NotCertified);
+        return Err(TrianglesFault::NotCertified);
     }
     Ok(triangles)
 }

@@ -4,7 +4,7 @@ use thiserror::Error;
 
 /// Why faces get no certified triangles. Planes, lines and corners are given by their numbers.
 #[derive(Clone, Copy, Debug, PartialEq, Eq, Error)]
-pub enum MeshFault {
+pub enum TrianglesFault {
     /// A plane, a line or a corner of a segment isn't in its table.
     #[error("plane {0} isn't in the table of planes")]
     UnknownPlane(u32),
@@ -34,14 +34,14 @@ pub enum MeshFault {
     OutOfMemory,
 }
 
-impl From<AllocError> for MeshFault {
-    fn from(_error: AllocError) -> MeshFault {
-        MeshFault::OutOfMemory
+impl From<AllocError> for TrianglesFault {
+    fn from(_error: AllocError) -> TrianglesFault {
+        TrianglesFault::OutOfMemory
     }
 }
 
-impl<T: Drop> From<AllocFailed<T>> for MeshFault {
-    fn from(_error: AllocFailed<T>) -> MeshFault {
-        MeshFault::OutOfMemory
+impl<T: Drop> From<AllocFailed<T>> for TrianglesFault {
+    fn from(_error: AllocFailed<T>) -> TrianglesFault {
+        TrianglesFault::OutOfMemory
     }
 }

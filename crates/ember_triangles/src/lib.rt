@@ -17,4 +17,4 @@ mod through;
 mod walk;
 
 pub use certified::certified_triangles;
-pub use fault::MeshFault;
+pub use fault::TrianglesFault;

@@ -3,7 +3,7 @@ ghost use Rattle.std.specs.Prelude.{◌≡◌, ℕ, List, [], ◌∷◌, ◌++�
 ghost use Rattle.ember_certificate.specs.declared.segment.Segment.{Segment};
 ghost use Rattle.ember_triangles.specs.Marks.{AreMarks};
 
-use crate::fault::MeshFault;
+use crate::fault::TrianglesFault;
 use crate::split::Split;
 use crate::tables::Tables;
 use ember_certificate::{Segment, SpacePoint};
@@ -56,19 +56,19 @@ fn order_along(axis: Axis, p: &SpacePoint, q: &SpacePoint) -> Ordering {
 }
 
 // The order of marks along the axis. Marks of one corner follow each other.
-fn mark_order(axis: Axis, m: &Mark, n: &Mark) -> Ordering {
-    match order_along(axis, &m.point, &n.point) {
-        Ordering::Equal => m.corner.cmp(&n.corner),
+fn mark_order(axis: Axis, first: &Mark, second: &Mark) -> Ordering {
+    match order_along(axis, &first.point, &second.point) {
+        Ordering::Equal => first.corner.cmp(&second.corner),
         order => order,
     }
 }
 
-fn mark_at(corners: &[SpacePoint], corner: u32, what: What) -> Result<Mark, MeshFault>
+fn mark_at(corners: &[SpacePoint], corner: u32, what: What) -> Result<Mark, TrianglesFault>
     ensures corner { IfOk result (λ m. m.corner ≡ corner) }
     ensures what { IfOk result (λ m. m.what ≡ what) }
 {
     let Some(point) = corners.get(corner as usize).copied() else {
-        return Err(MeshFault::UnknownCorner(corner));
+        return Err(TrianglesFault::UnknownCorner(corner));
     };
     Ok(Mark {
         corner,
@@ -77,12 +77,16 @@ fn mark_at(corners: &[SpacePoint], corner: u32, what: What) -> Result<Mark, Mesh
     })
 }
 
-fn push_ends(marks: &mut Vec<Mark>, corners: &[SpacePoint], s: &Segment) -> Result<(), MeshFault>
-    ensures { (line : ℕ) (done : List Segment) → s.now.line ≡ line → AreMarks line done marks.old.items →
-        OnOk result (AreMarks line (done ++ s.now ∷ []) marks.new.items) }
+fn push_ends(
+    marks: &mut Vec<Mark>,
+    corners: &[SpacePoint],
+    segment: &Segment,
+) -> Result<(), TrianglesFault>
+    ensures { (line : ℕ) (done : List Segment) → segment.now.line ≡ line → AreMarks line done marks.old.items →
+        OnOk result (AreMarks line (done ++ segment.now ∷ []) marks.new.items) }
 {
-    marks.push(mark_at(corners, s.start, What::Start(s.plane))?)?;
-    marks.push(mark_at(corners, s.end, What::End(s.plane))?)?;
+    marks.push(mark_at(corners, segment.start, What::Start(segment.plane))?)?;
+    marks.push(mark_at(corners, segment.end, What::End(segment.plane))?)?;
     Ok(())
 }
 
@@ -90,7 +94,7 @@ fn push_splits(
     marks: &mut Vec<Mark>,
     corners: &[SpacePoint],
     splits: &[Split],
-) -> Result<(), MeshFault>
+) -> Result<(), TrianglesFault>
     ensures { (line : ℕ) (done : List Segment) → AreMarks line done marks.old.items →
         OnOk result (AreMarks line done marks.new.items) }
 {
@@ -107,12 +111,12 @@ pub fn marks_of(
     line: u32,
     segments: &[Segment],
     splits: &[Split],
-) -> Result<Vec<Mark>, MeshFault>
+) -> Result<Vec<Mark>, TrianglesFault>
     requires { All (λ s. s.line ≡ line) segments.now }
     ensures { IfOk result (λ marks. AreMarks line segments.now marks.items) }
 {
     let Some(key) = tables.lines.get(line as usize) else {
-        return Err(MeshFault::UnknownLine(line));
+        return Err(TrianglesFault::UnknownLine(line));
     };
     let axis = axis_of(key);
     let mut marks = Vec::new(alloc);

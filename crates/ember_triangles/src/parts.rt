@@ -1,5 +1,5 @@
 // The triangles of the planes' parts.
-use crate::fault::MeshFault;
+use crate::fault::TrianglesFault;
 use crate::split::Split;
 use crate::tables::Tables;
 use ember_certificate::{Segment, Triangle};
@@ -16,7 +16,7 @@ pub struct PlanePart {
 }
 
 /// An empty part for each plane, in the order of their first segments.
-pub fn empty_parts(alloc: Global, segments: &[Segment]) -> Result<Vec<PlanePart>, MeshFault> {
+pub fn empty_parts(alloc: Global, segments: &[Segment]) -> Result<Vec<PlanePart>, TrianglesFault> {
     let mut seen = HashSet::new(alloc);
     let mut parts = Vec::new(alloc);
     for s in segments {
@@ -47,13 +47,13 @@ impl PlanePart {
         alloc: Global,
         tables: &Tables,
         segments: &[Segment],
-    ) -> Result<Option<Split>, MeshFault> {
+    ) -> Result<Option<Split>, TrianglesFault> {
         let own = segments_of(segments, self.plane);
         if self.boundary.as_slice() == own {
             return Ok(None);
         }
         let Some(plane) = tables.planes.get(self.plane as usize) else {
-            return Err(MeshFault::UnknownPlane(self.plane));
+            return Err(TrianglesFault::UnknownPlane(self.plane));
         };
         match triangles_of(alloc, plane, tables.corners, own)? {
             Cut::Triangles(triangles) => {
@@ -62,7 +62,7 @@ impl PlanePart {
                 Ok(None)
             }
             Cut::Touch { corner, line } => Ok(Some(Split { line, corner })),
-            Cut::NotFound => Err(MeshFault::NoTriangles(self.plane)),
+            Cut::NotFound => Err(TrianglesFault::NoTriangles(self.plane)),
         }
     }
 }
@@ -73,12 +73,12 @@ pub fn all_triangles(
     alloc: Global,
     parts: &[PlanePart],
     first_free_line: u32,
-) -> Result<Vec<Triangle>, MeshFault> {
+) -> Result<Vec<Triangle>, TrianglesFault> {
     let mut triangles = Vec::new(alloc);
     for p in parts {
         let named = with_lines(alloc, p.plane, &p.boundary, &p.triangles, first_free_line)?;
         let Some(named) = named else {
-            return Err(MeshFault::NoLineLeft);
+            return Err(TrianglesFault::NoLineLeft);
         };
         triangles.extend_from_slice(&named)?;
     }

@@ -1,6 +1,6 @@
 // Rounds of cutting, until no corner lies inside a segment.
 use crate::boundaries::boundaries_of;
-use crate::fault::MeshFault;
+use crate::fault::TrianglesFault;
 use crate::parts::{PlanePart, all_triangles, empty_parts};
 use crate::split::{Split, add_splits};
 use crate::tables::Tables;
@@ -10,11 +10,11 @@ use ember_certificate::{Segment, Triangle};
 use std::alloc::Global;
 
 // The line after those of all segments: the lines of diagonals begin there.
-fn first_free_line(segments: &[Segment]) -> Result<u32, MeshFault> {
+fn first_free_line(segments: &[Segment]) -> Result<u32, TrianglesFault> {
     let mut free: u32 = 0;
     for s in segments {
         let Some(next) = s.line.checked_add(1) else {
-            return Err(MeshFault::NoLineLeft);
+            return Err(TrianglesFault::NoLineLeft);
         };
         free = free.max(next);
     }
@@ -28,7 +28,7 @@ fn cut_once(
     by_line: &[Segment],
     splits: &[Split],
     parts: &mut [PlanePart],
-) -> Result<Vec<Split>, MeshFault> {
+) -> Result<Vec<Split>, TrianglesFault> {
     let Boundaries { segments, through } = boundaries_of(alloc, tables, by_line, splits)?;
     let mut needed = crossings(alloc, through)?;
     if !needed.is_empty() {
@@ -48,7 +48,7 @@ pub fn found_triangles(
     alloc: Global,
     tables: &Tables,
     segments: &[Segment],
-) -> Result<Vec<Triangle>, MeshFault> {
+) -> Result<Vec<Triangle>, TrianglesFault> {
     let free = first_free_line(segments)?;
     let mut by_line = Vec::from_slice(alloc, segments)?;
     by_line.sort_unstable_by_key(|s| (s.line, s.plane, s.start, s.end));
@@ -60,8 +60,8 @@ pub fn found_triangles(
             return all_triangles(alloc, &parts, free);
         }
         if !add_splits(&mut splits, &needed)? {
-            return Err(MeshFault::NoEnd);
+            return Err(TrianglesFault::NoEnd);
         }
     }
-    Err(MeshFault::NoEnd)
+    Err(TrianglesFault::NoEnd)
 }

@@ -2,7 +2,7 @@
 ghost use Rattle.std.specs.Prelude.{◌≡◌, ◌+ℤ◌, ℕ, pos, [], slice_get, IsTrue, OnOk};
 ghost use Rattle.ember_triangles.specs.Strands.{sign_in, coefficient};
 
-use crate::fault::MeshFault;
+use crate::fault::TrianglesFault;
 
 /// What the segments of a plane leave over a stretch of a line: one that runs over it, or one that
 /// runs back over it.
@@ -23,10 +23,10 @@ impl Strand {
 }
 
 // Whether the strands belong to one plane and run opposite ways.
-fn cancel(s: &Strand, t: &Strand) -> bool
-    ensures { (plane : ℕ) → IsTrue result → sign_in plane s.now +ℤ sign_in plane t.now ≡ pos 0 }
+fn cancel(first: &Strand, second: &Strand) -> bool
+    ensures { (plane : ℕ) → IsTrue result → sign_in plane first.now +ℤ sign_in plane second.now ≡ pos 0 }
 {
-    match (*s, *t) {
+    match (*first, *second) {
         (Strand::Over(p), Strand::Back(q)) => p == q,
         (Strand::Back(p), Strand::Over(q)) => p == q,
         _ => false,
@@ -40,7 +40,7 @@ fn strand_at(strands: &[Strand], place: usize) -> Option<Strand>
 }
 
 /// Adds a strand to those in order of planes. An opposite one of its plane leaves in its place.
-pub fn add_strand(strands: &mut Vec<Strand>, strand: Strand) -> Result<(), MeshFault>
+pub fn add_strand(strands: &mut Vec<Strand>, strand: Strand) -> Result<(), TrianglesFault>
     ensures { (plane : ℕ) → OnOk result (coefficient plane strands.new.items ≡
         coefficient plane strands.old.items +ℤ sign_in plane strand) }
 {
@@ -56,7 +56,7 @@ pub fn add_strand(strands: &mut Vec<Strand>, strand: Strand) -> Result<(), MeshF
 }
 
 /// Adds the strands of one list to another, and leaves none in the first.
-pub fn move_strands(from: &mut Vec<Strand>, to: &mut Vec<Strand>) -> Result<(), MeshFault>
+pub fn move_strands(from: &mut Vec<Strand>, to: &mut Vec<Strand>) -> Result<(), TrianglesFault>
     ensures moved { (plane : ℕ) → OnOk result (coefficient plane to.new.items ≡
         coefficient plane to.old.items +ℤ coefficient plane from.old.items) }
     ensures emptied { OnOk result (from.new.items ≡ []) }

@@ -1,5 +1,5 @@
 // Corners that boundaries run through.
-use crate::fault::MeshFault;
+use crate::fault::TrianglesFault;
 use crate::split::Split;
 use std::alloc::Global;
 
@@ -13,7 +13,7 @@ pub struct Through {
 
 /// If the boundary of a plane's part runs through a corner along two or more lines, the splits of
 /// these lines at the corner; of all planes and corners.
-pub fn crossings(alloc: Global, through: Vec<Through>) -> Result<Vec<Split>, MeshFault> {
+pub fn crossings(alloc: Global, through: Vec<Through>) -> Result<Vec<Split>, TrianglesFault> {
     let mut sorted = through;
     sorted.sort_unstable();
     let mut splits = Vec::new(alloc);

@@ -4,7 +4,7 @@ ghost use Rattle.ember_certificate.specs.declared.segment.Segment.{Segment};
 ghost use Rattle.ember_triangles.specs.declared.marks.Mark.{Mark};
 ghost use Rattle.ember_triangles.specs.Walks.{IsWalked, AddsStretch};
 
-use crate::fault::MeshFault;
+use crate::fault::TrianglesFault;
 use crate::marks::{Mark, What};
 use crate::strand::{Strand, add_strand, are_balanced, doubled, move_strands};
 use crate::through::Through;
@@ -61,16 +61,16 @@ impl Walk {
     }
 
     /// Goes on to the corner of the next mark.
-    pub fn pass(&mut self, m: &Mark, boundaries: &mut Boundaries) -> Result<(), MeshFault>
+    pub fn pass(&mut self, mark: &Mark, boundaries: &mut Boundaries) -> Result<(), TrianglesFault>
         ensures { (line : ℕ) (done : List Mark) (before : List Segment) →
             IsWalked line done before self.old boundaries.old.segments.items →
-            OnOk result (IsWalked line (done ++ m.now ∷ []) before self.new boundaries.new.segments.items) }
+            OnOk result (IsWalked line (done ++ mark.now ∷ []) before self.new boundaries.new.segments.items) }
     {
-        self.go_to(m.corner, boundaries)?;
-        self.change(m.what)
+        self.go_to(mark.corner, boundaries)?;
+        self.change(mark.what)
     }
 
-    fn go_to(&mut self, corner: u32, boundaries: &mut Boundaries) -> Result<(), MeshFault>
+    fn go_to(&mut self, corner: u32, boundaries: &mut Boundaries) -> Result<(), TrianglesFault>
         ensures walked { (line : ℕ) (done : List Mark) (before : List Segment) →
             IsWalked line done before self.old boundaries.old.segments.items →
             OnOk result (IsWalked line done before self.new boundaries.new.segments.items) }
@@ -85,7 +85,7 @@ impl Walk {
     }
 
     // Adds what is at the corner.
-    fn change(&mut self, what: What) -> Result<(), MeshFault>
+    fn change(&mut self, what: What) -> Result<(), TrianglesFault>
         ensures { (line : ℕ) (done : List Mark) (before after : List Segment) (m : Mark) →
             IsWalked line done before self.old after → m.corner ≡ self.old.here → m.what ≡ what →
             OnOk result (IsWalked line (done ++ m ∷ []) before self.new after) }
@@ -102,7 +102,7 @@ impl Walk {
 
     /// Leaves the corner. It is run through if no coefficient changes and the line isn't split
     /// there; otherwise a stretch ends there and another one begins.
-    pub fn settle(&mut self, boundaries: &mut Boundaries) -> Result<(), MeshFault>
+    pub fn settle(&mut self, boundaries: &mut Boundaries) -> Result<(), TrianglesFault>
         ensures walked { (line : ℕ) (done : List Mark) (before : List Segment) →
             IsWalked line done before self.old boundaries.old.segments.items →
             OnOk result (IsWalked line done before self.new boundaries.new.segments.items) }
@@ -118,7 +118,7 @@ impl Walk {
         Ok(())
     }
 
-    fn run_through(&self, through: &mut Vec<Through>) -> Result<(), MeshFault> {
+    fn run_through(&self, through: &mut Vec<Through>) -> Result<(), TrianglesFault> {
         for s in &self.stretch {
             through.push(Through {
                 plane: s.plane(),
@@ -129,15 +129,15 @@ impl Walk {
         Ok(())
     }
 
-    fn end_stretch(&self, segments: &mut Vec<Segment>) -> Result<(), MeshFault>
+    fn end_stretch(&self, segments: &mut Vec<Segment>) -> Result<(), TrianglesFault>
         ensures { OnOk result (AddsStretch self.now self.now.stretch.items segments.old.items segments.new.items) }
     {
         let line = self.line;
         if !are_balanced(&self.stretch) {
-            return Err(MeshFault::NotClosed(line));
+            return Err(TrianglesFault::NotClosed(line));
         }
         if let Some(plane) = doubled(&self.stretch) {
-            return Err(MeshFault::Overlap { plane, line });
+            return Err(TrianglesFault::Overlap { plane, line });
         }
         for s in &self.stretch {
             segments.push(self.segment(s))?;

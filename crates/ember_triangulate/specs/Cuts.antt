@@ -1,5 +1,5 @@
 -- What becomes of the part inside a boundary
-use Rattle.std.specs.Prelude.{◌≡◌, ◌≢◌, ℕ, List, All, Contains}
+use Rattle.std.specs.Prelude.{◌≡◌, ◌≢◌, ℕ, List, All, Contains, ⊤}
 use Rattle.ember_certificate.specs.declared.segment.Segment.{Segment}
 use Rattle.ember_triangulate.specs.declared.cut.Cut.{Cut}
 use Rattle.ember_triangulate.specs.declared.cut.Cut.TheVariants.{Triangles, Touch, NotFound}
@@ -14,4 +14,4 @@ IsInsideLine ss corner line =
 abbrev pub IsCutOf : List Segment → Cut → Type 0
 IsCutOf ss (Triangles ts) = All (HasCornersOf ss) ts.items
 IsCutOf ss (Touch corner line) = IsCornerOf ss corner × IsInsideLine ss corner line
-IsCutOf ss NotFound = Unit {0}
+IsCutOf ss NotFound = ⊤

@@ -127,9 +127,9 @@ fn edges_of(
     Ok(edges)
 }
 
-fn edge_order(places: &[Place], e: &Edge, f: &Edge) -> Ordering {
-    match e.left.cmp(&f.left) {
-        Ordering::Equal => match turn_at(places, e.left, e.right, f.right) {
+fn edge_order(places: &[Place], first: &Edge, second: &Edge) -> Ordering {
+    match first.left.cmp(&second.left) {
+        Ordering::Equal => match turn_at(places, first.left, first.right, second.right) {
             Sign::Pos => Ordering::Less,
             Sign::Zero => Ordering::Equal,
             Sign::Neg => Ordering::Greater,

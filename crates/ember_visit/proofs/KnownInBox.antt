@@ -16,7 +16,7 @@ use Rattle.ember_model.specs.Clear.{IsClear, AreClear}
 use Rattle.ember_model.specs.Meshes.{wind, faces_of, of_mesh, meshes, vector, IsScene}
 use Rattle.ember_expr.specs.Formula.{Formula, IsFit, IsMeshNumber}
 use Rattle.ember_expr.specs.Truth.{count_of, truth}
-use Rattle.ember_known.specs.Law.{AgreeOutside}
+use Rattle.ember_known.specs.Laws.{AgreeOutside}
 use Rattle.ember_known.proofs.Decided.{decided_tells}
 use Rattle.ember_law.proofs.Vectors.{of_mesh_all}
 use Rattle.ember_box.specs.Boxes.{Cell, low, high}

@@ -6,7 +6,7 @@ use Rattle.ember_box.specs.Boxes.{Cell, root, left_half, right_half}
 use Rattle.ember_box.specs.Near.{listed, near_indices, all_indices}
 use Rattle.ember_box.specs.Halving.{is_leaf, halving_axis}
 use Rattle.ember_box.specs.Reference.{vector_at}
-use Rattle.ember_ref.specs.References.{carried}
+use Rattle.ember_ref.specs.References.{counts_at_right_half}
 use Rattle.ember_job.specs.declared.job.Job.{Job}
 
 -- the job of a box with these triangles and winding numbers
@@ -33,12 +33,12 @@ left_job ts j k = job_of (left_half j.cell k) (near_indices ts (left_half j.cell
 
 abbrev pub right_job : List Tri → Job → Axis → Job
 right_job ts j k = job_of (right_half j.cell k) (near_indices ts (right_half j.cell k) j.list)
-    (carried (near_of ts j) j.cell k j.at.counts)
+    (counts_at_right_half (near_of ts j) j.cell k j.at.counts)
 
 -- the two half jobs along an axis
-pub record AreHalfJobs (ts : List Tri) (j : Job) (k : Axis) (low high : Job) : Type 0 where
-  pub is_low : low ≡ left_job ts j k
-  pub is_high : high ≡ right_job ts j k
+pub record AreHalfJobs (ts : List Tri) (j : Job) (k : Axis) (left right : Job) : Type 0 where
+  pub is_left : left ≡ left_job ts j k
+  pub is_right : right ≡ right_job ts j k
 
 -- nothing for a leaf, and otherwise the halves along the halving axis
 abbrev pub IsHalvedUnlessLeaf : List Tri → Job → Option (Job × Job) → Type 0

@@ -5,7 +5,7 @@ use Rattle.ember_model.specs.declared.tri.Tri.{Tri}
 use Rattle.ember_model.specs.declared.point.Axis.{Axis}
 use Rattle.ember_expr.specs.Formula.{Formula}
 use Rattle.ember_known.specs.Known.{known}
-use Rattle.ember_box.specs.Boxes.{Cell, along, low, high}
+use Rattle.ember_box.specs.Boxes.{Cell, entry_along, low, high}
 use Rattle.ember_box.specs.Halving.{is_leaf, halving_axis}
 use Rattle.ember_job.specs.declared.job.Job.{Job}
 use Rattle.ember_job.specs.Works.{Shape, halved, leafed, passed}
@@ -21,10 +21,11 @@ has_mesh (t ∷ ts) n = n == t.mesh || has_mesh ts n
 unfoldable pub box_value : List Tri → Formula → Job → Option Bool
 box_value ts f j = known (has_mesh (near_of ts j)) j.at.counts f
 
--- the corner lies in the half-open box, so the reference point of a box with this least corner does
+-- the corner lies in the half-open box. Then so does the reference point of each box that has it as
+-- its least corner: that point is less than 1 above the corner along each axis.
 pub record HasCorner (c : Cell) (v : Vector) : Type 0 where
-  pub from : (k : Axis) → low c k ≤ℤ along k v
-  pub until : (k : Axis) → along k v <ℤ high c k
+  pub from : (k : Axis) → low c k ≤ℤ entry_along k v
+  pub until : (k : Axis) → entry_along k v <ℤ high c k
 
 -- skipped if the value is known
 abbrev pub unless_known : Option Bool → Shape → Shape

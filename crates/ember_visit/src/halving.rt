@@ -5,14 +5,14 @@ ghost use Rattle.ember_law.specs.Counts.{HasRoom};
 ghost use Rattle.ember_box.specs.Halved.{AreNearLists};
 ghost use Rattle.ember_visit.specs.Jobs.{AreHalfJobs, IsHalvedUnlessLeaf};
 
-use ember_box::{HalvedBox, halved, halves, near_halves};
+use ember_box::{HalvedBox, halve_box, halves, near_halves};
 use ember_job::{Job, Numbers};
 use ember_model::{Axis, OutOfMemory, Scene, Tri};
 use ember_ref::shift_listed;
 use std::alloc::Global;
 
 /// The triangles with the indices of the list, in its order. The only error is out-of-memory.
-pub fn tris_at(alloc: Global, tris: &[Tri], list: &[u32]) -> Result<Vec<Tri>, OutOfMemory>
+pub fn listed_tris(alloc: Global, tris: &[Tri], list: &[u32]) -> Result<Vec<Tri>, OutOfMemory>
     requires { All (λ i. i < length tris.now) list.now }
     ensures { IfOk result (λ found. found.items ≡ listed tris.now list.now) }
 {
@@ -23,25 +23,33 @@ pub fn tris_at(alloc: Global, tris: &[Tri], list: &[u32]) -> Result<Vec<Tri>, Ou
     Ok(found)
 }
 
-// The jobs of the halves of a job along an axis, by the indices of the triangles near each.
+// The jobs of the halves of a job along an axis, by the indices of the triangles near each. The
+// left half has the box's own reference point, so only the right half's winding numbers are
+// shifted.
 #[tactic(none)]
-fn jobs_of(s: &Scene, job: &Job, axis: Axis, near_low: Vec<u32>, near_high: Vec<u32>) -> (Job, Job)
+fn jobs_of(
+    s: &Scene,
+    job: &Job,
+    axis: Axis,
+    near_left: Vec<u32>,
+    near_right: Vec<u32>,
+) -> (Job, Job)
     requires side { 0 < job.now.cell.log axis }
     requires places { All (λ i. i < length s.now.tris) job.now.list }
     requires few { length job.now.list ≤ 262144 }
     requires room { HasRoom job.now.at.counts }
-    requires lists { AreNearLists s.now.tris job.now.cell axis job.now.list near_low.items near_high.items }
+    requires lists { AreNearLists s.now.tris job.now.cell axis job.now.list near_left.items near_right.items }
     ensures { AreHalfJobs s.now.tris job.now axis result.0 result.1 }
 {
     let (left, right) = halves(&job.cell, axis);
-    let low = Job {
+    let left_job = Job {
         cell: left,
-        list: Numbers::of(near_low),
+        list: Numbers::of(near_left),
         at: job.at,
     };
-    let mut high = Job {
+    let mut right_job = Job {
         cell: right,
-        list: Numbers::of(near_high),
+        list: Numbers::of(near_right),
         at: job.at,
     };
     shift_listed(
@@ -49,15 +57,16 @@ fn jobs_of(s: &Scene, job: &Job, axis: Axis, near_low: Vec<u32>, near_high: Vec<
         job.list.items(),
         &job.cell,
         axis,
-        &mut high.at,
+        &mut right_job.at,
     );
-    (low, high)
+    (left_job, right_job)
 }
 
 /// The two halves of a job along an axis, each with those of the job's triangles that are near it
-/// and with the winding numbers at its own reference point. The side along the axis is above 1,
-/// the list has at most 262,144 indices of the scene's triangles, and each count leaves room for
-/// a crossing with each of them. The only error is out-of-memory.
+/// and with the winding numbers at its own reference point. The side along the axis is above 1, the
+/// list has at most 262,144 indices of the scene's triangles, and each count leaves room for a
+/// crossing with each of them. The program calls this for `voxels`, which chooses the axis itself;
+/// `bool` calls `halve_unless_leaf`. The only error is out-of-memory.
 pub fn halve_job(alloc: Global, s: &Scene, job: &Job, axis: Axis) -> Result<(Job, Job), OutOfMemory>
     requires side { 0 < job.now.cell.log axis }
     requires places { All (λ i. i < length s.now.tris) job.now.list }
@@ -65,8 +74,8 @@ pub fn halve_job(alloc: Global, s: &Scene, job: &Job, axis: Axis) -> Result<(Job
     requires room { HasRoom job.now.at.counts }
     ensures { IfOk result (λ r. AreHalfJobs s.now.tris job.now axis r.0 r.1) }
 {
-    let (near_low, near_high) = near_halves(alloc, s, job.list.items(), &job.cell, axis)?;
-    Ok(jobs_of(s, job, axis, near_low, near_high))
+    let (near_left, near_right) = near_halves(alloc, s, job.list.items(), &job.cell, axis)?;
+    Ok(jobs_of(s, job, axis, near_left, near_right))
 }
 
 /// `None` if the box of a job is a leaf, and otherwise the two halves of the job along the halving
@@ -82,8 +91,8 @@ pub fn halve_unless_leaf(
     requires room { HasRoom job.now.at.counts }
     ensures { IfOk result (λ r. IsHalvedUnlessLeaf s.now.tris job.now r) }
 {
-    match halved(alloc, s, job.list.items(), &job.cell)? {
+    match halve_box(alloc, s, job.list.items(), &job.cell)? {
         None => Ok(None),
-        Some(HalvedBox { axis, low, high }) => Ok(Some(jobs_of(s, job, axis, low, high))),
+        Some(HalvedBox { axis, left, right }) => Ok(Some(jobs_of(s, job, axis, left, right))),
     }
 }

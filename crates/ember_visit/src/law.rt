@@ -20,8 +20,8 @@ pub fn halves_of_a_job_are_jobs()
         0 < job.cell.log k → IsJob ts (left_job ts job k) × IsJob ts (right_job ts job k) }
 {}
 
-/// If the value of a box is known, the expression has this value at the reference point of each
-/// corner in the box.
+/// If the value of a box is known, the expression has this value at `reference_at v`, the reference
+/// point of a box with the least corner `v`, for each corner `v` in the half-open box.
 pub fn known_values_are_true()
     ensures { (ts : List Tri) (meshes : ℕ) (f : Formula) (job : Job) (known : Bool) (v : Vector) →
         IsScene ts meshes → IsFit 64 f → IsJob ts job → box_value ts f job ≡ Some known → HasCorner job.cell v →

@@ -4,7 +4,7 @@ ghost use Rattle.ember_model.specs.Meshes.{HasMesh};
 ghost use Rattle.ember_expr.specs.Formula.{formula_of, IsMeshNumber};
 ghost use Rattle.ember_expr.specs.Truth.{AreCounts, truth};
 ghost use Rattle.ember_known.specs.Masks.{is_in};
-ghost use Rattle.ember_known.specs.Law.{AgreeOutside};
+ghost use Rattle.ember_known.specs.Laws.{AgreeOutside};
 ghost use Rattle.ember_box.specs.Near.{listed};
 ghost use Rattle.ember_visit.specs.Jobs.{near_of};
 ghost use Rattle.ember_visit.specs.Values as values;

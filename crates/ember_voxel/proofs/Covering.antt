@@ -8,7 +8,7 @@ use borrow.Author.Differences.{ints}
 use Rattle.ember_algebra.proofs.Laws.{linear}
 use Rattle.ember_model.specs.declared.point.Axis.{Axis}
 use Rattle.ember_model.specs.declared.point.Axis.TheVariants.{X, Y, Z}
-use Rattle.ember_box.specs.Boxes.{Cell, along, IsOnGrid, IsCell, low, high, root, left_half, right_half}
+use Rattle.ember_box.specs.Boxes.{Cell, entry_along, IsOnGrid, IsCell, low, high, root, left_half, right_half}
 use Rattle.ember_box.proofs.Orders.{le_in, le_out}
 use Rattle.ember_box.proofs.NearByAabbs.{halves_end}
 use Rattle.ember_box.proofs.HalfCells.{left_is_cell, right_is_cell}
@@ -88,7 +88,7 @@ covered size c i j l e = record { from = λ k. (at k).0; until = λ k. (at k).1 
   q : (contains_along size c Y j ≡ true) × (contains_along size c X i ≡ true)
   q = and_parts (contains_along size c Y j) (contains_along size c X i) p.1
 
-  at : (k : Axis) → (low c k ≤ℤ along k (least_corner size i j l)) × (along k (least_corner size i j l) <ℤ high c k)
+  at : (k : Axis) → (low c k ≤ℤ entry_along k (least_corner size i j l)) × (entry_along k (least_corner size i j l) <ℤ high c k)
   at X = within size c X i q.1
   at Y = within size c Y j q.0
   at Z = within size c Z l p.0

@@ -102,20 +102,20 @@ fn set_layer(rows: &mut [u8], n: usize, l: usize, x: &Extent, y: &Extent)
 }
 
 // Sets the cells of a block.
-fn set_block(rows: &mut [u8], n: usize, b: &Block)
+fn set_block(rows: &mut [u8], n: usize, block: &Block)
     requires few { n ≤ 4096 }
     requires size { length rows.old ≡ n * n * (n + 1) }
-    requires x { IsExtent n b.now.x }
-    requires y { IsExtent n b.now.y }
-    requires z { IsExtent n b.now.z }
+    requires x { IsExtent n block.now.x }
+    requires y { IsExtent n block.now.y }
+    requires z { IsExtent n block.now.z }
     ensures len { length rows.new ≡ length rows.old }
     ensures cells { (i j m : ℕ) → i < n → j < n → m < n →
-        char_at n rows.new (m * n + j) i ≡ (if between b.now.z m && (between b.now.y j && between b.now.x i) then 49
-        else char_at n rows.old (m * n + j) i) }
+        char_at n rows.new (m * n + j) i ≡ (if between block.now.z m && (between block.now.y j && between block.now.x i)
+        then 49 else char_at n rows.old (m * n + j) i) }
     ensures feeds { KeepsFeeds n rows.old rows.new }
 {
-    for l in b.z.from..b.z.end {
-        set_layer(rows, n, l, &b.x, &b.y);
+    for l in block.z.from..block.z.end {
+        set_layer(rows, n, l, &block.x, &block.y);
     }
 }
 

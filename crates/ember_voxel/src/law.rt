@@ -17,7 +17,7 @@ pub fn each_cell_has_its_value(_s: &Scene, e: &Expr)
         fills ≡ leaf_fills _s.now.tris (formula_of e.now) size → IsGridText size fills text →
         IsVoxelText _s.now.tris (formula_of e.now) size text }
 {
-    // This call only brings in what holds of every expression.
+    // Called only for its clause `fit`, which the prover then knows of `e`.
     tree(e);
 }
 

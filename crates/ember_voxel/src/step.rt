@@ -118,8 +118,8 @@ pub fn voxel_step(
             bit,
         })),
         None => {
-            let (low, high) = halve_job(alloc, s, job, longest(&job.cell))?;
-            Ok(Outcome::Halves(low, high))
+            let (left, right) = halve_job(alloc, s, job, longest(&job.cell))?;
+            Ok(Outcome::Halves(left, right))
         }
     }
 }

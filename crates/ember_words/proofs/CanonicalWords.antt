@@ -11,8 +11,8 @@ use Rattle.ember_words.specs.declared.command.Command.{Command}
 use Rattle.ember_words.specs.declared.command.WordsFault.{WordsFault}
 use Rattle.ember_words.specs.declared.verb.Verb.{Verb}
 use Rattle.ember_words.specs.declared.verb.Verb.TheVariants.{Faces, At, Boole, Demo, Voxels, Pairs, Slice}
-use Rattle.ember_words.specs.Meaning.{Reads, app_for, command_of, taken_by}
-use Rattle.ember_words.specs.Canonical.{Given, IsCanonical, Line, arguments_of, command_with, words_of}
+use Rattle.ember_words.specs.WordsCommand.{Reads, app_for, command_of, taken_by}
+use Rattle.ember_words.specs.Canonical.{Given, IsCanonical, CommandLine, arguments_of, command_with, words_of}
 use Rattle.ember_words.specs.Canonical.{faces_line, at_line, bool_line, demo_line, voxels_line, pairs_line, slice_line}
 use Rattle.ember_words.proofs.OptionWalk.{IsFlag, IsOption, Reaches, at_word, at_words, walk_begins, flag_gives, flag_rows, given_rows, option_gives, still_new, word_ends, words_end}
 
@@ -230,7 +230,7 @@ voxels_taken expr size workers places file more h =
 
 -- ---- each line
 
-canonical : (line : Line) → IsCanonical line → command_of (words_of line) ≡ command_with line
+canonical : (line : CommandLine) → IsCanonical line → command_of (words_of line) ≡ command_with line
 canonical (faces_line places file) h = faces_taken places file h
 canonical (at_line point expr places file more) h = at_taken point expr places file more h
 canonical (bool_line expr workers places report file more) h = bool_taken expr workers places report file more h
@@ -241,5 +241,5 @@ canonical (slice_line height file) h = slice_taken height file h
 
 -- canonical words are read as the command of their values
 pub canonical_reads : (words : List Text) (result : Result Command WordsFault) → Reads (command_of words) result
-    → (line : Line) → IsCanonical line → words ≡ words_of line → Reads (command_with line) result
+    → (line : CommandLine) → IsCanonical line → words ≡ words_of line → Reads (command_with line) result
 canonical_reads words result reads line h is = subst (λ (value : Option Command). Reads value result) (ap command_of is ∙ canonical line h) reads

@@ -3,7 +3,7 @@ use Rattle.std.proofs.Common.{◌≡◌, ◌<◌, ◌≤◌, ℕ, ℤ, pos, negs
 use Rattle.std.proofs.lemmas.Int.{ints}
 use Rattle.std.proofs.lemmas.List.Sums.{AllPass-from_list_all}
 use Rattle.clap.proofs.WalkLemmas.{both}
-use Rattle.ember_words.specs.Limits.{is_small_number}
+use Rattle.ember_words.specs.Limits.{is_in_range}
 use Rattle.std.specs.Prelude.{All, IfOk, IfSome, ◌≤ℤ◌, ◌<ℤ◌, int_lt, nat_le, option_and_then}
 use Rattle.std.specs.Bool.{Decides}
 use Rattle.std.specs.Int.{IsInRange}
@@ -18,7 +18,7 @@ use Rattle.ember_words.specs.declared.command.WordsFault.{WordsFault}
 use Rattle.ember_words.specs.declared.verb.Verb.{Verb}
 use Rattle.ember_words.specs.declared.verb.Verb.TheVariants.{Faces, At, Boole, Demo, Voxels, Pairs, Slice}
 use Rattle.ember_words.specs.Limits.{are_names, as_height, as_spot, decimal_of, four_of, height_of, is_height, is_set, is_valid_spot, names_of, nonempty_of, number_of, optional_of, parts_of, point_of, spot_of_four, spot_of_numbers, whole_of, within}
-use Rattle.ember_words.specs.Meaning.{Reads, at_with, bool_with, command_of, demo_with, faces_with, files_in, number_in, pairs_with, slice_with, taken_by, places_in, text_in, unless_refused, values_for, verb_of, voxels_with, workers_in}
+use Rattle.ember_words.specs.WordsCommand.{Reads, at_with, bool_with, command_of, demo_with, faces_with, files_in, number_in, pairs_with, slice_with, taken_by, places_in, text_in, unless_refused, command_of_values, verb_of, voxels_with, workers_in}
 use Rattle.ember_words.specs.Within.{AreNames, IsNonempty, IsWithinLimits}
 
 and_then : {A B : Type 0} (P : B → Type 0) (f : A → Option B) → ((a : A) → IfSome (f a) P) → (o : Option A) → IfSome (option_and_then f o) P
@@ -77,7 +77,7 @@ height_range z = go (is_height z) refl
     go false e = tt
     go true e = height_within z e
 
-small : (z : ℤ) → is_small_number z ≡ true → unsigned_abs z ≤ 1099511627775
+small : (z : ℤ) → is_in_range z ≡ true → unsigned_abs z ≤ 1099511627775
 small z e = grind (arith, nat_tests)
 
 above : (z : ℤ) → int_lt (pos 0) z ≡ true → pos 0 <ℤ z
@@ -90,10 +90,10 @@ spot_valid p = go (is_valid_spot p) refl
     go : (b : Bool) → is_valid_spot p ≡ b → IfSome (cond b (Some p) None) IsValidSpot
     go false e = tt
     go true e =
-        let x = both (is_small_number p.x) (is_small_number p.y && (is_small_number p.z && (is_small_number p.w && int_lt (pos 0) p.w))) e in
-        let y = both (is_small_number p.y) (is_small_number p.z && (is_small_number p.w && int_lt (pos 0) p.w)) x.1 in
-        let z = both (is_small_number p.z) (is_small_number p.w && int_lt (pos 0) p.w) y.1 in
-        let w = both (is_small_number p.w) (int_lt (pos 0) p.w) z.1 in
+        let x = both (is_in_range p.x) (is_in_range p.y && (is_in_range p.z && (is_in_range p.w && int_lt (pos 0) p.w))) e in
+        let y = both (is_in_range p.y) (is_in_range p.z && (is_in_range p.w && int_lt (pos 0) p.w)) x.1 in
+        let z = both (is_in_range p.z) (is_in_range p.w && int_lt (pos 0) p.w) y.1 in
+        let w = both (is_in_range p.w) (int_lt (pos 0) p.w) z.1 in
         record {
           x = record { small = small p.x x.0 };
           y = record { small = small p.y y.0 };
@@ -106,7 +106,7 @@ tested_above : (z : ℤ) → pos 0 <ℤ z → int_lt (pos 0) z ≡ true
 tested_above (pos n) h = grind (arith, nat_tests, ints)
 tested_above (negsuc n) h = grind (arith, nat_tests, ints)
 
-tested_small : (z : ℤ) → unsigned_abs z ≤ 1099511627775 → is_small_number z ≡ true
+tested_small : (z : ℤ) → unsigned_abs z ≤ 1099511627775 → is_in_range z ≡ true
 tested_small z h = grind (arith, nat_tests)
 
 -- the test of a point is that of the model
@@ -187,7 +187,7 @@ files_limits rows = and_then AreNames names_of names_limits (all_of (codes "file
 workers_limits : (rows : List Row) → IfSome (workers_in rows) (IsInRange 1 64)
 workers_limits rows = number_limits 1 64 (codes "workers") rows
 
-values_limits : (v : Verb) (rows : List Row) → IfSome (values_for v rows) IsWithinLimits
+values_limits : (v : Verb) (rows : List Row) → IfSome (command_of_values v rows) IsWithinLimits
 values_limits Faces rows = faces_limits (places_in rows) (text_in (codes "file") rows) (places_limits rows) (text_limits (codes "file") rows)
 values_limits At rows =
     at_limits (option_and_then point_of (first_of (codes "point") rows)) (optional_of (first_of (codes "expr") rows)) (places_in rows) (files_in rows)

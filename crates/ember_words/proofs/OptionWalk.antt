@@ -13,7 +13,7 @@ use Rattle.clap.specs.declared.parser.matches.ValueSource.TheVariants.{CommandLi
 use Rattle.clap.specs.declared.builder.value_parser.Reading.TheVariants.{AsWritten}
 use Rattle.clap.proofs.OnLiterals.{clap_on_literals}
 use Rattle.ember_words.specs.Limits.{is_minus}
-use Rattle.ember_words.specs.Canonical.{ArePlain, Given, flag_words, IsSpelledIfGiven, given_words, option_words}
+use Rattle.ember_words.specs.Canonical.{ArePlain, Given, flag_words, AttachesSignIfGiven, given_words, option_words}
 
 -- ---- some words lead from one place of the walk to another without a fault
 
@@ -207,7 +207,7 @@ given_rows name (Some g) = row_of_values name (g.value ∷ []) ∷ []
 
 -- and where it may be left out
 pub option_gives : (s : Shape) (last name : Text) (r : Bool) (d : List Text) → IsOption s last name r d → (w : Walk) (words : List Text) (rows : List Row) (g : Option Given)
-    → Gives s last w words rows → has_row name rows ≡ false → IsSpelledIfGiven g → Gives s last w (words ++ option_words name g) (rows ++ given_rows name g)
+    → Gives s last w words rows → has_row name rows ≡ false → AttachesSignIfGiven g → Gives s last w (words ++ option_words name g) (rows ++ given_rows name g)
 option_gives s last name r d o w words rows None before new spelled = rw (append-nil words, append-nil rows) before
 option_gives s last name r d o w words rows (Some g) before new spelled =
     let next = given_gives s last name r d o rows before.stands.held before.stands.pending g.value g.attached before.stands.settles before.stands.free new spelled in

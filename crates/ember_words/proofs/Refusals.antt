@@ -7,7 +7,7 @@ use Rattle.ember_words.specs.declared.verb.Verb.{Verb}
 use Rattle.ember_words.specs.declared.verb.Verb.TheVariants as verb
 use Rattle.ember_words.specs.declared.command.WordsFault.{WordsFault}
 use Rattle.ember_words.specs.declared.command.WordsFault.TheVariants.{Words, OutOfMemory}
-use Rattle.ember_words.specs.Meaning.{Reads, Parses, app_for, taken_by, unless_refused}
+use Rattle.ember_words.specs.WordsCommand.{Reads, Finds, app_for, taken_by, unless_refused}
 
 -- clap's model holds of each command
 pub simple_and_free : (v : Verb) → is_simple_and_free (app_for v) ≡ true
@@ -24,6 +24,6 @@ none_where_refused [] value some = absurd (some refl)
 none_where_refused (kind ∷ kinds) value some = refl
 
 -- words that clap refuses give no command
-pub parse_refusal_is_fault : (v : Verb) (words : List Text) (fault : WordsFault) → Parses (app_for v) words (Err fault) → Reads (taken_by v words) (Err fault)
-parse_refusal_is_fault v words Words h = none_where_refused _ _ h
-parse_refusal_is_fault v words OutOfMemory h = tt
+pub find_refusal_is_fault : (v : Verb) (words : List Text) (fault : WordsFault) → Finds (app_for v) words (Err fault) → Reads (taken_by v words) (Err fault)
+find_refusal_is_fault v words Words h = none_where_refused _ _ h
+find_refusal_is_fault v words OutOfMemory h = tt

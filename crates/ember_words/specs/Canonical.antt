@@ -1,9 +1,10 @@
--- The canonical spelling of the commands: the name, the options in the table's order, then the file names or BOXES
+-- The canonical spelling of a command line: the command's name, its options in the order of the
+-- list of commands in docs/FORMATS.md ("The command line"), then the file names or BOXES
 use Rattle.std.specs.Prelude.{◌≡◌, ◌<◌, ◌-◌, ◌^◌, length, ⊤, ℕ, Bool, false, codes, List, [], ◌∷◌, ◌++◌, Option, Some, None, if◌then◌else◌}
 use Rattle.clap.specs.Walk.{Text}
 use Rattle.ember_words.specs.declared.command.Command.{Command}
 use Rattle.ember_words.specs.Limits.{height_of, is_minus, names_of, nonempty_of, number_of, optional_of, point_of}
-use Rattle.ember_words.specs.Meaning.{at_with, bool_with, demo_with, faces_with, pairs_with, slice_with, voxels_with}
+use Rattle.ember_words.specs.WordsCommand.{at_with, bool_with, demo_with, faces_with, pairs_with, slice_with, voxels_with}
 
 -- the value of an option, as `--name=value` or in a word of its own
 pub record Given : Type 0 where
@@ -21,12 +22,12 @@ option_words name None = []
 option_words name (Some g) = given_words name g
 
 -- a value that begins with a hyphen is attached
-abbrev pub IsSpelled : Given → Type 0
-IsSpelled g = g.attached ≡ false → is_minus g.value ≡ false
+abbrev pub AttachesSign : Given → Type 0
+AttachesSign g = g.attached ≡ false → is_minus g.value ≡ false
 
-abbrev pub IsSpelledIfGiven : Option Given → Type 0
-IsSpelledIfGiven None = ⊤
-IsSpelledIfGiven (Some g) = IsSpelled g
+abbrev pub AttachesSignIfGiven : Option Given → Type 0
+AttachesSignIfGiven None = ⊤
+AttachesSignIfGiven (Some g) = AttachesSign g
 
 abbrev pub value_or : Text → Option Given → Text
 value_or default None = default
@@ -42,17 +43,17 @@ ArePlain [] = ⊤
 ArePlain (word ∷ words) = (is_minus word ≡ false) × ArePlain words
 
 -- a command in the canonical spelling; of several files the first, and those after it
-pub data Line : Type 0 where
-  faces_line : Option Given → Text → Line
-  at_line : Given → Option Given → Option Given → Text → List Text → Line
-  bool_line : Given → Option Given → Option Given → Bool → Text → List Text → Line
-  demo_line : Option Given → Text → Line
-  voxels_line : Given → Given → Option Given → Option Given → Text → List Text → Line
-  pairs_line : Option Given → Option Given → Text → List Text → Line
-  slice_line : Given → Text → Line
+pub data CommandLine : Type 0 where
+  faces_line : Option Given → Text → CommandLine
+  at_line : Given → Option Given → Option Given → Text → List Text → CommandLine
+  bool_line : Given → Option Given → Option Given → Bool → Text → List Text → CommandLine
+  demo_line : Option Given → Text → CommandLine
+  voxels_line : Given → Given → Option Given → Option Given → Text → List Text → CommandLine
+  pairs_line : Option Given → Option Given → Text → List Text → CommandLine
+  slice_line : Given → Text → CommandLine
 
 -- the words after the name
-abbrev pub arguments_of : Line → List Text
+abbrev pub arguments_of : CommandLine → List Text
 arguments_of (faces_line places file) = option_words (codes "places") places ++ (file ∷ [])
 arguments_of (at_line point expr places file more) =
     ((given_words (codes "point") point ++ option_words (codes "expr") expr) ++
@@ -69,7 +70,7 @@ arguments_of (pairs_line workers places file more) =
 arguments_of (slice_line height file) = given_words (codes "at") height ++ (file ∷ [])
 
 -- the name of the command
-abbrev pub name_of : Line → Text
+abbrev pub name_of : CommandLine → Text
 name_of (faces_line places file) = codes "faces"
 name_of (at_line point expr places file more) = codes "at"
 name_of (bool_line expr workers places report file more) = codes "bool"
@@ -79,26 +80,27 @@ name_of (pairs_line workers places file more) = codes "pairs"
 name_of (slice_line height file) = codes "slice"
 
 -- the words of a command in the canonical spelling
-abbrev pub words_of : Line → List Text
+abbrev pub words_of : CommandLine → List Text
 words_of line = name_of line ∷ arguments_of line
 
 -- file names that don't begin with a hyphen, no more than a list can hold
-abbrev pub AreFiles : Text → List Text → Type 0
-AreFiles file more = (is_minus file ≡ false) × ArePlain more × (length more < 2 ^ 64 - 1)
+abbrev pub ArePlainNames : Text → List Text → Type 0
+ArePlainNames file more = (is_minus file ≡ false) × ArePlain more × (length more < 2 ^ 64 - 1)
 
 -- each value and each last word is spelled as it should be
-abbrev pub IsCanonical : Line → Type 0
-IsCanonical (faces_line places file) = IsSpelledIfGiven places × (is_minus file ≡ false)
+abbrev pub IsCanonical : CommandLine → Type 0
+IsCanonical (faces_line places file) = AttachesSignIfGiven places × (is_minus file ≡ false)
 IsCanonical (at_line point expr places file more) =
-    IsSpelled point × IsSpelledIfGiven expr × IsSpelledIfGiven places × AreFiles file more
+    AttachesSign point × AttachesSignIfGiven expr × AttachesSignIfGiven places × ArePlainNames file more
 IsCanonical (bool_line expr workers places report file more) =
-    IsSpelled expr × IsSpelledIfGiven workers × IsSpelledIfGiven places × AreFiles file more
-IsCanonical (demo_line workers boxes) = IsSpelledIfGiven workers × (is_minus boxes ≡ false)
+    AttachesSign expr × AttachesSignIfGiven workers × AttachesSignIfGiven places × ArePlainNames file more
+IsCanonical (demo_line workers boxes) = AttachesSignIfGiven workers × (is_minus boxes ≡ false)
 IsCanonical (voxels_line expr size workers places file more) =
-    IsSpelled expr × IsSpelled size × IsSpelledIfGiven workers × IsSpelledIfGiven places × AreFiles file more
+    AttachesSign expr × AttachesSign size × AttachesSignIfGiven workers × AttachesSignIfGiven places ×
+    ArePlainNames file more
 IsCanonical (pairs_line workers places file more) =
-    IsSpelledIfGiven workers × IsSpelledIfGiven places × AreFiles file more
-IsCanonical (slice_line height file) = IsSpelled height × (is_minus file ≡ false)
+    AttachesSignIfGiven workers × AttachesSignIfGiven places × ArePlainNames file more
+IsCanonical (slice_line height file) = AttachesSign height × (is_minus file ≡ false)
 
 abbrev pub workers_of : Option Given → Option ℕ
 workers_of workers = number_of 1 64 (value_or (codes "1") workers)
@@ -106,15 +108,15 @@ workers_of workers = number_of 1 64 (value_or (codes "1") workers)
 abbrev pub places_of : Option Given → Option ℕ
 places_of places = number_of 0 3 (value_or (codes "0") places)
 
-abbrev pub value_of : Option Given → Option Text
-value_of None = None
-value_of (Some g) = Some g.value
+abbrev pub given_value : Option Given → Option Text
+given_value None = None
+given_value (Some g) = Some g.value
 
 -- the command of the values, None if one of them is past its limits
-abbrev pub command_with : Line → Option Command
+abbrev pub command_with : CommandLine → Option Command
 command_with (faces_line places file) = faces_with (places_of places) (nonempty_of file)
 command_with (at_line point expr places file more) =
-    at_with (point_of point.value) (optional_of (value_of expr)) (places_of places) (names_of (file ∷ more))
+    at_with (point_of point.value) (optional_of (given_value expr)) (places_of places) (names_of (file ∷ more))
 command_with (bool_line expr workers places report file more) =
     bool_with (nonempty_of expr.value) (workers_of workers) (places_of places) report (names_of (file ∷ more))
 command_with (demo_line workers boxes) = demo_with (number_of 1 20000 boxes) (workers_of workers)

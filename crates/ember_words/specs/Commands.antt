@@ -6,16 +6,16 @@ use Rattle.clap.specs.Simple.{App, new_app, new_rule, with_rule}
 use Rattle.clap.specs.declared.builder.action.ArgAction.TheVariants.{SetTrue}
 
 -- `--name`, with one value of text
-abbrev pub optional : Text → Rule
-optional name = record (new_rule name) { long = Some name }
+abbrev pub option : Text → Rule
+option name = record (new_rule name) { long = Some name }
 
 -- an option with a value, which must be given
-abbrev pub wanted : Text → Rule
-wanted name = record (new_rule name) { long = Some name; required = true }
+abbrev pub required_option : Text → Rule
+required_option name = record (new_rule name) { long = Some name; required = true }
 
 -- an option with a value, and the value if it isn't given
-abbrev pub defaulted : Text → Text → Rule
-defaulted name value = record (new_rule name) { long = Some name; defaults = value ∷ [] }
+abbrev pub option_with_default : Text → Text → Rule
+option_with_default name value = record (new_rule name) { long = Some name; defaults = value ∷ [] }
 
 -- an option without a value
 abbrev pub flag : Text → Rule
@@ -33,13 +33,13 @@ several_words name = record (new_rule name) {
 }
 
 abbrev pub expr : Rule
-expr = wanted (codes "expr")
+expr = required_option (codes "expr")
 
 abbrev pub workers : Rule
-workers = defaulted (codes "workers") (codes "1")
+workers = option_with_default (codes "workers") (codes "1")
 
 abbrev pub places : Rule
-places = defaulted (codes "places") (codes "0")
+places = option_with_default (codes "places") (codes "0")
 
 abbrev pub file : Rule
 file = one_word (codes "file")
@@ -54,8 +54,8 @@ faces_app = with_rule (with_rule (new_app (codes "faces")) places) file
 -- `at --point X,Y,Z,W [--expr E] [--places K] FILE...`
 abbrev pub at_app : App
 at_app =
-    with_rule (with_rule (with_rule (with_rule (new_app (codes "at")) (wanted (codes "point")))
-    (optional (codes "expr"))) places) files
+    with_rule (with_rule (with_rule (with_rule (new_app (codes "at")) (required_option (codes "point")))
+    (option (codes "expr"))) places) files
 
 -- `bool --expr E [--workers N] [--places K] [--report] FILE...`
 abbrev pub bool_app : App
@@ -70,8 +70,8 @@ demo_app = with_rule (with_rule (new_app (codes "demo")) workers) (one_word (cod
 -- `voxels --expr E --size S [--workers N] [--places K] FILE...`
 abbrev pub voxels_app : App
 voxels_app =
-    with_rule (with_rule (with_rule (with_rule (with_rule (new_app (codes "voxels")) expr) (wanted (codes "size")))
-    workers) places) files
+    with_rule (with_rule (with_rule (with_rule (with_rule (new_app (codes "voxels")) expr)
+    (required_option (codes "size"))) workers) places) files
 
 -- `pairs [--workers N] [--places K] FILE...`
 abbrev pub pairs_app : App
@@ -79,4 +79,4 @@ pairs_app = with_rule (with_rule (with_rule (new_app (codes "pairs")) workers) p
 
 -- `slice --at C FILE`
 abbrev pub slice_app : App
-slice_app = with_rule (with_rule (new_app (codes "slice")) (wanted (codes "at"))) file
+slice_app = with_rule (with_rule (new_app (codes "slice")) (required_option (codes "at"))) file

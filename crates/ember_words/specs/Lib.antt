@@ -1,5 +1,5 @@
 pub mod Limits
 pub mod Commands
-pub mod Meaning
+pub mod WordsCommand
 pub mod Canonical
 pub mod Within

@@ -8,13 +8,13 @@ use Rattle.std.specs.Str.Parse.{digits_value}
 use Rattle.clap.specs.Walk.{Text, is_empty}
 use Rattle.ember_model.specs.declared.point.Spot.{Spot}
 
--- one to `most` decimal digits
+-- one to `most_digits` decimal digits
 abbrev pub is_decimal : ℕ → Text → Bool
-is_decimal most text = nat_lt 0 (length text) && (nat_le (length text) most && list_all is_ascii_digit text)
+is_decimal most_digits text = nat_lt 0 (length text) && (nat_le (length text) most_digits && list_all is_ascii_digit text)
 
--- the number that one to `most` decimal digits write
+-- the number that one to `most_digits` decimal digits write
 abbrev pub decimal_of : ℕ → Text → Option ℕ
-decimal_of most text = if is_decimal most text then Some (digits_value 10 text) else None
+decimal_of most_digits text = if is_decimal most_digits text then Some (digits_value 10 text) else None
 
 abbrev pub within : ℕ → ℕ → ℕ → Option ℕ
 within least most n = if nat_le least n && nat_le n most then Some n else None
@@ -33,12 +33,12 @@ abbrev pub without_minus : Text → Text
 without_minus [] = []
 without_minus (b ∷ bs) = if b == 45 then bs else b ∷ bs
 
-abbrev pub signed : Bool → ℕ → ℤ
-signed minus n = if minus then neg_ℤ (pos n) else pos n
+abbrev pub signed_whole : Bool → ℕ → ℤ
+signed_whole minus n = if minus then neg_ℤ (pos n) else pos n
 
--- an optional hyphen and one to `most` decimal digits
+-- an optional hyphen and one to `most_digits` decimal digits
 abbrev pub whole_of : ℕ → Text → Option ℤ
-whole_of most text = option_map (signed (is_minus text)) (decimal_of most (without_minus text))
+whole_of most_digits text = option_map (signed_whole (is_minus text)) (decimal_of most_digits (without_minus text))
 
 -- from -2048 to 2047
 abbrev pub is_height : ℤ → Bool
@@ -61,13 +61,13 @@ parts_of [] = [] ∷ []
 parts_of (b ∷ bs) = if b == 44 then [] ∷ parts_of bs else in_front b (parts_of bs)
 
 -- below 2^40 in size
-abbrev pub is_small_number : ℤ → Bool
-is_small_number z = nat_le (unsigned_abs z) 1099511627775
+abbrev pub is_in_range : ℤ → Bool
+is_in_range z = nat_le (unsigned_abs z) 1099511627775
 
 -- whether the point is valid
 abbrev pub is_valid_spot : Spot → Bool
-is_valid_spot p = is_small_number p.x &&
-    (is_small_number p.y && (is_small_number p.z && (is_small_number p.w && int_lt (pos 0) p.w)))
+is_valid_spot p = is_in_range p.x &&
+    (is_in_range p.y && (is_in_range p.z && (is_in_range p.w && int_lt (pos 0) p.w)))
 
 abbrev pub as_spot : Spot → Option Spot
 as_spot p = if is_valid_spot p then Some p else None

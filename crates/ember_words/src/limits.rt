@@ -4,7 +4,7 @@ ghost use Rattle.std.specs.Bool.{Decides};
 ghost use Rattle.std.specs.List.{list_all};
 ghost use Rattle.ember_model.specs.Valid.{IsValidSpot};
 ghost use Rattle.std.specs.Char.{is_ascii_digit};
-ghost use Rattle.ember_words.specs.Limits.{decimal_of, number_of, is_minus, without_minus, whole_of, height_of, is_small_number, is_valid_spot, parts_of, four_of, point_of, is_set};
+ghost use Rattle.ember_words.specs.Limits.{decimal_of, number_of, is_minus, without_minus, whole_of, height_of, is_in_range, is_valid_spot, parts_of, four_of, point_of, is_set};
 
 use ember_model::Spot;
 
@@ -15,14 +15,14 @@ fn are_digits(text: &[u8]) -> bool
     text.iter().all(|byte| byte.is_ascii_digit())
 }
 
-// `text` as a number, if it has 1 to `most` decimal digits and nothing else.
+// `text` as a number, if it has 1 to `most_digits` decimal digits and nothing else.
 #[tactic(auto, using(crate::proofs::Numbers::digits_parse, crate::proofs::Numbers::no_decimal))]
-fn decimal(text: &str, most: usize) -> Option<u64>
-    requires { most ≤ 18 }
-    ensures value { result ≡ decimal_of most text.now }
+fn decimal(text: &str, most_digits: usize) -> Option<u64>
+    requires { most_digits ≤ 18 }
+    ensures value { result ≡ decimal_of most_digits text.now }
     ensures small { IfSome result (λ n. n < 10 ^ 18) }
 {
-    if text.len() > most || !are_digits(text.as_bytes()) {
+    if text.len() > most_digits || !are_digits(text.as_bytes()) {
         return None;
     }
     text.parse::<u64>().ok()
@@ -50,13 +50,13 @@ fn sign(text: &str) -> (bool, &str)
     }
 }
 
-// `text` as a whole number, if it has 1 to `most` decimal digits after an optional hyphen.
-fn whole(text: &str, most: usize) -> Option<i64>
-    requires { most ≤ 18 }
-    ensures { result ≡ whole_of most text.now }
+// `text` as a whole number, if it has 1 to `most_digits` decimal digits after an optional hyphen.
+fn whole(text: &str, most_digits: usize) -> Option<i64>
+    requires { most_digits ≤ 18 }
+    ensures { result ≡ whole_of most_digits text.now }
 {
     let (minus, digits) = sign(text);
-    let size = decimal(digits, most)? as i64;
+    let size = decimal(digits, most_digits)? as i64;
     Some(if minus { -size } else { size })
 }
 
@@ -83,8 +83,8 @@ fn part(text: &str) -> (&str, Option<&str>)
 }
 
 // Whether the number is below 2^40 in size.
-fn is_small(value: i64) -> bool
-    ensures { result ≡ is_small_number value }
+fn is_in_range(value: i64) -> bool
+    ensures { result ≡ is_in_range value }
 {
     value.unsigned_abs() <= 1_099_511_627_775
 }
@@ -95,7 +95,11 @@ fn is_valid(point: &Spot) -> bool
     ensures value { result ≡ is_valid_spot point.now }
     ensures valid { Decides result (IsValidSpot point.now) }
 {
-    is_small(point.x) && is_small(point.y) && is_small(point.z) && is_small(point.w) && point.w > 0
+    is_in_range(point.x)
+        && is_in_range(point.y)
+        && is_in_range(point.z)
+        && is_in_range(point.w)
+        && point.w > 0
 }
 
 // The four parts between three commas.
@@ -134,7 +138,7 @@ pub fn point(text: &str) -> Option<Spot>
 }
 
 // Whether a flag was given.
-pub fn is_given(value: Option<&str>) -> bool
+pub fn is_set(value: Option<&str>) -> bool
     ensures { result ≡ is_set (option_map (λ text. text.now) value.entry) }
 {
     match value {

@@ -8,13 +8,13 @@ ghost use Rattle.clap.specs.Values.{kind_of};
 ghost use Rattle.clap.specs.Faults.{is_simple_and_free};
 ghost use Rattle.ember_words.specs.Limits.{height_of, point_of};
 ghost use Rattle.ember_words.specs.Within.{IsWithinLimits, NamesFiles};
-ghost use Rattle.ember_words.specs.Canonical.{IsCanonical, Line, command_with, words_of};
-ghost use Rattle.ember_words.specs.Meaning.{app_for, values_for};
-ghost use Rattle.ember_words.specs.Meaning.{workers_in, places_in, Reads, Parses, taken_by, faces_of, at_of, bool_of, demo_of, voxels_of, pairs_of, slice_of, command_of};
+ghost use Rattle.ember_words.specs.Canonical.{IsCanonical, CommandLine, command_with, words_of};
+ghost use Rattle.ember_words.specs.WordsCommand.{app_for, command_of_values};
+ghost use Rattle.ember_words.specs.WordsCommand.{workers_in, places_in, Reads, Finds, taken_by, faces_command_of, at_command_of, bool_command_of, demo_command_of, voxels_command_of, pairs_command_of, slice_command_of, command_of};
 
 use crate::arguments::command_for;
 use crate::command::{Command, WordsFault};
-use crate::limits::{height, is_given, point};
+use crate::limits::{height, is_set, point};
 use crate::values::{file_names, first, number_value, optional_value, text_value};
 use crate::verb::Verb;
 use clap::error::ErrorKind;
@@ -23,7 +23,7 @@ use ember_model::Spot;
 use std::alloc::Global;
 
 // Out-of-memory if clap ran out of it, otherwise that the words are refused.
-fn refusal(error: &Error) -> WordsFault
+fn words_fault(error: &Error) -> WordsFault
     ensures memory { kind_of error.now ≡ ErrorKind.OutOfMemory → result ≡ WordsFault.OutOfMemory }
     ensures words { result ≡ WordsFault.Words → kind_of error.now ≢ ErrorKind.OutOfMemory }
 {
@@ -34,18 +34,21 @@ fn refusal(error: &Error) -> WordsFault
 }
 
 // What clap finds in the words.
-fn parse<'a>(command: clap::Command<'a>, words: &'a [String]) -> Result<ArgMatches<'a>, WordsFault>
+fn find_matches<'a>(
+    command: clap::Command<'a>,
+    words: &'a [String],
+) -> Result<ArgMatches<'a>, WordsFault>
     requires simple { is_simple_and_free (app_of command) ≡ true }
-    ensures { Parses (app_of command.entry) (map string_bytes words.entry.now) result }
+    ensures { Finds (app_of command.entry) (map string_bytes words.entry.now) result }
 {
     match command.try_get_matches_from(words) {
         Ok(matches) => Ok(matches),
-        Err(error) => Err(refusal(&error)),
+        Err(error) => Err(words_fault(&error)),
     }
 }
 
 fn faces(alloc: Global, matches: &ArgMatches<'_>) -> Result<Command, WordsFault>
-    ensures { Reads (faces_of (rows_of (found_of matches.now))) result }
+    ensures { Reads (faces_command_of (rows_of (found_of matches.now))) result }
 {
     let places = places_value(matches)?;
     let file = text_value(alloc, matches, "file")?;
@@ -84,7 +87,7 @@ fn places_value(matches: &ArgMatches<'_>) -> Result<u32, WordsFault>
 }
 
 fn at(alloc: Global, matches: &ArgMatches<'_>) -> Result<Command, WordsFault>
-    ensures { Reads (at_of (rows_of (found_of matches.now))) result }
+    ensures { Reads (at_command_of (rows_of (found_of matches.now))) result }
 {
     let point = point_value(matches)?;
     let expr = optional_value(alloc, matches, "expr")?;
@@ -99,12 +102,12 @@ fn at(alloc: Global, matches: &ArgMatches<'_>) -> Result<Command, WordsFault>
 }
 
 fn boole(alloc: Global, matches: &ArgMatches<'_>) -> Result<Command, WordsFault>
-    ensures { Reads (bool_of (rows_of (found_of matches.now))) result }
+    ensures { Reads (bool_command_of (rows_of (found_of matches.now))) result }
 {
     let expr = text_value(alloc, matches, "expr")?;
     let workers = workers_value(matches)?;
     let places = places_value(matches)?;
-    let report = is_given(first(matches, "report"));
+    let report = is_set(first(matches, "report"));
     let files = file_names(alloc, matches)?;
     Ok(Command::Boole {
         expr,
@@ -116,7 +119,7 @@ fn boole(alloc: Global, matches: &ArgMatches<'_>) -> Result<Command, WordsFault>
 }
 
 fn demo(matches: &ArgMatches<'_>) -> Result<Command, WordsFault>
-    ensures { Reads (demo_of (rows_of (found_of matches.now))) result }
+    ensures { Reads (demo_command_of (rows_of (found_of matches.now))) result }
 {
     let boxes = number_value(matches, "boxes", 1, 20000)?;
     let workers = workers_value(matches)?;
@@ -124,7 +127,7 @@ fn demo(matches: &ArgMatches<'_>) -> Result<Command, WordsFault>
 }
 
 fn voxels(alloc: Global, matches: &ArgMatches<'_>) -> Result<Command, WordsFault>
-    ensures { Reads (voxels_of (rows_of (found_of matches.now))) result }
+    ensures { Reads (voxels_command_of (rows_of (found_of matches.now))) result }
 {
     let expr = text_value(alloc, matches, "expr")?;
     let size = number_value(matches, "size", 4, 12)?;
@@ -141,7 +144,7 @@ fn voxels(alloc: Global, matches: &ArgMatches<'_>) -> Result<Command, WordsFault
 }
 
 fn pairs(alloc: Global, matches: &ArgMatches<'_>) -> Result<Command, WordsFault>
-    ensures { Reads (pairs_of (rows_of (found_of matches.now))) result }
+    ensures { Reads (pairs_command_of (rows_of (found_of matches.now))) result }
 {
     let workers = workers_value(matches)?;
     let places = places_value(matches)?;
@@ -154,7 +157,7 @@ fn pairs(alloc: Global, matches: &ArgMatches<'_>) -> Result<Command, WordsFault>
 }
 
 fn slice(alloc: Global, matches: &ArgMatches<'_>) -> Result<Command, WordsFault>
-    ensures { Reads (slice_of (rows_of (found_of matches.now))) result }
+    ensures { Reads (slice_command_of (rows_of (found_of matches.now))) result }
 {
     let at = height_value(matches)?;
     let file = text_value(alloc, matches, "file")?;
@@ -162,8 +165,8 @@ fn slice(alloc: Global, matches: &ArgMatches<'_>) -> Result<Command, WordsFault>
 }
 
 // The command of this name, by the values that clap found.
-fn command_by(alloc: Global, verb: Verb, matches: &ArgMatches<'_>) -> Result<Command, WordsFault>
-    ensures { Reads (values_for verb (rows_of (found_of matches.now))) result }
+fn command_from(alloc: Global, verb: Verb, matches: &ArgMatches<'_>) -> Result<Command, WordsFault>
+    ensures { Reads (command_of_values verb (rows_of (found_of matches.now))) result }
 {
     match verb {
         Verb::Faces => faces(alloc, matches),
@@ -177,26 +180,26 @@ fn command_by(alloc: Global, verb: Verb, matches: &ArgMatches<'_>) -> Result<Com
 }
 
 // What clap finds in the words for the command of this name.
-fn matches_by<'a>(
+fn matches_for<'a>(
     alloc: Global,
     verb: Verb,
     words: &'a [String],
 ) -> Result<ArgMatches<'a>, WordsFault>
-    ensures { Parses (app_for verb) (map string_bytes words.entry.now) result }
+    ensures { Finds (app_for verb) (map string_bytes words.entry.now) result }
 {
-    parse(command_for(alloc, verb)?, words)
+    find_matches(command_for(alloc, verb)?, words)
 }
 
-#[tactic(auto, using(crate::proofs::Refusals::parse_refusal_is_fault))]
-fn read_by<'a>(alloc: Global, verb: Verb, words: &'a [String]) -> Result<Command, WordsFault>
+#[tactic(auto, using(crate::proofs::Refusals::find_refusal_is_fault))]
+fn read_for<'a>(alloc: Global, verb: Verb, words: &'a [String]) -> Result<Command, WordsFault>
     ensures { Reads (taken_by verb (map string_bytes words.entry.now)) result }
 {
-    let matches = matches_by(alloc, verb, words)?;
-    command_by(alloc, verb, &matches)
+    let matches = matches_for(alloc, verb, words)?;
+    command_from(alloc, verb, &matches)
 }
 
 // The command that the first word names.
-fn read(alloc: Global, words: &[String]) -> Result<Command, WordsFault>
+fn read_command(alloc: Global, words: &[String]) -> Result<Command, WordsFault>
     ensures { Reads (command_of (map string_bytes words.now)) result }
 {
     let Some(name) = words.first() else {
@@ -205,7 +208,7 @@ fn read(alloc: Global, words: &[String]) -> Result<Command, WordsFault>
     let Some(verb) = Verb::named(name) else {
         return Err(WordsFault::Words);
     };
-    read_by(alloc, verb, words)
+    read_for(alloc, verb, words)
 }
 
 /// The command that the words after the program's name give.
@@ -220,8 +223,8 @@ pub fn read_words(alloc: Global, words: &[String]) -> Result<Command, WordsFault
     ensures command { Reads (command_of (map string_bytes words.now)) result }
     ensures limits { IfOk result IsWithinLimits }
     ensures files { IfOk result NamesFiles }
-    ensures canonical { (line : Line) → IsCanonical line → map string_bytes words.now ≡ words_of line →
+    ensures canonical { (line : CommandLine) → IsCanonical line → map string_bytes words.now ≡ words_of line →
         Reads (command_with line) result }
 {
-    read(alloc, words)
+    read_command(alloc, words)
 }

@@ -4,7 +4,7 @@ ghost use Rattle.std.specs.List.{list_all};
 ghost use Rattle.clap.specs.Walk.{all_of, first_of, is_empty, rows_of};
 ghost use Rattle.clap.specs.Matches.{found_of};
 ghost use Rattle.ember_words.specs.Limits.{are_names, optional_of};
-ghost use Rattle.ember_words.specs.Meaning.{Reads, number_in, text_in, files_in};
+ghost use Rattle.ember_words.specs.WordsCommand.{Reads, number_in, text_in, files_in};
 
 use crate::command::WordsFault;
 use crate::limits::number;

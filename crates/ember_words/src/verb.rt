@@ -1,6 +1,6 @@
 // The names of the commands.
 ghost use Rattle.std.specs.Prelude.{◌≡◌};
-ghost use Rattle.ember_words.specs.Meaning.{verb_of};
+ghost use Rattle.ember_words.specs.WordsCommand.{verb_of};
 
 /// A command of the program, without its values.
 #[derive(Clone, Copy)]

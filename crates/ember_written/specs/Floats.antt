@@ -1,5 +1,5 @@
 -- Corners as floats
-use Rattle.std.specs.Prelude.{◌≡◌, ℕ, ◌-◌, ◌*◌, ◌^◌, ◌<◌, ◌≤◌, List, length, slice_index_or, unsigned_abs}
+use Rattle.std.specs.Prelude.{◌≡◌, ℕ, ◌-◌, ◌*◌, ◌^◌, ◌<◌, ◌≤◌, List, length, slice_index_or, unsigned_abs, ⊤}
 use Rattle.std.specs.List.{Any}
 use Rattle.ember_model.specs.declared.point.Axis.{Axis}
 use Rattle.ember_model.specs.declared.point.Axis.TheVariants.{X, Y, Z}
@@ -40,4 +40,4 @@ pub record AreFloatPoints (s : Step) (o : Offset) (cs : List SpacePoint) (ps : L
 
 abbrev pub IsFloatFault : Step → Offset → List SpacePoint → PlaceFault → Type 0
 IsFloatFault s o cs TooFar = Any (IsTooFar s o) cs
-IsFloatFault s o cs OutOfMemory = Unit {0}
+IsFloatFault s o cs OutOfMemory = ⊤

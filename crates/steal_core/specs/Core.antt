@@ -1,5 +1,5 @@
 -- The boxes of a run: in hands, in deques, and ended.
-use Rattle.std.specs.Prelude.{◌≡◌, ℕ, ◌+◌, ◌*◌, ◌/◌, ◌^◌, ◌<◌, ◌≤◌, List, [], ◌∷◌, ◌++◌, length, if◌then◌else◌, ◌==◌, ◌&&◌, Bool, true, false}
+use Rattle.std.specs.Prelude.{◌≡◌, ℕ, ◌+◌, ◌*◌, ◌/◌, ◌^◌, ◌<◌, ◌≤◌, List, [], ◌∷◌, ◌++◌, length, if◌then◌else◌, ◌==◌, ◌&&◌, Bool, true, false, ⊤}
 use Rattle.steal_core.specs.declared.place.Place.{Place}
 use Rattle.steal_core.specs.declared.place.Place.TheVariants.{Hand, Deque, Ended}
 use Rattle.steal_core.specs.declared.place.Placed.{Placed}
@@ -45,7 +45,7 @@ is_queued from s = in_deque from s.place
 
 -- it is true for none
 abbrev pub HasNone : (Placed → Bool) → List Placed → Type 0
-HasNone P [] = Unit {0}
+HasNone P [] = ⊤
 HasNone P (s ∷ ss) = (P s ≡ false) × HasNone P ss
 
 -- the first, and the last, for which it is true
@@ -92,10 +92,10 @@ NoStep e old = (new : Core) → Steps e old new → ⊥
 abbrev pub Fits : Event → Core → Type 0
 Fits (Push by path) old = (length old.boxes + 2 ≤ old.room) × (path < 2 ^ 36)
 Fits (Hold by path) old = (length old.boxes + 2 ≤ old.room) × (path < 2 ^ 36)
-Fits (Pop by) old = Unit {0}
-Fits (Steal by from) old = Unit {0}
-Fits (Drain from) old = Unit {0}
-Fits (Finish by path) old = Unit {0}
+Fits (Pop by) old = ⊤
+Fits (Steal by from) old = ⊤
+Fits (Drain from) old = ⊤
+Fits (Finish by path) old = ⊤
 
 -- what `apply` did, by its answer
 abbrev pub OnAnswer : Bool → Event → Core → Core → Type 0
@@ -114,11 +114,11 @@ pub data Reached (workers room : ℕ) : List Event → Core → Type 0 where
 abbrev pub IsEnded : Place → Type 0
 IsEnded (Hand i) = ⊥
 IsEnded (Deque i) = ⊥
-IsEnded Ended = Unit {0}
+IsEnded Ended = ⊤
 
 -- every box of the list has ended
 abbrev pub AllEnded : List Placed → Type 0
-AllEnded [] = Unit {0}
+AllEnded [] = ⊤
 AllEnded (s ∷ ss) = IsEnded s.place × AllEnded ss
 
 -- weights of boxes: of all, and of the ended ones

@@ -9,7 +9,7 @@ use Rattle.ember_job.specs.declared.job.Outcome.TheVariants.{Halves, Leaf}
 use Rattle.ember_job.specs.Visited.{entry}
 use Rattle.ember_job.specs.Weights.{weigh}
 use Rattle.ember_tree.specs.declared.part.Part.{Part}
-use Rattle.steal_pool.specs.declared.boxed.BoxHalves.{BoxHalves}
+use Rattle.steal_pool.specs.declared.heap_jobs.HalfJobs.{HalfJobs}
 use Rattle.steal_pool.specs.declared.output.Output.{Output}
 use Rattle.steal_pool.specs.Steps.{Weight, OutcomeFits, IsPart, AreHalves, EndsBox, by_path, at_entry, at_left, at_halves}
 use Rattle.steal_pool.proofs.DequeSteps.{weigh_append}
@@ -22,7 +22,7 @@ pub leaf_ends : {I : Type 0} (visited : Job → Type 0) (answers : Job → I →
 leaf_ends visited answers w j old new item p here is there fits = record {
   sums = λ h g. omega (arith, entered h old new (entry p Leafed) is, ap (weigh (by_path g)) there, weigh_append (by_path g) old.parts.items (record { path = p; item = item } ∷ []), fits.1 h g, ap (λ q. h (entry q Leafed)) here, ap g here);
   path = λ h. omega (arith, entered (at_entry h) old new (entry p Leafed) is, ap h here);
-  low = λ h. omega (arith, entered (at_left h) old new (entry p Leafed) is);
+  left = λ h. omega (arith, entered (at_left h) old new (entry p Leafed) is);
   both = λ h. omega (arith, entered (at_halves h) old new (entry p Leafed) is);
 }
 
@@ -32,19 +32,19 @@ leaf_found visited answers w j old new item p here there is_visited fits found =
     subst (All (IsPart visited answers)) (sym there) (All-push (IsPart visited answers) old (record { path = p; item = item }) found (record { job = j; is_visited = is_visited; path = here; item = fits.0 }))
 
 -- the entry of a box with halves was added; the halves lie in boxes
-pub halves_end : {I : Type 0} (visited : Job → Type 0) (answers : Job → I → Type 0) (w : Weight) (j low high : Job) (b : BoxHalves) (old new : Output I) (p : ℕ) → p ≡ j.cell.path → b.low ≡ low → b.high ≡ high → new.journal.items ≡ old.journal.items ++ entry p Halved ∷ [] → new.parts.items ≡ old.parts.items → OutcomeFits visited answers w j (Halves low high) → EndsBox w j old new (Some b)
-halves_end visited answers w j low high b old new p here l r is there fits =
-    let low_at : b.low.cell.path ≡ 2 * p = ap (λ (x : Job). x.cell.path) l ∙ fits.2 ∙ ap (λ q. 2 * q) (sym here) in
-    let high_at : b.high.cell.path ≡ 2 * p + 1 = ap (λ (x : Job). x.cell.path) r ∙ fits.3 ∙ ap (λ q. 2 * q + 1) (sym here) in record {
+pub halves_end : {I : Type 0} (visited : Job → Type 0) (answers : Job → I → Type 0) (w : Weight) (j left right : Job) (b : HalfJobs) (old new : Output I) (p : ℕ) → p ≡ j.cell.path → b.left ≡ left → b.right ≡ right → new.journal.items ≡ old.journal.items ++ entry p Halved ∷ [] → new.parts.items ≡ old.parts.items → OutcomeFits visited answers w j (Halves left right) → EndsBox w j old new (Some b)
+halves_end visited answers w j left right b old new p here l r is there fits =
+    let left_at : b.left.cell.path ≡ 2 * p = ap (λ (x : Job). x.cell.path) l ∙ fits.2 ∙ ap (λ q. 2 * q) (sym here) in
+    let right_at : b.right.cell.path ≡ 2 * p + 1 = ap (λ (x : Job). x.cell.path) r ∙ fits.3 ∙ ap (λ q. 2 * q + 1) (sym here) in record {
       sums = λ h g. omega (arith, entered h old new (entry p Halved) is, ap (weigh (by_path g)) there, fits.6 h g, ap (λ q. h (entry q Halved)) here, ap (w h g) l, ap (w h g) r);
       path = λ h. omega (arith, entered (at_entry h) old new (entry p Halved) is, ap h here);
-      low = λ h. omega (arith, entered (at_left h) old new (entry p Halved) is, ap h low_at);
-      both = λ h. omega (arith, entered (at_halves h) old new (entry p Halved) is, ap h low_at, ap h high_at);
+      left = λ h. omega (arith, entered (at_left h) old new (entry p Halved) is, ap h left_at);
+      both = λ h. omega (arith, entered (at_halves h) old new (entry p Halved) is, ap h left_at, ap h right_at);
     }
 
 -- the halves of an outcome that fits are those of visited boxes
-pub halves_fit : {I : Type 0} (visited : Job → Type 0) (answers : Job → I → Type 0) (w : Weight) (j low high : Job) (b : BoxHalves) → b.low ≡ low → b.high ≡ high → OutcomeFits visited answers w j (Halves low high) → AreHalves visited j (Some b)
-halves_fit visited answers w j low high b l r fits = (
+pub halves_fit : {I : Type 0} (visited : Job → Type 0) (answers : Job → I → Type 0) (w : Weight) (j left right : Job) (b : HalfJobs) → b.left ≡ left → b.right ≡ right → OutcomeFits visited answers w j (Halves left right) → AreHalves visited j (Some b)
+halves_fit visited answers w j left right b l r fits = (
   subst visited (sym l) fits.0,
   subst visited (sym r) fits.1,
   ap (λ (x : Job). halvings_left x.cell + 1) l ∙ fits.4,

@@ -6,11 +6,11 @@ use Rattle.ember_model.specs.declared.vector.Vector.{Vector}
 use Rattle.ember_job.specs.declared.job.Job.{Job}
 
 -- a vector by its counts
-abbrev pub vector_of : List ℤ → Vector
-vector_of counts = record { counts = counts }
+abbrev pub coded_vector : List ℤ → Vector
+coded_vector counts = record { counts = counts }
 
 -- how a job is stored
 abbrev pub job_code : Coded Job
 job_code = code_by (Cell × (List ℕ × List ℤ)) (coded× cell_code (coded× (coded_list coded_ℕ) (coded_list coded_ℤ)))
-    (λ j. (j.cell, (j.list, j.at.counts))) (λ p. record { cell = p.0; list = p.1.0; at = vector_of p.1.1 })
+    (λ j. (j.cell, (j.list, j.at.counts))) (λ p. record { cell = p.0; list = p.1.0; at = coded_vector p.1.1 })
     (λ _. refl)

@@ -1,5 +1,5 @@
 -- The owners' ends of all deques.
-use Rattle.std.specs.Prelude.{◌≡◌, ℕ, zero, suc, ◌+◌, true, List, [], ◌∷◌, All, Vec}
+use Rattle.std.specs.Prelude.{◌≡◌, ℕ, zero, suc, ◌+◌, true, List, [], ◌∷◌, All, Vec, ⊤}
 use Rattle.std.specs.declared.alloc.Global.{Global}
 use Rattle.crossbeam_deque.specs.Handles.{Pass, view, IsPassOf, worker_deque, worker_view, stealer_deque}
 use Rattle.crossbeam_deque.specs.declared.handles.Stealer.{Stealer}
@@ -15,15 +15,16 @@ use Rattle.steal_pool.specs.Steps.{Weight, EachPass, all_taken, ended}
 -- each owner's end is of the deque with its index, and its view has the property Q
 abbrev pub EachOwner : {P : Type 0} → (HandleView → Type 0) → List (Stealer Job Global HandleView P) →
     List (Worker Job Global HandleView P) → Type 0
-EachOwner Q [] [] = Unit {0}
+EachOwner Q [] [] = ⊤
 EachOwner Q [] (o ∷ os) = ⊥
 EachOwner Q (t ∷ ts) [] = ⊥
 EachOwner Q (t ∷ ts) (o ∷ os) = ((worker_deque o ≡ stealer_deque t) × Q (worker_view o)) × EachOwner Q ts os
 
--- the view of an owner with this many passes out: before anything was pushed, and at any time
+-- the view of an owner with this many passes out, before anything was pushed
 abbrev pub Fresh : ℕ → HandleView → Type 0
 Fresh lent v = v ≡ handle true lent [] []
 
+-- the same at any time, whatever was pushed and taken
 abbrev pub Lent : ℕ → HandleView → Type 0
 Lent lent v = (v.owns ≡ true) × (v.lent ≡ lent)
 
@@ -60,7 +61,7 @@ Absorbing lent (suc i) (t ∷ ts) [] ps = ⊥
 
 -- all passes came back to each owner
 abbrev pub AllBack : {P : Type 0} → List (Worker Job Global HandleView P) → Type 0
-AllBack [] = Unit {0}
+AllBack [] = ⊤
 AllBack (o ∷ os) = Lent 0 (worker_view o) × AllBack os
 
 -- each row has one pass on each deque

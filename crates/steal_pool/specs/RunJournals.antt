@@ -1,5 +1,5 @@
 -- The journals of all workers and of the caller, against the boxes that the workers began with.
-use Rattle.std.specs.Prelude.{◌≡◌, ℕ, ◌+◌, ◌≤◌, List, [], ◌∷◌, ◌++◌, reverse, length}
+use Rattle.std.specs.Prelude.{◌≡◌, ℕ, ◌+◌, ◌≤◌, List, [], ◌∷◌, ◌++◌, reverse, length, ⊤}
 use Rattle.ember_job.specs.Weights.{weigh}
 use Rattle.ember_job.specs.declared.job.Entry.{Entry}
 use Rattle.steal_pool.specs.declared.state.WorkerState.{WorkerState}
@@ -19,7 +19,7 @@ Begins path journal = (h : ℕ → ℕ) → h path + weigh (at_left h) journal �
 
 -- the same of each journal
 abbrev pub EachKeeps : List (List Entry) → Type 0
-EachKeeps [] = Unit {0}
+EachKeeps [] = ⊤
 EachKeeps (j ∷ js) = KeepsLeft j × EachKeeps js
 
 -- the last worker has this box in hand
@@ -31,7 +31,7 @@ pub record LastHolds {K I : Type 0} (path : ℕ) (states : List (WorkerState K I
 
 -- each worker's journal has what was in the worker's hand, and the left half of each halved box
 abbrev pub EachStays : {K I : Type 0} → List (WorkerState K I) → List (List Entry) → Type 0
-EachStays [] [] = Unit {0}
+EachStays [] [] = ⊤
 EachStays [] (j ∷ js) = ⊥
 EachStays (s ∷ ss) [] = ⊥
 EachStays (s ∷ ss) (j ∷ js) =

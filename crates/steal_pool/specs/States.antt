@@ -1,5 +1,5 @@
 -- The states of all workers, each with the index of its deque, before and after their runs.
-use Rattle.std.specs.Prelude.{◌≡◌, ℕ, ◌+◌, List, [], ◌∷◌, All, map}
+use Rattle.std.specs.Prelude.{◌≡◌, ℕ, ◌+◌, List, [], ◌∷◌, All, map, ⊤}
 use Rattle.std.specs.declared.alloc.Global.{Global}
 use Rattle.crossbeam_deque.specs.Handles.{worker_deque, worker_view, stealer_deque}
 use Rattle.crossbeam_deque.specs.declared.handles.Stealer.{Stealer}
@@ -19,7 +19,7 @@ use Rattle.steal_pool.specs.Workers.{IsReady, IsIdle, all_held, all_received}
 -- each state's deque is that with its index, and the view of its owner's end has the property Q
 abbrev pub EachState : {K I : Type 0} → (HandleView → Type 0) →
     List (Stealer Job Global HandleView (JobProtocol K)) → List (WorkerState K I) → Type 0
-EachState Q [] [] = Unit {0}
+EachState Q [] [] = ⊤
 EachState Q [] (s ∷ ss) = ⊥
 EachState Q (t ∷ ts) [] = ⊥
 EachState Q (t ∷ ts) (s ∷ ss) = ((worker_deque s.owner ≡ stealer_deque t) × Q (worker_view s.owner)) × EachState Q ts ss

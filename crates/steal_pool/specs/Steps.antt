@@ -1,6 +1,6 @@
 -- What a worker has ended and holds, against what it was given and has taken. Lists are compared by weights: two lists
 -- with the same sum for every weight are permutations of each other.
-use Rattle.std.specs.Prelude.{◌≡◌, ℕ, ◌+◌, ◌*◌, ◌≤◌, List, [], ◌∷◌, Result, IfOk, Option, Some, None, MatchOption, Vec}
+use Rattle.std.specs.Prelude.{◌≡◌, ℕ, ◌+◌, ◌*◌, ◌≤◌, List, [], ◌∷◌, Result, IfOk, Option, Some, None, MatchOption, Vec, ⊤}
 use Rattle.std.specs.Borrow.{Bor}
 use Rattle.std.specs.declared.alloc.Global.{Global}
 use Rattle.std.specs.declared.alloc.AllocError.{AllocError}
@@ -16,7 +16,7 @@ use Rattle.ember_job.specs.declared.job.Outcome.TheVariants.{Halves, Leaf, Skipp
 use Rattle.ember_job.specs.Visited.{entry}
 use Rattle.ember_job.specs.Weights.{weigh}
 use Rattle.ember_tree.specs.declared.part.Part.{Part}
-use Rattle.steal_pool.specs.declared.boxed.BoxHalves.{BoxHalves}
+use Rattle.steal_pool.specs.declared.heap_jobs.HalfJobs.{HalfJobs}
 use Rattle.steal_pool.specs.declared.output.Output.{Output}
 use Rattle.steal_pool.specs.declared.protocol.HandleView.{HandleView}
 
@@ -56,7 +56,7 @@ pub record IsPart {I : Type 0} (visited : Job → Type 0) (answers : Job → I �
 
 -- each pass is of the deque with its index, and is not spent
 abbrev pub EachPass : {P : Type 0} → List (Stealer Job Global HandleView P) → List (Pass Job HandleView Global) → Type 0
-EachPass [] [] = Unit {0}
+EachPass [] [] = ⊤
 EachPass [] (p ∷ ps) = ⊥
 EachPass (t ∷ ts) [] = ⊥
 EachPass (t ∷ ts) (p ∷ ps) = (IsPassOf (stealer_deque t) p × ((view p).lent ≡ 1)) × EachPass ts ps
@@ -89,32 +89,32 @@ abbrev pub ended : {I : Type 0} → (Entry → ℕ) → (ℕ → ℕ) → Output
 ended h g o = weigh h o.journal.items + weigh (by_path g) o.parts.items
 
 -- the halves of a visited box are those of visited boxes, and may be halved once less
-abbrev pub AreHalves : (Job → Type 0) → Job → Option BoxHalves → Type 0
-AreHalves visited j None = Unit {0}
+abbrev pub AreHalves : (Job → Type 0) → Job → Option HalfJobs → Type 0
+AreHalves visited j None = ⊤
 AreHalves visited j (Some b) =
-    visited b.low × visited b.high × (halvings_left b.low.cell + 1 ≡ halvings_left j.cell) ×
-    (halvings_left b.high.cell + 1 ≡ halvings_left j.cell)
+    visited b.left × visited b.right × (halvings_left b.left.cell + 1 ≡ halvings_left j.cell) ×
+    (halvings_left b.right.cell + 1 ≡ halvings_left j.cell)
 
 -- the left half, if any, and both halves, if any, as lists
-abbrev pub low_job : Option BoxHalves → List Job
-low_job None = []
-low_job (Some b) = b.low ∷ []
+abbrev pub left_jobs : Option HalfJobs → List Job
+left_jobs None = []
+left_jobs (Some b) = b.left ∷ []
 
-abbrev pub half_jobs : Option BoxHalves → List Job
+abbrev pub half_jobs : Option HalfJobs → List Job
 half_jobs None = []
-half_jobs (Some b) = b.low ∷ b.high ∷ []
+half_jobs (Some b) = b.left ∷ b.right ∷ []
 
 -- a box ended: its entry was written, its item was added if it is a leaf, and its halves, if any, are still to be run.
 -- `sums`: what is ended now and the halves still to be run weigh what was ended before and this box. `path`: the
--- journal has grown by the box's path. `low`, `both`: if it was halved, the journal's halved boxes have its left half,
--- and both halves, more
+-- journal has grown by the box's path. `left`: if the box was halved, the left halves of the
+-- journal's halved boxes have grown by its left half. `both`: the same of both halves
 pub record EndsBox {I : Type 0} (weight : Weight) (job : Job) (old new : Output I)
-    (halves : Option BoxHalves) : Type 0 where
+    (halves : Option HalfJobs) : Type 0 where
   pub sums : (h : Entry → ℕ) (g : ℕ → ℕ) →
       ended h g new + weigh (weight h g) (half_jobs halves) ≡ ended h g old + weight h g job
   pub path : (h : ℕ → ℕ) → weigh (at_entry h) new.journal.items ≡ weigh (at_entry h) old.journal.items + h job.cell.path
-  pub low : (h : ℕ → ℕ) → weigh (at_left h) new.journal.items ≡ weigh (at_left h) old.journal.items +
-      weigh (at_job h) (low_job halves)
+  pub left : (h : ℕ → ℕ) → weigh (at_left h) new.journal.items ≡ weigh (at_left h) old.journal.items +
+      weigh (at_job h) (left_jobs halves)
   pub both : (h : ℕ → ℕ) → weigh (at_halves h) new.journal.items ≡ weigh (at_halves h) old.journal.items +
       weigh (at_job h) (half_jobs halves)
 

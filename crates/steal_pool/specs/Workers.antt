@@ -1,5 +1,5 @@
 -- What one worker, and all workers together, hold and have done.
-use Rattle.std.specs.Prelude.{◌≡◌, ℕ, ◌+◌, ◌<◌, ◌≤◌, true, List, [], ◌∷◌, All, Option, Some, None, Vec, length, slice_index_or, option_to_list}
+use Rattle.std.specs.Prelude.{◌≡◌, ℕ, ◌+◌, ◌<◌, ◌≤◌, true, List, [], ◌∷◌, All, Option, Some, None, Vec, length, slice_index_or, option_to_list, ⊤}
 use Rattle.std.specs.declared.alloc.Global.{Global}
 use Rattle.crossbeam_deque.specs.Handles.{Pass, worker_deque, worker_view}
 use Rattle.crossbeam_deque.specs.declared.handles.Stealer.{Stealer}
@@ -50,7 +50,7 @@ pub record Balances {I : Type 0} (weight : Weight) (jobs : List Job) (old new : 
 -- the hand is empty if there is no job
 abbrev pub EmptyIfNone : Option Job → List Job → Type 0
 EmptyIfNone None hand = hand ≡ []
-EmptyIfNone (Some j) hand = Unit {0}
+EmptyIfNone (Some j) hand = ⊤
 
 -- the job that is run next leaves the hand or a deque; if there is none, the hand is empty
 pub record Releases {I : Type 0} (weight : Weight) (job : Option Job) (old new : Account I) : Type 0 where
@@ -105,7 +105,7 @@ EachFinishesIfDone visited answers weight stealers ss vs = (i : ℕ) (d : Worker
 -- all workers have finished, one by one
 abbrev pub EachFinished : {P K I : Type 0} → (Job → Type 0) → (Job → I → Type 0) → Weight →
     List (Stealer Job Global HandleView P) → List (WorkerState K I) → List (WorkerState K I) → Type 0
-EachFinished visited answers weight stealers [] [] = Unit {0}
+EachFinished visited answers weight stealers [] [] = ⊤
 EachFinished visited answers weight stealers [] (v ∷ vs) = ⊥
 EachFinished visited answers weight stealers (s ∷ ss) [] = ⊥
 EachFinished visited answers weight stealers (s ∷ ss) (v ∷ vs) =

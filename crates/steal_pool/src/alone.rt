@@ -1,12 +1,12 @@
-// One box, and all boxes below one. All geometry happens in `ask`: it calls the step.
+// One box, and all boxes below one. All geometry happens in `call_step`: it calls the step.
 ghost use Rattle.std.specs.Prelude.{◌≡◌, All, IfOk, OnOk};
 ghost use Rattle.crossbeam_deque.specs.Handles.{worker_view};
 ghost use Rattle.steal_pool.specs.Protocol.{IsDrain};
 ghost use Rattle.steal_pool.specs.Owners.{Lent, AddsDrained};
 ghost use Rattle.steal_pool.specs.Steps.{RunsVisited, OutcomeFits, IsPart, AreHalves, EndsBox, AddsBox, KeepsHalves, KeepsHalvesAnd};
 
-use crate::boxed::{BoxHalves, BoxedJob};
 use crate::gate::Gate;
+use crate::heap_jobs::{HalfJobs, HeapJob};
 use crate::names::{BoxWeight, VisitedJobs};
 use crate::output::Output;
 use crate::protocol::{Drained, Owner};
@@ -16,8 +16,8 @@ use std::alloc::Global;
 use std::sync::Wait;
 
 // Calls the step at a visited box: what becomes of the box? `call` is the step's closure, such as
-// the one in the macro `finds!` of ember_query that calls `text_step`.
-fn ask<K: VisitedJobs + BoxWeight<I>, I, F: Fn(&Job) -> Result<Outcome<I>, OutOfMemory>>(
+// the one in the macro `run_query!` of ember_query that calls `text_step`.
+fn call_step<K: VisitedJobs + BoxWeight<I>, I, F: Fn(&Job) -> Result<Outcome<I>, OutOfMemory>>(
     call: &F,
     job: &Job,
 ) -> Result<Outcome<I>, OutOfMemory>
@@ -30,10 +30,10 @@ fn ask<K: VisitedJobs + BoxWeight<I>, I, F: Fn(&Job) -> Result<Outcome<I>, OutOf
 
 // Calls the step at a box, which decides what becomes of it and makes the item of a leaf. Enters
 // the box into the journal, adds the item to the parts, and returns the halves, if any: they are
-// still to be run. The jobs are on the stack only while this function runs, so the recursion of
-// `run_below` needs little of it.
+// still to be run. The halves' jobs are moved to the heap before this function returns, so each
+// level of `run_below` takes little stack.
 #[tactic(auto, using(crate::proofs::DequeSteps::weigh_append))]
-pub fn end_box<
+pub fn run_step<
     K: VisitedJobs + BoxWeight<I>,
     I: Drop,
     F: Fn(&Job) -> Result<Outcome<I>, OutOfMemory>,
@@ -44,7 +44,7 @@ pub fn end_box<
     gate: &G,
     job: &Job,
     output: &mut Output<I>,
-) -> Result<Option<BoxHalves>, OutOfMemory>
+) -> Result<Option<HalfJobs>, OutOfMemory>
     requires call { RunsVisited K.is_visited K.answers K.weight F.pre F.post call.now }
     requires job { K.is_visited job.now }
     requires found { All (IsPart K.is_visited K.answers) output.old.parts.items }
@@ -54,7 +54,7 @@ pub fn end_box<
 {
     let path = job.cell.path();
     gate.enter(path);
-    match ask::<K, I, F>(call, job)? {
+    match call_step::<K, I, F>(call, job)? {
         Outcome::Leaf(item) => {
             let kind = Kind::Leafed;
             output.journal.push(Entry { path, kind })?;
@@ -66,12 +66,12 @@ pub fn end_box<
             output.journal.push(Entry { path, kind })?;
             Ok(None)
         }
-        Outcome::Halves(low, high) => {
+        Outcome::Halves(left, right) => {
             let kind = Kind::Halved;
             output.journal.push(Entry { path, kind })?;
-            let low = BoxedJob::new(alloc, low)?;
-            let high = BoxedJob::new(alloc, high)?;
-            Ok(Some(BoxHalves { low, high }))
+            let left = HeapJob::new(alloc, left)?;
+            let right = HeapJob::new(alloc, right)?;
+            Ok(Some(HalfJobs { left, right }))
         }
     }
 }
@@ -87,7 +87,7 @@ pub fn run_below<
     alloc: Global,
     call: &F,
     gate: &G,
-    job: BoxedJob,
+    job: HeapJob,
     output: &mut Output<I>,
 ) -> Result<(), OutOfMemory>
     requires call { RunsVisited K.is_visited K.answers K.weight F.pre F.post call.now }
@@ -97,17 +97,17 @@ pub fn run_below<
     ensures stays { OnOk result (KeepsHalvesAnd job.cell.path output.old output.new) }
     ensures sums { OnOk result (AddsBox K.weight job output.old output.new) }
 {
-    let halves = end_box::<K, I, F, G>(alloc, call, gate, job.job(), output)?;
+    let halves = run_step::<K, I, F, G>(alloc, call, gate, job.job(), output)?;
     let Some(halves) = halves else {
         return Ok(());
     };
-    run_below::<K, I, F, G>(alloc, call, gate, halves.low, output)?;
-    run_below::<K, I, F, G>(alloc, call, gate, halves.high, output)
+    run_below::<K, I, F, G>(alloc, call, gate, halves.left, output)?;
+    run_below::<K, I, F, G>(alloc, call, gate, halves.right, output)
 }
 
 // Pops the job that was pushed last. All passes are back, so `None` proves that all pushed jobs
 // were taken.
-fn drain_next<K: VisitedJobs>(owner: &mut Owner<K>) -> Option<BoxedJob>
+fn drain_next<K: VisitedJobs>(owner: &mut Owner<K>) -> Option<HeapJob>
     requires { Lent 0 (worker_view owner.old) }
     ensures { IsDrain K.is_visited result (worker_view owner.old) (worker_view owner.new) }
 {
@@ -115,7 +115,7 @@ fn drain_next<K: VisitedJobs>(owner: &mut Owner<K>) -> Option<BoxedJob>
 }
 
 // Runs what is left in a deque to its end. All passes on it are back. The only error is
-// out-of-memory.
+// out-of-memory. `forever` has no end, so only a return leaves the loop.
 #[tactic(auto, using(crate::proofs::DequeSteps::weigh_append, crate::proofs::AccountSums::drained_one))]
 pub fn drain<
     R: Wait,

@@ -43,9 +43,9 @@ impl<I> PartList<I> {
     }
 }
 
-/// What a run gives: the items of the leaves with their paths, the boxes that each worker ended,
-/// and how many boxes were left to the caller. `run_alone` gives one journal; of those of
-/// `run_tree`, the last is the caller's.
+/// What a run gives: the items of the leaves with their paths, and the boxes that each worker
+/// ended. `run_alone` gives one journal; of those of `run_tree`, the last is the caller's. `left`
+/// is how many boxes the caller ended after the workers: those left in the deques and all below.
 #[derive(Drop)]
 pub struct Harvest<I> {
     pub parts: PartList<I>,

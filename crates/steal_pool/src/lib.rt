@@ -1,15 +1,15 @@
 //! Workers that share boxes by their deques.
 //!
-//! The pool has no geometry. For each box it calls the step (`end_box` in alone.rt), and the step
+//! The pool has no geometry. For each box it calls the step (`run_step` in alone.rt), and the step
 //! says what becomes of the box: for `bool` that is `text_step` of ember_step, which asks
 //! ember_visit and ember_box, and for a leaf ember_leaf. ember_tree brings the items into the order
 //! of the tree.
 #![tactic(auto)]
 
 mod alone;
-mod boxed;
 mod gate;
 mod harvest;
+mod heap_jobs;
 mod law;
 mod names;
 mod output;

@@ -3,12 +3,16 @@
 // The protocol of a deque is fixed by types, so it must get these names from a type. That type is
 // the parameter `K` of the private functions. It has no size, and only contracts use it.
 //
-// `run_alone` and `run_tree` put in `Brand`. What the names of `Brand` mean is chosen anew for each
-// call that has `Brand` as its `K`, by the arguments of that call: see the `Invariants.antt` in
-// proofs/tree/run_alone and proofs/tree/run_tree. They are chosen from the work and the root, so
-// `run_alone_named` and `run_named` take the work as an argument, though no code reads it. The
-// impls for `Brand` here are only the default.
-ghost use Rattle.std.specs.Prelude.{ℕ};
+// `run_alone` and `run_tree` put in `Brand`, a type of the toolchain. Inside the functions `K` is
+// any type with such names, so each is proved for all of them. At a call with `Brand` as its `K`,
+// the proof of the caller chooses what the names mean in this one call, by the arguments of the
+// call: see the `Invariants.antt` in proofs/tree/run_alone and proofs/tree/run_tree. They choose by
+// the work and the root, so `run_alone_named` and `run_named` take the work as an argument, though
+// no code reads it. The contracts of `run_alone` and `run_tree` don't have the names: in place of
+// them they have `IsVisited` of ember_job and `AnswersLeaf` (`AreParts` in specs/Journals.antt).
+// The weight of a box with all below it is `tree_weight` there. Rust needs the impls for `Brand`
+// here; what they say would hold only if a caller chose nothing.
+ghost use Rattle.std.specs.Prelude.{ℕ, ⊤};
 ghost use Rattle.ember_job.specs.declared.job.Job.{Job};
 ghost use Rattle.ember_job.specs.declared.job.Entry.{Entry};
 
@@ -20,7 +24,7 @@ pub trait VisitedJobs {
 }
 
 impl VisitedJobs for Brand {
-    ghost is_visited = { λ _. Unit {0} };
+    ghost is_visited = { λ _. ⊤ };
 }
 
 /// What a box weighs with all below it, by the weights of entries and of the paths of leaves; and
@@ -34,5 +38,5 @@ pub trait BoxWeight<I> {
 impl<I> BoxWeight<I> for Brand {
     ghost weight = { λ _ _ _. 0 };
 
-    ghost answers = { λ _ _. Unit {0} };
+    ghost answers = { λ _ _. ⊤ };
 }

@@ -6,7 +6,7 @@ ghost use Rattle.steal_pool.specs.Protocol.{with_returned};
 ghost use Rattle.steal_pool.specs.Steps.{EachPass, all_taken};
 ghost use Rattle.steal_pool.specs.Owners.{EachOwner, Fresh, Lent, Lends, NewRow, all_pushed, all_popped};
 
-use crate::boxed::BoxedJob;
+use crate::heap_jobs::HeapJob;
 use crate::names::VisitedJobs;
 use crate::protocol::{ForStealer, HandleView, JobStealer, Owner};
 use crossbeam_deque::Pass;
@@ -14,7 +14,7 @@ use ember_job::OutOfMemory;
 use std::alloc::Global;
 
 // Makes a pass on a deque.
-fn lend<K: VisitedJobs>(owner: &mut Owner<K>) -> Pass<BoxedJob, HandleView>
+fn lend<K: VisitedJobs>(owner: &mut Owner<K>) -> Pass<HeapJob, HandleView>
     requires { (worker_view owner.old).owns ≡ true }
     ensures { Lends owner.old owner.new result }
 {
@@ -22,7 +22,7 @@ fn lend<K: VisitedJobs>(owner: &mut Owner<K>) -> Pass<BoxedJob, HandleView>
 }
 
 // Takes a pass back: what it has taken now counts as taken by the owner.
-fn absorb<K: VisitedJobs>(owner: &mut Owner<K>, pass: Pass<BoxedJob, HandleView>)
+fn absorb<K: VisitedJobs>(owner: &mut Owner<K>, pass: Pass<HeapJob, HandleView>)
     requires owns { (worker_view owner.old).owns ≡ true }
     requires pass { IsPassOf (worker_deque owner.old) pass }
     ensures deque { worker_deque owner.new ≡ worker_deque owner.old }
@@ -37,7 +37,7 @@ pub fn lend_each<K: VisitedJobs>(
     stealers: &Vec<JobStealer<K>>,
     owners: &mut Vec<Owner<K>>,
     lent: usize,
-) -> Result<Vec<Pass<BoxedJob, HandleView>>, OutOfMemory>
+) -> Result<Vec<Pass<HeapJob, HandleView>>, OutOfMemory>
     requires { EachOwner (Fresh lent) stealers.now.items owners.old.items }
     ensures len { length owners.new.items ≡ length owners.old.items }
     ensures owners { OnOk result (EachOwner (Fresh (lent + 1)) stealers.now.items owners.new.items) }
@@ -53,7 +53,7 @@ pub fn lend_each<K: VisitedJobs>(
 }
 
 // Removes the first pass of the list.
-fn first_pass(passes: &mut Vec<Pass<BoxedJob, HandleView>>) -> Option<Pass<BoxedJob, HandleView>>
+fn first_pass(passes: &mut Vec<Pass<HeapJob, HandleView>>) -> Option<Pass<HeapJob, HandleView>>
     ensures { MatchOption result (passes.old.items ≡ []) (λ p. passes.old.items ≡ p ∷ passes.new.items) }
 {
     if passes.is_empty() {
@@ -66,7 +66,7 @@ fn first_pass(passes: &mut Vec<Pass<BoxedJob, HandleView>>) -> Option<Pass<Boxed
 pub fn absorb_each<K: VisitedJobs>(
     stealers: &Vec<JobStealer<K>>,
     owners: &mut Vec<Owner<K>>,
-    mut passes: Vec<Pass<BoxedJob, HandleView>>,
+    mut passes: Vec<Pass<HeapJob, HandleView>>,
     lent: usize,
 )
     requires owners { EachOwner (Lent (lent + 1)) stealers.now.items owners.old.items }

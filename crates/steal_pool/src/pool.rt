@@ -11,9 +11,9 @@ ghost use Rattle.steal_pool.specs.States.{EachState, MayLeave, IsNew, HandsOver,
 ghost use Rattle.steal_pool.specs.RunJournals.{LastHolds, WorkerJournals, RunJournals};
 
 use crate::alone::drain;
-use crate::boxed::BoxedJob;
 use crate::gate::Gate;
 use crate::harvest::{Harvest, PartList};
+use crate::heap_jobs::HeapJob;
 use crate::names::{BoxWeight, VisitedJobs};
 use crate::output::Output;
 use crate::owners::{absorb_each, lend_each};
@@ -30,7 +30,9 @@ use std::thread::Threads;
 // The room of a new deque, which grows when it is full.
 const DEQUE_ROOM: usize = 64;
 
-// The room of a hand, so that holding a box needs no further memory.
+// The room of a hand, so that holding a box needs no further memory. A worker takes a box from a
+// deque only if its hand is empty. So even if all pushes are refused, a hand has at most one left
+// half, and one right half of each depth up to 36, the greatest depth.
 const HAND_ROOM: usize = 40;
 
 /// All deques: of each the end from which others steal, and its owner's end.
@@ -69,7 +71,7 @@ fn make_rows<K: VisitedJobs>(
     stealers: &Vec<JobStealer<K>>,
     owners: &mut Vec<Owner<K>>,
     workers: usize,
-) -> Result<Vec<Vec<Pass<BoxedJob, HandleView>>>, OutOfMemory>
+) -> Result<Vec<Vec<Pass<HeapJob, HandleView>>>, OutOfMemory>
     requires { EachOwner (Fresh 0) stealers.now.items owners.old.items }
     ensures len { length owners.new.items ≡ length owners.old.items }
     ensures owners { OnOk result (EachOwner (Fresh workers) stealers.now.items owners.new.items) }
@@ -89,7 +91,7 @@ fn make_state<K: VisitedJobs + BoxWeight<I>, I>(
     alloc: Global,
     stealers: &Vec<JobStealer<K>>,
     owner: Owner<K>,
-    passes: Vec<Pass<BoxedJob, HandleView>>,
+    passes: Vec<Pass<HeapJob, HandleView>>,
     workers: usize,
 ) -> Result<WorkerState<K, I>, OutOfMemory>
     requires owner { Fresh workers (worker_view owner) }
@@ -138,7 +140,7 @@ fn make_states<K: VisitedJobs + BoxWeight<I>, I: Drop>(
     alloc: Global,
     stealers: &Vec<JobStealer<K>>,
     mut owners: Vec<Owner<K>>,
-    mut rows: Vec<Vec<Pass<BoxedJob, HandleView>>>,
+    mut rows: Vec<Vec<Pass<HeapJob, HandleView>>>,
     workers: usize,
 ) -> Result<Vec<WorkerState<K, I>>, OutOfMemory>
     requires owners { EachOwner (Fresh workers) stealers.now.items owners.items }
@@ -159,7 +161,7 @@ fn make_states<K: VisitedJobs + BoxWeight<I>, I: Drop>(
     Ok(states)
 }
 
-// Takes all states apart, in order.
+// Takes all states apart, in order. Their hands are dropped: they are empty (`MayLeave`).
 fn take_apart<K: VisitedJobs + BoxWeight<I>, I: Drop>(
     alloc: Global,
     stealers: &Vec<JobStealer<K>>,
@@ -208,7 +210,7 @@ fn take_apart<K: VisitedJobs + BoxWeight<I>, I: Drop>(
 fn absorb_all<K: VisitedJobs>(
     stealers: &Vec<JobStealer<K>>,
     owners: &mut Vec<Owner<K>>,
-    mut rows: Vec<Vec<Pass<BoxedJob, HandleView>>>,
+    mut rows: Vec<Vec<Pass<HeapJob, HandleView>>>,
 )
     requires owners { EachOwner (Lent (vec_len rows)) stealers.now.items owners.old.items }
     requires rows { EachRow stealers.now.items rows.items }
@@ -255,7 +257,7 @@ fn drain_all<
 fn give_root<K: VisitedJobs + BoxWeight<I>, I: Drop>(
     stealers: &Vec<JobStealer<K>>,
     mut states: Vec<WorkerState<K, I>>,
-    root: BoxedJob,
+    root: HeapJob,
     workers: usize,
 ) -> Result<Vec<WorkerState<K, I>>, OutOfMemory>
     requires root { K.is_visited root }
@@ -351,7 +353,7 @@ pub fn run_named<
     ensures sums { IfOk result (λ v. HoldsTree K.weight root v.journals v.parts) }
 {
     let count = workers as usize;
-    let boxed = BoxedJob::new(alloc, root)?;
+    let heap_job = HeapJob::new(alloc, root)?;
     let deques = make_deques::<K>(alloc, count)?;
     let Deques {
         stealers,
@@ -359,7 +361,7 @@ pub fn run_named<
     } = deques;
     let rows = make_rows(alloc, &stealers, &mut owners, count)?;
     let fresh = make_states(alloc, &stealers, owners, rows, count)?;
-    let states = give_root(&stealers, fresh, boxed, count)?;
+    let states = give_root(&stealers, fresh, heap_job, count)?;
     let harvest = run_states(rt, alloc, call, gate, &stealers, states)?;
     Ok(harvest)
 }

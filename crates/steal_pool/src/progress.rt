@@ -21,14 +21,14 @@ const DOUBLINGS: u32 = 4;
 /// How far a run is. No contract says what the words contain.
 #[derive(Drop)]
 pub struct Progress {
-    // The volume of the boxes that ended without halving.
+    // The volume of the finished boxes: those that ended without being halved.
     finished: CachePadded<AtomicU64>,
     // Not zero once memory ran out.
     stop: CachePadded<AtomicU64>,
 }
 
 impl Progress {
-    /// The start: no box has ended, and nobody need stop.
+    /// The start: no box is finished, and nobody need stop.
     pub fn new() -> Progress {
         Progress {
             finished: CachePadded::new(AtomicU64::new(0)),
@@ -42,7 +42,8 @@ impl Progress {
         finished.fetch_add(volume(path), Ordering::SeqCst);
     }
 
-    /// Whether the boxes that ended make up the whole root, so that no box is left.
+    /// Whether the finished boxes, the leaves and the skipped ones, make up the whole root, so that
+    /// no box is left.
     pub fn is_whole(&self) -> bool {
         let finished: &AtomicU64 = &self.finished;
         finished.load(Ordering::SeqCst) == WHOLE

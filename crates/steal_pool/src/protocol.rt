@@ -1,10 +1,16 @@
 // The protocol of a deque: what holds of all its handles together. See README.md, "Why nothing is
 // lost".
+//
+// Contracts of this crate use words of crossbeam_deque: `worker_view` and `view` give the
+// `HandleView` of the owner's end and of a pass, `worker_deque` and `stealer_deque` say which deque
+// an end is of, and `IsPassOf d p` says that p is a pass on the deque d. In a `then` below, v and w
+// are the views before and after a call, and xs has the jobs that it pushed or took. The trait
+// `Outcome` is that of crossbeam_deque, not the enum of ember_job.
 ghost use Rattle.std.specs.Prelude.{◌≡◌, All};
 ghost use Rattle.ember_job.specs.declared.job.Job.{Job};
 ghost use Rattle.steal_pool.specs.Protocol.{JobsConserved, TookAllPushed, handle, new_pass, with_pushed, with_taken, with_one_lent, with_returned};
 
-use crate::boxed::BoxedJob;
+use crate::heap_jobs::HeapJob;
 use crate::names::VisitedJobs;
 use crossbeam_deque::protocol::{Join, Outcome, Protocol, Split};
 use crossbeam_deque::{Stealer, Worker};
@@ -30,7 +36,7 @@ pub struct JobProtocol<K: VisitedJobs> {
     of: PhantomData<K>,
 }
 
-impl<K: VisitedJobs> Protocol<BoxedJob, HandleView> for JobProtocol<K> {
+impl<K: VisitedJobs> Protocol<HeapJob, HandleView> for JobProtocol<K> {
     ghost use Rattle.std.specs.Prelude.{true, []};
     ghost use Rattle.steal_pool.specs.Protocol.{JobsConserved, handle, new_pass};
 
@@ -64,7 +70,7 @@ impl Join<HandleView> for ForStealer {
 /// What a push leaves.
 pub struct Pushed;
 
-impl Outcome<BoxedJob, HandleView> for Pushed {
+impl Outcome<HeapJob, HandleView> for Pushed {
     ghost use Rattle.std.specs.Prelude.{◌≡◌};
     ghost use Rattle.steal_pool.specs.Protocol.{with_pushed};
 
@@ -76,7 +82,7 @@ pub struct Taken<K: VisitedJobs> {
     of: PhantomData<K>,
 }
 
-impl<K: VisitedJobs> Outcome<BoxedJob, HandleView> for Taken<K> {
+impl<K: VisitedJobs> Outcome<HeapJob, HandleView> for Taken<K> {
     ghost use Rattle.std.specs.Prelude.{◌≡◌, All};
     ghost use Rattle.steal_pool.specs.Protocol.{with_taken};
 
@@ -88,7 +94,7 @@ pub struct Drained<K: VisitedJobs> {
     of: PhantomData<K>,
 }
 
-impl<K: VisitedJobs> Outcome<BoxedJob, HandleView> for Drained<K> {
+impl<K: VisitedJobs> Outcome<HeapJob, HandleView> for Drained<K> {
     ghost use Rattle.std.specs.Prelude.{◌≡◌, All};
     ghost use Rattle.steal_pool.specs.Protocol.{with_taken, TookAllPushed};
 
@@ -98,7 +104,7 @@ impl<K: VisitedJobs> Outcome<BoxedJob, HandleView> for Drained<K> {
 }
 
 /// The owner's end of a deque.
-pub type Owner<K> = Worker<BoxedJob, Global, HandleView, JobProtocol<K>>;
+pub type Owner<K> = Worker<HeapJob, Global, HandleView, JobProtocol<K>>;
 
 /// The end of a deque from which others steal.
-pub type JobStealer<K> = Stealer<BoxedJob, Global, HandleView, JobProtocol<K>>;
+pub type JobStealer<K> = Stealer<HeapJob, Global, HandleView, JobProtocol<K>>;

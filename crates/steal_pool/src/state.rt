@@ -1,5 +1,5 @@
 // What one worker has, and what all workers hand over.
-use crate::boxed::BoxedJob;
+use crate::heap_jobs::HeapJob;
 use crate::names::VisitedJobs;
 use crate::output::Output;
 use crate::protocol::{HandleView, Owner};
@@ -13,9 +13,9 @@ pub struct WorkerState<K: VisitedJobs, I> {
     /// The owner's end of its deque.
     pub owner: Owner<K>,
     /// A pass on each deque, in the order of the deques.
-    pub passes: Vec<Pass<BoxedJob, HandleView>>,
+    pub passes: Vec<Pass<HeapJob, HandleView>>,
     /// The boxes that it holds outside its deque. Others can't steal them.
-    pub hand: Vec<BoxedJob>,
+    pub hand: Vec<HeapJob>,
     pub output: Output<I>,
     /// Whether it left with an empty hand because no box was left to run.
     pub done: bool,
@@ -26,7 +26,7 @@ pub struct WorkerState<K: VisitedJobs, I> {
 pub struct WorkerOutputs<K: VisitedJobs, I> {
     pub owners: Vec<Owner<K>>,
     /// For each worker its passes.
-    pub rows: Vec<Vec<Pass<BoxedJob, HandleView>>>,
+    pub rows: Vec<Vec<Pass<HeapJob, HandleView>>>,
     pub journals: Vec<Vec<Entry>>,
     pub parts: Vec<Part<I>>,
 }

@@ -1,4 +1,4 @@
-// Runs of a step, by this thread alone or by many workers. The step itself is called in `end_box`
+// Runs of a step, by this thread alone or by many workers. The step itself is called in `run_step`
 // (alone.rt).
 ghost use Rattle.std.specs.Prelude.{◌≡◌, ◌+◌, ◌≤◌, ◌++◌, ◌∷◌, [], IfOk, All, length};
 ghost use Rattle.ember_box.specs.Boxes as boxes;
@@ -9,9 +9,9 @@ ghost use Rattle.steal_pool.specs.RunJournals.{RunJournals};
 ghost use Rattle.steal_pool.specs.Journals.{KeepRules, AreParts, journal_of};
 
 use crate::alone::run_below;
-use crate::boxed::BoxedJob;
 use crate::gate::Gate;
 use crate::harvest::{Harvest, PartList};
+use crate::heap_jobs::HeapJob;
 use crate::names::{BoxWeight, VisitedJobs};
 use crate::output::Output;
 use crate::pool::run_named;
@@ -40,8 +40,8 @@ fn run_alone_named<
     let journal = Vec::new(alloc);
     let parts = Vec::new(alloc);
     let mut output = Output { journal, parts };
-    let boxed = BoxedJob::new(alloc, root)?;
-    run_below::<K, I, F, G>(alloc, call, gate, boxed, &mut output)?;
+    let heap_job = HeapJob::new(alloc, root)?;
+    run_below::<K, I, F, G>(alloc, call, gate, heap_job, &mut output)?;
     let Output { journal, parts } = output;
     let mut journals = Vec::new(alloc);
     journals.push(journal)?;

@@ -7,9 +7,9 @@ ghost use Rattle.steal_pool.specs.Protocol.{IsPush, IsTake};
 ghost use Rattle.steal_pool.specs.Steps.{RunsVisited, EachPass, StealsOne, Shares};
 ghost use Rattle.steal_pool.specs.Workers.{IsSound, HasFinished, Balances, Releases, account};
 
-use crate::alone::end_box;
-use crate::boxed::BoxedJob;
+use crate::alone::run_step;
 use crate::gate::Gate;
+use crate::heap_jobs::HeapJob;
 use crate::names::{BoxWeight, VisitedJobs};
 use crate::progress::Progress;
 use crate::protocol::{HandleView, JobStealer, Owner, Pushed, Taken};
@@ -20,7 +20,7 @@ use std::alloc::{AllocError, Global};
 use std::sync::Wait;
 
 // Pushes a job, or hands it back.
-fn push<K: VisitedJobs>(owner: &mut Owner<K>, job: BoxedJob) -> Result<(), BoxedJob>
+fn push<K: VisitedJobs>(owner: &mut Owner<K>, job: HeapJob) -> Result<(), HeapJob>
     requires owns { (worker_view owner.old).owns ≡ true }
     requires visited { K.is_visited job }
     ensures deque { worker_deque owner.new ≡ worker_deque owner.old }
@@ -30,7 +30,7 @@ fn push<K: VisitedJobs>(owner: &mut Owner<K>, job: BoxedJob) -> Result<(), Boxed
 }
 
 // Pops the job that was pushed last.
-fn pop<K: VisitedJobs>(owner: &mut Owner<K>) -> Option<BoxedJob>
+fn pop<K: VisitedJobs>(owner: &mut Owner<K>) -> Option<HeapJob>
     requires { (worker_view owner.old).owns ≡ true }
     ensures deque { worker_deque owner.new ≡ worker_deque owner.old }
     ensures view { IsTake K.is_visited result (worker_view owner.old) (worker_view owner.new) }
@@ -41,8 +41,8 @@ fn pop<K: VisitedJobs>(owner: &mut Owner<K>) -> Option<BoxedJob>
 // Steals the job that was pushed first. `None` if there is none, or if another worker was faster.
 fn steal<K: VisitedJobs>(
     stealer: &JobStealer<K>,
-    pass: &mut Pass<BoxedJob, HandleView>,
-) -> Option<BoxedJob>
+    pass: &mut Pass<HeapJob, HandleView>,
+) -> Option<HeapJob>
     requires pass { IsPassOf (stealer_deque stealer.now) pass.old × ((view pass.old).lent ≡ 1) }
     ensures pass { IsPassOf (stealer_deque stealer.now) pass.new × ((view pass.new).lent ≡ 1) }
     ensures view { IsTake K.is_visited result (view pass.old) (view pass.new) }
@@ -57,9 +57,9 @@ fn steal<K: VisitedJobs>(
 // Steals from the deque with this index.
 fn steal_from<K: VisitedJobs>(
     stealers: &Vec<JobStealer<K>>,
-    passes: &mut Vec<Pass<BoxedJob, HandleView>>,
+    passes: &mut Vec<Pass<HeapJob, HandleView>>,
     from: usize,
-) -> Option<BoxedJob>
+) -> Option<HeapJob>
     requires each { EachPass stealers.now.items passes.old.items }
     ensures each { EachPass stealers.now.items passes.new.items }
     ensures taken { StealsOne K.is_visited result passes.old.items passes.new.items }
@@ -76,8 +76,8 @@ fn steal_from<K: VisitedJobs>(
 #[tactic(auto, using(crate::proofs::DequeSteps::weigh_append))]
 fn share<K: VisitedJobs>(
     owner: &mut Owner<K>,
-    hand: &mut Vec<BoxedJob>,
-    job: BoxedJob,
+    hand: &mut Vec<HeapJob>,
+    job: HeapJob,
 ) -> Result<(), OutOfMemory>
     requires owns { (worker_view owner.old).owns ≡ true }
     requires visited { K.is_visited job × All K.is_visited hand.old.items }
@@ -92,8 +92,8 @@ fn share<K: VisitedJobs>(
     Ok(())
 }
 
-// Runs a box: calls the step (`end_box`). The box ends, or its left half goes to the hand and its
-// right half to the deque.
+// Runs a box: calls the step and enters the box into the journal (`run_step`). If it is halved, its
+// left half goes to the hand and its right half to the deque; otherwise it is finished.
 #[tactic(auto, using(crate::proofs::DequeSteps::weigh_append))]
 fn run_box<
     K: VisitedJobs + BoxWeight<I>,
@@ -106,7 +106,7 @@ fn run_box<
     gate: &G,
     progress: &Progress,
     worker: &mut WorkerState<K, I>,
-    job: BoxedJob,
+    job: HeapJob,
 ) -> Result<(), OutOfMemory>
     requires call { RunsVisited K.is_visited K.answers K.weight F.pre F.post call.now }
     requires job { K.is_visited job }
@@ -116,24 +116,24 @@ fn run_box<
     ensures sound { OnOk result (IsSound K.is_visited K.answers worker.new) }
     ensures balance { OnOk result (Balances K.weight (job ∷ []) (account worker.old) (account worker.new)) }
 {
-    let halves = end_box::<K, I, F, G>(alloc, call, gate, job.job(), &mut worker.output)?;
+    let halves = run_step::<K, I, F, G>(alloc, call, gate, job.job(), &mut worker.output)?;
     let Some(halves) = halves else {
         progress.add(job.job().cell.path());
         return Ok(());
     };
-    share(&mut worker.owner, &mut worker.hand, halves.high)?;
-    worker.hand.push(halves.low)?;
+    share(&mut worker.owner, &mut worker.hand, halves.right)?;
+    worker.hand.push(halves.left)?;
     Ok(())
 }
 
 // Takes a job from the hand, otherwise from the own deque, otherwise from the deque with the index
-// `from`.
+// `from`. If that is the own one again, it is empty and gives nothing.
 #[tactic(auto, using(crate::proofs::DequeSteps::weigh_append))]
 fn next_job<K: VisitedJobs + BoxWeight<I>, I>(
     stealers: &Vec<JobStealer<K>>,
     from: usize,
     worker: &mut WorkerState<K, I>,
-) -> Option<BoxedJob>
+) -> Option<HeapJob>
     requires each { EachPass stealers.now.items worker.old.passes.items }
     requires sound { IsSound K.is_visited K.answers worker.old }
     ensures deque { worker_deque worker.new.owner ≡ worker_deque worker.old.owner }
@@ -157,8 +157,8 @@ fn next_deque(from: usize, count: usize) -> usize {
     if next < count { next } else { 0 }
 }
 
-// Runs boxes until all are ended. The error means that memory was short, here or for another
-// worker.
+// Runs boxes until the finished ones make up the root. The error means that memory was short, here
+// or for another worker. `forever` has no end, so only a return leaves the loop.
 #[tactic(auto, using(crate::proofs::AccountSums::balances_then, crate::proofs::AccountSums::released_balances, crate::proofs::AccountSums::none_balances))]
 pub fn work<
     R: Wait,

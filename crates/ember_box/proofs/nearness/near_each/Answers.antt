@@ -6,9 +6,9 @@ use Rattle.ember_box.proofs.nearness.near_each.Goals as goal
 
 pub returns-then-aabbs_meet : goal.returns-then-aabbs_meet
 returns-then-aabbs_meet c = λ box above e are.
-    let t = c.args.t.now in let h = c.args.h.now in let k = c.args.k in let p = c.plane_of-plane.result in
+    let t = c.args.t.now in let h = c.args.halves.now in let k = c.args.k in let p = c.plane_to_test-plane.result in
     let o : aabbs_meet (aabb_of_tri t) (aabb_of_cell box) ≡ true = (λ i. aabbs_meet (sym c.aabb_of_tri-spans.ensures i) (sym e i)) ∙ sym c.aabbs_meet.ensures ∙ c.if-aabbs_meet.true in
-    let plane : IsPlaneOf (aabb_of_cell box) t p = subst (λ w. IsPlaneOf w t p) e c.plane_of-plane.ensures.value in
+    let plane : IsPlaneOf (aabb_of_cell box) t p = subst (λ w. IsPlaneOf w t p) e c.plane_to_test-plane.ensures.value in
     let span = c.interval_on-span.ensures ∙ ap (interval_on k) c.aabb_of_tri-spans.ensures in
     (c.meets_left.ensures ∙ ap (λ a. meets_left h a p) span ∙ seen_low box t p o plane k h above are, c.meets_right.ensures ∙ ap (λ a. meets_right h a p) span ∙ seen_high box t p o plane k h above are)
 

@@ -9,12 +9,12 @@ loop-i-preserved c =
     let tris = c.args.tris.now in let list = c.args.list.now in let cell = c.args.c.now in let k = c.args.axis in
     let i = c.loop-i.i-index in
     let below : i < length list = omega arith in
-    let each = c.near_each-in_low.ensures cell c.requires.side c.aabb_of_cell-whole.ensures.value c.halves_of-halves.ensures.value in
+    let each = c.near_each-is_near_left.ensures cell c.requires.side c.aabb_of_cell-whole.ensures.value c.half_boxes_of-halves.ensures.value in
     record {
-      low = kept_more (λ j. is_near (left_half cell k) (tri_at tris j)) list i c.loop-i.low.items c.push_if.new.list.items c.near_each-in_low.result.0 below c.loop-i.invariant.low each.0 c.push_if.ensures.items;
-      high = kept_more (λ j. is_near (right_half cell k) (tri_at tris j)) list i c.loop-i.high.items c.push_if-in-loop-i.new.list.items c.near_each-in_low.result.1 below c.loop-i.invariant.high each.1 c.push_if-in-loop-i.ensures.items;
-      low_len = omega (arith, c.push_if.ensures.len, c.loop-i.invariant.low_len);
-      high_len = omega (arith, c.push_if-in-loop-i.ensures.len, c.loop-i.invariant.high_len);
-      low_room = c.push_if.ensures.capacity ∙ c.loop-i.invariant.low_room;
-      high_room = c.push_if-in-loop-i.ensures.capacity ∙ c.loop-i.invariant.high_room;
+      left = kept_more (λ j. is_near (left_half cell k) (tri_at tris j)) list i c.loop-i.left.items c.push_if.new.list.items c.near_each-is_near_left.result.0 below c.loop-i.invariant.left each.0 c.push_if.ensures.items;
+      right = kept_more (λ j. is_near (right_half cell k) (tri_at tris j)) list i c.loop-i.right.items c.push_if-in-loop-i.new.list.items c.near_each-is_near_left.result.1 below c.loop-i.invariant.right each.1 c.push_if-in-loop-i.ensures.items;
+      left_len = omega (arith, c.push_if.ensures.len, c.loop-i.invariant.left_len);
+      right_len = omega (arith, c.push_if-in-loop-i.ensures.len, c.loop-i.invariant.right_len);
+      left_room = c.push_if.ensures.capacity ∙ c.loop-i.invariant.left_room;
+      right_room = c.push_if-in-loop-i.ensures.capacity ∙ c.loop-i.invariant.right_room;
     }

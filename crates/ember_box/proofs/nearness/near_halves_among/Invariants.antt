@@ -5,4 +5,4 @@ use Rattle.ember_box.proofs.nearness.near_halves_among.Given as goal
 
 abbrev pub invariant-loop-i : goal.invariant-loop-i
 invariant-loop-i l =
-    record { low : l.low.items ≡ near_indices l.tris (left_half l.c l.axis) (take l.i-index l.list); high : l.high.items ≡ near_indices l.tris (right_half l.c l.axis) (take l.i-index l.list); low_len : vec_len l.low ≤ l.i-index; high_len : vec_len l.high ≤ l.i-index; low_room : vec_capacity l.low ≡ length l.list; high_room : vec_capacity l.high ≡ length l.list }
+    record { left : l.left.items ≡ near_indices l.tris (left_half l.c l.axis) (take l.i-index l.list); right : l.right.items ≡ near_indices l.tris (right_half l.c l.axis) (take l.i-index l.list); left_len : vec_len l.left ≤ l.i-index; right_len : vec_len l.right ≤ l.i-index; left_room : vec_capacity l.left ≡ length l.list; right_room : vec_capacity l.right ≡ length l.list }

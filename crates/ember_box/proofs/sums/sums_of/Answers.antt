@@ -7,7 +7,7 @@ unfolding near_halves
 returns-clause-sums c box t a =
     record {
       near = c.number.ensures.value ∙ ap number a.whole;
-      x = λ may. c.number_of.ensures.value ∙ (λ i. number ((a.x may).low i) + number ((a.x may).high i));
-      y = λ may. c.number_of-2.ensures.value ∙ (λ i. number ((a.y may).low i) + number ((a.y may).high i));
-      z = λ may. c.number_of-3.ensures.value ∙ (λ i. number ((a.z may).low i) + number ((a.z may).high i));
+      x = λ may. c.number_of.ensures.value ∙ (λ i. number ((a.x may).left i) + number ((a.x may).right i));
+      y = λ may. c.number_of-2.ensures.value ∙ (λ i. number ((a.y may).left i) + number ((a.y may).right i));
+      z = λ may. c.number_of-3.ensures.value ∙ (λ i. number ((a.z may).left i) + number ((a.z may).right i));
     }

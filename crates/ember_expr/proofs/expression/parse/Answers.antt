@@ -9,7 +9,7 @@ use Rattle.ember_expr.proofs.expression.parse.Goals as goal
 
 pub invariant_of-result : goal.invariant_of-result
 invariant_of-result c =
-    fit_more c.args.meshes 64 c.requires (formula_of c.in_ok-formula.formula) c.in_ok-formula.ensures.fit
+    fit_more c.args.meshes 64 c.requires (formula_of c.in_ok-tree.tree) c.in_ok-tree.ensures.fit
 
 pub returns-then-text-gt-MOST_BYTES-clause-fault : goal.returns-then-text-gt-MOST_BYTES-clause-fault
 returns-then-text-gt-MOST_BYTES-clause-fault c =

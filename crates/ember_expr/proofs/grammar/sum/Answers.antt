@@ -1,6 +1,6 @@
 use Rattle.std.proofs.Common.{rules, arith, ◌≡◌, ◌+◌, Some, None, length, length-append}
 use Rattle.std.proofs.lemmas.List.Elements.{All-push}
-use Rattle.ember_expr.specs.declared.formula.Term.{Term}
+use Rattle.ember_expr.specs.declared.trees.Term.{Term}
 use Rattle.ember_expr.specs.Formula.{IsFitTerm}
 use Rattle.ember_expr.specs.Grammar.{read, term, sum, sign_before, after_first}
 use Rattle.ember_expr.proofs.Rules.{one_term, no_term}
@@ -18,7 +18,7 @@ terms-preserved c =
       shorter = search rules;
     }
 
-pub returns-clause-read : goal.returns-clause-read
-returns-clause-read c =
+pub returns-clause-ok : goal.returns-clause-ok
+returns-clause-ok c =
     let last : sign_before c.terms.rest.now ≡ None = search rules in
     rw c.of.ensures (no_term c.args.scope (sum c.args.scope c.args.tokens.now) c.terms.terms.items c.terms.rest.now c.terms.invariant.read last)

@@ -1,5 +1,5 @@
 use Rattle.std.proofs.Common.{rules, ◌≡◌, sym, ◌∙◌}
-use Rattle.ember_expr.specs.declared.formula.Rel.TheVariants.{NotEqual}
+use Rattle.ember_expr.specs.declared.trees.Rel.TheVariants.{NotEqual}
 use Rattle.ember_expr.specs.declared.token.Word.TheVariants.{Bang}
 use Rattle.ember_expr.specs.Tokens.{lexeme_of, before_equals}
 use Rattle.ember_expr.proofs.token.longest.Goals as goal

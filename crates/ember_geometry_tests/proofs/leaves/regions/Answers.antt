@@ -9,8 +9,8 @@ use Rattle.ember_geometry_tests.proofs.leaves.regions.Goals as goal
 copied : (c : goal.After-deref) → c.deref.result.now ≡ listed c.args.s.now.tris c.args.job.now.list
 copied c = c.deref.ensures.value ∙ c.in_ok-near.ensures ∙ (λ i. listed (c.items.ensures i) (c.items-2.ensures i))
 
-pub tris_at-requires : goal.tris_at-requires
-tris_at-requires c =
+pub listed_tris-requires : goal.listed_tris-requires
+listed_tris-requires c =
     let ts = c.args.s.now.tris in let list = c.args.job.now.list in
     let places : All (λ i. i < length c.items.result.now) list = subst (λ us. All (λ i. i < length us) list) (sym c.items.ensures) (job_places ts c.args.job.now c.requires) in
     subst (All (λ i. i < length c.items.result.now)) (sym c.items-2.ensures) places

@@ -8,11 +8,11 @@ use Rattle.ember_geometry_tests.proofs.sides.+see_below.Goals as goal
 pub see_below-requires : goal.see_below-requires
 see_below-requires t c =
     let s = c.args.s.now in let f = formula_of c.args.e.now in let job = c.args.job.now in
-    let split : shape s.tris f job ≡ halved c.in-Halves.low c.in-Halves.high = rw c.in-Halves.is at c.in_ok-low.ensures in
-    (omega arith, (halves_are_jobs s.tris f job c.in-Halves.low c.in-Halves.high s.meshes s.kept c.requires split).0)
+    let split : shape s.tris f job ≡ halved c.in-Halves.left_job c.in-Halves.right_job = rw c.in-Halves.is at c.in_ok-left_job.ensures in
+    (omega arith, (halves_are_jobs s.tris f job c.in-Halves.left_job c.in-Halves.right_job s.meshes s.kept c.requires split).0)
 
 pub see_below-requires-then-left-gt0 : goal.see_below-requires-then-left-gt0
 see_below-requires-then-left-gt0 t c =
     let s = c.args.s.now in let f = formula_of c.args.e.now in let job = c.args.job.now in
-    let split : shape s.tris f job ≡ halved c.in-Halves.low c.in-Halves.high = rw c.in-Halves.is at c.in_ok-low.ensures in
-    (omega arith, (halves_are_jobs s.tris f job c.in-Halves.low c.in-Halves.high s.meshes s.kept c.requires split).1)
+    let split : shape s.tris f job ≡ halved c.in-Halves.left_job c.in-Halves.right_job = rw c.in-Halves.is at c.in_ok-left_job.ensures in
+    (omega arith, (halves_are_jobs s.tris f job c.in-Halves.left_job c.in-Halves.right_job s.meshes s.kept c.requires split).1)

@@ -8,4 +8,4 @@ use Rattle.ember_leaf.proofs.cutters.find_cutters.Given as goal
 
 abbrev pub invariant-loop-j : goal.invariant-loop-j
 invariant-loop-j l =
-    All (IsCutterOf l.own.tri) l.list.items × OmitsUnmet (IsBounded l.own.tri l.bounds) (flat_map (cutting_planes_at (tris_in l.near) l.i) (range_with_len 0 l.j)) (cutting_planes_in l.list.items) × AreLower (tris_in l.near) l.i l.own.tri l.bounds l.j (owners_in l.list.items)
+    All (IsCutterOf l.target.tri) l.list.items × OmitsUnmet (IsBounded l.target.tri l.bounds) (flat_map (cutting_planes_at (tris_in l.near) l.i) (range_with_len 0 l.j)) (cutting_planes_in l.list.items) × AreLower (tris_in l.near) l.i l.target.tri l.bounds l.j (owners_in l.list.items)

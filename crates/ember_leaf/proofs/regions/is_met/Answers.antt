@@ -4,11 +4,11 @@ use Rattle.ember_leaf.proofs.Pieces.{cutter_shares_plane}
 use Rattle.ember_leaf.proofs.RegionCuts.{cutting_plane_face}
 use Rattle.ember_leaf.proofs.regions.is_met.Goals as goal
 
-pub is_met_flat-requires : goal.is_met_flat-requires
-is_met_flat-requires c =
-    record { plane = cutter_shares_plane c.args.c.now c.args.r.now c.requires c.in_default.not-Across; somewhere = c.requires.somewhere }
+pub is_met_coplanar-requires : goal.is_met_coplanar-requires
+is_met_coplanar-requires c =
+    record { plane = cutter_shares_plane c.args.cutter.now c.args.r.now c.requires c.in_default.not-Across; somewhere = c.requires.somewhere }
 
 pub returns-in-Across : goal.returns-in-Across
 returns-in-Across c =
-    let u = c.args.c.now in
-    subst (λ f. IsTrue c.meets_face.result ↔ Meets c.args.r.now f) (cutting_plane_face u.tri u.face u.sides) c.meets_face.ensures
+    let u = c.args.cutter.now in
+    subst (λ f. IsTrue c.meets_face.result ↔ Meets c.args.r.now f) (cutting_plane_face u.tri u.face u.edge_planes) c.meets_face.ensures

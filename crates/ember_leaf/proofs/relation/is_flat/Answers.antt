@@ -7,4 +7,4 @@ use Rattle.ember_leaf.proofs.relation.is_flat.Goals as goal
 pub returns : goal.returns
 unfolding is_flat
 returns c =
-    c.has_no_normal.ensures ∙ ap (λ (p : Plane). is_zero p.a && (is_zero p.b && is_zero p.c)) c.args.f.now.plane
+    c.has_no_normal.ensures ∙ ap (λ (p : Plane). is_zero p.a && (is_zero p.b && is_zero p.c)) c.args.triangle.now.plane

@@ -5,16 +5,16 @@ use Rattle.ember_leaf.proofs.TriRelations.{heights_test_moved, apart_in_front, a
 
 pub returns-then-all_in_front : goal.returns-then-all_in_front
 returns-then-all_in_front c =
-    apart_in_front c.args.f.now.tri c.args.g.now.tri c.requires.first c.requires.second (heights_test_moved all_in_front c.args.g.now.tri c.args.f.now.plane c.heights_of-theirs.ensures c.all_in_front.ensures c.if-all_in_front.true)
+    apart_in_front c.args.first.now.tri c.args.second.now.tri c.requires.first c.requires.second (heights_test_moved all_in_front c.args.second.now.tri c.args.first.now.plane c.heights_of-heights.ensures c.all_in_front.ensures c.if-all_in_front.true)
 
 pub returns-then-all_behind : goal.returns-then-all_behind
 returns-then-all_behind c =
-    apart_behind c.args.f.now.tri c.args.g.now.tri c.requires.first c.requires.second (heights_test_moved all_behind c.args.g.now.tri c.args.f.now.plane c.heights_of-theirs.ensures c.all_behind.ensures c.if-all_behind.true)
+    apart_behind c.args.first.now.tri c.args.second.now.tri c.requires.first c.requires.second (heights_test_moved all_behind c.args.second.now.tri c.args.first.now.plane c.heights_of-heights.ensures c.all_behind.ensures c.if-all_behind.true)
 
 pub coplanar_relation-requires-clause-plane : goal.coplanar_relation-requires-clause-plane
 coplanar_relation-requires-clause-plane c =
-    coplanar_is c.args.f.now.tri c.args.g.now.tri c.requires.first c.requires.second ∙ heights_test_moved all_on c.args.g.now.tri c.args.f.now.plane c.heights_of-theirs.ensures c.all_on.ensures c.if-all_on.true
+    coplanar_is c.args.first.now.tri c.args.second.now.tri c.requires.first c.requires.second ∙ heights_test_moved all_on c.args.second.now.tri c.args.first.now.plane c.heights_of-heights.ensures c.all_on.ensures c.if-all_on.true
 
 pub crossing_relation-requires-clause-plane : goal.crossing_relation-requires-clause-plane
 crossing_relation-requires-clause-plane c =
-    coplanar_is c.args.f.now.tri c.args.g.now.tri c.requires.first c.requires.second ∙ heights_test_moved all_on c.args.g.now.tri c.args.f.now.plane c.heights_of-theirs.ensures c.all_on.ensures c.if-all_on.false
+    coplanar_is c.args.first.now.tri c.args.second.now.tri c.requires.first c.requires.second ∙ heights_test_moved all_on c.args.second.now.tri c.args.first.now.plane c.heights_of-heights.ensures c.all_on.ensures c.if-all_on.false

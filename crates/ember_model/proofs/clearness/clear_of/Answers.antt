@@ -42,7 +42,7 @@ is_ray_clear-requires-then-is_ray_clear-2-clause-edges c = c.requires.edges
 
 pub returns-then-is_ray_clear-2 : goal.returns-then-is_ray_clear-2
 returns-then-is_ray_clear-2 c =
-    let f = face_with c.args.n.now c.args.es.now in let p = c.args.p.now in
+    let f = face_with c.args.support.now c.args.edges.now in let p = c.args.p.now in
     let a : not (is_in_closed f p) ≡ true = ap not (sym c.in_closed.ensures ∙ c.if-not-in_closed.true) in
     let x : is_ray_clear f X p ≡ true = sym c.is_ray_clear.ensures ∙ c.if-is_ray_clear.true in
     let y : is_ray_clear f Y p ≡ true = sym c.is_ray_clear-then-is_ray_clear.ensures ∙ c.if-is_ray_clear-2.true in
@@ -50,7 +50,7 @@ returns-then-is_ray_clear-2 c =
 
 pub returns-else-is_ray_clear-2 : goal.returns-else-is_ray_clear-2
 returns-else-is_ray_clear-2 c =
-    let f = face_with c.args.n.now c.args.es.now in let p = c.args.p.now in
+    let f = face_with c.args.support.now c.args.edges.now in let p = c.args.p.now in
     let a : not (is_in_closed f p) ≡ true = ap not (sym c.in_closed.ensures ∙ c.if-not-in_closed.true) in
     let x : is_ray_clear f X p ≡ true = sym c.is_ray_clear.ensures ∙ c.if-is_ray_clear.true in
     let y : is_ray_clear f Y p ≡ false = sym c.is_ray_clear-then-is_ray_clear.ensures ∙ c.if-is_ray_clear-2.false in
@@ -58,13 +58,13 @@ returns-else-is_ray_clear-2 c =
 
 pub returns-else-is_ray_clear : goal.returns-else-is_ray_clear
 returns-else-is_ray_clear c =
-    let f = face_with c.args.n.now c.args.es.now in let p = c.args.p.now in
+    let f = face_with c.args.support.now c.args.edges.now in let p = c.args.p.now in
     let a : not (is_in_closed f p) ≡ true = ap not (sym c.in_closed.ensures ∙ c.if-not-in_closed.true) in
     let x : is_ray_clear f X p ≡ false = sym c.is_ray_clear.ensures ∙ c.if-is_ray_clear.false in
     c.if-is_ray_clear.false ∙ sym (λ i. a i && (x i && (is_ray_clear f Y p && is_ray_clear f Z p)))
 
 pub returns-else-not-in_closed : goal.returns-else-not-in_closed
 returns-else-not-in_closed c =
-    let f = face_with c.args.n.now c.args.es.now in let p = c.args.p.now in
+    let f = face_with c.args.support.now c.args.edges.now in let p = c.args.p.now in
     let a : not (is_in_closed f p) ≡ false = ap not (sym c.in_closed.ensures ∙ c.if-not-in_closed.false) in
     ap not c.if-not-in_closed.false ∙ sym (λ i. a i && (is_ray_clear f X p && (is_ray_clear f Y p && is_ray_clear f Z p)))

@@ -4,5 +4,5 @@ use Rattle.ember_model.specs.ClearTest.{is_entry}
 use Rattle.ember_model.proofs.clearness.enters.Given as goal
 
 -- no plane so far is one of entry
-abbrev pub invariant-loop-h : goal.invariant-loop-h
-invariant-loop-h l = list_any (is_entry l.es l.a l.p) (take l.h-index l.es) ≡ false
+abbrev pub invariant-loop-edge : goal.invariant-loop-edge
+invariant-loop-edge l = list_any (is_entry l.edges l.a l.p) (take l.edge-index l.edges) ≡ false

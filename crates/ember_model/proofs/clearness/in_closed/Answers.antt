@@ -21,8 +21,8 @@ here p es =
 
 pub returns-then-is_on : goal.returns-then-is_on
 returns-then-is_on c =
-    let n = c.args.n.now in let p = c.args.p.now in let es = c.args.es.now in
-    let v = exact (c.value.ensures.small & done) (stored w128 (input 0)) tt ∙ c.value.ensures.value in
+    let n = c.args.support.now in let p = c.args.p.now in let es = c.args.edges.now in
+    let v = exact (c.plane_value.ensures.small & done) (stored w128 (input 0)) tt ∙ c.plane_value.ensures.value in
     let z : is_zero (value_at n p) ≡ true = (λ i. is_zero (sym v i)) ∙ sym c.is_on.ensures ∙ c.if-is_on.true in
     let w = positive_in c.requires.spot.weight in
     c.none_positive.ensures ∙ here p es ∙ sym (λ i. w i && (z i && none_positive es p))

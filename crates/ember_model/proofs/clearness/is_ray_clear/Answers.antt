@@ -10,8 +10,8 @@ use Rattle.ember_model.proofs.clearness.is_ray_clear.Goals as goal
 
 pub returns-then-not-none_positive : goal.returns-then-not-none_positive
 returns-then-not-none_positive c =
-    let n = c.args.n.now in let p = c.args.p.now in let a = c.args.a in let es = c.args.es.now in
-    let s = exact (c.value-front.ensures.small & done) (stored w128 (input 0)) tt ∙ c.value-front.ensures.value in
+    let n = c.args.support.now in let p = c.args.p.now in let a = c.args.a in let es = c.args.edges.now in
+    let s = exact (c.plane_value-front.ensures.small & done) (stored w128 (input 0)) tt ∙ c.plane_value-front.ensures.value in
     let k = exact (c.component-slope.ensures.small & done) (stored w64 (input 0)) tt ∙ c.component-slope.ensures.value in
     let l : is_zero (along n a) ≡ false = (λ i. is_zero (sym k i)) ∙ sym c.is_level.ensures ∙ c.if-is_level.false in
     let m : is_negative (value_at n p *ℤ along n a) ≡ true = (λ i. is_negative (sym s i *ℤ sym k i)) ∙ sym c.meets.ensures ∙ c.if-meets.true in
@@ -21,8 +21,8 @@ returns-then-not-none_positive c =
 
 pub returns-else-not-none_positive : goal.returns-else-not-none_positive
 returns-else-not-none_positive c =
-    let n = c.args.n.now in let p = c.args.p.now in let a = c.args.a in let es = c.args.es.now in
-    let s = exact (c.value-front.ensures.small & done) (stored w128 (input 0)) tt ∙ c.value-front.ensures.value in
+    let n = c.args.support.now in let p = c.args.p.now in let a = c.args.a in let es = c.args.edges.now in
+    let s = exact (c.plane_value-front.ensures.small & done) (stored w128 (input 0)) tt ∙ c.plane_value-front.ensures.value in
     let k = exact (c.component-slope.ensures.small & done) (stored w64 (input 0)) tt ∙ c.component-slope.ensures.value in
     let l : is_zero (along n a) ≡ false = (λ i. is_zero (sym k i)) ∙ sym c.is_level.ensures ∙ c.if-is_level.false in
     let m : is_negative (value_at n p *ℤ along n a) ≡ true = (λ i. is_negative (sym s i *ℤ sym k i)) ∙ sym c.meets.ensures ∙ c.if-meets.true in

@@ -14,7 +14,7 @@ returns-then-all_below-clause-value c =
     let p = c.args.p.now in let t = c.args.t.now in let a = c.args.a in
     let k = exact (c.component-slope.ensures.small & done) (stored w64 (input 0)) tt ∙ c.component-slope.ensures.value ∙ ap (λ (n : Plane). along n a) c.support_of-n.ensures.value in
     let l : pos 0 <ℤ along (support_of t) a = subst (λ (z : ℤ). pos 0 <ℤ z) k (less_out _ _ c.if-slope-gt0.true) in
-    let s = exact (c.value-front.ensures.small & done) (stored w128 (input 0)) tt ∙ c.value-front.ensures.value ∙ ap (λ (n : Plane). value_at n p) c.support_of-n.ensures.value in
+    let s = exact (c.plane_value-front.ensures.small & done) (stored w128 (input 0)) tt ∙ c.plane_value-front.ensures.value ∙ ap (λ (n : Plane). value_at n p) c.support_of-n.ensures.value in
     let e = exact (c.edge_value-e.ensures.small & done) (stored w128 (input 0)) tt ∙ c.edge_value-e.ensures.value in
     let f = exact (c.edge_value-f.ensures.small & done) (stored w128 (input 0)) tt ∙ c.edge_value-f.ensures.value in
     let g = exact (c.edge_value-g.ensures.small & done) (stored w128 (input 0)) tt ∙ c.edge_value-g.ensures.value in
@@ -26,7 +26,7 @@ returns-else-all_below-clause-value c =
     let p = c.args.p.now in let t = c.args.t.now in let a = c.args.a in
     let k = exact (c.component-slope.ensures.small & done) (stored w64 (input 0)) tt ∙ c.component-slope.ensures.value ∙ ap (λ (n : Plane). along n a) c.support_of-n.ensures.value in
     let l : pos 0 <ℤ along (support_of t) a = subst (λ (z : ℤ). pos 0 <ℤ z) k (less_out _ _ c.if-slope-gt0.true) in
-    let s = exact (c.value-front.ensures.small & done) (stored w128 (input 0)) tt ∙ c.value-front.ensures.value ∙ ap (λ (n : Plane). value_at n p) c.support_of-n.ensures.value in
+    let s = exact (c.plane_value-front.ensures.small & done) (stored w128 (input 0)) tt ∙ c.plane_value-front.ensures.value ∙ ap (λ (n : Plane). value_at n p) c.support_of-n.ensures.value in
     let e = exact (c.edge_value-e.ensures.small & done) (stored w128 (input 0)) tt ∙ c.edge_value-e.ensures.value in
     let f = exact (c.edge_value-f.ensures.small & done) (stored w128 (input 0)) tt ∙ c.edge_value-f.ensures.value in
     let g = exact (c.edge_value-g.ensures.small & done) (stored w128 (input 0)) tt ∙ c.edge_value-g.ensures.value in
@@ -38,7 +38,7 @@ returns-then-all_above-clause-value c =
     let p = c.args.p.now in let t = c.args.t.now in let a = c.args.a in
     let k = exact (c.component-slope.ensures.small & done) (stored w64 (input 0)) tt ∙ c.component-slope.ensures.value ∙ ap (λ (n : Plane). along n a) c.support_of-n.ensures.value in
     let l : along (support_of t) a <ℤ pos 0 = subst (λ (z : ℤ). z <ℤ pos 0) k (less_out _ _ c.if-slope-lt0.true) in
-    let s = exact (c.value-front.ensures.small & done) (stored w128 (input 0)) tt ∙ c.value-front.ensures.value ∙ ap (λ (n : Plane). value_at n p) c.support_of-n.ensures.value in
+    let s = exact (c.plane_value-front.ensures.small & done) (stored w128 (input 0)) tt ∙ c.plane_value-front.ensures.value ∙ ap (λ (n : Plane). value_at n p) c.support_of-n.ensures.value in
     let e = exact (c.edge_value-e.ensures.small & done) (stored w128 (input 0)) tt ∙ c.edge_value-e.ensures.value in
     let f = exact (c.edge_value-f.ensures.small & done) (stored w128 (input 0)) tt ∙ c.edge_value-f.ensures.value in
     let g = exact (c.edge_value-g.ensures.small & done) (stored w128 (input 0)) tt ∙ c.edge_value-g.ensures.value in
@@ -50,7 +50,7 @@ returns-else-all_above-clause-value c =
     let p = c.args.p.now in let t = c.args.t.now in let a = c.args.a in
     let k = exact (c.component-slope.ensures.small & done) (stored w64 (input 0)) tt ∙ c.component-slope.ensures.value ∙ ap (λ (n : Plane). along n a) c.support_of-n.ensures.value in
     let l : along (support_of t) a <ℤ pos 0 = subst (λ (z : ℤ). z <ℤ pos 0) k (less_out _ _ c.if-slope-lt0.true) in
-    let s = exact (c.value-front.ensures.small & done) (stored w128 (input 0)) tt ∙ c.value-front.ensures.value ∙ ap (λ (n : Plane). value_at n p) c.support_of-n.ensures.value in
+    let s = exact (c.plane_value-front.ensures.small & done) (stored w128 (input 0)) tt ∙ c.plane_value-front.ensures.value ∙ ap (λ (n : Plane). value_at n p) c.support_of-n.ensures.value in
     let e = exact (c.edge_value-e.ensures.small & done) (stored w128 (input 0)) tt ∙ c.edge_value-e.ensures.value in
     let f = exact (c.edge_value-f.ensures.small & done) (stored w128 (input 0)) tt ∙ c.edge_value-f.ensures.value in
     let g = exact (c.edge_value-g.ensures.small & done) (stored w128 (input 0)) tt ∙ c.edge_value-g.ensures.value in

@@ -13,7 +13,7 @@ use Rattle.ember_model.proofs.rays.face_crossing.Goals.{else-meets-via-then-meet
 pub returns-then-all_negative-clause-value : goal.returns-then-all_negative-clause-value
 returns-then-all_negative-clause-value c =
     let f = c.args.f.now in let p = c.args.p.now in let a = c.args.a in
-    let s = exact (c.value-front.ensures.small & done) (stored w128 (input 0)) tt ∙ c.value-front.ensures.value in
+    let s = exact (c.plane_value-front.ensures.small & done) (stored w128 (input 0)) tt ∙ c.plane_value-front.ensures.value in
     let k = exact (c.component-slope.ensures.small & done) (stored w64 (input 0)) tt ∙ c.component-slope.ensures.value in
     let m : is_negative (value_at f.support p *ℤ along f.support a) ≡ true = (λ i. is_negative (sym s i *ℤ sym k i)) ∙ sym c.meets.ensures ∙ c.if-meets.true in
     let q = ray_point_is_hit f.support a p _ _ c.hit_on_ray.result s k c.hit_on_ray.ensures.value in
@@ -24,7 +24,7 @@ returns-then-all_negative-clause-value c =
 pub returns-else-meets-clause-value : goal.returns-else-meets-clause-value
 returns-else-meets-clause-value c =
     let f = c.args.f.now in let p = c.args.p.now in let a = c.args.a in
-    let s = exact (c.value-front.ensures.small & done) (stored w128 (input 0)) tt ∙ c.value-front.ensures.value in
+    let s = exact (c.plane_value-front.ensures.small & done) (stored w128 (input 0)) tt ∙ c.plane_value-front.ensures.value in
     let k = exact (c.component-slope.ensures.small & done) (stored w64 (input 0)) tt ∙ c.component-slope.ensures.value in
     let m : is_negative (value_at f.support p *ℤ along f.support a) ≡ c.meets.result = (λ i. is_negative (sym s i *ℤ sym k i)) ∙ sym c.meets.ensures in
     elim c.else-meets.branch [

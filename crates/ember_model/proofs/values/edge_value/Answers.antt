@@ -24,18 +24,18 @@ along_z u v s =
 
 pub returns-in-X-clause-value : goal.returns-in-X-clause-value
 returns-in-X-clause-value c =
-    let u = c.args.u.now in let v = c.args.v.now in let s = c.args.s.now in
+    let u = c.args.u.now in let v = c.args.v.now in let s = c.args.p.now in
     let step = c.vector_between-step.ensures in let at = c.vector_from_corner-at.ensures in let e = step.value in let f = at.y in let g = at.z in
     exact (c.product_difference.ensures.small & done) (stored w128 (input 0)) tt ∙ c.product_difference.ensures.value ∙ exact (step.small.z & at.small.y & step.small.y & at.small.z & done) (narrow 0 ⊠ narrow 1 ⊟ narrow 2 ⊠ narrow 3) tt ∙ (λ i. (e i).z *ℤ f i -ℤ (e i).y *ℤ g i) ∙ along_x u v s ∙ ap (λ (k : Axis). value_at (edge_through u v (unit k)) s) (sym c.in-X.is)
 
 pub returns-in-Y-clause-value : goal.returns-in-Y-clause-value
 returns-in-Y-clause-value c =
-    let u = c.args.u.now in let v = c.args.v.now in let s = c.args.s.now in
+    let u = c.args.u.now in let v = c.args.v.now in let s = c.args.p.now in
     let step = c.vector_between-step.ensures in let at = c.vector_from_corner-at.ensures in let e = step.value in let f = at.z in let g = at.x in
     exact (c.product_difference-in-Y.ensures.small & done) (stored w128 (input 0)) tt ∙ c.product_difference-in-Y.ensures.value ∙ exact (step.small.x & at.small.z & step.small.z & at.small.x & done) (narrow 0 ⊠ narrow 1 ⊟ narrow 2 ⊠ narrow 3) tt ∙ (λ i. (e i).x *ℤ f i -ℤ (e i).z *ℤ g i) ∙ along_y u v s ∙ ap (λ (k : Axis). value_at (edge_through u v (unit k)) s) (sym c.in-Y.is)
 
 pub returns-in-Z-clause-value : goal.returns-in-Z-clause-value
 returns-in-Z-clause-value c =
-    let u = c.args.u.now in let v = c.args.v.now in let s = c.args.s.now in
+    let u = c.args.u.now in let v = c.args.v.now in let s = c.args.p.now in
     let step = c.vector_between-step.ensures in let at = c.vector_from_corner-at.ensures in let e = step.value in let f = at.x in let g = at.y in
     exact (c.product_difference-in-Z.ensures.small & done) (stored w128 (input 0)) tt ∙ c.product_difference-in-Z.ensures.value ∙ exact (step.small.y & at.small.x & step.small.x & at.small.y & done) (narrow 0 ⊠ narrow 1 ⊟ narrow 2 ⊠ narrow 3) tt ∙ (λ i. (e i).y *ℤ f i -ℤ (e i).x *ℤ g i) ∙ along_z u v s ∙ ap (λ (k : Axis). value_at (edge_through u v (unit k)) s) (sym c.in-Z.is)

@@ -3,5 +3,5 @@ use Rattle.ember_model.specs.Rays.{point_on_ray}
 use Rattle.ember_model.specs.ClearTest.{none_positive}
 use Rattle.ember_model.proofs.values.none_positive.Given as goal
 
-abbrev pub invariant-loop-e : goal.invariant-loop-e
-invariant-loop-e l = none_positive (take l.e-index l.es) (point_on_ray l.p l.r) ≡ true
+abbrev pub invariant-loop-edge : goal.invariant-loop-edge
+invariant-loop-edge l = none_positive (take l.edge-index l.edges) (point_on_ray l.p l.ray_point) ≡ true

@@ -5,7 +5,7 @@ use Rattle.ember_obj.proofs.reading.read_obj.Given as goal
 
 abbrev pub invariant-loop-line : goal.invariant-loop-line
 invariant-loop-line l = record {
-  same : table_of l.places l.mesh l.bytes ≡ after_lines l.places l.mesh (Ok l.reader) (lines_from l.number l.rest);
+  same : table_of l.places l.mesh l.bytes ≡ after_lines l.places l.mesh (Ok l.table) (lines_from l.number l.rest);
   short : l.number + length l.rest ≤ length l.bytes + 1;
 }
 

@@ -10,15 +10,15 @@ three = stored w128 two ⊞ stored w128 (wide 4 ⊠ wide 5)
 
 pub overflow_add-result : goal.overflow_add-result
 overflow_add-result c =
-    let p = c.requires in let u = c.args.u.now.small in no_overflow (p.a & u.x & p.b & u.y & done) w128 two tt
+    let p = c.requires in let u = c.args.cross.now.small in no_overflow (p.a & u.x & p.b & u.y & done) w128 two tt
 
 pub overflow_add-result-2 : goal.overflow_add-result-2
 overflow_add-result-2 c =
-    let p = c.requires in let u = c.args.u.now.small in
+    let p = c.requires in let u = c.args.cross.now.small in
     no_overflow (p.a & u.x & p.b & u.y & p.c & u.z & done) w128 three tt
 
 pub returns : goal.returns
 returns c =
-    let p = c.requires in let u = c.args.u.now.small in
+    let p = c.requires in let u = c.args.cross.now.small in
     let i = p.a & u.x & p.b & u.y & p.c & u.z & done in
     record { value = exact i (stored w128 three) tt; small = bounded i 302231454903657293676543 (stored w128 three) tt }

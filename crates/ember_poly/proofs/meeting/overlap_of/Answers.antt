@@ -9,13 +9,13 @@ use Rattle.ember_poly.proofs.meeting.overlap_of.Goals as goal
 abbrev none : Plane
 none = record { a = pos 0; b = pos 0; c = pos 0; d = pos 0 }
 
-pub loop-h-init : goal.loop-h-init
-loop-h-init c = counted_none c.args.r.now c.requires.inside
+pub loop-edge-init : goal.loop-edge-init
+loop-edge-init c = counted_none c.args.r.now c.requires.inside
 
-pub loop-h-preserved : goal.loop-h-preserved
-loop-h-preserved c =
-    let f = c.args.r.now in let hs = c.args.hs.now in let i = c.loop-h.h-index in let h = get_or hs i none in
-    let l = c.loop-h-test.true in let v = c.loop-h.invariant in let b = c.loop-h.is_cut in let t = c.loop-h.is_cut_twice in
+pub loop-edge-preserved : goal.loop-edge-preserved
+loop-edge-preserved c =
+    let f = c.args.r.now in let hs = c.args.edges.now in let i = c.loop-edge.edge-index in let h = get_or hs i none in
+    let l = c.loop-edge-test.true in let v = c.loop-edge.invariant in let b = c.loop-edge.is_cut in let t = c.loop-edge.is_cut_twice in
     elim c.match-reach.branch [
       | in-Below w ↦ subst (λ b. Counted f b c.match-reach.is_cut_twice (take (i + 1) hs)) (sym w.is_cut-is) (subst (λ t. Counted f b t (take (i + 1) hs)) (sym w.is_cut_twice-is) (counted_low_at f hs b t i none l v (low_below f h (subst (λ r. IsReach f h r) w.in-Below.is c.reach.ensures))))
       | in-On w ↦ subst (λ b. Counted f b c.match-reach.is_cut_twice (take (i + 1) hs)) (sym w.is_cut-is) (subst (λ t. Counted f b t (take (i + 1) hs)) (sym w.is_cut_twice-is) (counted_low_at f hs b t i none l v (low_on f h (subst (λ r. IsReach f h r) w.in-On.is c.reach.ensures))))
@@ -24,5 +24,5 @@ loop-h-preserved c =
 
 pub returns-in-Above : goal.returns-in-Above
 returns-in-Above c =
-    let f = c.args.r.now in let hs = c.args.hs.now in let i = c.loop-h.h-index in let h = get_or hs i none in
-    λ s. above_at f hs i none c.loop-h-test.true (subst (λ r. IsReach f h r) c.in-Above.is c.reach.ensures) s
+    let f = c.args.r.now in let hs = c.args.edges.now in let i = c.loop-edge.edge-index in let h = get_or hs i none in
+    λ s. above_at f hs i none c.loop-edge-test.true (subst (λ r. IsReach f h r) c.in-Above.is c.reach.ensures) s

@@ -1,6 +1,6 @@
 use Rattle.ember_poly.proofs.Classification.{on_both}
 use Rattle.ember_poly.proofs.passage.reach_by.Goals as goal
 
-pub returns-else-high : goal.returns-else-high
-returns-else-high c =
-    λ p ms s. on_both p ms (s.most c.if-high.false) (s.least c.if-low-eq0.true)
+pub returns-else-some_above : goal.returns-else-some_above
+returns-else-some_above c =
+    λ p ms s. on_both p ms (s.most c.if-some_above.false) (s.least c.if-below_count-eq0.true)

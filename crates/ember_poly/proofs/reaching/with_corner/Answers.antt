@@ -1,7 +1,7 @@
 use Rattle.std.proofs.Common.{subst}
 use Rattle.ember_model.specs.Planes.{value_at}
 use Rattle.ember_point.specs.Points.{spot_of}
-use Rattle.ember_poly.specs.declared.reach_cut.Reach.TheVariants.{Below, Above, On, Both}
+use Rattle.ember_poly.specs.declared.reach_and_cut.Reach.TheVariants.{Below, Above, On, Both}
 use Rattle.ember_poly.specs.Passages.{AreSigns}
 use Rattle.ember_poly.proofs.CornerSigns.{neg_out, zero_out, pos_out, seen_zero, seen_low, seen_high}
 use Rattle.ember_poly.proofs.reaching.with_corner.Goals as goal

@@ -7,8 +7,8 @@ use Rattle.ember_ref.specs.References.{corner_of, reference_of}
 use Rattle.ember_ref.proofs.ReferenceLegs.{box_corner, reference_is, halves_differ}
 use Rattle.ember_ref.proofs.shifting.segment_back.Goals as goal
 
-pub returns-clause-way : goal.returns-clause-way
-returns-clause-way c =
+pub returns-clause-back : goal.returns-clause-back
+returns-clause-back c =
     record {
       from = reference_is c.lo-from.result (right_half c.args.c.now c.args.k) (ap corner_of c.lo-from.ensures.value ∙ ap (λ (h : Cell). h.lo) c.halves.ensures.1);
       to = reference_is c.lo-to.result c.args.c.now (ap corner_of c.lo-to.ensures.value);

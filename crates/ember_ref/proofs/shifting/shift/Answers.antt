@@ -7,7 +7,7 @@ use Rattle.ember_law.proofs.Tallies.{no_tri, tally_more, tally_none}
 use Rattle.ember_law.proofs.CountBounds.{all_within}
 use Rattle.ember_box.specs.Boxes.{right_half}
 use Rattle.ember_box.specs.Reference.{reference}
-use Rattle.ember_ref.specs.References.{carried}
+use Rattle.ember_ref.specs.References.{counts_at_right_half}
 use Rattle.ember_ref.proofs.ShiftLaw.{shift_law}
 use Rattle.ember_ref.proofs.shifting.shift.Goals as goal
 
@@ -18,8 +18,8 @@ loop-t-init c =
       within = λ m h. all_within c.args.v.now.counts (omega arith) h;
     }
 
-pub carry-requires-clause-room : goal.carry-requires-clause-room
-carry-requires-clause-room c =
+pub add_crossing-requires-clause-room : goal.add_crossing-requires-clause-room
+add_crossing-requires-clause-room c =
     let l = c.requires.few in let e = c.loop-t.auto.t-index-end in
     all_within c.loop-t.v.counts (omega arith) (c.loop-t.invariant.within 16515072 c.requires.room)
 
@@ -29,8 +29,8 @@ loop-t-preserved c =
     let ts = c.args.near.now in let i = c.loop-t.t-index in let t = get_or ts i no_tri in
     let l = c.loop-t-test.true in
     record {
-      value = c.carry.ensures.value b k c.requires.side c.segment_back-way.ensures.way ∙ ap (λ old. with_more old t.mesh (leg (face_of t) p q)) c.loop-t.invariant.value ∙ sym (tally_more (λ f. leg f p q) (flat_leg p q) ts i no_tri l (c.requires.numbered i no_tri l) c.args.v.now.counts);
-      within = λ m h. all_within c.carry.new.v.counts (omega arith) (c.carry.ensures.within (m + i) (c.loop-t.invariant.within m h));
+      value = c.add_crossing.ensures.value b k c.requires.side c.segment_back-segment.ensures.back ∙ ap (λ old. with_more old t.mesh (leg (face_of t) p q)) c.loop-t.invariant.value ∙ sym (tally_more (λ f. leg f p q) (flat_leg p q) ts i no_tri l (c.requires.numbered i no_tri l) c.args.v.now.counts);
+      within = λ m h. all_within c.add_crossing.new.v.counts (omega arith) (c.add_crossing.ensures.within (m + i) (c.loop-t.invariant.within m h));
     }
 
 pub returns-clause-within : goal.returns-clause-within
@@ -39,4 +39,4 @@ returns-clause-within c = λ m h. let e = c.loop-t-test.false in let f = c.loop-
 pub returns-clause-law : goal.returns-clause-law
 returns-clause-law c = λ ts f.
     let b = c.args.c.now in let k = c.args.k in let old = c.args.v.now.counts in
-    shift_law ts c.args.near.now b k old c.requires.side f ∙ sym (c.loop-t.invariant.value ∙ ap (λ (ns : List Tri). carried ns b k old) (take_all c.loop-t.t-index c.args.near.now c.loop-t-test.false))
+    shift_law ts c.args.near.now b k old c.requires.side f ∙ sym (c.loop-t.invariant.value ∙ ap (λ (ns : List Tri). counts_at_right_half ns b k old) (take_all c.loop-t.t-index c.args.near.now c.loop-t-test.false))

@@ -1,18 +1,18 @@
 use Rattle.std.proofs.Common.{arith, ◌≡◌, Err, IfErr, ap, rules, ◌∙◌}
-use Rattle.ember_run.proofs.ErrTexts.{rose_later}
+use Rattle.ember_run.proofs.ErrTexts.{has_risen_later}
 use Rattle.ember_run.specs.declared.status.Status.TheVariants.{OutOfMemory}
-use Rattle.ember_run.proofs.Stops.{memory_scene_stop}
-use Rattle.ember_run.proofs.SceneFiles.{more_parts, part_stop}
+use Rattle.ember_run.proofs.NoReplies.{memory_is_no_scene}
+use Rattle.ember_run.proofs.SceneFiles.{more_held_parts, more_parts, part_is_no_reply}
 use Rattle.ember_run.proofs.scene.read_parts.Goals as goal
 
-pub returns-in-Err-clause-stop : goal.returns-in-Err-clause-stop
-returns-in-Err-clause-stop g c =
+pub returns-in-Err-clause-no_reply : goal.returns-in-Err-clause-no_reply
+returns-in-Err-clause-no_reply g c =
     let l = c.loop-file.invariant in let e = c.in-Err.ensures in
-    part_stop _ _ _ _ _ _ _ _ _ _ c.loop-file-test.true l.parts l.contents l.number (c.as_str.ensures ∙ c.file-item.is) e.refused e.file (λ i f. let a = e.read_fault i (ap Err f) in (a.0, rose_later _ _ _ l.later a.1, a.2)) e.memory (λ f. e.no_other.0 (ap Err f), λ f. e.no_other.1 (ap Err f), λ f. e.no_other.2 (ap Err f))
+    part_is_no_reply _ _ _ _ _ _ _ _ _ _ c.loop-file-test.true l.parts l.held l.contents l.number (c.as_str.ensures ∙ c.file-item.is) e.refused_held e.refused e.file (λ i f. let a = e.read_fault i (ap Err f) in (a.0, has_risen_later _ _ _ l.later a.1, a.2)) e.memory (λ f. e.never.0 (ap Err f), λ f. e.never.1 (ap Err f), λ f. e.never.2 (ap Err f))
 
-pub returns-in_err-push-clause-stop : goal.returns-in_err-push-clause-stop
-returns-in_err-push-clause-stop g c =
-    let short : IfErr c.from_residual.result (λ status. status ≡ OutOfMemory) = search rules in memory_scene_stop _ _ _ _ short
+pub returns-in_err-push-clause-no_reply : goal.returns-in_err-push-clause-no_reply
+returns-in_err-push-clause-no_reply g c =
+    let short : IfErr c.from_residual.result (λ status. status ≡ OutOfMemory) = search rules in memory_is_no_scene _ _ _ _ short
 
 pub loop-file-preserved : goal.loop-file-preserved
 loop-file-preserved g c =
@@ -22,5 +22,6 @@ loop-file-preserved g c =
       contents = e.contents ∙ l.contents;
       later = omega arith;
       number = omega arith;
-      parts = more_parts _ _ _ _ _ _ _ _ _ _ _ c.loop-file-test.true l.parts l.contents l.number (c.as_str.ensures ∙ c.file-item.is) c.in_ok-push.ensures.items e.number e.read;
+      parts = more_parts _ _ _ _ _ _ _ _ _ _ _ c.loop-file-test.true l.parts l.contents l.number (c.as_str.ensures ∙ c.file-item.is) c.in_ok-push.ensures.items e.number e.ok;
+      held = more_held_parts _ _ _ _ _ _ _ _ _ _ _ c.loop-file-test.true l.held l.contents l.number (c.as_str.ensures ∙ c.file-item.is) c.in_ok-push.ensures.items e.number e.held;
     }

@@ -1,4 +1,5 @@
 use Rattle.std.proofs.Common.{◌≡◌, ◌≤◌, ◌+◌, map, take}
+use Rattle.ember_run.specs.Held.{MayHold}
 use Rattle.ember_run.specs.Scenes.{HasParts}
 use Rattle.ember_run.proofs.scene.read_parts.Given as goal
 
@@ -9,4 +10,5 @@ invariant-loop-file g l =
       later : g.S.Shelf.faults l.initial.shelf ≤ g.S.Shelf.faults l.shelf;
       number : l.number ≡ l.file-index + 1;
       parts : HasParts l.places (map (g.S.Shelf.contents l.initial.shelf) (take l.file-index l.files)) l.parts.items;
+      held : MayHold (g.S.Shelf.contents l.initial.shelf) (take l.file-index l.files) (λ contents. HasParts l.places contents l.parts.items);
     }

@@ -1,9 +1,12 @@
-use Rattle.ember_run.proofs.SceneFiles.{joined_if, stop_if}
+use Rattle.ember_run.proofs.SceneFiles.{held_joined_if, joined_if, no_reply_if}
 use Rattle.ember_run.proofs.scene.read_scene.Goals as goal
 
-pub returns-clause-read : goal.returns-clause-read
-returns-clause-read g c = joined_if _ _ _ _ c.in_ok-parts.ensures.parts c.join_parts.ensures.scene
+pub returns-clause-ok : goal.returns-clause-ok
+returns-clause-ok g c = joined_if _ _ _ _ c.in_ok-parts.ensures.parts c.join_parts.ensures.scene
 
-pub returns-clause-stop : goal.returns-clause-stop
-returns-clause-stop g c =
-    let e = c.join_parts.ensures in stop_if _ _ _ _ _ c.in_ok-parts.ensures.parts e.refused e.kind e.only e.no_other
+pub returns-clause-held : goal.returns-clause-held
+returns-clause-held g c = held_joined_if _ _ _ _ _ c.in_ok-parts.ensures.held c.join_parts.ensures.scene
+
+pub returns-clause-no_reply : goal.returns-clause-no_reply
+returns-clause-no_reply g c =
+    let e = c.join_parts.ensures in no_reply_if _ _ _ _ _ c.in_ok-parts.ensures.parts c.in_ok-parts.ensures.held e.refused e.kind e.only e.never

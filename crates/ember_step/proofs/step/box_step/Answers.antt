@@ -25,14 +25,14 @@ halve_unless_leaf-requires-clause-few c = few_listed c.args.s.now.tris c.args.jo
 pub halve_unless_leaf-requires-clause-room : goal.halve_unless_leaf-requires-clause-room
 halve_unless_leaf-requires-clause-room c = counts_within c.args.s.now.tris c.args.job.now c.requires 16515072 (omega arith) c.args.s.now.kept.few
 
-pub returns-in_ok-kept_in-in-None : goal.returns-in_ok-kept_in-in-None
-returns-in_ok-kept_in-in-None c =
+pub returns-in_ok-written_in-in-None : goal.returns-in_ok-written_in-in-None
+returns-in_ok-written_in-in-None c =
     let ts = c.args.s.now.tris in let job = c.args.job.now in
     let leaf = subst (λ (r : Option (Job × Job)). IsHalvedUnlessLeaf ts job r) c.in-None.is c.in_ok-halve_unless_leaf.ensures in
-    (leaf_by ts (formula_of c.args.e.now) job (ap is_some (sym c.box_value.ensures.value) ∙ sym c.is_some.ensures ∙ c.if-is_some.false) leaf, c.in_ok-kept_in-in-None.ensures)
+    (leaf_by ts (formula_of c.args.e.now) job (ap is_some (sym c.box_value.ensures.value) ∙ sym c.is_some.ensures ∙ c.if-is_some.false) leaf, c.in_ok-written_in-in-None.ensures)
 
 pub returns-in-Some : goal.returns-in-Some
 returns-in-Some c =
     let ts = c.args.s.now.tris in let job = c.args.job.now in
     let halves = subst (λ (r : Option (Job × Job)). IsHalvedUnlessLeaf ts job r) c.in-Some.is c.in_ok-halve_unless_leaf.ensures in
-    halved_by ts (formula_of c.args.e.now) job c.in-Some.low c.in-Some.high (ap is_some (sym c.box_value.ensures.value) ∙ sym c.is_some.ensures ∙ c.if-is_some.false) halves.0 halves.1
+    halved_by ts (formula_of c.args.e.now) job c.in-Some.left c.in-Some.right (ap is_some (sym c.box_value.ensures.value) ∙ sym c.is_some.ensures ∙ c.if-is_some.false) halves.0 halves.1

@@ -14,8 +14,8 @@ read_point-requires c = first_of (search rules, grind (arith, common_steps))
 pub overflow_add-result : goal.overflow_add-result
 overflow_add-result c = first_of (search rules, grind (arith, common_steps))
 
-pub returns-in_default-clause-err : goal.returns-in_default-clause-err
-returns-in_default-clause-err c = first_of (search rules, grind (arith, common_steps))
+pub returns-in_default-clause-fault : goal.returns-in_default-clause-fault
+returns-in_default-clause-fault c = first_of (search rules, grind (arith, common_steps))
 
 pub overflow_add-start-2 : goal.overflow_add-start-2
 overflow_add-start-2 c = first_of (search rules, grind (arith, common_steps))
@@ -26,8 +26,8 @@ read_point-requires-2 c = first_of (search rules, grind (arith, common_steps))
 pub overflow_add-result-in_default-read_point : goal.overflow_add-result-in_default-read_point
 overflow_add-result-in_default-read_point c = first_of (search rules, grind (arith, common_steps))
 
-pub returns-in_default-read_point-clause-err : goal.returns-in_default-read_point-clause-err
-returns-in_default-read_point-clause-err c = first_of (search rules, grind (arith, common_steps))
+pub returns-in_default-read_point-clause-fault : goal.returns-in_default-read_point-clause-fault
+returns-in_default-read_point-clause-fault c = first_of (search rules, grind (arith, common_steps))
 
 pub overflow_add-start-3 : goal.overflow_add-start-3
 overflow_add-start-3 c = first_of (search rules, grind (arith, common_steps))
@@ -38,8 +38,8 @@ read_point-requires-3 c = first_of (search rules, grind (arith, common_steps))
 pub overflow_add-result-in_default-read_point-2 : goal.overflow_add-result-in_default-read_point-2
 overflow_add-result-in_default-read_point-2 c = first_of (search rules, grind (arith, common_steps))
 
-pub returns-in_default-read_point-2-clause-err : goal.returns-in_default-read_point-2-clause-err
-returns-in_default-read_point-2-clause-err c = first_of (search rules, grind (arith, common_steps))
+pub returns-in_default-read_point-2-clause-fault : goal.returns-in_default-read_point-2-clause-fault
+returns-in_default-read_point-2-clause-fault c = first_of (search rules, grind (arith, common_steps))
 
 pub overflow_add-facet : goal.overflow_add-facet
 overflow_add-facet c = first_of (search rules, grind (arith, common_steps))
@@ -50,8 +50,8 @@ push_triangle-requires-clause-few c = first_of (search rules, grind (arith, comm
 pub push_triangle-requires-clause-surface : goal.push_triangle-requires-clause-surface
 push_triangle-requires-clause-surface c = first_of (search rules, grind (arith, common_steps))
 
-pub returns-then-is_err-clause-err : goal.returns-then-is_err-clause-err
-returns-then-is_err-clause-err c = first_of (search rules, grind (arith, common_steps))
+pub returns-then-is_err-clause-fault : goal.returns-then-is_err-clause-fault
+returns-then-is_err-clause-fault c = first_of (search rules, grind (arith, common_steps))
 
 pub returns-clause-ok : goal.returns-clause-ok
 returns-clause-ok c = first_of (search rules, grind (arith, common_steps))

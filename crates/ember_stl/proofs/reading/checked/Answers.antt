@@ -4,14 +4,14 @@ use Rattle.ember_stl.specs.ReadStl as spec
 use Rattle.ember_stl.proofs.Triangles.{same_first_far}
 use Rattle.ember_stl.proofs.reading.checked.Goals as goal
 
-pub returns-then-is_empty-clause-err : goal.returns-then-is_empty-clause-err
-returns-then-is_empty-clause-err c = first_of (search rules, grind (arith, same_first_far), grind (arith, common_steps))
+pub returns-then-is_empty-clause-fault : goal.returns-then-is_empty-clause-fault
+returns-then-is_empty-clause-fault c = first_of (search rules, grind (arith, same_first_far), grind (arith, common_steps))
 
-pub returns-in-Some-clause-err : goal.returns-in-Some-clause-err
-returns-in-Some-clause-err c = first_of (search rules, grind (arith, same_first_far), grind (arith, common_steps))
+pub returns-in-Some-clause-fault : goal.returns-in-Some-clause-fault
+returns-in-Some-clause-fault c = first_of (search rules, grind (arith, same_first_far), grind (arith, common_steps))
 
-pub returns-in-Some-2-clause-err : goal.returns-in-Some-2-clause-err
-returns-in-Some-2-clause-err c = first_of (search rules, grind (arith, same_first_far), grind (arith, common_steps))
+pub returns-in-Some-2-clause-fault : goal.returns-in-Some-2-clause-fault
+returns-in-Some-2-clause-fault c = first_of (search rules, grind (arith, same_first_far), grind (arith, common_steps))
 
 pub returns-clause-ok : goal.returns-clause-ok
 returns-clause-ok c = first_of (search rules, grind (arith, same_first_far), grind (arith, common_steps))

@@ -13,9 +13,9 @@ use Rattle.ember_text.proofs.edges.put_edges.Goals as goal
 pub loop-i-init : goal.loop-i-init
 loop-i-init c = grown_none c.args.out.now.items
 
-pub returns-in_err-put_edge-clause-err : goal.returns-in_err-put_edge-clause-err
-returns-in_err-put_edge-clause-err c =
-    on_err c.from_residual.result (extends_by c.args.out.now.items c.loop-i.invariant c.in_err-put_edge.ensures.err)
+pub returns-in_err-put_edge-clause-fault : goal.returns-in_err-put_edge-clause-fault
+returns-in_err-put_edge-clause-fault c =
+    on_err c.from_residual.result (extends_by c.args.out.now.items c.loop-i.invariant c.in_err-put_edge.ensures.fault)
 
 pub loop-i-preserved : goal.loop-i-preserved
 loop-i-preserved c =

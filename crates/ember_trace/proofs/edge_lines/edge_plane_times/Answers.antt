@@ -49,67 +49,67 @@ constant_z s u v =
     solve 7 (λ s a b c d e f. s ⊗ (e ⊖ b) ⊗ a ⊖ s ⊗ (d ⊖ a) ⊗ b ≈ s ⊗ (((e ⊖ b) ⊗ num (pos 1) ⊖ (f ⊖ c) ⊗ num (pos 0)) ⊗ a ⊕ ((f ⊖ c) ⊗ num (pos 0) ⊖ (d ⊖ a) ⊗ num (pos 1)) ⊗ b ⊕ ((d ⊖ a) ⊗ num (pos 0) ⊖ (e ⊖ b) ⊗ num (pos 0)) ⊗ c)) cancels s u.x u.y u.z v.x v.y v.z
 
 pub overflow_sub-result : goal.overflow_sub-result
-overflow_sub-result c = no_overflow (c.line_through-l.result.small_b & done) w64 less tt
+overflow_sub-result c = no_overflow (c.line_through-line.result.small_dp & done) w64 less tt
 
 pub overflow_sub-result-in-Y : goal.overflow_sub-result-in-Y
-overflow_sub-result-in-Y c = no_overflow (c.line_through-l-in-Y.result.small_b & done) w64 less tt
+overflow_sub-result-in-Y c = no_overflow (c.line_through-line-in-Y.result.small_dp & done) w64 less tt
 
 pub overflow_sub-result-in-Z : goal.overflow_sub-result-in-Z
-overflow_sub-result-in-Z c = no_overflow (c.line_through-l-in-Z.result.small_b & done) w64 less tt
+overflow_sub-result-in-Z c = no_overflow (c.line_through-line-in-Z.result.small_dp & done) w64 less tt
 
 pub returns-in-X-clause-value : goal.returns-in-X-clause-value
 returns-in-X-clause-value c =
-    let u = c.args.u.now in let v = c.args.v.now in let s = c.args.s in let l = c.line_through-l.result in let m = c.line_through-l.ensures in
+    let u = c.args.u.now in let v = c.args.v.now in let s = c.args.s in let l = c.line_through-line.result in let m = c.line_through-line.ensures in
     let r = c.requires in
     let ea = exact (r.s & r.from.y & r.from.z & r.to.y & r.to.z & done) a tt in
     let eb = exact (r.s & r.from.y & r.from.z & r.to.y & r.to.z & done) b tt in
     let ed = exact (r.s & r.from.y & r.from.z & r.to.y & r.to.z & done) (a ⊠ place 1 ⊟ b ⊠ place 2) tt in
     let x = none s (v.y -ℤ u.y) (v.z -ℤ u.z) in
-    let y = (exact (l.small_a & done) (narrow 0) tt ∙ m.a ∙ ea ∙ one s (v.z -ℤ u.z) (v.x -ℤ u.x)) in
-    let z = (exact (l.small_b & done) (stored w64 less) tt ∙ zero_less l.b ∙ ap neg_ℤ (m.b ∙ eb) ∙ other s (v.y -ℤ u.y) (v.x -ℤ u.x)) in
+    let y = (exact (l.small_dq & done) (narrow 0) tt ∙ m.dq ∙ ea ∙ one s (v.z -ℤ u.z) (v.x -ℤ u.x)) in
+    let z = (exact (l.small_dp & done) (stored w64 less) tt ∙ zero_less l.dp ∙ ap neg_ℤ (m.dp ∙ eb) ∙ other s (v.y -ℤ u.y) (v.x -ℤ u.x)) in
     let w = exact (l.small_d & done) (narrow 0) tt ∙ m.d ∙ ed ∙ constant_x s u v in
     rw c.in-X.is (λ i. record { a = x i; b = y i; c = z i; d = w i })
 
 pub returns-in-X-clause-small : goal.returns-in-X-clause-small
 returns-in-X-clause-small c =
-    let l = c.line_through-l.result in let none : Small 4095 (pos 0) = record { small = omega arith } in
-    let one = bounded (l.small_a & done) 4095 (narrow 0) tt in let other = bounded (l.small_b & done) 4095 (stored w64 less) tt in
+    let l = c.line_through-line.result in let none : Small 4095 (pos 0) = record { small = omega arith } in
+    let one = bounded (l.small_dq & done) 4095 (narrow 0) tt in let other = bounded (l.small_dp & done) 4095 (stored w64 less) tt in
     record { a = none; b = one; c = other; d = bounded (l.small_d & done) 16777215 (narrow 0) tt }
 
 pub returns-in-Y-clause-value : goal.returns-in-Y-clause-value
 returns-in-Y-clause-value c =
-    let u = c.args.u.now in let v = c.args.v.now in let s = c.args.s in let l = c.line_through-l-in-Y.result in let m = c.line_through-l-in-Y.ensures in
+    let u = c.args.u.now in let v = c.args.v.now in let s = c.args.s in let l = c.line_through-line-in-Y.result in let m = c.line_through-line-in-Y.ensures in
     let r = c.requires in
     let ea = exact (r.s & r.from.z & r.from.x & r.to.z & r.to.x & done) a tt in
     let eb = exact (r.s & r.from.z & r.from.x & r.to.z & r.to.x & done) b tt in
     let ed = exact (r.s & r.from.z & r.from.x & r.to.z & r.to.x & done) (a ⊠ place 1 ⊟ b ⊠ place 2) tt in
-    let x = (exact (l.small_b & done) (stored w64 less) tt ∙ zero_less l.b ∙ ap neg_ℤ (m.b ∙ eb) ∙ other s (v.z -ℤ u.z) (v.y -ℤ u.y)) in
+    let x = (exact (l.small_dp & done) (stored w64 less) tt ∙ zero_less l.dp ∙ ap neg_ℤ (m.dp ∙ eb) ∙ other s (v.z -ℤ u.z) (v.y -ℤ u.y)) in
     let y = none s (v.z -ℤ u.z) (v.x -ℤ u.x) in
-    let z = (exact (l.small_a & done) (narrow 0) tt ∙ m.a ∙ ea ∙ one s (v.x -ℤ u.x) (v.y -ℤ u.y)) in
+    let z = (exact (l.small_dq & done) (narrow 0) tt ∙ m.dq ∙ ea ∙ one s (v.x -ℤ u.x) (v.y -ℤ u.y)) in
     let w = exact (l.small_d & done) (narrow 0) tt ∙ m.d ∙ ed ∙ constant_y s u v in
     rw c.in-Y.is (λ i. record { a = x i; b = y i; c = z i; d = w i })
 
 pub returns-in-Y-clause-small : goal.returns-in-Y-clause-small
 returns-in-Y-clause-small c =
-    let l = c.line_through-l-in-Y.result in let none : Small 4095 (pos 0) = record { small = omega arith } in
-    let one = bounded (l.small_a & done) 4095 (narrow 0) tt in let other = bounded (l.small_b & done) 4095 (stored w64 less) tt in
+    let l = c.line_through-line-in-Y.result in let none : Small 4095 (pos 0) = record { small = omega arith } in
+    let one = bounded (l.small_dq & done) 4095 (narrow 0) tt in let other = bounded (l.small_dp & done) 4095 (stored w64 less) tt in
     record { a = other; b = none; c = one; d = bounded (l.small_d & done) 16777215 (narrow 0) tt }
 
 pub returns-in-Z-clause-value : goal.returns-in-Z-clause-value
 returns-in-Z-clause-value c =
-    let u = c.args.u.now in let v = c.args.v.now in let s = c.args.s in let l = c.line_through-l-in-Z.result in let m = c.line_through-l-in-Z.ensures in
+    let u = c.args.u.now in let v = c.args.v.now in let s = c.args.s in let l = c.line_through-line-in-Z.result in let m = c.line_through-line-in-Z.ensures in
     let r = c.requires in
     let ea = exact (r.s & r.from.x & r.from.y & r.to.x & r.to.y & done) a tt in
     let eb = exact (r.s & r.from.x & r.from.y & r.to.x & r.to.y & done) b tt in
     let ed = exact (r.s & r.from.x & r.from.y & r.to.x & r.to.y & done) (a ⊠ place 1 ⊟ b ⊠ place 2) tt in
-    let x = (exact (l.small_a & done) (narrow 0) tt ∙ m.a ∙ ea ∙ one s (v.y -ℤ u.y) (v.z -ℤ u.z)) in
-    let y = (exact (l.small_b & done) (stored w64 less) tt ∙ zero_less l.b ∙ ap neg_ℤ (m.b ∙ eb) ∙ other s (v.x -ℤ u.x) (v.z -ℤ u.z)) in
+    let x = (exact (l.small_dq & done) (narrow 0) tt ∙ m.dq ∙ ea ∙ one s (v.y -ℤ u.y) (v.z -ℤ u.z)) in
+    let y = (exact (l.small_dp & done) (stored w64 less) tt ∙ zero_less l.dp ∙ ap neg_ℤ (m.dp ∙ eb) ∙ other s (v.x -ℤ u.x) (v.z -ℤ u.z)) in
     let z = none s (v.x -ℤ u.x) (v.y -ℤ u.y) in
     let w = exact (l.small_d & done) (narrow 0) tt ∙ m.d ∙ ed ∙ constant_z s u v in
     rw c.in-Z.is (λ i. record { a = x i; b = y i; c = z i; d = w i })
 
 pub returns-in-Z-clause-small : goal.returns-in-Z-clause-small
 returns-in-Z-clause-small c =
-    let l = c.line_through-l-in-Z.result in let none : Small 4095 (pos 0) = record { small = omega arith } in
-    let one = bounded (l.small_a & done) 4095 (narrow 0) tt in let other = bounded (l.small_b & done) 4095 (stored w64 less) tt in
+    let l = c.line_through-line-in-Z.result in let none : Small 4095 (pos 0) = record { small = omega arith } in
+    let one = bounded (l.small_dq & done) 4095 (narrow 0) tt in let other = bounded (l.small_dp & done) 4095 (stored w64 less) tt in
     record { a = one; b = other; c = none; d = bounded (l.small_d & done) 16777215 (narrow 0) tt }

@@ -47,16 +47,16 @@ pub returns-in-X : goal.returns-in-X
 returns-in-X c =
     let u = c.args.u.now in let v = c.args.v.now in let m = c.args.m.now in let n = m.valid in let r = c.requires in let l = c.line_through.ensures in
     let e = exact (r.s & r.from.y & r.from.z & r.to.y & r.to.z & n.y & n.z & n.w & done) code tt in
-    rw c.in-X.is (c.line_side.ensures ∙ ap sgn ((λ i. l.a i *ℤ wide m.y -ℤ l.b i *ℤ wide m.z -ℤ l.d i *ℤ wide m.w) ∙ e ∙ along_x c.args.s u v (spot_of m)))
+    rw c.in-X.is (c.line_side.ensures ∙ ap sgn ((λ i. l.dq i *ℤ wide m.y -ℤ l.dp i *ℤ wide m.z -ℤ l.d i *ℤ wide m.w) ∙ e ∙ along_x c.args.s u v (spot_of m)))
 
 pub returns-in-Y : goal.returns-in-Y
 returns-in-Y c =
     let u = c.args.u.now in let v = c.args.v.now in let m = c.args.m.now in let n = m.valid in let r = c.requires in let l = c.line_through-in-Y.ensures in
     let e = exact (r.s & r.from.z & r.from.x & r.to.z & r.to.x & n.z & n.x & n.w & done) code tt in
-    rw c.in-Y.is (c.line_side-in-Y.ensures ∙ ap sgn ((λ i. l.a i *ℤ wide m.z -ℤ l.b i *ℤ wide m.x -ℤ l.d i *ℤ wide m.w) ∙ e ∙ along_y c.args.s u v (spot_of m)))
+    rw c.in-Y.is (c.line_side-in-Y.ensures ∙ ap sgn ((λ i. l.dq i *ℤ wide m.z -ℤ l.dp i *ℤ wide m.x -ℤ l.d i *ℤ wide m.w) ∙ e ∙ along_y c.args.s u v (spot_of m)))
 
 pub returns-in-Z : goal.returns-in-Z
 returns-in-Z c =
     let u = c.args.u.now in let v = c.args.v.now in let m = c.args.m.now in let n = m.valid in let r = c.requires in let l = c.line_through-in-Z.ensures in
     let e = exact (r.s & r.from.x & r.from.y & r.to.x & r.to.y & n.x & n.y & n.w & done) code tt in
-    rw c.in-Z.is (c.line_side-in-Z.ensures ∙ ap sgn ((λ i. l.a i *ℤ wide m.x -ℤ l.b i *ℤ wide m.y -ℤ l.d i *ℤ wide m.w) ∙ e ∙ along_z c.args.s u v (spot_of m)))
+    rw c.in-Z.is (c.line_side-in-Z.ensures ∙ ap sgn ((λ i. l.dq i *ℤ wide m.x -ℤ l.dp i *ℤ wide m.y -ℤ l.d i *ℤ wide m.w) ∙ e ∙ along_z c.args.s u v (spot_of m)))

@@ -17,7 +17,7 @@ overflow_sub-narrow_product-2 c =
 pub returns : goal.returns
 returns c =
     let x = c.narrow_product.ensures in let y = c.narrow_product-2.ensures in let z = c.narrow_product-3.ensures in
-    let l = c.args.l.now in let r = c.requires in
+    let l = c.args.line.now in let r = c.requires in
     let sum = exact (x.small & y.small & z.small & done) (stored w128 (two ⊟ kept 2)) tt in
-    let products = exact (l.small_a & r.p & l.small_b & r.q & l.small_d & r.w & done) (narrow 0 ⊠ kept 1 ⊟ narrow 2 ⊠ kept 3 ⊟ narrow 4 ⊠ kept 5) tt in
+    let products = exact (l.small_dq & r.p & l.small_dp & r.q & l.small_d & r.w & done) (narrow 0 ⊠ kept 1 ⊟ narrow 2 ⊠ kept 3 ⊟ narrow 4 ⊠ kept 5) tt in
     c.sign_of.ensures ∙ ap sgn (sum ∙ (λ i. x.value i -ℤ y.value i -ℤ z.value i) ∙ products)

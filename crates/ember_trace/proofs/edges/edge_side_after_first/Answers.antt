@@ -14,5 +14,5 @@ side_at_start-requires c = edge_valid c.edge_plane_times.ensures.small
 pub returns-in_default : goal.returns-in_default
 returns-in_default c =
     let w = c.args.way.now in let u = c.args.u.now in let v = c.args.v.now in let e = exact (c.requires.s & done) (narrow 0) tt in
-    let start = side_at_start w (times_plane c.args.s (edge_through u v (unit w.second))) in
-    or_first c.told_side_after_first.result start c.in_default.not-Zero ∙ ap (λ (s : Sign). or_sign s start) (c.told_side_after_first.ensures ∙ (λ i. side_at_end w (slid_to_start w w.main (slid_to_start w w.second (times_plane (e i) (edge_through u v (unit w.second)))))))
+    let start = side_at_start w (times_plane c.args.s (edge_through u v (unit w.second_axis))) in
+    or_first c.side_by_corners.result start c.in_default.not-Zero ∙ ap (λ (s : Sign). or_sign s start) (c.side_by_corners.ensures ∙ (λ i. side_at_end w (slid_to_start w w.main (slid_to_start w w.second_axis (times_plane (e i) (edge_through u v (unit w.second_axis)))))))

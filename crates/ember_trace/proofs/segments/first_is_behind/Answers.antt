@@ -3,4 +3,4 @@ use Rattle.ember_trace.proofs.LevelTriangles.{level_first}
 use Rattle.ember_trace.proofs.segments.first_is_behind.Goals as goal
 
 pub returns-then-is_level : goal.returns-then-is_level
-returns-then-is_level c = sym (level_first c.args.way.now c.args.f.now (sym c.is_level.ensures ∙ c.if-is_level.true))
+returns-then-is_level c = sym (level_first c.args.way.now c.args.triangle.now (sym c.is_level.ensures ∙ c.if-is_level.true))

@@ -20,12 +20,12 @@ greatest a b d l = (omega (arith, ints, clamps), omega (arith, ints, clamps))
 
 -- the triangle lies above both ends of the last segment
 record IsAbove (c : goal.Then-lies_above) : Type 0 where
-  end : floor_at_end c.args.way.now c.args.way.now.main <ℤ (interval_along (aabb_of_tri c.args.f.now.tri) c.args.way.now.main).low
-  start : coordinate c.args.way.now.lo c.args.way.now.main <ℤ (interval_along (aabb_of_tri c.args.f.now.tri) c.args.way.now.main).low
+  end : floor_at_end c.args.way.now c.args.way.now.main <ℤ (interval_along (aabb_of_tri c.args.triangle.now.tri) c.args.way.now.main).low
+  start : coordinate c.args.way.now.lo c.args.way.now.main <ℤ (interval_along (aabb_of_tri c.args.triangle.now.tri) c.args.way.now.main).low
 
 is_above : (c : goal.Then-lies_above) → IsAbove c
 is_above c =
-    let w = c.args.way.now in let f = c.args.f.now in let d = (interval_along (aabb_of_tri f.tri) w.main).low in
+    let w = c.args.way.now in let f = c.args.triangle.now in let d = (interval_along (aabb_of_tri f.tri) w.main).low in
     let e : int_lt c.args.at.now.top d ≡ true = sym (λ i. int_lt c.args.at.now.top (interval_along (f.bounds i) w.main).low) ∙ sym c.lies_above.ensures ∙ c.if-lies_above.true in
     let l = greatest (in_root (floor_at_end w w.main)) (coordinate w.lo w.main) d (less _ d (ap (λ (z : ℤ). int_lt z d) (sym c.requires.top) ∙ e)) in
     record { end = below_in_root d (floor_at_end w w.main) (low_small f.tri w.main f.valid) l.0; start = l.1 }
@@ -33,9 +33,9 @@ is_above c =
 pub returns-then-lies_above-clause-before : goal.returns-then-lies_above-clause-before
 returns-then-lies_above-clause-before c =
     let a = is_above c in
-    sym (above_end c.args.way.now c.args.f.now a.end a.start (flip (sgn (along c.args.f.now.support c.args.way.now.main))))
+    sym (above_end c.args.way.now c.args.triangle.now a.end a.start (flip (sgn (along c.args.triangle.now.support c.args.way.now.main))))
 
 pub returns-then-lies_above-clause-after : goal.returns-then-lies_above-clause-after
 returns-then-lies_above-clause-after c =
     let a = is_above c in
-    sym (above_end c.args.way.now c.args.f.now a.end a.start (sgn (along c.args.f.now.support c.args.way.now.main)))
+    sym (above_end c.args.way.now c.args.triangle.now a.end a.start (sgn (along c.args.triangle.now.support c.args.way.now.main)))

@@ -30,8 +30,8 @@ returns-clause-traced c =
 pub returns-clause-sides : goal.returns-clause-sides
 returns-clause-sides c =
     let fs = c.in_ok-near.ensures in let s = c.sides_beside.result in
-    let starts = subst (λ (gs : List NearTriangle). All (HasReferenceSide c.args.c.now) gs) (sym c.as_slice.ensures.value) fs.starts in
-    subst (λ (ts : List Tri). AreSides ts c.args.c.now c.args.v.now.counts c.args.r.now s) (ap (λ (gs : List NearTriangle). map tri_of gs) c.as_slice.ensures.value ∙ fs.tris) (c.sides_beside.ensures.sides starts)
+    let reference_sides = subst (λ (gs : List NearTriangle). All (HasReferenceSide c.args.c.now) gs) (sym c.as_slice.ensures.value) fs.reference_sides in
+    subst (λ (ts : List Tri). AreSides ts c.args.c.now c.args.v.now.counts c.args.r.now s) (ap (λ (gs : List NearTriangle). map tri_of gs) c.as_slice.ensures.value ∙ fs.tris) (c.sides_beside.ensures.sides reference_sides)
 
 pub returns-clause-region : goal.returns-clause-region
 returns-clause-region c = λ r. returns-clause-sides c (regions_lie_in c.args.c.now c.args.near.now r.tri r.index r.regions c.args.r.now r.are_regions r.here)

@@ -7,9 +7,9 @@ use Rattle.ember_model.specs.declared.plane.Plane.{Plane}
 use Rattle.ember_model.specs.declared.point.Axis.{Axis}
 use Rattle.ember_model.specs.declared.tri.Tri.{Tri}
 use Rattle.ember_model.specs.Planes.{main_axis}
-use Rattle.ember_trace.specs.Crossings.{counted, ray_before, ray_after}
+use Rattle.ember_trace.specs.Crossings.{ray_counts, ray_before, ray_after}
 use Rattle.ember_trace.proofs.RaySides.{ray_sides}
-use Rattle.ember_trace.proofs.Tallies.{counted_more}
+use Rattle.ember_trace.proofs.Tallies.{ray_counts_more}
 use Rattle.ember_trace.proofs.whole_rays.sides_by_rays.Goals as goal
 
 pub loop-t-preserved : goal.loop-t-preserved
@@ -21,12 +21,12 @@ loop-t-preserved c =
     record {
       before = c.add_count.ensures.within i c.loop-t.invariant.before;
       after = c.add_count-in-loop-t.ensures.within i c.loop-t.invariant.after;
-      counted_before = counted_more (λ t. ray_before t c.main_axis-k.result a b d) ts i _ _ c.loop-t.before.counts _ _ c.loop-t-test.true c.loop-t.invariant.counted_before before c.add_count.ensures.value;
-      counted_after = counted_more (λ t. ray_after t c.main_axis-k.result a b d) ts i _ _ c.loop-t.after.counts _ _ c.loop-t-test.true c.loop-t.invariant.counted_after after c.add_count-in-loop-t.ensures.value;
+      counted_before = ray_counts_more (λ t. ray_before t c.main_axis-k.result a b d) ts i _ _ c.loop-t.before.counts _ _ c.loop-t-test.true c.loop-t.invariant.counted_before before c.add_count.ensures.value;
+      counted_after = ray_counts_more (λ t. ray_after t c.main_axis-k.result a b d) ts i _ _ c.loop-t.after.counts _ _ c.loop-t-test.true c.loop-t.invariant.counted_after after c.add_count-in-loop-t.ensures.value;
     }
 
-pub returns-clause-counted : goal.returns-clause-counted
-returns-clause-counted c =
+pub returns-clause-ray_counts : goal.returns-clause-ray_counts
+returns-clause-ray_counts c =
     let ts = c.args.tris.now in let ms = c.corners-corners.result.now in
     let a = c.index-corners-0.result in let b = c.index-corners-1.result in let d = c.index-corners-2.result in
     let three : 3 ≤ length ms = c.corners-corners.ensures.three in
@@ -42,9 +42,9 @@ returns-clause-counted c =
       is_first = slice_get_read ms (length ms) 0 a refl (omega arith) c.index-corners-0.is;
       is_second = slice_get_read ms (length ms) 1 b refl (omega arith) c.index-corners-1.is;
       is_third = slice_get_read ms (length ms) 2 d refl (omega arith) c.index-corners-2.is;
-      before = c.loop-t.invariant.counted_before ∙ ap (λ (k : Axis). counted (λ t. ray_before t k a b d) (take c.loop-t.t-index ts) (replicate 64 (pos 0))) main ∙ ap (λ (us : List Tri). counted (λ t. ray_before t (main_axis c.args.r.now.support) a b d) us (replicate 64 (pos 0))) all;
-      after = c.loop-t.invariant.counted_after ∙ ap (λ (k : Axis). counted (λ t. ray_after t k a b d) (take c.loop-t.t-index ts) (replicate 64 (pos 0))) main ∙ ap (λ (us : List Tri). counted (λ t. ray_after t (main_axis c.args.r.now.support) a b d) us (replicate 64 (pos 0))) all;
+      before = c.loop-t.invariant.counted_before ∙ ap (λ (k : Axis). ray_counts (λ t. ray_before t k a b d) (take c.loop-t.t-index ts) (replicate 64 (pos 0))) main ∙ ap (λ (us : List Tri). ray_counts (λ t. ray_before t (main_axis c.args.r.now.support) a b d) us (replicate 64 (pos 0))) all;
+      after = c.loop-t.invariant.counted_after ∙ ap (λ (k : Axis). ray_counts (λ t. ray_after t k a b d) (take c.loop-t.t-index ts) (replicate 64 (pos 0))) main ∙ ap (λ (us : List Tri). ray_counts (λ t. ray_after t (main_axis c.args.r.now.support) a b d) us (replicate 64 (pos 0))) all;
     }
 
 pub returns-clause-sides : goal.returns-clause-sides
-returns-clause-sides c = ray_sides c.args.tris.now c.args.r.now _ c.requires.valid c.requires.numbered (returns-clause-counted c)
+returns-clause-sides c = ray_sides c.args.tris.now c.args.r.now _ c.requires.valid c.requires.numbered (returns-clause-ray_counts c)

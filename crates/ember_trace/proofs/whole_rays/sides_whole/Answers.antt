@@ -6,9 +6,9 @@ use Rattle.ember_trace.specs.Crossings.{AreRayCounts}
 use Rattle.ember_trace.proofs.OneSides.{one_sides}
 use Rattle.ember_trace.proofs.whole_rays.sides_whole.Goals as goal
 
-pub returns-clause-counted : goal.returns-clause-counted
-returns-clause-counted c =
-    subst (λ (ts : List Tri). AreRayCounts ts c.args.r.now c.sides_by_rays.result) c.items.ensures c.sides_by_rays.ensures.counted
+pub returns-clause-ray_counts : goal.returns-clause-ray_counts
+returns-clause-ray_counts c =
+    subst (λ (ts : List Tri). AreRayCounts ts c.args.r.now c.sides_by_rays.result) c.items.ensures c.sides_by_rays.ensures.ray_counts
 
 pub returns-clause-sides : goal.returns-clause-sides
 returns-clause-sides c =

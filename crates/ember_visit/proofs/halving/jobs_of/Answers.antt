@@ -2,7 +2,7 @@ use Rattle.std.proofs.Common.{rules, ◌∙◌, All, subst, sym}
 use Rattle.ember_model.specs.Meshes.{HasMesh}
 use Rattle.ember_model.specs.Valid.{IsValidTri}
 use Rattle.ember_box.specs.Near.{listed}
-use Rattle.ember_ref.specs.References.{carried}
+use Rattle.ember_ref.specs.References.{counts_at_right_half}
 use Rattle.ember_visit.specs.Jobs.{job_of}
 use Rattle.ember_visit.proofs.IndexLists.{numbered_less}
 use Rattle.ember_visit.proofs.halving.jobs_of.Goals as goal
@@ -34,9 +34,9 @@ pub returns : goal.returns
 returns c =
     let ts = c.args.s.now.tris in let job = c.args.job.now in let k = c.args.axis in
     let left = c.halves-left.ensures.0 in let right = c.halves-left.ensures.1 in
-    let near_left = c.of.ensures ∙ c.requires.lists.is_low in let near_right = c.of-2.ensures ∙ c.requires.lists.is_high in
-    let counts = c.shift_listed.ensures.value ∙ (λ i. carried (listed (c.items.ensures i) (c.items-2.ensures i)) job.cell k job.at.counts) in
+    let near_left = c.of.ensures ∙ c.requires.lists.is_left in let near_right = c.of-2.ensures ∙ c.requires.lists.is_right in
+    let counts = c.shift_listed.ensures.value ∙ (λ i. counts_at_right_half (listed (c.items.ensures i) (c.items-2.ensures i)) job.cell k job.at.counts) in
     record {
-      is_low = λ i. job_of (left i) (near_left i) job.at.counts;
-      is_high = λ i. job_of (right i) (near_right i) (counts i);
+      is_left = λ i. job_of (left i) (near_left i) job.at.counts;
+      is_right = λ i. job_of (right i) (near_right i) (counts i);
     }

@@ -3,7 +3,7 @@ use Rattle.ember_model.specs.Meshes.{HasMesh}
 use Rattle.ember_expr.specs.Formula.{Formula, formula_of, IsMeshNumber}
 use Rattle.ember_expr.specs.Truth.{truth}
 use Rattle.ember_known.specs.Masks.{is_in}
-use Rattle.ember_known.specs.Law.{AgreeOutside}
+use Rattle.ember_known.specs.Laws.{AgreeOutside}
 use Rattle.ember_box.specs.Near.{listed}
 use Rattle.ember_visit.specs.Values.{has_mesh, box_value}
 use Rattle.ember_visit.proofs.IndexLists.{numbered_less}

@@ -29,8 +29,8 @@ halve_job-requires-clause-few c = few_listed c.args.s.now.tris c.args.job.now c.
 pub halve_job-requires-clause-room : goal.halve_job-requires-clause-room
 halve_job-requires-clause-room c = counts_within c.args.s.now.tris c.args.job.now c.requires.job 16515072 (omega arith) c.args.s.now.kept.few
 
-pub returns-in_ok-low-in-None : goal.returns-in_ok-low-in-None
-returns-in_ok-low-in-None c =
+pub returns-in_ok-left-in-None : goal.returns-in_ok-left-in-None
+returns-in_ok-left-in-None c =
     let ts = c.args.s.now.tris in let j = c.args.job.now in
-    let h : AreHalfJobs ts j (longest j.cell) c.in_ok-low-in-None.low c.in_ok-low-in-None.high = subst (λ k. AreHalfJobs ts j k c.in_ok-low-in-None.low c.in_ok-low-in-None.high) c.longest.ensures c.in_ok-low-in-None.ensures in
-    halved_by ts (formula_of c.args.e.now) c.args.size j c.in_ok-low-in-None.low c.in_ok-low-in-None.high c.in-None.ensures.ends h.is_low h.is_high
+    let h : AreHalfJobs ts j (longest j.cell) c.in_ok-left-in-None.left c.in_ok-left-in-None.right = subst (λ k. AreHalfJobs ts j k c.in_ok-left-in-None.left c.in_ok-left-in-None.right) c.longest.ensures c.in_ok-left-in-None.ensures in
+    halved_by ts (formula_of c.args.e.now) c.args.size j c.in_ok-left-in-None.left c.in_ok-left-in-None.right c.in-None.ensures.ends h.is_left h.is_right

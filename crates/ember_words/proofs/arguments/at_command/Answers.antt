@@ -10,7 +10,7 @@ same {a} {b} {r} {s} p q = ap (λ x. with_rule x r) p ∙ ap (λ y. with_rule b 
 
 pub returns : goal.returns
 returns c =
-    let pointed = c.in_ok-command.ensures ∙ same c.new-command.ensures.app c.required.ensures.rule in
+    let pointed = c.in_ok-command.ensures ∙ same c.new-command.ensures.app c.required_option.ensures.rule in
     let asked = c.in_ok-command-2.ensures ∙ same pointed c.option.ensures.rule in
-    let placed = c.in_ok-command-3.ensures ∙ same asked c.with_default.ensures.rule in
-    subst (λ app. IfOk c.with-4.result (λ made. app_of made ≡ app)) (same placed c.words.ensures.rule) c.with-4.ensures
+    let placed = c.in_ok-command-3.ensures ∙ same asked c.option_with_default.ensures.rule in
+    subst (λ app. IfOk c.with-4.result (λ made. app_of made ≡ app)) (same placed c.several_words.ensures.rule) c.with-4.ensures

@@ -16,7 +16,7 @@ returns-clause-journals g c = record {
   caller = [];
   is = ap (λ js. js ++ [] ∷ []) (c.of-2.ensures ∙ ap (map (λ v. v.items)) (c.in_ok-push.ensures.items ∙ ap (λ vs. vs ++ c.run_below.new.output.journal ∷ []) c.new-journals.ensures.items));
   count = refl;
-  begun = subst (λ (j : Job). Begins j.cell.path c.run_below.new.output.journal.items) c.in_ok-boxed.ensures (λ h. begins_both c.in_ok-boxed.boxed.cell.path c.new-journal.result.items c.run_below.new.output.journal.items c.new-journal.ensures.items c.in_ok-run_below.ensures.stays h);
+  begun = subst (λ (j : Job). Begins j.cell.path c.run_below.new.output.journal.items) c.in_ok-heap_job.ensures (λ h. begins_both c.in_ok-heap_job.heap_job.cell.path c.new-journal.result.items c.run_below.new.output.journal.items c.new-journal.ensures.items c.in_ok-run_below.ensures.stays h);
   lefts = tt;
   both = λ h. omega arith;
   last = refl;
@@ -26,7 +26,7 @@ pub returns-clause-sums : goal.returns-clause-sums
 returns-clause-sums g c = λ h u. omega (
   arith,
   c.in_ok-run_below.ensures.sums h u,
-  ap (g.K.BoxWeight.weight h u) c.in_ok-boxed.ensures,
+  ap (g.K.BoxWeight.weight h u) c.in_ok-heap_job.ensures,
   ap (weigh h) c.new-journal.ensures.items,
   ap (weigh (by_path u)) c.new-parts.ensures.items,
   ap (weigh (by_path u)) c.of.ensures,

@@ -45,8 +45,8 @@ returns-then-branch-clause-written c =
     let h = subst (λ ts. AreLowerOrCovered ts i t b us true) c.requires.same (subst (AreLowerOrCovered (tris_in s.triangles.now) i t b us) c.if-branch.true c.in_ok-find_cutters.ensures.owners) in
     grown_none _ c.args.kept.now.items (λ scene f. hidden (is_covered ns i t b (same_tri s.triangles.now near c.requires.same i c.requires.index c.index-self-i.result) (same_listed s.triangles.now near c.requires.same i c.requires.index) h))
 
-pub find_cutters-requires-clause-own : goal.find_cutters-requires-clause-own
-find_cutters-requires-clause-own c =
+pub find_cutters-requires-clause-target : goal.find_cutters-requires-clause-target
+find_cutters-requires-clause-target c =
     let s = c.args.self.now in
     own_is s.triangles.now c.args.i c.index-self-i.result (same_place s.triangles.now s.near.now c.requires.same c.args.i c.requires.index)
 
@@ -56,45 +56,45 @@ regions-requires c =
     let l = left_parts u (subst (λ o. IsClippedBy (map wall_of c.args.walls.now) u (option_to_list o)) c.in-Some.is c.in_ok-ring.ensures) in
     subst (All (λ v. CanCut v c.in-Some.ring)) (sym c.deref.ensures.value) (all_can u c.in-Some.ring cs l.0 c.in_ok-find_cutters.ensures.cutters)
 
-pub keep_one-requires-clause-regions : goal.keep_one-requires-clause-regions
-keep_one-requires-clause-regions c =
+pub add_if_written-requires-clause-regions : goal.add_if_written-requires-clause-regions
+add_if_written-requires-clause-regions c =
     let s = c.args.self.now in let near = s.near.now in let ns = tris_of near in let i = c.args.i in let f = get_or s.triangles.now i c.index-self-i.result in
     let ring = c.in-Some.ring in let b = c.common_spans-bounds.result in let cs = c.find_cutters.new.list.items in let k = c.in_ok-find_cutters.ensures in
     let empty : cs ≡ [] = nil_from_length cs (sym c.find_cutters.new.list.ok.0 ∙ eqb-true _ _ (sym c.is_empty.ensures ∙ c.if-is_empty.true)) in
     leaf_owned s.cell.now f ring ns i c.args.walls.now cs b (ring ∷ []) (same_tri s.triangles.now near c.requires.same i c.requires.index c.index-self-i.result) (same_listed s.triangles.now near c.requires.same i c.requires.index) c.requires.walls (c.common_spans-bounds.ensures ∙ ap (common_of f.aabb) c.requires.aabb) (subst (λ o. IsClippedBy (map wall_of c.args.walls.now) f.tri (option_to_list o)) c.in-Some.is c.in_ok-ring.ensures) (subst (λ ts. OmitsUnmet (IsBounded f.tri b) (cutting_planes ts i) (cutting_planes_in cs)) c.requires.same (k.cutting_planes c.if-branch.false)) k.cutters (subst (λ ts. AreLowerOrCovered ts i f.tri b (owners_in cs) false) c.requires.same (subst (AreLowerOrCovered (tris_in s.triangles.now) i f.tri b (owners_in cs)) c.if-branch.false k.owners)) (subst (λ us. AreCut us (ring ∷ []) (ring ∷ [])) (sym empty) done)
 
-pub keep_one-requires-clause-region : goal.keep_one-requires-clause-region
-keep_one-requires-clause-region c =
+pub add_if_written-requires-clause-plane : goal.add_if_written-requires-clause-plane
+add_if_written-requires-clause-plane c =
     let s = c.args.self.now in let ring = c.in-Some.ring in
-    owned_planes s.cell.now (tris_of s.near.now) c.args.i (ring ∷ []) (keep_one-requires-clause-regions c) 0 ring (omega arith)
+    owned_planes s.cell.now (tris_of s.near.now) c.args.i (ring ∷ []) (add_if_written-requires-clause-regions c) 0 ring (omega arith)
 
-pub keep_one-requires-clause-inside : goal.keep_one-requires-clause-inside
-keep_one-requires-clause-inside c =
+pub add_if_written-requires-clause-inside : goal.add_if_written-requires-clause-inside
+add_if_written-requires-clause-inside c =
     let s = c.args.self.now in let ring = c.in-Some.ring in
-    owned_inside s.cell.now (tris_of s.near.now) c.args.i (ring ∷ []) (keep_one-requires-clause-regions c) 0 ring (omega arith)
+    owned_inside s.cell.now (tris_of s.near.now) c.args.i (ring ∷ []) (add_if_written-requires-clause-regions c) 0 ring (omega arith)
 
-pub keep_one-requires-clause-owner : goal.keep_one-requires-clause-owner
-keep_one-requires-clause-owner c =
+pub add_if_written-requires-clause-owner : goal.add_if_written-requires-clause-owner
+add_if_written-requires-clause-owner c =
     let s = c.args.self.now in let ring = c.in-Some.ring in
-    owned_each s.cell.now (tris_of s.near.now) c.args.i (ring ∷ []) (keep_one-requires-clause-regions c) 0 ring (omega arith)
+    owned_each s.cell.now (tris_of s.near.now) c.args.i (ring ∷ []) (add_if_written-requires-clause-regions c) 0 ring (omega arith)
 
-pub keep-requires-clause-regions : goal.keep-requires-clause-regions
-keep-requires-clause-regions c =
+pub add_written-requires-clause-regions : goal.add_written-requires-clause-regions
+add_written-requires-clause-regions c =
     let s = c.args.self.now in let near = s.near.now in let ns = tris_of near in let i = c.args.i in let f = get_or s.triangles.now i c.index-self-i.result in
     let ring = c.in-Some.ring in let b = c.common_spans-bounds.result in let cs = c.find_cutters.new.list.items in let k = c.in_ok-find_cutters.ensures in
     leaf_owned s.cell.now f ring ns i c.args.walls.now cs b c.in_ok-list.list.items (same_tri s.triangles.now near c.requires.same i c.requires.index c.index-self-i.result) (same_listed s.triangles.now near c.requires.same i c.requires.index) c.requires.walls (c.common_spans-bounds.ensures ∙ ap (common_of f.aabb) c.requires.aabb) (subst (λ o. IsClippedBy (map wall_of c.args.walls.now) f.tri (option_to_list o)) c.in-Some.is c.in_ok-ring.ensures) (subst (λ ts. OmitsUnmet (IsBounded f.tri b) (cutting_planes ts i) (cutting_planes_in cs)) c.requires.same (k.cutting_planes c.if-branch.false)) k.cutters (subst (λ ts. AreLowerOrCovered ts i f.tri b (owners_in cs) false) c.requires.same (subst (AreLowerOrCovered (tris_in s.triangles.now) i f.tri b (owners_in cs)) c.if-branch.false k.owners)) (subst (λ us. AreCut us (ring ∷ []) c.in_ok-list.list.items) c.deref.ensures.value c.in_ok-list.ensures)
 
-pub keep-requires-clause-plane : goal.keep-requires-clause-plane
-keep-requires-clause-plane c =
-    let s = c.args.self.now in owned_planes s.cell.now (tris_of s.near.now) c.args.i c.in_ok-list.list.items (keep-requires-clause-regions c)
+pub add_written-requires-clause-plane : goal.add_written-requires-clause-plane
+add_written-requires-clause-plane c =
+    let s = c.args.self.now in owned_planes s.cell.now (tris_of s.near.now) c.args.i c.in_ok-list.list.items (add_written-requires-clause-regions c)
 
-pub keep-requires-clause-inside : goal.keep-requires-clause-inside
-keep-requires-clause-inside c =
-    let s = c.args.self.now in owned_inside s.cell.now (tris_of s.near.now) c.args.i c.in_ok-list.list.items (keep-requires-clause-regions c)
+pub add_written-requires-clause-inside : goal.add_written-requires-clause-inside
+add_written-requires-clause-inside c =
+    let s = c.args.self.now in owned_inside s.cell.now (tris_of s.near.now) c.args.i c.in_ok-list.list.items (add_written-requires-clause-regions c)
 
-pub keep-requires-clause-owners : goal.keep-requires-clause-owners
-keep-requires-clause-owners c =
-    let s = c.args.self.now in owned_each s.cell.now (tris_of s.near.now) c.args.i c.in_ok-list.list.items (keep-requires-clause-regions c)
+pub add_written-requires-clause-owners : goal.add_written-requires-clause-owners
+add_written-requires-clause-owners c =
+    let s = c.args.self.now in owned_each s.cell.now (tris_of s.near.now) c.args.i c.in_ok-list.list.items (add_written-requires-clause-regions c)
 
 pub returns-in_default-clause-written : goal.returns-in_default-clause-written
 returns-in_default-clause-written c =

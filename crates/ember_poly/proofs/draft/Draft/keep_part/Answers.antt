@@ -4,8 +4,8 @@ use Rattle.ember_poly.proofs.ListOutline.{length-sides_of}
 use Rattle.ember_poly.proofs.PartBelow.{below_ring}
 use Rattle.ember_poly.proofs.draft.Draft.keep_part.Goals as goal
 
-pub close-requires-clause-first : goal.close-requires-clause-first
-close-requires-clause-first c =
+pub close-requires-clause-entry_edge : goal.close-requires-clause-entry_edge
+close-requires-clause-entry_edge c =
     let r = c.args.self.now.boundary in let v = c.requires.ring in
     omega (arith, c.requires.passage.within, length-sides_of r.edges.items r.corners.items r.plane_indices.items v.corners v.plane_indices)
 
@@ -14,7 +14,7 @@ rotate_to_oldest-requires-clause-some c = c.in_ok-close.ensures.some
 
 pub returns-clause-ring : goal.returns-clause-ring
 returns-clause-ring c =
-    let d = c.args.self.now in let r = d.boundary in let p = c.args.p.now in let at = c.args.at.now in let v = c.requires.ring in
+    let d = c.args.self.now in let r = d.boundary in let p = c.args.p.now in let at = c.args.passage.now in let v = c.requires.ring in
     let gs = d.planes.items in let part = c.in_ok-close.ensures.part in let new = c.rotate_to_oldest.new.self in
     let begun = c.rotate_to_oldest.ensures in let oldest = begun.order in
     let count : c.len-plane_index.result ≡ length gs = c.len-plane_index.ensures ∙ d.planes.ok.0 in

@@ -38,8 +38,8 @@ returns-in-Facet-clause-count c = first_of (search rules, grind (arith, common_s
 pub returns-in-Vertex-clause-ok : goal.returns-in-Vertex-clause-ok
 returns-in-Vertex-clause-ok c = first_of (search rules, grind (arith, common_steps))
 
-pub returns-in-Vertex-clause-err : goal.returns-in-Vertex-clause-err
-returns-in-Vertex-clause-err c = first_of (search rules, grind (arith, common_steps))
+pub returns-in-Vertex-clause-fault : goal.returns-in-Vertex-clause-fault
+returns-in-Vertex-clause-fault c = first_of (search rules, grind (arith, common_steps))
 
 pub returns-in-Vertex-clause-surface : goal.returns-in-Vertex-clause-surface
 returns-in-Vertex-clause-surface c = first_of (search rules, grind (arith, common_steps))
@@ -50,8 +50,8 @@ returns-in-Vertex-clause-count c = first_of (search rules, grind (arith, common_
 pub returns-in-EndFacet-clause-ok : goal.returns-in-EndFacet-clause-ok
 returns-in-EndFacet-clause-ok c = first_of (search rules, grind (arith, common_steps))
 
-pub returns-in-EndFacet-clause-err : goal.returns-in-EndFacet-clause-err
-returns-in-EndFacet-clause-err c = first_of (search rules, grind (arith, common_steps))
+pub returns-in-EndFacet-clause-fault : goal.returns-in-EndFacet-clause-fault
+returns-in-EndFacet-clause-fault c = first_of (search rules, grind (arith, common_steps))
 
 pub returns-in-EndFacet-clause-surface : goal.returns-in-EndFacet-clause-surface
 returns-in-EndFacet-clause-surface c = first_of (search rules, grind (arith, common_steps))
@@ -68,5 +68,5 @@ returns-in-Passed-clause-surface c = first_of (search rules, grind (arith, commo
 pub returns-in-Passed-clause-count : goal.returns-in-Passed-clause-count
 returns-in-Passed-clause-count c = first_of (search rules, grind (arith, common_steps))
 
-pub returns-in-Unknown-clause-err : goal.returns-in-Unknown-clause-err
-returns-in-Unknown-clause-err c = first_of (search rules, grind (arith, common_steps))
+pub returns-in-Unknown-clause-fault : goal.returns-in-Unknown-clause-fault
+returns-in-Unknown-clause-fault c = first_of (search rules, grind (arith, common_steps))

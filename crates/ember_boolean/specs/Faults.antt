@@ -1,0 +1,151 @@
+-- Why mesh files give no solid
+use Rattle.std.specs.Prelude.{◌≡◌, ◌≢◌, ⊤, ℕ, ◌^◌, ◌≤◌, true, List, length, take, Some, Err, slice_get}
+use Rattle.std.specs.List.{Any}
+use Rattle.ember_expr.specs.Formula.{Formula}
+use Rattle.ember_file.specs.declared.fault.FileFault.{FileFault}
+use Rattle.ember_file.specs.declared.fault.FileFault.TheVariants as file_fault
+use Rattle.ember_file.specs.Faults.{fault_of, is_plain}
+use Rattle.ember_grid.specs.declared.choice.Wanted.{Wanted}
+use Rattle.ember_grid.specs.declared.grid.Grid.{Grid}
+use Rattle.ember_scene.specs.declared.fault.SceneFault.{SceneFault}
+use Rattle.ember_scene.specs.declared.fault.SceneFault.TheVariants as scene_fault
+use Rattle.ember_scene.specs.Faults.{IsSceneFault}
+use Rattle.ember_scene.specs.Images.{images_of}
+use Rattle.ember_solid_mesh.specs.declared.fault.SolidFault.{SolidFault}
+use Rattle.ember_solid_mesh.specs.declared.fault.SolidFault.TheVariants as solid_fault
+use Rattle.ember_solid_mesh.specs.declared.mesh.SolidMesh.{SolidMesh}
+use Rattle.ember_solid_mesh.specs.Faults.{IsSolidFault}
+use Rattle.ember_solid_mesh.specs.Meshes.{IsSolidMesh}
+use Rattle.ember_stl_bytes.specs.declared.fault.StlWriteFault.{StlWriteFault}
+use Rattle.ember_stl_bytes.specs.declared.fault.StlWriteFault.TheVariants as write_fault
+use Rattle.ember_stl_bytes.specs.declared.triangle.WrittenTriangle.{WrittenTriangle}
+use Rattle.ember_surface.specs.declared.surface.Surface.{Surface}
+use Rattle.ember_written.specs.declared.fault.PlaceFault.{PlaceFault}
+use Rattle.ember_written.specs.declared.fault.PlaceFault.TheVariants as place_fault
+use Rattle.ember_written.specs.Floats.{IsTooFar}
+use Rattle.ember_boolean.specs.declared.fault.BooleanFault.{BooleanFault}
+use Rattle.ember_boolean.specs.declared.fault.BooleanFault.TheVariants.{File, Scene, Solid, TooFar, TooManyTriangles, OutOfMemory}
+use Rattle.ember_boolean.specs.declared.files.MeshFile.{MeshFile}
+use Rattle.ember_boolean.specs.Files.{reading, AreReadings, ArePlaced}
+use Rattle.ember_boolean.specs.Outputs.{AreRounded}
+
+-- ---- the faults of the steps, where want of memory is one
+abbrev pub of_file_fault : ℕ → FileFault → BooleanFault
+of_file_fault index file_fault.OutOfMemory = OutOfMemory
+of_file_fault index fault = File index fault
+
+abbrev pub of_scene_fault : SceneFault → BooleanFault
+of_scene_fault scene_fault.OutOfMemory = OutOfMemory
+of_scene_fault fault = Scene fault
+
+abbrev pub of_solid_fault : SolidFault → BooleanFault
+of_solid_fault solid_fault.OutOfMemory = OutOfMemory
+of_solid_fault fault = Solid fault
+
+abbrev pub of_place_fault : PlaceFault → BooleanFault
+of_place_fault place_fault.TooFar = TooFar
+of_place_fault place_fault.OutOfMemory = OutOfMemory
+
+abbrev pub of_write_fault : StlWriteFault → BooleanFault
+of_write_fault write_fault.TooManyTriangles = TooManyTriangles
+of_write_fault write_fault.OutOfMemory = OutOfMemory
+
+-- ---- files
+-- the reading of the file gives this fault, which isn't want of memory; nor is the fault of a reader in it
+pub record HasFault (file : MeshFile) (fault : FileFault) : Type 0 where
+  pub gives : reading file ≡ Err (fault_of fault)
+  pub plain : is_plain fault ≡ true
+  pub of_file : fault ≢ file_fault.OutOfMemory
+
+-- why the file with this index isn't read
+abbrev pub IsRefusal : MeshFile → ℕ → BooleanFault → Type 0
+IsRefusal file index (File i fault) = (i ≡ index) × HasFault file fault
+IsRefusal file index (Scene fault) = ⊥
+IsRefusal file index (Solid fault) = ⊥
+IsRefusal file index TooFar = ⊥
+IsRefusal file index TooManyTriangles = ⊥
+IsRefusal file index OutOfMemory = ⊤
+
+-- the file with this index has this fault, and the readings of those before it give surfaces
+pub record IsFirstUnread (files : List MeshFile) (index : ℕ) (fault : FileFault) : Type 0 where
+  pub file : MeshFile
+  pub found : slice_get files index ≡ Some file
+  pub has : HasFault file fault
+  pub surfaces : List Surface
+  pub before : AreReadings (take index files) surfaces
+
+-- why files aren't read
+abbrev pub IsReadFault : List MeshFile → BooleanFault → Type 0
+IsReadFault files (File index fault) = IsFirstUnread files index fault
+IsReadFault files (Scene fault) = ⊥
+IsReadFault files (Solid fault) = ⊥
+IsReadFault files TooFar = ⊥
+IsReadFault files TooManyTriangles = ⊥
+IsReadFault files OutOfMemory = ⊤
+
+-- ---- the scene
+-- the readings of the files give surfaces that are no scene, and not for want of memory
+pub record AreNoScene (files : List MeshFile) (wanted : Wanted) (fault : SceneFault) : Type 0 where
+  pub surfaces : List Surface
+  pub read : AreReadings files surfaces
+  pub is_fault : IsSceneFault surfaces wanted fault
+  pub of_scene : fault ≢ scene_fault.OutOfMemory
+
+-- why files are no scene
+abbrev pub IsPlacingFault : List MeshFile → Wanted → BooleanFault → Type 0
+IsPlacingFault files wanted (File index fault) = IsFirstUnread files index fault
+IsPlacingFault files wanted (Scene fault) = AreNoScene files wanted fault
+IsPlacingFault files wanted (Solid fault) = ⊥
+IsPlacingFault files wanted TooFar = ⊥
+IsPlacingFault files wanted TooManyTriangles = ⊥
+IsPlacingFault files wanted OutOfMemory = ⊤
+
+-- ---- the solid
+-- the surfaces of the files are a scene, but its solid has no mesh, and not for want of memory
+pub record HasNoMesh (files : List MeshFile) (formula : Formula) (wanted : Wanted) (fault : SolidFault) : Type 0 where
+  pub surfaces : List Surface
+  pub grid : Grid
+  pub are_placed : ArePlaced files wanted surfaces grid
+  pub is_fault : IsSolidFault (images_of grid surfaces) formula fault
+  pub of_solid : fault ≢ solid_fault.OutOfMemory
+
+-- ---- the STL
+-- a corner rounds to infinity
+abbrev pub HasFarCorner : Grid → SolidMesh → Type 0
+HasFarCorner grid mesh = Any (IsTooFar grid.step grid.offset) mesh.corners.items
+
+-- too many triangles are left for an STL
+pub record HasTooMany (grid : Grid) (mesh : SolidMesh) : Type 0 where
+  pub written : List WrittenTriangle
+  pub rounded : AreRounded grid mesh written
+  pub many : 2 ^ 32 ≤ length written
+
+-- why a mesh isn't written
+abbrev pub IsWritingFault : Grid → SolidMesh → BooleanFault → Type 0
+IsWritingFault grid mesh (File index fault) = ⊥
+IsWritingFault grid mesh (Scene fault) = ⊥
+IsWritingFault grid mesh (Solid fault) = ⊥
+IsWritingFault grid mesh TooFar = HasFarCorner grid mesh
+IsWritingFault grid mesh TooManyTriangles = HasTooMany grid mesh
+IsWritingFault grid mesh OutOfMemory = ⊤
+
+-- the surfaces of the files are a scene, its solid has a mesh, and the mesh has this fault
+pub record HasUnwritten (files : List MeshFile) (formula : Formula) (wanted : Wanted)
+    (IsFault : Grid → SolidMesh → Type 0) : Type 0 where
+  pub surfaces : List Surface
+  pub grid : Grid
+  pub are_placed : ArePlaced files wanted surfaces grid
+  pub mesh : SolidMesh
+  pub solid : IsSolidMesh (images_of grid surfaces) formula mesh
+  pub is_fault : IsFault grid mesh
+
+-- ---- all of them
+-- the first file that isn't read, no scene, no mesh, or a mesh that isn't written; or want of memory, of which nothing
+-- is said
+abbrev pub IsBooleanFault : List MeshFile → Formula → Wanted → BooleanFault → Type 0
+IsBooleanFault files formula wanted (File index fault) = IsFirstUnread files index fault
+IsBooleanFault files formula wanted (Scene fault) = AreNoScene files wanted fault
+IsBooleanFault files formula wanted (Solid fault) = HasNoMesh files formula wanted fault
+IsBooleanFault files formula wanted TooFar = HasUnwritten files formula wanted HasFarCorner
+IsBooleanFault files formula wanted TooManyTriangles = HasUnwritten files formula wanted HasTooMany
+IsBooleanFault files formula wanted OutOfMemory = ⊤

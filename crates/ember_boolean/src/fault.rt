@@ -1,0 +1,95 @@
+// Why mesh files give no solid.
+ghost use Rattle.std.specs.Prelude.{◌≡◌};
+ghost use Rattle.ember_boolean.specs.declared.fault.BooleanFault.TheVariants.{OutOfMemory};
+ghost use Rattle.ember_boolean.specs.Faults.{of_scene_fault, of_solid_fault, of_place_fault, of_write_fault};
+
+use ember_file::FileFault;
+use ember_scene::SceneFault;
+use ember_solid_mesh::SolidFault;
+use ember_stl_bytes::StlWriteFault;
+use ember_written::PlaceFault;
+use std::alloc::{AllocError, AllocFailed};
+use thiserror::Error;
+
+/// Why mesh files give no solid. No fault in it is out-of-memory, which is a fault of its own.
+#[derive(Clone, Copy, Debug, PartialEq, Eq, Error)]
+pub enum BooleanFault<'a> {
+    /// The file with this index, from 0, is the first that isn't read, and why.
+    #[error("file {0}: {1}")]
+    File(u32, FileFault<'a>),
+    /// The surfaces of the files are no scene. Its fault has the index of the file.
+    #[error(transparent)]
+    Scene(SceneFault),
+    /// The solid has no triangles that are certified.
+    #[error(transparent)]
+    Solid(SolidFault),
+    /// A corner of the solid is 2^128 - 2^103 or more from zero along an axis, in the user's unit,
+    /// so that no float is nearest to it.
+    #[error("a corner is too far from zero")]
+    TooFar,
+    /// The STL would have 2^32 triangles or more.
+    #[error("more than 4294967295 triangles")]
+    TooManyTriangles,
+    #[error("out of memory")]
+    OutOfMemory,
+}
+
+impl<'a> From<AllocError> for BooleanFault<'a> {
+    ghost from_gives = { λ _ fault. fault ≡ OutOfMemory };
+
+    fn from(_error: AllocError) -> BooleanFault<'a> {
+        BooleanFault::OutOfMemory
+    }
+}
+
+impl<'a, T: Drop> From<AllocFailed<T>> for BooleanFault<'a> {
+    ghost from_gives = { λ _ fault. fault ≡ OutOfMemory };
+
+    fn from(_error: AllocFailed<T>) -> BooleanFault<'a> {
+        BooleanFault::OutOfMemory
+    }
+}
+
+impl<'a> From<SceneFault> for BooleanFault<'a> {
+    ghost from_gives = { λ cause fault. fault ≡ of_scene_fault cause };
+
+    fn from(cause: SceneFault) -> BooleanFault<'a> {
+        match cause {
+            SceneFault::OutOfMemory => BooleanFault::OutOfMemory,
+            cause => BooleanFault::Scene(cause),
+        }
+    }
+}
+
+impl<'a> From<SolidFault> for BooleanFault<'a> {
+    ghost from_gives = { λ cause fault. fault ≡ of_solid_fault cause };
+
+    fn from(cause: SolidFault) -> BooleanFault<'a> {
+        match cause {
+            SolidFault::OutOfMemory => BooleanFault::OutOfMemory,
+            cause => BooleanFault::Solid(cause),
+        }
+    }
+}
+
+impl<'a> From<PlaceFault> for BooleanFault<'a> {
+    ghost from_gives = { λ cause fault. fault ≡ of_place_fault cause };
+
+    fn from(cause: PlaceFault) -> BooleanFault<'a> {
+        match cause {
+            PlaceFault::TooFar => BooleanFault::TooFar,
+            PlaceFault::OutOfMemory => BooleanFault::OutOfMemory,
+        }
+    }
+}
+
+impl<'a> From<StlWriteFault> for BooleanFault<'a> {
+    ghost from_gives = { λ cause fault. fault ≡ of_write_fault cause };
+
+    fn from(cause: StlWriteFault) -> BooleanFault<'a> {
+        match cause {
+            StlWriteFault::TooManyTriangles => BooleanFault::TooManyTriangles,
+            StlWriteFault::OutOfMemory => BooleanFault::OutOfMemory,
+        }
+    }
+}

@@ -1,0 +1,15 @@
+//! The solid of an expression over mesh files: from their bytes to those of an STL.
+#![tactic(auto)]
+
+mod fault;
+mod files;
+mod laws;
+mod placing;
+mod solid;
+mod writing;
+
+pub use fault::BooleanFault;
+pub use files::{MeshFile, surfaces_in};
+pub use laws::{closed_files_are_never_open, faces_of_outputs_have_the_meaning};
+pub use solid::stl_of;
+pub use writing::Output;

@@ -1,0 +1,3 @@
+pub mod Faults
+pub mod ReadFile
+pub mod Reasons

@@ -1,0 +1,51 @@
+// Reasons why files are refused, each with its remedy.
+pub(crate) const NO_TRIANGLES: &str = "no triangles in it; is it a mesh?";
+
+pub(crate) const FEW_COORDINATES: &str = "fewer than three coordinates; export anew";
+
+pub(crate) const TOO_LARGE: &str = "a coordinate of 1e15 or more; export in another unit";
+
+pub(crate) const OUT_OF_MEMORY: &str = "out of memory";
+
+// STL
+pub(crate) const FACET_NOT_FINITE: &str =
+    "coordinate is not a finite number; remove the facet or export anew";
+
+pub(crate) const VERTEX_OUTSIDE: &str = "vertex outside a facet; export anew";
+
+pub(crate) const NOT_THREE_VERTICES: &str = "facet without three vertices; export anew";
+
+pub(crate) const ENDS_IN_FACET: &str = "the file ends in a facet; it is cut off, export anew";
+
+// PLY
+pub(crate) const NO_END: &str = "PLY header has no end; export anew";
+
+pub(crate) const NOT_UNDERSTOOD: &str = "PLY header line not understood; export anew";
+
+pub(crate) const NO_FORMAT: &str =
+    "PLY format is none of ascii, binary_little_endian, binary_big_endian; export anew";
+
+pub(crate) const SHORT_ROW: &str = "the file ends or the row is short; it is cut off, export anew";
+
+pub(crate) const VERTEX_NOT_FINITE: &str = "coordinate is not a finite number; export anew";
+
+pub(crate) const NO_COORDINATES: &str = "PLY vertices have no x, y, z; export anew";
+
+pub(crate) const NO_CORNERS: &str =
+    "PLY faces have no vertex_indices (strips aren't read); export as triangles";
+
+pub(crate) const NO_SUCH_VERTEX: &str = "names a vertex that isn't there; export anew";
+
+pub(crate) const FEW_CORNERS: &str = "fewer than three corners; remove it";
+
+// OFF
+pub(crate) const NO_OFF: &str = "no OFF; export anew";
+
+pub(crate) const NO_COUNTS: &str = "OFF has no counts; export anew";
+
+pub(crate) const FEW_LINES: &str = "fewer lines than the counts say; it is cut off, export anew";
+
+pub(crate) const FACE_NOT_UNDERSTOOD: &str = "face not understood; export anew";
+
+// OBJ
+pub(crate) const FACE_OF_FEW_CORNERS: &str = "face with fewer than three corners; remove it";

@@ -1,0 +1,42 @@
+use Rattle.std.proofs.Common.{◌∙◌, sym, subst}
+use Rattle.ember_leaf.specs.TriRelations.{IsRelation}
+use Rattle.ember_leaf.specs.Lower.{misses}
+use Rattle.ember_leaf.proofs.LowerTriangles.{flat_misses, apart_misses, across_added}
+use Rattle.ember_leaf.proofs.UnmetPlanes.{adds_flat, adds_apart, adds_all, support_cutting_planes, added_cutting_planes, added_cutters}
+use Rattle.ember_leaf.proofs.cutters.add_unless_covering.Goals as goal
+
+pub returns-then-is_flat-clause-cutting_planes : goal.returns-then-is_flat-clause-cutting_planes
+returns-then-is_flat-clause-cutting_planes c =
+    λ e b. adds_flat c.args.target.now.tri c.args.other.now.tri b c.args.list.now.items (sym c.is_flat.ensures ∙ c.if-is_flat.true)
+
+pub returns-in-Apart-clause-cutting_planes : goal.returns-in-Apart-clause-cutting_planes
+returns-in-Apart-clause-cutting_planes c =
+    let t = c.args.target.now.tri in let u = c.args.other.now.tri in
+    λ e b. adds_apart t u b c.args.list.now.items (subst (IsRelation t u) c.in-Apart.is c.relation_of.ensures)
+
+pub returns-in_ok-add_cutter-in-Across-clause-cutting_planes : goal.returns-in_ok-add_cutter-in-Across-clause-cutting_planes
+returns-in_ok-add_cutter-in-Across-clause-cutting_planes c =
+    let t = c.args.target.now.tri in let u = c.args.other.now.tri in
+    λ e b. adds_all c.args.list.now.items c.add_cutter.new.list.items (support_cutting_planes t u (sym c.is_flat.ensures ∙ c.if-is_flat.false) (subst (IsRelation t u) c.in-Across.is c.relation_of.ensures)) (added_cutting_planes c.in_ok-add_cutter-in-Across.ensures)
+
+pub returns-in_ok-add_cutter-in-Across-clause-cutters : goal.returns-in_ok-add_cutter-in-Across-clause-cutters
+returns-in_ok-add_cutter-in-Across-clause-cutters c =
+    added_cutters c.in_ok-add_cutter-in-Across.ensures c.args.target.now.tri tt c.requires.cutters
+
+pub add_coplanar_unless_covering-requires-clause-plane : goal.add_coplanar_unless_covering-requires-clause-plane
+add_coplanar_unless_covering-requires-clause-plane c =
+    subst (IsRelation c.args.target.now.tri c.args.other.now.tri) c.in-Coplanar.is c.relation_of.ensures
+
+pub returns-then-is_flat-clause-owners : goal.returns-then-is_flat-clause-owners
+returns-then-is_flat-clause-owners c =
+    λ b. misses (flat_misses c.args.target.now.tri c.args.other.now.tri b (sym c.is_flat.ensures ∙ c.if-is_flat.true))
+
+pub returns-in-Apart-clause-owners : goal.returns-in-Apart-clause-owners
+returns-in-Apart-clause-owners c =
+    let t = c.args.target.now.tri in let u = c.args.other.now.tri in
+    λ b. misses (apart_misses t u b (subst (IsRelation t u) c.in-Apart.is c.relation_of.ensures))
+
+pub returns-in_ok-add_cutter-in-Across-clause-owners : goal.returns-in_ok-add_cutter-in-Across-clause-owners
+returns-in_ok-add_cutter-in-Across-clause-owners c =
+    let t = c.args.target.now.tri in let u = c.args.other.now.tri in
+    across_added t u c.args.is_before (subst (IsRelation t u) c.in-Across.is c.relation_of.ensures) c.in_ok-add_cutter-in-Across.ensures

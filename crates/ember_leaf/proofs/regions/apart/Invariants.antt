@@ -1,6 +1,0 @@
-use Rattle.std.proofs.Common.{take}
-use Rattle.ember_leaf.specs.Cutters.{AreSplit}
-use Rattle.ember_leaf.proofs.regions.apart.Given as goal
-
-abbrev pub invariant-loop-i : goal.invariant-loop-i
-invariant-loop-i l = AreSplit l.c (take l.i l.list) (take l.i l.list)

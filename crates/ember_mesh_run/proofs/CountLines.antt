@@ -1,0 +1,24 @@
+-- The lines of files, from the first on.
+use Rattle.std.proofs.Common.{◌≡◌, ℕ, suc, ◌+◌, ◌<◌, List, ◌∷◌, ◌++◌, length, drop, get_or, drop-cons, sym, ap, ◌∙◌, arith, append_assoc}
+use Rattle.ember_scene.specs.declared.counts.Counts.{Counts}
+use Rattle.ember_mesh_run.specs.Reports.{counts_line, counts_lines}
+
+-- the line of a file comes before those of the files after it
+first_line : (names : List (List ℕ)) (counts : List Counts) (i f : ℕ) (name : List ℕ) (c : Counts) → i < length names → name ≡ get_or names i name → f < length counts → c ≡ get_or counts f c → counts_lines (drop i names) (drop f counts) ≡ counts_line name c ++ counts_lines (drop (i + 1) names) (drop (f + 1) counts)
+first_line names counts i f name c inside is there found =
+    let next_name : suc i ≡ i + 1 = omega arith in
+    let next_count : suc f ≡ f + 1 = omega arith in
+    let left : drop i names ≡ name ∷ drop (i + 1) names =
+    drop-cons names i name inside ∙ ap (λ (n : List ℕ). n ∷ drop (suc i) names) (sym is) ∙ ap (λ (k : ℕ). name ∷ drop k names) next_name in
+    let right : drop f counts ≡ c ∷ drop (f + 1) counts =
+    drop-cons counts f c there ∙ ap (λ (k : Counts). k ∷ drop (suc f) counts) (sym found) ∙ ap (λ (k : ℕ). c ∷ drop k counts) next_count in
+    ap (λ (ns : List (List ℕ)). counts_lines ns (drop f counts)) left ∙ ap (λ (cs : List Counts). counts_lines (name ∷ drop (i + 1) names) cs) right
+
+-- so all lines are still those that are written and those to come
+pub one_line_more : (names : List (List ℕ)) (counts : List Counts) (i f : ℕ) (name : List ℕ) (c : Counts) (all old new : List ℕ) → i < length names → name ≡ get_or names i name → f < length counts → c ≡ get_or counts f c → all ≡ old ++ counts_lines (drop i names) (drop f counts) → new ≡ old ++ counts_line name c → all ≡ new ++ counts_lines (drop (i + 1) names) (drop (f + 1) counts)
+one_line_more names counts i f name c all old new inside is there found before put =
+    let rest = counts_lines (drop (i + 1) names) (drop (f + 1) counts) in
+    before
+    ∙ ap (λ (xs : List ℕ). old ++ xs) (first_line names counts i f name c inside is there found)
+    ∙ sym (append_assoc old (counts_line name c) rest)
+    ∙ ap (λ (xs : List ℕ). xs ++ rest) (sym put)

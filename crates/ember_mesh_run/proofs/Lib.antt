@@ -1,0 +1,10 @@
+pub mod ToldFiles
+pub mod Stops
+pub mod FileStatuses
+pub mod Shown
+pub mod ErrTexts
+pub mod KeptNames
+pub mod Outcomes
+pub mod ShownSteps
+pub mod Appended
+pub mod CountLines

@@ -1,0 +1,26 @@
+-- A step as a decimal.
+use Rattle.std.proofs.Common.{◌≡◌, ℕ, ◌+◌, ◌*◌, ◌^◌, ◌<◌, ℤ, pos, sym, ap, ◌∙◌, arith}
+use Rattle.std.specs.Int.RustNames.{unsigned_abs}
+use Rattle.ember_number.specs.Fractions.{Fraction}
+use Rattle.ember_round.specs.Decimals.{decimal_text}
+use Rattle.ember_round.specs.Nearest.{nearest_whole}
+use Rattle.ember_wide.specs.declared.whole.Wide.{Wide}
+use Rattle.ember_wide.specs.Whole.{size_of, value_of}
+use Rattle.ember_wide.proofs.Determinants.{size_of_value}
+use Rattle.ember_written.proofs.Signs.{decimal_of_ratio, fits_with_places}
+use Rattle.ember_snap.specs.declared.steps.Step.{Step}
+use Rattle.ember_mesh_run.specs.Lines.{step_text}
+
+abbrev over : ℕ → ℤ → Fraction
+over d z = record { numerator = z; denominator = d }
+
+-- the numerator over the denominator, with its places, fits into 128 bits
+pub step_fits : (w : Wide) (s : Step) → 0 < s.denominator → s.numerator < 2 ^ 64 → value_of w ≡ pos s.numerator → size_of w.size * 10 ^ 12 + s.denominator < 2 ^ 128 * s.denominator
+step_fits w s p small e =
+    let size : size_of w.size ≡ s.numerator = sym (size_of_value w) ∙ ap unsigned_abs e in
+    fits_with_places (size_of w.size) s.denominator 12 p (omega (arith, size, small, p)) (omega arith)
+
+-- and its decimal is that of the step
+pub step_shown : (w : Wide) (s : Step) → 0 < s.denominator → s.denominator < 2 ^ 64 → value_of w ≡ pos s.numerator → decimal_text w.negative (nearest_whole (size_of w.size * 10 ^ 12) s.denominator) 12 ≡ step_text s
+step_shown w s p small e =
+    decimal_of_ratio (record { numerator = w; denominator = s.denominator; positive = p; small = omega (arith, small) }) (over s.denominator (pos s.numerator)) (ap (over s.denominator) e) 12

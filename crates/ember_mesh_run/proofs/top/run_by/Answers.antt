@@ -1,0 +1,42 @@
+use Rattle.std.proofs.Common.{◌≡◌, map, refl, subst, arith}
+use Rattle.std.specs.Prelude.{string_bytes, Ok, Err}
+use Rattle.ember_mesh_words.specs.Commands.{Reads, command_of}
+use Rattle.ember_mesh_words.specs.declared.command.Command.{Command}
+use Rattle.ember_mesh_words.specs.declared.command.Command.TheVariants.{Boole, Help, Version}
+use Rattle.ember_mesh_words.specs.declared.faults.WordsFault.{WordsFault}
+use Rattle.ember_mesh_run.proofs.KeptNames.{names_hold_the_same}
+use Rattle.ember_mesh_run.proofs.Outcomes.{call_serves, words_without_memory}
+use Rattle.ember_mesh_run.proofs.top.run_by.Goals as goal
+
+pub returns-in-Ok-Boole : goal.returns-in-Ok-Boole
+returns-in-Ok-Boole g c =
+    let e = c.serve.ensures in
+    let words = map string_bytes c.args.words.now in
+    let is : command_of words ≡ Ok (Boole c.in-Ok-Boole.request) = subst (λ (command : Command). command_of words ≡ Ok command) c.in-Ok-Boole.field-0-is c.in-Ok-Boole.ensures.command in
+    call_serves words (Ok (Boole c.in-Ok-Boole.request)) _ _ _ _ c.serve.result e.outcome.0 is e.contents e.none_begun e.later (omega arith) (e.outcome.1, refl) e.outcome.2 e.memory
+
+pub returns-in-Ok-Help : goal.returns-in-Ok-Help
+returns-in-Ok-Help g c =
+    let e = c.write_message.ensures in
+    let words = map string_bytes c.args.words.now in
+    let is : command_of words ≡ Ok Help = subst (λ (command : Command). command_of words ≡ Ok command) c.in-Ok-Help.field-0-is c.in-Ok-Help.ensures.command in
+    call_serves words (Ok Help) _ _ _ _ c.write_message.result e.outcome.0 is (record { same = refl; later = omega arith }) c.requires.begun (omega arith) e.later (e.outcome.1, names_hold_the_same (g.T.Target.held c.args.target.now)) e.outcome.2 e.memory
+
+pub returns-in-Ok-Version : goal.returns-in-Ok-Version
+returns-in-Ok-Version g c =
+    let e = c.write_message-in-Ok-Version.ensures in
+    let words = map string_bytes c.args.words.now in
+    let is : command_of words ≡ Ok Version = subst (λ (command : Command). command_of words ≡ Ok command) c.in-Ok-Version.field-0-is c.in-Ok-Version.ensures.command in
+    call_serves words (Ok Version) _ _ _ _ c.write_message-in-Ok-Version.result e.outcome.0 is (record { same = refl; later = omega arith }) c.requires.begun (omega arith) e.later (e.outcome.1, names_hold_the_same (g.T.Target.held c.args.target.now)) e.outcome.2 e.memory
+
+pub returns-in-Err-Refused : goal.returns-in-Err-Refused
+returns-in-Err-Refused g c =
+    let e = c.refuse_words.ensures in
+    let words = map string_bytes c.args.words.now in
+    let is : command_of words ≡ Err c.in-Err-Refused.why = subst (λ (fault : WordsFault). Reads (command_of words) (Err fault)) c.in-Err-Refused.field-0-is c.in-Err-Refused.ensures.command in
+    call_serves words (Err c.in-Err-Refused.why) _ _ _ _ c.refuse_words.result e.outcome.0 is (record { same = refl; later = omega arith }) c.requires.begun (omega arith) (omega arith) (e.outcome.1, names_hold_the_same (g.T.Target.held c.args.target.now), refl) e.outcome.2 e.memory
+
+pub returns-in-Err-OutOfMemory : goal.returns-in-Err-OutOfMemory
+returns-in-Err-OutOfMemory g c =
+    let words = map string_bytes c.args.words.now in
+    call_serves words (command_of words) _ _ _ _ _ _ refl (record { same = refl; later = omega arith }) c.requires.begun (omega arith) (omega arith) (words_without_memory words (command_of words) _ _ _ _ (names_hold_the_same (g.T.Target.held c.args.target.now)) refl refl) c.say_out_of_memory.ensures refl

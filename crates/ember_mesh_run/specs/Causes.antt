@@ -1,0 +1,161 @@
+-- Why a Boolean isn't written: a cause of each status
+use Rattle.std.specs.Prelude.{◌≡◌, ◌⊎◌, ⊤, ℕ, ◌-◌, ◌<◌, Bool, true, false, List, take, string_bytes}
+use Rattle.std.specs.declared.option.Option.{Option}
+use Rattle.ember_boolean.specs.declared.fault.BooleanFault.{BooleanFault}
+use Rattle.ember_boolean.specs.declared.fault.BooleanFault.TheVariants as boolean
+use Rattle.ember_boolean.specs.declared.files.MeshFile.{MeshFile}
+use Rattle.ember_boolean.specs.declared.writing.Output.{Output}
+use Rattle.ember_boolean.specs.Faults.{IsBooleanFault, IsFirstUnread}
+use Rattle.ember_expr.specs.declared.fault.ExprFault.TheVariants as expr
+use Rattle.ember_expr.specs.Formula.{Formula}
+use Rattle.ember_file.specs.declared.fault.FileFault.{FileFault}
+use Rattle.ember_format.specs.declared.format.Format.{Format}
+use Rattle.ember_grid.specs.declared.choice.Wanted.{Wanted}
+use Rattle.ember_io.specs.Shelves.{TellsMore}
+use Rattle.ember_io.specs.declared.shelf.ReadEnd.{ReadEnd}
+use Rattle.ember_io.specs.declared.shelf.ReadEnd.TheVariants as read
+use Rattle.ember_mesh_words.specs.declared.command.Request.{Request}
+use Rattle.ember_scene.specs.declared.fault.Open.{Open}
+use Rattle.ember_scene.specs.declared.fault.SceneFault.TheVariants as scene
+use Rattle.ember_solid_mesh.specs.declared.fault.SolidFault.TheVariants as solid
+use Rattle.ember_tables.specs.declared.fault.TableFault.TheVariants as table
+use Rattle.ember_target.specs.Targets.{IsTaken, beside}
+use Rattle.ember_triangles.specs.declared.fault.TrianglesFault.TheVariants as mesh
+use Rattle.ember_mesh_run.specs.Asked.{Asks, IsWordsCause}
+use Rattle.ember_mesh_run.specs.Outputs.{IsOutputFor}
+use Rattle.ember_mesh_run.specs.Statuses.{HasFormat, HasReason}
+use Rattle.ember_mesh_run.specs.Calls.{ShelfCall, TargetCall, HasShelfFailed, HasTargetFailed}
+use Rattle.ember_mesh_run.specs.Files.{AreFiles, AreRead, IsFileIn}
+use Rattle.ember_mesh_run.specs.Lines.{name_of}
+use Rattle.ember_mesh_run.specs.declared.status.Status.{Status}
+use Rattle.ember_mesh_run.specs.declared.status.Status.TheVariants.{Done, Words, UnwrittenFormat, StepOfNoGrid, ReadFault, WriteFault, FileRefused, NoTriangles, NotClosed, ExprRefused, Unbounded, LongFile, TooManyTriangles, TooManyWritten, StepTooSmall, TooFar, OutOfMemory, Uncertified}
+
+-- ---- a file and those before it
+-- the shelf failed at file i, and no file before it is refused
+pub record IsUnreadable (shelf : ShelfCall) (names : List (List ℕ)) (i : ℕ) : Type 0 where
+  pub one_of : IsFileIn names i
+  pub failed : HasShelfFailed shelf
+  pub place : shelf.fault_at ≡ i
+  pub before : AreRead shelf.told (take (i - 1) names)
+
+-- file i has more than 2^28 bytes, and no file before it is refused
+pub record IsLong (told : List ℕ → Option (List ℕ)) (names : List (List ℕ)) (i : ℕ) : Type 0 where
+  pub one_of : IsFileIn names i
+  pub long : TellsMore (told (name_of names i)) 268435456
+  pub before : AreRead told (take (i - 1) names)
+
+-- file i is the first that is refused, for this reason; nothing is said of the files after it
+pub record IsRefused (told : List ℕ → Option (List ℕ)) (names : List (List ℕ)) (i : ℕ) (reason : List ℕ) : Type 0 where
+  pub one_of : IsFileIn names i
+  pub files : List MeshFile
+  pub are_files : AreFiles told (take i names) files
+  pub fault : FileFault
+  pub first : IsFirstUnread files (i - 1) fault
+  pub reason_is : HasReason files (i - 1) fault reason
+
+-- why one of the files that could be read is refused
+abbrev pub IsRefusalCause : (List ℕ → Option (List ℕ)) → List (List ℕ) → Status → Type 0
+IsRefusalCause told names (FileRefused i reason) = IsRefused told names i (string_bytes reason)
+IsRefusalCause told names OutOfMemory = ⊤
+IsRefusalCause told names status = ⊥
+
+-- why not all files are read
+abbrev pub IsReadingCause : List (List ℕ) → ShelfCall → Status → Type 0
+IsReadingCause names shelf (ReadFault i) = IsUnreadable shelf names i
+IsReadingCause names shelf (LongFile i) = IsLong shelf.told names i
+IsReadingCause names shelf status = IsRefusalCause shelf.told names status
+
+-- the status that comes of the way in which reading file i ended, if no file before it is refused
+abbrev pub end_status : ℕ → ReadEnd → Status
+end_status i read.ReadFault = ReadFault i
+end_status i (read.TooLong count) = LongFile i
+end_status i read.OutOfMemory = OutOfMemory
+
+-- a file before file i is refused, or none is, and this is the status of its end
+abbrev pub IsEndAt : (List ℕ → Option (List ℕ)) → List (List ℕ) → ℕ → ReadEnd → Status → Type 0
+IsEndAt told names i end status =
+    IsRefusalCause told names status ⊎ ((status ≡ end_status i end) × AreRead told (take (i - 1) names))
+
+-- ---- all files together
+-- the files have this fault
+pub record HaveFault (told : List ℕ → Option (List ℕ)) (names : List (List ℕ)) (formula : Formula) (wanted : Wanted)
+    (fault : BooleanFault) : Type 0 where
+  pub files : List MeshFile
+  pub are_files : AreFiles told names files
+  pub is_fault : IsBooleanFault files formula wanted fault
+
+-- one of them isn't closed on the grid, and has this format
+pub record HaveOpen (told : List ℕ → Option (List ℕ)) (names : List (List ℕ)) (formula : Formula) (wanted : Wanted)
+    (o : Open) (format : Format) : Type 0 where
+  pub files : List MeshFile
+  pub are_files : AreFiles told names files
+  pub is_fault : IsBooleanFault files formula wanted (boolean.Scene (scene.Open o))
+  pub format_is : HasFormat files o.file format
+
+-- why files that were read have no output
+abbrev pub IsFilesCause : (List ℕ → Option (List ℕ)) → List (List ℕ) → Formula → Wanted → Status → Type 0
+IsFilesCause told names formula wanted NoTriangles =
+    HaveFault told names formula wanted (boolean.Scene scene.NoTriangles)
+IsFilesCause told names formula wanted (NotClosed o format) = HaveOpen told names formula wanted o format
+IsFilesCause told names formula wanted (TooManyTriangles count) =
+    HaveFault told names formula wanted (boolean.Scene (scene.TooManyTriangles count))
+IsFilesCause told names formula wanted (StepTooSmall finest) =
+    HaveFault told names formula wanted (boolean.Scene (scene.StepTooSmall finest))
+IsFilesCause told names formula wanted (Uncertified fault) =
+    HaveFault told names formula wanted (boolean.Solid fault)
+IsFilesCause told names formula wanted TooFar = HaveFault told names formula wanted boolean.TooFar
+IsFilesCause told names formula wanted TooManyWritten =
+    HaveFault told names formula wanted boolean.TooManyTriangles
+IsFilesCause told names formula wanted status = IsRefusalCause told names status
+
+-- ---- a request
+-- why a request that asks for something gets no output
+abbrev pub IsAskedCause : Request → Formula → Wanted → ShelfCall → Status → Type 0
+IsAskedCause request formula wanted shelf (ReadFault i) = IsReadingCause request.files shelf (ReadFault i)
+IsAskedCause request formula wanted shelf (LongFile i) = IsReadingCause request.files shelf (LongFile i)
+IsAskedCause request formula wanted shelf status = IsFilesCause shelf.told request.files formula wanted status
+
+-- it asks for something, but gets no output
+pub record IsLateCause (request : Request) (shelf : ShelfCall) (status : Status) : Type 0 where
+  pub wanted : Wanted
+  pub formula : Formula
+  pub asks : Asks request wanted formula
+  pub cause : IsAskedCause request formula wanted shelf status
+
+-- why a request gets no output: the words, the expression, a file, or all files together; of want of memory nothing is
+-- said
+abbrev pub IsStop : Request → ShelfCall → Status → Type 0
+IsStop request shelf Done = ⊥
+IsStop request shelf (Words why) = ⊥
+IsStop request shelf WriteFault = ⊥
+IsStop request shelf UnwrittenFormat = IsWordsCause request UnwrittenFormat
+IsStop request shelf StepOfNoGrid = IsWordsCause request StepOfNoGrid
+IsStop request shelf (ExprRefused fault) = IsWordsCause request (ExprRefused fault)
+IsStop request shelf Unbounded = IsWordsCause request Unbounded
+IsStop request shelf OutOfMemory = ⊤
+IsStop request shelf status = IsLateCause request shelf status
+
+-- ---- writing
+-- the target failed, or all names that a new file may have are taken
+abbrev pub IsWriteCause : List ℕ → TargetCall → Type 0
+IsWriteCause name target =
+    HasTargetFailed target ⊎ ((number : ℕ) → number < 100 → IsTaken target.held (beside name number))
+
+-- the request has an output, and it isn't written
+pub record IsUnwritten (request : Request) (shelf : ShelfCall) (target : TargetCall) : Type 0 where
+  pub output : Output
+  pub is_output : IsOutputFor request shelf.told output
+  pub cause : IsWriteCause request.output target
+
+-- why nothing is written
+abbrev pub IsCause : Request → ShelfCall → TargetCall → Status → Type 0
+IsCause request shelf target WriteFault = IsUnwritten request shelf target
+IsCause request shelf target status = IsStop request shelf status
+
+-- whether out-of-memory is hidden in another status
+abbrev pub hides_memory : Status → Bool
+hides_memory (ExprRefused expr.OutOfMemory) = true
+hides_memory (Uncertified solid.OutOfMemory) = true
+hides_memory (Uncertified (solid.NoTables table.OutOfMemory)) = true
+hides_memory (Uncertified (solid.NotCut mesh.OutOfMemory)) = true
+hides_memory _ = false

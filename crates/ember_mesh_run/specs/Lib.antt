@@ -1,0 +1,10 @@
+pub mod Calls
+pub mod Lines
+pub mod Reports
+pub mod Messages
+pub mod Asked
+pub mod Files
+pub mod Statuses
+pub mod Outputs
+pub mod Causes
+pub mod Serves

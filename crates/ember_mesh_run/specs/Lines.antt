@@ -1,0 +1,192 @@
+-- The number of a status, and its line on standard error
+use Rattle.std.specs.Prelude.{⊤, ℕ, ℤ, ◌+ℤ◌, ◌*ℤ◌, ◌<◌, ◌+◌, ◌-◌, ◌*◌, ◌^◌, List, [], ◌++◌, length, codes, decimal, get_or, pos, nat_le, Some, None, unsigned_abs, if◌then◌else◌, string_bytes}
+use Rattle.std.specs.declared.option.Option.{Option}
+use Rattle.ember_expr.specs.declared.fault.ExprFault.{ExprFault}
+use Rattle.ember_expr.specs.declared.fault.ExprFault.TheVariants as expr
+use Rattle.ember_format.specs.declared.format.Format.{Format}
+use Rattle.ember_format.specs.declared.format.Format.TheVariants as formats
+use Rattle.ember_grid.specs.declared.grid.Grid.{Grid}
+use Rattle.ember_mesh_words.specs.declared.command.Request.{Request}
+use Rattle.ember_mesh_words.specs.declared.command.WantedStep.{WantedStep}
+use Rattle.ember_mesh_words.specs.declared.command.WantedStep.TheVariants as step
+use Rattle.ember_mesh_words.specs.declared.faults.Refusal.{Refusal}
+use Rattle.ember_mesh_words.specs.declared.faults.Refusal.TheVariants as refusal
+use Rattle.ember_model.specs.declared.point.Corner.{Corner}
+use Rattle.ember_number.specs.Fractions.{Fraction}
+use Rattle.ember_scene.specs.declared.fault.Open.{Open}
+use Rattle.ember_snap.specs.declared.steps.Step.{Step}
+use Rattle.ember_snap.specs.Steps.{IsStep}
+use Rattle.ember_solid_mesh.specs.declared.fault.SolidFault.{SolidFault}
+use Rattle.ember_solid_mesh.specs.declared.fault.SolidFault.TheVariants as solid
+use Rattle.ember_triangles.specs.declared.fault.TrianglesFault.TheVariants as mesh
+use Rattle.ember_written.specs.Decimals.{decimal_of}
+use Rattle.ember_mesh_run.specs.declared.status.Status.{Status}
+use Rattle.ember_mesh_run.specs.declared.status.Status.TheVariants.{Done, Words, UnwrittenFormat, StepOfNoGrid, ReadFault, WriteFault, FileRefused, NoTriangles, NotClosed, ExprRefused, Unbounded, LongFile, TooManyTriangles, TooManyWritten, StepTooSmall, TooFar, OutOfMemory, Uncertified}
+
+-- the exit status
+abbrev pub number_of : Status → ℕ
+number_of Done = 0
+number_of (Words why) = 2
+number_of UnwrittenFormat = 2
+number_of StepOfNoGrid = 2
+number_of (ReadFault i) = 3
+number_of WriteFault = 4
+number_of (FileRefused i reason) = 5
+number_of NoTriangles = 5
+number_of (NotClosed o format) = 6
+number_of (ExprRefused fault) = 7
+number_of Unbounded = 8
+number_of (LongFile i) = 9
+number_of (TooManyTriangles count) = 9
+number_of TooManyWritten = 9
+number_of (StepTooSmall finest) = 10
+number_of TooFar = 10
+number_of OutOfMemory = 12
+number_of (Uncertified fault) = 14
+
+-- the name of file i, from 1
+abbrev pub name_of : List (List ℕ) → ℕ → List ℕ
+name_of names i = get_or names (i - 1) []
+
+-- ---- pieces of lines
+-- a line of the program
+abbrev pub line : List ℕ → List ℕ
+line text = codes "ember-mesh: " ++ (text ++ codes "\n")
+
+-- a step in the user's unit
+abbrev pub step_text : Step → List ℕ
+step_text s = decimal_of (record { numerator = pos s.numerator; denominator = s.denominator }) 12
+
+-- the value of --step
+abbrev pub wanted_text : WantedStep → List ℕ
+wanted_text step.Nice = codes "nice"
+wanted_text step.Finest = codes "finest"
+wanted_text (step.Decimal text) = text
+
+-- a number of the user's unit; from 10^21 on it isn't shown
+abbrev pub shown : Fraction → List ℕ
+shown v =
+    if nat_le (10 ^ 21 * v.denominator) (unsigned_abs v.numerator) then codes "?" else decimal_of v 12
+
+-- where a coordinate of a corner lies in the user's unit: as that of a point of weight 1
+abbrev pub grid_place : Grid → ℤ → ℤ → Fraction
+grid_place g x offset = record {
+  numerator = (x +ℤ offset *ℤ pos 1) *ℤ pos g.step.numerator;
+  denominator = g.step.denominator * 1;
+}
+
+-- `(X Y Z)` in the user's unit
+abbrev pub corner_text : Grid → Corner → List ℕ
+corner_text g c =
+    codes "(" ++ (shown (grid_place g c.x g.offset.x) ++
+    (codes " " ++ (shown (grid_place g c.y g.offset.y) ++
+    (codes " " ++ (shown (grid_place g c.z g.offset.z) ++ codes ")")))))
+
+-- ---- words
+-- the word with this number, from 0
+abbrev pub word_at : List (List ℕ) → ℕ → List ℕ
+word_at words number = get_or words number []
+
+-- `WORD: WHY`
+abbrev pub word_text : List ℕ → List ℕ → List ℕ
+word_text word why = word ++ (codes ": " ++ (why ++ codes "; see ember-mesh help"))
+
+-- why words are refused; word 0 is the name of the command
+abbrev pub refusal_text : List (List ℕ) → Refusal → List ℕ
+refusal_text words refusal.NoCommand = codes "no command; see ember-mesh help"
+refusal_text words refusal.UnknownCommand = word_text (word_at words 0) (codes "no such command")
+refusal_text words (refusal.UnknownOption i) = word_text (word_at words i) (codes "unknown option")
+refusal_text words refusal.NoValue = word_text (word_at words (length words - 1)) (codes "needs a value")
+refusal_text words refusal.NoFiles = codes "no files; see ember-mesh help"
+refusal_text words refusal.TooManyFiles = codes "more than 64 files; see ember-mesh help"
+refusal_text words refusal.NoExpression = word_text (codes "--expr") (codes "is missing")
+refusal_text words refusal.NeedlessExpression = word_text (codes "--expr") (codes "is for bool alone")
+refusal_text words refusal.NoOutput = word_text (codes "-o") (codes "is missing")
+refusal_text words refusal.OutputEnding = codes "-o: the name must end in .stl, .obj, .ply or .off"
+refusal_text words refusal.NotAStep = codes "--step: not a number above 0"
+refusal_text words refusal.Workers = word_text (codes "--workers") (codes "not a number from 1 to 64")
+refusal_text words refusal.Digits = word_text (codes "--digits") (codes "not a number from 0 to 17")
+
+-- ---- expressions
+-- a fault at a place of the expression
+abbrev pub place_text : List ℕ → ℕ → List ℕ
+place_text fault place = codes "expression: " ++ (fault ++ (codes " at " ++ decimal place))
+
+-- the first fault of an expression
+abbrev pub expr_text : ExprFault → List ℕ
+expr_text (expr.Syntax place) = place_text (codes "syntax") place
+expr_text (expr.Deep place) = place_text (codes "deep") place
+expr_text (expr.Number place) = place_text (codes "number") place
+expr_text (expr.NoMesh n) = codes "expression: no mesh " ++ decimal n
+expr_text expr.Long = codes "expression: long"
+expr_text expr.OutOfMemory = codes "out of memory"
+
+-- ---- files
+-- `FILE: TEXT` of file i
+abbrev pub file_text : List (List ℕ) → ℕ → List ℕ → List ℕ
+file_text names i text = name_of names i ++ (codes ": " ++ text)
+
+-- what the number of a triangle's place counts in a file of this format
+abbrev pub noun_of : Format → List ℕ
+noun_of formats.BinaryStl = codes "facet"
+noun_of formats.Ply = codes "face"
+noun_of formats.AsciiStl = codes "line"
+noun_of formats.Off = codes "line"
+noun_of formats.CutOffStl = codes "line"
+noun_of formats.Obj = codes "line"
+
+-- how many edges are loose, the first of them, and where
+abbrev pub open_text : Open → Format → List ℕ
+open_text o format =
+    codes "not closed: " ++ (decimal o.edges ++
+    (codes " loose edges, the first from " ++ (corner_text o.grid o.loose.from ++
+    (codes " to " ++ (corner_text o.grid o.loose.to ++
+    (codes ", in " ++ (noun_of format ++
+    (codes " " ++ (decimal o.place ++ codes "; close the hole in the modeller")))))))))
+
+-- ---- the solid
+-- the plane of the result that has no triangles
+abbrev pub plane_without : SolidFault → Option ℕ
+plane_without (solid.NotCut (mesh.NoTriangles plane)) = Some plane
+plane_without fault = None
+
+-- what has no triangles: one plane, or none is known
+abbrev pub not_found_text : Option ℕ → List ℕ
+not_found_text (Some plane) = codes "triangles of plane " ++ (decimal plane ++ codes " not found")
+not_found_text None = codes "triangles of the result not found"
+
+abbrev pub solid_text : SolidFault → List ℕ
+solid_text fault = not_found_text (plane_without fault)
+
+-- ---- all of them
+-- why a request isn't met
+abbrev pub why_of : Request → Status → List ℕ
+why_of request Done = []
+why_of request (Words why) = []
+why_of request UnwrittenFormat = codes "-o " ++ (request.output ++ codes ": only .stl is written so far")
+why_of request StepOfNoGrid =
+    codes "--step " ++ (wanted_text request.step ++
+    codes ": no grid has this step; give at most 12 digits and 12 decimal places")
+why_of request (ReadFault i) = file_text request.files i (codes "cannot be read")
+why_of request WriteFault = codes "cannot write " ++ request.output
+why_of request (FileRefused i reason) = file_text request.files i (string_bytes reason)
+why_of request NoTriangles = codes "no triangles in the files; are they meshes?"
+why_of request (NotClosed o format) = file_text request.files (o.file + 1) (open_text o format)
+why_of request (ExprRefused fault) = expr_text fault
+why_of request Unbounded = codes "expression holds outside all meshes"
+why_of request (LongFile i) = file_text request.files i (codes "more than 268435456 bytes; simplify the mesh")
+why_of request (TooManyTriangles count) =
+    decimal count ++ codes " triangles after snapping, more than 262144; simplify the meshes"
+why_of request TooManyWritten = codes "more than 4294967295 triangles, too many for STL; simplify the meshes"
+why_of request (StepTooSmall finest) =
+    codes "--step " ++ (wanted_text request.step ++
+    (codes ": the scene needs a step of at least " ++ step_text finest))
+why_of request TooFar = codes "a corner of the result is too far from 0 for STL; move the meshes to the origin"
+why_of request OutOfMemory = codes "out of memory"
+why_of request (Uncertified fault) = solid_text fault
+
+-- the numbers in the status can be shown
+abbrev pub IsShown : Status → Type 0
+IsShown (NotClosed o format) = (o.file < 64) × IsStep o.grid.step
+IsShown (StepTooSmall finest) = 0 < finest.denominator
+IsShown status = ⊤

@@ -1,0 +1,77 @@
+// The output of a Boolean.
+ghost use Rattle.std.specs.Prelude.{◌≡◌, ◌≤◌, ℕ, List, length, All, IfOk, IfErr};
+ghost use Rattle.std.specs.declared.option.Option.{Option};
+ghost use Rattle.ember_expr.specs.Formula.{formula_of};
+ghost use Rattle.ember_grid.specs.Grids.{IsChoice};
+ghost use Rattle.ember_mesh_words.specs.Commands.{IsWithinLimits};
+ghost use Rattle.ember_query.specs.Queries.{IsExecutor};
+ghost use Rattle.ember_mesh_run.specs.Calls.{shelf_call};
+ghost use Rattle.ember_mesh_run.specs.Causes.{IsFilesCause, IsStop};
+ghost use Rattle.ember_mesh_run.specs.Files.{AreContents};
+ghost use Rattle.ember_mesh_run.specs.Outputs.{IsFilesOutput, IsOutputFor};
+
+use crate::asked::{Asked, asked_by};
+use crate::reading::{mesh_files, read_contents};
+use crate::refusals::status_of;
+use crate::status::Status;
+use ember_boolean::{Output, stl_of};
+use ember_io::Shelf;
+use ember_mesh_words::Request;
+use ember_model::OutOfMemory;
+use ember_query::{Answer, Query};
+use ember_words::Text;
+use std::alloc::Global;
+
+// The output for files with these names and bytes.
+fn output_of_contents<C: Fn(&Query) -> Result<Answer, OutOfMemory>>(
+    alloc: Global,
+    names: &[Text],
+    contents: &[Vec<u8>],
+    asked: &Asked,
+    executor: &C,
+) -> Result<Output, Status>
+    requires few { length names.now ≤ 64 }
+    requires one_each { length contents.now ≡ length names.now }
+    requires small { All (λ bytes. length bytes.items ≤ 268435456) contents.now }
+    requires choice { IsChoice asked.now.wanted }
+    requires executor { IsExecutor C.pre C.post executor.now }
+    ensures output { IfOk result (λ output. (told : List ℕ → Option (List ℕ)) →
+        AreContents told names.now contents.now →
+        IsFilesOutput told names.now (formula_of asked.now.expr) asked.now.wanted output) }
+    ensures cause { IfErr result (λ status. (told : List ℕ → Option (List ℕ)) →
+        AreContents told names.now contents.now →
+        IsFilesCause told names.now (formula_of asked.now.expr) asked.now.wanted status) }
+{
+    let files = mesh_files(alloc, names, contents)?;
+    match stl_of(alloc, &files, &asked.expr, asked.wanted, executor) {
+        Ok(output) => Ok(output),
+        Err(fault) => Err(status_of(alloc, &files, fault)),
+    }
+}
+
+/// The output that a request asks for. The error is the status with which the call ends instead. No
+/// file is opened if the words or the expression are refused.
+pub fn solid_output<S: Shelf, C: Fn(&Query) -> Result<Answer, OutOfMemory>>(
+    alloc: Global,
+    request: &Request,
+    shelf: &mut S,
+    executor: &C,
+) -> Result<Output, Status>
+    requires limits { IsWithinLimits request.now }
+    requires executor { IsExecutor C.pre C.post executor.now }
+    ensures same { S.contents shelf.new ≡ S.contents shelf.old }
+    ensures later { S.faults shelf.old ≤ S.faults shelf.new }
+    ensures output { IfOk result (IsOutputFor request.now (S.contents shelf.old)) }
+    ensures stop { IfErr result
+        (IsStop request.now (shelf_call S.contents S.faults S.fault_at shelf.old shelf.new)) }
+{
+    let asked = match asked_by(alloc, request) {
+        Ok(asked) => asked,
+        Err(status) => return Err(status),
+    };
+    let names = request.files.items();
+    match read_contents(alloc, shelf, names) {
+        Ok(contents) => output_of_contents(alloc, names, &contents, &asked, executor),
+        Err(status) => Err(status),
+    }
+}

@@ -1,0 +1,114 @@
+// Pieces of lines.
+ghost use Rattle.std.specs.Prelude.{◌≡◌, ◌++◌, ◌<◌, decimal, IfOk, OnOk};
+ghost use Rattle.std.specs.Fmt.{signed_decimal};
+ghost use Rattle.ember_snap.specs.Steps.{IsStep};
+ghost use Rattle.ember_written.specs.Places.{place_of};
+ghost use Rattle.ember_mesh_run.specs.Lines.{corner_text, line, name_of, shown, step_text, wanted_text};
+
+use ember_certificate::SpacePoint;
+use ember_grid::Grid;
+use ember_mesh_words::WantedStep;
+use ember_model::{Axis, Corner, OutOfMemory};
+use ember_round::put_decimal;
+use ember_snap::Step;
+use ember_wide::Wide;
+use ember_words::Texts;
+use ember_written::{PlaceFault, put_place};
+use itoa::Buffer;
+use std::alloc::{AllocError, Global};
+
+// Numbers of the user's unit are shown with at most this many places.
+const PLACES: u32 = 12;
+
+/// The name of file `number`, from 1. As in the definition, 0 counts as 1, and a number past the
+/// last file gives an empty name.
+pub fn name_among(files: &Texts, number: u32) -> &[u8]
+    ensures { result.now ≡ name_of files.now number }
+{
+    match files.items().get((number as usize).saturating_sub(1)) {
+        Some(name) => name.as_str().as_bytes(),
+        None => &[],
+    }
+}
+
+/// The value of `--step`.
+pub fn wanted_text(step: &WantedStep) -> &[u8]
+    ensures { result.now ≡ wanted_text step.now }
+{
+    match step {
+        WantedStep::Nice => b"nice",
+        WantedStep::Finest => b"finest",
+        WantedStep::Decimal(text) => text.as_str().as_bytes(),
+    }
+}
+
+/// A line of the program with this text.
+pub fn line(alloc: Global, why: &[u8]) -> Result<Vec<u8>, OutOfMemory>
+    ensures { IfOk result (λ text. text.items ≡ line why.now) }
+{
+    let mut text = Vec::from_slice(alloc, b"ember-mesh: ")?;
+    text.extend_from_slice(why)?;
+    text.extend_from_slice(b"\n")?;
+    Ok(text)
+}
+
+pub fn put_count(count: u64, text: &mut Vec<u8>) -> Result<(), OutOfMemory>
+    ensures { OnOk result (text.new.items ≡ text.old.items ++ decimal count) }
+{
+    let mut buffer = Buffer::new();
+    text.extend_from_slice(buffer.format(count).as_bytes())
+}
+
+pub fn put_signed(number: i128, text: &mut Vec<u8>) -> Result<(), OutOfMemory>
+    ensures { OnOk result (text.new.items ≡ text.old.items ++ signed_decimal number) }
+{
+    let mut buffer = Buffer::new();
+    text.extend_from_slice(buffer.format(number).as_bytes())
+}
+
+/// Appends a step in the user's unit.
+pub fn put_step(step: &Step, text: &mut Vec<u8>) -> Result<(), OutOfMemory>
+    requires { 0 < step.now.denominator }
+    ensures { OnOk result (text.new.items ≡ text.old.items ++ step_text step.now) }
+{
+    let numerator = Wide::product(i128::from(step.numerator), 1);
+    put_decimal(&numerator, u128::from(step.denominator), PLACES, text)
+}
+
+// Appends where a point lies along an axis, in the user's unit.
+fn put_shown(
+    point: &SpacePoint,
+    axis: Axis,
+    grid: &Grid,
+    text: &mut Vec<u8>,
+) -> Result<(), OutOfMemory>
+    requires { IsStep grid.now.step }
+    ensures { OnOk result (text.new.items ≡
+        text.old.items ++ shown (place_of grid.now.step grid.now.offset axis point.now)) }
+{
+    match put_place(point, axis, &grid.step, &grid.offset, PLACES, text) {
+        Ok(()) => Ok(()),
+        Err(PlaceFault::TooFar) => text.extend_from_slice(b"?"),
+        Err(PlaceFault::OutOfMemory) => Err(AllocError),
+    }
+}
+
+/// Appends a corner of the grid in the user's unit.
+pub fn put_corner(corner: &Corner, grid: &Grid, text: &mut Vec<u8>) -> Result<(), OutOfMemory>
+    requires { IsStep grid.now.step }
+    ensures { OnOk result (text.new.items ≡ text.old.items ++ corner_text grid.now corner.now) }
+{
+    let point = SpacePoint {
+        x: i128::from(corner.x),
+        y: i128::from(corner.y),
+        z: i128::from(corner.z),
+        w: 1,
+    };
+    text.extend_from_slice(b"(")?;
+    put_shown(&point, Axis::X, grid, text)?;
+    text.extend_from_slice(b" ")?;
+    put_shown(&point, Axis::Y, grid, text)?;
+    text.extend_from_slice(b" ")?;
+    put_shown(&point, Axis::Z, grid, text)?;
+    text.extend_from_slice(b")")
+}

@@ -1,0 +1,156 @@
+// The top call. `run_mesh` and `run_mesh_one` make the *executor*: the closure that runs the boxes of a
+// query (query.rt of ember_query).
+ghost use Rattle.std.specs.Prelude.{◌≡◌, ◌≤◌, ℕ, List, false, None, IfOk, map, string_bytes};
+ghost use Rattle.ember_query.specs.Queries.{IsAnswer, IsExecutorOfAny, IsQuery};
+ghost use Rattle.ember_mesh_run.specs.Calls.{TakesUntilFault, shelf_call, sink_call, target_call};
+ghost use Rattle.ember_mesh_run.specs.Causes.{hides_memory};
+ghost use Rattle.ember_mesh_run.specs.Serves.{IsWordsOutcome, MeshServes};
+
+use crate::lines::refusal_line;
+use crate::messages::{USAGE, VERSION};
+use crate::status::Status;
+use crate::writing::{say, say_out_of_memory, serve, write_message};
+use ember_io::{Shelf, Sink};
+use ember_mesh_words::{Command, Refusal, WordsFault, read_words};
+use ember_model::OutOfMemory;
+use ember_query::{Answer, Query, answer_alone, answer_by_workers};
+use ember_target::Target;
+use std::alloc::Global;
+use std::sync::Wait;
+use std::thread::Threads;
+use steal_pool::Gate;
+
+// Writes the line of refused words to err.
+fn refuse_words<E: Sink>(alloc: Global, words: &[String], why: Refusal, err: &mut E) -> Status
+    ensures outcome { (text : List ℕ) × IsWordsOutcome (map string_bytes words.now) why result text ×
+        TakesUntilFault (sink_call E.taken E.flushed E.faults err.old err.new) text }
+    ensures memory { hides_memory result ≡ false }
+{
+    match refusal_line(alloc, words, why) {
+        Ok(line) => {
+            say(err, &line);
+            Status::Words(why)
+        }
+        Err(_) => {
+            say_out_of_memory(err);
+            Status::OutOfMemory
+        }
+    }
+}
+
+// Does what the words ask for, by an executor with the workers that they ask for.
+//
+// The closure here fixes the number of workers. In its clauses, `x.entry` is `x` as the closure was
+// given it, and `.now` is what a reference points to.
+fn run_by<S: Shelf, T: Target, O: Sink, E: Sink, C: Fn(u32, &Query) -> Result<Answer, OutOfMemory>>(
+    alloc: Global,
+    words: &[String],
+    shelf: &mut S,
+    target: &mut T,
+    out: &mut O,
+    err: &mut E,
+    executor: &C,
+) -> Status
+    requires begun { T.begun target.old ≡ None }
+    requires executor { IsExecutorOfAny C.pre C.post executor.now }
+    ensures { MeshServes (map string_bytes words.now)
+        (shelf_call S.contents S.faults S.fault_at shelf.old shelf.new)
+        (target_call T.held T.begun T.faults target.old target.new)
+        (sink_call O.taken O.flushed O.faults out.old out.new)
+        (sink_call E.taken E.flushed E.faults err.old err.new)
+        result }
+{
+    match read_words(alloc, words) {
+        Ok(Command::Boole(request)) => {
+            let workers = request.workers;
+            serve(
+                alloc,
+                &request,
+                shelf,
+                target,
+                err,
+                &|query: &Query| -> Result<Answer, OutOfMemory>
+                    requires { C.pre executor.now workers query }
+                    ensures { C.post executor.entry.now workers query.entry result }
+                { executor(workers, query) },
+            )
+        }
+        Ok(Command::Help) => write_message(out, err, USAGE),
+        Ok(Command::Version) => write_message(out, err, VERSION),
+        Err(WordsFault::Refused(why)) => refuse_words(alloc, words, why, err),
+        Err(WordsFault::OutOfMemory) => {
+            say_out_of_memory(err);
+            Status::OutOfMemory
+        }
+    }
+}
+
+/// Does what the words ask for, with one worker whatever they say. It waits for nobody, and accepts
+/// all words that `run_mesh` accepts. Only tests call this.
+pub fn run_mesh_one<S: Shelf, T: Target, O: Sink, E: Sink, G: Gate>(
+    alloc: Global,
+    words: &[String],
+    shelf: &mut S,
+    target: &mut T,
+    out: &mut O,
+    err: &mut E,
+    gate: &G,
+) -> Status
+    requires { T.begun target.old ≡ None }
+    ensures { MeshServes (map string_bytes words.now)
+        (shelf_call S.contents S.faults S.fault_at shelf.old shelf.new)
+        (target_call T.held T.begun T.faults target.old target.new)
+        (sink_call O.taken O.flushed O.faults out.old out.new)
+        (sink_call E.taken E.flushed E.faults err.old err.new)
+        result }
+{
+    run_by(
+        alloc,
+        words,
+        shelf,
+        target,
+        out,
+        err,
+        &|_workers: u32, query: &Query| -> Result<Answer, OutOfMemory>
+            requires { IsQuery query.now }
+            ensures { IfOk result (IsAnswer query.entry.now) }
+        { answer_alone(alloc, gate, query) },
+    )
+}
+
+/// Does what the words ask for, with as many workers as they say. The files that they name are read
+/// from the shelf, and the file of the result is written to the target, whole or not at all. `help`
+/// and the version go to `out`; the report, or the line of the status, goes to `err`. The solid
+/// doesn't depend on the number of workers. With one worker, the calling thread does everything.
+pub fn run_mesh<R: Threads + Wait + Sync, S: Shelf, T: Target, O: Sink, E: Sink, G: Gate + Sync>(
+    rt: &R,
+    alloc: Global,
+    words: &[String],
+    shelf: &mut S,
+    target: &mut T,
+    out: &mut O,
+    err: &mut E,
+    gate: &G,
+) -> Status
+    requires { T.begun target.old ≡ None }
+    ensures { MeshServes (map string_bytes words.now)
+        (shelf_call S.contents S.faults S.fault_at shelf.old shelf.new)
+        (target_call T.held T.begun T.faults target.old target.new)
+        (sink_call O.taken O.flushed O.faults out.old out.new)
+        (sink_call E.taken E.flushed E.faults err.old err.new)
+        result }
+{
+    run_by(
+        alloc,
+        words,
+        shelf,
+        target,
+        out,
+        err,
+        &|workers: u32, query: &Query| -> Result<Answer, OutOfMemory>
+            requires workers { (1 ≤ workers) × (workers ≤ 64) }
+            requires query { IsQuery query.now }
+            ensures { IfOk result (IsAnswer query.entry.now) }
+        { answer_by_workers(rt, alloc, workers, gate, query) },
+    )
+}

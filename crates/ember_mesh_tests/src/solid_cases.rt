@@ -1,0 +1,137 @@
+// Solids that are written.
+use crate::boxes::{
+    HIGH, INSIDE_OUT, LOW, LOW_FLOATS, NESTED, RIGHT, SPIKE, ascii_stl, binary_stl,
+};
+use crate::cases::{Named, give};
+use crate::solids::{Solid, solid_in};
+use std::alloc::Global;
+use std::process::Abort;
+use std::sync::Wait;
+use std::test::Fail;
+use std::thread::Threads;
+
+// The first lines of the report, and what the file of the output holds.
+fn check<R: Abort + Threads + Wait + Sync>(
+    rt: &R,
+    alloc: Global,
+    line: &str,
+    files: Named,
+    report: &[u8],
+    solid: Solid,
+) -> Result<(), Fail> {
+    let given = give(rt, alloc, line, files)?;
+    assert_eq!(rt; given.status.number(), 0, "{line}");
+    assert_eq!(rt; given.out.bytes().len(), 0);
+    assert!(rt; given.err.bytes().starts_with(report), "{line}");
+    assert!(rt;
+        given.err.bytes().ends_with(b" planes; 0 vanished\n"),
+        "{line}"
+    );
+    assert_eq!(rt; solid_in(alloc, given.bytes())?, solid, "{line}");
+    Ok(())
+}
+
+#[test]
+fn a_cube_without_another(rt: HostRuntime) -> Result<(), Fail> {
+    let alloc = rt.alloc();
+    let low = binary_stl(alloc, LOW_FLOATS)?;
+    let high = ascii_stl(alloc, ["5.000000000e+00", "1.500000000e+01"])?;
+    let report = b"ember-mesh: step 0.005, grid offset 1500 1500 1500\n\
+        ember-mesh: a.b.stl: 12 triangles, 0 vanished, 0 without area; closed\n\
+        ember-mesh: b.a.stl: 12 triangles, 0 vanished, 0 without area; closed\n";
+    let solid = Solid {
+        triangles: 24,
+        positions: 14,
+        six_volumes: 6 * 875,
+    };
+    let words = "difference -o out.stl a.b.stl b.a.stl";
+    check(
+        &rt,
+        alloc,
+        words,
+        &[("a.b.stl", low.as_slice()), ("b.a.stl", high.as_slice())],
+        report,
+        solid,
+    )?;
+    let words = "difference -o out.stl a.obj b.obj";
+    check(
+        &rt,
+        alloc,
+        words,
+        &[("a.obj", LOW), ("b.obj", HIGH)],
+        b"ember-mesh: step 0.005",
+        solid,
+    )
+}
+
+#[test]
+fn where_a_mesh_winds_twice(rt: HostRuntime) -> Result<(), Fail> {
+    let solid = Solid {
+        triangles: 12,
+        positions: 8,
+        six_volumes: 6 * 216,
+    };
+    let words = "bool --expr w1>=2 -o out.stl a.obj";
+    let report = b"ember-mesh: step 0.005, grid offset 1400 1400 1400\n\
+        ember-mesh: a.obj: 24 triangles, 0 vanished, 0 without area; closed\n";
+    check(&rt, rt.alloc(), words, &[("a.obj", NESTED)], report, solid)
+}
+
+#[test]
+fn a_cube_that_is_inside_out(rt: HostRuntime) -> Result<(), Fail> {
+    let solid = Solid {
+        triangles: 12,
+        positions: 8,
+        six_volumes: 6 * 600,
+    };
+    let words = "bool --expr w1=-1&!m2 -o out.stl a.obj b.obj";
+    let files: Named = &[("a.obj", INSIDE_OUT), ("b.obj", RIGHT)];
+    check(
+        &rt,
+        rt.alloc(),
+        words,
+        files,
+        b"ember-mesh: step 0.005",
+        solid,
+    )
+}
+
+#[test]
+fn a_spike_that_vanishes_on_a_coarse_grid(rt: HostRuntime) -> Result<(), Fail> {
+    let solid = Solid {
+        triangles: 12,
+        positions: 8,
+        six_volumes: 6 * 1000,
+    };
+    let words = "union --step 1 -o out.stl a.obj";
+    let report = b"ember-mesh: step 1, grid offset 0 0 0\n\
+        ember-mesh: a.obj: 22 triangles, 8 vanished, 0 without area; closed\n";
+    check(&rt, rt.alloc(), words, &[("a.obj", SPIKE)], report, solid)
+}
+
+#[test]
+fn a_mesh_without_itself_is_empty(rt: HostRuntime) -> Result<(), Fail> {
+    let alloc = rt.alloc();
+    let solid = Solid {
+        triangles: 0,
+        positions: 0,
+        six_volumes: 0,
+    };
+    let words = "difference -o out.stl a.obj a.obj";
+    let report = b"ember-mesh: step 0.005, grid offset 0 0 0\n\
+        ember-mesh: a.obj: 12 triangles, 0 vanished, 0 without area; closed\n\
+        ember-mesh: a.obj: 12 triangles, 0 vanished, 0 without area; closed\n\
+        ember-mesh: the result is empty\n\
+        ember-mesh: 0 faces -> 0 triangles in 0 planes; 0 vanished\n";
+    check(&rt, alloc, words, &[("a.obj", LOW)], report, solid)
+}
+
+#[test]
+fn no_report_is_made_if_none_is_wanted(rt: HostRuntime) -> Result<(), Fail> {
+    let words = "union --quiet --workers 2 -o out.stl a.obj";
+    let given = give(&rt, rt.alloc(), words, &[("a.obj", LOW)])?;
+    assert_eq!(rt; given.status.number(), 0);
+    assert_eq!(rt; given.err.bytes().len(), 0);
+    assert_eq!(rt; given.bytes().len(), 84 + 12 * 50);
+    Ok(())
+}

@@ -1,0 +1,22 @@
+use Rattle.ember_query.proofs.Findings.{counts_found, fills_found, fills_root, texts_found, pairs_found}
+use Rattle.ember_query.proofs.executor.answer_by_workers.Goals as goal
+
+pub results_by_workers-requires-in-Fills-clause-root : goal.results_by_workers-requires-in-Fills-clause-root
+results_by_workers-requires-in-Fills-clause-root g c κs within =
+    fills_root _ _ _ _ _ c.requires.query c.in-Fills.is c.in_ok-root-in-Fills.ensures.value
+
+pub returns-in_ok-results_by_workers-in-Pairs : goal.returns-in_ok-results_by_workers-in-Pairs
+returns-in_ok-results_by_workers-in-Pairs g c =
+    pairs_found _ _ _ _ c.in-Pairs.is c.in_ok-root-in-Pairs.ensures.value c.in_ok-results_by_workers-in-Pairs.ensures.items
+
+pub returns-in_ok-results_by_workers-in-Fills : goal.returns-in_ok-results_by_workers-in-Fills
+returns-in_ok-results_by_workers-in-Fills g c =
+    fills_found _ _ _ _ _ _ c.in-Fills.is c.in_ok-root-in-Fills.ensures.value c.in_ok-results_by_workers-in-Fills.ensures.items
+
+pub returns-in_ok-results_by_workers-in-Texts : goal.returns-in_ok-results_by_workers-in-Texts
+returns-in_ok-results_by_workers-in-Texts g c =
+    texts_found _ _ _ _ _ c.in-Texts.is c.in_ok-root-in-Texts.ensures.value c.in_ok-results_by_workers-in-Texts.ensures.items c.in_ok-results_by_workers-in-Texts.ensures.journals
+
+pub returns-in_ok-results_by_workers-in-Counts : goal.returns-in_ok-results_by_workers-in-Counts
+returns-in_ok-results_by_workers-in-Counts g c =
+    counts_found _ _ _ _ _ c.in-Counts.is c.in_ok-root-in-Counts.ensures.value c.in_ok-results_by_workers-in-Counts.ensures.items c.in_ok-results_by_workers-in-Counts.ensures.journals

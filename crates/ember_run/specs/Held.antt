@@ -1,0 +1,18 @@
+-- Contents that files may have, as far as a shelf tells them
+use Rattle.std.specs.Prelude.{ℕ, List, map, Some}
+use Rattle.std.specs.declared.option.Option.{Option}
+use Rattle.std.specs.List.{AllZip}
+use Rattle.ember_io.specs.Shelves.{Tells}
+use Rattle.ember_run.specs.Verdict.{Contents}
+
+-- P holds of contents that a file may have of which the shelf tells this: those that are told, or any
+abbrev pub MayHoldOne : Option (List ℕ) → (Option (List ℕ) → Type 0) → Type 0
+MayHoldOne told P = (bytes : List ℕ) × Tells told bytes × P (Some bytes)
+
+-- these are contents of the files with these names, in order; what the shelf tells of a file is what it has here
+abbrev pub AreContentsOf : (List ℕ → Option (List ℕ)) → List (List ℕ) → List (List ℕ) → Type 0
+AreContentsOf told names contents = AllZip (λ name bytes. Tells (told name) bytes) names contents
+
+-- P holds of contents that the files with these names may have
+abbrev pub MayHold : (List ℕ → Option (List ℕ)) → List (List ℕ) → (Contents → Type 0) → Type 0
+MayHold told names P = (contents : List (List ℕ)) × AreContentsOf told names contents × P (map Some contents)

@@ -1,0 +1,60 @@
+-- Why a command has no reply
+use Rattle.std.specs.Prelude.{◌≡◌, ◌≢◌, ◌≤◌, ⊤, ℕ, ◌-◌, true, false, List, ◌++◌, length, map, take, drop, None, Some}
+use Rattle.ember_model.specs.declared.tri.Tri.{Tri}
+use Rattle.ember_run.specs.Statuses.{IsRefusal, hides_memory, is_before_files, is_refusal, refused_file}
+use Rattle.ember_run.specs.Devices.{ShelfCall, HasShelfFailed}
+use Rattle.ember_run.specs.Held.{MayHold}
+use Rattle.ember_run.specs.Verdict.{Contents, Verdict, Unknown, Refused, after_scene, first_told}
+use Rattle.ember_run.specs.declared.status.Status.{Status}
+use Rattle.ember_run.specs.declared.status.Status.TheVariants.{Done, Words, ReadFault, WriteFault, ExprRefused, Unbounded, OutOfMemory}
+
+-- the contents of the first n files, and others after them
+abbrev pub with_others : ℕ → Contents → Contents → Contents
+with_others n contents others = take n contents ++ drop n others
+
+-- file i, from 1, is one of the files with these names
+pub record IsFileIn (names : List (List ℕ)) (i : ℕ) : Type 0 where
+  pub first : 1 ≤ i
+  pub last : i ≤ length names
+
+-- why a command over files with these names has no reply; `verdict` is what it asks for, over any contents of them
+pub record IsNoReply (verdict : Contents → Verdict) (names : List (List ℕ)) (shelf : ShelfCall)
+    (status : Status) : Type 0 where
+  -- a refusal is that of the verdict
+  pub refused : is_refusal status ≡ true → IsRefusal status (verdict (map shelf.told names))
+  -- it is that of contents that the files may have
+  pub held : is_refusal status ≡ true → MayHold shelf.told names (λ contents. IsRefusal status (verdict contents))
+  -- a refusal of the words or of the expression doesn't depend on any file
+  pub before_files : is_before_files status ≡ true → verdict (first_told 0 (map shelf.told names)) ≡ Refused status
+  -- a refusal of file i doesn't depend on the contents of the files after it
+  pub in_file : (i : ℕ) → refused_file status ≡ Some i → (others : Contents) → length others ≡ length names →
+      IsRefusal status (verdict (with_others i (map shelf.told names) others))
+  pub one_of : (i : ℕ) → refused_file status ≡ Some i → IsFileIn names i
+  -- if file i can't be read, nothing before it is refused
+  pub read_fault : (i : ℕ) → status ≡ ReadFault i → HasShelfFailed shelf × (shelf.fault_at ≡ i) ×
+      (verdict (first_told (i - 1) (map shelf.told names)) ≡ Unknown) × IsFileIn names i
+  pub memory : hides_memory status ≡ false
+  pub never : (status ≢ Done) × (status ≢ Words) × (status ≢ WriteFault)
+
+-- why files give no scene, whatever is asked of it
+abbrev pub IsNoScene : ℕ → List (List ℕ) → ShelfCall → Status → Type 0
+IsNoScene places names shelf status =
+    (next : List Tri → Verdict) → IsNoReply (λ contents. after_scene places contents next) names shelf status
+
+-- the refusals of an expression, and out-of-memory
+abbrev pub IsOfWords : Status → Type 0
+IsOfWords (ExprRefused fault) = hides_memory (ExprRefused fault) ≡ false
+IsOfWords Unbounded = ⊤
+IsOfWords OutOfMemory = ⊤
+IsOfWords _ = ⊥
+
+-- why words with this verdict have no reply
+pub record IsNoReplyToWords (verdict : Verdict) (status : Status) : Type 0 where
+  pub refused : is_refusal status ≡ true → verdict ≡ Refused status
+  pub of_words : IsOfWords status
+
+-- a status that isn't about the words or the expression, nor about one file
+pub record IsAfterFiles (status : Status) : Type 0 where
+  pub not_before : is_before_files status ≡ false
+  pub no_file : refused_file status ≡ None
+  pub memory : hides_memory status ≡ false

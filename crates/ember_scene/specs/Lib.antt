@@ -1,0 +1,3 @@
+pub mod LooseEdges
+pub mod Images
+pub mod Faults

@@ -1,0 +1,281 @@
+// The solids of mesh files as STL files: by the calling thread alone, and by two workers.
+ghost use Rattle.std.specs.Prelude.{IfOk, IsTrue, All};
+ghost use Rattle.ember_boolean.specs.Files.{IsSmall};
+ghost use Rattle.ember_grid.specs.Grids.{IsChoice};
+ghost use Rattle.ember_query.specs.Queries.{IsAnswer, IsExecutor, IsQuery};
+
+use crate::grids::{THOUSANDTH, grid_with};
+use crate::scenes::expression;
+use crate::texts::{CUBE, FRACTIONS, LARGER, OPEN, SHIFTED_CUBE};
+use ember_balance::Loose;
+use ember_boolean::{BooleanFault, MeshFile, Output, stl_of};
+use ember_file::FileFault;
+use ember_grid::Wanted;
+use ember_model::{Corner, OutOfMemory};
+use ember_query::{Answer, Query, answer_alone, answer_by_workers};
+use ember_scene::{Counts, Open, SceneFault};
+use ember_snap::Step;
+use ember_stl_bytes::{FloatPoint, WrittenTriangle, stl_bytes};
+use std::alloc::{AllocError, Global};
+use std::process::Abort;
+use std::sync::Wait;
+use std::test::Fail;
+use std::thread::Threads;
+use steal_pool::OpenGate;
+
+// The bits of the binary32 of 4.
+const FOUR: u32 = 0x4080_0000;
+
+fn point([x, y, z]: [u32; 3]) -> FloatPoint {
+    FloatPoint { x, y, z }
+}
+
+// Adds the two triangles of a square. The normal of a file isn't read.
+fn push_square(
+    triangles: &mut Vec<WrittenTriangle>,
+    [a, b, c, d]: [[u32; 3]; 4],
+) -> Result<(), AllocError> {
+    let normal = point([0, 0, 0]);
+    let (a, b, c, d) = (point(a), point(b), point(c), point(d));
+    triangles.push(WrittenTriangle { normal, a, b, c })?;
+    triangles.push(WrittenTriangle {
+        normal,
+        a,
+        b: c,
+        c: d,
+    })?;
+    Ok(())
+}
+
+// The binary STL of the cube from 0 to 4 on each axis.
+fn cube_stl(alloc: Global) -> Result<Vec<u8>, Fail> {
+    let [a, b, c, d] = [[0, 0, 0], [FOUR, 0, 0], [FOUR, FOUR, 0], [0, FOUR, 0]];
+    let [e, f, g, h] = [
+        [0, 0, FOUR],
+        [FOUR, 0, FOUR],
+        [FOUR, FOUR, FOUR],
+        [0, FOUR, FOUR],
+    ];
+    let mut triangles = Vec::new(alloc);
+    push_square(&mut triangles, [a, d, c, b])?;
+    push_square(&mut triangles, [e, f, g, h])?;
+    push_square(&mut triangles, [a, b, f, e])?;
+    push_square(&mut triangles, [b, c, g, f])?;
+    push_square(&mut triangles, [c, d, h, g])?;
+    push_square(&mut triangles, [d, a, e, h])?;
+    match stl_bytes(alloc, &triangles) {
+        Ok(bytes) => Ok(bytes),
+        Err(_) => Err(Fail::from("no STL")),
+    }
+}
+
+fn obj(bytes: &[u8]) -> MeshFile<'_> {
+    MeshFile {
+        name: b"mesh.obj",
+        bytes,
+    }
+}
+
+fn stl(bytes: &[u8]) -> MeshFile<'_> {
+    MeshFile {
+        name: b"mesh.stl",
+        bytes,
+    }
+}
+
+// At most 2^28 bytes.
+fn is_small(file: &MeshFile) -> bool
+    ensures { IsTrue result → IsSmall file.now }
+{
+    file.bytes.len() <= 268_435_456
+}
+
+fn are_small(files: &[MeshFile]) -> bool
+    ensures { IsTrue result → All IsSmall files.now }
+{
+    for file in files {
+        if !is_small(file) {
+            return false;
+        }
+    }
+    true
+}
+
+// The output for files, or why there is none.
+fn outcome_by<'a, C: Fn(&Query) -> Result<Answer, OutOfMemory>>(
+    alloc: Global,
+    files: &[MeshFile<'a>],
+    text: &[u8],
+    wanted: Wanted,
+    executor: &C,
+) -> Result<Result<Output, BooleanFault<'a>>, Fail>
+    requires choice { IsChoice wanted }
+    requires executor { IsExecutor C.pre C.post executor.now }
+{
+    if files.len() > 64 {
+        return Err(Fail::from("many files"));
+    }
+    if !are_small(files) {
+        return Err(Fail::from("long file"));
+    }
+    let expr = expression(alloc, text)?;
+    Ok(stl_of(alloc, files, &expr, wanted, executor))
+}
+
+// What the calling thread alone makes.
+fn outcome_alone<'a>(
+    alloc: Global,
+    files: &[MeshFile<'a>],
+    text: &[u8],
+    wanted: Wanted,
+) -> Result<Result<Output, BooleanFault<'a>>, Fail>
+    requires { IsChoice wanted }
+{
+    outcome_by(
+        alloc,
+        files,
+        text,
+        wanted,
+        &|query: &Query| -> Result<Answer, OutOfMemory>
+            requires { IsQuery query.now }
+            ensures { IfOk result (IsAnswer query.entry.now) }
+        { answer_alone(alloc, &OpenGate, query) },
+    )
+}
+
+// What two workers make.
+fn outcome_of_two<'a, R: Threads + Wait + Sync>(
+    rt: &R,
+    alloc: Global,
+    files: &[MeshFile<'a>],
+    text: &[u8],
+    wanted: Wanted,
+) -> Result<Result<Output, BooleanFault<'a>>, Fail>
+    requires { IsChoice wanted }
+{
+    outcome_by(
+        alloc,
+        files,
+        text,
+        wanted,
+        &|query: &Query| -> Result<Answer, OutOfMemory>
+            requires { IsQuery query.now }
+            ensures { IfOk result (IsAnswer query.entry.now) }
+        { answer_by_workers(rt, alloc, 2, &OpenGate, query) },
+    )
+}
+
+// A count of triangles, none of which vanishes or is flat on the grid.
+fn all_kept(triangles: u64) -> Counts {
+    Counts {
+        triangles,
+        vanished: 0,
+        flat: 0,
+    }
+}
+
+// The files have these counts. The mesh has nine planes and 24 triangles, which are all in the STL.
+fn check(rt: &impl Abort, output: &Output, counts: &[Counts]) {
+    assert_eq!(rt; output.counts.as_slice(), counts);
+    assert_eq!(rt; output.planes, 9);
+    assert_eq!(rt; output.triangles, 24);
+    assert_eq!(rt; output.vanished, 0);
+    assert_eq!(rt; output.bytes.len(), 84 + 24 * 50);
+}
+
+// A face of a cube that isn't cut has two triangles, one that is cut at a corner has four.
+#[test]
+fn the_difference_of_two_cubes_is_read_again(rt: HostRuntime) -> Result<(), Fail> {
+    let alloc = rt.alloc();
+    let cube = cube_stl(alloc)?;
+    let files = [stl(&cube), obj(SHIFTED_CUBE)];
+    let Ok(output) = outcome_alone(alloc, &files, b"m1&!m2", Wanted::Nice)? else {
+        return Err(Fail::from("refused"));
+    };
+    check(&rt, &output, &[all_kept(12), all_kept(12)]);
+    assert_eq!(rt; output.grid, grid_with(2, 1000, [1500, 1500, 1500]));
+    let Ok(by_two) = outcome_of_two(&rt, alloc, &files, b"m1&!m2", Wanted::Nice)? else {
+        return Err(Fail::from("refused by two workers"));
+    };
+    assert_eq!(rt; by_two.bytes, output.bytes);
+    assert_eq!(rt; by_two.report, output.report);
+    let again = [stl(&output.bytes)];
+    let Ok(again) = outcome_alone(alloc, &again, b"m1", Wanted::Nice)? else {
+        return Err(Fail::from("not read again"));
+    };
+    check(&rt, &again, &[all_kept(24)]);
+    Ok(())
+}
+
+// The fault of files.
+fn fault_of<'a>(
+    alloc: Global,
+    files: &[MeshFile<'a>],
+    wanted: Wanted,
+) -> Result<Option<BooleanFault<'a>>, Fail>
+    requires { IsChoice wanted }
+{
+    Ok(outcome_alone(alloc, files, b"m1", wanted)?.err())
+}
+
+#[test]
+fn the_first_file_that_is_not_read_is_reported(rt: HostRuntime) -> Result<(), Fail> {
+    let files = [obj(CUBE), stl(b"v 0 0 0\n"), stl(b"")];
+    assert_eq!(rt;
+        fault_of(rt.alloc(), &files, Wanted::Nice)?,
+        Some(BooleanFault::File(1, FileFault::CutOff(0)))
+    );
+    Ok(())
+}
+
+#[test]
+fn files_are_read_before_they_are_a_scene(rt: HostRuntime) -> Result<(), Fail> {
+    let open = Open {
+        file: 1,
+        grid: grid_with(1, 1000, [750, 1125, 1562]),
+        edges: 3,
+        loose: Loose {
+            from: Corner {
+                x: -750,
+                y: -1125,
+                z: 1563,
+            },
+            to: Corner {
+                x: -750,
+                y: 1125,
+                z: -1562,
+            },
+            there: 1,
+            back: 0,
+        },
+        place: 7,
+    };
+    let files = [obj(FRACTIONS), obj(OPEN)];
+    assert_eq!(rt;
+        fault_of(rt.alloc(), &files, Wanted::Nice)?,
+        Some(BooleanFault::Scene(SceneFault::Open(open)))
+    );
+    let files = [obj(FRACTIONS), obj(OPEN), stl(b"")];
+    assert_eq!(rt;
+        fault_of(rt.alloc(), &files, Wanted::Nice)?,
+        Some(BooleanFault::File(2, FileFault::CutOff(0)))
+    );
+    Ok(())
+}
+
+#[test]
+fn a_step_may_be_too_small_for_files(rt: HostRuntime) -> Result<(), Fail> {
+    let finest = Step {
+        numerator: 2199,
+        denominator: 1_000_000,
+    };
+    assert_eq!(rt;
+        fault_of(rt.alloc(), &[obj(LARGER)], Wanted::Given(THOUSANDTH))?,
+        Some(BooleanFault::Scene(SceneFault::StepTooSmall(finest)))
+    );
+    assert_eq!(rt;
+        fault_of(rt.alloc(), &[], Wanted::Nice)?,
+        Some(BooleanFault::Scene(SceneFault::NoTriangles))
+    );
+    Ok(())
+}

@@ -1,0 +1,62 @@
+// Files in a map, by their names.
+ghost use Rattle.std.specs.Prelude.{◌≡◌, Some, None, OnOk, OnErr, MatchOption};
+ghost use Rattle.std.specs.Io.KnownBytes.{append_known};
+ghost use Rattle.ember_target.specs.Memory.{held_by};
+ghost use Rattle.ember_target.specs.Targets.{value_at, HoldsSame, Puts};
+
+use ember_io::{Failed, OutOfMemory};
+use std::alloc::Global;
+use std::collections::BTreeMap;
+
+// The bytes that a name holds, or None if there is no file of that name.
+pub fn file_bytes<'a>(files: &'a BTreeMap<String, Vec<u8>>, name: &str) -> Option<&'a [u8]>
+    ensures { MatchOption result (value_at (held_by files.now) name.now ≡ None) (λ bytes.
+        value_at (held_by files.now) name.now ≡ Some bytes.now) }
+{
+    match files.get(name) {
+        Some(bytes) => Some(bytes.as_slice()),
+        None => None,
+    }
+}
+
+// A name holds these bytes then.
+pub fn put_file(
+    alloc: Global,
+    files: &mut BTreeMap<String, Vec<u8>>,
+    name: &str,
+    bytes: &[u8],
+) -> Result<(), OutOfMemory>
+    ensures put { OnOk result (Puts (held_by files.old) (held_by files.new) name.now (Some bytes.now)) }
+    ensures held { OnErr result (HoldsSame (held_by files.old) (held_by files.new)) }
+{
+    let name = String::from_str(alloc, name)?;
+    let bytes = Vec::from_slice(alloc, bytes)?;
+    files.insert(name, bytes)?;
+    Ok(())
+}
+
+// The file of this name takes these bytes at its end. It fails if there is none, or no memory.
+pub fn extend_file(
+    files: &mut BTreeMap<String, Vec<u8>>,
+    name: &str,
+    bytes: &[u8],
+) -> Result<(), Failed>
+    ensures bytes { OnOk result (Puts (held_by files.old) (held_by files.new) name.now
+        (append_known (value_at (held_by files.old) name.now) bytes.now)) }
+    ensures held { OnErr result (HoldsSame (held_by files.old) (held_by files.new)) }
+{
+    let Some(file) = files.get_mut(name) else {
+        return Err(Failed);
+    };
+    if file.extend_from_slice(bytes).is_err() {
+        return Err(Failed);
+    }
+    Ok(())
+}
+
+// No file has this name then.
+pub fn remove_file(files: &mut BTreeMap<String, Vec<u8>>, name: &str)
+    ensures { Puts (held_by files.old) (held_by files.new) name.now None }
+{
+    files.remove(name);
+}

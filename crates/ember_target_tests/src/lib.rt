@@ -1,0 +1,5 @@
+//! Tests of files that are written whole, by calls from outside.
+#![tactic(auto)]
+
+#[cfg(test)]
+mod whole_files;

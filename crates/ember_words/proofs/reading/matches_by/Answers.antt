@@ -1,7 +1,0 @@
-use Rattle.std.proofs.Common.{◌∙◌, ap}
-use Rattle.clap.specs.Faults.{is_simple_and_free}
-use Rattle.ember_words.proofs.Refusals.{simple_and_free}
-use Rattle.ember_words.proofs.reading.matches_by.Goals as goal
-
-pub parse-requires : goal.parse-requires
-parse-requires c = record { simple = ap is_simple_and_free c.in_ok-command_for.ensures ∙ simple_and_free c.args.verb }

@@ -1,8 +1,0 @@
-use Rattle.std.proofs.Common.{refl}
-use Rattle.ember_words.proofs.reading.refusal.Goals as goal
-
-pub returns-in-OutOfMemory-clause-memory : goal.returns-in-OutOfMemory-clause-memory
-returns-in-OutOfMemory-clause-memory c = λ k. refl
-
-pub returns-in-OutOfMemory-clause-words : goal.returns-in-OutOfMemory-clause-words
-returns-in-OutOfMemory-clause-words c = λ e. absurd (cc)

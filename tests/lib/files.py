@@ -1,0 +1,68 @@
+"""Meshes as files of each format that ember-mesh reads. A mesh is its corners and its faces, as in meshes.py; corners may be
+whole numbers, floats or decimals, and text shows each as Python does."""
+import struct
+
+
+def _facets(mesh):
+    """Each face as triangles that share its first corner, by their corners."""
+    corners, faces = mesh
+    return [(corners[f[0]], corners[f[i]], corners[f[i + 1]]) for f in faces for i in range(1, len(f) - 1)]
+
+
+def _words(corner):
+    return " ".join(map(str, corner))
+
+
+def binary_stl(mesh, head=b"made by a test"):
+    facets = _facets(mesh)
+    body = b"".join(struct.pack("<12fH", 0, 0, 0, *(float(n) for corner in it for n in corner), 0) for it in facets)
+    return head.ljust(80) + struct.pack("<I", len(facets)) + body
+
+
+def ascii_stl(mesh, name="part"):
+    lines = [f"solid {name}"]
+    for facet in _facets(mesh):
+        lines += ["  facet normal 0 0 0", "    outer loop", *(f"      vertex {_words(it)}" for it in facet), "    endloop", "  endfacet"]
+    return "\n".join([*lines, f"endsolid {name}", ""]).encode()
+
+
+def obj(mesh, backwards=False):
+    """With `backwards`, corners are counted from the last one, by negative numbers."""
+    shift = -len(mesh[0]) if backwards else 1
+    lines = [f"v {_words(it)}\n" for it in mesh[0]] + ["f " + " ".join(str(n + shift) for n in face) + "\n" for face in mesh[1]]
+    return "".join(lines).encode()
+
+
+def ply(mesh, form="ascii", scalar="float"):
+    """With one more property of each vertex and each face, which a reader of meshes passes over."""
+    corners, faces = mesh
+    head = (
+        f"ply\nformat {form} 1.0\ncomment made by a test\nelement vertex {len(corners)}\n"
+        + "".join(f"property {scalar} {axis}\n" for axis in "xyz")
+        + f"property uchar red\nelement face {len(faces)}\nproperty list uchar int vertex_indices\nproperty short flags\nend_header\n"
+    )
+    if form == "ascii":
+        rows = [f"{_words(it)} 200\n" for it in corners] + [" ".join(map(str, (len(face), *face, 7))) + "\n" for face in faces]
+        return (head + "".join(rows)).encode()
+    order = "<" if form == "binary_little_endian" else ">"
+    kind = {"float": "f", "double": "d"}[scalar]
+    rows = [struct.pack(f"{order}3{kind}B", *map(float, it), 200) for it in corners]
+    rows += [struct.pack(f"{order}B{len(face)}ih", len(face), *face, 7) for face in faces]
+    return head.encode() + b"".join(rows)
+
+
+def off(mesh):
+    corners, faces = mesh
+    rows = [_words(it) for it in corners] + [" ".join(map(str, (len(face), *face))) for face in faces]
+    return "\n".join(["OFF # made by a test", f"{len(corners)} {len(faces)} 0", *rows, ""]).encode()
+
+
+FORMATS = {
+    "binary.stl": binary_stl,
+    "ascii.stl": ascii_stl,
+    "obj": obj,
+    "ascii.ply": ply,
+    "little.ply": lambda mesh: ply(mesh, "binary_little_endian"),
+    "big.ply": lambda mesh: ply(mesh, "binary_big_endian", "double"),
+    "off": off,
+}
