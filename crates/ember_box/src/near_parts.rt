@@ -150,8 +150,8 @@ fn slope_of(n: i64, half: i32) -> Slope
 }
 
 impl Slope {
-    // The margin that is smaller by `rise` over the left half: the one at the end of the range of
-    // values that only the right half reaches.
+    // The left half lacks one end of the range: the end that lies in the right half. This is the
+    // margin at that end. Over the left half it is smaller by `rise`.
     fn margin_of_left(&self, margins: &Margins) -> i64
         ensures { result ≡ (if self.now.falls then margins.now.above else margins.now.below) }
     {
@@ -162,8 +162,8 @@ impl Slope {
         }
     }
 
-    // The margin that is smaller by `rise` over the right half: the one at the end of the range of
-    // values that only the left half reaches.
+    // The right half lacks the end of the range that lies in the left half. This is the margin at
+    // that end. Over the right half it is smaller by `rise`.
     fn margin_of_right(&self, margins: &Margins) -> i64
         ensures { result ≡ (if self.now.falls then margins.now.below else margins.now.above) }
     {

@@ -40,7 +40,7 @@ pub record IsMeshNumber (meshes : ℕ) (n : ℕ) : Type 0 where
   pub first : 1 ≤ n
   pub last : n ≤ meshes
 
--- each mesh number is from 1 to `meshes`, but for the 0 of a plain number
+-- each mesh number is from 1 to `meshes`, but for the 0 of a plain number, and factors and sums keep their limits
 abbrev pub IsFit : ℕ → Formula → Type 0
 IsFit meshes (Or a b) = IsFit meshes a × IsFit meshes b
 IsFit meshes (Xor a b) = IsFit meshes a × IsFit meshes b

@@ -37,7 +37,7 @@ use ember_poly::{Draft, Ring, support};
 use ember_trace::{NearTriangle, Sides, near_triangles, trace_sides};
 use std::alloc::Global;
 
-// The lists of a clipped triangle reserve room for at most this many cuts.
+// The lists of a clipped triangle reserve room for this many cuts: one by each wall of a box.
 const ROOM: usize = 6;
 
 // Whether the plane's front is on the side of `after`: its normal has a positive entry along its

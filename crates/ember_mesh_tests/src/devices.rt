@@ -1,47 +1,52 @@
 // Calls of a device fail in turn.
 use crate::boxes::{HIGH, LOW};
-use crate::cases::{BEFORE, Named, file_set, none, shelf_of, sink_of, target_of, words_of};
+use crate::cases::{BEFORE, Given, Named, file_set, none, sink_of, target_of, words_of};
 use ember_io::{Calls, MemoryShelf, MemorySink};
 use ember_mesh_run::run_mesh_one;
+use std::alloc::Global;
 use std::test::Fail;
 use steal_pool::OpenGate;
 
 const FILES: Named<'static> = &[("a.obj", LOW), ("b.obj", HIGH)];
 
-const UNION: &str = "union --quiet -o out.stl a.obj b.obj";
+// What a union gives if these calls of the shelf fail, and these of the target.
+fn give_union(alloc: Global, shelf_calls: Calls, target_calls: Calls) -> Result<Given, Fail> {
+    let words = words_of(alloc, "union --quiet -o out.stl a.obj b.obj")?;
+    let mut shelf = MemoryShelf::new(alloc, file_set(alloc, FILES)?, 4096, shelf_calls)?;
+    let mut target = target_of(alloc, target_calls)?;
+    let mut out = sink_of(alloc)?;
+    let mut err = sink_of(alloc)?;
+    let status = run_mesh_one(
+        alloc,
+        &words,
+        &mut shelf,
+        &mut target,
+        &mut out,
+        &mut err,
+        &OpenGate,
+    );
+    Ok(Given {
+        status,
+        target,
+        out,
+        err,
+    })
+}
 
 #[test]
 fn each_call_of_the_shelf_fails_in_turn(rt: HostRuntime) -> Result<(), Fail> {
     let alloc = rt.alloc();
-    let words = words_of(alloc, UNION)?;
     // Of each file: its opening, one piece, and the one that finds its end.
     for call in 1..8u64 {
-        let failing = Calls::of(vec![in alloc; call]?);
-        let mut shelf = MemoryShelf::new(alloc, file_set(alloc, FILES)?, 4096, failing)?;
-        let mut target = target_of(alloc, none(alloc))?;
-        let mut out = sink_of(alloc)?;
-        let mut err = sink_of(alloc)?;
-        let status = run_mesh_one(
-            alloc,
-            &words,
-            &mut shelf,
-            &mut target,
-            &mut out,
-            &mut err,
-            &OpenGate,
-        );
+        let given = give_union(alloc, Calls::of(vec![in alloc; call]?), none(alloc))?;
         let (number, line): (u8, &[u8]) = match call {
             1..=3 => (3, b"ember-mesh: a.obj: cannot be read\n".as_slice()),
             4..=6 => (3, b"ember-mesh: b.obj: cannot be read\n".as_slice()),
             _ => (0, b"".as_slice()),
         };
-        assert_eq!(rt; status.number(), number, "call {call}");
-        assert_eq!(rt; err.bytes(), line, "call {call}");
-        assert_eq!(rt;
-            target.bytes_of("out.stl") == Some(BEFORE),
-            number == 3,
-            "call {call}"
-        );
+        assert_eq!(rt; given.status.number(), number, "call {call}");
+        assert_eq!(rt; given.err.bytes(), line, "call {call}");
+        assert_eq!(rt; given.bytes() == BEFORE, number == 3, "call {call}");
     }
     Ok(())
 }
@@ -49,34 +54,20 @@ fn each_call_of_the_shelf_fails_in_turn(rt: HostRuntime) -> Result<(), Fail> {
 #[test]
 fn each_call_of_the_target_fails_in_turn(rt: HostRuntime) -> Result<(), Fail> {
     let alloc = rt.alloc();
-    let words = words_of(alloc, UNION)?;
     // The new file is begun, takes the bytes at once, and takes the name.
     for call in 1..5u64 {
-        let mut shelf = shelf_of(alloc, FILES)?;
-        let mut target = target_of(alloc, Calls::of(vec![in alloc; call]?))?;
-        let mut out = sink_of(alloc)?;
-        let mut err = sink_of(alloc)?;
-        let status = run_mesh_one(
-            alloc,
-            &words,
-            &mut shelf,
-            &mut target,
-            &mut out,
-            &mut err,
-            &OpenGate,
-        );
+        let given = give_union(alloc, none(alloc), Calls::of(vec![in alloc; call]?))?;
         let (number, line): (u8, &[u8]) = match call {
             1..=3 => (4, b"ember-mesh: cannot write out.stl\n".as_slice()),
             _ => (0, b"".as_slice()),
         };
-        assert_eq!(rt; status.number(), number, "call {call}");
-        assert_eq!(rt; err.bytes(), line, "call {call}");
-        assert_eq!(rt;
-            target.bytes_of("out.stl") == Some(BEFORE),
-            number == 4,
+        assert_eq!(rt; given.status.number(), number, "call {call}");
+        assert_eq!(rt; given.err.bytes(), line, "call {call}");
+        assert_eq!(rt; given.bytes() == BEFORE, number == 4, "call {call}");
+        assert!(rt;
+            given.target.bytes_of("out.stl.new-0").is_none(),
             "call {call}"
         );
-        assert!(rt; target.bytes_of("out.stl.new-0").is_none(), "call {call}");
     }
     Ok(())
 }

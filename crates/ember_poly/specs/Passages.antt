@@ -56,7 +56,8 @@ abbrev pub Stops : Plane → Bool → List Meet → Type 0
 Stops p below [] = ⊤
 Stops p below (m ∷ ms) = is_under p m ≡ not below
 
--- the first k corners lie below the plane, or none of them does, and the next one is on the other side
+-- the first k corners lie below the plane, or none of them does, and the next one, if there is one, is on the
+-- other side
 pub record IsOneSidedRun (p : Plane) (below : Bool) (ms : List Meet) (k : ℕ) : Type 0 where
   pub at_most_all : k ≤ length ms
   pub all : AllByRecursion (λ m. is_under p m ≡ below) (take k ms)
@@ -68,7 +69,7 @@ pub record AreNotBelow (p : Plane) (high : Bool) (ms : List Meet) : Type 0 where
   pub some : high ≡ true → HasSome (λ m. IsAbove p (spot_of m)) ms
   pub none : high ≡ false → AllByRecursion (λ m. IsNotAbove p (spot_of m)) ms
 
--- the first k corners do not lie below the plane, and the next one does
+-- the first k corners do not lie below the plane, and the next one, if there is one, does
 pub record IsRunNotBelow (p : Plane) (ms : List Meet) (k : ℕ) (high : Bool) : Type 0 where
   pub run : IsOneSidedRun p false ms k
   pub risen : AreNotBelow p high (take k ms)

@@ -37,7 +37,7 @@ impl Model for Ring {
         r.boundary.edges.items r.boundary.corners.items r.boundary.plane_indices.items };
 }
 
-// Room for this many cuts is reserved in a new ring.
+// Room for this many cuts is reserved in a new ring: one by each wall of a box.
 const ROOM: usize = 6;
 
 // The corner as a point with the weight 1.

@@ -92,6 +92,8 @@ pub fn boole_output<S: Shelf, C: Fn(&Query) -> Result<Answer, OutOfMemory>>(
         Ok(scene) => scene,
         Err(status) => return Err(status),
     };
+    // The reply's text is that of one document (`IsSolidText`). By the lemma `solid_file` it is a file
+    // as the verdict wants it (`IsSolidFile`).
     let reply = reply_of_solid(alloc, &scene, &expr, reported, executor)?;
     Ok(reply)
 }

@@ -21,8 +21,8 @@ pub record AreNearTriangles (ts : List Tri) (c : Cell) (fs : List NearTriangle) 
   pub tris : map tri_of fs ≡ ts
   pub reference_sides : All (HasReferenceSide c) fs
 
--- counts of a box are at most 36 * 262144 in size: for each halving, at most one crossing with each triangle
--- of a scene
+-- counts of a box are at most 36 * 262144 in size. This bound is wider than it has to be: they are winding numbers
+-- at a point, and a ray from there crosses each of at most 262144 triangles of a scene at most once
 abbrev pub AreBoxCounts : List ℤ → Type 0
 AreBoxCounts counts = All (Small 9437184) counts
 
@@ -30,6 +30,7 @@ AreBoxCounts counts = All (Small 9437184) counts
 abbrev pub AreWithinBound : ℕ → List ℤ → List ℤ → Type 0
 AreWithinBound number old new = (m : ℕ) → All (Small m) old → All (Small (m + 3 * number)) new
 
--- counts beside a region are at most 39 * 262144 in size: at most three more crossings with each triangle
+-- counts beside a region are at most 39 * 262144 in size: the three segments of a path add at most three crossings
+-- with each triangle to the counts of the box
 abbrev pub AreSideCounts : List ℤ → Type 0
 AreSideCounts counts = All (Small 10223616) counts

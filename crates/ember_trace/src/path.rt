@@ -18,8 +18,9 @@ use ember_model::Axis;
 use ember_point::Meet;
 
 /// A path begins beside the corner `lo` of its box, at the reference point. Its three segments run
-/// along `first_axis`, `second_axis` and `main`, in this order. It ends beside the first three
-/// corners of the region. `narrow` says whether all three are narrow points.
+/// along `first_axis`, `second_axis` and `main`, in this order. It ends directly
+/// before or after the inside point that the first three corners of the region define. `narrow` says
+/// whether all three are narrow points.
 #[derive(Clone, Copy)]
 pub struct Path {
     pub lo: [i32; 3],

@@ -33,7 +33,8 @@ fn words_fault(error: &Error) -> WordsFault
     }
 }
 
-// What clap finds in the words.
+// What clap finds in the words. It takes the first one for the program's name, whatever it is: here
+// the command's name is in that place, and clap reads the words after it.
 fn find_matches<'a>(
     command: clap::Command<'a>,
     words: &'a [String],

@@ -15,9 +15,9 @@ pub fn items_that_answer_are_equal<W: OneItem>(_work: &W)
     ensures { AnswersAreEqual (W.item _work.now) }
 {}
 
-/// The journals of a run fit the model of steal_core: by the first four rules of journals there is
-/// a list of the model's steps in which each worker, and the caller, ends exactly the boxes of its
-/// journal.
+/// The journals of a run fit the model of steal_core: by the rules of journals (`KeepRules`) there
+/// is a list of the model's steps in which each worker, and the caller, ends exactly the boxes of
+/// its journal.
 pub fn journals_are_a_run_of_the_core<W: Work>(_work: &W)
     ensures { JournalsAreCoreRuns (W.valid _work.now) (W.shape _work.now) }
 {}

@@ -73,6 +73,7 @@ fn run_each<
         ensures { FinishesIfDone K.is_visited K.answers K.weight stealers.entry.now.items state.entry.now
             state.exit.now }
     { run_worker(rt, alloc, call, gate, stealers, progress, state) };
+    // At most one thread for each worker. The library wants at least one thread, even for no worker.
     thread::for_each_mut(rt, workers, workers.len().max(1), &one);
 }
 
