@@ -54,7 +54,9 @@ pub fn at_corner(c: &Corner) -> Meet
     }
 }
 
-/// The edge planes of a triangle with this support plane, parallel to its main axis.
+/// The edge planes of a triangle with this support plane, parallel to its main axis. The same as
+/// `main_edges` of ember_model, which that crate keeps to itself: there the planes are small, and
+/// here they are valid.
 pub fn main_edges(t: &Tri, support: &Plane) -> [Plane; 3]
     requires tri { IsValidTri t.now }
     requires support { support.now ≡ support_of t.now }
