@@ -17,7 +17,7 @@ use Rattle.ember_words.specs.declared.command.WordsFault.{WordsFault}
 use Rattle.ember_words.specs.declared.command.WordsFault.TheVariants.{Words, OutOfMemory}
 use Rattle.ember_words.specs.declared.verb.Verb.{Verb}
 use Rattle.ember_words.specs.declared.verb.Verb.TheVariants as verb
-use Rattle.ember_words.specs.Limits.{height_of, is_set, names_of, nonempty_of, number_of, optional_of, point_of}
+use Rattle.ember_words.specs.Limits.{height_of, is_set, names_in_limits, nonempty_of, number_within, optional_of, point_of}
 use Rattle.ember_words.specs.Commands.{faces_app, at_app, bool_app, demo_app, voxels_app, pairs_app, slice_app}
 
 -- the result is the value; or the words are refused, if there is none; or out-of-memory
@@ -36,7 +36,7 @@ Finds app words (Err OutOfMemory) = ⊤
 
 -- the number of an argument, if it is from `least` to `most`
 abbrev pub number_in : ℕ → ℕ → Text → List Row → Option ℕ
-number_in least most id rows = option_and_then (number_of least most) (first_of id rows)
+number_in least most id rows = option_and_then (number_within least most) (first_of id rows)
 
 -- 1 to 64 workers, 0 to 3 places
 abbrev pub workers_in : List Row → Option ℕ
@@ -51,7 +51,7 @@ text_in id rows = option_and_then nonempty_of (first_of id rows)
 
 -- the file names, if they are within the limits
 abbrev pub files_in : List Row → Option (List Text)
-files_in rows = option_and_then names_of (all_of (codes "files") rows)
+files_in rows = option_and_then names_in_limits (all_of (codes "files") rows)
 
 -- ---- the command of the values
 
