@@ -3,7 +3,7 @@ use Rattle.std.specs.Prelude.{◌≡◌, ◌≢◌, ◌≤◌, ◌⊎◌, true, 
 use Rattle.std.specs.declared.option.Option.{Option}
 use Rattle.ember_io.specs.Sinks.{IsFlushed}
 use Rattle.ember_words.specs.declared.command.Command.{Command}
-use Rattle.ember_words.specs.Canonical.{CommandLine, IsCanonical, command_with, words_of}
+use Rattle.ember_words.specs.Canonical.{CommandLine, IsCanonical, command_of_line, words_of}
 use Rattle.ember_words.specs.WordsCommand.{command_of}
 use Rattle.ember_run.specs.Statuses.{AsksOutput, AsksRefusal, HasBegun, HasWritten, IsBegun, IsRefusal, IsText, IsWritten, hides_memory, is_before_files, is_refusal, refused_file}
 use Rattle.ember_run.specs.Devices.{ShelfCall, SinkCall, HasShelfFailed, HasSinkFailed}
@@ -25,7 +25,7 @@ pub record IsReply (command : Command) (told : List ℕ → Option (List ℕ)) (
 -- words in the canonical spelling give the command of their values
 abbrev pub ReadsCanonical : List (List ℕ) → Type 0
 ReadsCanonical words =
-    (line : CommandLine) → IsCanonical line → words ≡ words_of line → command_of words ≡ command_with line
+    (line : CommandLine) → IsCanonical line → words ≡ words_of line → command_of words ≡ command_of_line line
 
 -- what a call promises if its words ask for this command, or for none. The fields say nothing of `told_verdict` if it is
 -- Unknown, nor of bytes that aren't told; those whose names end in `_read` say what holds then, too. The system's files

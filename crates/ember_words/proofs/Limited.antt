@@ -18,7 +18,7 @@ use Rattle.ember_words.specs.declared.command.WordsFault.{WordsFault}
 use Rattle.ember_words.specs.declared.verb.Verb.{Verb}
 use Rattle.ember_words.specs.declared.verb.Verb.TheVariants.{Faces, At, Boole, Demo, Voxels, Pairs, Slice}
 use Rattle.ember_words.specs.Limits.{are_names, as_height, as_spot, decimal_of, four_of, height_of, is_height, is_set, is_valid_spot, names_in_limits, nonempty_of, number_within, optional_of, parts_of, point_of, spot_of_four, spot_of_numbers, whole_of, within}
-use Rattle.ember_words.specs.WordsCommand.{Reads, at_with, bool_with, command_of, demo_with, faces_with, files_in, number_in, pairs_with, slice_with, taken_by, places_in, text_in, unless_refused, command_of_values, verb_of, voxels_with, workers_in}
+use Rattle.ember_words.specs.WordsCommand.{Reads, at_with, bool_with, command_of, demo_with, faces_with, files_in, number_in, pairs_with, slice_with, taken_by, places_in, text_in, unless_refused, command_of_rows, verb_of, voxels_with, workers_in}
 use Rattle.ember_words.specs.Within.{AreNames, IsNonempty, IsWithinLimits}
 
 and_then : {A B : Type 0} (P : B → Type 0) (f : A → Option B) → ((a : A) → IfSome (f a) P) → (o : Option A) → IfSome (option_and_then f o) P
@@ -187,7 +187,7 @@ files_limits rows = and_then AreNames names_in_limits names_limits (all_of (code
 workers_limits : (rows : List Row) → IfSome (workers_in rows) (IsInRange 1 64)
 workers_limits rows = number_limits 1 64 (codes "workers") rows
 
-values_limits : (v : Verb) (rows : List Row) → IfSome (command_of_values v rows) IsWithinLimits
+values_limits : (v : Verb) (rows : List Row) → IfSome (command_of_rows v rows) IsWithinLimits
 values_limits Faces rows = faces_limits (places_in rows) (text_in (codes "file") rows) (places_limits rows) (text_limits (codes "file") rows)
 values_limits At rows =
     at_limits (option_and_then point_of (first_of (codes "point") rows)) (optional_of (first_of (codes "expr") rows)) (places_in rows) (files_in rows)

@@ -21,7 +21,7 @@ use Rattle.clap.proofs.OnLiterals.{clap_on_literals}
 use Rattle.ember_model.specs.declared.point.Spot.{Spot}
 use Rattle.ember_words.specs.Commands.{at_app, bool_app, pairs_app, voxels_app}
 use Rattle.ember_words.specs.Limits.{are_names, names_in_limits}
-use Rattle.ember_words.specs.WordsCommand.{Reads, app_for, at_with, bool_with, command_of, demo_with, faces_with, files_in, pairs_with, slice_with, taken_by, unless_refused, command_of_values, verb_of, voxels_with}
+use Rattle.ember_words.specs.WordsCommand.{Reads, app_for, at_with, bool_with, command_of, demo_with, faces_with, files_in, pairs_with, slice_with, taken_by, unless_refused, command_of_rows, verb_of, voxels_with}
 use Rattle.ember_words.specs.Within.{NamesFiles}
 use Rattle.ember_words.specs.declared.command.Command.{Command}
 use Rattle.ember_words.specs.declared.command.WordsFault.{WordsFault}
@@ -387,7 +387,7 @@ slice_named None f = tt
 slice_named (Some h) None = tt
 slice_named (Some h) (Some f) = tt
 
-values_named : (v : Verb) (words : List Text) → IfSome (command_of_values v (matches_of (app_for v) words)) NamesFiles
+values_named : (v : Verb) (words : List Text) → IfSome (command_of_rows v (matches_of (app_for v) words)) NamesFiles
 values_named Faces words = faces_named _ _
 values_named At words = at_named _ _ _ _ (files_some at_app words at_files)
 values_named Boole words = bool_named _ _ _ _ _ (files_some bool_app words bool_files)

@@ -113,16 +113,16 @@ given_value None = None
 given_value (Some g) = Some g.value
 
 -- the command of the values, None if one of them is past its limits
-abbrev pub command_with : CommandLine → Option Command
-command_with (faces_line places file) = faces_with (places_of places) (nonempty_of file)
-command_with (at_line point expr places file more) =
+abbrev pub command_of_line : CommandLine → Option Command
+command_of_line (faces_line places file) = faces_with (places_of places) (nonempty_of file)
+command_of_line (at_line point expr places file more) =
     at_with (point_of point.value) (optional_of (given_value expr)) (places_of places) (names_in_limits (file ∷ more))
-command_with (bool_line expr workers places report file more) =
+command_of_line (bool_line expr workers places report file more) =
     bool_with (nonempty_of expr.value) (workers_of workers) (places_of places) report (names_in_limits (file ∷ more))
-command_with (demo_line workers boxes) = demo_with (number_within 1 20000 boxes) (workers_of workers)
-command_with (voxels_line expr size workers places file more) =
+command_of_line (demo_line workers boxes) = demo_with (number_within 1 20000 boxes) (workers_of workers)
+command_of_line (voxels_line expr size workers places file more) =
     voxels_with (nonempty_of expr.value) (number_within 4 12 size.value) (workers_of workers) (places_of places)
     (names_in_limits (file ∷ more))
-command_with (pairs_line workers places file more) =
+command_of_line (pairs_line workers places file more) =
     pairs_with (workers_of workers) (places_of places) (names_in_limits (file ∷ more))
-command_with (slice_line height file) = slice_with (height_of height.value) (nonempty_of file)
+command_of_line (slice_line height file) = slice_with (height_of height.value) (nonempty_of file)

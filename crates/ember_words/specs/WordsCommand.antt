@@ -143,18 +143,18 @@ app_for verb.Pairs = pairs_app
 app_for verb.Slice = slice_app
 
 -- the command, if the values are within the limits
-abbrev pub command_of_values : Verb → List Row → Option Command
-command_of_values verb.Faces = faces_command_of
-command_of_values verb.At = at_command_of
-command_of_values verb.Boole = bool_command_of
-command_of_values verb.Demo = demo_command_of
-command_of_values verb.Voxels = voxels_command_of
-command_of_values verb.Pairs = pairs_command_of
-command_of_values verb.Slice = slice_command_of
+abbrev pub command_of_rows : Verb → List Row → Option Command
+command_of_rows verb.Faces = faces_command_of
+command_of_rows verb.At = at_command_of
+command_of_rows verb.Boole = bool_command_of
+command_of_rows verb.Demo = demo_command_of
+command_of_rows verb.Voxels = voxels_command_of
+command_of_rows verb.Pairs = pairs_command_of
+command_of_rows verb.Slice = slice_command_of
 
 -- clap takes the words after the first one, and the values that it finds are within the limits
 abbrev pub taken_by : Verb → List Text → Option Command
-taken_by v words = unless_refused (fault_of (app_for v) words) (command_of_values v (matches_of (app_for v) words))
+taken_by v words = unless_refused (fault_of (app_for v) words) (command_of_rows v (matches_of (app_for v) words))
 
 -- the command that the words give, None if they are refused
 abbrev pub command_of : List Text → Option Command
