@@ -17,14 +17,14 @@ use Rattle.ember_poly.specs.declared.reach_and_cut.Reach.{Reach}
 use Rattle.ember_poly.specs.declared.reach_and_cut.Reach.TheVariants.{Below, Above, On, Both}
 use Rattle.ember_poly.specs.Rings.{Side, IsBelow, IsAbove, IsOnPlane, IsNotAbove, IsNotBelow, IsInsideRing, IsInClosedRing, IsConvexRing, Represents}
 use Rattle.ember_poly.specs.Sides.{sides_of}
-use Rattle.ember_poly.specs.Chords.{mixed2}
+use Rattle.ember_poly.specs.Chords.{combination}
 use Rattle.ember_poly.specs.Passages.{HasSome, AreSigns}
 use Rattle.ember_poly.specs.Cuts.{IsWhole, IsReach}
 use Rattle.ember_poly.proofs.Chains.{each_map}
 use Rattle.ember_poly.proofs.Members.{has_map, has_pick}
 use Rattle.ember_poly.proofs.RingBelow.{Rooted}
 use Rattle.ember_poly.proofs.Hull.{ring-rooted, corners_at_most}
-use Rattle.ember_poly.proofs.InsideSigns.{mixed2_value, opposite_plane, corners_under}
+use Rattle.ember_poly.proofs.InsideSigns.{combination_value, opposite_plane, corners_under}
 use Rattle.ember_poly.proofs.InsidePoints.{below_is_not_above, inside_sum, corner_sum_is_inside}
 use Rattle.ember_poly.proofs.InsideBelow.{ring-closed}
 use Rattle.ember_poly.proofs.Face.{inside_from_face, face_from_inside}
@@ -115,7 +115,7 @@ some_inside n (s ∷ []) h = absurd h
 some_inside n (s ∷ t ∷ []) h = absurd h.0
 some_inside n (s ∷ t ∷ u ∷ xs) h =
     let one : pos 0 <ℤ pos 1 = omega (arith, linear) in
-    record { point = mixed2 (pos 1) (pos 1) s.corner (mixed2 (pos 1) (pos 1) t.corner u.corner); inside = corner_sum_is_inside (pos 1) (pos 1) (pos 1) n s t u xs one one one h; holds = tt }
+    record { point = combination (pos 1) (pos 1) s.corner (combination (pos 1) (pos 1) t.corner u.corner); inside = corner_sum_is_inside (pos 1) (pos 1) (pos 1) n s t u xs one one one h; holds = tt }
 
 near_below : (n p : Plane) (c : Spot) (xs : List Side) → IsConvexRing n xs → IsInClosedRing n xs c → IsBelow p c → Within n xs (λ x. IsBelow p x)
 near_below n p c xs h k u =
@@ -123,9 +123,9 @@ near_below n p c xs h k u =
     let e : Eventually (λ m. pos 0 <ℤ (neg_ℤ (value_at p c) *ℤ pos m +ℤ neg_ℤ (value_at p q.point))) = eventually_pos (neg_ℤ (value_at p q.point)) (flip u.under) in
     let m = e.from in let one : pos 0 <ℤ pos 1 = omega (arith, linear) in
     record {
-      point = mixed2 (pos m) (pos 1) c q.point;
+      point = combination (pos m) (pos 1) c q.point;
       inside = inside_sum (pos m) (pos 1) n xs c q.point (nonneg m) one k q.inside;
-      holds = record { under = rw (mixed2_value (pos m) (pos 1) c q.point p) (last (value_at p c) (pos m) (value_at p q.point) (e.holds m (omega arith))) };
+      holds = record { under = rw (combination_value (pos m) (pos 1) c q.point p) (last (value_at p c) (pos m) (value_at p q.point) (e.holds m (omega arith))) };
     }
   where
     flip : {a : ℤ} → a <ℤ pos 0 → pos 0 <ℤ neg_ℤ a

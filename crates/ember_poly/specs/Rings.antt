@@ -18,16 +18,6 @@ pub record Side : Type 0 where
 abbrev pub orientation : Plane → Plane → Plane → ℤ
 orientation n g h = det (normal n) (normal g) (normal h)
 
--- the point of the segment from a to b that p meets
-abbrev pub mix : Plane → Spot → Spot → Spot
-mix p a b =
-    record {
-      x = value_at p b *ℤ a.x -ℤ value_at p a *ℤ b.x;
-      y = value_at p b *ℤ a.y -ℤ value_at p a *ℤ b.y;
-      z = value_at p b *ℤ a.z -ℤ value_at p a *ℤ b.z;
-      w = value_at p b *ℤ a.w -ℤ value_at p a *ℤ b.w;
-    }
-
 -- the point lies below the plane
 pub record IsBelow (p : Plane) (v : Spot) : Type 0 where
   pub under : value_at p v <ℤ pos 0
