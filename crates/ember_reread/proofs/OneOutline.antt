@@ -17,7 +17,7 @@ use Rattle.ember_model.specs.declared.face.Face.{Face}
 use Rattle.ember_model.specs.Planes.{value_at}
 use Rattle.ember_model.specs.Faces.{is_in_closed}
 use Rattle.ember_model.specs.Edges.{SamePoint, is_on_edge, HasEdge, SameEdge, IsEarliest, normal, RingEdge, IsEdge, IsEdgeChain, HaveDistinctEdges, IsOutline}
-use Rattle.ember_model.specs.FaceFiles.{IsLowest, face_lines, header, ending, IsFaceText, IsFacesText}
+use Rattle.ember_model.specs.FaceFiles.{IsLowest, face_lines, header, ending, IsFaceText, IsFileText}
 use Rattle.ember_model.proofs.SignTests.{and_parts, zero_out, zero_scaled, zero_times, not_positive_out}
 use Rattle.ember_model.specs.ClearTest.{none_positive}
 use Rattle.ember_model.proofs.Hits.{closed_parts}
@@ -269,6 +269,6 @@ text_one f xs ys a b =
     a.is ∙ ap (face_lines f.support) (outline_one f a.outline b.outline a.is_outline b.is_outline a.lowest b.lowest) ∙ sym b.is
 
 -- faces have one text
-pub texts_one : (fs : List Face) (xs ys : List ℕ) → IsFacesText fs xs → IsFacesText fs ys → xs ≡ ys
+pub texts_one : (fs : List Face) (xs ys : List ℕ) → IsFileText fs xs → IsFileText fs ys → xs ≡ ys
 texts_one fs xs ys a b =
     a.is ∙ ap (λ texts. header ++ (texts ++ ending (length fs))) (each_unique text_one a.are_texts b.are_texts) ∙ sym b.is
