@@ -77,6 +77,7 @@ pair_on X p = p.x
 pair_on Y p = p.y
 pair_on Z p = p.z
 
--- item i of ps has the near parts of the triangle whose index is item i of the list `is`
-pub record AreNearPartsAt (ts : List Tri) (c : Cell) (is : List ℕ) (ps : List NearParts) : Type 0 where
-  pub each : (i : ℕ) → i < length ps → AreNearParts c (tri_at ts (slice_index_or is i 0)) (slice_index_or ps i no_parts)
+-- item i of ps has the near parts of the triangle whose index is item i of the list `indices`
+pub record AreNearPartsAt (ts : List Tri) (c : Cell) (indices : List ℕ) (ps : List NearParts) : Type 0 where
+  pub each : (i : ℕ) → i < length ps →
+      AreNearParts c (tri_at ts (slice_index_or indices i 0)) (slice_index_or ps i no_parts)
