@@ -2,7 +2,7 @@ use Rattle.std.proofs.Common.{◌≡◌, sym, ap, ◌∙◌, subst, true, false}
 use Rattle.ember_box.specs.Aabbs.{interval_on, aabb_of_cell, aabb_of_tri, aabbs_meet}
 use Rattle.ember_box.specs.Sums.{IsPlaneOf, meets_left, meets_right}
 use Rattle.ember_box.proofs.HalfNearness.{seen_low, seen_high, far_low, far_high}
-use Rattle.ember_box.proofs.nearness.near_each.Goals as goal
+use Rattle.ember_box.proofs.nearness.is_near_halves.Goals as goal
 
 pub returns-then-aabbs_meet : goal.returns-then-aabbs_meet
 returns-then-aabbs_meet c = λ box above e are.
