@@ -4,7 +4,7 @@ ghost use Rattle.ember_algebra.specs.Size.{Small};
 ghost use Rattle.ember_model.specs.Sizes.{IsSupportSized};
 ghost use Rattle.ember_box.specs.Boxes as boxes;
 ghost use Rattle.ember_box.specs.NearParts.{AreMargins};
-ghost use Rattle.ember_box.specs.Aabbs.{interval_between, interval_over, interval_on, aabb_of_cell, aabb_of_tri, intervals_meet, aabbs_meet, aabbs_meet_beside, covers, contains_aabb, is_point, is_level, contains_coordinate, contains_corner, least_end, greatest_end, value_without_constant, least_value, greatest_value, crosses, IsIntervalSized, IsAabbSized};
+ghost use Rattle.ember_box.specs.Aabbs.{interval_between, interval_over, interval_along, aabb_of_cell, aabb_of_tri, intervals_meet, aabbs_meet, aabbs_meet_beside, covers, contains_aabb, is_point, is_level, contains_coordinate, contains_corner, least_end, greatest_end, value_without_constant, least_value, greatest_value, crosses, IsIntervalSized, IsAabbSized};
 
 use crate::cell::Cell;
 use ember_model::{Axis, Corner, Plane, Tri};
@@ -88,9 +88,9 @@ pub fn aabb_of_tri(t: &Tri) -> Aabb
     }
 }
 
-// The interval of a bounding box along an axis.
-pub fn interval_on(aabb: &Aabb, axis: Axis) -> Interval
-    ensures { result ≡ interval_on axis aabb.now }
+/// The interval of a bounding box along an axis.
+pub fn interval_along(aabb: &Aabb, axis: Axis) -> Interval
+    ensures { result ≡ interval_along aabb.now axis }
 {
     match axis {
         Axis::X => aabb.x,

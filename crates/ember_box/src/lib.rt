@@ -17,7 +17,9 @@ mod nearness;
 mod one_triangle;
 mod sums;
 
-pub use aabb::{Aabb, Interval, aabb_of_cell, aabb_of_tri, aabbs_meet, aabbs_meet_beside};
+pub use aabb::{
+    Aabb, Interval, aabb_of_cell, aabb_of_tri, aabbs_meet, aabbs_meet_beside, interval_along,
+};
 pub use cell::{Cell, halves, root};
 pub use halved_box::{HalvedBox, halve_box};
 pub use law::near_triangles_decide_the_halving;

@@ -9,7 +9,7 @@ ghost use Rattle.ember_box.specs.Near.{is_near, tri_at, near_indices};
 ghost use Rattle.ember_box.specs.Sums.{AreHalves, AreHalvesSized};
 
 use crate::aabb::{
-    Aabb, aabb_of_cell, aabb_of_tri, aabbs_meet, contains_corner, crosses, interval_on, is_level,
+    Aabb, aabb_of_cell, aabb_of_tri, aabbs_meet, contains_corner, crosses, interval_along, is_level,
 };
 use crate::cell::Cell;
 use crate::half_boxes::{HalfBoxes, half_boxes_of, meets_left, meets_right, plane_to_test};
@@ -105,7 +105,7 @@ fn is_near_halves(whole: &Aabb, halves: &HalfBoxes, k: Axis, t: &Tri) -> (bool, 
     let spans = aabb_of_tri(t);
     if aabbs_meet(&spans, whole) {
         let plane = plane_to_test(whole, &spans, t);
-        let span = interval_on(&spans, k);
+        let span = interval_along(&spans, k);
         (
             meets_left(halves, &span, &plane),
             meets_right(halves, &span, &plane),
@@ -135,7 +135,8 @@ pub fn near_halves_among(
     let mut left = Vec::with_capacity(alloc, list.len())?;
     let mut right = Vec::with_capacity(alloc, list.len())?;
     for i in list {
-        let (is_near_left, is_near_right) = is_near_halves(&whole, &halves, axis, &tris[*i as usize]);
+        let (is_near_left, is_near_right) =
+            is_near_halves(&whole, &halves, axis, &tris[*i as usize]);
         push_if(is_near_left, *i, &mut left);
         push_if(is_near_right, *i, &mut right);
     }

@@ -7,7 +7,6 @@ use Rattle.ember_algebra.specs.declared.Sign.{Sign}
 use Rattle.ember_algebra.specs.Sign.{sgn, flip, times, number, is_neg}
 use Rattle.ember_model.specs.declared.plane.Plane.{Plane}
 use Rattle.ember_model.specs.declared.point.Axis.{Axis}
-use Rattle.ember_model.specs.declared.point.Axis.TheVariants.{X, Y, Z}
 use Rattle.ember_model.specs.declared.tri.Tri.{Tri}
 use Rattle.ember_model.specs.declared.face.Face.{Face}
 use Rattle.ember_model.specs.Planes.{along, edge_planes, support_of, main_axis}
@@ -15,7 +14,7 @@ use Rattle.ember_point.specs.declared.meet_point.Meet.{Meet}
 use Rattle.ember_poly.specs.Sides.{AreCorners}
 use Rattle.ember_law.specs.Counts.{with_more}
 use Rattle.ember_box.specs.declared.aabb.Interval.{Interval}
-use Rattle.ember_box.specs.declared.aabb.Aabb.{Aabb}
+pub use Rattle.ember_box.specs.Aabbs.{interval_along}
 use Rattle.ember_box.specs.Boxes.{Cell}
 use Rattle.ember_ref.specs.References.{or_sign}
 use Rattle.ember_trace.specs.declared.near_triangle.NearTriangle.{NearTriangle}
@@ -35,11 +34,6 @@ abbrev pub all_behind : (Plane → Sign) → List Plane → Bool
 all_behind side ps = list_all (λ p. is_neg (side p)) ps
 
 -- ---- bounding boxes
-abbrev pub interval_along : Aabb → Axis → Interval
-interval_along s X = s.x
-interval_along s Y = s.y
-interval_along s Z = s.z
-
 -- the whole number plus any small number above 0 is strictly between the ends of the interval
 abbrev pub contains_above : Interval → ℤ → Bool
 contains_above s at = int_le s.low at && int_lt at s.high

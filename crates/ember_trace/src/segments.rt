@@ -16,19 +16,8 @@ use crate::near_triangle::NearTriangle;
 use crate::path::Path;
 use crate::vertices::coordinate;
 use ember_algebra::Sign;
-use ember_box::{Aabb, Interval};
+use ember_box::{Interval, interval_along};
 use ember_model::{Axis, Plane, edge_plane};
-
-// The interval of a bounding box along an axis.
-fn interval_along(spans: &Aabb, k: Axis) -> Interval
-    ensures { result ≡ interval_along spans.now k }
-{
-    match k {
-        Axis::X => spans.x,
-        Axis::Y => spans.y,
-        Axis::Z => spans.z,
-    }
-}
 
 // Whether `at` plus any small number above 0 is strictly between the ends of the interval.
 fn contains_above(interval: &Interval, at: i32) -> bool
