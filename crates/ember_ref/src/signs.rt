@@ -11,8 +11,8 @@ ghost use Rattle.ember_ref.specs.References.{corner_of, reference_of, or_sign, I
 use ember_algebra::{Sign, sign_of};
 use ember_model::{Axis, Plane, Tri, edge_plane};
 
-// The first of two signs that isn't zero.
-fn or_sign(first: Sign, second: Sign) -> Sign
+/// The first of two signs that isn't zero.
+pub fn or_sign(first: Sign, second: Sign) -> Sign
     ensures { result ≡ or_sign first second }
 {
     match first {

@@ -8,9 +8,10 @@ ghost use Rattle.ember_trace.specs.Crossings.{signed_crossing, side_before, side
 
 use ember_algebra::{Sign, sign_of};
 use ember_model::{Axis, Plane};
+use ember_ref::or_sign;
 
 /// How a segment from one side of a plane to another crosses it: 1 from behind to the front, -1
-/// back, otherwise 0.
+/// back, otherwise 0. The same as `signed_crossing` of ember_ref; here definitions use its name.
 pub fn signed_crossing(from: Sign, to: Sign) -> i32
     ensures value { result ≡ signed_crossing from to }
     ensures small { Small 1 result }
@@ -36,16 +37,6 @@ fn flipped(sign: Sign) -> Sign
         Sign::Neg => Sign::Pos,
         Sign::Zero => Sign::Zero,
         Sign::Pos => Sign::Neg,
-    }
-}
-
-// The first of two signs that isn't zero.
-fn or_sign(first: Sign, second: Sign) -> Sign
-    ensures { result ≡ or_sign first second }
-{
-    match first {
-        Sign::Zero => second,
-        _ => first,
     }
 }
 
