@@ -187,7 +187,7 @@ expression_refuses after next places m status no_reply r contents e =
     subst (λ (n : ℕ). after n (λ t. after_scene places contents (next (length contents) t)) ≡ Refused status) (sym e)
     ((no_reply (λ t. after_scene places contents (next (length contents) t))).refused r)
 
--- a missing reply that rests on the words is one of the command
+-- a missing reply that rests on the expression is one of the command
 pub expression_is_no_reply : {T : Type 0} (after : ℕ → (T → Verdict) → Verdict) (next : ℕ → T → List Tri → Verdict) (places m : ℕ) (names : List (List ℕ)) (shelf : ShelfCall) (status : Status) → length names ≡ m → ((then : T → Verdict) → IsNoReplyToExpression (after m then) status) → IsNoReply (asks after next places) names shelf status
 expression_is_no_reply after next places m names shelf status count no_reply =
     let contents = map shelf.told names in
