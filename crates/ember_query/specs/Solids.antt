@@ -9,11 +9,11 @@ use Rattle.ember_report.specs.declared.report.Report.{Report}
 use Rattle.ember_text.specs.Documents.{IsDocumentText, written_face}
 use Rattle.ember_visit.specs.Jobs.{root_job}
 use Rattle.ember_visit.specs.Values.{shape}
-use Rattle.ember_query.specs.Runs.{HoldEntries, run_report}
+use Rattle.ember_query.specs.Runs.{AreJournalsOf, run_report}
 
 -- the journals have the boxes that are visited for the solid
-abbrev pub HoldRun : List Tri → Formula → List (List Entry) → Type 0
-HoldRun tris formula journals = HoldEntries (shape tris formula) (root_job tris) journals
+abbrev pub AreJournalsOfSolid : List Tri → Formula → List (List Entry) → Type 0
+AreJournalsOfSolid tris formula journals = AreJournalsOf (shape tris formula) (root_job tris) journals
 
 -- the written regions of the scene, and the report: the visited boxes, and the number of these regions
 pub record IsSolid (tris : List Tri) (formula : Formula) (kept : List Kept) (report : Report) : Type 0 where
