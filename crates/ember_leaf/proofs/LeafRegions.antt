@@ -39,7 +39,7 @@ use Rattle.ember_leaf.specs.declared.leaf_triangle.LeafTriangle.{LeafTriangle}
 use Rattle.ember_leaf.specs.Walls.{wall_of, IsPartOf, IsClippedBy}
 use Rattle.ember_leaf.specs.TriRelations.{IsValidCoplanar}
 use Rattle.ember_leaf.specs.declared.cutter.Role.{Role}
-use Rattle.ember_leaf.specs.declared.cutter.Role.TheVariants.{Across, Later, Earlier}
+use Rattle.ember_leaf.specs.declared.cutter.Role.TheVariants.{OtherPlane, Later, Earlier}
 use Rattle.ember_leaf.specs.KeptRegions.{LiesInPlaneOf}
 use Rattle.ember_leaf.specs.Lower.{AreLower, DecidesOwner}
 use Rattle.ember_leaf.specs.Written.{AreOwned}
@@ -173,6 +173,6 @@ all_can t ring cs r h =
     λ k d l. record { shares = by (get_or cs k d).tri (get_or cs k d).role (h k d l).lies; somewhere = r.somewhere }
   where
     by : (u : Tri) (k : Role) → LiesAs k t u → SharesAs k u ring
-    by u Across l = tt
+    by u OtherPlane l = tt
     by u Later l = share_a_plane t u ring r.plane l
     by u Earlier l = share_a_plane t u ring r.plane l

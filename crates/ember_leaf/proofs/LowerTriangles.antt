@@ -19,7 +19,7 @@ use Rattle.ember_poly.specs.Cuts.{HasInside}
 use Rattle.ember_trace.proofs.FlatPlanes.{lies_flat, shared_face}
 use Rattle.ember_leaf.specs.declared.cutter.Cutter.{Cutter}
 use Rattle.ember_leaf.specs.declared.cutter.Role.{Role}
-use Rattle.ember_leaf.specs.declared.cutter.Role.TheVariants.{Across, Later, Earlier}
+use Rattle.ember_leaf.specs.declared.cutter.Role.TheVariants.{OtherPlane, Later, Earlier}
 use Rattle.ember_leaf.specs.Cutters.{role_if, owner_as, owners_by, owners_in, LiesAs, IsCutterOf, IsAdded, AddsCuttingPlanes, IsBounded}
 use Rattle.ember_leaf.specs.TriRelations.{MissesClosedFace, IsValidCoplanar, HasContaining}
 use Rattle.ember_leaf.specs.Lower.{IsListedBefore, ContainsPart, AddsLower, covers, joins, misses, follows, AreLower, HasCover, DecidesOwner}
@@ -56,8 +56,8 @@ pub apart_misses : (t u : Tri) (b : Aabb) → MissesClosedFace t u → (f : Face
 apart_misses t u b a f h =
     clash (meets t u b f h).holds (a.holds h.somewhere.at (held_inside t u b f h))
 
-across_misses : (t u : Tri) (b : Aabb) → is_coplanar t u ≡ false → (f : Face) → ContainsPart t b u f → ⊥
-across_misses t u b e f h = clash (coplanar_too t u b f h) e
+other_plane_misses : (t u : Tri) (b : Aabb) → is_coplanar t u ≡ false → (f : Face) → ContainsPart t b u f → ⊥
+other_plane_misses t u b e f h = clash (coplanar_too t u b f h) e
 
 -- a triangle whose bounding box doesn't meet the bounds contains no part of t within them
 pub away_misses : (t u : Tri) (b s : Aabb) → s ≡ aabb_of_tri u → aabbs_meet b s ≡ false → (f : Face) → ContainsPart t b u f → ⊥
@@ -72,9 +72,9 @@ coplanar_added t u false {old} {new} e a b =
     subst (λ (l : List Tri). AddsLower t u b false (owners_in old) false l) (sym (added_owners a ∙ append-nil (owners_in old))) (follows refl)
 
 -- a triangle in another plane adds no owner
-pub across_added : (t u : Tri) (is_before : Bool) {old new : List Cutter} → is_coplanar t u ≡ false → IsAdded u Across old new → (b : Aabb) → AddsLower t u b is_before (owners_in old) false (owners_in new)
-across_added t u is_before {old} {new} e a b =
-    subst (λ (l : List Tri). AddsLower t u b is_before (owners_in old) false l) (sym (added_owners a ∙ append-nil (owners_in old))) (misses (across_misses t u b e))
+pub other_plane_added : (t u : Tri) (is_before : Bool) {old new : List Cutter} → is_coplanar t u ≡ false → IsAdded u OtherPlane old new → (b : Aabb) → AddsLower t u b is_before (owners_in old) false (owners_in new)
+other_plane_added t u is_before {old} {new} e a b =
+    subst (λ (l : List Tri). AddsLower t u b is_before (owners_in old) false l) (sym (added_owners a ∙ append-nil (owners_in old))) (misses (other_plane_misses t u b e))
 
 -- a coplanar triangle lies relative to t as its role says, whether it comes before t or not
 pub coplanar_lies : (is_before : Bool) (t u : Tri) → is_coplanar t u ≡ true → LiesAs (role_if is_before) t u
@@ -91,7 +91,7 @@ owner_lower : (t : Tri) (c : Cutter) → IsCutterOf t c → Every (IsValidCoplan
 owner_lower t c h = by c.role h.lies
   where
     by : (k : Role) → LiesAs k t c.tri → Every (IsValidCoplanar t) (owner_as k c.tri)
-    by Across l = tt
+    by OtherPlane l = tt
     by Later l = tt
     by Earlier l = (record { valid = c.valid; coplanar = coplanar_turned c.tri t l }, tt)
 

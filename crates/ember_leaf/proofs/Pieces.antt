@@ -23,7 +23,7 @@ use Rattle.ember_ref.proofs.FarTriangles.{inside_closed}
 use Rattle.ember_trace.proofs.FilledFaces.{inside_below}
 use Rattle.ember_leaf.specs.declared.cutter.Cutter.{Cutter}
 use Rattle.ember_leaf.specs.declared.cutter.Role.{Role}
-use Rattle.ember_leaf.specs.declared.cutter.Role.TheVariants.{Across, Later, Earlier}
+use Rattle.ember_leaf.specs.declared.cutter.Role.TheVariants.{OtherPlane, Later, Earlier}
 use Rattle.ember_leaf.specs.TriRelations.{HasContaining}
 use Rattle.ember_leaf.specs.Written.{HasGrown}
 use Rattle.ember_leaf.specs.Cutters.{planes_as, owner_as, cutting_planes_with, owners_by, ended, left, dropped, AreDisjoint, IsFree, AreLeft, AreLeftByCutter, AreLeftByPlane, IsUncut, AreLeftByEdges, AreAround, CutOutTriangle, ShareAPlane, SharesAs, CanCut}
@@ -34,7 +34,7 @@ use Rattle.ember_leaf.proofs.CoplanarFaces.{unmet_disjoint, meets_inside}
 
 -- ---- a region that the triangle doesn't meet
 free_as : (k : Role) (t : Tri) (f : Face) → AreDisjoint (face_of t) f → IsFree (owner_as k t) f
-free_as Across t f d = record { free = tt }
+free_as OtherPlane t f d = record { free = tt }
 free_as Later t f d = record { free = tt }
 free_as Earlier t f d = record { free = (d, tt) }
 
@@ -49,8 +49,8 @@ plane_left t p f {gs} m h =
     record { all = gs; cuts = step (subst (λ (l : List Face). Each (AreLeftByCuttingPlane (record { face = face_of t; plane = p })) (f ∷ []) l) (append-nil gs) (more (h (face_of t) m) none)) done; without = none_dropped gs (λ g. record { free = tt }) }
 
 -- what the support plane of a triangle in another plane leaves of a region is what the triangle leaves
-pub across_left : (c : Cutter) (p : Plane) (f : Face) {old new : List Face} → c.role ≡ Across → p ≡ support_of c.tri → Meets f (face_of c.tri) → HasGrown (AreLeftByPlane p f) old new → HasGrown (AreLeftByCutter c f) old new
-across_left c p f {old} {new} e q m g =
+pub other_plane_left : (c : Cutter) (p : Plane) (f : Face) {old new : List Face} → c.role ≡ OtherPlane → p ≡ support_of c.tri → Meets f (face_of c.tri) → HasGrown (AreLeftByPlane p f) old new → HasGrown (AreLeftByCutter c f) old new
+other_plane_left c p f {old} {new} e q m g =
     record { more = g.more; is = g.is; holds = subst (λ (k : Role). AreLeft (cutting_planes_with c.tri (planes_as k c.tri)) (owner_as k c.tri) (f ∷ []) g.more) (sym e) (plane_left c.tri (support_of c.tri) f m (subst (λ (p : Plane). AreLeftByPlane p f g.more) q g.holds)) }
 
 -- a plane that cuts a region leaves its two parts
@@ -136,7 +136,7 @@ cut_out_left c f old new n e =
     record { more = f ∷ []; is = e; holds = record { all = f ∷ []; cuts = done; without = left (none c.role n) ended } }
   where
     none : (k : Role) → (k ≡ Earlier → ⊥) → IsFree (owner_as k c.tri) f
-    none Across m = record { free = tt }
+    none OtherPlane m = record { free = tt }
     none Later m = record { free = tt }
     none Earlier m = absurd (m refl)
 
@@ -213,16 +213,16 @@ all_cut_out t f n s m =
     record { around = around t; shared = meets_inside t f n s m; within = λ v i us. inside_all t v (s.face v i) (inside_out f v i).weight us }
 
 -- a coplanar cutter and the region lie in one plane
-pub cutter_shares_plane : (c : Cutter) (f : Face) → CanCut c f → c.role ≢ Across → ShareAPlane c.tri f
+pub cutter_shares_plane : (c : Cutter) (f : Face) → CanCut c f → c.role ≢ OtherPlane → ShareAPlane c.tri f
 cutter_shares_plane c f h n = by c.role n h.shares
   where
-    by : (k : Role) → (k ≡ Across → ⊥) → SharesAs k c.tri f → ShareAPlane c.tri f
-    by Across n s = absurd (n refl)
+    by : (k : Role) → (k ≡ OtherPlane → ⊥) → SharesAs k c.tri f → ShareAPlane c.tri f
+    by OtherPlane n s = absurd (n refl)
     by Later n s = s
     by Earlier n s = s
 
 -- the edge planes of a coplanar triangle that meets a region cut out of it what lies in the triangle
-pub edges_cut_out : (c : Cutter) (es : List Plane) (f : Face) → CanCut c f → c.role ≢ Across → es ≡ edges_of c.tri → Meets f (face_of c.tri) → CutOutTriangle c.tri es f
+pub edges_cut_out : (c : Cutter) (es : List Plane) (f : Face) → CanCut c f → c.role ≢ OtherPlane → es ≡ edges_of c.tri → Meets f (face_of c.tri) → CutOutTriangle c.tri es f
 edges_cut_out c es f h n e m =
     subst (λ (ps : List Plane). CutOutTriangle c.tri ps f) (sym e) (all_cut_out c.tri f c.normal (cutter_shares_plane c f h n) m)
 

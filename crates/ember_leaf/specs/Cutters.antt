@@ -19,20 +19,20 @@ use Rattle.ember_poly.specs.declared.reach_and_cut.Reach.{Reach}
 use Rattle.ember_poly.specs.declared.reach_and_cut.Reach.TheVariants.{Both}
 use Rattle.ember_poly.specs.Cuts.{HasInside, IsReach}
 use Rattle.ember_leaf.specs.declared.cutter.Role.{Role}
-use Rattle.ember_leaf.specs.declared.cutter.Role.TheVariants.{Across, Later, Earlier}
+use Rattle.ember_leaf.specs.declared.cutter.Role.TheVariants.{OtherPlane, Later, Earlier}
 use Rattle.ember_leaf.specs.declared.cutter.Cutter.{Cutter}
 use Rattle.ember_leaf.specs.TriRelations.{HasContaining}
 
 -- ---- what a triangle cuts by, and whether it owns what it contains
 -- the planes by which it cuts
 abbrev pub planes_as : Role → Tri → List Plane
-planes_as Across t = support_of t ∷ []
+planes_as OtherPlane t = support_of t ∷ []
 planes_as Later t = edges_of t
 planes_as Earlier t = edges_of t
 
 -- the triangle itself, if it owns what it contains
 abbrev pub owner_as : Role → Tri → List Tri
-owner_as Across t = []
+owner_as OtherPlane t = []
 owner_as Later t = []
 owner_as Earlier t = t ∷ []
 
@@ -43,7 +43,7 @@ role_if false = Later
 
 -- u lies relative to t, whose regions it cuts, as its role says
 abbrev pub LiesAs : Role → Tri → Tri → Type 0
-LiesAs Across t u = ⊤
+LiesAs OtherPlane t u = ⊤
 LiesAs Later t u = is_coplanar t u ≡ true
 LiesAs Earlier t u = is_coplanar t u ≡ true
 
@@ -153,7 +153,7 @@ pub record ShareAPlane (t : Tri) (f : Face) : Type 0 where
 
 -- they lie in one plane if the triangle cuts by its edge planes
 abbrev pub SharesAs : Role → Tri → Face → Type 0
-SharesAs Across t f = ⊤
+SharesAs OtherPlane t f = ⊤
 SharesAs Later t f = ShareAPlane t f
 SharesAs Earlier t f = ShareAPlane t f
 

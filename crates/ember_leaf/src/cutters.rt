@@ -88,8 +88,8 @@ fn add_unless_covering(
     }
     match relation_of(target, other) {
         Relation::Apart => Ok(false),
-        Relation::Across => {
-            add_cutter(list, other, Role::Across)?;
+        Relation::OtherPlane => {
+            add_cutter(list, other, Role::OtherPlane)?;
             Ok(false)
         }
         Relation::Coplanar => add_coplanar_unless_covering(list, target, other, is_before),

@@ -44,7 +44,7 @@ fn is_met(r: &Ring, cutter: &Cutter) -> bool
     ensures { IsTrue result ↔ Meets r.now (face_of cutter.now.tri) }
 {
     match cutter.role {
-        Role::Across => meets_face(r, &cutter.support, &cutter.edges),
+        Role::OtherPlane => meets_face(r, &cutter.support, &cutter.edges),
         _ => is_met_coplanar(r, cutter),
     }
 }
@@ -153,7 +153,7 @@ fn add_cut(alloc: Global, r: Ring, cutter: &Cutter, out: &mut Vec<Ring>) -> Resu
     ensures { OnOk result (HasGrown (AreLeftByCutter cutter.now r) out.old.items out.new.items) }
 {
     match cutter.role {
-        Role::Across => add_parts(alloc, r, &cutter.support, out),
+        Role::OtherPlane => add_parts(alloc, r, &cutter.support, out),
         _ => add_pieces(alloc, r, cutter, &cutter.edges, out),
     }
 }
