@@ -8,8 +8,8 @@ ghost use Rattle.ember_model.specs.Owners.{is_coplanar};
 ghost use Rattle.ember_box.specs.Near.{tri_at};
 ghost use Rattle.ember_leaf.specs.LeafTriangles.{tris_in};
 ghost use Rattle.ember_leaf.specs.Cutters.{role_if, IsAdded, IsCutterOf};
-ghost use Rattle.ember_leaf.specs.Lower.{AddsPlanesOf, AddsOwners};
-ghost use Rattle.ember_leaf.specs.Lower.{AddsCuttingPlanesWithin, AddsOwnersWithin, AreCuttingPlanesFound, AreOwnersFound};
+ghost use Rattle.ember_leaf.specs.EarlierTriangles.{AddsPlanesOf, AddsOwners};
+ghost use Rattle.ember_leaf.specs.EarlierTriangles.{AddsCuttingPlanesWithin, AddsOwnersWithin, AreCuttingPlanesFound, AreOwnersFound};
 
 use crate::cutter::{Cutter, Role};
 use crate::leaf_triangle::LeafTriangle;

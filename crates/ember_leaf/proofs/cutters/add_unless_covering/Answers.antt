@@ -1,7 +1,7 @@
 use Rattle.std.proofs.Common.{◌∙◌, sym, subst}
 use Rattle.ember_leaf.specs.TriRelations.{IsRelation}
-use Rattle.ember_leaf.specs.Lower.{misses}
-use Rattle.ember_leaf.proofs.LowerTriangles.{flat_misses, apart_misses, other_plane_added}
+use Rattle.ember_leaf.specs.EarlierTriangles.{misses}
+use Rattle.ember_leaf.proofs.EarlierTriangles.{flat_misses, apart_misses, other_plane_added}
 use Rattle.ember_leaf.proofs.UnmetPlanes.{adds_flat, adds_apart, adds_all, support_cutting_planes, added_cutting_planes, added_cutters}
 use Rattle.ember_leaf.proofs.cutters.add_unless_covering.Goals as goal
 

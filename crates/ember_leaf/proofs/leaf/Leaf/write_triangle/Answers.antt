@@ -9,9 +9,9 @@ use Rattle.ember_box.specs.Boxes.{Cell}
 use Rattle.ember_box.specs.Regions.{walls, IsStart, cutting_planes}
 use Rattle.ember_box.specs.Regions as regions
 use Rattle.ember_leaf.specs.declared.wall.Wall.{Wall}
-use Rattle.ember_leaf.specs.Lower.{AreLowerOrCovered}
+use Rattle.ember_leaf.specs.EarlierTriangles.{AreEarlierOrCovered}
 use Rattle.ember_leaf.specs.Written.{hidden}
-use Rattle.ember_leaf.proofs.LowerTriangles.{is_covered}
+use Rattle.ember_leaf.proofs.EarlierTriangles.{is_covered}
 use Rattle.ember_leaf.proofs.WrittenRegions.{grown_none, none_started, none_flat}
 use Rattle.ember_model.specs.declared.tri.Tri.{Tri}
 use Rattle.ember_box.specs.Near.{tri_at}
@@ -42,7 +42,7 @@ pub returns-then-branch-clause-written : goal.returns-then-branch-clause-written
 returns-then-branch-clause-written c =
     let s = c.args.self.now in let near = s.near.now in let ns = tris_of near in let i = c.args.i in let t = (get_or s.triangles.now i c.index-self-i.result).tri in
     let b = c.common_spans-bounds.result in let us = owners_in c.find_cutters.new.list.items in
-    let h = subst (λ ts. AreLowerOrCovered ts i t b us true) c.requires.same (subst (AreLowerOrCovered (tris_in s.triangles.now) i t b us) c.if-branch.true c.in_ok-find_cutters.ensures.owners) in
+    let h = subst (λ ts. AreEarlierOrCovered ts i t b us true) c.requires.same (subst (AreEarlierOrCovered (tris_in s.triangles.now) i t b us) c.if-branch.true c.in_ok-find_cutters.ensures.owners) in
     grown_none _ c.args.kept.now.items (λ scene f. hidden (is_covered ns i t b (same_tri s.triangles.now near c.requires.same i c.requires.index c.index-self-i.result) (same_listed s.triangles.now near c.requires.same i c.requires.index) h))
 
 pub find_cutters-requires-clause-target : goal.find_cutters-requires-clause-target
@@ -61,7 +61,7 @@ add_if_written-requires-clause-regions c =
     let s = c.args.self.now in let near = s.near.now in let ns = tris_of near in let i = c.args.i in let f = get_or s.triangles.now i c.index-self-i.result in
     let ring = c.in-Some.ring in let b = c.common_spans-bounds.result in let cs = c.find_cutters.new.list.items in let k = c.in_ok-find_cutters.ensures in
     let empty : cs ≡ [] = nil_from_length cs (sym c.find_cutters.new.list.ok.0 ∙ eqb-true _ _ (sym c.is_empty.ensures ∙ c.if-is_empty.true)) in
-    leaf_owned s.cell.now f ring ns i c.args.walls.now cs b (ring ∷ []) (same_tri s.triangles.now near c.requires.same i c.requires.index c.index-self-i.result) (same_listed s.triangles.now near c.requires.same i c.requires.index) c.requires.walls (c.common_spans-bounds.ensures ∙ ap (common_of f.aabb) c.requires.aabb) (subst (λ o. IsClippedBy (map wall_of c.args.walls.now) f.tri (option_to_list o)) c.in-Some.is c.in_ok-ring.ensures) (subst (λ ts. OmitsUnmet (IsBounded f.tri b) (cutting_planes ts i) (cutting_planes_in cs)) c.requires.same (k.cutting_planes c.if-branch.false)) k.cutters (subst (λ ts. AreLowerOrCovered ts i f.tri b (owners_in cs) false) c.requires.same (subst (AreLowerOrCovered (tris_in s.triangles.now) i f.tri b (owners_in cs)) c.if-branch.false k.owners)) (subst (λ us. AreCut us (ring ∷ []) (ring ∷ [])) (sym empty) done)
+    leaf_owned s.cell.now f ring ns i c.args.walls.now cs b (ring ∷ []) (same_tri s.triangles.now near c.requires.same i c.requires.index c.index-self-i.result) (same_listed s.triangles.now near c.requires.same i c.requires.index) c.requires.walls (c.common_spans-bounds.ensures ∙ ap (common_of f.aabb) c.requires.aabb) (subst (λ o. IsClippedBy (map wall_of c.args.walls.now) f.tri (option_to_list o)) c.in-Some.is c.in_ok-ring.ensures) (subst (λ ts. OmitsUnmet (IsBounded f.tri b) (cutting_planes ts i) (cutting_planes_in cs)) c.requires.same (k.cutting_planes c.if-branch.false)) k.cutters (subst (λ ts. AreEarlierOrCovered ts i f.tri b (owners_in cs) false) c.requires.same (subst (AreEarlierOrCovered (tris_in s.triangles.now) i f.tri b (owners_in cs)) c.if-branch.false k.owners)) (subst (λ us. AreCut us (ring ∷ []) (ring ∷ [])) (sym empty) done)
 
 pub add_if_written-requires-clause-plane : goal.add_if_written-requires-clause-plane
 add_if_written-requires-clause-plane c =
@@ -82,7 +82,7 @@ pub add_written-requires-clause-regions : goal.add_written-requires-clause-regio
 add_written-requires-clause-regions c =
     let s = c.args.self.now in let near = s.near.now in let ns = tris_of near in let i = c.args.i in let f = get_or s.triangles.now i c.index-self-i.result in
     let ring = c.in-Some.ring in let b = c.common_spans-bounds.result in let cs = c.find_cutters.new.list.items in let k = c.in_ok-find_cutters.ensures in
-    leaf_owned s.cell.now f ring ns i c.args.walls.now cs b c.in_ok-list.list.items (same_tri s.triangles.now near c.requires.same i c.requires.index c.index-self-i.result) (same_listed s.triangles.now near c.requires.same i c.requires.index) c.requires.walls (c.common_spans-bounds.ensures ∙ ap (common_of f.aabb) c.requires.aabb) (subst (λ o. IsClippedBy (map wall_of c.args.walls.now) f.tri (option_to_list o)) c.in-Some.is c.in_ok-ring.ensures) (subst (λ ts. OmitsUnmet (IsBounded f.tri b) (cutting_planes ts i) (cutting_planes_in cs)) c.requires.same (k.cutting_planes c.if-branch.false)) k.cutters (subst (λ ts. AreLowerOrCovered ts i f.tri b (owners_in cs) false) c.requires.same (subst (AreLowerOrCovered (tris_in s.triangles.now) i f.tri b (owners_in cs)) c.if-branch.false k.owners)) (subst (λ us. AreCut us (ring ∷ []) c.in_ok-list.list.items) c.deref.ensures.value c.in_ok-list.ensures)
+    leaf_owned s.cell.now f ring ns i c.args.walls.now cs b c.in_ok-list.list.items (same_tri s.triangles.now near c.requires.same i c.requires.index c.index-self-i.result) (same_listed s.triangles.now near c.requires.same i c.requires.index) c.requires.walls (c.common_spans-bounds.ensures ∙ ap (common_of f.aabb) c.requires.aabb) (subst (λ o. IsClippedBy (map wall_of c.args.walls.now) f.tri (option_to_list o)) c.in-Some.is c.in_ok-ring.ensures) (subst (λ ts. OmitsUnmet (IsBounded f.tri b) (cutting_planes ts i) (cutting_planes_in cs)) c.requires.same (k.cutting_planes c.if-branch.false)) k.cutters (subst (λ ts. AreEarlierOrCovered ts i f.tri b (owners_in cs) false) c.requires.same (subst (AreEarlierOrCovered (tris_in s.triangles.now) i f.tri b (owners_in cs)) c.if-branch.false k.owners)) (subst (λ us. AreCut us (ring ∷ []) c.in_ok-list.list.items) c.deref.ensures.value c.in_ok-list.ensures)
 
 pub add_written-requires-clause-plane : goal.add_written-requires-clause-plane
 add_written-requires-clause-plane c =
