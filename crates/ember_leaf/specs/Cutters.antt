@@ -8,7 +8,7 @@ use Rattle.ember_model.specs.declared.plane.Plane.{Plane}
 use Rattle.ember_model.specs.declared.point.Spot.{Spot}
 use Rattle.ember_model.specs.declared.face.Face.{Face}
 use Rattle.ember_model.specs.Planes.{support_of, value_at}
-use Rattle.ember_model.specs.Faces.{edges_of, face_of, is_inside, is_in_closed, Somewhere, Everywhere, Meets, Contains}
+use Rattle.ember_model.specs.Faces.{edges_of, face_of, is_inside, is_in_closed, Somewhere, Everywhere, Cuts, Meets, Contains, below, above}
 use Rattle.ember_model.specs.Owners.{is_coplanar}
 use Rattle.ember_box.specs.declared.aabb.Interval.{Interval}
 use Rattle.ember_box.specs.declared.aabb.Aabb.{Aabb}
@@ -108,8 +108,8 @@ abbrev pub AreSplit : Cutter → List Face → List Face → Type 0
 AreSplit c fs gs = Each (AreLeftByCutter c) fs gs
 
 -- the list has grown by what the triangle leaves of fs
-abbrev pub IsSplitBehind : Cutter → List Face → List Face → List Face → Type 0
-IsSplitBehind c fs old new = (front : List Face) → AreSplit c front old → AreSplit c (front ++ fs) new
+abbrev pub AddsSplit : Cutter → List Face → List Face → List Face → Type 0
+AddsSplit c fs old new = (front : List Face) → AreSplit c front old → AreSplit c (front ++ fs) new
 
 -- what the triangles leave of the regions, one after another
 abbrev pub AreCut : List Cutter → List Face → List Face → Type 0
@@ -132,9 +132,11 @@ pub record CutOutTriangle (t : Tri) (ps : List Plane) (f : Face) : Type 0 where
   pub shared : Somewhere f (λ v. is_inside (face_of t) v ≡ true)
   pub within : (v : Spot) → is_inside f v ≡ true → AllByRecursion (λ p. IsBelow p v) ps → is_inside (face_of t) v ≡ true
 
--- what a plane leaves of a region that meets the face of the plane's triangle, whichever face that is
-abbrev pub AreLeftByPlane : Plane → Face → List Face → Type 0
-AreLeftByPlane p f gs = (g : Face) → Meets f g → AreLeftByCuttingPlane (record { face = g; plane = p }) f gs
+-- what a plane leaves of a region that meets the plane's triangle: its two parts if the plane cuts it, otherwise
+-- the region itself
+pub data SplitsIfCut (p : Plane) (f : Face) : List Face → Type 0 where
+  in_parts : Cuts f p → SplitsIfCut p f (below f p ∷ above f p ∷ [])
+  in_one : (Cuts f p → ⊥) → SplitsIfCut p f (f ∷ [])
 
 -- the plane doesn't cut f
 pub record IsUncut (f : Face) (p : Plane) : Type 0 where

@@ -10,7 +10,7 @@ ghost use Rattle.std.specs.Prelude.{All, IfOk, OnOk};
 ghost use Rattle.std.specs.List.{AllByRecursion};
 ghost use Rattle.ember_model.specs.Valid.{IsValidPlane};
 ghost use Rattle.ember_model.specs.Faces.{face_of, Meets};
-ghost use Rattle.ember_leaf.specs.Cutters.{AreLeftByCutter, AreLeftByEdges, AreLeftByPlane, IsUncut, AreSplit, AreCut, IsSplitBehind};
+ghost use Rattle.ember_leaf.specs.Cutters.{AreLeftByCutter, AreLeftByEdges, SplitsIfCut, IsUncut, AreSplit, AreCut, AddsSplit};
 ghost use Rattle.ember_leaf.specs.Cutters.{MeetsFirst, CutOutTriangle, ShareAPlane, CanCut};
 ghost use Rattle.ember_leaf.specs.declared.cutter.Role.TheVariants.{Earlier};
 ghost use Rattle.ember_poly.specs.Cuts.{HasInside};
@@ -67,7 +67,7 @@ fn count_apart(list: &[Ring], cutter: &Cutter) -> usize
 // Adds the two parts of a region if the plane cuts it, otherwise the region itself.
 fn add_parts(alloc: Global, r: Ring, p: &Plane, out: &mut Vec<Ring>) -> Result<(), OutOfMemory>
     requires { IsValidPlane p.now }
-    ensures { OnOk result (HasGrown (AreLeftByPlane p.now r) out.old.items out.new.items) }
+    ensures { OnOk result (HasGrown (SplitsIfCut p.now r) out.old.items out.new.items) }
 {
     match reach(&r, p) {
         Reach::Both => {
@@ -167,7 +167,7 @@ fn add_all(
 ) -> Result<(), OutOfMemory>
     requires met { MeetsFirst cutter.now list.items }
     requires plane { All (CanCut cutter.now) list.items }
-    ensures { OnOk result (IsSplitBehind cutter.now list.items out.old.items out.new.items) }
+    ensures { OnOk result (AddsSplit cutter.now list.items out.old.items out.new.items) }
 {
     let mut is_first = true;
     for r in list {
