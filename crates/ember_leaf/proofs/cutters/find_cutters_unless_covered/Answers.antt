@@ -13,8 +13,8 @@ use Rattle.ember_leaf.specs.EarlierTriangles.{AreEarlier}
 use Rattle.ember_leaf.proofs.RegionOrder.{own_is, listed_too, all_listed}
 use Rattle.ember_leaf.proofs.EarlierTriangles.{lt_out, lt_in, none_listed, own_listed, other_listed, cover_found}
 use Rattle.ember_leaf.proofs.UnmetPlanes.{own_next, other_next}
-use Rattle.ember_leaf.proofs.cutters.find_cutters.Goals.{else-j-i-via-then-j-i+in_ok-add_near_unless_covering+else-branch, else-j-i-via-else-j-i}
-use Rattle.ember_leaf.proofs.cutters.find_cutters.Goals as goal
+use Rattle.ember_leaf.proofs.cutters.find_cutters_unless_covered.Goals.{else-j-i-via-then-j-i+in_ok-add_near_unless_covering+else-branch, else-j-i-via-else-j-i}
+use Rattle.ember_leaf.proofs.cutters.find_cutters_unless_covered.Goals as goal
 
 abbrev IsNext : Tri → Aabb → List Tri → ℕ → ℕ → List Cutter → Type 0
 IsNext t b ts i n cs =

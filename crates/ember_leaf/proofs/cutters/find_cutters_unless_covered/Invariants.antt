@@ -4,7 +4,7 @@ use Rattle.ember_box.specs.Regions.{cutting_planes_at}
 use Rattle.ember_leaf.specs.EarlierTriangles.{AreEarlier}
 use Rattle.ember_leaf.specs.LeafTriangles.{tris_in}
 use Rattle.ember_leaf.specs.Cutters.{cutting_planes_in, owners_in, IsCutterOf, IsBounded, OmitsUnmet}
-use Rattle.ember_leaf.proofs.cutters.find_cutters.Given as goal
+use Rattle.ember_leaf.proofs.cutters.find_cutters_unless_covered.Given as goal
 
 abbrev pub invariant-loop-j : goal.invariant-loop-j
 invariant-loop-j l =
