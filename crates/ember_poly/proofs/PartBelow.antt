@@ -82,7 +82,7 @@ module _ (n p : Plane) (gs : List Plane) (f l : Side) (ks : List Side) (y z : Sp
     pub at_most : AllByRecursion (λ s. IsNotAbove d.plane s.corner) part
 
   record Division (ds : List Side) : Type 0 where
-    pub stands : Represents n (gs ++ p ∷ []) part
+    pub represents : Represents n (gs ++ p ∷ []) part
     pub out : (v : Spot) → IsInClosedRing n part v → IsInClosedRing n (f ∷ (ks ++ l ∷ []) ++ ds) v
     pub gone : AllByRecursion (λ d. Gone d) ds
 
@@ -90,7 +90,7 @@ module _ (n p : Plane) (gs : List Plane) (f l : Side) (ks : List Side) (y z : Sp
   divide [] s q =
       let o = below_all n p f l y z (length gs) q.over my mz ks (subst (λ zs. IsConvexRing n (f ∷ zs)) (append-nil (ks ++ l ∷ [])) s.sound) under in
       let r = part_of n p f l ks [] y z (length gs) f.corner s.sound (head_closed n f ((ks ++ l ∷ []) ++ []) s.sound) o in
-      record { stands = cut_all n p gs f l ks y z my mz s q.over under; out = λ v k. (r.out_closed v k).0; gone = tt }
+      record { represents = cut_all n p gs f l ks y z my mz s q.over under; out = λ v k. (r.out_closed v k).0; gone = tt }
   divide (d ∷ ds) s q =
       let o = below_some n p f l d ds y z (length gs) enters.at_least q.0.at_least my mz ks s.sound under in
       let r = part_of n p f l ks (d ∷ ds) y z (length gs) d.corner s.sound (corner_closed n (f ∷ (ks ++ l ∷ [])) d ds s.sound) o in
@@ -98,7 +98,7 @@ module _ (n p : Plane) (gs : List Plane) (f l : Side) (ks : List Side) (y z : Sp
       let most = each_swap (λ (s t : Side). IsNotAbove t.plane s.corner) part (d ∷ ds) (each_map (λ s. IsInClosedRing n part s.corner) (λ s. AllByRecursion (λ t. IsNotAbove t.plane s.corner) (d ∷ ds)) part (λ s k. each-back (λ t. IsNotAbove t.plane s.corner) (ks ++ l ∷ []) (d ∷ ds) (r.out_closed s.corner k).0.within.1) (ring-closed n part o.sound)) in
       let listed = each-back (λ t. IsInPlanes gs t) (ks ++ l ∷ []) (d ∷ ds) s.listed.1 in
       record {
-        stands = cut_some n p gs f l ks y z my mz d ds s enters.at_least q.0.at_least under;
+        represents = cut_some n p gs f l ks y z my mz d ds s enters.at_least q.0.at_least under;
         out = λ v k. (r.out_closed v k).0;
         gone = each_both (λ t. IsInPlanes gs t) (λ t. IsBelowAllButOne t.plane part × AllByRecursion (λ s. IsNotAbove t.plane s.corner) part) (λ t. Gone t) (d ∷ ds) (λ t a b. record { listed = a; lone = b.0; at_most = b.1 }) listed (each_both (λ t. IsBelowAllButOne t.plane part) (λ t. AllByRecursion (λ s. IsNotAbove t.plane s.corner) part) (λ t. IsBelowAllButOne t.plane part × AllByRecursion (λ s. IsNotAbove t.plane s.corner) part) (d ∷ ds) (λ t a b. (a, b)) lone most);
       }
@@ -124,7 +124,7 @@ module _ (n p : Plane) (gs : List Plane) (f l : Side) (ks : List Side) (y z : Sp
 
       lost : (i : ℕ) (h : Plane) → slice_get gs i ≡ Some h → Found (λ s. s.plane_index ≡ i) (λ d. Gone d) → IsZeroAtOnePoint n part h
       lost i h e t =
-          gone_single t.member h dv.stands.sound t.also (sym t.also.listed.here ∙ ap (λ j. get_or gs j t.member.plane) t.holds ∙ get_or_from_slice_get gs i h t.member.plane e)
+          gone_single t.member h dv.represents.sound t.also (sym t.also.listed.here ∙ ap (λ j. get_or gs j t.member.plane) t.holds ∙ get_or_from_slice_get gs i h t.member.plane e)
 
       born : (i : ℕ) (h : Plane) → slice_get gs i ≡ Some h → HasSome (λ s. s.plane_index ≡ i) (f ∷ (ks ++ l ∷ []) ++ ds) → HasPlaneIndex i part ⊎ IsZeroAtOnePoint n part h
       born i h e (inl b) = inl (has_born i part (inl b))
@@ -156,10 +156,10 @@ module _ (n p : Plane) (gs : List Plane) (xs : List Side) (at : Passage) (q : Is
   pub below_ring : (es : List Plane) (ms : List Meet) (bs : List ℕ) (k j : ℕ) (hs : List Plane) → sides_of es ms bs ≡ rotated j (rotated k (part_sides xs at p (length gs))) → LeastFirst bs → length ms ≡ length es → length bs ≡ length es → hs ≡ gs ++ p ∷ [] → IsValidPlane n → All IsValidPlane gs → IsValidPlane p → IsRing n hs es ms bs
   below_ring es ms bs k j hs et least em el eh vn vs vp =
       let e : sides_of es ms bs ≡ rotated j (rotated k below_sides) = et ∙ ap (λ zs. rotated j (rotated k zs)) (part_is n p xs at q (length gs)) in
-      let s = begun_stands n (gs ++ p ∷ []) j (rotated k below_sides) (begun_stands n (gs ++ p ∷ []) k below_sides division.stands) in
+      let s = begun_stands n (gs ++ p ∷ []) j (rotated k below_sides) (begun_stands n (gs ++ p ∷ []) k below_sides division.represents) in
       let c = begun_counted n (gs ++ p ∷ []) j (rotated k below_sides) (begun_counted n (gs ++ p ∷ []) k below_sides (divide_counted n p gs q.head q.last q.front (spot_of at.exit) (spot_of at.entry) q.entry q.exit q.under q.enters q.others (subst (λ zs. AllAreEdges n gs zs) q.turned (begun_counted n gs at.entry_edge xs ct)) division)) in
       record {
-        stands = subst (λ us. Represents n us (sides_of es ms bs)) (sym eh) (subst (λ us. Represents n (gs ++ p ∷ []) us) (sym e) s);
+        represents = subst (λ us. Represents n us (sides_of es ms bs)) (sym eh) (subst (λ us. Represents n (gs ++ p ∷ []) us) (sym e) s);
         oldest = oldest_first es ms bs least;
         counted = subst (λ us. AllAreEdges n us (sides_of es ms bs)) (sym eh) (subst (λ us. AllAreEdges n (gs ++ p ∷ []) us) (sym e) c);
         corners = em;

@@ -112,7 +112,7 @@ same_sides t u v w eu ev ew =
 ring_of : (t : Tri) (u v w : Meet) → is_flat t ≡ false → spot_of u ≡ spot_of_corner t.a → spot_of v ≡ spot_of_corner t.b → spot_of w ≡ spot_of_corner t.c → IsValidPlane (support_of t) → All IsValidPlane (tri_planes t) → IsRing (support_of t) (tri_planes t) (tri_planes t) (places u v w) (0 ∷ 1 ∷ 2 ∷ [])
 ring_of t u v w e eu ev ew vn vs =
     let q = sym (same_sides t u v w eu ev ew) in
-    record { stands = subst (λ xs. Represents (support_of t) (tri_planes t) xs) q (stands t e); oldest = subst (λ xs. FirstPlaneFirst xs) q (omega arith, (omega arith, tt)); counted = subst (λ xs. AllAreEdges (support_of t) (tri_planes t) xs) q (counted t); corners = refl; plane_indices = refl; support = vn; planes = vs }
+    record { represents = subst (λ xs. Represents (support_of t) (tri_planes t) xs) q (stands t e); oldest = subst (λ xs. FirstPlaneFirst xs) q (omega arith, (omega arith, tt)); counted = subst (λ xs. AllAreEdges (support_of t) (tri_planes t) xs) q (counted t); corners = refl; plane_indices = refl; support = vn; planes = vs }
 
 -- from what the code holds
 pub tri_ring : (t : Tri) (n : Plane) (u v w : Meet) {fs gs es : List Plane} {ms : List Meet} {bs : List ℕ} → is_flat t ≡ false → n ≡ support_of t → IsValidPlane n → fs ≡ tri_planes t → All IsValidPlane fs → gs ≡ fs → es ≡ fs → ms ≡ places u v w → bs ≡ 0 ∷ 1 ∷ 2 ∷ [] → spot_of u ≡ spot_of_corner t.a → spot_of v ≡ spot_of_corner t.b → spot_of w ≡ spot_of_corner t.c → IsRing n gs es ms bs

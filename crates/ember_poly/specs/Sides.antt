@@ -42,7 +42,7 @@ AllAreEdges n gs xs = (i : ℕ) (h : Plane) → slice_get gs i ≡ Some h → Ha
 
 -- what a ring keeps: the support plane, all planes, and the edges with their corners and plane indices
 pub record IsRing (n : Plane) (gs es : List Plane) (ms : List Meet) (bs : List ℕ) : Type 0 where
-  pub stands : Represents n gs (sides_of es ms bs)
+  pub represents : Represents n gs (sides_of es ms bs)
   pub oldest : FirstPlaneFirst (sides_of es ms bs)
   pub counted : AllAreEdges n gs (sides_of es ms bs)
   pub corners : length ms ≡ length es
