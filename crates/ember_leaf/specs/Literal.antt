@@ -35,8 +35,8 @@ abbrev pub CannotFail : Type 0 → Type 0
 CannotFail P = (P → ⊥) → ⊥
 
 -- it is impossible that no list has the property; which list has it isn't said
-abbrev pub HasSome : (List Kept → Type 0) → Type 0
-HasSome P = ((ks : List Kept) → P ks → ⊥) → ⊥
+abbrev pub CannotLackList : (List Kept → Type 0) → Type 0
+CannotLackList P = ((ks : List Kept) → P ks → ⊥) → ⊥
 
 -- only the empty list can have the property
 abbrev pub IsNothing : (List Kept → Type 0) → Type 0

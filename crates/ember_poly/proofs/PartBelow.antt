@@ -16,9 +16,9 @@ use Rattle.ember_point.specs.declared.meet_point.Meet.{Meet}
 use Rattle.ember_point.specs.Points.{spot_of}
 use Rattle.ember_poly.specs.declared.passage.Passage.{Passage}
 use Rattle.ember_poly.specs.Rings.{with_start, closing_side, Side, IsBelow, IsNotAbove, IsNotBelow, IsBelowAllButOne, IsMeet, IsConvexRing, IsInClosedRing, IsInPlanes, Represents}
-use Rattle.ember_poly.specs.Sides.{sides_of, HasPlaneIndex, IsZeroAtOnePoint, AllAreEdges, IsRing}
+use Rattle.ember_poly.specs.Sides.{sides_of, HasPlaneIndex, IsZeroAtOnePoint, EachHasSideOrNoEdge, IsRing}
 use Rattle.ember_poly.specs.Boundaries.{rotated, part_sides, with_first_start, LeastFirst}
-use Rattle.ember_poly.specs.Passages.{HasSome, Leaves, IsPassage}
+use Rattle.ember_poly.specs.Passages.{HasMember, Leaves, IsPassage}
 use Rattle.ember_poly.proofs.Chains.{each_map, each_both, each-back}
 use Rattle.ember_poly.proofs.RingBelow.{below_some, below_all}
 use Rattle.ember_poly.proofs.Hull.{closed_turned}
@@ -67,7 +67,7 @@ same_from u v h =
     third = solve 5 (λ k x y z w. k ⊗ z ≈ k ⊗ (num (pos 0) ⊗ x ⊕ num (pos 0) ⊗ y ⊕ num (pos 1) ⊗ z ⊖ num (pos 0) ⊗ w)) cancels
 
 -- ---- what is counted, after a turn
-counted_turned : (n : Plane) (gs : List Plane) (xs ys : List Side) → AllAreEdges n gs (xs ++ ys) → AllAreEdges n gs (ys ++ xs)
+counted_turned : (n : Plane) (gs : List Plane) (xs ys : List Side) → EachHasSideOrNoEdge n gs (xs ++ ys) → EachHasSideOrNoEdge n gs (ys ++ xs)
 counted_turned n gs xs ys c =
     λ i h e. ⊎_elim (λ b. inl (has_born i (ys ++ xs) (has-turned (λ s. s.plane_index ≡ i) xs ys (born_has i (xs ++ ys) b)))) (λ s. inr (λ u v ku kv. s u v (closed_turned n u ys xs ku) (closed_turned n v ys xs kv))) (c i h e)
 
@@ -108,7 +108,7 @@ module _ (n p : Plane) (gs : List Plane) (f l : Side) (ks : List Side) (y z : Sp
   gone_single d h s g e =
       subst (λ k. IsZeroAtOnePoint n part k) e (λ u v ku kv zu zv. same_from u v (λ k. one_place n d.plane part s g.at_most g.lone u v k ku kv zu zv))
 
-  divide_counted : (ds : List Side) → AllAreEdges n gs (f ∷ (ks ++ l ∷ []) ++ ds) → Division ds → AllAreEdges n (gs ++ p ∷ []) part
+  divide_counted : (ds : List Side) → EachHasSideOrNoEdge n gs (f ∷ (ks ++ l ∷ []) ++ ds) → Division ds → EachHasSideOrNoEdge n (gs ++ p ∷ []) part
   divide_counted ds ct dv =
       λ i h e. ⊎_elim (λ b. before i h (within i h b e)) (λ b. inl (newest i (last i h b e))) (cases_lt i (length gs))
     where
@@ -126,7 +126,7 @@ module _ (n p : Plane) (gs : List Plane) (f l : Side) (ks : List Side) (y z : Sp
       lost i h e t =
           gone_single t.member h dv.represents.sound t.also (sym t.also.listed.here ∙ ap (λ j. get_or gs j t.member.plane) t.holds ∙ get_or_from_slice_get gs i h t.member.plane e)
 
-      born : (i : ℕ) (h : Plane) → slice_get gs i ≡ Some h → HasSome (λ s. s.plane_index ≡ i) (f ∷ (ks ++ l ∷ []) ++ ds) → HasPlaneIndex i part ⊎ IsZeroAtOnePoint n part h
+      born : (i : ℕ) (h : Plane) → slice_get gs i ≡ Some h → HasMember (λ s. s.plane_index ≡ i) (f ∷ (ks ++ l ∷ []) ++ ds) → HasPlaneIndex i part ⊎ IsZeroAtOnePoint n part h
       born i h e (inl b) = inl (has_born i part (inl b))
       born i h e (inr b) =
           ⊎_elim (λ a. inl (has_born i part (inr (has-front (λ s. s.plane_index ≡ i) (ks ++ l ∷ []) (closing_side p y (length gs) ∷ []) a)))) (λ a. inr (lost i h e (has_pick (λ s. s.plane_index ≡ i) (λ d. Gone d) ds a dv.gone))) (has-split (λ s. s.plane_index ≡ i) (ks ++ l ∷ []) ds b)
@@ -141,11 +141,11 @@ begun_stands : (n : Plane) (gs : List Plane) (k : ℕ) (xs : List Side) → Repr
 begun_stands n gs k xs s =
     stands_turned n gs (take k xs) (drop k xs) (subst (λ zs. Represents n gs zs) (sym (take-append-drop k xs)) s)
 
-begun_counted : (n : Plane) (gs : List Plane) (k : ℕ) (xs : List Side) → AllAreEdges n gs xs → AllAreEdges n gs (drop k xs ++ take k xs)
+begun_counted : (n : Plane) (gs : List Plane) (k : ℕ) (xs : List Side) → EachHasSideOrNoEdge n gs xs → EachHasSideOrNoEdge n gs (drop k xs ++ take k xs)
 begun_counted n gs k xs c =
-    counted_turned n gs (take k xs) (drop k xs) (subst (λ zs. AllAreEdges n gs zs) (sym (take-append-drop k xs)) c)
+    counted_turned n gs (take k xs) (drop k xs) (subst (λ zs. EachHasSideOrNoEdge n gs zs) (sym (take-append-drop k xs)) c)
 
-module _ (n p : Plane) (gs : List Plane) (xs : List Side) (at : Passage) (q : IsPassage n p xs at) (st : Represents n gs xs) (ct : AllAreEdges n gs xs) where
+module _ (n p : Plane) (gs : List Plane) (xs : List Side) (at : Passage) (q : IsPassage n p xs at) (st : Represents n gs xs) (ct : EachHasSideOrNoEdge n gs xs) where
   abbrev below_sides : List Side
   below_sides = with_start q.head (spot_of at.entry) ∷ (q.front ++ q.last ∷ []) ++ closing_side p (spot_of at.exit) (length gs) ∷ []
 
@@ -157,11 +157,11 @@ module _ (n p : Plane) (gs : List Plane) (xs : List Side) (at : Passage) (q : Is
   below_ring es ms bs k j hs et least em el eh vn vs vp =
       let e : sides_of es ms bs ≡ rotated j (rotated k below_sides) = et ∙ ap (λ zs. rotated j (rotated k zs)) (part_is n p xs at q (length gs)) in
       let s = begun_stands n (gs ++ p ∷ []) j (rotated k below_sides) (begun_stands n (gs ++ p ∷ []) k below_sides division.represents) in
-      let c = begun_counted n (gs ++ p ∷ []) j (rotated k below_sides) (begun_counted n (gs ++ p ∷ []) k below_sides (divide_counted n p gs q.head q.last q.front (spot_of at.exit) (spot_of at.entry) q.entry q.exit q.under q.enters q.others (subst (λ zs. AllAreEdges n gs zs) q.turned (begun_counted n gs at.entry_edge xs ct)) division)) in
+      let c = begun_counted n (gs ++ p ∷ []) j (rotated k below_sides) (begun_counted n (gs ++ p ∷ []) k below_sides (divide_counted n p gs q.head q.last q.front (spot_of at.exit) (spot_of at.entry) q.entry q.exit q.under q.enters q.others (subst (λ zs. EachHasSideOrNoEdge n gs zs) q.turned (begun_counted n gs at.entry_edge xs ct)) division)) in
       record {
         represents = subst (λ us. Represents n us (sides_of es ms bs)) (sym eh) (subst (λ us. Represents n (gs ++ p ∷ []) us) (sym e) s);
         oldest = oldest_first es ms bs least;
-        counted = subst (λ us. AllAreEdges n us (sides_of es ms bs)) (sym eh) (subst (λ us. AllAreEdges n (gs ++ p ∷ []) us) (sym e) c);
+        counted = subst (λ us. EachHasSideOrNoEdge n us (sides_of es ms bs)) (sym eh) (subst (λ us. EachHasSideOrNoEdge n (gs ++ p ∷ []) us) (sym e) c);
         corners = em;
         plane_indices = el;
         support = vn;

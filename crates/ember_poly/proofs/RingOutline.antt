@@ -12,7 +12,7 @@ use Rattle.ember_model.specs.declared.face.Face.{Face}
 use Rattle.ember_model.specs.Planes.{value_at}
 use Rattle.ember_model.specs.Edges.{SamePoint, is_on_edge, HasEdge, SameEdge, IsEarliest, RingEdge, IsEdge, IsEdgeChain, HasEdgeOf, HaveDistinctEdges, IsOutline}
 use Rattle.ember_poly.specs.Rings.{Side, IsBelow, IsNotAbove, IsConvexRing, IsInClosedRing, IsInPlanes, Represents}
-use Rattle.ember_poly.specs.Sides.{FirstPlaneFirst, HasPlaneIndex, IsZeroAtOnePoint, AllAreEdges}
+use Rattle.ember_poly.specs.Sides.{OldestFirst, HasPlaneIndex, IsZeroAtOnePoint, EachHasSideOrNoEdge}
 use Rattle.ember_poly.proofs.Chains.{each-front, each-back, each_map}
 use Rattle.ember_poly.proofs.Rotations.{turned_by, each-turned}
 use Rattle.ember_poly.proofs.Hull.{last_of}
@@ -116,7 +116,7 @@ among_at f h (x ∷ xs) zero s e same = inl (subst (λ (s : Side). SameEdge f h 
     by e = cc
 among_at f h (x ∷ xs) (suc i) s e same = inr (among_at f h xs i s e same)
 
-module _ (n : Plane) (gs : List Plane) (xs : List Side) (represents : Represents n gs xs) (counted : AllAreEdges n gs xs) where
+module _ (n : Plane) (gs : List Plane) (xs : List Side) (represents : Represents n gs xs) (counted : EachHasSideOrNoEdge n gs xs) where
   abbrev face : Face
   face = record { support = n; edges = gs }
 
@@ -234,7 +234,7 @@ module _ (n : Plane) (gs : List Plane) (xs : List Side) (represents : Represents
         })
 
   -- ---- once round
-  module _ (first : Side) (rest : List Side) (begins : xs ≡ first ∷ rest) (oldest : FirstPlaneFirst xs) where
+  module _ (first : Side) (rest : List Side) (begins : xs ≡ first ∷ rest) (oldest : OldestFirst xs) where
     begins_at : (us : List Side) (c : Side) (ws : List Side) → first ∷ rest ≡ us ++ c ∷ ws → head_or c us ≡ first
     begins_at [] c ws e = cc
     begins_at (u ∷ us) c ws e = cc
@@ -252,7 +252,7 @@ module _ (n : Plane) (gs : List Plane) (xs : List Side) (represents : Represents
 
     no_older : (s : Side) (i : ℕ) → slice_get xs i ≡ Some s → s.plane_index < first.plane_index → ⊥
     no_older s i e l =
-        ⊎_elim (λ p. absurd (omega (arith, l, p))) (λ q. absurd (omega (arith, l, ap (λ (s : Side). s.plane_index) q.0))) (member_is_here_or_else (λ r. first.plane_index ≤ r.plane_index) [] first rest i s tt (subst (λ zs. FirstPlaneFirst zs) begins oldest) (subst (λ zs. slice_get zs i ≡ Some s) begins e))
+        ⊎_elim (λ p. absurd (omega (arith, l, p))) (λ q. absurd (omega (arith, l, ap (λ (s : Side). s.plane_index) q.0))) (member_is_here_or_else (λ r. first.plane_index ≤ r.plane_index) [] first rest i s tt (subst (λ zs. OldestFirst zs) begins oldest) (subst (λ zs. slice_get zs i ≡ Some s) begins e))
 
     earliest : IsEarliest (λ h. HasEdge face h) gs first.plane
     earliest =
@@ -283,6 +283,6 @@ sound_begins n [] h = absurd h
 sound_begins n (x ∷ xs) h = (x, xs, refl)
 
 -- the sides of a ring are the outline of its face
-pub ring_outline : (n : Plane) (gs : List Plane) (xs : List Side) → Represents n gs xs → AllAreEdges n gs xs → FirstPlaneFirst xs → IsOutline (record { support = n; edges = gs }) (outline xs)
+pub ring_outline : (n : Plane) (gs : List Plane) (xs : List Side) → Represents n gs xs → EachHasSideOrNoEdge n gs xs → OldestFirst xs → IsOutline (record { support = n; edges = gs }) (outline xs)
 ring_outline n gs xs s k o =
     let b = sound_begins n xs s.sound in is_outline n gs xs s k b.0 b.1 b.2 o
