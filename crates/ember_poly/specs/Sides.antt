@@ -38,7 +38,8 @@ IsZeroAtOnePoint n xs h =
 
 -- each plane of the face is that of a side, or its edge doesn't count
 abbrev pub EachHasSideOrNoEdge : Plane → List Plane → List Side → Type 0
-EachHasSideOrNoEdge n gs xs = (i : ℕ) (h : Plane) → slice_get gs i ≡ Some h → HasPlaneIndex i xs ⊎ IsZeroAtOnePoint n xs h
+EachHasSideOrNoEdge n gs xs =
+    (i : ℕ) (h : Plane) → slice_get gs i ≡ Some h → HasPlaneIndex i xs ⊎ IsZeroAtOnePoint n xs h
 
 -- what a ring keeps: the support plane, all planes, and the edges with their corners and plane indices
 pub record IsRing (n : Plane) (gs es : List Plane) (ms : List Meet) (bs : List ℕ) : Type 0 where
