@@ -243,9 +243,9 @@ module _ (c : Cell) (k : Axis) (v : Path) (e : v.lo ≡ entries c.lo) (q : Spot)
   sized : IsSupportSized (support_of t)
   sized = support_sized t f.valid
 
-  at_start : sgn (value_at (support_of t) p0) ≡ f.start
+  at_start : sgn (value_at (support_of t) p0) ≡ f.reference_side
   at_start =
-      start_sign k c.lo v.first_corner v.second_corner v.third_corner q n s (support_of t) sized ∙ sym (from.start ∙ ap (λ (p : Plane). sgn (value_at p (reference_of (entries c.lo)))) f.plane ∙ ap (λ (r : Spot). sgn (value_at (support_of t) r)) (reference_is (entries c.lo) c refl))
+      start_sign k c.lo v.first_corner v.second_corner v.third_corner q n s (support_of t) sized ∙ sym (from.side ∙ ap (λ (p : Plane). sgn (value_at p (reference_of (entries c.lo)))) f.plane ∙ ap (λ (r : Spot). sgn (value_at (support_of t) r)) (reference_is (entries c.lo) c refl))
 
   after_first : sgn (value_at (support_of t) p1) ≡ side_after_first w f.support
   after_first = side_first (support_of t) sized ∙ ap (λ (p : Plane). side_after_first w p) (sym f.plane)
@@ -307,8 +307,8 @@ module _ (c : Cell) (k : Axis) (v : Path) (e : v.lo ≡ entries c.lo) (q : Spot)
       first : leg (face_of t) p1 p0 ≡ neg_ℤ (first_segment w f)
       first =
           let b = all_behind (λ p. side_at_start w p) (edge_planes t (first_of k)) in
-          tested (contains_above (interval_along f.aabb (second_of k)) (coordinate v.lo (second_of k))) b (signed_crossing f.start (side_after_first w f.support)) (leg (face_of t) p1 p0)
-          (leg_back (face_of t) p0 p1 w0 w1 ∙ ap neg_ℤ (told (first_of k) p0 p1 t b f.start (side_after_first w f.support) w0 w1 (differ_with (first_of k) p0 q) at_start after_first (edges_behind (λ p. side_at_start w p) t (first_of k) p0 f.valid (λ h i z. start_sign k c.lo v.first_corner v.second_corner v.third_corner q n s h i ∙ sym (side_start h)))))
+          tested (contains_above (interval_along f.aabb (second_of k)) (coordinate v.lo (second_of k))) b (signed_crossing f.reference_side (side_after_first w f.support)) (leg (face_of t) p1 p0)
+          (leg_back (face_of t) p0 p1 w0 w1 ∙ ap neg_ℤ (told (first_of k) p0 p1 t b f.reference_side (side_after_first w f.support) w0 w1 (differ_with (first_of k) p0 q) at_start after_first (edges_behind (λ p. side_at_start w p) t (first_of k) p0 f.valid (λ h i z. start_sign k c.lo v.first_corner v.second_corner v.third_corner q n s h i ∙ sym (side_start h)))))
           (λ h. first_out (second_of k) (second_first k) h)
 
       second : leg (face_of t) p2 p1 ≡ neg_ℤ (second_segment w f)

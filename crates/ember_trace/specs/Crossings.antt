@@ -88,7 +88,7 @@ is_on_last w f = may_end w f && all_behind (λ p. side_at_end w p) (edge_planes 
 
 -- the signed crossings of the first and of the second segment with the triangle
 abbrev pub first_segment : Path → NearTriangle → ℤ
-first_segment w f = if is_on_first w f then signed_crossing f.start (side_after_first w f.support) else pos 0
+first_segment w f = if is_on_first w f then signed_crossing f.reference_side (side_after_first w f.support) else pos 0
 
 abbrev pub second_segment : Path → NearTriangle → ℤ
 second_segment w f =

@@ -226,7 +226,10 @@ fn first_segment(triangle: &NearTriangle, way: &Path) -> i32
     ensures small { Small 1 result }
 {
     if is_on_first(triangle, way) {
-        signed_crossing(triangle.start, way.side_after_first(&triangle.support))
+        signed_crossing(
+            triangle.reference_side,
+            way.side_after_first(&triangle.support),
+        )
     } else {
         0
     }
