@@ -40,7 +40,7 @@ use Rattle.ember_trace.specs.declared.near_triangle.NearTriangle.{NearTriangle}
 use Rattle.ember_trace.specs.declared.path.Path.{Path}
 use Rattle.ember_trace.specs.NearTriangles.{HasReferenceSide}
 use Rattle.ember_trace.specs.Paths.{coordinate, inside_side, first_of, second_of, side_at_start, side_at_end, side_after_first, side_after_second, floor_at_end}
-use Rattle.ember_trace.specs.Crossings.{signed_crossing, all_behind, interval_along, contains_above, may_contain, may_end, first_segment, second_segment, segments_in_wall, last_segment}
+use Rattle.ember_trace.specs.Crossings.{signed_crossing, all_behind, interval_along, contains_above, may_contain, may_end, first_segment, second_segment, segments_above_wall, last_segment}
 use Rattle.ember_trace.proofs.PathVertices.{with_along, entries, weight_with, level_with, differ_with}
 use Rattle.ember_trace.proofs.VertexSides.{AreStops, stop_at_start, stop_after_first, stop_after_second, start_sign, first_sign, second_sign}
 use Rattle.ember_trace.proofs.SegmentsPast.{leg_behind, across, value_across, across_with, across_sized, IsPast, past_above, past_floor}
@@ -285,7 +285,7 @@ module _ (c : Cell) (k : Axis) (v : Path) (e : v.lo ≡ entries c.lo) (q : Spot)
   comes a b d u pw l = let x = across_with a b d u q in let m = mul_pos_neg pw l in omega (arith, linear, x, m)
 
   -- ---- the segments
-  pub first_legs : leg (face_of t) p1 p0 +ℤ leg (face_of t) p2 p1 ≡ neg_ℤ (segments_in_wall w f)
+  pub first_legs : leg (face_of t) p1 p0 +ℤ leg (face_of t) p2 p1 ≡ neg_ℤ (segments_above_wall w f)
   first_legs =
       both (contains_above (interval_along f.aabb k) (coordinate v.lo k)) (first_segment w f) (second_segment w f) (leg (face_of t) p1 p0) (leg (face_of t) p2 p1) first second (λ h. first_out k (across_first k) h) second_out
     where
