@@ -48,8 +48,8 @@ LiesAs Later t u = is_coplanar t u ≡ true
 LiesAs Earlier t u = is_coplanar t u ≡ true
 
 -- the cutter lies relative to t as its role says
-pub record IsCutterOf (t : Tri) (c : Cutter) : Type 0 where
-  pub lies : LiesAs c.role t c.tri
+pub record IsCutterOf (t : Tri) (cutter : Cutter) : Type 0 where
+  pub lies : LiesAs cutter.role t cutter.tri
 
 -- the list has grown by the triangle u in the role k
 pub record IsAdded (u : Tri) (k : Role) (old new : List Cutter) : Type 0 where
@@ -64,19 +64,19 @@ cutting_planes_with t ps = map (λ p. record { face = face_of t; plane = p }) ps
 
 -- the cutting planes of a cutter
 abbrev pub cutting_planes_by : Cutter → List CuttingPlane
-cutting_planes_by c = cutting_planes_with c.tri (planes_as c.role c.tri)
+cutting_planes_by cutter = cutting_planes_with cutter.tri (planes_as cutter.role cutter.tri)
 
 -- the cutting planes of the cutters of a list
 abbrev pub cutting_planes_in : List Cutter → List CuttingPlane
-cutting_planes_in cs = flat_map cutting_planes_by cs
+cutting_planes_in cutters = flat_map cutting_planes_by cutters
 
 -- the cutter's triangle, if its role is `Earlier`
 abbrev pub owners_by : Cutter → List Tri
-owners_by c = owner_as c.role c.tri
+owners_by cutter = owner_as cutter.role cutter.tri
 
 -- the triangles of the list with the role `Earlier`
 abbrev pub owners_in : List Cutter → List Tri
-owners_in cs = flat_map owners_by cs
+owners_in cutters = flat_map owners_by cutters
 
 -- ---- regions that are left
 -- the first list without some members that have the first property; those left have the second
@@ -101,24 +101,24 @@ pub record AreLeft (bs : List CuttingPlane) (ts : List Tri) (fs gs : List Face) 
 
 -- what a triangle leaves of a region
 abbrev pub AreLeftByCutter : Cutter → Face → List Face → Type 0
-AreLeftByCutter c f gs = AreLeft (cutting_planes_by c) (owners_by c) (f ∷ []) gs
+AreLeftByCutter cutter f gs = AreLeft (cutting_planes_by cutter) (owners_by cutter) (f ∷ []) gs
 
 -- what it leaves of each region
 abbrev pub AreSplit : Cutter → List Face → List Face → Type 0
-AreSplit c fs gs = Each (AreLeftByCutter c) fs gs
+AreSplit cutter fs gs = Each (AreLeftByCutter cutter) fs gs
 
 -- the list has grown by what the triangle leaves of fs
 abbrev pub AddsSplit : Cutter → List Face → List Face → List Face → Type 0
-AddsSplit c fs old new = (front : List Face) → AreSplit c front old → AreSplit c (front ++ fs) new
+AddsSplit cutter fs old new = (front : List Face) → AreSplit cutter front old → AreSplit cutter (front ++ fs) new
 
 -- what the triangles leave of the regions, one after another
 abbrev pub AreCut : List Cutter → List Face → List Face → Type 0
-AreCut cs fs gs = Chain AreSplit cs fs gs
+AreCut cutters fs gs = Chain AreSplit cutters fs gs
 
 -- the first region meets the triangle's closed face
 abbrev pub MeetsFirst : Cutter → List Face → Type 0
-MeetsFirst c [] = ⊤
-MeetsFirst c (f ∷ fs) = Meets f (face_of c.tri)
+MeetsFirst cutter [] = ⊤
+MeetsFirst cutter (f ∷ fs) = Meets f (face_of cutter.tri)
 
 -- planes that are negative inside the triangle, and nowhere positive in its closed face
 pub record AreAround (t : Tri) (ps : List Plane) : Type 0 where
@@ -146,7 +146,7 @@ pub record IsUncut (f : Face) (p : Plane) : Type 0 where
 
 -- what the planes leave of a region
 abbrev pub AreLeftByEdges : Cutter → List Plane → Face → List Face → Type 0
-AreLeftByEdges c ps f gs = AreLeft (cutting_planes_with c.tri ps) (owners_by c) (f ∷ []) gs
+AreLeftByEdges cutter ps f gs = AreLeft (cutting_planes_with cutter.tri ps) (owners_by cutter) (f ∷ []) gs
 
 -- the triangle and the face lie in one plane
 pub record ShareAPlane (t : Tri) (f : Face) : Type 0 where
@@ -160,8 +160,8 @@ SharesAs Later t f = ShareAPlane t f
 SharesAs Earlier t f = ShareAPlane t f
 
 -- the cutter may be applied to f: f has an inside point, and lies in the cutter's plane if the role says so
-pub record CanCut (c : Cutter) (f : Face) : Type 0 where
-  pub shares : SharesAs c.role c.tri f
+pub record CanCut (cutter : Cutter) (f : Face) : Type 0 where
+  pub shares : SharesAs cutter.role cutter.tri f
   pub somewhere : HasInside f
 
 -- ---- bounds

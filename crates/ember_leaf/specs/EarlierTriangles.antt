@@ -78,8 +78,9 @@ AddsOwners t u is_before old new covered =
 
 -- after all, unless t is covered: the list has all cutting planes that may cut a part of t within the bounds
 abbrev pub AreCuttingPlanesFound : List Tri → ℕ → Tri → Aabb → List Cutter → Bool → Type 0
-AreCuttingPlanesFound ts i t b cs covered = covered ≡ false → OmitsUnmet (IsBounded t b) (cutting_planes ts i) (cutting_planes_in cs)
+AreCuttingPlanesFound ts i t b cutters covered =
+    covered ≡ false → OmitsUnmet (IsBounded t b) (cutting_planes ts i) (cutting_planes_in cutters)
 
 -- after all: t is covered, or the owners in the list decide who owns a part of t within the bounds
 abbrev pub AreOwnersFound : List Tri → ℕ → Tri → Aabb → List Cutter → Bool → Type 0
-AreOwnersFound ts i t b cs covered = AreEarlierOrCovered ts i t b (owners_in cs) covered
+AreOwnersFound ts i t b cutters covered = AreEarlierOrCovered ts i t b (owners_in cutters) covered

@@ -199,7 +199,7 @@ fn split_all(alloc: Global, list: Vec<Ring>, cutter: &Cutter) -> Result<Vec<Ring
 /// Cuts a start by one triangle after another. Returns the regions in order, without those that one
 /// of the triangles owns. The only error is out-of-memory.
 pub fn regions(alloc: Global, start: Ring, cutters: &[Cutter]) -> Result<Vec<Ring>, OutOfMemory>
-    requires { All (λ c. CanCut c start) cutters.now }
+    requires { All (λ cutter. CanCut cutter start) cutters.now }
     ensures { IfOk result (λ out. AreCut cutters.now (start ∷ []) out.items) }
 {
     let mut list = Vec::new(alloc);
