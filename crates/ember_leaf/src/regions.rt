@@ -10,7 +10,7 @@ ghost use Rattle.std.specs.Prelude.{All, IfOk, OnOk};
 ghost use Rattle.std.specs.List.{AllByRecursion};
 ghost use Rattle.ember_model.specs.Valid.{IsValidPlane};
 ghost use Rattle.ember_model.specs.Faces.{face_of, Meets};
-ghost use Rattle.ember_leaf.specs.Cutters.{AreLeftByCutter, AreLeftByEdges, AreLeftByPlane, IsUncut, AreSplit, AreCut, IsSplitBehind};
+ghost use Rattle.ember_leaf.specs.Cutters.{AreLeftByCutter, AreLeftByEdges, SplitsIfCut, IsUncut, AreSplit, AreCut, AddsSplit};
 ghost use Rattle.ember_leaf.specs.Cutters.{MeetsFirst, CutOutTriangle, ShareAPlane, CanCut};
 ghost use Rattle.ember_leaf.specs.declared.cutter.Role.TheVariants.{Earlier};
 ghost use Rattle.ember_poly.specs.Cuts.{HasInside};
@@ -44,7 +44,7 @@ fn is_met(r: &Ring, cutter: &Cutter) -> bool
     ensures { IsTrue result ↔ Meets r.now (face_of cutter.now.tri) }
 {
     match cutter.role {
-        Role::Across => meets_face(r, &cutter.support, &cutter.edges),
+        Role::OtherPlane => meets_face(r, &cutter.support, &cutter.edges),
         _ => is_met_coplanar(r, cutter),
     }
 }
@@ -67,7 +67,7 @@ fn count_apart(list: &[Ring], cutter: &Cutter) -> usize
 // Adds the two parts of a region if the plane cuts it, otherwise the region itself.
 fn add_parts(alloc: Global, r: Ring, p: &Plane, out: &mut Vec<Ring>) -> Result<(), OutOfMemory>
     requires { IsValidPlane p.now }
-    ensures { OnOk result (HasGrown (AreLeftByPlane p.now r) out.old.items out.new.items) }
+    ensures { OnOk result (HasGrown (SplitsIfCut p.now r) out.old.items out.new.items) }
 {
     match reach(&r, p) {
         Reach::Both => {
@@ -153,7 +153,7 @@ fn add_cut(alloc: Global, r: Ring, cutter: &Cutter, out: &mut Vec<Ring>) -> Resu
     ensures { OnOk result (HasGrown (AreLeftByCutter cutter.now r) out.old.items out.new.items) }
 {
     match cutter.role {
-        Role::Across => add_parts(alloc, r, &cutter.support, out),
+        Role::OtherPlane => add_parts(alloc, r, &cutter.support, out),
         _ => add_pieces(alloc, r, cutter, &cutter.edges, out),
     }
 }
@@ -167,7 +167,7 @@ fn add_all(
 ) -> Result<(), OutOfMemory>
     requires met { MeetsFirst cutter.now list.items }
     requires plane { All (CanCut cutter.now) list.items }
-    ensures { OnOk result (IsSplitBehind cutter.now list.items out.old.items out.new.items) }
+    ensures { OnOk result (AddsSplit cutter.now list.items out.old.items out.new.items) }
 {
     let mut is_first = true;
     for r in list {
@@ -199,7 +199,7 @@ fn split_all(alloc: Global, list: Vec<Ring>, cutter: &Cutter) -> Result<Vec<Ring
 /// Cuts a start by one triangle after another. Returns the regions in order, without those that one
 /// of the triangles owns. The only error is out-of-memory.
 pub fn regions(alloc: Global, start: Ring, cutters: &[Cutter]) -> Result<Vec<Ring>, OutOfMemory>
-    requires { All (λ c. CanCut c start) cutters.now }
+    requires { All (λ cutter. CanCut cutter start) cutters.now }
     ensures { IfOk result (λ out. AreCut cutters.now (start ∷ []) out.items) }
 {
     let mut list = Vec::new(alloc);

@@ -14,7 +14,7 @@ pub enum Relation {
     /// No inside point of the first lies in the closed face of the second.
     Apart,
     /// They may meet, in different planes.
-    Across,
+    OtherPlane,
     /// They may meet, in one plane.
     Coplanar,
 }
@@ -78,7 +78,7 @@ fn crossing_relation(first: &LeafTriangle, second: &LeafTriangle) -> Relation
     } else if heights.lie_behind() {
         Relation::Apart
     } else {
-        Relation::Across
+        Relation::OtherPlane
     }
 }
 

@@ -15,7 +15,7 @@ use Rattle.ember_model.proofs.LastZero.{After, Last, last_zero, none_positive_me
 use Rattle.ember_poly.specs.declared.meeting.ChordPart.{ChordPart}
 use Rattle.ember_poly.specs.declared.meeting.ChordPart.TheVariants.{Whole, Split, Empty}
 use Rattle.ember_poly.specs.Rings.{IsNotAbove, IsMeet, orientation}
-use Rattle.ember_poly.specs.Passages.{HasSome}
+use Rattle.ember_poly.specs.Passages.{HasMember}
 use Rattle.ember_poly.specs.Chords.{IsChordPart, combination, IsOpen, HasVertexWithin, IsLine}
 use Rattle.ember_poly.proofs.Chains.{each_map, each_both, each-push}
 use Rattle.ember_poly.proofs.Members.{has-push, has-front, has_pick}
@@ -173,7 +173,7 @@ module _ (n p : Plane) (hs : List Plane) (y z : Spot) where
 
   abbrev pub AreFree : Bool → List Plane → Type 0
   AreFree true gs = AllByRecursion (λ h. Spans Whole h) gs
-  AreFree false gs = HasSome (λ h. Spans Split h) gs
+  AreFree false gs = HasMember (λ h. Spans Split h) gs
 
   pub record Tried (b : Bool) (gs : List Plane) : Type 0 where
     pub passed : AllByRecursion Passed gs
@@ -228,7 +228,7 @@ module _ (n p : Plane) (hs : List Plane) (y z : Spot) (l : IsLine n p y z) where
       let r = passing n p hs z y (turned_line n p y z l) (turned_open hs y z o) f in
       not_passed a r.plane r.member r.has_vertex_within (inr r.across)
 
-  some_end : HasSome (λ h. Spans n p hs y z Split h) hs → (none_positive hs y ≡ false) ⊎ (none_positive hs z ≡ false)
+  some_end : HasMember (λ h. Spans n p hs y z Split h) hs → (none_positive hs y ≡ false) ⊎ (none_positive hs z ≡ false)
   some_end s =
       ⊎_elim (λ a. ⊎_elim (λ b. absurd (both a b)) (λ f. inr f) (decide_free hs z)) (λ f. inl f) (decide_free hs y)
     where

@@ -15,7 +15,7 @@ use Rattle.ember_model.specs.ClearTest.{none_positive, face_with}
 use Rattle.ember_model.proofs.SignTests.{In, negative_out, zero_out, positive_out, not_positive_in, not_positive_out}
 use Rattle.ember_model.proofs.LastZero.{Last, last_zero, none_positive_member}
 use Rattle.ember_poly.specs.Rings.{IsBelow, IsNotAbove}
-use Rattle.ember_poly.specs.Passages.{HasSome}
+use Rattle.ember_poly.specs.Passages.{HasMember}
 use Rattle.ember_poly.specs.Chords.{combination}
 use Rattle.ember_poly.specs.Cuts.{HasInside, IsWhole}
 use Rattle.ember_poly.proofs.Chains.{each_map, each_both, each-push}
@@ -61,7 +61,7 @@ module _ (f : Face) (hs : List Plane) where
 
   abbrev pub AreLow : Bool → List Plane → Type 0
   AreLow true gs = AllByRecursion (λ h. IsLow f h) gs
-  AreLow false gs = HasSome (λ h. Cuts f h) gs
+  AreLow false gs = HasMember (λ h. Cuts f h) gs
 
   pub record Tested (b : Bool) (gs : List Plane) : Type 0 where
     pub passed : AllByRecursion Passed gs
@@ -128,7 +128,7 @@ module _ (f : Face) (hs : List Plane) where
         by (inl l) = clash (value_at r.plane u) r.up (l.holds u eu)
         by (inr n) = n met_last
 
-  none_met : AllByRecursion Passed hs → HasSome (λ h. Cuts f h) hs → Somewhere f (λ v. none_positive hs v ≡ true) → ⊥
+  none_met : AllByRecursion Passed hs → HasMember (λ h. Cuts f h) hs → Somewhere f (λ v. none_positive hs v ≡ true) → ⊥
   none_met a c s =
       let k = has_pick (λ h. Cuts f h) (λ h. In h hs) hs c (all_in_list hs) in let u = k.holds.some_above in
       ⊎_elim (λ e. clash (value_at k.member u.at) (positive_out (value_at k.member u.at) u.holds) (not_positive_in (value_at k.member u.at) (none_positive_member u.at hs k.member e k.also))) (λ e. passed_last u.at s.at u.inside s.inside s.holds (last_zero u.at s.at hs e s.holds) a) (decide_free hs u.at)

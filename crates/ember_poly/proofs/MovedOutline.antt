@@ -83,7 +83,7 @@ at_start e v = record e { start = v }
 is_edge_moved : {end end' start' : Spot} (f : Face) (e : RingEdge) → Moved e.start start' → Moved end end' → IsEdge f e end → IsEdge f (at_start e start') end'
 is_edge_moved {end} {end'} {start'} f e a b h =
     record {
-      stands = h.stands;
+      is_earliest = h.is_earliest;
       starts = edge_moved f e.plane a h.starts;
       ends = edge_moved f e.plane b h.ends;
       leads = before_moved f.support e.plane a b h.leads;

@@ -40,15 +40,15 @@ IsSideChain n g (s ∷ xs) =
     AllByRecursion (λ t. IsBelow t.plane s.corner) xs × IsSideChain n s.plane xs
 
 -- the list isn't empty
-abbrev pub Long : List Side → Type 0
-Long [] = ⊥
-Long (s ∷ xs) = ⊤
+abbrev pub IsNotEmpty : List Side → Type 0
+IsNotEmpty [] = ⊥
+IsNotEmpty (s ∷ xs) = ⊤
 
 -- a ring: at least three sides, and a chain from its first edge and from its second
 abbrev pub IsConvexRing : Plane → List Side → Type 0
 IsConvexRing n [] = ⊥
 IsConvexRing n (s ∷ []) = ⊥
-IsConvexRing n (s ∷ t ∷ xs) = Long xs × IsSideChain n s.plane (t ∷ xs) × IsSideChain n t.plane (xs ++ s ∷ [])
+IsConvexRing n (s ∷ t ∷ xs) = IsNotEmpty xs × IsSideChain n s.plane (t ∷ xs) × IsSideChain n t.plane (xs ++ s ∷ [])
 
 -- the last edge ends at t, and the others are negative there
 abbrev pub EndsAt : Plane → Plane → List Side → Side → Type 0

@@ -143,7 +143,7 @@ module _ (f : Face) (g : Plane) (s a : Spot) (e : IsEdge f (side g s) a) where
 
     not_outwards : dot (normal k) way ≤ℤ pos 0
     not_outwards =
-        let m = at_end.below d.stands.index k d.stands.here in
+        let m = at_end.below d.is_earliest.index k d.is_earliest.here in
         let c = plane_away k s a in let c0 = zero_scaled a.w (value_at k s) k_at_start in
         let ws = at_start.weight in let w : pos 0 ≤ℤ s.w = omega (arith, linear, ws) in
         let c1 = mul_le w m in let c2 = zero_scaled s.w (pos 0) refl in
@@ -190,7 +190,7 @@ earliest_one P Q gs g h pq qp a b = by (nat_lt a.index b.index) (nat_lt b.index 
 
 stands_one : (f : Face) (g k : Plane) (s a b t : Spot) → IsEdge f (side g s) a → IsEdge f (side k t) b → SameEdge f g k → g ≡ k
 stands_one f g k s a b t e d same =
-    earliest_one (λ h. SameEdge f h g) (λ h. SameEdge f h k) f.edges g k (λ h p v. p v ∙ same v) (λ h p v. p v ∙ sym (same v)) e.stands d.stands
+    earliest_one (λ h. SameEdge f h g) (λ h. SameEdge f h k) f.edges g k (λ h p v. p v ∙ same v) (λ h p v. p v ∙ sym (same v)) e.is_earliest d.is_earliest
 
 -- ---- outlines
 -- a corner of one edge that is the corner of another: one point

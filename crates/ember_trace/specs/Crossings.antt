@@ -19,7 +19,7 @@ use Rattle.ember_box.specs.Boxes.{Cell}
 use Rattle.ember_ref.specs.References.{or_sign}
 use Rattle.ember_trace.specs.declared.near_triangle.NearTriangle.{NearTriangle}
 use Rattle.ember_trace.specs.declared.path.Path.{Path}
-use Rattle.ember_trace.specs.declared.segments.EndCell.{EndCell}
+use Rattle.ember_trace.specs.declared.segments.EndFloors.{EndFloors}
 use Rattle.ember_trace.specs.declared.region_sides.Sides.{Sides}
 use Rattle.ember_trace.specs.NearTriangles.{AreNearTriangles}
 use Rattle.ember_trace.specs.Paths.{coordinate, inside_side, side_at_start, side_at_end, side_after_first, side_after_second, floor_at_end, HasAxes, IsPathTo}
@@ -48,7 +48,7 @@ abbrev pub in_root : ℤ → ℤ
 in_root z = if int_lt z (negsuc 2047) then negsuc 2047 else if int_lt (pos 2048) z then pos 2048 else z
 
 -- the clamped floors of a path's end along its axes, along the main axis at least that of the last segment's start
-pub record IsEndCell (w : Path) (at : EndCell) : Type 0 where
+pub record AreEndFloors (w : Path) (at : EndFloors) : Type 0 where
   pub axes : HasAxes w
   pub first : at.first ≡ in_root (floor_at_end w w.first_axis)
   pub second : at.second ≡ in_root (floor_at_end w w.second_axis)
@@ -82,15 +82,15 @@ is_on_last w f = may_end w f && all_behind (λ p. side_at_end w p) (edge_planes 
 
 -- the signed crossings of the first and of the second segment with the triangle
 abbrev pub first_segment : Path → NearTriangle → ℤ
-first_segment w f = if is_on_first w f then signed_crossing f.start (side_after_first w f.support) else pos 0
+first_segment w f = if is_on_first w f then signed_crossing f.reference_side (side_after_first w f.support) else pos 0
 
 abbrev pub second_segment : Path → NearTriangle → ℤ
 second_segment w f =
     if is_on_second w f then signed_crossing (side_after_first w f.support) (side_after_second w f.support) else pos 0
 
 -- the crossings of both together; they run just above the low wall across the main axis
-abbrev pub segments_in_wall : Path → NearTriangle → ℤ
-segments_in_wall w f =
+abbrev pub segments_above_wall : Path → NearTriangle → ℤ
+segments_above_wall w f =
     if contains_above (interval_along f.aabb w.main) (coordinate w.lo w.main)
     then first_segment w f +ℤ second_segment w f else pos 0
 
@@ -109,10 +109,12 @@ side_after p k s = or_sign s (sgn (along p k))
 
 -- the signed crossings of the path that ends directly before the region, and of that which ends directly after it
 unfoldable pub crossing_before : Path → NearTriangle → ℤ
-crossing_before w f = segments_in_wall w f +ℤ last_segment w f (side_before f.support w.main (side_at_end w f.support))
+crossing_before w f =
+    segments_above_wall w f +ℤ last_segment w f (side_before f.support w.main (side_at_end w f.support))
 
 unfoldable pub crossing_after : Path → NearTriangle → ℤ
-crossing_after w f = segments_in_wall w f +ℤ last_segment w f (side_after f.support w.main (side_at_end w f.support))
+crossing_after w f =
+    segments_above_wall w f +ℤ last_segment w f (side_after f.support w.main (side_at_end w f.support))
 
 -- ---- the sides
 -- the counts after a subtraction for each near triangle: of the number that `less` gives, from the

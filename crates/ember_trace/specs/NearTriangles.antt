@@ -12,9 +12,9 @@ use Rattle.ember_trace.specs.declared.near_triangle.NearTriangle.{NearTriangle}
 abbrev pub tri_of : NearTriangle → Tri
 tri_of f = f.tri
 
--- the near triangle's start is the side of its plane on which the reference point of the box lies
+-- the near triangle is kept with the side of its plane on which the reference point of the box lies
 pub record HasReferenceSide (c : Cell) (f : NearTriangle) : Type 0 where
-  pub start : f.start ≡ sgn (value_at f.support (reference_of (c.lo.x ∷ c.lo.y ∷ c.lo.z ∷ [])))
+  pub side : f.reference_side ≡ sgn (value_at f.support (reference_of (c.lo.x ∷ c.lo.y ∷ c.lo.z ∷ [])))
 
 -- the near triangles of the box that are made of these triangles, in order
 pub record AreNearTriangles (ts : List Tri) (c : Cell) (fs : List NearTriangle) : Type 0 where

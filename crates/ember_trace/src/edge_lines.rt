@@ -115,7 +115,7 @@ struct AxisPoint {
 }
 
 // Where the line has p = `at`: a point of the axis of q.
-fn axis_point_at_first(line: &EdgeLine, at: i32) -> AxisPoint
+fn axis_point_at_p(line: &EdgeLine, at: i32) -> AxisPoint
     requires { Small 2048 at }
     ensures n { result.n ≡ neg_ℤ line.now.dp }
     ensures e { result.e ≡ line.now.d -ℤ line.now.dq *ℤ at }
@@ -127,7 +127,7 @@ fn axis_point_at_first(line: &EdgeLine, at: i32) -> AxisPoint
 }
 
 // Where the line has q = `at`: a point of the axis of p.
-fn axis_point_at_last(line: &EdgeLine, at: i32) -> AxisPoint
+fn axis_point_at_q(line: &EdgeLine, at: i32) -> AxisPoint
     requires { Small 2048 at }
     ensures n { result.n ≡ line.now.dq }
     ensures e { result.e ≡ line.now.d +ℤ line.now.dp *ℤ at }
@@ -161,17 +161,17 @@ pub fn moved_edge_side(u: &Corner, v: &Corner, main: Axis, s: i64, at: i32, m: &
 {
     match main {
         Axis::X => axis_point_side(
-            &axis_point_at_first(&line_through(u.x, u.y, v.x, v.y, s), at),
+            &axis_point_at_p(&line_through(u.x, u.y, v.x, v.y, s), at),
             m.y,
             m.w,
         ),
         Axis::Y => axis_point_side(
-            &axis_point_at_last(&line_through(u.x, u.y, v.x, v.y, s), at),
+            &axis_point_at_q(&line_through(u.x, u.y, v.x, v.y, s), at),
             m.x,
             m.w,
         ),
         Axis::Z => axis_point_side(
-            &axis_point_at_first(&line_through(u.z, u.x, v.z, v.x, s), at),
+            &axis_point_at_p(&line_through(u.z, u.x, v.z, v.x, s), at),
             m.x,
             m.w,
         ),

@@ -20,14 +20,14 @@ fn near_triangle_of(t: &Tri, lo: [i32; 3]) -> NearTriangle
     requires mesh { HasMesh 64 t.now }
     requires corner { All (Small 2048) lo }
     ensures tri { result.tri ≡ t.now }
-    ensures start { result.start ≡ sgn (value_at result.support (reference_of lo)) }
+    ensures reference_side { result.reference_side ≡ sgn (value_at result.support (reference_of lo)) }
 {
     let support = support_of(t);
     NearTriangle {
         tri: *t,
         support,
         aabb: aabb_of_tri(t),
-        start: lex_side(&support, lo),
+        reference_side: lex_side(&support, lo),
     }
 }
 

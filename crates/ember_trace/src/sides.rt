@@ -11,7 +11,7 @@ ghost use Rattle.ember_trace.specs.Crossings.{AreTraced, AreTracedBy};
 use crate::near::near_triangles;
 use crate::near_triangle::NearTriangle;
 use crate::region_sides::Sides;
-use crate::segments::{Crossings, crossings_of, end_cell_of};
+use crate::segments::{Crossings, crossings_of, end_floors_of};
 use crate::vertices::path_to;
 use ember_box::Cell;
 use ember_model::{OutOfMemory, Tri, Vector};
@@ -67,7 +67,7 @@ pub fn trace_sides(near: &[NearTriangle], c: &Cell, v: &Vector, r: &Ring, sides:
     ensures after { AreWithinBound (length near.now) v.now.counts sides.new.after.counts }
 {
     let way = path_to(c, r);
-    let at = end_cell_of(&way);
+    let at = end_floors_of(&way);
     sides.before = *v;
     sides.after = *v;
     for triangle in near {
