@@ -28,14 +28,14 @@ use Rattle.ember_model.proofs.FourSigns.{hit_edges}
 use Rattle.ember_law.proofs.CornerSides.{above_corners}
 use Rattle.ember_law.proofs.FlatTriangles.{flat_case, flat_out}
 use Rattle.ember_point.specs.Points.{spot_of, slid}
-use Rattle.ember_box.specs.Aabbs.{aabb_of_tri}
+use Rattle.ember_box.specs.Aabbs.{interval_along, aabb_of_tri}
 use Rattle.ember_ref.specs.References.{or_sign}
 use Rattle.ember_ref.proofs.NearPoints.{coordinate as along_point}
 use Rattle.ember_ref.proofs.FarTriangles.{inside_closed}
 use Rattle.ember_trace.specs.declared.near_triangle.NearTriangle.{NearTriangle}
 use Rattle.ember_trace.specs.declared.path.Path.{Path}
 use Rattle.ember_trace.specs.Paths.{coordinate, side_at_start, side_at_end, side_after_second, slid_to_start, floor_at_end}
-use Rattle.ember_trace.specs.Crossings.{signed_crossing, all_behind, interval_along, is_on_last, may_end, last_segment}
+use Rattle.ember_trace.specs.Crossings.{signed_crossing, all_behind, is_on_last, may_end, last_segment}
 use Rattle.ember_trace.proofs.Coordinates.{coordinate_small}
 use Rattle.ember_trace.proofs.Slides.{slid_once}
 use Rattle.ember_trace.proofs.PathVertices.{close_to, moved_weight}

@@ -32,6 +32,7 @@ use Rattle.ember_algebra.proofs.Size.{small_within}
 use Rattle.ember_point.specs.declared.meet_point.Meet.{Meet}
 use Rattle.ember_point.specs.Points.{spot_of, slid}
 use Rattle.ember_box.specs.Boxes.{Cell}
+use Rattle.ember_box.specs.Aabbs.{interval_along}
 use Rattle.ember_box.specs.Reference.{reference_at}
 use Rattle.ember_ref.specs.References.{or_sign, corner_of, reference_of}
 use Rattle.ember_ref.proofs.NearPoints.{coordinate as along_point}
@@ -40,7 +41,7 @@ use Rattle.ember_trace.specs.declared.near_triangle.NearTriangle.{NearTriangle}
 use Rattle.ember_trace.specs.declared.path.Path.{Path}
 use Rattle.ember_trace.specs.NearTriangles.{HasReferenceSide}
 use Rattle.ember_trace.specs.Paths.{coordinate, inside_side, first_of, second_of, side_at_start, side_at_end, side_after_first, side_after_second, floor_at_end}
-use Rattle.ember_trace.specs.Crossings.{signed_crossing, all_behind, interval_along, contains_above, may_contain, may_end, first_segment, second_segment, segments_above_wall, last_segment}
+use Rattle.ember_trace.specs.Crossings.{signed_crossing, all_behind, contains_above, may_contain, may_end, first_segment, second_segment, segments_above_wall, last_segment}
 use Rattle.ember_trace.proofs.PathVertices.{with_along, entries, weight_with, level_with, differ_with}
 use Rattle.ember_trace.proofs.VertexSides.{AreStops, stop_at_start, stop_after_first, stop_after_second, start_sign, first_sign, second_sign}
 use Rattle.ember_trace.proofs.SegmentsPast.{leg_behind, across, value_across, across_with, across_sized, IsPast, past_above, past_floor}

@@ -14,7 +14,7 @@ use Rattle.ember_point.specs.declared.meet_point.Meet.{Meet}
 use Rattle.ember_poly.specs.Sides.{AreCorners}
 use Rattle.ember_law.specs.Counts.{with_more}
 use Rattle.ember_box.specs.declared.aabb.Interval.{Interval}
-pub use Rattle.ember_box.specs.Aabbs.{interval_along}
+use Rattle.ember_box.specs.Aabbs.{interval_along}
 use Rattle.ember_box.specs.Boxes.{Cell}
 use Rattle.ember_ref.specs.References.{or_sign}
 use Rattle.ember_trace.specs.declared.near_triangle.NearTriangle.{NearTriangle}

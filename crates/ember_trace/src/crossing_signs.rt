@@ -3,7 +3,6 @@ ghost use Rattle.std.specs.Prelude.{◌≡◌};
 ghost use Rattle.ember_algebra.specs.Size.{Small};
 ghost use Rattle.ember_algebra.specs.Sign.{flip, sgn, sign, is_nil};
 ghost use Rattle.ember_model.specs.Planes.{along};
-ghost use Rattle.ember_ref.specs.References.{or_sign};
 ghost use Rattle.ember_trace.specs.Crossings.{signed_crossing, side_before, side_after};
 
 use ember_algebra::{Sign, sign_of};
@@ -11,7 +10,8 @@ use ember_model::{Axis, Plane};
 use ember_ref::or_sign;
 
 /// How a segment from one side of a plane to another crosses it: 1 from behind to the front, -1
-/// back, otherwise 0. The same as `signed_crossing` of ember_ref; here definitions use its name.
+/// back, otherwise 0. The same as `signed_crossing` of ember_ref, which can't cite the definition
+/// of that name: it stands in this crate.
 pub fn signed_crossing(from: Sign, to: Sign) -> i32
     ensures value { result ≡ signed_crossing from to }
     ensures small { Small 1 result }

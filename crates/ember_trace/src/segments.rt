@@ -7,8 +7,9 @@ ghost use Rattle.ember_algebra.specs.Sign.{is_neg};
 ghost use Rattle.ember_model.specs.Valid.{IsValidPlane};
 ghost use Rattle.ember_model.specs.Sizes.{IsSupportSized};
 ghost use Rattle.ember_model.specs.Planes.{edge_planes};
+ghost use Rattle.ember_box.specs.Aabbs.{interval_along};
 ghost use Rattle.ember_trace.specs.Paths.{HasAxes, coordinate, side_at_start, side_after_first, side_at_end, floor_at_end};
-ghost use Rattle.ember_trace.specs.Crossings.{all_behind, interval_along, contains_above, may_contain, may_end, in_root, AreEndFloors, is_on_first, is_on_second, is_on_last, first_segment, second_segment, segments_above_wall, last_segment, side_before, side_after, crossing_before, crossing_after};
+ghost use Rattle.ember_trace.specs.Crossings.{all_behind, contains_above, may_contain, may_end, in_root, AreEndFloors, is_on_first, is_on_second, is_on_last, first_segment, second_segment, segments_above_wall, last_segment, side_before, side_after, crossing_before, crossing_after};
 
 use crate::crossing_signs::{is_level, side_after, side_before, signed_crossing};
 use crate::edges::{edges_are_behind_at_start, narrow_last_is_behind, narrow_second_is_behind};
