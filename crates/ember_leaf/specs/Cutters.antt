@@ -132,8 +132,7 @@ pub record CutOutTriangle (t : Tri) (ps : List Plane) (f : Face) : Type 0 where
   pub shared : Somewhere f (λ v. is_inside (face_of t) v ≡ true)
   pub within : (v : Spot) → is_inside f v ≡ true → AllByRecursion (λ p. IsBelow p v) ps → is_inside (face_of t) v ≡ true
 
--- what a plane leaves of a region that meets the plane's triangle: its two parts if the plane cuts it, otherwise
--- the region itself
+-- what a plane leaves of a region: its two parts if the plane cuts it, otherwise the region itself
 pub data SplitsIfCut (p : Plane) (f : Face) : List Face → Type 0 where
   in_parts : Cuts f p → SplitsIfCut p f (below f p ∷ above f p ∷ [])
   in_one : (Cuts f p → ⊥) → SplitsIfCut p f (f ∷ [])

@@ -33,7 +33,7 @@ known_refusal status (Refused refusal) k h = h
 known_refusal status (Writes output) k h = h
 known_refusal status (Slices at bytes) k h = h
 
--- its output is asked for
+-- the same of a text
 pub known_text : (v : Verdict) (bytes : List ℕ) → is_known v ≡ true → IsTextIfTold v bytes → IsText v bytes
 known_text Unknown bytes k h = absurd (cc)
 known_text (Refused refusal) bytes k h = h
