@@ -1,5 +1,5 @@
--- How often a path from the reference point of a box to a region crosses the triangles near the box,
--- by the sides of planes on which its vertices lie
+-- How often a path to a region of a box crosses the triangles near the box, by the sides of planes on
+-- which its vertices lie
 use Rattle.std.specs.Prelude.{◌≡◌, ℤ, pos, negsuc, ◌+ℤ◌, neg_ℤ, int_le, int_lt, Bool, ◌&&◌, if◌then◌else◌, List, fold, replicate, Some, slice_get}
 use Rattle.std.specs.Int.{int_max}
 use Rattle.std.specs.List.{list_all}
@@ -122,7 +122,7 @@ crossing_after w f =
 abbrev pub taken : (NearTriangle → ℤ) → List NearTriangle → List ℤ → List ℤ
 taken less fs counts = fold (λ (vs : List ℤ) (f : NearTriangle). with_more vs f.tri.mesh (neg_ℤ (less f))) counts fs
 
--- the counts before and after a region, by paths from the reference point with these counts
+-- the counts before and after a region, by paths from a start with these counts
 pub record AreTraced (c : Cell) (fs : List NearTriangle) (counts : List ℤ) (r : Face) (s : Sides) : Type 0 where
   pub way : Path
   pub is_way : IsPathTo c r way

@@ -24,6 +24,6 @@ side_at p m = sgn (value_at p (spot_of m))
 abbrev pub fixed_edge : Corner → Corner → Axis → ℤ → ℤ → ℤ → Plane
 fixed_edge u v main s by at = slid (slid (edge_times u v (second_of main) s) (second_of main) by) main at
 
--- the same plane, with those two coordinates fixed to those of the path's start
+-- the same plane, with those two coordinates fixed to those of the box's least corner
 abbrev pub edge_after_first : Path → Corner → Corner → ℤ → Plane
 edge_after_first w u v s = slid_to_start w w.main (slid_to_start w w.second_axis (edge_times u v w.second_axis s))

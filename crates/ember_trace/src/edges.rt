@@ -62,8 +62,8 @@ pub fn narrow_last_is_behind(triangle: &NearTriangle, way: &Path) -> bool
         && (edge_is_behind(&t.b, &t.c, k, s, way) && edge_is_behind(&t.c, &t.a, k, s, way))
 }
 
-// The side of the plane (u, v, s) on which the corner `m` is, moved to the start's second and main
-// coordinate.
+// The side of the plane (u, v, s) on which the corner `m` is, moved to the second and the main
+// coordinate of `lo`.
 fn corner_side_after_first(u: &Corner, v: &Corner, s: i64, way: &Path, m: &Meet) -> Sign
     requires from { IsValidCorner u.now }
     requires to { IsValidCorner v.now }

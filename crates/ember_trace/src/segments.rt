@@ -34,11 +34,10 @@ fn may_contain(interval: &Interval, floor: i32) -> bool
 }
 
 /// Where a path ends, by the region's first corner: the floors of its coordinates along the first
-/// and the second axis, and as `top` the greater of its floor along the main axis and the start's
-/// coordinate. A triangle whose least main coordinate is above `top` lies above the whole last
-/// segment. The floors are clamped to the root so that they fit into 32 bits, since no clause here
-/// says that the region lies in the root; a comparison with a triangle's bounding box stays the
-/// same.
+/// and the second axis, and as `top` the greater of its floor along the main axis and that of the
+/// start. A triangle whose least main coordinate is above `top` lies above the whole last segment.
+/// The floors are clamped to the root so that they fit into 32 bits, since no clause here says that
+/// the region lies in the root; a comparison with a triangle's bounding box stays the same.
 #[derive(Clone, Copy)]
 pub struct EndFloors {
     pub first: i32,

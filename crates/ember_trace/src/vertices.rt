@@ -43,7 +43,7 @@ fn are_narrow(first: &Meet, second: &Meet, third: &Meet) -> bool
     is_narrow(first) && (is_narrow(second) && is_narrow(third))
 }
 
-/// The path from the reference point of the box to the region.
+/// The path to the region from beside the least corner of the box.
 pub fn path_to(c: &Cell, r: &Ring) -> Path
     ensures { IsPathTo c.now r.now result }
 {
@@ -118,7 +118,8 @@ fn floor(n: i128, w: i128) -> i128
     }
 }
 
-// The plane with the coordinate along an axis fixed to that of the start.
+// The plane with the coordinate along an axis fixed to that of `lo`, the least corner of the box.
+// The start is as close to `lo` as it has to be (path.rt).
 fn slid_to_start(way: &Path, k: Axis, p: &Plane) -> Plane
     requires plane { IsValidPlane p.now }
     requires result { IsValidPlane (slid_to_start way.now k p.now) }
@@ -128,7 +129,7 @@ fn slid_to_start(way: &Path, k: Axis, p: &Plane) -> Plane
 }
 
 impl Path {
-    /// The side of a plane on which the path begins.
+    /// The side of a plane on which the path begins: that of the reference point.
     pub fn side_at_start(&self, p: &Plane) -> Sign
         requires { IsValidPlane p.now }
         ensures { result ≡ side_at_start self.now p.now }
@@ -159,10 +160,10 @@ impl Path {
     }
 
     /// The side of a plane on which the first segment ends, at a point with the first coordinate of
-    /// the path's end and the other two of its start. The plane with these two fixed is `Zero` at
-    /// all three corners only if it has no entry along the first axis: the corners don't share that
-    /// coordinate, since it isn't the main axis. Then the segment runs parallel to the plane, and
-    /// ends on the side on which it starts.
+    /// the path's end and the other two of its start. The plane with these two fixed to those of
+    /// `lo` is `Zero` at all three corners only if it has no entry along the first axis: the
+    /// corners don't share that coordinate, since it isn't the main axis. Then the segment runs
+    /// parallel to the plane, and ends on the side on which it starts.
     pub fn side_after_first(&self, p: &Plane) -> Sign
         requires { IsSupportSized p.now }
         ensures { result ≡ side_after_first self.now p.now }
@@ -175,10 +176,10 @@ impl Path {
     }
 
     /// The side of a plane on which the second segment ends, at a point with the main coordinate of
-    /// the path's start and the other two of its end. The plane with this one fixed is `Zero` at
-    /// all three corners only if it has no entry along the first and the second axis: the corners,
-    /// seen along the main axis, aren't on one line. Then both segments run parallel to the plane,
-    /// and end on the side on which the path starts.
+    /// the path's start and the other two of its end. The plane with this one fixed to that of `lo`
+    /// is `Zero` at all three corners only if it has no entry along the first and the second axis:
+    /// the corners, seen along the main axis, aren't on one line. Then both segments run parallel
+    /// to the plane, and end on the side on which the path starts.
     pub fn side_after_second(&self, p: &Plane) -> Sign
         requires { IsSupportSized p.now }
         ensures { result ≡ side_after_second self.now p.now }
