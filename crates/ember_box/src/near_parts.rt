@@ -150,8 +150,9 @@ fn slope_of(n: i64, half: i32) -> Slope
 }
 
 impl Slope {
-    // The left half lacks one end of the range: the end that lies in the right half. This is the
-    // margin at that end. Over the left half it is smaller by `rise`.
+    // Over the left half the plane doesn't reach one end of its range over the box, the end that
+    // lies in the right half. This is the margin at that end. Over the left half it is smaller by
+    // `rise`.
     fn margin_of_left(&self, margins: &Margins) -> i64
         ensures { result ≡ (if self.now.falls then margins.now.above else margins.now.below) }
     {
@@ -162,8 +163,8 @@ impl Slope {
         }
     }
 
-    // The right half lacks the end of the range that lies in the left half. This is the margin at
-    // that end. Over the right half it is smaller by `rise`.
+    // Over the right half the plane doesn't reach the end that lies in the left half. This is the
+    // margin at that end. Over the right half it is smaller by `rise`.
     fn margin_of_right(&self, margins: &Margins) -> i64
         ensures { result ≡ (if self.now.falls then margins.now.below else margins.now.above) }
     {

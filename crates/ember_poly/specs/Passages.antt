@@ -87,9 +87,9 @@ pub record EntersAt (p : Plane) (ms : List Meet) (entry_edge below_count : ℕ) 
   pub run : IsOneSidedRun p true (drop (entry_edge + 1) ms ++ take entry_edge ms) below_count
 
 -- ---- the passage
--- after the sides below the plane the boundary leaves the plane's negative side: the next corner isn't below
--- it, and some corner that is left, f's or one of the list, is above it. If three are left, that is sure, since
--- three corners of a ring are never on one line.
+-- after the sides below the plane the boundary leaves the plane's negative side. The corners that aren't below are
+-- f's and those of the list, and one of them is above: f's, the next one, or one after it. If there is one after it,
+-- they are three or more, so this is sure: three corners of a ring are never on one line.
 abbrev pub Leaves : Plane → Side → List Side → Type 0
 Leaves p f [] = IsAbove p f.corner
 Leaves p f (d ∷ ds) =

@@ -98,9 +98,8 @@ segments_above_wall w f =
 abbrev pub last_segment : Path → NearTriangle → Sign → ℤ
 last_segment w f end = if is_on_last w f then signed_crossing (side_after_second w f.support) end else pos 0
 
--- the side of a plane on which the point directly before another one along the axis lies, or the
--- point directly after it. The other one lies on the side s. If it is on the plane, the entry of
--- the normal along the axis decides.
+-- a point lies on the side s of a plane. These are the sides on which the point directly before it along the axis
+-- lies, and the point directly after it. If s is `Zero`, the entry of the normal along the axis decides
 abbrev pub side_before : Plane → Axis → Sign → Sign
 side_before p k s = or_sign s (flip (sgn (along p k)))
 

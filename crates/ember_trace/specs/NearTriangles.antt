@@ -21,8 +21,9 @@ pub record AreNearTriangles (ts : List Tri) (c : Cell) (fs : List NearTriangle) 
   pub tris : map tri_of fs ≡ ts
   pub reference_sides : All (HasReferenceSide c) fs
 
--- counts of a box are at most 36 * 262144 in size. This bound is wider than it has to be: they are winding numbers
--- at a point, and a ray from there crosses each of at most 262144 triangles of a scene at most once
+-- counts of a box are at most 36 * 262144 in size: a crossing with each of at most 262144 triangles of a scene for
+-- each of at most 36 halvings. This bound is wider than it has to be: they are winding numbers at a point, and a ray
+-- from there crosses each triangle at most once
 abbrev pub AreBoxCounts : List ℤ → Type 0
 AreBoxCounts counts = All (Small 9437184) counts
 

@@ -48,16 +48,16 @@ pub fn path_to(c: &Cell, r: &Ring) -> Path
     ensures { IsPathTo c.now r.now result }
 {
     let main = main_axis(&support(r));
-    let at = corners(r);
+    let ring_corners = corners(r);
     Path {
         lo: c.lo(),
         first_axis: first_of(main),
         second_axis: second_of(main),
         main,
-        first_corner: at[0],
-        second_corner: at[1],
-        third_corner: at[2],
-        narrow: are_narrow(&at[0], &at[1], &at[2]),
+        first_corner: ring_corners[0],
+        second_corner: ring_corners[1],
+        third_corner: ring_corners[2],
+        narrow: are_narrow(&ring_corners[0], &ring_corners[1], &ring_corners[2]),
     }
 }
 

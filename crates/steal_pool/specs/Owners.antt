@@ -87,7 +87,7 @@ pub record Lends {P : Type 0} (old new : Worker Job Global HandleView P)
   pub view_is : worker_view new ≡ with_one_lent (worker_view old)
   pub pass_is : view pass ≡ new_pass
 
--- what was pushed and not taken was run to its end, if nothing is left
+-- what was pushed and not taken was run to its end
 abbrev pub AddsDrained : {I : Type 0} → Weight → HandleView → Output I → Output I → Type 0
 AddsDrained weight v old new = (h : Entry → ℕ) (g : ℕ → ℕ) →
     ended h g new + weigh (weight h g) v.taken ≡ ended h g old + weigh (weight h g) v.pushed

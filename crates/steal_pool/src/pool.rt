@@ -31,8 +31,8 @@ use std::thread::Threads;
 const DEQUE_ROOM: usize = 64;
 
 // The room of a hand, so that holding a box needs no further memory. A worker takes a box from a
-// deque only if its hand is empty. So even if all pushes are refused, a hand has at most one left
-// half, and one right half of each depth up to 36, the greatest depth.
+// deque only if its hand is empty. So even if all pushes are refused, a hand has at most 37 boxes:
+// one left half, and one right half of each depth up to 36, the greatest depth. Three are to spare.
 const HAND_ROOM: usize = 40;
 
 /// All deques: of each the end from which others steal, and its owner's end.
