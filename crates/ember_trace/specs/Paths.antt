@@ -38,18 +38,18 @@ side_at_end w p = inside_side p w.first_corner w.second_corner w.third_corner
 
 -- the plane with the coordinate along an axis fixed to that of the box's least corner. The start of the path is
 -- as close to this corner as it has to be for the sides below (src/path.rt)
-abbrev pub slid_to_start : Path → Axis → Plane → Plane
-slid_to_start w k p = slid p k (coordinate w.lo k)
+abbrev pub slid_to_lo : Path → Axis → Plane → Plane
+slid_to_lo w k p = slid p k (coordinate w.lo k)
 
 -- the sides on which the first and the second segment end: there two coordinates are those of the start, or
 -- one. If the plane with these fixed to the least corner's is zero at all three corners of the region, it has no
 -- entry along the segments up to there, so they end on the side of the start (src/vertices.rt).
 abbrev pub side_after_first : Path → Plane → Sign
 side_after_first w p =
-    or_sign (side_at_end w (slid_to_start w w.main (slid_to_start w w.second_axis p))) (side_at_start w p)
+    or_sign (side_at_end w (slid_to_lo w w.main (slid_to_lo w w.second_axis p))) (side_at_start w p)
 
 abbrev pub side_after_second : Path → Plane → Sign
-side_after_second w p = or_sign (side_at_end w (slid_to_start w w.main p)) (side_at_start w p)
+side_after_second w p = or_sign (side_at_end w (slid_to_lo w w.main p)) (side_at_start w p)
 
 -- the floor of the coordinate of the first corner
 abbrev pub floor_at_end : Path → Axis → ℤ

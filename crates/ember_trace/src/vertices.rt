@@ -5,7 +5,7 @@ ghost use Rattle.ember_algebra.specs.Size.{Small};
 ghost use Rattle.ember_model.specs.Valid.{IsValidPlane};
 ghost use Rattle.ember_model.specs.Sizes.{IsSupportSized};
 ghost use Rattle.ember_point.specs.Points.{spot_of, is_narrow};
-ghost use Rattle.ember_trace.specs.Paths.{coordinate, inside_side, side_at_start, side_at_end, side_after_first, side_after_second, slid_to_start, floor_at_end, first_of, second_of, IsPathTo};
+ghost use Rattle.ember_trace.specs.Paths.{coordinate, inside_side, side_at_start, side_at_end, side_after_first, side_after_second, slid_to_lo, floor_at_end, first_of, second_of, IsPathTo};
 
 use crate::path::Path;
 use ember_algebra::Sign;
@@ -120,10 +120,10 @@ fn floor(n: i128, w: i128) -> i128
 
 // The plane with the coordinate along an axis fixed to that of `lo`, the least corner of the box.
 // The start is as close to `lo` as it has to be (path.rt).
-fn slid_to_start(way: &Path, k: Axis, p: &Plane) -> Plane
+fn slid_to_lo(way: &Path, k: Axis, p: &Plane) -> Plane
     requires plane { IsValidPlane p.now }
-    requires result { IsValidPlane (slid_to_start way.now k p.now) }
-    ensures { result ≡ slid_to_start way.now k p.now }
+    requires stays_valid { IsValidPlane (slid_to_lo way.now k p.now) }
+    ensures { result ≡ slid_to_lo way.now k p.now }
 {
     slide(p, k, coordinate(way.lo, k))
 }
@@ -168,8 +168,8 @@ impl Path {
         requires { IsSupportSized p.now }
         ensures { result ≡ side_after_first self.now p.now }
     {
-        let slid = slid_to_start(self, self.second_axis, p);
-        match self.side_at_end(&slid_to_start(self, self.main, &slid)) {
+        let slid = slid_to_lo(self, self.second_axis, p);
+        match self.side_at_end(&slid_to_lo(self, self.main, &slid)) {
             Sign::Zero => self.side_at_start(p),
             s => s,
         }
@@ -184,7 +184,7 @@ impl Path {
         requires { IsSupportSized p.now }
         ensures { result ≡ side_after_second self.now p.now }
     {
-        match self.side_at_end(&slid_to_start(self, self.main, p)) {
+        match self.side_at_end(&slid_to_lo(self, self.main, p)) {
             Sign::Zero => self.side_at_start(p),
             s => s,
         }
