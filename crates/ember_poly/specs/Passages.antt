@@ -95,17 +95,17 @@ Leaves p f [] = IsAbove p f.corner
 Leaves p f (d ∷ ds) =
     IsNotBelow p d.corner × (IsAbove p f.corner ⊎ (IsAbove p d.corner ⊎ IsNotEmpty ds))
 
--- the ring begun where the plane's negative side is entered: the side on whose edge that is, the
--- sides whose corners lie below the plane, and the others; and the two ends of the chord
+-- the ring begun where the plane's negative side is entered: the side on whose edge that is, the sides whose corners
+-- lie below the plane (the `firsts` and the `last`), and the others; and the two ends of the chord
 pub record IsPassage (n p : Plane) (xs : List Side) (at : Passage) : Type 0 where
   pub head : Side
-  pub front : List Side
+  pub firsts : List Side
   pub last : Side
   pub others : List Side
   pub within : at.entry_edge < length xs
-  pub turned : drop at.entry_edge xs ++ take at.entry_edge xs ≡ head ∷ (front ++ last ∷ []) ++ others
-  pub count : at.below_count ≡ suc (length front)
-  pub under : AllByRecursion (λ s. IsBelow p s.corner) (front ++ last ∷ [])
+  pub turned : drop at.entry_edge xs ++ take at.entry_edge xs ≡ head ∷ (firsts ++ last ∷ []) ++ others
+  pub count : at.below_count ≡ suc (length firsts)
+  pub under : AllByRecursion (λ s. IsBelow p s.corner) (firsts ++ last ∷ [])
   pub enters : IsNotBelow p head.corner
   pub leaves : Leaves p head others
   pub entry : IsMeet n head.plane p (spot_of at.entry)
