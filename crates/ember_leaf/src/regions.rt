@@ -149,7 +149,7 @@ fn add_pieces(
 // Adds what a triangle leaves of a region that meets it.
 fn add_cut(alloc: Global, r: Ring, cutter: &Cutter, out: &mut Vec<Ring>) -> Result<(), OutOfMemory>
     requires met { Meets r (face_of cutter.now.tri) }
-    requires plane { CanCut cutter.now r }
+    requires may_cut { CanCut cutter.now r }
     ensures { OnOk result (HasGrown (AreLeftByCutter cutter.now r) out.old.items out.new.items) }
 {
     match cutter.role {
@@ -166,7 +166,7 @@ fn add_all(
     out: &mut Vec<Ring>,
 ) -> Result<(), OutOfMemory>
     requires met { MeetsFirst cutter.now list.items }
-    requires plane { All (CanCut cutter.now) list.items }
+    requires may_cut { All (CanCut cutter.now) list.items }
     ensures { OnOk result (AddsSplit cutter.now list.items out.old.items out.new.items) }
 {
     let mut is_first = true;
