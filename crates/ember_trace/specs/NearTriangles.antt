@@ -5,7 +5,7 @@ use Rattle.ember_algebra.specs.Sign.{sgn}
 use Rattle.ember_model.specs.declared.tri.Tri.{Tri}
 use Rattle.ember_model.specs.Planes.{value_at}
 use Rattle.ember_box.specs.Boxes.{Cell}
-use Rattle.ember_ref.specs.References.{reference_of}
+use Rattle.ember_ref.specs.References.{reference_at_list}
 use Rattle.ember_trace.specs.declared.near_triangle.NearTriangle.{NearTriangle}
 
 -- the triangle alone
@@ -14,7 +14,7 @@ tri_of f = f.tri
 
 -- the near triangle is kept with the side of its plane on which the reference point of the box lies
 pub record HasReferenceSide (c : Cell) (f : NearTriangle) : Type 0 where
-  pub side : f.reference_side ≡ sgn (value_at f.support (reference_of (c.lo.x ∷ c.lo.y ∷ c.lo.z ∷ [])))
+  pub side : f.reference_side ≡ sgn (value_at f.support (reference_at_list (c.lo.x ∷ c.lo.y ∷ c.lo.z ∷ [])))
 
 -- the near triangles of the box that are made of these triangles, in order
 pub record AreNearTriangles (ts : List Tri) (c : Cell) (fs : List NearTriangle) : Type 0 where

@@ -13,7 +13,7 @@ use Rattle.ember_point.specs.declared.meet_point.Meet.{Meet}
 use Rattle.ember_point.specs.Points.{spot_of, slid}
 use Rattle.ember_poly.specs.Sides.{AreCorners}
 use Rattle.ember_box.specs.Boxes.{Cell}
-use Rattle.ember_ref.specs.References.{reference_of, or_sign}
+use Rattle.ember_ref.specs.References.{reference_at_list, or_sign}
 use Rattle.ember_trace.specs.declared.path.Path.{Path}
 
 -- the coordinate of a point along an axis
@@ -30,7 +30,7 @@ inside_side p a b c =
 
 -- the side of a plane on which the path begins: the reference point is on the same side
 abbrev pub side_at_start : Path → Plane → Sign
-side_at_start w p = sgn (value_at p (reference_of w.lo))
+side_at_start w p = sgn (value_at p (reference_at_list w.lo))
 
 -- the side of a plane on which it ends
 abbrev pub side_at_end : Path → Plane → Sign
