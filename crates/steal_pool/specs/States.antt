@@ -46,7 +46,7 @@ pub record MayLeave {P K I : Type 0} (visited : Job → Type 0) (answers : Job �
     (stealers : List (Stealer Job Global HandleView P)) (s : WorkerState K I) : Type 0 where
   pub each : EachPass stealers s.passes.items
   pub hand : s.hand.items ≡ []
-  pub found_all : All (IsPart visited answers) s.output.parts.items
+  pub parts_all : All (IsPart visited answers) s.output.parts.items
 
 -- a new state: it is ready, and nothing was given to it
 pub record IsNew {P K I : Type 0} (visited : Job → Type 0) (answers : Job → I → Type 0) (weight : Weight)

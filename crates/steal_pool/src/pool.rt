@@ -173,7 +173,7 @@ fn take_apart<K: VisitedJobs + BoxWeight<I>, I: Drop>(
     ensures owners { IfOk result (λ l. EachOwner (Lent workers) stealers.now.items l.owners.items) }
     ensures count { IfOk result (λ l. vec_len l.rows ≡ vec_len states) }
     ensures rows { IfOk result (λ l. EachRow stealers.now.items l.rows.items) }
-    ensures found { IfOk result (λ l. All (IsPart K.is_visited K.answers) l.parts.items) }
+    ensures parts { IfOk result (λ l. All (IsPart K.is_visited K.answers) l.parts.items) }
     ensures sums { IfOk result (HandsOver K.weight states.items) }
 {
     let mut owners = Vec::new(alloc);
@@ -241,8 +241,8 @@ fn drain_all<
 ) -> Result<(), OutOfMemory>
     requires call { RunsVisited K.is_visited K.answers K.weight F.pre F.post call.now }
     requires owners { AllBack owners.items }
-    requires found { All (IsPart K.is_visited K.answers) output.old.parts.items }
-    ensures found { OnOk result (All (IsPart K.is_visited K.answers) output.new.parts.items) }
+    requires parts { All (IsPart K.is_visited K.answers) output.old.parts.items }
+    ensures parts { OnOk result (All (IsPart K.is_visited K.answers) output.new.parts.items) }
     ensures stays { OnOk result (KeepsHalves output.old output.new) }
     ensures sums { OnOk result (AddsAllDrained K.weight owners.items output.old output.new) }
 {
@@ -298,7 +298,7 @@ fn run_states<
     requires len { 0 < vec_len states }
     requires deques { EachState (Fresh (vec_len states)) stealers.now.items states.items }
     requires ready { All (IsReady K.is_visited K.answers stealers.now.items) states.items }
-    ensures found { IfOk result (λ v. All (IsPart K.is_visited K.answers) v.parts) }
+    ensures parts { IfOk result (λ v. All (IsPart K.is_visited K.answers) v.parts) }
     ensures journals { IfOk result (λ v. WorkerJournals states.items v.journals v.left) }
     ensures sums { IfOk result (λ v. Conserves K.weight states.items v.journals v.parts) }
 {
@@ -348,7 +348,7 @@ pub fn run_named<
     requires call { RunsVisited K.is_visited K.answers K.weight F.pre F.post call.now }
     requires root { K.is_visited root }
     requires workers { 1 ≤ workers }
-    ensures found { IfOk result (λ v. All (IsPart K.is_visited K.answers) v.parts) }
+    ensures parts { IfOk result (λ v. All (IsPart K.is_visited K.answers) v.parts) }
     ensures journals { IfOk result (λ v. RunJournals root.cell.path workers v.journals v.left) }
     ensures sums { IfOk result (λ v. HoldsTree K.weight root v.journals v.parts) }
 {

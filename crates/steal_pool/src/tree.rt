@@ -34,7 +34,7 @@ fn run_alone_named<
     requires call { RunsVisited K.is_visited K.answers K.weight F.pre F.post call.now }
     requires root { K.is_visited root }
     ensures count { IfOk result (λ v. (length v.journals ≡ 1) × (v.left ≡ 0)) }
-    ensures found { IfOk result (λ v. All (IsPart K.is_visited K.answers) v.parts) }
+    ensures parts { IfOk result (λ v. All (IsPart K.is_visited K.answers) v.parts) }
     ensures journals { IfOk result (λ v. RunJournals root.cell.path 1 (v.journals ++ [] ∷ []) 0) }
     ensures sums { IfOk result (λ v. HoldsTree K.weight root (v.journals ++ [] ∷ []) v.parts) }
 {

@@ -10,7 +10,7 @@ drain-requires-clause-owner g c = (last_is_back c.loop-owner.owners.items c.pop.
 pub loop-owner-preserved : goal.loop-owner-preserved
 loop-owner-preserved g c = record {
   back = (last_is_back c.loop-owner.owners.items c.pop.new.self.items c.in-Some.owner c.loop-owner.invariant.back c.in-Some.ensures.items).1;
-  found = c.in_ok-drain.ensures.found;
+  parts = c.in_ok-drain.ensures.parts;
   stays = λ h. omega (arith, c.loop-owner.invariant.stays h, c.in_ok-drain.ensures.stays h);
   sums = λ h u. omega (
     arith,

@@ -7,7 +7,7 @@ use Rattle.steal_pool.proofs.pool.drain_all.Given as goal
 abbrev pub invariant-loop-owner : goal.invariant-loop-owner
 invariant-loop-owner g l = record {
   back : AllBack l.owners.items;
-  found : All (IsPart g.K.VisitedJobs.is_visited g.K.BoxWeight.answers) l.output.parts.items;
+  parts : All (IsPart g.K.VisitedJobs.is_visited g.K.BoxWeight.answers) l.output.parts.items;
   stays : KeepsHalves l.initial.output l.output;
   sums : (h : Entry → ℕ) (u : ℕ → ℕ)
       → ended h u l.output + all_popped (g.K.BoxWeight.weight h u) l.initial.owners.items + all_pushed (g.K.BoxWeight.weight h u) l.owners.items ≡ ended h u l.initial.output + all_pushed (g.K.BoxWeight.weight h u) l.initial.owners.items + all_popped (g.K.BoxWeight.weight h u) l.owners.items;

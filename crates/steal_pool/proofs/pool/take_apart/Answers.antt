@@ -17,7 +17,7 @@ loop-state-preserved g c =
       rows = rw c.in_ok-push-2.ensures.items (All-push (λ r. EachPass c.args.stealers.now.items r.items) c.loop-state.rows.items c.in-Some.state.passes c.loop-state.invariant.rows first.0.each);
       len = omega (arith, c.loop-state.invariant.len, c.in_ok-push-2.ensures.len, c.in-Some.ensures.len);
       journals = journals_next (λ j. j.items) (λ s. s.output.journal.items) _ _ _ _ c.in-Some.state.output.journal c.in-Some.state c.in_ok-push-3.ensures.items c.in-Some.ensures.first refl ∙ c.loop-state.invariant.journals;
-      found = rw c.in_ok-append.ensures.items (All-append (IsPart g.K.VisitedJobs.is_visited g.K.BoxWeight.answers) c.loop-state.parts.items c.in-Some.state.output.parts.items c.loop-state.invariant.found first.0.found_all);
+      parts = rw c.in_ok-append.ensures.items (All-append (IsPart g.K.VisitedJobs.is_visited g.K.BoxWeight.answers) c.loop-state.parts.items c.in-Some.state.output.parts.items c.loop-state.invariant.parts first.0.parts_all);
       held = λ h u. omega (
         arith,
         c.loop-state.invariant.held h u,
