@@ -4,7 +4,7 @@ ghost use Rattle.std.specs.Prelude.{◌≡◌, ◌+◌, ◌<◌, ◌≤◌, true
 ghost use Rattle.crossbeam_deque.specs.Handles.{worker_deque, worker_view};
 ghost use Rattle.ember_job.specs.declared.job.Job.{Job};
 ghost use Rattle.steal_pool.specs.Protocol.{handle};
-ghost use Rattle.steal_pool.specs.Owners.{EachOwner, Fresh, Lent, AllBack, EachRow, NewRow, AddsAllDrained, all_pushed, all_popped, rows_taken};
+ghost use Rattle.steal_pool.specs.Owners.{EachOwner, Fresh, Lent, AllBack, EachRow, NewRow, AddsAllDrained, all_pushed, owners_taken, rows_taken};
 ghost use Rattle.steal_pool.specs.Steps.{RunsVisited, IsPart, KeepsHalves};
 ghost use Rattle.steal_pool.specs.Workers.{IsReady};
 ghost use Rattle.steal_pool.specs.States.{EachState, MayLeave, IsNew, HandsOver, HoldRoot, Conserves, HoldsTree};
@@ -216,7 +216,8 @@ fn absorb_all<K: VisitedJobs>(
     requires rows { EachRow stealers.now.items rows.items }
     ensures owners { EachOwner (Lent 0) stealers.now.items owners.new.items }
     ensures pushed { (h : Job → ℕ) → all_pushed h owners.new.items ≡ all_pushed h owners.old.items }
-    ensures popped { (h : _) → all_popped h owners.new.items ≡ all_popped h owners.old.items + rows_taken h rows.items }
+    ensures taken { (h : Job → ℕ) →
+        owners_taken h owners.new.items ≡ owners_taken h owners.old.items + rows_taken h rows.items }
 {
     while let Some(row) = rows.pop() {
         absorb_each(stealers, owners, row, rows.len());

@@ -1,11 +1,11 @@
 use Rattle.std.proofs.Common.{[], ◌∷◌, ap, arith, refl, ◌∙◌}
 use Rattle.std.proofs.lemmas.List.Elements.{All-append, All-push}
 use Rattle.ember_job.specs.Weights.{weigh}
-use Rattle.steal_pool.specs.Owners.{Lent, all_pushed, all_popped, rows_taken}
+use Rattle.steal_pool.specs.Owners.{Lent, all_pushed, owners_taken, rows_taken}
 use Rattle.steal_pool.specs.Steps.{EachPass, all_taken, IsPart, by_path}
 use Rattle.steal_pool.specs.Workers.{all_held, all_received}
 use Rattle.steal_pool.proofs.DequeSteps.{weigh_append}
-use Rattle.steal_pool.proofs.AccountSums.{pushed_snoc, popped_snoc, journals_next}
+use Rattle.steal_pool.proofs.AccountSums.{pushed_snoc, owners_taken_snoc, journals_next}
 use Rattle.steal_pool.proofs.StateLists.{taking_next, taking_end, may_leave_first}
 use Rattle.steal_pool.proofs.pool.take_apart.Goals as goal
 
@@ -36,8 +36,8 @@ loop-state-preserved g c =
         ap (all_received g.K.BoxWeight.weight h u) c.in-Some.ensures.first,
         ap (rows_taken (g.K.BoxWeight.weight h u)) c.in_ok-push-2.ensures.items,
         weigh_append (λ r. all_taken (g.K.BoxWeight.weight h u) r.items) c.loop-state.rows.items (c.in-Some.state.passes ∷ []),
-        ap (all_popped (g.K.BoxWeight.weight h u)) c.in_ok-push.ensures.items,
-        popped_snoc (g.K.BoxWeight.weight h u) c.loop-state.owners.items c.in-Some.state.owner,
+        ap (owners_taken (g.K.BoxWeight.weight h u)) c.in_ok-push.ensures.items,
+        owners_taken_snoc (g.K.BoxWeight.weight h u) c.loop-state.owners.items c.in-Some.state.owner,
       );
     }
 
