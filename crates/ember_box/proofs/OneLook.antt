@@ -16,7 +16,7 @@ use Rattle.ember_box.specs.Boxes.{Cell, low, left_half, right_half}
 use Rattle.ember_box.specs.Near.{is_near, tri_at}
 use Rattle.ember_box.specs.Aabbs.{interval_along, aabb_of_cell, aabb_of_tri, aabbs_meet, crosses}
 use Rattle.ember_box.specs.Sums.{IsPlaneOf, AreHalves}
-use Rattle.ember_box.specs.NearParts.{IsMiddle, AreMargins, rise, margin_of_left, margin_of_right, IsNearPair, AreNearParts, AreNearPartsAt, no_pair, no_parts, pair_on}
+use Rattle.ember_box.specs.NearParts.{IsMiddle, AreMargins, change_size, margin_of_left, margin_of_right, IsNearPair, AreNearParts, AreNearPartsAt, no_pair, no_parts, pair_on}
 use Rattle.ember_box.proofs.NearByAabbs.{near_is, left_near, right_near}
 use Rattle.ember_box.proofs.HalvesMet.{left_meets, right_meets}
 use Rattle.ember_box.proofs.HalfNearness.{seen_low, seen_high}
@@ -50,7 +50,7 @@ module _ (c : Cell) (t : Tri) (o : aabbs_meet (aabb_of_tri t) (aabb_of_cell c) �
     pub whole_by_plane : true ≡ is_near c t
     whole_by_plane = sym (near_is c t ∙ (λ i. o i && x i))
 
-    pub pair_by_plane : (k : Axis) (i : Middle) (p : NearPair) → 0 < c.log k → IsMiddle c k i → p.left ≡ int_le (interval_along (aabb_of_tri t) k).low i.at && int_le (rise (along (support_of t) k) i.half) (margin_of_left (along (support_of t) k) m) → p.right ≡ int_le i.at (interval_along (aabb_of_tri t) k).high && int_le (rise (along (support_of t) k) i.half) (margin_of_right (along (support_of t) k) m) → IsNearPair c k t p
+    pub pair_by_plane : (k : Axis) (i : Middle) (p : NearPair) → 0 < c.log k → IsMiddle c k i → p.left ≡ int_le (interval_along (aabb_of_tri t) k).low i.at && int_le (change_size (along (support_of t) k) i.half) (margin_of_left (along (support_of t) k) m) → p.right ≡ int_le i.at (interval_along (aabb_of_tri t) k).high && int_le (change_size (along (support_of t) k) i.half) (margin_of_right (along (support_of t) k) m) → IsNearPair c k t p
     pair_by_plane k i p may are e f =
         record { left = e ∙ (λ j. int_le (interval_along (aabb_of_tri t) k).low (are.place j) && low_crossed (support_of t) c m a x k i may are j) ∙ sym (near_is (left_half c k) t ∙ (λ j. left_meet j && crosses (support_of t) (aabb_of_cell (left_half c k)))); right = f ∙ (λ j. int_le (are.place j) (interval_along (aabb_of_tri t) k).high && high_crossed (support_of t) c m a x k i may are j) ∙ sym (near_is (right_half c k) t ∙ (λ j. right_meet j && crosses (support_of t) (aabb_of_cell (right_half c k)))) }
       where

@@ -41,9 +41,9 @@ pub record AreMargins (p : Plane) (b : Aabb) (m : Margins) : Type 0 where
   pub above : m.above ≡ p.d -ℤ least_value p b
   pub below : m.below ≡ greatest_value p b -ℤ p.d
 
--- how much the value of a plane with the entry n of its normal grows over a half
-abbrev pub rise : ℤ → ℤ → ℤ
-rise n half = if is_negative n then neg_ℤ (n *ℤ half) else n *ℤ half
+-- by how much the value of a plane with the entry n of its normal changes over a half, without sign
+abbrev pub change_size : ℤ → ℤ → ℤ
+change_size n half = if is_negative n then neg_ℤ (n *ℤ half) else n *ℤ half
 
 -- the margin that shrinks in the left half, and the one that shrinks in the right half
 abbrev pub margin_of_left : ℤ → Margins → ℤ

@@ -19,7 +19,7 @@ use std::alloc::Global;
 /// Whether the triangle is near the box that has this bounding box.
 pub fn is_near(aabb: &Aabb, t: &Tri) -> bool
     requires tri { IsValidTri t.now }
-    requires spans { IsAabbSized aabb.now }
+    requires sized { IsAabbSized aabb.now }
     ensures { (c : CellView) → aabb.now ≡ aabb_of_cell c → result ≡ is_near c t.now }
 {
     let spans = aabb_of_tri(t);
@@ -46,7 +46,7 @@ fn is_crossed(aabb: &Aabb, spans: &Aabb, t: &Tri) -> bool
 pub fn is_near_at(tris: &[Tri], aabb: &Aabb, i: u32) -> bool
     requires valid { All IsValidTri tris.now }
     requires index { i < length tris.now }
-    requires spans { IsAabbSized aabb.now }
+    requires sized { IsAabbSized aabb.now }
     ensures { (c : CellView) → aabb.now ≡ aabb_of_cell c → result ≡ is_near c (tri_at tris.now i) }
 {
     is_near(aabb, &tris[i as usize])

@@ -29,7 +29,7 @@ front f before after =
 pub data IsWrittenOfRegion (scene : List Tri) (e : Formula) (near : List Tri) (i : ℕ)
     (face : Face) : List Kept → Type 0 where
   unowned : (IsOwner near i face → ⊥) → IsWrittenOfRegion scene e near i face []
-  even : {before after : List ℤ} → IsSides scene face before after → truth before e ≡ truth after e →
+  same_value : {before after : List ℤ} → IsSides scene face before after → truth before e ≡ truth after e →
       IsWrittenOfRegion scene e near i face []
   written : {before after : List ℤ} → IsOwner near i face → IsSides scene face before after →
       truth before e ≢ truth after e →

@@ -45,6 +45,7 @@ const ROOM: usize = 6;
 fn faces_up(p: &Plane) -> bool
     ensures { result ≡ is_positive (along p.now (main_axis p.now)) }
 {
+    // `is_in_front` says of any number whether it is above 0.
     match main_axis(p) {
         Axis::X => is_in_front(p.a),
         Axis::Y => is_in_front(p.b),

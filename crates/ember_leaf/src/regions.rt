@@ -96,10 +96,10 @@ fn is_uncut(r: &Ring, planes: &[Plane]) -> bool
     true
 }
 
-// `true` only if the part of the region below the plane that cuts it now would be dropped: the
-// triangle owns what it contains, and none of `planes`, its edge planes that are still to cut, cuts
-// the region. The region overlaps the triangle, so it then lies below these planes, and the part is
-// inside the triangle.
+// `true` only if the inner part of the region, the part below the plane that cuts it now, needn't
+// be made: the triangle would own it. It owns what it contains, and none of `planes`, its edge
+// planes that are still to cut, cuts the region. The region overlaps the triangle, so it then lies
+// below these planes, and the inner part is inside the triangle.
 fn needs_no_inner_part(r: &Ring, cutter: &Cutter, planes: &[Plane]) -> bool
     requires { All IsValidPlane planes.now }
     ensures { result ≡ true → (cutter.now.role ≡ Earlier) × AllByRecursion (IsUncut r.now) planes.now }
@@ -149,7 +149,7 @@ fn add_pieces(
 // Adds what a triangle leaves of a region that meets it.
 fn add_cut(alloc: Global, r: Ring, cutter: &Cutter, out: &mut Vec<Ring>) -> Result<(), OutOfMemory>
     requires met { Meets r (face_of cutter.now.tri) }
-    requires plane { CanCut cutter.now r }
+    requires may_cut { CanCut cutter.now r }
     ensures { OnOk result (HasGrown (AreLeftByCutter cutter.now r) out.old.items out.new.items) }
 {
     match cutter.role {
@@ -166,7 +166,7 @@ fn add_all(
     out: &mut Vec<Ring>,
 ) -> Result<(), OutOfMemory>
     requires met { MeetsFirst cutter.now list.items }
-    requires plane { All (CanCut cutter.now) list.items }
+    requires may_cut { All (CanCut cutter.now) list.items }
     ensures { OnOk result (AddsSplit cutter.now list.items out.old.items out.new.items) }
 {
     let mut is_first = true;

@@ -128,7 +128,8 @@ impl Table {
     // Reads one joined line. `line` is its first physical line, and `after` has the bytes that
     // follow. Returns the number of the physical line that begins the next joined line, and the
     // bytes from it on. `joined` is room for a line of several physical lines. `ReadsOneLine` says
-    // this by what the whole rest of the file gives.
+    // this by what the whole rest of the file gives. Each further line takes a byte of `after`, so
+    // by the clauses `numbers` its number fits into 32 bits.
     #[tactic(auto, using(crate::proofs::Faults::after_fault, crate::proofs::Faults::long_line))]
     fn read_line<'a>(
         &mut self,

@@ -167,7 +167,7 @@ module _ (n p : Plane) (gs : List Plane) (xs : List Side) (at : Passage) (q : Is
   z = spot_of at.entry
 
   abbrev begun : List Side
-  begun = q.head ∷ (q.front ++ q.last ∷ []) ++ q.others
+  begun = q.head ∷ (q.firsts ++ q.last ∷ []) ++ q.others
 
   sound : IsConvexRing n begun
   sound =
@@ -183,19 +183,19 @@ module _ (n p : Plane) (gs : List Plane) (xs : List Side) (at : Passage) (q : Is
 
   chord_line : IsLine n p y z
   chord_line =
-      record { flat_y = q.exit.first; flat_z = q.entry.first; on_y = q.exit.third; on_z = q.entry.third; weight_y = q.exit.weight; weight_z = q.entry.weight; across = q.head.plane; turns = not_zero (turns_of n p q.head q.last q.front q.others sound q.under q.enters q.leaves).1 }
+      record { flat_y = q.exit.first; flat_z = q.entry.first; on_y = q.exit.third; on_z = q.entry.third; weight_y = q.exit.weight; weight_z = q.entry.weight; across = q.head.plane; turns = not_zero (turns_of n p q.head q.last q.firsts q.others sound q.under q.enters q.leaves).1 }
 
   chord_meets : (hs : List Plane) → IsOpen hs y z → MeetsFace (record { support = n; edges = gs }) (face_with p hs)
   chord_meets hs o =
       let v = combination o.i o.j y z in
-      let k = out v (chord_inside n p q.head q.last q.front q.others y z q.entry q.exit sound q.under q.enters q.leaves o.i o.j o.from_y o.from_z) in
+      let k = out v (chord_inside n p q.head q.last q.firsts q.others y z q.entry q.exit sound q.under q.enters q.leaves o.i o.j o.from_y o.from_z) in
       record { at = v; inside = seen_inside n p gs xs st v k; holds = closed_in (face_with p hs) v (record { flat = flat_sum o.i o.j y z p q.exit.third q.entry.third; weight = k.weight; within = all_out hs v o.free }) }
 
   meets_chord : (hs : List Plane) → MeetsFace (record { support = n; edges = gs }) (face_with p hs) → IsOpen hs y z
   meets_chord hs m =
       let k = into m.at (inside_seen n p gs xs st m.at m.inside) in
       let c = closed_out (face_with p hs) m.at m.holds in
-      chord_open n p q.head q.last q.front q.others y z q.entry q.exit sound q.under q.enters q.leaves m.at k c.flat hs (all_in hs m.at c.within)
+      chord_open n p q.head q.last q.firsts q.others y z q.entry q.exit sound q.under q.enters q.leaves m.at k c.flat hs (all_in hs m.at c.within)
 
 -- the chord of the ring's face
 pub chord_of : (f : Face) (n p : Plane) (gs : List Plane) (xs : List Side) (at : Passage) → IsPassage n p xs at → Represents n gs xs → record { support = n; edges = gs } ≡ f → Cuts f p → IsChord f p (spot_of at.exit) (spot_of at.entry)

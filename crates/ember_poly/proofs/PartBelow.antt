@@ -40,11 +40,11 @@ take_front xs ys k e = ap (λ j. take j (xs ++ ys)) e ∙ by xs ys
     by (x ∷ xs) ys = ap (λ zs. x ∷ zs) (by xs ys)
 
 -- the kept sides
-kept_sides : (n p : Plane) (xs : List Side) (at : Passage) (q : IsPassage n p xs at) → take (at.below_count + 1) (rotated at.entry_edge xs) ≡ q.head ∷ (q.front ++ q.last ∷ [])
+kept_sides : (n p : Plane) (xs : List Side) (at : Passage) (q : IsPassage n p xs at) → take (at.below_count + 1) (rotated at.entry_edge xs) ≡ q.head ∷ (q.firsts ++ q.last ∷ [])
 kept_sides n p xs at q =
-    ap (λ zs. take (at.below_count + 1) zs) q.turned ∙ take_front (q.head ∷ (q.front ++ q.last ∷ [])) q.others (at.below_count + 1) (omega (arith, q.count, length_push q.front q.last))
+    ap (λ zs. take (at.below_count + 1) zs) q.turned ∙ take_front (q.head ∷ (q.firsts ++ q.last ∷ [])) q.others (at.below_count + 1) (omega (arith, q.count, length_push q.firsts q.last))
 
-part_is : (n p : Plane) (xs : List Side) (at : Passage) (q : IsPassage n p xs at) (b : ℕ) → part_sides xs at p b ≡ with_start q.head (spot_of at.entry) ∷ (q.front ++ q.last ∷ []) ++ closing_side p (spot_of at.exit) b ∷ []
+part_is : (n p : Plane) (xs : List Side) (at : Passage) (q : IsPassage n p xs at) (b : ℕ) → part_sides xs at p b ≡ with_start q.head (spot_of at.entry) ∷ (q.firsts ++ q.last ∷ []) ++ closing_side p (spot_of at.exit) b ∷ []
 part_is n p xs at q b =
     ap (λ zs. with_first_start (spot_of at.entry) zs ++ closing_side p (spot_of at.exit) b ∷ []) (kept_sides n p xs at q)
 
@@ -147,17 +147,17 @@ begun_counted n gs k xs c =
 
 module _ (n p : Plane) (gs : List Plane) (xs : List Side) (at : Passage) (q : IsPassage n p xs at) (st : Represents n gs xs) (ct : EachHasSideOrNoEdge n gs xs) where
   abbrev below_sides : List Side
-  below_sides = with_start q.head (spot_of at.entry) ∷ (q.front ++ q.last ∷ []) ++ closing_side p (spot_of at.exit) (length gs) ∷ []
+  below_sides = with_start q.head (spot_of at.entry) ∷ (q.firsts ++ q.last ∷ []) ++ closing_side p (spot_of at.exit) (length gs) ∷ []
 
-  division : Division n p gs q.head q.last q.front (spot_of at.exit) (spot_of at.entry) q.entry q.exit q.under q.enters q.others
+  division : Division n p gs q.head q.last q.firsts (spot_of at.exit) (spot_of at.entry) q.entry q.exit q.under q.enters q.others
   division =
-      divide n p gs q.head q.last q.front (spot_of at.exit) (spot_of at.entry) q.entry q.exit q.under q.enters q.others (subst (λ zs. Represents n gs zs) q.turned (begun_stands n gs at.entry_edge xs st)) q.leaves
+      divide n p gs q.head q.last q.firsts (spot_of at.exit) (spot_of at.entry) q.entry q.exit q.under q.enters q.others (subst (λ zs. Represents n gs zs) q.turned (begun_stands n gs at.entry_edge xs st)) q.leaves
 
   pub below_ring : (es : List Plane) (ms : List Meet) (bs : List ℕ) (k j : ℕ) (hs : List Plane) → sides_of es ms bs ≡ rotated j (rotated k (part_sides xs at p (length gs))) → LeastFirst bs → length ms ≡ length es → length bs ≡ length es → hs ≡ gs ++ p ∷ [] → IsValidPlane n → All IsValidPlane gs → IsValidPlane p → IsRing n hs es ms bs
   below_ring es ms bs k j hs et least em el eh vn vs vp =
       let e : sides_of es ms bs ≡ rotated j (rotated k below_sides) = et ∙ ap (λ zs. rotated j (rotated k zs)) (part_is n p xs at q (length gs)) in
       let s = begun_stands n (gs ++ p ∷ []) j (rotated k below_sides) (begun_stands n (gs ++ p ∷ []) k below_sides division.represents) in
-      let c = begun_counted n (gs ++ p ∷ []) j (rotated k below_sides) (begun_counted n (gs ++ p ∷ []) k below_sides (divide_counted n p gs q.head q.last q.front (spot_of at.exit) (spot_of at.entry) q.entry q.exit q.under q.enters q.others (subst (λ zs. EachHasSideOrNoEdge n gs zs) q.turned (begun_counted n gs at.entry_edge xs ct)) division)) in
+      let c = begun_counted n (gs ++ p ∷ []) j (rotated k below_sides) (begun_counted n (gs ++ p ∷ []) k below_sides (divide_counted n p gs q.head q.last q.firsts (spot_of at.exit) (spot_of at.entry) q.entry q.exit q.under q.enters q.others (subst (λ zs. EachHasSideOrNoEdge n gs zs) q.turned (begun_counted n gs at.entry_edge xs ct)) division)) in
       record {
         represents = subst (λ us. Represents n us (sides_of es ms bs)) (sym eh) (subst (λ us. Represents n (gs ++ p ∷ []) us) (sym e) s);
         oldest = oldest_first es ms bs least;

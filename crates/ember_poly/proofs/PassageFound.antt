@@ -203,7 +203,7 @@ module _ (n p : Plane) (es : List Plane) (ms : List Meet) (bs : List ℕ) (k c r
     passage_is y z d g mz my =
         record {
           head = head;
-          front = w.front;
+          firsts = w.front;
           last = w.last;
           others = w.behind;
           within = subst (λ j. k < j) (sym (length-sides_of es ms bs em eb)) in_es;

@@ -87,25 +87,25 @@ pub record EntersAt (p : Plane) (ms : List Meet) (entry_edge below_count : ℕ) 
   pub run : IsOneSidedRun p true (drop (entry_edge + 1) ms ++ take entry_edge ms) below_count
 
 -- ---- the passage
--- after the sides below the plane the boundary leaves the plane's negative side: the next corner isn't below
--- it, and some corner that is left, f's or one of the list, is above it. If three are left, that is sure, since
--- three corners of a ring are never on one line.
+-- after the sides below the plane the boundary leaves the plane's negative side. The corners that aren't below are
+-- f's and those of the list, and one of them is above: f's, the next one, or one after it. If there is one after it,
+-- they are three or more, so this is sure: three corners of a ring are never on one line.
 abbrev pub Leaves : Plane → Side → List Side → Type 0
 Leaves p f [] = IsAbove p f.corner
 Leaves p f (d ∷ ds) =
     IsNotBelow p d.corner × (IsAbove p f.corner ⊎ (IsAbove p d.corner ⊎ IsNotEmpty ds))
 
--- the ring begun where the plane's negative side is entered: the side on whose edge that is, the
--- sides whose corners lie below the plane, and the others; and the two ends of the chord
+-- the ring begun where the plane's negative side is entered: the side on whose edge that is, the sides whose corners
+-- lie below the plane (the `firsts` and the `last`), and the others; and the two ends of the chord
 pub record IsPassage (n p : Plane) (xs : List Side) (at : Passage) : Type 0 where
   pub head : Side
-  pub front : List Side
+  pub firsts : List Side
   pub last : Side
   pub others : List Side
   pub within : at.entry_edge < length xs
-  pub turned : drop at.entry_edge xs ++ take at.entry_edge xs ≡ head ∷ (front ++ last ∷ []) ++ others
-  pub count : at.below_count ≡ suc (length front)
-  pub under : AllByRecursion (λ s. IsBelow p s.corner) (front ++ last ∷ [])
+  pub turned : drop at.entry_edge xs ++ take at.entry_edge xs ≡ head ∷ (firsts ++ last ∷ []) ++ others
+  pub count : at.below_count ≡ suc (length firsts)
+  pub under : AllByRecursion (λ s. IsBelow p s.corner) (firsts ++ last ∷ [])
   pub enters : IsNotBelow p head.corner
   pub leaves : Leaves p head others
   pub entry : IsMeet n head.plane p (spot_of at.entry)

@@ -195,6 +195,7 @@ pub fn classify(plane: &Plane, corners: &[Meet]) -> Classification
     let (leading, next) = count_below(plane, axis, corners, 0);
     let (rising, some_high) = count_not_below(plane, axis, &corners[leading..], next);
     let turn = leading + rising;
+    // The corner at `turn`, if there is one, ended the rising run, so it is known to be below.
     let (falling, _) = count_below(plane, axis, &corners[turn..], 1);
     let high = is_some_above(plane, axis, &corners[turn + falling..], some_high);
     let reach = reach_by(leading + falling, high);

@@ -22,7 +22,7 @@ pub record IsNoReply (verdict : Contents → Verdict) (names : List (List ℕ)) 
     (status : Status) : Type 0 where
   -- a refusal is that of the verdict
   pub refused : is_refusal status ≡ true → IsRefusalIfTold status (verdict (map shelf.told names))
-  -- it is that of contents that the files may have
+  -- it is that of contents that the files may have. All of these are told, so the verdict of a command isn't Unknown
   pub refused_read : is_refusal status ≡ true →
       MayHold shelf.told names (λ contents. IsRefusalIfTold status (verdict contents))
   -- a refusal of the words or of the expression doesn't depend on any file

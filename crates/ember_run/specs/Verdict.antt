@@ -41,7 +41,8 @@ Contents = List (Option (List ℕ))
 abbrev pub PassesOn : {A : Type 0} → ((A → Verdict) → Verdict) → A → Type 0
 PassesOn {A} step result = (next : A → Verdict) → step next ≡ next result
 
--- ---- a file; `next` is what is done with its bytes, or with its triangles
+-- ---- a file; `next` is what is done with its bytes, or with its triangles. A file has 2^28 = 268435456 bytes at most,
+-- and the refusal of a longer one names one byte more
 abbrev pub after_bytes : ℕ → Option (List ℕ) → (List ℕ → Verdict) → Verdict
 after_bytes i None next = Unknown
 after_bytes i (Some bytes) next =
@@ -126,7 +127,8 @@ voxels_verdict expr size places contents =
     after_expr expr (length contents) (λ formula.
     after_scene places contents (λ tris. Writes (Lattice tris formula size)))
 
--- an expression is refused if it is true outside all meshes
+-- an expression is refused if it is true outside all meshes. To `truth` a count past the end of the list is 0, too: a
+-- list of zeros of any other length would do
 abbrev pub after_bounded : Formula → Verdict → Verdict
 after_bounded formula next = if truth (replicate 64 (pos 0)) formula then Refused Unbounded else next
 

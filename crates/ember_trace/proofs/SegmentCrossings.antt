@@ -34,7 +34,7 @@ use Rattle.ember_point.specs.Points.{spot_of, slid}
 use Rattle.ember_box.specs.Boxes.{Cell}
 use Rattle.ember_box.specs.Aabbs.{interval_along}
 use Rattle.ember_box.specs.Reference.{reference_at}
-use Rattle.ember_ref.specs.References.{or_sign, corner_of, reference_of}
+use Rattle.ember_ref.specs.References.{or_sign, vector_of_list, reference_at_list}
 use Rattle.ember_ref.proofs.NearPoints.{coordinate as along_point}
 use Rattle.ember_ref.proofs.ReferenceLegs.{reference_is}
 use Rattle.ember_trace.specs.declared.near_triangle.NearTriangle.{NearTriangle}
@@ -231,7 +231,7 @@ module _ (c : Cell) (k : Axis) (v : Path) (e : v.lo ≡ entries c.lo) (q : Spot)
 
   -- ---- sides, as the code has them
   side_start : (h : Plane) → side_at_start w h ≡ sgn (value_at h (reference_at c.lo))
-  side_start h = ap (λ (p : Spot). sgn (value_at h p)) (reference_is v.lo c (ap corner_of e))
+  side_start h = ap (λ (p : Spot). sgn (value_at h p)) (reference_is v.lo c (ap vector_of_list e))
 
   side_first : (h : Plane) → IsSupportSized h → sgn (value_at h p1) ≡ side_after_first w h
   side_first h i =
@@ -246,7 +246,7 @@ module _ (c : Cell) (k : Axis) (v : Path) (e : v.lo ≡ entries c.lo) (q : Spot)
 
   at_start : sgn (value_at (support_of t) p0) ≡ f.reference_side
   at_start =
-      start_sign k c.lo v.first_corner v.second_corner v.third_corner q n s (support_of t) sized ∙ sym (from.side ∙ ap (λ (p : Plane). sgn (value_at p (reference_of (entries c.lo)))) f.plane ∙ ap (λ (r : Spot). sgn (value_at (support_of t) r)) (reference_is (entries c.lo) c refl))
+      start_sign k c.lo v.first_corner v.second_corner v.third_corner q n s (support_of t) sized ∙ sym (from.side ∙ ap (λ (p : Plane). sgn (value_at p (reference_at_list (entries c.lo)))) f.plane ∙ ap (λ (r : Spot). sgn (value_at (support_of t) r)) (reference_is (entries c.lo) c refl))
 
   after_first : sgn (value_at (support_of t) p1) ≡ side_after_first w f.support
   after_first = side_first (support_of t) sized ∙ ap (λ (p : Plane). side_after_first w p) (sym f.plane)

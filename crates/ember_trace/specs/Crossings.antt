@@ -1,5 +1,5 @@
--- How often a path from the reference point of a box to a region crosses the triangles near the box,
--- by the sides of planes on which its vertices lie
+-- How often a path to a region of a box crosses the triangles near the box, by the sides of planes on
+-- which its vertices lie
 use Rattle.std.specs.Prelude.{◌≡◌, ℤ, pos, negsuc, ◌+ℤ◌, neg_ℤ, int_le, int_lt, Bool, ◌&&◌, if◌then◌else◌, List, fold, replicate, Some, slice_get}
 use Rattle.std.specs.Int.{int_max}
 use Rattle.std.specs.List.{list_all}
@@ -57,15 +57,15 @@ pub record AreEndFloors (w : Path) (at : EndFloors) : Type 0 where
 -- ---- the segments
 -- the line of the first segment runs through the triangle, by the bounding box along the second axis and by the
 -- edge planes
-abbrev pub is_on_first : Path → NearTriangle → Bool
-is_on_first w f =
+abbrev pub first_runs_through : Path → NearTriangle → Bool
+first_runs_through w f =
     contains_above (interval_along f.aabb w.second_axis) (coordinate w.lo w.second_axis) &&
     all_behind (λ p. side_at_start w p) (edge_planes f.tri w.first_axis)
 
 -- the line of the second segment runs through the triangle, by the bounding box along the first axis and by the
 -- edge planes
-abbrev pub is_on_second : Path → NearTriangle → Bool
-is_on_second w f =
+abbrev pub second_runs_through : Path → NearTriangle → Bool
+second_runs_through w f =
     may_contain (interval_along f.aabb w.first_axis) (floor_at_end w w.first_axis) &&
     all_behind (λ p. side_after_first w p) (edge_planes f.tri w.second_axis)
 
@@ -77,16 +77,18 @@ may_end w f =
 
 -- the line of the last segment runs through the triangle, by the bounding box along both axes and by the edge
 -- planes
-abbrev pub is_on_last : Path → NearTriangle → Bool
-is_on_last w f = may_end w f && all_behind (λ p. side_at_end w p) (edge_planes f.tri w.main)
+abbrev pub last_runs_through : Path → NearTriangle → Bool
+last_runs_through w f = may_end w f && all_behind (λ p. side_at_end w p) (edge_planes f.tri w.main)
 
 -- the signed crossings of the first and of the second segment with the triangle
 abbrev pub first_segment : Path → NearTriangle → ℤ
-first_segment w f = if is_on_first w f then signed_crossing f.reference_side (side_after_first w f.support) else pos 0
+first_segment w f =
+    if first_runs_through w f then signed_crossing f.reference_side (side_after_first w f.support) else pos 0
 
 abbrev pub second_segment : Path → NearTriangle → ℤ
 second_segment w f =
-    if is_on_second w f then signed_crossing (side_after_first w f.support) (side_after_second w f.support) else pos 0
+    if second_runs_through w f
+    then signed_crossing (side_after_first w f.support) (side_after_second w f.support) else pos 0
 
 -- the crossings of both together; they run just above the low wall across the main axis
 abbrev pub segments_above_wall : Path → NearTriangle → ℤ
@@ -96,11 +98,10 @@ segments_above_wall w f =
 
 -- the signed crossing of the last segment, if it ends on this side of the triangle's plane
 abbrev pub last_segment : Path → NearTriangle → Sign → ℤ
-last_segment w f end = if is_on_last w f then signed_crossing (side_after_second w f.support) end else pos 0
+last_segment w f end = if last_runs_through w f then signed_crossing (side_after_second w f.support) end else pos 0
 
--- the side of a plane on which the point directly before another one along the axis lies, or the
--- point directly after it. The other one lies on the side s. If it is on the plane, the entry of
--- the normal along the axis decides.
+-- a point lies on the side s of a plane. These are the sides on which the point directly before it along the axis
+-- lies, and the point directly after it. If s is `Zero`, the entry of the normal along the axis decides
 abbrev pub side_before : Plane → Axis → Sign → Sign
 side_before p k s = or_sign s (flip (sgn (along p k)))
 
@@ -122,7 +123,7 @@ crossing_after w f =
 abbrev pub taken : (NearTriangle → ℤ) → List NearTriangle → List ℤ → List ℤ
 taken less fs counts = fold (λ (vs : List ℤ) (f : NearTriangle). with_more vs f.tri.mesh (neg_ℤ (less f))) counts fs
 
--- the counts before and after a region, by paths from the reference point with these counts
+-- the counts before and after a region, by paths from a start with these counts
 pub record AreTraced (c : Cell) (fs : List NearTriangle) (counts : List ℤ) (r : Face) (s : Sides) : Type 0 where
   pub way : Path
   pub is_way : IsPathTo c r way

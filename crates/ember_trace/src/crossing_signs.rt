@@ -70,16 +70,16 @@ pub fn slope_number(p: &Plane, k: Axis) -> i64
     }
 }
 
-/// The side of the plane on which the point directly before another one along an axis lies. `at` is
-/// the side of that other one.
+/// `at` is the side of the plane on which a point lies. The result is the side on which the point
+/// directly before it along the axis lies.
 pub fn side_before(p: &Plane, k: Axis, at: Sign) -> Sign
     ensures { result ≡ side_before p.now k at }
 {
     or_sign(at, flipped(normal_sign(p, k)))
 }
 
-/// The side of the plane on which the point directly after another one along an axis lies. `at` is
-/// the side of that other one.
+/// `at` is the side of the plane on which a point lies. The result is the side on which the point
+/// directly after it along the axis lies.
 pub fn side_after(p: &Plane, k: Axis, at: Sign) -> Sign
     ensures { result ≡ side_after p.now k at }
 {

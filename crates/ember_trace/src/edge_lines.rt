@@ -12,7 +12,8 @@ use ember_model::{Axis, Corner, Plane};
 use ember_point::{Meet, narrow_product};
 
 // The line of the points (p, q) at which `dq p - dp q - d` is 0: it leads along (dp, dq). Here p
-// and q are the coordinates along two axes.
+// and q are the coordinates along two axes. Corners are at most 2047 in size along each axis, so
+// `dq` and `dp` are at most 4094, and `d` is at most 2 * 2047 * 4094 = 16760836.
 #[derive(Clone, Copy)]
 struct EdgeLine {
     dq: i64,
@@ -105,7 +106,8 @@ pub fn edge_plane_times(u: &Corner, v: &Corner, k: Axis, s: i64) -> Plane
     }
 }
 
-// A point of an axis: the coordinate x at which `n x - e` is 0.
+// A point of an axis: the coordinate x at which `n x - e` is 0. `e` is a line's `d`, plus or minus
+// an entry of it times a coordinate: at most 16760836 + 2048 * 4094 = 25145348 in size.
 #[derive(Clone, Copy)]
 struct AxisPoint {
     n: i64,

@@ -9,10 +9,10 @@ ghost use Rattle.ember_model.specs.Sizes.{IsSupportSized};
 ghost use Rattle.ember_model.specs.Planes.{edge_planes};
 ghost use Rattle.ember_box.specs.Aabbs.{interval_along};
 ghost use Rattle.ember_trace.specs.Paths.{HasAxes, coordinate, side_at_start, side_after_first, side_at_end, floor_at_end};
-ghost use Rattle.ember_trace.specs.Crossings.{all_behind, contains_above, may_contain, may_end, in_root, AreEndFloors, is_on_first, is_on_second, is_on_last, first_segment, second_segment, segments_above_wall, last_segment, side_before, side_after, crossing_before, crossing_after};
+ghost use Rattle.ember_trace.specs.Crossings.{all_behind, contains_above, may_contain, may_end, in_root, AreEndFloors, first_runs_through, second_runs_through, last_runs_through, first_segment, second_segment, segments_above_wall, last_segment, side_before, side_after, crossing_before, crossing_after};
 
 use crate::crossing_signs::{is_level, side_after, side_before, signed_crossing};
-use crate::edges::{edges_are_behind_at_start, narrow_last_is_behind, narrow_second_is_behind};
+use crate::edges::{is_behind_edges_at_start, narrow_last_is_behind, narrow_second_is_behind};
 use crate::near_triangle::NearTriangle;
 use crate::path::Path;
 use crate::vertices::coordinate;
@@ -35,11 +35,10 @@ fn may_contain(interval: &Interval, floor: i32) -> bool
 }
 
 /// Where a path ends, by the region's first corner: the floors of its coordinates along the first
-/// and the second axis, and as `top` the greater of its floor along the main axis and the start's
-/// coordinate. A triangle whose least main coordinate is above `top` lies above the whole last
-/// segment. The floors are clamped to the root so that they fit into 32 bits, since no clause here
-/// says that the region lies in the root; a comparison with a triangle's bounding box stays the
-/// same.
+/// and the second axis, and as `top` the greater of its floor along the main axis and that of the
+/// start. A triangle whose least main coordinate is above `top` lies above the whole last segment.
+/// The floors are clamped to the root so that they fit into 32 bits, since no clause here says that
+/// the region lies in the root; a comparison with a triangle's bounding box stays the same.
 #[derive(Clone, Copy)]
 pub struct EndFloors {
     pub first: i32,
@@ -119,7 +118,7 @@ fn first_is_behind(triangle: &NearTriangle, way: &Path) -> bool
     if is_level(&triangle.support, way.first_axis) {
         return false;
     }
-    edges_are_behind_at_start(triangle, way)
+    is_behind_edges_at_start(triangle, way)
 }
 
 // Whether all edge planes parallel to the second segment are negative at its start.
@@ -159,8 +158,8 @@ fn last_is_behind(triangle: &NearTriangle, way: &Path) -> bool
 
 // Whether the line of the first segment runs through the triangle. The bounding box is tested along
 // the second axis first; `segments_above_wall` has tested it along the main axis.
-fn is_on_first(triangle: &NearTriangle, way: &Path) -> bool
-    ensures { result ≡ is_on_first way.now triangle.now }
+fn first_runs_through(triangle: &NearTriangle, way: &Path) -> bool
+    ensures { result ≡ first_runs_through way.now triangle.now }
 {
     contains_above(
         &interval_along(&triangle.aabb, way.second_axis),
@@ -195,17 +194,17 @@ fn may_end(triangle: &NearTriangle, way: &Path, at: &EndFloors) -> bool
 }
 
 // Whether the line of the second segment runs through the triangle.
-fn is_on_second(triangle: &NearTriangle, way: &Path, at: &EndFloors) -> bool
+fn second_runs_through(triangle: &NearTriangle, way: &Path, at: &EndFloors) -> bool
     requires { AreEndFloors way.now at.now }
-    ensures { result ≡ is_on_second way.now triangle.now }
+    ensures { result ≡ second_runs_through way.now triangle.now }
 {
     may_end_along_first(triangle, way, at) && second_is_behind(triangle, way)
 }
 
 // Whether the line of the last segment runs through the triangle.
-fn is_on_last(triangle: &NearTriangle, way: &Path, at: &EndFloors) -> bool
+fn last_runs_through(triangle: &NearTriangle, way: &Path, at: &EndFloors) -> bool
     requires { AreEndFloors way.now at.now }
-    ensures { result ≡ is_on_last way.now triangle.now }
+    ensures { result ≡ last_runs_through way.now triangle.now }
 {
     may_end(triangle, way, at) && last_is_behind(triangle, way)
 }
@@ -215,7 +214,7 @@ fn first_segment(triangle: &NearTriangle, way: &Path) -> i32
     ensures value { result ≡ first_segment way.now triangle.now }
     ensures small { Small 1 result }
 {
-    if is_on_first(triangle, way) {
+    if first_runs_through(triangle, way) {
         signed_crossing(
             triangle.reference_side,
             way.side_after_first(&triangle.support),
@@ -231,7 +230,7 @@ fn second_segment(triangle: &NearTriangle, way: &Path, at: &EndFloors) -> i32
     ensures value { result ≡ second_segment way.now triangle.now }
     ensures small { Small 1 result }
 {
-    if is_on_second(triangle, way, at) {
+    if second_runs_through(triangle, way, at) {
         signed_crossing(
             way.side_after_first(&triangle.support),
             way.side_after_second(&triangle.support),
@@ -285,7 +284,7 @@ fn last_segments_by_sides(triangle: &NearTriangle, way: &Path, at: &EndFloors) -
         (side_after triangle.now.support way.now.main (side_at_end way.now triangle.now.support)) }
     ensures small { Small 1 result.before × Small 1 result.after }
 {
-    if !is_on_last(triangle, way, at) {
+    if !last_runs_through(triangle, way, at) {
         return Crossings {
             before: 0,
             after: 0,

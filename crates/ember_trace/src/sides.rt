@@ -54,9 +54,10 @@ fn take_crossings(sides: &mut Sides, mesh: u32, less: &Crossings)
 
 /// Overwrites `sides` with the sides of a region of a box: the winding numbers directly before and
 /// after it, in every scene that fits what is known at the box. `v` has the winding numbers at the
-/// box's reference point p. For the end q of a path, w(p) = w(q) + the signed crossings of the path
-/// from p to q. So this subtracts from those numbers the crossings of two paths: one that ends
-/// directly before the region, and one that ends directly after it.
+/// box's reference point, which are those at the start p of a path (path.rt). For its end q, w(p) =
+/// w(q) + the signed crossings of the path from p to q. So this subtracts from those numbers the
+/// crossings of two paths: one that ends directly before the region, and one that ends directly
+/// after it.
 pub fn trace_sides(near: &[NearTriangle], c: &Cell, v: &Vector, r: &Ring, sides: &mut Sides)
     requires few { length near.now ≤ 262144 }
     requires counts { AreBoxCounts v.now.counts }

@@ -105,7 +105,8 @@ abbrev pub is_set : Option Text → Bool
 is_set None = false
 is_set (Some text) = bytes_eq text (codes "true")
 
--- an option that was left out has no value, and no empty one otherwise
+-- the value of an option that may be left out: Some None if it was. Otherwise it must have a byte: Some (Some text), or
+-- None if the text is empty
 abbrev pub optional_of : Option Text → Option (Option Text)
 optional_of None = Some None
 optional_of (Some text) = option_map Some (nonempty_of text)

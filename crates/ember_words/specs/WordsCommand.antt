@@ -1,7 +1,18 @@
--- What command the words give. `App`, `fault_of`, `matches_of`, `rows_of` and `found_of` are words
--- of the ported clap: an `App` is a parser, `fault_of app words` has the faults of the words (none
--- if the parser takes them), and `matches_of app words` has a row for each argument, with the
--- argument's name and its values
+-- What command the words give. Here and in the clauses of this crate are words of the ported clap:
+--
+--   App                   a parser, as definitions see it; a Rule describes one of its arguments
+--   new_app name          a parser without arguments
+--   new_rule name         the rule of an argument that isn't an option and may be left out
+--   with_rule app rule    the parser with one argument more
+--   app_of, rule_of       the App of a value of clap's type Command, the Rule of one of its type Arg
+--   fault_of app words    the kinds of error that the parser may give at the words; none if it takes them
+--   kind_of error         the kind of an error
+--   matches_of app words  a row for each argument, with the argument's name and its values
+--   rows_of (found_of m)  the rows that clap found
+--   first_of name rows    the first value of an argument, if it has any; all_of name rows gives all of them
+--   is_simple_and_free app   the condition under which fault_of and matches_of say what clap does: the parser has
+--                         no setting that changes how words are read, only the last of its arguments that aren't
+--                         options takes several values, and no argument has a rule on another, such as a conflict
 use Rattle.std.specs.Prelude.{◌≡◌, ◌≢◌, ⊤, ℕ, ℤ, Bool, codes, List, [], ◌∷◌, Option, Some, None, Result, Ok, Err, option_and_then, if◌then◌else◌}
 use Rattle.std.specs.Str.{bytes_eq}
 use Rattle.clap.specs.Walk.{Row, Text, all_of, first_of, rows_of}

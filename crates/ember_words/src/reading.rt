@@ -1,5 +1,6 @@
 // Reading the words. In contracts, `rows_of (found_of matches)` is clap's model of what it found:
-// one row for each argument, with its name and its values.
+// one row for each argument, with its name and its values. specs/WordsCommand.antt explains these
+// and the other words of clap.
 ghost use Rattle.std.specs.Prelude.{◌≡◌, ◌≢◌, IfOk, true, codes, map, option_and_then, string_bytes};
 ghost use Rattle.clap.specs.Walk.{first_of, rows_of};
 ghost use Rattle.clap.specs.Matches.{found_of};

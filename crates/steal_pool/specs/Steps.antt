@@ -112,8 +112,8 @@ half_jobs (Some b) = b.left ∷ b.right ∷ []
 
 -- a box ended: its entry was written, its item was added if it is a leaf, and its halves, if any, are still to be run.
 -- `sums`: what is ended now and the halves still to be run weigh what was ended before and this box. `path`: the
--- journal has grown by the box's path. `left`: if the box was halved, the left halves of the
--- journal's halved boxes have grown by its left half. `both`: the same of both halves
+-- journal has grown by the box's path. `left`: the list of the left halves of all halved boxes of the journal has one
+-- more, that of this box, if the box was halved. `both`: likewise, the list of their left and right halves
 pub record EndsBox {I : Type 0} (weight : Weight) (job : Job) (old new : Output I)
     (halves : Option HalfJobs) : Type 0 where
   pub sums : (h : Entry → ℕ) (g : ℕ → ℕ) →

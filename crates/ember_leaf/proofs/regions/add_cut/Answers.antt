@@ -5,7 +5,7 @@ use Rattle.ember_leaf.proofs.regions.add_cut.Goals as goal
 pub add_pieces-requires : goal.add_pieces-requires
 add_pieces-requires c =
     let u = c.args.cutter.now in
-    record { valid = u.edges_sized; cut_out = edges_cut_out u u.edges c.args.r c.requires.plane c.in_default.not-OtherPlane u.edge_planes c.requires.met }
+    record { valid = u.edges_sized; cut_out = edges_cut_out u u.edges c.args.r c.requires.may_cut c.in_default.not-OtherPlane u.edge_planes c.requires.met }
 
 pub returns-in-OtherPlane : goal.returns-in-OtherPlane
 returns-in-OtherPlane c =
