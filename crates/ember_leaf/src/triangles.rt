@@ -5,7 +5,6 @@ ghost use Rattle.ember_leaf.specs.LeafTriangles.{tris_in};
 
 use crate::leaf_triangle::LeafTriangle;
 use ember_model::OutOfMemory;
-use ember_poly::main_edges;
 use ember_trace::NearTriangle;
 use std::alloc::Global;
 
@@ -16,13 +15,13 @@ fn leaf_triangle_of(triangle: &NearTriangle) -> LeafTriangle
     LeafTriangle {
         tri: triangle.tri,
         support: triangle.support,
-        edges: main_edges(&triangle.tri, &triangle.support),
+        edges: triangle.edges,
         aabb: triangle.aabb,
     }
 }
 
-/// The triangles near a leaf, each with its edge planes. They are computed once, and used in each
-/// test of two triangles. The only error is out-of-memory.
+/// The triangles near a leaf, each with what a test of two triangles needs of it. The only error is
+/// out-of-memory.
 pub fn leaf_triangles(
     alloc: Global,
     near: &[NearTriangle],

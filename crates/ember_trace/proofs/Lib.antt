@@ -11,6 +11,7 @@ pub mod FlatPlanes
 pub mod LevelTriangles
 pub mod MeshSums
 pub mod OneSides
+pub mod OwnTriangles
 pub mod SegmentsPast
 pub mod Coordinates
 pub mod RaySides

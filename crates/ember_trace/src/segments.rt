@@ -13,6 +13,7 @@ ghost use Rattle.ember_trace.specs.Crossings.{all_behind, interval_along, contai
 use crate::crossing_signs::{is_level, side_after, side_before, signed_crossing};
 use crate::edges::{edges_are_behind_at_start, narrow_last_is_behind, narrow_second_is_behind};
 use crate::near_triangle::NearTriangle;
+use crate::own_triangle::{is_own, support_side_at_end};
 use crate::path::Path;
 use crate::vertices::coordinate;
 use ember_algebra::Sign;
@@ -167,6 +168,16 @@ fn last_is_behind(triangle: &NearTriangle, way: &Path) -> bool
             && is_behind_at_end(way, &edge_plane(t, 2, k)))
 }
 
+// The same, where nothing is computed for the region's own triangle.
+fn last_is_behind_or_own(triangle: &NearTriangle, way: &Path) -> bool
+    ensures { result ≡ all_behind (λ p. side_at_end way.now p) (edge_planes triangle.now.tri way.now.main) }
+{
+    if is_own(triangle, way) {
+        return true;
+    }
+    last_is_behind(triangle, way)
+}
+
 // Whether the line of the first segment runs through the triangle. The bounding box is tested along
 // the second axis first; `segments_in_wall` has tested it along the main axis.
 fn is_on_first(triangle: &NearTriangle, way: &Path) -> bool
@@ -217,7 +228,7 @@ fn is_on_last(triangle: &NearTriangle, way: &Path, at: &EndCell) -> bool
     requires { IsEndCell way.now at.now }
     ensures { result ≡ is_on_last way.now triangle.now }
 {
-    may_end(triangle, way, at) && last_is_behind(triangle, way)
+    may_end(triangle, way, at) && last_is_behind_or_own(triangle, way)
 }
 
 // The signed crossing of the first segment with the triangle.
@@ -299,7 +310,7 @@ fn last_segments_by_sides(triangle: &NearTriangle, way: &Path, at: &EndCell) -> 
         };
     }
     let start = way.side_after_second(&triangle.support);
-    let end = way.side_at_end(&triangle.support);
+    let end = support_side_at_end(triangle, way);
     Crossings {
         before: signed_crossing(start, side_before(&triangle.support, way.main, end)),
         after: signed_crossing(start, side_after(&triangle.support, way.main, end)),

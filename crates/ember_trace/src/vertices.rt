@@ -44,20 +44,24 @@ fn are_narrow(first: &Meet, second: &Meet, third: &Meet) -> bool
 }
 
 /// The path from the reference point of the box to the region.
-pub fn path_to(c: &Cell, r: &Ring) -> Path
+pub fn path_to<'a>(c: &Cell, r: &'a Ring) -> Path<'a>
     ensures { IsPathTo c.now r.now result }
 {
     let main = main_axis(&support(r));
     let at = corners(r);
+    let first = at[0];
+    let second = at[1];
+    let third = at[2];
     Path {
         lo: c.lo(),
         first_axis: first_of(main),
         second_axis: second_of(main),
         main,
-        first_corner: at[0],
-        second_corner: at[1],
-        third_corner: at[2],
-        narrow: are_narrow(&at[0], &at[1], &at[2]),
+        first_corner: first,
+        second_corner: second,
+        third_corner: third,
+        narrow: are_narrow(&first, &second, &third),
+        region: r,
     }
 }
 
@@ -127,7 +131,7 @@ fn slid_to_start(way: &Path, k: Axis, p: &Plane) -> Plane
     slide(p, k, coordinate(way.lo, k))
 }
 
-impl Path {
+impl Path<'_> {
     /// The side of a plane on which the path begins.
     pub fn side_at_start(&self, p: &Plane) -> Sign
         requires { IsValidPlane p.now }
