@@ -72,12 +72,30 @@ fn in_root(floor: i128) -> i32
     }
 }
 
+// Clamps a coordinate of 64 bits to the root.
+fn narrow_in_root(floor: i64) -> i32
+    ensures value { result ≡ in_root floor }
+    ensures small { Small 2048 result }
+{
+    if floor < -2048 {
+        -2048
+    } else if 2048 < floor {
+        2048
+    } else {
+        floor as i32
+    }
+}
+
 // The floor of a coordinate of the path's end, clamped to the root.
 fn floor_in_root(way: &Path, k: Axis) -> i32
     ensures value { result ≡ in_root (floor_at_end way.now k) }
     ensures small { Small 2048 result }
 {
-    in_root(way.floor_at_end(k))
+    if way.narrow {
+        narrow_in_root(way.narrow_floor_at_end(k))
+    } else {
+        in_root(way.floor_at_end(k))
+    }
 }
 
 // The floor of the last segment's higher end, along the main axis, clamped to the root.

@@ -5,7 +5,7 @@ ghost use Rattle.ember_algebra.specs.Size.{Small};
 ghost use Rattle.ember_model.specs.Valid.{IsValidPlane};
 ghost use Rattle.ember_model.specs.Sizes.{IsSupportSized};
 ghost use Rattle.ember_point.specs.Points.{spot_of, is_narrow};
-ghost use Rattle.ember_trace.specs.Paths.{coordinate, inside_side, side_at_start, side_at_end, side_after_first, side_after_second, slid_to_start, floor_at_end, first_of, second_of, IsPathTo};
+ghost use Rattle.ember_trace.specs.Paths.{coordinate, inside_side, side_at_start, side_at_end, side_after_first, side_after_second, slid_to_start, floor_of, floor_at_end, first_of, second_of, IsPathTo};
 
 use crate::path::Path;
 use ember_algebra::Sign;
@@ -122,6 +122,28 @@ fn floor(n: i128, w: i128) -> i128
     }
 }
 
+// The same for small numbers, in 64 bits.
+fn small_floor(n: i128, w: i128) -> i64
+    requires n { Small 4611686018427387903 n }
+    requires w { Small 4611686018427387903 w }
+    requires weight { pos 0 <ℤ w }
+    ensures { result ≡ int_div_euclid n w }
+{
+    (n as i64).div_euclid(w as i64)
+}
+
+// The floor of a narrow point's coordinate along an axis.
+fn narrow_floor(m: &Meet, k: Axis) -> i64
+    requires { is_narrow (spot_of m.now) ≡ true }
+    ensures { result ≡ floor_of m.now k }
+{
+    match k {
+        Axis::X => small_floor(m.x, m.w),
+        Axis::Y => small_floor(m.y, m.w),
+        Axis::Z => small_floor(m.z, m.w),
+    }
+}
+
 // The plane with the coordinate along an axis fixed to that of the start.
 fn slid_to_start(way: &Path, k: Axis, p: &Plane) -> Plane
     requires plane { IsValidPlane p.now }
@@ -203,5 +225,14 @@ impl Path<'_> {
             Axis::Y => floor(m.y, m.w),
             Axis::Z => floor(m.z, m.w),
         }
+    }
+
+    /// The same in 64 bits, if the corners are narrow.
+    #[tactic(auto, using(crate::proofs::Coordinates::end_floor))]
+    pub fn narrow_floor_at_end(&self, k: Axis) -> i64
+        requires { self.now.narrow ≡ true }
+        ensures { result ≡ floor_at_end self.now k }
+    {
+        narrow_floor(&self.first_corner, k)
     }
 }
