@@ -21,6 +21,7 @@ pub mod SharedPlanes
 pub mod Slides
 pub mod SomeSides
 pub mod Tallies
+pub mod ThreeCorners
 pub mod ThreeEdges
 pub mod TracedSides
 pub mod PathVertices

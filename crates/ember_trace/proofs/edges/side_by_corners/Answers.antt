@@ -1,34 +1,12 @@
-use Rattle.std.proofs.Common.{◌≡◌, sym, ap, ◌∙◌, ℤ}
-use Rattle.ember_algebra.specs.declared.Sign.{Sign}
-use Rattle.ember_algebra.specs.declared.Sign.TheVariants.{Zero}
-use Rattle.ember_algebra.specs.Sign.{sgn}
+use Rattle.std.proofs.Common.{◌∙◌, ℤ}
 use Rattle.ember_algebra.proofs.Exact.{narrow, ◌&◌, done, exact}
 use Rattle.ember_model.specs.declared.plane.Plane.{Plane}
 use Rattle.ember_model.specs.declared.point.Corner.{Corner}
-use Rattle.ember_model.specs.Planes.{value_at, times_plane, edge_through, unit}
-use Rattle.ember_point.specs.declared.meet_point.Meet.{Meet}
-use Rattle.ember_point.specs.Points.{spot_of}
-use Rattle.ember_ref.specs.References.{or_sign}
+use Rattle.ember_model.specs.Planes.{times_plane, edge_through, unit}
 use Rattle.ember_trace.specs.declared.path.Path.{Path}
-use Rattle.ember_trace.specs.Paths.{side_at_end, slid_to_start}
-use Rattle.ember_trace.proofs.VertexSides.{or_next, or_first}
+use Rattle.ember_trace.specs.Paths.{slid_to_start}
+use Rattle.ember_trace.proofs.ThreeCorners.{at, by_first, by_next, by_last}
 use Rattle.ember_trace.proofs.edges.side_by_corners.Goals as goal
-
-abbrev at : Plane → Meet → Sign
-at h m = sgn (value_at h (spot_of m))
-
--- which of the three corners tells the side
-by_first : (w : Path) (h : Plane) (r : Sign) → r ≡ at h w.first_corner → (r ≡ Zero → ⊥) → r ≡ side_at_end w h
-by_first w h r e n =
-    let rest = or_sign (at h w.second_corner) (at h w.third_corner) in or_first r rest n ∙ ap (λ (s : Sign). or_sign s rest) e
-
-by_next : (w : Path) (h : Plane) (r s : Sign) → r ≡ at h w.first_corner → r ≡ Zero → s ≡ at h w.second_corner → (s ≡ Zero → ⊥) → s ≡ side_at_end w h
-by_next w h r s e z f n =
-    or_first s (at h w.third_corner) n ∙ ap (λ (s : Sign). or_sign s (at h w.third_corner)) f ∙ or_next (at h w.first_corner) (or_sign (at h w.second_corner) (at h w.third_corner)) (sym e ∙ z)
-
-by_last : (w : Path) (h : Plane) (r s t : Sign) → r ≡ at h w.first_corner → r ≡ Zero → s ≡ at h w.second_corner → s ≡ Zero → t ≡ at h w.third_corner → t ≡ side_at_end w h
-by_last w h r s t e z f y g =
-    g ∙ or_next (at h w.second_corner) (at h w.third_corner) (sym f ∙ y) ∙ or_next (at h w.first_corner) (or_sign (at h w.second_corner) (at h w.third_corner)) (sym e ∙ z)
 
 -- the plane through the edge as it is at the end of the first segment
 abbrev moved : Path → Corner → Corner → ℤ → Plane
