@@ -1,6 +1,6 @@
 // Calls of a device fail in turn.
 use crate::boxes::{HIGH, LOW};
-use crate::cases::{BEFORE, Given, Named, file_set, none, sink_of, target_of, words_of};
+use crate::cases::{BEFORE, Given, Named, file_set, none, shelf_of, sink_of, target_of, words_of};
 use ember_io::{Calls, MemoryShelf, MemorySink};
 use ember_mesh_run::run_mesh_one;
 use std::alloc::Global;
