@@ -12,6 +12,7 @@ use Rattle.ember_stl_bytes.specs.ReadBack.{IsReadBack}
 use Rattle.ember_stl_bytes.specs.Written.{stl_bytes_of}
 use Rattle.ember_surface.specs.declared.surface.Surface.{Surface}
 use Rattle.ember_written.specs.Triangles.{AreWritten}
+use Rattle.ember_written.specs.Closed.{AreWrittenClosed}
 use Rattle.ember_boolean.specs.declared.files.MeshFile.{MeshFile}
 use Rattle.ember_boolean.specs.declared.writing.Output.{Output}
 use Rattle.ember_boolean.specs.Files.{ArePlaced}
@@ -33,7 +34,7 @@ pub record IsStl (grid : Grid) (mesh : SolidMesh) (out : Output) : Type 0 where
   pub vanished : out.vanished + length written ≡ out.triangles
 
 -- the surfaces of the files are a scene on the wanted grid, with these counts; there is a mesh of the solid of their
--- triangles, with this report of the run; and the rest is the STL of this mesh
+-- triangles, with this report of the run; and the rest is the STL of this mesh, whose triangles are closed
 pub record IsOutput (files : List MeshFile) (formula : Formula) (wanted : Wanted) (out : Output) : Type 0 where
   pub surfaces : List Surface
   pub are_placed : ArePlaced files wanted surfaces out.grid
@@ -42,3 +43,4 @@ pub record IsOutput (files : List MeshFile) (formula : Formula) (wanted : Wanted
   pub solid : IsSolidMesh (images_of out.grid surfaces) formula mesh
   pub report : IsSolidReport (images_of out.grid surfaces) formula out.report
   pub stl : IsStl out.grid mesh out
+  pub closed : AreWrittenClosed stl.written
