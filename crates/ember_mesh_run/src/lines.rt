@@ -1,16 +1,16 @@
 // The line on standard error of a request that isn't met, or of words that are refused.
 ghost use Rattle.std.specs.Prelude.{◌≡◌, ◌++◌, ◌+◌, ◌<◌, codes, decimal, map, IfOk, OnOk, string_bytes};
 ghost use Rattle.ember_snap.specs.Steps.{IsStep};
-ghost use Rattle.ember_mesh_run.specs.Lines.{IsShown, expr_text, file_text, line, noun_of, open_text, place_text, plane_without, refusal_text, solid_text, step_text, why_of, word_text, word_at};
+ghost use Rattle.ember_mesh_run.specs.Lines.{IsShown, expr_text, file_text, length_text, line, noun_of, open_text, place_text, plane_without, refusal_text, solid_text, step_text, why_of, word_text, word_at};
 
 use crate::status::Status;
-use crate::texts::{line, name_among, put_corner, put_count, put_step, wanted_text};
+use crate::texts::{line, name_among, put_corner, put_count, put_length, put_step, wanted_text};
 use ember_expr::ExprFault;
 use ember_format::Format;
+use ember_grid::Extent;
 use ember_mesh_words::{Refusal, Request};
 use ember_model::OutOfMemory;
 use ember_scene::Open;
-use ember_snap::Step;
 use ember_solid_mesh::SolidFault;
 use ember_triangles::TrianglesFault;
 use ember_words::Texts;
@@ -30,7 +30,9 @@ const TOO_MANY: &[u8] = b" triangles after snapping, more than 262144; simplify 
 const TOO_MANY_WRITTEN: &[u8] =
     b"more than 4294967295 triangles, too many for STL; simplify the meshes";
 
-const COARSER_STEP: &[u8] = b": the scene needs a step of at least ";
+const SCENE_IS: &[u8] = b": the scene is ";
+
+const COARSER_STEP: &[u8] = b" long, which needs a step of at least ";
 
 const TOO_FAR: &[u8] =
     b"a corner of the result is too far from 0 for STL; move the meshes to the origin";
@@ -215,14 +217,17 @@ fn put_too_many(count: u64, text: &mut Vec<u8>) -> Result<(), OutOfMemory>
     text.extend_from_slice(TOO_MANY)
 }
 
-// Appends that a step is too small, and the finest that isn't.
-fn put_finest(given: &[u8], finest: &Step, text: &mut Vec<u8>) -> Result<(), OutOfMemory>
-    requires { 0 < finest.now.denominator }
+// Appends that a step is too small, how long the scene is, and the finest step that would do.
+fn put_extent(given: &[u8], extent: &Extent, text: &mut Vec<u8>) -> Result<(), OutOfMemory>
+    requires { 0 < extent.now.finest.denominator }
     ensures { OnOk result (text.new.items ≡ text.old.items ++
-        (codes "--step " ++ (given.now ++ (COARSER_STEP.now ++ step_text finest.now)))) }
+        (codes "--step " ++ (given.now ++ (SCENE_IS.now ++ (length_text extent.now ++
+        (COARSER_STEP.now ++ step_text extent.now.finest)))))) }
 {
-    put_value(b"--step ", given, COARSER_STEP, text)?;
-    put_step(finest, text)
+    put_value(b"--step ", given, SCENE_IS, text)?;
+    put_length(extent, text)?;
+    text.extend_from_slice(COARSER_STEP)?;
+    put_step(&extent.finest, text)
 }
 
 // Appends why a request isn't met.
@@ -247,7 +252,7 @@ fn put_why(request: &Request, status: &Status, text: &mut Vec<u8>) -> Result<(),
         Status::LongFile(number) => put_file(files, *number, LONG_FILE, text),
         Status::TooManyTriangles(count) => put_too_many(*count, text),
         Status::TooManyWritten => text.extend_from_slice(TOO_MANY_WRITTEN),
-        Status::StepTooSmall(finest) => put_finest(step, finest, text),
+        Status::StepTooSmall(extent) => put_extent(step, extent, text),
         Status::TooFar => text.extend_from_slice(TOO_FAR),
         Status::OutOfMemory => text.extend_from_slice(b"out of memory"),
         Status::Uncertified(fault) => put_solid_fault(fault, text),
