@@ -13,6 +13,7 @@ use Rattle.ember_mesh_words.specs.declared.command.WantedStep.{WantedStep}
 use Rattle.ember_mesh_words.specs.declared.command.WantedStep.TheVariants as step
 use Rattle.ember_mesh_words.specs.declared.faults.Refusal.{Refusal}
 use Rattle.ember_mesh_words.specs.declared.faults.Refusal.TheVariants as refusal
+use Rattle.ember_mesh_words.specs.Given.{output_given, step_given}
 use Rattle.ember_model.specs.declared.point.Corner.{Corner}
 use Rattle.ember_number.specs.Fractions.{Fraction}
 use Rattle.ember_scene.specs.declared.fault.Open.{Open}
@@ -108,8 +109,9 @@ refusal_text words refusal.TooManyFiles = codes "more than 64 files; see ember-m
 refusal_text words refusal.NoExpression = word_text (codes "--expr") (codes "is missing")
 refusal_text words refusal.NeedlessExpression = word_text (codes "--expr") (codes "is for bool alone")
 refusal_text words refusal.NoOutput = word_text (codes "-o") (codes "is missing")
-refusal_text words refusal.OutputEnding = codes "-o: the name must end in .stl, .obj, .ply or .off"
-refusal_text words refusal.NotAStep = codes "--step: not a number above 0"
+refusal_text words refusal.OutputEnding =
+    codes "-o " ++ (output_given words ++ codes ": the name must end in .stl, .obj, .ply or .off")
+refusal_text words refusal.NotAStep = codes "--step " ++ (step_given words ++ codes ": not a number above 0")
 refusal_text words refusal.Workers = word_text (codes "--workers") (codes "not a number from 1 to 64")
 refusal_text words refusal.Digits = word_text (codes "--digits") (codes "not a number from 0 to 17")
 

@@ -107,7 +107,7 @@ fn steps_that_are_refused(rt: HostRuntime) -> Result<(), Fail> {
         (
             "union --step -1 -o out.stl a.obj b.obj",
             2,
-            b"ember-mesh: --step: not a number above 0\n",
+            b"ember-mesh: --step -1: not a number above 0\n",
         ),
     ];
     for (line, status, message) in rows {
