@@ -53,7 +53,7 @@ FORMS[0] = re.compile(
         rf"ember-mesh: step {_NUMBER}, grid offset -?\d+ -?\d+ -?\d+\n"
         rf"(?:ember-mesh: {_NAME}: \d+ triangles, \d+ vanished, \d+ without area; closed\n)+"
         r"(?:ember-mesh: the result is empty\n)?"
-        r"ember-mesh: \d+ faces -> \d+ triangles in \d+ planes; \d+ vanished\n"
+        r"ember-mesh: \d+ faces -> \d+ triangles in \d+ planes; \d+ vanished; \d+ edges of more than two triangles\n"
     ).encode()
 )
 FORMS[13] = re.compile(b"")

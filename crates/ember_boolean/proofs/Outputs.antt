@@ -71,6 +71,7 @@ module _ (files : List MeshFile) (formula : Formula) (wanted : Wanted) (mesh : S
   output_on : (surfaces : List Surface) (out : Output) (grid : Grid) → out.grid ≡ grid → ArePlaced files wanted surfaces grid → out.counts.items ≡ map (counts_on grid) surfaces → IsSolidMesh (images_of grid surfaces) formula mesh → IsSolidReport (images_of grid surfaces) formula out.report → IsStl grid mesh out → IsOutput files formula wanted out
   output_on surfaces out grid e are counts solid report stl =
       let on_grid : IsStl out.grid mesh out = subst (λ (g : Grid). IsStl g mesh out) (sym e) stl in
+      let is_closed = stl_is_closed out.grid (images_of grid surfaces) formula mesh out solid on_grid in
       record {
         surfaces = surfaces;
         are_placed = subst (ArePlaced files wanted surfaces) (sym e) are;
@@ -79,7 +80,8 @@ module _ (files : List MeshFile) (formula : Formula) (wanted : Wanted) (mesh : S
         solid = subst (λ (g : Grid). IsSolidMesh (images_of g surfaces) formula mesh) (sym e) solid;
         report = subst (λ (g : Grid). IsSolidReport (images_of g surfaces) formula out.report) (sym e) report;
         stl = on_grid;
-        closed = stl_is_closed out.grid (images_of grid surfaces) formula mesh out solid on_grid;
+        closed = is_closed;
+        shared = on_grid.shared is_closed;
       }
 
   -- the STL of the mesh of the files' scene is an output for them

@@ -178,7 +178,7 @@ fn check(rt: &impl Abort, output: &Output, counts: &[Counts]) {
     assert_eq!(rt; output.counts.as_slice(), counts);
     assert_eq!(rt; output.planes, 9);
     assert_eq!(rt; output.triangles, 24);
-    assert_eq!(rt; output.vanished, 0);
+    assert_eq!(rt; (output.vanished, output.shared), (0, 0));
     assert_eq!(rt; output.bytes.len(), 84 + 24 * 50);
 }
 

@@ -5,3 +5,5 @@ pub mod Proper
 pub mod Signs
 pub mod Closings
 pub mod WrittenClosed
+pub mod Noted
+pub mod SharedCounts

@@ -26,7 +26,7 @@ certified_are_closed ps cs faces ts h = record {
 }
 
 -- ---- written triangles
-one_point : (p q : FloatPoint) → same_point p q ≡ true → p ≡ q
+pub one_point : (p q : FloatPoint) → same_point p q ≡ true → p ≡ q
 one_point p q h =
     let s = and_parts _ _ h in
     let r = and_parts _ _ s.1 in

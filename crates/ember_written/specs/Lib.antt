@@ -4,3 +4,4 @@ pub mod Normals
 pub mod Triangles
 pub mod Decimals
 pub mod Closed
+pub mod Shared

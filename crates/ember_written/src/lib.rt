@@ -8,6 +8,7 @@ mod laws;
 mod normals;
 mod places;
 mod ratio;
+mod shared;
 mod triangles;
 
 pub use decimals::put_place;
@@ -16,4 +17,5 @@ pub use floats::float_place;
 pub use laws::{certified_triangles_are_closed, proper_triangles_have_corners};
 pub use places::exact_place;
 pub use ratio::Ratio;
+pub use shared::shared_edges;
 pub use triangles::{float_triangles, have_corners};
