@@ -77,11 +77,7 @@ fn put_value(
 }
 
 // Appends that the name of the output has another ending.
-fn put_output_ending(
-    alloc: Global,
-    words: &[String],
-    text: &mut Vec<u8>,
-) -> Result<(), OutOfMemory>
+fn put_output_ending(alloc: Global, words: &[String], text: &mut Vec<u8>) -> Result<(), OutOfMemory>
     ensures { OnOk result (text.new.items ≡ text.old.items ++
         (codes "-o " ++ (output_given (map string_bytes words.now) ++ OUTPUT_ENDING.now))) }
 {

@@ -25,11 +25,7 @@ fn value_or_empty(
 }
 
 // The last value that the words after the command's name give to the option.
-fn value_after_name(
-    alloc: Global,
-    words: &[String],
-    setting: Setting,
-) -> Result<Text, AllocError>
+fn value_after_name(alloc: Global, words: &[String], setting: Setting) -> Result<Text, AllocError>
     ensures { IfOk result (λ text. text ≡
         value_among setting (arguments_from 1 None (map string_bytes words.now))) }
 {
