@@ -21,7 +21,9 @@ use Rattle.ember_solid_mesh.specs.Meshes.{IsSolidMesh}
 use Rattle.ember_stl_bytes.specs.declared.triangle.WrittenTriangle.{WrittenTriangle}
 use Rattle.ember_surface.specs.declared.surface.Surface.{Surface}
 use Rattle.ember_written.specs.Triangles.{has_corners, vanishes, kept, triangle_at, AreWritten}
+use Rattle.ember_written.specs.Closed.{AreWrittenClosed}
 use Rattle.ember_written.proofs.Proper.{proper_corners}
+use Rattle.ember_written.proofs.WrittenClosed.{certified_are_closed, written_are_closed}
 use Rattle.ember_boolean.specs.declared.fault.BooleanFault.{BooleanFault}
 use Rattle.ember_boolean.specs.declared.files.MeshFile.{MeshFile}
 use Rattle.ember_boolean.specs.declared.writing.Output.{Output}
@@ -58,18 +60,29 @@ mesh_is_rounded grid mesh written {planes} {corners} {triangles} a b d h =
     let on_corners : AreWritten grid.step grid.offset mesh.planes.items mesh.corners.items triangles written = subst (λ (cs : List SpacePoint). AreWritten grid.step grid.offset mesh.planes.items cs triangles written) b on_planes in
     subst (λ (ts : List Triangle). AreWritten grid.step grid.offset mesh.planes.items mesh.corners.items ts written) d on_corners
 
+-- the triangles of the STL of a solid's mesh are closed
+stl_is_closed : (grid : Grid) (tris : List Tri) (formula : Formula) (mesh : SolidMesh) (out : Output) → IsSolidMesh tris formula mesh → (stl : IsStl grid mesh out) → AreWrittenClosed stl.written
+stl_is_closed grid tris formula mesh out solid stl =
+    let round = certified_are_closed mesh.planes.items mesh.corners.items solid.tables.segments.items mesh.triangles.items solid.cut.certified in
+    written_are_closed grid.step grid.offset mesh.planes.items mesh.corners.items mesh.triangles.items stl.written stl.rounded round
+
 -- ---- outputs
 module _ (files : List MeshFile) (formula : Formula) (wanted : Wanted) (mesh : SolidMesh) where
   output_on : (surfaces : List Surface) (out : Output) (grid : Grid) → out.grid ≡ grid → ArePlaced files wanted surfaces grid → out.counts.items ≡ map (counts_on grid) surfaces → IsSolidMesh (images_of grid surfaces) formula mesh → IsSolidReport (images_of grid surfaces) formula out.report → IsStl grid mesh out → IsOutput files formula wanted out
-  output_on surfaces out grid e are counts solid report stl = record {
-    surfaces = surfaces;
-    are_placed = subst (ArePlaced files wanted surfaces) (sym e) are;
-    counts = subst (λ (g : Grid). out.counts.items ≡ map (counts_on g) surfaces) (sym e) counts;
-    mesh = mesh;
-    solid = subst (λ (g : Grid). IsSolidMesh (images_of g surfaces) formula mesh) (sym e) solid;
-    report = subst (λ (g : Grid). IsSolidReport (images_of g surfaces) formula out.report) (sym e) report;
-    stl = subst (λ (g : Grid). IsStl g mesh out) (sym e) stl;
-  }
+  output_on surfaces out grid e are counts solid report stl =
+      let on_grid : IsStl out.grid mesh out = subst (λ (g : Grid). IsStl g mesh out) (sym e) stl in
+      let is_closed = stl_is_closed out.grid (images_of grid surfaces) formula mesh out solid on_grid in
+      record {
+        surfaces = surfaces;
+        are_placed = subst (ArePlaced files wanted surfaces) (sym e) are;
+        counts = subst (λ (g : Grid). out.counts.items ≡ map (counts_on g) surfaces) (sym e) counts;
+        mesh = mesh;
+        solid = subst (λ (g : Grid). IsSolidMesh (images_of g surfaces) formula mesh) (sym e) solid;
+        report = subst (λ (g : Grid). IsSolidReport (images_of g surfaces) formula out.report) (sym e) report;
+        stl = on_grid;
+        closed = is_closed;
+        shared = on_grid.shared is_closed;
+      }
 
   -- the STL of the mesh of the files' scene is an output for them
   pub output_is : (placed : Placed) (is : IsPlaced files wanted placed) → IsSolidMesh placed.scene.tris formula mesh → IsSolidReport placed.scene.tris formula mesh.report → (result : Result Output BooleanFault) → IfOk result (λ out. out.grid ≡ placed.grid) → IfOk result (λ out. out.counts.items ≡ placed.counts.items) → IfOk result (λ out. out.report ≡ mesh.report) → IfOk result (IsStl placed.grid mesh) → IfOk result (IsOutput files formula wanted)

@@ -104,10 +104,10 @@ scene_fault_is files wanted surfaces scene_fault.NoTriangles read h =
   where
     other : scene_fault.NoTriangles ≡ scene_fault.OutOfMemory → ⊥
     other e = cc
-scene_fault_is files wanted surfaces (scene_fault.StepTooSmall finest) read h =
+scene_fault_is files wanted surfaces (scene_fault.StepTooSmall extent) read h =
     record { surfaces = surfaces; read = read; is_fault = h; of_scene = other }
   where
-    other : scene_fault.StepTooSmall finest ≡ scene_fault.OutOfMemory → ⊥
+    other : scene_fault.StepTooSmall extent ≡ scene_fault.OutOfMemory → ⊥
     other e = cc
 scene_fault_is files wanted surfaces (scene_fault.Open o) read h =
     record { surfaces = surfaces; read = read; is_fault = h; of_scene = other }

@@ -12,6 +12,8 @@ use Rattle.ember_stl_bytes.specs.ReadBack.{IsReadBack}
 use Rattle.ember_stl_bytes.specs.Written.{stl_bytes_of}
 use Rattle.ember_surface.specs.declared.surface.Surface.{Surface}
 use Rattle.ember_written.specs.Triangles.{AreWritten}
+use Rattle.ember_written.specs.Closed.{AreWrittenClosed}
+use Rattle.ember_written.specs.Shared.{IsSharedCount}
 use Rattle.ember_boolean.specs.declared.files.MeshFile.{MeshFile}
 use Rattle.ember_boolean.specs.declared.writing.Output.{Output}
 use Rattle.ember_boolean.specs.Files.{ArePlaced}
@@ -22,7 +24,7 @@ AreRounded grid mesh written =
     AreWritten grid.step grid.offset mesh.planes.items mesh.corners.items mesh.triangles.items written
 
 -- the bytes are the STL of the mesh's rounded triangles, which reading them gives again; the numbers are those of the
--- mesh, and of its triangles that aren't written
+-- mesh, of its triangles that aren't written, and of the edges of more than two written triangles, if these are closed
 pub record IsStl (grid : Grid) (mesh : SolidMesh) (out : Output) : Type 0 where
   pub written : List WrittenTriangle
   pub rounded : AreRounded grid mesh written
@@ -31,9 +33,11 @@ pub record IsStl (grid : Grid) (mesh : SolidMesh) (out : Output) : Type 0 where
   pub planes : out.planes ≡ length mesh.planes.items
   pub triangles : out.triangles ≡ length mesh.triangles.items
   pub vanished : out.vanished + length written ≡ out.triangles
+  pub shared : AreWrittenClosed written → IsSharedCount written out.shared
 
 -- the surfaces of the files are a scene on the wanted grid, with these counts; there is a mesh of the solid of their
--- triangles, with this report of the run; and the rest is the STL of this mesh
+-- triangles, with this report of the run; and the rest is the STL of this mesh, whose triangles are closed, with the
+-- number of edges that belong to more than two of them
 pub record IsOutput (files : List MeshFile) (formula : Formula) (wanted : Wanted) (out : Output) : Type 0 where
   pub surfaces : List Surface
   pub are_placed : ArePlaced files wanted surfaces out.grid
@@ -42,3 +46,5 @@ pub record IsOutput (files : List MeshFile) (formula : Formula) (wanted : Wanted
   pub solid : IsSolidMesh (images_of out.grid surfaces) formula mesh
   pub report : IsSolidReport (images_of out.grid surfaces) formula out.report
   pub stl : IsStl out.grid mesh out
+  pub closed : AreWrittenClosed stl.written
+  pub shared : IsSharedCount stl.written out.shared

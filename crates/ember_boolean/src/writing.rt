@@ -11,7 +11,7 @@ use ember_report::Report;
 use ember_scene::Counts;
 use ember_solid_mesh::SolidMesh;
 use ember_stl_bytes::stl_bytes;
-use ember_written::float_triangles;
+use ember_written::{float_triangles, shared_edges};
 use std::alloc::Global;
 
 /// A solid as an STL, with the grid and the numbers of the run that made it.
@@ -29,6 +29,8 @@ pub struct Output {
     pub triangles: u64,
     /// How many of these aren't in the STL: two of their corners became equal when rounded.
     pub vanished: u64,
+    /// How many edges belong to more than two triangles of the STL.
+    pub shared: u64,
     pub report: Report,
 }
 
@@ -67,6 +69,7 @@ pub(crate) fn output_of<'a>(
     drop(planes);
     drop(corners);
     drop(triangles);
+    let shared = shared_edges(alloc, &written)?;
     let bytes = stl_bytes(alloc, &written)?;
     Ok(Output {
         bytes,
@@ -75,6 +78,7 @@ pub(crate) fn output_of<'a>(
         planes: plane_count,
         triangles: triangle_count,
         vanished,
+        shared,
         report,
     })
 }

@@ -47,7 +47,7 @@ refusal_is_cause names shelf Unbounded h = absurd h
 refusal_is_cause names shelf (LongFile i) h = absurd h
 refusal_is_cause names shelf (TooManyTriangles count) h = absurd h
 refusal_is_cause names shelf TooManyWritten h = absurd h
-refusal_is_cause names shelf (StepTooSmall finest) h = absurd h
+refusal_is_cause names shelf (StepTooSmall extent) h = absurd h
 refusal_is_cause names shelf TooFar h = absurd h
 refusal_is_cause names shelf OutOfMemory h = tt
 refusal_is_cause names shelf (Uncertified fault) h = absurd h
@@ -78,7 +78,7 @@ unread_file_is_there files boolean.OutOfMemory h = tt
 pub faulty_file_is_there : (files : List MeshFile) (formula : Formula) (wanted : Wanted) (fault : BooleanFault) → IsBooleanFault files formula wanted fault → NamesFile files fault
 faulty_file_is_there files formula wanted (boolean.File index fault) h = slice_get_within files index h.file h.found
 faulty_file_is_there files formula wanted (boolean.Scene scene.NoTriangles) h = tt
-faulty_file_is_there files formula wanted (boolean.Scene (scene.StepTooSmall finest)) h = tt
+faulty_file_is_there files formula wanted (boolean.Scene (scene.StepTooSmall extent)) h = tt
 faulty_file_is_there files formula wanted (boolean.Scene (scene.Open o)) h =
     let first = h.is_fault.1 in
     let inside = slice_get_within h.surfaces o.file first.surface first.found in
@@ -141,7 +141,7 @@ module _ (told : List ℕ → Option (List ℕ)) (names : List (List ℕ)) (file
       subst (λ (s : Status). IsFilesCause told names formula wanted s) (sym e) tt
   status_caused formula wanted (boolean.Scene scene.NoTriangles) status h e =
       subst (λ (s : Status). IsFilesCause told names formula wanted s) (sym e) (record { files = files; are_files = are; is_fault = h })
-  status_caused formula wanted (boolean.Scene (scene.StepTooSmall finest)) status h e =
+  status_caused formula wanted (boolean.Scene (scene.StepTooSmall extent)) status h e =
       subst (λ (s : Status). IsFilesCause told names formula wanted s) (sym e) (record { files = files; are_files = are; is_fault = h })
   status_caused formula wanted (boolean.Scene (scene.Open o)) status h s =
       subst (λ (s : Status). IsFilesCause told names formula wanted s) (sym s.1) (record { files = files; are_files = are; is_fault = h; format_is = s.2 })
@@ -190,7 +190,7 @@ cause_among_more told names n Unbounded l h = absurd h
 cause_among_more told names n (LongFile i) l h = absurd h
 cause_among_more told names n (TooManyTriangles count) l h = absurd h
 cause_among_more told names n TooManyWritten l h = absurd h
-cause_among_more told names n (StepTooSmall finest) l h = absurd h
+cause_among_more told names n (StepTooSmall extent) l h = absurd h
 cause_among_more told names n TooFar l h = absurd h
 cause_among_more told names n OutOfMemory l h = tt
 cause_among_more told names n (Uncertified fault) l h = absurd h

@@ -39,7 +39,7 @@ module _ (request : Request) (shelf : ShelfCall) (target : TargetCall) where
   stop_is_cause (LongFile i) h = h
   stop_is_cause (TooManyTriangles count) h = h
   stop_is_cause TooManyWritten h = h
-  stop_is_cause (StepTooSmall finest) h = h
+  stop_is_cause (StepTooSmall extent) h = h
   stop_is_cause TooFar h = h
   stop_is_cause OutOfMemory h = h
   stop_is_cause (Uncertified fault) h = h
@@ -60,7 +60,7 @@ module _ (request : Request) (shelf : ShelfCall) (target : TargetCall) where
   cause_is_shown (LongFile i) few h = stop_is_shown request shelf (LongFile i) few h
   cause_is_shown (TooManyTriangles count) few h = stop_is_shown request shelf (TooManyTriangles count) few h
   cause_is_shown TooManyWritten few h = stop_is_shown request shelf TooManyWritten few h
-  cause_is_shown (StepTooSmall finest) few h = stop_is_shown request shelf (StepTooSmall finest) few h
+  cause_is_shown (StepTooSmall extent) few h = stop_is_shown request shelf (StepTooSmall extent) few h
   cause_is_shown TooFar few h = stop_is_shown request shelf TooFar few h
   cause_is_shown OutOfMemory few h = stop_is_shown request shelf OutOfMemory few h
   cause_is_shown (Uncertified fault) few h = stop_is_shown request shelf (Uncertified fault) few h
@@ -99,7 +99,7 @@ module _ (request : Request) (shelf : ShelfCall) (target : TargetCall) where
   unmet_outcome (LongFile i) text h e = record { unmet = h; text_is = e }
   unmet_outcome (TooManyTriangles count) text h e = record { unmet = h; text_is = e }
   unmet_outcome TooManyWritten text h e = record { unmet = h; text_is = e }
-  unmet_outcome (StepTooSmall finest) text h e = record { unmet = h; text_is = e }
+  unmet_outcome (StepTooSmall extent) text h e = record { unmet = h; text_is = e }
   unmet_outcome TooFar text h e = record { unmet = h; text_is = e }
   unmet_outcome OutOfMemory text h e = record { unmet = h; text_is = e }
   unmet_outcome (Uncertified fault) text h e = record { unmet = h; text_is = e }

@@ -43,8 +43,8 @@ stop_is_shown request shelf Unbounded few h = tt
 stop_is_shown request shelf (LongFile i) few h = tt
 stop_is_shown request shelf (TooManyTriangles count) few h = tt
 stop_is_shown request shelf TooManyWritten few h = tt
-stop_is_shown request shelf (StepTooSmall finest) few h =
-    let least = h.cause.is_fault.is_fault.2.least in
+stop_is_shown request shelf (StepTooSmall extent) few h =
+    let least = h.cause.is_fault.is_fault.2.is_extent.least in
     subst (λ (s : Step). 0 < s.denominator) (sym least.step) (pow_ten_pos (12 - fine_decade least.rank))
 stop_is_shown request shelf TooFar few h = tt
 stop_is_shown request shelf OutOfMemory few h = tt

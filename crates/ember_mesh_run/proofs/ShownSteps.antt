@@ -1,4 +1,4 @@
--- A step as a decimal.
+-- A step and a length as decimals.
 use Rattle.std.proofs.Common.{◌≡◌, ℕ, ◌+◌, ◌*◌, ◌^◌, ◌<◌, ℤ, pos, sym, ap, ◌∙◌, arith}
 use Rattle.std.specs.Int.RustNames.{unsigned_abs}
 use Rattle.ember_number.specs.Fractions.{Fraction}
@@ -9,7 +9,8 @@ use Rattle.ember_wide.specs.Whole.{size_of, value_of}
 use Rattle.ember_wide.proofs.Determinants.{size_of_value}
 use Rattle.ember_written.proofs.Signs.{decimal_of_ratio, fits_with_places}
 use Rattle.ember_snap.specs.declared.steps.Step.{Step}
-use Rattle.ember_mesh_run.specs.Lines.{step_text}
+use Rattle.ember_grid.specs.declared.extent.Extent.{Extent}
+use Rattle.ember_mesh_run.specs.Lines.{length_text, step_text}
 
 abbrev over : ℕ → ℤ → Fraction
 over d z = record { numerator = z; denominator = d }
@@ -24,3 +25,13 @@ step_fits w s p small e =
 pub step_shown : (w : Wide) (s : Step) → 0 < s.denominator → s.denominator < 2 ^ 64 → value_of w ≡ pos s.numerator → decimal_text w.negative (nearest_whole (size_of w.size * 10 ^ 12) s.denominator) 12 ≡ step_text s
 step_shown w s p small e =
     decimal_of_ratio (record { numerator = w; denominator = s.denominator; positive = p; small = omega (arith, small) }) (over s.denominator (pos s.numerator)) (ap (over s.denominator) e) 12
+
+-- ---- a length
+-- the trillionths, with their places, fit into 128 bits
+pub length_fits : (w : Wide) (e : Extent) → size_of w.size ≡ e.trillionths → size_of w.size * 10 ^ 12 + 1000000000000 < 2 ^ 128 * 1000000000000
+length_fits w e size = let small = e.small in omega (arith, size, small)
+
+-- and their decimal is that of the length
+pub length_shown : (w : Wide) (e : Extent) → value_of w ≡ pos e.trillionths → decimal_text w.negative (nearest_whole (size_of w.size * 10 ^ 12) 1000000000000) 12 ≡ length_text e
+length_shown w e value =
+    decimal_of_ratio (record { numerator = w; denominator = 1000000000000; positive = omega arith; small = omega arith }) (over 1000000000000 (pos e.trillionths)) (ap (over 1000000000000) value) 12

@@ -29,7 +29,7 @@ words_stop request shelf Unbounded h = h
 words_stop request shelf (LongFile i) h = absurd h.2
 words_stop request shelf (TooManyTriangles count) h = absurd h.2
 words_stop request shelf TooManyWritten h = absurd h.2
-words_stop request shelf (StepTooSmall finest) h = absurd h.2
+words_stop request shelf (StepTooSmall extent) h = absurd h.2
 words_stop request shelf TooFar h = absurd h.2
 words_stop request shelf OutOfMemory h = tt
 words_stop request shelf (Uncertified fault) h = absurd h.2
@@ -51,7 +51,7 @@ module _ (request : Request) (shelf : ShelfCall) (formula : Formula) (wanted : W
   asked_stop (LongFile i) h = record { wanted = wanted; formula = formula; asks = asks; cause = h }
   asked_stop (TooManyTriangles count) h = record { wanted = wanted; formula = formula; asks = asks; cause = h }
   asked_stop TooManyWritten h = record { wanted = wanted; formula = formula; asks = asks; cause = h }
-  asked_stop (StepTooSmall finest) h = record { wanted = wanted; formula = formula; asks = asks; cause = h }
+  asked_stop (StepTooSmall extent) h = record { wanted = wanted; formula = formula; asks = asks; cause = h }
   asked_stop TooFar h = record { wanted = wanted; formula = formula; asks = asks; cause = h }
   asked_stop OutOfMemory h = tt
   asked_stop (Uncertified fault) h = record { wanted = wanted; formula = formula; asks = asks; cause = h }
@@ -72,7 +72,7 @@ module _ (request : Request) (shelf : ShelfCall) (formula : Formula) (wanted : W
   reading_stop (LongFile i) h = asked_stop (LongFile i) h
   reading_stop (TooManyTriangles count) h = absurd h
   reading_stop TooManyWritten h = absurd h
-  reading_stop (StepTooSmall finest) h = absurd h
+  reading_stop (StepTooSmall extent) h = absurd h
   reading_stop TooFar h = absurd h
   reading_stop OutOfMemory h = tt
   reading_stop (Uncertified fault) h = absurd h
@@ -93,7 +93,7 @@ module _ (request : Request) (shelf : ShelfCall) (formula : Formula) (wanted : W
   files_stop (LongFile i) h = absurd h
   files_stop (TooManyTriangles count) h = asked_stop (TooManyTriangles count) h
   files_stop TooManyWritten h = asked_stop TooManyWritten h
-  files_stop (StepTooSmall finest) h = asked_stop (StepTooSmall finest) h
+  files_stop (StepTooSmall extent) h = asked_stop (StepTooSmall extent) h
   files_stop TooFar h = asked_stop TooFar h
   files_stop OutOfMemory h = tt
   files_stop (Uncertified fault) h = asked_stop (Uncertified fault) h
@@ -119,7 +119,7 @@ stop_tells_memory request shelf Unbounded h = refl
 stop_tells_memory request shelf (LongFile i) h = refl
 stop_tells_memory request shelf (TooManyTriangles count) h = refl
 stop_tells_memory request shelf TooManyWritten h = refl
-stop_tells_memory request shelf (StepTooSmall finest) h = refl
+stop_tells_memory request shelf (StepTooSmall extent) h = refl
 stop_tells_memory request shelf TooFar h = refl
 stop_tells_memory request shelf OutOfMemory h = refl
 stop_tells_memory request shelf (Uncertified solid.OutOfMemory) h = absurd (h.cause.is_fault.of_solid refl)

@@ -99,8 +99,8 @@ IsFilesCause told names formula wanted NoTriangles =
 IsFilesCause told names formula wanted (NotClosed o format) = HaveOpen told names formula wanted o format
 IsFilesCause told names formula wanted (TooManyTriangles count) =
     HaveFault told names formula wanted (boolean.Scene (scene.TooManyTriangles count))
-IsFilesCause told names formula wanted (StepTooSmall finest) =
-    HaveFault told names formula wanted (boolean.Scene (scene.StepTooSmall finest))
+IsFilesCause told names formula wanted (StepTooSmall extent) =
+    HaveFault told names formula wanted (boolean.Scene (scene.StepTooSmall extent))
 IsFilesCause told names formula wanted (Uncertified fault) =
     HaveFault told names formula wanted (boolean.Solid fault)
 IsFilesCause told names formula wanted TooFar = HaveFault told names formula wanted boolean.TooFar

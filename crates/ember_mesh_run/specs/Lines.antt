@@ -5,12 +5,15 @@ use Rattle.ember_expr.specs.declared.fault.ExprFault.{ExprFault}
 use Rattle.ember_expr.specs.declared.fault.ExprFault.TheVariants as expr
 use Rattle.ember_format.specs.declared.format.Format.{Format}
 use Rattle.ember_format.specs.declared.format.Format.TheVariants as formats
+use Rattle.ember_grid.specs.declared.extent.Extent.{Extent}
 use Rattle.ember_grid.specs.declared.grid.Grid.{Grid}
+use Rattle.ember_grid.specs.Lengths.{trillion}
 use Rattle.ember_mesh_words.specs.declared.command.Request.{Request}
 use Rattle.ember_mesh_words.specs.declared.command.WantedStep.{WantedStep}
 use Rattle.ember_mesh_words.specs.declared.command.WantedStep.TheVariants as step
 use Rattle.ember_mesh_words.specs.declared.faults.Refusal.{Refusal}
 use Rattle.ember_mesh_words.specs.declared.faults.Refusal.TheVariants as refusal
+use Rattle.ember_mesh_words.specs.Given.{output_given, step_given}
 use Rattle.ember_model.specs.declared.point.Corner.{Corner}
 use Rattle.ember_number.specs.Fractions.{Fraction}
 use Rattle.ember_scene.specs.declared.fault.Open.{Open}
@@ -39,7 +42,7 @@ number_of Unbounded = 8
 number_of (LongFile i) = 9
 number_of (TooManyTriangles count) = 9
 number_of TooManyWritten = 9
-number_of (StepTooSmall finest) = 10
+number_of (StepTooSmall extent) = 10
 number_of TooFar = 10
 number_of OutOfMemory = 12
 number_of (Uncertified fault) = 14
@@ -56,6 +59,10 @@ line text = codes "ember-mesh: " ++ (text ++ codes "\n")
 -- a step in the user's unit
 abbrev pub step_text : Step → List ℕ
 step_text s = decimal_of (record { numerator = pos s.numerator; denominator = s.denominator }) 12
+
+-- how long a scene is, in the user's unit
+abbrev pub length_text : Extent → List ℕ
+length_text e = decimal_of (record { numerator = pos e.trillionths; denominator = trillion }) 12
 
 -- the value of --step
 abbrev pub wanted_text : WantedStep → List ℕ
@@ -102,8 +109,9 @@ refusal_text words refusal.TooManyFiles = codes "more than 64 files; see ember-m
 refusal_text words refusal.NoExpression = word_text (codes "--expr") (codes "is missing")
 refusal_text words refusal.NeedlessExpression = word_text (codes "--expr") (codes "is for bool alone")
 refusal_text words refusal.NoOutput = word_text (codes "-o") (codes "is missing")
-refusal_text words refusal.OutputEnding = codes "-o: the name must end in .stl, .obj, .ply or .off"
-refusal_text words refusal.NotAStep = codes "--step: not a number above 0"
+refusal_text words refusal.OutputEnding =
+    codes "-o " ++ (output_given words ++ codes ": the name must end in .stl, .obj, .ply or .off")
+refusal_text words refusal.NotAStep = codes "--step " ++ (step_given words ++ codes ": not a number above 0")
 refusal_text words refusal.Workers = word_text (codes "--workers") (codes "not a number from 1 to 64")
 refusal_text words refusal.Digits = word_text (codes "--digits") (codes "not a number from 0 to 17")
 
@@ -178,9 +186,10 @@ why_of request (LongFile i) = file_text request.files i (codes "more than 268435
 why_of request (TooManyTriangles count) =
     decimal count ++ codes " triangles after snapping, more than 262144; simplify the meshes"
 why_of request TooManyWritten = codes "more than 4294967295 triangles, too many for STL; simplify the meshes"
-why_of request (StepTooSmall finest) =
+why_of request (StepTooSmall extent) =
     codes "--step " ++ (wanted_text request.step ++
-    (codes ": the scene needs a step of at least " ++ step_text finest))
+    (codes ": the scene is " ++ (length_text extent ++
+    (codes " long, which needs a step of at least " ++ step_text extent.finest))))
 why_of request TooFar = codes "a corner of the result is too far from 0 for STL; move the meshes to the origin"
 why_of request OutOfMemory = codes "out of memory"
 why_of request (Uncertified fault) = solid_text fault
@@ -188,5 +197,5 @@ why_of request (Uncertified fault) = solid_text fault
 -- the numbers in the status can be shown
 abbrev pub IsShown : Status → Type 0
 IsShown (NotClosed o format) = (o.file < 64) × IsStep o.grid.step
-IsShown (StepTooSmall finest) = 0 < finest.denominator
+IsShown (StepTooSmall extent) = 0 < extent.finest.denominator
 IsShown status = ⊤

@@ -36,7 +36,8 @@ abbrev pub result_line : Output → List ℕ
 result_line out =
     line (decimal out.report.faces ++ (codes " faces -> " ++ (decimal out.triangles ++
     (codes " triangles in " ++ (decimal out.planes ++
-    (codes " planes; " ++ (decimal out.vanished ++ codes " vanished")))))))
+    (codes " planes; " ++ (decimal out.vanished ++
+    (codes " vanished; " ++ (decimal out.shared ++ codes " edges of more than two triangles")))))))))
 
 -- all lines
 abbrev pub report_lines : List (List ℕ) → Output → List ℕ

@@ -98,7 +98,9 @@ fn put_result(alloc: Global, output: &Output, text: &mut Vec<u8>) -> Result<(), 
     put_count(output.planes, &mut said)?;
     said.extend_from_slice(b" planes; ")?;
     put_count(output.vanished, &mut said)?;
-    said.extend_from_slice(b" vanished")?;
+    said.extend_from_slice(b" vanished; ")?;
+    put_count(output.shared, &mut said)?;
+    said.extend_from_slice(b" edges of more than two triangles")?;
     put_line(alloc, &said, text)
 }
 

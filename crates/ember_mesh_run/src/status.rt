@@ -5,9 +5,9 @@ ghost use Rattle.ember_mesh_run.specs.declared.status.Status.TheVariants.{OutOfM
 
 use ember_expr::ExprFault;
 use ember_format::Format;
+use ember_grid::Extent;
 use ember_mesh_words::Refusal;
 use ember_scene::Open;
-use ember_snap::Step;
 use ember_solid_mesh::SolidFault;
 use std::alloc::{AllocError, AllocFailed};
 
@@ -44,8 +44,9 @@ pub enum Status {
     TooManyTriangles(u64),
     /// The result has 2^32 triangles or more, too many for an STL.
     TooManyWritten,
-    /// The meshes don't fit on a grid with the given step. This is the finest with which they do.
-    StepTooSmall(Step),
+    /// The meshes don't fit on a grid with the given step. They are so long, and this is the finest
+    /// step with which they fit.
+    StepTooSmall(Extent),
     /// A corner of the result is too far from 0 for the numbers of an STL.
     TooFar,
     OutOfMemory,

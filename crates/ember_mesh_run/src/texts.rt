@@ -3,15 +3,15 @@ ghost use Rattle.std.specs.Prelude.{◌≡◌, ◌++◌, ◌<◌, decimal, IfOk,
 ghost use Rattle.std.specs.Fmt.{signed_decimal};
 ghost use Rattle.ember_snap.specs.Steps.{IsStep};
 ghost use Rattle.ember_written.specs.Places.{place_of};
-ghost use Rattle.ember_mesh_run.specs.Lines.{corner_text, line, name_of, shown, step_text, wanted_text};
+ghost use Rattle.ember_mesh_run.specs.Lines.{corner_text, length_text, line, name_of, shown, step_text, wanted_text};
 
 use ember_certificate::SpacePoint;
-use ember_grid::Grid;
+use ember_grid::{Extent, Grid};
 use ember_mesh_words::WantedStep;
 use ember_model::{Axis, Corner, OutOfMemory};
 use ember_round::put_decimal;
 use ember_snap::Step;
-use ember_wide::Wide;
+use ember_wide::{Magnitude, Wide};
 use ember_words::Texts;
 use ember_written::{PlaceFault, put_place};
 use itoa::Buffer;
@@ -73,6 +73,18 @@ pub fn put_step(step: &Step, text: &mut Vec<u8>) -> Result<(), OutOfMemory>
 {
     let numerator = Wide::product(i128::from(step.numerator), 1);
     put_decimal(&numerator, u128::from(step.denominator), PLACES, text)
+}
+
+/// Appends how long a scene is, in the user's unit.
+pub fn put_length(extent: &Extent, text: &mut Vec<u8>) -> Result<(), OutOfMemory>
+    ensures { OnOk result (text.new.items ≡ text.old.items ++ length_text extent.now) }
+{
+    let size = Magnitude::product(extent.trillionths, 1);
+    let numerator = Wide {
+        negative: false,
+        size,
+    };
+    put_decimal(&numerator, 1_000_000_000_000, PLACES, text)
 }
 
 // Appends where a point lies along an axis, in the user's unit.

@@ -13,6 +13,13 @@ v 5.0 5.0 5.0\nv 15.0 5.0 5.0\nv 15.0 15.0 5.0\nv 5.0 15.0 5.0\n\
 v 5.0 5.0 15.0\nv 15.0 5.0 15.0\nv 15.0 15.0 15.0\nv 5.0 15.0 15.0\n\
 f 1 4 3 2\nf 5 6 7 8\nf 1 2 6 5\nf 2 3 7 6\nf 3 4 8 7\nf 4 1 5 8\n";
 
+/// The box from 10 to 20, and along z from 0 to 10: it has an upright edge in common with the low
+/// one.
+pub const BESIDE: &[u8] = b"\
+v 10.0 10.0 0.0\nv 20.0 10.0 0.0\nv 20.0 20.0 0.0\nv 10.0 20.0 0.0\n\
+v 10.0 10.0 10.0\nv 20.0 10.0 10.0\nv 20.0 20.0 10.0\nv 10.0 20.0 10.0\n\
+f 1 4 3 2\nf 5 6 7 8\nf 1 2 6 5\nf 2 3 7 6\nf 3 4 8 7\nf 4 1 5 8\n";
+
 /// The low box without its last face.
 pub const OPEN: &[u8] = b"\
 v 0.0 0.0 0.0\nv 10.0 0.0 0.0\nv 10.0 10.0 0.0\nv 0.0 10.0 0.0\n\

@@ -1,6 +1,6 @@
 // Solids that are written.
 use crate::boxes::{
-    HIGH, INSIDE_OUT, LOW, LOW_FLOATS, NESTED, RIGHT, SPIKE, ascii_stl, binary_stl,
+    BESIDE, HIGH, INSIDE_OUT, LOW, LOW_FLOATS, NESTED, RIGHT, SPIKE, ascii_stl, binary_stl,
 };
 use crate::cases::{Named, give};
 use crate::solids::{Solid, solid_in};
@@ -24,7 +24,7 @@ fn check<R: Abort + Threads + Wait + Sync>(
     assert_eq!(rt; given.out.bytes().len(), 0);
     assert!(rt; given.err.bytes().starts_with(report), "{line}");
     assert!(rt;
-        given.err.bytes().ends_with(b" planes; 0 vanished\n"),
+        given.err.bytes().ends_with(b"; 0 vanished; 0 edges of more than two triangles\n"),
         "{line}"
     );
     assert_eq!(rt; solid_in(alloc, given.bytes())?, solid, "{line}");
@@ -122,8 +122,25 @@ fn a_mesh_without_itself_is_empty(rt: HostRuntime) -> Result<(), Fail> {
         ember-mesh: a.obj: 12 triangles, 0 vanished, 0 without area; closed\n\
         ember-mesh: a.obj: 12 triangles, 0 vanished, 0 without area; closed\n\
         ember-mesh: the result is empty\n\
-        ember-mesh: 0 faces -> 0 triangles in 0 planes; 0 vanished\n";
+        ember-mesh: 0 faces -> 0 triangles in 0 planes; 0 vanished; \
+        0 edges of more than two triangles\n";
     check(&rt, alloc, words, &[("a.obj", LOW)], report, solid)
+}
+
+#[test]
+fn boxes_that_touch_in_an_edge(rt: HostRuntime) -> Result<(), Fail> {
+    let words = "union -o out.stl a.obj b.obj";
+    let given = give(
+        &rt,
+        rt.alloc(),
+        words,
+        &[("a.obj", LOW), ("b.obj", BESIDE)],
+    )?;
+    assert_eq!(rt; given.status.number(), 0);
+    let end = b" -> 24 triangles in 10 planes; 0 vanished; \
+        1 edges of more than two triangles\n";
+    assert!(rt; given.err.bytes().ends_with(end));
+    Ok(())
 }
 
 #[test]

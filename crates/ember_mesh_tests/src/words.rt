@@ -40,7 +40,7 @@ fn refused_words_have_a_line(rt: HostRuntime) -> Result<(), Fail> {
         ),
         (
             "union -o out.glb a.stl",
-            b"ember-mesh: -o: the name must end in .stl, .obj, .ply or .off\n",
+            b"ember-mesh: -o out.glb: the name must end in .stl, .obj, .ply or .off\n",
         ),
         (
             "union -o out.obj a.stl",

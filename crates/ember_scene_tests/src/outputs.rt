@@ -5,7 +5,7 @@ ghost use Rattle.ember_boolean.specs.Files.{IsSmall};
 ghost use Rattle.ember_grid.specs.Grids.{IsChoice};
 ghost use Rattle.ember_query.specs.Queries.{IsAnswer, IsExecutor, IsQuery};
 
-use crate::grids::{THOUSANDTH, grid_with};
+use crate::grids::{LARGER_EXTENT, THOUSANDTH, grid_with};
 use crate::scenes::expression;
 use crate::texts::{CUBE, FRACTIONS, LARGER, OPEN, SHIFTED_CUBE, STL_TRIANGLE};
 use ember_balance::Loose;
@@ -16,7 +16,6 @@ use ember_model::{Corner, OutOfMemory};
 use ember_number::floor_times;
 use ember_query::{Answer, Query, answer_alone, answer_by_workers};
 use ember_scene::{Counts, Open, SceneFault};
-use ember_snap::Step;
 use ember_stl_bytes::{FloatPoint, WrittenTriangle, stl_bytes};
 use ember_surface::{Facet, Surface, Vertex};
 use ember_wavefront::WavefrontFault;
@@ -256,7 +255,7 @@ fn check(rt: &impl Abort, output: &Output, counts: &[Counts]) {
     assert_eq!(rt; output.counts.as_slice(), counts);
     assert_eq!(rt; output.planes, 9);
     assert_eq!(rt; output.triangles, 24);
-    assert_eq!(rt; output.vanished, 0);
+    assert_eq!(rt; (output.vanished, output.shared), (0, 0));
     assert_eq!(rt; output.bytes.len(), 84 + 24 * 50);
 }
 
@@ -342,13 +341,9 @@ fn files_are_read_before_they_are_a_scene(rt: HostRuntime) -> Result<(), Fail> {
 
 #[test]
 fn a_step_may_be_too_small_for_files(rt: HostRuntime) -> Result<(), Fail> {
-    let finest = Step {
-        numerator: 2199,
-        denominator: 1_000_000,
-    };
     assert_eq!(rt;
         fault_of(rt.alloc(), &[obj(LARGER)], Wanted::Given(THOUSANDTH))?,
-        Some(BooleanFault::Scene(SceneFault::StepTooSmall(finest)))
+        Some(BooleanFault::Scene(SceneFault::StepTooSmall(LARGER_EXTENT)))
     );
     assert_eq!(rt;
         fault_of(rt.alloc(), &[], Wanted::Nice)?,

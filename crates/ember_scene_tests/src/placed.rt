@@ -2,13 +2,12 @@
 ghost use Rattle.std.specs.Prelude.{IsTrue, All};
 ghost use Rattle.ember_grid.specs.Grids.{IsChoice, IsWithinLimit};
 
-use crate::grids::{THOUSANDTH, grid_with, is_within_limit, surface_of};
+use crate::grids::{LARGER_EXTENT, THOUSANDTH, grid_with, is_within_limit, surface_of};
 use crate::texts::{FRACTIONS, LARGER, LAYERS, NARROW, OPEN, TETRA, THIN};
 use ember_balance::Loose;
 use ember_grid::Wanted;
 use ember_model::Corner;
 use ember_scene::{Counts, Open, Placed, SceneFault, scene_of};
-use ember_snap::Step;
 use ember_surface::Surface;
 use std::alloc::Global;
 use std::test::Fail;
@@ -135,13 +134,9 @@ fn layers_count_as_often_as_they_are_loose(rt: HostRuntime) -> Result<(), Fail> 
 #[test]
 fn a_given_step_may_be_too_small_for_all(rt: HostRuntime) -> Result<(), Fail> {
     let surfaces = surfaces_of(rt.alloc(), &[FRACTIONS, LARGER])?;
-    let finest = Step {
-        numerator: 2199,
-        denominator: 1_000_000,
-    };
     assert_eq!(rt;
         place(rt.alloc(), &surfaces, Wanted::Given(THOUSANDTH))?.err(),
-        Some(SceneFault::StepTooSmall(finest))
+        Some(SceneFault::StepTooSmall(LARGER_EXTENT))
     );
     Ok(())
 }

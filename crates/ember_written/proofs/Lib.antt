@@ -3,3 +3,7 @@ pub mod Ratios
 pub mod Points
 pub mod Proper
 pub mod Signs
+pub mod Closings
+pub mod WrittenClosed
+pub mod Noted
+pub mod SharedCounts

@@ -3,7 +3,9 @@ use ember_certificate::{Segment, SpacePoint, Triangle};
 use ember_model::{Axis, Plane};
 use ember_snap::{Offset, Step};
 use ember_stl_bytes::{FloatPoint, WrittenTriangle};
-use ember_written::{PlaceFault, float_place, float_triangles, have_corners, put_place};
+use ember_written::{
+    PlaceFault, float_place, float_triangles, have_corners, put_place, shared_edges,
+};
 use std::test::Fail;
 
 const UNIT: Step = Step {
@@ -164,5 +166,30 @@ fn two_triangles_of_four_vanish(rt: HostRuntime) -> Result<(), Fail> {
         },
     ];
     assert_eq!(rt; written.as_slice(), want.as_slice());
+    Ok(())
+}
+
+#[test]
+fn edges_of_more_than_two_triangles(rt: HostRuntime) -> Result<(), Fail> {
+    let [p, q, r] = [
+        float_point(0, 0, 0),
+        float_point(TEN, 0, 0),
+        float_point(0, TEN, 0),
+    ];
+    let front = WrittenTriangle {
+        normal: p,
+        a: p,
+        b: q,
+        c: r,
+    };
+    let back = WrittenTriangle {
+        normal: p,
+        a: q,
+        b: p,
+        c: r,
+    };
+    assert_eq!(rt; shared_edges(rt.alloc(), &[])?, 0);
+    assert_eq!(rt; shared_edges(rt.alloc(), &[front, back])?, 0);
+    assert_eq!(rt; shared_edges(rt.alloc(), &[front, back, back, front])?, 3);
     Ok(())
 }
