@@ -1,5 +1,5 @@
 -- The length of a move in few digits
-use Rattle.std.specs.Prelude.{ℕ, zero, suc, ◌*◌, ◌^◌, true, nat_le, nat_lt, if◌then◌else◌}
+use Rattle.std.specs.Prelude.{◌≡◌, ℕ, zero, suc, ◌*◌, ◌^◌, true, nat_le, nat_lt, if◌then◌else◌, List, map}
 use Rattle.ember_number.specs.Quotients.{quotient}
 use Rattle.ember_snap.specs.declared.steps.Step.{Step}
 use Rattle.ember_surface.specs.declared.surface.Surface.{Surface}
@@ -54,3 +54,7 @@ length_of s fineness square = length_from (root_above square) (ticks_in_unit s f
 unfoldable pub greatest_move : Grid → Surface → Rounded
 greatest_move g s =
     length_of g.step (fineness_of g.step) (greatest_square g.step (fineness_of g.step) s.vertices.items s.facets.items)
+
+-- the greatest move of each surface, in order
+abbrev pub AreMoves : Grid → List Surface → List Length → Type 0
+AreMoves g surfaces moves = map rounded_of moves ≡ map (greatest_move g) surfaces

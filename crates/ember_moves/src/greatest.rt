@@ -1,10 +1,10 @@
 // The greatest move of the corners of a surface.
-ghost use Rattle.std.specs.Prelude.{◌≡◌, map, All, IfOk};
+ghost use Rattle.std.specs.Prelude.{◌≡◌, All, IfOk};
 ghost use Rattle.ember_snap.specs.Steps.{IsStep};
 ghost use Rattle.ember_grid.specs.Corners.{Lands};
 ghost use Rattle.ember_moves.specs.Moves.{IsFineness};
 ghost use Rattle.ember_moves.specs.Greatest.{greatest_square};
-ghost use Rattle.ember_moves.specs.Shown.{rounded_of, greatest_move};
+ghost use Rattle.ember_moves.specs.Shown.{rounded_of, greatest_move, AreMoves};
 
 use crate::fineness::fineness_of;
 use crate::shown::{Length, length_of};
@@ -50,7 +50,7 @@ pub fn greatest_moves(
 ) -> Result<Vec<Length>, AllocError>
     requires step { IsStep grid.now.step }
     requires lands { All (Lands grid.now) surfaces.now }
-    ensures { IfOk result (λ moves. map rounded_of moves.items ≡ map (greatest_move grid.now) surfaces.now) }
+    ensures { IfOk result (λ moves. AreMoves grid.now surfaces.now moves.items) }
 {
     let mut moves = Vec::with_capacity(alloc, surfaces.len())?;
     for surface in surfaces {
