@@ -1,5 +1,5 @@
 -- How far a number is from its cell, in ticks.
-use Rattle.std.proofs.Common.{◌≡◌, ◌≤◌, ◌<◌, ◌⊎◌, ⊎_elim, inl, inr, true, max, ℕ, zero, suc, ◌+◌, ◌-◌, ◌*◌, ◌/◌, ◌%◌, ◌^◌, refl, sym, ap, ◌∙◌, subst, arith, ℤ, pos, negsuc, neg_ℤ, ◌+ℤ◌, ◌-ℤ◌, ◌*ℤ◌, ◌<ℤ◌, ◌≤ℤ◌, mul-pos}
+use Rattle.std.proofs.Common.{◌≡◌, ◌≤◌, ◌<◌, ◌⊎◌, ⊎_elim, inl, inr, true, max, ℕ, zero, suc, ◌+◌, ◌-◌, ◌*◌, ◌/◌, ◌%◌, refl, sym, ap, ◌∙◌, arith, ℤ, pos, negsuc, neg_ℤ, ◌+ℤ◌, ◌-ℤ◌, ◌*ℤ◌, ◌<ℤ◌, ◌≤ℤ◌, mul-pos}
 use borrow.Author.Differences.{ints}
 use Rattle.std.specs.Int.{int_div_euclid, int_rem_euclid}
 use Rattle.std.specs.Int.RustNames.{unsigned_abs}
@@ -11,7 +11,7 @@ use Rattle.ember_algebra.proofs.Ring.{◌⊕◌, ◌⊖◌, ◌⊗◌, ◌≈◌
 use Rattle.ember_number.specs.Fractions.{Fraction, is_below_limit, floor_of_multiple}
 use Rattle.ember_number.specs.Quotients.{quotient}
 use Rattle.ember_snap.specs.declared.steps.Step.{Step}
-use Rattle.ember_snap.specs.Cells.{scaled_number, scaled_step, scaled_half, cell_of, IsNearest}
+use Rattle.ember_snap.specs.Cells.{scaled_number, scaled_step, scaled_half, cell_of}
 use Rattle.ember_snap.specs.Decimals.{negated}
 use Rattle.ember_snap.proofs.Floors.{floor_low, floor_high, floor_is, floor_chain}
 use Rattle.ember_snap.proofs.Nearest.{cell_nearest}

@@ -1,5 +1,5 @@
 -- Ticks: there are few enough of them.
-use Rattle.std.proofs.Common.{◌≡◌, ◌≤◌, ◌<◌, ◌⊎◌, ⊎_elim, ℕ, zero, suc, ◌+◌, ◌*◌, ◌/◌, ◌^◌, max, min, sym, subst, arith}
+use Rattle.std.proofs.Common.{◌≡◌, ◌≤◌, ℕ, zero, suc, ◌*◌, ◌/◌, ◌^◌, max, min, sym, subst, arith}
 use Rattle.std.proofs.Math.Nat.{div-mul-le_self, max-eq_left, max-eq_right, min-le_left, min-le_right, mul-le-mul_right}
 use Rattle.ember_snap.specs.declared.steps.Step.{Step}
 use Rattle.ember_snap.specs.Steps.{IsStep}

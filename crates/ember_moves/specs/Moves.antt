@@ -1,5 +1,5 @@
 -- How far a number is from its cell
-use Rattle.std.specs.Prelude.{ℕ, ◌+◌, ◌*◌, ◌/◌, ◌^◌, ◌<◌, ◌≤◌, min, max, true, ℤ, neg_ℤ, ◌-ℤ◌, ◌*ℤ◌, unsigned_abs}
+use Rattle.std.specs.Prelude.{ℕ, ◌*◌, ◌/◌, ◌^◌, ◌<◌, ◌≤◌, min, max, true, ℤ, neg_ℤ, ◌-ℤ◌, ◌*ℤ◌, unsigned_abs}
 use Rattle.ember_number.specs.Fractions.{Fraction, floor_of_multiple}
 use Rattle.ember_number.specs.Quotients.{quotient}
 use Rattle.ember_snap.specs.declared.steps.Step.{Step}

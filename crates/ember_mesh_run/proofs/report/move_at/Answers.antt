@@ -1,4 +1,4 @@
-use Rattle.std.proofs.Common.{List, ◌∷◌, suc, length, drop, drop-cons, ◌<◌, sym, ap, ◌∙◌, arith}
+use Rattle.std.proofs.Common.{◌∷◌, suc, length, drop, drop-cons, ◌<◌, sym, ap, ◌∙◌, arith}
 use Rattle.std.proofs.lemmas.Bool.Decides.{nat_tests}
 use Rattle.ember_moves.specs.declared.shown.Length.{Length}
 use Rattle.ember_mesh_run.specs.Reports.{first_move}
