@@ -2,6 +2,7 @@
 import re
 
 _NUMBER = r"-?\d+(?:\.\d+)?"
+_MOVE = rf"(?:0 \(nothing moved\)|{_NUMBER})"
 _PLACE = rf"\({_NUMBER} {_NUMBER} {_NUMBER}\)"
 _NAME = r"[^\n]+?"
 
@@ -51,7 +52,7 @@ FORMS = {status: re.compile(f"ember-mesh: (?:{line})\n".encode()) for status, li
 FORMS[0] = re.compile(
     (
         rf"ember-mesh: step {_NUMBER}, grid offset -?\d+ -?\d+ -?\d+\n"
-        rf"(?:ember-mesh: {_NAME}: \d+ triangles, \d+ vanished, \d+ without area; closed\n)+"
+        rf"(?:ember-mesh: {_NAME}: \d+ triangles, \d+ vanished, \d+ without area; greatest move {_MOVE}; closed\n)+"
         r"(?:ember-mesh: the result is empty\n)?"
         r"ember-mesh: \d+ faces -> \d+ triangles in \d+ planes; \d+ vanished; \d+ edges of more than two triangles\n"
     ).encode()

@@ -11,6 +11,8 @@ use Rattle.ember_grid.specs.declared.choice.Wanted.{Wanted}
 use Rattle.ember_grid.specs.declared.grid.Grid.{Grid}
 use Rattle.ember_model.specs.declared.plane.Plane.{Plane}
 use Rattle.ember_model.specs.declared.tri.Tri.{Tri}
+use Rattle.ember_moves.specs.declared.shown.Length.{Length}
+use Rattle.ember_moves.specs.Shown.{AreMoves}
 use Rattle.ember_query.specs.Solids.{IsSolidReport}
 use Rattle.ember_scene.specs.declared.scene.Placed.{Placed}
 use Rattle.ember_scene.specs.Images.{images_of, counts_on}
@@ -68,14 +70,15 @@ stl_is_closed grid tris formula mesh out solid stl =
 
 -- ---- outputs
 module _ (files : List MeshFile) (formula : Formula) (wanted : Wanted) (mesh : SolidMesh) where
-  output_on : (surfaces : List Surface) (out : Output) (grid : Grid) → out.grid ≡ grid → ArePlaced files wanted surfaces grid → out.counts.items ≡ map (counts_on grid) surfaces → IsSolidMesh (images_of grid surfaces) formula mesh → IsSolidReport (images_of grid surfaces) formula out.report → IsStl grid mesh out → IsOutput files formula wanted out
-  output_on surfaces out grid e are counts solid report stl =
+  output_on : (surfaces : List Surface) (out : Output) (grid : Grid) → out.grid ≡ grid → ArePlaced files wanted surfaces grid → out.counts.items ≡ map (counts_on grid) surfaces → AreMoves grid surfaces out.moves.items → IsSolidMesh (images_of grid surfaces) formula mesh → IsSolidReport (images_of grid surfaces) formula out.report → IsStl grid mesh out → IsOutput files formula wanted out
+  output_on surfaces out grid e are counts moves solid report stl =
       let on_grid : IsStl out.grid mesh out = subst (λ (g : Grid). IsStl g mesh out) (sym e) stl in
       let is_closed = stl_is_closed out.grid (images_of grid surfaces) formula mesh out solid on_grid in
       record {
         surfaces = surfaces;
         are_placed = subst (ArePlaced files wanted surfaces) (sym e) are;
         counts = subst (λ (g : Grid). out.counts.items ≡ map (counts_on g) surfaces) (sym e) counts;
+        moves = subst (λ (g : Grid). AreMoves g surfaces out.moves.items) (sym e) moves;
         mesh = mesh;
         solid = subst (λ (g : Grid). IsSolidMesh (images_of g surfaces) formula mesh) (sym e) solid;
         report = subst (λ (g : Grid). IsSolidReport (images_of g surfaces) formula out.report) (sym e) report;
@@ -85,8 +88,8 @@ module _ (files : List MeshFile) (formula : Formula) (wanted : Wanted) (mesh : S
       }
 
   -- the STL of the mesh of the files' scene is an output for them
-  pub output_is : (placed : Placed) (is : IsPlaced files wanted placed) → IsSolidMesh placed.scene.tris formula mesh → IsSolidReport placed.scene.tris formula mesh.report → (result : Result Output BooleanFault) → IfOk result (λ out. out.grid ≡ placed.grid) → IfOk result (λ out. out.counts.items ≡ placed.counts.items) → IfOk result (λ out. out.report ≡ mesh.report) → IfOk result (IsStl placed.grid mesh) → IfOk result (IsOutput files formula wanted)
-  output_is placed is solid report (Ok out) grid counts numbers stl =
+  pub output_is : (placed : Placed) (is : IsPlaced files wanted placed) → IsSolidMesh placed.scene.tris formula mesh → IsSolidReport placed.scene.tris formula mesh.report → (result : Result Output BooleanFault) → IfOk result (λ out. out.grid ≡ placed.grid) → IfOk result (λ out. out.counts.items ≡ placed.counts.items) → IfOk result (λ out. out.moves.items ≡ placed.moves.items) → IfOk result (λ out. out.report ≡ mesh.report) → IfOk result (IsStl placed.grid mesh) → IfOk result (IsOutput files formula wanted)
+  output_is placed is solid report (Ok out) grid counts moves numbers stl =
       let of_images : IsSolidReport (images_of placed.grid is.surfaces) formula mesh.report = subst (λ (ts : List Tri). IsSolidReport ts formula mesh.report) is.tris report in
-      output_on is.surfaces out placed.grid grid is.are_placed (counts ∙ is.counts) (subst (λ (ts : List Tri). IsSolidMesh ts formula mesh) is.tris solid) (subst (IsSolidReport (images_of placed.grid is.surfaces) formula) (sym numbers) of_images) stl
-  output_is placed is solid report (Err fault) grid counts numbers stl = tt
+      output_on is.surfaces out placed.grid grid is.are_placed (counts ∙ is.counts) (subst (λ (ls : List Length). AreMoves placed.grid is.surfaces ls) (sym moves) is.moves) (subst (λ (ts : List Tri). IsSolidMesh ts formula mesh) is.tris solid) (subst (IsSolidReport (images_of placed.grid is.surfaces) formula) (sym numbers) of_images) stl
+  output_is placed is solid report (Err fault) grid counts moves numbers stl = tt

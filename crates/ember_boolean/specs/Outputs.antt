@@ -3,6 +3,7 @@ use Rattle.std.specs.Prelude.{◌≡◌, ◌+◌, List, length, map}
 use Rattle.ember_expr.specs.Formula.{Formula}
 use Rattle.ember_grid.specs.declared.choice.Wanted.{Wanted}
 use Rattle.ember_grid.specs.declared.grid.Grid.{Grid}
+use Rattle.ember_moves.specs.Shown.{AreMoves}
 use Rattle.ember_query.specs.Solids.{IsSolidReport}
 use Rattle.ember_scene.specs.Images.{images_of, counts_on}
 use Rattle.ember_solid_mesh.specs.declared.mesh.SolidMesh.{SolidMesh}
@@ -35,13 +36,14 @@ pub record IsStl (grid : Grid) (mesh : SolidMesh) (out : Output) : Type 0 where
   pub vanished : out.vanished + length written ≡ out.triangles
   pub shared : AreWrittenClosed written → IsSharedCount written out.shared
 
--- the surfaces of the files are a scene on the wanted grid, with these counts; there is a mesh of the solid of their
--- triangles, with this report of the run; and the rest is the STL of this mesh, whose triangles are closed, with the
--- number of edges that belong to more than two of them
+-- the surfaces of the files are a scene on the wanted grid, with these counts and moves; there is a mesh of the solid of
+-- their triangles, with this report of the run; and the rest is the STL of this mesh, whose triangles are closed, with
+-- the number of edges that belong to more than two of them
 pub record IsOutput (files : List MeshFile) (formula : Formula) (wanted : Wanted) (out : Output) : Type 0 where
   pub surfaces : List Surface
   pub are_placed : ArePlaced files wanted surfaces out.grid
   pub counts : out.counts.items ≡ map (counts_on out.grid) surfaces
+  pub moves : AreMoves out.grid surfaces out.moves.items
   pub mesh : SolidMesh
   pub solid : IsSolidMesh (images_of out.grid surfaces) formula mesh
   pub report : IsSolidReport (images_of out.grid surfaces) formula out.report

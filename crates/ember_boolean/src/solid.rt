@@ -48,5 +48,5 @@ pub fn stl_of<'a, C: Fn(&Query) -> Result<Answer, OutOfMemory>>(
     let placed = placed_of(alloc, files, wanted)?;
     let mesh = solid_mesh(alloc, &placed.scene, expr, executor)?;
     drop(placed.scene);
-    output_of(alloc, mesh, placed.grid, placed.counts)
+    output_of(alloc, mesh, placed.grid, placed.counts, placed.moves)
 }

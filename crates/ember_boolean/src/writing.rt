@@ -7,6 +7,7 @@ ghost use Rattle.ember_boolean.specs.Faults.{IsWritingFault};
 
 use crate::fault::BooleanFault;
 use ember_grid::Grid;
+use ember_moves::Length;
 use ember_report::Report;
 use ember_scene::Counts;
 use ember_solid_mesh::SolidMesh;
@@ -23,6 +24,8 @@ pub struct Output {
     pub grid: Grid,
     /// The counts of each file, in order.
     pub counts: Vec<Counts>,
+    /// How far a corner of each file moved to the grid at most, in order.
+    pub moves: Vec<Length>,
     /// The number of planes of the exact mesh.
     pub planes: u64,
     /// The number of triangles of the exact mesh.
@@ -40,11 +43,13 @@ pub(crate) fn output_of<'a>(
     mesh: SolidMesh,
     grid: Grid,
     counts: Vec<Counts>,
+    moves: Vec<Length>,
 ) -> Result<Output, BooleanFault<'a>>
     requires step { IsStep grid.step }
     requires proper { All (IsProper mesh.planes.items mesh.corners.items) mesh.triangles.items }
     ensures grid { IfOk result (λ out. out.grid ≡ grid) }
     ensures counts { IfOk result (λ out. out.counts.items ≡ counts.items) }
+    ensures moves { IfOk result (λ out. out.moves.items ≡ moves.items) }
     ensures report { IfOk result (λ out. out.report ≡ mesh.report) }
     ensures stl { IfOk result (IsStl grid mesh) }
     ensures fault { IfErr result (IsWritingFault grid mesh) }
@@ -75,6 +80,7 @@ pub(crate) fn output_of<'a>(
         bytes,
         grid,
         counts,
+        moves,
         planes: plane_count,
         triangles: triangle_count,
         vanished,

@@ -1,5 +1,5 @@
 -- The number of a status, and its line on standard error
-use Rattle.std.specs.Prelude.{⊤, ℕ, ℤ, ◌+ℤ◌, ◌*ℤ◌, ◌<◌, ◌+◌, ◌-◌, ◌*◌, ◌^◌, List, [], ◌++◌, length, codes, decimal, get_or, pos, nat_le, Some, None, unsigned_abs, if◌then◌else◌, string_bytes}
+use Rattle.std.specs.Prelude.{⊤, ℕ, ℤ, ◌+ℤ◌, ◌*ℤ◌, ◌<◌, ◌+◌, ◌-◌, ◌*◌, ◌^◌, List, [], ◌++◌, length, codes, decimal, get_or, pos, nat_le, ◌==◌, Some, None, unsigned_abs, if◌then◌else◌, string_bytes}
 use Rattle.std.specs.declared.option.Option.{Option}
 use Rattle.ember_expr.specs.declared.fault.ExprFault.{ExprFault}
 use Rattle.ember_expr.specs.declared.fault.ExprFault.TheVariants as expr
@@ -15,6 +15,7 @@ use Rattle.ember_mesh_words.specs.declared.faults.Refusal.{Refusal}
 use Rattle.ember_mesh_words.specs.declared.faults.Refusal.TheVariants as refusal
 use Rattle.ember_mesh_words.specs.Given.{output_given, step_given}
 use Rattle.ember_model.specs.declared.point.Corner.{Corner}
+use Rattle.ember_moves.specs.Shown.{Rounded}
 use Rattle.ember_number.specs.Fractions.{Fraction}
 use Rattle.ember_scene.specs.declared.fault.Open.{Open}
 use Rattle.ember_snap.specs.declared.steps.Step.{Step}
@@ -63,6 +64,18 @@ step_text s = decimal_of (record { numerator = pos s.numerator; denominator = s.
 -- how long a scene is, in the user's unit
 abbrev pub length_text : Extent → List ℕ
 length_text e = decimal_of (record { numerator = pos e.trillionths; denominator = trillion }) 12
+
+-- size / 10 ^ places
+abbrev pub size_text : ℕ → ℕ → List ℕ
+size_text size places = decimal_of (record { numerator = pos size; denominator = 10 ^ places }) places
+
+-- said of a move of 0
+abbrev pub still_text : ℕ → List ℕ
+still_text size = if size == 0 then codes " (nothing moved)" else []
+
+-- how far corners move at most, in the user's unit
+abbrev pub move_text : Rounded → List ℕ
+move_text r = size_text r.size r.places ++ still_text r.size
 
 -- the value of --step
 abbrev pub wanted_text : WantedStep → List ℕ

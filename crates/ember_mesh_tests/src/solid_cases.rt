@@ -37,8 +37,10 @@ fn a_cube_without_another(rt: HostRuntime) -> Result<(), Fail> {
     let low = binary_stl(alloc, LOW_FLOATS)?;
     let high = ascii_stl(alloc, ["5.000000000e+00", "1.500000000e+01"])?;
     let report = b"ember-mesh: step 0.005, grid offset 1500 1500 1500\n\
-        ember-mesh: a.b.stl: 12 triangles, 0 vanished, 0 without area; closed\n\
-        ember-mesh: b.a.stl: 12 triangles, 0 vanished, 0 without area; closed\n";
+        ember-mesh: a.b.stl: 12 triangles, 0 vanished, 0 without area; \
+        greatest move 0 (nothing moved); closed\n\
+        ember-mesh: b.a.stl: 12 triangles, 0 vanished, 0 without area; \
+        greatest move 0 (nothing moved); closed\n";
     let solid = Solid {
         triangles: 24,
         positions: 14,
@@ -73,7 +75,8 @@ fn where_a_mesh_winds_twice(rt: HostRuntime) -> Result<(), Fail> {
     };
     let words = "bool --expr w1>=2 -o out.stl a.obj";
     let report = b"ember-mesh: step 0.005, grid offset 1400 1400 1400\n\
-        ember-mesh: a.obj: 24 triangles, 0 vanished, 0 without area; closed\n";
+        ember-mesh: a.obj: 24 triangles, 0 vanished, 0 without area; \
+        greatest move 0 (nothing moved); closed\n";
     check(&rt, rt.alloc(), words, &[("a.obj", NESTED)], report, solid)
 }
 
@@ -105,7 +108,7 @@ fn a_spike_that_vanishes_on_a_coarse_grid(rt: HostRuntime) -> Result<(), Fail> {
     };
     let words = "union --step 1 -o out.stl a.obj";
     let report = b"ember-mesh: step 1, grid offset 0 0 0\n\
-        ember-mesh: a.obj: 22 triangles, 8 vanished, 0 without area; closed\n";
+        ember-mesh: a.obj: 22 triangles, 8 vanished, 0 without area; greatest move 0.3; closed\n";
     check(&rt, rt.alloc(), words, &[("a.obj", SPIKE)], report, solid)
 }
 
@@ -119,8 +122,10 @@ fn a_mesh_without_itself_is_empty(rt: HostRuntime) -> Result<(), Fail> {
     };
     let words = "difference -o out.stl a.obj a.obj";
     let report = b"ember-mesh: step 0.005, grid offset 0 0 0\n\
-        ember-mesh: a.obj: 12 triangles, 0 vanished, 0 without area; closed\n\
-        ember-mesh: a.obj: 12 triangles, 0 vanished, 0 without area; closed\n\
+        ember-mesh: a.obj: 12 triangles, 0 vanished, 0 without area; \
+        greatest move 0 (nothing moved); closed\n\
+        ember-mesh: a.obj: 12 triangles, 0 vanished, 0 without area; \
+        greatest move 0 (nothing moved); closed\n\
         ember-mesh: the result is empty\n\
         ember-mesh: 0 faces -> 0 triangles in 0 planes; 0 vanished; \
         0 edges of more than two triangles\n";

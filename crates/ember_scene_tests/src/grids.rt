@@ -55,8 +55,8 @@ pub fn surface_of(alloc: Global, bytes: &[u8]) -> Result<Surface<'_>, Fail>
     Ok(surface)
 }
 
-// The grid of a scene with one surface.
-fn grid_for(alloc: Global, surface: &Surface, wanted: Wanted) -> Result<Grid, GridFault>
+/// The grid of a scene with one surface.
+pub fn grid_for(alloc: Global, surface: &Surface, wanted: Wanted) -> Result<Grid, GridFault>
     requires within { IsWithinLimit surface.now }
     requires choice { IsChoice wanted }
     ensures step { IfOk result (λ grid. IsStep grid.step) }

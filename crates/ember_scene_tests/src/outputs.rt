@@ -250,9 +250,14 @@ fn all_kept(triangles: u64) -> Counts {
     }
 }
 
-// The files have these counts. The mesh has nine planes and 24 triangles, which are all in the STL.
+// The files have these counts, and no corner moved. The mesh has nine planes and 24 triangles, which
+// are all in the STL.
 fn check(rt: &impl Abort, output: &Output, counts: &[Counts]) {
     assert_eq!(rt; output.counts.as_slice(), counts);
+    assert_eq!(rt; output.moves.len(), counts.len());
+    for length in &output.moves {
+        assert_eq!(rt; length.size, 0);
+    }
     assert_eq!(rt; output.planes, 9);
     assert_eq!(rt; output.triangles, 24);
     assert_eq!(rt; (output.vanished, output.shared), (0, 0));

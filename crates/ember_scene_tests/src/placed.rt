@@ -77,6 +77,11 @@ fn three_surfaces_are_three_meshes(rt: HostRuntime) -> Result<(), Fail> {
     assert_eq!(rt; found.grid, grid_with(5, 1000, [0, 0, 0]));
     let want = [counts(4, 0, 0), counts(4, 2, 0), counts(4, 0, 1)];
     assert_eq!(rt; found.counts.as_slice(), want.as_slice());
+    let sizes = [250_000_000, 173_205_081, 141_421_357];
+    assert_eq!(rt; found.moves.len(), sizes.len());
+    for (length, size) in found.moves.iter().zip(sizes.iter()) {
+        assert_eq!(rt; (length.size, length.places), (*size, 11));
+    }
     assert_eq!(rt; found.scene.meshes, 3);
     let tris = found.scene.tris.items();
     let meshes = [1, 1, 1, 1, 2, 2, 3, 3, 3, 3];

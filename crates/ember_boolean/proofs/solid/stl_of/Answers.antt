@@ -33,7 +33,7 @@ pub returns-clause-output : goal.returns-clause-output
 returns-clause-output g c =
     let formula = formula_of c.args.expr.now in
     let made = c.output_of.ensures in
-    output_is c.args.files.now formula c.args.wanted c.in_ok-mesh.mesh c.in_ok-placed.placed c.in_ok-placed.ensures.placed c.in_ok-mesh.ensures.mesh c.in_ok-mesh.ensures.report c.output_of.result made.grid made.counts made.report made.stl
+    output_is c.args.files.now formula c.args.wanted c.in_ok-mesh.mesh c.in_ok-placed.placed c.in_ok-placed.ensures.placed c.in_ok-mesh.ensures.mesh c.in_ok-mesh.ensures.report c.output_of.result made.grid made.counts made.moves made.report made.stl
 
 pub returns-clause-fault : goal.returns-clause-fault
 returns-clause-fault g c =

@@ -1,0 +1,5 @@
+pub mod Fineness
+pub mod AxisMoves
+pub mod GreatestSquares
+pub mod Lengths
+pub mod MoveLists
