@@ -15,10 +15,7 @@ pub struct IndexedMesh {
 }
 
 // The index of the point among the points, where it goes last if it is new.
-fn vertex_at(
-    points: &mut IndexSet<DecimalPoint>,
-    point: DecimalPoint,
-) -> Result<usize, AllocError>
+fn vertex_at(points: &mut IndexSet<DecimalPoint>, point: DecimalPoint) -> Result<usize, AllocError>
     ensures points { OnOk result (points.new.keys ≡ with_point points.old.keys point) }
     ensures index { IfOk result (λ n. n ≡ index_of points.old.keys point) }
 {
