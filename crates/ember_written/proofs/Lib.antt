@@ -3,3 +3,5 @@ pub mod Ratios
 pub mod Points
 pub mod Proper
 pub mod Signs
+pub mod Kept
+pub mod StepPlaces

@@ -1,7 +1,10 @@
-//! Corners in the user's unit, as the numbers that files have: triangles of floats, and decimals.
+//! Corners in the user's unit, as the numbers that files have: triangles of floats and of decimals.
 #![tactic(auto)]
 
+mod decimal_points;
+mod decimal_triangles;
 mod decimals;
+mod digits;
 mod fault;
 mod floats;
 mod laws;
@@ -10,10 +13,13 @@ mod places;
 mod ratio;
 mod triangles;
 
+pub use decimal_points::decimal_place;
+pub use decimal_triangles::decimal_mesh;
 pub use decimals::put_place;
+pub use digits::written_places;
 pub use fault::PlaceFault;
 pub use floats::float_place;
-pub use laws::proper_triangles_have_corners;
+pub use laws::{proper_triangles_have_corners, units_have_the_nearest_decimal};
 pub use places::exact_place;
 pub use ratio::Ratio;
 pub use triangles::{float_triangles, have_corners};
