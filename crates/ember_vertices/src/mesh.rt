@@ -1,7 +1,7 @@
 // Triangles over vertices.
-ghost use Rattle.std.specs.Prelude.{◌≡◌, [], ◌∷◌, ◌++◌, List, IfOk, OnOk};
+ghost use Rattle.std.specs.Prelude.{◌≡◌, [], ◌∷◌, ◌++◌, List, map, IfOk, OnOk};
 ghost use Rattle.ember_vertices.specs.declared.point.DecimalTriangle.{DecimalTriangle};
-ghost use Rattle.ember_vertices.specs.Vertices.{with_point, index_of, IsMeshOf};
+ghost use Rattle.ember_vertices.specs.Vertices.{with_point, vertices_of, index_of, indexed, IsMeshOf};
 
 use crate::point::{DecimalPoint, DecimalTriangle, IndexedTriangle};
 use indexmap::IndexSet;
@@ -48,14 +48,15 @@ impl IndexedMesh {
 
     /// The points of the vertices.
     pub fn vertices(&self) -> &[DecimalPoint]
-        ensures { result.now ≡ self.now.points.keys }
+        ensures { (ts : List DecimalTriangle) → IsMeshOf ts self.now → result.now ≡ vertices_of ts }
     {
         self.points.as_slice()
     }
 
     /// The triangles, in order.
     pub fn triangles(&self) -> &[IndexedTriangle]
-        ensures { result.now ≡ self.now.triangles.items }
+        ensures { (ts : List DecimalTriangle) → IsMeshOf ts self.now →
+            result.now ≡ map (indexed (vertices_of ts)) ts }
     {
         &self.triangles
     }
