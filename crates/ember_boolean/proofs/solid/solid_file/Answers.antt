@@ -7,7 +7,7 @@ use Rattle.ember_solid_mesh.specs.Meshes.{IsSolidMesh}
 use Rattle.ember_boolean.specs.Faults.{IsBooleanFault, of_solid_fault}
 use Rattle.ember_boolean.proofs.Refusals.{passed_on, placing_fault_is, solid_fault_is, writing_fault_is}
 use Rattle.ember_boolean.proofs.Outputs.{output_is}
-use Rattle.ember_boolean.proofs.solid.stl_of.Goals as goal
+use Rattle.ember_boolean.proofs.solid.solid_file.Goals as goal
 
 pub returns-in_err-placed-clause-fault : goal.returns-in_err-placed-clause-fault
 returns-in_err-placed-clause-fault g c =
@@ -33,7 +33,7 @@ pub returns-clause-output : goal.returns-clause-output
 returns-clause-output g c =
     let formula = formula_of c.args.expr.now in
     let made = c.output_of.ensures in
-    output_is c.args.files.now formula c.args.wanted c.in_ok-mesh.mesh c.in_ok-placed.placed c.in_ok-placed.ensures.placed c.in_ok-mesh.ensures.mesh c.in_ok-mesh.ensures.report c.output_of.result made.grid made.counts made.report made.stl
+    output_is c.args.files.now formula c.args.wanted c.in_ok-mesh.mesh c.in_ok-placed.placed c.in_ok-placed.ensures.placed c.in_ok-mesh.ensures.mesh c.in_ok-mesh.ensures.report c.output_of.result made.grid made.counts made.report made.written
 
 pub returns-clause-fault : goal.returns-clause-fault
 returns-clause-fault g c =
