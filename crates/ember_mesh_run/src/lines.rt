@@ -1,13 +1,13 @@
 // The line on standard error of a request that isn't met, or of words that are refused.
 ghost use Rattle.std.specs.Prelude.{◌≡◌, ◌++◌, ◌+◌, ◌<◌, codes, decimal, map, IfOk, OnOk, string_bytes};
 ghost use Rattle.ember_snap.specs.Steps.{IsStep};
-ghost use Rattle.ember_mesh_run.specs.Lines.{IsShown, expr_text, file_text, line, noun_of, open_text, place_text, plane_without, refusal_text, solid_text, step_text, why_of, word_text, word_at};
+ghost use Rattle.ember_mesh_run.specs.Lines.{IsShown, expr_text, file_text, line, noun_of, open_text, place_text, plane_without, refusal_text, solid_text, step_text, too_far_text, why_of, word_text, word_at};
 
 use crate::status::Status;
 use crate::texts::{line, name_among, put_corner, put_count, put_step, wanted_text};
 use ember_expr::ExprFault;
 use ember_format::Format;
-use ember_mesh_words::{Refusal, Request};
+use ember_mesh_words::{OutputFormat, Refusal, Request};
 use ember_model::OutOfMemory;
 use ember_scene::Open;
 use ember_snap::Step;
@@ -15,8 +15,6 @@ use ember_solid_mesh::SolidFault;
 use ember_triangles::TrianglesFault;
 use ember_words::Texts;
 use std::alloc::Global;
-
-const ONLY_STL: &[u8] = b": only .stl is written so far";
 
 const NO_GRID_STEP: &[u8] =
     b": no grid has this step; give at most 12 digits and 12 decimal places";
@@ -32,8 +30,11 @@ const TOO_MANY_WRITTEN: &[u8] =
 
 const COARSER_STEP: &[u8] = b": the scene needs a step of at least ";
 
-const TOO_FAR: &[u8] =
+const TOO_FAR_FOR_STL: &[u8] =
     b"a corner of the result is too far from 0 for STL; move the meshes to the origin";
+
+const TOO_FAR_FOR_DECIMALS: &[u8] =
+    b"a corner of the result is 10^21 or more from 0; move the meshes to the origin";
 
 // Appends why a word is refused.
 fn put_word(word: &[u8], why: &[u8], text: &mut Vec<u8>) -> Result<(), OutOfMemory>
@@ -225,6 +226,16 @@ fn put_finest(given: &[u8], finest: &Step, text: &mut Vec<u8>) -> Result<(), Out
     put_step(finest, text)
 }
 
+// Why a corner can't be written in this format.
+fn too_far_text(format: OutputFormat) -> &'static [u8]
+    ensures { result.now ≡ too_far_text format }
+{
+    match format {
+        OutputFormat::Stl => TOO_FAR_FOR_STL,
+        OutputFormat::Obj | OutputFormat::Ply | OutputFormat::Off => TOO_FAR_FOR_DECIMALS,
+    }
+}
+
 // Appends why a request isn't met.
 fn put_why(request: &Request, status: &Status, text: &mut Vec<u8>) -> Result<(), OutOfMemory>
     requires { IsShown status.now }
@@ -235,7 +246,6 @@ fn put_why(request: &Request, status: &Status, text: &mut Vec<u8>) -> Result<(),
     let step = wanted_text(&request.step);
     match status {
         Status::Done | Status::Words(_) => Ok(()),
-        Status::UnwrittenFormat => put_value(b"-o ", output, ONLY_STL, text),
         Status::StepOfNoGrid => put_value(b"--step ", step, NO_GRID_STEP, text),
         Status::ReadFault(number) => put_file(files, *number, b"cannot be read", text),
         Status::WriteFault => put_value(b"cannot write ", output, b"", text),
@@ -248,7 +258,7 @@ fn put_why(request: &Request, status: &Status, text: &mut Vec<u8>) -> Result<(),
         Status::TooManyTriangles(count) => put_too_many(*count, text),
         Status::TooManyWritten => text.extend_from_slice(TOO_MANY_WRITTEN),
         Status::StepTooSmall(finest) => put_finest(step, finest, text),
-        Status::TooFar => text.extend_from_slice(TOO_FAR),
+        Status::TooFar => text.extend_from_slice(too_far_text(request.format)),
         Status::OutOfMemory => text.extend_from_slice(b"out of memory"),
         Status::Uncertified(fault) => put_solid_fault(fault, text),
     }
