@@ -1,5 +1,5 @@
--- The STL of a mesh, and the output that it belongs to
-use Rattle.std.proofs.Common.{◌≡◌, ◌≤◌, Bool, true, false, not, List, map, length, Result, Ok, Err, IfOk, refl, sym, subst, ap, ◌∙◌, arith}
+-- The file of a mesh, and the output that it belongs to
+use Rattle.std.proofs.Common.{◌≡◌, ◌≤◌, ℕ, Bool, true, false, not, List, map, length, Result, Ok, Err, IfOk, refl, sym, subst, ap, ◌∙◌, arith}
 use Rattle.std.specs.List.{All, list_all}
 use Rattle.std.proofs.lemmas.List.{length-map}
 use Rattle.std.proofs.lemmas.List.Filters.{length-filter_both}
@@ -7,7 +7,6 @@ use Rattle.ember_certificate.specs.declared.space_point.SpacePoint.{SpacePoint}
 use Rattle.ember_certificate.specs.declared.triangle.Triangle.{Triangle}
 use Rattle.ember_certificate.specs.Certificate.{IsProper}
 use Rattle.ember_expr.specs.Formula.{Formula}
-use Rattle.ember_grid.specs.declared.choice.Wanted.{Wanted}
 use Rattle.ember_grid.specs.declared.grid.Grid.{Grid}
 use Rattle.ember_model.specs.declared.plane.Plane.{Plane}
 use Rattle.ember_model.specs.declared.tri.Tri.{Tri}
@@ -22,15 +21,30 @@ use Rattle.ember_solid_mesh.specs.declared.mesh.SolidMesh.{SolidMesh}
 use Rattle.ember_solid_mesh.specs.Meshes.{IsSolidMesh}
 use Rattle.ember_stl_bytes.specs.declared.triangle.WrittenTriangle.{WrittenTriangle}
 use Rattle.ember_surface.specs.declared.surface.Surface.{Surface}
+use Rattle.ember_mesh_text.specs.declared.format.TextFormat.{TextFormat}
+use Rattle.ember_mesh_text.specs.Texts.{text_of}
+use Rattle.ember_vertices.specs.declared.point.DecimalPoint.{DecimalPoint}
+use Rattle.ember_vertices.specs.declared.point.DecimalTriangle.{DecimalTriangle}
+use Rattle.ember_vertices.specs.declared.point.IndexedTriangle.{IndexedTriangle}
+use Rattle.ember_vertices.specs.Vertices.{vertices_of, indexed}
+use Rattle.ember_written.specs.Decimals.{decimal_point}
+use Rattle.ember_written.specs.DecimalTriangles.{decimal_triangles}
+use Rattle.ember_written.specs.DecimalTriangles as decimal
 use Rattle.ember_written.specs.Triangles.{has_corners, vanishes, kept, triangle_at, AreWritten}
-use Rattle.ember_written.specs.Closed.{AreWrittenClosed}
+use Rattle.ember_written.specs.Closed.{AreRoundAndClosed, AreIndicesClosed}
+use Rattle.ember_written.specs.Digits.{written_places}
+use Rattle.ember_written.specs.Shared.{IsSharedIndexCount}
 use Rattle.ember_written.proofs.Proper.{proper_corners}
 use Rattle.ember_written.proofs.WrittenClosed.{certified_are_closed, written_are_closed}
+use Rattle.ember_written.proofs.DecimalsClosed.{decimals_are_closed, indices_are_closed}
 use Rattle.ember_boolean.specs.declared.fault.BooleanFault.{BooleanFault}
 use Rattle.ember_boolean.specs.declared.files.MeshFile.{MeshFile}
+use Rattle.ember_boolean.specs.declared.wanted.MeshFormat.{MeshFormat}
+use Rattle.ember_boolean.specs.declared.wanted.MeshFormat.TheVariants.{Stl, Text}
+use Rattle.ember_boolean.specs.declared.wanted.WantedFile.{WantedFile}
 use Rattle.ember_boolean.specs.declared.writing.Output.{Output}
 use Rattle.ember_boolean.specs.Files.{ArePlaced, IsPlaced}
-use Rattle.ember_boolean.specs.Outputs.{AreRounded, IsStl, IsOutput}
+use Rattle.ember_boolean.specs.Outputs.{AreRounded, over_vertices, text_over, IsStl, IsText, IsWritten, IsClosedStl, IsClosedText, IsClosedAs, IsOutput}
 
 twice : (b : Bool) → b ≡ not (not b)
 twice true = refl
@@ -62,34 +76,83 @@ mesh_is_rounded grid mesh written {planes} {corners} {triangles} a b d h =
     let on_corners : AreWritten grid.step grid.offset mesh.planes.items mesh.corners.items triangles written = subst (λ (cs : List SpacePoint). AreWritten grid.step grid.offset mesh.planes.items cs triangles written) b on_planes in
     subst (λ (ts : List Triangle). AreWritten grid.step grid.offset mesh.planes.items mesh.corners.items ts written) d on_corners
 
--- the triangles of the STL of a solid's mesh are closed
-stl_is_closed : (grid : Grid) (tris : List Tri) (formula : Formula) (mesh : SolidMesh) (out : Output) → IsSolidMesh tris formula mesh → (stl : IsStl grid mesh out) → AreWrittenClosed stl.written
-stl_is_closed grid tris formula mesh out solid stl =
-    let round = certified_are_closed mesh.planes.items mesh.corners.items solid.tables.segments.items mesh.triangles.items solid.cut.certified in
-    written_are_closed grid.step grid.offset mesh.planes.items mesh.corners.items mesh.triangles.items stl.written stl.rounded round
+-- ---- texts
+decimals_are_fewer : (ts : List DecimalTriangle) → length (decimal.kept ts) ≤ length ts
+decimals_are_fewer ts =
+    let e = length-filter_both (λ t. not (decimal.vanishes t)) decimal.vanishes (λ t. twice (decimal.vanishes t)) ts in omega (arith, e)
+
+-- no more triangles of decimals are written than there are
+pub fewer_decimals : (places : ℕ) (s : Step) (o : Offset) (corners : List SpacePoint) (ts : List Triangle) → length (decimal_triangles places s o corners ts) ≤ length ts
+fewer_decimals places s o corners ts =
+    let f = decimal.triangle_at (map (decimal_point places s o) corners) in
+    let n = length-map ts f in
+    let k = decimals_are_fewer (map f ts) in
+    omega (arith, n, k)
+
+-- as many as of lists that equal those of the mesh
+pub as_many_decimals : (places many : ℕ) (s : Step) (o : Offset) (corners cs : List SpacePoint) (triangles ts : List Triangle) → places ≡ many → cs ≡ corners → ts ≡ triangles → length (decimal_triangles places s o cs ts) ≡ length (decimal_triangles many s o corners triangles)
+as_many_decimals places many s o corners cs triangles ts a b d =
+    λ i. length (decimal_triangles (a i) s o (b i) (d i))
+
+-- as many are shown as are written
+pub shown_are_written : (ts : List DecimalTriangle) (shown : List IndexedTriangle) → shown ≡ map (indexed (vertices_of ts)) ts → length shown ≡ length ts
+shown_are_written ts shown e = ap length e ∙ length-map ts (indexed (vertices_of ts))
+
+-- the bytes are the text of the mesh, by lists that equal those of the mesh
+pub bytes_are_text : (format : TextFormat) (places many : ℕ) (s : Step) (o : Offset) (corners cs : List SpacePoint) (triangles ts : List Triangle) (points : List DecimalPoint) (shown : List IndexedTriangle) (bytes : List ℕ) → places ≡ many → cs ≡ corners → ts ≡ triangles → points ≡ vertices_of (decimal_triangles places s o cs ts) → shown ≡ map (indexed (vertices_of (decimal_triangles places s o cs ts))) (decimal_triangles places s o cs ts) → bytes ≡ text_of format places points shown → bytes ≡ text_over format many (decimal_triangles many s o corners triangles)
+bytes_are_text format places many s o corners cs triangles ts points shown bytes a b d e f h =
+    h
+    ∙ (λ i. text_of format places (e i) (f i))
+    ∙ (λ i. text_over format (a i) (decimal_triangles (a i) s o (b i) (d i)))
+
+-- the edges of more than two triangles are those of the mesh, by lists that equal those of the mesh
+pub shared_of_mesh : (places many : ℕ) (s : Step) (o : Offset) (corners cs : List SpacePoint) (triangles ts : List Triangle) (shown : List IndexedTriangle) (count : ℕ) → places ≡ many → cs ≡ corners → ts ≡ triangles → shown ≡ over_vertices (decimal_triangles places s o cs ts) → (AreIndicesClosed shown → IsSharedIndexCount shown count) → AreIndicesClosed (over_vertices (decimal_triangles many s o corners triangles)) → IsSharedIndexCount (over_vertices (decimal_triangles many s o corners triangles)) count
+shared_of_mesh places many s o corners cs triangles ts shown count a b d e h =
+    subst (λ (us : List IndexedTriangle). AreIndicesClosed us → IsSharedIndexCount us count) (e ∙ (λ i. over_vertices (decimal_triangles (a i) s o (b i) (d i)))) h
+
+-- ---- closed files
+-- the triangles of a solid's mesh are closed before they are rounded
+mesh_is_closed : (tris : List Tri) (formula : Formula) (mesh : SolidMesh) → IsSolidMesh tris formula mesh → AreRoundAndClosed mesh.triangles.items
+mesh_is_closed tris formula mesh solid =
+    certified_are_closed mesh.planes.items mesh.corners.items solid.tables.segments.items mesh.triangles.items solid.cut.certified
+
+-- and so are those of its STL
+stl_is_closed : (grid : Grid) (mesh : SolidMesh) (out : Output) → AreRoundAndClosed mesh.triangles.items → IsStl grid mesh out → IsClosedStl grid mesh out
+stl_is_closed grid mesh out round stl =
+    let closed = written_are_closed grid.step grid.offset mesh.planes.items mesh.corners.items mesh.triangles.items stl.written stl.rounded round in
+    record { stl = stl; closed = closed; shared = stl.shared closed }
+
+-- and of its text
+text_is_closed : (format : TextFormat) (digits : Option ℕ) (grid : Grid) (mesh : SolidMesh) (out : Output) → AreRoundAndClosed mesh.triangles.items → IsText format digits grid mesh out → IsClosedText format digits grid mesh out
+text_is_closed format digits grid mesh out round text = record {
+  text = text;
+  closed = decimals_are_closed (written_places digits grid.step) grid.step grid.offset mesh.corners.items mesh.triangles.items round;
+  shared = text.shared (indices_are_closed (written_places digits grid.step) grid.step grid.offset mesh.corners.items mesh.triangles.items round);
+}
+
+file_is_closed : (format : MeshFormat) (grid : Grid) (mesh : SolidMesh) (out : Output) → AreRoundAndClosed mesh.triangles.items → IsWritten format grid mesh out → IsClosedAs format grid mesh out
+file_is_closed Stl grid mesh out round stl = stl_is_closed grid mesh out round stl
+file_is_closed (Text format digits) grid mesh out round text = text_is_closed format digits grid mesh out round text
 
 -- ---- outputs
-module _ (files : List MeshFile) (formula : Formula) (wanted : Wanted) (mesh : SolidMesh) where
-  output_on : (surfaces : List Surface) (out : Output) (grid : Grid) → out.grid ≡ grid → ArePlaced files wanted surfaces grid → out.counts.items ≡ map (counts_on grid) surfaces → AreMoves grid surfaces out.moves.items → IsSolidMesh (images_of grid surfaces) formula mesh → IsSolidReport (images_of grid surfaces) formula out.report → IsStl grid mesh out → IsOutput files formula wanted out
-  output_on surfaces out grid e are counts moves solid report stl =
-      let on_grid : IsStl out.grid mesh out = subst (λ (g : Grid). IsStl g mesh out) (sym e) stl in
-      let is_closed = stl_is_closed out.grid (images_of grid surfaces) formula mesh out solid on_grid in
+module _ (files : List MeshFile) (formula : Formula) (wanted : WantedFile) (mesh : SolidMesh) where
+  output_on : (surfaces : List Surface) (out : Output) (grid : Grid) → out.grid ≡ grid → ArePlaced files wanted.grid surfaces grid → out.counts.items ≡ map (counts_on grid) surfaces → AreMoves grid surfaces out.moves.items → IsSolidMesh (images_of grid surfaces) formula mesh → IsSolidReport (images_of grid surfaces) formula out.report → IsWritten wanted.format grid mesh out → IsOutput files formula wanted out
+  output_on surfaces out grid e are counts moves solid report written =
+      let round = mesh_is_closed (images_of grid surfaces) formula mesh solid in
       record {
         surfaces = surfaces;
-        are_placed = subst (ArePlaced files wanted surfaces) (sym e) are;
+        are_placed = subst (ArePlaced files wanted.grid surfaces) (sym e) are;
         counts = subst (λ (g : Grid). out.counts.items ≡ map (counts_on g) surfaces) (sym e) counts;
         moves = subst (λ (g : Grid). AreMoves g surfaces out.moves.items) (sym e) moves;
         mesh = mesh;
         solid = subst (λ (g : Grid). IsSolidMesh (images_of g surfaces) formula mesh) (sym e) solid;
         report = subst (λ (g : Grid). IsSolidReport (images_of g surfaces) formula out.report) (sym e) report;
-        stl = on_grid;
-        closed = is_closed;
-        shared = on_grid.shared is_closed;
+        written = subst (λ (g : Grid). IsClosedAs wanted.format g mesh out) (sym e) (file_is_closed wanted.format grid mesh out round written);
       }
 
-  -- the STL of the mesh of the files' scene is an output for them
-  pub output_is : (placed : Placed) (is : IsPlaced files wanted placed) → IsSolidMesh placed.scene.tris formula mesh → IsSolidReport placed.scene.tris formula mesh.report → (result : Result Output BooleanFault) → IfOk result (λ out. out.grid ≡ placed.grid) → IfOk result (λ out. out.counts.items ≡ placed.counts.items) → IfOk result (λ out. out.moves.items ≡ placed.moves.items) → IfOk result (λ out. out.report ≡ mesh.report) → IfOk result (IsStl placed.grid mesh) → IfOk result (IsOutput files formula wanted)
-  output_is placed is solid report (Ok out) grid counts moves numbers stl =
+  -- the file of the mesh of the files' scene is an output for them
+  pub output_is : (placed : Placed) (is : IsPlaced files wanted.grid placed) → IsSolidMesh placed.scene.tris formula mesh → IsSolidReport placed.scene.tris formula mesh.report → (result : Result Output BooleanFault) → IfOk result (λ out. out.grid ≡ placed.grid) → IfOk result (λ out. out.counts.items ≡ placed.counts.items) → IfOk result (λ out. out.moves.items ≡ placed.moves.items) → IfOk result (λ out. out.report ≡ mesh.report) → IfOk result (IsWritten wanted.format placed.grid mesh) → IfOk result (IsOutput files formula wanted)
+  output_is placed is solid report (Ok out) grid counts moves numbers written =
       let of_images : IsSolidReport (images_of placed.grid is.surfaces) formula mesh.report = subst (λ (ts : List Tri). IsSolidReport ts formula mesh.report) is.tris report in
-      output_on is.surfaces out placed.grid grid is.are_placed (counts ∙ is.counts) (subst (λ (ls : List Length). AreMoves placed.grid is.surfaces ls) (sym moves) is.moves) (subst (λ (ts : List Tri). IsSolidMesh ts formula mesh) is.tris solid) (subst (IsSolidReport (images_of placed.grid is.surfaces) formula) (sym numbers) of_images) stl
-  output_is placed is solid report (Err fault) grid counts moves numbers stl = tt
+      output_on is.surfaces out placed.grid grid is.are_placed (counts ∙ is.counts) (subst (λ (ls : List Length). AreMoves placed.grid is.surfaces ls) (sym moves) is.moves) (subst (λ (ts : List Tri). IsSolidMesh ts formula mesh) is.tris solid) (subst (IsSolidReport (images_of placed.grid is.surfaces) formula) (sym numbers) of_images) written
+  output_is placed is solid report (Err fault) grid counts moves numbers written = tt

@@ -8,6 +8,8 @@ use Rattle.ember_format.specs.declared.format.Format.TheVariants as formats
 use Rattle.ember_grid.specs.declared.extent.Extent.{Extent}
 use Rattle.ember_grid.specs.declared.grid.Grid.{Grid}
 use Rattle.ember_grid.specs.Lengths.{trillion}
+use Rattle.ember_mesh_words.specs.declared.command.OutputFormat.{OutputFormat}
+use Rattle.ember_mesh_words.specs.declared.command.OutputFormat.TheVariants as output
 use Rattle.ember_mesh_words.specs.declared.command.Request.{Request}
 use Rattle.ember_mesh_words.specs.declared.command.WantedStep.{WantedStep}
 use Rattle.ember_mesh_words.specs.declared.command.WantedStep.TheVariants as step
@@ -25,13 +27,12 @@ use Rattle.ember_solid_mesh.specs.declared.fault.SolidFault.TheVariants as solid
 use Rattle.ember_triangles.specs.declared.fault.TrianglesFault.TheVariants as mesh
 use Rattle.ember_written.specs.Decimals.{decimal_of}
 use Rattle.ember_mesh_run.specs.declared.status.Status.{Status}
-use Rattle.ember_mesh_run.specs.declared.status.Status.TheVariants.{Done, Words, UnwrittenFormat, StepOfNoGrid, ReadFault, WriteFault, FileRefused, NoTriangles, NotClosed, ExprRefused, Unbounded, LongFile, TooManyTriangles, TooManyWritten, StepTooSmall, TooFar, OutOfMemory, Uncertified}
+use Rattle.ember_mesh_run.specs.declared.status.Status.TheVariants.{Done, Words, StepOfNoGrid, ReadFault, WriteFault, FileRefused, NoTriangles, NotClosed, ExprRefused, Unbounded, LongFile, TooManyTriangles, TooManyWritten, StepTooSmall, TooFar, OutOfMemory, Uncertified}
 
 -- the exit status
 abbrev pub number_of : Status → ℕ
 number_of Done = 0
 number_of (Words why) = 2
-number_of UnwrittenFormat = 2
 number_of StepOfNoGrid = 2
 number_of (ReadFault i) = 3
 number_of WriteFault = 4
@@ -179,12 +180,18 @@ not_found_text None = codes "triangles of the result not found"
 abbrev pub solid_text : SolidFault → List ℕ
 solid_text fault = not_found_text (plane_without fault)
 
+-- ---- corners
+-- a corner is too far out for the numbers of this format
+abbrev pub too_far_text : OutputFormat → List ℕ
+too_far_text output.Stl =
+    codes "a corner of the result is too far from 0 for STL; move the meshes to the origin"
+too_far_text format = codes "a corner of the result is 10^21 or more from 0; move the meshes to the origin"
+
 -- ---- all of them
 -- why a request isn't met
 abbrev pub why_of : Request → Status → List ℕ
 why_of request Done = []
 why_of request (Words why) = []
-why_of request UnwrittenFormat = codes "-o " ++ (request.output ++ codes ": only .stl is written so far")
 why_of request StepOfNoGrid =
     codes "--step " ++ (wanted_text request.step ++
     codes ": no grid has this step; give at most 12 digits and 12 decimal places")
@@ -203,7 +210,7 @@ why_of request (StepTooSmall extent) =
     codes "--step " ++ (wanted_text request.step ++
     (codes ": the scene is " ++ (length_text extent ++
     (codes " long, which needs a step of at least " ++ step_text extent.finest))))
-why_of request TooFar = codes "a corner of the result is too far from 0 for STL; move the meshes to the origin"
+why_of request TooFar = too_far_text request.format
 why_of request OutOfMemory = codes "out of memory"
 why_of request (Uncertified fault) = solid_text fault
 

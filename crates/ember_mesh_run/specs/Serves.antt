@@ -17,7 +17,7 @@ use Rattle.ember_mesh_run.specs.declared.status.Status.{Status}
 use Rattle.ember_mesh_run.specs.declared.status.Status.TheVariants.{Done, Words, WriteFault, OutOfMemory}
 
 -- ---- a Boolean
--- the name of the output holds the STL of the solid, whose triangles are closed, and each other name what it held; err
+-- the name of the output holds the file of the solid, whose triangles are closed, and each other name what it held; err
 -- takes the report
 pub record WritesSolid (request : Request) (shelf : ShelfCall) (target : TargetCall) (text : List ℕ) : Type 0 where
   pub output : Output

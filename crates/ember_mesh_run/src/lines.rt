@@ -2,14 +2,14 @@
 ghost use Rattle.std.specs.Prelude.{◌≡◌, ◌++◌, ◌+◌, ◌<◌, codes, decimal, map, IfOk, OnOk, string_bytes};
 ghost use Rattle.ember_mesh_words.specs.Given.{output_given, step_given};
 ghost use Rattle.ember_snap.specs.Steps.{IsStep};
-ghost use Rattle.ember_mesh_run.specs.Lines.{IsShown, expr_text, file_text, length_text, line, noun_of, open_text, place_text, plane_without, refusal_text, solid_text, step_text, why_of, word_text, word_at};
+ghost use Rattle.ember_mesh_run.specs.Lines.{IsShown, expr_text, file_text, length_text, line, noun_of, open_text, place_text, plane_without, refusal_text, solid_text, step_text, too_far_text, why_of, word_text, word_at};
 
 use crate::status::Status;
 use crate::texts::{line, name_among, put_corner, put_count, put_length, put_step, wanted_text};
 use ember_expr::ExprFault;
 use ember_format::Format;
 use ember_grid::Extent;
-use ember_mesh_words::{Refusal, Request, output_given, step_given};
+use ember_mesh_words::{OutputFormat, Refusal, Request, output_given, step_given};
 use ember_model::OutOfMemory;
 use ember_scene::Open;
 use ember_solid_mesh::SolidFault;
@@ -20,8 +20,6 @@ use std::alloc::Global;
 const OUTPUT_ENDING: &[u8] = b": the name must end in .stl, .obj, .ply or .off";
 
 const NOT_A_STEP: &[u8] = b": not a number above 0";
-
-const ONLY_STL: &[u8] = b": only .stl is written so far";
 
 const NO_GRID_STEP: &[u8] =
     b": no grid has this step; give at most 12 digits and 12 decimal places";
@@ -39,8 +37,11 @@ const SCENE_IS: &[u8] = b": the scene is ";
 
 const COARSER_STEP: &[u8] = b" long, which needs a step of at least ";
 
-const TOO_FAR: &[u8] =
+const TOO_FAR_FOR_STL: &[u8] =
     b"a corner of the result is too far from 0 for STL; move the meshes to the origin";
+
+const TOO_FAR_FOR_DECIMALS: &[u8] =
+    b"a corner of the result is 10^21 or more from 0; move the meshes to the origin";
 
 // Appends why a word is refused.
 fn put_word(word: &[u8], why: &[u8], text: &mut Vec<u8>) -> Result<(), OutOfMemory>
@@ -256,6 +257,16 @@ fn put_extent(given: &[u8], extent: &Extent, text: &mut Vec<u8>) -> Result<(), O
     put_step(&extent.finest, text)
 }
 
+// Why a corner can't be written in this format.
+fn too_far_text(format: OutputFormat) -> &'static [u8]
+    ensures { result.now ≡ too_far_text format }
+{
+    match format {
+        OutputFormat::Stl => TOO_FAR_FOR_STL,
+        OutputFormat::Obj | OutputFormat::Ply | OutputFormat::Off => TOO_FAR_FOR_DECIMALS,
+    }
+}
+
 // Appends why a request isn't met.
 fn put_why(request: &Request, status: &Status, text: &mut Vec<u8>) -> Result<(), OutOfMemory>
     requires { IsShown status.now }
@@ -266,7 +277,6 @@ fn put_why(request: &Request, status: &Status, text: &mut Vec<u8>) -> Result<(),
     let step = wanted_text(&request.step);
     match status {
         Status::Done | Status::Words(_) => Ok(()),
-        Status::UnwrittenFormat => put_value(b"-o ", output, ONLY_STL, text),
         Status::StepOfNoGrid => put_value(b"--step ", step, NO_GRID_STEP, text),
         Status::ReadFault(number) => put_file(files, *number, b"cannot be read", text),
         Status::WriteFault => put_value(b"cannot write ", output, b"", text),
@@ -279,7 +289,7 @@ fn put_why(request: &Request, status: &Status, text: &mut Vec<u8>) -> Result<(),
         Status::TooManyTriangles(count) => put_too_many(*count, text),
         Status::TooManyWritten => text.extend_from_slice(TOO_MANY_WRITTEN),
         Status::StepTooSmall(extent) => put_extent(step, extent, text),
-        Status::TooFar => text.extend_from_slice(TOO_FAR),
+        Status::TooFar => text.extend_from_slice(too_far_text(request.format)),
         Status::OutOfMemory => text.extend_from_slice(b"out of memory"),
         Status::Uncertified(fault) => put_solid_fault(fault, text),
     }

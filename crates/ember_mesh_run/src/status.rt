@@ -18,8 +18,6 @@ pub enum Status {
     Done,
     /// The words are refused.
     Words(Refusal),
-    /// The name of the output ends as a format that isn't written yet.
-    UnwrittenFormat,
     /// The value of `--step` is a decimal above 0, but no grid can have it as its step.
     StepOfNoGrid,
     /// The file can't be read.
@@ -47,7 +45,7 @@ pub enum Status {
     /// The meshes don't fit on a grid with the given step. They are so long, and this is the finest
     /// step with which they fit.
     StepTooSmall(Extent),
-    /// A corner of the result is too far from 0 for the numbers of an STL.
+    /// A corner of the result is too far from 0 for the numbers of the output's format.
     TooFar,
     OutOfMemory,
     /// No certified triangles were found for the result. It isn't proved that this never happens.
@@ -61,7 +59,7 @@ impl Status {
     {
         match self {
             Status::Done => 0,
-            Status::Words(_) | Status::UnwrittenFormat | Status::StepOfNoGrid => 2,
+            Status::Words(_) | Status::StepOfNoGrid => 2,
             Status::ReadFault(_) => 3,
             Status::WriteFault => 4,
             Status::FileRefused(_, _) | Status::NoTriangles => 5,

@@ -2,7 +2,7 @@
 use crate::boxes::{
     BESIDE, HIGH, INSIDE_OUT, LOW, LOW_FLOATS, NESTED, RIGHT, SPIKE, ascii_stl, binary_stl,
 };
-use crate::cases::{Named, give};
+use crate::cases::{BEFORE, Named, give};
 use crate::solids::{Solid, solid_in};
 use std::alloc::Global;
 use std::process::Abort;
@@ -155,5 +155,58 @@ fn no_report_is_made_if_none_is_wanted(rt: HostRuntime) -> Result<(), Fail> {
     assert_eq!(rt; given.status.number(), 0);
     assert_eq!(rt; given.err.bytes().len(), 0);
     assert_eq!(rt; given.bytes().len(), 84 + 12 * 50);
+    Ok(())
+}
+
+// The output in a format of text begins so, and the program reads its solid again.
+fn check_text<R: Abort + Threads + Wait + Sync>(
+    rt: &R,
+    alloc: Global,
+    line: &str,
+    files: Named,
+    name: &str,
+    beginning: &[u8],
+    solid: Solid,
+) -> Result<(), Fail> {
+    let given = give(rt, alloc, line, files)?;
+    assert_eq!(rt; given.status.number(), 0, "{line}");
+    assert_eq!(rt; given.bytes(), BEFORE);
+    let text = given.held(name);
+    assert!(rt; text.starts_with(beginning), "{line}");
+    let again = give(rt, alloc, "union -o out.stl mesh", &[("mesh", text)])?;
+    assert_eq!(rt; again.status.number(), 0, "{line}");
+    assert_eq!(rt; solid_in(alloc, again.bytes())?, solid, "{line}");
+    Ok(())
+}
+
+#[test]
+fn solids_as_text(rt: HostRuntime) -> Result<(), Fail> {
+    let solid = Solid {
+        triangles: 24,
+        positions: 14,
+        six_volumes: 6 * 875,
+    };
+    let rows: [(&str, &str, &[u8]); 3] = [
+        (
+            "difference -o out.obj a.obj b.obj",
+            "out.obj",
+            b"# ember-mesh: rounded from an exact result\nv ",
+        ),
+        (
+            "difference --digits 0 -o out.ply a.obj b.obj",
+            "out.ply",
+            b"ply\nformat ascii 1.0\ncomment ember-mesh: rounded from an exact result\n\
+            element vertex 14\n",
+        ),
+        (
+            "difference -o out.off --digits=17 a.obj b.obj",
+            "out.off",
+            b"OFF\n14 24 0\n",
+        ),
+    ];
+    let files: Named = &[("a.obj", LOW), ("b.obj", HIGH)];
+    for (line, name, beginning) in rows {
+        check_text(&rt, rt.alloc(), line, files, name, beginning, solid)?;
+    }
     Ok(())
 }

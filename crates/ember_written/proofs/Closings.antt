@@ -1,4 +1,5 @@
--- Closed triangles stay closed under a map of their corners to positions, without those of which two positions are equal
+-- Closed triangles stay closed under a map of their corners to positions, without triangles of which two positions are
+-- equal
 use Rattle.std.proofs.Common.{◌≡◌, ◌⊎◌, inl, inr, ℕ, ◌+◌, Bool, true, false, cond, not, ◌&&◌, ◌||◌, List, [], ◌∷◌, map, filter, ℤ, pos, ◌+ℤ◌, ◌-ℤ◌, neg_ℤ, refl, sym, ap, subst, ◌∙◌, arith}
 use borrow.Author.Differences.{ints}
 use Rattle.std.specs.List.{All}
@@ -28,10 +29,6 @@ reversed_edge same p q u v = ap once (and_swapped (same q u) (same p v))
 -- two of its positions are equal
 abbrev pub vanishing : {P : Type 0} → (P → P → Bool) → Positions P → Bool
 vanishing same t = same t.a t.b || (same t.b t.c || same t.c t.a)
-
--- the triangles with three different positions
-abbrev pub others : {P : Type 0} → (P → P → Bool) → List (Positions P) → List (Positions P)
-others same ts = filter (λ t. not (vanishing same t)) ts
 
 module _ {P : Type 0} (same : P → P → Bool) (sound : (x y : P) → same x y ≡ true → x ≡ y) where
   -- how many of the edges from a to b, to c and back to a run from p to q
@@ -74,14 +71,19 @@ module _ {P : Type 0} (same : P → P → Bool) (sound : (x y : P) → same x y 
       first (inl e) = subst (λ (d : P). IsEven a d c) (sound a b e) (even_first a c)
       first (inr e) = second (or_cases (same b c) (same c a) e)
 
-  -- without them the surplus of each edge is the same
-  pub same_surplus : (p q : P) (ts : List (Positions P)) → edges_between same p q ts + edges_between same q p (others same ts) ≡ edges_between same q p ts + edges_between same p q (others same ts)
-  same_surplus p q [] = refl
-  same_surplus p q (t ∷ ts) = by (vanishing same t) refl (same_surplus p q ts)
-    where
-      by : (b : Bool) → vanishing same t ≡ b → edges_between same p q ts + edges_between same q p (others same ts) ≡ edges_between same q p ts + edges_between same p q (others same ts) → edges_between same p q (t ∷ ts) + edges_between same q p (cond (not b) (t ∷ others same ts) (others same ts)) ≡ edges_between same q p (t ∷ ts) + edges_between same p q (cond (not b) (t ∷ others same ts) (others same ts))
-      by true h r = let e = even t.a t.b t.c h p q in omega (arith, r, e)
-      by false h r = omega (arith, r)
+  -- without triangles that vanish the surplus of each edge is the same
+  module _ {T : Type 0} (f : T → Positions P) (gone : T → Bool) (vanish : (t : T) → gone t ≡ true → vanishing same (f t) ≡ true) where
+    abbrev others : List T → List T
+    others ts = filter (λ t. not (gone t)) ts
+
+    pub same_surplus : (p q : P) (ts : List T) → edges_between same p q (map f ts) + edges_between same q p (map f (others ts)) ≡ edges_between same q p (map f ts) + edges_between same p q (map f (others ts))
+    same_surplus p q [] = refl
+    same_surplus p q (t ∷ ts) = by (gone t) refl (same_surplus p q ts)
+      where
+        by : (b : Bool) → gone t ≡ b → edges_between same p q (map f ts) + edges_between same q p (map f (others ts)) ≡ edges_between same q p (map f ts) + edges_between same p q (map f (others ts)) → edges_between same p q (f t ∷ map f ts) + edges_between same q p (map f (cond (not b) (t ∷ others ts) (others ts))) ≡ edges_between same q p (f t ∷ map f ts) + edges_between same p q (map f (cond (not b) (t ∷ others ts) (others ts)))
+        by true h r =
+            let u = f t in let e = even u.a u.b u.c (vanish t h) p q in omega (arith, r, e)
+        by false h r = omega (arith, r)
 
 -- ---- all triangles under a map
 -- each edge ends where the next one starts
@@ -153,11 +155,11 @@ module _ {P : Type 0} (same : P → P → Bool) (position : ℕ → P) where
       let none = closed_cancels (surplus p q) (surplus_is_odd p q) (edges_in ts) h.closed in
       equal_from (edges_between same p q images) (edges_between same q p images) (sum ∙ none)
 
-  -- the law
-  pub map_keeps_closed : ((x y : P) → same x y ≡ true → x ≡ y) → (ts : List Triangle) → AreRoundAndClosed ts → AreTrianglesClosed same (others same (map (at_positions position) ts))
-  map_keeps_closed sound ts h = record {
+  -- the law, of the triangles that aren't gone; each triangle that is gone has two equal positions
+  pub map_keeps_closed : ((x y : P) → same x y ≡ true → x ≡ y) → (gone : Triangle → Bool) → ((t : Triangle) → gone t ≡ true → vanishing same (at_positions position t) ≡ true) → (ts : List Triangle) → AreRoundAndClosed ts → AreTrianglesClosed same (map (at_positions position) (filter (λ t. not (gone t)) ts))
+  map_keeps_closed sound gone vanish ts h = record {
     each = λ p q.
         let all = images_are_even p q ts h in
-        let rest = same_surplus same sound p q (map (at_positions position) ts) in
+        let rest = same_surplus same sound (at_positions position) gone vanish p q ts in
         omega (arith, all, rest);
   }

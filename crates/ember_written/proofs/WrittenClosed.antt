@@ -1,5 +1,5 @@
 -- Written triangles are closed if the triangles before rounding are
-use Rattle.std.proofs.Common.{◌≡◌, Bool, true, false, cond, not, List, [], ◌∷◌, map, get_or, refl, sym, ap, subst, ◌∙◌}
+use Rattle.std.proofs.Common.{◌≡◌, Bool, true, false, cond, not, List, [], ◌∷◌, map, filter, get_or, refl, sym, ap, subst, ◌∙◌}
 use Rattle.std.proofs.lemmas.Bool.{and_parts, eqb-true}
 use Rattle.ember_model.specs.declared.plane.Plane.{Plane}
 use Rattle.ember_snap.specs.declared.steps.Step.{Step}
@@ -12,7 +12,7 @@ use Rattle.ember_certificate.specs.declared.triangle.Triangle.{Triangle}
 use Rattle.ember_certificate.specs.Certificate.{leads_round, is_in_one_plane, IsProper, IsCertified}
 use Rattle.ember_written.specs.Triangles.{point_at, triangle_at, same_point, vanishes, kept, AreWritten}
 use Rattle.ember_written.specs.Closed.{AreRoundAndClosed, Positions, AreTrianglesClosed, positions_of, AreWrittenClosed}
-use Rattle.ember_written.proofs.Closings.{others, at_positions, map_keeps_closed}
+use Rattle.ember_written.proofs.Closings.{at_positions, map_keeps_closed}
 
 -- ---- certified triangles
 leads_on : (ps : List Plane) (cs : List SpacePoint) (t : Triangle) → IsProper ps cs t → leads_round t ≡ true
@@ -36,19 +36,25 @@ one_point p q h =
     λ i. record { x = x i; y = y i; z = z i }
 
 module _ (planes : List Plane) (points : List FloatPoint) where
+  abbrev gone : Triangle → Bool
+  gone t = vanishes (triangle_at planes points t)
+
+  abbrev others : List Triangle → List Triangle
+  others ts = filter (λ t. not (gone t)) ts
+
   -- the positions of the triangles that are kept
-  kept_positions : (ts : List Triangle) → map positions_of (kept (map (triangle_at planes points) ts)) ≡ others same_point (map (at_positions (point_at points)) ts)
+  kept_positions : (ts : List Triangle) → map positions_of (kept (map (triangle_at planes points) ts)) ≡ map (at_positions (point_at points)) (others ts)
   kept_positions [] = refl
-  kept_positions (t ∷ ts) = by (vanishes (triangle_at planes points t)) (kept_positions ts)
+  kept_positions (t ∷ ts) = by (gone t) (kept_positions ts)
     where
-      by : (b : Bool) → map positions_of (kept (map (triangle_at planes points) ts)) ≡ others same_point (map (at_positions (point_at points)) ts) → map positions_of (cond (not b) (triangle_at planes points t ∷ kept (map (triangle_at planes points) ts)) (kept (map (triangle_at planes points) ts))) ≡ cond (not b) (at_positions (point_at points) t ∷ others same_point (map (at_positions (point_at points)) ts)) (others same_point (map (at_positions (point_at points)) ts))
+      by : (b : Bool) → map positions_of (kept (map (triangle_at planes points) ts)) ≡ map (at_positions (point_at points)) (others ts) → map positions_of (cond (not b) (triangle_at planes points t ∷ kept (map (triangle_at planes points) ts)) (kept (map (triangle_at planes points) ts))) ≡ map (at_positions (point_at points)) (cond (not b) (t ∷ others ts) (others ts))
       by true r = r
       by false r = ap (λ (us : List (Positions FloatPoint)). at_positions (point_at points) t ∷ us) r
 
   -- what is kept of closed triangles is closed
   pub kept_are_closed : (ts : List Triangle) (ws : List WrittenTriangle) → ws ≡ kept (map (triangle_at planes points) ts) → AreRoundAndClosed ts → AreWrittenClosed ws
   kept_are_closed ts ws e h =
-      subst (λ (us : List (Positions FloatPoint)). AreTrianglesClosed same_point us) (sym (ap (map positions_of) e ∙ kept_positions ts)) (map_keeps_closed same_point (point_at points) one_point ts h)
+      subst (λ (us : List (Positions FloatPoint)). AreTrianglesClosed same_point us) (sym (ap (map positions_of) e ∙ kept_positions ts)) (map_keeps_closed same_point (point_at points) one_point gone (λ t v. v) ts h)
 
 -- the same, by the definition of written triangles
 pub written_are_closed : (s : Step) (o : Offset) (planes : List Plane) (cs : List SpacePoint) (ts : List Triangle) (ws : List WrittenTriangle) → AreWritten s o planes cs ts ws → AreRoundAndClosed ts → AreWrittenClosed ws

@@ -1,7 +1,11 @@
 -- Closed triangles, by the positions of their corners
-use Rattle.std.specs.Prelude.{◌≡◌, ℕ, ◌+◌, Bool, true, ◌&&◌, if◌then◌else◌, List, [], ◌∷◌, map, All}
+use Rattle.std.specs.Prelude.{◌≡◌, ℕ, ◌+◌, nat_eq, Bool, true, ◌&&◌, if◌then◌else◌, List, [], ◌∷◌, map, All}
 use Rattle.ember_stl_bytes.specs.declared.triangle.FloatPoint.{FloatPoint}
 use Rattle.ember_stl_bytes.specs.declared.triangle.WrittenTriangle.{WrittenTriangle}
+use Rattle.ember_vertices.specs.declared.point.DecimalPoint.{DecimalPoint}
+use Rattle.ember_vertices.specs.declared.point.DecimalTriangle.{DecimalTriangle}
+use Rattle.ember_vertices.specs.declared.point.IndexedTriangle.{IndexedTriangle}
+use Rattle.ember_vertices.specs.Vertices as vertices
 use Rattle.ember_certificate.specs.declared.triangle.Triangle.{Triangle}
 use Rattle.ember_certificate.specs.Certificate.{leads_round, edges_in}
 use Rattle.ember_certificate.specs.Closed.{AreSegmentsClosed}
@@ -42,3 +46,19 @@ positions_of t = record { a = t.a; b = t.b; c = t.c }
 -- the written triangles are closed: corners with equal coordinates have one position
 abbrev pub AreWrittenClosed : List WrittenTriangle → Type 0
 AreWrittenClosed ws = AreTrianglesClosed same_point (map positions_of ws)
+
+-- ---- positions of decimals
+abbrev pub decimal_positions : DecimalTriangle → Positions DecimalPoint
+decimal_positions t = record { a = t.a; b = t.b; c = t.c }
+
+-- the triangles of decimals are closed: equal points are one position
+abbrev pub AreDecimalsClosed : List DecimalTriangle → Type 0
+AreDecimalsClosed ts = AreTrianglesClosed vertices.same_point (map decimal_positions ts)
+
+-- ---- vertices
+abbrev pub indices_of : IndexedTriangle → Positions ℕ
+indices_of t = record { a = t.a; b = t.b; c = t.c }
+
+-- the triangles over vertices are closed: each vertex is a position of its own
+abbrev pub AreIndicesClosed : List IndexedTriangle → Type 0
+AreIndicesClosed ts = AreTrianglesClosed nat_eq (map indices_of ts)

@@ -1,8 +1,8 @@
 // Edges of more than two triangles.
 ghost use Rattle.std.specs.Prelude.{◌≡◌, ◌∷◌, [], ◌++◌, not, List, IfOk, OnOk};
 ghost use Rattle.ember_written.specs.declared.shared.EdgeKey.{EdgeKey};
-ghost use Rattle.ember_written.specs.Closed.{AreWrittenClosed};
-ghost use Rattle.ember_written.specs.Shared.{is_lower, key_between, has_key, with_key, rising, rising_edges, AreNoted, IsSharedCount};
+ghost use Rattle.ember_written.specs.Closed.{positions_of, AreWrittenClosed};
+ghost use Rattle.ember_written.specs.Shared.{is_lower, key_between, same_ends, has_key, with_key, rising, rising_edges, AreNoted, IsSharedCount};
 
 use ember_stl_bytes::{FloatPoint, WrittenTriangle};
 use indexmap::IndexSet;
@@ -48,8 +48,8 @@ fn key_between(from: &FloatPoint, to: &FloatPoint) -> EdgeKey
 
 // Puts the key into the set, and returns whether it is new there.
 fn put(set: &mut IndexSet<EdgeKey>, key: EdgeKey) -> Result<bool, AllocError>
-    ensures keys { OnOk result (set.new.keys ≡ with_key set.old.keys key) }
-    ensures is_new { IfOk result (λ is_new. is_new ≡ not (has_key set.old.keys key)) }
+    ensures keys { OnOk result (set.new.keys ≡ with_key same_ends set.old.keys key) }
+    ensures is_new { IfOk result (λ is_new. is_new ≡ not (has_key same_ends set.old.keys key)) }
 {
     let is_new = set.insert(key)?;
     Ok(is_new)
@@ -69,7 +69,7 @@ impl Edges {
     // Notes an edge that occurs again.
     fn add_again(&mut self, key: EdgeKey) -> Result<(), AllocError>
         ensures once { OnOk result (self.new.once.keys ≡ self.old.once.keys) }
-        ensures again { OnOk result (self.new.again.keys ≡ with_key self.old.again.keys key) }
+        ensures again { OnOk result (self.new.again.keys ≡ with_key same_ends self.old.again.keys key) }
     {
         put(&mut self.again, key)?;
         Ok(())
@@ -77,8 +77,9 @@ impl Edges {
 
     // Notes an edge.
     fn add(&mut self, key: EdgeKey) -> Result<(), AllocError>
-        ensures { OnOk result ((keys : List EdgeKey) → AreNoted keys self.old.once.keys self.old.again.keys →
-            AreNoted (keys ++ key ∷ []) self.new.once.keys self.new.again.keys) }
+        ensures { OnOk result ((keys : List EdgeKey) →
+            AreNoted same_ends keys self.old.once.keys self.old.again.keys →
+            AreNoted same_ends (keys ++ key ∷ []) self.new.once.keys self.new.again.keys) }
     {
         let is_new = put(&mut self.once, key)?;
         if is_new {
@@ -89,8 +90,10 @@ impl Edges {
 
     // Notes an edge if its start comes before its end.
     fn add_rising(&mut self, from: &FloatPoint, to: &FloatPoint) -> Result<(), AllocError>
-        ensures { OnOk result ((keys : List EdgeKey) → AreNoted keys self.old.once.keys self.old.again.keys →
-            AreNoted (keys ++ rising from.now to.now) self.new.once.keys self.new.again.keys) }
+        ensures { OnOk result ((keys : List EdgeKey) →
+            AreNoted same_ends keys self.old.once.keys self.old.again.keys →
+            AreNoted same_ends (keys ++ rising is_lower key_between from.now to.now)
+                self.new.once.keys self.new.again.keys) }
     {
         if is_lower(from, to) {
             return self.add(key_between(from, to));
@@ -100,8 +103,10 @@ impl Edges {
 
     // Notes those edges of the triangle whose start comes before their end.
     fn add_triangle(&mut self, t: &WrittenTriangle) -> Result<(), AllocError>
-        ensures { OnOk result ((keys : List EdgeKey) → AreNoted keys self.old.once.keys self.old.again.keys →
-            AreNoted (keys ++ rising_edges (t.now ∷ [])) self.new.once.keys self.new.again.keys) }
+        ensures { OnOk result ((keys : List EdgeKey) →
+            AreNoted same_ends keys self.old.once.keys self.old.again.keys →
+            AreNoted same_ends (keys ++ rising_edges is_lower key_between (positions_of t.now ∷ []))
+                self.new.once.keys self.new.again.keys) }
     {
         self.add_rising(&t.a, &t.b)?;
         self.add_rising(&t.b, &t.c)?;

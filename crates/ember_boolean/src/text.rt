@@ -1,0 +1,74 @@
+// The OBJ, PLY or OFF of a mesh.
+ghost use Rattle.std.specs.Prelude.{◌≡◌, ◌≤◌, All, IfOk, IfErr, IfSome};
+ghost use Rattle.ember_certificate.specs.Certificate.{IsProper};
+ghost use Rattle.ember_snap.specs.Steps.{IsStep};
+ghost use Rattle.ember_boolean.specs.declared.wanted.MeshFormat.TheVariants.{Text};
+ghost use Rattle.ember_boolean.specs.Outputs.{IsText};
+ghost use Rattle.ember_boolean.specs.Faults.{IsWritingFault};
+
+use crate::fault::BooleanFault;
+use crate::writing::Output;
+use ember_grid::Grid;
+use ember_mesh_text::{TextFormat, mesh_text};
+use ember_moves::Length;
+use ember_scene::Counts;
+use ember_solid_mesh::SolidMesh;
+use ember_written::{decimal_mesh, shared_edges_by_index, written_places};
+use std::alloc::Global;
+
+// The text of a mesh on a grid. The mesh isn't kept while its bytes are made.
+pub(crate) fn text_output<'a>(
+    alloc: Global,
+    mesh: SolidMesh,
+    grid: Grid,
+    counts: Vec<Counts>,
+    moves: Vec<Length>,
+    format: TextFormat,
+    digits: Option<u32>,
+) -> Result<Output, BooleanFault<'a>>
+    requires step { IsStep grid.step }
+    requires proper { All (IsProper mesh.planes.items mesh.corners.items) mesh.triangles.items }
+    requires digits { IfSome digits (λ n. n ≤ 17) }
+    ensures grid { IfOk result (λ out. out.grid ≡ grid) }
+    ensures counts { IfOk result (λ out. out.counts.items ≡ counts.items) }
+    ensures moves { IfOk result (λ out. out.moves.items ≡ moves.items) }
+    ensures report { IfOk result (λ out. out.report ≡ mesh.report) }
+    ensures text { IfOk result (IsText format digits grid mesh) }
+    ensures fault { IfErr result (IsWritingFault (Text format digits) grid mesh) }
+{
+    let SolidMesh {
+        planes,
+        corners,
+        triangles,
+        report,
+    } = mesh;
+    let places = written_places(digits, &grid.step);
+    let written = decimal_mesh(
+        alloc,
+        &corners,
+        &triangles,
+        &grid.step,
+        &grid.offset,
+        places,
+    )?;
+    let plane_count = planes.len() as u64;
+    let triangle_count = triangles.len() as u64;
+    let faces = written.triangles();
+    let vanished = triangle_count - faces.len() as u64;
+    drop(planes);
+    drop(corners);
+    drop(triangles);
+    let shared = shared_edges_by_index(alloc, faces)?;
+    let bytes = mesh_text(alloc, format, written.vertices(), faces, places)?;
+    Ok(Output {
+        bytes,
+        grid,
+        counts,
+        moves,
+        planes: plane_count,
+        triangles: triangle_count,
+        vanished,
+        shared,
+        report,
+    })
+}
