@@ -1,0 +1,5 @@
+pub mod Edges
+pub mod Classes
+pub mod Turns
+pub mod Walls
+pub mod Splits

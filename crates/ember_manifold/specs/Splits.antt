@@ -1,0 +1,20 @@
+-- Meshes whose vertices are doubled
+use Rattle.std.specs.Prelude.{◌≡◌, ℕ, ◌<◌, List, ◌++◌, Some, slice_get}
+use Rattle.ember_vertices.specs.declared.point.IndexedTriangle.{IndexedTriangle}
+
+-- the corners are among so many vertices
+pub record IsTriangleAmong (vertices : ℕ) (t : IndexedTriangle) : Type 0 where
+  pub a : t.a < vertices
+  pub b : t.b < vertices
+  pub c : t.c < vertices
+
+-- the corners of the new triangle are at the vertices of the old one
+pub record IsSplitOf (origins : List ℕ) (new old : IndexedTriangle) : Type 0 where
+  pub a : slice_get origins new.a ≡ Some old.a
+  pub b : slice_get origins new.b ≡ Some old.b
+  pub c : slice_get origins new.c ≡ Some old.c
+
+-- the one list begins the other
+pub record Continues (before after : List ℕ) : Type 0 where
+  pub more : List ℕ
+  pub is : after ≡ before ++ more
