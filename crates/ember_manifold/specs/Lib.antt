@@ -3,3 +3,4 @@ pub mod Classes
 pub mod Turns
 pub mod Walls
 pub mod Splits
+pub mod Paired

@@ -1,6 +1,7 @@
 //! Doubles vertices where parts of a mesh only touch, so that each edge has two triangles.
 #![tactic(auto)]
 
+mod check;
 mod classes;
 mod edges;
 mod pairing;
@@ -9,4 +10,4 @@ mod split;
 mod turns;
 mod walls;
 
-pub use split::{SplitMesh, split_vertices};
+pub use split::{CheckedSplit, SplitMesh, split_vertices};

@@ -1,11 +1,12 @@
 // Meshes whose vertices are doubled.
-ghost use Rattle.std.specs.Prelude.{◌≡◌, ◌+◌, ◌*◌, ◌^◌, ◌<◌, [], ◌∷◌, ◌++◌, Some, All, length, slice_get, IfOk, OnOk};
-ghost use Rattle.std.specs.List.{AllZip};
+ghost use Rattle.std.specs.Prelude.{◌≡◌, ◌+◌, ◌*◌, ◌^◌, ◌<◌, [], ◌∷◌, ◌++◌, true, Some, All, length, slice_get, IfOk, OnOk};
 ghost use Rattle.ember_model.specs.Valid.{IsValidPlane};
 ghost use Rattle.ember_vertices.specs.declared.point.IndexedTriangle.{IndexedTriangle};
 ghost use Rattle.ember_manifold.specs.Classes.{LeadBack};
-ghost use Rattle.ember_manifold.specs.Splits.{IsTriangleAmong, IsSplitOf, Continues};
+ghost use Rattle.ember_manifold.specs.Paired.{IsManifold};
+ghost use Rattle.ember_manifold.specs.Splits.{IsTriangleAmong, IsSplitOf, AreSplitOf, Continues};
 
+use crate::check::is_paired;
 use crate::classes::{own_classes, root};
 use crate::edges::sorted_edges;
 use crate::pairing::join_all;
@@ -19,6 +20,13 @@ pub struct SplitMesh {
     /// The vertex of the other mesh at which each vertex is.
     pub origins: Vec<usize>,
     pub triangles: Vec<IndexedTriangle>,
+}
+
+/// A split mesh, and whether each of its edges has two triangles.
+#[derive(Drop)]
+pub struct CheckedSplit {
+    pub mesh: SplitMesh,
+    pub is_manifold: bool,
 }
 
 // The vertex of a class at this origin. It is put last if the class has none yet.
@@ -89,7 +97,7 @@ fn split_by(
 ) -> Result<SplitMesh, AllocError>
     requires back { LeadBack parents.old }
     requires count { length parents.old ≡ 3 * length triangles.now }
-    ensures { IfOk result (λ split. AllZip (IsSplitOf split.origins.items) split.triangles.items triangles.now) }
+    ensures { IfOk result (λ split. AreSplitOf split triangles.now) }
 {
     let mut vertices = no_vertices(alloc, parents.len())?;
     let mut split = SplitMesh {
@@ -102,10 +110,19 @@ fn split_by(
     Ok(split)
 }
 
+// Whether each edge of the triangles has two of them.
+fn has_two_each(alloc: Global, triangles: &[IndexedTriangle]) -> Result<bool, AllocError>
+    requires { 3 * length triangles.now < 2 ^ 64 }
+    ensures { IfOk result (λ is_manifold. is_manifold ≡ true → IsManifold triangles.now) }
+{
+    let edges = sorted_edges(alloc, triangles)?;
+    Ok(is_paired(&edges))
+}
+
 /// The same triangles over vertices of which some are doubled. Triangles with a common edge share
 /// the vertices of the edge if no others have it, or if solid lies between them; corners that aren't
-/// joined so are vertices of their own. So each vertex has one ring of triangles, and an edge has two
-/// triangles unless a ring is pinched along it.
+/// joined so are vertices of their own. So each vertex has one ring of triangles, and each edge has two
+/// triangles unless a ring is pinched along it; whether each has is part of the result.
 ///
 /// `numbers` has the number of each triangle's plane. Each corner is one of the vertices. There are
 /// fewer than 2^60 triangles.
@@ -115,14 +132,17 @@ pub fn split_vertices(
     numbers: &[u32],
     vertices: &[DecimalPoint],
     triangles: &[IndexedTriangle],
-) -> Result<SplitMesh, AllocError>
+) -> Result<CheckedSplit, AllocError>
     requires planes { All IsValidPlane planes.now }
     requires triangles { All (IsTriangleAmong (length vertices.now)) triangles.now }
     requires few { length triangles.now < 2 ^ 60 }
-    ensures { IfOk result (λ split. AllZip (IsSplitOf split.origins.items) split.triangles.items triangles.now) }
+    ensures corners { IfOk result (λ split. AreSplitOf split.mesh triangles.now) }
+    ensures manifold { IfOk result (λ split. split.is_manifold ≡ true → IsManifold split.mesh.triangles.items) }
 {
     let edges = sorted_edges(alloc, triangles)?;
     let mut parents = own_classes(alloc, 3 * triangles.len())?;
     join_all(alloc, planes, numbers, vertices, &edges, &mut parents)?;
-    split_by(alloc, triangles, &mut parents)
+    let mesh = split_by(alloc, triangles, &mut parents)?;
+    let is_manifold = has_two_each(alloc, &mesh.triangles)?;
+    Ok(CheckedSplit { mesh, is_manifold })
 }
