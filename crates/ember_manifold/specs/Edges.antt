@@ -1,5 +1,5 @@
 -- The edges of triangles
-use Rattle.std.specs.Prelude.{ℕ, ◌+◌, ◌-◌, ◌%◌, ◌<◌, ◌==◌, true, false, nat_lt, if◌then◌else◌, List, [], ◌∷◌, ◌++◌}
+use Rattle.std.specs.Prelude.{ℕ, ◌+◌, true, false, nat_lt, if◌then◌else◌, List, [], ◌∷◌, ◌++◌}
 use Rattle.ember_vertices.specs.declared.point.IndexedTriangle.{IndexedTriangle}
 use Rattle.ember_manifold.specs.declared.edges.HalfEdge.{HalfEdge}
 
@@ -18,13 +18,3 @@ edges_of first t = half_edge t.a t.b first ∷ half_edge t.b t.c (first + 1) ∷
 abbrev pub edges_from : ℕ → List IndexedTriangle → List HalfEdge
 edges_from first [] = []
 edges_from first (t ∷ ts) = edges_of first t ++ edges_from (first + 3) ts
-
--- the corner at which the edge ends that starts at this one
-abbrev pub next_corner : ℕ → ℕ
-next_corner corner = if corner % 3 == 2 then corner - 2 else corner + 1
-
--- the edge is between two of so many vertices, and starts at one of so many corners
-pub record IsEdgeAmong (vertices corners : ℕ) (e : HalfEdge) : Type 0 where
-  pub low : e.low < vertices
-  pub high : e.high < vertices
-  pub corner : e.corner < corners

@@ -1,5 +1,4 @@
 pub mod Edges
-pub mod Classes
 pub mod Turns
 pub mod Walls
 pub mod Splits

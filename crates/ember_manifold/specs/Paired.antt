@@ -16,11 +16,14 @@ abbrev pub is_earlier_than_all : HalfEdge → List HalfEdge → Bool
 is_earlier_than_all e [] = true
 is_earlier_than_all e (f ∷ fs) = is_earlier e f
 
+abbrev pub is_first_pair : HalfEdge → HalfEdge → List HalfEdge → Bool
+is_first_pair e f es = is_pair e f && is_earlier_than_all e es
+
 -- pairs, each between later vertices than those before it
 abbrev pub is_paired : List HalfEdge → Bool
 is_paired [] = true
 is_paired (e ∷ []) = false
-is_paired (e ∷ f ∷ es) = is_pair e f && (is_earlier_than_all e es && is_paired es)
+is_paired (e ∷ f ∷ es) = is_first_pair e f es && is_paired es
 
 -- each edge of the triangles has two of them, which lead along it in opposite directions
 pub record IsManifold (ts : List IndexedTriangle) : Type 0 where

@@ -1,14 +1,8 @@
 -- Meshes whose vertices are doubled
-use Rattle.std.specs.Prelude.{◌≡◌, ℕ, ◌<◌, List, ◌++◌, Some, slice_get}
+use Rattle.std.specs.Prelude.{◌≡◌, ℕ, List, ◌++◌, Some, slice_get}
 use Rattle.std.specs.List.{AllZip}
 use Rattle.ember_vertices.specs.declared.point.IndexedTriangle.{IndexedTriangle}
 use Rattle.ember_manifold.specs.declared.split.SplitMesh.{SplitMesh}
-
--- the corners are among so many vertices
-pub record IsTriangleAmong (vertices : ℕ) (t : IndexedTriangle) : Type 0 where
-  pub a : t.a < vertices
-  pub b : t.b < vertices
-  pub c : t.c < vertices
 
 -- the corners of the new triangle are at the vertices of the old one
 pub record IsSplitOf (origins : List ℕ) (new old : IndexedTriangle) : Type 0 where

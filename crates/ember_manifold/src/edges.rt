@@ -52,7 +52,7 @@ fn push_edges(
 }
 
 fn all_edges(alloc: Global, triangles: &[IndexedTriangle]) -> Result<Vec<HalfEdge>, AllocError>
-    requires { 3 * length triangles.now < 2 ^ 64 }
+    requires { length triangles.now < 2 ^ 60 }
     ensures { IfOk result (λ edges. edges.items ≡ edges_from 0 triangles.now) }
 {
     let mut edges = Vec::with_capacity(alloc, 3 * triangles.len())?;
@@ -68,7 +68,7 @@ pub fn sorted_edges(
     alloc: Global,
     triangles: &[IndexedTriangle],
 ) -> Result<Vec<HalfEdge>, AllocError>
-    requires { 3 * length triangles.now < 2 ^ 64 }
+    requires { length triangles.now < 2 ^ 60 }
     ensures { IfOk result (λ edges. IsPermutation (edges_from 0 triangles.now) edges.items) }
 {
     let mut edges = all_edges(alloc, triangles)?;

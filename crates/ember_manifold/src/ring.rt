@@ -1,28 +1,28 @@
 // The walls of an edge, and which of them have solid between them.
-ghost use Rattle.std.specs.Prelude.{◌≡◌, ◌+◌, ◌%◌, ◌^◌, ◌<◌, ℕ, All, length, IfOk, IfSome};
-ghost use Rattle.ember_model.specs.Valid.{IsValidPlane};
-ghost use Rattle.ember_manifold.specs.Classes.{LeadBack};
-ghost use Rattle.ember_manifold.specs.Edges.{next_corner};
-ghost use Rattle.ember_manifold.specs.Walls.{IsWall};
+ghost use Rattle.ember_manifold.specs.Turns.{IsNormal};
 
 use crate::classes::join;
 use crate::edges::HalfEdge;
-use crate::turns::normal_of;
+use crate::turns::{Normal, normal_of, opposite};
 use crate::walls::{Wall, insert};
 use ember_model::Plane;
 use ember_vertices::DecimalPoint;
 use std::alloc::{AllocError, Global};
 
-// The wall of an edge, by the plane of its triangle.
-fn wall_of(planes: &[Plane], numbers: &[u32], edge: &HalfEdge) -> Option<Wall>
-    requires { All IsValidPlane planes.now }
-    ensures wall { IfSome result IsWall }
-    ensures corner { IfSome result (λ wall. wall.corner ≡ edge.now.corner) }
+// The normal of a triangle as if its edge led forward.
+fn facing(normal: Normal, is_back: bool) -> Normal
+    requires { IsNormal normal }
+    ensures { IsNormal result }
 {
+    if is_back { opposite(&normal) } else { normal }
+}
+
+// The wall of an edge, by the plane of its triangle.
+fn wall_of(planes: &[Plane], numbers: &[u32], edge: &HalfEdge) -> Option<Wall> {
     let number = *numbers.get(edge.corner / 3)?;
-    let plane = planes.get(number as usize)?;
+    let normal = normal_of(planes.get(number as usize)?)?;
     Some(Wall {
-        normal: normal_of(plane, edge.is_back),
+        normal: facing(normal, edge.is_back),
         is_back: edge.is_back,
         corner: edge.corner,
     })
@@ -37,56 +37,37 @@ fn ring_of(
     u: &DecimalPoint,
     v: &DecimalPoint,
     edges: &[HalfEdge],
-) -> Result<Vec<Wall>, AllocError>
-    requires { All IsValidPlane planes.now }
-    ensures walls { IfOk result (λ walls. All IsWall walls.items) }
-    ensures corners { (n : ℕ) → All (λ edge. edge.corner < n) edges.now →
-        IfOk result (λ walls. All (λ wall. wall.corner < n) walls.items) }
-{
+) -> Result<Vec<Wall>, AllocError> {
     let mut walls = Vec::with_capacity(alloc, edges.len())?;
     let mut first = None;
     for edge in edges {
-        let Some(wall) = wall_of(planes, numbers, edge) else {
-            continue;
-        };
-        let begin = match first {
-            Some(begin) => begin,
-            None => wall,
-        };
-        first = Some(begin);
-        insert(u, v, &begin, &mut walls, wall)?;
+        if let Some(wall) = wall_of(planes, numbers, edge) {
+            let begin = first.unwrap_or(wall);
+            first = Some(begin);
+            insert(u, v, &begin, &mut walls, wall)?;
+        }
     }
     Ok(walls)
 }
 
 // The corner at which the edge ends that starts at this corner.
-fn next_corner(corner: usize) -> usize
-    requires { corner + 1 < 2 ^ 64 }
-    ensures { result ≡ next_corner corner }
-{
+fn next_corner(corner: usize) -> usize {
     if corner % 3 == 2 {
         corner - 2
     } else {
-        corner + 1
+        corner.saturating_add(1)
     }
 }
 
 /// Joins the corners of two triangles along an edge: the start of each with the end of the other.
-pub fn join_along(parents: &mut [usize], one: usize, other: usize)
-    requires back { LeadBack parents.old }
-    requires three { length parents.old % 3 ≡ 0 }
-    requires one { one < length parents.old }
-    requires other { other < length parents.old }
-    ensures back { LeadBack parents.new }
-    ensures count { length parents.new ≡ length parents.old }
-{
+pub fn join_along(parents: &mut [usize], one: usize, other: usize) {
     join(parents, one, next_corner(other));
     join(parents, next_corner(one), other);
 }
 
-/// Joins the triangles between which solid lies. On the way round, solid follows a wall whose edge
-/// leads back and ends at one whose edge leads forward; so these match like brackets, and the way has
-/// no beginning.
+/// Joins the triangles with edges between u and v between which solid lies. On the way round, solid
+/// follows a wall whose edge leads back and ends at one whose edge leads forward; so these match like
+/// brackets, and the way has no beginning.
 pub fn join_ring(
     alloc: Global,
     planes: &[Plane],
@@ -95,14 +76,7 @@ pub fn join_ring(
     v: &DecimalPoint,
     edges: &[HalfEdge],
     parents: &mut [usize],
-) -> Result<(), AllocError>
-    requires planes { All IsValidPlane planes.now }
-    requires corners { All (λ edge. edge.corner < length parents.old) edges.now }
-    requires back { LeadBack parents.old }
-    requires three { length parents.old % 3 ≡ 0 }
-    ensures back { LeadBack parents.new }
-    ensures count { length parents.new ≡ length parents.old }
-{
+) -> Result<(), AllocError> {
     let walls = ring_of(alloc, planes, numbers, u, v, edges)?;
     let mut open = Vec::new(alloc);
     let mut left = Vec::new(alloc);
@@ -115,7 +89,7 @@ pub fn join_ring(
             left.push(wall.corner)?;
         }
     }
-    // What is left comes before all brackets that are still open.
+    // These come before all brackets that are still open.
     for corner in &left {
         if let Some(other) = open.pop() {
             join_along(parents, *corner, other);

@@ -1,10 +1,8 @@
 // Meshes whose vertices are doubled.
-ghost use Rattle.std.specs.Prelude.{◌≡◌, ◌+◌, ◌*◌, ◌^◌, ◌<◌, [], ◌∷◌, ◌++◌, true, Some, All, length, slice_get, IfOk, OnOk};
-ghost use Rattle.ember_model.specs.Valid.{IsValidPlane};
+ghost use Rattle.std.specs.Prelude.{◌≡◌, ◌+◌, ◌*◌, ◌^◌, ◌<◌, [], ◌∷◌, ◌++◌, List, true, Some, length, slice_get, IfOk, IfSome, OnOk};
 ghost use Rattle.ember_vertices.specs.declared.point.IndexedTriangle.{IndexedTriangle};
-ghost use Rattle.ember_manifold.specs.Classes.{LeadBack};
 ghost use Rattle.ember_manifold.specs.Paired.{IsManifold};
-ghost use Rattle.ember_manifold.specs.Splits.{IsTriangleAmong, IsSplitOf, AreSplitOf, Continues};
+ghost use Rattle.ember_manifold.specs.Splits.{AreSplitOf, Continues};
 
 use crate::check::is_paired;
 use crate::classes::{own_classes, root};
@@ -29,59 +27,74 @@ pub struct CheckedSplit {
     pub is_manifold: bool,
 }
 
-// The vertex of a class at this origin. It is put last if the class has none yet.
+// The vertex that a class of corners has, if it is at this origin.
+fn known_vertex(
+    origins: &[usize],
+    vertices: &[Option<usize>],
+    class: usize,
+    origin: usize,
+) -> Option<usize>
+    ensures { IfSome result (λ n. slice_get origins.now n ≡ Some origin) }
+{
+    let vertex = (*vertices.get(class)?)?;
+    if *origins.get(vertex)? == origin {
+        Some(vertex)
+    } else {
+        None
+    }
+}
+
+fn set_vertex(vertices: &mut [Option<usize>], class: usize, vertex: usize) {
+    if let Some(known) = vertices.get_mut(class) {
+        *known = Some(vertex);
+    }
+}
+
+// The vertex of a class of corners at this origin. It is put last if the class has none yet.
 fn vertex_of(
     origins: &mut Vec<usize>,
     vertices: &mut [Option<usize>],
     class: usize,
     origin: usize,
 ) -> Result<usize, AllocError>
-    requires { class < length vertices.old }
     ensures continues { OnOk result (Continues origins.old.items origins.new.items) }
-    ensures count { length vertices.new ≡ length vertices.old }
     ensures at { IfOk result (λ n. slice_get origins.new.items n ≡ Some origin) }
 {
-    if let Some(vertex) = vertices[class] {
-        if origins.get(vertex) == Some(&origin) {
-            return Ok(vertex);
-        }
+    if let Some(vertex) = known_vertex(origins, vertices, class, origin) {
+        return Ok(vertex);
     }
     let vertex = origins.len();
     origins.push(origin)?;
-    vertices[class] = Some(vertex);
+    set_vertex(vertices, class, vertex);
     Ok(vertex)
 }
 
-// Adds a triangle, whose first corner has this number.
-fn push_triangle(
-    split: &mut SplitMesh,
-    vertices: &mut [Option<usize>],
-    parents: &mut [usize],
-    triangle: &IndexedTriangle,
-    first: usize,
-) -> Result<(), AllocError>
-    requires back { LeadBack parents.old }
-    requires there { first + 2 < length parents.old }
-    requires same { length vertices.old ≡ length parents.old }
-    ensures back { LeadBack parents.new }
-    ensures corners { length parents.new ≡ length parents.old }
-    ensures count { length vertices.new ≡ length vertices.old }
-    ensures continues { OnOk result (Continues split.old.origins.items split.new.origins.items) }
-    ensures triangle { OnOk result ((t : IndexedTriangle) ×
-        (split.new.triangles.items ≡ split.old.triangles.items ++ t ∷ []) ×
-        IsSplitOf split.new.origins.items t triangle.now) }
-{
-    let a = vertex_of(&mut split.origins, vertices, root(parents, first), triangle.a)?;
-    let b = vertex_of(&mut split.origins, vertices, root(parents, first + 1), triangle.b)?;
-    let c = vertex_of(&mut split.origins, vertices, root(parents, first + 2), triangle.c)?;
-    split.triangles.push(IndexedTriangle { a, b, c })?;
-    Ok(())
+impl SplitMesh {
+    // Adds a triangle, whose first corner has this number.
+    fn push(
+        &mut self,
+        vertices: &mut [Option<usize>],
+        parents: &mut [usize],
+        triangle: &IndexedTriangle,
+        first: usize,
+    ) -> Result<(), AllocError>
+        requires { first + 2 < 2 ^ 64 }
+        ensures { (before : List IndexedTriangle) → AreSplitOf self.old before →
+            OnOk result (AreSplitOf self.new (before ++ triangle.now ∷ [])) }
+    {
+        let class = root(parents, first);
+        let a = vertex_of(&mut self.origins, vertices, class, triangle.a)?;
+        let class = root(parents, first + 1);
+        let b = vertex_of(&mut self.origins, vertices, class, triangle.b)?;
+        let class = root(parents, first + 2);
+        let c = vertex_of(&mut self.origins, vertices, class, triangle.c)?;
+        self.triangles.push(IndexedTriangle { a, b, c })?;
+        Ok(())
+    }
 }
 
 // No vertex for each of so many classes.
-fn no_vertices(alloc: Global, classes: usize) -> Result<Vec<Option<usize>>, AllocError>
-    ensures { IfOk result (λ vertices. length vertices.items ≡ classes) }
-{
+fn no_vertices(alloc: Global, classes: usize) -> Result<Vec<Option<usize>>, AllocError> {
     let mut vertices = Vec::with_capacity(alloc, classes)?;
     for _class in 0..classes {
         vertices.push(None)?;
@@ -95,24 +108,23 @@ fn split_by(
     triangles: &[IndexedTriangle],
     parents: &mut [usize],
 ) -> Result<SplitMesh, AllocError>
-    requires back { LeadBack parents.old }
-    requires count { length parents.old ≡ 3 * length triangles.now }
-    ensures { IfOk result (λ split. AreSplitOf split triangles.now) }
+    requires { length triangles.now < 2 ^ 60 }
+    ensures { IfOk result (λ mesh. AreSplitOf mesh triangles.now) }
 {
     let mut vertices = no_vertices(alloc, parents.len())?;
-    let mut split = SplitMesh {
+    let mut mesh = SplitMesh {
         origins: Vec::new(alloc),
-        triangles: Vec::with_capacity(alloc, triangles.len())?,
+        triangles: Vec::new(alloc),
     };
     for (index, triangle) in triangles.iter().enumerate() {
-        push_triangle(&mut split, &mut vertices, parents, triangle, 3 * index)?;
+        mesh.push(&mut vertices, parents, triangle, 3 * index)?;
     }
-    Ok(split)
+    Ok(mesh)
 }
 
 // Whether each edge of the triangles has two of them.
 fn has_two_each(alloc: Global, triangles: &[IndexedTriangle]) -> Result<bool, AllocError>
-    requires { 3 * length triangles.now < 2 ^ 64 }
+    requires { length triangles.now < 2 ^ 60 }
     ensures { IfOk result (λ is_manifold. is_manifold ≡ true → IsManifold triangles.now) }
 {
     let edges = sorted_edges(alloc, triangles)?;
@@ -124,8 +136,9 @@ fn has_two_each(alloc: Global, triangles: &[IndexedTriangle]) -> Result<bool, Al
 /// joined so are vertices of their own. So each vertex has one ring of triangles, and each edge has two
 /// triangles unless a ring is pinched along it; whether each has is part of the result.
 ///
-/// `numbers` has the number of each triangle's plane. Each corner is one of the vertices. There are
-/// fewer than 2^60 triangles.
+/// `numbers` has the number of each triangle's plane. A triangle without a plane, or whose plane has a
+/// normal of 2^25 or more, isn't joined to others along an edge of more than two triangles. There are
+/// fewer than 2^60 triangles. The one error is out-of-memory.
 pub fn split_vertices(
     alloc: Global,
     planes: &[Plane],
@@ -133,9 +146,7 @@ pub fn split_vertices(
     vertices: &[DecimalPoint],
     triangles: &[IndexedTriangle],
 ) -> Result<CheckedSplit, AllocError>
-    requires planes { All IsValidPlane planes.now }
-    requires triangles { All (IsTriangleAmong (length vertices.now)) triangles.now }
-    requires few { length triangles.now < 2 ^ 60 }
+    requires { length triangles.now < 2 ^ 60 }
     ensures corners { IfOk result (λ split. AreSplitOf split.mesh triangles.now) }
     ensures manifold { IfOk result (λ split. split.is_manifold ≡ true → IsManifold split.mesh.triangles.items) }
 {

