@@ -10,4 +10,4 @@ mod split;
 mod turns;
 mod walls;
 
-pub use split::{CheckedSplit, SplitMesh, split_vertices};
+pub use split::{CheckedSplit, SplitMesh, points_of, split_vertices};

@@ -1,6 +1,7 @@
 // Meshes whose vertices are doubled.
-ghost use Rattle.std.specs.Prelude.{◌≡◌, ◌+◌, ◌*◌, ◌^◌, ◌<◌, [], ◌∷◌, ◌++◌, List, true, Some, length, slice_get, IfOk, IfSome, OnOk};
+ghost use Rattle.std.specs.Prelude.{◌≡◌, ◌+◌, ◌*◌, ◌^◌, ◌<◌, [], ◌∷◌, ◌++◌, List, true, Some, map, length, slice_get, IfOk, IfSome, OnOk};
 ghost use Rattle.ember_vertices.specs.declared.point.IndexedTriangle.{IndexedTriangle};
+ghost use Rattle.ember_vertices.specs.Vertices.{point_at};
 ghost use Rattle.ember_manifold.specs.Paired.{IsManifold};
 ghost use Rattle.ember_manifold.specs.Splits.{AreSplitOf, Continues};
 
@@ -11,6 +12,9 @@ use crate::pairing::join_all;
 use ember_model::Plane;
 use ember_vertices::{DecimalPoint, IndexedTriangle};
 use std::alloc::{AllocError, Global};
+
+// No memory has so many triangles.
+const LIMIT: usize = 1 << 60;
 
 /// A mesh whose vertices are those of another, some of them more than once.
 #[derive(Drop)]
@@ -137,8 +141,9 @@ fn has_two_each(alloc: Global, triangles: &[IndexedTriangle]) -> Result<bool, Al
 /// triangles unless a ring is pinched along it; whether each has is part of the result.
 ///
 /// `numbers` has the number of each triangle's plane. A triangle without a plane, or whose plane has a
-/// normal of 2^25 or more, isn't joined to others along an edge of more than two triangles. There are
-/// fewer than 2^60 triangles. The one error is out-of-memory.
+/// normal of 2^25 or more, isn't joined to others along an edge of more than two triangles. The one
+/// error is out-of-memory; 2^60 triangles or more, for which no memory is large enough, are reported
+/// so, too.
 pub fn split_vertices(
     alloc: Global,
     planes: &[Plane],
@@ -146,14 +151,41 @@ pub fn split_vertices(
     vertices: &[DecimalPoint],
     triangles: &[IndexedTriangle],
 ) -> Result<CheckedSplit, AllocError>
-    requires { length triangles.now < 2 ^ 60 }
     ensures corners { IfOk result (λ split. AreSplitOf split.mesh triangles.now) }
     ensures manifold { IfOk result (λ split. split.is_manifold ≡ true → IsManifold split.mesh.triangles.items) }
 {
+    if triangles.len() >= LIMIT {
+        return Err(AllocError);
+    }
     let edges = sorted_edges(alloc, triangles)?;
     let mut parents = own_classes(alloc, 3 * triangles.len())?;
     join_all(alloc, planes, numbers, vertices, &edges, &mut parents)?;
     let mesh = split_by(alloc, triangles, &mut parents)?;
     let is_manifold = has_two_each(alloc, &mesh.triangles)?;
     Ok(CheckedSplit { mesh, is_manifold })
+}
+
+// The point with this index; what is no point is at zero.
+fn point_at(points: &[DecimalPoint], index: usize) -> DecimalPoint
+    ensures { result ≡ point_at points.now index }
+{
+    match points.get(index) {
+        Some(point) => *point,
+        None => DecimalPoint { x: 0, y: 0, z: 0 },
+    }
+}
+
+/// The points of vertices that are at vertices of another mesh.
+pub fn points_of(
+    alloc: Global,
+    vertices: &[DecimalPoint],
+    origins: &[usize],
+) -> Result<Vec<DecimalPoint>, AllocError>
+    ensures { IfOk result (λ points. points.items ≡ map (point_at vertices.now) origins.now) }
+{
+    let mut points = Vec::with_capacity(alloc, origins.len())?;
+    for origin in origins {
+        points.push(point_at(vertices, *origin))?;
+    }
+    Ok(points)
 }

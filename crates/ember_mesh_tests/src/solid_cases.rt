@@ -1,6 +1,6 @@
 // Solids that are written.
 use crate::boxes::{
-    HIGH, INSIDE_OUT, LOW, LOW_FLOATS, NESTED, RIGHT, SPIKE, ascii_stl, binary_stl,
+    BESIDE, HIGH, INSIDE_OUT, LOW, LOW_FLOATS, NESTED, RIGHT, SPIKE, ascii_stl, binary_stl,
 };
 use crate::cases::{BEFORE, Named, give};
 use crate::solids::{Solid, solid_in};
@@ -186,5 +186,15 @@ fn solids_as_text(rt: HostRuntime) -> Result<(), Fail> {
     for (line, name, beginning) in rows {
         check_text(&rt, rt.alloc(), line, files, name, beginning, solid)?;
     }
+    Ok(())
+}
+
+// The edge in which the boxes touch has four triangles, and its two corners are four vertices.
+#[test]
+fn boxes_that_touch_in_an_edge(rt: HostRuntime) -> Result<(), Fail> {
+    let files: Named = &[("a.obj", LOW), ("b.obj", BESIDE)];
+    let given = give(&rt, rt.alloc(), "union -o out.off a.obj b.obj", files)?;
+    assert_eq!(rt; given.status.number(), 0);
+    assert!(rt; given.held("out.off").starts_with(b"OFF\n16 24 0\n"));
     Ok(())
 }

@@ -9,7 +9,7 @@ has_two_each-requires c =
     let mesh = c.in_ok-mesh.mesh in
     let many = as_many mesh.origins.items mesh.triangles.items c.args.triangles.now c.in_ok-mesh.ensures in
     let same = ap length c.deref-2.ensures.value in
-    omega (arith, many, same, c.requires)
+    omega (arith, many, same)
 
 pub returns-clause-manifold : goal.returns-clause-manifold
 returns-clause-manifold c = λ yes.
