@@ -1,4 +1,4 @@
-use Rattle.std.proofs.Common.{◌≡◌, List, true, length, ap, subst, ◌∙◌, arith}
+use Rattle.std.proofs.Common.{List, length, ap, subst, arith}
 use Rattle.ember_vertices.specs.declared.point.IndexedTriangle.{IndexedTriangle}
 use Rattle.ember_manifold.specs.Paired.{IsManifold}
 use Rattle.ember_manifold.proofs.Splits.{as_many}

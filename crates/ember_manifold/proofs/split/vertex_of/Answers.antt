@@ -1,4 +1,4 @@
-use Rattle.std.proofs.Common.{◌∷◌, [], ◌≡◌, ℕ, List, Some, slice_get, length, sym, subst, ◌∙◌}
+use Rattle.std.proofs.Common.{◌∷◌, [], ◌≡◌, ℕ, List, Some, slice_get, sym, subst}
 use Rattle.ember_manifold.proofs.Splits.{goes_on_same, last_found}
 use Rattle.ember_manifold.proofs.split.vertex_of.Goals as goal
 
