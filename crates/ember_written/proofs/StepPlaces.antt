@@ -1,5 +1,5 @@
 -- The decimal places of a step, one more at a time.
-use Rattle.std.proofs.Common.{◌≡◌, ℕ, zero, suc, ◌+◌, ◌-◌, ◌*◌, ◌%◌, ◌<◌, ◌≤◌, refl, sym, ap, subst, ◌∙◌, arith}
+use Rattle.std.proofs.Common.{◌≡◌, ℕ, zero, suc, ◌+◌, ◌-◌, ◌*◌, ◌%◌, ◌<◌, refl, ap, subst, ◌∙◌, arith}
 use Rattle.ember_written.specs.Digits.{places_of_rest}
 
 none_left : (d most : ℕ) → places_of_rest d most 0 ≡ 0
