@@ -21,12 +21,14 @@ use Rattle.ember_solid_mesh.specs.declared.mesh.SolidMesh.{SolidMesh}
 use Rattle.ember_solid_mesh.specs.Meshes.{IsSolidMesh}
 use Rattle.ember_stl_bytes.specs.declared.triangle.WrittenTriangle.{WrittenTriangle}
 use Rattle.ember_surface.specs.declared.surface.Surface.{Surface}
+use Rattle.ember_manifold.specs.declared.split.SplitMesh.{SplitMesh}
+use Rattle.ember_manifold.specs.Splits.{AreSplitOf}
 use Rattle.ember_mesh_text.specs.declared.format.TextFormat.{TextFormat}
 use Rattle.ember_mesh_text.specs.Texts.{text_of}
 use Rattle.ember_vertices.specs.declared.point.DecimalPoint.{DecimalPoint}
 use Rattle.ember_vertices.specs.declared.point.DecimalTriangle.{DecimalTriangle}
 use Rattle.ember_vertices.specs.declared.point.IndexedTriangle.{IndexedTriangle}
-use Rattle.ember_vertices.specs.Vertices.{vertices_of, indexed}
+use Rattle.ember_vertices.specs.Vertices.{vertices_of, indexed, point_at}
 use Rattle.ember_written.specs.Decimals.{decimal_point}
 use Rattle.ember_written.specs.DecimalTriangles.{decimal_triangles}
 use Rattle.ember_written.specs.DecimalTriangles as decimal
@@ -44,7 +46,7 @@ use Rattle.ember_boolean.specs.declared.wanted.MeshFormat.TheVariants.{Stl, Text
 use Rattle.ember_boolean.specs.declared.wanted.WantedFile.{WantedFile}
 use Rattle.ember_boolean.specs.declared.writing.Output.{Output}
 use Rattle.ember_boolean.specs.Files.{ArePlaced, IsPlaced}
-use Rattle.ember_boolean.specs.Outputs.{AreRounded, over_vertices, text_over, IsStl, IsText, IsWritten, IsClosedStl, IsClosedText, IsClosedAs, IsOutput}
+use Rattle.ember_boolean.specs.Outputs.{AreRounded, over_vertices, IsTextOver, IsStl, IsText, IsWritten, IsClosedStl, IsClosedText, IsClosedAs, IsOutput}
 
 twice : (b : Bool) → b ≡ not (not b)
 twice true = refl
@@ -77,16 +79,17 @@ mesh_is_rounded grid mesh written {planes} {corners} {triangles} a b d h =
     subst (λ (ts : List Triangle). AreWritten grid.step grid.offset mesh.planes.items mesh.corners.items ts written) d on_corners
 
 -- ---- texts
-decimals_are_fewer : (ts : List DecimalTriangle) → length (decimal.kept ts) ≤ length ts
-decimals_are_fewer ts =
-    let e = length-filter_both (λ t. not (decimal.vanishes t)) decimal.vanishes (λ t. twice (decimal.vanishes t)) ts in omega (arith, e)
+decimals_are_fewer : (ps : List DecimalPoint) (ts : List Triangle) → length (decimal.kept ps ts) ≤ length ts
+decimals_are_fewer ps ts =
+    let gone = λ (t : Triangle). decimal.vanishes (decimal.triangle_at ps t) in
+    let e = length-filter_both (λ t. not (gone t)) gone (λ t. twice (gone t)) ts in omega (arith, e)
 
 -- no more triangles of decimals are written than there are
 pub fewer_decimals : (places : ℕ) (s : Step) (o : Offset) (corners : List SpacePoint) (ts : List Triangle) → length (decimal_triangles places s o corners ts) ≤ length ts
 fewer_decimals places s o corners ts =
-    let f = decimal.triangle_at (map (decimal_point places s o) corners) in
-    let n = length-map ts f in
-    let k = decimals_are_fewer (map f ts) in
+    let ps = map (decimal_point places s o) corners in
+    let n = length-map (decimal.kept ps ts) (decimal.triangle_at ps) in
+    let k = decimals_are_fewer ps ts in
     omega (arith, n, k)
 
 -- as many as of lists that equal those of the mesh
@@ -98,12 +101,20 @@ as_many_decimals places many s o corners cs triangles ts a b d =
 pub shown_are_written : (ts : List DecimalTriangle) (shown : List IndexedTriangle) → shown ≡ map (indexed (vertices_of ts)) ts → length shown ≡ length ts
 shown_are_written ts shown e = ap length e ∙ length-map ts (indexed (vertices_of ts))
 
--- the bytes are the text of the mesh, by lists that equal those of the mesh
-pub bytes_are_text : (format : TextFormat) (places many : ℕ) (s : Step) (o : Offset) (corners cs : List SpacePoint) (triangles ts : List Triangle) (points : List DecimalPoint) (shown : List IndexedTriangle) (bytes : List ℕ) → places ≡ many → cs ≡ corners → ts ≡ triangles → points ≡ vertices_of (decimal_triangles places s o cs ts) → shown ≡ map (indexed (vertices_of (decimal_triangles places s o cs ts))) (decimal_triangles places s o cs ts) → bytes ≡ text_of format places points shown → bytes ≡ text_over format many (decimal_triangles many s o corners triangles)
-bytes_are_text format places many s o corners cs triangles ts points shown bytes a b d e f h =
-    h
-    ∙ (λ i. text_of format places (e i) (f i))
-    ∙ (λ i. text_over format (a i) (decimal_triangles (a i) s o (b i) (d i)))
+-- the text of a split mesh, by lists that equal its own
+pub split_is_text : (format : TextFormat) (places : ℕ) (ts : List DecimalTriangle) (split : SplitMesh) (shown faces : List IndexedTriangle) (points vertices written : List DecimalPoint) (origins : List ℕ) (bytes : List ℕ) → shown ≡ map (indexed (vertices_of ts)) ts → points ≡ vertices_of ts → AreSplitOf split shown → origins ≡ split.origins.items → vertices ≡ map (point_at points) origins → written ≡ vertices → faces ≡ split.triangles.items → bytes ≡ text_of format places written faces → IsTextOver format places ts bytes
+split_is_text format places ts split shown faces points vertices written origins bytes a b are d e f g h = record {
+  split = split;
+  are_split = subst (AreSplitOf split) a are;
+  is = h ∙ (λ i. text_of format places ((f ∙ e) i) (g i)) ∙ (λ i. text_of format places (map (point_at (b i)) (d i)) split.triangles.items);
+}
+
+-- the text of a mesh, by lists that equal those of the mesh
+pub text_of_mesh : (format : TextFormat) (places many : ℕ) (s : Step) (o : Offset) (corners cs : List SpacePoint) (triangles ts : List Triangle) (bytes : List ℕ) → places ≡ many → cs ≡ corners → ts ≡ triangles → IsTextOver format places (decimal_triangles places s o cs ts) bytes → IsTextOver format many (decimal_triangles many s o corners triangles) bytes
+text_of_mesh format places many s o corners cs triangles ts bytes a b d text =
+    let of_places : IsTextOver format many (decimal_triangles many s o cs ts) bytes = subst (λ (n : ℕ). IsTextOver format n (decimal_triangles n s o cs ts) bytes) a text in
+    let of_corners : IsTextOver format many (decimal_triangles many s o corners ts) bytes = subst (λ (us : List SpacePoint). IsTextOver format many (decimal_triangles many s o us ts) bytes) b of_places in
+    subst (λ (us : List Triangle). IsTextOver format many (decimal_triangles many s o corners us) bytes) d of_corners
 
 -- the edges of more than two triangles are those of the mesh, by lists that equal those of the mesh
 pub shared_of_mesh : (places many : ℕ) (s : Step) (o : Offset) (corners cs : List SpacePoint) (triangles ts : List Triangle) (shown : List IndexedTriangle) (count : ℕ) → places ≡ many → cs ≡ corners → ts ≡ triangles → shown ≡ over_vertices (decimal_triangles places s o cs ts) → (AreIndicesClosed shown → IsSharedIndexCount shown count) → AreIndicesClosed (over_vertices (decimal_triangles many s o corners triangles)) → IsSharedIndexCount (over_vertices (decimal_triangles many s o corners triangles)) count

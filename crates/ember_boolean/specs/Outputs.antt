@@ -3,6 +3,8 @@ use Rattle.std.specs.Prelude.{◌≡◌, ◌≤◌, ⊤, ℕ, ◌+◌, List, len
 use Rattle.std.specs.declared.option.Option.{Option}
 use Rattle.ember_expr.specs.Formula.{Formula}
 use Rattle.ember_grid.specs.declared.grid.Grid.{Grid}
+use Rattle.ember_manifold.specs.declared.split.SplitMesh.{SplitMesh}
+use Rattle.ember_manifold.specs.Splits.{AreSplitOf}
 use Rattle.ember_moves.specs.Shown.{AreMoves}
 use Rattle.ember_mesh_text.specs.declared.format.TextFormat.{TextFormat}
 use Rattle.ember_mesh_text.specs.Texts.{text_of}
@@ -16,7 +18,7 @@ use Rattle.ember_stl_bytes.specs.Written.{stl_bytes_of}
 use Rattle.ember_surface.specs.declared.surface.Surface.{Surface}
 use Rattle.ember_vertices.specs.declared.point.DecimalTriangle.{DecimalTriangle}
 use Rattle.ember_vertices.specs.declared.point.IndexedTriangle.{IndexedTriangle}
-use Rattle.ember_vertices.specs.Vertices.{vertices_of, indexed}
+use Rattle.ember_vertices.specs.Vertices.{vertices_of, indexed, point_at}
 use Rattle.ember_written.specs.DecimalTriangles.{decimal_triangles}
 use Rattle.ember_written.specs.Digits.{written_places}
 use Rattle.ember_written.specs.Triangles.{AreWritten}
@@ -63,14 +65,18 @@ decimals_of digits grid mesh =
 abbrev pub over_vertices : List DecimalTriangle → List IndexedTriangle
 over_vertices ts = map (indexed (vertices_of ts)) ts
 
--- the text of triangles, with each point as one vertex
-abbrev pub text_over : TextFormat → ℕ → List DecimalTriangle → List ℕ
-text_over format places ts = text_of format places (vertices_of ts) (over_vertices ts)
+-- the bytes are a text of triangles: each of their points is a vertex, some of them more than once, and each corner of
+-- a triangle is a vertex at its point
+pub record IsTextOver (format : TextFormat) (places : ℕ) (ts : List DecimalTriangle) (bytes : List ℕ) : Type 0 where
+  pub split : SplitMesh
+  pub are_split : AreSplitOf split (over_vertices ts)
+  pub is : bytes ≡ text_of format places (map (point_at (vertices_of ts)) split.origins.items) split.triangles.items
 
 -- the bytes are the text of the mesh's rounded triangles; the numbers are those of the mesh, of its triangles that
--- aren't written, and of the edges of more than two written triangles, if these are closed
-pub record IsText (format : TextFormat) (digits : Option ℕ) (grid : Grid) (mesh : SolidMesh) (out : Output) : Type 0 where
-  pub bytes : out.bytes.items ≡ text_over format (written_places digits grid.step) (decimals_of digits grid mesh)
+-- aren't written, and, if the others are closed, of their edges of more than two, where each point is one vertex
+pub record IsText (format : TextFormat) (digits : Option ℕ) (grid : Grid) (mesh : SolidMesh) (out : Output) :
+    Type 0 where
+  pub bytes : IsTextOver format (written_places digits grid.step) (decimals_of digits grid mesh) out.bytes.items
   pub planes : out.planes ≡ length mesh.planes.items
   pub triangles : out.triangles ≡ length mesh.triangles.items
   pub vanished : out.vanished + length (decimals_of digits grid mesh) ≡ out.triangles
@@ -102,8 +108,8 @@ IsClosedAs Stl grid mesh out = IsClosedStl grid mesh out
 IsClosedAs (Text format digits) grid mesh out = IsClosedText format digits grid mesh out
 
 -- ---- outputs
--- the surfaces of the files are a scene on the wanted grid, with these counts and moves; there is a mesh of the solid of
--- their triangles, with this report of the run; and the rest is this mesh in the wanted format, closed
+-- the surfaces of the files are a scene on the wanted grid, with these counts and moves; there is a mesh of the solid
+-- of their triangles, with this report of the run; and the rest is this mesh in the wanted format, closed
 pub record IsOutput (files : List MeshFile) (formula : Formula) (wanted : WantedFile) (out : Output) : Type 0 where
   pub surfaces : List Surface
   pub are_placed : ArePlaced files wanted.grid surfaces out.grid

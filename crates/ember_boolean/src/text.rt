@@ -1,20 +1,48 @@
 // The OBJ, PLY or OFF of a mesh.
-ghost use Rattle.std.specs.Prelude.{◌≡◌, ◌≤◌, All, IfOk, IfErr, IfSome};
+ghost use Rattle.std.specs.Prelude.{◌≡◌, ◌≤◌, List, All, IfOk, IfErr, IfSome};
 ghost use Rattle.ember_certificate.specs.Certificate.{IsProper};
 ghost use Rattle.ember_snap.specs.Steps.{IsStep};
+ghost use Rattle.ember_vertices.specs.declared.point.DecimalTriangle.{DecimalTriangle};
+ghost use Rattle.ember_vertices.specs.Vertices.{IsMeshOf};
 ghost use Rattle.ember_boolean.specs.declared.wanted.MeshFormat.TheVariants.{Text};
-ghost use Rattle.ember_boolean.specs.Outputs.{IsText};
+ghost use Rattle.ember_boolean.specs.Outputs.{IsText, IsTextOver};
 ghost use Rattle.ember_boolean.specs.Faults.{IsWritingFault};
 
 use crate::fault::BooleanFault;
 use crate::writing::Output;
 use ember_grid::Grid;
+use ember_manifold::{points_of, split_vertices};
 use ember_mesh_text::{TextFormat, mesh_text};
+use ember_model::Plane;
 use ember_moves::Length;
 use ember_scene::Counts;
 use ember_solid_mesh::SolidMesh;
-use ember_written::{decimal_mesh, shared_edges_by_index, written_places};
-use std::alloc::Global;
+use ember_written::{DecimalMesh, decimal_mesh, shared_edges_by_index, written_places};
+use std::alloc::{AllocError, Global};
+
+// The text of a rounded mesh, with vertices that are doubled where parts only touch.
+fn split_text(
+    alloc: Global,
+    format: TextFormat,
+    planes: &[Plane],
+    written: &DecimalMesh,
+    places: u32,
+) -> Result<Vec<u8>, AllocError>
+    requires { places ≤ 17 }
+    ensures { (ts : List DecimalTriangle) → IsMeshOf ts written.now.mesh →
+        IfOk result (λ bytes. IsTextOver format places ts bytes.items) }
+{
+    let mesh = &written.mesh;
+    let split = split_vertices(
+        alloc,
+        planes,
+        &written.planes,
+        mesh.vertices(),
+        mesh.triangles(),
+    )?;
+    let vertices = points_of(alloc, mesh.vertices(), &split.mesh.origins)?;
+    mesh_text(alloc, format, &vertices, &split.mesh.triangles, places)
+}
 
 // The text of a mesh on a grid. The mesh isn't kept while its bytes are made.
 pub(crate) fn text_output<'a>(
@@ -53,13 +81,12 @@ pub(crate) fn text_output<'a>(
     )?;
     let plane_count = planes.len() as u64;
     let triangle_count = triangles.len() as u64;
-    let faces = written.triangles();
+    let faces = written.mesh.triangles();
     let vanished = triangle_count - faces.len() as u64;
-    drop(planes);
     drop(corners);
     drop(triangles);
     let shared = shared_edges_by_index(alloc, faces)?;
-    let bytes = mesh_text(alloc, format, written.vertices(), faces, places)?;
+    let bytes = split_text(alloc, format, &planes, &written, places)?;
     Ok(Output {
         bytes,
         grid,

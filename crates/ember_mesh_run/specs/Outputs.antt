@@ -11,8 +11,8 @@ use Rattle.ember_mesh_run.specs.Asked.{Asks}
 use Rattle.ember_mesh_run.specs.Files.{AreFiles}
 
 -- the output is that of the files with these names
-pub record IsFilesOutput (told : List ℕ → Option (List ℕ)) (names : List (List ℕ)) (formula : Formula) (wanted : WantedFile)
-    (output : Output) : Type 0 where
+pub record IsFilesOutput (told : List ℕ → Option (List ℕ)) (names : List (List ℕ)) (formula : Formula)
+    (wanted : WantedFile) (output : Output) : Type 0 where
   pub files : List MeshFile
   pub are_files : AreFiles told names files
   pub is_output : IsOutput files formula wanted output

@@ -210,3 +210,13 @@ fn solids_as_text(rt: HostRuntime) -> Result<(), Fail> {
     }
     Ok(())
 }
+
+// The edge in which the boxes touch has four triangles, and its two corners are four vertices.
+#[test]
+fn corners_of_an_edge_in_which_boxes_touch(rt: HostRuntime) -> Result<(), Fail> {
+    let files: Named = &[("a.obj", LOW), ("b.obj", BESIDE)];
+    let given = give(&rt, rt.alloc(), "union -o out.off a.obj b.obj", files)?;
+    assert_eq!(rt; given.status.number(), 0);
+    assert!(rt; given.held("out.off").starts_with(b"OFF\n16 24 0\n"));
+    Ok(())
+}

@@ -1,6 +1,6 @@
 -- Triangles of decimals are closed if the triangles before rounding are, by their points and by the indices of their
 -- vertices
-use Rattle.std.proofs.Common.{◌≡◌, ◌⊎◌, inl, inr, ℕ, Bool, true, false, cond, not, ◌||◌, nat_eq, List, [], ◌∷◌, map, filter, refl, sym, ap, subst, ◌∙◌}
+use Rattle.std.proofs.Common.{◌≡◌, ◌⊎◌, inl, inr, ℕ, Bool, true, ◌||◌, nat_eq, List, [], ◌∷◌, map, refl, sym, ap, subst}
 use Rattle.std.proofs.lemmas.Bool.{or_cases, or_left, or_right, eqb-true, eq-eqb}
 use Rattle.ember_snap.specs.declared.steps.Step.{Step}
 use Rattle.ember_snap.specs.declared.offsets.Offset.{Offset}
@@ -39,18 +39,7 @@ module _ (ps : List DecimalPoint) where
   abbrev gone : Triangle → Bool
   gone t = vanishes (triangle_at ps t)
 
-  abbrev others : List Triangle → List Triangle
-  others ts = filter (λ t. not (gone t)) ts
-
-  kept_others : (ts : List Triangle) → kept (map (triangle_at ps) ts) ≡ map (triangle_at ps) (others ts)
-  kept_others [] = refl
-  kept_others (t ∷ ts) = by (gone t) (kept_others ts)
-    where
-      by : (b : Bool) → kept (map (triangle_at ps) ts) ≡ map (triangle_at ps) (others ts) → cond (not b) (triangle_at ps t ∷ kept (map (triangle_at ps) ts)) (kept (map (triangle_at ps) ts)) ≡ map (triangle_at ps) (cond (not b) (t ∷ others ts) (others ts))
-      by true r = r
-      by false r = ap (λ (us : List DecimalTriangle). triangle_at ps t ∷ us) r
-
-  -- their positions, by points and by indices
+  -- the positions of triangles, by points and by indices
   by_points : (ts : List Triangle) → map decimal_positions (map (triangle_at ps) ts) ≡ map (at_positions (point_at ps)) ts
   by_points [] = refl
   by_points (t ∷ ts) = ap (λ (us : List (Positions DecimalPoint)). at_positions (point_at ps) t ∷ us) (by_points ts)
@@ -63,14 +52,14 @@ module _ (ps : List DecimalPoint) where
   by_indices vs (t ∷ ts) = ap (λ (us : List (Positions ℕ)). at_positions (index_at vs) t ∷ us) (by_indices vs ts)
 
   -- what is kept of closed triangles is closed
-  points_are_closed : (ts : List Triangle) → AreRoundAndClosed ts → AreDecimalsClosed (kept (map (triangle_at ps) ts))
+  points_are_closed : (ts : List Triangle) → AreRoundAndClosed ts → AreDecimalsClosed (map (triangle_at ps) (kept ps ts))
   points_are_closed ts h =
-      subst (λ (us : List (Positions DecimalPoint)). AreTrianglesClosed same_point us) (sym (ap (map decimal_positions) (kept_others ts) ∙ by_points (others ts))) (map_keeps_closed same_point (point_at ps) one_point gone (λ t v. v) ts h)
+      subst (λ (us : List (Positions DecimalPoint)). AreTrianglesClosed same_point us) (sym (by_points (kept ps ts))) (map_keeps_closed same_point (point_at ps) one_point gone (λ t v. v) ts h)
 
   -- also by the indices of any vertices
-  indices_of_kept_closed : (vs : List DecimalPoint) (ts : List Triangle) → AreRoundAndClosed ts → AreIndicesClosed (map (indexed vs) (kept (map (triangle_at ps) ts)))
+  indices_of_kept_closed : (vs : List DecimalPoint) (ts : List Triangle) → AreRoundAndClosed ts → AreIndicesClosed (map (indexed vs) (map (triangle_at ps) (kept ps ts)))
   indices_of_kept_closed vs ts h =
-      subst (λ (us : List (Positions ℕ)). AreTrianglesClosed nat_eq us) (sym (ap (λ (us : List DecimalTriangle). map indices_of (map (indexed vs) us)) (kept_others ts) ∙ by_indices vs (others ts))) (map_keeps_closed nat_eq (index_at vs) (λ x y e. eqb-true x y e) gone (λ t v. vanishes_by_index vs (triangle_at ps t) v) ts h)
+      subst (λ (us : List (Positions ℕ)). AreTrianglesClosed nat_eq us) (sym (by_indices vs (kept ps ts))) (map_keeps_closed nat_eq (index_at vs) (λ x y e. eqb-true x y e) gone (λ t v. vanishes_by_index vs (triangle_at ps t) v) ts h)
 
 -- ---- triangles of a table of corners
 pub decimals_are_closed : (places : ℕ) (s : Step) (o : Offset) (cs : List SpacePoint) (ts : List Triangle) → AreRoundAndClosed ts → AreDecimalsClosed (decimal_triangles places s o cs ts)

@@ -1,11 +1,11 @@
 // Triangles of decimals.
-ghost use Rattle.std.specs.Prelude.{◌≡◌, ◌<◌, ◌≤◌, [], ◌∷◌, ◌++◌, true, List, map, length, IfOk, IfErr, OnOk};
+ghost use Rattle.std.specs.Prelude.{◌≡◌, ◌<◌, ◌≤◌, [], ◌∷◌, ◌++◌, true, List, length, IfOk, IfErr, OnOk};
 ghost use Rattle.std.specs.List.{list_all};
 ghost use Rattle.ember_snap.specs.Steps.{IsStep};
-ghost use Rattle.ember_vertices.specs.declared.point.DecimalTriangle.{DecimalTriangle};
+ghost use Rattle.ember_certificate.specs.declared.triangle.Triangle.{Triangle};
 ghost use Rattle.ember_vertices.specs.Vertices.{same_point, point_at, IsMeshOf};
 ghost use Rattle.ember_written.specs.Decimals.{IsDecimalFault};
-ghost use Rattle.ember_written.specs.DecimalTriangles.{triangle_at, vanishes, kept, decimal_triangles};
+ghost use Rattle.ember_written.specs.DecimalTriangles.{triangle_at, vanishes, IsMeshOver, decimal_triangles, decimal_planes};
 ghost use Rattle.ember_written.specs.Triangles.{has_corners};
 
 use crate::decimal_points::decimal_points;
@@ -46,29 +46,48 @@ fn vanishes(t: &DecimalTriangle) -> bool
     is_same_point(&t.a, &t.b) || (is_same_point(&t.b, &t.c) || is_same_point(&t.c, &t.a))
 }
 
-fn push_kept(mesh: &mut IndexedMesh, t: &DecimalTriangle) -> Result<(), AllocError>
-    ensures { (before : List DecimalTriangle) → IsMeshOf before mesh.old →
-        OnOk result (IsMeshOf (before ++ kept (t.now ∷ [])) mesh.new) }
+/// Triangles of decimals, and the number of the plane of each.
+#[derive(Drop)]
+pub struct DecimalMesh {
+    pub mesh: IndexedMesh,
+    pub planes: Vec<u32>,
+}
+
+// Adds a triangle, unless two of its corners became equal.
+fn push_kept(
+    written: &mut DecimalMesh,
+    points: &[DecimalPoint],
+    triangle: &Triangle,
+) -> Result<(), AllocError>
+    requires { has_corners (length points.now) triangle.now ≡ true }
+    ensures { (before : List Triangle) → IsMeshOver points.now before written.old →
+        OnOk result (IsMeshOver points.now (before ++ triangle.now ∷ []) written.new) }
 {
-    if vanishes(t) {
+    let rounded = triangle_at(points, triangle);
+    if vanishes(&rounded) {
         return Ok(());
     }
-    mesh.push(t)
+    written.mesh.push(&rounded)?;
+    written.planes.push(triangle.first.plane)?;
+    Ok(())
 }
 
 fn mesh_over(
     alloc: Global,
     points: &[DecimalPoint],
     triangles: &[Triangle],
-) -> Result<IndexedMesh, AllocError>
+) -> Result<DecimalMesh, AllocError>
     requires { list_all (has_corners (length points.now)) triangles.now ≡ true }
-    ensures { IfOk result (λ mesh. IsMeshOf (kept (map (triangle_at points.now) triangles.now)) mesh) }
+    ensures { IfOk result (IsMeshOver points.now triangles.now) }
 {
-    let mut mesh = IndexedMesh::new(alloc);
+    let mut written = DecimalMesh {
+        mesh: IndexedMesh::new(alloc),
+        planes: Vec::new(alloc),
+    };
     for triangle in triangles {
-        push_kept(&mut mesh, &triangle_at(points, triangle))?;
+        push_kept(&mut written, points, triangle)?;
     }
-    Ok(mesh)
+    Ok(written)
 }
 
 /// The triangles as files with decimals have them: each coordinate of a corner is the decimal of at
@@ -87,15 +106,17 @@ pub fn decimal_mesh(
     step: &Step,
     offset: &Offset,
     places: u32,
-) -> Result<IndexedMesh, PlaceFault>
+) -> Result<DecimalMesh, PlaceFault>
     requires step { IsStep step.now }
     requires corners { list_all (has_corners (length corners.now)) triangles.now ≡ true }
     requires places { places ≤ 17 }
-    ensures mesh { IfOk result (λ mesh. IsMeshOf
-        (decimal_triangles places step.now offset.now corners.now triangles.now) mesh) }
+    ensures mesh { IfOk result (λ written. IsMeshOf
+        (decimal_triangles places step.now offset.now corners.now triangles.now) written.mesh) }
+    ensures planes { IfOk result (λ written. written.planes.items ≡
+        decimal_planes places step.now offset.now corners.now triangles.now) }
     ensures fault { IfErr result (IsDecimalFault step.now offset.now corners.now) }
 {
     let points = decimal_points(alloc, corners, step, offset, places)?;
-    let mesh = mesh_over(alloc, &points, triangles)?;
-    Ok(mesh)
+    let written = mesh_over(alloc, &points, triangles)?;
+    Ok(written)
 }

@@ -16,7 +16,7 @@ mod shared_by_index;
 mod triangles;
 
 pub use decimal_points::decimal_place;
-pub use decimal_triangles::decimal_mesh;
+pub use decimal_triangles::{DecimalMesh, decimal_mesh};
 pub use decimals::put_place;
 pub use digits::written_places;
 pub use fault::PlaceFault;

@@ -6,8 +6,8 @@ use ember_snap::{Offset, Step};
 use ember_stl_bytes::{FloatPoint, WrittenTriangle};
 use ember_vertices::IndexedTriangle;
 use ember_written::{
-    PlaceFault, decimal_mesh, decimal_place, float_place, float_triangles, have_corners, put_place,
-    shared_edges, shared_edges_by_index, written_places,
+    DecimalMesh, PlaceFault, decimal_mesh, decimal_place, float_place, float_triangles,
+    have_corners, put_place, shared_edges, shared_edges_by_index, written_places,
 };
 use std::test::Fail;
 
@@ -243,7 +243,8 @@ fn two_triangles_of_four_vanish_as_decimals(rt: HostRuntime) -> Result<(), Fail>
         triangle(3, 1, 2, 3),
     ];
     assert!(rt; have_corners(&triangles, corners.len()));
-    let mesh = decimal_mesh(rt.alloc(), &corners, &triangles, &TENTH, &AT_ZERO, 0)?;
+    let DecimalMesh { mesh, planes } =
+        decimal_mesh(rt.alloc(), &corners, &triangles, &TENTH, &AT_ZERO, 0)?;
     let vertices = [point(0, 0, 0), point(0, 1, 0), point(1, 0, 0)];
     let written = [
         IndexedTriangle { a: 0, b: 1, c: 2 },
@@ -251,6 +252,7 @@ fn two_triangles_of_four_vanish_as_decimals(rt: HostRuntime) -> Result<(), Fail>
     ];
     assert_eq!(rt; mesh.vertices(), vertices.as_slice());
     assert_eq!(rt; mesh.triangles(), written.as_slice());
+    assert_eq!(rt; planes.as_slice(), [0, 3].as_slice());
     Ok(())
 }
 

@@ -3,7 +3,7 @@ use Rattle.ember_boolean.specs.declared.wanted.MeshFormat.TheVariants.{Text}
 use Rattle.ember_boolean.specs.Faults.{IsWritingFault, of_place_fault}
 use Rattle.ember_written.specs.DecimalTriangles.{decimal_triangles}
 use Rattle.ember_boolean.proofs.Refusals.{passed_on, decimal_fault_is}
-use Rattle.ember_boolean.proofs.Outputs.{corners_are_there, fewer_decimals, shown_are_written, bytes_are_text, shared_of_mesh, as_many_decimals}
+use Rattle.ember_boolean.proofs.Outputs.{corners_are_there, fewer_decimals, shown_are_written, text_of_mesh, shared_of_mesh, as_many_decimals}
 use Rattle.ember_boolean.proofs.text.text_output.Goals as goal
 
 pub decimal_mesh-requires-clause-corners : goal.decimal_mesh-requires-clause-corners
@@ -18,8 +18,11 @@ returns-in_err-written-clause-fault c =
 pub overflow_sub-vanished : goal.overflow_sub-vanished
 overflow_sub-vanished c =
     let g = c.args.grid in
-    let ts = decimal_triangles c.written_places-places.result g.step g.offset c.deref.result.now c.deref-2.result.now in
-    let fewer = fewer_decimals c.written_places-places.result g.step g.offset c.deref.result.now c.deref-2.result.now in
+    let places = c.written_places-places.result in
+    let corners = c.deref.result.now in
+    let triangles = c.deref-2.result.now in
+    let ts = decimal_triangles places g.step g.offset corners triangles in
+    let fewer = fewer_decimals places g.step g.offset corners triangles in
     let shown = shown_are_written ts c.triangles-faces.result.now (c.triangles-faces.ensures ts c.in_ok-written.ensures.mesh) in
     let same = ap length c.deref-2.ensures.value in
     omega (arith, fewer, shown, same)
@@ -38,7 +41,7 @@ returns-clause-text c =
     let same = ap length c.deref-2.ensures.value in
     let as_many = as_many_decimals places _ g.step g.offset m.corners.items corners m.triangles.items triangles c.written_places-places.ensures.value c.deref.ensures.value c.deref-2.ensures.value in
     record {
-      bytes = bytes_are_text c.args.format places _ g.step g.offset m.corners.items corners m.triangles.items triangles c.vertices.result.now c.triangles-faces.result.now c.in_ok-bytes.bytes.items c.written_places-places.ensures.value c.deref.ensures.value c.deref-2.ensures.value (c.vertices.ensures ts is) (c.triangles-faces.ensures ts is) c.in_ok-bytes.ensures;
+      bytes = text_of_mesh c.args.format places _ g.step g.offset m.corners.items corners m.triangles.items triangles c.in_ok-bytes.bytes.items c.written_places-places.ensures.value c.deref.ensures.value c.deref-2.ensures.value (c.in_ok-bytes.ensures ts is);
       planes = omega arith;
       triangles = omega arith;
       vanished = omega (arith, fewer, shown, same, as_many);

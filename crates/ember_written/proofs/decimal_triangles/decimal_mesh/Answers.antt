@@ -4,7 +4,7 @@ use Rattle.std.proofs.lemmas.List.{length-map}
 use Rattle.ember_vertices.specs.declared.point.DecimalPoint.{DecimalPoint}
 use Rattle.ember_vertices.specs.Vertices.{IsMeshOf}
 use Rattle.ember_written.specs.Decimals.{decimal_point}
-use Rattle.ember_written.specs.DecimalTriangles.{triangle_at, kept}
+use Rattle.ember_written.specs.DecimalTriangles.{triangle_at, kept, plane_of}
 use Rattle.ember_written.specs.Triangles.{has_corners}
 use Rattle.ember_written.proofs.decimal_triangles.decimal_mesh.Goals as goal
 
@@ -16,4 +16,9 @@ mesh_over-requires c =
 
 pub returns-clause-mesh : goal.returns-clause-mesh
 returns-clause-mesh c =
-    subst (λ (ps : List DecimalPoint). IsMeshOf (kept (map (triangle_at ps) c.args.triangles.now)) c.in_ok-mesh.mesh) (c.deref.ensures.value ∙ c.in_ok-points.ensures.points) c.in_ok-mesh.ensures
+    subst (λ (ps : List DecimalPoint). IsMeshOf (map (triangle_at ps) (kept ps c.args.triangles.now)) c.in_ok-written.written.mesh) (c.deref.ensures.value ∙ c.in_ok-points.ensures.points) c.in_ok-written.ensures.mesh
+
+pub returns-clause-planes : goal.returns-clause-planes
+returns-clause-planes c =
+    c.in_ok-written.ensures.planes
+    ∙ ap (λ (ps : List DecimalPoint). map plane_of (kept ps c.args.triangles.now)) (c.deref.ensures.value ∙ c.in_ok-points.ensures.points)

@@ -1,0 +1,5 @@
+pub mod Edges
+pub mod Turns
+pub mod Walls
+pub mod Splits
+pub mod Paired
