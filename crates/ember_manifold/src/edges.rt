@@ -37,6 +37,11 @@ fn half_edge(from: usize, to: usize, corner: usize) -> HalfEdge
     }
 }
 
+/// Whether both edges are between the same two vertices.
+pub fn is_beside(one: &HalfEdge, other: &HalfEdge) -> bool {
+    one.low == other.low && one.high == other.high
+}
+
 fn push_edges(
     edges: &mut Vec<HalfEdge>,
     triangle: &IndexedTriangle,

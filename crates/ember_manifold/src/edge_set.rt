@@ -1,0 +1,45 @@
+// Edges by the points of their ends.
+ghost use Rattle.std.specs.Prelude.{◌≡◌, []};
+ghost use Rattle.ember_manifold.specs.Cuts.{is_among};
+
+use ember_vertices::DecimalPoint;
+use indexmap::IndexSet;
+use std::alloc::{AllocError, Global};
+
+/// An edge from one point to another.
+#[derive(Clone, Copy, Debug, PartialEq, Eq, Hash)]
+pub struct PointEdge {
+    pub from: DecimalPoint,
+    pub to: DecimalPoint,
+}
+
+/// Edges, each in both directions.
+#[derive(Drop)]
+pub struct EdgeSet {
+    edges: IndexSet<PointEdge>,
+}
+
+impl EdgeSet {
+    /// No edges.
+    pub fn new(alloc: Global) -> EdgeSet
+        ensures { result.edges.keys ≡ [] }
+    {
+        EdgeSet {
+            edges: IndexSet::new(alloc),
+        }
+    }
+
+    /// Adds the edge between two points, unless it is there.
+    pub fn add(&mut self, u: DecimalPoint, v: DecimalPoint) -> Result<(), AllocError> {
+        self.edges.insert(PointEdge { from: u, to: v })?;
+        self.edges.insert(PointEdge { from: v, to: u })?;
+        Ok(())
+    }
+
+    /// Whether there is an edge from u to v.
+    pub fn has(&self, u: &DecimalPoint, v: &DecimalPoint) -> bool
+        ensures { result ≡ is_among self.now.edges.keys u.now v.now }
+    {
+        self.edges.contains(&PointEdge { from: *u, to: *v })
+    }
+}
