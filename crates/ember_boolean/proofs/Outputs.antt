@@ -21,6 +21,7 @@ use Rattle.ember_stl_bytes.specs.declared.triangle.WrittenTriangle.{WrittenTrian
 use Rattle.ember_surface.specs.declared.surface.Surface.{Surface}
 use Rattle.ember_manifold.specs.declared.split.SplitMesh.{SplitMesh}
 use Rattle.ember_manifold.specs.Splits.{AreSplitOf}
+use Rattle.ember_manifold.specs.Cuts.{AreCutOf}
 use Rattle.ember_mesh_text.specs.declared.format.TextFormat.{TextFormat}
 use Rattle.ember_mesh_text.specs.Texts.{text_of}
 use Rattle.ember_vertices.specs.declared.point.DecimalPoint.{DecimalPoint}
@@ -93,10 +94,12 @@ pub shown_are_written : (ts : List DecimalTriangle) (shown : List IndexedTriangl
 shown_are_written ts shown e = ap length e ∙ length-map ts (indexed (vertices_of ts))
 
 -- the text of a split mesh, by lists that equal its own
-pub split_is_text : (format : TextFormat) (places : ℕ) (ts : List DecimalTriangle) (split : SplitMesh) (shown faces : List IndexedTriangle) (points vertices written : List DecimalPoint) (origins : List ℕ) (bytes : List ℕ) → shown ≡ map (indexed (vertices_of ts)) ts → points ≡ vertices_of ts → AreSplitOf split shown → origins ≡ split.origins.items → vertices ≡ map (point_at points) origins → written ≡ vertices → faces ≡ split.triangles.items → bytes ≡ text_of format places written faces → IsTextOver format places ts bytes
-split_is_text format places ts split shown faces points vertices written origins bytes a b are d e f g h = record {
+pub split_is_text : (format : TextFormat) (places : ℕ) (ts cut : List DecimalTriangle) (split : SplitMesh) (faces : List IndexedTriangle) (points vertices written : List DecimalPoint) (origins : List ℕ) (bytes : List ℕ) → AreCutOf ts cut → points ≡ vertices_of cut → AreSplitOf split (map (indexed (vertices_of cut)) cut) → origins ≡ split.origins.items → vertices ≡ map (point_at points) origins → written ≡ vertices → faces ≡ split.triangles.items → bytes ≡ text_of format places written faces → IsTextOver format places ts bytes
+split_is_text format places ts cut split faces points vertices written origins bytes are_cut b are d e f g h = record {
+  cut = cut;
+  are_cut = are_cut;
   split = split;
-  are_split = subst (AreSplitOf split) a are;
+  are_split = are;
   is = h ∙ (λ i. text_of format places ((f ∙ e) i) (g i)) ∙ (λ i. text_of format places (map (point_at (b i)) (d i)) split.triangles.items);
 }
 

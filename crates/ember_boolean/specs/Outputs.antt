@@ -5,6 +5,7 @@ use Rattle.ember_expr.specs.Formula.{Formula}
 use Rattle.ember_grid.specs.declared.grid.Grid.{Grid}
 use Rattle.ember_manifold.specs.declared.split.SplitMesh.{SplitMesh}
 use Rattle.ember_manifold.specs.Splits.{AreSplitOf}
+use Rattle.ember_manifold.specs.Cuts.{AreCutOf}
 use Rattle.ember_mesh_text.specs.declared.format.TextFormat.{TextFormat}
 use Rattle.ember_mesh_text.specs.Texts.{text_of}
 use Rattle.ember_query.specs.Solids.{IsSolidReport}
@@ -56,12 +57,14 @@ abbrev pub decimals_of : Option ℕ → Grid → SolidMesh → List DecimalTrian
 decimals_of digits grid mesh =
     decimal_triangles (written_places digits grid.step) grid.step grid.offset mesh.corners.items mesh.triangles.items
 
--- the bytes are a text of triangles: each of their points is a vertex, some of them more than once, and each corner of
--- a triangle is a vertex at its point
+-- the bytes are a text of triangles, some of them cut at the middles of their edges: each of their points is a vertex,
+-- some of them more than once, and each corner of a triangle is a vertex at its point
 pub record IsTextOver (format : TextFormat) (places : ℕ) (ts : List DecimalTriangle) (bytes : List ℕ) : Type 0 where
+  pub cut : List DecimalTriangle
+  pub are_cut : AreCutOf ts cut
   pub split : SplitMesh
-  pub are_split : AreSplitOf split (map (indexed (vertices_of ts)) ts)
-  pub is : bytes ≡ text_of format places (map (point_at (vertices_of ts)) split.origins.items) split.triangles.items
+  pub are_split : AreSplitOf split (map (indexed (vertices_of cut)) cut)
+  pub is : bytes ≡ text_of format places (map (point_at (vertices_of cut)) split.origins.items) split.triangles.items
 
 -- the bytes are the text of the mesh's rounded triangles; the numbers are those of the mesh, and of its triangles that
 -- aren't written

@@ -1,9 +1,11 @@
 // The OBJ, PLY or OFF of a mesh.
-ghost use Rattle.std.specs.Prelude.{◌≡◌, ◌≤◌, List, All, IfOk, IfErr, IfSome};
+ghost use Rattle.std.specs.Prelude.{◌≡◌, ◌≤◌, List, All, map, IfOk, IfErr, IfSome};
 ghost use Rattle.ember_certificate.specs.Certificate.{IsProper};
 ghost use Rattle.ember_snap.specs.Steps.{IsStep};
 ghost use Rattle.ember_vertices.specs.declared.point.DecimalTriangle.{DecimalTriangle};
-ghost use Rattle.ember_vertices.specs.Vertices.{IsMeshOf};
+ghost use Rattle.ember_manifold.specs.Cuts.{AreCutOf};
+ghost use Rattle.ember_manifold.specs.Splits.{AreSplitOf};
+ghost use Rattle.ember_vertices.specs.Vertices.{vertices_of, indexed, IsMeshOf};
 ghost use Rattle.ember_boolean.specs.declared.wanted.MeshFormat.TheVariants.{Text};
 ghost use Rattle.ember_boolean.specs.Outputs.{IsText, IsTextOver};
 ghost use Rattle.ember_boolean.specs.Faults.{IsWritingFault};
@@ -11,15 +13,34 @@ ghost use Rattle.ember_boolean.specs.Faults.{IsWritingFault};
 use crate::fault::BooleanFault;
 use crate::writing::Output;
 use ember_grid::Grid;
-use ember_manifold::{points_of, split_vertices};
+use ember_manifold::{SplitMesh, cut_pinched, points_of, split_vertices};
 use ember_mesh_text::{TextFormat, mesh_text};
 use ember_model::Plane;
 use ember_scene::Counts;
 use ember_solid_mesh::SolidMesh;
+use ember_vertices::IndexedMesh;
 use ember_written::{DecimalMesh, decimal_mesh, written_places};
 use std::alloc::{AllocError, Global};
 
-// The text of a rounded mesh, with vertices that are doubled where parts only touch.
+// The text of a mesh, over vertices of which some are doubled.
+fn text_over(
+    alloc: Global,
+    format: TextFormat,
+    mesh: &IndexedMesh,
+    split: &SplitMesh,
+    places: u32,
+) -> Result<Vec<u8>, AllocError>
+    requires { places ≤ 17 }
+    ensures { (ts cut : List DecimalTriangle) → AreCutOf ts cut → IsMeshOf cut mesh.now →
+        AreSplitOf split.now (map (indexed (vertices_of cut)) cut) →
+        IfOk result (λ bytes. IsTextOver format places ts bytes.items) }
+{
+    let vertices = points_of(alloc, mesh.vertices(), &split.origins)?;
+    mesh_text(alloc, format, &vertices, &split.triangles, places)
+}
+
+// The text of a rounded mesh, with vertices that are doubled where parts only touch. If an edge still
+// has more than two triangles, triangles are cut before; if that is no help, they stay whole.
 fn split_text(
     alloc: Global,
     format: TextFormat,
@@ -39,8 +60,21 @@ fn split_text(
         mesh.vertices(),
         mesh.triangles(),
     )?;
-    let vertices = points_of(alloc, mesh.vertices(), &split.mesh.origins)?;
-    mesh_text(alloc, format, &vertices, &split.mesh.triangles, places)
+    if split.is_manifold {
+        return text_over(alloc, format, mesh, &split.mesh, places);
+    }
+    let cut = cut_pinched(alloc, mesh, &written.planes, &split.mesh)?;
+    let again = split_vertices(
+        alloc,
+        planes,
+        &cut.planes,
+        cut.mesh.vertices(),
+        cut.mesh.triangles(),
+    )?;
+    if again.is_manifold {
+        return text_over(alloc, format, &cut.mesh, &again.mesh, places);
+    }
+    text_over(alloc, format, mesh, &split.mesh, places)
 }
 
 // The text of a mesh on a grid. The mesh isn't kept while its bytes are made.

@@ -10,7 +10,7 @@ use Rattle.ember_vertices.specs.Vertices.{vertices_of, indexed, over, IsMeshOf}
 use Rattle.ember_vertices.proofs.Meshes.{corners_are_back}
 use Rattle.ember_manifold.specs.declared.edge_set.PointEdge.{PointEdge}
 use Rattle.ember_manifold.specs.Middles.{middle}
-use Rattle.ember_manifold.specs.Cuts.{triangle, is_cut, halves_at, halves, pieces, IsCutMesh}
+use Rattle.ember_manifold.specs.Cuts.{triangle, is_cut, halves_at, halves, pieces, AreCutOf, IsCutMesh}
 
 -- ---- triangles that are put in one after another
 pub put_after : {mesh : IndexedMesh} (before xs ys : List DecimalTriangle) → IsMeshOf ((before ++ xs) ++ ys) mesh → IsMeshOf (before ++ (xs ++ ys)) mesh
@@ -71,6 +71,9 @@ mesh_is_cut es ts ps shown mesh at all h =
 
 -- ---- triangles that aren't cut
 -- without edges each triangle stays as it is
-pub nothing_cut : (ts : List DecimalTriangle) → ts ≡ flat_map (pieces []) ts
+nothing_cut : (ts : List DecimalTriangle) → ts ≡ flat_map (pieces []) ts
 nothing_cut [] = refl
 nothing_cut (t ∷ ts) = ap (λ (us : List DecimalTriangle). t ∷ us) (nothing_cut ts)
+
+pub uncut : (ts : List DecimalTriangle) → AreCutOf ts ts
+uncut ts = record { edges = []; is = nothing_cut ts }
