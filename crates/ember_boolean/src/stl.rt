@@ -58,6 +58,7 @@ pub(crate) fn stl_output<'a>(
         planes: plane_count,
         triangles: triangle_count,
         vanished,
+        is_manifold: false,
         report,
     })
 }

@@ -1,9 +1,10 @@
 // The OBJ, PLY or OFF of a mesh.
-ghost use Rattle.std.specs.Prelude.{◌≡◌, ◌≤◌, List, All, map, IfOk, IfErr, IfSome};
+ghost use Rattle.std.specs.Prelude.{◌≡◌, ◌≤◌, true, List, All, map, IfOk, IfErr, IfSome};
 ghost use Rattle.ember_certificate.specs.Certificate.{IsProper};
 ghost use Rattle.ember_snap.specs.Steps.{IsStep};
 ghost use Rattle.ember_vertices.specs.declared.point.DecimalTriangle.{DecimalTriangle};
 ghost use Rattle.ember_manifold.specs.Cuts.{AreCutOf};
+ghost use Rattle.ember_manifold.specs.Paired.{IsManifold};
 ghost use Rattle.ember_manifold.specs.Splits.{AreSplitOf};
 ghost use Rattle.ember_vertices.specs.Vertices.{vertices_of, indexed, IsMeshOf};
 ghost use Rattle.ember_boolean.specs.declared.wanted.MeshFormat.TheVariants.{Text};
@@ -13,7 +14,7 @@ ghost use Rattle.ember_boolean.specs.Faults.{IsWritingFault};
 use crate::fault::BooleanFault;
 use crate::writing::Output;
 use ember_grid::Grid;
-use ember_manifold::{SplitMesh, cut_pinched, points_of, split_vertices};
+use ember_manifold::{CheckedSplit, cut_pinched, points_of, split_vertices};
 use ember_mesh_text::{TextFormat, mesh_text};
 use ember_model::Plane;
 use ember_scene::Counts;
@@ -22,21 +23,33 @@ use ember_vertices::IndexedMesh;
 use ember_written::{DecimalMesh, decimal_mesh, written_places};
 use std::alloc::{AllocError, Global};
 
+// A text, and whether each of its edges has two triangles.
+#[derive(Drop)]
+struct MeshText {
+    bytes: Vec<u8>,
+    is_manifold: bool,
+}
+
 // The text of a mesh, over vertices of which some are doubled.
 fn text_over(
     alloc: Global,
     format: TextFormat,
     mesh: &IndexedMesh,
-    split: &SplitMesh,
+    split: &CheckedSplit,
     places: u32,
-) -> Result<Vec<u8>, AllocError>
+) -> Result<MeshText, AllocError>
     requires { places ≤ 17 }
     ensures { (ts cut : List DecimalTriangle) → AreCutOf ts cut → IsMeshOf cut mesh.now →
-        AreSplitOf split.now (map (indexed (vertices_of cut)) cut) →
-        IfOk result (λ bytes. IsTextOver format places ts bytes.items) }
+        AreSplitOf split.now.mesh (map (indexed (vertices_of cut)) cut) →
+        (split.now.is_manifold ≡ true → IsManifold split.now.mesh.triangles.items) →
+        IfOk result (λ text. IsTextOver format places ts text.bytes.items text.is_manifold) }
 {
-    let vertices = points_of(alloc, mesh.vertices(), &split.origins)?;
-    mesh_text(alloc, format, &vertices, &split.triangles, places)
+    let vertices = points_of(alloc, mesh.vertices(), &split.mesh.origins)?;
+    let bytes = mesh_text(alloc, format, &vertices, &split.mesh.triangles, places)?;
+    Ok(MeshText {
+        bytes,
+        is_manifold: split.is_manifold,
+    })
 }
 
 // The text of a rounded mesh, with vertices that are doubled where parts only touch. If an edge still
@@ -47,10 +60,10 @@ fn split_text(
     planes: &[Plane],
     written: &DecimalMesh,
     places: u32,
-) -> Result<Vec<u8>, AllocError>
+) -> Result<MeshText, AllocError>
     requires { places ≤ 17 }
     ensures { (ts : List DecimalTriangle) → IsMeshOf ts written.now.mesh →
-        IfOk result (λ bytes. IsTextOver format places ts bytes.items) }
+        IfOk result (λ text. IsTextOver format places ts text.bytes.items text.is_manifold) }
 {
     let mesh = &written.mesh;
     let split = split_vertices(
@@ -61,7 +74,7 @@ fn split_text(
         mesh.triangles(),
     )?;
     if split.is_manifold {
-        return text_over(alloc, format, mesh, &split.mesh, places);
+        return text_over(alloc, format, mesh, &split, places);
     }
     let cut = cut_pinched(alloc, mesh, &written.planes, &split.mesh)?;
     let again = split_vertices(
@@ -72,9 +85,9 @@ fn split_text(
         cut.mesh.triangles(),
     )?;
     if again.is_manifold {
-        return text_over(alloc, format, &cut.mesh, &again.mesh, places);
+        return text_over(alloc, format, &cut.mesh, &again, places);
     }
-    text_over(alloc, format, mesh, &split.mesh, places)
+    text_over(alloc, format, mesh, &split, places)
 }
 
 // The text of a mesh on a grid. The mesh isn't kept while its bytes are made.
@@ -115,7 +128,7 @@ pub(crate) fn text_output<'a>(
     let vanished = triangle_count - written.mesh.triangles().len() as u64;
     drop(corners);
     drop(triangles);
-    let bytes = split_text(alloc, format, &planes, &written, places)?;
+    let MeshText { bytes, is_manifold } = split_text(alloc, format, &planes, &written, places)?;
     Ok(Output {
         bytes,
         grid,
@@ -123,6 +136,7 @@ pub(crate) fn text_output<'a>(
         planes: plane_count,
         triangles: triangle_count,
         vanished,
+        is_manifold,
         report,
     })
 }
