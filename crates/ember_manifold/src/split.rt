@@ -160,7 +160,9 @@ pub fn split_vertices(
     let edges = sorted_edges(alloc, triangles)?;
     let mut parents = own_classes(alloc, 3 * triangles.len())?;
     join_all(alloc, planes, numbers, vertices, &edges, &mut parents)?;
+    drop(edges);
     let mesh = split_by(alloc, triangles, &mut parents)?;
+    drop(parents);
     let is_manifold = has_two_each(alloc, &mesh.triangles)?;
     Ok(CheckedSplit { mesh, is_manifold })
 }
