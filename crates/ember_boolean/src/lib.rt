@@ -1,4 +1,5 @@
-//! The solid of an expression over mesh files: from their bytes to those of the file that is wanted.
+//! The solid of an expression over mesh files: from their bytes to those of the file that is
+//! wanted.
 #![tactic(auto)]
 
 mod fault;

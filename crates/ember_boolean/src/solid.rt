@@ -18,13 +18,13 @@ use ember_query::{Answer, Query};
 use ember_solid_mesh::solid_mesh;
 use std::alloc::Global;
 
-/// The solid of an expression over mesh files, as the file that is wanted. The file with the index `i`
-/// is the mesh `i + 1` of the expression.
+/// The solid of an expression over mesh files, as the file that is wanted. The file with the index
+/// `i` is the mesh `i + 1` of the expression.
 ///
 /// The surfaces of the files are put on the grid that is wanted, the triangles of the solid are
-/// exact there, and each coordinate of their corners is rounded once. There are at most 64 files, of
-/// at most 2^28 bytes each, a given step is in range, and there are at most 17 decimal places. Of
-/// several faults the first of these is reported:
+/// exact there, and each coordinate of their corners is rounded once. There are at most 64 files,
+/// of at most 2^28 bytes each, a given step is in range, and there are at most 17 decimal places.
+/// Of several faults the first of these is reported:
 ///
 /// 1. The first file that isn't read.
 /// 2. The surfaces are no scene: see [`scene_of`](ember_scene::scene_of).

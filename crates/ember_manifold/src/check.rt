@@ -35,8 +35,8 @@ fn is_first_pair(one: &HalfEdge, other: &HalfEdge, others: &[HalfEdge]) -> bool
     is_pair(one, other) && is_earlier_than_all(one, others)
 }
 
-/// Whether sorted edges are pairs of one that leads forward and one that leads back, each pair between
-/// other vertices.
+/// Whether sorted edges are pairs of one that leads forward and one that leads back, each pair
+/// between other vertices.
 pub fn is_paired(edges: &[HalfEdge]) -> bool
     ensures { result ≡ is_paired edges.now }
 {

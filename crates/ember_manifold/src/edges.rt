@@ -5,8 +5,8 @@ ghost use Rattle.ember_manifold.specs.Edges.{half_edge, edges_of, edges_from};
 use ember_vertices::IndexedTriangle;
 use std::alloc::{AllocError, Global};
 
-/// An edge of a triangle. The corner at which it starts has three times the index of its triangle as
-/// its number, and 0, 1 or 2 more.
+/// An edge of a triangle. The corner at which it starts has three times the index of its triangle
+/// as its number, and 0, 1 or 2 more.
 #[derive(Clone, Copy, Debug, PartialEq, Eq, PartialOrd, Ord)]
 pub struct HalfEdge {
     /// The lower one of its two vertices.

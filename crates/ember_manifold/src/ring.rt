@@ -66,8 +66,8 @@ pub fn join_along(parents: &mut [usize], one: usize, other: usize) {
 }
 
 /// Joins the triangles with edges between u and v between which solid lies. On the way round, solid
-/// follows a wall whose edge leads back and ends at one whose edge leads forward; so these match like
-/// brackets, and the way has no beginning.
+/// follows a wall whose edge leads back and ends at one whose edge leads forward; so these match
+/// like brackets, and the way has no beginning.
 pub fn join_ring(
     alloc: Global,
     planes: &[Plane],

@@ -136,14 +136,15 @@ fn has_two_each(alloc: Global, triangles: &[IndexedTriangle]) -> Result<bool, Al
 }
 
 /// The same triangles over vertices of which some are doubled. Triangles with a common edge share
-/// the vertices of the edge if no others have it, or if solid lies between them; corners that aren't
-/// joined so are vertices of their own. So each vertex has one ring of triangles, and each edge has two
-/// triangles unless a ring is pinched along it; whether each has is part of the result.
+/// the vertices of the edge if no others have it, or if solid lies between them; corners that
+/// aren't joined so are vertices of their own. So each vertex has one ring of triangles, and each
+/// edge has two triangles unless a ring is pinched along it; whether each has is part of the
+/// result.
 ///
-/// `numbers` has the number of each triangle's plane. A triangle without a plane, or whose plane has a
-/// normal of 2^25 or more, isn't joined to others along an edge of more than two triangles. The one
-/// error is out-of-memory; 2^60 triangles or more, for which no memory is large enough, are reported
-/// so, too.
+/// `numbers` has the number of each triangle's plane. A triangle without a plane, or whose plane
+/// has a normal of 2^25 or more, isn't joined to others along an edge of more than two triangles.
+/// The one error is out-of-memory; 2^60 triangles or more, for which no memory is large enough, are
+/// reported so, too.
 pub fn split_vertices(
     alloc: Global,
     planes: &[Plane],

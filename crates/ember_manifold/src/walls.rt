@@ -8,8 +8,8 @@ use ember_vertices::DecimalPoint;
 use std::alloc::AllocError;
 use std::cmp::Ordering;
 
-/// A triangle at an edge: the normal of its plane, as if its own edge led forward, and the corner at
-/// which its edge starts.
+/// A triangle at an edge: the normal of its plane, as if its own edge led forward, and the corner
+/// at which its edge starts.
 #[derive(Clone, Copy, Debug, PartialEq, Eq)]
 pub struct Wall {
     pub normal: Normal,
@@ -29,8 +29,8 @@ fn is_in_second_half(u: &DecimalPoint, v: &DecimalPoint, first: &Wall, wall: &Wa
     }
 }
 
-// Whether a wall comes before another on the way round, which begins at the first one. Of two at the
-// same place, the one whose edge leads back comes first.
+// Whether a wall comes before another on the way round, which begins at the first one. Of two at
+// the same place, the one whose edge leads back comes first.
 fn is_before(u: &DecimalPoint, v: &DecimalPoint, first: &Wall, one: &Wall, other: &Wall) -> bool
     ensures { result ≡ is_before u.now v.now first.now one.now other.now }
 {

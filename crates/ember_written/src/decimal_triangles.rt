@@ -95,8 +95,8 @@ fn mesh_over(
 /// that became equal are left out. The others keep their order, also those without an area. Equal
 /// points are one vertex.
 ///
-/// `corners` is the table to which the triangles' numbers refer. Each corner of a triangle is in the
-/// table, as of certified triangles. There are at most 17 places. A corner of the table that is
+/// `corners` is the table to which the triangles' numbers refer. Each corner of a triangle is in
+/// the table, as of certified triangles. There are at most 17 places. A corner of the table that is
 /// 10^21 or more from zero is a fault.
 pub fn decimal_mesh(
     alloc: Global,
