@@ -52,8 +52,8 @@ fn text_over(
     })
 }
 
-// The text of a rounded mesh, with vertices that are doubled where parts only touch. If an edge still
-// has more than two triangles, triangles are cut before; if that is no help, they stay whole.
+// The text of a rounded mesh, with vertices that are doubled where parts only touch. If an edge
+// still has more than two triangles, triangles are cut before; if that is no help, they stay whole.
 fn split_text(
     alloc: Global,
     format: TextFormat,

@@ -30,7 +30,8 @@ pub struct Output {
     pub triangles: u64,
     /// How many of these aren't in the file: two of their corners became equal when rounded.
     pub vanished: u64,
-    /// Whether each edge of the file has two triangles. An STL has no vertices, so there it is false.
+    /// Whether each edge of the file has two triangles. An STL has no vertices, so there it is
+    /// false.
     pub is_manifold: bool,
     pub report: Report,
 }

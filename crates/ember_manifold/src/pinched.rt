@@ -1,7 +1,7 @@
 // Edges that more than two triangles have.
 //
-// Which edges are cut has no contract: whatever they are, the pieces of a triangle cover it, and what
-// becomes of the mesh is tested.
+// Which edges are cut has no contract: whatever they are, the pieces of a triangle cover it, and
+// what becomes of the mesh is tested.
 ghost use Rattle.std.specs.Prelude.{◌^◌, ◌<◌, length};
 
 use crate::edge_set::EdgeSet;
