@@ -12,6 +12,10 @@ use Rattle.ember_manifold.specs.Middles.{middle}
 abbrev pub same_edge : PointEdge → PointEdge → Bool
 same_edge e f = same_point e.from f.from && same_point e.to f.to
 
+-- the edges, and e behind them if it is new
+abbrev pub with_edge : List PointEdge → PointEdge → List PointEdge
+with_edge es e = if list_any (same_edge e) es then es else es ++ e ∷ []
+
 -- one of the edges leads from u to v
 abbrev pub is_among : List PointEdge → DecimalPoint → DecimalPoint → Bool
 is_among es u v = list_any (same_edge (record { from = u; to = v })) es

@@ -1,5 +1,5 @@
 -- The edges of triangles
-use Rattle.std.specs.Prelude.{ℕ, ◌+◌, true, false, nat_lt, if◌then◌else◌, List, [], ◌∷◌, ◌++◌}
+use Rattle.std.specs.Prelude.{ℕ, ◌+◌, Bool, true, false, ◌&&◌, ◌==◌, nat_lt, if◌then◌else◌, List, [], ◌∷◌, ◌++◌}
 use Rattle.ember_vertices.specs.declared.point.IndexedTriangle.{IndexedTriangle}
 use Rattle.ember_manifold.specs.declared.edges.HalfEdge.{HalfEdge}
 
@@ -18,3 +18,7 @@ edges_of first t = half_edge t.a t.b first ∷ half_edge t.b t.c (first + 1) ∷
 abbrev pub edges_from : ℕ → List IndexedTriangle → List HalfEdge
 edges_from first [] = []
 edges_from first (t ∷ ts) = edges_of first t ++ edges_from (first + 3) ts
+
+-- both are between the same two vertices
+abbrev pub is_beside : HalfEdge → HalfEdge → Bool
+is_beside e f = e.low == f.low && e.high == f.high

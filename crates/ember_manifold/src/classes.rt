@@ -2,6 +2,8 @@
 //
 // Each corner has a parent. A corner that is its own parent is the root of its class; other parents
 // are lower corners. What isn't so does no harm: corners are then in more classes than necessary.
+ghost use Rattle.std.specs.Prelude.{◌≡◌, slice_index_or};
+
 use std::alloc::{AllocError, Global};
 
 /// Each of so many corners in a class of its own.
@@ -14,7 +16,9 @@ pub fn own_classes(alloc: Global, corners: usize) -> Result<Vec<usize>, AllocErr
 }
 
 // The parent of a corner, or the corner itself if it isn't there.
-fn parent(parents: &[usize], corner: usize) -> usize {
+fn parent(parents: &[usize], corner: usize) -> usize
+    ensures { result ≡ slice_index_or parents.now corner corner }
+{
     match parents.get(corner) {
         Some(parent) => *parent,
         None => corner,

@@ -1,5 +1,5 @@
 // Meshes whose triangles are cut at the middles of edges.
-ghost use Rattle.std.specs.Prelude.{◌≡◌, [], ◌∷◌, ◌++◌, List, map, flat_map, IfOk, OnOk};
+ghost use Rattle.std.specs.Prelude.{◌≡◌, [], ◌∷◌, ◌++◌, List, map, flat_map, slice_index_or, IfOk, OnOk};
 ghost use Rattle.ember_vertices.specs.declared.point.DecimalTriangle.{DecimalTriangle};
 ghost use Rattle.ember_vertices.specs.Vertices.{same_point, over, IsMeshOf};
 ghost use Rattle.ember_manifold.specs.Cuts.{triangle, is_apart, is_cut, halves_at, halves, pieces, IsCutMesh};
@@ -163,7 +163,9 @@ fn over(vertices: &[DecimalPoint], t: &IndexedTriangle) -> DecimalTriangle
 }
 
 // The number of a triangle's plane. What has none gets one that no plane has.
-fn plane_of(planes: &[u32], triangle: usize) -> u32 {
+fn plane_of(planes: &[u32], triangle: usize) -> u32
+    ensures { result ≡ slice_index_or planes.now triangle 4294967295 }
+{
     match planes.get(triangle) {
         Some(plane) => *plane,
         None => u32::MAX,

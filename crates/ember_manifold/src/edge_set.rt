@@ -1,6 +1,6 @@
 // Edges by the points of their ends.
-ghost use Rattle.std.specs.Prelude.{◌≡◌, []};
-ghost use Rattle.ember_manifold.specs.Cuts.{is_among};
+ghost use Rattle.std.specs.Prelude.{◌≡◌, [], OnOk};
+ghost use Rattle.ember_manifold.specs.Cuts.{with_edge, is_among};
 
 use ember_vertices::DecimalPoint;
 use indexmap::IndexSet;
@@ -30,7 +30,10 @@ impl EdgeSet {
     }
 
     /// Adds the edge between two points, unless it is there.
-    pub fn add(&mut self, u: DecimalPoint, v: DecimalPoint) -> Result<(), AllocError> {
+    pub fn add(&mut self, u: DecimalPoint, v: DecimalPoint) -> Result<(), AllocError>
+        ensures { OnOk result (self.new.edges.keys ≡
+            with_edge (with_edge self.old.edges.keys (record { from = u; to = v })) (record { from = v; to = u })) }
+    {
         self.edges.insert(PointEdge { from: u, to: v })?;
         self.edges.insert(PointEdge { from: v, to: u })?;
         Ok(())
