@@ -23,6 +23,8 @@ use Rattle.ember_stl_bytes.specs.declared.triangle.WrittenTriangle.{WrittenTrian
 use Rattle.ember_surface.specs.declared.surface.Surface.{Surface}
 use Rattle.ember_manifold.specs.declared.split.SplitMesh.{SplitMesh}
 use Rattle.ember_manifold.specs.Splits.{AreSplitOf}
+use Rattle.ember_manifold.specs.Cuts.{AreCutOf}
+use Rattle.ember_manifold.specs.Paired.{IsManifold}
 use Rattle.ember_mesh_text.specs.declared.format.TextFormat.{TextFormat}
 use Rattle.ember_mesh_text.specs.Texts.{text_of}
 use Rattle.ember_vertices.specs.declared.point.DecimalPoint.{DecimalPoint}
@@ -102,19 +104,23 @@ pub shown_are_written : (ts : List DecimalTriangle) (shown : List IndexedTriangl
 shown_are_written ts shown e = ap length e ∙ length-map ts (indexed (vertices_of ts))
 
 -- the text of a split mesh, by lists that equal its own
-pub split_is_text : (format : TextFormat) (places : ℕ) (ts : List DecimalTriangle) (split : SplitMesh) (shown faces : List IndexedTriangle) (points vertices written : List DecimalPoint) (origins : List ℕ) (bytes : List ℕ) → shown ≡ map (indexed (vertices_of ts)) ts → points ≡ vertices_of ts → AreSplitOf split shown → origins ≡ split.origins.items → vertices ≡ map (point_at points) origins → written ≡ vertices → faces ≡ split.triangles.items → bytes ≡ text_of format places written faces → IsTextOver format places ts bytes
-split_is_text format places ts split shown faces points vertices written origins bytes a b are d e f g h = record {
+pub split_is_text : (format : TextFormat) (places : ℕ) (ts cut : List DecimalTriangle) (split : SplitMesh) (faces : List IndexedTriangle) (points vertices written : List DecimalPoint) (origins : List ℕ) (bytes : List ℕ) (is_manifold : Bool) → AreCutOf ts cut → points ≡ vertices_of cut → AreSplitOf split (over_vertices cut) → (is_manifold ≡ true → IsManifold split.triangles.items) → (is_manifold ≡ false → cut ≡ ts) → origins ≡ split.origins.items → vertices ≡ map (point_at points) origins → written ≡ vertices → faces ≡ split.triangles.items → bytes ≡ text_of format places written faces → IsTextOver format places ts bytes is_manifold
+split_is_text format places ts cut split faces points vertices written origins bytes is_manifold are_cut b are manifold whole d e f g h = record {
+  cut = cut;
+  are_cut = are_cut;
   split = split;
-  are_split = subst (AreSplitOf split) a are;
+  are_split = are;
   is = h ∙ (λ i. text_of format places ((f ∙ e) i) (g i)) ∙ (λ i. text_of format places (map (point_at (b i)) (d i)) split.triangles.items);
+  manifold = manifold;
+  whole = whole;
 }
 
 -- the text of a mesh, by lists that equal those of the mesh
-pub text_of_mesh : (format : TextFormat) (places many : ℕ) (s : Step) (o : Offset) (corners cs : List SpacePoint) (triangles ts : List Triangle) (bytes : List ℕ) → places ≡ many → cs ≡ corners → ts ≡ triangles → IsTextOver format places (decimal_triangles places s o cs ts) bytes → IsTextOver format many (decimal_triangles many s o corners triangles) bytes
-text_of_mesh format places many s o corners cs triangles ts bytes a b d text =
-    let of_places : IsTextOver format many (decimal_triangles many s o cs ts) bytes = subst (λ (n : ℕ). IsTextOver format n (decimal_triangles n s o cs ts) bytes) a text in
-    let of_corners : IsTextOver format many (decimal_triangles many s o corners ts) bytes = subst (λ (us : List SpacePoint). IsTextOver format many (decimal_triangles many s o us ts) bytes) b of_places in
-    subst (λ (us : List Triangle). IsTextOver format many (decimal_triangles many s o corners us) bytes) d of_corners
+pub text_of_mesh : (format : TextFormat) (places many : ℕ) (s : Step) (o : Offset) (corners cs : List SpacePoint) (triangles ts : List Triangle) (bytes : List ℕ) (is_manifold : Bool) → places ≡ many → cs ≡ corners → ts ≡ triangles → IsTextOver format places (decimal_triangles places s o cs ts) bytes is_manifold → IsTextOver format many (decimal_triangles many s o corners triangles) bytes is_manifold
+text_of_mesh format places many s o corners cs triangles ts bytes is_manifold a b d text =
+    let of_places : IsTextOver format many (decimal_triangles many s o cs ts) bytes is_manifold = subst (λ (n : ℕ). IsTextOver format n (decimal_triangles n s o cs ts) bytes is_manifold) a text in
+    let of_corners : IsTextOver format many (decimal_triangles many s o corners ts) bytes is_manifold = subst (λ (us : List SpacePoint). IsTextOver format many (decimal_triangles many s o us ts) bytes is_manifold) b of_places in
+    subst (λ (us : List Triangle). IsTextOver format many (decimal_triangles many s o corners us) bytes is_manifold) d of_corners
 
 -- the edges of more than two triangles are those of the mesh, by lists that equal those of the mesh
 pub shared_of_mesh : (places many : ℕ) (s : Step) (o : Offset) (corners cs : List SpacePoint) (triangles ts : List Triangle) (shown : List IndexedTriangle) (count : ℕ) → places ≡ many → cs ≡ corners → ts ≡ triangles → shown ≡ over_vertices (decimal_triangles places s o cs ts) → (AreIndicesClosed shown → IsSharedIndexCount shown count) → AreIndicesClosed (over_vertices (decimal_triangles many s o corners triangles)) → IsSharedIndexCount (over_vertices (decimal_triangles many s o corners triangles)) count

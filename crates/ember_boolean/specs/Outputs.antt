@@ -1,10 +1,12 @@
 -- The file of a mesh, and the output for mesh files
-use Rattle.std.specs.Prelude.{◌≡◌, ◌≤◌, ⊤, ℕ, ◌+◌, List, length, map, IfSome}
+use Rattle.std.specs.Prelude.{◌≡◌, ◌≤◌, ⊤, ℕ, Bool, true, false, ◌+◌, List, length, map, IfSome}
 use Rattle.std.specs.declared.option.Option.{Option}
 use Rattle.ember_expr.specs.Formula.{Formula}
 use Rattle.ember_grid.specs.declared.grid.Grid.{Grid}
 use Rattle.ember_manifold.specs.declared.split.SplitMesh.{SplitMesh}
 use Rattle.ember_manifold.specs.Splits.{AreSplitOf}
+use Rattle.ember_manifold.specs.Cuts.{AreCutOf}
+use Rattle.ember_manifold.specs.Paired.{IsManifold}
 use Rattle.ember_moves.specs.Shown.{AreMoves}
 use Rattle.ember_mesh_text.specs.declared.format.TextFormat.{TextFormat}
 use Rattle.ember_mesh_text.specs.Texts.{text_of}
@@ -50,6 +52,7 @@ pub record IsStl (grid : Grid) (mesh : SolidMesh) (out : Output) : Type 0 where
   pub rounded : AreRounded grid mesh written
   pub bytes : out.bytes.items ≡ stl_bytes_of written
   pub read_back : IsReadBack written out.bytes.items
+  pub not_known : out.is_manifold ≡ false
   pub planes : out.planes ≡ length mesh.planes.items
   pub triangles : out.triangles ≡ length mesh.triangles.items
   pub vanished : out.vanished + length written ≡ out.triangles
@@ -65,18 +68,25 @@ decimals_of digits grid mesh =
 abbrev pub over_vertices : List DecimalTriangle → List IndexedTriangle
 over_vertices ts = map (indexed (vertices_of ts)) ts
 
--- the bytes are a text of triangles: each of their points is a vertex, some of them more than once, and each corner of
--- a triangle is a vertex at its point
-pub record IsTextOver (format : TextFormat) (places : ℕ) (ts : List DecimalTriangle) (bytes : List ℕ) : Type 0 where
+-- the bytes are a text of triangles, some of them cut at the middles of their edges: each of their points is a vertex,
+-- some of them more than once, and each corner of a triangle is a vertex at its point. If it is called manifold, each
+-- edge between its vertices has two triangles; otherwise none is cut
+pub record IsTextOver (format : TextFormat) (places : ℕ) (ts : List DecimalTriangle) (bytes : List ℕ)
+    (is_manifold : Bool) : Type 0 where
+  pub cut : List DecimalTriangle
+  pub are_cut : AreCutOf ts cut
   pub split : SplitMesh
-  pub are_split : AreSplitOf split (over_vertices ts)
-  pub is : bytes ≡ text_of format places (map (point_at (vertices_of ts)) split.origins.items) split.triangles.items
+  pub are_split : AreSplitOf split (over_vertices cut)
+  pub is : bytes ≡ text_of format places (map (point_at (vertices_of cut)) split.origins.items) split.triangles.items
+  pub manifold : is_manifold ≡ true → IsManifold split.triangles.items
+  pub whole : is_manifold ≡ false → cut ≡ ts
 
 -- the bytes are the text of the mesh's rounded triangles; the numbers are those of the mesh, of its triangles that
 -- aren't written, and, if the others are closed, of their edges of more than two, where each point is one vertex
 pub record IsText (format : TextFormat) (digits : Option ℕ) (grid : Grid) (mesh : SolidMesh) (out : Output) :
     Type 0 where
   pub bytes : IsTextOver format (written_places digits grid.step) (decimals_of digits grid mesh) out.bytes.items
+      out.is_manifold
   pub planes : out.planes ≡ length mesh.planes.items
   pub triangles : out.triangles ≡ length mesh.triangles.items
   pub vanished : out.vanished + length (decimals_of digits grid mesh) ≡ out.triangles

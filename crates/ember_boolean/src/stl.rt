@@ -64,6 +64,7 @@ pub(crate) fn stl_output<'a>(
         triangles: triangle_count,
         vanished,
         shared,
+        is_manifold: false,
         report,
     })
 }

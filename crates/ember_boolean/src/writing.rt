@@ -35,6 +35,9 @@ pub struct Output {
     pub vanished: u64,
     /// How many edges belong to more than two of these, by the rounded places of their ends.
     pub shared: u64,
+    /// Whether each edge of the file has two triangles. An STL has no vertices, so there it is
+    /// false.
+    pub is_manifold: bool,
     pub report: Report,
 }
 

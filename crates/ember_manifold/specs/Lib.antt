@@ -3,3 +3,5 @@ pub mod Turns
 pub mod Walls
 pub mod Splits
 pub mod Paired
+pub mod Middles
+pub mod Cuts

@@ -1,6 +1,6 @@
 // The edges of triangles.
 ghost use Rattle.std.specs.Prelude.{◌≡◌, ◌+◌, ◌*◌, ◌^◌, ◌<◌, ◌++◌, length, IfOk, OnOk, IsPermutation};
-ghost use Rattle.ember_manifold.specs.Edges.{half_edge, edges_of, edges_from};
+ghost use Rattle.ember_manifold.specs.Edges.{half_edge, is_beside, edges_of, edges_from};
 
 use ember_vertices::IndexedTriangle;
 use std::alloc::{AllocError, Global};
@@ -35,6 +35,13 @@ fn half_edge(from: usize, to: usize, corner: usize) -> HalfEdge
             corner,
         }
     }
+}
+
+/// Whether both edges are between the same two vertices.
+pub fn is_beside(one: &HalfEdge, other: &HalfEdge) -> bool
+    ensures { result ≡ is_beside one.now other.now }
+{
+    one.low == other.low && one.high == other.high
 }
 
 fn push_edges(

@@ -3,11 +3,16 @@
 
 mod check;
 mod classes;
+mod cut;
+mod edge_set;
 mod edges;
+mod middles;
 mod pairing;
+mod pinched;
 mod ring;
 mod split;
 mod turns;
 mod walls;
 
+pub use cut::{CutMesh, cut_pinched};
 pub use split::{CheckedSplit, SplitMesh, points_of, split_vertices};

@@ -1,19 +1,9 @@
 // Triangles that are joined along edges.
-ghost use Rattle.std.specs.Prelude.{◌≡◌};
-ghost use Rattle.ember_manifold.specs.Edges.{is_beside};
-
-use crate::edges::HalfEdge;
+use crate::edges::{HalfEdge, is_beside};
 use crate::ring::{join_along, join_ring};
 use ember_model::Plane;
 use ember_vertices::DecimalPoint;
 use std::alloc::{AllocError, Global};
-
-// Whether both edges are between the same two vertices.
-fn is_beside(one: &HalfEdge, other: &HalfEdge) -> bool
-    ensures { result ≡ is_beside one.now other.now }
-{
-    one.low == other.low && one.high == other.high
-}
 
 // Joins the triangles with edges between two vertices.
 fn join_group(

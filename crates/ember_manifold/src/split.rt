@@ -13,8 +13,8 @@ use ember_model::Plane;
 use ember_vertices::{DecimalPoint, IndexedTriangle};
 use std::alloc::{AllocError, Global};
 
-// No memory has so many triangles.
-const LIMIT: usize = 1 << 60;
+/// No memory has so many triangles.
+pub const LIMIT: usize = 1 << 60;
 
 /// A mesh whose vertices are those of another, some of them more than once.
 #[derive(Drop)]
@@ -168,8 +168,8 @@ pub fn split_vertices(
     Ok(CheckedSplit { mesh, is_manifold })
 }
 
-// The point with this index; what is no point is at zero.
-fn point_at(points: &[DecimalPoint], index: usize) -> DecimalPoint
+/// The point with this index; what is no point is at zero.
+pub fn point_at(points: &[DecimalPoint], index: usize) -> DecimalPoint
     ensures { result ≡ point_at points.now index }
 {
     match points.get(index) {

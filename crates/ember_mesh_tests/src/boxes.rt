@@ -38,6 +38,18 @@ v 6.0 -1.0 -1.0\nv 20.0 -1.0 -1.0\nv 20.0 11.0 -1.0\nv 6.0 11.0 -1.0\n\
 v 6.0 -1.0 11.0\nv 20.0 -1.0 11.0\nv 20.0 11.0 11.0\nv 6.0 11.0 11.0\n\
 f 1 4 3 2\nf 5 6 7 8\nf 1 2 6 5\nf 2 3 7 6\nf 3 4 8 7\nf 4 1 5 8\n";
 
+/// A plate below the low box and the one beside it.
+pub const BELOW: &[u8] = b"\
+v 0.0 0.0 -10.0\nv 20.0 0.0 -10.0\nv 20.0 20.0 -10.0\nv 0.0 20.0 -10.0\n\
+v 0.0 0.0 0.0\nv 20.0 0.0 0.0\nv 20.0 20.0 0.0\nv 0.0 20.0 0.0\n\
+f 1 4 3 2\nf 5 6 7 8\nf 1 2 6 5\nf 2 3 7 6\nf 3 4 8 7\nf 4 1 5 8\n";
+
+/// A plate above them.
+pub const ABOVE: &[u8] = b"\
+v 0.0 0.0 10.0\nv 20.0 0.0 10.0\nv 20.0 20.0 10.0\nv 0.0 20.0 10.0\n\
+v 0.0 0.0 20.0\nv 20.0 0.0 20.0\nv 20.0 20.0 20.0\nv 0.0 20.0 20.0\n\
+f 1 4 3 2\nf 5 6 7 8\nf 1 2 6 5\nf 2 3 7 6\nf 3 4 8 7\nf 4 1 5 8\n";
+
 /// The low box, and the one from 4 to 14, in one file.
 pub const NESTED: &[u8] = b"\
 v 0.0 0.0 0.0\nv 10.0 0.0 0.0\nv 10.0 10.0 0.0\nv 0.0 10.0 0.0\n\

@@ -1,6 +1,7 @@
 // Solids that are written.
 use crate::boxes::{
-    BESIDE, HIGH, INSIDE_OUT, LOW, LOW_FLOATS, NESTED, RIGHT, SPIKE, ascii_stl, binary_stl,
+    ABOVE, BELOW, BESIDE, HIGH, INSIDE_OUT, LOW, LOW_FLOATS, NESTED, RIGHT, SPIKE, ascii_stl,
+    binary_stl,
 };
 use crate::cases::{BEFORE, Named, give};
 use crate::solids::{Solid, solid_in};
@@ -218,5 +219,22 @@ fn corners_of_an_edge_in_which_boxes_touch(rt: HostRuntime) -> Result<(), Fail> 
     let given = give(&rt, rt.alloc(), "union -o out.off a.obj b.obj", files)?;
     assert_eq!(rt; given.status.number(), 0);
     assert!(rt; given.held("out.off").starts_with(b"OFF\n16 24 0\n"));
+    Ok(())
+}
+
+// With plates on both of its ends, the edge has the same two corners for both boxes. So its four
+// triangles are cut in eight, and its middle is two vertices.
+#[test]
+fn a_ring_that_is_pinched_along_an_edge(rt: HostRuntime) -> Result<(), Fail> {
+    let files: Named = &[
+        ("a.obj", LOW),
+        ("b.obj", BESIDE),
+        ("c.obj", BELOW),
+        ("d.obj", ABOVE),
+    ];
+    let line = "union -o out.off a.obj b.obj c.obj d.obj";
+    let given = give(&rt, rt.alloc(), line, files)?;
+    assert_eq!(rt; given.status.number(), 0);
+    assert!(rt; given.held("out.off").starts_with(b"OFF\n24 48 0\n"));
     Ok(())
 }

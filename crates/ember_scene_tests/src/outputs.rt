@@ -278,6 +278,7 @@ fn check_numbers(rt: &impl Abort, output: &Output, counts: &[Counts]) {
 fn check(rt: &impl Abort, output: &Output, counts: &[Counts]) {
     check_numbers(rt, output, counts);
     assert_eq!(rt; output.bytes.len(), 84 + 24 * 50);
+    assert!(rt; !output.is_manifold);
 }
 
 // A face of a cube that isn't cut has two triangles, one that is cut at a corner has four.
@@ -329,6 +330,7 @@ fn the_difference_as_text_is_read_again(rt: HostRuntime) -> Result<(), Fail> {
         };
         check_numbers(&rt, &output, &[all_kept(12), all_kept(12)]);
         assert!(rt; output.bytes.starts_with(beginning));
+        assert!(rt; output.is_manifold);
         let again = [obj(&output.bytes)];
         let Ok(again) = outcome_alone(alloc, &again, b"m1", Wanted::Nice, MeshFormat::Stl)? else {
             return Err(Fail::from("not read again"));

@@ -36,6 +36,7 @@ returns-clause-stl c = record {
   rounded = mesh_is_rounded c.args.grid c.args.mesh c.in_ok-written.written.items c.deref.ensures.value c.deref-2.ensures.value c.deref-3.ensures.value c.in_ok-written.ensures.written;
   bytes = c.in_ok-bytes.ensures.bytes ∙ ap stl_bytes_of c.deref-5.ensures.value;
   read_back = subst (λ ws. IsReadBack ws c.in_ok-bytes.bytes.items) c.deref-5.ensures.value c.in_ok-bytes.ensures.read_back;
+  not_known = refl;
   planes = omega arith;
   triangles = omega arith;
   vanished = omega (arith, written_are_fewer _ _ _ _ _ _ c.in_ok-written.ensures.written, ap length c.deref-3.ensures.value);
