@@ -105,7 +105,7 @@ pub record IsClosedStl (grid : Grid) (mesh : SolidMesh) (out : Output) : Type 0 
   pub closed : AreWrittenClosed stl.written
   pub shared : IsSharedCount stl.written out.shared
 
--- the same of a text
+-- the same of a text before any of its triangles are cut; if some are, each of its edges has two (`IsTextOver`)
 pub record IsClosedText (format : TextFormat) (digits : Option ℕ) (grid : Grid) (mesh : SolidMesh) (out : Output) :
     Type 0 where
   pub text : IsText format digits grid mesh out

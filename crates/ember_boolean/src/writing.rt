@@ -33,7 +33,7 @@ pub struct Output {
     pub triangles: u64,
     /// How many of these aren't in the file: two of their corners became equal when rounded.
     pub vanished: u64,
-    /// How many edges belong to more than two of these, by the rounded places of their ends.
+    /// How many edges belong to more than two of the others, by the rounded places of their ends.
     pub shared: u64,
     /// Whether each edge of the file has two triangles. An STL has no vertices, so there it is
     /// false.

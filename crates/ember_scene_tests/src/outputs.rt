@@ -261,8 +261,8 @@ fn all_kept(triangles: u64) -> Counts {
     }
 }
 
-// The files have these counts, and no corner moved. The mesh has nine planes and 24 triangles, which
-// are all in the file.
+// The files have these counts, and no corner moved. The mesh has nine planes and 24 triangles,
+// which are all in the file.
 fn check_numbers(rt: &impl Abort, output: &Output, counts: &[Counts]) {
     assert_eq!(rt; output.counts.as_slice(), counts);
     assert_eq!(rt; output.moves.len(), counts.len());
