@@ -6,12 +6,12 @@ use lib.IntN.{*ℤ_comm}
 use Rattle.ember_algebra.specs.declared.Sign.{Sign}
 use Rattle.ember_algebra.specs.Sign.{sign, sgn, is_pos, is_negative, is_positive}
 use Rattle.ember_algebra.specs.Sums.{total}
-use Rattle.ember_algebra.proofs.Laws.{linear, *ℤ-neg}
+use Rattle.ember_algebra.proofs.Laws.{linear, neg-*ℤ, *ℤ-neg}
 use Rattle.ember_algebra.proofs.Order.{by_sign, pos_mul, nonneg_mul, mul_pos_neg, mul_neg_pos, mul_neg_neg, sign_pos, sign_neg, zero_product}
 use Rattle.ember_algebra.proofs.Ring.{◌⊕◌, ◌⊖◌, ◌⊗◌, ◌≈◌, neg, solve, cancels}
 use Rattle.ember_algebra.proofs.Sums.{total_same}
 use Rattle.ember_model.specs.Faces.{size}
-use Rattle.ember_model.proofs.SignTests.{sgn_scaled, negative_in, negative_not, positive_in, not_positive_in, positive_nonzero, negative_nonzero, size_positive}
+use Rattle.ember_model.proofs.SignTests.{clash, sgn_scaled, negative_in, negative_not, positive_in, not_positive_in, positive_nonzero, size_positive}
 use Rattle.ember_model.proofs.Legs.{size_is_pos, size_is_neg, ends_nonzero}
 
 -- the values of a plane at the two ends of a segment
@@ -192,12 +192,9 @@ module _ (p : AtEnds) (l : p.first <ℤ pos 0) (m : pos 0 <ℤ p.last) where
   head : (ps : List AtEnds) → AllByRecursion (λ q. p.first *ℤ q.last ≢ q.first *ℤ p.last) ps → leaving (p ∷ ps) p ≡ one_if (all_at_last (map up_to ps))
   head ps ns =
       let x = size_is_pos p.last m in let y = size_is_neg p.first l in
-      let v : value_where p p ≡ pos 0 = (λ i. x i *ℤ p.first +ℤ y i *ℤ p.last) ∙ (let e = *ℤ_comm p.last p.first in let f = *ℤ-neg-left p.first p.last in omega (arith, linear, e, f)) in
+      let v : value_where p p ≡ pos 0 = (λ i. x i *ℤ p.first +ℤ y i *ℤ p.last) ∙ (let e = *ℤ_comm p.last p.first in let f = neg-*ℤ p.first p.last in omega (arith, linear, e, f)) in
       let t = negative_in (mul_neg_pos l m) in let s = sign_pos m in let r = head_last ps ns in
       (λ i. cond (t i && (not (is_positive (v i)) && r i)) (s i) (pos 0))
-    where
-      *ℤ-neg-left : (a b : ℤ) → neg_ℤ a *ℤ b ≡ neg_ℤ (a *ℤ b)
-      *ℤ-neg-left a b = solve 2 (λ a b. neg a ⊗ b ≈ neg (a ⊗ b)) cancels a b
 
   same_first : (qs : List AtEnds) → all_at_first (map up_to qs) ≡ all_at_first qs
   same_first [] = refl
@@ -246,9 +243,6 @@ opposite_signs a b e =
     (λ l. by_sign b (λ m. absurd (clash e (not_negative (pos_mul l m)))) (λ z. absurd ((ends_nonzero a b e).1 z)) (λ m. sign_pos l ∙ sym (ap neg_ℤ (sign_neg m))))
     (λ z. absurd ((ends_nonzero a b e).0 z))
     (λ l. by_sign b (λ m. sign_neg l ∙ sym (ap neg_ℤ (sign_pos m))) (λ z. absurd ((ends_nonzero a b e).1 z)) (λ m. absurd (clash e (not_negative (mul_neg_neg l m)))))
-  where
-    clash : {b : Bool} → b ≡ true → b ≡ false → ⊥
-    clash p q = absurd (cc (sym p ∙ q))
 
 leaving_back : (ps : List AtEnds) (q : AtEnds) → leaving (map back ps) (back q) ≡ neg_ℤ (leaving ps q)
 leaving_back ps q = by (is_negative (q.first *ℤ q.last)) refl
