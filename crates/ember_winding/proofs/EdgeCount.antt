@@ -155,13 +155,17 @@ module _ (f : Face) (k : RingEdge) (end : Spot) (edge : IsEdge f k end) (e : Vec
       drop : {y z : ℤ} → y ≡ pos 0 → y -ℤ z ≡ neg_ℤ z
       drop p = omega (arith, linear, p)
 
+  -- the height grows over the edge as g climbs
+  pub step_is : sgn (u.w *ℤ height n e x end -ℤ end.w *ℤ height n e x u) ≡ sgn (value_at g (far e))
+  step_is = step_sign n e x u end wx ∙ along_course e ∙ climb
+
   -- so the ray passes the edge as its line says
   module _ (hu : height n e x u ≢ pos 0) (he : height n e x end ≢ pos 0) where
     step : T (may_sum (sgn (height n e x end)) (flip (sgn (height n e x u))) (sgn (value_at g (far e))))
     step =
         let a = sgn_scaled (height n e x end) wu in
         let b = sgn-neg (end.w *ℤ height n e x u) ∙ ap flip (sgn_scaled (height n e x u) we) in
-        let c = step_sign n e x u end wx ∙ along_course e ∙ climb in
+        let c = step_is in
         rw (← a, ← b, ← c) (sum_may (u.w *ℤ height n e x end) (neg_ℤ (end.w *ℤ height n e x u)))
 
     abbrev crossed : Bool
