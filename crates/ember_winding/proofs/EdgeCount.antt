@@ -76,7 +76,8 @@ own_value a b h =
     weak : {z : ℤ} → pos 0 <ℤ z → pos 0 ≤ℤ z
     weak l = omega (arith, linear)
 
-scaled_none : (k : ℤ) (v : Vector) → k ≢ pos 0 → scale_v k v ≡ zero_v → v ≡ zero_v
+-- a multiple of a vector is 0 only if the vector is
+pub scaled_none : (k : ℤ) (v : Vector) → k ≢ pos 0 → scale_v k v ≡ zero_v → v ≡ zero_v
 scaled_none k v n e =
     same_v (entry (ap (λ (v : Vector). v.x) e)) (entry (ap (λ (v : Vector). v.y) e)) (entry (ap (λ (v : Vector). v.z) e))
   where

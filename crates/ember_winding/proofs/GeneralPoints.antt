@@ -64,6 +64,10 @@ not_orthogonal c =
     value m =
         identity (vector ∷ tuple ∷ []) (λ c v. c.x ⊗ v.x ⊕ c.y ⊗ v.y ⊕ c.z ⊗ v.z ⊖ num (pos 0) ⊗ v.w ≈ dotE c (numeratorsE v)) cancels c (spot_tuple (offset_by origin (pos m)))
 
+-- the direction lies in the plane
+pub level_is : (n : Plane) (q : Vector) → dot (normal n) (level_with n q) ≡ pos 0
+level_is n q = identity (vector ∷ vector ∷ []) (λ n q. dotE n (crossE n q) ≈ num (pos 0)) cancels (normal n) q
+
 -- q isn't along the normal of a plane
 abbrev pub IsAcross : Vector → Plane → Type 0
 IsAcross q n = normal n ≢ zero_v → level_with n q ≢ zero_v
@@ -192,7 +196,7 @@ general_hit w a q p line wp nz some across climbs off =
     ends = edge_has_end (face_from w) line.first.start w.edges line.round
 
     level : dot (normal n) e ≡ pos 0
-    level = identity (vector ∷ vector ∷ []) (λ n q. dotE n (crossE n q) ≈ num (pos 0)) cancels (normal n) q
+    level = level_is n q
 
     skew : (g h : Plane) → IsOffPlane (at_hit_of (blend e g h) n a) p → IsSkew n e x g h
     skew g h o = record { skew = λ z. off_hit (blend e g h) n a p nz o z }
