@@ -1,5 +1,5 @@
 -- Segments with the same boundary: any quantity of planes, lines and corners has one sum, over all starts less over all ends.
-use Rattle.std.proofs.Common.{◌≡◌, ℕ, ◌/◌, ◌%◌, List, ◌++◌, map, ℤ, ◌+ℤ◌, ◌-ℤ◌, sym, ◌∙◌, arith, eqb}
+use Rattle.std.proofs.Common.{◌≡◌, ℕ, ◌/◌, ◌%◌, List, ◌++◌, map, ℤ, ◌-ℤ◌, ◌∙◌, arith, eqb}
 use Rattle.ember_algebra.specs.Sums.{total}
 use Rattle.ember_algebra.proofs.Laws.{linear}
 use Rattle.ember_algebra.proofs.Sums.{total-append, total-map, total-sub, total_same, total_same_occurrences}

@@ -1,7 +1,7 @@
 -- The triangles of a solid's mesh wind as the faces of its document, so they have the meaning of the expression.
-use Rattle.std.proofs.Common.{◌≡◌, le_refl, sym, ap, subst, ◌∙◌, ℕ, List, map, pos}
+use Rattle.std.proofs.Common.{◌≡◌, le_refl, sym, subst, ◌∙◌, ℕ, List, map, pos}
 use Rattle.std.specs.List.{AllByRecursion}
-use Rattle.ember_algebra.proofs.Large.{eventually_both, eventually_map}
+use Rattle.ember_algebra.proofs.Large.{eventually_both}
 use Rattle.ember_model.specs.declared.tri.Tri.{Tri}
 use Rattle.ember_model.specs.declared.face.Face.{Face}
 use Rattle.ember_model.specs.declared.plane.Plane.{Plane}
@@ -16,7 +16,7 @@ use Rattle.ember_certificate.specs.declared.space_point.SpacePoint.{SpacePoint}
 use Rattle.ember_certificate.specs.Certificate.{IsCertified}
 use Rattle.ember_expr.specs.Formula.{Formula}
 use Rattle.ember_expr.specs.Truth.{truth}
-use Rattle.ember_meaning.specs.Meaning.{IsFalseOutside, HaveMeaning, ReadsWithMeaning}
+use Rattle.ember_meaning.specs.Meaning.{IsFalseOutside, HaveMeaning}
 use Rattle.ember_meaning.specs.Nearby.{WindOnceAtMost}
 use Rattle.ember_meaning.proofs.Nearby.{meaning_nearby, wind_nearby_as_here}
 use Rattle.ember_meaning.proofs.ReadFaces.{document_reads}

@@ -1,9 +1,9 @@
 -- A ray leaves an outlined face: not all its edge planes fall along the ray.
-use Rattle.std.proofs.Common.{◌≡◌, sym, ap, subst, ◌∙◌, arith, T, List, [], ◌∷◌, ℤ, pos, ◌-ℤ◌, ◌*ℤ◌, ◌<ℤ◌}
+use Rattle.std.proofs.Common.{◌≡◌, sym, subst, ◌∙◌, arith, T, List, [], ◌∷◌, ℤ, pos, ◌-ℤ◌, ◌*ℤ◌, ◌<ℤ◌}
 use Rattle.std.specs.List.{AllByRecursion}
 use lib.IntN.{*ℤ_comm}
 use Rattle.ember_algebra.specs.Vector.{Vector, dot}
-use Rattle.ember_algebra.specs.Sign.{Sign, sgn, is_neg}
+use Rattle.ember_algebra.specs.Sign.{Sign, is_neg}
 use Rattle.ember_algebra.proofs.Laws.{linear}
 use Rattle.ember_algebra.proofs.Order.{cross_trans}
 use Rattle.ember_algebra.proofs.Signs.{neg_from_sgn, sgn_neg}

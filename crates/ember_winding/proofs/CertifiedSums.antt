@@ -1,12 +1,12 @@
 -- Certified triangles: their edges add what the segments of the faces add.
-use Rattle.std.proofs.Common.{◌≡◌, ◌≢◌, ⊎_elim, refl, sym, ap, ◌∙◌, arith, Bool, true, false, cond, leb, Option, Some, None, List, [], ◌∷◌, slice_get, length, ℕ, zero, suc, ℤ, pos, neg_ℤ, ◌+ℤ◌, ◌-ℤ◌, ◌*ℤ◌, ◌<ℤ◌}
+use Rattle.std.proofs.Common.{◌≡◌, ◌≢◌, ⊎_elim, refl, sym, ap, ◌∙◌, arith, nat_eq, ◌&&◌, Bool, true, false, cond, leb, Option, Some, None, List, [], ◌∷◌, slice_get, length, ℕ, zero, suc, ℤ, pos, neg_ℤ, ◌+ℤ◌, ◌-ℤ◌, ◌*ℤ◌, ◌<ℤ◌}
 use Rattle.std.specs.List.{All, AllByRecursion, AllZip}
 use borrow.Author.Differences.{ints}
 use Rattle.std.proofs.lemmas.Bool.{eqb-true}
 use Rattle.std.proofs.lemmas.List.Elements.{All-head, All-tail}
 use lib.IntN.{zero-*ℤ}
 use Rattle.ember_algebra.specs.Large.{first_sign}
-use Rattle.ember_algebra.specs.Sign.{Sign, sgn, flip}
+use Rattle.ember_algebra.specs.Sign.{Sign, sgn}
 use Rattle.ember_algebra.specs.Vector.{Vector, zero_v}
 use Rattle.ember_algebra.specs.Sums.{total}
 use Rattle.ember_algebra.proofs.Laws.{linear, *ℤ-+ℤ, *ℤ-neg}
@@ -19,14 +19,15 @@ use Rattle.ember_model.specs.Edges.{normal}
 use Rattle.ember_model.specs.Faces.{hit}
 use Rattle.ember_model.specs.Planes.{along}
 use Rattle.ember_model.proofs.SignTests.{clash, and_parts}
+use Rattle.ember_law.proofs.Generic.{at_hit_of}
 use Rattle.ember_poly.proofs.RingOutline.{each_get}
 use Rattle.ember_key.specs.declared.lines.LineKey.{LineKey}
-use Rattle.ember_key.specs.LineKeys.{direction, IsOnLine, IsLineKey}
+use Rattle.ember_key.specs.LineKeys.{direction, IsLineKey}
 use Rattle.ember_key.proofs.LineLaws.{points_of_key}
 use Rattle.ember_certificate.specs.declared.segment.Segment.{Segment}
 use Rattle.ember_certificate.specs.declared.space_point.SpacePoint.{SpacePoint}
 use Rattle.ember_certificate.specs.declared.triangle.Triangle.{Triangle}
-use Rattle.ember_certificate.specs.Certificate.{IsProper, FacesFrontOf, edges_in, IsCertified}
+use Rattle.ember_certificate.specs.Certificate.{leads_round, is_in_one_plane, IsProper, FacesFrontOf, edges_in, IsCertified}
 use Rattle.ember_certificate.specs.Facing.{spot_of}
 use Rattle.ember_certificate.specs.OnLines.{IsCornerOnLine, IsOnItsLine, is_free}
 use Rattle.ember_certificate.proofs.Boundaries.{boundary_from_chains}
@@ -37,11 +38,10 @@ use Rattle.ember_tables.specs.Tables.{IsSegmentOf}
 use Rattle.ember_winding.proofs.Passings.{passing, passing_back}
 use Rattle.ember_winding.proofs.Seen.{height, turn_at, passing_at, turn_back}
 use Rattle.ember_winding.proofs.LineForm.{below_on, passing_by_line}
-use Rattle.ember_winding.proofs.OneCorner.{corner_on_three}
+use Rattle.ember_winding.proofs.OneCorner.{meet_weight, corner_on_three}
 use Rattle.ember_winding.proofs.SamePlane.{front_sign, level_with, ray_passing}
-use Rattle.ember_winding.proofs.GeneralPoints.{IsAcross, IsOffTables, hit_weight, height_nonzero, level_is}
+use Rattle.ember_winding.proofs.GeneralPoints.{IsAcross, IsOffPlane, IsOffTables, level_plane, hit_weight, height_nonzero, level_is}
 use Rattle.ember_winding.proofs.Crossings.{front_or_along, passing_found, passing_in, passing_of, below_found, below_in}
-use Rattle.ember_winding.proofs.FaceSums.{meet_weight}
 
 -- ---- small facts
 -- a plane with an entry along an axis has a normal
@@ -96,7 +96,7 @@ module _ (ps : List Plane) (ls : List LineKey) (cs : List SpacePoint) (a : Axis)
     high : along n a ≢ pos 0 → (c : SpacePoint) (j : ℕ) → slice_get cs j ≡ Some c → height n (level_with n q) (hit n a p) (spot_of c) ≢ pos 0
     high nz c j e =
         let some = along_normal n a nz in
-        height_nonzero n a p nz some (level_with n q) (spot_of c) c.valid.positive (level_is n q) (each_get (λ n. IsAcross q n) ps i n across en some) (each_get _ cs j c (each_get _ ps i n off.heights en) e)
+        height_nonzero n a p nz some (level_with n q) (spot_of c) c.valid.positive (level_is n q) (each_get (λ n. IsAcross q n) ps i n across en some) (each_get (λ c. IsOffPlane (at_hit_of (level_plane n (level_with n q) (spot_of c)) n a) p) cs j c (each_get (λ n. AllByRecursion (λ c. IsOffPlane (at_hit_of (level_plane n (level_with n q) (spot_of c)) n a) p) cs) ps i n off.heights en) e)
 
     -- two corners on a line
     entries_by_line : (k : LineKey) (u v : SpacePoint) (iu iv : ℕ) → slice_get cs iu ≡ Some u → slice_get cs iv ≡ Some v → IsCornerOnLine k u → IsCornerOnLine k v → passing_found a p q (Some n) (Some u) (Some v) ≡ below_found a p q (Some n) (Some k) (Some u) -ℤ below_found a p q (Some n) (Some k) (Some v)
@@ -182,7 +182,10 @@ module _ (ps : List Plane) (ls : List LineKey) (cs : List SpacePoint) (a : Axis)
 
   proper_entries : (t : Triangle) → IsProper ps cs t → HaveEntries t
   proper_entries t proper =
-      let r = and_parts _ _ proper.round in let l = and_parts _ _ r.0 in let m = and_parts _ _ l.1 in let b = and_parts _ _ r.1 in
+      let r = and_parts (leads_round t) (is_in_one_plane t) proper.round in
+      let l = and_parts (nat_eq t.first.end t.second.start) (nat_eq t.second.end t.third.start && nat_eq t.third.end t.first.start) r.0 in
+      let m = and_parts (nat_eq t.second.end t.third.start) (nat_eq t.third.end t.first.start) l.1 in
+      let b = and_parts (nat_eq t.first.plane t.second.plane) (nat_eq t.first.plane t.third.plane) r.1 in
       let e1 = eqb-true t.first.end t.second.start l.0 in let e2 = eqb-true t.second.end t.third.start m.0 in let e3 = eqb-true t.third.end t.first.start m.1 in
       let p2 = eqb-true t.first.plane t.second.plane b.0 in let p3 = eqb-true t.first.plane t.third.plane b.1 in
       let h = front_entries (slice_get ps t.first.plane) (slice_get cs t.first.start) (slice_get cs t.second.start) (slice_get cs t.third.start) proper.front in

@@ -1,9 +1,9 @@
 -- A face's crossing, by the sides of its plane and the point where the ray meets it; and what a segment adds to it.
-use Rattle.std.proofs.Common.{◌≡◌, ◌≢◌, ◌⊎◌, inl, inr, refl, sym, ap, ◌∙◌, arith, Bool, true, false, cond, ◌&&◌, Option, Some, None, List, slice_get, ℕ, ℤ, pos, ◌*ℤ◌, ◌<ℤ◌}
+use Rattle.std.proofs.Common.{◌≡◌, ◌≢◌, ◌⊎◌, inl, inr, refl, sym, ◌∙◌, arith, Bool, true, false, cond, Option, Some, List, slice_get, ℕ, ℤ, pos, ◌*ℤ◌, ◌<ℤ◌}
 use lib.IntN.{*ℤ-zero, zero-*ℤ}
 use Rattle.ember_algebra.specs.Vector.{Vector}
 use Rattle.ember_algebra.specs.Sign.{sign, is_negative, is_zero}
-use Rattle.ember_algebra.proofs.Laws.{linear, one-*ℤ}
+use Rattle.ember_algebra.proofs.Laws.{linear}
 use Rattle.ember_model.specs.declared.plane.Plane.{Plane}
 use Rattle.ember_model.specs.declared.point.Spot.{Spot}
 use Rattle.ember_model.specs.declared.point.Axis.{Axis}
@@ -12,7 +12,7 @@ use Rattle.ember_model.specs.ClearTest.{all_negative}
 use Rattle.ember_model.specs.Faces.{hit, crossing}
 use Rattle.ember_model.specs.Planes.{value_at, along}
 use Rattle.ember_model.proofs.Hits.{crossing_off, crossing_on}
-use Rattle.ember_model.proofs.SignTests.{clash, zero_out, nonzero_out, zero_scaled}
+use Rattle.ember_model.proofs.SignTests.{zero_out, nonzero_out, zero_scaled}
 use Rattle.ember_certificate.specs.declared.segment.Segment.{Segment}
 use Rattle.ember_certificate.specs.declared.space_point.SpacePoint.{SpacePoint}
 use Rattle.ember_certificate.specs.Facing.{spot_of}

@@ -6,7 +6,7 @@ use Rattle.ember_algebra.proofs.Laws.{linear}
 use Rattle.ember_algebra.proofs.Order.{by_sign, pos_mul, mul_neg_neg, sign_scaled, zero_product}
 use Rattle.ember_algebra.proofs.Ring.{◌⊕◌, ◌⊖◌, ◌⊗◌, ◌≈◌, num, neg, solve, cancels}
 use Rattle.ember_algebra.proofs.Signs.{pick, may_sum, both, not_null, sum_may, sgn-mul, sgn-neg, zero_from_sgn, pos_from_sgn}
-use Rattle.ember_algebra.proofs.Vectors.{scalar, vector, tuple, identity, vector_identity, same_v, dotE, crossE, scaleE, ◌≈v◌, cancels_v}
+use Rattle.ember_algebra.proofs.Vectors.{scalar, vector, identity, vector_identity, same_v, dotE, crossE, scaleE, ◌≈v◌, cancels_v}
 use Rattle.ember_algebra.proofs.Identities.{parallel_products}
 use Rattle.ember_model.specs.declared.plane.Plane.{Plane}
 use Rattle.ember_model.specs.declared.point.Spot.{Spot}
@@ -18,13 +18,12 @@ use Rattle.ember_model.specs.Planes.{value_at}
 use Rattle.ember_model.proofs.Hits.{closed_on}
 use Rattle.ember_model.proofs.Legs.{value_between, size_is_pos, size_is_neg, ends_nonzero}
 use Rattle.ember_model.proofs.SignTests.{clash, and_true, sgn_scaled, negative_not, positive_in, size_positive, zero_scaled}
-use Rattle.ember_model.proofs.Tuples.{spot_tuple}
 use Rattle.ember_chain.specs.Chains.{DirectedEdge, displacement, is_zero_vector, reached, coverage}
 use Rattle.ember_chain.proofs.RectangleRound.{IsGeneralFace}
-use Rattle.ember_chain.proofs.Displacements.{Parallel, displacementE, zeroE, displacement_value, dot_swap, parallel_swap, square_positive, zero_vector_in, zero_vector_out}
+use Rattle.ember_chain.proofs.Displacements.{Parallel, zeroE, displacement_value, dot_swap, parallel_swap, square_positive, zero_vector_in, zero_vector_out}
 use Rattle.ember_chain.proofs.EdgeForm.{start_on, end_on, leads, course_nonzero, line_displacement, flat_displacement, edge_form}
 use Rattle.ember_winding.proofs.Passings.{passing, below, passing_on_line, opposite_product, pick_is_cond}
-use Rattle.ember_winding.proofs.Seen.{area, areaE, height, turn_at, passing_at, area_course, area_dot, height_step, turn_sign, step_sign}
+use Rattle.ember_winding.proofs.Seen.{area, height, turn_at, passing_at, area_course, area_dot, area_scale, height_on_ray, height_step, turn_sign, step_sign}
 
 -- the point at infinity along e: a plane's value there is how it climbs along e
 abbrev pub far : Vector → Spot
@@ -210,12 +209,11 @@ module _ (f : Face) (k : RingEdge) (end : Spot) (edge : IsEdge f k end) (e : Vec
 
       -- y is on the ray
       height_y : height n e x y ≡ pos 0
-      height_y =
-          identity (vector ∷ vector ∷ tuple ∷ scalar ∷ scalar ∷ []) (λ n e x a b. areaE n e (displacementE x (record { x = a ⊗ x.x ⊕ b ⊗ e.x; y = a ⊗ x.y ⊕ b ⊗ e.y; z = a ⊗ x.z ⊕ b ⊗ e.z; w = a ⊗ x.w ⊕ b ⊗ num (pos 0) })) ≈ num (pos 0)) cancels (normal n) e (spot_tuple x) (size (value_at g (far e))) (size (value_at g x))
+      height_y = height_on_ray n e x (size (value_at g (far e))) (size (value_at g x))
 
       grows : pos 0 <ℤ area n e d
       grows =
-          subst (λ (z : ℤ). pos 0 <ℤ z) (sym (identity (vector ∷ vector ∷ scalar ∷ vector ∷ []) (λ n e b c. areaE n e (scaleE b c) ≈ b ⊗ areaE n e c) cancels (normal n) e (value_at g (far e)) course)) (same_signs_positive (area n e course) (value_at g (far e)) climb beta_nonzero)
+          subst (λ (z : ℤ). pos 0 <ℤ z) (sym (area_scale n e (value_at g (far e)) course)) (same_signs_positive (area n e course) (value_at g (far e)) climb beta_nonzero)
 
       -- the sign of the way from a corner to y along d
       before : (v : Spot) → value_at n v ≡ pos 0 → value_at g v ≡ pos 0 → sgn (dot (displacement v y) d) ≡ flip (sgn (height n e x v))

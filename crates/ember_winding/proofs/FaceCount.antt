@@ -1,6 +1,6 @@
 -- The edges of an outlined face, as a ray from a point of its plane passes them: once in sum if the point is inside.
-use Rattle.std.proofs.Common.{◌≡◌, ◌≢◌, refl, sym, ap, subst, ◌∙◌, arith, Bool, true, false, not, cond, ◌&&◌, List, [], ◌∷◌, map, ℤ, pos, ◌+ℤ◌, ◌-ℤ◌, ◌*ℤ◌, ◌<ℤ◌, ⊤}
-use Rattle.std.specs.List.{AllByRecursion, list_all}
+use Rattle.std.proofs.Common.{◌≡◌, ◌≢◌, refl, ap, subst, ◌∙◌, arith, Bool, true, false, not, cond, ◌&&◌, List, [], ◌∷◌, map, ℤ, pos, ◌+ℤ◌, ◌*ℤ◌, ◌<ℤ◌, ⊤}
+use Rattle.std.specs.List.{AllByRecursion}
 use Rattle.ember_algebra.specs.Vector.{Vector, zero_v, scale_v, dot, cross}
 use Rattle.ember_algebra.specs.Sign.{is_negative, is_positive, sign}
 use Rattle.ember_algebra.specs.Sums.{total}
@@ -11,19 +11,19 @@ use Rattle.ember_model.specs.declared.plane.Plane.{Plane}
 use Rattle.ember_model.specs.declared.point.Spot.{Spot}
 use Rattle.ember_model.specs.declared.face.Face.{Face}
 use Rattle.ember_model.specs.ClearTest.{none_positive, all_negative}
-use Rattle.ember_model.specs.Edges.{RingEdge, IsEdge, IsEdgeChain, IsOutline, HaveDistinctEdges, SameEdge, normal}
+use Rattle.ember_model.specs.Edges.{RingEdge, IsEdge, IsEdgeChain, HaveDistinctEdges, SameEdge, normal}
 use Rattle.ember_model.specs.FaceFiles.{WrittenFace}
 use Rattle.ember_model.specs.Faces.{between}
 use Rattle.ember_model.specs.Planes.{value_at}
 use Rattle.ember_model.proofs.Legs.{value_between}
-use Rattle.ember_model.proofs.SignTests.{and_parts, negative_out, zero_scaled}
-use Rattle.ember_poly.proofs.Chains.{each_map, each_both}
+use Rattle.ember_model.proofs.SignTests.{and_parts, negative_out}
+use Rattle.ember_poly.proofs.Chains.{each_map}
 use Rattle.ember_chain.specs.Chains.{DirectedEdge, edges_to, directed_edges, face_from, IsOutlined}
 use Rattle.ember_chain.proofs.RectangleRound.{IsGeneral, IsGeneralFace}
 use Rattle.ember_chain.proofs.EdgeForm.{once_round}
-use Rattle.ember_winding.proofs.Halves.{AtEnds, value_where, none_above, leaving, all_at_first, all_at_last, AreApart, one_if, leaving_tells}
+use Rattle.ember_winding.proofs.Halves.{AtEnds, none_above, leaving, all_at_first, all_at_last, AreApart, one_if, leaving_tells}
 use Rattle.ember_winding.proofs.Seen.{height, passing_at}
-use Rattle.ember_winding.proofs.EdgeCount.{far, value_far, edge_count}
+use Rattle.ember_winding.proofs.EdgeCount.{far, edge_count}
 use Rattle.ember_winding.proofs.Skew.{IsSkew, skew_is_general, skew_apart}
 use Rattle.ember_winding.proofs.Bounded.{some_edge_climbs}
 

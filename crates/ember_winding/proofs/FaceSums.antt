@@ -1,23 +1,21 @@
 -- Outlined faces: their crossings are those of their segments in the tables, added up.
-use Rattle.std.proofs.Common.{◌≡◌, ◌≢◌, ⊎_elim, refl, sym, ap, subst, ◌∙◌, arith, Some, List, [], ◌∷◌, ◌++◌, map, slice_get, ℕ, ◌+◌, ℤ, pos, ◌+ℤ◌, ◌-ℤ◌, ◌*ℤ◌, ◌<ℤ◌, ⊤}
+use Rattle.std.proofs.Common.{◌≡◌, ◌≢◌, ⊎_elim, refl, sym, ap, subst, ◌∙◌, arith, List, [], ◌∷◌, ◌++◌, map, ℕ, ◌+◌, ℤ, pos, ◌+ℤ◌, ◌-ℤ◌, ◌*ℤ◌, ◌<ℤ◌, ⊤}
 use Rattle.std.specs.List.{AllByRecursion, AllZip}
 use lib.IntN.{*ℤ-zero, zero-*ℤ}
 use Rattle.ember_algebra.specs.Vector.{Vector, zero_v}
-use Rattle.ember_algebra.specs.Sign.{sign}
 use Rattle.ember_algebra.specs.Sums.{total}
 use Rattle.ember_algebra.proofs.Laws.{linear, *ℤ-+ℤ}
-use Rattle.ember_algebra.proofs.Order.{by_sign, sign_pos, sign_neg}
 use Rattle.ember_model.specs.declared.plane.Plane.{Plane}
 use Rattle.ember_model.specs.declared.point.Spot.{Spot}
 use Rattle.ember_model.specs.declared.point.Axis.{Axis}
 use Rattle.ember_model.specs.declared.face.Face.{Face}
 use Rattle.ember_model.specs.ClearTest.{all_negative}
-use Rattle.ember_model.specs.Edges.{RingEdge, IsEdge, IsEdgeChain, IsOutline, normal}
+use Rattle.ember_model.specs.Edges.{RingEdge, IsEdgeChain, normal}
 use Rattle.ember_model.specs.FaceFiles.{WrittenFace}
 use Rattle.ember_model.specs.Faces.{hit, crossing}
 use Rattle.ember_model.specs.Meshes.{wind}
-use Rattle.ember_model.specs.Planes.{value_at, along}
-use Rattle.ember_point.specs.Points.{weight, meet_of}
+use Rattle.ember_model.specs.Planes.{value_at}
+use Rattle.ember_point.specs.Points.{weight}
 use Rattle.ember_poly.proofs.OutlinePoints.{Ended, edge_has_end}
 use Rattle.ember_chain.specs.Chains.{DirectedEdge, displacement, edges_to, directed_edges, face_from, IsOutlined}
 use Rattle.ember_chain.proofs.EdgeForm.{start_on, end_on, has_normal}
@@ -26,10 +24,10 @@ use Rattle.ember_certificate.specs.declared.segment.Segment.{Segment}
 use Rattle.ember_certificate.specs.declared.space_point.SpacePoint.{SpacePoint}
 use Rattle.ember_certificate.specs.Facing.{spot_of}
 use Rattle.ember_tables.specs.declared.face_edge.FaceEdge.{FaceEdge}
-use Rattle.ember_tables.specs.Edges.{first_or, last_or, edges_behind, edges_round, face_edges_of}
+use Rattle.ember_tables.specs.Edges.{last_or, edges_behind, edges_round, face_edges_of}
 use Rattle.ember_tables.specs.Tables.{IsCorner, IsSegmentOf}
 use Rattle.ember_winding.proofs.Halves.{one_if}
-use Rattle.ember_winding.proofs.OneCorner.{is_the_corner, corner_on_three, same_passing}
+use Rattle.ember_winding.proofs.OneCorner.{meet_weight, is_the_corner, corner_on_three, same_passing}
 use Rattle.ember_winding.proofs.SamePlane.{front_sign, level_with, ray_passing, same_front_sign, same_ray_passing}
 use Rattle.ember_winding.proofs.FaceCount.{planes_of, face_count}
 use Rattle.ember_winding.proofs.GeneralPoints.{IsAcross, ClimbsEach, IsOffFaceHits, hit_weight, general_hit}
@@ -44,14 +42,6 @@ sum_of_pairs R f (x ∷ xs) ys (z ∷ zs) s t h g k =
     let r = sum_of_pairs R f xs ys zs (s -ℤ f z) t h.1 (λ us i. let e = g (z ∷ us) (h.0, i) in omega (arith, linear, e)) k in omega (arith, linear, r)
 
 -- ---- one segment
--- the weight of a meet of three planes that have one is positive
-pub meet_weight : (p q r : Plane) → weight p q r ≢ pos 0 → pos 0 <ℤ (meet_of p q r).w
-meet_weight p q r n = by (weight p q r) n
-  where
-    by : (z : ℤ) → z ≢ pos 0 → pos 0 <ℤ (sign z *ℤ z)
-    by z n =
-        by_sign z (λ l. let s = sign_pos l in rw s (omega (arith, linear, l))) (λ e. absurd (n e)) (λ l. let s = sign_neg l in rw s (omega (arith, linear, l)))
-
 -- the plane of an outlined face has a normal
 outlined_normal : (w : WrittenFace) → IsOutlined w → normal w.support ≢ zero_v
 outlined_normal w line z =

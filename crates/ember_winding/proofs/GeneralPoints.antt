@@ -1,8 +1,9 @@
 -- Near every point there are general ones: their rays hit the planes of faces and triangles off all lines and corners.
-use Rattle.std.proofs.Common.{◌≡◌, ◌≢◌, sym, ap, subst, ◌∙◌, arith, ℕ, List, [], ◌∷◌, ℤ, pos, ◌*ℤ◌, neg_ℤ, ◌<ℤ◌, ⊤}
+use Rattle.std.proofs.Common.{◌≡◌, ◌≢◌, refl, sym, ap, subst, ◌∙◌, arith, ℕ, List, [], ◌∷◌, ℤ, pos, ◌*ℤ◌, neg_ℤ, ◌<ℤ◌, ⊤}
 use Rattle.std.specs.List.{AllByRecursion}
 use Rattle.ember_algebra.specs.Vector.{Vector, zero_v, minus_v, scale_v, dot, cross}
 use Rattle.ember_algebra.specs.Large.{Eventually}
+use Rattle.ember_algebra.specs.Sign.{sign}
 use Rattle.ember_algebra.proofs.Laws.{linear}
 use Rattle.ember_algebra.proofs.Order.{pos_mul}
 use Rattle.ember_algebra.proofs.Large.{eventually_both, eventually_map}
@@ -11,7 +12,7 @@ use Rattle.ember_algebra.proofs.Vectors.{scalar, vector, tuple, identity, vector
 use Rattle.ember_model.specs.declared.plane.Plane.{Plane}
 use Rattle.ember_model.specs.declared.point.Spot.{Spot}
 use Rattle.ember_model.specs.declared.point.Axis.{Axis}
-use Rattle.ember_model.specs.declared.point.Axis.TheVariants.{X, Y, Z}
+use Rattle.ember_model.specs.declared.point.Axis.TheVariants.{X, Y}
 use Rattle.ember_model.specs.Edges.{RingEdge, normal}
 use Rattle.ember_model.specs.FaceFiles.{WrittenFace}
 use Rattle.ember_model.specs.Faces.{size, hit}
@@ -35,7 +36,7 @@ use Rattle.ember_key.specs.LineKeys.{numerators}
 use Rattle.ember_certificate.specs.declared.space_point.SpacePoint.{SpacePoint}
 use Rattle.ember_certificate.specs.Facing.{spot_of}
 use Rattle.ember_winding.specs.TriangleFaces.{side_plane}
-use Rattle.ember_winding.proofs.Seen.{areaE, numeratorsE, height, turn_at, side_value}
+use Rattle.ember_winding.proofs.Seen.{area, areaE, numeratorsE, height, turn_at, side_value}
 use Rattle.ember_winding.proofs.SamePlane.{level_with}
 use Rattle.ember_winding.proofs.EdgeCount.{far, value_far, scaled_none}
 use Rattle.ember_winding.proofs.Skew.{blend, IsSkew}
@@ -106,7 +107,7 @@ climbs w line =
 
 -- ---- the hit of a ray
 pub hit_weight : (n : Plane) (a : Axis) (p : Spot) → along n a ≢ pos 0 → pos 0 <ℤ p.w → pos 0 <ℤ (hit n a p).w
-hit_weight n a p nz w = subst (λ (z : ℤ). pos 0 <ℤ z) (sym (moved_weight (scaled (size (along n a)) p) a _)) (pos_mul (size_positive (along n a) nz) w)
+hit_weight n a p nz w = subst (λ (z : ℤ). pos 0 <ℤ z) (sym (moved_weight (scaled (size (along n a)) p) a (neg_ℤ (sign (along n a) *ℤ value_at n p)))) (pos_mul (size_positive (along n a) nz) w)
 
 -- if p is off the plane that tells g's value at the hit, g isn't 0 there unless it is parallel to n
 off_hit : (g n : Plane) (a : Axis) (p : Spot) → along n a ≢ pos 0 → IsOffPlane (at_hit_of g n a) p → value_at g (hit n a p) ≡ pos 0 → Parallel (normal n) (normal g)
@@ -122,6 +123,7 @@ level_plane n e c =
     let k = cross (normal n) e in record { a = c.w *ℤ k.x; b = c.w *ℤ k.y; c = c.w *ℤ k.z; d = dot k (numerators c) }
 
 level_value : (n : Plane) (e : Vector) (x c : Spot) → value_at (level_plane n e c) x ≡ neg_ℤ (height n e x c)
+unfolding area
 level_value n e x c =
     identity (vector ∷ vector ∷ tuple ∷ tuple ∷ []) (λ n e x c. let k = crossE n e in (c.w ⊗ k.x) ⊗ x.x ⊕ (c.w ⊗ k.y) ⊗ x.y ⊕ (c.w ⊗ k.z) ⊗ x.z ⊖ dotE k (numeratorsE c) ⊗ x.w ≈ neg (areaE n e (displacementE x c))) cancels (normal n) e (spot_tuple x) (spot_tuple c)
 
@@ -146,10 +148,13 @@ module _ (n : Plane) (a : Axis) (p : Spot) (nz : along n a ≢ pos 0) (some : no
       let d = displacement u v in let wx = hit_weight n a p nz wp in
       let s : value_at (side_plane n u v) x ≡ pos 0 = cancel_zero x.w (value_at (side_plane n u v) x) wx (back (side_value n x u v) (zero_scaled u.w (turn_at n x u v) z)) in
       let o = off_hit (side_plane n u v) n a p nz off s in
-      different (in_plane_twice d level (scaled_none u.w (cross (normal n) (cross (normal n) d)) (positive_nonzero wu) (vector_identity (vector ∷ vector ∷ scalar ∷ []) (λ n d u. scaleE u (crossE n (crossE n d)) ≈v minusE zeroE (crossE n (scaleE u (crossE d n)))) cancels_v (normal n) d u.w ∙ ap (λ (v : Vector). minus_v zero_v v) o ∙ vector_identity [] (minusE zeroE zeroE ≈v zeroE) cancels_v)))
+      different (in_plane_twice d level (scaled_none u.w (cross (normal n) (cross (normal n) d)) (positive_nonzero wu) (vector_identity (vector ∷ vector ∷ scalar ∷ []) (λ n d u. scaleE u (crossE n (crossE n d)) ≈v minusE zeroE (crossE n (scaleE u (crossE d n)))) cancels_v (normal n) d u.w ∙ ap (λ (v : Vector). minus_v zero_v v) o ∙ none_minus)))
     where
       back : {y z : ℤ} → y ≡ neg_ℤ z → y ≡ pos 0 → z ≡ pos 0
       back e q = omega (arith, linear, e, q)
+
+      none_minus : minus_v zero_v zero_v ≡ zero_v
+      none_minus = same_v refl refl refl
 
 -- ---- a face
 abbrev pub AreOffPairs : Plane → Vector → Axis → Spot → List RingEdge → Type 0

@@ -50,10 +50,11 @@ module _ (n : Plane) (e : Vector) (x u v : Spot) (k : LineKey) (wx : pos 0 <ℤ 
   -- the way between them is parallel to the direction
   parallel : Parallel way (direction k)
   parallel =
-      vector_identity (tuple ∷ tuple ∷ vector ∷ []) (λ u v d. crossE (displacementE u v) d ≈v minusE (scaleE u.w (crossE (numeratorsE v) d)) (scaleE v.w (crossE (numeratorsE u) d))) cancels_v (spot_tuple u) (spot_tuple v) (direction k) ∙ (λ i. minus_v (scale_v u.w (on_v i)) (scale_v v.w (on_u i))) ∙ vector_identity (scalar ∷ scalar ∷ vector ∷ []) (λ a b m. minusE (scaleE a (scaleE b m)) (scaleE b (scaleE a m)) ≈v minusE m m) cancels_v u.w v.w (moment k) ∙ vector_identity (vector ∷ []) (λ m. minusE m m ≈v zeroE) cancels_v (moment k)
+      vector_identity (tuple ∷ tuple ∷ vector ∷ []) (λ u v d. crossE (displacementE u v) d ≈v minusE (scaleE u.w (crossE (numeratorsE v) d)) (scaleE v.w (crossE (numeratorsE u) d))) cancels_v (spot_tuple u) (spot_tuple v) (direction k) ∙ (λ i. minus_v (scale_v u.w (on_v i)) (scale_v v.w (on_u i))) ∙ vector_identity (scalar ∷ scalar ∷ vector ∷ []) (λ a b m. minusE (scaleE a (scaleE b m)) (scaleE b (scaleE a m)) ≈v zeroE) cancels_v u.w v.w (moment k)
 
   -- the turn of the direction at u
   turn_at_point : area n (displacement x u) (direction k) ≡ u.w *ℤ turn_of_line n x k
+  unfolding area
   turn_at_point =
       identity (vector ∷ tuple ∷ tuple ∷ vector ∷ []) (λ n x u d. areaE n (displacementE x u) d ≈ x.w ⊗ dotE n (crossE (numeratorsE u) d) ⊖ u.w ⊗ dotE n (crossE (numeratorsE x) d)) cancels (normal n) (spot_tuple x) (spot_tuple u) (direction k) ∙ (λ i. x.w *ℤ dot (normal n) (on_u i) -ℤ u.w *ℤ dot (normal n) (cross (numerators x) (direction k))) ∙ identity (vector ∷ vector ∷ scalar ∷ scalar ∷ scalar ∷ []) (λ n m a b c. a ⊗ dotE n (scaleE b m) ⊖ b ⊗ c ≈ b ⊗ (a ⊗ dotE n m ⊖ c)) cancels (normal n) (moment k) x.w u.w (dot (normal n) (cross (numerators x) (direction k)))
 

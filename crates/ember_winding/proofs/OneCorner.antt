@@ -1,9 +1,9 @@
 -- A corner of the tables and a corner of an outline that are one point: heights and turns have the same signs.
 use Rattle.std.proofs.Common.{◌≡◌, ◌≢◌, ⊎_elim, sym, ap, ◌∙◌, arith, [], ◌∷◌, ℤ, pos, ◌-ℤ◌, ◌*ℤ◌, ◌<ℤ◌}
 use Rattle.ember_algebra.specs.Vector.{Vector, zero_v, plus_v, scale_v, dot, cross, det}
-use Rattle.ember_algebra.specs.Sign.{sgn, flip}
+use Rattle.ember_algebra.specs.Sign.{sign, sgn, flip}
 use Rattle.ember_algebra.proofs.Laws.{linear, from_three}
-use Rattle.ember_algebra.proofs.Order.{zero_product}
+use Rattle.ember_algebra.proofs.Order.{by_sign, sign_pos, sign_neg, zero_product}
 use Rattle.ember_algebra.proofs.Ring.{◌⊕◌, ◌⊖◌, ◌⊗◌, ◌≈◌, num, cancels}
 use Rattle.ember_algebra.proofs.Signs.{sgn-neg}
 use Rattle.ember_algebra.proofs.Vectors.{vector, tuple, identity, vector_identity, same_v, dotE, crossE, detE, valueE, scaleE, plusE, ◌≈v◌, cancels_v}
@@ -20,7 +20,7 @@ use Rattle.ember_chain.proofs.Displacements.{zeroE}
 use Rattle.ember_chain.proofs.EdgeForm.{flat_displacement}
 use Rattle.ember_tables.specs.Tables.{IsCorner}
 use Rattle.ember_winding.proofs.Passings.{passing}
-use Rattle.ember_winding.proofs.Seen.{area, areaE, height, turn_at, passing_at, height_step, turn_back}
+use Rattle.ember_winding.proofs.Seen.{area, height, turn_at, passing_at, area_none, height_step, turn_back}
 
 -- ---- one point
 -- a vector that is orthogonal to three normals of weight other than 0 is 0
@@ -39,6 +39,14 @@ orthogonal_to_three p q r v n a b c =
 pub is_the_corner : (p q r : Plane) (c u : Spot) → IsCorner p q r c → value_at p c ≡ pos 0 → value_at q c ≡ pos 0 → value_at r c ≡ pos 0 → value_at p u ≡ pos 0 → value_at q u ≡ pos 0 → value_at r u ≡ pos 0 → displacement u c ≡ zero_v
 is_the_corner p q r c u k pc qc rc pu qu ru =
     orthogonal_to_three (normal p) (normal q) (normal r) (displacement u c) k.one (flat_displacement p u c pu pc) (flat_displacement q u c qu qc) (flat_displacement r u c ru rc)
+
+-- the weight of a meet of three planes that have one is positive
+pub meet_weight : (p q r : Plane) → weight p q r ≢ pos 0 → pos 0 <ℤ (meet_of p q r).w
+meet_weight p q r n = by (weight p q r) n
+  where
+    by : (z : ℤ) → z ≢ pos 0 → pos 0 <ℤ (sign z *ℤ z)
+    by z n =
+        by_sign z (λ l. let s = sign_pos l in rw s (omega (arith, linear, l))) (λ e. absurd (n e)) (λ l. let s = sign_neg l in rw s (omega (arith, linear, l)))
 
 -- a plane's value at a point is 0 where it is 0 at the same point
 value_same : (h : Plane) (m c : Spot) → SamePoint m c → m.w ≢ pos 0 → value_at h m ≡ pos 0 → value_at h c ≡ pos 0
@@ -73,17 +81,16 @@ module _ (n : Plane) (e : Vector) (x : Spot) (wx : pos 0 <ℤ x.w) (u c : Spot) 
       equal : u.w *ℤ b -ℤ c.w *ℤ a ≡ pos 0 → c.w *ℤ a ≡ u.w *ℤ b
       equal z = omega (arith, linear, z)
 
-  area_none : (a : Vector) → area n a (displacement u c) ≡ pos 0
-  area_none a =
-      ap (λ (v : Vector). area n a v) same ∙ identity (vector ∷ vector ∷ []) (λ n a. areaE n a zeroE ≈ num (pos 0)) cancels (normal n) a
+  none_over : (a : Vector) → area n a (displacement u c) ≡ pos 0
+  none_over a = ap (λ (v : Vector). area n a v) same ∙ area_none n a
 
   -- both corners are at one height
   pub same_height : sgn (height n e x u) ≡ sgn (height n e x c)
-  same_height = one_sign (height_step n e x u c ∙ zero_scaled x.w (area n e (displacement u c)) (area_none e))
+  same_height = one_sign (height_step n e x u c ∙ zero_scaled x.w (area n e (displacement u c)) (none_over e))
 
   -- and turn alike, as first corners and as second ones
   pub same_turn_second : (v : Spot) → sgn (turn_at n x v u) ≡ sgn (turn_at n x v c)
-  same_turn_second v = one_sign (height_step n (displacement x v) x u c ∙ zero_scaled x.w (area n (displacement x v) (displacement u c)) (area_none (displacement x v)))
+  same_turn_second v = one_sign (height_step n (displacement x v) x u c ∙ zero_scaled x.w (area n (displacement x v) (displacement u c)) (none_over (displacement x v)))
 
   pub same_turn_first : (v : Spot) → sgn (turn_at n x u v) ≡ sgn (turn_at n x c v)
   same_turn_first v =

@@ -19,7 +19,7 @@ use Rattle.ember_model.proofs.Tuples.{spot_tuple, same_spot}
 use Rattle.ember_chain.proofs.Displacements.{displacementE}
 use Rattle.ember_key.specs.PlaneKeys.{IsSameOriented}
 use Rattle.ember_winding.proofs.Passings.{passing}
-use Rattle.ember_winding.proofs.Seen.{areaE, height, turn_at, passing_at}
+use Rattle.ember_winding.proofs.Seen.{area, areaE, height, turn_at, passing_at}
 
 -- ---- what a ray from p along a has to do with the plane
 -- 1 if it comes through the plane from behind, -1 if from the front, 0 if it doesn't meet it
@@ -72,10 +72,12 @@ abbrev scaledE : Expr → TupleE → TupleE
 scaledE k s = record { x = k ⊗ s.x; y = k ⊗ s.y; z = k ⊗ s.z; w = k ⊗ s.w }
 
 height_times : (k : ℤ) (n : Plane) (q : Vector) (x u : Spot) → height (times_plane k n) (level_with (times_plane k n) q) (scaled k x) u ≡ (k *ℤ (k *ℤ k)) *ℤ height n (level_with n q) x u
+unfolding area
 height_times k n q x u =
     identity (scalar ∷ vector ∷ vector ∷ tuple ∷ tuple ∷ []) (λ k n q x u. areaE (scaleE k n) (crossE (scaleE k n) q) (displacementE (scaledE k x) u) ≈ (k ⊗ (k ⊗ k)) ⊗ areaE n (crossE n q) (displacementE x u)) cancels k (normal n) q (spot_tuple x) (spot_tuple u)
 
 turn_times : (k : ℤ) (n : Plane) (x u v : Spot) → turn_at (times_plane k n) (scaled k x) u v ≡ (k *ℤ (k *ℤ k)) *ℤ turn_at n x u v
+unfolding area
 turn_times k n x u v =
     identity (scalar ∷ vector ∷ tuple ∷ tuple ∷ tuple ∷ []) (λ k n x u v. areaE (scaleE k n) (displacementE (scaledE k x) u) (displacementE (scaledE k x) v) ≈ (k ⊗ (k ⊗ k)) ⊗ areaE n (displacementE x u) (displacementE x v)) cancels k (normal n) (spot_tuple x) (spot_tuple u) (spot_tuple v)
 

@@ -1,5 +1,5 @@
 -- Planes that aren't 0 at one point of the ray: at a general point no two planes of a face are.
-use Rattle.std.proofs.Common.{◌≡◌, ◌≢◌, ⊎_elim, refl, sym, ap, ◌∙◌, arith, true, [], ◌∷◌, ℤ, pos, ◌+ℤ◌, ◌-ℤ◌, ◌*ℤ◌, neg_ℤ, ◌<ℤ◌}
+use Rattle.std.proofs.Common.{◌≡◌, ◌≢◌, ⊎_elim, sym, ap, ◌∙◌, arith, true, [], ◌∷◌, ℤ, pos, ◌+ℤ◌, ◌-ℤ◌, ◌*ℤ◌, neg_ℤ, ◌<ℤ◌}
 use lib.IntN.{*ℤ_comm}
 use Rattle.ember_algebra.specs.Vector.{Vector, zero_v, scale_v, dot, cross}
 use Rattle.ember_algebra.specs.Sign.{is_negative}
@@ -16,7 +16,7 @@ use Rattle.ember_model.specs.Planes.{value_at}
 use Rattle.ember_model.proofs.Legs.{value_between, size_is_pos, size_is_neg, ends_nonzero}
 use Rattle.ember_model.proofs.SignTests.{clash, negative_not, zero_scaled}
 use Rattle.ember_model.proofs.Tuples.{plane_tuple, spot_tuple}
-use Rattle.ember_poly.proofs.FaceTests.{OnEdge, edge_in, edge_out, same_test}
+use Rattle.ember_poly.proofs.FaceTests.{edge_in, edge_out, same_test}
 use Rattle.ember_chain.specs.Chains.{displacement}
 use Rattle.ember_chain.proofs.RectangleRound.{IsGeneral}
 use Rattle.ember_chain.proofs.Displacements.{Parallel, dot_swap, orthogonal_to_none, parallel_orthogonal, parallel_swap, zero_carried}

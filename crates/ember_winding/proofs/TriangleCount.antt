@@ -1,21 +1,20 @@
 -- The sides of a triangle that faces front, as a ray from a point of its plane passes them: once in sum if the point is inside.
-use Rattle.std.proofs.Common.{◌≡◌, ◌≢◌, sym, ap, ◌∙◌, arith, Bool, true, false, not, T, ◌&&◌, ℤ, pos, ◌+ℤ◌, ◌*ℤ◌, neg_ℤ, ◌<ℤ◌}
+use Rattle.std.proofs.Common.{◌≡◌, ◌≢◌, sym, ap, ◌∙◌, arith, Bool, true, false, not, T, ◌&&◌, ℤ, pos, ◌+ℤ◌, ◌*ℤ◌, ◌<ℤ◌}
 use lib.Dec.{not_T}
-use Rattle.ember_algebra.specs.Vector.{Vector, dot}
-use Rattle.ember_algebra.specs.Sign.{sgn, flip, is_pos, is_neg, is_nil, is_negative}
+use Rattle.ember_algebra.specs.Vector.{Vector}
+use Rattle.ember_algebra.specs.Sign.{sgn, flip, is_pos, is_neg, is_negative}
 use Rattle.ember_algebra.proofs.Laws.{linear}
 use Rattle.ember_algebra.proofs.Order.{pos_mul, mul_pos_neg}
-use Rattle.ember_algebra.proofs.Signs.{◌and◌, pick, both, not_null, zero_sum_from, neg_from_sgn, sgn-neg}
+use Rattle.ember_algebra.proofs.Signs.{◌and◌, both, not_null, zero_sum_from, neg_from_sgn, sgn-neg}
 use Rattle.ember_model.specs.declared.plane.Plane.{Plane}
 use Rattle.ember_model.specs.declared.point.Spot.{Spot}
 use Rattle.ember_model.specs.ClearTest.{all_negative}
-use Rattle.ember_model.specs.Edges.{normal}
 use Rattle.ember_model.specs.Planes.{value_at}
 use Rattle.ember_model.proofs.SignTests.{sgn_scaled}
-use Rattle.ember_certificate.specs.Facing.{triangle_normal, FacesFront}
+use Rattle.ember_certificate.specs.Facing.{FacesFront}
 use Rattle.ember_winding.specs.TriangleFaces.{side_plane, face_of_points}
 use Rattle.ember_winding.proofs.Halves.{one_if}
-use Rattle.ember_winding.proofs.Passings.{passing, may_triangle, passing_triangle, flipped_positive, pick_of_three}
+use Rattle.ember_winding.proofs.Passings.{may_triangle, passing_triangle, flipped_positive, pick_of_three}
 use Rattle.ember_winding.proofs.Seen.{height, turn_at, passing_at, heights_balance, turns_add, side_value}
 
 -- a side's plane is negative where the side turns left

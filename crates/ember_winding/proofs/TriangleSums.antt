@@ -1,6 +1,6 @@
 -- Proper triangles: their crossings are those of their edges, added up.
-use Rattle.std.proofs.Common.{◌≡◌, ◌≢◌, ⊎_elim, refl, sym, ap, subst, ◌∙◌, arith, Option, Some, None, List, [], ◌∷◌, ◌++◌, slice_get, ℕ, ℤ, pos, ◌+ℤ◌, ◌*ℤ◌, ◌<ℤ◌}
-use Rattle.std.specs.List.{All, AllByRecursion, flat_map}
+use Rattle.std.proofs.Common.{◌≡◌, ◌≢◌, ⊎_elim, refl, sym, ap, ◌∙◌, arith, nat_eq, ◌&&◌, Option, Some, None, List, [], ◌∷◌, slice_get, ℕ, ℤ, pos, ◌+ℤ◌, ◌*ℤ◌, ◌<ℤ◌}
+use Rattle.std.specs.List.{All, AllByRecursion}
 use Rattle.std.proofs.lemmas.Bool.{eqb-true}
 use Rattle.std.proofs.lemmas.List.Elements.{All-head, All-tail}
 use lib.IntN.{zero-*ℤ}
@@ -13,7 +13,6 @@ use Rattle.ember_algebra.proofs.Vectors.{scalar, vector, tuple, identity, dotE, 
 use Rattle.ember_model.specs.declared.plane.Plane.{Plane}
 use Rattle.ember_model.specs.declared.point.Spot.{Spot}
 use Rattle.ember_model.specs.declared.point.Axis.{Axis}
-use Rattle.ember_model.specs.declared.face.Face.{Face}
 use Rattle.ember_model.specs.ClearTest.{all_negative}
 use Rattle.ember_model.specs.Edges.{normal}
 use Rattle.ember_model.specs.Faces.{hit, crossing}
@@ -21,7 +20,7 @@ use Rattle.ember_model.specs.Meshes.{wind}
 use Rattle.ember_model.specs.Planes.{value_at, along}
 use Rattle.ember_model.proofs.SignTests.{and_parts, positive_nonzero}
 use Rattle.ember_model.proofs.Tuples.{spot_tuple}
-use Rattle.ember_law.proofs.Generic.{cancel_zero}
+use Rattle.ember_law.proofs.Generic.{at_hit_of, cancel_zero}
 use Rattle.ember_poly.proofs.RingOutline.{each_get}
 use Rattle.ember_chain.specs.Chains.{displacement}
 use Rattle.ember_chain.proofs.Displacements.{displacementE, zeroE}
@@ -29,14 +28,14 @@ use Rattle.ember_chain.proofs.EdgeForm.{flat_displacement}
 use Rattle.ember_certificate.specs.declared.segment.Segment.{Segment}
 use Rattle.ember_certificate.specs.declared.space_point.SpacePoint.{SpacePoint}
 use Rattle.ember_certificate.specs.declared.triangle.Triangle.{Triangle}
-use Rattle.ember_certificate.specs.Certificate.{is_round, IsProper, FacesFrontOf, HasFront, edges_in}
+use Rattle.ember_certificate.specs.Certificate.{leads_round, is_in_one_plane, IsProper, FacesFrontOf, edges_in}
 use Rattle.ember_certificate.specs.Facing.{spot_of, triangle_normal, FacesFront}
-use Rattle.ember_winding.specs.TriangleFaces.{face_of_points, face_if_found, faces_of_triangle, triangle_faces}
+use Rattle.ember_winding.specs.TriangleFaces.{side_plane, face_of_points, face_if_found, faces_of_triangle, triangle_faces}
 use Rattle.ember_winding.proofs.Halves.{one_if}
-use Rattle.ember_winding.proofs.Seen.{height, turn_at, passing_at}
+use Rattle.ember_winding.proofs.Seen.{height, turn_at}
 use Rattle.ember_winding.proofs.SamePlane.{front_sign, level_with, ray_passing}
 use Rattle.ember_winding.proofs.TriangleCount.{IsGeneralTriangle, triangle_count}
-use Rattle.ember_winding.proofs.GeneralPoints.{IsAcross, IsOffTables, hit_weight, height_nonzero, turn_nonzero, level_is}
+use Rattle.ember_winding.proofs.GeneralPoints.{IsAcross, IsOffPlane, IsOffTables, level_plane, hit_weight, height_nonzero, turn_nonzero, level_is}
 use Rattle.ember_winding.proofs.Crossings.{crossing_is, front_or_along, passing_found, passing_in, passing_of}
 
 -- ---- different corners
@@ -82,11 +81,11 @@ module _ (ps : List Plane) (cs : List SpacePoint) (a : Axis) (q : Vector) (p : S
         }
       where
         high : (c : SpacePoint) (i : ℕ) → slice_get cs i ≡ Some c → height n (level_with n q) (hit n a p) (spot_of c) ≢ pos 0
-        high c i e = height_nonzero n a p nz some (level_with n q) (spot_of c) c.valid.positive (level_is n q) direction_nonzero (each_get _ cs i c (each_get _ ps in_ n off.heights en) e)
+        high c i e = height_nonzero n a p nz some (level_with n q) (spot_of c) c.valid.positive (level_is n q) direction_nonzero (each_get (λ c. IsOffPlane (at_hit_of (level_plane n (level_with n q) (spot_of c)) n a) p) cs i c (each_get (λ n. AllByRecursion (λ c. IsOffPlane (at_hit_of (level_plane n (level_with n q) (spot_of c)) n a) p) cs) ps in_ n off.heights en) e)
 
         turn : (c : SpacePoint) (i : ℕ) → slice_get cs i ≡ Some c → (d : SpacePoint) (j : ℕ) → slice_get cs j ≡ Some d → value_at n (spot_of c) ≡ pos 0 → value_at n (spot_of d) ≡ pos 0 → displacement (spot_of c) (spot_of d) ≢ zero_v → turn_at n (hit n a p) (spot_of c) (spot_of d) ≢ pos 0
         turn c i e d j f zc zd different =
-            turn_nonzero n a p nz some (spot_of c) (spot_of d) wp c.valid.positive (flat_displacement n (spot_of c) (spot_of d) zc zd) different (each_get _ cs j d (each_get _ cs i c (each_get _ ps in_ n off.sides en) e) f)
+            turn_nonzero n a p nz some (spot_of c) (spot_of d) wp c.valid.positive (flat_displacement n (spot_of c) (spot_of d) zc zd) different (each_get (λ v. IsOffPlane (at_hit_of (side_plane n (spot_of c) (spot_of v)) n a) p) cs j d (each_get (λ u. AllByRecursion (λ v. IsOffPlane (at_hit_of (side_plane n (spot_of u) (spot_of v)) n a) p) cs) cs i c (each_get (λ n. AllByRecursion (λ u. AllByRecursion (λ v. IsOffPlane (at_hit_of (side_plane n (spot_of u) (spot_of v)) n a) p) cs) cs) ps in_ n off.sides en) e) f)
 
     -- its crossing is what its sides add
     entries_count : crossing (face_of_points n (spot_of u) (spot_of v) (spot_of w)) a p ≡ front_sign n a p *ℤ (ray_passing n a p q (spot_of u) (spot_of v) +ℤ ray_passing n a p q (spot_of v) (spot_of w) +ℤ ray_passing n a p q (spot_of w) (spot_of u))
@@ -115,7 +114,10 @@ module _ (ps : List Plane) (cs : List SpacePoint) (a : Axis) (q : Vector) (p : S
   -- the three edges of a proper triangle
   one_triangle : (t : Triangle) → IsProper ps cs t → total (λ f. crossing f a p) (faces_of_triangle ps cs t) ≡ of_segment t.first +ℤ of_segment t.second +ℤ of_segment t.third
   one_triangle t proper =
-      let r = and_parts _ _ proper.round in let l = and_parts _ _ r.0 in let m = and_parts _ _ l.1 in let b = and_parts _ _ r.1 in
+      let r = and_parts (leads_round t) (is_in_one_plane t) proper.round in
+      let l = and_parts (nat_eq t.first.end t.second.start) (nat_eq t.second.end t.third.start && nat_eq t.third.end t.first.start) r.0 in
+      let m = and_parts (nat_eq t.second.end t.third.start) (nat_eq t.third.end t.first.start) l.1 in
+      let b = and_parts (nat_eq t.first.plane t.second.plane) (nat_eq t.first.plane t.third.plane) r.1 in
       let e1 = eqb-true t.first.end t.second.start l.0 in let e2 = eqb-true t.second.end t.third.start m.0 in let e3 = eqb-true t.third.end t.first.start m.1 in
       let p2 = eqb-true t.first.plane t.second.plane b.0 in let p3 = eqb-true t.first.plane t.third.plane b.1 in
       found (slice_get ps t.first.plane) (slice_get cs t.first.start) (slice_get cs t.second.start) (slice_get cs t.third.start) t.first.plane t.first.start t.second.start t.third.start refl refl refl refl proper.front ∙ (λ i. passing_in ps cs a p q t.first.plane t.first.start (sym e1 i) +ℤ passing_in ps cs a p q (p2 i) t.second.start (sym e2 i) +ℤ passing_in ps cs a p q (p3 i) t.third.start (sym e3 i))

@@ -1,8 +1,7 @@
 -- Certified triangles wind as the faces that they cut up.
-use Rattle.std.proofs.Common.{◌≡◌, le_refl, sym, ◌∙◌, List, map, pos, ◌<ℤ◌}
+use Rattle.std.proofs.Common.{◌≡◌, le_refl, sym, ◌∙◌, List, map, pos}
 use Rattle.std.specs.List.{AllByRecursion}
 use Rattle.ember_algebra.specs.Vector.{Vector}
-use Rattle.ember_algebra.specs.Large.{Eventually}
 use Rattle.ember_algebra.proofs.Large.{eventually_both, eventually_map}
 use Rattle.ember_model.specs.declared.point.Spot.{Spot}
 use Rattle.ember_model.specs.declared.point.Axis.{Axis}

@@ -1,7 +1,7 @@
 -- The faces of a mesh's triangles, and lists of faces that wind alike
-use Rattle.std.specs.Prelude.{◌≡◌, ℤ, pos, ◌*ℤ◌, ◌<ℤ◌, Option, Some, List, [], ◌∷◌, slice_get}
+use Rattle.std.specs.Prelude.{◌≡◌, pos, ◌*ℤ◌, ◌<ℤ◌, Option, Some, List, [], ◌∷◌, slice_get}
 use Rattle.std.specs.List.{flat_map}
-use Rattle.ember_algebra.specs.Vector.{Vector, dot, cross}
+use Rattle.ember_algebra.specs.Vector.{dot, cross}
 use Rattle.ember_algebra.specs.Large.{Eventually}
 use Rattle.ember_model.specs.declared.plane.Plane.{Plane}
 use Rattle.ember_model.specs.declared.point.Spot.{Spot}
