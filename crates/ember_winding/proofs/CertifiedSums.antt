@@ -1,9 +1,10 @@
 -- Certified triangles: their edges add what the segments of the faces add.
-use Rattle.std.proofs.Common.{◌≡◌, ◌≢◌, ⊎_elim, refl, sym, ap, ◌∙◌, arith, nat_eq, ◌&&◌, Bool, true, false, cond, leb, Option, Some, None, List, [], ◌∷◌, slice_get, length, ℕ, zero, suc, ℤ, pos, neg_ℤ, ◌+ℤ◌, ◌-ℤ◌, ◌*ℤ◌, ◌<ℤ◌}
+use Rattle.std.proofs.Common.{◌≡◌, ◌≢◌, ⊎_elim, refl, sym, ap, ◌∙◌, arith, nat_eq, ◌&&◌, Bool, true, false, cond, Option, Some, None, List, [], ◌∷◌, slice_get, length, ℕ, zero, suc, ◌<◌, ℤ, pos, neg_ℤ, ◌+ℤ◌, ◌-ℤ◌, ◌*ℤ◌, ◌<ℤ◌}
 use Rattle.std.specs.List.{All, AllByRecursion, AllZip}
 use borrow.Author.Differences.{ints}
-use Rattle.std.proofs.lemmas.Bool.{eqb-true}
+use Rattle.std.proofs.lemmas.Bool.{eqb-true, leb-true, leb-false}
 use Rattle.std.proofs.lemmas.List.Elements.{All-head, All-tail}
+use Rattle.std.proofs.lemmas.Option.{slice_get_past}
 use lib.IntN.{zero-*ℤ}
 use Rattle.ember_algebra.specs.Large.{first_sign}
 use Rattle.ember_algebra.specs.Sign.{Sign, sgn}
@@ -18,7 +19,7 @@ use Rattle.ember_model.specs.declared.point.Axis.TheVariants.{X, Y, Z}
 use Rattle.ember_model.specs.Edges.{normal}
 use Rattle.ember_model.specs.Faces.{hit}
 use Rattle.ember_model.specs.Planes.{along}
-use Rattle.ember_model.proofs.SignTests.{clash, and_parts}
+use Rattle.ember_model.proofs.SignTests.{and_parts}
 use Rattle.ember_law.proofs.Generic.{at_hit_of}
 use Rattle.ember_poly.proofs.RingOutline.{each_get}
 use Rattle.ember_key.specs.declared.lines.LineKey.{LineKey}
@@ -55,16 +56,11 @@ key_directed : {p q : Plane} {k : LineKey} → IsLineKey p q k → direction k �
 key_directed {k = k} h z =
     let e : pos 1 ≡ pos 0 = sym h.forward ∙ ap (λ (v : Vector). first_sign (v.x ∷ v.y ∷ v.z ∷ [])) z in omega (arith, ints)
 
--- the entries of a list, by numbers below its length and others
-no_entry : {U : Type 0} (us : List U) (i : ℕ) → leb (length us) i ≡ true → slice_get us i ≡ None
-no_entry [] i e = refl
-no_entry (u ∷ us) zero e = absurd (clash e refl)
-no_entry (u ∷ us) (suc i) e = no_entry us i e
-
-some_entry : {U : Type 0} (us : List U) (i : ℕ) → leb (length us) i ≡ false → (u : U) × (slice_get us i ≡ Some u)
-some_entry [] i e = absurd (clash refl e)
-some_entry (u ∷ us) zero e = (u, refl)
-some_entry (u ∷ us) (suc i) e = some_entry us i e
+-- a number below the length of a list is that of an entry
+some_entry : {U : Type 0} (us : List U) (i : ℕ) → i < length us → (u : U) × (slice_get us i ≡ Some u)
+some_entry [] i l = absurd (omega (arith, l))
+some_entry (u ∷ us) zero l = (u, refl)
+some_entry (u ∷ us) (suc i) l = some_entry us i (omega (arith, l))
 
 -- the way back is passed the other way
 passing_odd : (n : Plane) (e : Vector) (x u v : Spot) → passing_at n e x v u ≡ neg_ℤ (passing_at n e x u v)
@@ -158,11 +154,11 @@ module _ (ps : List Plane) (ls : List LineKey) (cs : List SpacePoint) (a : Axis)
     where
       by : (b : Bool) → is_free ls s ≡ b → of_segment s ≡ of_ends s +ℤ of_free s
       by true e =
-          let z = no_entry ls s.line e in
+          let z = slice_get_past ls s.line (leb-true (length ls) s.line e) in
           let c : of_ends s ≡ pos 0 = (λ i. below_found a p q (h.plane_here i) (z i) (slice_get cs s.start) -ℤ below_found a p q (h.plane_here i) (z i) (slice_get cs s.end)) in
           let d : of_free s ≡ of_segment s = (λ i. cond (e i) (of_segment s) (pos 0)) in omega (arith, linear, c, d)
       by false e =
-          let k = some_entry ls s.line e in
+          let k = some_entry ls s.line (leb-false (length ls) s.line e) in
           let on_u = on.start k.0 h.start k.1 h.start_here in let on_v = on.end k.0 h.end k.1 h.end_here in
           let c : of_segment s ≡ of_ends s = (λ i. passing_found a p q (h.plane_here i) (h.start_here i) (h.end_here i)) ∙ entries_by_line h.plane s.plane h.plane_here k.0 h.start h.end s.start s.end h.start_here h.end_here on_u on_v ∙ sym (λ i. below_found a p q (h.plane_here i) (k.1 i) (h.start_here i) -ℤ below_found a p q (h.plane_here i) (k.1 i) (h.end_here i)) in
           let d : of_free s ≡ pos 0 = (λ i. cond (e i) (of_segment s) (pos 0)) in omega (arith, linear, c, d)

@@ -95,13 +95,13 @@ module _ (ps : List Plane) (ls : List LineKey) (cs : List SpacePoint) (a : Axis)
     behind_add face first before end (k ∷ es) c b z [] h = absurd h
     behind_add face first before end (k ∷ []) c b z (s ∷ []) h =
         let u = start_on f k end c in let v = end_on f k end c in
-        let e = segment_adds _ s k.start end h.0 u.closed.weight v.closed.weight u.closed.flat b u.zero v.closed.flat v.zero z in
+        let e = segment_adds (record { face = face; support = m; before = before; plane = k.plane; after = first }) s k.start end h.0 u.closed.weight v.closed.weight u.closed.flat b u.zero v.closed.flat v.zero z in
         omega (arith, linear, e, *ℤ-+ℤ (front_sign m a p) (passed (record { from = k.start; to = end })) (pos 0), *ℤ-zero (front_sign m a p))
     behind_add face first before end (k ∷ []) c b z (s ∷ t ∷ ss) h = absurd h.1
     behind_add face first before end (k ∷ d ∷ es) c b z (s ∷ ss) h =
         let u = start_on f k d.start c.0 in let v = end_on f k d.start c.0 in
         let next = next_start d es c.1 in
-        let e = segment_adds _ s k.start d.start h.0 u.closed.weight v.closed.weight u.closed.flat b u.zero v.closed.flat v.zero next in
+        let e = segment_adds (record { face = face; support = m; before = before; plane = k.plane; after = d.plane }) s k.start d.start h.0 u.closed.weight v.closed.weight u.closed.flat b u.zero v.closed.flat v.zero next in
         let r = behind_add face first k.plane end (d ∷ es) c.1 v.zero z ss h.1 in
         omega (arith, linear, e, r, *ℤ-+ℤ (front_sign m a p) (passed (record { from = k.start; to = d.start })) (total passed (edges_to end (d ∷ es))))
       where
