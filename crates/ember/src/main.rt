@@ -27,6 +27,8 @@ fn claim_stack(place: usize) -> bool {
     room[place % STACK] == 0
 }
 
+// The toolchain passes `main` the runtime `rt`: the memory, threads, files and streams of the
+// system. Its type needs no import.
 fn main(rt: HostRuntime) -> ExitCode {
     let words = match env::args(&rt) {
         Ok(words) => words,
@@ -42,6 +44,7 @@ fn main(rt: HostRuntime) -> ExitCode {
         return ExitCode::from(NO_MEMORY);
     }
     let mut shelf = FileShelf::new(&rt);
+    // Standard output.
     let mut out = StdSink::new(io::writer(&rt));
     let mut err = StdSink::new(rt.stderr());
     let status = run(

@@ -11,7 +11,7 @@ pub data Chain {X A : Type 0} (R : X → A → A → Type 0) : List X → A → 
   done : {a : A} → Chain R [] a a
   step : {x : X} {xs : List X} {a b c : A} → R x a b → Chain R xs b c → Chain R (x ∷ xs) a c
 
--- each member has the property
+-- each member has the property: the same as `AllByRecursion` of the library, whose `All` says it of each index
 abbrev pub Every : {X : Type 0} → (X → Type 0) → List X → Type 0
 Every P [] = ⊤
 Every P (x ∷ xs) = P x × Every P xs

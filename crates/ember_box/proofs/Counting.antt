@@ -11,11 +11,11 @@ use Rattle.ember_box.specs.declared.sums.Sums.{Sums}
 use Rattle.ember_box.specs.Boxes.{Cell, left_half, right_half}
 use Rattle.ember_box.specs.Near.{is_near, near, no_tri}
 use Rattle.ember_box.specs.Halving.{half_sum, is_no_better, halving_axis, is_unprofitable, is_leaf}
-use Rattle.ember_box.specs.Sums.{number, near_halves, IsSumOf, AreSums}
+use Rattle.ember_box.specs.Sums.{number, near_half_count, IsSumOf, AreSums}
 
 -- ---- a list
-half_sum_more : (ts : List Tri) (c : Cell) (k : Axis) (i : ℕ) → i < length ts → half_sum (take (i + 1) ts) c k ≡ half_sum (take i ts) c k + near_halves c k (get_or ts i no_tri)
-unfolding half_sum near_halves
+half_sum_more : (ts : List Tri) (c : Cell) (k : Axis) (i : ℕ) → i < length ts → half_sum (take (i + 1) ts) c k ≡ half_sum (take i ts) c k + near_half_count c k (get_or ts i no_tri)
+unfolding half_sum near_half_count
 half_sum_more ts c k i l =
     omega (arith, length-filter_more (λ t. is_near (left_half c k) t) ts i no_tri l, length-filter_more (λ t. is_near (right_half c k) t) ts i no_tri l)
 
@@ -33,7 +33,7 @@ sums_none ts c = record { near = refl; bound = omega arith; x = at X; y = at Y; 
     at : (k : Axis) → IsSumOf (take 0 ts) c k 0
     at k = record { value = λ _. sym (none_yet ts c k); bound = omega arith }
 
-sum_more : (ts : List Tri) (c : Cell) (k : Axis) (i n d : ℕ) → i < length ts → IsSumOf (take i ts) c k n → (0 < c.log k → d ≡ near_halves c k (get_or ts i no_tri)) → d ≤ 2 → IsSumOf (take (i + 1) ts) c k (n + d)
+sum_more : (ts : List Tri) (c : Cell) (k : Axis) (i n d : ℕ) → i < length ts → IsSumOf (take i ts) c k n → (0 < c.log k → d ≡ near_half_count c k (get_or ts i no_tri)) → d ≤ 2 → IsSumOf (take (i + 1) ts) c k (n + d)
 sum_more ts c k i n d l s e b =
     record {
       value = λ p. (λ j. s.value p j + e p j) ∙ sym (half_sum_more ts c k i l);
@@ -41,7 +41,7 @@ sum_more ts c k i n d l s e b =
     }
 
 -- one more triangle, with what it adds to the sums
-pub sums_more : (ts : List Tri) (c : Cell) (i n x y z m dx dy dz : ℕ) → i < length ts → AreSums (take i ts) c (sums_of n x y z) → m ≡ number (is_near c (get_or ts i no_tri)) → m ≤ 1 → (0 < c.log X → dx ≡ near_halves c X (get_or ts i no_tri)) → dx ≤ 2 → (0 < c.log Y → dy ≡ near_halves c Y (get_or ts i no_tri)) → dy ≤ 2 → (0 < c.log Z → dz ≡ near_halves c Z (get_or ts i no_tri)) → dz ≤ 2 → AreSums (take (i + 1) ts) c (sums_of (n + m) (x + dx) (y + dy) (z + dz))
+pub sums_more : (ts : List Tri) (c : Cell) (i n x y z m dx dy dz : ℕ) → i < length ts → AreSums (take i ts) c (sums_of n x y z) → m ≡ number (is_near c (get_or ts i no_tri)) → m ≤ 1 → (0 < c.log X → dx ≡ near_half_count c X (get_or ts i no_tri)) → dx ≤ 2 → (0 < c.log Y → dy ≡ near_half_count c Y (get_or ts i no_tri)) → dy ≤ 2 → (0 < c.log Z → dz ≡ near_half_count c Z (get_or ts i no_tri)) → dz ≤ 2 → AreSums (take (i + 1) ts) c (sums_of (n + m) (x + dx) (y + dy) (z + dz))
 sums_more ts c i n x y z m dx dy dz l s em bm ex bx ey by' ez bz =
     record {
       near = (λ j. s.near j + em j) ∙ sym (length-filter_more (λ t. is_near c t) ts i no_tri l);

@@ -14,7 +14,7 @@ use Rattle.ember_box.specs.declared.aabb.Margins.{Margins}
 use Rattle.ember_box.specs.declared.near_parts.Middle.{Middle}
 use Rattle.ember_box.specs.Boxes.{Cell, low, high, left_half, right_half}
 use Rattle.ember_box.specs.Aabbs.{aabb_of_cell, least_value, greatest_value, crosses}
-use Rattle.ember_box.specs.NearParts.{IsMiddle, AreMargins, rise, margin_of_left, margin_of_right}
+use Rattle.ember_box.specs.NearParts.{IsMiddle, AreMargins, change_size, margin_of_left, margin_of_right}
 use Rattle.ember_box.proofs.Orders.{le_in, le_out, same_test}
 use Rattle.ember_box.proofs.NearByAabbs.{halves_end}
 
@@ -93,17 +93,17 @@ module _ (p : Plane) (c : Cell) (m : Margins) (a : AreMargins p (aabb_of_cell c)
   unfolding crosses
   over = and_parts (int_le (least_value p (aabb_of_cell c)) p.d) (int_le p.d (greatest_value p (aabb_of_cell c))) o
 
-  low_by : (n half : ℤ) (k : Axis) → least_value p (aabb_of_cell (left_half c k)) ≡ least_value p (aabb_of_cell c) -ℤ (if is_negative n then n *ℤ half else pos 0) → greatest_value p (aabb_of_cell (left_half c k)) ≡ greatest_value p (aabb_of_cell c) -ℤ (if is_negative n then pos 0 else n *ℤ half) → int_le (rise n half) (margin_of_left n m) ≡ crosses p (aabb_of_cell (left_half c k))
+  low_by : (n half : ℤ) (k : Axis) → least_value p (aabb_of_cell (left_half c k)) ≡ least_value p (aabb_of_cell c) -ℤ (if is_negative n then n *ℤ half else pos 0) → greatest_value p (aabb_of_cell (left_half c k)) ≡ greatest_value p (aabb_of_cell c) -ℤ (if is_negative n then pos 0 else n *ℤ half) → int_le (change_size n half) (margin_of_left n m) ≡ crosses p (aabb_of_cell (left_half c k))
   unfolding crosses
   low_by n half k e f =
       low_test (is_negative n) (least_value p (aabb_of_cell c)) (greatest_value p (aabb_of_cell c)) p.d (n *ℤ half) m.above m.below (least_value p (aabb_of_cell (left_half c k))) (greatest_value p (aabb_of_cell (left_half c k))) a.above a.below e f over.0 over.1
 
-  high_by : (n half : ℤ) (k : Axis) → least_value p (aabb_of_cell (right_half c k)) ≡ least_value p (aabb_of_cell c) +ℤ (if is_negative n then pos 0 else n *ℤ half) → greatest_value p (aabb_of_cell (right_half c k)) ≡ greatest_value p (aabb_of_cell c) +ℤ (if is_negative n then n *ℤ half else pos 0) → int_le (rise n half) (margin_of_right n m) ≡ crosses p (aabb_of_cell (right_half c k))
+  high_by : (n half : ℤ) (k : Axis) → least_value p (aabb_of_cell (right_half c k)) ≡ least_value p (aabb_of_cell c) +ℤ (if is_negative n then pos 0 else n *ℤ half) → greatest_value p (aabb_of_cell (right_half c k)) ≡ greatest_value p (aabb_of_cell c) +ℤ (if is_negative n then n *ℤ half else pos 0) → int_le (change_size n half) (margin_of_right n m) ≡ crosses p (aabb_of_cell (right_half c k))
   unfolding crosses
   high_by n half k e f =
       high_test (is_negative n) (least_value p (aabb_of_cell c)) (greatest_value p (aabb_of_cell c)) p.d (n *ℤ half) m.above m.below (least_value p (aabb_of_cell (right_half c k))) (greatest_value p (aabb_of_cell (right_half c k))) a.above a.below e f over.0 over.1
 
-  pub low_crossed : (k : Axis) (i : Middle) → 0 < c.log k → IsMiddle c k i → int_le (rise (along p k) i.half) (margin_of_left (along p k) m) ≡ crosses p (aabb_of_cell (left_half c k))
+  pub low_crossed : (k : Axis) (i : Middle) → 0 < c.log k → IsMiddle c k i → int_le (change_size (along p k) i.half) (margin_of_left (along p k) m) ≡ crosses p (aabb_of_cell (left_half c k))
   low_crossed X i may are =
       let n = p.a in let l = low c X in let g = pos (2 ^ pred (c.log X)) in
       let e = sym (halves_end l (c.log X) may) in let q = ap (λ (x : ℤ). n *ℤ x) (half_is l g i.half are.length) in
@@ -117,7 +117,7 @@ module _ (p : Plane) (c : Cell) (m : Margins) (a : AreMargins p (aabb_of_cell c)
       let e = sym (halves_end l (c.log Z) may) in let q = ap (λ (x : ℤ). n *ℤ x) (half_is l g i.half are.length) in
       low_by n i.half Z (omega (arith, linear, low_least n l g (high c Z) (n *ℤ i.half) e q (is_negative n))) (omega (arith, linear, low_greatest n l g (high c Z) (n *ℤ i.half) e q (is_negative n)))
 
-  pub high_crossed : (k : Axis) (i : Middle) → 0 < c.log k → IsMiddle c k i → int_le (rise (along p k) i.half) (margin_of_right (along p k) m) ≡ crosses p (aabb_of_cell (right_half c k))
+  pub high_crossed : (k : Axis) (i : Middle) → 0 < c.log k → IsMiddle c k i → int_le (change_size (along p k) i.half) (margin_of_right (along p k) m) ≡ crosses p (aabb_of_cell (right_half c k))
   high_crossed X i may are =
       let n = p.a in let l = low c X in let g = pos (2 ^ pred (c.log X)) in
       let e = sym (halves_end l (c.log X) may) in let q = ap (λ (x : ℤ). n *ℤ x) (half_is l g i.half are.length) in

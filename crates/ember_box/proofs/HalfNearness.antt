@@ -9,7 +9,7 @@ use Rattle.ember_box.specs.declared.aabb.Aabb.{Aabb}
 use Rattle.ember_box.specs.declared.half_boxes.HalfBoxes.{HalfBoxes}
 use Rattle.ember_box.specs.Boxes.{Cell, low, left_half, right_half}
 use Rattle.ember_box.specs.Near.{is_near}
-use Rattle.ember_box.specs.Aabbs.{interval_on, aabb_of_cell, aabb_of_tri, aabbs_meet, contains_aabb, is_level, crosses}
+use Rattle.ember_box.specs.Aabbs.{interval_along, aabb_of_cell, aabb_of_tri, aabbs_meet, contains_aabb, is_level, crosses}
 use Rattle.ember_box.specs.Sums.{IsPlaneOf, may_cross, AreHalves, meets_left, meets_right}
 use Rattle.ember_box.proofs.FlatAlongAxis.{level_crossed}
 use Rattle.ember_box.proofs.Orders.{and_implied}
@@ -40,30 +40,30 @@ module _ (c : Cell) (t : Tri) (p : Option Plane) (o : aabbs_meet (aabb_of_tri t)
       sym (ap (λ b. b && may_cross (aabb_of_cell c) p) o) ∙ crossed_by (aabb_of_cell c) c t p plane (λ i _. inside_crossed t (aabb_of_cell c) i)
 
   -- whether the left half is met is whether the triangle is near it
-  pub seen_low : (k : Axis) (h : HalfBoxes) → 0 < c.log k → AreHalves c k h → meets_left h (interval_on k (aabb_of_tri t)) p ≡ is_near (left_half c k) t
+  pub seen_low : (k : Axis) (h : HalfBoxes) → 0 < c.log k → AreHalves c k h → meets_left h (interval_along (aabb_of_tri t) k) p ≡ is_near (left_half c k) t
   seen_low k h above are =
       parts p ∙ (λ i. meets i && may_cross (are.is_left i) p) ∙ crossed_by (aabb_of_cell c) (left_half c k) t p plane (left_crossed c k t)
     where
-      parts : (p : Option Plane) → meets_left h (interval_on k (aabb_of_tri t)) p ≡ int_le (interval_on k (aabb_of_tri t)).low h.middle && may_cross h.left p
-      parts None = sym (always (int_le (interval_on k (aabb_of_tri t)).low h.middle))
+      parts : (p : Option Plane) → meets_left h (interval_along (aabb_of_tri t) k) p ≡ int_le (interval_along (aabb_of_tri t) k).low h.middle && may_cross h.left p
+      parts None = sym (always (int_le (interval_along (aabb_of_tri t) k).low h.middle))
       parts (Some p) = refl
 
-      meets : int_le (interval_on k (aabb_of_tri t)).low h.middle ≡ aabbs_meet (aabb_of_tri t) (aabb_of_cell (left_half c k))
+      meets : int_le (interval_along (aabb_of_tri t) k).low h.middle ≡ aabbs_meet (aabb_of_tri t) (aabb_of_cell (left_half c k))
       meets =
-          (λ i. sym o i && int_le (interval_on k (aabb_of_tri t)).low (are.is_middle i)) ∙ left_meets c k (aabb_of_tri t) above
+          (λ i. sym o i && int_le (interval_along (aabb_of_tri t) k).low (are.is_middle i)) ∙ left_meets c k (aabb_of_tri t) above
 
   -- whether the right half is met is whether the triangle is near it
-  pub seen_high : (k : Axis) (h : HalfBoxes) → 0 < c.log k → AreHalves c k h → meets_right h (interval_on k (aabb_of_tri t)) p ≡ is_near (right_half c k) t
+  pub seen_high : (k : Axis) (h : HalfBoxes) → 0 < c.log k → AreHalves c k h → meets_right h (interval_along (aabb_of_tri t) k) p ≡ is_near (right_half c k) t
   seen_high k h above are =
       parts p ∙ (λ i. meets i && may_cross (are.is_right i) p) ∙ crossed_by (aabb_of_cell c) (right_half c k) t p plane (right_crossed c k t above)
     where
-      parts : (p : Option Plane) → meets_right h (interval_on k (aabb_of_tri t)) p ≡ int_le h.middle (interval_on k (aabb_of_tri t)).high && may_cross h.right p
-      parts None = sym (always (int_le h.middle (interval_on k (aabb_of_tri t)).high))
+      parts : (p : Option Plane) → meets_right h (interval_along (aabb_of_tri t) k) p ≡ int_le h.middle (interval_along (aabb_of_tri t) k).high && may_cross h.right p
+      parts None = sym (always (int_le h.middle (interval_along (aabb_of_tri t) k).high))
       parts (Some p) = refl
 
-      meets : int_le h.middle (interval_on k (aabb_of_tri t)).high ≡ aabbs_meet (aabb_of_tri t) (aabb_of_cell (right_half c k))
+      meets : int_le h.middle (interval_along (aabb_of_tri t) k).high ≡ aabbs_meet (aabb_of_tri t) (aabb_of_cell (right_half c k))
       meets =
-          (λ i. sym o i && int_le (are.is_middle i) (interval_on k (aabb_of_tri t)).high) ∙ right_meets c k (aabb_of_tri t) above
+          (λ i. sym o i && int_le (are.is_middle i) (interval_along (aabb_of_tri t) k).high) ∙ right_meets c k (aabb_of_tri t) above
 
 -- ---- where it misses the box
 module _ (c : Cell) (t : Tri) (o : aabbs_meet (aabb_of_tri t) (aabb_of_cell c) ≡ false) where
@@ -72,11 +72,11 @@ module _ (c : Cell) (t : Tri) (o : aabbs_meet (aabb_of_tri t) (aabb_of_cell c) �
 
   pub far_low : (k : Axis) → 0 < c.log k → is_near (left_half c k) t ≡ false
   far_low k above =
-      near_is (left_half c k) t ∙ ap (λ b. b && crosses (support_of t) (aabb_of_cell (left_half c k))) (sym (left_meets c k (aabb_of_tri t) above) ∙ ap (λ b. b && int_le (interval_on k (aabb_of_tri t)).low (low (right_half c k) k)) o)
+      near_is (left_half c k) t ∙ ap (λ b. b && crosses (support_of t) (aabb_of_cell (left_half c k))) (sym (left_meets c k (aabb_of_tri t) above) ∙ ap (λ b. b && int_le (interval_along (aabb_of_tri t) k).low (low (right_half c k) k)) o)
 
   pub far_high : (k : Axis) → 0 < c.log k → is_near (right_half c k) t ≡ false
   far_high k above =
-      near_is (right_half c k) t ∙ ap (λ b. b && crosses (support_of t) (aabb_of_cell (right_half c k))) (sym (right_meets c k (aabb_of_tri t) above) ∙ ap (λ b. b && int_le (low (right_half c k) k) (interval_on k (aabb_of_tri t)).high) o)
+      near_is (right_half c k) t ∙ ap (λ b. b && crosses (support_of t) (aabb_of_cell (right_half c k))) (sym (right_meets c k (aabb_of_tri t) above) ∙ ap (λ b. b && int_le (low (right_half c k) k) (interval_along (aabb_of_tri t) k).high) o)
 
 -- ---- a list of places
 -- one more is looked at, and kept if the test holds

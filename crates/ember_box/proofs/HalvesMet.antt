@@ -6,7 +6,7 @@ use Rattle.ember_model.specs.declared.point.Axis.TheVariants.{X, Y, Z}
 use Rattle.ember_box.specs.declared.aabb.Interval.{Interval}
 use Rattle.ember_box.specs.declared.aabb.Aabb.{Aabb}
 use Rattle.ember_box.specs.Boxes.{Cell, low, high, left_half, right_half}
-use Rattle.ember_box.specs.Aabbs.{interval_between, interval_on, aabb_of_cell, intervals_meet, aabbs_meet}
+use Rattle.ember_box.specs.Aabbs.{interval_between, interval_along, aabb_of_cell, intervals_meet, aabbs_meet}
 use Rattle.ember_box.proofs.Orders.{le_in, le_out, and_assoc}
 use Rattle.ember_box.proofs.NearByAabbs.{halves_end}
 
@@ -53,7 +53,7 @@ beside_y true true false false = refl
 
 -- ---- a box
 -- a bounding box meets the left half exactly if it meets the box and reaches the middle from below
-pub left_meets : (c : Cell) (k : Axis) (a : Aabb) → 0 < c.log k → aabbs_meet a (aabb_of_cell c) && int_le (interval_on k a).low (low (right_half c k) k) ≡ aabbs_meet a (aabb_of_cell (left_half c k))
+pub left_meets : (c : Cell) (k : Axis) (a : Aabb) → 0 < c.log k → aabbs_meet a (aabb_of_cell c) && int_le (interval_along a k).low (low (right_half c k) k) ≡ aabbs_meet a (aabb_of_cell (left_half c k))
 left_meets c X a p =
     let b = aabb_of_cell c in let m = low (right_half c X) X in let e = halves_end (low c X) (c.log X) p in
     let h : m ≤ℤ high c X = omega (arith, ints, e) in
@@ -68,7 +68,7 @@ left_meets c Z a p =
     and_assoc (intervals_meet a.x b.x && intervals_meet a.y b.y) (intervals_meet a.z b.z) (int_le a.z.low m) ∙ (λ i. intervals_meet a.x b.x && intervals_meet a.y b.y && lower_part a.z b.z m h i)
 
 -- a bounding box meets the right half if it meets the box and reaches the half
-pub right_meets : (c : Cell) (k : Axis) (a : Aabb) → 0 < c.log k → aabbs_meet a (aabb_of_cell c) && int_le (low (right_half c k) k) (interval_on k a).high ≡ aabbs_meet a (aabb_of_cell (right_half c k))
+pub right_meets : (c : Cell) (k : Axis) (a : Aabb) → 0 < c.log k → aabbs_meet a (aabb_of_cell c) && int_le (low (right_half c k) k) (interval_along a k).high ≡ aabbs_meet a (aabb_of_cell (right_half c k))
 right_meets c X a p =
     let b = aabb_of_cell c in let m = low (right_half c X) X in let e = halves_end (low c X) (c.log X) p in
     let h : low c X ≤ℤ m = omega (arith, ints) in

@@ -14,9 +14,9 @@ use Rattle.ember_box.specs.declared.near_parts.NearPair.{NearPair}
 use Rattle.ember_box.specs.declared.near_parts.NearParts.{NearParts}
 use Rattle.ember_box.specs.Boxes.{Cell, low, left_half, right_half}
 use Rattle.ember_box.specs.Near.{is_near, tri_at}
-use Rattle.ember_box.specs.Aabbs.{interval_on, aabb_of_cell, aabb_of_tri, aabbs_meet, crosses}
+use Rattle.ember_box.specs.Aabbs.{interval_along, aabb_of_cell, aabb_of_tri, aabbs_meet, crosses}
 use Rattle.ember_box.specs.Sums.{IsPlaneOf, AreHalves}
-use Rattle.ember_box.specs.NearParts.{IsMiddle, AreMargins, rise, margin_of_left, margin_of_right, IsNearPair, AreNearParts, AreNearPartsAt, no_pair, no_parts, pair_on}
+use Rattle.ember_box.specs.NearParts.{IsMiddle, AreMargins, change_size, margin_of_left, margin_of_right, IsNearPair, AreNearParts, AreNearPartsAt, no_pair, no_parts, pair_on}
 use Rattle.ember_box.proofs.NearByAabbs.{near_is, left_near, right_near}
 use Rattle.ember_box.proofs.HalvesMet.{left_meets, right_meets}
 use Rattle.ember_box.proofs.HalfNearness.{seen_low, seen_high}
@@ -41,26 +41,26 @@ module _ (c : Cell) (t : Tri) (o : aabbs_meet (aabb_of_tri t) (aabb_of_cell c) �
   are_halves k = record { is_left = refl; is_right = refl; is_middle = refl }
 
   -- by its bounding box alone
-  pub pair_by_span : (k : Axis) (i : Middle) (p : NearPair) → IsPlaneOf (aabb_of_cell c) t None → 0 < c.log k → IsMiddle c k i → p.left ≡ int_le (interval_on k (aabb_of_tri t)).low i.at → p.right ≡ int_le i.at (interval_on k (aabb_of_tri t)).high → IsNearPair c k t p
+  pub pair_by_span : (k : Axis) (i : Middle) (p : NearPair) → IsPlaneOf (aabb_of_cell c) t None → 0 < c.log k → IsMiddle c k i → p.left ≡ int_le (interval_along (aabb_of_tri t) k).low i.at → p.right ≡ int_le i.at (interval_along (aabb_of_tri t) k).high → IsNearPair c k t p
   pair_by_span k i p plane may are e f =
-      record { left = e ∙ ap (λ m. int_le (interval_on k (aabb_of_tri t)).low m) are.place ∙ seen_low c t None o plane k (halves_at k) may (are_halves k); right = f ∙ ap (λ m. int_le m (interval_on k (aabb_of_tri t)).high) are.place ∙ seen_high c t None o plane k (halves_at k) may (are_halves k) }
+      record { left = e ∙ ap (λ m. int_le (interval_along (aabb_of_tri t) k).low m) are.place ∙ seen_low c t None o plane k (halves_at k) may (are_halves k); right = f ∙ ap (λ m. int_le m (interval_along (aabb_of_tri t) k).high) are.place ∙ seen_high c t None o plane k (halves_at k) may (are_halves k) }
 
   -- by its plane, which crosses the box
   module _ (m : Margins) (a : AreMargins (support_of t) (aabb_of_cell c) m) (x : crosses (support_of t) (aabb_of_cell c) ≡ true) where
     pub whole_by_plane : true ≡ is_near c t
     whole_by_plane = sym (near_is c t ∙ (λ i. o i && x i))
 
-    pub pair_by_plane : (k : Axis) (i : Middle) (p : NearPair) → 0 < c.log k → IsMiddle c k i → p.left ≡ int_le (interval_on k (aabb_of_tri t)).low i.at && int_le (rise (along (support_of t) k) i.half) (margin_of_left (along (support_of t) k) m) → p.right ≡ int_le i.at (interval_on k (aabb_of_tri t)).high && int_le (rise (along (support_of t) k) i.half) (margin_of_right (along (support_of t) k) m) → IsNearPair c k t p
+    pub pair_by_plane : (k : Axis) (i : Middle) (p : NearPair) → 0 < c.log k → IsMiddle c k i → p.left ≡ int_le (interval_along (aabb_of_tri t) k).low i.at && int_le (change_size (along (support_of t) k) i.half) (margin_of_left (along (support_of t) k) m) → p.right ≡ int_le i.at (interval_along (aabb_of_tri t) k).high && int_le (change_size (along (support_of t) k) i.half) (margin_of_right (along (support_of t) k) m) → IsNearPair c k t p
     pair_by_plane k i p may are e f =
-        record { left = e ∙ (λ j. int_le (interval_on k (aabb_of_tri t)).low (are.place j) && low_crossed (support_of t) c m a x k i may are j) ∙ sym (near_is (left_half c k) t ∙ (λ j. left_meet j && crosses (support_of t) (aabb_of_cell (left_half c k)))); right = f ∙ (λ j. int_le (are.place j) (interval_on k (aabb_of_tri t)).high && high_crossed (support_of t) c m a x k i may are j) ∙ sym (near_is (right_half c k) t ∙ (λ j. right_meet j && crosses (support_of t) (aabb_of_cell (right_half c k)))) }
+        record { left = e ∙ (λ j. int_le (interval_along (aabb_of_tri t) k).low (are.place j) && low_crossed (support_of t) c m a x k i may are j) ∙ sym (near_is (left_half c k) t ∙ (λ j. left_meet j && crosses (support_of t) (aabb_of_cell (left_half c k)))); right = f ∙ (λ j. int_le (are.place j) (interval_along (aabb_of_tri t) k).high && high_crossed (support_of t) c m a x k i may are j) ∙ sym (near_is (right_half c k) t ∙ (λ j. right_meet j && crosses (support_of t) (aabb_of_cell (right_half c k)))) }
       where
-        left_meet : aabbs_meet (aabb_of_tri t) (aabb_of_cell (left_half c k)) ≡ int_le (interval_on k (aabb_of_tri t)).low (low (right_half c k) k)
+        left_meet : aabbs_meet (aabb_of_tri t) (aabb_of_cell (left_half c k)) ≡ int_le (interval_along (aabb_of_tri t) k).low (low (right_half c k) k)
         left_meet =
-            sym (left_meets c k (aabb_of_tri t) may) ∙ ap (λ b. b && int_le (interval_on k (aabb_of_tri t)).low (low (right_half c k) k)) o
+            sym (left_meets c k (aabb_of_tri t) may) ∙ ap (λ b. b && int_le (interval_along (aabb_of_tri t) k).low (low (right_half c k) k)) o
 
-        right_meet : aabbs_meet (aabb_of_tri t) (aabb_of_cell (right_half c k)) ≡ int_le (low (right_half c k) k) (interval_on k (aabb_of_tri t)).high
+        right_meet : aabbs_meet (aabb_of_tri t) (aabb_of_cell (right_half c k)) ≡ int_le (low (right_half c k) k) (interval_along (aabb_of_tri t) k).high
         right_meet =
-            sym (right_meets c k (aabb_of_tri t) may) ∙ ap (λ b. b && int_le (low (right_half c k) k) (interval_on k (aabb_of_tri t)).high) o
+            sym (right_meets c k (aabb_of_tri t) may) ∙ ap (λ b. b && int_le (low (right_half c k) k) (interval_along (aabb_of_tri t) k).high) o
 
 -- the near parts along an axis are the near pair of the axis
 pub pair_at : (c : Cell) (t : Tri) (p : NearParts) (k : Axis) → AreNearParts c t p → 0 < c.log k → IsNearPair c k t (pair_on k p)

@@ -39,10 +39,10 @@ aabb_of_tri t =
     }
 
 -- its interval along an axis
-abbrev pub interval_on : Axis → Aabb → Interval
-interval_on X b = b.x
-interval_on Y b = b.y
-interval_on Z b = b.z
+abbrev pub interval_along : Aabb → Axis → Interval
+interval_along b X = b.x
+interval_along b Y = b.y
+interval_along b Z = b.z
 
 -- whether the intervals have a common coordinate
 abbrev pub intervals_meet : Interval → Interval → Bool

@@ -81,8 +81,8 @@ pub record IsOnGrid (low : ℤ) (log : ℕ) : Type 0 where
   pub at : low +ℤ pos 2048 ≡ pos (index * 2 ^ log)
   pub within : (index + 1) * 2 ^ log ≤ 4096
 
--- what every box keeps. `from` and `below` say that the path has one binary digit more than the depth: with one
--- digit more for each halving left, it has 37.
+-- what every box keeps. `from` and `below` say: shifted left by the number of halvings left, the path has 37 binary
+-- digits. The depth and the halvings left are 36 together, so the path has one digit more than the depth.
 pub record IsCell (c : Cell) : Type 0 where
   pub sits : (k : Axis) → IsOnGrid (low c k) (c.log k)
   pub from : 2 ^ 36 ≤ c.path * 2 ^ halvings_left c

@@ -12,6 +12,6 @@ axis_of None = None
 axis_of (Some h) = Some h.axis
 
 -- the indices of the list whose triangles are near the left half, and those near the right half
-pub record AreNearLists (ts : List Tri) (c : Cell) (k : Axis) (is left right : List ℕ) : Type 0 where
-  pub is_left : left ≡ near_indices ts (left_half c k) is
-  pub is_right : right ≡ near_indices ts (right_half c k) is
+pub record AreNearLists (ts : List Tri) (c : Cell) (k : Axis) (indices left right : List ℕ) : Type 0 where
+  pub is_left : left ≡ near_indices ts (left_half c k) indices
+  pub is_right : right ≡ near_indices ts (right_half c k) indices

@@ -58,11 +58,11 @@ tri_at ts i = slice_index_or ts i no_tri
 
 -- the triangles with these indices
 abbrev pub listed : List Tri → List ℕ → List Tri
-listed ts is = map (λ i. tri_at ts i) is
+listed ts indices = map (λ i. tri_at ts i) indices
 
 -- the indices of a list whose triangle is near the box
 abbrev pub near_indices : List Tri → Cell → List ℕ → List ℕ
-near_indices ts c is = filter (λ i. is_near c (tri_at ts i)) is
+near_indices ts c indices = filter (λ i. is_near c (tri_at ts i)) indices
 
 -- the indices of all triangles, in order
 abbrev pub all_indices : List Tri → List ℕ

@@ -41,9 +41,9 @@ pub record AreMargins (p : Plane) (b : Aabb) (m : Margins) : Type 0 where
   pub above : m.above ≡ p.d -ℤ least_value p b
   pub below : m.below ≡ greatest_value p b -ℤ p.d
 
--- how much the value of a plane with the entry n of its normal grows over a half
-abbrev pub rise : ℤ → ℤ → ℤ
-rise n half = if is_negative n then neg_ℤ (n *ℤ half) else n *ℤ half
+-- by how much the value of a plane with the entry n of its normal changes over a half, without sign
+abbrev pub change_size : ℤ → ℤ → ℤ
+change_size n half = if is_negative n then neg_ℤ (n *ℤ half) else n *ℤ half
 
 -- the margin that shrinks in the left half, and the one that shrinks in the right half
 abbrev pub margin_of_left : ℤ → Margins → ℤ
@@ -77,6 +77,7 @@ pair_on X p = p.x
 pair_on Y p = p.y
 pair_on Z p = p.z
 
--- item i of ps has the near parts of the triangle whose index is item i of the list `is`
-pub record AreNearPartsAt (ts : List Tri) (c : Cell) (is : List ℕ) (ps : List NearParts) : Type 0 where
-  pub each : (i : ℕ) → i < length ps → AreNearParts c (tri_at ts (slice_index_or is i 0)) (slice_index_or ps i no_parts)
+-- item i of ps has the near parts of the triangle whose index is item i of the list `indices`
+pub record AreNearPartsAt (ts : List Tri) (c : Cell) (indices : List ℕ) (ps : List NearParts) : Type 0 where
+  pub each : (i : ℕ) → i < length ps →
+      AreNearParts c (tri_at ts (slice_index_or indices i 0)) (slice_index_or ps i no_parts)

@@ -55,16 +55,16 @@ meets_right h a None = int_le h.middle a.high
 meets_right h a (Some p) = int_le h.middle a.high && crosses p h.right
 
 -- the number of halves along an axis that a triangle is near
-unfoldable pub near_halves : Cell → Axis → Tri → ℕ
-near_halves c k t = number (is_near (left_half c k) t) + number (is_near (right_half c k) t)
+unfoldable pub near_half_count : Cell → Axis → Tri → ℕ
+near_half_count c k t = number (is_near (left_half c k) t) + number (is_near (right_half c k) t)
 
 -- ---- the sums of one triangle
 -- how many of the box and of its halves along each axis the triangle is near
 pub record AreSumsOfOne (c : Cell) (t : Tri) (s : Sums) : Type 0 where
   pub near : s.near ≡ number (is_near c t)
-  pub x : 0 < c.log X → s.x ≡ near_halves c X t
-  pub y : 0 < c.log Y → s.y ≡ near_halves c Y t
-  pub z : 0 < c.log Z → s.z ≡ near_halves c Z t
+  pub x : 0 < c.log X → s.x ≡ near_half_count c X t
+  pub y : 0 < c.log Y → s.y ≡ near_half_count c Y t
+  pub z : 0 < c.log Z → s.z ≡ near_half_count c Z t
 
 pub record AreFew (s : Sums) : Type 0 where
   pub near : s.near ≤ 1

@@ -4,7 +4,7 @@ ghost use Rattle.ember_algebra.specs.Size.{Small};
 ghost use Rattle.ember_model.specs.Sizes.{IsSupportSized};
 ghost use Rattle.ember_box.specs.Boxes as boxes;
 ghost use Rattle.ember_box.specs.NearParts.{AreMargins};
-ghost use Rattle.ember_box.specs.Aabbs.{interval_between, interval_over, interval_on, aabb_of_cell, aabb_of_tri, intervals_meet, aabbs_meet, aabbs_meet_beside, covers, contains_aabb, is_point, is_level, contains_coordinate, contains_corner, least_end, greatest_end, value_without_constant, least_value, greatest_value, crosses, IsIntervalSized, IsAabbSized};
+ghost use Rattle.ember_box.specs.Aabbs.{interval_between, interval_over, interval_along, aabb_of_cell, aabb_of_tri, intervals_meet, aabbs_meet, aabbs_meet_beside, covers, contains_aabb, is_point, is_level, contains_coordinate, contains_corner, least_end, greatest_end, value_without_constant, least_value, greatest_value, crosses, IsIntervalSized, IsAabbSized};
 
 use crate::cell::Cell;
 use ember_model::{Axis, Corner, Plane, Tri};
@@ -88,9 +88,9 @@ pub fn aabb_of_tri(t: &Tri) -> Aabb
     }
 }
 
-// The interval of a bounding box along an axis.
-pub fn interval_on(aabb: &Aabb, axis: Axis) -> Interval
-    ensures { result ≡ interval_on axis aabb.now }
+/// The interval of a bounding box along an axis.
+pub fn interval_along(aabb: &Aabb, axis: Axis) -> Interval
+    ensures { result ≡ interval_along aabb.now axis }
 {
     match axis {
         Axis::X => aabb.x,
@@ -205,7 +205,7 @@ fn value_without_constant(p: &Plane, x: i32, y: i32, z: i32) -> i64
 // The least value of the plane over the bounding box, without its constant.
 fn least_value(p: &Plane, aabb: &Aabb) -> i64
     requires plane { IsSupportSized p.now }
-    requires spans { IsAabbSized aabb.now }
+    requires sized { IsAabbSized aabb.now }
     ensures value { result ≡ least_value p.now aabb.now }
     ensures small { Small (2 ^ 38) result }
 {
@@ -220,7 +220,7 @@ fn least_value(p: &Plane, aabb: &Aabb) -> i64
 // The greatest value of the plane over the bounding box, without its constant.
 fn greatest_value(p: &Plane, aabb: &Aabb) -> i64
     requires plane { IsSupportSized p.now }
-    requires spans { IsAabbSized aabb.now }
+    requires sized { IsAabbSized aabb.now }
     ensures value { result ≡ greatest_value p.now aabb.now }
     ensures small { Small (2 ^ 38) result }
 {
@@ -237,7 +237,7 @@ fn greatest_value(p: &Plane, aabb: &Aabb) -> i64
 #[tactic(auto, unfolding(crate::specs::Aabbs::crosses))]
 pub fn crosses(p: &Plane, aabb: &Aabb) -> bool
     requires plane { IsSupportSized p.now }
-    requires spans { IsAabbSized aabb.now }
+    requires sized { IsAabbSized aabb.now }
     ensures { result ≡ crosses p.now aabb.now }
 {
     least_value(p, aabb) <= p.d && p.d <= greatest_value(p, aabb)
@@ -264,7 +264,7 @@ fn difference(a: i64, b: i64) -> i64
 // The margins of the plane over the bounding box.
 pub fn margins_of(p: &Plane, aabb: &Aabb) -> Margins
     requires plane { IsSupportSized p.now }
-    requires spans { IsAabbSized aabb.now }
+    requires sized { IsAabbSized aabb.now }
     ensures { AreMargins p.now aabb.now result }
 {
     Margins {

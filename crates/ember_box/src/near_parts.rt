@@ -9,7 +9,7 @@ ghost use Rattle.ember_model.specs.Sizes.{IsSupportSized};
 ghost use Rattle.ember_box.specs.Boxes.{Cell as CellView};
 ghost use Rattle.ember_box.specs.Aabbs.{aabb_of_cell, aabb_of_tri, aabbs_meet, IsAabbSized};
 ghost use Rattle.ember_box.specs.Sums.{IsPlaneOf};
-ghost use Rattle.ember_box.specs.NearParts.{rise, no_parts, pair_on, IsMiddle, AreMiddles, AreMiddlesSized, AreNearParts};
+ghost use Rattle.ember_box.specs.NearParts.{change_size, no_parts, pair_on, IsMiddle, AreMiddles, AreMiddlesSized, AreNearParts};
 
 use crate::aabb::{Aabb, Interval, Margins, aabb_of_cell, aabb_of_tri, aabbs_meet, margins_of};
 use crate::cell::{Cell, halves};
@@ -123,7 +123,7 @@ fn parts_by_spans(middles: &Middles, spans: &Aabb) -> NearParts
 // whether it falls.
 #[derive(Clone, Copy)]
 struct Slope {
-    rise: i64,
+    change_size: i64,
     falls: bool,
 }
 
@@ -132,26 +132,27 @@ struct Slope {
 fn slope_of(n: i64, half: i32) -> Slope
     requires n { Small 33554431 n }
     requires half { Small 4096 half }
-    ensures rise { result.rise ≡ rise n half }
+    ensures change_size { result.change_size ≡ change_size n half }
     ensures falls { result.falls ≡ is_negative n }
 {
     let step = n * half as i64;
     if n < 0 {
         Slope {
-            rise: -step,
+            change_size: -step,
             falls: true,
         }
     } else {
         Slope {
-            rise: step,
+            change_size: step,
             falls: false,
         }
     }
 }
 
 impl Slope {
-    // The left half lacks one end of the range: the end that lies in the right half. This is the
-    // margin at that end. Over the left half it is smaller by `rise`.
+    // Over the left half the plane doesn't reach one end of its range over the box, the end that
+    // lies in the right half. This is the margin at that end. Over the left half it is smaller by
+    // `change_size`.
     fn margin_of_left(&self, margins: &Margins) -> i64
         ensures { result ≡ (if self.now.falls then margins.now.above else margins.now.below) }
     {
@@ -162,8 +163,8 @@ impl Slope {
         }
     }
 
-    // The right half lacks the end of the range that lies in the left half. This is the margin at
-    // that end. Over the right half it is smaller by `rise`.
+    // Over the right half the plane doesn't reach the end that lies in the left half. This is the
+    // margin at that end. Over the right half it is smaller by `change_size`.
     fn margin_of_right(&self, margins: &Margins) -> i64
         ensures { result ≡ (if self.now.falls then margins.now.below else margins.now.above) }
     {
@@ -177,17 +178,17 @@ impl Slope {
 
 // Which halves the interval reaches and the plane crosses, of a box that the plane crosses with
 // these margins. Over a half, one end of the range of the plane's values is that of the box, and
-// the other is nearer by `rise`. So the plane crosses the half exactly if the margin at that other
-// end is at least `rise`.
+// the other is nearer by `change_size`. So the plane crosses the half exactly if the margin at that
+// other end is at least `change_size`.
 fn pair_by_plane(middle: &Middle, span: &Interval, slope: &Slope, margins: &Margins) -> NearPair
-    ensures left { result.left ≡ int_le span.now.low middle.now.at && int_le slope.now.rise (if slope.now.falls
-        then margins.now.above else margins.now.below) }
-    ensures right { result.right ≡ int_le middle.now.at span.now.high && int_le slope.now.rise (if slope.now.falls
-        then margins.now.below else margins.now.above) }
+    ensures left { result.left ≡ int_le span.now.low middle.now.at && int_le slope.now.change_size
+        (if slope.now.falls then margins.now.above else margins.now.below) }
+    ensures right { result.right ≡ int_le middle.now.at span.now.high && int_le slope.now.change_size
+        (if slope.now.falls then margins.now.below else margins.now.above) }
 {
     NearPair {
-        left: span.low <= middle.at && slope.rise <= slope.margin_of_left(margins),
-        right: middle.at <= span.high && slope.rise <= slope.margin_of_right(margins),
+        left: span.low <= middle.at && slope.change_size <= slope.margin_of_left(margins),
+        right: middle.at <= span.high && slope.change_size <= slope.margin_of_right(margins),
     }
 }
 

@@ -1,4 +1,5 @@
-// Which triangles are near a box.
+// Which triangles are near a box. A call whose name ends in `_among` takes a list of triangles, and
+// the one without it takes a scene.
 ghost use Rattle.std.specs.Prelude.{◌≡◌, ◌+◌, ◌<◌, ◌≤◌, ◌++◌, [], ◌∷◌, true, length, All, IfOk, if◌then◌else◌, vec_len, vec_capacity};
 ghost use Rattle.ember_model.specs.Valid.{IsValidTri};
 ghost use Rattle.ember_model.specs.Planes.{support_of};
@@ -8,26 +9,17 @@ ghost use Rattle.ember_box.specs.Near.{is_near, tri_at, near_indices};
 ghost use Rattle.ember_box.specs.Sums.{AreHalves, AreHalvesSized};
 
 use crate::aabb::{
-    Aabb, aabb_of_cell, aabb_of_tri, aabbs_meet, contains_corner, crosses, interval_on, is_level,
+    Aabb, aabb_of_cell, aabb_of_tri, aabbs_meet, contains_corner, crosses, interval_along, is_level,
 };
 use crate::cell::Cell;
 use crate::half_boxes::{HalfBoxes, half_boxes_of, meets_left, meets_right, plane_to_test};
 use ember_model::{Axis, OutOfMemory, Scene, Tri, support_of};
 use std::alloc::Global;
 
-/// Whether the triangle is near the box: its bounding box meets the closed box, and the corners of
-/// the box aren't all strictly on one side of its support plane. Only tests call this.
-pub fn near_tri(c: &Cell, t: &Tri) -> bool
-    requires { IsValidTri t.now }
-    ensures { result ≡ is_near c.now t.now }
-{
-    is_near(&aabb_of_cell(c), t)
-}
-
-// Whether the triangle is near the box that has this bounding box.
-fn is_near(aabb: &Aabb, t: &Tri) -> bool
+/// Whether the triangle is near the box that has this bounding box.
+pub fn is_near(aabb: &Aabb, t: &Tri) -> bool
     requires tri { IsValidTri t.now }
-    requires spans { IsAabbSized aabb.now }
+    requires sized { IsAabbSized aabb.now }
     ensures { (c : CellView) → aabb.now ≡ aabb_of_cell c → result ≡ is_near c t.now }
 {
     let spans = aabb_of_tri(t);
@@ -50,26 +42,18 @@ fn is_crossed(aabb: &Aabb, spans: &Aabb, t: &Tri) -> bool
     crosses(&support_of(t), aabb)
 }
 
-/// Whether triangle `i` of the scene is near the box. Only tests call this.
-pub fn near(s: &Scene, c: &Cell, i: u32) -> bool
-    requires { i < length s.now.tris }
-    ensures { result ≡ is_near c.now (tri_at s.now.tris i) }
-{
-    near_at(s.tris.items(), &aabb_of_cell(c), i)
-}
-
-// Whether triangle `i` of the list is near the box that has this bounding box.
-fn near_at(tris: &[Tri], aabb: &Aabb, i: u32) -> bool
+/// Whether triangle `i` of the list is near the box that has this bounding box.
+pub fn is_near_at(tris: &[Tri], aabb: &Aabb, i: u32) -> bool
     requires valid { All IsValidTri tris.now }
     requires index { i < length tris.now }
-    requires spans { IsAabbSized aabb.now }
+    requires sized { IsAabbSized aabb.now }
     ensures { (c : CellView) → aabb.now ≡ aabb_of_cell c → result ≡ is_near c (tri_at tris.now i) }
 {
     is_near(aabb, &tris[i as usize])
 }
 
 /// Those of the listed indices whose triangles are near the box, in order.
-pub fn near_among(
+pub fn near_list_among(
     alloc: Global,
     tris: &[Tri],
     list: &[u32],
@@ -82,7 +66,7 @@ pub fn near_among(
     let aabb = aabb_of_cell(c);
     let mut found = Vec::with_capacity(alloc, list.len())?;
     for i in list {
-        if near_at(tris, &aabb, *i) {
+        if is_near_at(tris, &aabb, *i) {
             found.push(*i)?;
         }
     }
@@ -95,7 +79,7 @@ pub fn near_list(alloc: Global, s: &Scene, list: &[u32], c: &Cell) -> Result<Vec
     requires { All (λ i. i < length s.now.tris) list.now }
     ensures { IfOk result (λ v. v.items ≡ near_indices s.now.tris c.now list.now) }
 {
-    near_among(alloc, s.tris.items(), list, c)
+    near_list_among(alloc, s.tris.items(), list, c)
 }
 
 // Appends the index if it belongs to the list, which has room for it.
@@ -110,9 +94,9 @@ pub fn push_if(belongs: bool, i: u32, list: &mut Vec<u32>)
     }
 }
 
-// Whether the triangle is near the left half of a box along an axis, and whether near the right
-// one.
-fn near_each(whole: &Aabb, halves: &HalfBoxes, k: Axis, t: &Tri) -> (bool, bool)
+// Whether the triangle is near the left half of a box along an axis, and whether it is near the
+// right one.
+fn is_near_halves(whole: &Aabb, halves: &HalfBoxes, k: Axis, t: &Tri) -> (bool, bool)
     requires valid { IsValidTri t.now }
     requires sized { AreHalvesSized halves.now }
     ensures { (c : CellView) → 0 < c.log k → whole.now ≡ aabb_of_cell c → AreHalves c k halves.now →
@@ -121,7 +105,7 @@ fn near_each(whole: &Aabb, halves: &HalfBoxes, k: Axis, t: &Tri) -> (bool, bool)
     let spans = aabb_of_tri(t);
     if aabbs_meet(&spans, whole) {
         let plane = plane_to_test(whole, &spans, t);
-        let span = interval_on(&spans, k);
+        let span = interval_along(&spans, k);
         (
             meets_left(halves, &span, &plane),
             meets_right(halves, &span, &plane),
@@ -151,7 +135,8 @@ pub fn near_halves_among(
     let mut left = Vec::with_capacity(alloc, list.len())?;
     let mut right = Vec::with_capacity(alloc, list.len())?;
     for i in list {
-        let (is_near_left, is_near_right) = near_each(&whole, &halves, axis, &tris[*i as usize]);
+        let (is_near_left, is_near_right) =
+            is_near_halves(&whole, &halves, axis, &tris[*i as usize]);
         push_if(is_near_left, *i, &mut left);
         push_if(is_near_right, *i, &mut right);
     }

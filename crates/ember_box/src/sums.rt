@@ -91,8 +91,7 @@ fn is_no_better(first: u8, first_sum: u64, second: u8, second_sum: u64) -> bool
     second == 0 || first > 0 && first_sum <= second_sum
 }
 
-// The first axis than which no later one is better, given for each two whether the first of them is
-// to be kept.
+// The best axis, in a tie the earlier one. `x_before_y` says that y is no better than x, and so on.
 fn chosen(x_before_y: bool, x_before_z: bool, y_before_z: bool) -> Axis
     ensures { result ≡ (if x_before_y && x_before_z then X else (if y_before_z then Y else Z)) }
 {

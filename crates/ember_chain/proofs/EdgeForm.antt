@@ -209,7 +209,7 @@ edge_form d t f e end wt nd general edge off = by (is_on_edge f e.plane t) refl
   where
     by : (b : Bool) → is_on_edge f e.plane t ≡ b → coverage t d (record { from = e.start; to = end }) ≡ edge_turn d t f e
     by true h =
-        on_edge f e end edge d t wt (zero_not nd) h general.support (each_get (λ g. IsGeneral d t g) f.edges edge.stands.index e.plane general.edges edge.stands.here) off ∙ sym (ap (λ (b : Bool). cond b (sign (dot (cross (normal f.support) (normal e.plane)) d)) (pos 0)) h)
+        on_edge f e end edge d t wt (zero_not nd) h general.support (each_get (λ g. IsGeneral d t g) f.edges edge.is_earliest.index e.plane general.edges edge.is_earliest.here) off ∙ sym (ap (λ (b : Bool). cond b (sign (dot (cross (normal f.support) (normal e.plane)) d)) (pos 0)) h)
     by false h =
         off_edge f e end edge d t wt (zero_not nd) h ∙ sym (ap (λ (b : Bool). cond b (sign (dot (cross (normal f.support) (normal e.plane)) d)) (pos 0)) h)
 

@@ -15,7 +15,8 @@ pub data Formula : Type 0 where
   Odd : (sum : List Term) → Formula
   Compare : (left : List Term) (rel : Rel) (right : List Term) → Formula
 
--- the formula of a tree
+-- the formula of a tree. `Or'` and the like are the tree's operators as definitions see them; p and q are the pointers
+-- to the two operands
 abbrev pub formula_of : Tree → Formula
 formula_of (tree.Or' p a q b) = Or (formula_of a) (formula_of b)
 formula_of (tree.Xor' p a q b) = Xor (formula_of a) (formula_of b)

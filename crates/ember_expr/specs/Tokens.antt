@@ -41,6 +41,7 @@ before_equals plain joined [] = record { word = plain; bytes_after = 0 }
 before_equals plain joined (b ∷ bs) =
     if b == 61 then record { word = Compare joined; bytes_after = 1 } else record { word = plain; bytes_after = 0 }
 
+-- the word of a sign, by its byte: 124 is `|`, 94 `^`, 38 `&`, 40 `(`, 41 `)`, 43 `+`, 45 `-`, 42 `*`, 61 `=`
 abbrev pub sign_of : ℕ → Word
 sign_of b =
     if b == 124 then Bar else if b == 94 then Hat else if b == 38 then Amp else if b == 40 then Open else if b == 41

@@ -71,7 +71,7 @@ fn mesh_number(scope: Scope, place: u32, number: u32) -> Result<u32, ExprFault>
 
 // wN
 fn mesh_winding(scope: Scope, tokens: &[Token]) -> Result<(u32, &[Token]), ExprFault>
-    ensures ok { MatchResult result (λ r. mesh_winding scope tokens.now ≡ read r.0 r.1.now) (λ e.
+    ensures reads { MatchResult result (λ r. mesh_winding scope tokens.now ≡ read r.0 r.1.now) (λ e.
         mesh_winding scope tokens.now ≡ Err e) }
     ensures exists { IfOk result (λ r. IsMeshNumber scope.meshes r.0) }
     ensures shorter { IfOk result (λ r. length r.1.now < length tokens.now) }
@@ -98,7 +98,7 @@ fn after_number(
     tokens: &[Token],
 ) -> Result<(Term, &[Token]), ExprFault>
     requires { factor ≤ 1000000 }
-    ensures ok { MatchResult result (λ r. after_number scope minus factor tokens.now ≡ read r.0 r.1.now) (λ e.
+    ensures reads { MatchResult result (λ r. after_number scope minus factor tokens.now ≡ read r.0 r.1.now) (λ e.
         after_number scope minus factor tokens.now ≡ Err e) }
     ensures fit { IfOk result (λ r. IsFitTerm scope.meshes r.0) }
     ensures shorter { IfOk result (λ r. length r.1.now ≤ length tokens.now) }
@@ -136,7 +136,7 @@ fn after_number(
 
 // term = number [ "*" wN ] | wN
 fn term(scope: Scope, minus: bool, tokens: &[Token]) -> Result<(Term, &[Token]), ExprFault>
-    ensures ok { MatchResult result (λ r. term scope minus tokens.now ≡ read r.0 r.1.now) (λ e.
+    ensures reads { MatchResult result (λ r. term scope minus tokens.now ≡ read r.0 r.1.now) (λ e.
         term scope minus tokens.now ≡ Err e) }
     ensures fit { IfOk result (λ r. IsFitTerm scope.meshes r.0) }
     ensures shorter { IfOk result (λ r. length r.1.now < length tokens.now) }
@@ -178,7 +178,7 @@ fn sign_before(tokens: &[Token]) -> Option<bool>
 
 // [ "-" ] term
 fn first_term(scope: Scope, tokens: &[Token]) -> Result<(Term, &[Token]), ExprFault>
-    ensures ok { MatchResult result (λ r. first_term scope tokens.now ≡ read r.0 r.1.now) (λ e.
+    ensures reads { MatchResult result (λ r. first_term scope tokens.now ≡ read r.0 r.1.now) (λ e.
         first_term scope tokens.now ≡ Err e) }
     ensures fit { IfOk result (λ r. IsFitTerm scope.meshes r.0) }
     ensures shorter { IfOk result (λ r. length r.1.now < length tokens.now) }
@@ -220,7 +220,7 @@ fn add(terms: &mut Vec<Term>, next: Term) -> Result<(), ExprFault>
 
 // The tokens after a `)`.
 fn expect_close(scope: Scope, tokens: &[Token]) -> Result<&[Token], ExprFault>
-    ensures ok { MatchResult result (λ r. expect_close scope tokens.now ≡ Ok r.now) (λ e.
+    ensures reads { MatchResult result (λ r. expect_close scope tokens.now ≡ Ok r.now) (λ e.
         expect_close scope tokens.now ≡ Err e) }
     ensures shorter { IfOk result (λ r. length r.now < length tokens.now) }
 {
@@ -239,7 +239,7 @@ fn expect_close(scope: Scope, tokens: &[Token]) -> Result<&[Token], ExprFault>
 }
 
 fn relation(scope: Scope, tokens: &[Token]) -> Result<(Rel, &[Token]), ExprFault>
-    ensures ok { MatchResult result (λ r. relation scope tokens.now ≡ read r.0 r.1.now) (λ e.
+    ensures reads { MatchResult result (λ r. relation scope tokens.now ≡ read r.0 r.1.now) (λ e.
         relation scope tokens.now ≡ Err e) }
     ensures shorter { IfOk result (λ r. length r.1.now < length tokens.now) }
 {

@@ -16,7 +16,7 @@ odds n = filter (λ i. not (is_even i)) (range_with_len 0 n)
 
 -- the triangles of these boxes, in order, as those of mesh m
 abbrev pub mesh_of : ℕ → List ℕ → List Tri
-mesh_of m is = flat_map (λ i. triangles_of m (block_of i)) is
+mesh_of m boxes = flat_map (λ i. triangles_of m (block_of i)) boxes
 
 -- mesh 1 has the boxes with even numbers, and mesh 2 those with odd numbers
 unfoldable pub scene_of : ℕ → List Tri

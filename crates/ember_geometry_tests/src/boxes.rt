@@ -82,25 +82,27 @@ fn a_plane_beside_a_box_keeps_its_triangle_away(rt: HostRuntime) {
     }
 }
 
-// How many of a job's triangles are near a box.
-fn count_near(alloc: Global, s: &Scene, job: &Job, c: &Cell) -> Result<usize, OutOfMemory>
+// Which of a job's triangles are near a box.
+fn near_in(alloc: Global, s: &Scene, job: &Job, c: &Cell) -> Result<Vec<u32>, OutOfMemory>
     requires { IsJob s.now.tris job.now }
 {
-    Ok(near_list(alloc, s, job.list.items(), c)?.len())
+    near_list(alloc, s, job.list.items(), c)
 }
 
-// All triangles of the files, so many, are near the root and near each of its halves.
-fn check_near(rt: &impl Abort, alloc: Global, files: &[&[u8]], count: usize) -> Result<(), Fail>
+// All triangles of the files, with these indices, are near the root and near each of its halves.
+fn check_near(rt: &impl Abort, alloc: Global, files: &[&[u8]], all: &[u32]) -> Result<(), Fail>
     requires { length files.now ≤ 64 }
 {
     let scene = scene_of_files(alloc, files)?;
     let job = root_job(alloc, &scene)?;
-    assert_eq!(rt; job.list.items().len(), count);
-    assert_eq!(rt; count_near(alloc, &scene, &job, &root())?, count);
+    assert_eq!(rt; job.list.items(), all);
+    let near = near_in(alloc, &scene, &job, &root())?;
+    assert_eq!(rt; near.as_slice(), all);
     for k in AXES {
         let (low, high) = halves(&root(), k);
         for half in [&low, &high] {
-            assert_eq!(rt; count_near(alloc, &scene, &job, half)?, count);
+            let near = near_in(alloc, &scene, &job, half)?;
+            assert_eq!(rt; near.as_slice(), all);
         }
     }
     Ok(())
@@ -110,8 +112,11 @@ fn check_near(rt: &impl Abort, alloc: Global, files: &[&[u8]], count: usize) -> 
 fn triangles_that_touch_the_middle_are_near_each_half_of_the_root(
     rt: HostRuntime,
 ) -> Result<(), Fail> {
-    check_near(&rt, rt.alloc(), &[TETRA], 4)?;
-    check_near(&rt, rt.alloc(), &[STAR, STAR, STAR, STAR, STAR], 20)
+    check_near(&rt, rt.alloc(), &[TETRA], &[0, 1, 2, 3])?;
+    let all: [u32; 20] = [
+        0, 1, 2, 3, 4, 5, 6, 7, 8, 9, 10, 11, 12, 13, 14, 15, 16, 17, 18, 19,
+    ];
+    check_near(&rt, rt.alloc(), &[STAR, STAR, STAR, STAR, STAR], &all)
 }
 
 // The axis along which a job's box is halved, or none if it is a leaf; whether it is a leaf;

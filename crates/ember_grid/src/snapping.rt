@@ -1,6 +1,5 @@
 // The triangles of a surface on a grid.
-ghost use Rattle.std.specs.Prelude.{◌≡◌, ◌≤◌, ◌<◌, ◌^◌, ◌-◌, ◌++◌, ◌∷◌, [], List, ℕ, All, length, IfOk, IfErr, OnOk, ◌&&◌, if◌then◌else◌};
-ghost use Rattle.ember_algebra.specs.Sign.{is_zero};
+ghost use Rattle.std.specs.Prelude.{◌≡◌, ◌≤◌, ◌<◌, ◌^◌, ◌-◌, ◌++◌, ◌∷◌, [], List, ℕ, All, length, IfOk, IfErr, OnOk, if◌then◌else◌};
 ghost use Rattle.ember_snap.specs.Steps.{IsStep};
 ghost use Rattle.ember_surface.specs.declared.surface.Facet.{Facet};
 ghost use Rattle.ember_model.specs.declared.point.Corner.{Corner};
@@ -15,7 +14,7 @@ ghost use Rattle.ember_grid.specs.Faults.{IsSnapFault};
 use crate::corners::{has_equal_corners, image};
 use crate::fault::SnapFault;
 use crate::grid::Grid;
-use ember_model::{Lines, OutOfMemory, Plane, Soup, Tri, Tris, support_of};
+use ember_model::{Lines, OutOfMemory, Soup, Tri, Tris, has_no_normal, support_of};
 use ember_surface::{Facet, Surface};
 use std::alloc::Global;
 
@@ -39,13 +38,6 @@ struct Snapping {
     places: Vec<u32>,
     vanished: u64,
     flat: u64,
-}
-
-// Whether the plane's normal is zero.
-fn has_no_normal(plane: &Plane) -> bool
-    ensures { result ≡ is_zero plane.now.a && (is_zero plane.now.b && is_zero plane.now.c) }
-{
-    plane.a == 0 && (plane.b == 0 && plane.c == 0)
 }
 
 // Whether the triangle has no area.

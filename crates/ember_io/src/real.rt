@@ -1,4 +1,4 @@
-// The system's files and standard streams. They reveal no bytes.
+// The system's files and standard streams. They tell no bytes.
 ghost use Rattle.std.specs.Prelude.{◌≡◌, [], Some, None};
 ghost use Rattle.std.specs.Option.{option_map_or};
 
@@ -47,7 +47,7 @@ impl<'a, R: Files> FileShelf<'a, R> {
 impl<'a, R: Files> Shelf for FileShelf<'a, R> {
     ghost contents = { λ _ _. None };
 
-    // None are unread if no file is open, and otherwise they aren't revealed.
+    // None are unread if no file is open, and otherwise they aren't told.
     ghost unread = { λ s. option_map_or (λ _. None) s.file (Some []) };
 
     ghost begun = { λ s. s.begun };

@@ -14,10 +14,10 @@ use thiserror::Error;
 /// A source of named files; the one begun last is read. At the start no bytes are unread, and the
 /// numbers of the last `begin` and of the last fault are 0.
 pub trait Shelf {
-    /// The bytes of each name, if they are revealed.
+    /// The bytes of each name, if they are told.
     ghost contents: { Self → List ℕ → Option (List ℕ) };
 
-    /// The bytes of the file begun last that are still unread, if they are revealed.
+    /// The bytes of the file begun last that are still unread, if they are told.
     ghost unread: { Self → Option (List ℕ) };
 
     /// The number that the last `begin` was given.

@@ -12,7 +12,7 @@ use thiserror::Error;
 
 /// An output that takes bytes and flushes them.
 pub trait Sink {
-    /// The bytes taken so far, if they are revealed.
+    /// The bytes taken so far, if they are told.
     ghost taken: { Self → Option (List ℕ) };
 
     /// How many of them are flushed.

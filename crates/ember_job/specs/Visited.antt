@@ -28,12 +28,13 @@ entry path kind = record { path = path; kind = kind }
 abbrev pub entry_of : (Job → Shape) → Job → Entry
 entry_of shape job = entry job.cell.path (kind_of (shape job))
 
--- the visited jobs from a job on, each before those below it, left half first; at most this many halvings deep
+-- a job of this shape, and if it is halved also what `below` gives for its halves, left half first
 abbrev pub below_shape : (Job → List Job) → Job → Shape → List Job
 below_shape below job (halved low high) = job ∷ below low ++ below high
 below_shape below job leafed = job ∷ []
 below_shape below job passed = job ∷ []
 
+-- the visited jobs from a job on, each before those below it, left half first; at most this many halvings deep
 abbrev pub visited_within : (Job → Shape) → ℕ → Job → List Job
 visited_within shape zero job = job ∷ []
 visited_within shape (suc n) job = below_shape (visited_within shape n) job (shape job)

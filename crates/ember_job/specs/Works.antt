@@ -38,7 +38,9 @@ Answers shape item job (Halves low high) = shape job ≡ halved low high
 Answers shape item job (Leaf it) = (shape job ≡ leafed) × item job it
 Answers shape item job Skipped = shape job ≡ passed
 
--- what a step promises: the call may be made at each valid job, and each Ok of it answers that job
+-- what a step promises: the call may be made at each valid job of the work, and each Ok of it answers that job.
+-- `valid`, `shape` and `item` say what this means for works of the type W; `pre` and `post` are the contract of the
+-- calls of the type F
 pub record AnswersAll {W I F : Type 0} (valid : W → Job → Type 0) (shape : W → Job → Shape)
     (item : W → Job → I → Type 0) (pre : F → Bor Job → Type 0)
     (post : F → Bor Job → Result (Outcome I) AllocError → Type 0) (work : W) (call : F) : Type 0 where

@@ -22,24 +22,24 @@ use Rattle.ember_law.specs.Laws.{MissesFace}
 
 -- ---- points of the segment
 -- for k, m ≥ 0, not both 0: a point of the segment from p to q
-abbrev pub mix : ℤ → ℤ → Spot → Spot → Spot
-mix k m p q = plus_s (scaled k p) (scaled m q)
+abbrev pub combination : ℤ → ℤ → Spot → Spot → Spot
+combination k m p q = plus_s (scaled k p) (scaled m q)
 
 -- a plane's value at a combination of two points is that combination of its values
-pub value_mix : (g : Plane) (k m : ℤ) (p q : Spot) → value_at g (mix k m p q) ≡ k *ℤ value_at g p +ℤ m *ℤ value_at g q
-value_mix g k m p q =
+pub combination_value : (g : Plane) (k m : ℤ) (p q : Spot) → value_at g (combination k m p q) ≡ k *ℤ value_at g p +ℤ m *ℤ value_at g q
+combination_value g k m p q =
     value_plus g (scaled k p) (scaled m q) ∙ (let x = value_scaled k g p in let y = value_scaled m g q in λ i. x i +ℤ y i)
 
-mix_turn : (k m : ℤ) (p q : Spot) → mix k m p q ≡ mix m k q p
-mix_turn k m p q =
+combination_turn : (k m : ℤ) (p q : Spot) → combination k m p q ≡ combination m k q p
+combination_turn k m p q =
     let x = +ℤ_comm (k *ℤ p.x) (m *ℤ q.x) in let y = +ℤ_comm (k *ℤ p.y) (m *ℤ q.y) in let z = +ℤ_comm (k *ℤ p.z) (m *ℤ q.z) in let w = +ℤ_comm (k *ℤ p.w) (m *ℤ q.w) in
     λ i. record { x = x i; y = y i; z = z i; w = w i }
 
 misses_turn : (f : Face) (p q : Spot) → MissesFace p q f → MissesFace q p f
-misses_turn f p q h k m a b = ap (is_in_closed f) (mix_turn k m q p) ∙ h m k b a
+misses_turn f p q h k m a b = ap (is_in_closed f) (combination_turn k m q p) ∙ h m k b a
 
-mix_weight : (k m : ℤ) (p q : Spot) → pos 0 ≤ℤ k → pos 0 ≤ℤ m → pos 0 <ℤ (k +ℤ m) → pos 0 <ℤ p.w → pos 0 <ℤ q.w → pos 0 <ℤ (mix k m p q).w
-mix_weight k m p q a b c wp wq =
+combination_weight : (k m : ℤ) (p q : Spot) → pos 0 ≤ℤ k → pos 0 ≤ℤ m → pos 0 <ℤ (k +ℤ m) → pos 0 <ℤ p.w → pos 0 <ℤ q.w → pos 0 <ℤ (combination k m p q).w
+combination_weight k m p q a b c wp wq =
     let x : pos 1 ≤ℤ p.w = omega (arith, linear) in let y : pos 1 ≤ℤ q.w = omega (arith, linear) in
     let u = mul_le a x in let v = mul_le b y in let s : pos 0 <ℤ (k *ℤ p.w +ℤ m *ℤ q.w) = omega (arith, linear, u, v, c) in s
 
@@ -128,11 +128,11 @@ off_face f x w z c = point_outside_is_above x f.edges (sym (closed_on f x (posit
 across : (f : Face) (p q : Spot) → pos 0 <ℤ p.w → pos 0 <ℤ q.w → MissesFace p q f → value_at f.support p ≤ℤ pos 0 → pos 0 ≤ℤ value_at f.support q → pos 0 <ℤ (value_at f.support q -ℤ value_at f.support p) → Separates f p q
 across f p q wp wq h lp lq d =
     let s1 = value_at f.support p in let s2 = value_at f.support q in
-    let x = mix s2 (neg_ℤ s1) p q in
-    let z : value_at f.support x ≡ pos 0 = value_mix f.support s2 (neg_ℤ s1) p q ∙ solve 2 (λ a b. b ⊗ a ⊕ neg a ⊗ b ≈ num (pos 0)) cancels s1 s2 in
-    let r = off_face f x (mix_weight s2 (neg_ℤ s1) p q lq (omega (arith, linear)) (omega (arith, linear)) wp wq) z (h s2 (neg_ℤ s1) lq (omega (arith, linear))) in
+    let x = combination s2 (neg_ℤ s1) p q in
+    let z : value_at f.support x ≡ pos 0 = combination_value f.support s2 (neg_ℤ s1) p q ∙ solve 2 (λ a b. b ⊗ a ⊕ neg a ⊗ b ≈ num (pos 0)) cancels s1 s2 in
+    let r = off_face f x (combination_weight s2 (neg_ℤ s1) p q lq (omega (arith, linear)) (omega (arith, linear)) wp wq) z (h s2 (neg_ℤ s1) lq (omega (arith, linear))) in
     let g = r.plane in let h1 = value_at g p in let h2 = value_at g q in
-    let v = value_mix g s2 (neg_ℤ s1) p q in
+    let v = combination_value g s2 (neg_ℤ s1) p q in
     record {
       plane = combine (s2 -ℤ s1) g (h1 -ℤ h2) f.support;
       near = let e = value_combine (s2 -ℤ s1) g (h1 -ℤ h2) f.support p in let u = r.up in omega (arith, linear, e, u, v, solve 4 (λ s1 s2 h1 h2. (s2 ⊖ s1) ⊗ h1 ⊕ (h1 ⊖ h2) ⊗ s1 ≈ s2 ⊗ h1 ⊕ neg s1 ⊗ h2) cancels s1 s2 h1 h2);
@@ -148,13 +148,13 @@ across f p q wp wq h lp lq d =
 -- both in the support plane
 inside_plane : (f : Face) (p q : Spot) → pos 0 <ℤ p.w → pos 0 <ℤ q.w → MissesFace p q f → value_at f.support p ≡ pos 0 → value_at f.support q ≡ pos 0 → Separates f p q
 inside_plane f p q wp wq h zp zq =
-    let one = mix (pos 1) (pos 0) p q in
-    let a = off_face f one (mix_weight (pos 1) (pos 0) p q (omega (arith, linear)) (omega (arith, linear)) (omega (arith, linear)) wp wq) (flat (pos 1) (pos 0)) (h (pos 1) (pos 0) (omega (arith, linear)) (omega (arith, linear))) in
-    let ap1 : pos 0 <ℤ value_at a.plane p = let e = value_mix a.plane (pos 1) (pos 0) p q in let u = a.up in omega (arith, linear, e, u, one-*ℤ (value_at a.plane p), zero-*ℤ (value_at a.plane q)) in
+    let one = combination (pos 1) (pos 0) p q in
+    let a = off_face f one (combination_weight (pos 1) (pos 0) p q (omega (arith, linear)) (omega (arith, linear)) (omega (arith, linear)) wp wq) (flat (pos 1) (pos 0)) (h (pos 1) (pos 0) (omega (arith, linear)) (omega (arith, linear))) in
+    let ap1 : pos 0 <ℤ value_at a.plane p = let e = combination_value a.plane (pos 1) (pos 0) p q in let u = a.up in omega (arith, linear, e, u, one-*ℤ (value_at a.plane p), zero-*ℤ (value_at a.plane q)) in
     by_lt_z (pos 0) (value_at a.plane q) (λ u. simple a.plane a.member ap1 u) (λ d. two (last_zero p q rest (not_low p rest a.plane (filter_in tame a.plane f.edges a.member (not_positive_in (value_at a.plane q) d)) ap1) tame_all))
   where
-    flat : (k m : ℤ) → value_at f.support (mix k m p q) ≡ pos 0
-    flat k m = value_mix f.support k m p q ∙ (λ i. k *ℤ zp i +ℤ m *ℤ zq i) ∙ solve 2 (λ k m. k ⊗ num (pos 0) ⊕ m ⊗ num (pos 0) ≈ num (pos 0)) cancels k m
+    flat : (k m : ℤ) → value_at f.support (combination k m p q) ≡ pos 0
+    flat k m = combination_value f.support k m p q ∙ (λ i. k *ℤ zp i +ℤ m *ℤ zq i) ∙ solve 2 (λ k m. k ⊗ num (pos 0) ⊕ m ⊗ num (pos 0) ≈ num (pos 0)) cancels k m
 
     simple : (g : Plane) → In g f.edges → pos 0 <ℤ value_at g p → pos 0 <ℤ value_at g q → Separates f p q
     simple g m a b = record { plane = g; near = a; far = b; low = λ x c. closed_low f x g m c }
@@ -188,9 +188,9 @@ inside_plane f p q wp wq h zp zq =
         let g = r.plane in let h1 = value_at g p in let h2 = value_at g q in let u = r.up in
         let gm = filter_out tame g f.edges r.member in
         let d = not_positive_out h2 gm.1 in
-        let l = off_face f (mix (neg_ℤ h2) h1 p q) (mix_weight (neg_ℤ h2) h1 p q (omega (arith, linear, d)) (omega (arith, linear, u)) (omega (arith, linear, d, u)) wp wq) (flat (neg_ℤ h2) h1) (h (neg_ℤ h2) h1 (omega (arith, linear, d)) (omega (arith, linear, u))) in
+        let l = off_face f (combination (neg_ℤ h2) h1 p q) (combination_weight (neg_ℤ h2) h1 p q (omega (arith, linear, d)) (omega (arith, linear, u)) (omega (arith, linear, d, u)) wp wq) (flat (neg_ℤ h2) h1) (h (neg_ℤ h2) h1 (omega (arith, linear, d)) (omega (arith, linear, u))) in
         let l1 = value_at l.plane p in let l2 = value_at l.plane q in
-        let v : pos 0 <ℤ (neg_ℤ h2 *ℤ l1 +ℤ h1 *ℤ l2) = let e = value_mix l.plane (neg_ℤ h2) h1 p q in let w = l.up in omega (arith, linear, e, w) in
+        let v : pos 0 <ℤ (neg_ℤ h2 *ℤ l1 +ℤ h1 *ℤ l2) = let e = combination_value l.plane (neg_ℤ h2) h1 p q in let w = l.up in omega (arith, linear, e, w) in
         by_lt_z (pos 0) l2
         (λ b. by_lt_z (pos 0) l1 (λ a. simple l.plane l.member a b) (λ a. joined g l.plane gm.0 l.member u d a b v))
         (λ b. absurd (let o = after_member p q g l.plane rest r.after (filter_in tame l.plane f.edges l.member (not_positive_in l2 b)) in omega (arith, linear, o, v, solve 4 (λ h1 h2 l1 l2. neg h2 ⊗ l1 ⊕ h1 ⊗ l2 ≈ l1 ⊗ neg h2 ⊖ h1 ⊗ neg l2) cancels h1 h2 l1 l2)))

@@ -15,13 +15,13 @@ use Rattle.ember_model.specs.ClearTest.{none_positive}
 use Rattle.ember_model.specs.Faces.{is_flat, face_of, edges_of, is_inside, is_in_closed, Somewhere, Meets}
 use Rattle.ember_model.specs.Owners.{is_coplanar}
 use Rattle.ember_poly.specs.Rings.{IsBelow, InFace}
-use Rattle.ember_poly.specs.Chords.{mixed2}
+use Rattle.ember_poly.specs.Chords.{combination}
 use Rattle.ember_poly.specs.Cuts.{HasInside, IsWhole}
 use Rattle.ember_poly.proofs.Chains.{each_map}
 use Rattle.ember_poly.proofs.FaceTests.{zero_in, inside_in, inside_out}
 use Rattle.ember_poly.proofs.InsideNotAbove.{met_on, met_free}
 use Rattle.ember_poly.proofs.InsidePoints.{inside_sum}
-use Rattle.ember_poly.proofs.InsideSigns.{mixed2_value, eventually_each}
+use Rattle.ember_poly.proofs.InsideSigns.{combination_value, eventually_each}
 use Rattle.ember_poly.proofs.TriangleRing.{tri_sides}
 use Rattle.ember_coplanar.proofs.Coplanar.{lies_on_both}
 use Rattle.ember_coplanar.proofs.Owning.{lies_by_support}
@@ -64,11 +64,11 @@ unmet_disjoint t f n =
 -- ---- a common point, moved a little into the triangle
 module _ (t : Tri) (f : Face) (v u : Spot) (iv : InFace f.support f.edges v) (iu : is_inside (face_of t) u ≡ true) (flat : value_at f.support u ≡ pos 0) where
   abbrev moved : ℕ → Spot
-  moved m = mixed2 (pos m) (pos 1) v u
+  moved m = combination (pos m) (pos 1) v u
 
   moved_under : (e : Plane) → IsBelow e v → Eventually (λ m. IsBelow e (moved m))
   moved_under e h =
-      eventually_map (λ m p. record { under = rw (mixed2_value (pos m) (pos 1) v u e) (flip (value_at e v) (pos m) (value_at e u) p) }) (eventually_pos {a = neg_ℤ (value_at e v)} (neg_ℤ (value_at e u)) (positive h.under))
+      eventually_map (λ m p. record { under = rw (combination_value (pos m) (pos 1) v u e) (flip (value_at e v) (pos m) (value_at e u) p) }) (eventually_pos {a = neg_ℤ (value_at e v)} (neg_ℤ (value_at e u)) (positive h.under))
     where
       positive : {a : ℤ} → a <ℤ pos 0 → pos 0 <ℤ neg_ℤ a
       positive q = omega (arith, linear, q)
@@ -79,7 +79,7 @@ module _ (t : Tri) (f : Face) (v u : Spot) (iv : InFace f.support f.edges v) (iu
 
   moved_inside : Eventually (λ m. InFace f.support f.edges (moved m))
   moved_inside =
-      eventually_map (λ m p. record { flat = mixed2_value (pos m) (pos 1) v u f.support ∙ both (pos m) iv.flat flat; weight = weight v.w u.w (pos m) p.0; within = p.1 }) (eventually_both (eventually_pos u.w iv.weight) (eventually_each (λ e m. IsBelow e (moved m)) f.edges (each_map (λ e. IsBelow e v) (λ e. Eventually (λ m. IsBelow e (moved m))) f.edges (λ e h. moved_under e h) iv.within)))
+      eventually_map (λ m p. record { flat = combination_value (pos m) (pos 1) v u f.support ∙ both (pos m) iv.flat flat; weight = weight v.w u.w (pos m) p.0; within = p.1 }) (eventually_both (eventually_pos u.w iv.weight) (eventually_each (λ e m. IsBelow e (moved m)) f.edges (each_map (λ e. IsBelow e v) (λ e. Eventually (λ m. IsBelow e (moved m))) f.edges (λ e h. moved_under e h) iv.within)))
     where
       weight : (w z m : ℤ) → pos 0 <ℤ (w *ℤ m +ℤ z) → pos 0 <ℤ (m *ℤ w +ℤ pos 1 *ℤ z)
       weight w z m p =

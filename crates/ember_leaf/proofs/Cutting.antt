@@ -16,7 +16,7 @@ use Rattle.ember_poly.proofs.ReachBySigns.{over_opposite}
 use Rattle.ember_trace.proofs.FilledFaces.{inside_below}
 use Rattle.ember_leaf.specs.declared.cutter.Cutter.{Cutter}
 use Rattle.ember_leaf.specs.declared.cutter.Role.{Role}
-use Rattle.ember_leaf.specs.declared.cutter.Role.TheVariants.{Across, Later, Earlier}
+use Rattle.ember_leaf.specs.declared.cutter.Role.TheVariants.{OtherPlane, Later, Earlier}
 use Rattle.ember_leaf.specs.Cutters.{ShareAPlane, SharesAs, CanCut, AreCut}
 use Rattle.ember_leaf.proofs.WallClips.{each_every, inside_in_below}
 use Rattle.ember_leaf.proofs.OwnedRegions.{left_every, every_all, regions_left}
@@ -74,7 +74,7 @@ piece_can c f g h p = record { shares = by c.role h.shares; somewhere = p.somewh
         record { face = λ v i. s.face v (p.within.holds v i); triangle = λ v i. ap (λ (n : Plane). value_at n v) p.support ∙ s.triangle v i }
 
     by : (k : Role) → SharesAs k c.tri f → SharesAs k c.tri g
-    by Across s = tt
+    by OtherPlane s = tt
     by Later s = shared s
     by Earlier s = shared s
 

@@ -39,16 +39,16 @@ use Rattle.ember_leaf.specs.declared.leaf_triangle.LeafTriangle.{LeafTriangle}
 use Rattle.ember_leaf.specs.Walls.{wall_of, IsPartOf, IsClippedBy}
 use Rattle.ember_leaf.specs.TriRelations.{IsValidCoplanar}
 use Rattle.ember_leaf.specs.declared.cutter.Role.{Role}
-use Rattle.ember_leaf.specs.declared.cutter.Role.TheVariants.{Across, Later, Earlier}
+use Rattle.ember_leaf.specs.declared.cutter.Role.TheVariants.{OtherPlane, Later, Earlier}
 use Rattle.ember_leaf.specs.KeptRegions.{LiesInPlaneOf}
-use Rattle.ember_leaf.specs.Lower.{AreLower, DecidesOwner}
+use Rattle.ember_leaf.specs.EarlierTriangles.{AreEarlier, DecidesOwner}
 use Rattle.ember_leaf.specs.Written.{AreOwned}
 use Rattle.ember_poly.specs.Cuts.{HasInside}
 use Rattle.ember_leaf.specs.Cutters.{cutting_planes_in, owners_in, IsCutterOf, AreDisjoint, IsFree, AreCut, CanCut, LiesAs, SharesAs, IsWithinInterval, IsWithinAabb, IsBounded, OmitsUnmet, common, common_of}
 use Rattle.ember_leaf.proofs.WallClips.{left_parts}
 use Rattle.ember_leaf.proofs.TriRelations.{bounds}
 use Rattle.ember_leaf.proofs.UnmetPlanes.{unmet_planes_change_nothing}
-use Rattle.ember_leaf.proofs.LowerTriangles.{tells_owner, owners_lower}
+use Rattle.ember_leaf.proofs.EarlierTriangles.{tells_owner, owners_coplanar}
 use Rattle.ember_leaf.proofs.OwnedRegions.{without_map, left_every, left_have, every_all, regions_left}
 use Rattle.ember_leaf.proofs.Cutting.{all_every}
 use Rattle.ember_leaf.proofs.RegionCuts.{cuts_keep, parts_regions}
@@ -119,10 +119,10 @@ module _ (c : Cell) (f : LeafTriangle) (ring : Face) where
       record { start = ring ∷ []; is_start = subst (λ (t : Tri). IsStart c t (ring ∷ [])) e start; cuts = unmet_planes_change_nothing (bounded_keeps f.tri s) h (part_bounded s q (left_parts f.tri start).0 (start_lies_in c f.tri ring start), tt) k }
 
 -- the list of triangles before a triangle decides whether it owns each of its regions
-owners_told : (c : Cell) (f : LeafTriangle) (ts : List Tri) (i : ℕ) (lower : List Tri) (s : Aabb) (list : List Face) → f.tri ≡ tri_at ts i → i < length ts → s ≡ common_of f.aabb (aabb_of_cell c) → IsRegions c ts i list → Every (IsPartOf f.tri) list → All (IsValidCoplanar f.tri) lower → AreLower ts i f.tri s (length ts) lower → All (DecidesOwner lower ts i) list
-owners_told c f ts i lower s list e w q r p k a j d l =
+owners_told : (c : Cell) (f : LeafTriangle) (ts : List Tri) (i : ℕ) (earlier : List Tri) (s : Aabb) (list : List Face) → f.tri ≡ tri_at ts i → i < length ts → s ≡ common_of f.aabb (aabb_of_cell c) → IsRegions c ts i list → Every (IsPartOf f.tri) list → All (IsValidCoplanar f.tri) earlier → AreEarlier ts i f.tri s (length ts) earlier → All (DecidesOwner earlier ts i) list
+owners_told c f ts i earlier s list e w q r p k a j d l =
     let g = get_or list j d in let at = slice_get-get_or list j d l in let part = every_at (IsPartOf f.tri) list j g p at in
-    tells_owner ts i f.tri s e w lower g k a (part_bounded c f g s q part (regions_lie_in c ts i j list g r at)) part.somewhere
+    tells_owner ts i f.tri s e w earlier g k a (part_bounded c f g s q part (regions_lie_in c ts i j list g r at)) part.somewhere
 
 -- ---- the regions that the triangle owns
 -- none of the triangles contains a face that is free of them
@@ -134,22 +134,22 @@ free_uncontained ts f s h = by ts h.free
     by (t ∷ ts) a =
         All-cons (λ u. Contains (face_of u) f → ⊥) t ts (λ k. clash (k.holds s.at s.inside) (a.0.holds s.at s.inside)) (by ts a.1)
 
-record IsTold (lower ts : List Tri) (i : ℕ) (f : Face) : Type 0 where
-  tells : DecidesOwner lower ts i f
+record IsTold (earlier ts : List Tri) (i : ℕ) (f : Face) : Type 0 where
+  tells : DecidesOwner earlier ts i f
   somewhere : HasInside f
 
-all_told : (lower ts : List Tri) (i : ℕ) (t : Tri) (fs : List Face) → Every (DecidesOwner lower ts i) fs → Every (IsPartOf t) fs → Every (IsTold lower ts i) fs
-all_told lower ts i t [] h k = tt
-all_told lower ts i t (f ∷ fs) h k =
-    (record { tells = h.0; somewhere = k.0.somewhere }, all_told lower ts i t fs h.1 k.1)
+all_told : (earlier ts : List Tri) (i : ℕ) (t : Tri) (fs : List Face) → Every (DecidesOwner earlier ts i) fs → Every (IsPartOf t) fs → Every (IsTold earlier ts i) fs
+all_told earlier ts i t [] h k = tt
+all_told earlier ts i t (f ∷ fs) h k =
+    (record { tells = h.0; somewhere = k.0.somewhere }, all_told earlier ts i t fs h.1 k.1)
 
 -- what the triangles leave of the start are the regions that the triangle owns
-pub leaf_owned : (c : Cell) (f : LeafTriangle) (ring : Face) (ts : List Tri) (i : ℕ) (ws : List leaf.Wall) (cs : List Cutter) (s : Aabb) (list : List Face) → f.tri ≡ tri_at ts i → i < length ts → map wall_of ws ≡ walls c → s ≡ common_of f.aabb (aabb_of_cell c) → IsClippedBy (map wall_of ws) f.tri (ring ∷ []) → OmitsUnmet (IsBounded f.tri s) (cutting_planes ts i) (cutting_planes_in cs) → All (IsCutterOf f.tri) cs → AreLower ts i f.tri s (length ts) (owners_in cs) → AreCut cs (ring ∷ []) list → AreOwned c ts i list
-leaf_owned c f ring ts i ws cs s list e l w q h sheds lies lower k =
+pub leaf_owned : (c : Cell) (f : LeafTriangle) (ring : Face) (ts : List Tri) (i : ℕ) (ws : List leaf.Wall) (cs : List Cutter) (s : Aabb) (list : List Face) → f.tri ≡ tri_at ts i → i < length ts → map wall_of ws ≡ walls c → s ≡ common_of f.aabb (aabb_of_cell c) → IsClippedBy (map wall_of ws) f.tri (ring ∷ []) → OmitsUnmet (IsBounded f.tri s) (cutting_planes ts i) (cutting_planes_in cs) → All (IsCutterOf f.tri) cs → AreEarlier ts i f.tri s (length ts) (owners_in cs) → AreCut cs (ring ∷ []) list → AreOwned c ts i list
+leaf_owned c f ring ts i ws cs s list e l w q h sheds lies earlier k =
     let r = regions_left cs ring list k in let are = leaf_regions c f ring ts i ws (cutting_planes_in cs) s r.all e w q h sheds r.cuts in
     let parts = cuts_keep f.tri r.cuts ((left_parts f.tri h).0, tt) in let us = owners_in cs in
-    let told = all_every (DecidesOwner us ts i) r.all (owners_told c f ts i us s r.all e l q are parts (owners_lower f.tri cs lies) lower) in
-    record { all = r.all; are_regions = are; owned = without_map (IsTold us ts i) (λ g t p. t.tells.held p) (λ g t p. t.tells.free (free_uncontained us g t.somewhere p)) (all_told us ts i f.tri r.all told parts) r.without }
+    let told = all_every (DecidesOwner us ts i) r.all (owners_told c f ts i us s r.all e l q are parts (owners_coplanar f.tri cs lies) earlier) in
+    record { all = r.all; are_regions = are; owned = without_map (IsTold us ts i) (λ g t p. t.tells.contained p) (λ g t p. t.tells.free (free_uncontained us g t.somewhere p)) (all_told us ts i f.tri r.all told parts) r.without }
 
 module _ (c : Cell) (ts : List Tri) (i : ℕ) (list : List Face) (o : AreOwned c ts i list) where
   -- owned regions are regions of their triangle
@@ -173,6 +173,6 @@ all_can t ring cs r h =
     λ k d l. record { shares = by (get_or cs k d).tri (get_or cs k d).role (h k d l).lies; somewhere = r.somewhere }
   where
     by : (u : Tri) (k : Role) → LiesAs k t u → SharesAs k u ring
-    by u Across l = tt
+    by u OtherPlane l = tt
     by u Later l = share_a_plane t u ring r.plane l
     by u Earlier l = share_a_plane t u ring r.plane l

@@ -6,7 +6,7 @@ pub mod WrittenRegions
 pub mod LeafRegions
 pub mod LiteralRegions
 pub mod OwnedRegions
-pub mod LowerTriangles
+pub mod EarlierTriangles
 pub mod WrittenRegionsUnique
 pub mod Pieces
 pub mod RegionOrder

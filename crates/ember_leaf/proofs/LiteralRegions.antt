@@ -19,7 +19,7 @@ use Rattle.ember_box.specs.Halving.{leaves}
 use Rattle.ember_trace.proofs.SomeSides.{HasSides, face_has_sides}
 use Rattle.ember_leaf.specs.declared.kept.Kept.{Kept}
 use Rattle.ember_leaf.specs.Walls.{IsPartOf}
-use Rattle.ember_leaf.specs.Written.{IsWrittenOfRegion, unowned, even, written, IsCovered, regional, IsWrittenIn}
+use Rattle.ember_leaf.specs.Written.{IsWrittenOfRegion, unowned, same_value, written, IsCovered, regional, IsWrittenIn}
 use Rattle.ember_leaf.specs.Scenes.{HasOneValue, regions, IsWritten}
 use Rattle.ember_leaf.specs.Literal.{IsLiterallyWrittenOf, IsLiterallyWrittenIn, IsLiterallyWritten}
 use Rattle.ember_leaf.proofs.WrittenRegionsUnique.{covered_writes_nothing, nothing_written, written_unique}
@@ -37,7 +37,7 @@ module _ (scene : List Tri) (f : Formula) (valid : All IsValidTri scene) where
   at_region near i t g p n = either (IsOwner near i g) by
     where
       by_value : IsOwner near i g → (s : HasSides scene g) → ((truth s.before f ≡ truth s.after f) ⊎ (truth s.before f ≡ truth s.after f → ⊥)) → ⊥
-      by_value o s (inl e) = n _ (even s.are_sides e)
+      by_value o s (inl e) = n _ (same_value s.are_sides e)
       by_value o s (inr d) = n _ (written o s.are_sides d)
 
       by : (IsOwner near i g ⊎ (IsOwner near i g → ⊥)) → ⊥

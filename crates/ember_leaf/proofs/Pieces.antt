@@ -11,7 +11,7 @@ use Rattle.ember_model.specs.declared.face.Face.{Face}
 use Rattle.ember_model.specs.Planes.{value_at, support_of, opposite}
 use Rattle.ember_model.specs.Faces.{face_of, edges_of, is_flat, is_inside, Contains, Cuts, Meets, below, above}
 use Rattle.ember_model.proofs.SignTests.{negative_in, negative_out, positive_out, zero_out}
-use Rattle.ember_box.specs.Regions.{AreLeftByCuttingPlane}
+use Rattle.ember_box.specs.Regions.{AreLeftByCuttingPlane, splits, whole}
 use Rattle.ember_poly.specs.Rings.{IsBelow}
 use Rattle.ember_poly.specs.Cuts.{HasInside, IsWhole, AreParts, IsReach}
 use Rattle.ember_poly.specs.declared.reach_and_cut.Reach.{Reach}
@@ -23,18 +23,18 @@ use Rattle.ember_ref.proofs.FarTriangles.{inside_closed}
 use Rattle.ember_trace.proofs.FilledFaces.{inside_below}
 use Rattle.ember_leaf.specs.declared.cutter.Cutter.{Cutter}
 use Rattle.ember_leaf.specs.declared.cutter.Role.{Role}
-use Rattle.ember_leaf.specs.declared.cutter.Role.TheVariants.{Across, Later, Earlier}
+use Rattle.ember_leaf.specs.declared.cutter.Role.TheVariants.{OtherPlane, Later, Earlier}
 use Rattle.ember_leaf.specs.TriRelations.{HasContaining}
 use Rattle.ember_leaf.specs.Written.{HasGrown}
-use Rattle.ember_leaf.specs.Cutters.{planes_as, owner_as, cutting_planes_with, owners_by, ended, left, dropped, AreDisjoint, IsFree, AreLeft, AreLeftByCutter, AreLeftByPlane, IsUncut, AreLeftByEdges, AreAround, CutOutTriangle, ShareAPlane, SharesAs, CanCut}
+use Rattle.ember_leaf.specs.Cutters.{planes_as, owner_as, cutting_planes_with, owners_by, ended, left, dropped, AreDisjoint, IsFree, AreLeft, AreLeftByCutter, SplitsIfCut, in_parts, in_one, IsUncut, AreLeftByEdges, AreAround, CutOutTriangle, ShareAPlane, SharesAs, CanCut}
 use Rattle.ember_leaf.proofs.WallClips.{inside_in_below}
-use Rattle.ember_leaf.proofs.RegionCuts.{take_all, region_parts, region_whole}
+use Rattle.ember_leaf.proofs.RegionCuts.{take_all, region_parts, not_cut, region_whole}
 use Rattle.ember_leaf.proofs.OwnedRegions.{cuts_both, cuts_unmet, without_append, none_dropped}
 use Rattle.ember_leaf.proofs.CoplanarFaces.{unmet_disjoint, meets_inside}
 
 -- ---- a region that the triangle doesn't meet
 free_as : (k : Role) (t : Tri) (f : Face) → AreDisjoint (face_of t) f → IsFree (owner_as k t) f
-free_as Across t f d = record { free = tt }
+free_as OtherPlane t f d = record { free = tt }
 free_as Later t f d = record { free = tt }
 free_as Earlier t f d = record { free = (d, tt) }
 
@@ -44,24 +44,34 @@ unmet_left c f n =
     record { all = f ∷ []; cuts = cuts_unmet c.tri (planes_as c.role c.tri) f n; without = left (free_as c.role c.tri f (unmet_disjoint c.tri f n)) ended }
 
 -- ---- a triangle in another plane
-plane_left : (t : Tri) (p : Plane) (f : Face) {gs : List Face} → Meets f (face_of t) → AreLeftByPlane p f gs → AreLeft (cutting_planes_with t (p ∷ [])) [] (f ∷ []) gs
+-- what a plane leaves of a region that meets a face is what it leaves as a cutting plane of that face
+cutting_plane_left : (g : Face) (p : Plane) (f : Face) {gs : List Face} → Meets f g → SplitsIfCut p f gs → AreLeftByCuttingPlane (record { face = g; plane = p }) f gs
+cutting_plane_left g p f m (in_parts c) = splits m c
+cutting_plane_left g p f m (in_one n) = whole (λ k c. n c)
+
+plane_left : (t : Tri) (p : Plane) (f : Face) {gs : List Face} → Meets f (face_of t) → SplitsIfCut p f gs → AreLeft (cutting_planes_with t (p ∷ [])) [] (f ∷ []) gs
 plane_left t p f {gs} m h =
-    record { all = gs; cuts = step (subst (λ (l : List Face). Each (AreLeftByCuttingPlane (record { face = face_of t; plane = p })) (f ∷ []) l) (append-nil gs) (more (h (face_of t) m) none)) done; without = none_dropped gs (λ g. record { free = tt }) }
+    record { all = gs; cuts = step (subst (λ (l : List Face). Each (AreLeftByCuttingPlane (record { face = face_of t; plane = p })) (f ∷ []) l) (append-nil gs) (more (cutting_plane_left (face_of t) p f m h) none)) done; without = none_dropped gs (λ g. record { free = tt }) }
 
 -- what the support plane of a triangle in another plane leaves of a region is what the triangle leaves
-pub across_left : (c : Cutter) (p : Plane) (f : Face) {old new : List Face} → c.role ≡ Across → p ≡ support_of c.tri → Meets f (face_of c.tri) → HasGrown (AreLeftByPlane p f) old new → HasGrown (AreLeftByCutter c f) old new
-across_left c p f {old} {new} e q m g =
-    record { more = g.more; is = g.is; holds = subst (λ (k : Role). AreLeft (cutting_planes_with c.tri (planes_as k c.tri)) (owner_as k c.tri) (f ∷ []) g.more) (sym e) (plane_left c.tri (support_of c.tri) f m (subst (λ (p : Plane). AreLeftByPlane p f g.more) q g.holds)) }
+pub other_plane_left : (c : Cutter) (p : Plane) (f : Face) {old new : List Face} → c.role ≡ OtherPlane → p ≡ support_of c.tri → Meets f (face_of c.tri) → HasGrown (SplitsIfCut p f) old new → HasGrown (AreLeftByCutter c f) old new
+other_plane_left c p f {old} {new} e q m g =
+    record { more = g.more; is = g.is; holds = subst (λ (k : Role). AreLeft (cutting_planes_with c.tri (planes_as k c.tri)) (owner_as k c.tri) (f ∷ []) g.more) (sym e) (plane_left c.tri (support_of c.tri) f m (subst (λ (p : Plane). SplitsIfCut p f g.more) q g.holds)) }
+
+-- the two parts of a region that a plane cuts
+cut_in_parts : (p : Plane) (f low high : Face) → AreParts f p low high → SplitsIfCut p f (low ∷ high ∷ [])
+cut_in_parts p f low high a =
+    subst (λ (l : List Face). SplitsIfCut p f l) (sym (λ i. a.is_low i ∷ a.is_high i ∷ [])) (in_parts a.cuts)
 
 -- a plane that cuts a region leaves its two parts
-pub plane_parts : (p : Plane) (f low high : Face) (old mid new : List Face) → AreParts f p low high → mid ≡ old ++ low ∷ [] → new ≡ mid ++ high ∷ [] → HasGrown (AreLeftByPlane p f) old new
+pub plane_parts : (p : Plane) (f low high : Face) (old mid new : List Face) → AreParts f p low high → mid ≡ old ++ low ∷ [] → new ≡ mid ++ high ∷ [] → HasGrown (SplitsIfCut p f) old new
 plane_parts p f low high old mid new a e q =
-    record { more = low ∷ high ∷ []; is = q ∙ ap (λ (l : List Face). l ++ high ∷ []) e ∙ append_assoc old (low ∷ []) (high ∷ []); holds = λ g m. region_parts (record { face = g; plane = p }) f low high m a }
+    record { more = low ∷ high ∷ []; is = q ∙ ap (λ (l : List Face). l ++ high ∷ []) e ∙ append_assoc old (low ∷ []) (high ∷ []); holds = cut_in_parts p f low high a }
 
 -- a plane that doesn't cut a region leaves it whole
-pub plane_whole : (p : Plane) (f : Face) (k : Reach) (old new : List Face) → IsReach f p k → (k ≡ Both → ⊥) → new ≡ old ++ f ∷ [] → HasGrown (AreLeftByPlane p f) old new
+pub plane_whole : (p : Plane) (f : Face) (k : Reach) (old new : List Face) → IsReach f p k → (k ≡ Both → ⊥) → new ≡ old ++ f ∷ [] → HasGrown (SplitsIfCut p f) old new
 plane_whole p f k old new r n e =
-    record { more = f ∷ []; is = e; holds = λ g m. region_whole (record { face = g; plane = p }) f k r n }
+    record { more = f ∷ []; is = e; holds = in_one (not_cut f p k r n) }
 
 -- ---- a triangle in the same plane, which has inside points in common with the region
 module _ (t : Tri) (p : Plane) (ps : List Plane) (f : Face) (h : CutOutTriangle t (p ∷ ps) f) where
@@ -136,7 +146,7 @@ cut_out_left c f old new n e =
     record { more = f ∷ []; is = e; holds = record { all = f ∷ []; cuts = done; without = left (none c.role n) ended } }
   where
     none : (k : Role) → (k ≡ Earlier → ⊥) → IsFree (owner_as k c.tri) f
-    none Across m = record { free = tt }
+    none OtherPlane m = record { free = tt }
     none Later m = record { free = tt }
     none Earlier m = absurd (m refl)
 
@@ -213,16 +223,16 @@ all_cut_out t f n s m =
     record { around = around t; shared = meets_inside t f n s m; within = λ v i us. inside_all t v (s.face v i) (inside_out f v i).weight us }
 
 -- a coplanar cutter and the region lie in one plane
-pub cutter_shares_plane : (c : Cutter) (f : Face) → CanCut c f → c.role ≢ Across → ShareAPlane c.tri f
+pub cutter_shares_plane : (c : Cutter) (f : Face) → CanCut c f → c.role ≢ OtherPlane → ShareAPlane c.tri f
 cutter_shares_plane c f h n = by c.role n h.shares
   where
-    by : (k : Role) → (k ≡ Across → ⊥) → SharesAs k c.tri f → ShareAPlane c.tri f
-    by Across n s = absurd (n refl)
+    by : (k : Role) → (k ≡ OtherPlane → ⊥) → SharesAs k c.tri f → ShareAPlane c.tri f
+    by OtherPlane n s = absurd (n refl)
     by Later n s = s
     by Earlier n s = s
 
 -- the edge planes of a coplanar triangle that meets a region cut out of it what lies in the triangle
-pub edges_cut_out : (c : Cutter) (es : List Plane) (f : Face) → CanCut c f → c.role ≢ Across → es ≡ edges_of c.tri → Meets f (face_of c.tri) → CutOutTriangle c.tri es f
+pub edges_cut_out : (c : Cutter) (es : List Plane) (f : Face) → CanCut c f → c.role ≢ OtherPlane → es ≡ edges_of c.tri → Meets f (face_of c.tri) → CutOutTriangle c.tri es f
 edges_cut_out c es f h n e m =
     subst (λ (ps : List Plane). CutOutTriangle c.tri ps f) (sym e) (all_cut_out c.tri f c.normal (cutter_shares_plane c f h n) m)
 

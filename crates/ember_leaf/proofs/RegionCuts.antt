@@ -63,35 +63,35 @@ pub region_parts : (b : CuttingPlane) (f x y : Face) → Meets f b.face → AreP
 region_parts b f x y m p =
     subst (λ (l : List Face). AreLeftByCuttingPlane b f l) (sym (λ i. p.is_low i ∷ p.is_high i ∷ [])) (splits m p.cuts)
 
+negative_positive : (z : ℤ) → is_negative z ≡ true → is_positive z ≡ true → ⊥
+negative_positive z e q = let a = negative_out z e in let b = positive_out z q in omega (arith, linear, a, b)
+
+zero_negative : (z : ℤ) → is_zero z ≡ true → is_negative z ≡ true → ⊥
+zero_negative z e q = let a = zero_out z e in let b = negative_out z q in omega (arith, linear, a, b)
+
+-- a plane doesn't cut a face unless the face reaches to both sides of it
+pub not_cut : (f : Face) (p : Plane) (k : Reach) → IsReach f p k → (k ≡ Both → ⊥) → Cuts f p → ⊥
+not_cut f p Below k n c =
+    negative_positive _ (k.everywhere.holds c.some_above.at c.some_above.inside) c.some_above.holds
+not_cut f p Above k n c = negative_positive _ c.some_below.holds (k.everywhere.holds c.some_below.at c.some_below.inside)
+not_cut f p On k n c = zero_negative _ (k.everywhere.holds c.some_below.at c.some_below.inside) c.some_below.holds
+not_cut f p Both k n c = n refl
+
 -- a cutting plane leaves a face as it is that it doesn't cut
 pub region_whole : (b : CuttingPlane) (f : Face) (k : Reach) → IsReach f b.plane k → (k ≡ Both → ⊥) → AreLeftByCuttingPlane b f (f ∷ [])
-region_whole b f k h n = whole (λ m. no_cut f b.plane k h n)
-  where
-    negative_positive : (z : ℤ) → is_negative z ≡ true → is_positive z ≡ true → ⊥
-    negative_positive z e q =
-        let a = negative_out z e in let b = positive_out z q in omega (arith, linear, a, b)
-
-    zero_negative : (z : ℤ) → is_zero z ≡ true → is_negative z ≡ true → ⊥
-    zero_negative z e q = let a = zero_out z e in let b = negative_out z q in omega (arith, linear, a, b)
-
-    no_cut : (f : Face) (p : Plane) (k : Reach) → IsReach f p k → (k ≡ Both → ⊥) → Cuts f p → ⊥
-    no_cut f p Below k n c =
-        negative_positive _ (k.everywhere.holds c.some_above.at c.some_above.inside) c.some_above.holds
-    no_cut f p Above k n c = negative_positive _ c.some_below.holds (k.everywhere.holds c.some_below.at c.some_below.inside)
-    no_cut f p On k n c = zero_negative _ (k.everywhere.holds c.some_below.at c.some_below.inside) c.some_below.holds
-    no_cut f p Both k n c = n refl
+region_whole b f k h n = whole (λ m. not_cut f b.plane k h n)
 
 -- ---- regions one after another
 pub first_met : (b : Cutter) (rest : List Face) {f : Face} {list yielded : List Face} → MeetsFirst b list → yielded ++ f ∷ rest ≡ list → yielded ≡ [] → Meets f (face_of b.tri)
 first_met b rest {f} {list} {yielded} h e q =
     subst (MeetsFirst b) (sym e ∙ ap (λ (l : List Face). l ++ f ∷ rest) q) h
 
--- the list has split_grows_list by what a triangle leaves of one region
+-- the list has grown by what a triangle leaves of one region
 pub split_grows_list : (b : Cutter) (old fs : List Face) (f : Face) (out new : List Face) → ((front : List Face) → AreSplit b front old → AreSplit b (front ++ fs) out) → HasGrown (AreLeftByCutter b f) out new → (front : List Face) → AreSplit b front old → AreSplit b (front ++ (fs ++ f ∷ [])) new
 split_grows_list b old fs f out new k g front h =
     subst (λ (l : List Face). AreSplit b l new) (append_assoc front fs (f ∷ [])) (subst (λ (l : List Face). AreSplit b ((front ++ fs) ++ f ∷ []) l) (sym g.is) (each_push (k front h) g.holds))
 
--- the list has split_grows_list by one face that has the property
+-- the list has grown by one face that has the property
 pub grown_by_one : (P : List Face → Type 0) (f : Face) (old new : List Face) → P (f ∷ []) → new ≡ old ++ f ∷ [] → HasGrown P old new
 grown_by_one P f old new p e = record { more = f ∷ []; is = e; holds = p }
 

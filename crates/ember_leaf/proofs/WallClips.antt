@@ -24,7 +24,7 @@ use Rattle.ember_model.proofs.Hits.{inside_on, inside_parts}
 use Rattle.ember_model.proofs.SignTests.{negative_out, positive_out, positive_in, zero_out, clash}
 use Rattle.ember_box.specs.declared.aabb.Interval.{Interval}
 use Rattle.ember_box.specs.Boxes.{entry_along}
-use Rattle.ember_box.specs.Aabbs.{aabb_of_tri, interval_over}
+use Rattle.ember_box.specs.Aabbs.{aabb_of_tri, interval_along, interval_over}
 use Rattle.ember_box.specs.Regions.{Wall, level, AreLeftByWall, cut, outside, in_high, stays}
 use Rattle.ember_poly.specs.Cuts.{HasInside, IsReach}
 use Rattle.ember_poly.specs.declared.reach_and_cut.Reach.TheVariants.{Below, Above, On, Both}
@@ -37,7 +37,7 @@ use Rattle.ember_leaf.specs.TriRelations.{heights_of, all_on}
 use Rattle.ember_leaf.specs.declared.clip.Remainder.{Remainder}
 use Rattle.ember_leaf.specs.declared.clip.Remainder.TheVariants.{Whole, Nothing, Unknown}
 use Rattle.ember_leaf.specs.declared.wall.Wall as leaf
-use Rattle.ember_leaf.specs.Walls.{wall_of, interval_along, IsPartOf, IsLowRemainder, IsHighRemainder, IsRemainder, IsClippedBy}
+use Rattle.ember_leaf.specs.Walls.{wall_of, IsPartOf, IsLowRemainder, IsHighRemainder, IsRemainder, IsClippedBy}
 use Rattle.ember_leaf.proofs.RegionOrder.{face_support}
 use Rattle.ember_leaf.proofs.TriFaces.{AtCorners, AtCorner, has_inside, inside_ring, inside_under, inside_over, closed_at_least, closed_on}
 use Rattle.ember_leaf.proofs.TriRelations.{corner_over, on_on}

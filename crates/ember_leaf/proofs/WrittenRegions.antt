@@ -19,7 +19,7 @@ use Rattle.ember_trace.specs.Boxed.{LiesIn}
 use Rattle.ember_trace.proofs.BoxedRegions.{regions_lie_in}
 use Rattle.ember_leaf.specs.declared.kept.Kept.{Kept}
 use Rattle.ember_leaf.specs.Cutters.{Without, ended, left, dropped}
-use Rattle.ember_leaf.specs.Written.{IsWrittenOfRegion, unowned, even, written, AreOwned, IsWrittenOf, regional, IsWrittenIn, IsFlip, WhereFits, HasGrown}
+use Rattle.ember_leaf.specs.Written.{IsWrittenOfRegion, unowned, same_value, written, AreOwned, IsWrittenOf, regional, IsWrittenIn, IsFlip, WhereFits, HasGrown}
 use Rattle.ember_leaf.proofs.UnmetPlanes.{range_more}
 
 -- ---- one region
@@ -31,8 +31,8 @@ module _ (scene : List Tri) (f : Formula) (near : List Tri) (i : ℕ) (face : Fa
       subst (λ (b : Bool). IsWrittenOfRegion scene f near i face (record { tri = i; flipped = b; ring = face } ∷ [])) (sym k.1) (written o s k.0)
 
   -- a region with one value on both sides isn't written
-  pub is_even : (turn : Option Bool) → IsFlip f face before after turn → turn ≡ None → IsWrittenOfRegion scene f near i face []
-  is_even turn t e = even s (subst (IsFlip f face before after) e t)
+  pub isnt_written : (turn : Option Bool) → IsFlip f face before after turn → turn ≡ None → IsWrittenOfRegion scene f near i face []
+  isnt_written turn t e = same_value s (subst (IsFlip f face before after) e t)
 
 -- ---- a list that grows
 pub grown_none : (P : List Kept → Type 0) (old : List Kept) → P [] → HasGrown P old old

@@ -24,7 +24,7 @@ use Rattle.ember_trace.proofs.BoxedRegions.{regions_lie_in, region_inside}
 use Rattle.ember_trace.proofs.OneSides.{one_sides}
 use Rattle.ember_trace.proofs.TracedSides.{in_box}
 use Rattle.ember_leaf.specs.declared.kept.Kept.{Kept}
-use Rattle.ember_leaf.specs.Written.{front, IsWrittenOfRegion, unowned, even, written, AreRegionsWritten, IsCovered, IsWrittenOf, regional, hidden, IsWrittenIn}
+use Rattle.ember_leaf.specs.Written.{front, IsWrittenOfRegion, unowned, same_value, written, AreRegionsWritten, IsCovered, IsWrittenOf, regional, hidden, IsWrittenIn}
 use Rattle.ember_leaf.specs.Scenes.{HasOneValue, LeafGives, regions, nothing, IsWritten}
 
 -- what holds at each place holds of each member
@@ -51,7 +51,7 @@ hidden_owns_none near c i faces r h =
 module _ (scene : List Tri) (f : Formula) (c : Cell) (near : List Tri) where
   none_owned : (i : ℕ) (g : Face) (ks : List Kept) → (IsOwner near i g → ⊥) → IsWrittenOfRegion scene f near i g ks → ks ≡ []
   none_owned i g ks n (unowned m) = refl
-  none_owned i g ks n (even s e) = refl
+  none_owned i g ks n (same_value s e) = refl
   none_owned i g ks n (written o s e) = absurd (n o)
 
   -- so nothing is written of it
@@ -68,15 +68,15 @@ SidesAreOne scene face =
 module _ (scene : List Tri) (f : Formula) (c : Cell) (near : List Tri) (one : (face : Face) → IsRegion near c face → SidesAreOne scene face) where
   region_unique : (i : ℕ) (g : Face) (us vs : List Kept) → IsRegion near c g → IsWrittenOfRegion scene f near i g us → IsWrittenOfRegion scene f near i g vs → us ≡ vs
   region_unique i g us vs r (unowned n) (unowned m) = refl
-  region_unique i g us vs r (unowned n) (even x e) = refl
+  region_unique i g us vs r (unowned n) (same_value x e) = refl
   region_unique i g us vs r (unowned n) (written o x e) = absurd (n o)
-  region_unique i g us vs r (even x e) (unowned n) = refl
-  region_unique i g us vs r (even x e) (even y d) = refl
-  region_unique i g us vs r (even {before = a} {after = b} x e) (written {before = p} {after = q} o y d) =
+  region_unique i g us vs r (same_value x e) (unowned n) = refl
+  region_unique i g us vs r (same_value x e) (same_value y d) = refl
+  region_unique i g us vs r (same_value {before = a} {after = b} x e) (written {before = p} {after = q} o y d) =
       let s = one g r a b p q x y in
       absurd (d (ap (λ (v : List ℤ). truth v f) (sym s.0) ∙ e ∙ ap (λ (v : List ℤ). truth v f) s.1))
   region_unique i g us vs r (written o x e) (unowned n) = absurd (n o)
-  region_unique i g us vs r (written {before = a} {after = b} o x e) (even {before = p} {after = q} y d) =
+  region_unique i g us vs r (written {before = a} {after = b} o x e) (same_value {before = p} {after = q} y d) =
       let s = one g r a b p q x y in
       absurd (e (ap (λ (v : List ℤ). truth v f) s.0 ∙ d ∙ ap (λ (v : List ℤ). truth v f) (sym s.1)))
   region_unique i g us vs r (written {before = a} {after = b} o x e) (written {before = p} {after = q} l y d) =
@@ -108,7 +108,7 @@ module _ (scene : List Tri) (f : Formula) (c : Cell) (one : HasOneValue scene f 
   module _ (near : List Tri) (has : (g : Face) → IsRegion near c g → (v : Spot) → is_inside g v ≡ true → HasPoint c v) where
     none_at : (i : ℕ) (g : Face) (ks : List Kept) → IsRegion near c g → IsWrittenOfRegion scene f near i g ks → ks ≡ []
     none_at i g ks r (unowned n) = refl
-    none_at i g ks r (even s e) = refl
+    none_at i g ks r (same_value s e) = refl
     none_at i g ks r (written {before = b} {after = a} o s e) =
         let h = both_sides g b a s (has g r s.at s.inside) in absurd (e (h.0 ∙ sym h.1))
 

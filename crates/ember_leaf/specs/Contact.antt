@@ -15,17 +15,17 @@ abbrev pub no_plane : Plane
 no_plane = record { a = pos 0; b = pos 0; c = pos 0; d = pos 0 }
 
 -- some plane of the list has no corner behind it
-pub record HasParting (es : List Plane) (t : Tri) : Type 0 where
+pub record HasParting (ps : List Plane) (t : Tri) : Type 0 where
   pub index : ℕ
-  pub before : index < length es
-  pub parts : none_behind (heights_of (slice_index_or es index no_plane) t) ≡ true
+  pub before : index < length ps
+  pub parts : none_behind (heights_of (slice_index_or ps index no_plane) t) ≡ true
 
 -- the corner is behind all of them
 abbrev pub IsBehind : List Plane → Corner → Type 0
-IsBehind es c = AllByRecursion (λ g. IsBelow g (spot_of_corner c)) es
+IsBehind ps corner = AllByRecursion (λ p. IsBelow p (spot_of_corner corner)) ps
 
 -- what each answer shows; `Unknown` shows nothing
 abbrev pub IsContact : List Plane → Tri → Contact → Type 0
-IsContact es t Apart = HasParting es t
-IsContact es t Met = IsBehind es t.a ⊎ (IsBehind es t.b ⊎ IsBehind es t.c)
-IsContact es t Unknown = ⊤
+IsContact ps t Apart = HasParting ps t
+IsContact ps t Met = IsBehind ps t.a ⊎ (IsBehind ps t.b ⊎ IsBehind ps t.c)
+IsContact ps t Unknown = ⊤

@@ -8,7 +8,7 @@ use Rattle.ember_model.specs.declared.plane.Plane.{Plane}
 use Rattle.ember_model.specs.declared.point.Spot.{Spot}
 use Rattle.ember_model.specs.declared.face.Face.{Face}
 use Rattle.ember_model.specs.Planes.{support_of, value_at}
-use Rattle.ember_model.specs.Faces.{edges_of, face_of, is_inside, is_in_closed, Somewhere, Everywhere, Meets, Contains}
+use Rattle.ember_model.specs.Faces.{edges_of, face_of, is_inside, is_in_closed, Somewhere, Everywhere, Cuts, Meets, Contains, below, above}
 use Rattle.ember_model.specs.Owners.{is_coplanar}
 use Rattle.ember_box.specs.declared.aabb.Interval.{Interval}
 use Rattle.ember_box.specs.declared.aabb.Aabb.{Aabb}
@@ -19,20 +19,20 @@ use Rattle.ember_poly.specs.declared.reach_and_cut.Reach.{Reach}
 use Rattle.ember_poly.specs.declared.reach_and_cut.Reach.TheVariants.{Both}
 use Rattle.ember_poly.specs.Cuts.{HasInside, IsReach}
 use Rattle.ember_leaf.specs.declared.cutter.Role.{Role}
-use Rattle.ember_leaf.specs.declared.cutter.Role.TheVariants.{Across, Later, Earlier}
+use Rattle.ember_leaf.specs.declared.cutter.Role.TheVariants.{OtherPlane, Later, Earlier}
 use Rattle.ember_leaf.specs.declared.cutter.Cutter.{Cutter}
 use Rattle.ember_leaf.specs.TriRelations.{HasContaining}
 
 -- ---- what a triangle cuts by, and whether it owns what it contains
 -- the planes by which it cuts
 abbrev pub planes_as : Role → Tri → List Plane
-planes_as Across t = support_of t ∷ []
+planes_as OtherPlane t = support_of t ∷ []
 planes_as Later t = edges_of t
 planes_as Earlier t = edges_of t
 
 -- the triangle itself, if it owns what it contains
 abbrev pub owner_as : Role → Tri → List Tri
-owner_as Across t = []
+owner_as OtherPlane t = []
 owner_as Later t = []
 owner_as Earlier t = t ∷ []
 
@@ -43,13 +43,13 @@ role_if false = Later
 
 -- u lies relative to t, whose regions it cuts, as its role says
 abbrev pub LiesAs : Role → Tri → Tri → Type 0
-LiesAs Across t u = ⊤
+LiesAs OtherPlane t u = ⊤
 LiesAs Later t u = is_coplanar t u ≡ true
 LiesAs Earlier t u = is_coplanar t u ≡ true
 
 -- the cutter lies relative to t as its role says
-pub record IsCutterOf (t : Tri) (c : Cutter) : Type 0 where
-  pub lies : LiesAs c.role t c.tri
+pub record IsCutterOf (t : Tri) (cutter : Cutter) : Type 0 where
+  pub lies : LiesAs cutter.role t cutter.tri
 
 -- the list has grown by the triangle u in the role k
 pub record IsAdded (u : Tri) (k : Role) (old new : List Cutter) : Type 0 where
@@ -64,19 +64,19 @@ cutting_planes_with t ps = map (λ p. record { face = face_of t; plane = p }) ps
 
 -- the cutting planes of a cutter
 abbrev pub cutting_planes_by : Cutter → List CuttingPlane
-cutting_planes_by c = cutting_planes_with c.tri (planes_as c.role c.tri)
+cutting_planes_by cutter = cutting_planes_with cutter.tri (planes_as cutter.role cutter.tri)
 
 -- the cutting planes of the cutters of a list
 abbrev pub cutting_planes_in : List Cutter → List CuttingPlane
-cutting_planes_in cs = flat_map cutting_planes_by cs
+cutting_planes_in cutters = flat_map cutting_planes_by cutters
 
 -- the cutter's triangle, if its role is `Earlier`
 abbrev pub owners_by : Cutter → List Tri
-owners_by c = owner_as c.role c.tri
+owners_by cutter = owner_as cutter.role cutter.tri
 
 -- the triangles of the list with the role `Earlier`
 abbrev pub owners_in : List Cutter → List Tri
-owners_in cs = flat_map owners_by cs
+owners_in cutters = flat_map owners_by cutters
 
 -- ---- regions that are left
 -- the first list without some members that have the first property; those left have the second
@@ -101,24 +101,24 @@ pub record AreLeft (bs : List CuttingPlane) (ts : List Tri) (fs gs : List Face) 
 
 -- what a triangle leaves of a region
 abbrev pub AreLeftByCutter : Cutter → Face → List Face → Type 0
-AreLeftByCutter c f gs = AreLeft (cutting_planes_by c) (owners_by c) (f ∷ []) gs
+AreLeftByCutter cutter f gs = AreLeft (cutting_planes_by cutter) (owners_by cutter) (f ∷ []) gs
 
 -- what it leaves of each region
 abbrev pub AreSplit : Cutter → List Face → List Face → Type 0
-AreSplit c fs gs = Each (AreLeftByCutter c) fs gs
+AreSplit cutter fs gs = Each (AreLeftByCutter cutter) fs gs
 
 -- the list has grown by what the triangle leaves of fs
-abbrev pub IsSplitBehind : Cutter → List Face → List Face → List Face → Type 0
-IsSplitBehind c fs old new = (front : List Face) → AreSplit c front old → AreSplit c (front ++ fs) new
+abbrev pub AddsSplit : Cutter → List Face → List Face → List Face → Type 0
+AddsSplit cutter fs old new = (front : List Face) → AreSplit cutter front old → AreSplit cutter (front ++ fs) new
 
 -- what the triangles leave of the regions, one after another
 abbrev pub AreCut : List Cutter → List Face → List Face → Type 0
-AreCut cs fs gs = Chain AreSplit cs fs gs
+AreCut cutters fs gs = Chain AreSplit cutters fs gs
 
 -- the first region meets the triangle's closed face
 abbrev pub MeetsFirst : Cutter → List Face → Type 0
-MeetsFirst c [] = ⊤
-MeetsFirst c (f ∷ fs) = Meets f (face_of c.tri)
+MeetsFirst cutter [] = ⊤
+MeetsFirst cutter (f ∷ fs) = Meets f (face_of cutter.tri)
 
 -- planes that are negative inside the triangle, and nowhere positive in its closed face
 pub record AreAround (t : Tri) (ps : List Plane) : Type 0 where
@@ -132,9 +132,10 @@ pub record CutOutTriangle (t : Tri) (ps : List Plane) (f : Face) : Type 0 where
   pub shared : Somewhere f (λ v. is_inside (face_of t) v ≡ true)
   pub within : (v : Spot) → is_inside f v ≡ true → AllByRecursion (λ p. IsBelow p v) ps → is_inside (face_of t) v ≡ true
 
--- what a plane leaves of a region that meets the face of the plane's triangle, whichever face that is
-abbrev pub AreLeftByPlane : Plane → Face → List Face → Type 0
-AreLeftByPlane p f gs = (g : Face) → Meets f g → AreLeftByCuttingPlane (record { face = g; plane = p }) f gs
+-- what a plane leaves of a region: its two parts if the plane cuts it, otherwise the region itself
+pub data SplitsIfCut (p : Plane) (f : Face) : List Face → Type 0 where
+  in_parts : Cuts f p → SplitsIfCut p f (below f p ∷ above f p ∷ [])
+  in_one : (Cuts f p → ⊥) → SplitsIfCut p f (f ∷ [])
 
 -- the plane doesn't cut f
 pub record IsUncut (f : Face) (p : Plane) : Type 0 where
@@ -144,7 +145,7 @@ pub record IsUncut (f : Face) (p : Plane) : Type 0 where
 
 -- what the planes leave of a region
 abbrev pub AreLeftByEdges : Cutter → List Plane → Face → List Face → Type 0
-AreLeftByEdges c ps f gs = AreLeft (cutting_planes_with c.tri ps) (owners_by c) (f ∷ []) gs
+AreLeftByEdges cutter ps f gs = AreLeft (cutting_planes_with cutter.tri ps) (owners_by cutter) (f ∷ []) gs
 
 -- the triangle and the face lie in one plane
 pub record ShareAPlane (t : Tri) (f : Face) : Type 0 where
@@ -153,13 +154,13 @@ pub record ShareAPlane (t : Tri) (f : Face) : Type 0 where
 
 -- they lie in one plane if the triangle cuts by its edge planes
 abbrev pub SharesAs : Role → Tri → Face → Type 0
-SharesAs Across t f = ⊤
+SharesAs OtherPlane t f = ⊤
 SharesAs Later t f = ShareAPlane t f
 SharesAs Earlier t f = ShareAPlane t f
 
 -- the cutter may be applied to f: f has an inside point, and lies in the cutter's plane if the role says so
-pub record CanCut (c : Cutter) (f : Face) : Type 0 where
-  pub shares : SharesAs c.role c.tri f
+pub record CanCut (cutter : Cutter) (f : Face) : Type 0 where
+  pub shares : SharesAs cutter.role cutter.tri f
   pub somewhere : HasInside f
 
 -- ---- bounds

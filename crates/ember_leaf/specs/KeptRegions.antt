@@ -37,4 +37,4 @@ pub record ArePlacedBelow (ts : List Tri) (n : ℕ) (ks : List Kept) : Type 0 wh
 
 -- the triangles alone
 abbrev pub tris_of : List NearTriangle → List Tri
-tris_of fs = map tri_of fs
+tris_of triangles = map tri_of triangles

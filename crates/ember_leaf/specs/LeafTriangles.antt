@@ -5,8 +5,8 @@ use Rattle.ember_leaf.specs.declared.leaf_triangle.LeafTriangle.{LeafTriangle}
 
 -- the triangle alone
 abbrev pub tri_in : LeafTriangle → Tri
-tri_in f = f.tri
+tri_in triangle = triangle.tri
 
 -- the triangles of a list alone
 abbrev pub tris_in : List LeafTriangle → List Tri
-tris_in fs = map tri_in fs
+tris_in triangles = map tri_in triangles

@@ -4,7 +4,7 @@ pub mod LeafBoxes
 pub mod LeafTriangles
 pub mod KeptRegions
 pub mod Literal
-pub mod Lower
+pub mod EarlierTriangles
 pub mod TriRelations
 pub mod Scenes
 pub mod Walls

@@ -19,20 +19,20 @@ use Rattle.ember_leaf.specs.Written.{IsWrittenIn}
 
 -- the expression has this value at all clear points directly beside v: for each axis and number `by`, at the
 -- point v moved by `by` / (m * w) along the axis, if it is clear and m is large enough (from some m on)
-pub record IsBeside (scene : List Tri) (f : Formula) (v : Spot) (value : Bool) : Type 0 where
+pub record IsBeside (scene : List Tri) (e : Formula) (v : Spot) (value : Bool) : Type 0 where
   pub steps : (k : Axis) (by : ℤ) → Eventually (λ m. AreClear (faces_of scene) (moved (scaled (pos m) v) k by) →
-      (a : Axis) → truth (vector a scene (moved (scaled (pos m) v) k by)) f ≡ value)
+      (a : Axis) → truth (vector a scene (moved (scaled (pos m) v) k by)) e ≡ value)
 
 -- the expression has one value at all clear points in the closed box and directly beside it
-pub record HasOneValue (scene : List Tri) (f : Formula) (c : Cell) : Type 0 where
+pub record HasOneValue (scene : List Tri) (e : Formula) (c : Cell) : Type 0 where
   pub value : Bool
-  pub beside : (v : Spot) → HasPoint c v → IsBeside scene f v value
+  pub beside : (v : Spot) → HasPoint c v → IsBeside scene e v value
 
 -- what a leaf gives: its written regions, and nothing if the expression has one value in it
-pub data LeafGives (scene : List Tri) (f : Formula) (c : Cell) : List Kept → Type 0 where
-  regions : {ks : List Kept} → IsWrittenIn scene f c (near scene c) ks → LeafGives scene f c ks
-  nothing : HasOneValue scene f c → LeafGives scene f c []
+pub data LeafGives (scene : List Tri) (e : Formula) (c : Cell) : List Kept → Type 0 where
+  regions : {ks : List Kept} → IsWrittenIn scene e c (near scene c) ks → LeafGives scene e c ks
+  nothing : HasOneValue scene e c → LeafGives scene e c []
 
 -- the written regions of all leaves of the full tree, in tree order
 abbrev pub IsWritten : List Tri → Formula → List Kept → Type 0
-IsWritten scene f ks = Each (LeafGives scene f) (leaves scene root) ks
+IsWritten scene e ks = Each (LeafGives scene e) (leaves scene root) ks

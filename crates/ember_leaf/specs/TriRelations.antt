@@ -10,7 +10,7 @@ use Rattle.ember_model.specs.declared.face.Face.{Face}
 use Rattle.ember_model.specs.Owners.{spot_of_corner, is_coplanar}
 use Rattle.ember_leaf.specs.declared.heights.Heights.{Heights}
 use Rattle.ember_leaf.specs.declared.relation.Relation.{Relation}
-use Rattle.ember_leaf.specs.declared.relation.Relation.TheVariants.{Apart, Across, Coplanar}
+use Rattle.ember_leaf.specs.declared.relation.Relation.TheVariants.{Apart, OtherPlane, Coplanar}
 
 -- the values of a plane at the corners of a triangle
 abbrev pub heights_of : Plane → Tri → Heights
@@ -48,10 +48,10 @@ abbrev pub IsBehindEdge : Tri → Tri → ℕ → Type 0
 IsBehindEdge t u i =
     (p : Plane) → slice_get (edges_of t) i ≡ Some p → Everywhere (face_of u) (λ v. is_negative (value_at p v) ≡ true)
 
--- how t lies relative to the closed face of u; `Across` and `Coplanar` only say whether both lie in one plane
+-- how t lies relative to the closed face of u; `OtherPlane` and `Coplanar` only say whether both lie in one plane
 abbrev pub IsRelation : Tri → Tri → Relation → Type 0
 IsRelation t u Apart = MissesClosedFace t u
-IsRelation t u Across = is_coplanar t u ≡ false
+IsRelation t u OtherPlane = is_coplanar t u ≡ false
 IsRelation t u Coplanar = is_coplanar t u ≡ true
 
 -- a valid triangle u in the plane of t; used for the triangles before t, though the index isn't part of it

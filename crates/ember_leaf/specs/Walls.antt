@@ -9,7 +9,6 @@ use Rattle.ember_model.specs.declared.face.Face.{Face}
 use Rattle.ember_model.specs.Planes.{opposite}
 use Rattle.ember_model.specs.Faces.{is_flat, face_of, Contains}
 use Rattle.ember_box.specs.declared.aabb.Interval.{Interval}
-use Rattle.ember_box.specs.declared.aabb.Aabb.{Aabb}
 use Rattle.ember_box.specs.Regions.{level, AreLeftByWall}
 use Rattle.ember_box.specs.Regions as regions
 use Rattle.ember_poly.specs.Cuts.{HasInside}
@@ -22,12 +21,6 @@ use Rattle.ember_leaf.specs.KeptRegions.{LiesInPlaneOf}
 abbrev pub wall_of : Wall → regions.Wall
 wall_of w =
     record { plane = if w.is_high then level w.axis w.at else opposite (level w.axis w.at); is_high = w.is_high }
-
--- the interval of a bounding box along an axis
-abbrev pub interval_along : Aabb → Axis → Interval
-interval_along b X = b.x
-interval_along b Y = b.y
-interval_along b Z = b.z
 
 -- a plane by its normal's entry along an axis and its constant
 abbrev pub level_by : Axis → ℤ → ℤ → Plane

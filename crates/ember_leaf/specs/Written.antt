@@ -26,22 +26,22 @@ front f before after =
 -- what is written of a region of triangle i: nothing if another triangle owns it, or if the expression has one
 -- value on both sides; otherwise the region, and whether it must be flipped so that its normal points to the
 -- side on which the expression is false
-pub data IsWrittenOfRegion (scene : List Tri) (f : Formula) (near : List Tri) (i : ℕ)
+pub data IsWrittenOfRegion (scene : List Tri) (e : Formula) (near : List Tri) (i : ℕ)
     (face : Face) : List Kept → Type 0 where
-  unowned : (IsOwner near i face → ⊥) → IsWrittenOfRegion scene f near i face []
-  even : {before after : List ℤ} → IsSides scene face before after → truth before f ≡ truth after f →
-      IsWrittenOfRegion scene f near i face []
+  unowned : (IsOwner near i face → ⊥) → IsWrittenOfRegion scene e near i face []
+  same_value : {before after : List ℤ} → IsSides scene face before after → truth before e ≡ truth after e →
+      IsWrittenOfRegion scene e near i face []
   written : {before after : List ℤ} → IsOwner near i face → IsSides scene face before after →
-      truth before f ≢ truth after f →
-      IsWrittenOfRegion scene f near i face
-      (record { tri = i; flipped = truth (front face before after) f; ring = face } ∷ [])
+      truth before e ≢ truth after e →
+      IsWrittenOfRegion scene e near i face
+      (record { tri = i; flipped = truth (front face before after) e; ring = face } ∷ [])
 
 -- the regions of triangle i of a leaf with these near triangles, and what is written of each
-pub record AreRegionsWritten (scene : List Tri) (f : Formula) (c : Cell) (near : List Tri) (i : ℕ)
+pub record AreRegionsWritten (scene : List Tri) (e : Formula) (c : Cell) (near : List Tri) (i : ℕ)
     (ks : List Kept) : Type 0 where
   pub faces : List Face
   pub are_regions : IsRegions c near i faces
-  pub are_written : Each (IsWrittenOfRegion scene f near i) faces ks
+  pub are_written : Each (IsWrittenOfRegion scene e near i) faces ks
 
 -- a triangle before triangle i, in its plane, contains its face, and so owns all its regions
 pub record IsCovered (near : List Tri) (i : ℕ) : Type 0 where
@@ -55,21 +55,21 @@ pub record IsCovered (near : List Tri) (i : ℕ) : Type 0 where
   pub contains : Contains (face_of cover) (face_of own)
 
 -- the written regions of triangle i
-pub data IsWrittenOf (scene : List Tri) (f : Formula) (c : Cell) (near : List Tri) (i : ℕ) : List Kept → Type 0 where
-  regional : {ks : List Kept} → AreRegionsWritten scene f c near i ks → IsWrittenOf scene f c near i ks
-  hidden : IsCovered near i → IsWrittenOf scene f c near i []
+pub data IsWrittenOf (scene : List Tri) (e : Formula) (c : Cell) (near : List Tri) (i : ℕ) : List Kept → Type 0 where
+  regional : {ks : List Kept} → AreRegionsWritten scene e c near i ks → IsWrittenOf scene e c near i ks
+  hidden : IsCovered near i → IsWrittenOf scene e c near i []
 
 -- the written regions of a leaf: those of all its triangles, in order
 abbrev pub IsWrittenIn : List Tri → Formula → Cell → List Tri → List Kept → Type 0
-IsWrittenIn scene f c near ks =
-    Each (IsWrittenOf scene f c near) (range_with_len 0 (length near)) ks
+IsWrittenIn scene e c near ks =
+    Each (IsWrittenOf scene e c near) (range_with_len 0 (length near)) ks
 
 -- whether a region with these winding numbers before and after it is flipped: whether the expression is true
 -- in front of it; none if the expression has one value on both sides
 abbrev pub IsFlip : Formula → Face → List ℤ → List ℤ → Option Bool → Type 0
-IsFlip f face before after None = truth before f ≡ truth after f
-IsFlip f face before after (Some flipped) =
-    (truth before f ≢ truth after f) × (flipped ≡ truth (front face before after) f)
+IsFlip e face before after None = truth before e ≡ truth after e
+IsFlip e face before after (Some flipped) =
+    (truth before e ≢ truth after e) × (flipped ≡ truth (front face before after) e)
 
 -- R holds in each scene that fits what is known at the box
 abbrev pub WhereFits : List Tri → Cell → List ℤ → (List Tri → List Kept → Type 0) → List Kept → Type 0

@@ -9,25 +9,14 @@ ghost use Rattle.ember_box.specs.Regions.{level, AreLeftByWall};
 ghost use Rattle.ember_box.specs.Regions as regions;
 ghost use Rattle.ember_poly.specs.Drafts.{face_in, HoldsRing};
 ghost use Rattle.ember_leaf.specs.Cutters.{common, common_of};
-ghost use Rattle.ember_leaf.specs.Walls.{wall_of, interval_along, level_by, IsLowRemainder, IsHighRemainder, IsRemainder, IsClippedBy};
+ghost use Rattle.ember_leaf.specs.Walls.{wall_of, level_by, IsLowRemainder, IsHighRemainder, IsRemainder, IsClippedBy};
 
 use crate::leaf_triangle::LeafTriangle;
 use crate::wall::Wall;
-use ember_box::{Aabb, Cell, Interval, aabb_of_cell};
+use ember_box::{Aabb, Cell, Interval, aabb_of_cell, interval_along};
 use ember_model::{Axis, OutOfMemory, Plane};
 use ember_poly::{Draft, Reach, Ring};
 use std::alloc::Global;
-
-// The interval of a bounding box along an axis.
-fn span(spans: &Aabb, k: Axis) -> Interval
-    ensures { result ≡ interval_along spans.now k }
-{
-    match k {
-        Axis::X => spans.x,
-        Axis::Y => spans.y,
-        Axis::Z => spans.z,
-    }
-}
 
 // What two intervals have in common.
 fn common(first: &Interval, second: &Interval) -> Interval
@@ -174,7 +163,7 @@ fn remainder_at_high(interval: &Interval, wall: &Wall) -> Remainder
 fn remainder_at(wall: &Wall, triangle: &LeafTriangle) -> Remainder
     ensures { IsRemainder (wall_of wall.now) triangle.now.tri result }
 {
-    let interval = span(&triangle.aabb, wall.axis);
+    let interval = interval_along(&triangle.aabb, wall.axis);
     if wall.is_high {
         remainder_at_high(&interval, wall)
     } else {

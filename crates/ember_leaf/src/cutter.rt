@@ -10,7 +10,7 @@ use ember_model::{Plane, Tri};
 #[derive(Clone, Copy)]
 pub enum Role {
     /// In another plane: by its support plane.
-    Across,
+    OtherPlane,
     /// In the same plane, with a higher index: by its edge planes.
     Later,
     /// In the same plane, with a lower index: by its edge planes. It owns each region that it

@@ -1,15 +1,16 @@
 // The other triangles near a leaf that may cut the regions of one. That one is `target`, and
-// `other` is one of the others. `find_cutters` calls `add_near_unless_covering` for each of them,
-// this calls `add_unless_covering` if bounding boxes meet, and this calls
-// `add_coplanar_unless_covering` for a coplanar one.
+// `other` is one of the others. `find_cutters_unless_covered` calls `add_near_unless_covering` for
+// each of them, this calls `add_unless_covering` if bounding boxes meet, and this calls
+// `add_coplanar_unless_covering` for a coplanar one. All return `true` if `target` is found to be
+// covered, and then stop.
 ghost use Rattle.std.specs.Prelude.{◌≡◌, false, true, All, IfOk, OnOk};
 ghost use Rattle.ember_model.specs.Faces.{is_flat};
 ghost use Rattle.ember_model.specs.Owners.{is_coplanar};
 ghost use Rattle.ember_box.specs.Near.{tri_at};
 ghost use Rattle.ember_leaf.specs.LeafTriangles.{tris_in};
 ghost use Rattle.ember_leaf.specs.Cutters.{role_if, IsAdded, IsCutterOf};
-ghost use Rattle.ember_leaf.specs.Lower.{AddsPlanesOf, AddsOwners};
-ghost use Rattle.ember_leaf.specs.Lower.{AddsCuttingPlanesWithin, AddsOwnersWithin, AreCuttingPlanesFound, AreOwnersFound};
+ghost use Rattle.ember_leaf.specs.EarlierTriangles.{AddsPlanesOf, AddsOwners};
+ghost use Rattle.ember_leaf.specs.EarlierTriangles.{AddsCuttingPlanesWithin, AddsOwnersWithin, AreCuttingPlanesFound, AreOwnersFound};
 
 use crate::cutter::{Cutter, Role};
 use crate::leaf_triangle::LeafTriangle;
@@ -88,8 +89,8 @@ fn add_unless_covering(
     }
     match relation_of(target, other) {
         Relation::Apart => Ok(false),
-        Relation::Across => {
-            add_cutter(list, other, Role::Across)?;
+        Relation::OtherPlane => {
+            add_cutter(list, other, Role::OtherPlane)?;
             Ok(false)
         }
         Relation::Coplanar => add_coplanar_unless_covering(list, target, other, is_before),
@@ -120,11 +121,11 @@ fn add_near_unless_covering(
     }
 }
 
-/// Replaces the list by the triangles that may cut the regions of triangle `i`, in order. Triangle
-/// `i` (`target`) isn't flat, and its regions lie within the bounds. Returns `true`, with an
-/// incomplete list, if an earlier triangle in its plane covers it and so owns all its regions.
-/// `false` says only that the list is complete. The only error is out-of-memory.
-pub fn find_cutters(
+/// Replaces the list by the triangles that may cut the regions of triangle `i`, in order, unless an
+/// earlier triangle in its plane is found to cover it and so owns all its regions. Then it returns
+/// `true`, and the list is incomplete. `false` says only that the list is complete. Triangle `i`
+/// (`target`) isn't flat, and its regions lie within the bounds. The only error is out-of-memory.
+pub fn find_cutters_unless_covered(
     list: &mut Vec<Cutter>,
     target: &LeafTriangle,
     bounds: &Aabb,

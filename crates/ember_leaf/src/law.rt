@@ -5,7 +5,7 @@ ghost use Rattle.ember_box.specs.Boxes.{Cell};
 ghost use Rattle.ember_leaf.specs.declared.kept.Kept.{Kept};
 ghost use Rattle.ember_leaf.specs.Scenes.{HasOneValue, IsWritten};
 ghost use Rattle.ember_leaf.specs.Literal.{IsLiterallyWrittenOf, IsLiterallyWrittenIn, IsLiterallyWritten};
-ghost use Rattle.ember_leaf.specs.Literal.{InScenes, HasSome, IsNothing, CoveredWriteNothing, WrittenAreLiteral};
+ghost use Rattle.ember_leaf.specs.Literal.{InScenes, CannotLackList, IsNothing, CoveredWriteNothing, WrittenAreLiteral};
 
 /// The definition of what is written has two special cases: a triangle that an earlier coplanar one
 /// covers, and a leaf in which the expression has one value. Let the literal definition be the one
@@ -16,10 +16,10 @@ ghost use Rattle.ember_leaf.specs.Literal.{InScenes, HasSome, IsNothing, Covered
 /// the one that is written, and a list that is written can't fail to be literal.
 pub fn special_cases_are_the_literal_definition()
     ensures covered { InScenes CoveredWriteNothing }
-    ensures one_value { InScenes (λ s f. (c : Cell) → HasOneValue s f c → IsNothing (IsLiterallyWrittenIn s f c)) }
-    ensures triangles { InScenes (λ s f. (c : Cell) (i : ℕ) → HasSome (IsLiterallyWrittenOf s f c i)) }
-    ensures leaves { InScenes (λ s f. (c : Cell) → HasSome (IsLiterallyWrittenIn s f c)) }
-    ensures scenes { InScenes (λ s f. HasSome (IsLiterallyWritten s f)) }
-    ensures written { InScenes (λ s f. (ks : List Kept) → IsLiterallyWritten s f ks → IsWritten s f ks) }
+    ensures one_value { InScenes (λ s e. (c : Cell) → HasOneValue s e c → IsNothing (IsLiterallyWrittenIn s e c)) }
+    ensures triangles { InScenes (λ s e. (c : Cell) (i : ℕ) → CannotLackList (IsLiterallyWrittenOf s e c i)) }
+    ensures leaves { InScenes (λ s e. (c : Cell) → CannotLackList (IsLiterallyWrittenIn s e c)) }
+    ensures scenes { InScenes (λ s e. CannotLackList (IsLiterallyWritten s e)) }
+    ensures written { InScenes (λ s e. (ks : List Kept) → IsLiterallyWritten s e ks → IsWritten s e ks) }
     ensures literal { InScenes WrittenAreLiteral }
 {}

@@ -22,7 +22,7 @@ ghost use Rattle.ember_leaf.specs.KeptRegions.{LiesInPlaneOf, IsKeptOf, ArePlace
 
 use crate::clip::{clip_to_box, common_spans, is_outside, walls};
 use crate::cutter::Cutter;
-use crate::cutters::find_cutters;
+use crate::cutters::find_cutters_unless_covered;
 use crate::heights::is_in_front;
 use crate::kept::{Kept, KeptList};
 use crate::leaf_triangle::LeafTriangle;
@@ -45,6 +45,7 @@ const ROOM: usize = 6;
 fn faces_up(p: &Plane) -> bool
     ensures { result ≡ is_positive (along p.now (main_axis p.now)) }
 {
+    // `is_in_front` says of any number whether it is above 0.
     match main_axis(p) {
         Axis::X => is_in_front(p.a),
         Axis::Y => is_in_front(p.b),
@@ -70,15 +71,16 @@ fn flip_of(e: &Expr, sides: &Sides, r: &Ring) -> Option<bool>
     }
 }
 
-// What is known at a leaf box. `near` has the near triangles, and `triangles` the same in the same
-// order, with their edge planes. `windings` has the winding numbers at the box's reference point.
+// What is known at a leaf box. `near` has the near triangles, as `trace_sides` reads them, and
+// `with_edges` the same triangles in the same order, with the edge planes by which they cut.
+// `windings` has the winding numbers at the box's reference point.
 #[derive(Clone, Copy)]
 struct Leaf<'a> {
     expr: &'a Expr,
     cell: &'a Cell,
     aabb: &'a Aabb,
     near: &'a [NearTriangle],
-    triangles: &'a [LeafTriangle],
+    with_edges: &'a [LeafTriangle],
     windings: &'a Vector,
 }
 
@@ -171,7 +173,7 @@ impl Leaf<'_> {
         sides: &mut Sides,
         kept: &mut Vec<Kept>,
     ) -> Result<(), OutOfMemory>
-        requires same { tris_in self.now.triangles.now ≡ tris_of self.now.near.now }
+        requires same { tris_in self.now.with_edges.now ≡ tris_of self.now.near.now }
         requires few { length self.now.near.now ≤ 262144 }
         requires counts { AreBoxCounts self.now.windings.now.counts }
         requires index { i < length self.now.near.now }
@@ -183,13 +185,13 @@ impl Leaf<'_> {
         ensures written { OnOk result (AddsWritten self.now i kept.old.items kept.new.items) }
     {
         // The triangle whose regions are made.
-        let target = &self.triangles[i];
+        let target = &self.with_edges[i];
         if is_flat(target) || is_outside(walls, target) {
             return Ok(());
         }
         let bounds = common_spans(&target.aabb, self.aabb);
         // True if an earlier coplanar triangle covers this one. Then the list is incomplete.
-        if find_cutters(cutters, target, &bounds, self.triangles, i)? {
+        if find_cutters_unless_covered(cutters, target, &bounds, self.with_edges, i)? {
             return Ok(());
         }
         if let Some(ring) = clip_to_box(alloc, draft, target, walls, cutters.len().min(ROOM))? {
@@ -226,14 +228,14 @@ pub fn leaf_faces(
         IsWrittenIn scene (formula_of e.now) c.now near.now ks) }
 {
     let near_triangles = near_triangles(alloc, near, c)?;
-    let triangles = leaf_triangles(alloc, &near_triangles)?;
+    let with_edges = leaf_triangles(alloc, &near_triangles)?;
     let aabb = aabb_of_cell(c);
     let leaf = Leaf {
         expr: e,
         cell: c,
         aabb: &aabb,
         near: &near_triangles,
-        triangles: &triangles,
+        with_edges: &with_edges,
         windings: v,
     };
     let walls = walls(c);

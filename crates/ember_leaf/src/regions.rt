@@ -10,7 +10,7 @@ ghost use Rattle.std.specs.Prelude.{All, IfOk, OnOk};
 ghost use Rattle.std.specs.List.{AllByRecursion};
 ghost use Rattle.ember_model.specs.Valid.{IsValidPlane};
 ghost use Rattle.ember_model.specs.Faces.{face_of, Meets};
-ghost use Rattle.ember_leaf.specs.Cutters.{AreLeftByCutter, AreLeftByEdges, AreLeftByPlane, IsUncut, AreSplit, AreCut, IsSplitBehind};
+ghost use Rattle.ember_leaf.specs.Cutters.{AreLeftByCutter, AreLeftByEdges, SplitsIfCut, IsUncut, AreSplit, AreCut, AddsSplit};
 ghost use Rattle.ember_leaf.specs.Cutters.{MeetsFirst, CutOutTriangle, ShareAPlane, CanCut};
 ghost use Rattle.ember_leaf.specs.declared.cutter.Role.TheVariants.{Earlier};
 ghost use Rattle.ember_poly.specs.Cuts.{HasInside};
@@ -44,7 +44,7 @@ fn is_met(r: &Ring, cutter: &Cutter) -> bool
     ensures { IsTrue result ↔ Meets r.now (face_of cutter.now.tri) }
 {
     match cutter.role {
-        Role::Across => meets_face(r, &cutter.support, &cutter.edges),
+        Role::OtherPlane => meets_face(r, &cutter.support, &cutter.edges),
         _ => is_met_coplanar(r, cutter),
     }
 }
@@ -67,7 +67,7 @@ fn count_apart(list: &[Ring], cutter: &Cutter) -> usize
 // Adds the two parts of a region if the plane cuts it, otherwise the region itself.
 fn add_parts(alloc: Global, r: Ring, p: &Plane, out: &mut Vec<Ring>) -> Result<(), OutOfMemory>
     requires { IsValidPlane p.now }
-    ensures { OnOk result (HasGrown (AreLeftByPlane p.now r) out.old.items out.new.items) }
+    ensures { OnOk result (HasGrown (SplitsIfCut p.now r) out.old.items out.new.items) }
 {
     match reach(&r, p) {
         Reach::Both => {
@@ -96,10 +96,10 @@ fn is_uncut(r: &Ring, planes: &[Plane]) -> bool
     true
 }
 
-// `true` only if the part of the region below the plane that cuts it now would be dropped: the
-// triangle owns what it contains, and none of `planes`, its edge planes that are still to cut, cuts
-// the region. The region overlaps the triangle, so it then lies below these planes, and the part is
-// inside the triangle.
+// `true` only if the inner part of the region, the part below the plane that cuts it now, needn't
+// be made: the triangle would own it. It owns what it contains, and none of `planes`, its edge
+// planes that are still to cut, cuts the region. The region overlaps the triangle, so it then lies
+// below these planes, and the inner part is inside the triangle.
 fn needs_no_inner_part(r: &Ring, cutter: &Cutter, planes: &[Plane]) -> bool
     requires { All IsValidPlane planes.now }
     ensures { result ≡ true → (cutter.now.role ≡ Earlier) × AllByRecursion (IsUncut r.now) planes.now }
@@ -149,11 +149,11 @@ fn add_pieces(
 // Adds what a triangle leaves of a region that meets it.
 fn add_cut(alloc: Global, r: Ring, cutter: &Cutter, out: &mut Vec<Ring>) -> Result<(), OutOfMemory>
     requires met { Meets r (face_of cutter.now.tri) }
-    requires plane { CanCut cutter.now r }
+    requires may_cut { CanCut cutter.now r }
     ensures { OnOk result (HasGrown (AreLeftByCutter cutter.now r) out.old.items out.new.items) }
 {
     match cutter.role {
-        Role::Across => add_parts(alloc, r, &cutter.support, out),
+        Role::OtherPlane => add_parts(alloc, r, &cutter.support, out),
         _ => add_pieces(alloc, r, cutter, &cutter.edges, out),
     }
 }
@@ -166,8 +166,8 @@ fn add_all(
     out: &mut Vec<Ring>,
 ) -> Result<(), OutOfMemory>
     requires met { MeetsFirst cutter.now list.items }
-    requires plane { All (CanCut cutter.now) list.items }
-    ensures { OnOk result (IsSplitBehind cutter.now list.items out.old.items out.new.items) }
+    requires may_cut { All (CanCut cutter.now) list.items }
+    ensures { OnOk result (AddsSplit cutter.now list.items out.old.items out.new.items) }
 {
     let mut is_first = true;
     for r in list {
@@ -199,7 +199,7 @@ fn split_all(alloc: Global, list: Vec<Ring>, cutter: &Cutter) -> Result<Vec<Ring
 /// Cuts a start by one triangle after another. Returns the regions in order, without those that one
 /// of the triangles owns. The only error is out-of-memory.
 pub fn regions(alloc: Global, start: Ring, cutters: &[Cutter]) -> Result<Vec<Ring>, OutOfMemory>
-    requires { All (λ c. CanCut c start) cutters.now }
+    requires { All (λ cutter. CanCut cutter start) cutters.now }
     ensures { IfOk result (λ out. AreCut cutters.now (start ∷ []) out.items) }
 {
     let mut list = Vec::new(alloc);

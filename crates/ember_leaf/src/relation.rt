@@ -1,13 +1,12 @@
 // How a triangle lies relative to another one, as far as their corners show it.
-ghost use Rattle.std.specs.Prelude.{◌≡◌, ◌<◌, ◌&&◌, true, false};
-ghost use Rattle.ember_algebra.specs.Sign.{is_zero};
+ghost use Rattle.std.specs.Prelude.{◌≡◌, ◌<◌, true, false};
 ghost use Rattle.ember_model.specs.Faces.{is_flat, face_of, Contains};
 ghost use Rattle.ember_model.specs.Owners.{is_coplanar};
 ghost use Rattle.ember_leaf.specs.TriRelations.{MissesClosedFace, IsBehindEdge, IsRelation};
 
 use crate::heights::heights_of;
 use crate::leaf_triangle::LeafTriangle;
-use ember_model::Plane;
+use ember_model::has_no_normal;
 
 /// How a triangle lies relative to the closed face of another one.
 #[derive(Clone, Copy)]
@@ -15,16 +14,9 @@ pub enum Relation {
     /// No inside point of the first lies in the closed face of the second.
     Apart,
     /// They may meet, in different planes.
-    Across,
+    OtherPlane,
     /// They may meet, in one plane.
     Coplanar,
-}
-
-// Whether the plane's normal is zero.
-fn has_no_normal(p: &Plane) -> bool
-    ensures { result ≡ is_zero p.now.a && (is_zero p.now.b && is_zero p.now.c) }
-{
-    p.a == 0 && (p.b == 0 && p.c == 0)
 }
 
 /// Whether the triangle is flat: its normal is zero.
@@ -86,7 +78,7 @@ fn crossing_relation(first: &LeafTriangle, second: &LeafTriangle) -> Relation
     } else if heights.lie_behind() {
         Relation::Apart
     } else {
-        Relation::Across
+        Relation::OtherPlane
     }
 }
 

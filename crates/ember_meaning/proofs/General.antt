@@ -31,7 +31,7 @@ use Rattle.ember_expr.specs.Formula.{Formula}
 use Rattle.ember_box.specs.Boxes.{Cell}
 use Rattle.ember_box.specs.Near.{near, is_near, tri_at, no_tri}
 use Rattle.ember_leaf.specs.declared.kept.Kept.{Kept}
-use Rattle.ember_leaf.specs.Written.{IsWrittenOfRegion, unowned, even, written}
+use Rattle.ember_leaf.specs.Written.{IsWrittenOfRegion, unowned, same_value, written}
 use Rattle.ember_leaf.specs.Scenes.{IsWritten, HasOneValue}
 use Rattle.ember_text.specs.Texts.{oriented_face}
 use Rattle.ember_meaning.proofs.Lines.{seen as counts_ahead}
@@ -105,7 +105,7 @@ module _ (scene : List Tri) (cs : List Cell) (e : Entry) (o : IsOf scene cs e) w
 -- ---- a written face is hit only where a triangle is
 kept_ring : (scene : List Tri) (x : Formula) (ns : List Tri) (i : ℕ) (f : Face) (us : List Kept) (w : Kept) → IsWrittenOfRegion scene x ns i f us → In w us → w.ring ≡ f
 kept_ring scene x ns i f us w (unowned n) j = elim j [ ]
-kept_ring scene x ns i f us w (even s q) j = elim j [ ]
+kept_ring scene x ns i f us w (same_value s q) j = elim j [ ]
 kept_ring scene x ns i f us w (written o s n) here = refl
 kept_ring scene x ns i f us w (written o s n) (there j) = elim j [ ]
 

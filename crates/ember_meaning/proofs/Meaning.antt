@@ -22,7 +22,7 @@ use Rattle.ember_box.specs.Boxes.{Cell, root}
 use Rattle.ember_box.specs.Near.{near}
 use Rattle.ember_box.specs.Halving.{leaves}
 use Rattle.ember_leaf.specs.declared.kept.Kept.{Kept}
-use Rattle.ember_leaf.specs.Written.{IsWrittenOfRegion, unowned, even, written}
+use Rattle.ember_leaf.specs.Written.{IsWrittenOfRegion, unowned, same_value, written}
 use Rattle.ember_leaf.specs.Scenes.{HasOneValue}
 use Rattle.ember_text.specs.Documents.{written_face}
 use Rattle.ember_meaning.proofs.CountedPoints.{is_in_box}
@@ -142,7 +142,7 @@ module _ (scene : List Tri) (x : Formula) (k : Axis) (p : Spot) (cs : List Cell)
         by true true g = refl
         by true false g = absurd (g refl refl)
         by false l g = refl
-    entry_total e us i (even {before = a} {after = b} s q) =
+    entry_total e us i (same_value {before = a} {after = b} s q) =
         by (has e) (owned e) (λ h. nought (r.beside e a b i h s))
       where
         sides : (c : Bool) → truth (cond c b a) x ≡ truth (cond c a b) x

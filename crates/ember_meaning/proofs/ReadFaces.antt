@@ -19,7 +19,7 @@ use Rattle.ember_box.specs.Boxes.{Cell, root}
 use Rattle.ember_box.specs.Near.{near}
 use Rattle.ember_box.specs.Halving.{leaves}
 use Rattle.ember_leaf.specs.declared.kept.Kept.{Kept}
-use Rattle.ember_leaf.specs.Written.{IsWrittenOfRegion, unowned, even, written, IsWrittenOf, regional, hidden, front}
+use Rattle.ember_leaf.specs.Written.{IsWrittenOfRegion, unowned, same_value, written, IsWrittenOf, regional, hidden, front}
 use Rattle.ember_leaf.specs.Scenes.{LeafGives, regions, nothing, IsWritten}
 use Rattle.ember_leaf.proofs.WallClips.{each_every}
 use Rattle.ember_text.specs.Texts.{IsTextInRange, oriented_face}
@@ -39,7 +39,7 @@ every_one (x ∷ xs) = (tt, every_one xs)
 
 of_region : (scene : List Tri) (x : Formula) (near : List Tri) (i : ℕ) (face : Face) (ks : List Kept) → IsWrittenOfRegion scene x near i face ks → Every IsFilled ks
 of_region scene x near i face ks (unowned n) = tt
-of_region scene x near i face ks (even s e) = tt
+of_region scene x near i face ks (same_value s e) = tt
 of_region scene x near i face ks (written {before = a} {after = b} o s n) =
     (filled (truth (front face a b) x), tt)
   where

@@ -19,7 +19,7 @@ use Rattle.ember_expr.specs.Truth.{truth}
 use Rattle.ember_box.specs.Boxes.{Cell}
 use Rattle.ember_box.specs.Near.{near}
 use Rattle.ember_leaf.specs.declared.kept.Kept.{Kept}
-use Rattle.ember_leaf.specs.Written.{front, IsWrittenOfRegion, unowned, even, written, IsWrittenOf, regional, hidden}
+use Rattle.ember_leaf.specs.Written.{front, IsWrittenOfRegion, unowned, same_value, written, IsWrittenOf, regional, hidden}
 use Rattle.ember_leaf.specs.Scenes.{IsBeside, LeafGives, regions, nothing, IsWritten}
 use Rattle.ember_meaning.specs.Nearby.{AgreeOver}
 
@@ -57,8 +57,8 @@ module _ (scene : List Tri) (x y : Formula) (agree : AgreeOver scene x y) where
   -- ---- what is written
   same_region : (near : List Tri) (i : ℕ) (f : Face) (ks : List Kept) → IsWrittenOfRegion scene x near i f ks → IsWrittenOfRegion scene y near i f ks
   same_region near i f ks (unowned n) = unowned n
-  same_region near i f ks (even {before = b} {after = a} s e) =
-      let g = agree_beside f b a s in even s (sym g.0 ∙ e ∙ g.1)
+  same_region near i f ks (same_value {before = b} {after = a} s e) =
+      let g = agree_beside f b a s in same_value s (sym g.0 ∙ e ∙ g.1)
   same_region near i f ks (written {before = b} {after = a} o s n) =
       let g = agree_beside f b a s in
       subst (λ (flipped : Bool). let k : Kept = record { tri = i; flipped = flipped; ring = f } in IsWrittenOfRegion scene y near i f (k ∷ [])) (sym (agree_front f b a g)) (written o s (λ e. n (g.0 ∙ e ∙ sym g.1)))

@@ -28,6 +28,8 @@ fn claim_stack(place: usize) -> bool {
     room[place % STACK] == 0
 }
 
+// The toolchain passes `main` the runtime `rt`: the memory, threads, files and streams of the
+// system. Its type needs no import.
 fn main(rt: HostRuntime) -> ExitCode {
     let words = match env::args(&rt) {
         Ok(words) => words,
@@ -44,6 +46,7 @@ fn main(rt: HostRuntime) -> ExitCode {
     }
     let mut shelf = FileShelf::new(&rt);
     let mut target = FileTarget::new(&rt);
+    // Standard output.
     let mut out = StdSink::new(io::writer(&rt));
     let mut err = StdSink::new(rt.stderr());
     let status = run_mesh(

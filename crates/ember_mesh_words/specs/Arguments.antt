@@ -58,7 +58,7 @@ waiting_in (Whole i) = None
 waiting_in Unknown = None
 
 abbrev pub prepend : Argument → Result (List Argument) Refusal → Result (List Argument) Refusal
-prepend i (Ok is) = Ok (i ∷ is)
+prepend i (Ok more) = Ok (i ∷ more)
 prepend i (Err why) = Err why
 
 abbrev pub arguments_with : ℕ → WordMeaning → Result (List Argument) Refusal → Result (List Argument) Refusal
@@ -87,7 +87,7 @@ value_for s Help = None
 -- the last value of an option
 abbrev pub value_in : Setting → List Argument → Option Text
 value_in s [] = None
-value_in s (i ∷ is) = option_or (value_in s is) (value_for s i)
+value_in s (i ∷ more) = option_or (value_in s more) (value_for s i)
 
 abbrev pub name_in : Argument → List Text
 name_in (File name) = name ∷ []
@@ -98,7 +98,7 @@ name_in Help = []
 -- the file names
 abbrev pub names_in : List Argument → List Text
 names_in [] = []
-names_in (i ∷ is) = name_in i ++ names_in is
+names_in (i ∷ more) = name_in i ++ names_in more
 
 abbrev pub is_quiet : Argument → Bool
 is_quiet Quiet = true

@@ -64,7 +64,7 @@ pub record RingEdge : Type 0 where
 
 -- e is an edge of f that ends at the corner `end`. Of the planes that give this edge its plane is the earliest
 pub record IsEdge (f : Face) (e : RingEdge) (end : Spot) : Type 0 where
-  pub stands : IsEarliest (λ h. SameEdge f h e.plane) f.edges e.plane
+  pub is_earliest : IsEarliest (λ h. SameEdge f h e.plane) f.edges e.plane
   pub starts : is_on_edge f e.plane e.start ≡ true
   pub ends : is_on_edge f e.plane end ≡ true
   pub leads : IsBefore f.support e.plane e.start end

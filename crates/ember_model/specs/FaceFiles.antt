@@ -81,8 +81,8 @@ pub record IsFaceFile (bytes : List ℕ) (fs : List Face) : Type 0 where
   pub is : bytes ≡ header ++ flat_map (λ w. face_lines w.support w.edges) written ++ ending (length written)
   pub faces : fs ≡ map (λ w. record { support = w.support; edges = map (λ e. e.plane) w.edges }) written
 
--- the text of the faces fs: the header, their texts in order, and the last line with their number
-pub record IsFacesText (fs : List Face) (bytes : List ℕ) : Type 0 where
+-- the text of a file of the faces fs: the header, their texts in order, and the last line with their number
+pub record IsFileText (fs : List Face) (bytes : List ℕ) : Type 0 where
   pub texts : List ℕ
   pub are_texts : Each IsFaceText fs texts
   pub is : bytes ≡ header ++ (texts ++ ending (length fs))

@@ -23,6 +23,6 @@ pub use point::{Axis, Corner, Spot};
 pub use rays::{crossing, face_crossing, leg};
 pub use scene::Scene;
 pub use tri::{Lines, Soup, Tri, Tris};
-pub use triangle_planes::{OutOfMemory, edge_plane, face_of, main_axis, support_of};
+pub use triangle_planes::{OutOfMemory, edge_plane, face_of, has_no_normal, main_axis, support_of};
 pub use values::plane_value;
 pub use vector::Vector;

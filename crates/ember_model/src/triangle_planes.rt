@@ -88,7 +88,7 @@ pub fn edge_plane(t: &Tri, edge: u8, k: Axis) -> Plane
     }
 }
 
-// Whether the plane's normal is zero.
+/// Whether the plane's normal is zero.
 pub fn has_no_normal(plane: &Plane) -> bool
     ensures { result ≡ is_zero plane.now.a && (is_zero plane.now.b && is_zero plane.now.c) }
 {

@@ -3,7 +3,7 @@ use Rattle.std.proofs.Common.{◌≡◌, ℕ, true, false, ◌<◌, List, [], �
 use Rattle.std.specs.Prelude.{◌==◌, if◌then◌else◌, map}
 use Rattle.std.proofs.lemmas.Bool.{cases_Bool}
 use Rattle.std.proofs.lemmas.List.{append-nil}
-use Rattle.ember_obj.specs.Scan.{before, onward, is_separator, closed, fields_of, fields_from}
+use Rattle.ember_obj.specs.Scan.{before, onward, is_separator, with_field, fields_of, fields_from}
 use Rattle.ember_obj.specs.Lines.{before_lines, ended_lines, without_return, physical_lines}
 
 -- the last line, which no line feed ends
@@ -30,8 +30,8 @@ first_line (x ∷ xs) after b is =
     ] is
 
 -- the fields of a text in which a field is open
-field_then_rest : (text begun : List ℕ) → fields_from text begun ≡ closed (begun ++ before is_separator text) (fields_of (onward is_separator text))
-field_then_rest [] begun = ap (λ x. closed x []) (sym (append-nil begun))
+field_then_rest : (text begun : List ℕ) → fields_from text begun ≡ with_field (begun ++ before is_separator text) (fields_of (onward is_separator text))
+field_then_rest [] begun = ap (λ x. with_field x []) (sym (append-nil begun))
 field_then_rest (b ∷ bs) begun =
     elim (cases_Bool (is_separator b)) [
       | inl h ↦ simp (h, append-nil begun)

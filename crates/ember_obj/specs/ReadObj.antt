@@ -1,5 +1,5 @@
 -- What the bytes of an OBJ file mean: its triangles with their lines, or its first fault.
-use Rattle.std.specs.Prelude.{ℕ, ◌+◌, List, [], ◌∷◌, ◌++◌, if◌then◌else◌, ◌==◌, nat_lt, nat_le, length, replicate, Option, None, Some, Result, Ok, Err, ℤ}
+use Rattle.std.specs.Prelude.{◌≡◌, ℕ, ◌+◌, List, [], ◌∷◌, ◌++◌, if◌then◌else◌, ◌==◌, nat_lt, nat_le, length, replicate, Option, None, Some, Result, Ok, Err, ℤ}
 use Rattle.ember_dec.specs.Decimal.{coordinate_of}
 use Rattle.ember_dec.specs.declared.DecFault.{DecFault}
 use Rattle.ember_model.specs.declared.point.Corner.{Corner}
@@ -9,7 +9,7 @@ use Rattle.ember_obj.specs.declared.fault.ObjFault.TheVariants.{Word, Coordinate
 use Rattle.ember_obj.specs.declared.reading.Keyword.{Keyword}
 use Rattle.ember_obj.specs.declared.reading.Keyword.TheVariants.{Vertex, Face, Other}
 use Rattle.ember_obj.specs.Scan.{fields_of, first_three}
-use Rattle.ember_obj.specs.Lines.{Line, unmarked, lines_from}
+use Rattle.ember_obj.specs.Lines.{Line, unmarked, physical_lines, joined_lines, lines_from}
 use Rattle.ember_obj.specs.References.{corners_of, fan}
 use Rattle.ember_obj.specs.Table.{Table, FileTriangles}
 
@@ -80,6 +80,13 @@ abbrev pub after_lines : ℕ → ℕ → Result Table ObjFault → List Line →
 after_lines places mesh so_far [] = so_far
 after_lines places mesh (Err fault) (line ∷ lines) = Err fault
 after_lines places mesh (Ok table) (line ∷ lines) = after_lines places mesh (after_line places mesh table line) lines
+
+-- one joined line was read: reading on with the table `old`, from this line and the bytes after it, gives what reading
+-- on with the table `new` gives, from the bytes `rest`, where the line with the number `next` begins
+abbrev pub ReadsOneLine : ℕ → ℕ → Table → ℕ → List ℕ → List ℕ → Table → ℕ → List ℕ → Type 0
+ReadsOneLine places mesh old number line after new next rest =
+    after_lines places mesh (Ok old) (joined_lines number (line ∷ physical_lines after)) ≡
+    after_lines places mesh (Ok new) (lines_from next rest)
 
 -- the triangles of a file, once all lines are read
 abbrev pub file_triangles_of : Result Table ObjFault → Result FileTriangles ObjFault

@@ -15,16 +15,16 @@ onward stops (b ∷ bs) = if stops b then b ∷ bs else onward stops bs
 abbrev pub is_separator : ℕ → Bool
 is_separator b = b == 32 || b == 9 || b == 13
 
--- a field in front of the fields, if it has a byte
-abbrev pub closed : List ℕ → List (List ℕ) → List (List ℕ)
-closed [] fields = fields
-closed (b ∷ bs) fields = (b ∷ bs) ∷ fields
+-- the fields with this one in front of them, if it has a byte
+abbrev pub with_field : List ℕ → List (List ℕ) → List (List ℕ)
+with_field [] fields = fields
+with_field (b ∷ bs) fields = (b ∷ bs) ∷ fields
 
 -- the fields of a text, where `begun` is the field that is open
 abbrev pub fields_from : List ℕ → List ℕ → List (List ℕ)
-fields_from [] begun = closed begun []
+fields_from [] begun = with_field begun []
 fields_from (b ∷ bs) begun =
-    if is_separator b then closed begun (fields_from bs []) else fields_from bs (begun ++ b ∷ [])
+    if is_separator b then with_field begun (fields_from bs []) else fields_from bs (begun ++ b ∷ [])
 
 -- the fields of a line
 abbrev pub fields_of : List ℕ → List (List ℕ)

@@ -1,9 +1,9 @@
 // The table of vertices and triangles, and the pass over a file.
 ghost use Rattle.std.specs.Prelude.{◌≡◌, ◌⊎◌, ◌+◌, ◌^◌, ◌<◌, ◌≤◌, [], ◌∷◌, length, All, Ok, Err, OnOk, IfOk, IfErr};
 ghost use Rattle.ember_obj.specs.Scan.{fields_of, first_three};
-ghost use Rattle.ember_obj.specs.Lines.{physical_lines, joined_lines, lines_from};
+ghost use Rattle.ember_obj.specs.Lines.{physical_lines, joined_lines};
 ghost use Rattle.ember_obj.specs.References.{corners_of};
-ghost use Rattle.ember_obj.specs.ReadObj.{keyword_of, corner_in, with_vertex, with_face, after_line, after_lines, read_obj_of};
+ghost use Rattle.ember_obj.specs.ReadObj.{keyword_of, corner_in, with_vertex, with_face, after_line, after_lines, ReadsOneLine, read_obj_of};
 
 use crate::fault::ObjFault;
 use crate::lines::{MOST_BYTES, continues, join, next_line, skip_comment, skip_mark};
@@ -127,9 +127,9 @@ impl Table {
 
     // Reads one joined line. `line` is its first physical line, and `after` has the bytes that
     // follow. Returns the number of the physical line that begins the next joined line, and the
-    // bytes from it on. `joined` is room for a line of several physical lines. In the clauses:
-    // reading the file from `line` on with the table before the call gives what reading it from the
-    // returned place on with the table after the call gives.
+    // bytes from it on. `joined` is room for a line of several physical lines. `ReadsOneLine` says
+    // this by what the whole rest of the file gives. Each further line takes a byte of `after`, so
+    // by the clauses `numbers` its number fits into 32 bits.
     #[tactic(auto, using(crate::proofs::Faults::after_fault, crate::proofs::Faults::long_line))]
     fn read_line<'a>(
         &mut self,
@@ -143,8 +143,7 @@ impl Table {
         requires places { places ≤ 3 }
         requires numbers { number + 1 + length after.now < 2 ^ 32 }
         ensures ok { IfOk result (λ p.
-            after_lines places mesh (Ok self.old) (joined_lines number (line.now ∷ physical_lines after.now)) ≡
-            after_lines places mesh (Ok self.new) (lines_from p.0 p.1.now)) }
+            ReadsOneLine places mesh self.old number line.now after.now self.new p.0 p.1.now) }
         ensures shorter { IfOk result (λ p. length p.1.now ≤ length after.now) }
         ensures numbers { IfOk result (λ p. p.0 + length p.1.now ≤ number + 1 + length after.now) }
         ensures fault { IfErr result (λ e. (e ≡ ObjFault.OutOfMemory) ⊎

@@ -3,7 +3,7 @@ use Rattle.std.proofs.Common.{◌≡◌, ℕ, true, false, ◌<◌, ◌≤◌, �
 use Rattle.std.specs.Prelude.{◌==◌, if◌then◌else◌, nat_le}
 use Rattle.std.specs.Option.{option_map}
 use Rattle.std.proofs.lemmas.Bool.{cases_Bool, leb-true, leb-false}
-use Rattle.ember_scan.specs.Parts.{Piece, is_separator, before_lines, lines_from, closed, words_from, uncommented, words_of}
+use Rattle.ember_scan.specs.Parts.{Piece, is_separator, before_lines, lines_from, with_word_ending, words_from, uncommented, words_of}
 use Rattle.ember_off.specs.Rows.{Words, with_row, rows_from}
 use Rattle.ember_off.specs.Limits.{capped}
 use Rattle.ember_off.specs.ReadOff.{Counts, points_of, facets_of, whole, counted, two_counts}
@@ -32,16 +32,16 @@ few_rows_from number (line ∷ lines) = omega (arith, few_rows_from (number + 1)
 pub few_rows : (number s : ℕ) (text : List ℕ) → length (rows_from number (lines_from s text)) ≤ length text
 few_rows number s text = omega (arith, few_lines s text, few_rows_from number (lines_from s text))
 
-few_closed : (p : ℕ) (word : List ℕ) (words : List Piece) → length (closed p word words) ≤ 1 + length words
-few_closed p [] words = omega arith
-few_closed p (b ∷ bs) words = omega arith
+few_with_word_ending : (p : ℕ) (word : List ℕ) (words : List Piece) → length (with_word_ending p word words) ≤ 1 + length words
+few_with_word_ending p [] words = omega arith
+few_with_word_ending p (b ∷ bs) words = omega arith
 
 -- hardly more words than bytes
 pub few_words_from : (p : ℕ) (text begun : List ℕ) → length (words_from p text begun) ≤ 1 + length text
-few_words_from p [] begun = few_closed p begun []
+few_words_from p [] begun = few_with_word_ending p begun []
 few_words_from p (b ∷ bs) begun =
-    elim (is_separator b) as (λ t. length (if t then closed p begun (words_from (p + 1) bs []) else words_from (p + 1) bs (begun ++ b ∷ [])) ≤ 1 + length (b ∷ bs)) [
-      | true ↦ omega (arith, few_closed p begun (words_from (p + 1) bs []), few_words_from (p + 1) bs [])
+    elim (is_separator b) as (λ t. length (if t then with_word_ending p begun (words_from (p + 1) bs []) else words_from (p + 1) bs (begun ++ b ∷ [])) ≤ 1 + length (b ∷ bs)) [
+      | true ↦ omega (arith, few_with_word_ending p begun (words_from (p + 1) bs []), few_words_from (p + 1) bs [])
       | false ↦ omega (arith, few_words_from (p + 1) bs (begun ++ b ∷ []))
     ]
 

@@ -12,4 +12,4 @@ candidate_of t = record { aabb = aabb_of_tri t; support = support_of t }
 
 -- of the listed triangles, in order
 abbrev pub candidates_at : List Tri → List ℕ → List Candidate
-candidates_at ts is = map (λ i. candidate_of (tri_at ts i)) is
+candidates_at ts indices = map (λ i. candidate_of (tri_at ts i)) indices

@@ -84,6 +84,6 @@ one_at ts p ys zs (apart m) (meeting n) = absurd (m n)
 one_at ts p ys zs (apart m) (apart n) = refl
 
 -- listed triangles have one list of meeting pairs
-pub one_list : (ts : List Tri) (is : List ℕ) (ps qs : List Pair) → AreMeetingPairs ts is ps →
-    AreMeetingPairs ts is qs → ps ≡ qs
-one_list ts is ps qs e d = each_unique (one_at ts) e d
+pub one_list : (ts : List Tri) (indices : List ℕ) (ps qs : List Pair) → AreMeetingPairs ts indices ps →
+    AreMeetingPairs ts indices qs → ps ≡ qs
+one_list ts indices ps qs e d = each_unique (one_at ts) e d

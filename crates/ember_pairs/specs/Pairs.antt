@@ -24,16 +24,16 @@ pub data AtPair (ts : List Tri) (p : Pair) : List Pair → Type 0 where
 
 -- the pairs of i with these
 abbrev pub row : ℕ → List ℕ → List Pair
-row i is = map (λ j. pair i j) is
+row i indices = map (λ j. pair i j) indices
 
 -- all pairs of members of a list, the earlier member first: by the first, and then by the second
 abbrev pub pairs_of : List ℕ → List Pair
 pairs_of [] = []
-pairs_of (i ∷ is) = row i is ++ pairs_of is
+pairs_of (i ∷ later) = row i later ++ pairs_of later
 
 -- the pairs among these indices whose triangles meet, in order
 abbrev pub AreMeetingPairs : List Tri → List ℕ → List Pair → Type 0
-AreMeetingPairs ts is ps = Each (AtPair ts) (pairs_of is) ps
+AreMeetingPairs ts indices ps = Each (AtPair ts) (pairs_of indices) ps
 
 -- the pairs of all triangles of a scene that meet, in order
 abbrev pub ArePairs : List Tri → List Pair → Type 0

@@ -21,7 +21,7 @@ pub fn is_narrow(m: &Meet) -> bool
 }
 
 /// The product of a plane's entry or constant and a number of a narrow point, by one multiplication
-/// of 64 bits by 64.
+/// of 64 bits by 64. It is at most (2^39 - 1) (2^62 - 1) in size.
 pub fn narrow_product(a: i64, x: i128) -> i128
     requires a { Small 549755813887 a }
     requires x { Small 4611686018427387903 x }

@@ -24,7 +24,7 @@ pub fn side(p: &Plane, m: &Meet) -> Sign
 pub fn slide(p: &Plane, k: Axis, at: i32) -> Plane
     requires plane { IsValidPlane p.now }
     requires place { Small 2048 at }
-    requires result { IsValidPlane (slid p.now k at) }
+    requires stays_valid { IsValidPlane (slid p.now k at) }
     ensures { result ≡ slid p.now k at }
 {
     let at = at as i64;

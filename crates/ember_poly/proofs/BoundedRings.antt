@@ -36,4 +36,4 @@ some_best n p (s ∷ xs) h = find_best n p s xs (ring-rooted n (s ∷ xs) h)
 -- the closed face of a ring is bounded by every plane
 pub ring_bounded : (n p : Plane) (gs es : List Plane) (ms : List Meet) (bs : List ℕ) → IsRing n gs es ms bs → IsBoundedBy p (record { support = n; edges = gs })
 ring_bounded n p gs es ms bs is =
-    by_best n p gs (sides_of es ms bs) is.stands (some_best n p (sides_of es ms bs) is.stands.sound)
+    by_best n p gs (sides_of es ms bs) is.represents (some_best n p (sides_of es ms bs) is.represents.sound)

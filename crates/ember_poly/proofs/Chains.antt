@@ -2,7 +2,7 @@
 use Rattle.std.proofs.Common.{List, [], ◌∷◌, ◌++◌}
 use Rattle.std.specs.List.{AllByRecursion}
 use Rattle.ember_model.specs.declared.plane.Plane.{Plane}
-use Rattle.ember_poly.specs.Rings.{Side, IsBelow, IsCornerOf, IsSideChain, Long, IsConvexRing, EndsAt}
+use Rattle.ember_poly.specs.Rings.{Side, IsBelow, IsCornerOf, IsSideChain, IsNotEmpty, IsConvexRing, EndsAt}
 
 -- ---- all of a list
 -- what holds of all members and of one more holds of all
@@ -60,9 +60,9 @@ ends_under n g [] s t e = (e.0, tt, e.1)
 ends_under n g (r ∷ xs) s t e =
     let h = ends_under n r.plane xs s t e.1 in (e.0, (h.0, h.1), h.2)
 
-long-push : (xs : List Side) (s : Side) → Long (xs ++ s ∷ [])
-long-push [] s = tt
-long-push (x ∷ xs) s = tt
+not_empty-push : (xs : List Side) (s : Side) → IsNotEmpty (xs ++ s ∷ [])
+not_empty-push [] s = tt
+not_empty-push (x ∷ xs) s = tt
 
 -- ---- a ring ring_turned_by_one by one side
 -- a ring begun at its second side is a ring
@@ -70,7 +70,7 @@ pub ring_turned_by_one : (n : Plane) (s : Side) (xs : List Side) → IsConvexRin
 ring_turned_by_one n s [] h = absurd h
 ring_turned_by_one n s (t ∷ []) h = absurd h.0
 ring_turned_by_one n s (t ∷ u ∷ xs) h =
-    (long-push xs s, h.2, chain-push n u.plane (xs ++ s ∷ []) t h.2.3 (ends_make n u.plane xs s t h.1.2.0 h.1.2.1 h.1.0) h.2.1)
+    (not_empty-push xs s, h.2, chain-push n u.plane (xs ++ s ∷ []) t h.2.3 (ends_make n u.plane xs s t h.1.2.0 h.1.2.1 h.1.0) h.2.1)
 
 -- ---- a chain that is closed by one more side
 -- a chain with a side that closes it is a ring
@@ -80,4 +80,4 @@ chain_is_closed n f [] l p c u h j v k b =
     (tt, first, chain-push n l.plane (p ∷ []) f first.3 (v.0, k) first.1)
 chain_is_closed n f (m ∷ ks) l p c u h j v k b =
     let first : IsSideChain n f.plane (m ∷ (ks ++ l ∷ []) ++ p ∷ []) = chain-push n f.plane (m ∷ (ks ++ l ∷ [])) p c (ends_make n f.plane (m ∷ ks) l p u h j) b in
-    (long-push (ks ++ l ∷ []) p, first, chain-push n m.plane ((ks ++ l ∷ []) ++ p ∷ []) f first.3 (ends_make n m.plane (ks ++ l ∷ []) p f v.0 v.1 k) first.1)
+    (not_empty-push (ks ++ l ∷ []) p, first, chain-push n m.plane ((ks ++ l ∷ []) ++ p ∷ []) f first.3 (ends_make n m.plane (ks ++ l ∷ []) p f v.0 v.1 k) first.1)

@@ -9,7 +9,7 @@ use Rattle.ember_poly.proofs.Planar.{most_at}
 use Rattle.ember_poly.proofs.Chains.{each_both, each-back, each-front, chain_ends, ends_under}
 use Rattle.ember_poly.proofs.Rotations.{each-join}
 use Rattle.ember_poly.proofs.RingBelow.{Outcome, head_of}
-use Rattle.ember_poly.specs.Chords.{mixed2}
+use Rattle.ember_poly.specs.Chords.{combination}
 use Rattle.ember_poly.proofs.InsidePoints.{scaled_under, scaled_first}
 use Rattle.ember_poly.proofs.InsideBelow.{ring-closed}
 
@@ -48,7 +48,7 @@ module _ (n p : Plane) (f l : Side) (ks ds : List Side) (y z : Spot) (b : ℕ) (
       first (k ∷ ks') a = a.0
 
   abbrev middle : Spot
-  middle = mixed2 (pos 1) (pos 1) y z
+  middle = combination (pos 1) (pos 1) y z
 
   -- each plane is negative in the middle
   pub middle_under : AllByRecursion (λ s. IsBelow s.plane z ⊎ IsBelow s.plane y) ds → AllByRecursion (λ s. IsBelow s.plane middle) whole

@@ -16,13 +16,13 @@ use Rattle.ember_point.specs.Points.{spot_of}
 use Rattle.ember_poly.specs.declared.passage.Passage.{Passage}
 use Rattle.ember_poly.specs.Rings.{with_start, closing_side, Side, IsBelow, IsNotAbove, IsNotBelow, IsInsideRing, IsMeet, IsConvexRing, Represents}
 use Rattle.ember_poly.specs.Passages.{Leaves, IsPassage}
-use Rattle.ember_poly.specs.Chords.{mixed2, IsOpen, IsLine, IsChord}
+use Rattle.ember_poly.specs.Chords.{combination, IsOpen, IsLine, IsChord}
 use Rattle.ember_poly.proofs.Chains.{each_map, each_both, each-back, each-front}
 use Rattle.ember_poly.proofs.Rotations.{turned_by, each-turned}
 use Rattle.ember_poly.proofs.Planar.{same_place}
 use Rattle.ember_poly.proofs.RingBelow.{below_some, below_all, not_zero}
 use Rattle.ember_poly.proofs.Hull.{blend, blend_value}
-use Rattle.ember_poly.proofs.InsideSigns.{mixed2_value}
+use Rattle.ember_poly.proofs.InsideSigns.{combination_value}
 use Rattle.ember_poly.proofs.InsidePoints.{head_closed, corner_closed, flat_sum, weight_sum}
 use Rattle.ember_poly.proofs.Chord.{front_y, kept_z, at_y, at_z, middle_under}
 use Rattle.ember_poly.proofs.DroppedEdges.{dropped_side_is_above_one_corner}
@@ -34,7 +34,7 @@ use Rattle.ember_poly.proofs.PassageFound.{plane_has_corners_above, turns_of}
 record Ends (n p : Plane) (f l : Side) (y z : Spot) (whole : List Side) : Type 0 where
   pub at_y : AllByRecursion (λ s. IsNotAbove s.plane y) whole
   pub at_z : AllByRecursion (λ s. IsNotAbove s.plane z) whole
-  pub middle : AllByRecursion (λ s. IsBelow s.plane (mixed2 (pos 1) (pos 1) y z)) whole
+  pub middle : AllByRecursion (λ s. IsBelow s.plane (combination (pos 1) (pos 1) y z)) whole
   pub first : IsBelow f.plane y
   pub last : IsBelow l.plane z
 
@@ -97,12 +97,12 @@ module _ (n p : Plane) (f l : Side) (ks ds : List Side) (y z : Spot) (mz : IsMee
   ends : Ends n p f l y z whole
   ends = ends_of n p f l ks ds y z mz my s u a q
 
-  chord_inside : (i j : ℤ) → pos 0 <ℤ i → pos 0 <ℤ j → IsInsideRing n whole (mixed2 i j y z)
+  chord_inside : (i j : ℤ) → pos 0 <ℤ i → pos 0 <ℤ j → IsInsideRing n whole (combination i j y z)
   chord_inside i j pi pj =
       record {
         flat = flat_sum i j y z n my.first mz.first;
         weight = weight_sum (least pi) pj my.weight mz.weight;
-        within = each_both (λ s. IsNotAbove s.plane y × IsNotAbove s.plane z) (λ s. IsBelow s.plane (mixed2 (pos 1) (pos 1) y z)) (λ s. IsBelow s.plane (mixed2 i j y z)) whole (λ s a m. record { under = rw (mixed2_value i j y z s.plane) (between pi pj a.0.at_most a.1.at_most (subst (λ k. k <ℤ pos 0) (mixed2_value (pos 1) (pos 1) y z s.plane) m.under)) }) (each_both (λ s. IsNotAbove s.plane y) (λ s. IsNotAbove s.plane z) (λ s. IsNotAbove s.plane y × IsNotAbove s.plane z) whole (λ s u v. (u, v)) ends.at_y ends.at_z) ends.middle;
+        within = each_both (λ s. IsNotAbove s.plane y × IsNotAbove s.plane z) (λ s. IsBelow s.plane (combination (pos 1) (pos 1) y z)) (λ s. IsBelow s.plane (combination i j y z)) whole (λ s a m. record { under = rw (combination_value i j y z s.plane) (between pi pj a.0.at_most a.1.at_most (subst (λ k. k <ℤ pos 0) (combination_value (pos 1) (pos 1) y z s.plane) m.under)) }) (each_both (λ s. IsNotAbove s.plane y) (λ s. IsNotAbove s.plane z) (λ s. IsNotAbove s.plane y × IsNotAbove s.plane z) whole (λ s u v. (u, v)) ends.at_y ends.at_z) ends.middle;
       }
     where
       least : {k : ℤ} → pos 0 <ℤ k → pos 0 ≤ℤ k
@@ -141,8 +141,8 @@ module _ (n p : Plane) (f l : Side) (ks ds : List Side) (y z : Spot) (mz : IsMee
     index e =
         same_place n p f.plane (not_zero (turns_of n p f l ks ds s u a q).1) e rest z (blend_value i j h x y z n ∙ zeros i j h k.flat my.first mz.first) (blend_value i j h x y z p ∙ zeros i j h on my.third mz.third) on_f mz.first mz.third mz.second
 
-    combination : (e : Plane) → i *ℤ value_at e x ≡ j *ℤ value_at e y +ℤ h *ℤ value_at e z
-    combination e =
+    values_combine : (e : Plane) → i *ℤ value_at e x ≡ j *ℤ value_at e y +ℤ h *ℤ value_at e z
+    values_combine e =
         let r = no_weight rest.w z.w (value_at l.plane z) (value_at l.plane rest) (index l.plane) on_l ends.last.under in
         let v = no_value rest.w z.w (value_at e z) (value_at e rest) (index e) r mz.weight in
         apart (i *ℤ value_at e x) (j *ℤ value_at e y) (h *ℤ value_at e z) (sym (blend_value i j h x y z e) ∙ v)
@@ -152,7 +152,7 @@ module _ (n p : Plane) (f l : Side) (ks ds : List Side) (y z : Spot) (mz : IsMee
 
     chord_open : (hs : List Plane) → none_positive hs x ≡ true → IsOpen hs y z
     chord_open hs e =
-        record { i = j; j = h; from_y = mul_neg_neg at_f ends.last.under; from_z = mul_neg_neg ends.first.under at_l; free = all_in hs (mixed2 j h y z) (each_map (λ g. IsNotAbove g x) (λ g. IsNotAbove g (mixed2 j h y z)) hs (λ g a. record { at_most = rw (mixed2_value j h y z g) (subst (λ k. k ≤ℤ pos 0) (combination g) (lower (mul_neg_neg ends.first.under ends.last.under) a.at_most)) }) (all_out hs x e)) }
+        record { i = j; j = h; from_y = mul_neg_neg at_f ends.last.under; from_z = mul_neg_neg ends.first.under at_l; free = all_in hs (combination j h y z) (each_map (λ g. IsNotAbove g x) (λ g. IsNotAbove g (combination j h y z)) hs (λ g a. record { at_most = rw (combination_value j h y z g) (subst (λ k. k ≤ℤ pos 0) (values_combine g) (lower (mul_neg_neg ends.first.under ends.last.under) a.at_most)) }) (all_out hs x e)) }
 
 -- ---- the rotated ring
 inside_turned : (n : Plane) (v : Spot) (xs ys : List Side) → IsInsideRing n (xs ++ ys) v → IsInsideRing n (ys ++ xs) v
@@ -167,7 +167,7 @@ module _ (n p : Plane) (gs : List Plane) (xs : List Side) (at : Passage) (q : Is
   z = spot_of at.entry
 
   abbrev begun : List Side
-  begun = q.head ∷ (q.front ++ q.last ∷ []) ++ q.others
+  begun = q.head ∷ (q.firsts ++ q.last ∷ []) ++ q.others
 
   sound : IsConvexRing n begun
   sound =
@@ -183,19 +183,19 @@ module _ (n p : Plane) (gs : List Plane) (xs : List Side) (at : Passage) (q : Is
 
   chord_line : IsLine n p y z
   chord_line =
-      record { flat_y = q.exit.first; flat_z = q.entry.first; on_y = q.exit.third; on_z = q.entry.third; weight_y = q.exit.weight; weight_z = q.entry.weight; across = q.head.plane; turns = not_zero (turns_of n p q.head q.last q.front q.others sound q.under q.enters q.leaves).1 }
+      record { flat_y = q.exit.first; flat_z = q.entry.first; on_y = q.exit.third; on_z = q.entry.third; weight_y = q.exit.weight; weight_z = q.entry.weight; across = q.head.plane; turns = not_zero (turns_of n p q.head q.last q.firsts q.others sound q.under q.enters q.leaves).1 }
 
   chord_meets : (hs : List Plane) → IsOpen hs y z → MeetsFace (record { support = n; edges = gs }) (face_with p hs)
   chord_meets hs o =
-      let v = mixed2 o.i o.j y z in
-      let k = out v (chord_inside n p q.head q.last q.front q.others y z q.entry q.exit sound q.under q.enters q.leaves o.i o.j o.from_y o.from_z) in
+      let v = combination o.i o.j y z in
+      let k = out v (chord_inside n p q.head q.last q.firsts q.others y z q.entry q.exit sound q.under q.enters q.leaves o.i o.j o.from_y o.from_z) in
       record { at = v; inside = seen_inside n p gs xs st v k; holds = closed_in (face_with p hs) v (record { flat = flat_sum o.i o.j y z p q.exit.third q.entry.third; weight = k.weight; within = all_out hs v o.free }) }
 
   meets_chord : (hs : List Plane) → MeetsFace (record { support = n; edges = gs }) (face_with p hs) → IsOpen hs y z
   meets_chord hs m =
       let k = into m.at (inside_seen n p gs xs st m.at m.inside) in
       let c = closed_out (face_with p hs) m.at m.holds in
-      chord_open n p q.head q.last q.front q.others y z q.entry q.exit sound q.under q.enters q.leaves m.at k c.flat hs (all_in hs m.at c.within)
+      chord_open n p q.head q.last q.firsts q.others y z q.entry q.exit sound q.under q.enters q.leaves m.at k c.flat hs (all_in hs m.at c.within)
 
 -- the chord of the ring's face
 pub chord_of : (f : Face) (n p : Plane) (gs : List Plane) (xs : List Side) (at : Passage) → IsPassage n p xs at → Represents n gs xs → record { support = n; edges = gs } ≡ f → Cuts f p → IsChord f p (spot_of at.exit) (spot_of at.entry)

@@ -15,13 +15,13 @@ use Rattle.ember_model.proofs.LastZero.{After, Last, last_zero, none_positive_me
 use Rattle.ember_poly.specs.declared.meeting.ChordPart.{ChordPart}
 use Rattle.ember_poly.specs.declared.meeting.ChordPart.TheVariants.{Whole, Split, Empty}
 use Rattle.ember_poly.specs.Rings.{IsNotAbove, IsMeet, orientation}
-use Rattle.ember_poly.specs.Passages.{HasSome}
-use Rattle.ember_poly.specs.Chords.{IsChordPart, mixed2, IsOpen, HasVertexWithin, IsLine}
+use Rattle.ember_poly.specs.Passages.{HasMember}
+use Rattle.ember_poly.specs.Chords.{IsChordPart, combination, IsOpen, HasVertexWithin, IsLine}
 use Rattle.ember_poly.proofs.Chains.{each_map, each_both, each-push}
 use Rattle.ember_poly.proofs.Members.{has-push, has-front, has_pick}
 use Rattle.ember_poly.proofs.Planar.{same_place}
 use Rattle.ember_poly.proofs.CutOrientation.{swap_last, value_difference_by_orientation}
-use Rattle.ember_poly.proofs.InsideSigns.{mixed2_value}
+use Rattle.ember_poly.proofs.InsideSigns.{combination_value}
 use Rattle.ember_poly.proofs.InsidePoints.{flat_sum, weight_sum, scaled_both}
 use Rattle.ember_poly.proofs.FaceTests.{all_in, all_out}
 
@@ -88,15 +88,15 @@ turned_line n p a b l =
     record { flat_y = l.flat_z; flat_z = l.flat_y; on_y = l.on_z; on_z = l.on_y; weight_y = l.weight_z; weight_z = l.weight_y; across = l.across; turns = l.turns }
 
 -- ---- where it meets the line
-meets_line : (i j : ℤ) (n p h : Plane) (a b : Spot) → pos 0 ≤ℤ i → pos 0 <ℤ j → value_at n a ≡ pos 0 → value_at n b ≡ pos 0 → value_at p a ≡ pos 0 → value_at p b ≡ pos 0 → pos 0 <ℤ a.w → pos 0 <ℤ b.w → i *ℤ value_at h a +ℤ j *ℤ value_at h b ≡ pos 0 → IsMeet n p h (mixed2 i j a b)
+meets_line : (i j : ℤ) (n p h : Plane) (a b : Spot) → pos 0 ≤ℤ i → pos 0 <ℤ j → value_at n a ≡ pos 0 → value_at n b ≡ pos 0 → value_at p a ≡ pos 0 → value_at p b ≡ pos 0 → pos 0 <ℤ a.w → pos 0 <ℤ b.w → i *ℤ value_at h a +ℤ j *ℤ value_at h b ≡ pos 0 → IsMeet n p h (combination i j a b)
 meets_line i j n p h a b pi pj na nb ha hb wa wb e =
-    record { first = flat_sum i j a b n na nb; second = flat_sum i j a b p ha hb; third = mixed2_value i j a b h ∙ e; weight = weight_sum pi pj wa wb }
+    record { first = flat_sum i j a b n na nb; second = flat_sum i j a b p ha hb; third = combination_value i j a b h ∙ e; weight = weight_sum pi pj wa wb }
 
 -- a plane that fits leaves the segment open
 open_across : (n p h : Plane) (hs : List Plane) (a b : Spot) → IsLine n p a b → IsAcross h a b → HasVertexWithin n p h hs → IsOpen hs a b
 open_across n p h hs a b l s f =
     let i = flip s.1 in
-    record { i = neg_ℤ (value_at h b); j = value_at h a; from_y = i; from_z = s.0; free = fits_free n p h hs (mixed2 (neg_ℤ (value_at h b)) (value_at h a) a b) (meets_line (neg_ℤ (value_at h b)) (value_at h a) n p h a b (most i) s.0 l.flat_y l.flat_z l.on_y l.on_z l.weight_y l.weight_z (solve 2 (λ x y. neg y ⊗ x ⊕ x ⊗ y ≈ num (pos 0)) cancels (value_at h a) (value_at h b))) f }
+    record { i = neg_ℤ (value_at h b); j = value_at h a; from_y = i; from_z = s.0; free = fits_free n p h hs (combination (neg_ℤ (value_at h b)) (value_at h a) a b) (meets_line (neg_ℤ (value_at h b)) (value_at h a) n p h a b (most i) s.0 l.flat_y l.flat_z l.on_y l.on_z l.weight_y l.weight_z (solve 2 (λ x y. neg y ⊗ x ⊕ x ⊗ y ≈ num (pos 0)) cancels (value_at h a) (value_at h b))) f }
   where
     flip : {x : ℤ} → x <ℤ pos 0 → pos 0 <ℤ neg_ℤ x
     flip q = omega (arith, linear, q)
@@ -104,8 +104,8 @@ open_across n p h hs a b l s f =
     most : {x : ℤ} → pos 0 <ℤ x → pos 0 ≤ℤ x
     most q = omega (arith, linear, q)
 
-mixed_turned : (i j : ℤ) (a b : Spot) → mixed2 i j a b ≡ mixed2 j i b a
-mixed_turned i j a b =
+combination_turned : (i j : ℤ) (a b : Spot) → combination i j a b ≡ combination j i b a
+combination_turned i j a b =
     λ t. record { x = both a.x b.x t; y = both a.y b.y t; z = both a.z b.z t; w = both a.w b.w t }
   where
     both : (x y : ℤ) → i *ℤ x +ℤ j *ℤ y ≡ j *ℤ y +ℤ i *ℤ x
@@ -113,7 +113,7 @@ mixed_turned i j a b =
 
 turned_open : (hs : List Plane) (a b : Spot) → IsOpen hs a b → IsOpen hs b a
 turned_open hs a b o =
-    record { i = o.j; j = o.i; from_y = o.from_z; from_z = o.from_y; free = subst (λ v. none_positive hs v ≡ true) (mixed_turned o.i o.j a b) o.free }
+    record { i = o.j; j = o.i; from_y = o.from_z; from_z = o.from_y; free = subst (λ v. none_positive hs v ≡ true) (combination_turned o.i o.j a b) o.free }
 
 -- ---- from an end that is shut out to an open point: the last plane that is passed
 record Passing (n p : Plane) (hs : List Plane) (a b : Spot) : Type 0 where
@@ -122,10 +122,10 @@ record Passing (n p : Plane) (hs : List Plane) (a b : Spot) : Type 0 where
   pub across : IsAcross plane a b
   pub has_vertex_within : HasVertexWithin n p plane hs
 
-pub last_free : (gs : List Plane) (g : Plane) (a x : Spot) → After a x g gs → none_positive gs (mixed2 (neg_ℤ (value_at g x)) (value_at g a) a x) ≡ true
+pub last_free : (gs : List Plane) (g : Plane) (a x : Spot) → After a x g gs → none_positive gs (combination (neg_ℤ (value_at g x)) (value_at g a) a x) ≡ true
 last_free [] g a x f = refl
 last_free (h ∷ gs) g a x f =
-    all_in (h ∷ gs) (mixed2 (neg_ℤ (value_at g x)) (value_at g a) a x) (record { at_most = rw (mixed2_value (neg_ℤ (value_at g x)) (value_at g a) a x h) (below (value_at h a) (value_at h x) (value_at g a) (value_at g x) f.0) }, all_out gs (mixed2 (neg_ℤ (value_at g x)) (value_at g a) a x) (last_free gs g a x f.1))
+    all_in (h ∷ gs) (combination (neg_ℤ (value_at g x)) (value_at g a) a x) (record { at_most = rw (combination_value (neg_ℤ (value_at g x)) (value_at g a) a x h) (below (value_at h a) (value_at h x) (value_at g a) (value_at g x) f.0) }, all_out gs (combination (neg_ℤ (value_at g x)) (value_at g a) a x) (last_free gs g a x f.1))
   where
     below : (ha hx ga gx : ℤ) → (ha *ℤ neg_ℤ gx) ≤ℤ (ga *ℤ neg_ℤ hx) → (neg_ℤ gx *ℤ ha +ℤ ga *ℤ hx) ≤ℤ pos 0
     below ha hx ga gx l =
@@ -135,7 +135,7 @@ passing : (n p : Plane) (hs : List Plane) (a b : Spot) → IsLine n p a b → Is
 passing n p hs a b l o f = by (last_zero a x hs f o.free)
   where
     x : Spot
-    x = mixed2 o.i o.j a b
+    x = combination o.i o.j a b
 
     least : {k : ℤ} → pos 0 <ℤ k → pos 0 ≤ℤ k
     least q = omega (arith, linear, q)
@@ -151,7 +151,7 @@ passing n p hs a b l o f = by (last_zero a x hs f o.free)
     by : Last a x hs → Passing n p hs a b
     by r =
         let g = r.plane in let at : value_at g x ≤ℤ pos 0 = none_positive_member x hs g o.free r.member in
-        let s : IsAcross g a b = (r.up, falls o.i o.j (value_at g a) (value_at g b) o.from_y o.from_z r.up (subst (λ k. k ≤ℤ pos 0) (mixed2_value o.i o.j a b g) at)) in
+        let s : IsAcross g a b = (r.up, falls o.i o.j (value_at g a) (value_at g b) o.from_y o.from_z r.up (subst (λ k. k ≤ℤ pos 0) (combination_value o.i o.j a b g) at)) in
         let flat : value_at n x ≡ pos 0 = flat_sum o.i o.j a b n l.flat_y l.flat_z in
         let on : value_at p x ≡ pos 0 = flat_sum o.i o.j a b p l.on_y l.on_z in
         let heavy : pos 0 <ℤ x.w = weight_sum (least o.from_y) o.from_z l.weight_y l.weight_z in
@@ -159,7 +159,7 @@ passing n p hs a b l o f = by (last_zero a x hs f o.free)
           plane = g;
           member = r.member;
           across = s;
-          has_vertex_within = record { turns = across_turns n p g a b l s; at = mixed2 (neg_ℤ (value_at g x)) (value_at g a) a x; meets = meets_line (neg_ℤ (value_at g x)) (value_at g a) n p g a x (up at) r.up l.flat_y flat l.on_y on l.weight_y heavy (solve 2 (λ u v. neg v ⊗ u ⊕ u ⊗ v ≈ num (pos 0)) cancels (value_at g a) (value_at g x)); free = last_free hs g a x r.after };
+          has_vertex_within = record { turns = across_turns n p g a b l s; at = combination (neg_ℤ (value_at g x)) (value_at g a) a x; meets = meets_line (neg_ℤ (value_at g x)) (value_at g a) n p g a x (up at) r.up l.flat_y flat l.on_y on l.weight_y heavy (solve 2 (λ u v. neg v ⊗ u ⊕ u ⊗ v ≈ num (pos 0)) cancels (value_at g a) (value_at g x)); free = last_free hs g a x r.after };
         }
 
 -- ---- the planes of a list one after another
@@ -173,7 +173,7 @@ module _ (n p : Plane) (hs : List Plane) (y z : Spot) where
 
   abbrev pub AreFree : Bool → List Plane → Type 0
   AreFree true gs = AllByRecursion (λ h. Spans Whole h) gs
-  AreFree false gs = HasSome (λ h. Spans Split h) gs
+  AreFree false gs = HasMember (λ h. Spans Split h) gs
 
   pub record Tried (b : Bool) (gs : List Plane) : Type 0 where
     pub passed : AllByRecursion Passed gs
@@ -198,7 +198,7 @@ module _ (n p : Plane) (hs : List Plane) (y z : Spot) (l : IsLine n p y z) where
 
   shut_out : (h : Plane) → In h hs → Spans n p hs y z Empty h → IsOpen hs y z → ⊥
   shut_out h m s o =
-      by s (subst (λ k. k ≤ℤ pos 0) (mixed2_value o.i o.j y z h) (none_positive_member (mixed2 o.i o.j y z) hs h o.free m))
+      by s (subst (λ k. k ≤ℤ pos 0) (combination_value o.i o.j y z h) (none_positive_member (combination o.i o.j y z) hs h o.free m))
     where
       least : {k : ℤ} → pos 0 <ℤ k → pos 0 ≤ℤ k
       least q = omega (arith, linear, q)
@@ -211,7 +211,7 @@ module _ (n p : Plane) (hs : List Plane) (y z : Spot) (l : IsLine n p y z) where
   all_free : AllByRecursion (λ h. Spans n p hs y z Whole h) hs → IsOpen hs y z
   all_free a =
       let one : pos 0 <ℤ pos 1 = omega (arith, linear) in
-      record { i = pos 1; j = pos 1; from_y = one; from_z = one; free = all_in hs (mixed2 (pos 1) (pos 1) y z) (each_map (λ h. Spans n p hs y z Whole h) (λ h. IsNotAbove h (mixed2 (pos 1) (pos 1) y z)) hs (λ h s. scaled_both (pos 1) (pos 1) y z h (omega (arith, linear)) (omega (arith, linear)) (record { at_most = s.0 }) (record { at_most = s.1 })) a) }
+      record { i = pos 1; j = pos 1; from_y = one; from_z = one; free = all_in hs (combination (pos 1) (pos 1) y z) (each_map (λ h. Spans n p hs y z Whole h) (λ h. IsNotAbove h (combination (pos 1) (pos 1) y z)) hs (λ h s. scaled_both (pos 1) (pos 1) y z h (omega (arith, linear)) (omega (arith, linear)) (record { at_most = s.0 }) (record { at_most = s.1 })) a) }
 
   not_passed : AllByRecursion (Passed n p hs y z) hs → (h : Plane) → In h hs → HasVertexWithin n p h hs → IsAcross h y z ⊎ IsAcross h z y → ⊥
   not_passed a h m f s = by s (each_in (Passed n p hs y z) h hs m a)
@@ -228,7 +228,7 @@ module _ (n p : Plane) (hs : List Plane) (y z : Spot) (l : IsLine n p y z) where
       let r = passing n p hs z y (turned_line n p y z l) (turned_open hs y z o) f in
       not_passed a r.plane r.member r.has_vertex_within (inr r.across)
 
-  some_end : HasSome (λ h. Spans n p hs y z Split h) hs → (none_positive hs y ≡ false) ⊎ (none_positive hs z ≡ false)
+  some_end : HasMember (λ h. Spans n p hs y z Split h) hs → (none_positive hs y ≡ false) ⊎ (none_positive hs z ≡ false)
   some_end s =
       ⊎_elim (λ a. ⊎_elim (λ b. absurd (both a b)) (λ f. inr f) (decide_free hs z)) (λ f. inl f) (decide_free hs y)
     where

@@ -13,7 +13,7 @@ use Rattle.ember_point.specs.Points.{spot_of}
 use Rattle.ember_poly.specs.declared.reach_and_cut.Reach.{Reach}
 use Rattle.ember_poly.specs.declared.reach_and_cut.Reach.TheVariants.{Both}
 use Rattle.ember_poly.specs.Rings.{IsBelow, IsAbove, IsOnPlane, IsNotAbove, IsNotBelow}
-use Rattle.ember_poly.specs.Passages.{HasSome, AreSigns, AreClassified, is_under, Stops, IsOneSidedRun, AreNotBelow, IsRunNotBelow, Enters, Straddles, EntersAt}
+use Rattle.ember_poly.specs.Passages.{HasMember, AreSigns, AreClassified, is_under, Stops, IsOneSidedRun, AreNotBelow, IsRunNotBelow, Enters, Straddles, EntersAt}
 use Rattle.ember_poly.proofs.Chains.{each-push, each_both}
 use Rattle.ember_poly.proofs.Rotations.{each-join}
 use Rattle.ember_poly.proofs.Members.{has-push, has-front, has-back, has_pick}
@@ -46,8 +46,8 @@ straddles_by p ms r s e = straddles_both p ms (subst (λ t. AreSigns p ms t) e s
 whole : (ms : List Meet) (i : ℕ) → length ms ≤ i → take i ms ≡ take (length ms) ms
 whole ms i l = take_all i ms l ∙ sym (take_all (length ms) ms (omega arith))
 
-has-drop : {X : Type 0} (P : X → Type 0) (k : ℕ) (xs : List X) → HasSome P (drop k xs) → HasSome P xs
-has-drop P k xs h = subst (λ ys. HasSome P ys) (take-append-drop k xs) (has-back P (take k xs) (drop k xs) h)
+has-drop : {X : Type 0} (P : X → Type 0) (k : ℕ) (xs : List X) → HasMember P (drop k xs) → HasMember P xs
+has-drop P k xs h = subst (λ ys. HasMember P ys) (take-append-drop k xs) (has-back P (take k xs) (drop k xs) h)
 
 module _ (p : Plane) where
   abbrev Raised : Meet → Type 0
@@ -138,16 +138,16 @@ module _ (p : Plane) where
       by [] s = tt
       by (n ∷ ns) s = (s, tt)
 
-  pub some_raised : (ms : List Meet) (i : ℕ) (m : Meet) → i < length ms → m ≡ get_or ms i m → is_positive (value_at p (spot_of m)) ≡ true → HasSome Raised ms
+  pub some_raised : (ms : List Meet) (i : ℕ) (m : Meet) → i < length ms → m ≡ get_or ms i m → is_positive (value_at p (spot_of m)) ≡ true → HasMember Raised ms
   some_raised ms i m l e v =
-      has-drop Raised i ms (subst (λ ns. HasSome Raised ns) (sym (drop_more ms i m l)) (inl (subst Raised e (record { over = positive_out (value_at p (spot_of m)) v }))))
+      has-drop Raised i ms (subst (λ ns. HasMember Raised ns) (sym (drop_more ms i m l)) (inl (subst Raised e (record { over = positive_out (value_at p (spot_of m)) v }))))
 
   pub level_next : (ms : List Meet) (i : ℕ) (m : Meet) → i < length ms → m ≡ get_or ms i m → is_positive (value_at p (spot_of m)) ≡ false → AllByRecursion Level (take i ms) → AllByRecursion Level (take (i + 1) ms)
   level_next ms i m l e v h =
       subst (λ ns. AllByRecursion Level ns) (sym (take_more ms i m l ∙ ap (λ n. take i ms ++ n ∷ []) (sym e))) (each-push Level (take i ms) m h (record { at_most = not_positive_out (value_at p (spot_of m)) (ap not v) }))
 
 -- ---- all corners
-has_run : (p : Plane) (ms : List Meet) (k : ℕ) → IsOneSidedRun p true ms k → 0 < k → HasSome (λ m. IsBelow p (spot_of m)) ms
+has_run : (p : Plane) (ms : List Meet) (k : ℕ) → IsOneSidedRun p true ms k → 0 < k → HasMember (λ m. IsBelow p (spot_of m)) ms
 has_run p ms zero r l = absurd (omega (arith, l))
 has_run p [] (suc k) r l = absurd (omega (arith, r.at_most_all))
 has_run p (m ∷ ms) (suc k) r l = inl (under_out p m r.all.0)
@@ -162,16 +162,16 @@ run_front p b [] (suc k) (suc f) l r = absurd (omega (arith, r.at_most_all))
 run_front p b (m ∷ ms) (suc k) (suc f) l r =
     run_more p b m (take f ms) k r.all.0 (run_front p b ms k f (omega (arith, l)) (run_rest p b m ms k r))
 
-module _ (p : Plane) (ms : List Meet) (d u c : ℕ) (some high : Bool) (down : IsOneSidedRun p true ms d) (up' : IsRunNotBelow p (take (length ms - d) (drop d ms)) u some) (back' : IsOneSidedRun p true (take (length ms - (d + u)) (drop (d + u) ms)) c) (over' : high ≡ true → (some ≡ true) ⊎ HasSome (λ m. IsAbove p (spot_of m)) (take (length ms - (d + u + c)) (drop (d + u + c) ms))) (most' : high ≡ false → (some ≡ false) × AllByRecursion (λ m. IsNotAbove p (spot_of m)) (take (length ms - (d + u + c)) (drop (d + u + c) ms))) where
+module _ (p : Plane) (ms : List Meet) (d u c : ℕ) (some high : Bool) (down : IsOneSidedRun p true ms d) (up' : IsRunNotBelow p (take (length ms - d) (drop d ms)) u some) (back' : IsOneSidedRun p true (take (length ms - (d + u)) (drop (d + u) ms)) c) (over' : high ≡ true → (some ≡ true) ⊎ HasMember (λ m. IsAbove p (spot_of m)) (take (length ms - (d + u + c)) (drop (d + u + c) ms))) (most' : high ≡ false → (some ≡ false) × AllByRecursion (λ m. IsNotAbove p (spot_of m)) (take (length ms - (d + u + c)) (drop (d + u + c) ms))) where
   up : IsRunNotBelow p (drop d ms) u some
   up = subst (λ ns. IsRunNotBelow p ns u some) (rest_of d ms) up'
 
   back : IsOneSidedRun p true (drop (d + u) ms) c
   back = subst (λ ns. IsOneSidedRun p true ns c) (rest_of (d + u) ms) back'
 
-  over : high ≡ true → (some ≡ true) ⊎ HasSome (λ m. IsAbove p (spot_of m)) (drop (d + u + c) ms)
+  over : high ≡ true → (some ≡ true) ⊎ HasMember (λ m. IsAbove p (spot_of m)) (drop (d + u + c) ms)
   over =
-      subst (λ ns. high ≡ true → (some ≡ true) ⊎ HasSome (λ m. IsAbove p (spot_of m)) ns) (rest_of (d + u + c) ms) over'
+      subst (λ ns. high ≡ true → (some ≡ true) ⊎ HasMember (λ m. IsAbove p (spot_of m)) ns) (rest_of (d + u + c) ms) over'
 
   most : high ≡ false → (some ≡ false) × AllByRecursion (λ m. IsNotAbove p (spot_of m)) (drop (d + u + c) ms)
   most =
@@ -213,7 +213,7 @@ module _ (p : Plane) (ms : List Meet) (d u c : ℕ) (some high : Bool) (down : I
       let low : AllByRecursion Low (drop (d + u) ms) = joined Low c (drop (d + u) ms) (lows p (take c (drop (d + u) ms)) back.all) rest in
       joined Low d ms (lows p (take d ms) down.all) (joined Low u (drop d ms) (up.risen.none m.0) (subst (λ ns. AllByRecursion Low ns) (sym behind) low))
 
-  some_under : 0 < d + c → HasSome (λ m. IsBelow p (spot_of m)) ms
+  some_under : 0 < d + c → HasMember (λ m. IsBelow p (spot_of m)) ms
   some_under l =
       ⊎_elim (λ k. has_run p ms d down k) (λ k. has-drop (λ m. IsBelow p (spot_of m)) (d + u) ms (has_run p (drop (d + u) ms) c back k)) (either d c l)
     where
@@ -221,9 +221,9 @@ module _ (p : Plane) (ms : List Meet) (d u c : ℕ) (some high : Bool) (down : I
       either zero c l = inr (omega (arith, l))
       either (suc d) c l = inl (omega arith)
 
-  some_over : high ≡ true → HasSome (λ m. IsAbove p (spot_of m)) ms
+  some_over : high ≡ true → HasMember (λ m. IsAbove p (spot_of m)) ms
   some_over e =
-      ⊎_elim (λ k. has-drop (λ m. IsAbove p (spot_of m)) d ms (subst (λ ns. HasSome (λ m. IsAbove p (spot_of m)) ns) (take-append-drop u (drop d ms)) (has-front (λ m. IsAbove p (spot_of m)) (take u (drop d ms)) (drop u (drop d ms)) (up.risen.some k)))) (λ h. has-drop (λ m. IsAbove p (spot_of m)) (d + u + c) ms h) (over e)
+      ⊎_elim (λ k. has-drop (λ m. IsAbove p (spot_of m)) d ms (subst (λ ns. HasMember (λ m. IsAbove p (spot_of m)) ns) (take-append-drop u (drop d ms)) (has-front (λ m. IsAbove p (spot_of m)) (take u (drop d ms)) (drop u (drop d ms)) (up.risen.some k)))) (λ h. has-drop (λ m. IsAbove p (spot_of m)) (d + u + c) ms h) (over e)
 
   -- one more corner has been classified
   pub corner_is_classified : AreClassified p (d + c) high ms

@@ -15,7 +15,7 @@ use Rattle.ember_point.specs.Points.{spot_of}
 use Rattle.ember_poly.specs.declared.reach_and_cut.Reach.{Reach}
 use Rattle.ember_poly.specs.declared.reach_and_cut.Reach.TheVariants.{Below, Above, On, Both}
 use Rattle.ember_poly.specs.Rings.{IsBelow, IsAbove, IsOnPlane, IsNotAbove, IsNotBelow}
-use Rattle.ember_poly.specs.Passages.{HasSome, AreSigns}
+use Rattle.ember_poly.specs.Passages.{HasMember, AreSigns}
 use Rattle.ember_poly.proofs.Chains.{each-push, each_map}
 use Rattle.ember_poly.proofs.Members.{has-push, has-front}
 
@@ -59,16 +59,16 @@ module _ (p : Plane) (ms : List Meet) (m : Meet) where
   push_on : value ≡ pos 0 → AllByRecursion (λ m. IsOnPlane p (spot_of m)) ms → AllByRecursion (λ m. IsOnPlane p (spot_of m)) (ms ++ m ∷ [])
   push_on l h = each-push (λ m. IsOnPlane p (spot_of m)) ms m h (record { on_plane = l })
 
-  low : value <ℤ pos 0 → HasSome (λ m. IsBelow p (spot_of m)) (ms ++ m ∷ [])
+  low : value <ℤ pos 0 → HasMember (λ m. IsBelow p (spot_of m)) (ms ++ m ∷ [])
   low l = has-push (λ m. IsBelow p (spot_of m)) ms m (record { under = l })
 
-  high : pos 0 <ℤ value → HasSome (λ m. IsAbove p (spot_of m)) (ms ++ m ∷ [])
+  high : pos 0 <ℤ value → HasMember (λ m. IsAbove p (spot_of m)) (ms ++ m ∷ [])
   high l = has-push (λ m. IsAbove p (spot_of m)) ms m (record { over = l })
 
-  keep_low : HasSome (λ m. IsBelow p (spot_of m)) ms → HasSome (λ m. IsBelow p (spot_of m)) (ms ++ m ∷ [])
+  keep_low : HasMember (λ m. IsBelow p (spot_of m)) ms → HasMember (λ m. IsBelow p (spot_of m)) (ms ++ m ∷ [])
   keep_low h = has-front (λ m. IsBelow p (spot_of m)) ms (m ∷ []) h
 
-  keep_high : HasSome (λ m. IsAbove p (spot_of m)) ms → HasSome (λ m. IsAbove p (spot_of m)) (ms ++ m ∷ [])
+  keep_high : HasMember (λ m. IsAbove p (spot_of m)) ms → HasMember (λ m. IsAbove p (spot_of m)) (ms ++ m ∷ [])
   keep_high h = has-front (λ m. IsAbove p (spot_of m)) ms (m ∷ []) h
 
   none_most : AllByRecursion (λ m. IsOnPlane p (spot_of m)) ms → AllByRecursion (λ m. IsNotAbove p (spot_of m)) ms

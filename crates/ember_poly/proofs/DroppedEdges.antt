@@ -4,7 +4,7 @@ use Rattle.std.specs.List.{AllByRecursion}
 use Rattle.ember_model.specs.declared.plane.Plane.{Plane}
 use Rattle.ember_model.specs.declared.point.Spot.{Spot}
 use Rattle.ember_model.specs.Planes.{value_at}
-use Rattle.ember_poly.specs.Rings.{with_start, closing_side, Side, IsBelow, IsNotAbove, IsInClosedRing, IsSideChain, IsConvexRing, EndsAt, IsBelowAllButOne, Long}
+use Rattle.ember_poly.specs.Rings.{with_start, closing_side, Side, IsBelow, IsNotAbove, IsInClosedRing, IsSideChain, IsConvexRing, EndsAt, IsBelowAllButOne, IsNotEmpty}
 use Rattle.ember_poly.proofs.Planar.{Crossing, under_past, under_first}
 use Rattle.ember_poly.proofs.Chains.{each_map, each_both, each-back, each-push, chain_ends}
 use Rattle.ember_poly.proofs.RingBelow.{head_of, below_at_most}
@@ -96,15 +96,15 @@ two n p f l d e ks es y z b h exit entry =
     weak' u = below_at_most u.under
 
 -- a dropped edge is negative at one of the two ends of the chord
-pub dropped_side_is_above_one_corner : (n p : Plane) (f l d : Side) (ks ds : List Side) (y z : Spot) (b : ℕ) → IsConvexRing n (f ∷ (ks ++ l ∷ []) ++ d ∷ ds) → Crossing p l.corner d.corner y → Crossing p (head_of l ks).corner f.corner z → ((pos 0 <ℤ value_at p f.corner) ⊎ ((pos 0 <ℤ value_at p d.corner) ⊎ Long ds)) → AllByRecursion (λ t. IsBelow t.plane z ⊎ IsBelow t.plane y) (d ∷ ds)
+pub dropped_side_is_above_one_corner : (n p : Plane) (f l d : Side) (ks ds : List Side) (y z : Spot) (b : ℕ) → IsConvexRing n (f ∷ (ks ++ l ∷ []) ++ d ∷ ds) → Crossing p l.corner d.corner y → Crossing p (head_of l ks).corner f.corner z → ((pos 0 <ℤ value_at p f.corner) ⊎ ((pos 0 <ℤ value_at p d.corner) ⊎ IsNotEmpty ds)) → AllByRecursion (λ t. IsBelow t.plane z ⊎ IsBelow t.plane y) (d ∷ ds)
 dropped_side_is_above_one_corner n p f l d ks ds y z b h exit entry q =
     ⊎_elim (λ a. at_entry n p f l d ks ds y z b h exit entry a) (λ r. ⊎_elim (λ a. at_exit n p f l d ks ds y z b h exit entry a) (λ a. some ds a h) r) q
   where
-    some : (ds' : List Side) → Long ds' → IsConvexRing n (f ∷ (ks ++ l ∷ []) ++ d ∷ ds') → AllByRecursion (λ t. IsBelow t.plane z ⊎ IsBelow t.plane y) (d ∷ ds')
+    some : (ds' : List Side) → IsNotEmpty ds' → IsConvexRing n (f ∷ (ks ++ l ∷ []) ++ d ∷ ds') → AllByRecursion (λ t. IsBelow t.plane z ⊎ IsBelow t.plane y) (d ∷ ds')
     some [] a h = absurd a
     some (e ∷ es) a h = two n p f l d e ks es y z b h exit entry
 
 -- a dropped edge is negative at all corners of the part but one at most
-pub dropped_lone : (n p : Plane) (f l d : Side) (ks ds : List Side) (y z : Spot) (b : ℕ) → IsConvexRing n (f ∷ (ks ++ l ∷ []) ++ d ∷ ds) → Crossing p l.corner d.corner y → Crossing p (head_of l ks).corner f.corner z → ((pos 0 <ℤ value_at p f.corner) ⊎ ((pos 0 <ℤ value_at p d.corner) ⊎ Long ds)) → AllByRecursion (λ t. IsBelowAllButOne t.plane (with_start f z ∷ (ks ++ l ∷ []) ++ closing_side p y b ∷ [])) (d ∷ ds)
+pub dropped_lone : (n p : Plane) (f l d : Side) (ks ds : List Side) (y z : Spot) (b : ℕ) → IsConvexRing n (f ∷ (ks ++ l ∷ []) ++ d ∷ ds) → Crossing p l.corner d.corner y → Crossing p (head_of l ks).corner f.corner z → ((pos 0 <ℤ value_at p f.corner) ⊎ ((pos 0 <ℤ value_at p d.corner) ⊎ IsNotEmpty ds)) → AllByRecursion (λ t. IsBelowAllButOne t.plane (with_start f z ∷ (ks ++ l ∷ []) ++ closing_side p y b ∷ [])) (d ∷ ds)
 dropped_lone n p f l d ks ds y z b h exit entry q =
     each_both (λ t. AllByRecursion (λ s. IsBelow t.plane s.corner) (ks ++ l ∷ [])) (λ t. IsBelow t.plane z ⊎ IsBelow t.plane y) (λ t. IsBelowAllButOne t.plane (with_start f z ∷ (ks ++ l ∷ []) ++ closing_side p y b ∷ [])) (d ∷ ds) (λ t u v. lone_new t.plane f (ks ++ l ∷ []) p y z b u v) (all_across n p f l d ks ds y z b h exit entry) (dropped_side_is_above_one_corner n p f l d ks ds y z b h exit entry q)

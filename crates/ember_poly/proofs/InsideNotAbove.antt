@@ -15,21 +15,21 @@ use Rattle.ember_model.specs.ClearTest.{none_positive, face_with}
 use Rattle.ember_model.proofs.SignTests.{In, negative_out, zero_out, positive_out, not_positive_in, not_positive_out}
 use Rattle.ember_model.proofs.LastZero.{Last, last_zero, none_positive_member}
 use Rattle.ember_poly.specs.Rings.{IsBelow, IsNotAbove}
-use Rattle.ember_poly.specs.Passages.{HasSome}
-use Rattle.ember_poly.specs.Chords.{mixed2}
+use Rattle.ember_poly.specs.Passages.{HasMember}
+use Rattle.ember_poly.specs.Chords.{combination}
 use Rattle.ember_poly.specs.Cuts.{HasInside, IsWhole}
 use Rattle.ember_poly.proofs.Chains.{each_map, each_both, each-push}
 use Rattle.ember_poly.proofs.Members.{has-push, has-front, has_pick}
-use Rattle.ember_poly.proofs.InsideSigns.{mixed2_value}
+use Rattle.ember_poly.proofs.InsideSigns.{combination_value}
 use Rattle.ember_poly.proofs.InsidePoints.{below_is_not_above, flat_sum, weight_sum, scaled_under}
 use Rattle.ember_poly.proofs.FaceTests.{all_in, all_out, inside_in, inside_out, closed_in, closed_out}
 use Rattle.ember_poly.proofs.ChordParts.{each_in, in_at, last_free, decide_free}
 
 -- ---- two inside points
-inside_mixed : (f : Face) (i j : ℤ) (u v : Spot) → pos 0 ≤ℤ i → pos 0 <ℤ j → is_inside f u ≡ true → is_inside f v ≡ true → is_inside f (mixed2 i j u v) ≡ true
-inside_mixed f i j u v pi pj eu ev =
+inside_combination : (f : Face) (i j : ℤ) (u v : Spot) → pos 0 ≤ℤ i → pos 0 <ℤ j → is_inside f u ≡ true → is_inside f v ≡ true → is_inside f (combination i j u v) ≡ true
+inside_combination f i j u v pi pj eu ev =
     let a = inside_out f u eu in let b = inside_out f v ev in
-    inside_in f (mixed2 i j u v) (record { flat = flat_sum i j u v f.support a.flat b.flat; weight = weight_sum pi pj a.weight b.weight; within = each_both (λ g. IsBelow g u) (λ g. IsBelow g v) (λ g. IsBelow g (mixed2 i j u v)) f.edges (λ g x y. scaled_under i j u v g pi pj (below_is_not_above x) y) a.within b.within })
+    inside_in f (combination i j u v) (record { flat = flat_sum i j u v f.support a.flat b.flat; weight = weight_sum pi pj a.weight b.weight; within = each_both (λ g. IsBelow g u) (λ g. IsBelow g v) (λ g. IsBelow g (combination i j u v)) f.edges (λ g x y. scaled_under i j u v g pi pj (below_is_not_above x) y) a.within b.within })
 
 -- ---- a plane for which no inside point is above it
 abbrev pub IsLow : Face → Plane → Type 0
@@ -61,7 +61,7 @@ module _ (f : Face) (hs : List Plane) where
 
   abbrev pub AreLow : Bool → List Plane → Type 0
   AreLow true gs = AllByRecursion (λ h. IsLow f h) gs
-  AreLow false gs = HasSome (λ h. Cuts f h) gs
+  AreLow false gs = HasMember (λ h. Cuts f h) gs
 
   pub record Tested (b : Bool) (gs : List Plane) : Type 0 where
     pub passed : AllByRecursion Passed gs
@@ -104,18 +104,18 @@ module _ (f : Face) (hs : List Plane) where
   -- from a point above a plane to one above none: the last plane that is passed meets the list there
   module _ (u x : Spot) (eu : is_inside f u ≡ true) (ex : is_inside f x ≡ true) (e : none_positive hs x ≡ true) (r : Last u x hs) where
     abbrev between : Spot
-    between = mixed2 (neg_ℤ (value_at r.plane x)) (value_at r.plane u) u x
+    between = combination (neg_ℤ (value_at r.plane x)) (value_at r.plane u) u x
 
     up : {k : ℤ} → k ≤ℤ pos 0 → pos 0 ≤ℤ neg_ℤ k
     up q = omega (arith, linear, q)
 
     here : is_inside f between ≡ true
     here =
-        inside_mixed f (neg_ℤ (value_at r.plane x)) (value_at r.plane u) u x (up (none_positive_member x hs r.plane e r.member)) r.up eu ex
+        inside_combination f (neg_ℤ (value_at r.plane x)) (value_at r.plane u) u x (up (none_positive_member x hs r.plane e r.member)) r.up eu ex
 
     zero : value_at r.plane between ≡ pos 0
     zero =
-        mixed2_value (neg_ℤ (value_at r.plane x)) (value_at r.plane u) u x r.plane ∙ solve 2 (λ u v. neg v ⊗ u ⊕ u ⊗ v ≈ num (pos 0)) cancels (value_at r.plane u) (value_at r.plane x)
+        combination_value (neg_ℤ (value_at r.plane x)) (value_at r.plane u) u x r.plane ∙ solve 2 (λ u v. neg v ⊗ u ⊕ u ⊗ v ≈ num (pos 0)) cancels (value_at r.plane u) (value_at r.plane x)
 
     met_last : Meets f (face_with r.plane hs)
     met_last =
@@ -128,7 +128,7 @@ module _ (f : Face) (hs : List Plane) where
         by (inl l) = clash (value_at r.plane u) r.up (l.holds u eu)
         by (inr n) = n met_last
 
-  none_met : AllByRecursion Passed hs → HasSome (λ h. Cuts f h) hs → Somewhere f (λ v. none_positive hs v ≡ true) → ⊥
+  none_met : AllByRecursion Passed hs → HasMember (λ h. Cuts f h) hs → Somewhere f (λ v. none_positive hs v ≡ true) → ⊥
   none_met a c s =
       let k = has_pick (λ h. Cuts f h) (λ h. In h hs) hs c (all_in_list hs) in let u = k.holds.some_above in
       ⊎_elim (λ e. clash (value_at k.member u.at) (positive_out (value_at k.member u.at) u.holds) (not_positive_in (value_at k.member u.at) (none_positive_member u.at hs k.member e k.also))) (λ e. passed_last u.at s.at u.inside s.inside s.holds (last_zero u.at s.at hs e s.holds) a) (decide_free hs u.at)

@@ -13,19 +13,19 @@ use Rattle.ember_algebra.proofs.Vectors.{scalar, tuple, identity, TupleE, valueE
 use Rattle.ember_algebra.proofs.Order.{nonneg_mul}
 use Rattle.ember_model.proofs.Tuples.{plane_tuple, spot_tuple}
 use Rattle.ember_poly.specs.Rings.{Side, IsBelow, IsNotAbove, IsInsideRing, IsInClosedRing, IsConvexRing}
-use Rattle.ember_poly.specs.Chords.{mixed2}
+use Rattle.ember_poly.specs.Chords.{combination}
 use Rattle.ember_poly.proofs.Chains.{each_map}
 use Rattle.ember_poly.proofs.Hull.{corners_at_most}
 
 -- ---- i u + j v
-abbrev mixed2E : Expr → Expr → TupleE → TupleE → TupleE
-mixed2E i j u v =
+abbrev combinationE : Expr → Expr → TupleE → TupleE → TupleE
+combinationE i j u v =
     record { x = i ⊗ u.x ⊕ j ⊗ v.x; y = i ⊗ u.y ⊕ j ⊗ v.y; z = i ⊗ u.z ⊕ j ⊗ v.z; w = i ⊗ u.w ⊕ j ⊗ v.w }
 
 -- a plane's value at a combination of two points is that combination of its values
-pub mixed2_value : (i j : ℤ) (u v : Spot) (e : Plane) → value_at e (mixed2 i j u v) ≡ i *ℤ value_at e u +ℤ j *ℤ value_at e v
-mixed2_value i j u v e =
-    identity (scalar ∷ scalar ∷ tuple ∷ tuple ∷ tuple ∷ []) (λ i j u v e. valueE e (mixed2E i j u v) ≈ i ⊗ valueE e u ⊕ j ⊗ valueE e v) cancels i j (spot_tuple u) (spot_tuple v) (plane_tuple e)
+pub combination_value : (i j : ℤ) (u v : Spot) (e : Plane) → value_at e (combination i j u v) ≡ i *ℤ value_at e u +ℤ j *ℤ value_at e v
+combination_value i j u v e =
+    identity (scalar ∷ scalar ∷ tuple ∷ tuple ∷ tuple ∷ []) (λ i j u v e. valueE e (combinationE i j u v) ≈ i ⊗ valueE e u ⊕ j ⊗ valueE e v) cancels i j (spot_tuple u) (spot_tuple v) (plane_tuple e)
 
 -- ---- Eventually, over a list
 -- what holds of each member from some number on holds of all from some number on
@@ -49,11 +49,11 @@ pub opposite_plane : (e : Plane) (v : Spot) → value_at (opposite e) v ≡ neg_
 opposite_plane e v = identity (tuple ∷ tuple ∷ []) (λ e v. valueE (oppositeE e) v ≈ neg (valueE e v)) cancels (plane_tuple e) (spot_tuple v)
 
 abbrev beyond : Spot → Spot → ℕ → Spot
-beyond x c m = mixed2 (pos m) (pos 1) x (negated c)
+beyond x c m = combination (pos m) (pos 1) x (negated c)
 
 beyond_value : (e : Plane) (x c : Spot) (m : ℕ) → value_at e (beyond x c m) ≡ value_at e x *ℤ pos m -ℤ value_at e c
 beyond_value e x c m =
-    mixed2_value (pos m) (pos 1) x (negated c) e ∙ rw (negated_value e c) (solve 3 (λ m a b. m ⊗ a ⊕ num (pos 1) ⊗ neg b ≈ a ⊗ m ⊖ b) cancels (pos m) (value_at e x) (value_at e c))
+    combination_value (pos m) (pos 1) x (negated c) e ∙ rw (negated_value e c) (solve 3 (λ m a b. m ⊗ a ⊕ num (pos 1) ⊗ neg b ≈ a ⊗ m ⊖ b) cancels (pos m) (value_at e x) (value_at e c))
 
 -- a negative value_at stays so
 beyond_under : (x c : Spot) (e : Plane) → IsBelow e x → Eventually (λ m. IsNotAbove e (beyond x c m))

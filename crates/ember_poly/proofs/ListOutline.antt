@@ -48,15 +48,15 @@ sound_three n (s ∷ t ∷ u ∷ xs) h = omega arith
 module _ (n : Plane) (gs es : List Plane) (ms : List Meet) (bs : List ℕ) (r : IsRing n gs es ms bs) where
   lists_are_outline : IsOutline (record { support = n; edges = gs }) (ring_edges es ms)
   lists_are_outline =
-      subst (λ zs. IsOutline (record { support = n; edges = gs }) zs) (outline-sides_of es ms bs r.corners r.plane_indices) (ring_outline n gs (sides_of es ms bs) r.stands r.counted r.oldest)
+      subst (λ zs. IsOutline (record { support = n; edges = gs }) zs) (outline-sides_of es ms bs r.corners r.plane_indices) (ring_outline n gs (sides_of es ms bs) r.represents r.counted r.oldest)
 
   pub lists_have_three : 3 ≤ length es
   lists_have_three =
-      subst (λ k. 3 ≤ k) (length-sides_of es ms bs r.corners r.plane_indices) (sound_three n (sides_of es ms bs) r.stands.sound)
+      subst (λ k. 3 ≤ k) (length-sides_of es ms bs r.corners r.plane_indices) (sound_three n (sides_of es ms bs) r.represents.sound)
 
   -- the planes that are lent are valid
   pub lent_valid : All IsValidPlane es
-  lent_valid = λ k d l. each_at IsValidPlane es k d l (subst (λ ps. AllByRecursion IsValidPlane ps) (planes-sides_of es ms bs r.corners r.plane_indices) (each_plane (sides_of es ms bs) (each_map (λ s. IsInPlanes gs s) (λ s. IsValidPlane s.plane) (sides_of es ms bs) (λ s l. subst IsValidPlane l.here (r.planes s.plane_index s.plane l.index)) r.stands.listed)))
+  lent_valid = λ k d l. each_at IsValidPlane es k d l (subst (λ ps. AllByRecursion IsValidPlane ps) (planes-sides_of es ms bs r.corners r.plane_indices) (each_plane (sides_of es ms bs) (each_map (λ s. IsInPlanes gs s) (λ s. IsValidPlane s.plane) (sides_of es ms bs) (λ s l. subst IsValidPlane l.here (r.planes s.plane_index s.plane l.index)) r.represents.listed)))
 
 -- as the calls see the ring
 module _ (n : Plane) (gs es : List Plane) (ms : List Meet) (bs : List ℕ) (r : IsRing n gs es ms bs) (f : Face) (seen : f ≡ record { support = n; edges = gs }) where

@@ -68,7 +68,7 @@ edge_has_end f end (e ∷ d ∷ es) p = (record { end = d.start; is = p.0 }, edg
 -- what all planes of f have, the outline's have
 of_edges : (f : Face) (P : Plane → Type 0) (es : List RingEdge) → AllByRecursion (λ e. Ended f e) es → AllByRecursion P f.edges → AllByRecursion P (map (λ e. e.plane) es)
 of_edges f P es ends all =
-    each_plane P es (each_map (λ e. Ended f e) (λ e. P e.plane) es (λ e d. each_get P f.edges d.is.stands.index e.plane all d.is.stands.here) ends)
+    each_plane P es (each_map (λ e. Ended f e) (λ e. P e.plane) es (λ e d. each_get P f.edges d.is.is_earliest.index e.plane all d.is.is_earliest.here) ends)
 
 module _ (f : Face) (o q : Spot) (io : InFace f.support f.edges o) (flat : value_at f.support q ≡ pos 0) where
   -- a plane with the edge of e is negative where that of e is
@@ -77,7 +77,7 @@ module _ (f : Face) (o q : Spot) (io : InFace f.support f.edges o) (flat : value
       let x = edge_out f e.plane e.start d.is.starts in let y = edge_out f e.plane d.end d.is.ends in
       let gx = edge_out f g e.start (same e.start ∙ d.is.starts) in
       let gy = edge_out f g d.end (same d.end ∙ d.is.ends) in
-      let eo = each_get (λ h. IsBelow h o) f.edges d.is.stands.index e.plane io.within d.is.stands.here in
+      let eo = each_get (λ h. IsBelow h o) f.edges d.is.is_earliest.index e.plane io.within d.is.is_earliest.here in
       record { under = same_side f.support e.plane g e.start d.end d.is.leads x.closed.flat y.closed.flat x.zero y.zero gx.zero gy.zero o q x.closed.weight io.flat flat eo.under low.under u.under }
 
   among_under : (g : Plane) → IsBelow g o → (es : List RingEdge) → AllByRecursion (λ e. Ended f e) es → AllByRecursion (λ e. IsBelow e.plane q) es → HasEdgeOf f g es → IsBelow g q

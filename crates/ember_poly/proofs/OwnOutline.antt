@@ -62,7 +62,7 @@ module _ (f : Face) (es : List RingEdge) (line : IsOutline f es) (on : (g : Plan
   own_edge : (us : List RingEdge) (e : RingEdge) (ws : List RingEdge) (end : Spot) → es ≡ us ++ e ∷ ws → IsEdge f e end → IsEdge own e end
   own_edge us e ws end q h =
       record {
-        stands = record {
+        is_earliest = record {
           index = length us;
           here = ap (λ (cs : List RingEdge). slice_get (planes_of cs) (length us)) q ∙ at_its_place us e ws;
           holds = λ v. refl;

@@ -16,9 +16,9 @@ use Rattle.ember_point.specs.declared.meet_point.Meet.{Meet}
 use Rattle.ember_point.specs.Points.{spot_of}
 use Rattle.ember_poly.specs.declared.passage.Passage.{Passage}
 use Rattle.ember_poly.specs.Rings.{with_start, closing_side, Side, IsBelow, IsNotAbove, IsNotBelow, IsBelowAllButOne, IsMeet, IsConvexRing, IsInClosedRing, IsInPlanes, Represents}
-use Rattle.ember_poly.specs.Sides.{sides_of, HasPlaneIndex, IsZeroAtOnePoint, AllAreEdges, IsRing}
+use Rattle.ember_poly.specs.Sides.{sides_of, HasPlaneIndex, IsZeroAtOnePoint, EachHasSideOrNoEdge, IsRing}
 use Rattle.ember_poly.specs.Boundaries.{rotated, part_sides, with_first_start, LeastFirst}
-use Rattle.ember_poly.specs.Passages.{HasSome, Leaves, IsPassage}
+use Rattle.ember_poly.specs.Passages.{HasMember, Leaves, IsPassage}
 use Rattle.ember_poly.proofs.Chains.{each_map, each_both, each-back}
 use Rattle.ember_poly.proofs.RingBelow.{below_some, below_all}
 use Rattle.ember_poly.proofs.Hull.{closed_turned}
@@ -40,11 +40,11 @@ take_front xs ys k e = ap (λ j. take j (xs ++ ys)) e ∙ by xs ys
     by (x ∷ xs) ys = ap (λ zs. x ∷ zs) (by xs ys)
 
 -- the kept sides
-kept_sides : (n p : Plane) (xs : List Side) (at : Passage) (q : IsPassage n p xs at) → take (at.below_count + 1) (rotated at.entry_edge xs) ≡ q.head ∷ (q.front ++ q.last ∷ [])
+kept_sides : (n p : Plane) (xs : List Side) (at : Passage) (q : IsPassage n p xs at) → take (at.below_count + 1) (rotated at.entry_edge xs) ≡ q.head ∷ (q.firsts ++ q.last ∷ [])
 kept_sides n p xs at q =
-    ap (λ zs. take (at.below_count + 1) zs) q.turned ∙ take_front (q.head ∷ (q.front ++ q.last ∷ [])) q.others (at.below_count + 1) (omega (arith, q.count, length_push q.front q.last))
+    ap (λ zs. take (at.below_count + 1) zs) q.turned ∙ take_front (q.head ∷ (q.firsts ++ q.last ∷ [])) q.others (at.below_count + 1) (omega (arith, q.count, length_push q.firsts q.last))
 
-part_is : (n p : Plane) (xs : List Side) (at : Passage) (q : IsPassage n p xs at) (b : ℕ) → part_sides xs at p b ≡ with_start q.head (spot_of at.entry) ∷ (q.front ++ q.last ∷ []) ++ closing_side p (spot_of at.exit) b ∷ []
+part_is : (n p : Plane) (xs : List Side) (at : Passage) (q : IsPassage n p xs at) (b : ℕ) → part_sides xs at p b ≡ with_start q.head (spot_of at.entry) ∷ (q.firsts ++ q.last ∷ []) ++ closing_side p (spot_of at.exit) b ∷ []
 part_is n p xs at q b =
     ap (λ zs. with_first_start (spot_of at.entry) zs ++ closing_side p (spot_of at.exit) b ∷ []) (kept_sides n p xs at q)
 
@@ -67,7 +67,7 @@ same_from u v h =
     third = solve 5 (λ k x y z w. k ⊗ z ≈ k ⊗ (num (pos 0) ⊗ x ⊕ num (pos 0) ⊗ y ⊕ num (pos 1) ⊗ z ⊖ num (pos 0) ⊗ w)) cancels
 
 -- ---- what is counted, after a turn
-counted_turned : (n : Plane) (gs : List Plane) (xs ys : List Side) → AllAreEdges n gs (xs ++ ys) → AllAreEdges n gs (ys ++ xs)
+counted_turned : (n : Plane) (gs : List Plane) (xs ys : List Side) → EachHasSideOrNoEdge n gs (xs ++ ys) → EachHasSideOrNoEdge n gs (ys ++ xs)
 counted_turned n gs xs ys c =
     λ i h e. ⊎_elim (λ b. inl (has_born i (ys ++ xs) (has-turned (λ s. s.plane_index ≡ i) xs ys (born_has i (xs ++ ys) b)))) (λ s. inr (λ u v ku kv. s u v (closed_turned n u ys xs ku) (closed_turned n v ys xs kv))) (c i h e)
 
@@ -82,7 +82,7 @@ module _ (n p : Plane) (gs : List Plane) (f l : Side) (ks : List Side) (y z : Sp
     pub at_most : AllByRecursion (λ s. IsNotAbove d.plane s.corner) part
 
   record Division (ds : List Side) : Type 0 where
-    pub stands : Represents n (gs ++ p ∷ []) part
+    pub represents : Represents n (gs ++ p ∷ []) part
     pub out : (v : Spot) → IsInClosedRing n part v → IsInClosedRing n (f ∷ (ks ++ l ∷ []) ++ ds) v
     pub gone : AllByRecursion (λ d. Gone d) ds
 
@@ -90,7 +90,7 @@ module _ (n p : Plane) (gs : List Plane) (f l : Side) (ks : List Side) (y z : Sp
   divide [] s q =
       let o = below_all n p f l y z (length gs) q.over my mz ks (subst (λ zs. IsConvexRing n (f ∷ zs)) (append-nil (ks ++ l ∷ [])) s.sound) under in
       let r = part_of n p f l ks [] y z (length gs) f.corner s.sound (head_closed n f ((ks ++ l ∷ []) ++ []) s.sound) o in
-      record { stands = cut_all n p gs f l ks y z my mz s q.over under; out = λ v k. (r.out_closed v k).0; gone = tt }
+      record { represents = cut_all n p gs f l ks y z my mz s q.over under; out = λ v k. (r.out_closed v k).0; gone = tt }
   divide (d ∷ ds) s q =
       let o = below_some n p f l d ds y z (length gs) enters.at_least q.0.at_least my mz ks s.sound under in
       let r = part_of n p f l ks (d ∷ ds) y z (length gs) d.corner s.sound (corner_closed n (f ∷ (ks ++ l ∷ [])) d ds s.sound) o in
@@ -98,7 +98,7 @@ module _ (n p : Plane) (gs : List Plane) (f l : Side) (ks : List Side) (y z : Sp
       let most = each_swap (λ (s t : Side). IsNotAbove t.plane s.corner) part (d ∷ ds) (each_map (λ s. IsInClosedRing n part s.corner) (λ s. AllByRecursion (λ t. IsNotAbove t.plane s.corner) (d ∷ ds)) part (λ s k. each-back (λ t. IsNotAbove t.plane s.corner) (ks ++ l ∷ []) (d ∷ ds) (r.out_closed s.corner k).0.within.1) (ring-closed n part o.sound)) in
       let listed = each-back (λ t. IsInPlanes gs t) (ks ++ l ∷ []) (d ∷ ds) s.listed.1 in
       record {
-        stands = cut_some n p gs f l ks y z my mz d ds s enters.at_least q.0.at_least under;
+        represents = cut_some n p gs f l ks y z my mz d ds s enters.at_least q.0.at_least under;
         out = λ v k. (r.out_closed v k).0;
         gone = each_both (λ t. IsInPlanes gs t) (λ t. IsBelowAllButOne t.plane part × AllByRecursion (λ s. IsNotAbove t.plane s.corner) part) (λ t. Gone t) (d ∷ ds) (λ t a b. record { listed = a; lone = b.0; at_most = b.1 }) listed (each_both (λ t. IsBelowAllButOne t.plane part) (λ t. AllByRecursion (λ s. IsNotAbove t.plane s.corner) part) (λ t. IsBelowAllButOne t.plane part × AllByRecursion (λ s. IsNotAbove t.plane s.corner) part) (d ∷ ds) (λ t a b. (a, b)) lone most);
       }
@@ -108,7 +108,7 @@ module _ (n p : Plane) (gs : List Plane) (f l : Side) (ks : List Side) (y z : Sp
   gone_single d h s g e =
       subst (λ k. IsZeroAtOnePoint n part k) e (λ u v ku kv zu zv. same_from u v (λ k. one_place n d.plane part s g.at_most g.lone u v k ku kv zu zv))
 
-  divide_counted : (ds : List Side) → AllAreEdges n gs (f ∷ (ks ++ l ∷ []) ++ ds) → Division ds → AllAreEdges n (gs ++ p ∷ []) part
+  divide_counted : (ds : List Side) → EachHasSideOrNoEdge n gs (f ∷ (ks ++ l ∷ []) ++ ds) → Division ds → EachHasSideOrNoEdge n (gs ++ p ∷ []) part
   divide_counted ds ct dv =
       λ i h e. ⊎_elim (λ b. before i h (within i h b e)) (λ b. inl (newest i (last i h b e))) (cases_lt i (length gs))
     where
@@ -124,9 +124,9 @@ module _ (n p : Plane) (gs : List Plane) (f l : Side) (ks : List Side) (y z : Sp
 
       lost : (i : ℕ) (h : Plane) → slice_get gs i ≡ Some h → Found (λ s. s.plane_index ≡ i) (λ d. Gone d) → IsZeroAtOnePoint n part h
       lost i h e t =
-          gone_single t.member h dv.stands.sound t.also (sym t.also.listed.here ∙ ap (λ j. get_or gs j t.member.plane) t.holds ∙ get_or_from_slice_get gs i h t.member.plane e)
+          gone_single t.member h dv.represents.sound t.also (sym t.also.listed.here ∙ ap (λ j. get_or gs j t.member.plane) t.holds ∙ get_or_from_slice_get gs i h t.member.plane e)
 
-      born : (i : ℕ) (h : Plane) → slice_get gs i ≡ Some h → HasSome (λ s. s.plane_index ≡ i) (f ∷ (ks ++ l ∷ []) ++ ds) → HasPlaneIndex i part ⊎ IsZeroAtOnePoint n part h
+      born : (i : ℕ) (h : Plane) → slice_get gs i ≡ Some h → HasMember (λ s. s.plane_index ≡ i) (f ∷ (ks ++ l ∷ []) ++ ds) → HasPlaneIndex i part ⊎ IsZeroAtOnePoint n part h
       born i h e (inl b) = inl (has_born i part (inl b))
       born i h e (inr b) =
           ⊎_elim (λ a. inl (has_born i part (inr (has-front (λ s. s.plane_index ≡ i) (ks ++ l ∷ []) (closing_side p y (length gs) ∷ []) a)))) (λ a. inr (lost i h e (has_pick (λ s. s.plane_index ≡ i) (λ d. Gone d) ds a dv.gone))) (has-split (λ s. s.plane_index ≡ i) (ks ++ l ∷ []) ds b)
@@ -141,27 +141,27 @@ begun_stands : (n : Plane) (gs : List Plane) (k : ℕ) (xs : List Side) → Repr
 begun_stands n gs k xs s =
     stands_turned n gs (take k xs) (drop k xs) (subst (λ zs. Represents n gs zs) (sym (take-append-drop k xs)) s)
 
-begun_counted : (n : Plane) (gs : List Plane) (k : ℕ) (xs : List Side) → AllAreEdges n gs xs → AllAreEdges n gs (drop k xs ++ take k xs)
+begun_counted : (n : Plane) (gs : List Plane) (k : ℕ) (xs : List Side) → EachHasSideOrNoEdge n gs xs → EachHasSideOrNoEdge n gs (drop k xs ++ take k xs)
 begun_counted n gs k xs c =
-    counted_turned n gs (take k xs) (drop k xs) (subst (λ zs. AllAreEdges n gs zs) (sym (take-append-drop k xs)) c)
+    counted_turned n gs (take k xs) (drop k xs) (subst (λ zs. EachHasSideOrNoEdge n gs zs) (sym (take-append-drop k xs)) c)
 
-module _ (n p : Plane) (gs : List Plane) (xs : List Side) (at : Passage) (q : IsPassage n p xs at) (st : Represents n gs xs) (ct : AllAreEdges n gs xs) where
+module _ (n p : Plane) (gs : List Plane) (xs : List Side) (at : Passage) (q : IsPassage n p xs at) (st : Represents n gs xs) (ct : EachHasSideOrNoEdge n gs xs) where
   abbrev below_sides : List Side
-  below_sides = with_start q.head (spot_of at.entry) ∷ (q.front ++ q.last ∷ []) ++ closing_side p (spot_of at.exit) (length gs) ∷ []
+  below_sides = with_start q.head (spot_of at.entry) ∷ (q.firsts ++ q.last ∷ []) ++ closing_side p (spot_of at.exit) (length gs) ∷ []
 
-  division : Division n p gs q.head q.last q.front (spot_of at.exit) (spot_of at.entry) q.entry q.exit q.under q.enters q.others
+  division : Division n p gs q.head q.last q.firsts (spot_of at.exit) (spot_of at.entry) q.entry q.exit q.under q.enters q.others
   division =
-      divide n p gs q.head q.last q.front (spot_of at.exit) (spot_of at.entry) q.entry q.exit q.under q.enters q.others (subst (λ zs. Represents n gs zs) q.turned (begun_stands n gs at.entry_edge xs st)) q.leaves
+      divide n p gs q.head q.last q.firsts (spot_of at.exit) (spot_of at.entry) q.entry q.exit q.under q.enters q.others (subst (λ zs. Represents n gs zs) q.turned (begun_stands n gs at.entry_edge xs st)) q.leaves
 
   pub below_ring : (es : List Plane) (ms : List Meet) (bs : List ℕ) (k j : ℕ) (hs : List Plane) → sides_of es ms bs ≡ rotated j (rotated k (part_sides xs at p (length gs))) → LeastFirst bs → length ms ≡ length es → length bs ≡ length es → hs ≡ gs ++ p ∷ [] → IsValidPlane n → All IsValidPlane gs → IsValidPlane p → IsRing n hs es ms bs
   below_ring es ms bs k j hs et least em el eh vn vs vp =
       let e : sides_of es ms bs ≡ rotated j (rotated k below_sides) = et ∙ ap (λ zs. rotated j (rotated k zs)) (part_is n p xs at q (length gs)) in
-      let s = begun_stands n (gs ++ p ∷ []) j (rotated k below_sides) (begun_stands n (gs ++ p ∷ []) k below_sides division.stands) in
-      let c = begun_counted n (gs ++ p ∷ []) j (rotated k below_sides) (begun_counted n (gs ++ p ∷ []) k below_sides (divide_counted n p gs q.head q.last q.front (spot_of at.exit) (spot_of at.entry) q.entry q.exit q.under q.enters q.others (subst (λ zs. AllAreEdges n gs zs) q.turned (begun_counted n gs at.entry_edge xs ct)) division)) in
+      let s = begun_stands n (gs ++ p ∷ []) j (rotated k below_sides) (begun_stands n (gs ++ p ∷ []) k below_sides division.represents) in
+      let c = begun_counted n (gs ++ p ∷ []) j (rotated k below_sides) (begun_counted n (gs ++ p ∷ []) k below_sides (divide_counted n p gs q.head q.last q.firsts (spot_of at.exit) (spot_of at.entry) q.entry q.exit q.under q.enters q.others (subst (λ zs. EachHasSideOrNoEdge n gs zs) q.turned (begun_counted n gs at.entry_edge xs ct)) division)) in
       record {
-        stands = subst (λ us. Represents n us (sides_of es ms bs)) (sym eh) (subst (λ us. Represents n (gs ++ p ∷ []) us) (sym e) s);
+        represents = subst (λ us. Represents n us (sides_of es ms bs)) (sym eh) (subst (λ us. Represents n (gs ++ p ∷ []) us) (sym e) s);
         oldest = oldest_first es ms bs least;
-        counted = subst (λ us. AllAreEdges n us (sides_of es ms bs)) (sym eh) (subst (λ us. AllAreEdges n (gs ++ p ∷ []) us) (sym e) c);
+        counted = subst (λ us. EachHasSideOrNoEdge n us (sides_of es ms bs)) (sym eh) (subst (λ us. EachHasSideOrNoEdge n (gs ++ p ∷ []) us) (sym e) c);
         corners = em;
         plane_indices = el;
         support = vn;

@@ -8,7 +8,7 @@ use Rattle.ember_model.specs.declared.plane.Plane.{Plane}
 use Rattle.ember_model.specs.Planes.{value_at}
 use Rattle.ember_point.specs.declared.meet_point.Meet.{Meet}
 use Rattle.ember_point.specs.Points.{spot_of}
-use Rattle.ember_poly.specs.Rings.{Side, IsBelow, IsNotAbove, IsNotBelow, Long, IsConvexRing, IsMeet, orientation}
+use Rattle.ember_poly.specs.Rings.{Side, IsBelow, IsNotAbove, IsNotBelow, IsNotEmpty, IsConvexRing, IsMeet, orientation}
 use Rattle.ember_poly.specs.Sides.{sides_of}
 use Rattle.ember_poly.specs.Passages.{is_under, Stops, IsOneSidedRun, Enters, Straddles, Leaves, IsPassage}
 use Rattle.ember_poly.proofs.Chains.{each_map}
@@ -94,7 +94,7 @@ leaves_by p f ks (d ∷ []) u h n =
 leaves_by p f ks (d ∷ e ∷ ds) u h n = (h, inr (inr tt))
 
 -- not all that is left behind the sides below the plane lies on the plane
-pub plane_has_corners_above : (p : Plane) (f d : Side) (ds : List Side) → Leaves p f (d ∷ ds) → (pos 0 <ℤ value_at p f.corner) ⊎ ((pos 0 <ℤ value_at p d.corner) ⊎ Long ds)
+pub plane_has_corners_above : (p : Plane) (f d : Side) (ds : List Side) → Leaves p f (d ∷ ds) → (pos 0 <ℤ value_at p f.corner) ⊎ ((pos 0 <ℤ value_at p d.corner) ⊎ IsNotEmpty ds)
 plane_has_corners_above p f d ds q = ⊎_elim (λ a. inl a.over) (λ r. inr (⊎_elim (λ a. inl a.over) (λ a. inr a) r)) q.1
 
 -- the planes at the two ends of the chord meet in one point
@@ -203,7 +203,7 @@ module _ (n p : Plane) (es : List Plane) (ms : List Meet) (bs : List ℕ) (k c r
     passage_is y z d g mz my =
         record {
           head = head;
-          front = w.front;
+          firsts = w.front;
           last = w.last;
           others = w.behind;
           within = subst (λ j. k < j) (sym (length-sides_of es ms bs em eb)) in_es;

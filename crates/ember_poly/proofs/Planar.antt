@@ -8,13 +8,23 @@ use Rattle.ember_algebra.proofs.Ring.{◌⊕◌, ◌⊖◌, ◌⊗◌, neg, num,
 use Rattle.ember_algebra.proofs.Vectors.{tuple, identity, TupleE, detE, valueE}
 use Rattle.ember_algebra.proofs.Order.{nonneg_mul, mul_pos_neg, mul_neg_pos, mul_neg_neg, cancel_eq, cancel_lt, cancel_le}
 use Rattle.ember_model.proofs.Tuples.{plane_tuple, spot_tuple, normalE}
-use Rattle.ember_poly.specs.Rings.{orientation, mix, IsBelow, IsNotAbove}
+use Rattle.ember_poly.specs.Rings.{orientation, IsBelow, IsNotAbove}
+
+-- the point at which p meets the segment from a to b, where a is below p and b isn't
+abbrev pub intersection : Plane → Spot → Spot → Spot
+intersection p a b =
+    record {
+      x = value_at p b *ℤ a.x -ℤ value_at p a *ℤ b.x;
+      y = value_at p b *ℤ a.y -ℤ value_at p a *ℤ b.y;
+      z = value_at p b *ℤ a.z -ℤ value_at p a *ℤ b.z;
+      w = value_at p b *ℤ a.w -ℤ value_at p a *ℤ b.w;
+    }
 
 abbrev pub turnE : TupleE → TupleE → TupleE → Expr
 turnE n g h = detE (normalE n) (normalE g) (normalE h)
 
-abbrev pub mixE : TupleE → TupleE → TupleE → TupleE
-mixE p a b =
+abbrev pub intersectionE : TupleE → TupleE → TupleE → TupleE
+intersectionE p a b =
     record { x = valueE p b ⊗ a.x ⊖ valueE p a ⊗ b.x; y = valueE p b ⊗ a.y ⊖ valueE p a ⊗ b.y; z = valueE p b ⊗ a.z ⊖ valueE p a ⊗ b.z; w = valueE p b ⊗ a.w ⊖ valueE p a ⊗ b.w }
 
 -- two points on three planes that meet in one point are the same place
@@ -22,9 +32,9 @@ pub places : (n g p e : Plane) (y z : Spot) → orientation n g p *ℤ (y.w *ℤ
 places n g p e y z =
     identity (tuple ∷ tuple ∷ tuple ∷ tuple ∷ tuple ∷ tuple ∷ []) (λ n g p e y z. turnE n g p ⊗ (y.w ⊗ valueE e z ⊖ z.w ⊗ valueE e y) ≈ turnE e g p ⊗ (y.w ⊗ valueE n z ⊖ z.w ⊗ valueE n y) ⊕ turnE e p n ⊗ (y.w ⊗ valueE g z ⊖ z.w ⊗ valueE g y) ⊕ turnE e n g ⊗ (y.w ⊗ valueE p z ⊖ z.w ⊗ valueE p y)) cancels (plane_tuple n) (plane_tuple g) (plane_tuple p) (plane_tuple e) (spot_tuple y) (spot_tuple z)
 
-mixed : (p : Plane) (a b : Spot) (e : Plane) → value_at e (mix p a b) ≡ value_at p b *ℤ value_at e a -ℤ value_at p a *ℤ value_at e b
-mixed p a b e =
-    identity (tuple ∷ tuple ∷ tuple ∷ tuple ∷ []) (λ p a b e. valueE e (mixE p a b) ≈ valueE p b ⊗ valueE e a ⊖ valueE p a ⊗ valueE e b) cancels (plane_tuple p) (spot_tuple a) (spot_tuple b) (plane_tuple e)
+intersection_value : (p : Plane) (a b : Spot) (e : Plane) → value_at e (intersection p a b) ≡ value_at p b *ℤ value_at e a -ℤ value_at p a *ℤ value_at e b
+intersection_value p a b e =
+    identity (tuple ∷ tuple ∷ tuple ∷ tuple ∷ []) (λ p a b e. valueE e (intersectionE p a b) ≈ valueE p b ⊗ valueE e a ⊖ valueE p a ⊗ valueE e b) cancels (plane_tuple p) (spot_tuple a) (spot_tuple b) (plane_tuple e)
 
 -- ---- numbers
 -- a difference of multiples of 0 is 0
@@ -51,8 +61,8 @@ pub record Crossing (p : Plane) (a b y : Spot) : Type 0 where
   pub from : value_at p a <ℤ pos 0
   pub to : pos 0 ≤ℤ value_at p b
   pub here : pos 0 <ℤ y.w
-  pub there : pos 0 <ℤ (mix p a b).w
-  pub same : (e : Plane) → y.w *ℤ value_at e (mix p a b) ≡ (mix p a b).w *ℤ value_at e y
+  pub there : pos 0 <ℤ (intersection p a b).w
+  pub same : (e : Plane) → y.w *ℤ value_at e (intersection p a b) ≡ (intersection p a b).w *ℤ value_at e y
 
 -- two points on three planes that meet in one point are the same place for every plane
 pub same_place : (n g p : Plane) → orientation n g p ≢ pos 0 → (e : Plane) (y z : Spot) → value_at n y ≡ pos 0 → value_at g y ≡ pos 0 → value_at p y ≡ pos 0 → value_at n z ≡ pos 0 → value_at g z ≡ pos 0 → value_at p z ≡ pos 0 → y.w *ℤ value_at e z ≡ z.w *ℤ value_at e y
@@ -75,7 +85,7 @@ crossing_is_meet n g p a b y t na nb ga gb wa wb pa pb ny gy py wy =
       to = pb;
       here = wy;
       there = blend_weight pb pa wa wb;
-      same = λ e. same_place n g p t e y (mix p a b) ny gy py (mixed p a b n ∙ both_zero (value_at p b) (value_at p a) na nb) (mixed p a b g ∙ both_zero (value_at p b) (value_at p a) ga gb) (mixed p a b p ∙ own (value_at p b) (value_at p a));
+      same = λ e. same_place n g p t e y (intersection p a b) ny gy py (intersection_value p a b n ∙ both_zero (value_at p b) (value_at p a) na nb) (intersection_value p a b g ∙ both_zero (value_at p b) (value_at p a) ga gb) (intersection_value p a b p ∙ own (value_at p b) (value_at p a));
     }
   where
     own : (u v : ℤ) → u *ℤ v -ℤ v *ℤ u ≡ pos 0
@@ -83,8 +93,8 @@ crossing_is_meet n g p a b y t na nb ga gb wa wb pa pb ny gy py wy =
 
 neg_at : {p : Plane} {a b y : Spot} → Crossing p a b y → (e : Plane) → (value_at p b *ℤ value_at e a -ℤ value_at p a *ℤ value_at e b) <ℤ pos 0 → IsBelow e y
 neg_at {p} {a} {b} {y} c e h =
-    let m : value_at e (mix p a b) <ℤ pos 0 = rw (mixed p a b e) h in
-    let l : ((mix p a b).w *ℤ value_at e y) <ℤ pos 0 = rw (← c.same e) (mul_pos_neg c.here m) in
+    let m : value_at e (intersection p a b) <ℤ pos 0 = rw (intersection_value p a b e) h in
+    let l : ((intersection p a b).w *ℤ value_at e y) <ℤ pos 0 = rw (← c.same e) (mul_pos_neg c.here m) in
     record { under = cancel_neg c.there l }
   where
     cancel_neg : {k x : ℤ} → pos 0 <ℤ k → (k *ℤ x) <ℤ pos 0 → x <ℤ pos 0
@@ -107,8 +117,8 @@ blend_most {u} {v} {a} {b} p q r s =
 -- the point where a plane crosses an edge isn't above a plane that neither end is above
 pub most_at : {p : Plane} {a b y : Spot} → Crossing p a b y → (e : Plane) → IsNotAbove e a → IsNotAbove e b → IsNotAbove e y
 most_at {p} {a} {b} {y} c e h k =
-    let m : value_at e (mix p a b) ≤ℤ pos 0 = rw (mixed p a b e) (blend_most c.to c.from h.at_most k.at_most) in
-    let l : (y.w *ℤ value_at e (mix p a b)) ≤ℤ pos 0 = shrink c.here m in
+    let m : value_at e (intersection p a b) ≤ℤ pos 0 = rw (intersection_value p a b e) (blend_most c.to c.from h.at_most k.at_most) in
+    let l : (y.w *ℤ value_at e (intersection p a b)) ≤ℤ pos 0 = shrink c.here m in
     record { at_most = cancel_most c.there (rw (← c.same e) l) }
   where
     shrink : {k x : ℤ} → pos 0 <ℤ k → x ≤ℤ pos 0 → (k *ℤ x) ≤ℤ pos 0

@@ -17,14 +17,14 @@ use Rattle.ember_poly.specs.declared.reach_and_cut.Reach.{Reach}
 use Rattle.ember_poly.specs.declared.reach_and_cut.Reach.TheVariants.{Below, Above, On, Both}
 use Rattle.ember_poly.specs.Rings.{Side, IsBelow, IsAbove, IsOnPlane, IsNotAbove, IsNotBelow, IsInsideRing, IsInClosedRing, IsConvexRing, Represents}
 use Rattle.ember_poly.specs.Sides.{sides_of}
-use Rattle.ember_poly.specs.Chords.{mixed2}
-use Rattle.ember_poly.specs.Passages.{HasSome, AreSigns}
+use Rattle.ember_poly.specs.Chords.{combination}
+use Rattle.ember_poly.specs.Passages.{HasMember, AreSigns}
 use Rattle.ember_poly.specs.Cuts.{IsWhole, IsReach}
 use Rattle.ember_poly.proofs.Chains.{each_map}
 use Rattle.ember_poly.proofs.Members.{has_map, has_pick}
 use Rattle.ember_poly.proofs.RingBelow.{Rooted}
 use Rattle.ember_poly.proofs.Hull.{ring-rooted, corners_at_most}
-use Rattle.ember_poly.proofs.InsideSigns.{mixed2_value, opposite_plane, corners_under}
+use Rattle.ember_poly.proofs.InsideSigns.{combination_value, opposite_plane, corners_under}
 use Rattle.ember_poly.proofs.InsidePoints.{below_is_not_above, inside_sum, corner_sum_is_inside}
 use Rattle.ember_poly.proofs.InsideBelow.{ring-closed}
 use Rattle.ember_poly.proofs.Face.{inside_from_face, face_from_inside}
@@ -72,17 +72,17 @@ least_from_opposite p v u =
 
 -- ---- no corner is above, and one is below
 -- if no corner is above a plane and some corner is below, each inside point is below
-pub all_below : (n p : Plane) (x : Spot) (xs : List Side) → IsConvexRing n xs → AllByRecursion (λ r. IsNotAbove p r.corner) xs → HasSome (λ r. IsBelow p r.corner) xs → IsInsideRing n xs x → IsBelow p x
+pub all_below : (n p : Plane) (x : Spot) (xs : List Side) → IsConvexRing n xs → AllByRecursion (λ r. IsNotAbove p r.corner) xs → HasMember (λ r. IsBelow p r.corner) xs → IsInsideRing n xs x → IsBelow p x
 all_below n p x xs h a u k =
     let f = has_pick (λ r. IsBelow p r.corner) (λ r. Rooted n r) xs u (ring-rooted n xs h) in
     corners_under n p x f.member.corner xs h a f.also.flat f.holds k
 
-has_opposite : (p : Plane) (xs : List Side) → HasSome (λ r. IsAbove p r.corner) xs → HasSome (λ r. IsBelow (opposite p) r.corner) xs
+has_opposite : (p : Plane) (xs : List Side) → HasMember (λ r. IsAbove p r.corner) xs → HasMember (λ r. IsBelow (opposite p) r.corner) xs
 has_opposite p xs u =
     has_map (λ r. IsAbove p r.corner) (λ r. IsBelow (opposite p) r.corner) xs (λ r o. over_opposite p r.corner o) u
 
 -- if no corner is below a plane and one is above, the inside is above
-pub all_above : (n p : Plane) (x : Spot) (xs : List Side) → IsConvexRing n xs → AllByRecursion (λ r. IsNotBelow p r.corner) xs → HasSome (λ r. IsAbove p r.corner) xs → IsInsideRing n xs x → IsAbove p x
+pub all_above : (n p : Plane) (x : Spot) (xs : List Side) → IsConvexRing n xs → AllByRecursion (λ r. IsNotBelow p r.corner) xs → HasMember (λ r. IsAbove p r.corner) xs → IsInsideRing n xs x → IsAbove p x
 all_above n p x xs h a u k =
     over_from_opposite p x (all_below n (opposite p) x xs h (each_map (λ r. IsNotBelow p r.corner) (λ r. IsNotAbove (opposite p) r.corner) xs (λ r q. most_opposite p r.corner q) a) (has_opposite p xs u) k)
 
@@ -115,7 +115,7 @@ some_inside n (s ∷ []) h = absurd h
 some_inside n (s ∷ t ∷ []) h = absurd h.0
 some_inside n (s ∷ t ∷ u ∷ xs) h =
     let one : pos 0 <ℤ pos 1 = omega (arith, linear) in
-    record { point = mixed2 (pos 1) (pos 1) s.corner (mixed2 (pos 1) (pos 1) t.corner u.corner); inside = corner_sum_is_inside (pos 1) (pos 1) (pos 1) n s t u xs one one one h; holds = tt }
+    record { point = combination (pos 1) (pos 1) s.corner (combination (pos 1) (pos 1) t.corner u.corner); inside = corner_sum_is_inside (pos 1) (pos 1) (pos 1) n s t u xs one one one h; holds = tt }
 
 near_below : (n p : Plane) (c : Spot) (xs : List Side) → IsConvexRing n xs → IsInClosedRing n xs c → IsBelow p c → Within n xs (λ x. IsBelow p x)
 near_below n p c xs h k u =
@@ -123,9 +123,9 @@ near_below n p c xs h k u =
     let e : Eventually (λ m. pos 0 <ℤ (neg_ℤ (value_at p c) *ℤ pos m +ℤ neg_ℤ (value_at p q.point))) = eventually_pos (neg_ℤ (value_at p q.point)) (flip u.under) in
     let m = e.from in let one : pos 0 <ℤ pos 1 = omega (arith, linear) in
     record {
-      point = mixed2 (pos m) (pos 1) c q.point;
+      point = combination (pos m) (pos 1) c q.point;
       inside = inside_sum (pos m) (pos 1) n xs c q.point (nonneg m) one k q.inside;
-      holds = record { under = rw (mixed2_value (pos m) (pos 1) c q.point p) (last (value_at p c) (pos m) (value_at p q.point) (e.holds m (omega arith))) };
+      holds = record { under = rw (combination_value (pos m) (pos 1) c q.point p) (last (value_at p c) (pos m) (value_at p q.point) (e.holds m (omega arith))) };
     }
   where
     flip : {a : ℤ} → a <ℤ pos 0 → pos 0 <ℤ neg_ℤ a
@@ -138,12 +138,12 @@ near_below n p c xs h k u =
     last a m b p =
         omega (arith, linear, p, solve 3 (λ a m b. neg a ⊗ m ⊕ neg b ≈ neg (m ⊗ a ⊕ num (pos 1) ⊗ b)) cancels a m b)
 
-some_below : (n p : Plane) (xs : List Side) → IsConvexRing n xs → HasSome (λ r. IsBelow p r.corner) xs → Within n xs (λ x. IsBelow p x)
+some_below : (n p : Plane) (xs : List Side) → IsConvexRing n xs → HasMember (λ r. IsBelow p r.corner) xs → Within n xs (λ x. IsBelow p x)
 some_below n p xs h u =
     let f = has_pick (λ r. IsBelow p r.corner) (λ r. IsInClosedRing n xs r.corner) xs u (ring-closed n xs h) in
     near_below n p f.member.corner xs h f.also f.holds
 
-some_above : (n p : Plane) (xs : List Side) → IsConvexRing n xs → HasSome (λ r. IsAbove p r.corner) xs → Within n xs (λ x. IsAbove p x)
+some_above : (n p : Plane) (xs : List Side) → IsConvexRing n xs → HasMember (λ r. IsAbove p r.corner) xs → Within n xs (λ x. IsAbove p x)
 some_above n p xs h u =
     let s = some_below n (opposite p) xs h (has_opposite p xs u) in
     record { point = s.point; inside = s.inside; holds = over_from_opposite p s.point s.holds }
@@ -169,7 +169,7 @@ module _ (n p : Plane) (gs : List Plane) (xs : List Side) (s : Represents n gs x
       let q = some_inside n xs s.sound in
       record { somewhere = record { at = q.point; inside = seen_inside q.point q.inside; holds = h q.point q.inside }; everywhere = record { holds = λ v e. h v (inside_seen v e) } }
 
-  corners_on_both_sides_are_cut : HasSome (λ r. IsBelow p r.corner) xs → HasSome (λ r. IsAbove p r.corner) xs → Cuts face p
+  corners_on_both_sides_are_cut : HasMember (λ r. IsBelow p r.corner) xs → HasMember (λ r. IsAbove p r.corner) xs → Cuts face p
   corners_on_both_sides_are_cut a b =
       let u = some_below n p xs s.sound a in let o = some_above n p xs s.sound b in
       record { some_below = record { at = u.point; inside = seen_inside u.point u.inside; holds = negative_in u.holds.under }; some_above = record { at = o.point; inside = seen_inside o.point o.inside; holds = positive_in o.holds.over } }

@@ -17,11 +17,11 @@ use Rattle.ember_model.specs.Edges.{SamePoint, HasEdge}
 use Rattle.ember_model.proofs.SignTests.{positive_nonzero}
 use Rattle.ember_model.proofs.Tuples.{plane_tuple}
 use Rattle.ember_poly.specs.Rings.{IsBelow, IsNotAbove, InFace, InClosedFace, orientation, edge_direction}
-use Rattle.ember_poly.specs.Chords.{mixed2}
+use Rattle.ember_poly.specs.Chords.{combination}
 use Rattle.ember_poly.proofs.Chains.{each_map, each_both}
 use Rattle.ember_poly.proofs.Planar.{places, both_zero, turnE}
 use Rattle.ember_poly.proofs.CutOrientation.{swap_last}
-use Rattle.ember_poly.proofs.InsideSigns.{mixed2_value, eventually_each}
+use Rattle.ember_poly.proofs.InsideSigns.{combination_value, eventually_each}
 use Rattle.ember_poly.proofs.InsidePoints.{below_is_not_above, on_is_not_above, flat_sum, weight_sum, scaled_under}
 use Rattle.ember_poly.proofs.FaceTests.{edge_in, closed_out}
 
@@ -31,30 +31,30 @@ closed_of_inside {n} {gs} {v} i =
     record { flat = i.flat; weight = i.weight; within = each_map (λ g. IsBelow g v) (λ g. IsNotAbove g v) gs (λ g u. below_is_not_above u) i.within }
 
 -- i u + j v, where u is closed and v is inside
-mixed_inside : (i j : ℤ) (n : Plane) (gs : List Plane) (u v : Spot) → pos 0 ≤ℤ i → pos 0 <ℤ j → InClosedFace n gs u → InFace n gs v → InFace n gs (mixed2 i j u v)
-mixed_inside i j n gs u v p q a b =
-    record { flat = flat_sum i j u v n a.flat b.flat; weight = weight_sum p q a.weight b.weight; within = each_both (λ g. IsNotAbove g u) (λ g. IsBelow g v) (λ g. IsBelow g (mixed2 i j u v)) gs (λ g x y. scaled_under i j u v g p q x y) a.within b.within }
+combination_inside : (i j : ℤ) (n : Plane) (gs : List Plane) (u v : Spot) → pos 0 ≤ℤ i → pos 0 <ℤ j → InClosedFace n gs u → InFace n gs v → InFace n gs (combination i j u v)
+combination_inside i j n gs u v p q a b =
+    record { flat = flat_sum i j u v n a.flat b.flat; weight = weight_sum p q a.weight b.weight; within = each_both (λ g. IsNotAbove g u) (λ g. IsBelow g v) (λ g. IsBelow g (combination i j u v)) gs (λ g x y. scaled_under i j u v g p q x y) a.within b.within }
 
 -- ---- inside points decide closed points: if the planes hs are negative where all of gs are,
 -- and at some such point, they are at most 0 where all of gs are
 pub closed_follows : (n : Plane) (gs hs : List Plane) (o : Spot) → InFace n gs o → AllByRecursion (λ h. IsBelow h o) hs → ((v : Spot) → InFace n gs v → AllByRecursion (λ h. IsBelow h v) hs) → (r : Spot) → InClosedFace n gs r → AllByRecursion (λ h. IsNotAbove h r) hs
 closed_follows n gs hs o io low follow r ir =
-    by hs low (λ m. follow (mixed2 (pos m) (pos 1) r o) (mixed_inside (pos m) (pos 1) n gs r o (least m) (omega (arith, linear)) ir io))
+    by hs low (λ m. follow (combination (pos m) (pos 1) r o) (combination_inside (pos m) (pos 1) n gs r o (least m) (omega (arith, linear)) ir io))
   where
     least : (m : ℕ) → pos 0 ≤ℤ pos m
     least m = omega (arith, linear)
 
-    never : (h : Plane) → ((m : ℕ) → IsBelow h (mixed2 (pos m) (pos 1) r o)) → pos 0 <ℤ value_at h r → ⊥
+    never : (h : Plane) → ((m : ℕ) → IsBelow h (combination (pos m) (pos 1) r o)) → pos 0 <ℤ value_at h r → ⊥
     never h all p =
         let e = eventually_pos (value_at h o) p in
-        let a : (pos e.from *ℤ value_at h r +ℤ pos 1 *ℤ value_at h o) <ℤ pos 0 = rw (← mixed2_value (pos e.from) (pos 1) r o h) ((all e.from).under) in
+        let a : (pos e.from *ℤ value_at h r +ℤ pos 1 *ℤ value_at h o) <ℤ pos 0 = rw (← combination_value (pos e.from) (pos 1) r o h) ((all e.from).under) in
         clash (value_at h r) (pos e.from) (value_at h o) a (e.holds e.from (omega arith))
       where
         clash : (x m y : ℤ) → (m *ℤ x +ℤ pos 1 *ℤ y) <ℤ pos 0 → pos 0 <ℤ (x *ℤ m +ℤ y) → ⊥
         clash x m y a b =
             absurd (omega (arith, linear, a, b, solve 2 (λ x m. m ⊗ x ≈ x ⊗ m) cancels x m, solve 1 (λ y. num (pos 1) ⊗ y ≈ y) cancels y))
 
-    by : (hs : List Plane) → AllByRecursion (λ h. IsBelow h o) hs → ((m : ℕ) → AllByRecursion (λ h. IsBelow h (mixed2 (pos m) (pos 1) r o)) hs) → AllByRecursion (λ h. IsNotAbove h r) hs
+    by : (hs : List Plane) → AllByRecursion (λ h. IsBelow h o) hs → ((m : ℕ) → AllByRecursion (λ h. IsBelow h (combination (pos m) (pos 1) r o)) hs) → AllByRecursion (λ h. IsNotAbove h r) hs
     by [] l all = tt
     by (h ∷ hs) l all =
         (by_lt_z (pos 0) (value_at h r) (λ p. absurd (never h (λ m. (all m).0) p)) (λ p. record { at_most = p }), by hs l.1 (λ m. (all m).1))
@@ -105,25 +105,25 @@ not_parallel n g p h o r t flat_o flat_r wr ho hr ex ey ez =
 -- ---- if h is negative at o and not at q, it vanishes at two places between all other planes
 module _ (n g p h : Plane) (turns : orientation n g p ≢ pos 0) (gs : List Plane) (o q : Spot) (io : InFace n gs o) (iq : InFace n gs q) (low : IsBelow h o) (high : pos 0 ≤ℤ value_at h q) where
   abbrev on : Spot
-  on = mixed2 (value_at h q) (neg_ℤ (value_at h o)) o q
+  on = combination (value_at h q) (neg_ℤ (value_at h o)) o q
 
   on_inside : InFace n gs on
   on_inside =
-      mixed_inside (value_at h q) (neg_ℤ (value_at h o)) n gs o q high (positive low.under) (closed_of_inside io) iq
+      combination_inside (value_at h q) (neg_ℤ (value_at h o)) n gs o q high (positive low.under) (closed_of_inside io) iq
     where
       positive : {a : ℤ} → a <ℤ pos 0 → pos 0 <ℤ neg_ℤ a
       positive l = omega (arith, linear, l)
 
   on_zero : value_at h on ≡ pos 0
   on_zero =
-      mixed2_value (value_at h q) (neg_ℤ (value_at h o)) o q h ∙ solve 2 (λ a b. b ⊗ a ⊕ neg a ⊗ b ≈ num (pos 0)) cancels (value_at h o) (value_at h q)
+      combination_value (value_at h q) (neg_ℤ (value_at h o)) o q h ∙ solve 2 (λ a b. b ⊗ a ⊕ neg a ⊗ b ≈ num (pos 0)) cancels (value_at h o) (value_at h q)
 
   abbrev moved : ℕ → Spot
-  moved m = mixed2 (pos m) (pos 1) on (way n h)
+  moved m = combination (pos m) (pos 1) on (way n h)
 
   moved_under : (e : Plane) → IsBelow e on → Eventually (λ m. IsBelow e (moved m))
   moved_under e u =
-      eventually_map (λ m p. record { under = rw (mixed2_value (pos m) (pos 1) on (way n h) e) (flip (value_at e on) (pos m) (value_at e (way n h)) p) }) (eventually_pos {a = neg_ℤ (value_at e on)} (neg_ℤ (value_at e (way n h))) (positive u.under))
+      eventually_map (λ m p. record { under = rw (combination_value (pos m) (pos 1) on (way n h) e) (flip (value_at e on) (pos m) (value_at e (way n h)) p) }) (eventually_pos {a = neg_ℤ (value_at e on)} (neg_ℤ (value_at e (way n h))) (positive u.under))
     where
       positive : {a : ℤ} → a <ℤ pos 0 → pos 0 <ℤ neg_ℤ a
       positive q = omega (arith, linear, q)

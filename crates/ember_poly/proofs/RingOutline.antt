@@ -12,7 +12,7 @@ use Rattle.ember_model.specs.declared.face.Face.{Face}
 use Rattle.ember_model.specs.Planes.{value_at}
 use Rattle.ember_model.specs.Edges.{SamePoint, is_on_edge, HasEdge, SameEdge, IsEarliest, RingEdge, IsEdge, IsEdgeChain, HasEdgeOf, HaveDistinctEdges, IsOutline}
 use Rattle.ember_poly.specs.Rings.{Side, IsBelow, IsNotAbove, IsConvexRing, IsInClosedRing, IsInPlanes, Represents}
-use Rattle.ember_poly.specs.Sides.{FirstPlaneFirst, HasPlaneIndex, IsZeroAtOnePoint, AllAreEdges}
+use Rattle.ember_poly.specs.Sides.{OldestFirst, HasPlaneIndex, IsZeroAtOnePoint, EachHasSideOrNoEdge}
 use Rattle.ember_poly.proofs.Chains.{each-front, each-back, each_map}
 use Rattle.ember_poly.proofs.Rotations.{turned_by, each-turned}
 use Rattle.ember_poly.proofs.Hull.{last_of}
@@ -116,28 +116,28 @@ among_at f h (x ∷ xs) zero s e same = inl (subst (λ (s : Side). SameEdge f h 
     by e = cc
 among_at f h (x ∷ xs) (suc i) s e same = inr (among_at f h xs i s e same)
 
-module _ (n : Plane) (gs : List Plane) (xs : List Side) (stands : Represents n gs xs) (counted : AllAreEdges n gs xs) where
+module _ (n : Plane) (gs : List Plane) (xs : List Side) (represents : Represents n gs xs) (counted : EachHasSideOrNoEdge n gs xs) where
   abbrev face : Face
   face = record { support = n; edges = gs }
 
   on_edge : (g : Plane) (v : Spot) → IsInClosedRing n xs v → value_at g v ≡ pos 0 → is_on_edge face g v ≡ true
-  on_edge g v c e = edge_in face g v (face_from_closed n gs xs v stands c) e
+  on_edge g v c e = edge_in face g v (face_from_closed n gs xs v represents c) e
 
   closed_of : (g : Plane) (v : Spot) → is_on_edge face g v ≡ true → IsInClosedRing n xs v
-  closed_of g v e = closed_from_face n gs xs v stands (edge_out face g v e).closed
+  closed_of g v e = closed_from_face n gs xs v represents (edge_out face g v e).closed
 
   zero_of : (g : Plane) (v : Spot) → is_on_edge face g v ≡ true → value_at g v ≡ pos 0
   zero_of g v e = (edge_out face g v e).zero
 
   here_of : (i : ℕ) (s : Side) → slice_get xs i ≡ Some s → slice_get gs s.plane_index ≡ Some s.plane
   here_of i s e =
-      let l = each_get (λ r. IsInPlanes gs r) xs i s stands.listed e in
+      let l = each_get (λ r. IsInPlanes gs r) xs i s represents.listed e in
       slice_get-get_or gs s.plane_index s.plane l.index ∙ ap (λ p. Some p) l.here
 
   -- ---- at one side
   module _ (us : List Side) (c : Side) (ws : List Side) (split : xs ≡ us ++ c ∷ ws) where
     begun : Begun n us c ws
-    begun = begin n us c ws (subst (λ zs. IsConvexRing n zs) split stands.sound)
+    begun = begin n us c ws (subst (λ zs. IsConvexRing n zs) split represents.sound)
 
     closed_corners : AllByRecursion (λ s. IsInClosedRing n xs s.corner) (us ++ c ∷ ws)
     closed_corners = by [] (us ++ c ∷ ws) split
@@ -145,7 +145,7 @@ module _ (n : Plane) (gs : List Plane) (xs : List Side) (stands : Represents n g
         by : (ps zs : List Side) → xs ≡ ps ++ zs → AllByRecursion (λ s. IsInClosedRing n xs s.corner) zs
         by ps [] e = tt
         by ps (z ∷ zs) e =
-            (subst (λ ys. IsInClosedRing n ys z.corner) (sym e) (corner_closed n ps z zs (subst (λ ys. IsConvexRing n ys) e stands.sound)), by (ps ++ z ∷ []) zs (e ∙ sym (append_assoc ps (z ∷ []) zs)))
+            (subst (λ ys. IsInClosedRing n ys z.corner) (sym e) (corner_closed n ps z zs (subst (λ ys. IsConvexRing n ys) e represents.sound)), by (ps ++ z ∷ []) zs (e ∙ sym (append_assoc ps (z ∷ []) zs)))
 
     abbrev end : Spot
     end = begun.behind.corner
@@ -225,7 +225,7 @@ module _ (n : Plane) (gs : List Plane) (xs : List Side) (stands : Represents n g
     is_edge : IsEdge face (edge_of c) (head_or c (ws ++ us)).corner
     is_edge =
         subst (λ (s : Side). IsEdge face (edge_of c) s.corner) (sym begun.next) (record {
-          stands = stands_for;
+          is_earliest = stands_for;
           starts = starts_on;
           ends = ends_on;
           leads = edge_leads n begun.before c begun.behind begun.others begun.sound;
@@ -234,7 +234,7 @@ module _ (n : Plane) (gs : List Plane) (xs : List Side) (stands : Represents n g
         })
 
   -- ---- once round
-  module _ (first : Side) (rest : List Side) (begins : xs ≡ first ∷ rest) (oldest : FirstPlaneFirst xs) where
+  module _ (first : Side) (rest : List Side) (begins : xs ≡ first ∷ rest) (oldest : OldestFirst xs) where
     begins_at : (us : List Side) (c : Side) (ws : List Side) → first ∷ rest ≡ us ++ c ∷ ws → head_or c us ≡ first
     begins_at [] c ws e = cc
     begins_at (u ∷ us) c ws e = cc
@@ -252,7 +252,7 @@ module _ (n : Plane) (gs : List Plane) (xs : List Side) (stands : Represents n g
 
     no_older : (s : Side) (i : ℕ) → slice_get xs i ≡ Some s → s.plane_index < first.plane_index → ⊥
     no_older s i e l =
-        ⊎_elim (λ p. absurd (omega (arith, l, p))) (λ q. absurd (omega (arith, l, ap (λ (s : Side). s.plane_index) q.0))) (member_is_here_or_else (λ r. first.plane_index ≤ r.plane_index) [] first rest i s tt (subst (λ zs. FirstPlaneFirst zs) begins oldest) (subst (λ zs. slice_get zs i ≡ Some s) begins e))
+        ⊎_elim (λ p. absurd (omega (arith, l, p))) (λ q. absurd (omega (arith, l, ap (λ (s : Side). s.plane_index) q.0))) (member_is_here_or_else (λ r. first.plane_index ≤ r.plane_index) [] first rest i s tt (subst (λ zs. OldestFirst zs) begins oldest) (subst (λ zs. slice_get zs i ≡ Some s) begins e))
 
     earliest : IsEarliest (λ h. HasEdge face h) gs first.plane
     earliest =
@@ -283,6 +283,6 @@ sound_begins n [] h = absurd h
 sound_begins n (x ∷ xs) h = (x, xs, refl)
 
 -- the sides of a ring are the outline of its face
-pub ring_outline : (n : Plane) (gs : List Plane) (xs : List Side) → Represents n gs xs → AllAreEdges n gs xs → FirstPlaneFirst xs → IsOutline (record { support = n; edges = gs }) (outline xs)
+pub ring_outline : (n : Plane) (gs : List Plane) (xs : List Side) → Represents n gs xs → EachHasSideOrNoEdge n gs xs → OldestFirst xs → IsOutline (record { support = n; edges = gs }) (outline xs)
 ring_outline n gs xs s k o =
     let b = sound_begins n xs s.sound in is_outline n gs xs s k b.0 b.1 b.2 o

@@ -5,9 +5,9 @@ use Rattle.ember_model.specs.declared.plane.Plane.{Plane}
 use Rattle.ember_model.specs.declared.point.Spot.{Spot}
 use Rattle.ember_point.specs.declared.meet_point.Meet.{Meet}
 use Rattle.ember_point.specs.Points.{spot_of}
-use Rattle.ember_poly.specs.Sides.{sides_of, FirstPlaneFirst}
+use Rattle.ember_poly.specs.Sides.{sides_of, OldestFirst}
 use Rattle.ember_poly.specs.Boundaries.{LeastFirst}
-use Rattle.ember_poly.specs.Passages.{HasSome}
+use Rattle.ember_poly.specs.Passages.{HasMember}
 
 -- ---- what all corners or one corner has
 -- what holds of all corners of the list holds of the sides' corners
@@ -26,7 +26,7 @@ corner_each P (e ∷ es) (m ∷ ms) (b ∷ bs) p q h =
     (h.0, corner_each P es ms bs (omega (arith, p)) (omega (arith, q)) h.1)
 
 -- some corner of the list is the corner of some side
-pub has_corner : (P : Spot → Type 0) (es : List Plane) (ms : List Meet) (bs : List ℕ) → length ms ≡ length es → length bs ≡ length es → HasSome (λ m. P (spot_of m)) ms → HasSome (λ s. P s.corner) (sides_of es ms bs)
+pub has_corner : (P : Spot → Type 0) (es : List Plane) (ms : List Meet) (bs : List ℕ) → length ms ≡ length es → length bs ≡ length es → HasMember (λ m. P (spot_of m)) ms → HasMember (λ s. P s.corner) (sides_of es ms bs)
 has_corner P [] [] bs p q h = absurd h
 has_corner P [] (m ∷ ms) bs p q h = absurd (omega (arith, p))
 has_corner P (e ∷ es) [] bs p q h = absurd h
@@ -80,7 +80,7 @@ each_birth P (e ∷ es) (m ∷ ms) [] h = tt
 each_birth P (e ∷ es) (m ∷ ms) (b ∷ bs) h = (h.0, each_birth P es ms bs h.1)
 
 -- if the first index is the least, the first side's plane has the lowest index
-pub oldest_first : (es : List Plane) (ms : List Meet) (bs : List ℕ) → LeastFirst bs → FirstPlaneFirst (sides_of es ms bs)
+pub oldest_first : (es : List Plane) (ms : List Meet) (bs : List ℕ) → LeastFirst bs → OldestFirst (sides_of es ms bs)
 oldest_first [] ms bs h = tt
 oldest_first (e ∷ es) [] bs h = tt
 oldest_first (e ∷ es) (m ∷ ms) [] h = tt

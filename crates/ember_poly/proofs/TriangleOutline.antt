@@ -55,7 +55,7 @@ module _ (n a b c : Plane) where
       none e = cc
 
   one_of : (d : RingEdge) (end : Spot) → IsEdge face d end → IsOne d.plane
-  one_of d end h = one_at h.stands.index d.plane h.stands.here
+  one_of d end h = one_at h.is_earliest.index d.plane h.is_earliest.here
 
   first_plane : (g : Plane) → HasEdge face a → IsEarliest (λ h. HasEdge face h) (a ∷ b ∷ c ∷ []) g → g ≡ a
   first_plane g k e = by e.index e.here e.earliest

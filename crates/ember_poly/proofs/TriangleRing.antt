@@ -21,7 +21,7 @@ use Rattle.ember_model.proofs.PlaneSizes.{support_sized, support_valid}
 use Rattle.ember_point.specs.declared.meet_point.Meet.{Meet}
 use Rattle.ember_point.specs.Points.{spot_of}
 use Rattle.ember_poly.specs.Rings.{Side, Represents}
-use Rattle.ember_poly.specs.Sides.{sides_of, FirstPlaneFirst, AllAreEdges, IsRing}
+use Rattle.ember_poly.specs.Sides.{sides_of, OldestFirst, EachHasSideOrNoEdge, IsRing}
 use Rattle.ember_poly.proofs.Triangle.{normal_of, side_along, triangle_stands}
 
 -- ---- the main axis
@@ -92,7 +92,7 @@ stands t e =
     triangle_stands (sign (along (support_of t) k)) (unit k) t.a t.b t.c (faces_axis t e)
 
 -- each edge plane of a triangle is that of a side
-pub counted : (t : Tri) → AllAreEdges (support_of t) (tri_planes t) (tri_sides t)
+pub counted : (t : Tri) → EachHasSideOrNoEdge (support_of t) (tri_planes t) (tri_sides t)
 counted t zero h e = inl (record { at = 0; side = _; here = refl; plane_index = refl })
 counted t (suc zero) h e = inl (record { at = 1; side = _; here = refl; plane_index = refl })
 counted t (suc (suc zero)) h e = inl (record { at = 2; side = _; here = refl; plane_index = refl })
@@ -112,7 +112,7 @@ same_sides t u v w eu ev ew =
 ring_of : (t : Tri) (u v w : Meet) → is_flat t ≡ false → spot_of u ≡ spot_of_corner t.a → spot_of v ≡ spot_of_corner t.b → spot_of w ≡ spot_of_corner t.c → IsValidPlane (support_of t) → All IsValidPlane (tri_planes t) → IsRing (support_of t) (tri_planes t) (tri_planes t) (places u v w) (0 ∷ 1 ∷ 2 ∷ [])
 ring_of t u v w e eu ev ew vn vs =
     let q = sym (same_sides t u v w eu ev ew) in
-    record { stands = subst (λ xs. Represents (support_of t) (tri_planes t) xs) q (stands t e); oldest = subst (λ xs. FirstPlaneFirst xs) q (omega arith, (omega arith, tt)); counted = subst (λ xs. AllAreEdges (support_of t) (tri_planes t) xs) q (counted t); corners = refl; plane_indices = refl; support = vn; planes = vs }
+    record { represents = subst (λ xs. Represents (support_of t) (tri_planes t) xs) q (stands t e); oldest = subst (λ xs. OldestFirst xs) q (omega arith, (omega arith, tt)); counted = subst (λ xs. EachHasSideOrNoEdge (support_of t) (tri_planes t) xs) q (counted t); corners = refl; plane_indices = refl; support = vn; planes = vs }
 
 -- from what the code holds
 pub tri_ring : (t : Tri) (n : Plane) (u v w : Meet) {fs gs es : List Plane} {ms : List Meet} {bs : List ℕ} → is_flat t ≡ false → n ≡ support_of t → IsValidPlane n → fs ≡ tri_planes t → All IsValidPlane fs → gs ≡ fs → es ≡ fs → ms ≡ places u v w → bs ≡ 0 ∷ 1 ∷ 2 ∷ [] → spot_of u ≡ spot_of_corner t.a → spot_of v ≡ spot_of_corner t.b → spot_of w ≡ spot_of_corner t.c → IsRing n gs es ms bs

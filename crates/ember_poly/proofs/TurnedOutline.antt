@@ -69,7 +69,7 @@ from_end e end = record e { start = end }
 edge_turned : (f : Face) (e : RingEdge) (end : Spot) → IsEdge f e end → IsEdge (flipped_face f) (from_end e end) e.start
 edge_turned f e end h =
     record {
-      stands = record { index = h.stands.index; here = h.stands.here; holds = same_turned f e.plane e.plane h.stands.holds; earliest = λ i g l k s. h.stands.earliest i g l k (same_back f g e.plane s) };
+      is_earliest = record { index = h.is_earliest.index; here = h.is_earliest.here; holds = same_turned f e.plane e.plane h.is_earliest.holds; earliest = λ i g l k s. h.is_earliest.earliest i g l k (same_back f g e.plane s) };
       starts = on_turned f e.plane end ∙ h.ends;
       ends = on_turned f e.plane e.start ∙ h.starts;
       leads = before_turned f.support e.plane e.start end h.leads;

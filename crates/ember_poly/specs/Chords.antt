@@ -25,9 +25,9 @@ IsChordPart a b Whole = (a ≤ℤ pos 0) × (b ≤ℤ pos 0)
 IsChordPart a b Split = ((pos 0 <ℤ a) × (b <ℤ pos 0)) ⊎ ((a <ℤ pos 0) × (pos 0 <ℤ b))
 IsChordPart a b Empty = ((pos 0 <ℤ a) × (pos 0 ≤ℤ b)) ⊎ ((pos 0 ≤ℤ a) × (pos 0 <ℤ b))
 
--- i y + j z
-abbrev pub mixed2 : ℤ → ℤ → Spot → Spot → Spot
-mixed2 i j u v =
+-- i u + j v: a point of the line through u and v
+abbrev pub combination : ℤ → ℤ → Spot → Spot → Spot
+combination i j u v =
     record { x = i *ℤ u.x +ℤ j *ℤ v.x; y = i *ℤ u.y +ℤ j *ℤ v.y; z = i *ℤ u.z +ℤ j *ℤ v.z; w = i *ℤ u.w +ℤ j *ℤ v.w }
 
 -- some point strictly between y and z is above no plane of the list
@@ -36,7 +36,7 @@ pub record IsOpen (hs : List Plane) (y z : Spot) : Type 0 where
   pub j : ℤ
   pub from_y : pos 0 <ℤ i
   pub from_z : pos 0 <ℤ j
-  pub free : none_positive hs (mixed2 i j y z) ≡ true
+  pub free : none_positive hs (combination i j y z) ≡ true
 
 -- the three planes meet in a point that is above no plane of the list
 pub record HasVertexWithin (n p h : Plane) (hs : List Plane) : Type 0 where

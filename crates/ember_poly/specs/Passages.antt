@@ -11,7 +11,7 @@ use Rattle.ember_point.specs.Points.{spot_of}
 use Rattle.ember_poly.specs.declared.passage.Passage.{Passage}
 use Rattle.ember_poly.specs.declared.reach_and_cut.Reach.{Reach}
 use Rattle.ember_poly.specs.declared.reach_and_cut.Reach.TheVariants.{Below, Above, On, Both}
-use Rattle.ember_poly.specs.Rings.{Side, IsBelow, IsAbove, IsOnPlane, IsNotAbove, IsNotBelow, Long, IsMeet}
+use Rattle.ember_poly.specs.Rings.{Side, IsBelow, IsAbove, IsOnPlane, IsNotAbove, IsNotBelow, IsNotEmpty, IsMeet}
 
 -- the plane's normal lies along the axis
 abbrev pub IsAlong : Axis → Plane → Type 0
@@ -21,24 +21,24 @@ IsAlong Z p = (p.a ≡ pos 0) × (p.b ≡ pos 0)
 
 -- ---- the signs at the corners
 -- some member has the property
-abbrev pub HasSome : {X : Type 0} → (X → Type 0) → List X → Type 0
-HasSome P [] = ⊥
-HasSome P (x ∷ xs) = P x ⊎ HasSome P xs
+abbrev pub HasMember : {X : Type 0} → (X → Type 0) → List X → Type 0
+HasMember P [] = ⊥
+HasMember P (x ∷ xs) = P x ⊎ HasMember P xs
 
 -- what the corners say of the side on which the ring lies
 abbrev pub AreSigns : Plane → List Meet → Reach → Type 0
 AreSigns p ms Below =
-    AllByRecursion (λ m. IsNotAbove p (spot_of m)) ms × HasSome (λ m. IsBelow p (spot_of m)) ms
+    AllByRecursion (λ m. IsNotAbove p (spot_of m)) ms × HasMember (λ m. IsBelow p (spot_of m)) ms
 AreSigns p ms Above =
-    AllByRecursion (λ m. IsNotBelow p (spot_of m)) ms × HasSome (λ m. IsAbove p (spot_of m)) ms
+    AllByRecursion (λ m. IsNotBelow p (spot_of m)) ms × HasMember (λ m. IsAbove p (spot_of m)) ms
 AreSigns p ms On = AllByRecursion (λ m. IsOnPlane p (spot_of m)) ms
-AreSigns p ms Both = HasSome (λ m. IsBelow p (spot_of m)) ms × HasSome (λ m. IsAbove p (spot_of m)) ms
+AreSigns p ms Both = HasMember (λ m. IsBelow p (spot_of m)) ms × HasMember (λ m. IsAbove p (spot_of m)) ms
 
 -- of these corners, `low` are known to be below the plane, and `high` says whether some are above
 pub record AreClassified (p : Plane) (low : ℕ) (high : Bool) (ms : List Meet) : Type 0 where
-  pub under : 0 < low → HasSome (λ m. IsBelow p (spot_of m)) ms
+  pub under : 0 < low → HasMember (λ m. IsBelow p (spot_of m)) ms
   pub least : low ≡ 0 → AllByRecursion (λ m. IsNotBelow p (spot_of m)) ms
-  pub over : high ≡ true → HasSome (λ m. IsAbove p (spot_of m)) ms
+  pub over : high ≡ true → HasMember (λ m. IsAbove p (spot_of m)) ms
   pub most : high ≡ false → AllByRecursion (λ m. IsNotAbove p (spot_of m)) ms
 
 -- some corner is above the plane, and some is below
@@ -66,7 +66,7 @@ pub record IsOneSidedRun (p : Plane) (below : Bool) (ms : List Meet) (k : ℕ) :
 -- whether one of corners that do not lie below the plane is above it
 pub record AreNotBelow (p : Plane) (high : Bool) (ms : List Meet) : Type 0 where
   pub all : AllByRecursion (λ m. is_under p m ≡ false) ms
-  pub some : high ≡ true → HasSome (λ m. IsAbove p (spot_of m)) ms
+  pub some : high ≡ true → HasMember (λ m. IsAbove p (spot_of m)) ms
   pub none : high ≡ false → AllByRecursion (λ m. IsNotAbove p (spot_of m)) ms
 
 -- the first k corners do not lie below the plane, and the next one, if there is one, does
@@ -87,25 +87,25 @@ pub record EntersAt (p : Plane) (ms : List Meet) (entry_edge below_count : ℕ) 
   pub run : IsOneSidedRun p true (drop (entry_edge + 1) ms ++ take entry_edge ms) below_count
 
 -- ---- the passage
--- after the sides below the plane the boundary leaves the plane's negative side: the next corner isn't below
--- it, and some corner that is left, f's or one of the list, is above it. If three are left, that is sure, since
--- three corners of a ring are never on one line.
+-- after the sides below the plane the boundary leaves the plane's negative side. The corners that aren't below are
+-- f's and those of the list, and one of them is above: f's, the next one, or one after it. If there is one after it,
+-- they are three or more, so this is sure: three corners of a ring are never on one line.
 abbrev pub Leaves : Plane → Side → List Side → Type 0
 Leaves p f [] = IsAbove p f.corner
 Leaves p f (d ∷ ds) =
-    IsNotBelow p d.corner × (IsAbove p f.corner ⊎ (IsAbove p d.corner ⊎ Long ds))
+    IsNotBelow p d.corner × (IsAbove p f.corner ⊎ (IsAbove p d.corner ⊎ IsNotEmpty ds))
 
--- the ring begun where the plane's negative side is entered: the side on whose edge that is, the
--- sides whose corners lie below the plane, and the others; and the two ends of the chord
+-- the ring begun where the plane's negative side is entered: the side on whose edge that is, the sides whose corners
+-- lie below the plane (the `firsts` and the `last`), and the others; and the two ends of the chord
 pub record IsPassage (n p : Plane) (xs : List Side) (at : Passage) : Type 0 where
   pub head : Side
-  pub front : List Side
+  pub firsts : List Side
   pub last : Side
   pub others : List Side
   pub within : at.entry_edge < length xs
-  pub turned : drop at.entry_edge xs ++ take at.entry_edge xs ≡ head ∷ (front ++ last ∷ []) ++ others
-  pub count : at.below_count ≡ suc (length front)
-  pub under : AllByRecursion (λ s. IsBelow p s.corner) (front ++ last ∷ [])
+  pub turned : drop at.entry_edge xs ++ take at.entry_edge xs ≡ head ∷ (firsts ++ last ∷ []) ++ others
+  pub count : at.below_count ≡ suc (length firsts)
+  pub under : AllByRecursion (λ s. IsBelow p s.corner) (firsts ++ last ∷ [])
   pub enters : IsNotBelow p head.corner
   pub leaves : Leaves p head others
   pub entry : IsMeet n head.plane p (spot_of at.entry)

@@ -18,16 +18,6 @@ pub record Side : Type 0 where
 abbrev pub orientation : Plane → Plane → Plane → ℤ
 orientation n g h = det (normal n) (normal g) (normal h)
 
--- the point of the segment from a to b that p meets
-abbrev pub mix : Plane → Spot → Spot → Spot
-mix p a b =
-    record {
-      x = value_at p b *ℤ a.x -ℤ value_at p a *ℤ b.x;
-      y = value_at p b *ℤ a.y -ℤ value_at p a *ℤ b.y;
-      z = value_at p b *ℤ a.z -ℤ value_at p a *ℤ b.z;
-      w = value_at p b *ℤ a.w -ℤ value_at p a *ℤ b.w;
-    }
-
 -- the point lies below the plane
 pub record IsBelow (p : Plane) (v : Spot) : Type 0 where
   pub under : value_at p v <ℤ pos 0
@@ -50,15 +40,15 @@ IsSideChain n g (s ∷ xs) =
     AllByRecursion (λ t. IsBelow t.plane s.corner) xs × IsSideChain n s.plane xs
 
 -- the list isn't empty
-abbrev pub Long : List Side → Type 0
-Long [] = ⊥
-Long (s ∷ xs) = ⊤
+abbrev pub IsNotEmpty : List Side → Type 0
+IsNotEmpty [] = ⊥
+IsNotEmpty (s ∷ xs) = ⊤
 
 -- a ring: at least three sides, and a chain from its first edge and from its second
 abbrev pub IsConvexRing : Plane → List Side → Type 0
 IsConvexRing n [] = ⊥
 IsConvexRing n (s ∷ []) = ⊥
-IsConvexRing n (s ∷ t ∷ xs) = Long xs × IsSideChain n s.plane (t ∷ xs) × IsSideChain n t.plane (xs ++ s ∷ [])
+IsConvexRing n (s ∷ t ∷ xs) = IsNotEmpty xs × IsSideChain n s.plane (t ∷ xs) × IsSideChain n t.plane (xs ++ s ∷ [])
 
 -- the last edge ends at t, and the others are negative there
 abbrev pub EndsAt : Plane → Plane → List Side → Side → Type 0

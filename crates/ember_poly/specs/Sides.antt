@@ -18,10 +18,10 @@ sides_of (e ∷ es) [] bs = []
 sides_of (e ∷ es) (m ∷ ms) [] = []
 sides_of (e ∷ es) (m ∷ ms) (b ∷ bs) = record { plane = e; corner = spot_of m; plane_index = b } ∷ sides_of es ms bs
 
--- the first side's plane has the lowest index
-abbrev pub FirstPlaneFirst : List Side → Type 0
-FirstPlaneFirst [] = ⊤
-FirstPlaneFirst (s ∷ xs) = AllByRecursion (λ r. s.plane_index ≤ r.plane_index) xs
+-- the first side is the oldest: its plane has the lowest index
+abbrev pub OldestFirst : List Side → Type 0
+OldestFirst [] = ⊤
+OldestFirst (s ∷ xs) = AllByRecursion (λ r. s.plane_index ≤ r.plane_index) xs
 
 -- some side's plane is the one with this index
 pub record HasPlaneIndex (index : ℕ) (xs : List Side) : Type 0 where
@@ -36,15 +36,16 @@ IsZeroAtOnePoint n xs h =
     (u v : Spot) → IsInClosedRing n xs u → IsInClosedRing n xs v → value_at h u ≡ pos 0 → value_at h v ≡ pos 0 →
     SamePoint u v
 
--- each plane of the face is that of a side, or its edge does not count
-abbrev pub AllAreEdges : Plane → List Plane → List Side → Type 0
-AllAreEdges n gs xs = (i : ℕ) (h : Plane) → slice_get gs i ≡ Some h → HasPlaneIndex i xs ⊎ IsZeroAtOnePoint n xs h
+-- each plane of the face is that of a side, or its edge doesn't count
+abbrev pub EachHasSideOrNoEdge : Plane → List Plane → List Side → Type 0
+EachHasSideOrNoEdge n gs xs =
+    (i : ℕ) (h : Plane) → slice_get gs i ≡ Some h → HasPlaneIndex i xs ⊎ IsZeroAtOnePoint n xs h
 
 -- what a ring keeps: the support plane, all planes, and the edges with their corners and plane indices
 pub record IsRing (n : Plane) (gs es : List Plane) (ms : List Meet) (bs : List ℕ) : Type 0 where
-  pub stands : Represents n gs (sides_of es ms bs)
-  pub oldest : FirstPlaneFirst (sides_of es ms bs)
-  pub counted : AllAreEdges n gs (sides_of es ms bs)
+  pub represents : Represents n gs (sides_of es ms bs)
+  pub oldest : OldestFirst (sides_of es ms bs)
+  pub counted : EachHasSideOrNoEdge n gs (sides_of es ms bs)
   pub corners : length ms ≡ length es
   pub plane_indices : length bs ≡ length es
   pub support : IsValidPlane n

@@ -167,7 +167,7 @@ impl Boundary {
         let ahead = len - passage.entry_edge;
         if passage.below_count < ahead {
             // The kept edges don't go past the end of the lists. If they don't begin with edge 0,
-            // it is cut away. The lists are rotated, and the new edge is appended.
+            // edge 0 is cut away. The lists are rotated, and the new edge is appended.
             self.rotate(passage.entry_edge);
             self.set_start(0, passage.entry);
             self.put(passage.below_count + 1, len, side)?;

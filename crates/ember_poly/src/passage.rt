@@ -10,7 +10,7 @@ ghost use Rattle.ember_poly.specs.Rings.{IsConvexRing, IsMeet, IsAbove, IsNotAbo
 ghost use Rattle.ember_poly.specs.Boundaries.{sides, HasEqualLengths};
 ghost use Rattle.ember_poly.specs.declared.reach_and_cut.Reach.TheVariants as reach;
 ghost use Rattle.ember_poly.specs.Levels.{IsLevel};
-ghost use Rattle.ember_poly.specs.Passages.{IsAlong, HasSome, AreSigns, AreClassified, is_under, Straddles, IsOneSidedRun, AreNotBelow, IsRunNotBelow, EntersAt, IsPassage};
+ghost use Rattle.ember_poly.specs.Passages.{IsAlong, HasMember, AreSigns, AreClassified, is_under, Straddles, IsOneSidedRun, AreNotBelow, IsRunNotBelow, EntersAt, IsPassage};
 
 use crate::boundary::Boundary;
 use crate::level::{Level, level_of, level_point};
@@ -151,7 +151,7 @@ fn count_not_below(p: &Plane, axis: Option<Axis>, corners: &[Meet], first: bool)
 fn is_some_above(p: &Plane, axis: Option<Axis>, corners: &[Meet], known: bool) -> bool
     requires plane { IsValidPlane p.now }
     requires axis { IfSome axis (λ k. IsAlong k p.now) }
-    ensures some { result ≡ true → (known ≡ true) ⊎ HasSome (λ m. IsAbove p.now (spot_of m)) corners.now }
+    ensures some { result ≡ true → (known ≡ true) ⊎ HasMember (λ m. IsAbove p.now (spot_of m)) corners.now }
     ensures none { result ≡ false → (known ≡ false) × AllByRecursion (λ m. IsNotAbove p.now (spot_of m)) corners.now }
 {
     if known {
@@ -195,6 +195,7 @@ pub fn classify(plane: &Plane, corners: &[Meet]) -> Classification
     let (leading, next) = count_below(plane, axis, corners, 0);
     let (rising, some_high) = count_not_below(plane, axis, &corners[leading..], next);
     let turn = leading + rising;
+    // The corner at `turn`, if there is one, ended the rising run, so it is known to be below.
     let (falling, _) = count_below(plane, axis, &corners[turn..], 1);
     let high = is_some_above(plane, axis, &corners[turn + falling..], some_high);
     let reach = reach_by(leading + falling, high);

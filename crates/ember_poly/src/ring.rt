@@ -1,6 +1,5 @@
 // Rings: faces that keep their corners beside their edges.
-ghost use Rattle.std.specs.Prelude.{◌≡◌, ◌≤◌, ◌&&◌, None, Some, IfOk, length, All, if◌then◌else◌};
-ghost use Rattle.ember_algebra.specs.Sign.{is_zero};
+ghost use Rattle.std.specs.Prelude.{◌≡◌, ◌≤◌, None, Some, IfOk, length, All, if◌then◌else◌};
 ghost use Rattle.ember_model.specs.Valid.{IsValidCorner, IsValidTri, IsValidPlane};
 ghost use Rattle.ember_model.specs.Planes.{support_of};
 ghost use Rattle.ember_model.specs.Faces.{is_flat, face_of, edges_of};
@@ -10,7 +9,9 @@ ghost use Rattle.ember_point.specs.Points.{spot_of};
 ghost use Rattle.ember_poly.specs.Sides.{ring_edges, AreEdges, AreCorners};
 
 use crate::boundary::{Boundary, with_room};
-use ember_model::{Corner, OutOfMemory, Plane, Tri, edge_plane, main_axis, support_of};
+use ember_model::{
+    Corner, OutOfMemory, Plane, Tri, edge_plane, has_no_normal, main_axis, support_of,
+};
 use ember_point::Meet;
 use std::alloc::Global;
 use std::marker::Model;
@@ -53,14 +54,9 @@ pub fn at_corner(c: &Corner) -> Meet
     }
 }
 
-// Whether the plane's normal is zero.
-fn has_no_normal(p: &Plane) -> bool
-    ensures { result ≡ is_zero p.now.a && (is_zero p.now.b && is_zero p.now.c) }
-{
-    p.a == 0 && (p.b == 0 && p.c == 0)
-}
-
-/// The edge planes of a triangle with this support plane, parallel to its main axis.
+/// The edge planes of a triangle with this support plane, parallel to its main axis. The same as
+/// `main_edges` of ember_model, which that crate keeps to itself: there the planes are small, and
+/// here they are valid.
 pub fn main_edges(t: &Tri, support: &Plane) -> [Plane; 3]
     requires tri { IsValidTri t.now }
     requires support { support.now ≡ support_of t.now }

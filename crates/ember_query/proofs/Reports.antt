@@ -10,7 +10,7 @@ use Rattle.ember_job.specs.Visited.{below_shape, entry_of, visited, visited_with
 use Rattle.ember_job.specs.Weights.{weigh}
 use Rattle.ember_job.specs.Works.{Shape, halved, leafed, passed}
 use Rattle.ember_report.specs.Reports.{is_leaf, is_skipped, report_from}
-use Rattle.ember_query.specs.Runs.{HoldEntries, entries, run_report}
+use Rattle.ember_query.specs.Runs.{AreJournalsOf, entries, run_report}
 
 -- ---- the number of all boxes down to a depth
 abbrev most : ℕ → ℕ
@@ -52,14 +52,14 @@ count_weighs p xs =
 sum_weighs : {X : Type 0} (f g : X → ℕ) → ((x : X) → f x ≡ g x) → (xs : List X) → sum_by f xs ≡ weigh g xs
 sum_weighs f g e xs = let q : sum_by f xs ≡ 0 + weigh g xs = fold_weighs f g e 0 xs in omega (arith, q)
 
-sum_same : (shape : Job → Shape) (root : Job) (journals : List (List Entry)) → HoldEntries shape root journals → (f : List Entry → ℕ) (h : Entry → ℕ) → ((es : List Entry) → f es ≡ weigh h es) → sum_by f journals ≡ sum_by f (entries shape root ∷ [])
+sum_same : (shape : Job → Shape) (root : Job) (journals : List (List Entry)) → AreJournalsOf shape root journals → (f : List Entry → ℕ) (h : Entry → ℕ) → ((es : List Entry) → f es ≡ weigh h es) → sum_by f journals ≡ sum_by f (entries shape root ∷ [])
 sum_same shape root journals holds f h e =
     let a = sum_weighs f (weigh h) e journals in
     let b = sum_weighs f (weigh h) e (entries shape root ∷ []) in
     let c = holds h in omega (arith, a, b, c)
 
 -- the report of the journals is that of the visited boxes
-pub same_report : (shape : Job → Shape) (root : Job) (journals : List (List Entry)) (faces : ℕ) → HoldEntries shape root journals → report_from journals faces ≡ run_report shape root faces
+pub same_report : (shape : Job → Shape) (root : Job) (journals : List (List Entry)) (faces : ℕ) → AreJournalsOf shape root journals → report_from journals faces ≡ run_report shape root faces
 same_report shape root journals faces holds =
     let b = sum_same shape root journals holds length (λ x. 1) length_weighs in
     let l = sum_same shape root journals holds (count_by is_leaf) (λ x. cond (is_leaf x) 1 0) (count_weighs is_leaf) in
@@ -67,7 +67,7 @@ same_report shape root journals faces holds =
     λ i. record { boxes = b i; leaves = l i; skipped = s i; faces = faces }
 
 -- the number of all entries fits into 64 bits
-pub entries_fit : (shape : Job → Shape) (root : Job) (journals : List (List Entry)) → root.cell ≡ boxes.root → HoldEntries shape root journals → sum_by length journals < 2 ^ 64
+pub entries_fit : (shape : Job → Shape) (root : Job) (journals : List (List Entry)) → root.cell ≡ boxes.root → AreJournalsOf shape root journals → sum_by length journals < 2 ^ 64
 entries_fit shape root journals e holds =
     let b = sum_same shape root journals holds length (λ x. 1) length_weighs in
     let m = length-map (visited shape root) (entry_of shape) in
@@ -80,5 +80,5 @@ weigh_more h [] = refl
 weigh_more h (j ∷ js) = ap (λ (n : ℕ). weigh h j + n) (weigh_more h js)
 
 -- an empty journal of the caller may be left out
-pub holds_alone : (shape : Job → Shape) (root : Job) (journals : List (List Entry)) → HoldEntries shape root (journals ++ [] ∷ []) → HoldEntries shape root journals
+pub holds_alone : (shape : Job → Shape) (root : Job) (journals : List (List Entry)) → AreJournalsOf shape root (journals ++ [] ∷ []) → AreJournalsOf shape root journals
 holds_alone shape root journals holds h = sym (weigh_more h journals) ∙ holds h

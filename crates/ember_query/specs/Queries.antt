@@ -4,11 +4,11 @@ use Rattle.std.specs.Borrow.{Bor}
 use Rattle.std.specs.declared.alloc.AllocError.{AllocError}
 use Rattle.ember_expr.specs.Formula.{formula_of}
 use Rattle.ember_query.specs.declared.query.Answer.{Answer}
-use Rattle.ember_query.specs.declared.query.Answer.TheVariants as finds
+use Rattle.ember_query.specs.declared.query.Answer.TheVariants as answer
 use Rattle.ember_query.specs.declared.query.Query.{Query}
 use Rattle.ember_query.specs.declared.query.Query.TheVariants as query
 use Rattle.ember_query.specs.Leaves.{AreFills, ArePairsOfLeaves, AreRegionCounts}
-use Rattle.ember_query.specs.Solids.{HoldRun}
+use Rattle.ember_query.specs.Solids.{AreJournalsOfSolid}
 use Rattle.ember_step.specs.Texts.{AreLeafTexts}
 
 -- the queries that may be asked: cells have a side of 2 ^ 4 to 2 ^ 12
@@ -19,17 +19,17 @@ IsQuery (query.Texts scene expr) = ⊤
 IsQuery (query.Counts scene expr) = ⊤
 
 -- this is the answer to the query; it is of the same kind (`query.Pairs` is a variant of `Query`,
--- and `finds.Pairs` the one of `Answer`)
+-- and `answer.Pairs` the one of `Answer`)
 abbrev pub IsAnswer : Query → Answer → Type 0
-IsAnswer (query.Pairs scene) (finds.Pairs items) = ArePairsOfLeaves scene.now.tris items.items
-IsAnswer (query.Fills scene expr size) (finds.Fills fills) =
+IsAnswer (query.Pairs scene) (answer.Pairs items) = ArePairsOfLeaves scene.now.tris items.items
+IsAnswer (query.Fills scene expr size) (answer.Fills fills) =
     AreFills scene.now.tris (formula_of expr.now) size fills.items
-IsAnswer (query.Texts scene expr) (finds.Texts found) =
+IsAnswer (query.Texts scene expr) (answer.Texts found) =
     AreLeafTexts scene.now.tris (formula_of expr.now) found.items.items ×
-    HoldRun scene.now.tris (formula_of expr.now) found.journals
-IsAnswer (query.Counts scene expr) (finds.Counts found) =
+    AreJournalsOfSolid scene.now.tris (formula_of expr.now) found.journals
+IsAnswer (query.Counts scene expr) (answer.Counts found) =
     AreRegionCounts scene.now.tris (formula_of expr.now) found.items.items ×
-    HoldRun scene.now.tris (formula_of expr.now) found.journals
+    AreJournalsOfSolid scene.now.tris (formula_of expr.now) found.journals
 IsAnswer _ _ = ⊥
 
 -- the closure `call` may be called at each query, and each Ok of it is the answer

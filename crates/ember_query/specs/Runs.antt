@@ -1,9 +1,9 @@
 -- The boxes that a run ended, and what is reported of them
-use Rattle.std.specs.Prelude.{◌≡◌, ℕ, List, [], ◌∷◌, map}
+use Rattle.std.specs.Prelude.{ℕ, List, [], ◌∷◌, map}
 use Rattle.ember_job.specs.declared.job.Entry.{Entry}
 use Rattle.ember_job.specs.declared.job.Job.{Job}
 use Rattle.ember_job.specs.Visited.{entry_of, visited}
-use Rattle.ember_job.specs.Weights.{weigh}
+use Rattle.ember_job.specs.Weights.{SameEntries}
 use Rattle.ember_job.specs.Works.{Shape}
 use Rattle.ember_report.specs.declared.report.Report.{Report}
 use Rattle.ember_report.specs.Reports.{report_from}
@@ -12,10 +12,9 @@ use Rattle.ember_report.specs.Reports.{report_from}
 abbrev pub entries : (Job → Shape) → Job → List Entry
 entries shape root = map (entry_of shape) (visited shape root)
 
--- the entries of the journals are a permutation of those of the visited boxes: for every weight h, both lists have the
--- same sum
-abbrev pub HoldEntries : (Job → Shape) → Job → List (List Entry) → Type 0
-HoldEntries shape root journals = (h : Entry → ℕ) → weigh (weigh h) journals ≡ weigh h (entries shape root)
+-- the journals have the entries of the visited boxes, and no others
+abbrev pub AreJournalsOf : (Job → Shape) → Job → List (List Entry) → Type 0
+AreJournalsOf shape root journals = SameEntries journals (entries shape root)
 
 -- the report of the visited boxes and this number of faces
 abbrev pub run_report : (Job → Shape) → Job → ℕ → Report

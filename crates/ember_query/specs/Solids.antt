@@ -9,11 +9,11 @@ use Rattle.ember_report.specs.declared.report.Report.{Report}
 use Rattle.ember_text.specs.Documents.{IsDocumentText, written_face}
 use Rattle.ember_visit.specs.Jobs.{root_job}
 use Rattle.ember_visit.specs.Values.{shape}
-use Rattle.ember_query.specs.Runs.{HoldEntries, run_report}
+use Rattle.ember_query.specs.Runs.{AreJournalsOf, run_report}
 
 -- the journals have the boxes that are visited for the solid
-abbrev pub HoldRun : List Tri → Formula → List (List Entry) → Type 0
-HoldRun tris formula journals = HoldEntries (shape tris formula) (root_job tris) journals
+abbrev pub AreJournalsOfSolid : List Tri → Formula → List (List Entry) → Type 0
+AreJournalsOfSolid tris formula journals = AreJournalsOf (shape tris formula) (root_job tris) journals
 
 -- the written regions of the scene, and the report: the visited boxes, and the number of these regions
 pub record IsSolid (tris : List Tri) (formula : Formula) (kept : List Kept) (report : Report) : Type 0 where
@@ -25,7 +25,8 @@ pub record IsSolidReport (tris : List Tri) (formula : Formula) (report : Report)
   pub kept : List Kept
   pub solid : IsSolid tris formula kept report
 
--- the bytes are the face file of the solid's written regions
+-- the bytes are the face file of the solid's written regions. They say nothing of `report`: it stands here for
+-- `IsSolid`, which is about both, and whatever the regions are, there is such a report
 pub record IsSolidText (tris : List Tri) (formula : Formula) (bytes : List ℕ) : Type 0 where
   pub kept : List Kept
   pub report : Report

@@ -6,7 +6,7 @@ ghost use Rattle.std.specs.Prelude.{◌≡◌, ◌≤◌, IfOk};
 ghost use Rattle.ember_box.specs.Boxes as boxes;
 ghost use Rattle.ember_job.specs.Visited.{leaves};
 ghost use Rattle.ember_job.specs.Works.{AnswersAll};
-ghost use Rattle.ember_query.specs.Runs.{HoldEntries};
+ghost use Rattle.ember_query.specs.Runs.{AreJournalsOf};
 ghost use Rattle.ember_query.specs.Queries.{IsAnswer, IsQuery};
 ghost use Rattle.ember_job.specs.Items.{EachAnswers};
 
@@ -38,7 +38,7 @@ where
     requires cell { root.cell ≡ boxes.root }
     ensures items { IfOk result (λ found.
         EachAnswers (W.item step.now.work) (leaves (W.shape step.now.work) root) found.items.items) }
-    ensures journals { IfOk result (λ found. HoldEntries (W.shape step.now.work) root found.journals) }
+    ensures journals { IfOk result (λ found. AreJournalsOf (W.shape step.now.work) root found.journals) }
 {
     let harvest = run_alone(alloc, root, step, gate)?;
     let journals = harvest.journals;
@@ -71,7 +71,7 @@ where
     requires cell { root.cell ≡ boxes.root }
     ensures items { IfOk result (λ found.
         EachAnswers (W.item step.now.work) (leaves (W.shape step.now.work) root) found.items.items) }
-    ensures journals { IfOk result (λ found. HoldEntries (W.shape step.now.work) root found.journals) }
+    ensures journals { IfOk result (λ found. AreJournalsOf (W.shape step.now.work) root found.journals) }
 {
     if workers == 1 {
         return results_alone(alloc, gate, root, step);

@@ -15,7 +15,7 @@ ghost use Rattle.std.specs.Prelude.{◌≤◌, IfOk};
 ghost use Rattle.ember_expr.specs.Formula.{formula_of};
 ghost use Rattle.ember_query.specs.Leaves.{AreFills, ArePairsOfLeaves, AreRegionCounts};
 ghost use Rattle.ember_query.specs.Queries.{IsExecutor};
-ghost use Rattle.ember_query.specs.Solids.{HoldRun};
+ghost use Rattle.ember_query.specs.Solids.{AreJournalsOfSolid};
 ghost use Rattle.ember_step.specs.Texts.{AreLeafTexts};
 
 use ember_expr::Expr;
@@ -96,7 +96,7 @@ pub fn query_texts<C: Fn(&Query) -> Result<Answer, OutOfMemory>>(
 ) -> Result<RunResult<FacesText>, OutOfMemory>
     requires { IsExecutor C.pre C.post executor.now }
     ensures items { IfOk result (λ found. AreLeafTexts scene.now.tris (formula_of expr.now) found.items.items) }
-    ensures journals { IfOk result (λ found. HoldRun scene.now.tris (formula_of expr.now) found.journals) }
+    ensures journals { IfOk result (λ found. AreJournalsOfSolid scene.now.tris (formula_of expr.now) found.journals) }
 {
     let Answer::Texts(found) = executor(&Query::Texts(scene, expr))? else {
         unreachable!()
@@ -113,7 +113,7 @@ pub fn query_counts<C: Fn(&Query) -> Result<Answer, OutOfMemory>>(
 ) -> Result<RunResult<u64>, OutOfMemory>
     requires { IsExecutor C.pre C.post executor.now }
     ensures items { IfOk result (λ found. AreRegionCounts scene.now.tris (formula_of expr.now) found.items.items) }
-    ensures journals { IfOk result (λ found. HoldRun scene.now.tris (formula_of expr.now) found.journals) }
+    ensures journals { IfOk result (λ found. AreJournalsOfSolid scene.now.tris (formula_of expr.now) found.journals) }
 {
     let Answer::Counts(found) = executor(&Query::Counts(scene, expr))? else {
         unreachable!()

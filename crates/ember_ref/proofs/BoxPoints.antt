@@ -14,7 +14,7 @@ use Rattle.ember_model.specs.declared.plane.Plane.{Plane}
 use Rattle.ember_model.specs.Planes.{value_at}
 use Rattle.ember_model.specs.Points.{offset_by}
 use Rattle.ember_model.specs.Faces.{size, between}
-use Rattle.ember_law.proofs.Separation.{mix}
+use Rattle.ember_law.proofs.Separation.{combination}
 use Rattle.ember_box.specs.declared.aabb.Interval.{Interval}
 use Rattle.ember_box.specs.Boxes.{Cell, low, high, right_half}
 use Rattle.ember_box.specs.Near.{spot_of_vector}
@@ -104,8 +104,8 @@ pub has_half_reference : (c : Cell) (k : Axis) → 0 < c.log k → HasPoint c (r
 has_half_reference c k l = has_shifted (pos (2 ^ 27)) c (right_half c k).lo (omega (arith, ints)) (half_unit c k l)
 
 -- ---- points between two of them
-mixed : (s : Interval) (k m x y v w : ℤ) → pos 0 ≤ℤ k → pos 0 ≤ℤ m → IsAcross s x v → IsAcross s y w → IsAcross s (k *ℤ x +ℤ m *ℤ y) (k *ℤ v +ℤ m *ℤ w)
-mixed s k m x y v w a b f g =
+combined : (s : Interval) (k m x y v w : ℤ) → pos 0 ≤ℤ k → pos 0 ≤ℤ m → IsAcross s x v → IsAcross s y w → IsAcross s (k *ℤ x +ℤ m *ℤ y) (k *ℤ v +ℤ m *ℤ w)
+combined s k m x y v w a b f g =
     let p = mul_le a f.from in let q = mul_le b g.from in let r = mul_le a f.to in let t = mul_le b g.to in
     let d = solve 5 (λ l k m v w. l ⊗ (k ⊗ v ⊕ m ⊗ w) ≈ k ⊗ (l ⊗ v) ⊕ m ⊗ (l ⊗ w)) cancels s.low k m v w in
     let e = solve 5 (λ l k m v w. l ⊗ (k ⊗ v ⊕ m ⊗ w) ≈ k ⊗ (l ⊗ v) ⊕ m ⊗ (l ⊗ w)) cancels s.high k m v w in
@@ -115,12 +115,12 @@ mixed s k m x y v w a b f g =
 pub size_at_least : (z : ℤ) → pos 0 ≤ℤ size z
 size_at_least z = omega (arith, ints)
 
--- a mix of two points of the closed box is a point of the box
-pub has_mix : (c : Cell) (k m : ℤ) (p q : Spot) → HasPoint c p → HasPoint c q → pos 0 ≤ℤ k → pos 0 ≤ℤ m → pos 0 <ℤ (mix k m p q).w → HasPoint c (mix k m p q)
-has_mix c k m p q f g a b w =
-    record { weight = w; on_x = mixed (aabb_of_cell c).x k m p.x q.x p.w q.w a b f.on_x g.on_x; on_y = mixed (aabb_of_cell c).y k m p.y q.y p.w q.w a b f.on_y g.on_y; on_z = mixed (aabb_of_cell c).z k m p.z q.z p.w q.w a b f.on_z g.on_z }
+-- a combination of two points of the closed box is a point of the box
+pub has_combination : (c : Cell) (k m : ℤ) (p q : Spot) → HasPoint c p → HasPoint c q → pos 0 ≤ℤ k → pos 0 ≤ℤ m → pos 0 <ℤ (combination k m p q).w → HasPoint c (combination k m p q)
+has_combination c k m p q f g a b w =
+    record { weight = w; on_x = combined (aabb_of_cell c).x k m p.x q.x p.w q.w a b f.on_x g.on_x; on_y = combined (aabb_of_cell c).y k m p.y q.y p.w q.w a b f.on_y g.on_y; on_z = combined (aabb_of_cell c).z k m p.z q.z p.w q.w a b f.on_z g.on_z }
 
 -- so is the point at which the segment from one to the other meets a plane
 pub has_between : (n : Plane) (c : Cell) (p q : Spot) → HasPoint c p → HasPoint c q → pos 0 <ℤ (between n p q).w → HasPoint c (between n p q)
 has_between n c p q f g w =
-    has_mix c (size (value_at n q)) (size (value_at n p)) p q f g (size_at_least (value_at n q)) (size_at_least (value_at n p)) w
+    has_combination c (size (value_at n q)) (size (value_at n p)) p q f g (size_at_least (value_at n q)) (size_at_least (value_at n p)) w

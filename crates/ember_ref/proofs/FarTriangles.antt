@@ -19,13 +19,13 @@ use Rattle.ember_model.proofs.Hits.{inside_parts, closed_on, closed_parts}
 use Rattle.ember_law.specs.Counts.{leg_vector}
 use Rattle.ember_law.specs.Laws.{MissesFace}
 use Rattle.ember_law.proofs.FlatTriangles.{flat_case, flat_out, flat_leg}
-use Rattle.ember_law.proofs.Separation.{mix}
+use Rattle.ember_law.proofs.Separation.{combination}
 use Rattle.ember_law.proofs.Segments.{segment_law}
 use Rattle.ember_law.proofs.Tallies.{tally_filter}
 use Rattle.ember_box.specs.Boxes.{Cell}
 use Rattle.ember_box.specs.Near.{is_near, near}
 use Rattle.ember_ref.proofs.NearPoints.{HasPoint, near_point}
-use Rattle.ember_ref.proofs.BoxPoints.{has_mix, has_between}
+use Rattle.ember_ref.proofs.BoxPoints.{has_combination, has_between}
 
 -- ---- crossings
 not_above : (x : Spot) (es : List Plane) → all_negative es x ≡ true → none_positive es x ≡ true
@@ -67,11 +67,11 @@ legs_near ts c p q f g = tally_filter (λ h. leg h p q) (flat_leg p q) (λ t. is
 
 -- ---- segments
 pub misses_far : (c : Cell) (t : Tri) (p q : Spot) → is_flat t ≡ false → is_near c t ≡ false → HasPoint c p → HasPoint c q → MissesFace p q (face_of t)
-misses_far c t p q nf far f g k m a b = by (is_in_closed (face_of t) (mix k m p q)) refl
+misses_far c t p q nf far f g k m a b = by (is_in_closed (face_of t) (combination k m p q)) refl
   where
-    by : (r : Bool) → is_in_closed (face_of t) (mix k m p q) ≡ r → is_in_closed (face_of t) (mix k m p q) ≡ false
+    by : (r : Bool) → is_in_closed (face_of t) (combination k m p q) ≡ r → is_in_closed (face_of t) (combination k m p q) ≡ false
     by true e =
-        let x = mix k m p q in let w = (closed_parts (face_of t) x e).0 in absurd (clash (near_point c t x nf (has_mix c k m p q f g a b w) e) far)
+        let x = combination k m p q in let w = (closed_parts (face_of t) x e).0 in absurd (clash (near_point c t x nf (has_combination c k m p q f g a b w) e) far)
     by false e = e
 
 all_missed : (c : Cell) (p q : Spot) (ts : List Tri) → HasPoint c p → HasPoint c q → All (λ t. is_near c t ≡ false) ts → AllByRecursion (MissesFace p q) (faces_of ts)

@@ -22,10 +22,10 @@ use Rattle.ember_model.proofs.LegSigns.{leg_is}
 use Rattle.ember_box.specs.Boxes.{Cell, shifted_by, right_half}
 use Rattle.ember_box.specs.Near.{spot_of_vector}
 use Rattle.ember_box.specs.Reference.{reference_at, reference}
-use Rattle.ember_ref.specs.References.{corner_of, reference_of, IsBoxCorner}
+use Rattle.ember_ref.specs.References.{vector_of_list, reference_at_list, IsBoxCorner}
 
 -- ---- reference points
-pub box_corner : (cs : List ℤ) → All (Small 2048) cs → IsBoxCorner (corner_of cs)
+pub box_corner : (cs : List ℤ) → All (Small 2048) cs → IsBoxCorner (vector_of_list cs)
 box_corner cs h = record { x = at cs 0 h; y = at cs 1 h; z = at cs 2 h }
   where
     at : (cs : List ℤ) (i : ℕ) → All (Small 2048) cs → Small 2048 (get_or cs i (pos 0))
@@ -40,9 +40,9 @@ weight_near m v l = pos_mul (pos_mul (pos_mul l l) l) (omega (arith, linear))
 pub weight_at : (v : Vector) → pos 0 <ℤ (reference_at v).w
 weight_at v = weight_near (pos (2 ^ 27)) v (omega (arith, ints))
 
-weight_of : (lo : List ℤ) → pos 0 <ℤ (reference_of lo).w
-unfolding reference_of
-weight_of lo = weight_at (corner_of lo)
+weight_of : (lo : List ℤ) → pos 0 <ℤ (reference_at_list lo).w
+unfolding reference_at_list
+weight_of lo = weight_at (vector_of_list lo)
 
 differ_along : (m : ℤ) (k : Axis) (by : ℤ) (v : Vector) → DifferAlong k (offset_by (spot_of_vector (shifted_by k by v)) m) (offset_by (spot_of_vector v) m)
 differ_along m X by v = (refl, refl)
@@ -50,8 +50,8 @@ differ_along m Y by v = (refl, refl)
 differ_along m Z by v = (refl, refl)
 
 -- the reference point by a box's least corner is that of the box
-pub reference_is : (lo : List ℤ) (c : Cell) → corner_of lo ≡ c.lo → reference_of lo ≡ reference c
-unfolding reference_of
+pub reference_is : (lo : List ℤ) (c : Cell) → vector_of_list lo ≡ c.lo → reference_at_list lo ≡ reference c
+unfolding reference_at_list
 reference_is lo c e = ap reference_at e
 
 -- the reference points of a box and its right half
@@ -66,13 +66,13 @@ exchanged false true v = refl
 exchanged false false v = refl
 
 -- where n is the support plane, s and e its signs at the ends, and v what they tell
-pub leg_told : (k : Axis) (p q : List ℤ) (t : Tri) (n : Plane) (s e : Sign) (v : ℤ) → DifferAlong k (reference_of p) (reference_of q) → n ≡ support_of t → s ≡ sgn (value_at n (reference_of p)) → e ≡ sgn (value_at n (reference_of q)) → v ≡ cond (is_neg (times s e)) (number e) (pos 0) → leg (face_of t) (reference_of p) (reference_of q) ≡ cond (all_negative (edge_planes t k) (reference_of p)) v (pos 0)
+pub leg_told : (k : Axis) (p q : List ℤ) (t : Tri) (n : Plane) (s e : Sign) (v : ℤ) → DifferAlong k (reference_at_list p) (reference_at_list q) → n ≡ support_of t → s ≡ sgn (value_at n (reference_at_list p)) → e ≡ sgn (value_at n (reference_at_list q)) → v ≡ cond (is_neg (times s e)) (number e) (pos 0) → leg (face_of t) (reference_at_list p) (reference_at_list q) ≡ cond (all_negative (edge_planes t k) (reference_at_list p)) v (pos 0)
 leg_told k p q t n s e v d en es ee ev =
-    let x = value_at (support_of t) (reference_of p) in let y = value_at (support_of t) (reference_of q) in let b = all_negative (edge_planes t k) (reference_of p) in
-    let sx = es ∙ ap (λ (n : Plane). sgn (value_at n (reference_of p))) en in let sy = ee ∙ ap (λ (n : Plane). sgn (value_at n (reference_of q))) en in
+    let x = value_at (support_of t) (reference_at_list p) in let y = value_at (support_of t) (reference_at_list q) in let b = all_negative (edge_planes t k) (reference_at_list p) in
+    let sx = es ∙ ap (λ (n : Plane). sgn (value_at n (reference_at_list p))) en in let sy = ee ∙ ap (λ (n : Plane). sgn (value_at n (reference_at_list q))) en in
     let m = ap is_neg (sgn-mul x y) in let f = sign-number y in
     let told = ev ∙ (λ i. cond (is_neg (times (sx i) (sy i))) (number (sy i)) (pos 0)) in
-    leg_is k (reference_of p) (reference_of q) t (weight_of p) (weight_of q) d ∙ (λ i. cond (m i && b) (f i) (pos 0)) ∙ exchanged (is_neg (times (sgn x) (sgn y))) b (number (sgn y)) ∙ ap (λ (v : ℤ). cond b v (pos 0)) (sym told)
+    leg_is k (reference_at_list p) (reference_at_list q) t (weight_of p) (weight_of q) d ∙ (λ i. cond (m i && b) (f i) (pos 0)) ∙ exchanged (is_neg (times (sgn x) (sgn y))) b (number (sgn y)) ∙ ap (λ (v : ℤ). cond b v (pos 0)) (sym told)
 
 -- 0 is what a condition gives if both its branches are 0
 pub nothing_told : (b : Bool) (v : ℤ) → v ≡ pos 0 → pos 0 ≡ cond b v (pos 0)

@@ -16,7 +16,7 @@ use Rattle.ember_law.proofs.Shifted.{value_shifted}
 use Rattle.ember_model.specs.Points.{offset_by}
 use Rattle.ember_box.specs.Near.{spot_of_vector}
 use Rattle.ember_box.specs.Reference.{reference_at}
-use Rattle.ember_ref.specs.References.{or_sign, IsLevel}
+use Rattle.ember_ref.specs.References.{or_sign, HasNoNormal}
 
 or_sign_assoc : (s t r : Sign) → or_sign (or_sign s t) r ≡ or_sign s (or_sign t r)
 or_sign_assoc Neg t r = refl
@@ -57,7 +57,7 @@ both_zero Pos t e = absurd (clash e)
     clash e = cc
 
 -- a plane with the sign Zero at a reference point has no normal
-pub level_from : (p : Plane) (v : Vector) → sign_beside p v ≡ Zero → IsLevel p
+pub level_from : (p : Plane) (v : Vector) → sign_beside p v ≡ Zero → HasNoNormal p
 level_from p v e =
     let x = both_zero (sgn (value_at p (spot_of_vector v))) (or_sign (sgn p.a) (or_sign (sgn p.b) (sgn p.c))) e in
     let y = both_zero (sgn p.a) (or_sign (sgn p.b) (sgn p.c)) x.1 in let z = both_zero (sgn p.b) (sgn p.c) y.1 in

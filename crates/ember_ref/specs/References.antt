@@ -13,8 +13,8 @@ use Rattle.ember_box.specs.Boxes.{Cell, right_half}
 use Rattle.ember_box.specs.Reference.{reference_at, reference, vector_at, Fits}
 
 -- the vector of three coordinates that are listed in the order of the axes
-abbrev pub corner_of : List ℤ → Vector
-corner_of cs = record {
+abbrev pub vector_of_list : List ℤ → Vector
+vector_of_list cs = record {
   x = slice_index_or cs 0 (pos 0);
   y = slice_index_or cs 1 (pos 0);
   z = slice_index_or cs 2 (pos 0);
@@ -27,8 +27,8 @@ pub record IsBoxCorner (v : Vector) : Type 0 where
   pub z : Small 2048 v.z
 
 -- the reference point of a box with this least corner
-unfoldable pub reference_of : List ℤ → Spot
-reference_of lo = reference_at (corner_of lo)
+unfoldable pub reference_at_list : List ℤ → Spot
+reference_at_list lo = reference_at (vector_of_list lo)
 
 -- the first of two signs that isn't zero
 abbrev pub or_sign : Sign → Sign → Sign
@@ -37,8 +37,8 @@ or_sign Zero s = s
 or_sign Pos s = Pos
 
 -- the normal is zero
-abbrev pub IsLevel : Plane → Type 0
-IsLevel p = (p.a ≡ pos 0) × (p.b ≡ pos 0) × (p.c ≡ pos 0)
+abbrev pub HasNoNormal : Plane → Type 0
+HasNoNormal p = (p.a ≡ pos 0) × (p.b ≡ pos 0) × (p.c ≡ pos 0)
 
 -- the counts at the reference point of a box's right half: those at the box's point, plus the signed
 -- crossings of the segment from the half's point back to the box's

@@ -6,7 +6,7 @@ use Rattle.ember_box.specs.Boxes.{Cell, put, right_half}
 use Rattle.ember_box.specs.Aabbs.{aabb_of_cell}
 use Rattle.ember_box.specs.Reference.{reference}
 use Rattle.ember_ref.specs.declared.shifting.AxisSegment.{AxisSegment}
-use Rattle.ember_ref.specs.References.{corner_of, reference_of, IsBoxCorner}
+use Rattle.ember_ref.specs.References.{vector_of_list, reference_at_list, IsBoxCorner}
 
 -- the box that has the side 1 along all axes but this one
 abbrev pub column : Cell → Axis → Cell
@@ -14,12 +14,12 @@ column c k = record { lo = c.lo; log = put k (c.log k) (λ j. 0); path = c.path 
 
 -- its ends are reference points of boxes, and it runs along its axis
 pub record IsAlongAxis (w : AxisSegment) : Type 0 where
-  pub from : IsBoxCorner (corner_of w.from)
-  pub to : IsBoxCorner (corner_of w.to)
-  pub line : DifferAlong w.axis (reference_of w.from) (reference_of w.to)
+  pub from : IsBoxCorner (vector_of_list w.from)
+  pub to : IsBoxCorner (vector_of_list w.to)
+  pub line : DifferAlong w.axis (reference_at_list w.from) (reference_at_list w.to)
 
 -- the segment from the reference point of the box's right half to that of the box, with a bounding box of it
 pub record IsSegmentBack (c : Cell) (k : Axis) (w : AxisSegment) : Type 0 where
-  pub from : reference_of w.from ≡ reference (right_half c k)
-  pub to : reference_of w.to ≡ reference c
+  pub from : reference_at_list w.from ≡ reference (right_half c k)
+  pub to : reference_at_list w.to ≡ reference c
   pub aabb : w.aabb ≡ aabb_of_cell (column c k)

@@ -9,4 +9,4 @@ mod signs;
 
 pub use law::reference_points_are_clear;
 pub use shifting::{shift, shift_listed};
-pub use signs::lex_side;
+pub use signs::{lex_side, or_sign};

@@ -11,7 +11,7 @@ ghost use Rattle.ember_box.specs.Boxes.{Cell as CellView, right_half};
 ghost use Rattle.ember_box.specs.Near.{listed};
 ghost use Rattle.ember_box.specs.Reference.{reference};
 ghost use Rattle.ember_box.specs.Aabbs.{interval_between, aabb_of_cell};
-ghost use Rattle.ember_ref.specs.References.{corner_of, reference_of, IsBoxCorner, counts_at_right_half, ShiftsAll};
+ghost use Rattle.ember_ref.specs.References.{vector_of_list, reference_at_list, IsBoxCorner, counts_at_right_half, ShiftsAll};
 ghost use Rattle.ember_ref.specs.Segments.{column, IsAlongAxis, IsSegmentBack};
 
 use crate::signs::{lex_side, projects_inside};
@@ -43,10 +43,10 @@ fn signed_crossing(start: Sign, end: Sign) -> i32
 // corners `p` and `q` of their boxes, with the inside of the triangle's face.
 fn crossing_between(t: &Tri, p: [i32; 3], q: [i32; 3], k: Axis) -> i32
     requires tri { IsValidTri t.now }
-    requires from { IsBoxCorner (corner_of p) }
-    requires to { IsBoxCorner (corner_of q) }
-    requires line { DifferAlong k (reference_of p) (reference_of q) }
-    ensures value { result ≡ leg (face_of t.now) (reference_of p) (reference_of q) }
+    requires from { IsBoxCorner (vector_of_list p) }
+    requires to { IsBoxCorner (vector_of_list q) }
+    requires line { DifferAlong k (reference_at_list p) (reference_at_list q) }
+    ensures value { result ≡ leg (face_of t.now) (reference_at_list p) (reference_at_list q) }
     ensures small { Small 1 result }
 {
     let n = support_of(t);

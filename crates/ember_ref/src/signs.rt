@@ -6,13 +6,13 @@ ghost use Rattle.ember_model.specs.Valid.{IsValidPlane, IsValidTri};
 ghost use Rattle.ember_model.specs.Planes.{value_at, edge_planes};
 ghost use Rattle.ember_model.specs.ClearTest.{all_negative};
 ghost use Rattle.ember_box.specs.Near.{spot_of_vector};
-ghost use Rattle.ember_ref.specs.References.{corner_of, reference_of, or_sign, IsBoxCorner, IsLevel};
+ghost use Rattle.ember_ref.specs.References.{vector_of_list, reference_at_list, or_sign, IsBoxCorner, HasNoNormal};
 
 use ember_algebra::{Sign, sign_of};
 use ember_model::{Axis, Plane, Tri, edge_plane};
 
-// The first of two signs that isn't zero.
-fn or_sign(first: Sign, second: Sign) -> Sign
+/// The first of two signs that isn't zero.
+pub fn or_sign(first: Sign, second: Sign) -> Sign
     ensures { result ≡ or_sign first second }
 {
     match first {
@@ -24,8 +24,8 @@ fn or_sign(first: Sign, second: Sign) -> Sign
 // The value of a plane at a box's corner.
 fn value_at_corner(p: &Plane, at: [i32; 3]) -> i64
     requires plane { IsValidPlane p.now }
-    requires corner { IsBoxCorner (corner_of at) }
-    ensures value { result ≡ value_at p.now (spot_of_vector (corner_of at)) }
+    requires corner { IsBoxCorner (vector_of_list at) }
+    ensures value { result ≡ value_at p.now (spot_of_vector (vector_of_list at)) }
     ensures small { Small (2 ^ 40) result }
 {
     let [x, y, z] = at;
@@ -60,9 +60,9 @@ fn or_lead(at: Sign, p: &Plane) -> Sign
 /// numbers outweighs all after it.
 pub fn lex_side(p: &Plane, lo: [i32; 3]) -> Sign
     requires plane { IsValidPlane p.now }
-    requires corner { IsBoxCorner (corner_of lo) }
-    ensures value { result ≡ sgn (value_at p.now (reference_of lo)) }
-    ensures normal { result ≡ Sign.Zero → IsLevel p.now }
+    requires corner { IsBoxCorner (vector_of_list lo) }
+    ensures value { result ≡ sgn (value_at p.now (reference_at_list lo)) }
+    ensures normal { result ≡ Sign.Zero → HasNoNormal p.now }
 {
     or_lead(sign_of(value_at_corner(p, lo) as i128), p)
 }
@@ -70,8 +70,8 @@ pub fn lex_side(p: &Plane, lo: [i32; 3]) -> Sign
 // Whether the reference point of a box with the least corner `at` is below the plane.
 fn is_below(p: &Plane, at: [i32; 3]) -> bool
     requires plane { IsValidPlane p.now }
-    requires corner { IsBoxCorner (corner_of at) }
-    ensures { result ≡ is_negative (value_at p.now (reference_of at)) }
+    requires corner { IsBoxCorner (vector_of_list at) }
+    ensures { result ≡ is_negative (value_at p.now (reference_at_list at)) }
 {
     matches!(lex_side(p, at), Sign::Neg)
 }
@@ -80,8 +80,8 @@ fn is_below(p: &Plane, at: [i32; 3]) -> bool
 /// inside the triangle: all edge planes parallel to that axis are negative there.
 pub fn projects_inside(t: &Tri, k: Axis, at: [i32; 3]) -> bool
     requires tri { IsValidTri t.now }
-    requires corner { IsBoxCorner (corner_of at) }
-    ensures { result ≡ all_negative (edge_planes t.now k) (reference_of at) }
+    requires corner { IsBoxCorner (vector_of_list at) }
+    ensures { result ≡ all_negative (edge_planes t.now k) (reference_at_list at) }
 {
     is_below(&edge_plane(t, 0, k), at)
         && (is_below(&edge_plane(t, 1, k), at) && is_below(&edge_plane(t, 2, k), at))

@@ -17,7 +17,7 @@ use Rattle.ember_model.specs.declared.face.Face.{Face}
 use Rattle.ember_model.specs.Planes.{value_at}
 use Rattle.ember_model.specs.Faces.{is_in_closed}
 use Rattle.ember_model.specs.Edges.{SamePoint, is_on_edge, HasEdge, SameEdge, IsEarliest, normal, RingEdge, IsEdge, IsEdgeChain, HaveDistinctEdges, IsOutline}
-use Rattle.ember_model.specs.FaceFiles.{IsLowest, face_lines, header, ending, IsFaceText, IsFacesText}
+use Rattle.ember_model.specs.FaceFiles.{IsLowest, face_lines, header, ending, IsFaceText, IsFileText}
 use Rattle.ember_model.proofs.SignTests.{and_parts, zero_out, zero_scaled, zero_times, not_positive_out}
 use Rattle.ember_model.specs.ClearTest.{none_positive}
 use Rattle.ember_model.proofs.Hits.{closed_parts}
@@ -143,7 +143,7 @@ module _ (f : Face) (g : Plane) (s a : Spot) (e : IsEdge f (side g s) a) where
 
     not_outwards : dot (normal k) way ≤ℤ pos 0
     not_outwards =
-        let m = at_end.below d.stands.index k d.stands.here in
+        let m = at_end.below d.is_earliest.index k d.is_earliest.here in
         let c = plane_away k s a in let c0 = zero_scaled a.w (value_at k s) k_at_start in
         let ws = at_start.weight in let w : pos 0 ≤ℤ s.w = omega (arith, linear, ws) in
         let c1 = mul_le w m in let c2 = zero_scaled s.w (pos 0) refl in
@@ -190,7 +190,7 @@ earliest_one P Q gs g h pq qp a b = by (nat_lt a.index b.index) (nat_lt b.index 
 
 stands_one : (f : Face) (g k : Plane) (s a b t : Spot) → IsEdge f (side g s) a → IsEdge f (side k t) b → SameEdge f g k → g ≡ k
 stands_one f g k s a b t e d same =
-    earliest_one (λ h. SameEdge f h g) (λ h. SameEdge f h k) f.edges g k (λ h p v. p v ∙ same v) (λ h p v. p v ∙ sym (same v)) e.stands d.stands
+    earliest_one (λ h. SameEdge f h g) (λ h. SameEdge f h k) f.edges g k (λ h p v. p v ∙ same v) (λ h p v. p v ∙ sym (same v)) e.is_earliest d.is_earliest
 
 -- ---- outlines
 -- a corner of one edge that is the corner of another: one point
@@ -269,6 +269,6 @@ text_one f xs ys a b =
     a.is ∙ ap (face_lines f.support) (outline_one f a.outline b.outline a.is_outline b.is_outline a.lowest b.lowest) ∙ sym b.is
 
 -- faces have one text
-pub texts_one : (fs : List Face) (xs ys : List ℕ) → IsFacesText fs xs → IsFacesText fs ys → xs ≡ ys
+pub texts_one : (fs : List Face) (xs ys : List ℕ) → IsFileText fs xs → IsFileText fs ys → xs ≡ ys
 texts_one fs xs ys a b =
     a.is ∙ ap (λ texts. header ++ (texts ++ ending (length fs))) (each_unique text_one a.are_texts b.are_texts) ∙ sym b.is

@@ -36,7 +36,7 @@ use Rattle.ember_words.proofs.Limited.{read_limits}
 use Rattle.ember_words.proofs.NamedFiles.{words_name_files}
 use Rattle.ember_run.specs.Accepted.{HasTreeIfGiven, IsAccepted, IsAcceptedSlice, IsAcceptedSolid, IsBounded, IsFileOf, IsMeshOf, IsSceneOf, HasBytes}
 use Rattle.ember_run.specs.Accepted as accepted
-use Rattle.ember_run.specs.Statuses.{AsksOutput}
+use Rattle.ember_run.specs.Statuses.{HasOutput}
 use Rattle.ember_run.specs.Outputs.{Output, FaceTexts, Counts, MeetingPairs, Lattice, SolidFaces, SolidReport}
 use Rattle.ember_run.specs.Verdict.{Contents, Verdict, Unknown, Refused, Writes, Slices, after_balance, after_bounded, after_bytes, after_expr, after_file, after_files, after_given, after_mesh, after_parse, after_scene, after_bounded_expr, after_total, after_triangles, counts_verdict, names_of, slice_verdict, told_verdict}
 use Rattle.ember_run.specs.declared.status.Status.{Status}
@@ -344,20 +344,20 @@ accepted_has_output words given e told output =
     let limits = read_limits words (Ok given) e in (to given told output limits (words_name_files words given e), from given told output limits)
 
 -- ---- a slice
-asked : (verdict : Verdict) → AsksOutput verdict → Answers verdict
+asked : (verdict : Verdict) → HasOutput verdict → Answers verdict
 asked Unknown a = a
 asked (Refused status) a = a
 asked (Writes output) a = tt
 asked (Slices at bytes) a = tt
 
 -- `slice` asks for an output exactly if it accepts its file
-pub accepted_has_slice : (at : ℤ) (name : List ℕ) (told : Told) → AsksOutput (told_verdict (Some (command.Slice at name)) told) ↔ IsAcceptedSlice at (told name)
+pub accepted_has_slice : (at : ℤ) (name : List ℕ) (told : Told) → HasOutput (told_verdict (Some (command.Slice at name)) told) ↔ IsAcceptedSlice at (told name)
 accepted_has_slice at name told = (there, back)
   where
-    there : AsksOutput (slice_verdict at (told name)) → IsAcceptedSlice at (told name)
+    there : HasOutput (slice_verdict at (told name)) → IsAcceptedSlice at (told name)
     there a =
         let b = bytes_to 1 (told name) (λ bytes. Slices at bytes) (slice_verdict at (told name)) (asked (slice_verdict at (told name)) a, refl) in
-        record { bytes = b.0; file = b.1; sliceable = subst AsksOutput (sym b.2.1) a }
+        record { bytes = b.0; file = b.1; sliceable = subst HasOutput (sym b.2.1) a }
 
-    back : IsAcceptedSlice at (told name) → AsksOutput (slice_verdict at (told name))
-    back is = subst AsksOutput (sym (bytes_from 1 (told name) is.bytes (λ bytes. Slices at bytes) is.file)) is.sliceable
+    back : IsAcceptedSlice at (told name) → HasOutput (slice_verdict at (told name))
+    back is = subst HasOutput (sym (bytes_from 1 (told name) is.bytes (λ bytes. Slices at bytes) is.file)) is.sliceable

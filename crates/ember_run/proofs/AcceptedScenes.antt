@@ -31,7 +31,7 @@ use Rattle.ember_words.proofs.Limited.{read_limits}
 use Rattle.ember_run.specs.OfScenes.{IsOfScene}
 use Rattle.ember_run.specs.Outputs.{Output, FaceTexts, Counts, MeetingPairs, Lattice, SolidFaces, SolidReport}
 use Rattle.ember_run.specs.Reported.{IsErrText, IsReportOfVerdictIfAsked, IsReportOfOutput, asks_report}
-use Rattle.ember_run.specs.Statuses.{IsText}
+use Rattle.ember_run.specs.Statuses.{IsTextIfTold}
 use Rattle.ember_run.specs.declared.status.Status.{Status}
 use Rattle.ember_run.specs.declared.status.Status.TheVariants.{Done, Unbounded, NotClear, Limit}
 use Rattle.ember_run.specs.declared.status.LimitKind.TheVariants.{Bytes, Triangles}
@@ -144,14 +144,14 @@ words_scene words told = by (command_of words) refl
     by (Some given) e = command_scene given told (read_limits words (Ok given) e)
 
 -- ---- one text
-text_one : (verdict : Verdict) (one other : List ℕ) → HasScene verdict → verdict ≢ Unknown → IsText verdict one → IsText verdict other → one ≡ other
+text_one : (verdict : Verdict) (one other : List ℕ) → HasScene verdict → verdict ≢ Unknown → IsTextIfTold verdict one → IsTextIfTold verdict other → one ≡ other
 text_one Unknown one other s n a b = absurd (n refl)
 text_one (Refused status) one other s n a b = absurd a
 text_one (Writes output) one other s n a b = output_one output one other s a b
 text_one (Slices at bytes) one other s n a b = slice_one at bytes one other a b
 
 -- an input has one output
-pub input_one : (words : List (List ℕ)) (told : List ℕ → Option (List ℕ)) (one other : List ℕ) → told_verdict (command_of words) told ≢ Unknown → IsText (told_verdict (command_of words) told) one → IsText (told_verdict (command_of words) told) other → one ≡ other
+pub input_one : (words : List (List ℕ)) (told : List ℕ → Option (List ℕ)) (one other : List ℕ) → told_verdict (command_of words) told ≢ Unknown → IsTextIfTold (told_verdict (command_of words) told) one → IsTextIfTold (told_verdict (command_of words) told) other → one ≡ other
 input_one words told one other n a b =
     text_one (told_verdict (command_of words) told) one other (words_scene words told) n a b
 

@@ -8,7 +8,7 @@ use Rattle.ember_run.specs.declared.status.Status.{Status}
 use Rattle.ember_run.specs.declared.status.Status.TheVariants.{Done, Words, ReadFault, WriteFault, ObjRefused, MeshRefused, ExprRefused, Unbounded, Limit, NotClear, FaceRefused, OutOfMemory}
 use Rattle.ember_run.specs.declared.reply.Reply.{Reply}
 use Rattle.ember_run.specs.Outputs.{Output}
-use Rattle.ember_run.specs.Statuses.{AsksOutput, AsksRefusal, AsksText, HasBegun, HasWritten, IsBegun, IsRefusal, IsText, IsWritten, hides_memory, is_before_files, is_refusal, refused_file}
+use Rattle.ember_run.specs.Statuses.{HasOutput, IsBegun, IsBegunIfTold, IsRefusal, IsRefusalIfTold, IsText, IsTextIfTold, IsWritten, IsWrittenIfTold, hides_memory, is_before_files, is_refusal, refused_file}
 use Rattle.ember_run.specs.Devices.{ShelfCall, SinkCall, HasShelfFailed, HasSinkFailed}
 use Rattle.ember_run.specs.Held.{MayHold}
 use Rattle.ember_run.specs.Lines.{line_on_err, text_on_err}
@@ -28,10 +28,10 @@ use Rattle.ember_run.proofs.NoReplies.{before_is_refusal, file_is_refusal, lengt
 
 -- what a status must be for, by the verdict v
 pub record Owes (v : Verdict) (R W : Type 0) (old new : Option (List ℕ)) (status : Status) : Type 0 where
-  pub done : status ≡ Done → IsWritten v old new
-  pub refused : is_refusal status ≡ true → IsRefusal status v
+  pub done : status ≡ Done → IsWrittenIfTold v old new
+  pub refused : is_refusal status ≡ true → IsRefusalIfTold status v
   pub read_fault : (i : ℕ) → status ≡ ReadFault i → R
-  pub write_fault : status ≡ WriteFault → W × IsBegun v old new
+  pub write_fault : status ≡ WriteFault → W × IsBegunIfTold v old new
 
 output_or_memory : (output : Output) (R W : Type 0) (old new : Option (List ℕ)) (status : Status) → Owes (Writes output) R W old new status → ¬ R → ¬ W → (status ≡ Done) ⊎ (status ≡ OutOfMemory)
 output_or_memory output R W old new Done o r w = inl refl
@@ -91,7 +91,7 @@ fault_or_memory at bytes other R W old new (FaceRefused fault) f o r = inl (ap F
 fault_or_memory at bytes other R W old new OutOfMemory f o r = inr refl
 
 -- ---- any verdict
-output_given : (v : Verdict) (R W : Type 0) (old new : Option (List ℕ)) (status : Status) → AsksOutput v → Owes v R W old new status → ¬ R → ¬ W → (status ≡ Done) ⊎ (status ≡ OutOfMemory)
+output_given : (v : Verdict) (R W : Type 0) (old new : Option (List ℕ)) (status : Status) → HasOutput v → Owes v R W old new status → ¬ R → ¬ W → (status ≡ Done) ⊎ (status ≡ OutOfMemory)
 output_given Unknown R W old new status a o r w = absurd a
 output_given (Refused refusal) R W old new status a o r w = absurd a
 output_given (Writes output) R W old new status a o r w = output_or_memory output R W old new status o r w
@@ -111,7 +111,7 @@ refused_slice at bytes NotClear a = absurd a
 refused_slice at bytes (FaceRefused fault) a = (fault, refl, a)
 refused_slice at bytes OutOfMemory a = absurd a
 
-refusal_given : (v : Verdict) (refusal : Status) (R W : Type 0) (old new : Option (List ℕ)) (status : Status) → AsksRefusal refusal v → Owes v R W old new status → ¬ R → (status ≡ refusal) ⊎ (status ≡ OutOfMemory)
+refusal_given : (v : Verdict) (refusal : Status) (R W : Type 0) (old new : Option (List ℕ)) (status : Status) → IsRefusal refusal v → Owes v R W old new status → ¬ R → (status ≡ refusal) ⊎ (status ≡ OutOfMemory)
 refusal_given Unknown refusal R W old new status a o r = absurd a
 refusal_given (Refused other) refusal R W old new status a o r = subst (λ (s : Status). (status ≡ s) ⊎ (status ≡ OutOfMemory)) a (refusal_or_memory other R W old new status o r)
 refusal_given (Writes output) refusal R W old new status a o r = absurd a
@@ -121,12 +121,12 @@ refusal_given (Slices at bytes) refusal R W old new status a o r =
 
 -- ---- contents that the files may have
 -- all are given, so the verdict is known
-refusal_held : (command : Option Command) (told : List ℕ → Option (List ℕ)) (status : Status) → MayHold told (names_of command) (λ contents. IsRefusal status (verdict_of command contents)) → MayHold told (names_of command) (λ contents. AsksRefusal status (verdict_of command contents))
+refusal_held : (command : Option Command) (told : List ℕ → Option (List ℕ)) (status : Status) → MayHold told (names_of command) (λ contents. IsRefusalIfTold status (verdict_of command contents)) → MayHold told (names_of command) (λ contents. IsRefusal status (verdict_of command contents))
 refusal_held command told status h =
     let v = verdict_of command (map Some h.0) in
     (h.0, h.1, known_refusal status v (verdict_known command h.0 (contents_count told (names_of command) h.0 h.1)) h.2)
 
-text_held : (command : Option Command) (told : List ℕ → Option (List ℕ)) (text : List ℕ) → MayHold told (names_of command) (λ contents. IsText (verdict_of command contents) text) → MayHold told (names_of command) (λ contents. AsksText (verdict_of command contents) text)
+text_held : (command : Option Command) (told : List ℕ → Option (List ℕ)) (text : List ℕ) → MayHold told (names_of command) (λ contents. IsTextIfTold (verdict_of command contents) text) → MayHold told (names_of command) (λ contents. IsText (verdict_of command contents) text)
 text_held command told text h =
     let v = verdict_of command (map Some h.0) in
     (h.0, h.1, known_text v text (verdict_known command h.0 (contents_count told (names_of command) h.0 h.1)) h.2)
@@ -136,18 +136,18 @@ pub record Rows (command : Option Command) (shelf : ShelfCall) (out : SinkCall) 
   pub contents : shelf.told_after ≡ shelf.told
   pub later : shelf.faults ≤ shelf.faults_after
   pub out_later : out.faults ≤ out.faults_after
-  pub done : status ≡ Done → IsWritten (told_verdict command shelf.told) out.taken out.taken_after × IsFlushed out.taken_after out.flushed_after
-  pub done_read : status ≡ Done → MayHold shelf.told (names_of command) (λ contents. HasWritten (verdict_of command contents) out.taken out.taken_after)
-  pub begun_read : status ≡ WriteFault → MayHold shelf.told (names_of command) (λ contents. HasBegun (verdict_of command contents) out.taken out.taken_after)
-  pub refused : is_refusal status ≡ true → IsRefusal status (told_verdict command shelf.told)
-  pub refused_read : is_refusal status ≡ true → MayHold shelf.told (names_of command) (λ contents. AsksRefusal status (verdict_of command contents))
+  pub done : status ≡ Done → IsWrittenIfTold (told_verdict command shelf.told) out.taken out.taken_after × IsFlushed out.taken_after out.flushed_after
+  pub done_read : status ≡ Done → MayHold shelf.told (names_of command) (λ contents. IsWritten (verdict_of command contents) out.taken out.taken_after)
+  pub begun_read : status ≡ WriteFault → MayHold shelf.told (names_of command) (λ contents. IsBegun (verdict_of command contents) out.taken out.taken_after)
+  pub refused : is_refusal status ≡ true → IsRefusalIfTold status (told_verdict command shelf.told)
+  pub refused_read : is_refusal status ≡ true → MayHold shelf.told (names_of command) (λ contents. IsRefusal status (verdict_of command contents))
   pub read_fault : (i : ℕ) → status ≡ ReadFault i → HasShelfFailed shelf × (shelf.fault_at ≡ i) × (verdict_before i command shelf.told ≡ Unknown) × IsFileIn (names_of command) i
   pub words : status ≡ Words → command ≡ None
   pub before_files : is_before_files status ≡ true → verdict_before 1 command shelf.told ≡ Refused status
-  pub in_file : (i : ℕ) → refused_file status ≡ Some i → (others : Contents) → length others ≡ length (names_of command) → IsRefusal status (verdict_of command (with_others i (map shelf.told (names_of command)) others))
+  pub in_file : (i : ℕ) → refused_file status ≡ Some i → (others : Contents) → length others ≡ length (names_of command) → IsRefusalIfTold status (verdict_of command (with_others i (map shelf.told (names_of command)) others))
   pub one_of : (i : ℕ) → refused_file status ≡ Some i → IsFileIn (names_of command) i
   pub memory : hides_memory status ≡ false
-  pub write_fault : status ≡ WriteFault → HasSinkFailed out × IsBegun (told_verdict command shelf.told) out.taken out.taken_after
+  pub write_fault : status ≡ WriteFault → HasSinkFailed out × IsBegunIfTold (told_verdict command shelf.told) out.taken out.taken_after
   pub untouched : status ≢ Done → status ≢ WriteFault → out.taken_after ≡ out.taken
 
 -- what is refused with no file known is refused, or memory was short
@@ -157,10 +157,10 @@ before_given command shelf out status rows refusal e =
     let is : told_verdict command shelf.told ≡ Refused refusal = refused_with_any command contents contents refusal refl e in
     refusal_or_memory refusal ⊥ (HasSinkFailed out) out.taken out.taken_after status
     (record {
-      done = λ p. subst (λ (v : Verdict). IsWritten v out.taken out.taken_after) is (rows.done p).0;
-      refused = λ p. subst (λ (v : Verdict). IsRefusal status v) is (rows.refused p);
+      done = λ p. subst (λ (v : Verdict). IsWrittenIfTold v out.taken out.taken_after) is (rows.done p).0;
+      refused = λ p. subst (λ (v : Verdict). IsRefusalIfTold status v) is (rows.refused p);
       read_fault = λ i p. unknown_refused (sym (rows.read_fault i p).2 ∙ refused_with_any command contents (first_told (i - 1) contents) refusal (length_told (i - 1) contents) e);
-      write_fault = λ p. let w = rows.write_fault p in (w.0, subst (λ (v : Verdict). IsBegun v out.taken out.taken_after) is w.1);
+      write_fault = λ p. let w = rows.write_fault p in (w.0, subst (λ (v : Verdict). IsBegunIfTold v out.taken out.taken_after) is w.1);
     })
     (λ f. f)
 
@@ -210,13 +210,13 @@ touched status (inl e) d w = d e
 touched status (inr e) d w = w e
 
 -- a reply that was written, or begun, is served
-pub replied_call_serves : (command : Command) (shelf : ShelfCall) (out err : SinkCall) (status : Status) (reply : Reply) (text line : List ℕ) → shelf.told_after ≡ shelf.told → shelf.faults ≤ shelf.faults_after → out.faults ≤ out.faults_after → IsReply command shelf.told reply → MayHold shelf.told (names_of (Some command)) (λ contents. IsText (verdict_of (Some command) contents) reply.text.items) → text ≡ reply.text.items → line ≡ reply.report.items
+pub replied_call_serves : (command : Command) (shelf : ShelfCall) (out err : SinkCall) (status : Status) (reply : Reply) (text line : List ℕ) → shelf.told_after ≡ shelf.told → shelf.faults ≤ shelf.faults_after → out.faults ≤ out.faults_after → IsReply command shelf.told reply → MayHold shelf.told (names_of (Some command)) (λ contents. IsTextIfTold (verdict_of (Some command) contents) reply.text.items) → text ≡ reply.text.items → line ≡ reply.report.items
     → (status ≡ Done → Appends out.taken out.taken_after text × IsFlushed out.taken_after out.flushed_after) → (status ≡ WriteFault → HasSinkFailed out × AppendsPrefix out.taken out.taken_after text) → (status ≡ Done) ⊎ (status ≡ WriteFault)
     → AppendsUntilFault err.faults err.faults_after err.taken err.taken_after (text_on_err (names_of (Some command)) status line) → Serves (Some command) shelf out err status
-replied_call_serves command shelf out err status reply text line same later out_later is held t l done fault either said =
+replied_call_serves command shelf out err status reply text line same later out_later is text_read t l done fault either said =
     let verdict = told_verdict (Some command) shelf.told in
-    let is_text : IsText verdict text = subst (λ (bytes : List ℕ). IsText verdict bytes) (sym t) is.text in
-    let known_held : MayHold shelf.told (names_of (Some command)) (λ contents. AsksText (verdict_of (Some command) contents) text) = text_held (Some command) shelf.told text (subst (λ (bytes : List ℕ). MayHold shelf.told (names_of (Some command)) (λ contents. IsText (verdict_of (Some command) contents) bytes)) (sym t) held) in
+    let is_text : IsTextIfTold verdict text = subst (λ (bytes : List ℕ). IsTextIfTold verdict bytes) (sym t) is.text in
+    let known_held : MayHold shelf.told (names_of (Some command)) (λ contents. IsText (verdict_of (Some command) contents) text) = text_held (Some command) shelf.told text (subst (λ (bytes : List ℕ). MayHold shelf.told (names_of (Some command)) (λ contents. IsTextIfTold (verdict_of (Some command) contents) bytes)) (sym t) text_read) in
     served (Some command) shelf out err status (text_on_err (names_of (Some command)) status line)
     (record {
       contents = same;
@@ -251,7 +251,7 @@ stopped_call_serves command shelf out err status same later out_later untouched 
       done_read = λ e. absurd (no_reply.never.0 e);
       begun_read = λ e. absurd (no_reply.never.2 e);
       refused = no_reply.refused;
-      refused_read = λ r. refusal_held (Some command) shelf.told status (no_reply.held r);
+      refused_read = λ r. refusal_held (Some command) shelf.told status (no_reply.refused_read r);
       words = λ e. absurd (no_reply.never.1 e);
       before_files = no_reply.before_files;
       in_file = no_reply.in_file;

@@ -7,7 +7,7 @@ use Rattle.ember_model.specs.declared.tri.Tri.{Tri}
 use Rattle.ember_model.specs.declared.face.Face.{Face}
 use Rattle.ember_model.specs.Faces.{is_flat, face_of}
 use Rattle.ember_model.specs.Meshes.{faces_of}
-use Rattle.ember_model.specs.FaceFiles.{IsFaceText, IsFacesText, header, ending}
+use Rattle.ember_model.specs.FaceFiles.{IsFaceText, IsFileText, header, ending}
 use Rattle.ember_text.specs.Texts.{Writes, IsTextInRange}
 use Rattle.ember_run.specs.FaceTexts.{AddsFace, HasTexts, IsFaceFileOf, ReadsBack, written_face}
 use Rattle.ember_run.proofs.ReadBack.{nothing_back, triangle_back, join_back}
@@ -37,7 +37,7 @@ more_texts ts i d added old new count l h a =
       count_is = ap length e ∙ length-append (faces_of (take i ts)) (faces_of (t ∷ [])) ∙ (λ i. h.count_is i + a.count_is i);
     }
 
-all_texts : (ts : List Tri) (bytes : List ℕ) (count : ℕ) → HasTexts ts bytes count → IsFacesText (faces_of ts) (bytes ++ ending count)
+all_texts : (ts : List Tri) (bytes : List ℕ) (count : ℕ) → HasTexts ts bytes count → IsFileText (faces_of ts) (bytes ++ ending count)
 all_texts ts bytes count h =
     record {
       texts = h.texts;

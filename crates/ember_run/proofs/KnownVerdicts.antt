@@ -22,19 +22,19 @@ use Rattle.ember_run.specs.Outputs.{Counts, FaceTexts, Lattice, MeetingPairs, So
 use Rattle.ember_run.specs.declared.status.LimitKind.TheVariants.{Bytes, Triangles}
 use Rattle.ember_run.specs.declared.status.Status.{Status}
 use Rattle.ember_run.specs.declared.status.Status.TheVariants.{Limit, NotClear, Unbounded}
-use Rattle.ember_run.specs.Statuses.{AsksRefusal, AsksText, IsRefusal, IsText}
+use Rattle.ember_run.specs.Statuses.{IsRefusal, IsRefusalIfTold, IsText, IsTextIfTold}
 use Rattle.ember_run.specs.Verdict.{Verdict, Unknown, Refused, Writes, Slices, after_balance, after_bounded, after_bytes, after_files, after_given, after_parse, after_scene, after_triangles, counts_verdict, names_of, verdict_of}
 use Rattle.ember_run.proofs.RefusedBeforeFiles.{is_known}
 
 -- ---- what a known verdict says
-pub known_refusal : (status : Status) (v : Verdict) → is_known v ≡ true → IsRefusal status v → AsksRefusal status v
+pub known_refusal : (status : Status) (v : Verdict) → is_known v ≡ true → IsRefusalIfTold status v → IsRefusal status v
 known_refusal status Unknown k h = absurd (cc)
 known_refusal status (Refused refusal) k h = h
 known_refusal status (Writes output) k h = h
 known_refusal status (Slices at bytes) k h = h
 
--- its output is asked for
-pub known_text : (v : Verdict) (bytes : List ℕ) → is_known v ≡ true → IsText v bytes → AsksText v bytes
+-- the same of a text
+pub known_text : (v : Verdict) (bytes : List ℕ) → is_known v ≡ true → IsTextIfTold v bytes → IsText v bytes
 known_text Unknown bytes k h = absurd (cc)
 known_text (Refused refusal) bytes k h = h
 known_text (Writes output) bytes k h = h

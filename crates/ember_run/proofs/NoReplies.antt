@@ -7,10 +7,10 @@ use Rattle.ember_expr.specs.declared.fault.ExprFault.TheVariants as expr
 use Rattle.ember_model.specs.declared.tri.Tri.{Tri}
 use Rattle.ember_obj.specs.declared.fault.ObjFault.{ObjFault}
 use Rattle.ember_obj.specs.declared.fault.ObjFault.TheVariants as obj
-use Rattle.ember_run.specs.Statuses.{IsRefusal, hides_memory, is_before_files, is_refusal, refused_file}
+use Rattle.ember_run.specs.Statuses.{IsRefusalIfTold, hides_memory, is_before_files, is_refusal, refused_file}
 use Rattle.ember_run.specs.Devices.{ShelfCall}
 use Rattle.ember_run.specs.Held.{MayHold}
-use Rattle.ember_run.specs.NoReplies.{IsAfterFiles, IsOfWords, IsNoScene, IsNoReply, IsNoReplyToWords, with_others}
+use Rattle.ember_run.specs.NoReplies.{IsAfterFiles, IsOfExpression, IsNoScene, IsNoReply, IsNoReplyToExpression, with_others}
 use Rattle.ember_run.specs.Verdict.{Contents, Verdict, Unknown, Refused, after_scene, first_told}
 use Rattle.ember_run.proofs.HeldContents.{held_always, held_then}
 use Rattle.ember_run.specs.declared.status.LimitKind.TheVariants.{Triangles}
@@ -78,33 +78,33 @@ before_no_file NotClear i b e = absurd (cc)
 before_no_file (FaceRefused fault) i b e = absurd (cc)
 before_no_file OutOfMemory i b e = none_some e
 
-words_no_file : (status : Status) (i : ℕ) → IsOfWords status → refused_file status ≡ Some i → ⊥
-words_no_file Done i k e = absurd k
-words_no_file Words i k e = absurd k
-words_no_file (ReadFault j) i k e = absurd k
-words_no_file WriteFault i k e = absurd k
-words_no_file (ObjRefused j fault) i k e = absurd k
-words_no_file (MeshRefused j fault) i k e = absurd k
-words_no_file (ExprRefused fault) i k e = none_some e
-words_no_file Unbounded i k e = none_some e
-words_no_file (Limit kind count) i k e = absurd k
-words_no_file NotClear i k e = absurd k
-words_no_file (FaceRefused fault) i k e = absurd k
-words_no_file OutOfMemory i k e = none_some e
+expression_no_file : (status : Status) (i : ℕ) → IsOfExpression status → refused_file status ≡ Some i → ⊥
+expression_no_file Done i k e = absurd k
+expression_no_file Words i k e = absurd k
+expression_no_file (ReadFault j) i k e = absurd k
+expression_no_file WriteFault i k e = absurd k
+expression_no_file (ObjRefused j fault) i k e = absurd k
+expression_no_file (MeshRefused j fault) i k e = absurd k
+expression_no_file (ExprRefused fault) i k e = none_some e
+expression_no_file Unbounded i k e = none_some e
+expression_no_file (Limit kind count) i k e = absurd k
+expression_no_file NotClear i k e = absurd k
+expression_no_file (FaceRefused fault) i k e = absurd k
+expression_no_file OutOfMemory i k e = none_some e
 
-words_memory : (status : Status) → IsOfWords status → hides_memory status ≡ false
-words_memory Done k = absurd k
-words_memory Words k = absurd k
-words_memory (ReadFault j) k = absurd k
-words_memory WriteFault k = absurd k
-words_memory (ObjRefused j fault) k = absurd k
-words_memory (MeshRefused j fault) k = absurd k
-words_memory (ExprRefused fault) k = k
-words_memory Unbounded k = refl
-words_memory (Limit kind count) k = absurd k
-words_memory NotClear k = absurd k
-words_memory (FaceRefused fault) k = absurd k
-words_memory OutOfMemory k = refl
+expression_memory : (status : Status) → IsOfExpression status → hides_memory status ≡ false
+expression_memory Done k = absurd k
+expression_memory Words k = absurd k
+expression_memory (ReadFault j) k = absurd k
+expression_memory WriteFault k = absurd k
+expression_memory (ObjRefused j fault) k = absurd k
+expression_memory (MeshRefused j fault) k = absurd k
+expression_memory (ExprRefused fault) k = k
+expression_memory Unbounded k = refl
+expression_memory (Limit kind count) k = absurd k
+expression_memory NotClear k = absurd k
+expression_memory (FaceRefused fault) k = absurd k
+expression_memory OutOfMemory k = refl
 
 -- an OBJ fault other than out-of-memory doesn't hide out-of-memory
 pub obj_tells : (i : ℕ) (fault : ObjFault) → fault ≢ obj.OutOfMemory → hides_memory (ObjRefused i fault) ≡ false
@@ -141,7 +141,7 @@ memory_after status e = subst (λ (status : Status). IsAfterFiles status) (sym e
 memory_is_no_reply_to_any : (verdict : Contents → Verdict) (names : List (List ℕ)) (shelf : ShelfCall) → IsNoReply verdict names shelf OutOfMemory
 memory_is_no_reply_to_any verdict names shelf = record {
   refused = λ r. absurd (cc);
-  held = λ r. absurd (cc);
+  refused_read = λ r. absurd (cc);
   before_files = λ b. absurd (cc);
   in_file = λ i e. absurd (none_some e);
   one_of = λ i e. absurd (none_some e);
@@ -159,8 +159,8 @@ memory_is_no_scene places names shelf (Ok value) e = tt
 memory_is_no_scene places names shelf (Err status) e = λ next. memory_is_no_reply (λ contents. after_scene places contents next) names shelf status e
 
 -- out-of-memory may stop an expression
-pub memory_is_no_reply_to_words : (verdict : Verdict) (status : Status) → status ≡ OutOfMemory → IsNoReplyToWords verdict status
-memory_is_no_reply_to_words verdict status e = subst (λ (status : Status). IsNoReplyToWords verdict status) (sym e) (record { refused = λ r. absurd (cc); of_words = tt })
+pub memory_is_no_reply_to_expression : (verdict : Verdict) (status : Status) → status ≡ OutOfMemory → IsNoReplyToExpression verdict status
+memory_is_no_reply_to_expression verdict status e = subst (λ (status : Status). IsNoReplyToExpression verdict status) (sym e) (record { refused = λ r. absurd (cc); of_expression = tt })
 
 -- ---- lengths
 pub length_told : (n : ℕ) (contents : Contents) → length (first_told n contents) ≡ length contents
@@ -182,44 +182,44 @@ length_others (suc n) (c ∷ contents) (o ∷ others) e = ap suc (length_others 
 abbrev pub asks : {T : Type 0} → (ℕ → (T → Verdict) → Verdict) → (ℕ → T → List Tri → Verdict) → ℕ → Contents → Verdict
 asks after next places contents = after (length contents) (λ t. after_scene places contents (next (length contents) t))
 
-words_refuse : {T : Type 0} (after : ℕ → (T → Verdict) → Verdict) (next : ℕ → T → List Tri → Verdict) (places m : ℕ) (status : Status) → ((then : T → Verdict) → IsNoReplyToWords (after m then) status) → is_refusal status ≡ true → (contents : Contents) → length contents ≡ m → asks after next places contents ≡ Refused status
-words_refuse after next places m status no_reply r contents e =
+expression_refuses : {T : Type 0} (after : ℕ → (T → Verdict) → Verdict) (next : ℕ → T → List Tri → Verdict) (places m : ℕ) (status : Status) → ((then : T → Verdict) → IsNoReplyToExpression (after m then) status) → is_refusal status ≡ true → (contents : Contents) → length contents ≡ m → asks after next places contents ≡ Refused status
+expression_refuses after next places m status no_reply r contents e =
     subst (λ (n : ℕ). after n (λ t. after_scene places contents (next (length contents) t)) ≡ Refused status) (sym e)
     ((no_reply (λ t. after_scene places contents (next (length contents) t))).refused r)
 
--- a missing reply that rests on the words is one of the command
-pub words_are_no_reply : {T : Type 0} (after : ℕ → (T → Verdict) → Verdict) (next : ℕ → T → List Tri → Verdict) (places m : ℕ) (names : List (List ℕ)) (shelf : ShelfCall) (status : Status) → length names ≡ m → ((then : T → Verdict) → IsNoReplyToWords (after m then) status) → IsNoReply (asks after next places) names shelf status
-words_are_no_reply after next places m names shelf status count no_reply =
+-- a missing reply that rests on the expression is one of the command
+pub expression_is_no_reply : {T : Type 0} (after : ℕ → (T → Verdict) → Verdict) (next : ℕ → T → List Tri → Verdict) (places m : ℕ) (names : List (List ℕ)) (shelf : ShelfCall) (status : Status) → length names ≡ m → ((then : T → Verdict) → IsNoReplyToExpression (after m then) status) → IsNoReply (asks after next places) names shelf status
+expression_is_no_reply after next places m names shelf status count no_reply =
     let contents = map shelf.told names in
     let all = length-map names shelf.told ∙ count in
-    let kind = (no_reply (λ t. Unknown)).of_words in
+    let kind = (no_reply (λ t. Unknown)).of_expression in
     record {
-      refused = λ r. subst (λ (v : Verdict). IsRefusal status v) (sym (words_refuse after next places m status no_reply r contents all)) refl;
-      held = λ r.
-          held_always shelf.told names (λ contents. IsRefusal status (asks after next places contents))
-          (λ contents l. subst (λ (v : Verdict). IsRefusal status v) (sym (words_refuse after next places m status no_reply r contents (l ∙ count))) refl);
-      before_files = λ b. words_refuse after next places m status no_reply (before_is_refusal status b) (first_told 0 contents) (length_told 0 contents ∙ all);
-      in_file = λ i e. absurd (words_no_file status i kind e);
-      one_of = λ i e. absurd (words_no_file status i kind e);
-      read_fault = λ i e. absurd (subst (λ (status : Status). IsOfWords status) e kind);
-      memory = words_memory status kind;
-      never = (λ e. subst (λ (status : Status). IsOfWords status) e kind, λ e. subst (λ (status : Status). IsOfWords status) e kind, λ e. subst (λ (status : Status). IsOfWords status) e kind);
+      refused = λ r. subst (λ (v : Verdict). IsRefusalIfTold status v) (sym (expression_refuses after next places m status no_reply r contents all)) refl;
+      refused_read = λ r.
+          held_always shelf.told names (λ contents. IsRefusalIfTold status (asks after next places contents))
+          (λ contents l. subst (λ (v : Verdict). IsRefusalIfTold status v) (sym (expression_refuses after next places m status no_reply r contents (l ∙ count))) refl);
+      before_files = λ b. expression_refuses after next places m status no_reply (before_is_refusal status b) (first_told 0 contents) (length_told 0 contents ∙ all);
+      in_file = λ i e. absurd (expression_no_file status i kind e);
+      one_of = λ i e. absurd (expression_no_file status i kind e);
+      read_fault = λ i e. absurd (subst (λ (status : Status). IsOfExpression status) e kind);
+      memory = expression_memory status kind;
+      never = (λ e. subst (λ (status : Status). IsOfExpression status) e kind, λ e. subst (λ (status : Status). IsOfExpression status) e kind, λ e. subst (λ (status : Status). IsOfExpression status) e kind);
     }
 
 -- so is one of a command without files
-pub words_alone_are_no_reply : (verdict : Verdict) (names : List (List ℕ)) (shelf : ShelfCall) (status : Status) → IsNoReplyToWords verdict status → IsNoReply (λ contents. verdict) names shelf status
-words_alone_are_no_reply verdict names shelf status no_reply =
-    let kind = no_reply.of_words in
-    let is : is_refusal status ≡ true → IsRefusal status verdict = λ r. subst (λ (v : Verdict). IsRefusal status v) (sym (no_reply.refused r)) refl in
+pub expression_alone_is_no_reply : (verdict : Verdict) (names : List (List ℕ)) (shelf : ShelfCall) (status : Status) → IsNoReplyToExpression verdict status → IsNoReply (λ contents. verdict) names shelf status
+expression_alone_is_no_reply verdict names shelf status no_reply =
+    let kind = no_reply.of_expression in
+    let is : is_refusal status ≡ true → IsRefusalIfTold status verdict = λ r. subst (λ (v : Verdict). IsRefusalIfTold status v) (sym (no_reply.refused r)) refl in
     record {
       refused = is;
-      held = λ r. held_always shelf.told names (λ contents. IsRefusal status verdict) (λ contents l. is r);
+      refused_read = λ r. held_always shelf.told names (λ contents. IsRefusalIfTold status verdict) (λ contents l. is r);
       before_files = λ b. no_reply.refused (before_is_refusal status b);
-      in_file = λ i e. absurd (words_no_file status i kind e);
-      one_of = λ i e. absurd (words_no_file status i kind e);
-      read_fault = λ i e. absurd (subst (λ (status : Status). IsOfWords status) e kind);
-      memory = words_memory status kind;
-      never = (λ e. subst (λ (status : Status). IsOfWords status) e kind, λ e. subst (λ (status : Status). IsOfWords status) e kind, λ e. subst (λ (status : Status). IsOfWords status) e kind);
+      in_file = λ i e. absurd (expression_no_file status i kind e);
+      one_of = λ i e. absurd (expression_no_file status i kind e);
+      read_fault = λ i e. absurd (subst (λ (status : Status). IsOfExpression status) e kind);
+      memory = expression_memory status kind;
+      never = (λ e. subst (λ (status : Status). IsOfExpression status) e kind, λ e. subst (λ (status : Status). IsOfExpression status) e kind, λ e. subst (λ (status : Status). IsOfExpression status) e kind);
     }
 
 scene_asked : {T : Type 0} (after : ℕ → (T → Verdict) → Verdict) (next : ℕ → T → List Tri → Verdict) (places m : ℕ) (t : T) → ((then : T → Verdict) → after m then ≡ then t) → (contents : Contents) → length contents ≡ m → asks after next places contents ≡ after_scene places contents (next m t)
@@ -233,12 +233,12 @@ scene_is_no_reply after next places m names shelf status t count given no_reply 
     let all = length-map names shelf.told in
     let s = no_reply (next m t) in
     record {
-      refused = λ r. subst (λ (v : Verdict). IsRefusal status v) (sym (scene_asked after next places m t given contents (all ∙ count))) (s.refused r);
-      held = λ r.
-          held_then shelf.told names (λ contents. IsRefusal status (after_scene places contents (next m t))) (λ contents. IsRefusal status (asks after next places contents))
-          (λ contents l h. subst (λ (v : Verdict). IsRefusal status v) (sym (scene_asked after next places m t given contents (l ∙ count))) h) (s.held r);
+      refused = λ r. subst (λ (v : Verdict). IsRefusalIfTold status v) (sym (scene_asked after next places m t given contents (all ∙ count))) (s.refused r);
+      refused_read = λ r.
+          held_then shelf.told names (λ contents. IsRefusalIfTold status (after_scene places contents (next m t))) (λ contents. IsRefusalIfTold status (asks after next places contents))
+          (λ contents l h. subst (λ (v : Verdict). IsRefusalIfTold status v) (sym (scene_asked after next places m t given contents (l ∙ count))) h) (s.refused_read r);
       before_files = λ b. scene_asked after next places m t given (first_told 0 contents) (length_told 0 contents ∙ all ∙ count) ∙ s.before_files b;
-      in_file = λ i e others l. subst (λ (v : Verdict). IsRefusal status v) (sym (scene_asked after next places m t given (with_others i contents others) (length_others i contents others (l ∙ sym all) ∙ all ∙ count))) (s.in_file i e others l);
+      in_file = λ i e others l. subst (λ (v : Verdict). IsRefusalIfTold status v) (sym (scene_asked after next places m t given (with_others i contents others) (length_others i contents others (l ∙ sym all) ∙ all ∙ count))) (s.in_file i e others l);
       one_of = s.one_of;
       read_fault = λ i e. let f = s.read_fault i e in (f.0, f.1, scene_asked after next places m t given (first_told (i - 1) contents) (length_told (i - 1) contents ∙ all ∙ count) ∙ f.2, f.3);
       memory = s.memory;
@@ -246,14 +246,14 @@ scene_is_no_reply after next places m names shelf status t count given no_reply 
     }
 
 -- ---- statuses after all files
-pub after_no_reply : (verdict : Contents → Verdict) (names : List (List ℕ)) (shelf : ShelfCall) (status : Status) → IsAfterFiles status → (is_refusal status ≡ true → IsRefusal status (verdict (map shelf.told names))) → (is_refusal status ≡ true → MayHold shelf.told names (λ contents. IsRefusal status (verdict contents))) → ((i : ℕ) → status ≢ ReadFault i) → (status ≢ Done) × (status ≢ Words) × (status ≢ WriteFault) → IsNoReply verdict names shelf status
-after_no_reply verdict names shelf status kind refused held only never = record {
+pub after_no_reply : (verdict : Contents → Verdict) (names : List (List ℕ)) (shelf : ShelfCall) (status : Status) → IsAfterFiles status → (is_refusal status ≡ true → IsRefusalIfTold status (verdict (map shelf.told names))) → (is_refusal status ≡ true → MayHold shelf.told names (λ contents. IsRefusalIfTold status (verdict contents))) → ((i : ℕ) → status ≢ ReadFault i) → (status ≢ Done) × (status ≢ Words) × (status ≢ WriteFault) → IsNoReply verdict names shelf status
+after_no_reply verdict names shelf status kind refused refused_read no_read_fault never = record {
   refused = refused;
-  held = held;
+  refused_read = refused_read;
   before_files = λ b. let h : true ≡ false = sym b ∙ kind.not_before in absurd (cc);
   in_file = λ i e. absurd (none_some (sym kind.no_file ∙ e));
   one_of = λ i e. absurd (none_some (sym kind.no_file ∙ e));
-  read_fault = λ i e. absurd (only i e);
+  read_fault = λ i e. absurd (no_read_fault i e);
   memory = kind.memory;
   never = never;
 }

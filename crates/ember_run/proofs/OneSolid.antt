@@ -81,8 +81,8 @@ module _ (tris : List Tri) (formula : Formula) (file : List ℕ) (is : IsSolidFi
 
   -- ---- points
   -- the value that is written for a point is how often the faces wind there
-  pub value_of_faces : (faces : List Face) → IsFaceFile file faces → (p : Spot) (meshes : ℕ) (told : List ℕ) → pos 0 <ℤ p.w → list_all (λ t. is_clear_of t p) tris ≡ true → IsOutput (Counts p meshes tris (Some formula)) told → ValueIsOfFaces told faces p
-  value_of_faces faces read p meshes told weight taken output =
+  pub value_of_faces : (faces : List Face) → IsFaceFile file faces → (p : Spot) (meshes : ℕ) (text : List ℕ) → pos 0 <ℤ p.w → list_all (λ t. is_clear_of t p) tris ≡ true → IsOutput (Counts p meshes tris (Some formula)) text → ValueIsOfFaces text faces p
+  value_of_faces faces read p meshes text weight taken output =
       let clear = clear_faces tris p weight taken in record {
         value = truth (vector X tris p) formula;
         shown = record { counts = count_lines 1 (take meshes (vector X tris p)); is = output };

@@ -14,7 +14,7 @@ use Rattle.ember_model.specs.declared.tri.Tri.{Tri}
 use Rattle.ember_run.specs.declared.status.Status.{Status}
 use Rattle.ember_run.specs.declared.status.LimitKind.TheVariants.{Triangles}
 use Rattle.ember_run.specs.declared.status.Status.TheVariants.{Done, Words, ReadFault, WriteFault, MeshRefused, Limit}
-use Rattle.ember_run.specs.Statuses.{IsRefusal, IsSameIfTold, hides_memory, is_refusal, refused_file}
+use Rattle.ember_run.specs.Statuses.{IsRefusalIfTold, IsSameIfTold, hides_memory, is_refusal, refused_file}
 use Rattle.ember_run.specs.Devices.{ShelfCall, HasShelfFailed}
 use Rattle.ember_run.specs.Held.{AreContentsOf, MayHold, MayHoldOne}
 use Rattle.ember_run.specs.Scenes.{HasParts}
@@ -30,9 +30,9 @@ mesh_read places i told tris next read closed =
     same_then (after_mesh places i told next) (after_balance i (loose_of tris) (next tris)) (next tris) (read (λ tris. after_balance i (loose_of tris) (next tris))) (subst (λ (found : Option Loose). IsSameIfTold (after_balance i found (next tris)) (next tris)) (sym closed) (same_self (next tris)))
 
 -- a file whose mesh isn't closed is refused
-pub mesh_refused : (places i : ℕ) (told : Option (List ℕ)) (tris : List Tri) (loose : Loose) (next : List Tri → Verdict) → ((next : List Tri → Verdict) → IsSameIfTold (after_file places i told next) (next tris)) → loose_of tris ≡ Some loose → IsRefusal (MeshRefused i (Unbalanced loose)) (after_mesh places i told next)
+pub mesh_refused : (places i : ℕ) (told : Option (List ℕ)) (tris : List Tri) (loose : Loose) (next : List Tri → Verdict) → ((next : List Tri → Verdict) → IsSameIfTold (after_file places i told next) (next tris)) → loose_of tris ≡ Some loose → IsRefusalIfTold (MeshRefused i (Unbalanced loose)) (after_mesh places i told next)
 mesh_refused places i told tris loose next read found =
-    refusal_then (MeshRefused i (Unbalanced loose)) (after_mesh places i told next) (after_balance i (loose_of tris) (next tris)) (read (λ tris. after_balance i (loose_of tris) (next tris))) (subst (λ (found : Option Loose). IsRefusal (MeshRefused i (Unbalanced loose)) (after_balance i found (next tris))) (sym found) refl)
+    refusal_then (MeshRefused i (Unbalanced loose)) (after_mesh places i told next) (after_balance i (loose_of tris) (next tris)) (read (λ tris. after_balance i (loose_of tris) (next tris))) (subst (λ (found : Option Loose). IsRefusalIfTold (MeshRefused i (Unbalanced loose)) (after_balance i found (next tris))) (sym found) refl)
 
 -- the same over contents that the file may have
 pub mesh_held : (places i : ℕ) (told : Option (List ℕ)) (tris : List Tri) → MayHoldOne told (λ content. (next : List Tri → Verdict) → IsSameIfTold (after_file places i content next) (next tris)) → loose_of tris ≡ None → MayHoldOne told (λ content. (next : List Tri → Verdict) → IsSameIfTold (after_mesh places i content next) (next tris))
@@ -41,15 +41,15 @@ mesh_held places i told tris h closed =
     (λ content read next. mesh_read places i content tris next read closed) h
 
 -- those of a file whose mesh isn't closed
-pub loose_held : (places i : ℕ) (told : Option (List ℕ)) (tris : List Tri) (loose : Loose) → MayHoldOne told (λ content. (next : List Tri → Verdict) → IsSameIfTold (after_file places i content next) (next tris)) → loose_of tris ≡ Some loose → MayHoldOne told (λ content. (next : List Tri → Verdict) → IsRefusal (MeshRefused i (Unbalanced loose)) (after_mesh places i content next))
+pub loose_held : (places i : ℕ) (told : Option (List ℕ)) (tris : List Tri) (loose : Loose) → MayHoldOne told (λ content. (next : List Tri → Verdict) → IsSameIfTold (after_file places i content next) (next tris)) → loose_of tris ≡ Some loose → MayHoldOne told (λ content. (next : List Tri → Verdict) → IsRefusalIfTold (MeshRefused i (Unbalanced loose)) (after_mesh places i content next))
 loose_held places i told tris loose h found =
-    held_one_then told (λ content. (next : List Tri → Verdict) → IsSameIfTold (after_file places i content next) (next tris)) (λ content. (next : List Tri → Verdict) → IsRefusal (MeshRefused i (Unbalanced loose)) (after_mesh places i content next))
+    held_one_then told (λ content. (next : List Tri → Verdict) → IsSameIfTold (after_file places i content next) (next tris)) (λ content. (next : List Tri → Verdict) → IsRefusalIfTold (MeshRefused i (Unbalanced loose)) (after_mesh places i content next))
     (λ content read next. mesh_refused places i content tris loose next read found) h
 
 -- those of a file that is refused as such
-pub file_refused_held : (places i : ℕ) (told : Option (List ℕ)) (status : Status) → MayHoldOne told (λ content. (next : List Tri → Verdict) → IsRefusal status (after_file places i content next)) → MayHoldOne told (λ content. (next : List Tri → Verdict) → IsRefusal status (after_mesh places i content next))
+pub file_refused_held : (places i : ℕ) (told : Option (List ℕ)) (status : Status) → MayHoldOne told (λ content. (next : List Tri → Verdict) → IsRefusalIfTold status (after_file places i content next)) → MayHoldOne told (λ content. (next : List Tri → Verdict) → IsRefusalIfTold status (after_mesh places i content next))
 file_refused_held places i told status h =
-    held_one_then told (λ content. (next : List Tri → Verdict) → IsRefusal status (after_file places i content next)) (λ content. (next : List Tri → Verdict) → IsRefusal status (after_mesh places i content next))
+    held_one_then told (λ content. (next : List Tri → Verdict) → IsRefusalIfTold status (after_file places i content next)) (λ content. (next : List Tri → Verdict) → IsRefusalIfTold status (after_mesh places i content next))
     (λ content refused next. refused (λ tris. after_balance i (loose_of tris) (next tris))) h
 
 -- ---- one mesh more
@@ -105,12 +105,12 @@ all_contents told (file ∷ files) zero d l = (map told files, refl)
 all_contents told (file ∷ files) (suc k) d l =
     let r = all_contents told files k d (omega (arith, l)) in (r.0, ap (λ (xs : Contents). told file ∷ xs) r.1)
 
-part_refused : (places : ℕ) (told now : List ℕ → Option (List ℕ)) (files : List (List ℕ)) (k number : ℕ) (d name : List ℕ) (parts : List Closed) (status : Status) (more : Contents) (next : List Tri → Verdict) → k < length files → HasParts places (map told (take k files)) parts → now ≡ told → number ≡ k + 1 → name ≡ get_or files k d → ((next : List Tri → Verdict) → IsRefusal status (after_mesh places number (now name) next)) → IsRefusal status (after_scene places (map told (take k files) ++ told (get_or files k d) ∷ more) next)
+part_refused : (places : ℕ) (told now : List ℕ → Option (List ℕ)) (files : List (List ℕ)) (k number : ℕ) (d name : List ℕ) (parts : List Closed) (status : Status) (more : Contents) (next : List Tri → Verdict) → k < length files → HasParts places (map told (take k files)) parts → now ≡ told → number ≡ k + 1 → name ≡ get_or files k d → ((next : List Tri → Verdict) → IsRefusalIfTold status (after_mesh places number (now name) next)) → IsRefusalIfTold status (after_scene places (map told (take k files) ++ told (get_or files k d) ∷ more) next)
 part_refused places told now files k number d name parts status more next l h t e n refused =
     let rest = λ (mesh : List Tri). after_files places (k + 1 + 1) (triangles_of parts ++ mesh) more next in
     refusal_then status _ _ (h.same (told (get_or files k d) ∷ more) next)
-    (subst (λ (n : ℕ). IsRefusal status (after_files places (n + 1) (triangles_of parts) (told (get_or files k d) ∷ more) next)) (sym (read_count told files k (omega (arith, l))))
-    (subst (λ (c : Option (List ℕ)). IsRefusal status (after_mesh places (k + 1) c rest)) (λ i. t i (n i)) (subst (λ (number : ℕ). IsRefusal status (after_mesh places number (now name) rest)) e (refused rest))))
+    (subst (λ (n : ℕ). IsRefusalIfTold status (after_files places (n + 1) (triangles_of parts) (told (get_or files k d) ∷ more) next)) (sym (read_count told files k (omega (arith, l))))
+    (subst (λ (c : Option (List ℕ)). IsRefusalIfTold status (after_mesh places (k + 1) c rest)) (λ i. t i (n i)) (subst (λ (number : ℕ). IsRefusalIfTold status (after_mesh places number (now name) rest)) e (refused rest))))
 
 first_contents : (told : List ℕ → Option (List ℕ)) (files : List (List ℕ)) (k : ℕ) → k < length files → (more : Contents) × (first_told k (map told files) ≡ map told (take k files) ++ None ∷ more)
 first_contents told [] k l = absurd (omega (arith, l))
@@ -187,43 +187,43 @@ files_after (file ∷ files) zero d l = (files, refl)
 files_after (file ∷ files) (suc k) d l =
     let r = files_after files k d (omega (arith, l)) in (r.0, ap (λ (xs : List (List ℕ)). file ∷ xs) r.1)
 
-one_refused_held : (places : ℕ) (told : List ℕ → Option (List ℕ)) (names rest : List (List ℕ)) (name : List ℕ) (parts : List Closed) (status : Status) (next : List Tri → Verdict) → HaveParts places told names parts → MayHoldOne (told name) (λ content. (next : List Tri → Verdict) → IsRefusal status (after_mesh places (length names + 1) content next)) → MayHold told (names ++ name ∷ rest) (λ contents. IsRefusal status (after_scene places contents next))
+one_refused_held : (places : ℕ) (told : List ℕ → Option (List ℕ)) (names rest : List (List ℕ)) (name : List ℕ) (parts : List Closed) (status : Status) (next : List Tri → Verdict) → HaveParts places told names parts → MayHoldOne (told name) (λ content. (next : List Tri → Verdict) → IsRefusalIfTold status (after_mesh places (length names + 1) content next)) → MayHold told (names ++ name ∷ rest) (λ contents. IsRefusalIfTold status (after_scene places contents next))
 one_refused_held places told names rest name parts status next h one =
     let others = map (λ name. told_or_empty (told name)) rest in let parted = h.2 in (
       h.0 ++ one.0 ∷ others,
       contents_joined told names (name ∷ rest) h.0 (one.0 ∷ others) h.1 (one.1, some_contents told rest),
-      subst (λ (contents : Contents). IsRefusal status (after_scene places contents next)) (sym (map-append Some h.0 (one.0 ∷ others)))
+      subst (λ (contents : Contents). IsRefusalIfTold status (after_scene places contents next)) (sym (map-append Some h.0 (one.0 ∷ others)))
           (refusal_then status _ _ (parted.same (map Some (one.0 ∷ others)) next)
-          (subst (λ (n : ℕ). IsRefusal status (after_files places (n + 1) (triangles_of parts) (map Some (one.0 ∷ others)) next)) (sym (held_count told names h.0 h.1))
+          (subst (λ (n : ℕ). IsRefusalIfTold status (after_files places (n + 1) (triangles_of parts) (map Some (one.0 ∷ others)) next)) (sym (held_count told names h.0 h.1))
           (one.2 (λ mesh. after_files places (length names + 1 + 1) (triangles_of parts ++ mesh) (map Some others) next)))),
     )
 
-part_refused_held : (places : ℕ) (told now : List ℕ → Option (List ℕ)) (files : List (List ℕ)) (k number : ℕ) (d name : List ℕ) (parts : List Closed) (status : Status) (next : List Tri → Verdict) → k < length files → HaveParts places told (take k files) parts → now ≡ told → number ≡ k + 1 → name ≡ get_or files k d → MayHoldOne (now name) (λ content. (next : List Tri → Verdict) → IsRefusal status (after_mesh places number content next)) → MayHold told files (λ contents. IsRefusal status (after_scene places contents next))
+part_refused_held : (places : ℕ) (told now : List ℕ → Option (List ℕ)) (files : List (List ℕ)) (k number : ℕ) (d name : List ℕ) (parts : List Closed) (status : Status) (next : List Tri → Verdict) → k < length files → HaveParts places told (take k files) parts → now ≡ told → number ≡ k + 1 → name ≡ get_or files k d → MayHoldOne (now name) (λ content. (next : List Tri → Verdict) → IsRefusalIfTold status (after_mesh places number content next)) → MayHold told files (λ contents. IsRefusalIfTold status (after_scene places contents next))
 part_refused_held places told now files k number d name parts status next l h t e n one =
     let at : number ≡ length (take k files) + 1 = e ∙ ap (λ (n : ℕ). n + 1) (sym (take_count files k l)) in
     let r = files_after files k d l in
-    subst (λ (names : List (List ℕ)). MayHold told names (λ contents. IsRefusal status (after_scene places contents next))) (sym r.1)
+    subst (λ (names : List (List ℕ)). MayHold told names (λ contents. IsRefusalIfTold status (after_scene places contents next))) (sym r.1)
     (one_refused_held places told (take k files) r.0 (get_or files k d) parts status next h
-    (subst (λ (n : ℕ). MayHoldOne (told (get_or files k d)) (λ content. (next : List Tri → Verdict) → IsRefusal status (after_mesh places n content next))) at
-    (subst (λ (c : Option (List ℕ)). MayHoldOne c (λ content. (next : List Tri → Verdict) → IsRefusal status (after_mesh places number content next))) (λ i. t i (n i)) one)))
+    (subst (λ (n : ℕ). MayHoldOne (told (get_or files k d)) (λ content. (next : List Tri → Verdict) → IsRefusalIfTold status (after_mesh places n content next))) at
+    (subst (λ (c : Option (List ℕ)). MayHoldOne c (λ content. (next : List Tri → Verdict) → IsRefusalIfTold status (after_mesh places number content next))) (λ i. t i (n i)) one)))
 
 -- a file that can't be read as a mesh stops the scene
 pub part_is_no_reply : (places : ℕ) (now : List ℕ → Option (List ℕ)) (files : List (List ℕ)) (k number : ℕ) (d name : List ℕ) (parts : List Closed) (shelf : ShelfCall) (status : Status) → k < length files → HasParts places (map shelf.told (take k files)) parts → HaveParts places shelf.told (take k files) parts → now ≡ shelf.told → number ≡ k + 1 → name ≡ get_or files k d
-    → (is_refusal status ≡ true → MayHoldOne (now name) (λ content. (next : List Tri → Verdict) → IsRefusal status (after_mesh places number content next)))
-    → (is_refusal status ≡ true → (next : List Tri → Verdict) → IsRefusal status (after_mesh places number (now name) next)) → (is_refusal status ≡ true → refused_file status ≡ Some number) → ((i : ℕ) → status ≡ ReadFault i → (i ≡ number) × HasShelfFailed shelf × (shelf.fault_at ≡ i)) → hides_memory status ≡ false → (status ≢ Done) × (status ≢ Words) × (status ≢ WriteFault)
+    → (is_refusal status ≡ true → MayHoldOne (now name) (λ content. (next : List Tri → Verdict) → IsRefusalIfTold status (after_mesh places number content next)))
+    → (is_refusal status ≡ true → (next : List Tri → Verdict) → IsRefusalIfTold status (after_mesh places number (now name) next)) → (is_refusal status ≡ true → refused_file status ≡ Some number) → ((i : ℕ) → status ≡ ReadFault i → (i ≡ number) × HasShelfFailed shelf × (shelf.fault_at ≡ i)) → hides_memory status ≡ false → (status ≢ Done) × (status ≢ Words) × (status ≢ WriteFault)
     → IsNoScene places files shelf status
 part_is_no_reply places now files k number d name parts shelf status l h p t e n one refused file read_fault memory never next =
     let told = shelf.told in
     let r = all_contents told files k d l in
     record {
-      refused = λ f. subst (λ (contents : Contents). IsRefusal status (after_scene places contents next)) (sym r.1) (part_refused places told now files k number d name parts status r.0 next l h t e n (refused f));
-      held = λ f. part_refused_held places told now files k number d name parts status next l p t e n (one f);
+      refused = λ f. subst (λ (contents : Contents). IsRefusalIfTold status (after_scene places contents next)) (sym r.1) (part_refused places told now files k number d name parts status r.0 next l h t e n (refused f));
+      refused_read = λ f. part_refused_held places told now files k number d name parts status next l p t e n (one f);
       before_files = λ b. absurd (before_no_file status number b (file (before_is_refusal status b)));
       in_file = λ i f others m.
           let is = file_is_refusal status i f in
           let at : i ≡ k + 1 = same_number i number (sym f ∙ file is) ∙ e in
-          subst (λ (i : ℕ). IsRefusal status (after_scene places (with_others i (map told files) others) next)) (sym at)
-          (subst (λ (contents : Contents). IsRefusal status (after_scene places contents next)) (sym (with_part told files k d others l))
+          subst (λ (i : ℕ). IsRefusalIfTold status (after_scene places (with_others i (map told files) others) next)) (sym at)
+          (subst (λ (contents : Contents). IsRefusalIfTold status (after_scene places contents next)) (sym (with_part told files k d others l))
           (part_refused places told now files k number d name parts status (drop (k + 1) others) next l h t e n (refused is)));
       one_of = λ i f. this_file files k i l (same_number i number (sym f ∙ file (file_is_refusal status i f)) ∙ e);
       read_fault = λ i f. let a = read_fault i f in (a.1, a.2, part_unread places told files k i parts next l h (a.0 ∙ e), this_file files k i l (a.0 ∙ e));
@@ -236,14 +236,14 @@ pub few_joined : (tris : List Tri) (next : List Tri → Verdict) → length tris
 few_joined tris next l = rw (le-leb (length tris) 262144 l) refl
 
 -- too many triangles are refused
-pub many_refused : (tris : List Tri) (count : ℕ) (next : List Tri → Verdict) → count ≡ length tris → 262144 < count → IsRefusal (Limit Triangles count) (after_total tris next)
-many_refused tris count next e l = subst (λ (n : ℕ). IsRefusal (Limit Triangles n) (after_total tris next)) (sym e) (rw (above (length tris) 262144 (omega (arith, e, l))) refl)
+pub many_refused : (tris : List Tri) (count : ℕ) (next : List Tri → Verdict) → count ≡ length tris → 262144 < count → IsRefusalIfTold (Limit Triangles count) (after_total tris next)
+many_refused tris count next e l = subst (λ (n : ℕ). IsRefusalIfTold (Limit Triangles n) (after_total tris next)) (sym e) (rw (above (length tris) 262144 (omega (arith, e, l))) refl)
 
 scene_joined : (places : ℕ) (contents : Contents) (parts : List Closed) (tris : List Tri) (next : List Tri → Verdict) → HasParts places contents parts → after_total (triangles_of parts) next ≡ next tris → IsSameIfTold (after_scene places contents next) (next tris)
 scene_joined places contents parts tris next h e =
     subst (λ (v : Verdict). IsSameIfTold (after_scene places contents next) v) e (subst (λ (cs : Contents). IsSameIfTold (after_scene places cs next) (after_total (triangles_of parts) next)) (append-nil contents) (h.same [] next))
 
-scene_refused : (places : ℕ) (contents : Contents) (parts : List Closed) (status : Status) (next : List Tri → Verdict) → HasParts places contents parts → IsRefusal status (after_total (triangles_of parts) next) → IsRefusal status (after_scene places contents next)
+scene_refused : (places : ℕ) (contents : Contents) (parts : List Closed) (status : Status) (next : List Tri → Verdict) → HasParts places contents parts → IsRefusalIfTold status (after_total (triangles_of parts) next) → IsRefusalIfTold status (after_scene places contents next)
 scene_refused places contents parts status next h r =
     refusal_then status _ _ (subst (λ (cs : Contents). IsSameIfTold (after_scene places cs next) (after_total (triangles_of parts) next)) (append-nil contents) (h.same [] next)) r
 
@@ -260,9 +260,9 @@ held_joined_if places told names parts (Ok scene) h e =
 held_joined_if places told names parts (Err error) h e = tt
 
 -- a refusal of the joined meshes is one of the files
-pub no_reply_if : {A : Type 0} (places : ℕ) (names : List (List ℕ)) (shelf : ShelfCall) (parts : List Closed) (result : Result A Status) → HasParts places (map shelf.told names) parts → HaveParts places shelf.told names parts → IfErr result (λ status. is_refusal status ≡ true → (next : List Tri → Verdict) → IsRefusal status (after_total (triangles_of parts) next)) → IfErr result IsAfterFiles → ((i : ℕ) → result ≢ Err (ReadFault i)) → (result ≢ Err Done) × (result ≢ Err Words) × (result ≢ Err WriteFault) → IfErr result (IsNoScene places names shelf)
-no_reply_if places names shelf parts (Ok value) h p refused kind only never = tt
-no_reply_if places names shelf parts (Err status) h p refused kind only never = λ next.
+pub no_reply_if : {A : Type 0} (places : ℕ) (names : List (List ℕ)) (shelf : ShelfCall) (parts : List Closed) (result : Result A Status) → HasParts places (map shelf.told names) parts → HaveParts places shelf.told names parts → IfErr result (λ status. is_refusal status ≡ true → (next : List Tri → Verdict) → IsRefusalIfTold status (after_total (triangles_of parts) next)) → IfErr result IsAfterFiles → ((i : ℕ) → result ≢ Err (ReadFault i)) → (result ≢ Err Done) × (result ≢ Err Words) × (result ≢ Err WriteFault) → IfErr result (IsNoScene places names shelf)
+no_reply_if places names shelf parts (Ok value) h p refused kind no_read_fault never = tt
+no_reply_if places names shelf parts (Err status) h p refused kind no_read_fault never = λ next.
     after_no_reply (λ contents. after_scene places contents next) names shelf status kind (λ r. scene_refused places (map shelf.told names) parts status next h (refused r next))
-    (λ r. held_then shelf.told names (λ contents. HasParts places contents parts) (λ contents. IsRefusal status (after_scene places contents next)) (λ contents l h. scene_refused places contents parts status next h (refused r next)) p)
-    (λ i f. only i (ap Err f)) (λ f. never.0 (ap Err f), λ f. never.1 (ap Err f), λ f. never.2 (ap Err f))
+    (λ r. held_then shelf.told names (λ contents. HasParts places contents parts) (λ contents. IsRefusalIfTold status (after_scene places contents next)) (λ contents l h. scene_refused places contents parts status next h (refused r next)) p)
+    (λ i f. no_read_fault i (ap Err f)) (λ f. never.0 (ap Err f), λ f. never.1 (ap Err f), λ f. never.2 (ap Err f))

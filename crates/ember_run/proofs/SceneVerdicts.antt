@@ -20,7 +20,7 @@ use Rattle.ember_voxel.specs.Voxels.{IsVoxelText}
 use Rattle.ember_run.specs.Lattices.{IsLatticeText}
 use Rattle.ember_run.specs.Outputs.{Lattice, MeetingPairs}
 use Rattle.ember_run.specs.PairLists.{IsPairsText}
-use Rattle.ember_run.specs.Statuses.{IsSameIfTold, IsText}
+use Rattle.ember_run.specs.Statuses.{IsSameIfTold, IsTextIfTold}
 use Rattle.ember_run.specs.Verdict.{Contents, Verdict, Writes, after_expr, after_scene, pairs_verdict, voxels_verdict}
 use Rattle.ember_run.proofs.Verdicts.{text_then}
 
@@ -39,7 +39,7 @@ pairs_text_if tris items ps shown (Ok text) law are gathered e is =
 pairs_text_if tris items ps shown (Err error) law are gathered e is = tt
 
 -- the pairs of the scene are the output of `pairs`
-pub pairs_listed : (places : ℕ) (contents : Contents) (tris : List Tri) (bytes : List ℕ) → ((next : List Tri → Verdict) → IsSameIfTold (after_scene places contents next) (next tris)) → IsPairsText tris bytes → IsText (pairs_verdict places contents) bytes
+pub pairs_listed : (places : ℕ) (contents : Contents) (tris : List Tri) (bytes : List ℕ) → ((next : List Tri → Verdict) → IsSameIfTold (after_scene places contents next) (next tris)) → IsPairsText tris bytes → IsTextIfTold (pairs_verdict places contents) bytes
 pairs_listed places contents tris bytes scene is =
     text_then bytes (pairs_verdict places contents) (Writes (MeetingPairs tris)) (scene (λ tris. Writes (MeetingPairs tris))) is
 
@@ -50,9 +50,9 @@ module _ (after : ℕ → (Formula → Verdict) → Verdict) (places m : ℕ) (c
   after_read formula next given = subst (λ (n : ℕ). after n next ≡ next formula) (sym count) (given next)
 
   -- the output for a scene and an expression is that for the files and the text that were read as these
-  pub scene_text : (formula : Formula) (tris : List Tri) (bytes : List ℕ) (next : Formula → List Tri → Verdict) → ExprRead after m formula → SceneRead places contents tris → IsText (next formula tris) bytes → IsText (after (length contents) (λ formula. after_scene places contents (next formula))) bytes
+  pub scene_text : (formula : Formula) (tris : List Tri) (bytes : List ℕ) (next : Formula → List Tri → Verdict) → ExprRead after m formula → SceneRead places contents tris → IsTextIfTold (next formula tris) bytes → IsTextIfTold (after (length contents) (λ formula. after_scene places contents (next formula))) bytes
   scene_text formula tris bytes next given scene is =
-      subst (λ (v : Verdict). IsText v bytes) (sym (after_read formula (λ formula. after_scene places contents (next formula)) given))
+      subst (λ (v : Verdict). IsTextIfTold v bytes) (sym (after_read formula (λ formula. after_scene places contents (next formula)) given))
       (text_then bytes (after_scene places contents (next formula)) (next formula tris) (scene (next formula)) is)
 
 -- ---- a lattice
@@ -71,6 +71,6 @@ lattice_text_if tris formula size fills given (Ok text) law le are e is =
 lattice_text_if tris formula size fills given (Err error) law le are e is = tt
 
 -- the text of the lattice is the output of `voxels`
-pub lattice_sampled : (expr : List ℕ) (size places m : ℕ) (contents : Contents) (formula : Formula) (tris : List Tri) (bytes : List ℕ) → length contents ≡ m → ExprRead (after_expr expr) m formula → SceneRead places contents tris → IsLatticeText tris formula size bytes → IsText (voxels_verdict expr size places contents) bytes
+pub lattice_sampled : (expr : List ℕ) (size places m : ℕ) (contents : Contents) (formula : Formula) (tris : List Tri) (bytes : List ℕ) → length contents ≡ m → ExprRead (after_expr expr) m formula → SceneRead places contents tris → IsLatticeText tris formula size bytes → IsTextIfTold (voxels_verdict expr size places contents) bytes
 lattice_sampled expr size places m contents formula tris bytes count given scene is =
     scene_text (after_expr expr) places m contents count formula tris bytes (λ formula tris. Writes (Lattice tris formula size)) given scene is

@@ -14,8 +14,8 @@ use Rattle.ember_run.specs.Reported.{IsErrText, IsReportOfVerdict, IsReportOfVer
 use Rattle.ember_run.specs.Lines.{text_on_err}
 use Rattle.ember_words.specs.declared.command.Command.{Command}
 use Rattle.std.specs.declared.option.Option.{Option}
-use Rattle.ember_run.specs.Statuses.{IsSameIfTold, IsText}
-use Rattle.ember_run.specs.NoReplies.{IsNoReplyToWords}
+use Rattle.ember_run.specs.Statuses.{IsSameIfTold, IsTextIfTold}
+use Rattle.ember_run.specs.NoReplies.{IsNoReplyToExpression}
 use Rattle.ember_run.specs.Solids.{IsReportTextIfAsked, IsReportText, IsSolidFile, line_if_asked}
 use Rattle.ember_gen.specs.Scene.{scene_of}
 use Rattle.ember_run.specs.Verdict.{Contents, Verdict, Unknown, Refused, Writes, Slices, after_bounded, after_expr, after_scene, after_bounded_expr, bool_verdict, demo_verdict, names_of, told_verdict}
@@ -36,10 +36,10 @@ bounded_read text m formula next given e =
     given (λ formula. after_bounded formula (next formula)) ∙ ap (λ (b : Bool). if b then Refused Unbounded else next formula) (not_true (truth (replicate 64 (pos 0)) formula) e)
 
 -- one that is true there is refused
-pub unbounded_is_no_reply : (text : List ℕ) (m : ℕ) (formula : Formula) (next : Formula → Verdict) → ((next : Formula → Verdict) → after_expr text m next ≡ next formula) → false ≡ not (truth (replicate 64 (pos 0)) formula) → IsNoReplyToWords (after_bounded_expr text m next) Unbounded
+pub unbounded_is_no_reply : (text : List ℕ) (m : ℕ) (formula : Formula) (next : Formula → Verdict) → ((next : Formula → Verdict) → after_expr text m next ≡ next formula) → false ≡ not (truth (replicate 64 (pos 0)) formula) → IsNoReplyToExpression (after_bounded_expr text m next) Unbounded
 unbounded_is_no_reply text m formula next given e = record {
   refused = λ r. given (λ formula. after_bounded formula (next formula)) ∙ ap (λ (b : Bool). if b then Refused Unbounded else next formula) (not_false (truth (replicate 64 (pos 0)) formula) e);
-  of_words = tt;
+  of_expression = tt;
 }
 
 -- ---- texts
@@ -52,16 +52,16 @@ pub is_report_text : (tris : List Tri) (formula : Formula) (report : Report) (by
 is_report_text tris formula report bytes solid text = record { kept = solid.kept; report = report; solid = solid.solid; text = text }
 
 -- ---- the generated scene
-pub report_written : (boxes : ℕ) (formula : Formula) (tris : List Tri) (bytes : List ℕ) → ((next : Formula → Verdict) → after_expr (codes "m1|m2") 2 next ≡ next formula) → tris ≡ scene_of boxes → IsReportText tris formula bytes → IsText (demo_verdict boxes) bytes
+pub report_written : (boxes : ℕ) (formula : Formula) (tris : List Tri) (bytes : List ℕ) → ((next : Formula → Verdict) → after_expr (codes "m1|m2") 2 next ≡ next formula) → tris ≡ scene_of boxes → IsReportText tris formula bytes → IsTextIfTold (demo_verdict boxes) bytes
 report_written boxes formula tris bytes given e is =
-    subst (λ (v : Verdict). IsText v bytes) (sym (given (λ formula. Writes (SolidReport (scene_of boxes) formula)))) (subst (λ (tris : List Tri). IsReportText tris formula bytes) e is)
+    subst (λ (v : Verdict). IsTextIfTold v bytes) (sym (given (λ formula. Writes (SolidReport (scene_of boxes) formula)))) (subst (λ (tris : List Tri). IsReportText tris formula bytes) e is)
 
 -- a refusal of the union is one of `demo`
-pub report_refused : (boxes : ℕ) (status : Status) → ((next : Formula → Verdict) → IsNoReplyToWords (after_expr (codes "m1|m2") 2 next) status) → IsNoReplyToWords (demo_verdict boxes) status
+pub report_refused : (boxes : ℕ) (status : Status) → ((next : Formula → Verdict) → IsNoReplyToExpression (after_expr (codes "m1|m2") 2 next) status) → IsNoReplyToExpression (demo_verdict boxes) status
 report_refused boxes status no_reply = no_reply (λ formula. Writes (SolidReport (scene_of boxes) formula))
 
 -- ---- the document
-pub solid_written : (expr : List ℕ) (places m : ℕ) (contents : Contents) (formula : Formula) (tris : List Tri) (bytes : List ℕ) → length contents ≡ m → ExprRead (after_bounded_expr expr) m formula → SceneRead places contents tris → IsSolidFile tris formula bytes → IsText (bool_verdict expr places contents) bytes
+pub solid_written : (expr : List ℕ) (places m : ℕ) (contents : Contents) (formula : Formula) (tris : List Tri) (bytes : List ℕ) → length contents ≡ m → ExprRead (after_bounded_expr expr) m formula → SceneRead places contents tris → IsSolidFile tris formula bytes → IsTextIfTold (bool_verdict expr places contents) bytes
 solid_written expr places m contents formula tris bytes count given scene is =
     scene_text (after_bounded_expr expr) places m contents count formula tris bytes (λ formula tris. Writes (SolidFaces tris formula)) given scene is
 

@@ -17,7 +17,7 @@ use Rattle.ember_run.specs.Held.{MayHoldOne}
 use Rattle.ember_run.specs.Outputs.{FaceTexts}
 use Rattle.ember_run.proofs.HeldContents.{held_one_then, more_bytes}
 use Rattle.ember_run.specs.Verdict.{Verdict, Unknown, Refused, Writes, Slices, after_bytes, after_file, after_triangles, faces_verdict}
-use Rattle.ember_run.specs.Statuses.{IsRefusal, IsSameIfTold, IsText}
+use Rattle.ember_run.specs.Statuses.{IsRefusalIfTold, IsSameIfTold, IsTextIfTold}
 
 -- ---- one step after another
 pub same_self : (v : Verdict) → IsSameIfTold v v
@@ -34,18 +34,18 @@ same_then (Writes output) v w e f = subst (λ v. IsSameIfTold v w) (sym e) f
 same_then (Slices at bytes) v w e f = subst (λ v. IsSameIfTold v w) (sym e) f
 
 -- a refusal stays one if only a part of the files is known
-pub refusal_then : (status : Status) (u v : Verdict) → IsSameIfTold u v → IsRefusal status v → IsRefusal status u
+pub refusal_then : (status : Status) (u v : Verdict) → IsSameIfTold u v → IsRefusalIfTold status v → IsRefusalIfTold status u
 refusal_then status Unknown v e f = tt
-refusal_then status (Refused refusal) v e f = subst (λ v. IsRefusal status v) (sym e) f
-refusal_then status (Writes output) v e f = subst (λ v. IsRefusal status v) (sym e) f
-refusal_then status (Slices at bytes) v e f = subst (λ v. IsRefusal status v) (sym e) f
+refusal_then status (Refused refusal) v e f = subst (λ v. IsRefusalIfTold status v) (sym e) f
+refusal_then status (Writes output) v e f = subst (λ v. IsRefusalIfTold status v) (sym e) f
+refusal_then status (Slices at bytes) v e f = subst (λ v. IsRefusalIfTold status v) (sym e) f
 
 -- an output stays one if only a part of the files is known
-pub text_then : (bytes : List ℕ) (u v : Verdict) → IsSameIfTold u v → IsText v bytes → IsText u bytes
+pub text_then : (bytes : List ℕ) (u v : Verdict) → IsSameIfTold u v → IsTextIfTold v bytes → IsTextIfTold u bytes
 text_then bytes Unknown v e f = tt
-text_then bytes (Refused refusal) v e f = subst (λ v. IsText v bytes) (sym e) f
-text_then bytes (Writes output) v e f = subst (λ v. IsText v bytes) (sym e) f
-text_then bytes (Slices at file) v e f = subst (λ v. IsText v bytes) (sym e) f
+text_then bytes (Refused refusal) v e f = subst (λ v. IsTextIfTold v bytes) (sym e) f
+text_then bytes (Writes output) v e f = subst (λ v. IsTextIfTold v bytes) (sym e) f
+text_then bytes (Slices at file) v e f = subst (λ v. IsTextIfTold v bytes) (sym e) f
 
 -- a verdict that, if told, is the same as an unknown one is unknown
 pub untold_then : (u v : Verdict) → IsSameIfTold u v → v ≡ Unknown → u ≡ Unknown
@@ -77,15 +77,15 @@ bytes_read i (Some told) bytes next h l =
     subst (λ (b : List ℕ). IsSameIfTold (after_bytes i (Some told) next) (next b)) (sym h) (rw (le-leb (length told) 268435456 m) (same_self (next told)))
 
 -- too many bytes are refused
-pub bytes_too_long : (i count : ℕ) (told : Option (List ℕ)) (next : List ℕ → Verdict) → count ≡ 268435457 → TellsMore told 268435456 → IsRefusal (Limit (Bytes i) count) (after_bytes i told next)
+pub bytes_too_long : (i count : ℕ) (told : Option (List ℕ)) (next : List ℕ → Verdict) → count ≡ 268435457 → TellsMore told 268435456 → IsRefusalIfTold (Limit (Bytes i) count) (after_bytes i told next)
 bytes_too_long i count None next e h = tt
-bytes_too_long i count (Some bytes) next e h = subst (λ (n : ℕ). IsRefusal (Limit (Bytes i) n) (after_bytes i (Some bytes) next)) (sym e) (rw (above (length bytes) 268435456 h) refl)
+bytes_too_long i count (Some bytes) next e h = subst (λ (n : ℕ). IsRefusalIfTold (Limit (Bytes i) n) (after_bytes i (Some bytes) next)) (sym e) (rw (above (length bytes) 268435456 h) refl)
 
-too_long_held : (i count : ℕ) → count ≡ 268435457 → ((bytes : List ℕ) × (268435456 < length bytes)) → MayHoldOne None (λ content. (next : List ℕ → Verdict) → IsRefusal (Limit (Bytes i) count) (after_bytes i content next))
+too_long_held : (i count : ℕ) → count ≡ 268435457 → ((bytes : List ℕ) × (268435456 < length bytes)) → MayHoldOne None (λ content. (next : List ℕ → Verdict) → IsRefusalIfTold (Limit (Bytes i) count) (after_bytes i content next))
 too_long_held i count e bytes = (bytes.0, tt, λ next. bytes_too_long i count (Some bytes.0) next e bytes.1)
 
 -- the same over contents that the file may have
-pub bytes_too_long_held : (i count : ℕ) (told : Option (List ℕ)) → count ≡ 268435457 → TellsMore told 268435456 → MayHoldOne told (λ content. (next : List ℕ → Verdict) → IsRefusal (Limit (Bytes i) count) (after_bytes i content next))
+pub bytes_too_long_held : (i count : ℕ) (told : Option (List ℕ)) → count ≡ 268435457 → TellsMore told 268435456 → MayHoldOne told (λ content. (next : List ℕ → Verdict) → IsRefusalIfTold (Limit (Bytes i) count) (after_bytes i content next))
 bytes_too_long_held i count None e h = too_long_held i count e (more_bytes 268435456)
 bytes_too_long_held i count (Some bytes) e h = (bytes, refl, λ next. bytes_too_long i count (Some bytes) next e h)
 
@@ -95,9 +95,9 @@ file_read places i told bytes faces next read e =
     same_then (after_file places i told next) (after_triangles i (read_obj_of places i bytes) next) (next faces.tris) (read (λ bytes. after_triangles i (read_obj_of places i bytes) next)) (subst (λ (r : Result FileTriangles ObjFault). IsSameIfTold (after_triangles i r next) (next faces.tris)) (sym e) (same_self (next faces.tris)))
 
 -- a file with a fault is refused
-pub file_refused : (places i : ℕ) (told : Option (List ℕ)) (bytes : List ℕ) (fault : ObjFault) (next : List Tri → Verdict) → ((next : List ℕ → Verdict) → IsSameIfTold (after_bytes i told next) (next bytes)) → read_obj_of places i bytes ≡ Err fault → IsRefusal (ObjRefused i fault) (after_file places i told next)
+pub file_refused : (places i : ℕ) (told : Option (List ℕ)) (bytes : List ℕ) (fault : ObjFault) (next : List Tri → Verdict) → ((next : List ℕ → Verdict) → IsSameIfTold (after_bytes i told next) (next bytes)) → read_obj_of places i bytes ≡ Err fault → IsRefusalIfTold (ObjRefused i fault) (after_file places i told next)
 file_refused places i told bytes fault next read e =
-    refusal_then (ObjRefused i fault) (after_file places i told next) (after_triangles i (read_obj_of places i bytes) next) (read (λ bytes. after_triangles i (read_obj_of places i bytes) next)) (subst (λ (r : Result FileTriangles ObjFault). IsRefusal (ObjRefused i fault) (after_triangles i r next)) (sym e) refl)
+    refusal_then (ObjRefused i fault) (after_file places i told next) (after_triangles i (read_obj_of places i bytes) next) (read (λ bytes. after_triangles i (read_obj_of places i bytes) next)) (subst (λ (r : Result FileTriangles ObjFault). IsRefusalIfTold (ObjRefused i fault) (after_triangles i r next)) (sym e) refl)
 
 -- ---- contents that the file may have
 pub file_held : (places i : ℕ) (told : Option (List ℕ)) (bytes : List ℕ) (faces : FileTriangles) → Tells told bytes → length bytes ≤ 268435456 → read_obj_of places i bytes ≡ Ok faces → MayHoldOne told (λ content. (next : List Tri → Verdict) → IsSameIfTold (after_file places i content next) (next faces.tris))
@@ -105,17 +105,17 @@ file_held places i told bytes faces t l e =
     (bytes, t, λ next. file_read places i (Some bytes) bytes faces next (λ next. bytes_read i (Some bytes) bytes next refl l) e)
 
 -- those of a file with a fault
-pub fault_held : (places i : ℕ) (told : Option (List ℕ)) (bytes : List ℕ) (fault : ObjFault) → Tells told bytes → length bytes ≤ 268435456 → read_obj_of places i bytes ≡ Err fault → MayHoldOne told (λ content. (next : List Tri → Verdict) → IsRefusal (ObjRefused i fault) (after_file places i content next))
+pub fault_held : (places i : ℕ) (told : Option (List ℕ)) (bytes : List ℕ) (fault : ObjFault) → Tells told bytes → length bytes ≤ 268435456 → read_obj_of places i bytes ≡ Err fault → MayHoldOne told (λ content. (next : List Tri → Verdict) → IsRefusalIfTold (ObjRefused i fault) (after_file places i content next))
 fault_held places i told bytes fault t l e =
     (bytes, t, λ next. file_refused places i (Some bytes) bytes fault next (λ next. bytes_read i (Some bytes) bytes next refl l) e)
 
 -- those of a file whose bytes are refused
-pub bytes_refused_held : (places i : ℕ) (told : Option (List ℕ)) (status : Status) → MayHoldOne told (λ content. (next : List ℕ → Verdict) → IsRefusal status (after_bytes i content next)) → MayHoldOne told (λ content. (next : List Tri → Verdict) → IsRefusal status (after_file places i content next))
+pub bytes_refused_held : (places i : ℕ) (told : Option (List ℕ)) (status : Status) → MayHoldOne told (λ content. (next : List ℕ → Verdict) → IsRefusalIfTold status (after_bytes i content next)) → MayHoldOne told (λ content. (next : List Tri → Verdict) → IsRefusalIfTold status (after_file places i content next))
 bytes_refused_held places i told status h =
-    held_one_then told (λ content. (next : List ℕ → Verdict) → IsRefusal status (after_bytes i content next)) (λ content. (next : List Tri → Verdict) → IsRefusal status (after_file places i content next))
+    held_one_then told (λ content. (next : List ℕ → Verdict) → IsRefusalIfTold status (after_bytes i content next)) (λ content. (next : List Tri → Verdict) → IsRefusalIfTold status (after_file places i content next))
     (λ content refused next. refused (λ bytes. after_triangles i (read_obj_of places i bytes) next)) h
 
 -- the faces of the triangles that were read
-pub faces_read : (told : Option (List ℕ)) (places : ℕ) (tris : List Tri) (bytes : List ℕ) → ((next : List Tri → Verdict) → IsSameIfTold (after_file places 1 told next) (next tris)) → IsFaceFileOf tris bytes → IsText (faces_verdict places told) bytes
+pub faces_read : (told : Option (List ℕ)) (places : ℕ) (tris : List Tri) (bytes : List ℕ) → ((next : List Tri → Verdict) → IsSameIfTold (after_file places 1 told next) (next tris)) → IsFaceFileOf tris bytes → IsTextIfTold (faces_verdict places told) bytes
 faces_read told places tris bytes read faces =
     text_then bytes (faces_verdict places told) (Writes (FaceTexts tris)) (read (λ tris. Writes (FaceTexts tris))) faces

@@ -47,7 +47,7 @@ pub record IsSceneOf (places : ℕ) (contents : Contents) (tris : List Tri) : Ty
   pub few : length tris ≤ 262144
 
 -- ---- expressions
--- the value is false if all winding numbers are 0
+-- the value is false if all winding numbers are 0. To `truth` a count past the end of the list is 0, too
 abbrev pub IsBounded : ℕ → Formula → Type 0
 IsBounded meshes formula = truth (replicate meshes (pos 0)) formula ≡ false
 

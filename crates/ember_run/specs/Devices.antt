@@ -25,7 +25,7 @@ pub record SinkCall : Type 0 where
   pub faults : ℕ
   pub faults_after : ℕ
 
--- the calls, by what contracts see of a device
+-- the call, by what contracts see of a shelf
 abbrev pub shelf_call : {S : Type 0} → (S → List ℕ → Option (List ℕ)) → (S → ℕ) → (S → ℕ) → S → S → ShelfCall
 shelf_call contents faults fault_at old new =
     record {
@@ -47,7 +47,7 @@ sink_call taken flushed faults old new =
       faults_after = faults new;
     }
 
--- it failed during the call
+-- the shelf failed during the call
 abbrev pub HasShelfFailed : ShelfCall → Type 0
 HasShelfFailed shelf = HasRisen shelf.faults shelf.faults_after
 

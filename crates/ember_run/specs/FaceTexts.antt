@@ -6,11 +6,11 @@ use Rattle.ember_model.specs.declared.face.Face.{Face}
 use Rattle.ember_model.specs.declared.tri.Tri.{Tri}
 use Rattle.ember_model.specs.Edges.{RingEdge}
 use Rattle.ember_model.specs.Meshes.{faces_of}
-use Rattle.ember_model.specs.FaceFiles.{IsFaceText, IsFacesText, IsFaceFile, WrittenFace, IsWrittenFace, face_lines, header}
+use Rattle.ember_model.specs.FaceFiles.{IsFaceText, IsFileText, IsFaceFile, WrittenFace, IsWrittenFace, face_lines, header}
 
 -- the bytes are the text of the triangles' faces, and a face file that holds these faces, each with its outline
 pub record IsFaceFileOf (ts : List Tri) (bytes : List ℕ) : Type 0 where
-  pub text : IsFacesText (faces_of ts) bytes
+  pub text : IsFileText (faces_of ts) bytes
   pub reads_back : IsFaceFile bytes (faces_of ts)
   pub outlined : All IsOutlined reads_back.written
 

@@ -13,6 +13,7 @@ MayHoldOne told P = (bytes : List ℕ) × Tells told bytes × P (Some bytes)
 abbrev pub AreContentsOf : (List ℕ → Option (List ℕ)) → List (List ℕ) → List (List ℕ) → Type 0
 AreContentsOf told names contents = AllZip (λ name bytes. Tells (told name) bytes) names contents
 
--- P holds of contents that the files with these names may have
+-- P holds of contents that the files with these names may have. To P all of them are told, so no command's verdict
+-- on them is Unknown, and under `MayHold` an `IfTold` leaves nothing open
 abbrev pub MayHold : (List ℕ → Option (List ℕ)) → List (List ℕ) → (Contents → Type 0) → Type 0
 MayHold told names P = (contents : List (List ℕ)) × AreContentsOf told names contents × P (map Some contents)

@@ -1,7 +1,7 @@
 -- Why a command has no reply
 use Rattle.std.specs.Prelude.{◌≡◌, ◌≢◌, ◌≤◌, ⊤, ℕ, ◌-◌, true, false, List, ◌++◌, length, map, take, drop, None, Some}
 use Rattle.ember_model.specs.declared.tri.Tri.{Tri}
-use Rattle.ember_run.specs.Statuses.{IsRefusal, hides_memory, is_before_files, is_refusal, refused_file}
+use Rattle.ember_run.specs.Statuses.{IsRefusalIfTold, hides_memory, is_before_files, is_refusal, refused_file}
 use Rattle.ember_run.specs.Devices.{ShelfCall, HasShelfFailed}
 use Rattle.ember_run.specs.Held.{MayHold}
 use Rattle.ember_run.specs.Verdict.{Contents, Verdict, Unknown, Refused, after_scene, first_told}
@@ -21,14 +21,15 @@ pub record IsFileIn (names : List (List ℕ)) (i : ℕ) : Type 0 where
 pub record IsNoReply (verdict : Contents → Verdict) (names : List (List ℕ)) (shelf : ShelfCall)
     (status : Status) : Type 0 where
   -- a refusal is that of the verdict
-  pub refused : is_refusal status ≡ true → IsRefusal status (verdict (map shelf.told names))
-  -- it is that of contents that the files may have
-  pub held : is_refusal status ≡ true → MayHold shelf.told names (λ contents. IsRefusal status (verdict contents))
+  pub refused : is_refusal status ≡ true → IsRefusalIfTold status (verdict (map shelf.told names))
+  -- it is that of contents that the files may have. All of these are told, so the verdict of a command isn't Unknown
+  pub refused_read : is_refusal status ≡ true →
+      MayHold shelf.told names (λ contents. IsRefusalIfTold status (verdict contents))
   -- a refusal of the words or of the expression doesn't depend on any file
   pub before_files : is_before_files status ≡ true → verdict (first_told 0 (map shelf.told names)) ≡ Refused status
   -- a refusal of file i doesn't depend on the contents of the files after it
   pub in_file : (i : ℕ) → refused_file status ≡ Some i → (others : Contents) → length others ≡ length names →
-      IsRefusal status (verdict (with_others i (map shelf.told names) others))
+      IsRefusalIfTold status (verdict (with_others i (map shelf.told names) others))
   pub one_of : (i : ℕ) → refused_file status ≡ Some i → IsFileIn names i
   -- if file i can't be read, nothing before it is refused
   pub read_fault : (i : ℕ) → status ≡ ReadFault i → HasShelfFailed shelf × (shelf.fault_at ≡ i) ×
@@ -42,16 +43,20 @@ IsNoScene places names shelf status =
     (next : List Tri → Verdict) → IsNoReply (λ contents. after_scene places contents next) names shelf status
 
 -- the refusals of an expression, and out-of-memory
-abbrev pub IsOfWords : Status → Type 0
-IsOfWords (ExprRefused fault) = hides_memory (ExprRefused fault) ≡ false
-IsOfWords Unbounded = ⊤
-IsOfWords OutOfMemory = ⊤
-IsOfWords _ = ⊥
+abbrev pub IsOfExpression : Status → Type 0
+IsOfExpression (ExprRefused fault) = hides_memory (ExprRefused fault) ≡ false
+IsOfExpression Unbounded = ⊤
+IsOfExpression OutOfMemory = ⊤
+IsOfExpression _ = ⊥
 
--- why words with this verdict have no reply
-pub record IsNoReplyToWords (verdict : Verdict) (status : Status) : Type 0 where
+-- why there is no reply, if the expression or out-of-memory is the reason; `verdict` is what is asked for
+pub record IsNoReplyToExpression (verdict : Verdict) (status : Status) : Type 0 where
   pub refused : is_refusal status ≡ true → verdict ≡ Refused status
-  pub of_words : IsOfWords status
+  pub of_expression : IsOfExpression status
+
+-- why a text gives no expression, whatever is asked of it; `step` reads the text
+abbrev pub IsNoExpression : {A : Type 0} → ((A → Verdict) → Verdict) → Status → Type 0
+IsNoExpression {A} step status = (next : A → Verdict) → IsNoReplyToExpression (step next) status
 
 -- a status that isn't about the words or the expression, nor about one file
 pub record IsAfterFiles (status : Status) : Type 0 where

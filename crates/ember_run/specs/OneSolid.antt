@@ -50,15 +50,15 @@ SegmentsCrossOnceAtMost at faces segments =
 
 -- ---- points
 -- the text ends with the line of the value
-pub record ShowsValue (told : List ℕ) (value : Bool) : Type 0 where
+pub record ShowsValue (text : List ℕ) (value : Bool) : Type 0 where
   pub counts : List ℕ
-  pub is : told ≡ counts ++ value_line value
+  pub is : text ≡ counts ++ value_line value
 
 -- if p is clear of the faces, they wind once around p if the value in the text is 1, and not at all if it is 0;
 -- in any case they do so around p shifted by little enough
-pub record ValueIsOfFaces (told : List ℕ) (faces : List Face) (p : Spot) : Type 0 where
+pub record ValueIsOfFaces (text : List ℕ) (faces : List Face) (p : Spot) : Type 0 where
   pub value : Bool
-  pub shown : ShowsValue told value
+  pub shown : ShowsValue text value
   pub clear : AreClear faces p → WindOnceIf value faces p
   pub nearby : WhereShifted p (λ q. WindOnceIf value faces q)
 

@@ -3,9 +3,9 @@ use Rattle.std.specs.Prelude.{◌≡◌, ◌≢◌, ◌≤◌, ◌⊎◌, true, 
 use Rattle.std.specs.declared.option.Option.{Option}
 use Rattle.ember_io.specs.Sinks.{IsFlushed}
 use Rattle.ember_words.specs.declared.command.Command.{Command}
-use Rattle.ember_words.specs.Canonical.{CommandLine, IsCanonical, command_with, words_of}
+use Rattle.ember_words.specs.Canonical.{CommandLine, IsCanonical, command_of_line, words_of}
 use Rattle.ember_words.specs.WordsCommand.{command_of}
-use Rattle.ember_run.specs.Statuses.{AsksOutput, AsksRefusal, HasBegun, HasWritten, IsBegun, IsRefusal, IsText, IsWritten, hides_memory, is_before_files, is_refusal, refused_file}
+use Rattle.ember_run.specs.Statuses.{HasOutput, IsBegun, IsBegunIfTold, IsRefusal, IsRefusalIfTold, IsTextIfTold, IsWritten, IsWrittenIfTold, hides_memory, is_before_files, is_refusal, refused_file}
 use Rattle.ember_run.specs.Devices.{ShelfCall, SinkCall, HasShelfFailed, HasSinkFailed}
 use Rattle.ember_run.specs.Held.{MayHold}
 use Rattle.ember_run.specs.Messages.{AppendsUntilFault}
@@ -18,14 +18,14 @@ use Rattle.ember_run.specs.declared.status.Status.TheVariants.{Done, Words, Read
 
 -- the text is what the command asks for, over these contents, and the report is there if it asks for one
 pub record IsReply (command : Command) (told : List ℕ → Option (List ℕ)) (reply : Reply) : Type 0 where
-  pub text : IsText (told_verdict (Some command) told) reply.text.items
+  pub text : IsTextIfTold (told_verdict (Some command) told) reply.text.items
   pub report : IsReportOfVerdictIfAsked (asks_report (Some command)) (told_verdict (Some command) told)
       reply.report.items
 
 -- words in the canonical spelling give the command of their values
 abbrev pub ReadsCanonical : List (List ℕ) → Type 0
 ReadsCanonical words =
-    (line : CommandLine) → IsCanonical line → words ≡ words_of line → command_of words ≡ command_with line
+    (line : CommandLine) → IsCanonical line → words ≡ words_of line → command_of words ≡ command_of_line line
 
 -- what a call promises if its words ask for this command, or for none. The fields say nothing of `told_verdict` if it is
 -- Unknown, nor of bytes that aren't told; those whose names end in `_read` say what holds then, too. The system's files
@@ -36,16 +36,16 @@ pub record Serves (command : Option Command) (shelf : ShelfCall) (out err : Sink
   pub later : shelf.faults ≤ shelf.faults_after
   pub out_later : out.faults ≤ out.faults_after
   -- the whole output was taken, and is flushed
-  pub done : status ≡ Done → IsWritten (told_verdict command shelf.told) out.taken out.taken_after ×
+  pub done : status ≡ Done → IsWrittenIfTold (told_verdict command shelf.told) out.taken out.taken_after ×
       IsFlushed out.taken_after out.flushed_after
   -- the output is that of contents that the files may have, told or not
   pub done_read : status ≡ Done → MayHold shelf.told (names_of command)
-      (λ contents. HasWritten (verdict_of command contents) out.taken out.taken_after)
+      (λ contents. IsWritten (verdict_of command contents) out.taken out.taken_after)
   -- a refusal is that of the verdict
-  pub refused : is_refusal status ≡ true → IsRefusal status (told_verdict command shelf.told)
+  pub refused : is_refusal status ≡ true → IsRefusalIfTold status (told_verdict command shelf.told)
   -- a refusal is that of contents that the files may have, told or not
   pub refused_read : is_refusal status ≡ true → MayHold shelf.told (names_of command)
-      (λ contents. AsksRefusal status (verdict_of command contents))
+      (λ contents. IsRefusal status (verdict_of command contents))
   -- the words alone decide whether they are refused
   pub words : status ≡ Words → command ≡ None
   pub no_command : command ≡ None → (status ≡ Words) ⊎ (status ≡ OutOfMemory)
@@ -56,7 +56,7 @@ pub record Serves (command : Option Command) (shelf : ShelfCall) (out err : Sink
   -- a refusal of file i doesn't depend on the contents of the files after it
   pub in_file : (i : ℕ) → refused_file status ≡ Some i → (others : Contents) →
       length others ≡ length (names_of command) →
-      IsRefusal status (verdict_of command (with_others i (map shelf.told (names_of command)) others))
+      IsRefusalIfTold status (verdict_of command (with_others i (map shelf.told (names_of command)) others))
   -- file i is one that the command names
   pub one_of : (i : ℕ) → refused_file status ≡ Some i → IsFileIn (names_of command) i
   -- out-of-memory isn't hidden in another status
@@ -66,16 +66,16 @@ pub record Serves (command : Option Command) (shelf : ShelfCall) (out err : Sink
       (verdict_before i command shelf.told ≡ Unknown) × IsFileIn (names_of command) i
   -- a write fault: out failed, and took a prefix of the output
   pub write_fault : status ≡ WriteFault → HasSinkFailed out ×
-      IsBegun (told_verdict command shelf.told) out.taken out.taken_after
+      IsBegunIfTold (told_verdict command shelf.told) out.taken out.taken_after
   -- it is one of the output of contents that the files may have
   pub begun_read : status ≡ WriteFault → MayHold shelf.told (names_of command)
-      (λ contents. HasBegun (verdict_of command contents) out.taken out.taken_after)
+      (λ contents. IsBegun (verdict_of command contents) out.taken out.taken_after)
   -- with any other status, out took nothing
   pub untouched : status ≢ Done → status ≢ WriteFault → out.taken_after ≡ out.taken
   -- if no device failed, the call does what the verdict asks for, or memory was short
-  pub output_given : AsksOutput (told_verdict command shelf.told) → ¬ HasShelfFailed shelf → ¬ HasSinkFailed out →
+  pub output_given : HasOutput (told_verdict command shelf.told) → ¬ HasShelfFailed shelf → ¬ HasSinkFailed out →
       (status ≡ Done) ⊎ (status ≡ OutOfMemory)
-  pub refusal_given : (refusal : Status) → AsksRefusal refusal (told_verdict command shelf.told) →
+  pub refusal_given : (refusal : Status) → IsRefusal refusal (told_verdict command shelf.told) →
       ¬ HasShelfFailed shelf → (status ≡ refusal) ⊎ (status ≡ OutOfMemory)
   -- err took the report, or the line of the status, up to its first fault
   pub err_text : (text : List ℕ) × IsErrText command shelf.told status text ×

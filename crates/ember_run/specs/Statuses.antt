@@ -66,6 +66,8 @@ hides_memory (MeshRefused i mesh.OutOfMemory) = true
 hides_memory (ExprRefused expr.OutOfMemory) = true
 hides_memory _ = false
 
+-- ---- what is so of a verdict. A name that ends in `IfTold` says nothing of an unknown one; without the ending it also
+-- says that the verdict is told
 -- if the first verdict is told, it is the second
 abbrev pub IsSameIfTold : Verdict → Verdict → Type 0
 IsSameIfTold Unknown other = ⊤
@@ -73,53 +75,61 @@ IsSameIfTold (Refused refusal) other = Refused refusal ≡ other
 IsSameIfTold (Writes output) other = Writes output ≡ other
 IsSameIfTold (Slices at bytes) other = Slices at bytes ≡ other
 
+-- if the contents are told, the step refuses nothing, and this is its result: whatever is done next is done with it
+abbrev pub PassesOnIfTold : {A : Type 0} → ((A → Verdict) → Verdict) → A → Type 0
+PassesOnIfTold {A} step result = (next : A → Verdict) → IsSameIfTold (step next) (next result)
+
 -- the verdict, if told, is this refusal
+abbrev pub IsRefusalIfTold : Status → Verdict → Type 0
+IsRefusalIfTold status Unknown = ⊤
+IsRefusalIfTold status (Refused refusal) = refusal ≡ status
+IsRefusalIfTold status (Writes output) = ⊥
+IsRefusalIfTold status (Slices at bytes) = IsSliceRefusal at bytes status
+
+-- the verdict is told, and is this refusal
 abbrev pub IsRefusal : Status → Verdict → Type 0
-IsRefusal status Unknown = ⊤
+IsRefusal status Unknown = ⊥
 IsRefusal status (Refused refusal) = refusal ≡ status
 IsRefusal status (Writes output) = ⊥
 IsRefusal status (Slices at bytes) = IsSliceRefusal at bytes status
 
+-- if the contents are told, the step refuses them with this status, whatever would be done next
+abbrev pub RefusesIfTold : {A : Type 0} → ((A → Verdict) → Verdict) → Status → Type 0
+RefusesIfTold {A} step status = (next : A → Verdict) → IsRefusalIfTold status (step next)
+
 -- the verdict, if told, is an output, and these are its bytes
+abbrev pub IsTextIfTold : Verdict → List ℕ → Type 0
+IsTextIfTold Unknown bytes = ⊤
+IsTextIfTold (Refused refusal) bytes = ⊥
+IsTextIfTold (Writes output) bytes = IsOutput output bytes
+IsTextIfTold (Slices at file) bytes = IsSlice at file bytes
+
+-- the verdict is told, and is an output with these bytes
 abbrev pub IsText : Verdict → List ℕ → Type 0
-IsText Unknown bytes = ⊤
+IsText Unknown bytes = ⊥
 IsText (Refused refusal) bytes = ⊥
 IsText (Writes output) bytes = IsOutput output bytes
 IsText (Slices at file) bytes = IsSlice at file bytes
 
 -- the verdict is told, and is an output
-abbrev pub AsksOutput : Verdict → Type 0
-AsksOutput Unknown = ⊥
-AsksOutput (Refused refusal) = ⊥
-AsksOutput (Writes output) = ⊤
-AsksOutput (Slices at bytes) = IsSliceable at bytes
-
--- the verdict is told, and is this refusal
-abbrev pub AsksRefusal : Status → Verdict → Type 0
-AsksRefusal status Unknown = ⊥
-AsksRefusal status (Refused refusal) = refusal ≡ status
-AsksRefusal status (Writes output) = ⊥
-AsksRefusal status (Slices at bytes) = IsSliceRefusal at bytes status
-
--- the verdict is told, and is an output with these bytes
-abbrev pub AsksText : Verdict → List ℕ → Type 0
-AsksText Unknown bytes = ⊥
-AsksText (Refused refusal) bytes = ⊥
-AsksText (Writes output) bytes = IsOutput output bytes
-AsksText (Slices at file) bytes = IsSlice at file bytes
+abbrev pub HasOutput : Verdict → Type 0
+HasOutput Unknown = ⊥
+HasOutput (Refused refusal) = ⊥
+HasOutput (Writes output) = ⊤
+HasOutput (Slices at bytes) = IsSliceable at bytes
 
 -- the verdict, if told, is an output, and it was written
+abbrev pub IsWrittenIfTold : Verdict → Option (List ℕ) → Option (List ℕ) → Type 0
+IsWrittenIfTold verdict old new = (bytes : List ℕ) × IsTextIfTold verdict bytes × Appends old new bytes
+
+-- the verdict is told, and is an output that was written
 abbrev pub IsWritten : Verdict → Option (List ℕ) → Option (List ℕ) → Type 0
 IsWritten verdict old new = (bytes : List ℕ) × IsText verdict bytes × Appends old new bytes
 
 -- the verdict, if told, is an output, and a prefix of it was written
-abbrev pub IsBegun : Verdict → Option (List ℕ) → Option (List ℕ) → Type 0
-IsBegun verdict old new = (bytes : List ℕ) × IsText verdict bytes × AppendsPrefix old new bytes
-
--- the verdict is told, and is an output that was written
-abbrev pub HasWritten : Verdict → Option (List ℕ) → Option (List ℕ) → Type 0
-HasWritten verdict old new = (bytes : List ℕ) × AsksText verdict bytes × Appends old new bytes
+abbrev pub IsBegunIfTold : Verdict → Option (List ℕ) → Option (List ℕ) → Type 0
+IsBegunIfTold verdict old new = (bytes : List ℕ) × IsTextIfTold verdict bytes × AppendsPrefix old new bytes
 
 -- the verdict is told, and is an output of which a prefix was written
-abbrev pub HasBegun : Verdict → Option (List ℕ) → Option (List ℕ) → Type 0
-HasBegun verdict old new = (bytes : List ℕ) × AsksText verdict bytes × AppendsPrefix old new bytes
+abbrev pub IsBegun : Verdict → Option (List ℕ) → Option (List ℕ) → Type 0
+IsBegun verdict old new = (bytes : List ℕ) × IsText verdict bytes × AppendsPrefix old new bytes

@@ -1,5 +1,5 @@
 -- What an input asks for: its first refusal, or its output
-use Rattle.std.specs.Prelude.{ℕ, ℤ, zero, suc, ◌+◌, ◌-◌, List, [], ◌∷◌, ◌++◌, length, nat_le, get_or, map, None, Some, Result, Ok, Err, if◌then◌else◌, codes, pos, replicate}
+use Rattle.std.specs.Prelude.{◌≡◌, ℕ, ℤ, zero, suc, ◌+◌, ◌-◌, List, [], ◌∷◌, ◌++◌, length, nat_le, get_or, map, None, Some, Result, Ok, Err, if◌then◌else◌, codes, pos, replicate}
 use Rattle.std.specs.declared.option.Option.{Option}
 use Rattle.std.specs.List.{list_all}
 use Rattle.ember_balance.specs.declared.loose.Loose.{Loose}
@@ -35,10 +35,14 @@ pub data Verdict : Type 0 where
 abbrev pub Contents : Type 0
 Contents = List (Option (List ℕ))
 
--- Here and below, `after_x .. next` is a verdict in steps: the first step reads or checks x, and refuses it or passes a
--- result on. `next` is what is done with this result. A clause `(next : ..) → IsSameIfTold (after_x .. next) (next r)`
--- says: if the contents are told, x isn't refused, and its result is r.
--- ---- a file; `next` is what is done with its bytes, or with its triangles
+-- ---- Here and below, `after_x .. next` is a verdict in steps: the first step, `after_x ..`, reads or checks x, and
+-- refuses it or passes a result on. `next` is what is done with this result
+-- the step refuses nothing, and this is its result: whatever is done next is done with it
+abbrev pub PassesOn : {A : Type 0} → ((A → Verdict) → Verdict) → A → Type 0
+PassesOn {A} step result = (next : A → Verdict) → step next ≡ next result
+
+-- ---- a file; `next` is what is done with its bytes, or with its triangles. A file has 2^28 = 268435456 bytes at most,
+-- and the refusal of a longer one names one byte more
 abbrev pub after_bytes : ℕ → Option (List ℕ) → (List ℕ → Verdict) → Verdict
 after_bytes i None next = Unknown
 after_bytes i (Some bytes) next =
@@ -123,7 +127,8 @@ voxels_verdict expr size places contents =
     after_expr expr (length contents) (λ formula.
     after_scene places contents (λ tris. Writes (Lattice tris formula size)))
 
--- an expression is refused if it is true outside all meshes
+-- an expression is refused if it is true outside all meshes. To `truth` a count past the end of the list is 0, too: a
+-- list of zeros of any other length would do
 abbrev pub after_bounded : Formula → Verdict → Verdict
 after_bounded formula next = if truth (replicate 64 (pos 0)) formula then Refused Unbounded else next
 

@@ -7,7 +7,7 @@ ghost use Rattle.ember_words.specs.declared.command.Command.{Command};
 ghost use Rattle.ember_words.specs.declared.command.Command.TheVariants.{Slice};
 ghost use Rattle.ember_words.specs.WordsCommand.{command_of};
 ghost use Rattle.ember_run.specs.Accepted.{IsAccepted, IsAcceptedSlice, IsSceneOf};
-ghost use Rattle.ember_run.specs.Statuses.{AsksOutput};
+ghost use Rattle.ember_run.specs.Statuses.{HasOutput};
 ghost use Rattle.ember_run.specs.Outputs.{Output};
 ghost use Rattle.ember_run.specs.Verdict.{Contents, Writes, names_of, told_verdict};
 
@@ -20,7 +20,7 @@ pub fn inputs_are_accepted_where_they_have_an_output()
         (told_verdict (Some command) told ≡ Writes output) ↔
         IsAccepted command (map told (names_of (Some command))) output }
     ensures slice { (at : ℤ) (name : List ℕ) (told : List ℕ → Option (List ℕ)) →
-        AsksOutput (told_verdict (Some (Slice at name)) told) ↔ IsAcceptedSlice at (told name) }
+        HasOutput (told_verdict (Some (Slice at name)) told) ↔ IsAcceptedSlice at (told name) }
 {}
 
 /// The triangles of accepted files are a scene with one mesh for each file.

@@ -8,7 +8,7 @@ ghost use Rattle.ember_model.specs.Meshes.{vector};
 ghost use Rattle.ember_model.specs.Valid.{IsValidSpot, IsValidTri};
 ghost use Rattle.ember_run.specs.OptionalExpr.{given_formula};
 ghost use Rattle.ember_run.specs.Outputs.{count_line, count_lines, counts_text, value_line, value_lines};
-ghost use Rattle.ember_run.specs.Statuses.{IsRefusal, IsText, is_refusal};
+ghost use Rattle.ember_run.specs.Statuses.{IsRefusalIfTold, IsTextIfTold, is_refusal};
 ghost use Rattle.ember_run.specs.Devices.{shelf_call};
 ghost use Rattle.ember_run.specs.Held.{MayHold};
 ghost use Rattle.ember_run.specs.NoReplies.{IsAfterFiles, IsNoReply};
@@ -133,11 +133,11 @@ fn text_at(
     requires point { IsValidSpot point.now }
     requires meshes { meshes ≤ 64 }
     ensures text { IfOk result (λ text.
-        IsText (counts_verdict point.now meshes (given_formula expr.now) scene.now.tris) text.items) }
+        IsTextIfTold (counts_verdict point.now meshes (given_formula expr.now) scene.now.tris) text.items) }
     ensures refused { IfErr result (λ status. is_refusal status ≡ true →
-        IsRefusal status (counts_verdict point.now meshes (given_formula expr.now) scene.now.tris)) }
+        IsRefusalIfTold status (counts_verdict point.now meshes (given_formula expr.now) scene.now.tris)) }
     ensures kind { IfErr result IsAfterFiles }
-    ensures only { (i : ℕ) → result ≢ Err (Status.ReadFault i) }
+    ensures no_read_fault { (i : ℕ) → result ≢ Err (Status.ReadFault i) }
     ensures never { (result ≢ Err Status.Done) × (result ≢ Err Status.Words) × (result ≢ Err Status.WriteFault) }
 {
     if !is_clear_of_all(point, scene.tris.items()) {
@@ -164,9 +164,9 @@ pub fn at_output<S: Shelf>(
     ensures contents { S.contents shelf.new ≡ S.contents shelf.old }
     ensures later { S.faults shelf.old ≤ S.faults shelf.new }
     ensures text { IfOk result (λ text.
-        IsText (at_verdict point.now expr.now places (map (S.contents shelf.old) files.now)) text.items) }
-    ensures held { IfOk result (λ text. MayHold (S.contents shelf.old) files.now
-        (λ contents. IsText (at_verdict point.now expr.now places contents) text.items)) }
+        IsTextIfTold (at_verdict point.now expr.now places (map (S.contents shelf.old) files.now)) text.items) }
+    ensures text_read { IfOk result (λ text. MayHold (S.contents shelf.old) files.now
+        (λ contents. IsTextIfTold (at_verdict point.now expr.now places contents) text.items)) }
     ensures no_reply { IfErr result
         (IsNoReply (at_verdict point.now expr.now places) files.now
         (shelf_call S.contents S.faults S.fault_at shelf.old shelf.new)) }

@@ -4,10 +4,10 @@ ghost use Rattle.ember_expr.specs.Formula.{formula_of};
 ghost use Rattle.ember_query.specs.Queries.{IsExecutor};
 ghost use Rattle.ember_query.specs.Solids.{IsSolidText};
 ghost use Rattle.ember_run.specs.Reported.{IsReportOfVerdictIfAsked};
-ghost use Rattle.ember_run.specs.Statuses.{IsText};
+ghost use Rattle.ember_run.specs.Statuses.{IsTextIfTold};
 ghost use Rattle.ember_run.specs.Devices.{shelf_call};
 ghost use Rattle.ember_run.specs.Held.{MayHold};
-ghost use Rattle.ember_run.specs.NoReplies.{IsNoReply, IsNoReplyToWords};
+ghost use Rattle.ember_run.specs.NoReplies.{IsNoReply, IsNoReplyToExpression};
 ghost use Rattle.ember_run.specs.Solids.{IsReportTextIfAsked, IsReportText, line_if_asked};
 ghost use Rattle.ember_run.specs.Verdict.{bool_verdict, demo_verdict};
 
@@ -73,9 +73,9 @@ pub fn boole_output<S: Shelf, C: Fn(&Query) -> Result<Answer, OutOfMemory>>(
     ensures contents { S.contents shelf.new ≡ S.contents shelf.old }
     ensures later { S.faults shelf.old ≤ S.faults shelf.new }
     ensures text { IfOk result (λ reply.
-        IsText (bool_verdict expr.now places (map (S.contents shelf.old) files.now)) reply.text.items) }
-    ensures held { IfOk result (λ reply. MayHold (S.contents shelf.old) files.now
-        (λ contents. IsText (bool_verdict expr.now places contents) reply.text.items)) }
+        IsTextIfTold (bool_verdict expr.now places (map (S.contents shelf.old) files.now)) reply.text.items) }
+    ensures text_read { IfOk result (λ reply. MayHold (S.contents shelf.old) files.now
+        (λ contents. IsTextIfTold (bool_verdict expr.now places contents) reply.text.items)) }
     ensures report { IfOk result (λ reply.
         IsReportOfVerdictIfAsked reported (bool_verdict expr.now places (map
         (S.contents shelf.old) files.now)) reply.report.items) }
@@ -116,7 +116,7 @@ fn report_text<C: Fn(&Query) -> Result<Answer, OutOfMemory>>(
 
 /// The output of `demo`: the line of the report of the union of the two meshes of generated boxes.
 /// There are at most 20000 `boxes`. The error is the status with which the call ends instead.
-#[tactic(auto, using(crate::proofs::SolidVerdicts::report_written, crate::proofs::SolidVerdicts::report_refused, crate::proofs::NoReplies::memory_is_no_reply_to_words))]
+#[tactic(auto, using(crate::proofs::SolidVerdicts::report_written, crate::proofs::SolidVerdicts::report_refused, crate::proofs::NoReplies::memory_is_no_reply_to_expression))]
 pub fn demo_output<C: Fn(&Query) -> Result<Answer, OutOfMemory>>(
     alloc: Global,
     boxes: u32,
@@ -124,8 +124,8 @@ pub fn demo_output<C: Fn(&Query) -> Result<Answer, OutOfMemory>>(
 ) -> Result<Vec<u8>, Status>
     requires boxes { boxes ≤ 20000 }
     requires executor { IsExecutor C.pre C.post executor.now }
-    ensures text { IfOk result (λ text. IsText (demo_verdict boxes) text.items) }
-    ensures no_reply { IfErr result (IsNoReplyToWords (demo_verdict boxes)) }
+    ensures text { IfOk result (λ text. IsTextIfTold (demo_verdict boxes) text.items) }
+    ensures no_reply { IfErr result (IsNoReplyToExpression (demo_verdict boxes)) }
 {
     let expr = match parse_union(alloc) {
         Ok(expr) => expr,

@@ -19,7 +19,7 @@ ghost use Rattle.ember_words.specs.WordsCommand.{command_of};
 ghost use Rattle.ember_run.specs.OfScenes.{IsOfScene};
 ghost use Rattle.ember_run.specs.Outputs.{FaceTexts, IsOutput, Output, SolidFaces};
 ghost use Rattle.ember_run.specs.Reported.{IsErrText};
-ghost use Rattle.ember_run.specs.Statuses.{IsText};
+ghost use Rattle.ember_run.specs.Statuses.{IsTextIfTold};
 ghost use Rattle.ember_run.specs.Slices.{IsSlice};
 ghost use Rattle.ember_run.specs.Solids.{IsClosedFile};
 ghost use Rattle.ember_run.specs.Verdict.{Unknown, told_verdict};
@@ -41,8 +41,8 @@ pub fn solids_have_one_document()
 /// contents of their files determine all bytes.
 pub fn accepted_inputs_have_one_text()
     ensures out { (words : List (List ℕ)) (told : List ℕ → Option (List ℕ)) (one other : List ℕ) →
-        told_verdict (command_of words) told ≢ Unknown → IsText (told_verdict (command_of words) told) one →
-        IsText (told_verdict (command_of words) told) other → one ≡ other }
+        told_verdict (command_of words) told ≢ Unknown → IsTextIfTold (told_verdict (command_of words) told) one →
+        IsTextIfTold (told_verdict (command_of words) told) other → one ≡ other }
     ensures err { (words : List (List ℕ)) (told : List ℕ → Option (List ℕ)) (status : Status) (one other : List ℕ) →
         told_verdict (command_of words) told ≢ Unknown → IsErrText (command_of words) told status one →
         IsErrText (command_of words) told status other → one ≡ other }

@@ -51,9 +51,9 @@ pub fn slices_of_solids_mean_the_expression()
 /// it as often as the value says. In any case they do so around the point shifted by little enough.
 pub fn values_at_points_are_of_the_solid()
     ensures { (tris : List Tri) (formula : Formula) (file : List ℕ) → IsOutput (SolidFaces tris formula) file →
-        (faces : List Face) → IsFaceFile file faces → (point : Spot) (meshes : ℕ) (told : List ℕ) → pos 0 <ℤ point.w →
-        list_all (λ t. is_clear_of t point) tris ≡ true → IsOutput (Counts point meshes tris (Some formula)) told →
-        ValueIsOfFaces told faces point }
+        (faces : List Face) → IsFaceFile file faces → (point : Spot) (meshes : ℕ) (text : List ℕ) → pos 0 <ℤ point.w →
+        list_all (λ t. is_clear_of t point) tris ≡ true → IsOutput (Counts point meshes tris (Some formula)) text →
+        ValueIsOfFaces text faces point }
 {}
 
 /// If a cell's reference point is clear of the faces of the solid, they wind around it, along all

@@ -2,7 +2,7 @@
 ghost use Rattle.std.specs.Prelude.{◌≡◌, ◌≤◌, length, map, IfOk, IfErr};
 ghost use Rattle.ember_query.specs.Queries.{IsExecutor};
 ghost use Rattle.ember_run.specs.PairLists.{IsPairsText};
-ghost use Rattle.ember_run.specs.Statuses.{IsText};
+ghost use Rattle.ember_run.specs.Statuses.{IsTextIfTold};
 ghost use Rattle.ember_run.specs.Devices.{shelf_call};
 ghost use Rattle.ember_run.specs.Held.{MayHold};
 ghost use Rattle.ember_run.specs.NoReplies.{IsNoReply};
@@ -49,9 +49,9 @@ pub fn pairs_output<S: Shelf, C: Fn(&Query) -> Result<Answer, OutOfMemory>>(
     ensures contents { S.contents shelf.new ≡ S.contents shelf.old }
     ensures later { S.faults shelf.old ≤ S.faults shelf.new }
     ensures text { IfOk result
-        (λ text. IsText (pairs_verdict places (map (S.contents shelf.old) files.now)) text.items) }
-    ensures held { IfOk result (λ text. MayHold (S.contents shelf.old) files.now
-        (λ contents. IsText (pairs_verdict places contents) text.items)) }
+        (λ text. IsTextIfTold (pairs_verdict places (map (S.contents shelf.old) files.now)) text.items) }
+    ensures text_read { IfOk result (λ text. MayHold (S.contents shelf.old) files.now
+        (λ contents. IsTextIfTold (pairs_verdict places contents) text.items)) }
     ensures no_reply { IfErr result
         (IsNoReply (pairs_verdict places) files.now
         (shelf_call S.contents S.faults S.fault_at shelf.old shelf.new)) }

@@ -1,17 +1,15 @@
-// The scene of several files: each is a closed mesh, and all together have few enough triangles. In
-// the clauses, `next` is whatever is done with the triangles (specs/Verdict.antt). A clause
-// `(next : ..) → IsSameIfTold (after_x .. next) (next r)` says: if the contents are told, the files
-// aren't refused, and their result is r.
-ghost use Rattle.std.specs.Prelude.{ℕ, List, ◌≡◌, ◌≢◌, ◌≤◌, length, map, true, false, All, Some, Err, IfOk, IfErr};
+// The scene of several files: each is a closed mesh, and all together have few enough triangles.
+// `after_x` is a step of the verdict (specs/Verdict.antt). A clause whose name ends in `_read` is
+// about contents that the files may have, told or not.
+ghost use Rattle.std.specs.Prelude.{ℕ, ◌≡◌, ◌≢◌, ◌≤◌, length, map, true, false, All, Some, Err, IfOk, IfErr};
 ghost use Rattle.ember_io.specs.Causes.{HasRisen};
 ghost use Rattle.ember_mesh.specs.Joined.{AreNumbered, triangles_of};
-ghost use Rattle.ember_model.specs.declared.tri.Tri.{Tri};
 ghost use Rattle.ember_run.specs.Held.{MayHold, MayHoldOne};
 ghost use Rattle.ember_run.specs.Scenes.{HasParts};
-ghost use Rattle.ember_run.specs.Statuses.{IsRefusal, IsSameIfTold, hides_memory, is_refusal, refused_file};
+ghost use Rattle.ember_run.specs.Statuses.{PassesOnIfTold, RefusesIfTold, hides_memory, is_refusal, refused_file};
 ghost use Rattle.ember_run.specs.Devices.{shelf_call};
 ghost use Rattle.ember_run.specs.NoReplies.{IsAfterFiles, IsNoScene};
-ghost use Rattle.ember_run.specs.Verdict.{Verdict, after_mesh, after_scene, after_total};
+ghost use Rattle.ember_run.specs.Verdict.{PassesOn, after_mesh, after_scene, after_total};
 
 use crate::reading::read_file;
 use crate::status::{LimitKind, Status};
@@ -33,17 +31,16 @@ fn read_mesh<S: Shelf>(
     requires { places ≤ 3 }
     ensures contents { S.contents shelf.new ≡ S.contents shelf.old }
     ensures later { S.faults shelf.old ≤ S.faults shelf.new }
-    ensures ok { IfOk result (λ mesh. (next : List Tri → Verdict) →
-        IsSameIfTold (after_mesh places number (S.contents shelf.old name.now) next) (next mesh.tris)) }
-    ensures held { IfOk result (λ mesh. MayHoldOne (S.contents shelf.old name.now)
-        (λ content. (next : List Tri → Verdict) →
-        IsSameIfTold (after_mesh places number content next) (next mesh.tris))) }
+    ensures ok { IfOk result (λ mesh.
+        PassesOnIfTold (after_mesh places number (S.contents shelf.old name.now)) mesh.tris) }
+    ensures ok_read { IfOk result (λ mesh. MayHoldOne (S.contents shelf.old name.now)
+        (λ content. PassesOnIfTold (after_mesh places number content) mesh.tris)) }
     ensures number { IfOk result (λ mesh. All (λ t. t.mesh ≡ number) mesh.tris) }
-    ensures refused { IfErr result (λ status. is_refusal status ≡ true → (next : List Tri → Verdict) →
-        IsRefusal status (after_mesh places number (S.contents shelf.old name.now) next)) }
-    ensures refused_held { IfErr result (λ status. is_refusal status ≡ true →
+    ensures refused { IfErr result (λ status. is_refusal status ≡ true →
+        RefusesIfTold (after_mesh places number (S.contents shelf.old name.now)) status) }
+    ensures refused_read { IfErr result (λ status. is_refusal status ≡ true →
         MayHoldOne (S.contents shelf.old name.now)
-        (λ content. (next : List Tri → Verdict) → IsRefusal status (after_mesh places number content next))) }
+        (λ content. RefusesIfTold (after_mesh places number content) status)) }
     ensures file { IfErr result (λ status. is_refusal status ≡ true → refused_file status ≡ Some number) }
     ensures memory { IfErr result (λ status. hides_memory status ≡ false) }
     ensures read_fault { (i : ℕ) → result ≡ Err (Status.ReadFault i) →
@@ -74,7 +71,7 @@ fn read_parts<S: Shelf>(
     ensures contents { S.contents shelf.new ≡ S.contents shelf.old }
     ensures later { S.faults shelf.old ≤ S.faults shelf.new }
     ensures parts { IfOk result (λ parts. HasParts places (map (S.contents shelf.old) files.now) parts.items) }
-    ensures held { IfOk result (λ parts. MayHold (S.contents shelf.old) files.now
+    ensures parts_read { IfOk result (λ parts. MayHold (S.contents shelf.old) files.now
         (λ contents. HasParts places contents parts.items)) }
     ensures no_reply { IfErr result
         (IsNoScene places files.now (shelf_call S.contents S.faults S.fault_at shelf.old shelf.new)) }
@@ -97,13 +94,12 @@ fn read_parts<S: Shelf>(
 fn join_parts(alloc: Global, parts: Vec<Closed>) -> Result<Scene, Status>
     requires few { length parts.items ≤ 64 }
     requires numbered { AreNumbered 1 parts.items }
-    ensures scene { IfOk result (λ scene. (next : List Tri → Verdict) →
-        after_total (triangles_of parts.items) next ≡ next scene.tris) }
+    ensures scene { IfOk result (λ scene. PassesOn (after_total (triangles_of parts.items)) scene.tris) }
     ensures meshes { IfOk result (λ scene. scene.meshes ≡ length parts.items) }
-    ensures refused { IfErr result (λ status. is_refusal status ≡ true → (next : List Tri → Verdict) →
-        IsRefusal status (after_total (triangles_of parts.items) next)) }
+    ensures refused { IfErr result (λ status. is_refusal status ≡ true →
+        RefusesIfTold (after_total (triangles_of parts.items)) status) }
     ensures kind { IfErr result IsAfterFiles }
-    ensures only { (i : ℕ) → result ≢ Err (Status.ReadFault i) }
+    ensures no_read_fault { (i : ℕ) → result ≢ Err (Status.ReadFault i) }
     ensures never { (result ≢ Err Status.Done) × (result ≢ Err Status.Words) × (result ≢ Err Status.WriteFault) }
 {
     match join(alloc, Parts::of(parts)) {
@@ -131,11 +127,10 @@ pub fn read_scene<S: Shelf>(
     requires few { length files.now ≤ 64 }
     ensures contents { S.contents shelf.new ≡ S.contents shelf.old }
     ensures later { S.faults shelf.old ≤ S.faults shelf.new }
-    ensures ok { IfOk result (λ scene. (next : List Tri → Verdict) →
-        IsSameIfTold (after_scene places (map (S.contents shelf.old) files.now) next) (next scene.tris)) }
-    ensures held { IfOk result (λ scene. MayHold (S.contents shelf.old) files.now
-        (λ contents. (next : List Tri → Verdict) →
-        IsSameIfTold (after_scene places contents next) (next scene.tris))) }
+    ensures ok { IfOk result (λ scene.
+        PassesOnIfTold (after_scene places (map (S.contents shelf.old) files.now)) scene.tris) }
+    ensures ok_read { IfOk result (λ scene. MayHold (S.contents shelf.old) files.now
+        (λ contents. PassesOnIfTold (after_scene places contents) scene.tris)) }
     ensures meshes { IfOk result (λ scene. scene.meshes ≡ length files.now) }
     ensures no_reply { IfErr result
         (IsNoScene places files.now (shelf_call S.contents S.faults S.fault_at shelf.old shelf.new)) }

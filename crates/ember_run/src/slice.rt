@@ -2,7 +2,7 @@
 ghost use Rattle.std.specs.Prelude.{ℕ, ℤ, pos, negsuc, ◌≤ℤ◌, ◌≡◌, ◌≢◌, ◌≤◌, List, [], ◌∷◌, length, true, All, Err, IfOk, IfErr};
 ghost use Rattle.ember_model.specs.FaceFiles.{IsFaceFile};
 ghost use Rattle.ember_model.specs.Valid.{IsValidFace};
-ghost use Rattle.ember_run.specs.Statuses.{IsText, is_refusal};
+ghost use Rattle.ember_run.specs.Statuses.{IsTextIfTold, is_refusal};
 ghost use Rattle.ember_run.specs.Devices.{shelf_call};
 ghost use Rattle.ember_run.specs.Held.{MayHold};
 ghost use Rattle.ember_run.specs.NoReplies.{IsNoReply};
@@ -25,7 +25,7 @@ fn faces_in(alloc: Global, bytes: &[u8]) -> Result<FaceList, Status>
     ensures count { IfOk result (λ faces. length faces ≤ 268435456) }
     ensures refused { (at : ℤ) → IfErr result (λ status. is_refusal status ≡ true →
         IsSliceRefusal at bytes.now status) }
-    ensures only { (i : ℕ) → result ≢ Err (Status.ReadFault i) }
+    ensures no_read_fault { (i : ℕ) → result ≢ Err (Status.ReadFault i) }
     ensures never { (result ≢ Err Status.Done) × (result ≢ Err Status.Words) × (result ≢ Err Status.WriteFault) }
 {
     match read_faces(alloc, bytes) {
@@ -44,7 +44,7 @@ fn segments_text(alloc: Global, faces: &FaceList, at: i32) -> Result<Vec<u8>, St
     ensures text { (bytes : List ℕ) → IsFaceFile bytes faces.now → IfOk result (λ text. IsSlice at bytes text.items) }
     ensures refused { (bytes : List ℕ) → IsFaceFile bytes faces.now → IfErr result (λ status. is_refusal status ≡ true →
         IsSliceRefusal at bytes status) }
-    ensures only { (i : ℕ) → result ≢ Err (Status.ReadFault i) }
+    ensures no_read_fault { (i : ℕ) → result ≢ Err (Status.ReadFault i) }
     ensures never { (result ≢ Err Status.Done) × (result ≢ Err Status.Words) × (result ≢ Err Status.WriteFault) }
 {
     match slice_text(alloc, faces, at) {
@@ -61,7 +61,7 @@ fn slice_of(alloc: Global, bytes: &[u8], at: i32) -> Result<Vec<u8>, Status>
     requires high { at ≤ℤ pos 2047 }
     ensures text { IfOk result (λ text. IsSlice at bytes.now text.items) }
     ensures refused { IfErr result (λ status. is_refusal status ≡ true → IsSliceRefusal at bytes.now status) }
-    ensures only { (i : ℕ) → result ≢ Err (Status.ReadFault i) }
+    ensures no_read_fault { (i : ℕ) → result ≢ Err (Status.ReadFault i) }
     ensures never { (result ≢ Err Status.Done) × (result ≢ Err Status.Words) × (result ≢ Err Status.WriteFault) }
 {
     match faces_in(alloc, bytes) {
@@ -83,9 +83,9 @@ pub fn slice_output<S: Shelf>(
     requires high { at ≤ℤ pos 2047 }
     ensures contents { S.contents shelf.new ≡ S.contents shelf.old }
     ensures later { S.faults shelf.old ≤ S.faults shelf.new }
-    ensures text { IfOk result (λ text. IsText (slice_verdict at (S.contents shelf.old file.now)) text.items) }
-    ensures held { IfOk result (λ text. MayHold (S.contents shelf.old) (file.now ∷ [])
-        (λ contents. IsText (slice_verdict at (file_at contents 1)) text.items)) }
+    ensures text { IfOk result (λ text. IsTextIfTold (slice_verdict at (S.contents shelf.old file.now)) text.items) }
+    ensures text_read { IfOk result (λ text. MayHold (S.contents shelf.old) (file.now ∷ [])
+        (λ contents. IsTextIfTold (slice_verdict at (file_at contents 1)) text.items)) }
     ensures no_reply { IfErr result
         (IsNoReply (λ contents. slice_verdict at (file_at contents 1)) (file.now ∷ [])
         (shelf_call S.contents S.faults S.fault_at shelf.old shelf.new)) }

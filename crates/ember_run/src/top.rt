@@ -11,7 +11,7 @@ ghost use Rattle.ember_run.specs.Devices.{shelf_call, sink_call};
 ghost use Rattle.ember_run.specs.Held.{MayHold};
 ghost use Rattle.ember_run.specs.Serves.{IsReply, ReadsCanonical, Serves};
 ghost use Rattle.ember_run.specs.NoReplies.{IsNoReply};
-ghost use Rattle.ember_run.specs.Statuses.{IsText};
+ghost use Rattle.ember_run.specs.Statuses.{IsTextIfTold};
 ghost use Rattle.ember_run.specs.Verdict.{names_of, verdict_of};
 
 use crate::at::at_output;
@@ -44,8 +44,8 @@ fn reply_to<S: Shelf, C: Fn(&Query) -> Result<Answer, OutOfMemory>>(
     ensures contents { S.contents shelf.new ≡ S.contents shelf.old }
     ensures later { S.faults shelf.old ≤ S.faults shelf.new }
     ensures reply { IfOk result (IsReply command.now (S.contents shelf.old)) }
-    ensures held { IfOk result (λ reply. MayHold (S.contents shelf.old) (names_of (Some command.now))
-        (λ contents. IsText (verdict_of (Some command.now) contents) reply.text.items)) }
+    ensures text_read { IfOk result (λ reply. MayHold (S.contents shelf.old) (names_of (Some command.now))
+        (λ contents. IsTextIfTold (verdict_of (Some command.now) contents) reply.text.items)) }
     ensures no_reply { IfErr result
         (IsNoReply (verdict_of (Some command.now)) (names_of (Some command.now))
         (shelf_call S.contents S.faults S.fault_at shelf.old shelf.new)) }

@@ -3,7 +3,7 @@ ghost use Rattle.std.specs.Prelude.{◌≡◌, ◌≤◌, length, map, IfOk, IfE
 ghost use Rattle.ember_expr.specs.Formula.{formula_of};
 ghost use Rattle.ember_query.specs.Queries.{IsExecutor};
 ghost use Rattle.ember_run.specs.Lattices.{IsLatticeText};
-ghost use Rattle.ember_run.specs.Statuses.{IsText};
+ghost use Rattle.ember_run.specs.Statuses.{IsTextIfTold};
 ghost use Rattle.ember_run.specs.Devices.{shelf_call};
 ghost use Rattle.ember_run.specs.Held.{MayHold};
 ghost use Rattle.ember_run.specs.NoReplies.{IsNoReply};
@@ -60,9 +60,9 @@ pub fn voxels_output<S: Shelf, C: Fn(&Query) -> Result<Answer, OutOfMemory>>(
     ensures contents { S.contents shelf.new ≡ S.contents shelf.old }
     ensures later { S.faults shelf.old ≤ S.faults shelf.new }
     ensures text { IfOk result (λ text.
-        IsText (voxels_verdict expr.now size places (map (S.contents shelf.old) files.now)) text.items) }
-    ensures held { IfOk result (λ text. MayHold (S.contents shelf.old) files.now
-        (λ contents. IsText (voxels_verdict expr.now size places contents) text.items)) }
+        IsTextIfTold (voxels_verdict expr.now size places (map (S.contents shelf.old) files.now)) text.items) }
+    ensures text_read { IfOk result (λ text. MayHold (S.contents shelf.old) files.now
+        (λ contents. IsTextIfTold (voxels_verdict expr.now size places contents) text.items)) }
     ensures no_reply { IfErr result
         (IsNoReply (voxels_verdict expr.now size places) files.now
         (shelf_call S.contents S.faults S.fault_at shelf.old shelf.new)) }

@@ -3,7 +3,7 @@ use Rattle.std.proofs.Common.{◌≡◌, ℕ, true, false, ◌<◌, ◌+◌, ◌
 use Rattle.std.specs.Prelude.{◌==◌, if◌then◌else◌}
 use Rattle.std.proofs.lemmas.Bool.{cases_Bool}
 use Rattle.std.proofs.lemmas.List.{append-nil}
-use Rattle.ember_scan.specs.Parts.{Piece, before, onward, is_separator, closed, words_from, before_lines, lines_from}
+use Rattle.ember_scan.specs.Parts.{Piece, before, onward, is_separator, with_word_ending, words_from, before_lines, lines_from}
 
 abbrev piece : ℕ → List ℕ → Piece
 piece s text = record { start = s; text = text }
@@ -49,8 +49,8 @@ first_cut s t n m text line (r ∷ rs) after some is l same next more a =
     first_line s text rs r (sym is) ∙ ap₂ (λ p x. p ∷ x) (ap₂ (λ p x. piece p x) (sym same) (sym l)) (ap₂ (λ p x. lines_from p x) place (sym a))
 
 -- the words of a text in which a word is open
-word_then_rest : (p : ℕ) (text begun : List ℕ) → words_from p text begun ≡ closed (p + length (before is_separator text)) (begun ++ before is_separator text) (words_from (p + length (before is_separator text)) (onward is_separator text) [])
-word_then_rest p [] begun = ap₂ (λ x n. closed n x []) (sym (append-nil begun)) (omega arith)
+word_then_rest : (p : ℕ) (text begun : List ℕ) → words_from p text begun ≡ with_word_ending (p + length (before is_separator text)) (begun ++ before is_separator text) (words_from (p + length (before is_separator text)) (onward is_separator text) [])
+word_then_rest p [] begun = ap₂ (λ x n. with_word_ending n x []) (sym (append-nil begun)) (omega arith)
 word_then_rest p (b ∷ bs) begun =
     elim (cases_Bool (is_separator b)) [
       | inl h ↦
@@ -62,9 +62,9 @@ word_then_rest p (b ∷ bs) begun =
     ]
 
 -- a word that begins the text
-closed_word : (p : ℕ) (word : List ℕ) (words : List Piece) → 0 < length word → closed (p + length word) word words ≡ piece p word ∷ words
-closed_word p [] words some = absurd (omega arith)
-closed_word p (b ∷ bs) words some =
+one_word_ending : (p : ℕ) (word : List ℕ) (words : List Piece) → 0 < length word → with_word_ending (p + length word) word words ≡ piece p word ∷ words
+one_word_ending p [] words some = absurd (omega arith)
+one_word_ending p (b ∷ bs) words some =
     let place : p + length (b ∷ bs) - length (b ∷ bs) ≡ p = omega arith in
     ap (λ n. piece n (b ∷ bs) ∷ words) place
 
@@ -74,7 +74,7 @@ word_has_byte (b ∷ bs) some first = simp first (omega arith)
 
 -- a text that begins with a word
 first_word : (p : ℕ) (text : List ℕ) → 0 < length text → is_separator (slice_index text 0) ≡ false → words_from p text [] ≡ piece p (before is_separator text) ∷ words_from (p + length (before is_separator text)) (onward is_separator text) []
-first_word p text some first = word_then_rest p text [] ∙ closed_word p (before is_separator text) (words_from (p + length (before is_separator text)) (onward is_separator text) []) (word_has_byte text some first)
+first_word p text some first = word_then_rest p text [] ∙ one_word_ending p (before is_separator text) (words_from (p + length (before is_separator text)) (onward is_separator text) []) (word_has_byte text some first)
 
 -- a word that begins the text is cut off
 pub word_cut : (p t n : ℕ) (text word rest : List ℕ) → 0 < length text → is_separator (slice_index text 0) ≡ false → word ≡ before is_separator text → rest ≡ onward is_separator text → t ≡ p → n ≡ t + length word → words_from p text [] ≡ piece t word ∷ words_from n rest []

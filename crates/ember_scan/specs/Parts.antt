@@ -65,17 +65,17 @@ uncommented line = record line { text = before is_hash line.text }
 abbrev pub is_separator : ℕ → Bool
 is_separator b = b == 32 || b == 9 || b == 13
 
--- a word that ends at this place in front of the words, if it has a byte
-abbrev pub closed : ℕ → List ℕ → List Piece → List Piece
-closed end [] words = words
-closed end (b ∷ bs) words = record { start = end - length (b ∷ bs); text = b ∷ bs } ∷ words
+-- the words with this one in front of them, which ends at this place, if it has a byte
+abbrev pub with_word_ending : ℕ → List ℕ → List Piece → List Piece
+with_word_ending end [] words = words
+with_word_ending end (b ∷ bs) words = record { start = end - length (b ∷ bs); text = b ∷ bs } ∷ words
 
 -- the words of a text that starts at this place, where `begun` is the word that is open
 abbrev pub words_from : ℕ → List ℕ → List ℕ → List Piece
-words_from place [] begun = closed place begun []
+words_from place [] begun = with_word_ending place begun []
 words_from place (b ∷ bs) begun =
     if is_separator b
-    then closed place begun (words_from (place + 1) bs [])
+    then with_word_ending place begun (words_from (place + 1) bs [])
     else words_from (place + 1) bs (begun ++ b ∷ [])
 
 -- the words of a line

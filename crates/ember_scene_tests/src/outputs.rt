@@ -1,4 +1,5 @@
-// The solids of mesh files as STL files: by the calling thread alone, and by two workers.
+// The surfaces that mesh files hold; and the solids of mesh files as STL files, by the calling
+// thread alone and by two workers.
 ghost use Rattle.std.specs.Prelude.{IfOk, IsTrue, All};
 ghost use Rattle.ember_boolean.specs.Files.{IsSmall};
 ghost use Rattle.ember_grid.specs.Grids.{IsChoice};
@@ -6,16 +7,19 @@ ghost use Rattle.ember_query.specs.Queries.{IsAnswer, IsExecutor, IsQuery};
 
 use crate::grids::{THOUSANDTH, grid_with};
 use crate::scenes::expression;
-use crate::texts::{CUBE, FRACTIONS, LARGER, OPEN, SHIFTED_CUBE};
+use crate::texts::{CUBE, FRACTIONS, LARGER, OPEN, SHIFTED_CUBE, STL_TRIANGLE};
 use ember_balance::Loose;
-use ember_boolean::{BooleanFault, MeshFile, Output, stl_of};
+use ember_boolean::{BooleanFault, MeshFile, Output, stl_of, surfaces_in};
 use ember_file::FileFault;
 use ember_grid::Wanted;
 use ember_model::{Corner, OutOfMemory};
+use ember_number::floor_times;
 use ember_query::{Answer, Query, answer_alone, answer_by_workers};
 use ember_scene::{Counts, Open, SceneFault};
 use ember_snap::Step;
 use ember_stl_bytes::{FloatPoint, WrittenTriangle, stl_bytes};
+use ember_surface::{Facet, Surface, Vertex};
+use ember_wavefront::WavefrontFault;
 use std::alloc::{AllocError, Global};
 use std::process::Abort;
 use std::sync::Wait;
@@ -99,6 +103,79 @@ fn are_small(files: &[MeshFile]) -> bool
         }
     }
     true
+}
+
+// The surfaces of files, or their first fault.
+fn surfaces_of<'a>(
+    alloc: Global,
+    files: &[MeshFile<'a>],
+) -> Result<Result<Vec<Surface<'a>>, BooleanFault<'a>>, Fail> {
+    if files.len() > 64 {
+        return Err(Fail::from("many files"));
+    }
+    if !are_small(files) {
+        return Err(Fail::from("long file"));
+    }
+    Ok(surfaces_in(alloc, files))
+}
+
+// The coordinates of a vertex in thousandths.
+fn coordinates(vertex: &Vertex) -> [Option<i128>; 3] {
+    [
+        floor_times(&vertex.x, 1000),
+        floor_times(&vertex.y, 1000),
+        floor_times(&vertex.z, 1000),
+    ]
+}
+
+// The surface has these vertices in thousandths, and these triangles.
+fn check_surface(rt: &impl Abort, surface: &Surface, vertices: &[[i128; 3]], facets: &[Facet]) {
+    assert_eq!(rt; surface.vertices.len(), vertices.len());
+    for (vertex, [x, y, z]) in surface.vertices.iter().zip(vertices) {
+        assert_eq!(rt; coordinates(vertex), [Some(*x), Some(*y), Some(*z)]);
+    }
+    assert_eq!(rt; surface.facets.as_slice(), facets);
+}
+
+fn facet(corners: [u32; 3], place: u32) -> Facet {
+    Facet { corners, place }
+}
+
+#[test]
+fn each_file_has_its_surface(rt: HostRuntime) -> Result<(), Fail> {
+    let files = [obj(FRACTIONS), stl(STL_TRIANGLE)];
+    let Ok(surfaces) = surfaces_of(rt.alloc(), &files)? else {
+        return Err(Fail::from("refused"));
+    };
+    assert_eq!(rt; surfaces.len(), 2);
+    let Some(tetrahedron) = surfaces.get(0) else {
+        return Err(Fail::from("no first surface"));
+    };
+    let vertices = [[0, 0, 0], [1500, 0, 0], [0, 2250, 0], [0, 0, 3125]];
+    let facets = [
+        facet([0, 2, 1], 5),
+        facet([0, 1, 3], 6),
+        facet([0, 3, 2], 7),
+        facet([1, 2, 3], 8),
+    ];
+    check_surface(&rt, tetrahedron, &vertices, &facets);
+    let Some(triangle) = surfaces.get(1) else {
+        return Err(Fail::from("no second surface"));
+    };
+    let vertices = [[0, 0, 500], [10_000, 0, 0], [0, -2000, 0]];
+    check_surface(&rt, triangle, &vertices, &[facet([0, 1, 2], 2)]);
+    Ok(())
+}
+
+#[test]
+fn no_surfaces_are_given_with_a_fault(rt: HostRuntime) -> Result<(), Fail> {
+    let files = [obj(FRACTIONS), obj(b"v 0 0\n"), stl(b"")];
+    let first = FileFault::Wavefront(WavefrontFault::FewCoordinates(1));
+    assert_eq!(rt;
+        surfaces_of(rt.alloc(), &files)?.err(),
+        Some(BooleanFault::File(1, first))
+    );
+    Ok(())
 }
 
 // The output for files, or why there is none.

@@ -49,3 +49,7 @@ v 0 0 0\nv 1.5 0 0\nv 0 2.25 0\nv 0 0 3.125\nf 1 3 2\nf 1 2 4\nf 1 4 3\n";
 /// One triangle three times, and once from behind.
 pub const LAYERS: &[u8] = b"\
 v 0 0 0\nv 1 0 0\nv 0 1 0\nf 3 2 1\nf 1 2 3\nf 1 2 3\nf 1 2 3\n";
+
+/// One triangle, as an ASCII STL.
+pub const STL_TRIANGLE: &[u8] = b"\
+solid\nfacet\nvertex 0 0 0.5\nvertex 1e1 0 0\nvertex 0 -2 0\nendfacet\nendsolid\n";

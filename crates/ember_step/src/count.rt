@@ -40,10 +40,10 @@ impl<'a> Work for CountWork<'a> {
     ghost item = { λ w job n.
         IsCount (IsWrittenIn w.scene.now.tris (formula_of w.expr.now) job.cell (near w.scene.now.tris job.cell)) n };
 
-    ghost halves_valid = { λ w job low high is e. halves_are_jobs w.scene.now.tris
-        (formula_of w.expr.now) job low high w.scene.now.meshes w.scene.now.kept is e };
+    ghost halves_valid = { λ w job low high v e. halves_are_jobs w.scene.now.tris
+        (formula_of w.expr.now) job low high w.scene.now.meshes w.scene.now.kept v e };
 
-    ghost halves_split = { λ w job low high is e. halves_are_split w.scene.now.tris
+    ghost halves_split = { λ w job low high v e. halves_are_split w.scene.now.tris
         (formula_of w.expr.now) job low high e };
 }
 

@@ -39,10 +39,10 @@ impl<'a> Work for BoolWork<'a> {
     ghost item = { λ w job kept.
         IsWrittenIn w.scene.now.tris (formula_of w.expr.now) job.cell (near w.scene.now.tris job.cell) kept };
 
-    ghost halves_valid = { λ w job low high is e. halves_are_jobs w.scene.now.tris
-        (formula_of w.expr.now) job low high w.scene.now.meshes w.scene.now.kept is e };
+    ghost halves_valid = { λ w job low high v e. halves_are_jobs w.scene.now.tris
+        (formula_of w.expr.now) job low high w.scene.now.meshes w.scene.now.kept v e };
 
-    ghost halves_split = { λ w job low high is e. halves_are_split w.scene.now.tris
+    ghost halves_split = { λ w job low high v e. halves_are_split w.scene.now.tris
         (formula_of w.expr.now) job low high e };
 }
 

@@ -34,10 +34,10 @@ impl<'a> Work for TextWork<'a> {
 
     ghost item = { λ w job text. IsBoxText w.scene.now.tris (formula_of w.expr.now) job.cell text };
 
-    ghost halves_valid = { λ w job low high is e. halves_are_jobs w.scene.now.tris
-        (formula_of w.expr.now) job low high w.scene.now.meshes w.scene.now.kept is e };
+    ghost halves_valid = { λ w job low high v e. halves_are_jobs w.scene.now.tris
+        (formula_of w.expr.now) job low high w.scene.now.meshes w.scene.now.kept v e };
 
-    ghost halves_split = { λ w job low high is e. halves_are_split w.scene.now.tris
+    ghost halves_split = { λ w job low high v e. halves_are_split w.scene.now.tris
         (formula_of w.expr.now) job low high e };
 }
 

@@ -7,34 +7,34 @@ use Rattle.std.specs.Io.KnownBytes.{append_known}
 abbrev pub Names : Type 0
 Names = List ℕ → Option (List ℕ)
 
--- what this name holds, if it is revealed
+-- what this name holds, if it is told
 abbrev pub value_at : Option Names → List ℕ → Option (List ℕ)
 value_at None name = None
 value_at (Some f) name = f name
 
--- if it is revealed, there is a file of this name
+-- if it is told, there is a file of this name
 abbrev pub IsTaken : Option Names → List ℕ → Type 0
 IsTaken None name = ⊤
 IsTaken (Some f) name = IsSome (f name)
 
--- if it is revealed, each name holds what it held
+-- if it is told, each name holds what it held
 abbrev pub HoldsSame : Option Names → Option Names → Type 0
 HoldsSame None new = ⊤
 HoldsSame (Some f) None = ⊥
 HoldsSame (Some f) (Some g) = (other : List ℕ) → g other ≡ f other
 
--- if it is revealed, this name holds this value, and each other name what it held
+-- if it is told, this name holds this value, and each other name what it held
 abbrev pub Puts : Option Names → Option Names → List ℕ → Option (List ℕ) → Type 0
 Puts None new name value = ⊤
 Puts (Some f) None name value = ⊥
 Puts (Some f) (Some g) name value = (g name ≡ value) × ((other : List ℕ) → ¬ (other ≡ name) → g other ≡ f other)
 
--- if it is revealed, the new file holds these bytes behind those that it held, and each other name what it held
+-- if it is told, the new file holds these bytes behind those that it held, and each other name what it held
 abbrev pub Grows : Option (List ℕ) → Option Names → Option Names → List ℕ → Type 0
 Grows None old new bytes = ⊤
 Grows (Some path) old new bytes = Puts old new path (append_known (value_at old path) bytes)
 
--- if it is revealed, this value has moved from one name to the other, and each further name holds what it held
+-- if it is told, this value has moved from one name to the other, and each further name holds what it held
 abbrev pub Moves : Option Names → Option Names → List ℕ → List ℕ → Option (List ℕ) → Type 0
 Moves None new from to value = ⊤
 Moves (Some f) None from to value = ⊥
@@ -49,7 +49,7 @@ beside name number = name ++ (codes ".new-" ++ decimal number)
 abbrev pub IsBeside : List ℕ → List ℕ → Type 0
 IsBeside name other = (number : ℕ) × (other ≡ beside name number)
 
--- if it is revealed, this name holds what it held, and so does each other, but a new file may be left beside it
+-- if it is told, this name holds what it held, and so does each other, but a new file may be left beside it
 abbrev pub HoldsOld : Option Names → Option Names → List ℕ → Type 0
 HoldsOld None new name = ⊤
 HoldsOld (Some f) None name = ⊥

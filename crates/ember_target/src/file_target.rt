@@ -1,4 +1,4 @@
-// The system's files. They reveal no bytes.
+// The system's files. They tell no bytes.
 ghost use Rattle.std.specs.Prelude.{◌≡◌, ◌<◌, ◌≤◌, length, None, IfSome, string_bytes};
 ghost use Rattle.std.specs.Option.{option_map};
 

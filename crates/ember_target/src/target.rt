@@ -24,7 +24,7 @@ pub enum BeginEnd {
 
 /// Named files, and at most one new file, which takes bytes. At the start no new file is begun.
 pub trait Target {
-    /// What each name holds, if this is revealed. The new file has a name too.
+    /// What each name holds, if this is told. The new file has a name too.
     ghost held: { Self → Option Names };
 
     /// The name of the new file, if one is begun.

@@ -13,7 +13,7 @@ use Rattle.ember_model.specs.Valid.{IsValidPlane}
 use Rattle.ember_model.specs.Edges.{RingEdge, IsOutline}
 use Rattle.ember_model.specs.FaceFiles.{support_line, edge_line, IsLowest, IsWrittenEdge}
 use Rattle.ember_poly.proofs.Chains.{each_map}
-use Rattle.ember_poly.proofs.MovedOutline.{AreMoved, outline_moved}
+use Rattle.ember_poly.proofs.MovedOutline.{HaveSameStarts, outline_moved}
 use Rattle.ember_text.specs.Texts.{IsEdgeText, IsTextInRange, Writes, turned}
 use Rattle.ember_text.proofs.TurnedEdges.{length-turned, outline_of_turned}
 
@@ -24,7 +24,7 @@ each_of P xs h = recursion_from_All P xs h
 -- the texts of edges are lines of the same edges with corners in lowest terms
 record HasLines (rs : List RingEdge) (texts : List ℕ) : Type 0 where
   edges : List RingEdge
-  moved : AreMoved rs edges
+  moved : HaveSameStarts rs edges
   written : AllByRecursion IsWrittenEdge edges
   is : texts ≡ flat_map edge_line edges
   long : length edges ≡ length rs
@@ -35,7 +35,7 @@ lines_of (more {x = e} {xs = rs} {ys = text} {zs = texts} t rest) =
     let r = lines_of rest in let d : RingEdge = record { plane = e.plane; start = t.start } in
     record {
       edges = d ∷ r.edges;
-      moved = (refl, t.moved, r.moved);
+      moved = (refl, t.same, r.moved);
       written = (t.written, r.written);
       is = (λ i. t.is i ++ r.is i) ∙ sym (flat_map-cons edge_line d r.edges);
       long = ap (λ n. suc n) r.long;

@@ -9,7 +9,7 @@ use Rattle.ember_model.specs.Edges.{RingEdge}
 use Rattle.ember_model.specs.FaceFiles.{edge_line, IsFaceText, IsWrittenEdge, IsWrittenFace}
 use Rattle.ember_point.specs.declared.meet_point.Meet.{Meet}
 use Rattle.ember_point.specs.Points.{spot_of}
-use Rattle.ember_poly.proofs.MovedOutline.{Moved}
+use Rattle.ember_poly.proofs.MovedOutline.{SameWithWeights}
 use Rattle.ember_poly.proofs.TurnedOutline.{turned_outline}
 
 -- the new bytes are the old ones and some more
@@ -32,7 +32,7 @@ turned (e ∷ d ∷ es) = turned_outline e d es
 -- weights are positive
 pub record IsEdgeText (e : RingEdge) (text : List ℕ) : Type 0 where
   pub start : Spot
-  pub moved : Moved e.start start
+  pub same : SameWithWeights e.start start
   pub written : IsWrittenEdge (record { plane = e.plane; start = start })
   pub is : text ≡ edge_line (record { plane = e.plane; start = start })
 

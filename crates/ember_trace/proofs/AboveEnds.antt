@@ -28,14 +28,14 @@ use Rattle.ember_model.proofs.FourSigns.{hit_edges}
 use Rattle.ember_law.proofs.CornerSides.{above_corners}
 use Rattle.ember_law.proofs.FlatTriangles.{flat_case, flat_out}
 use Rattle.ember_point.specs.Points.{spot_of, slid}
-use Rattle.ember_box.specs.Aabbs.{aabb_of_tri}
+use Rattle.ember_box.specs.Aabbs.{interval_along, aabb_of_tri}
 use Rattle.ember_ref.specs.References.{or_sign}
 use Rattle.ember_ref.proofs.NearPoints.{coordinate as along_point}
 use Rattle.ember_ref.proofs.FarTriangles.{inside_closed}
 use Rattle.ember_trace.specs.declared.near_triangle.NearTriangle.{NearTriangle}
 use Rattle.ember_trace.specs.declared.path.Path.{Path}
-use Rattle.ember_trace.specs.Paths.{coordinate, side_at_start, side_at_end, side_after_second, slid_to_start, floor_at_end}
-use Rattle.ember_trace.specs.Crossings.{signed_crossing, all_behind, interval_along, is_on_last, may_end, last_segment}
+use Rattle.ember_trace.specs.Paths.{coordinate, side_at_start, side_at_end, side_after_second, slid_to_lo, floor_at_end}
+use Rattle.ember_trace.specs.Crossings.{signed_crossing, all_behind, last_runs_through, may_end, last_segment}
 use Rattle.ember_trace.proofs.Coordinates.{coordinate_small}
 use Rattle.ember_trace.proofs.Slides.{slid_once}
 use Rattle.ember_trace.proofs.PathVertices.{close_to, moved_weight}
@@ -159,13 +159,13 @@ module _ (w : Path) (f : NearTriangle) where
   at_end : side_at_end w f.support ≡ sgn (value_at (support_of t) q)
   at_end = ap (λ (p : Plane). side_at_end w p) f.plane ∙ sym (at_q (support_of t) (support_valid sized))
 
-  at_second : side_at_end w (slid_to_start w k f.support) ≡ sgn (value_at (slid (support_of t) k (coordinate w.lo k)) q)
+  at_second : side_at_end w (slid_to_lo w k f.support) ≡ sgn (value_at (slid (support_of t) k (coordinate w.lo k)) q)
   at_second =
-      ap (λ (p : Plane). side_at_end w (slid_to_start w k p)) f.plane ∙ sym (at_q (slid (support_of t) k (coordinate w.lo k)) (slid_once (support_of t) k (coordinate w.lo k) sized (coordinate_small 2048 w.lo k w.small)))
+      ap (λ (p : Plane). side_at_end w (slid_to_lo w k p)) f.plane ∙ sym (at_q (slid (support_of t) k (coordinate w.lo k)) (slid_once (support_of t) k (coordinate w.lo k) sized (coordinate_small 2048 w.lo k w.small)))
 
   -- if the triangle lies above the end and above the start
   pub above_end : floor_at_end w k <ℤ d → coordinate w.lo k <ℤ d → (turn : Sign) → last_segment w f (or_sign (side_at_end w f.support) turn) ≡ pos 0
-  above_end l s turn = by (is_on_last w f) refl
+  above_end l s turn = by (last_runs_through w f) refl
     where
       a : ℤ
       a = along (support_of t) k
@@ -175,7 +175,7 @@ module _ (w : Path) (f : NearTriangle) where
           let b = above_low t k f.valid in
           (λ i. signed_crossing (or_sign (at_second i) (side_at_start w f.support)) (or_sign (at_end i) turn)) ∙ no_crossing a (value_at (slid (support_of t) k (coordinate w.lo k)) q) (value_at (support_of t) q) (side_at_start w f.support) turn (slid_behind t k d (coordinate w.lo k) q b weight e s) (support_behind t k d (coordinate w.lo k) q b weight e (below_q l))
 
-      by : (b : Bool) → is_on_last w f ≡ b → last_segment w f (or_sign (side_at_end w f.support) turn) ≡ pos 0
+      by : (b : Bool) → last_runs_through w f ≡ b → last_segment w f (or_sign (side_at_end w f.support) turn) ≡ pos 0
       by false h = ap (λ (b : Bool). cond b (signed_crossing (side_after_second w f.support) (or_sign (side_at_end w f.support) turn)) (pos 0)) h
       by true h =
           ap (λ (b : Bool). cond b (signed_crossing (side_after_second w f.support) (or_sign (side_at_end w f.support) turn)) (pos 0)) h ∙ crossed (behind (and_parts (may_end w f) (all_behind (λ p. side_at_end w p) (edge_planes t k)) h).1)

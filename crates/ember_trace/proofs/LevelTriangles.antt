@@ -11,10 +11,10 @@ use Rattle.ember_model.specs.declared.plane.Plane.{Plane}
 use Rattle.ember_model.specs.Planes.{value_at, along, support_of, edge_planes, edge_through, times_plane, unit}
 use Rattle.ember_model.proofs.SignTests.{zero_out, zero_times}
 use Rattle.ember_point.specs.Points.{spot_of, slid}
-use Rattle.ember_ref.specs.References.{or_sign, reference_of}
+use Rattle.ember_ref.specs.References.{or_sign, reference_at_list}
 use Rattle.ember_trace.specs.declared.near_triangle.NearTriangle.{NearTriangle}
 use Rattle.ember_trace.specs.declared.path.Path.{Path}
-use Rattle.ember_trace.specs.Paths.{coordinate, side_at_start, side_at_end, side_after_first, slid_to_start}
+use Rattle.ember_trace.specs.Paths.{coordinate, side_at_start, side_at_end, side_after_first, slid_to_lo}
 use Rattle.ember_trace.specs.Crossings.{all_behind}
 
 record IsEmpty (p : Plane) : Type 0 where
@@ -54,12 +54,12 @@ empty_at_end w p e =
     λ i. or_sign (x i) (or_sign (y i) (z i))
 
 empty_at_start : (w : Path) (p : Plane) → IsEmpty p → side_at_start w p ≡ Zero
-empty_at_start w p e = empty_value p (reference_of w.lo) e
+empty_at_start w p e = empty_value p (reference_at_list w.lo) e
 
 empty_after_first : (w : Path) (p : Plane) → IsEmpty p → side_after_first w p ≡ Zero
 empty_after_first w p e =
     let q = empty_slid p w.second_axis (coordinate w.lo w.second_axis) e in
-    let x = empty_at_end w (slid_to_start w w.main (slid_to_start w w.second_axis p)) (empty_slid (slid_to_start w w.second_axis p) w.main (coordinate w.lo w.main) q) in
+    let x = empty_at_end w (slid_to_lo w w.main (slid_to_lo w w.second_axis p)) (empty_slid (slid_to_lo w w.second_axis p) w.main (coordinate w.lo w.main) q) in
     let y = empty_at_start w p e in λ i. or_sign (x i) (y i)
 
 -- the first edge plane is empty

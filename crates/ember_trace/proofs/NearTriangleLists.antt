@@ -6,13 +6,14 @@ use Rattle.ember_algebra.specs.Sign.{sgn}
 use Rattle.ember_model.specs.declared.tri.Tri.{Tri}
 use Rattle.ember_model.specs.Planes.{value_at}
 use Rattle.ember_box.specs.Boxes.{Cell}
-use Rattle.ember_ref.specs.References.{reference_of}
+use Rattle.ember_ref.specs.References.{reference_at_list}
 use Rattle.ember_trace.specs.declared.near_triangle.NearTriangle.{NearTriangle}
 use Rattle.ember_trace.specs.NearTriangles.{AreNearTriangles, HasReferenceSide, tri_of}
 
-pub starts_in : (c : Cell) (f : NearTriangle) (lo : List ℤ) → lo ≡ c.lo.x ∷ c.lo.y ∷ c.lo.z ∷ [] → f.start ≡ sgn (value_at f.support (reference_of lo)) → HasReferenceSide c f
-starts_in c f lo e s =
-    record { start = s ∙ ap (λ (at : List ℤ). sgn (value_at f.support (reference_of at))) e }
+-- a near triangle with the side that its code computes
+pub has_reference_side : (c : Cell) (f : NearTriangle) (lo : List ℤ) → lo ≡ c.lo.x ∷ c.lo.y ∷ c.lo.z ∷ [] → f.reference_side ≡ sgn (value_at f.support (reference_at_list lo)) → HasReferenceSide c f
+has_reference_side c f lo e s =
+    record { side = s ∙ ap (λ (at : List ℤ). sgn (value_at f.support (reference_at_list at))) e }
 
 -- one more near triangle
 pub more_facets : (ts : List Tri) (i : ℕ) (d : Tri) (c : Cell) (fs new : List NearTriangle) (f : NearTriangle) → i < length ts → AreNearTriangles (take i ts) c fs → f.tri ≡ get_or ts i d → HasReferenceSide c f → new ≡ fs ++ f ∷ [] → AreNearTriangles (take (i + 1) ts) c new

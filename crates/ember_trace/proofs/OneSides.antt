@@ -28,7 +28,7 @@ use Rattle.ember_model.proofs.SignTests.{and_parts, negative_in, negative_out, p
 use Rattle.ember_model.proofs.PlaneValues.{value_moved, value_scaled}
 use Rattle.ember_model.proofs.Hits.{inside_on, inside_parts, closed_parts}
 use Rattle.ember_law.specs.Laws.{MissesFace}
-use Rattle.ember_law.proofs.Separation.{mix, value_mix, missed_face_has_separating_edge}
+use Rattle.ember_law.proofs.Separation.{combination, combination_value, missed_face_has_separating_edge}
 use Rattle.ember_law.proofs.Vectors.{segments_law}
 use Rattle.ember_law.proofs.CornerSides.{main_entry}
 use Rattle.ember_box.specs.Boxes.{Cell}
@@ -44,29 +44,29 @@ use Rattle.ember_trace.proofs.TracedSides.{in_box}
 
 -- ---- sums
 -- of two numbers that aren't negative, nor both zero, with positive factors
-positive_mix : (k m a b x y : ℤ) → pos 0 ≤ℤ k → pos 0 ≤ℤ m → pos 0 <ℤ a → pos 0 <ℤ b → pos 0 <ℤ (k *ℤ x +ℤ m *ℤ y) → pos 0 <ℤ (k *ℤ a +ℤ m *ℤ b)
-positive_mix k m a b x y pk pm pa pb l =
+positive_combination : (k m a b x y : ℤ) → pos 0 ≤ℤ k → pos 0 ≤ℤ m → pos 0 <ℤ a → pos 0 <ℤ b → pos 0 <ℤ (k *ℤ x +ℤ m *ℤ y) → pos 0 <ℤ (k *ℤ a +ℤ m *ℤ b)
+positive_combination k m a b x y pk pm pa pb l =
     let za : pos 0 ≤ℤ a = omega (arith, linear, pa) in let zb : pos 0 ≤ℤ b = omega (arith, linear, pb) in
     by_sign k (λ p. let u = pos_mul p pa in let v = nonneg_mul pm zb in omega (arith, linear, u, v))
     (λ z. by_sign m (λ p. let u = nonneg_mul pk za in let v = pos_mul p pb in omega (arith, linear, u, v)) (λ w. absurd (let e = zero_times k x z in let f = zero_times m y w in omega (arith, linear, e, f, l))) (λ p. absurd (omega (arith, linear, p, pm))))
     (λ p. absurd (omega (arith, linear, p, pk)))
 
 -- ---- a point between two inside points is inside
-all_mixed : (es : List Plane) (k m : ℤ) (p q : Spot) → pos 0 ≤ℤ k → pos 0 ≤ℤ m → pos 0 <ℤ (mix k m p q).w → all_negative es p ≡ true → all_negative es q ≡ true → all_negative es (mix k m p q) ≡ true
-all_mixed [] k m p q pk pm w hp hq = refl
-all_mixed (e ∷ es) k m p q pk pm w hp hq =
+all_combined : (es : List Plane) (k m : ℤ) (p q : Spot) → pos 0 ≤ℤ k → pos 0 ≤ℤ m → pos 0 <ℤ (combination k m p q).w → all_negative es p ≡ true → all_negative es q ≡ true → all_negative es (combination k m p q) ≡ true
+all_combined [] k m p q pk pm w hp hq = refl
+all_combined (e ∷ es) k m p q pk pm w hp hq =
     let x = and_parts (is_negative (value_at e p)) (all_negative es p) hp in let y = and_parts (is_negative (value_at e q)) (all_negative es q) hq in
     let a = negative_out (value_at e p) x.0 in let b = negative_out (value_at e q) y.0 in
     let u : pos 0 <ℤ neg_ℤ (value_at e p) = omega (arith, linear, a) in let v : pos 0 <ℤ neg_ℤ (value_at e q) = omega (arith, linear, b) in
-    let l = positive_mix k m (neg_ℤ (value_at e p)) (neg_ℤ (value_at e q)) p.w q.w pk pm u v w in
-    let f = value_mix e k m p q in let g = solve 4 (λ k m a b. k ⊗ neg a ⊕ m ⊗ neg b ≈ neg (k ⊗ a ⊕ m ⊗ b)) cancels k m (value_at e p) (value_at e q) in
-    let n = negative_in {a = value_at e (mix k m p q)} (omega (arith, linear, l, f, g)) in let r = all_mixed es k m p q pk pm w x.1 y.1 in λ i. n i && r i
+    let l = positive_combination k m (neg_ℤ (value_at e p)) (neg_ℤ (value_at e q)) p.w q.w pk pm u v w in
+    let f = combination_value e k m p q in let g = solve 4 (λ k m a b. k ⊗ neg a ⊕ m ⊗ neg b ≈ neg (k ⊗ a ⊕ m ⊗ b)) cancels k m (value_at e p) (value_at e q) in
+    let n = negative_in {a = value_at e (combination k m p q)} (omega (arith, linear, l, f, g)) in let r = all_combined es k m p q pk pm w x.1 y.1 in λ i. n i && r i
 
-inside_mix : (f : Face) (k m : ℤ) (p q : Spot) → pos 0 ≤ℤ k → pos 0 ≤ℤ m → pos 0 <ℤ (mix k m p q).w → is_inside f p ≡ true → is_inside f q ≡ true → is_inside f (mix k m p q) ≡ true
-inside_mix f k m p q pk pm w hp hq =
+inside_combination : (f : Face) (k m : ℤ) (p q : Spot) → pos 0 ≤ℤ k → pos 0 ≤ℤ m → pos 0 <ℤ (combination k m p q).w → is_inside f p ≡ true → is_inside f q ≡ true → is_inside f (combination k m p q) ≡ true
+inside_combination f k m p q pk pm w hp hq =
     let i = inside_parts f p hp in let j = inside_parts f q hq in
-    let e = value_mix f.support k m p q in let x = zero_scaled k (value_at f.support p) i.1 in let y = zero_scaled m (value_at f.support q) j.1 in
-    inside_on f (mix k m p q) (positive_in w) (omega (arith, linear, e, x, y)) ∙ all_mixed f.edges k m p q pk pm w i.2 j.2
+    let e = combination_value f.support k m p q in let x = zero_scaled k (value_at f.support p) i.1 in let y = zero_scaled m (value_at f.support q) j.1 in
+    inside_on f (combination k m p q) (positive_in w) (omega (arith, linear, e, x, y)) ∙ all_combined f.edges k m p q pk pm w i.2 j.2
 
 -- ---- a plane that keeps a triangle off the segment from a point beside p to one beside q
 record IsHeld (u : Tri) (p q : Spot) (a k : Axis) (e d : ℤ) : Type 0 where
@@ -110,13 +110,13 @@ held_level t u p q a k e d c zp zq o =
 
 -- so the segment misses the face
 pub held_misses : (u : Tri) (p q : Spot) (g : Plane) → ((x : Spot) → is_in_closed (face_of u) x ≡ true → value_at g x ≤ℤ pos 0) → pos 0 <ℤ value_at g p → pos 0 <ℤ value_at g q → MissesFace p q (face_of u)
-held_misses u p q g low gp gq k m pk pm = by (is_in_closed (face_of u) (mix k m p q)) refl
+held_misses u p q g low gp gq k m pk pm = by (is_in_closed (face_of u) (combination k m p q)) refl
   where
-    by : (b : Bool) → is_in_closed (face_of u) (mix k m p q) ≡ b → is_in_closed (face_of u) (mix k m p q) ≡ false
+    by : (b : Bool) → is_in_closed (face_of u) (combination k m p q) ≡ b → is_in_closed (face_of u) (combination k m p q) ≡ false
     by false h = h
     by true h =
-        let l = positive_mix k m (value_at g p) (value_at g q) p.w q.w pk pm gp gq (closed_parts (face_of u) (mix k m p q) h).0 in
-        let e = value_mix g k m p q in let z = low (mix k m p q) h in absurd (omega (arith, linear, l, e, z))
+        let l = positive_combination k m (value_at g p) (value_at g q) p.w q.w pk pm gp gq (closed_parts (face_of u) (combination k m p q) h).0 in
+        let e = combination_value g k m p q in let z = low (combination k m p q) h in absurd (omega (arith, linear, l, e, z))
 
 all_missed : (p q : Spot) (a k : Axis) (e d : ℤ) (ts : List Tri) → AllByRecursion (λ u. is_flat u ≡ false → IsHeld u p q a k e d) ts → Eventually (λ m. AllByRecursion (MissesFace (moved (scaled (pos m) p) a e) (moved (scaled (pos m) q) k d)) (faces_of ts))
 all_missed p q a k e d [] h = record { from = 0; holds = λ m l. tt }
@@ -157,12 +157,12 @@ module _ (ts ns : List Tri) (count : ℕ) (c : Cell) (scene : IsScene ts count) 
       where
         by : (s : Bool) → is_coplanar t (tri_at ns i) ≡ s → IsHeld (tri_at ns i) p q a b e d
         by true h = held_level t (tri_at ns i) p q a b e d h (level_at p hp) (level_at q hq) sign
-        by false h = held_apart (tri_at ns i) p q a b e d (has p hp).weight (has q hq).weight (λ i' j pi pj. missed i' j pi pj (is_in_closed (face_of (tri_at ns i)) (mix i' j p q)) refl)
+        by false h = held_apart (tri_at ns i) p q a b e d (has p hp).weight (has q hq).weight (λ i' j pi pj. missed i' j pi pj (is_in_closed (face_of (tri_at ns i)) (combination i' j p q)) refl)
           where
-            missed : (i' j : ℤ) → pos 0 ≤ℤ i' → pos 0 ≤ℤ j → (s : Bool) → is_in_closed (face_of (tri_at ns i)) (mix i' j p q) ≡ s → is_in_closed (face_of (tri_at ns i)) (mix i' j p q) ≡ false
+            missed : (i' j : ℤ) → pos 0 ≤ℤ i' → pos 0 ≤ℤ j → (s : Bool) → is_in_closed (face_of (tri_at ns i)) (combination i' j p q) ≡ s → is_in_closed (face_of (tri_at ns i)) (combination i' j p q) ≡ false
             missed i' j pi pj false o = o
             missed i' j pi pj true o =
-                absurd (cut_out.misses i l nf h (mix i' j p q) (inside_mix f i' j p q pi pj (closed_parts (face_of (tri_at ns i)) (mix i' j p q) o).0 hp hq) o)
+                absurd (cut_out.misses i l nf h (combination i' j p q) (inside_combination f i' j p q pi pj (closed_parts (face_of (tri_at ns i)) (combination i' j p q) o).0 hp hq) o)
 
     held_far : (u : Tri) → is_near c u ≡ false → P u
     held_far u far nf = held_apart u p q a b e d (has p hp).weight (has q hq).weight (misses_far c u p q nf far (has p hp) (has q hq))

@@ -5,8 +5,9 @@ use Rattle.ember_algebra.specs.Size.{Small}
 use Rattle.ember_model.specs.declared.point.Axis.{Axis}
 use Rattle.ember_box.specs.declared.aabb.Interval.{Interval}
 use Rattle.ember_box.specs.declared.aabb.Aabb.{Aabb}
+use Rattle.ember_box.specs.Aabbs.{interval_along}
 use Rattle.ember_trace.specs.declared.near_triangle.NearTriangle.{NearTriangle}
-use Rattle.ember_trace.specs.Crossings.{interval_along, may_contain, in_root}
+use Rattle.ember_trace.specs.Crossings.{may_contain, in_root}
 use Rattle.ember_trace.proofs.SegmentsPast.{low_small, high_small}
 
 -- moved into the root, or already there

@@ -32,15 +32,16 @@ use Rattle.ember_algebra.proofs.Size.{small_within}
 use Rattle.ember_point.specs.declared.meet_point.Meet.{Meet}
 use Rattle.ember_point.specs.Points.{spot_of, slid}
 use Rattle.ember_box.specs.Boxes.{Cell}
+use Rattle.ember_box.specs.Aabbs.{interval_along}
 use Rattle.ember_box.specs.Reference.{reference_at}
-use Rattle.ember_ref.specs.References.{or_sign, corner_of, reference_of}
+use Rattle.ember_ref.specs.References.{or_sign, vector_of_list, reference_at_list}
 use Rattle.ember_ref.proofs.NearPoints.{coordinate as along_point}
 use Rattle.ember_ref.proofs.ReferenceLegs.{reference_is}
 use Rattle.ember_trace.specs.declared.near_triangle.NearTriangle.{NearTriangle}
 use Rattle.ember_trace.specs.declared.path.Path.{Path}
 use Rattle.ember_trace.specs.NearTriangles.{HasReferenceSide}
 use Rattle.ember_trace.specs.Paths.{coordinate, inside_side, first_of, second_of, side_at_start, side_at_end, side_after_first, side_after_second, floor_at_end}
-use Rattle.ember_trace.specs.Crossings.{signed_crossing, all_behind, interval_along, contains_above, may_contain, may_end, first_segment, second_segment, segments_in_wall, last_segment}
+use Rattle.ember_trace.specs.Crossings.{signed_crossing, all_behind, contains_above, may_contain, may_end, first_segment, second_segment, segments_above_wall, last_segment}
 use Rattle.ember_trace.proofs.PathVertices.{with_along, entries, weight_with, level_with, differ_with}
 use Rattle.ember_trace.proofs.VertexSides.{AreStops, stop_at_start, stop_after_first, stop_after_second, start_sign, first_sign, second_sign}
 use Rattle.ember_trace.proofs.SegmentsPast.{leg_behind, across, value_across, across_with, across_sized, IsPast, past_above, past_floor}
@@ -230,7 +231,7 @@ module _ (c : Cell) (k : Axis) (v : Path) (e : v.lo ≡ entries c.lo) (q : Spot)
 
   -- ---- sides, as the code has them
   side_start : (h : Plane) → side_at_start w h ≡ sgn (value_at h (reference_at c.lo))
-  side_start h = ap (λ (p : Spot). sgn (value_at h p)) (reference_is v.lo c (ap corner_of e))
+  side_start h = ap (λ (p : Spot). sgn (value_at h p)) (reference_is v.lo c (ap vector_of_list e))
 
   side_first : (h : Plane) → IsSupportSized h → sgn (value_at h p1) ≡ side_after_first w h
   side_first h i =
@@ -243,9 +244,9 @@ module _ (c : Cell) (k : Axis) (v : Path) (e : v.lo ≡ entries c.lo) (q : Spot)
   sized : IsSupportSized (support_of t)
   sized = support_sized t f.valid
 
-  at_start : sgn (value_at (support_of t) p0) ≡ f.start
+  at_start : sgn (value_at (support_of t) p0) ≡ f.reference_side
   at_start =
-      start_sign k c.lo v.first_corner v.second_corner v.third_corner q n s (support_of t) sized ∙ sym (from.start ∙ ap (λ (p : Plane). sgn (value_at p (reference_of (entries c.lo)))) f.plane ∙ ap (λ (r : Spot). sgn (value_at (support_of t) r)) (reference_is (entries c.lo) c refl))
+      start_sign k c.lo v.first_corner v.second_corner v.third_corner q n s (support_of t) sized ∙ sym (from.side ∙ ap (λ (p : Plane). sgn (value_at p (reference_at_list (entries c.lo)))) f.plane ∙ ap (λ (r : Spot). sgn (value_at (support_of t) r)) (reference_is (entries c.lo) c refl))
 
   after_first : sgn (value_at (support_of t) p1) ≡ side_after_first w f.support
   after_first = side_first (support_of t) sized ∙ ap (λ (p : Plane). side_after_first w p) (sym f.plane)
@@ -285,7 +286,7 @@ module _ (c : Cell) (k : Axis) (v : Path) (e : v.lo ≡ entries c.lo) (q : Spot)
   comes a b d u pw l = let x = across_with a b d u q in let m = mul_pos_neg pw l in omega (arith, linear, x, m)
 
   -- ---- the segments
-  pub first_legs : leg (face_of t) p1 p0 +ℤ leg (face_of t) p2 p1 ≡ neg_ℤ (segments_in_wall w f)
+  pub first_legs : leg (face_of t) p1 p0 +ℤ leg (face_of t) p2 p1 ≡ neg_ℤ (segments_above_wall w f)
   first_legs =
       both (contains_above (interval_along f.aabb k) (coordinate v.lo k)) (first_segment w f) (second_segment w f) (leg (face_of t) p1 p0) (leg (face_of t) p2 p1) first second (λ h. first_out k (across_first k) h) second_out
     where
@@ -307,8 +308,8 @@ module _ (c : Cell) (k : Axis) (v : Path) (e : v.lo ≡ entries c.lo) (q : Spot)
       first : leg (face_of t) p1 p0 ≡ neg_ℤ (first_segment w f)
       first =
           let b = all_behind (λ p. side_at_start w p) (edge_planes t (first_of k)) in
-          tested (contains_above (interval_along f.aabb (second_of k)) (coordinate v.lo (second_of k))) b (signed_crossing f.start (side_after_first w f.support)) (leg (face_of t) p1 p0)
-          (leg_back (face_of t) p0 p1 w0 w1 ∙ ap neg_ℤ (told (first_of k) p0 p1 t b f.start (side_after_first w f.support) w0 w1 (differ_with (first_of k) p0 q) at_start after_first (edges_behind (λ p. side_at_start w p) t (first_of k) p0 f.valid (λ h i z. start_sign k c.lo v.first_corner v.second_corner v.third_corner q n s h i ∙ sym (side_start h)))))
+          tested (contains_above (interval_along f.aabb (second_of k)) (coordinate v.lo (second_of k))) b (signed_crossing f.reference_side (side_after_first w f.support)) (leg (face_of t) p1 p0)
+          (leg_back (face_of t) p0 p1 w0 w1 ∙ ap neg_ℤ (told (first_of k) p0 p1 t b f.reference_side (side_after_first w f.support) w0 w1 (differ_with (first_of k) p0 q) at_start after_first (edges_behind (λ p. side_at_start w p) t (first_of k) p0 f.valid (λ h i z. start_sign k c.lo v.first_corner v.second_corner v.third_corner q n s h i ∙ sym (side_start h)))))
           (λ h. first_out (second_of k) (second_first k) h)
 
       second : leg (face_of t) p2 p1 ≡ neg_ℤ (second_segment w f)

@@ -30,10 +30,10 @@ use Rattle.ember_law.proofs.CornerSides.{above_corners}
 use Rattle.ember_law.proofs.FlatTriangles.{flat_case, flat_out, flat_leg}
 use Rattle.ember_box.specs.declared.aabb.Interval.{Interval}
 use Rattle.ember_box.specs.Boxes.{entry_along as along_vector}
-use Rattle.ember_box.specs.Aabbs.{interval_over, aabb_of_tri}
+use Rattle.ember_box.specs.Aabbs.{interval_along, interval_over, aabb_of_tri}
 use Rattle.ember_ref.proofs.NearPoints.{coordinate as along_point}
 use Rattle.ember_ref.proofs.FarTriangles.{inside_closed}
-use Rattle.ember_trace.specs.Crossings.{interval_along, contains_above, may_contain}
+use Rattle.ember_trace.specs.Crossings.{contains_above, may_contain}
 use Rattle.ember_trace.proofs.PathVertices.{with_along, value_with}
 
 -- ---- a plane on whose front a triangle lies

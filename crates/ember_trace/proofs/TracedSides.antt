@@ -39,7 +39,7 @@ use Rattle.ember_trace.specs.declared.path.Path.{Path}
 use Rattle.ember_trace.specs.declared.region_sides.Sides.{Sides}
 use Rattle.ember_trace.specs.NearTriangles.{AreNearTriangles, HasReferenceSide}
 use Rattle.ember_trace.specs.Paths.{coordinate, first_of, second_of, side_at_end, IsPathTo}
-use Rattle.ember_trace.specs.Crossings.{taken, segments_in_wall, last_segment, crossing_before, crossing_after, AreTraced}
+use Rattle.ember_trace.specs.Crossings.{taken, segments_above_wall, last_segment, crossing_before, crossing_after, AreTraced}
 use Rattle.ember_trace.specs.Boxed.{LiesIn, AreSides}
 use Rattle.ember_trace.proofs.Coordinates.{coordinate_small}
 use Rattle.ember_trace.proofs.PathVertices.{entries, differ_with, differ_last, opposite_value}
@@ -133,7 +133,7 @@ module _ (ts ns : List Tri) (c : Cell) (counts : List ℤ) (fits : Fits ts ns c 
   legs_flat t f = let x = flat_leg p1 p0 t f in let y = flat_leg p2 p1 t f in let z = flat_leg p3 p2 t f in omega (arith, linear, x, y, z)
 
   abbrev less : NearTriangle → ℤ
-  less f = segments_in_wall w f +ℤ last_segment w f (or_sign (side_at_end w f.support) (turn (sgn (along f.support k))))
+  less f = segments_above_wall w f +ℤ last_segment w f (or_sign (side_at_end w f.support) (turn (sgn (along f.support k))))
 
   end_vector : vector k ts p3 ≡ taken less fs counts
   end_vector =

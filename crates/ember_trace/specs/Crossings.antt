@@ -1,5 +1,5 @@
--- How often a path from the reference point of a box to a region crosses the triangles near the box,
--- by the sides of planes on which its vertices lie
+-- How often a path to a region of a box crosses the triangles near the box, by the sides of planes on
+-- which its vertices lie
 use Rattle.std.specs.Prelude.{◌≡◌, ℤ, pos, negsuc, ◌+ℤ◌, neg_ℤ, int_le, int_lt, Bool, ◌&&◌, if◌then◌else◌, List, fold, replicate, Some, slice_get}
 use Rattle.std.specs.Int.{int_max}
 use Rattle.std.specs.List.{list_all}
@@ -7,7 +7,6 @@ use Rattle.ember_algebra.specs.declared.Sign.{Sign}
 use Rattle.ember_algebra.specs.Sign.{sgn, flip, times, number, is_neg}
 use Rattle.ember_model.specs.declared.plane.Plane.{Plane}
 use Rattle.ember_model.specs.declared.point.Axis.{Axis}
-use Rattle.ember_model.specs.declared.point.Axis.TheVariants.{X, Y, Z}
 use Rattle.ember_model.specs.declared.tri.Tri.{Tri}
 use Rattle.ember_model.specs.declared.face.Face.{Face}
 use Rattle.ember_model.specs.Planes.{along, edge_planes, support_of, main_axis}
@@ -15,12 +14,12 @@ use Rattle.ember_point.specs.declared.meet_point.Meet.{Meet}
 use Rattle.ember_poly.specs.Sides.{AreCorners}
 use Rattle.ember_law.specs.Counts.{with_more}
 use Rattle.ember_box.specs.declared.aabb.Interval.{Interval}
-use Rattle.ember_box.specs.declared.aabb.Aabb.{Aabb}
+use Rattle.ember_box.specs.Aabbs.{interval_along}
 use Rattle.ember_box.specs.Boxes.{Cell}
 use Rattle.ember_ref.specs.References.{or_sign}
 use Rattle.ember_trace.specs.declared.near_triangle.NearTriangle.{NearTriangle}
 use Rattle.ember_trace.specs.declared.path.Path.{Path}
-use Rattle.ember_trace.specs.declared.segments.EndCell.{EndCell}
+use Rattle.ember_trace.specs.declared.segments.EndFloors.{EndFloors}
 use Rattle.ember_trace.specs.declared.region_sides.Sides.{Sides}
 use Rattle.ember_trace.specs.NearTriangles.{AreNearTriangles}
 use Rattle.ember_trace.specs.Paths.{coordinate, inside_side, side_at_start, side_at_end, side_after_first, side_after_second, floor_at_end, HasAxes, IsPathTo}
@@ -35,11 +34,6 @@ abbrev pub all_behind : (Plane → Sign) → List Plane → Bool
 all_behind side ps = list_all (λ p. is_neg (side p)) ps
 
 -- ---- bounding boxes
-abbrev pub interval_along : Aabb → Axis → Interval
-interval_along s X = s.x
-interval_along s Y = s.y
-interval_along s Z = s.z
-
 -- the whole number plus any small number above 0 is strictly between the ends of the interval
 abbrev pub contains_above : Interval → ℤ → Bool
 contains_above s at = int_le s.low at && int_lt at s.high
@@ -54,7 +48,7 @@ abbrev pub in_root : ℤ → ℤ
 in_root z = if int_lt z (negsuc 2047) then negsuc 2047 else if int_lt (pos 2048) z then pos 2048 else z
 
 -- the clamped floors of a path's end along its axes, along the main axis at least that of the last segment's start
-pub record IsEndCell (w : Path) (at : EndCell) : Type 0 where
+pub record AreEndFloors (w : Path) (at : EndFloors) : Type 0 where
   pub axes : HasAxes w
   pub first : at.first ≡ in_root (floor_at_end w w.first_axis)
   pub second : at.second ≡ in_root (floor_at_end w w.second_axis)
@@ -63,15 +57,15 @@ pub record IsEndCell (w : Path) (at : EndCell) : Type 0 where
 -- ---- the segments
 -- the line of the first segment runs through the triangle, by the bounding box along the second axis and by the
 -- edge planes
-abbrev pub is_on_first : Path → NearTriangle → Bool
-is_on_first w f =
+abbrev pub first_runs_through : Path → NearTriangle → Bool
+first_runs_through w f =
     contains_above (interval_along f.aabb w.second_axis) (coordinate w.lo w.second_axis) &&
     all_behind (λ p. side_at_start w p) (edge_planes f.tri w.first_axis)
 
 -- the line of the second segment runs through the triangle, by the bounding box along the first axis and by the
 -- edge planes
-abbrev pub is_on_second : Path → NearTriangle → Bool
-is_on_second w f =
+abbrev pub second_runs_through : Path → NearTriangle → Bool
+second_runs_through w f =
     may_contain (interval_along f.aabb w.first_axis) (floor_at_end w w.first_axis) &&
     all_behind (λ p. side_after_first w p) (edge_planes f.tri w.second_axis)
 
@@ -83,30 +77,31 @@ may_end w f =
 
 -- the line of the last segment runs through the triangle, by the bounding box along both axes and by the edge
 -- planes
-abbrev pub is_on_last : Path → NearTriangle → Bool
-is_on_last w f = may_end w f && all_behind (λ p. side_at_end w p) (edge_planes f.tri w.main)
+abbrev pub last_runs_through : Path → NearTriangle → Bool
+last_runs_through w f = may_end w f && all_behind (λ p. side_at_end w p) (edge_planes f.tri w.main)
 
 -- the signed crossings of the first and of the second segment with the triangle
 abbrev pub first_segment : Path → NearTriangle → ℤ
-first_segment w f = if is_on_first w f then signed_crossing f.start (side_after_first w f.support) else pos 0
+first_segment w f =
+    if first_runs_through w f then signed_crossing f.reference_side (side_after_first w f.support) else pos 0
 
 abbrev pub second_segment : Path → NearTriangle → ℤ
 second_segment w f =
-    if is_on_second w f then signed_crossing (side_after_first w f.support) (side_after_second w f.support) else pos 0
+    if second_runs_through w f
+    then signed_crossing (side_after_first w f.support) (side_after_second w f.support) else pos 0
 
 -- the crossings of both together; they run just above the low wall across the main axis
-abbrev pub segments_in_wall : Path → NearTriangle → ℤ
-segments_in_wall w f =
+abbrev pub segments_above_wall : Path → NearTriangle → ℤ
+segments_above_wall w f =
     if contains_above (interval_along f.aabb w.main) (coordinate w.lo w.main)
     then first_segment w f +ℤ second_segment w f else pos 0
 
 -- the signed crossing of the last segment, if it ends on this side of the triangle's plane
 abbrev pub last_segment : Path → NearTriangle → Sign → ℤ
-last_segment w f end = if is_on_last w f then signed_crossing (side_after_second w f.support) end else pos 0
+last_segment w f end = if last_runs_through w f then signed_crossing (side_after_second w f.support) end else pos 0
 
--- the side of a plane on which the point directly before another one along the axis lies, or the
--- point directly after it. The other one lies on the side s. If it is on the plane, the entry of
--- the normal along the axis decides.
+-- a point lies on the side s of a plane. These are the sides on which the point directly before it along the axis
+-- lies, and the point directly after it. If s is `Zero`, the entry of the normal along the axis decides
 abbrev pub side_before : Plane → Axis → Sign → Sign
 side_before p k s = or_sign s (flip (sgn (along p k)))
 
@@ -115,10 +110,12 @@ side_after p k s = or_sign s (sgn (along p k))
 
 -- the signed crossings of the path that ends directly before the region, and of that which ends directly after it
 unfoldable pub crossing_before : Path → NearTriangle → ℤ
-crossing_before w f = segments_in_wall w f +ℤ last_segment w f (side_before f.support w.main (side_at_end w f.support))
+crossing_before w f =
+    segments_above_wall w f +ℤ last_segment w f (side_before f.support w.main (side_at_end w f.support))
 
 unfoldable pub crossing_after : Path → NearTriangle → ℤ
-crossing_after w f = segments_in_wall w f +ℤ last_segment w f (side_after f.support w.main (side_at_end w f.support))
+crossing_after w f =
+    segments_above_wall w f +ℤ last_segment w f (side_after f.support w.main (side_at_end w f.support))
 
 -- ---- the sides
 -- the counts after a subtraction for each near triangle: of the number that `less` gives, from the
@@ -126,7 +123,7 @@ crossing_after w f = segments_in_wall w f +ℤ last_segment w f (side_after f.su
 abbrev pub taken : (NearTriangle → ℤ) → List NearTriangle → List ℤ → List ℤ
 taken less fs counts = fold (λ (vs : List ℤ) (f : NearTriangle). with_more vs f.tri.mesh (neg_ℤ (less f))) counts fs
 
--- the counts before and after a region, by paths from the reference point with these counts
+-- the counts before and after a region, by paths from a start with these counts
 pub record AreTraced (c : Cell) (fs : List NearTriangle) (counts : List ℤ) (r : Face) (s : Sides) : Type 0 where
   pub way : Path
   pub is_way : IsPathTo c r way

@@ -9,7 +9,7 @@ use Rattle.ember_model.specs.Planes.{value_at, unit, times_plane, edge_through}
 use Rattle.ember_point.specs.declared.meet_point.Meet.{Meet}
 use Rattle.ember_point.specs.Points.{spot_of, slid}
 use Rattle.ember_trace.specs.declared.path.Path.{Path}
-use Rattle.ember_trace.specs.Paths.{second_of, slid_to_start}
+use Rattle.ember_trace.specs.Paths.{second_of, slid_to_lo}
 
 -- the plane through an edge parallel to an axis, times a sign
 abbrev pub edge_times : Corner → Corner → Axis → ℤ → Plane
@@ -24,6 +24,6 @@ side_at p m = sgn (value_at p (spot_of m))
 abbrev pub fixed_edge : Corner → Corner → Axis → ℤ → ℤ → ℤ → Plane
 fixed_edge u v main s by at = slid (slid (edge_times u v (second_of main) s) (second_of main) by) main at
 
--- the same plane, with those two coordinates fixed to those of the path's start
+-- the same plane, with those two coordinates fixed to those of the box's least corner
 abbrev pub edge_after_first : Path → Corner → Corner → ℤ → Plane
-edge_after_first w u v s = slid_to_start w w.main (slid_to_start w w.second_axis (edge_times u v w.second_axis s))
+edge_after_first w u v s = slid_to_lo w w.main (slid_to_lo w w.second_axis (edge_times u v w.second_axis s))

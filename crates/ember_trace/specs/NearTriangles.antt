@@ -5,24 +5,25 @@ use Rattle.ember_algebra.specs.Sign.{sgn}
 use Rattle.ember_model.specs.declared.tri.Tri.{Tri}
 use Rattle.ember_model.specs.Planes.{value_at}
 use Rattle.ember_box.specs.Boxes.{Cell}
-use Rattle.ember_ref.specs.References.{reference_of}
+use Rattle.ember_ref.specs.References.{reference_at_list}
 use Rattle.ember_trace.specs.declared.near_triangle.NearTriangle.{NearTriangle}
 
 -- the triangle alone
 abbrev pub tri_of : NearTriangle → Tri
 tri_of f = f.tri
 
--- the near triangle's start is the side of its plane on which the reference point of the box lies
+-- the near triangle is kept with the side of its plane on which the reference point of the box lies
 pub record HasReferenceSide (c : Cell) (f : NearTriangle) : Type 0 where
-  pub start : f.start ≡ sgn (value_at f.support (reference_of (c.lo.x ∷ c.lo.y ∷ c.lo.z ∷ [])))
+  pub side : f.reference_side ≡ sgn (value_at f.support (reference_at_list (c.lo.x ∷ c.lo.y ∷ c.lo.z ∷ [])))
 
 -- the near triangles of the box that are made of these triangles, in order
 pub record AreNearTriangles (ts : List Tri) (c : Cell) (fs : List NearTriangle) : Type 0 where
   pub tris : map tri_of fs ≡ ts
   pub reference_sides : All (HasReferenceSide c) fs
 
--- counts of a box are at most 36 * 262144 in size. This bound is wider than it has to be: they are winding numbers
--- at a point, and a ray from there crosses each of at most 262144 triangles of a scene at most once
+-- counts of a box are at most 36 * 262144 in size: a crossing with each of at most 262144 triangles of a scene for
+-- each of at most 36 halvings. This bound is wider than it has to be: they are winding numbers at a point, and a ray
+-- from there crosses each triangle at most once
 abbrev pub AreBoxCounts : List ℤ → Type 0
 AreBoxCounts counts = All (Small 9437184) counts
 

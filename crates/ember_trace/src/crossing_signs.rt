@@ -3,14 +3,15 @@ ghost use Rattle.std.specs.Prelude.{◌≡◌};
 ghost use Rattle.ember_algebra.specs.Size.{Small};
 ghost use Rattle.ember_algebra.specs.Sign.{flip, sgn, sign, is_nil};
 ghost use Rattle.ember_model.specs.Planes.{along};
-ghost use Rattle.ember_ref.specs.References.{or_sign};
 ghost use Rattle.ember_trace.specs.Crossings.{signed_crossing, side_before, side_after};
 
 use ember_algebra::{Sign, sign_of};
 use ember_model::{Axis, Plane};
+use ember_ref::or_sign;
 
 /// How a segment from one side of a plane to another crosses it: 1 from behind to the front, -1
-/// back, otherwise 0.
+/// back, otherwise 0. The same as `signed_crossing` of ember_ref, which can't cite the definition
+/// of that name: it stands in this crate.
 pub fn signed_crossing(from: Sign, to: Sign) -> i32
     ensures value { result ≡ signed_crossing from to }
     ensures small { Small 1 result }
@@ -36,16 +37,6 @@ fn flipped(sign: Sign) -> Sign
         Sign::Neg => Sign::Pos,
         Sign::Zero => Sign::Zero,
         Sign::Pos => Sign::Neg,
-    }
-}
-
-// The first of two signs that isn't zero.
-fn or_sign(first: Sign, second: Sign) -> Sign
-    ensures { result ≡ or_sign first second }
-{
-    match first {
-        Sign::Zero => second,
-        _ => first,
     }
 }
 
@@ -79,16 +70,16 @@ pub fn slope_number(p: &Plane, k: Axis) -> i64
     }
 }
 
-/// The side of the plane on which the point directly before another one along an axis lies. `at` is
-/// the side of that other one.
+/// `at` is the side of the plane on which a point lies. The result is the side on which the point
+/// directly before it along the axis lies.
 pub fn side_before(p: &Plane, k: Axis, at: Sign) -> Sign
     ensures { result ≡ side_before p.now k at }
 {
     or_sign(at, flipped(normal_sign(p, k)))
 }
 
-/// The side of the plane on which the point directly after another one along an axis lies. `at` is
-/// the side of that other one.
+/// `at` is the side of the plane on which a point lies. The result is the side on which the point
+/// directly after it along the axis lies.
 pub fn side_after(p: &Plane, k: Axis, at: Sign) -> Sign
     ensures { result ≡ side_after p.now k at }
 {

@@ -12,7 +12,8 @@ use ember_model::{Axis, Corner, Plane};
 use ember_point::{Meet, narrow_product};
 
 // The line of the points (p, q) at which `dq p - dp q - d` is 0: it leads along (dp, dq). Here p
-// and q are the coordinates along two axes.
+// and q are the coordinates along two axes. Corners are at most 2047 in size along each axis, so
+// `dq` and `dp` are at most 4094, and `d` is at most 2 * 2047 * 4094 = 16760836.
 #[derive(Clone, Copy)]
 struct EdgeLine {
     dq: i64,
@@ -105,7 +106,8 @@ pub fn edge_plane_times(u: &Corner, v: &Corner, k: Axis, s: i64) -> Plane
     }
 }
 
-// A point of an axis: the coordinate x at which `n x - e` is 0.
+// A point of an axis: the coordinate x at which `n x - e` is 0. `e` is a line's `d`, plus or minus
+// an entry of it times a coordinate: at most 16760836 + 2048 * 4094 = 25145348 in size.
 #[derive(Clone, Copy)]
 struct AxisPoint {
     n: i64,
@@ -115,7 +117,7 @@ struct AxisPoint {
 }
 
 // Where the line has p = `at`: a point of the axis of q.
-fn axis_point_at_first(line: &EdgeLine, at: i32) -> AxisPoint
+fn axis_point_at_p(line: &EdgeLine, at: i32) -> AxisPoint
     requires { Small 2048 at }
     ensures n { result.n ≡ neg_ℤ line.now.dp }
     ensures e { result.e ≡ line.now.d -ℤ line.now.dq *ℤ at }
@@ -127,7 +129,7 @@ fn axis_point_at_first(line: &EdgeLine, at: i32) -> AxisPoint
 }
 
 // Where the line has q = `at`: a point of the axis of p.
-fn axis_point_at_last(line: &EdgeLine, at: i32) -> AxisPoint
+fn axis_point_at_q(line: &EdgeLine, at: i32) -> AxisPoint
     requires { Small 2048 at }
     ensures n { result.n ≡ line.now.dq }
     ensures e { result.e ≡ line.now.d +ℤ line.now.dp *ℤ at }
@@ -161,17 +163,17 @@ pub fn moved_edge_side(u: &Corner, v: &Corner, main: Axis, s: i64, at: i32, m: &
 {
     match main {
         Axis::X => axis_point_side(
-            &axis_point_at_first(&line_through(u.x, u.y, v.x, v.y, s), at),
+            &axis_point_at_p(&line_through(u.x, u.y, v.x, v.y, s), at),
             m.y,
             m.w,
         ),
         Axis::Y => axis_point_side(
-            &axis_point_at_last(&line_through(u.x, u.y, v.x, v.y, s), at),
+            &axis_point_at_q(&line_through(u.x, u.y, v.x, v.y, s), at),
             m.x,
             m.w,
         ),
         Axis::Z => axis_point_side(
-            &axis_point_at_first(&line_through(u.z, u.x, v.z, v.x, s), at),
+            &axis_point_at_p(&line_through(u.z, u.x, v.z, v.x, s), at),
             m.x,
             m.w,
         ),

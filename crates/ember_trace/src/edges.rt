@@ -39,7 +39,7 @@ fn edge_side_at_end(u: &Corner, v: &Corner, k: Axis, s: i64, way: &Path) -> Sign
 }
 
 // Whether the path ends behind the plane (u, v, k, s).
-fn edge_is_behind(u: &Corner, v: &Corner, k: Axis, s: i64, way: &Path) -> bool
+fn is_behind_edge_at_end(u: &Corner, v: &Corner, k: Axis, s: i64, way: &Path) -> bool
     requires from { IsValidCorner u.now }
     requires to { IsValidCorner v.now }
     requires s { Small 1 s }
@@ -58,12 +58,13 @@ pub fn narrow_last_is_behind(triangle: &NearTriangle, way: &Path) -> bool
     let k = way.main;
     let t = &triangle.tri;
     let s = slope_number(&triangle.support, k);
-    edge_is_behind(&t.a, &t.b, k, s, way)
-        && (edge_is_behind(&t.b, &t.c, k, s, way) && edge_is_behind(&t.c, &t.a, k, s, way))
+    is_behind_edge_at_end(&t.a, &t.b, k, s, way)
+        && (is_behind_edge_at_end(&t.b, &t.c, k, s, way)
+            && is_behind_edge_at_end(&t.c, &t.a, k, s, way))
 }
 
-// The side of the plane (u, v, s) on which the corner `m` is, moved to the start's second and main
-// coordinate.
+// The side of the plane (u, v, s) on which the corner `m` is, moved to the second and the main
+// coordinate of `lo`.
 fn corner_side_after_first(u: &Corner, v: &Corner, s: i64, way: &Path, m: &Meet) -> Sign
     requires from { IsValidCorner u.now }
     requires to { IsValidCorner v.now }
@@ -111,7 +112,7 @@ fn edge_side_after_first(u: &Corner, v: &Corner, s: i64, way: &Path) -> Sign
 }
 
 // Whether the first segment ends behind the plane (u, v, s).
-fn edge_is_behind_after_first(u: &Corner, v: &Corner, s: i64, way: &Path) -> bool
+fn is_behind_edge_after_first(u: &Corner, v: &Corner, s: i64, way: &Path) -> bool
     requires from { IsValidCorner u.now }
     requires to { IsValidCorner v.now }
     requires s { Small 1 s }
@@ -131,13 +132,13 @@ pub fn narrow_second_is_behind(triangle: &NearTriangle, way: &Path) -> bool
 {
     let t = &triangle.tri;
     let s = slope_number(&triangle.support, way.second_axis);
-    edge_is_behind_after_first(&t.a, &t.b, s, way)
-        && (edge_is_behind_after_first(&t.b, &t.c, s, way)
-            && edge_is_behind_after_first(&t.c, &t.a, s, way))
+    is_behind_edge_after_first(&t.a, &t.b, s, way)
+        && (is_behind_edge_after_first(&t.b, &t.c, s, way)
+            && is_behind_edge_after_first(&t.c, &t.a, s, way))
 }
 
 // Whether the path begins behind the plane (u, v, k, s).
-fn edge_is_behind_at_start(u: &Corner, v: &Corner, k: Axis, s: i64, way: &Path) -> bool
+fn is_behind_edge_at_start(u: &Corner, v: &Corner, k: Axis, s: i64, way: &Path) -> bool
     requires from { IsValidCorner u.now }
     requires to { IsValidCorner v.now }
     requires s { Small 1 s }
@@ -148,13 +149,13 @@ fn edge_is_behind_at_start(u: &Corner, v: &Corner, k: Axis, s: i64, way: &Path) 
 
 /// Whether the line of the first segment runs through the triangle: all edge planes parallel to it
 /// are negative at its start.
-pub fn edges_are_behind_at_start(triangle: &NearTriangle, way: &Path) -> bool
+pub fn is_behind_edges_at_start(triangle: &NearTriangle, way: &Path) -> bool
     ensures { result ≡ all_behind (λ p. side_at_start way.now p) (edge_planes triangle.now.tri way.now.first_axis) }
 {
     let k = way.first_axis;
     let t = &triangle.tri;
     let s = slope_number(&triangle.support, k);
-    edge_is_behind_at_start(&t.a, &t.b, k, s, way)
-        && (edge_is_behind_at_start(&t.b, &t.c, k, s, way)
-            && edge_is_behind_at_start(&t.c, &t.a, k, s, way))
+    is_behind_edge_at_start(&t.a, &t.b, k, s, way)
+        && (is_behind_edge_at_start(&t.b, &t.c, k, s, way)
+            && is_behind_edge_at_start(&t.c, &t.a, k, s, way))
 }

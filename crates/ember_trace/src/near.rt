@@ -5,7 +5,7 @@ ghost use Rattle.ember_algebra.specs.Sign.{sgn};
 ghost use Rattle.ember_model.specs.Valid.{IsValidTri};
 ghost use Rattle.ember_model.specs.Planes.{value_at};
 ghost use Rattle.ember_model.specs.Meshes.{HasMesh};
-ghost use Rattle.ember_ref.specs.References.{reference_of};
+ghost use Rattle.ember_ref.specs.References.{reference_at_list};
 ghost use Rattle.ember_trace.specs.NearTriangles.{AreNearTriangles};
 
 use crate::near_triangle::NearTriangle;
@@ -20,14 +20,14 @@ fn near_triangle_of(t: &Tri, lo: [i32; 3]) -> NearTriangle
     requires mesh { HasMesh 64 t.now }
     requires corner { All (Small 2048) lo }
     ensures tri { result.tri ≡ t.now }
-    ensures start { result.start ≡ sgn (value_at result.support (reference_of lo)) }
+    ensures reference_side { result.reference_side ≡ sgn (value_at result.support (reference_at_list lo)) }
 {
     let support = support_of(t);
     NearTriangle {
         tri: *t,
         support,
         aabb: aabb_of_tri(t),
-        start: lex_side(&support, lo),
+        reference_side: lex_side(&support, lo),
     }
 }
 

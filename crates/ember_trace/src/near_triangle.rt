@@ -17,7 +17,7 @@ pub struct NearTriangle {
     pub tri: Tri,
     pub support: Plane,
     pub aabb: Aabb,
-    pub start: Sign,
+    pub reference_side: Sign,
     ghost valid: { IsValidTri tri },
     ghost mesh: { HasMesh 64 tri },
     ghost plane: { support ≡ support_of tri },

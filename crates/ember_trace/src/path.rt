@@ -1,6 +1,6 @@
-// The path from the reference point s of a box to a point e of a region: three segments along the
-// axes, the last one along the region's main axis. With the coordinates in the order of the path's
-// axes, it leads
+// The path from a start s, beside the least corner `lo` of a box, to a point e of a region: three
+// segments along the axes, the last one along the region's main axis. With the coordinates in the
+// order of the path's axes, it leads
 //
 //     (s1, s2, s3) -> (e1, s2, s3) -> (e1, e2, s3) -> (e1, e2, e3).
 //
@@ -10,6 +10,18 @@
 //
 // with its first three corners a, b, c and any h > 0 that is small enough. So e is on the same side
 // of a plane as the first of these corners that isn't on the plane.
+//
+// For s take lo + (δ, δ^2, δ^3), along x, y and z, with any δ > 0 that is small enough for this e,
+// and at most 2^-27. For δ = 2^-27 this is the reference point. A support or edge plane of a
+// triangle has the same sign at both (`lex_side` of ember_ref), so the winding numbers at both are
+// the same too.
+//
+// To learn on which side of a plane a segment ends, the code takes the coordinates of `lo` in place
+// of those of s: it looks at (e1, lo2, lo3) or at (e1, e2, lo3). A plane that isn't 0 at this point
+// has the same sign at the segment's end, since δ is small enough. With the reference point for s
+// this could fail: the plane may pass between (e1, lo2, lo3) and (e1, s2, s3). A plane that is 0 at
+// this point is parallel to the path up to there (vertices.rt). So the segment ends on the side of
+// s, which is that of the reference point.
 ghost use Rattle.std.specs.Prelude.{◌≡◌, ◌&&◌, All};
 ghost use Rattle.ember_algebra.specs.Size.{Small};
 ghost use Rattle.ember_point.specs.Points.{spot_of, is_narrow};
@@ -17,10 +29,10 @@ ghost use Rattle.ember_point.specs.Points.{spot_of, is_narrow};
 use ember_model::Axis;
 use ember_point::Meet;
 
-/// A path begins beside the corner `lo` of its box, at the reference point. Its three segments run
-/// along `first_axis`, `second_axis` and `main`, in this order. It ends directly
-/// before or after the inside point that the first three corners of the region define. `narrow` says
-/// whether all three are narrow points.
+/// A path begins beside the least corner `lo` of its box. Its three segments run along
+/// `first_axis`, `second_axis` and `main`, in this order. It ends directly before or after the
+/// inside point that the first three corners of the region define. `narrow` says whether all three
+/// are narrow points.
 #[derive(Clone, Copy)]
 pub struct Path {
     pub lo: [i32; 3],

@@ -7,28 +7,18 @@ ghost use Rattle.ember_algebra.specs.Sign.{is_neg};
 ghost use Rattle.ember_model.specs.Valid.{IsValidPlane};
 ghost use Rattle.ember_model.specs.Sizes.{IsSupportSized};
 ghost use Rattle.ember_model.specs.Planes.{edge_planes};
+ghost use Rattle.ember_box.specs.Aabbs.{interval_along};
 ghost use Rattle.ember_trace.specs.Paths.{HasAxes, coordinate, side_at_start, side_after_first, side_at_end, floor_at_end};
-ghost use Rattle.ember_trace.specs.Crossings.{all_behind, interval_along, contains_above, may_contain, may_end, in_root, IsEndCell, is_on_first, is_on_second, is_on_last, first_segment, second_segment, segments_in_wall, last_segment, side_before, side_after, crossing_before, crossing_after};
+ghost use Rattle.ember_trace.specs.Crossings.{all_behind, contains_above, may_contain, may_end, in_root, AreEndFloors, first_runs_through, second_runs_through, last_runs_through, first_segment, second_segment, segments_above_wall, last_segment, side_before, side_after, crossing_before, crossing_after};
 
 use crate::crossing_signs::{is_level, side_after, side_before, signed_crossing};
-use crate::edges::{edges_are_behind_at_start, narrow_last_is_behind, narrow_second_is_behind};
+use crate::edges::{is_behind_edges_at_start, narrow_last_is_behind, narrow_second_is_behind};
 use crate::near_triangle::NearTriangle;
 use crate::path::Path;
 use crate::vertices::coordinate;
 use ember_algebra::Sign;
-use ember_box::{Aabb, Interval};
+use ember_box::{Interval, interval_along};
 use ember_model::{Axis, Plane, edge_plane};
-
-// The interval of a bounding box along an axis.
-fn interval_along(spans: &Aabb, k: Axis) -> Interval
-    ensures { result ≡ interval_along spans.now k }
-{
-    match k {
-        Axis::X => spans.x,
-        Axis::Y => spans.y,
-        Axis::Z => spans.z,
-    }
-}
 
 // Whether `at` plus any small number above 0 is strictly between the ends of the interval.
 fn contains_above(interval: &Interval, at: i32) -> bool
@@ -45,13 +35,12 @@ fn may_contain(interval: &Interval, floor: i32) -> bool
 }
 
 /// Where a path ends, by the region's first corner: the floors of its coordinates along the first
-/// and the second axis, and as `top` the greater of its floor along the main axis and the start's
-/// coordinate. A triangle whose least main coordinate is above `top` lies above the whole last
-/// segment. The floors are clamped to the root so that they fit into 32 bits, since no clause here
-/// says that the region lies in the root; a comparison with a triangle's bounding box stays the
-/// same.
+/// and the second axis, and as `top` the greater of its floor along the main axis and that of the
+/// start. A triangle whose least main coordinate is above `top` lies above the whole last segment.
+/// The floors are clamped to the root so that they fit into 32 bits, since no clause here says that
+/// the region lies in the root; a comparison with a triangle's bounding box stays the same.
 #[derive(Clone, Copy)]
-pub struct EndCell {
+pub struct EndFloors {
     pub first: i32,
     pub second: i32,
     pub top: i32,
@@ -89,14 +78,14 @@ fn top_of(way: &Path) -> i32
 }
 
 /// The clamped floors of a path's end.
-pub fn end_cell_of(way: &Path) -> EndCell
+pub fn end_floors_of(way: &Path) -> EndFloors
     requires { HasAxes way.now }
-    ensures { IsEndCell way.now result }
+    ensures { AreEndFloors way.now result }
 {
     let first = floor_in_root(way, way.first_axis);
     let second = floor_in_root(way, way.second_axis);
     let top = top_of(way);
-    EndCell { first, second, top }
+    EndFloors { first, second, top }
 }
 
 // Whether the sign is `Neg`.
@@ -129,7 +118,7 @@ fn first_is_behind(triangle: &NearTriangle, way: &Path) -> bool
     if is_level(&triangle.support, way.first_axis) {
         return false;
     }
-    edges_are_behind_at_start(triangle, way)
+    is_behind_edges_at_start(triangle, way)
 }
 
 // Whether all edge planes parallel to the second segment are negative at its start.
@@ -168,9 +157,9 @@ fn last_is_behind(triangle: &NearTriangle, way: &Path) -> bool
 }
 
 // Whether the line of the first segment runs through the triangle. The bounding box is tested along
-// the second axis first; `segments_in_wall` has tested it along the main axis.
-fn is_on_first(triangle: &NearTriangle, way: &Path) -> bool
-    ensures { result ≡ is_on_first way.now triangle.now }
+// the second axis first; `segments_above_wall` has tested it along the main axis.
+fn first_runs_through(triangle: &NearTriangle, way: &Path) -> bool
+    ensures { result ≡ first_runs_through way.now triangle.now }
 {
     contains_above(
         &interval_along(&triangle.aabb, way.second_axis),
@@ -179,8 +168,8 @@ fn is_on_first(triangle: &NearTriangle, way: &Path) -> bool
 }
 
 // Whether the end of the path can be within the bounding box along the first axis.
-fn may_end_along_first(triangle: &NearTriangle, way: &Path, at: &EndCell) -> bool
-    requires { IsEndCell way.now at.now }
+fn may_end_along_first(triangle: &NearTriangle, way: &Path, at: &EndFloors) -> bool
+    requires { AreEndFloors way.now at.now }
     ensures { result ≡ may_contain (interval_along triangle.now.aabb way.now.first_axis)
         (floor_at_end way.now way.now.first_axis) }
 {
@@ -188,8 +177,8 @@ fn may_end_along_first(triangle: &NearTriangle, way: &Path, at: &EndCell) -> boo
 }
 
 // Whether the end of the path can be within the bounding box along the second axis.
-fn may_end_along_second(triangle: &NearTriangle, way: &Path, at: &EndCell) -> bool
-    requires { IsEndCell way.now at.now }
+fn may_end_along_second(triangle: &NearTriangle, way: &Path, at: &EndFloors) -> bool
+    requires { AreEndFloors way.now at.now }
     ensures { result ≡ may_contain (interval_along triangle.now.aabb way.now.second_axis)
         (floor_at_end way.now way.now.second_axis) }
 {
@@ -197,25 +186,25 @@ fn may_end_along_second(triangle: &NearTriangle, way: &Path, at: &EndCell) -> bo
 }
 
 // Whether the end of the path can be within the bounding box along both.
-fn may_end(triangle: &NearTriangle, way: &Path, at: &EndCell) -> bool
-    requires { IsEndCell way.now at.now }
+fn may_end(triangle: &NearTriangle, way: &Path, at: &EndFloors) -> bool
+    requires { AreEndFloors way.now at.now }
     ensures { result ≡ may_end way.now triangle.now }
 {
     may_end_along_first(triangle, way, at) && may_end_along_second(triangle, way, at)
 }
 
 // Whether the line of the second segment runs through the triangle.
-fn is_on_second(triangle: &NearTriangle, way: &Path, at: &EndCell) -> bool
-    requires { IsEndCell way.now at.now }
-    ensures { result ≡ is_on_second way.now triangle.now }
+fn second_runs_through(triangle: &NearTriangle, way: &Path, at: &EndFloors) -> bool
+    requires { AreEndFloors way.now at.now }
+    ensures { result ≡ second_runs_through way.now triangle.now }
 {
     may_end_along_first(triangle, way, at) && second_is_behind(triangle, way)
 }
 
 // Whether the line of the last segment runs through the triangle.
-fn is_on_last(triangle: &NearTriangle, way: &Path, at: &EndCell) -> bool
-    requires { IsEndCell way.now at.now }
-    ensures { result ≡ is_on_last way.now triangle.now }
+fn last_runs_through(triangle: &NearTriangle, way: &Path, at: &EndFloors) -> bool
+    requires { AreEndFloors way.now at.now }
+    ensures { result ≡ last_runs_through way.now triangle.now }
 {
     may_end(triangle, way, at) && last_is_behind(triangle, way)
 }
@@ -225,20 +214,23 @@ fn first_segment(triangle: &NearTriangle, way: &Path) -> i32
     ensures value { result ≡ first_segment way.now triangle.now }
     ensures small { Small 1 result }
 {
-    if is_on_first(triangle, way) {
-        signed_crossing(triangle.start, way.side_after_first(&triangle.support))
+    if first_runs_through(triangle, way) {
+        signed_crossing(
+            triangle.reference_side,
+            way.side_after_first(&triangle.support),
+        )
     } else {
         0
     }
 }
 
 // The signed crossing of the second segment with the triangle.
-fn second_segment(triangle: &NearTriangle, way: &Path, at: &EndCell) -> i32
-    requires { IsEndCell way.now at.now }
+fn second_segment(triangle: &NearTriangle, way: &Path, at: &EndFloors) -> i32
+    requires { AreEndFloors way.now at.now }
     ensures value { result ≡ second_segment way.now triangle.now }
     ensures small { Small 1 result }
 {
-    if is_on_second(triangle, way, at) {
+    if second_runs_through(triangle, way, at) {
         signed_crossing(
             way.side_after_first(&triangle.support),
             way.side_after_second(&triangle.support),
@@ -248,9 +240,9 @@ fn second_segment(triangle: &NearTriangle, way: &Path, at: &EndCell) -> i32
     }
 }
 
-// Whether the path's start is strictly within the bounding box along the main axis. The first two
-// segments run at this coordinate.
-fn is_in_wall(triangle: &NearTriangle, way: &Path) -> bool
+// Whether the bounding box reaches to points just above the low wall across the main axis, where
+// the first two segments run: whether the path's start is strictly within it along this axis.
+fn reaches_above_wall(triangle: &NearTriangle, way: &Path) -> bool
     ensures { result ≡
         contains_above (interval_along triangle.now.aabb way.now.main) (coordinate way.now.lo way.now.main) }
 {
@@ -261,12 +253,12 @@ fn is_in_wall(triangle: &NearTriangle, way: &Path) -> bool
 }
 
 // The crossings of the first two segments, which run just above the low wall across the main axis.
-fn segments_in_wall(triangle: &NearTriangle, way: &Path, at: &EndCell) -> i32
-    requires { IsEndCell way.now at.now }
-    ensures value { result ≡ segments_in_wall way.now triangle.now }
+fn segments_above_wall(triangle: &NearTriangle, way: &Path, at: &EndFloors) -> i32
+    requires { AreEndFloors way.now at.now }
+    ensures value { result ≡ segments_above_wall way.now triangle.now }
     ensures small { Small 2 result }
 {
-    if is_in_wall(triangle, way) {
+    if reaches_above_wall(triangle, way) {
         first_segment(triangle, way) + second_segment(triangle, way, at)
     } else {
         0
@@ -282,8 +274,8 @@ pub struct Crossings {
 }
 
 // The crossings of the last segments, one along each path.
-fn last_segments_by_sides(triangle: &NearTriangle, way: &Path, at: &EndCell) -> Crossings
-    requires { IsEndCell way.now at.now }
+fn last_segments_by_sides(triangle: &NearTriangle, way: &Path, at: &EndFloors) -> Crossings
+    requires { AreEndFloors way.now at.now }
     ensures before { result.before ≡
         last_segment way.now triangle.now
         (side_before triangle.now.support way.now.main (side_at_end way.now triangle.now.support)) }
@@ -292,7 +284,7 @@ fn last_segments_by_sides(triangle: &NearTriangle, way: &Path, at: &EndCell) -> 
         (side_after triangle.now.support way.now.main (side_at_end way.now triangle.now.support)) }
     ensures small { Small 1 result.before × Small 1 result.after }
 {
-    if !is_on_last(triangle, way, at) {
+    if !last_runs_through(triangle, way, at) {
         return Crossings {
             before: 0,
             after: 0,
@@ -307,15 +299,15 @@ fn last_segments_by_sides(triangle: &NearTriangle, way: &Path, at: &EndCell) -> 
 }
 
 // Whether the bounding box lies above the whole last segment along the main axis.
-fn lies_above(triangle: &NearTriangle, way: &Path, at: &EndCell) -> bool
+fn lies_above(triangle: &NearTriangle, way: &Path, at: &EndFloors) -> bool
     ensures { result ≡ int_lt at.now.top (interval_along triangle.now.aabb way.now.main).low }
 {
     at.top < interval_along(&triangle.aabb, way.main).low
 }
 
 // The crossings of the last segments: none if the triangle lies above both ends.
-fn last_segments(triangle: &NearTriangle, way: &Path, at: &EndCell) -> Crossings
-    requires { IsEndCell way.now at.now }
+fn last_segments(triangle: &NearTriangle, way: &Path, at: &EndFloors) -> Crossings
+    requires { AreEndFloors way.now at.now }
     ensures before { result.before ≡
         last_segment way.now triangle.now
         (side_before triangle.now.support way.now.main (side_at_end way.now triangle.now.support)) }
@@ -335,13 +327,13 @@ fn last_segments(triangle: &NearTriangle, way: &Path, at: &EndCell) -> Crossings
 }
 
 /// The signed crossings of the two paths with a triangle.
-pub fn crossings_of(triangle: &NearTriangle, way: &Path, at: &EndCell) -> Crossings
-    requires { IsEndCell way.now at.now }
+pub fn crossings_of(triangle: &NearTriangle, way: &Path, at: &EndFloors) -> Crossings
+    requires { AreEndFloors way.now at.now }
     ensures before { result.before ≡ crossing_before way.now triangle.now }
     ensures after { result.after ≡ crossing_after way.now triangle.now }
     ensures small { Small 3 result.before × Small 3 result.after }
 {
-    let both = segments_in_wall(triangle, way, at);
+    let both = segments_above_wall(triangle, way, at);
     let last = last_segments(triangle, way, at);
     Crossings {
         before: both + last.before,

@@ -11,7 +11,7 @@ ghost use Rattle.ember_trace.specs.Crossings.{AreTraced, AreTracedBy};
 use crate::near::near_triangles;
 use crate::near_triangle::NearTriangle;
 use crate::region_sides::Sides;
-use crate::segments::{Crossings, crossings_of, end_cell_of};
+use crate::segments::{Crossings, crossings_of, end_floors_of};
 use crate::vertices::path_to;
 use ember_box::Cell;
 use ember_model::{OutOfMemory, Tri, Vector};
@@ -54,9 +54,10 @@ fn take_crossings(sides: &mut Sides, mesh: u32, less: &Crossings)
 
 /// Overwrites `sides` with the sides of a region of a box: the winding numbers directly before and
 /// after it, in every scene that fits what is known at the box. `v` has the winding numbers at the
-/// box's reference point p. For the end q of a path, w(p) = w(q) + the signed crossings of the path
-/// from p to q. So this subtracts from those numbers the crossings of two paths: one that ends
-/// directly before the region, and one that ends directly after it.
+/// box's reference point, which are those at the start p of a path (path.rt). For its end q, w(p) =
+/// w(q) + the signed crossings of the path from p to q. So this subtracts from those numbers the
+/// crossings of two paths: one that ends directly before the region, and one that ends directly
+/// after it.
 pub fn trace_sides(near: &[NearTriangle], c: &Cell, v: &Vector, r: &Ring, sides: &mut Sides)
     requires few { length near.now ≤ 262144 }
     requires counts { AreBoxCounts v.now.counts }
@@ -67,7 +68,7 @@ pub fn trace_sides(near: &[NearTriangle], c: &Cell, v: &Vector, r: &Ring, sides:
     ensures after { AreWithinBound (length near.now) v.now.counts sides.new.after.counts }
 {
     let way = path_to(c, r);
-    let at = end_cell_of(&way);
+    let at = end_floors_of(&way);
     sides.before = *v;
     sides.after = *v;
     for triangle in near {

@@ -5,7 +5,7 @@ ghost use Rattle.ember_algebra.specs.Size.{Small};
 ghost use Rattle.ember_model.specs.Valid.{IsValidPlane};
 ghost use Rattle.ember_model.specs.Sizes.{IsSupportSized};
 ghost use Rattle.ember_point.specs.Points.{spot_of, is_narrow};
-ghost use Rattle.ember_trace.specs.Paths.{coordinate, inside_side, side_at_start, side_at_end, side_after_first, side_after_second, slid_to_start, floor_at_end, first_of, second_of, IsPathTo};
+ghost use Rattle.ember_trace.specs.Paths.{coordinate, inside_side, side_at_start, side_at_end, side_after_first, side_after_second, slid_to_lo, floor_at_end, first_of, second_of, IsPathTo};
 
 use crate::path::Path;
 use ember_algebra::Sign;
@@ -43,21 +43,21 @@ fn are_narrow(first: &Meet, second: &Meet, third: &Meet) -> bool
     is_narrow(first) && (is_narrow(second) && is_narrow(third))
 }
 
-/// The path from the reference point of the box to the region.
+/// The path to the region from beside the least corner of the box.
 pub fn path_to(c: &Cell, r: &Ring) -> Path
     ensures { IsPathTo c.now r.now result }
 {
     let main = main_axis(&support(r));
-    let at = corners(r);
+    let ring_corners = corners(r);
     Path {
         lo: c.lo(),
         first_axis: first_of(main),
         second_axis: second_of(main),
         main,
-        first_corner: at[0],
-        second_corner: at[1],
-        third_corner: at[2],
-        narrow: are_narrow(&at[0], &at[1], &at[2]),
+        first_corner: ring_corners[0],
+        second_corner: ring_corners[1],
+        third_corner: ring_corners[2],
+        narrow: are_narrow(&ring_corners[0], &ring_corners[1], &ring_corners[2]),
     }
 }
 
@@ -118,17 +118,18 @@ fn floor(n: i128, w: i128) -> i128
     }
 }
 
-// The plane with the coordinate along an axis fixed to that of the start.
-fn slid_to_start(way: &Path, k: Axis, p: &Plane) -> Plane
+// The plane with the coordinate along an axis fixed to that of `lo`, the least corner of the box.
+// The start is as close to `lo` as it has to be (path.rt).
+fn slid_to_lo(way: &Path, k: Axis, p: &Plane) -> Plane
     requires plane { IsValidPlane p.now }
-    requires result { IsValidPlane (slid_to_start way.now k p.now) }
-    ensures { result ≡ slid_to_start way.now k p.now }
+    requires stays_valid { IsValidPlane (slid_to_lo way.now k p.now) }
+    ensures { result ≡ slid_to_lo way.now k p.now }
 {
     slide(p, k, coordinate(way.lo, k))
 }
 
 impl Path {
-    /// The side of a plane on which the path begins.
+    /// The side of a plane on which the path begins: that of the reference point.
     pub fn side_at_start(&self, p: &Plane) -> Sign
         requires { IsValidPlane p.now }
         ensures { result ≡ side_at_start self.now p.now }
@@ -159,31 +160,31 @@ impl Path {
     }
 
     /// The side of a plane on which the first segment ends, at a point with the first coordinate of
-    /// the path's end and the other two of its start. The plane with these two fixed is `Zero` at
-    /// all three corners only if it has no entry along the first axis: the corners don't share that
-    /// coordinate, since it isn't the main axis. Then the segment runs parallel to the plane, and
-    /// ends on the side on which it starts.
+    /// the path's end and the other two of its start. The plane with these two fixed to those of
+    /// `lo` is `Zero` at all three corners only if it has no entry along the first axis: the
+    /// corners don't share that coordinate, since it isn't the main axis. Then the segment runs
+    /// parallel to the plane, and ends on the side on which it starts.
     pub fn side_after_first(&self, p: &Plane) -> Sign
         requires { IsSupportSized p.now }
         ensures { result ≡ side_after_first self.now p.now }
     {
-        let slid = slid_to_start(self, self.second_axis, p);
-        match self.side_at_end(&slid_to_start(self, self.main, &slid)) {
+        let slid = slid_to_lo(self, self.second_axis, p);
+        match self.side_at_end(&slid_to_lo(self, self.main, &slid)) {
             Sign::Zero => self.side_at_start(p),
             s => s,
         }
     }
 
     /// The side of a plane on which the second segment ends, at a point with the main coordinate of
-    /// the path's start and the other two of its end. The plane with this one fixed is `Zero` at
-    /// all three corners only if it has no entry along the first and the second axis: the corners,
-    /// seen along the main axis, aren't on one line. Then both segments run parallel to the plane,
-    /// and end on the side on which the path starts.
+    /// the path's start and the other two of its end. The plane with this one fixed to that of `lo`
+    /// is `Zero` at all three corners only if it has no entry along the first and the second axis:
+    /// the corners, seen along the main axis, aren't on one line. Then both segments run parallel
+    /// to the plane, and end on the side on which the path starts.
     pub fn side_after_second(&self, p: &Plane) -> Sign
         requires { IsSupportSized p.now }
         ensures { result ≡ side_after_second self.now p.now }
     {
-        match self.side_at_end(&slid_to_start(self, self.main, p)) {
+        match self.side_at_end(&slid_to_lo(self, self.main, p)) {
             Sign::Zero => self.side_at_start(p),
             s => s,
         }

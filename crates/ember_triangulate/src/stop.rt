@@ -1,13 +1,17 @@
 // Why a sweep ends early.
 use std::alloc::{AllocError, AllocFailed};
+use thiserror::Error;
 
 /// Why a sweep ends early.
-#[derive(Clone, Copy, Debug, PartialEq, Eq)]
+#[derive(Clone, Copy, Debug, PartialEq, Eq, Error)]
 pub enum Stop {
+    #[error("out of memory")]
     OutOfMemory,
     /// A corner has no point, or isn't where a segment starts.
+    #[error("no triangles were found")]
     NotFound,
     /// The corner where the segment `corner` starts lies inside the segment `edge`.
+    #[error("the start of segment {corner} lies inside segment {edge}")]
     Touch { corner: usize, edge: usize },
 }
 

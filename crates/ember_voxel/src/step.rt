@@ -40,18 +40,18 @@ impl<'a> Work for VoxelWork<'a> {
 
     ghost item = { λ w job fill. IsFill (formula_of w.expr.now) job fill };
 
-    ghost halves_valid = { λ w job low high is e. halves_are_jobs w.scene.now.tris
-        (formula_of w.expr.now) w.size job low high w.scene.now.meshes w.scene.now.kept is e };
+    ghost halves_valid = { λ w job low high v e. halves_are_jobs w.scene.now.tris
+        (formula_of w.expr.now) w.size job low high w.scene.now.meshes w.scene.now.kept v e };
 
-    ghost halves_split = { λ w job low high is e. halves_are_split w.scene.now.tris
-        (formula_of w.expr.now) w.size job low high is e };
+    ghost halves_split = { λ w job low high v e. halves_are_split w.scene.now.tris
+        (formula_of w.expr.now) w.size job low high v e };
 }
 
 impl<'a> OneItem for VoxelWork<'a> {
     ghost use Rattle.ember_expr.specs.Formula.{formula_of};
     ghost use Rattle.ember_voxel.specs.Laws.{one_fill};
 
-    ghost one_item = { λ w job one other is also. one_fill (formula_of w.expr.now) job one other is also };
+    ghost one_item = { λ w job one other a b. one_fill (formula_of w.expr.now) job one other a b };
 }
 
 // The axis of the longest side, the first one in a tie.

@@ -12,7 +12,7 @@ use Rattle.ember_words.specs.declared.command.WordsFault.{WordsFault}
 use Rattle.ember_words.specs.declared.verb.Verb.{Verb}
 use Rattle.ember_words.specs.declared.verb.Verb.TheVariants.{Faces, At, Boole, Demo, Voxels, Pairs, Slice}
 use Rattle.ember_words.specs.WordsCommand.{Reads, app_for, command_of, taken_by}
-use Rattle.ember_words.specs.Canonical.{Given, IsCanonical, CommandLine, arguments_of, command_with, words_of}
+use Rattle.ember_words.specs.Canonical.{Given, IsCanonical, CommandLine, arguments_of, command_of_line, words_of}
 use Rattle.ember_words.specs.Canonical.{faces_line, at_line, bool_line, demo_line, voxels_line, pairs_line, slice_line}
 use Rattle.ember_words.proofs.OptionWalk.{IsFlag, IsOption, Reaches, at_word, at_words, walk_begins, flag_gives, flag_rows, given_rows, option_gives, still_new, word_ends, words_end}
 
@@ -25,12 +25,12 @@ faces_places : IsOption (top_of Faces) (codes "file") (codes "places") false (co
 faces_places = record { dashes = λ rest. refl; dash = refl; attached = λ value. refl; apart = refl; by_long = refl; by_id = refl; itself = refl; other = refl }
 
 faces_read : (words : List Text) (places : Option Given) (file : Text) → Reaches (top_of Faces) (walk_from nothing_held) words (at_word (codes "file") (given_rows (codes "places") places) file)
-    → taken_by Faces (codes "faces" ∷ words) ≡ command_with (faces_line places file)
+    → taken_by Faces (codes "faces" ∷ words) ≡ command_of_line (faces_line places file)
 unfolding defaults_fault
 faces_read words None file r = simp (r.walks, r.free)
 faces_read words (Some places) file r = simp (r.walks, r.free)
 
-faces_taken : (places : Option Given) (file : Text) → IsCanonical (faces_line places file) → command_of (words_of (faces_line places file)) ≡ command_with (faces_line places file)
+faces_taken : (places : Option Given) (file : Text) → IsCanonical (faces_line places file) → command_of (words_of (faces_line places file)) ≡ command_of_line (faces_line places file)
 faces_taken places file h =
     let options = option_gives (top_of Faces) (codes "file") (codes "places") false (codes "0" ∷ []) faces_places (walk_from nothing_held) [] [] places (walk_begins (top_of Faces) (codes "file")) refl h.0 in
     faces_read (arguments_of (faces_line places file)) places file
@@ -42,12 +42,12 @@ demo_workers : IsOption (top_of Demo) (codes "boxes") (codes "workers") false (c
 demo_workers = record { dashes = λ rest. refl; dash = refl; attached = λ value. refl; apart = refl; by_long = refl; by_id = refl; itself = refl; other = refl }
 
 demo_read : (words : List Text) (workers : Option Given) (boxes : Text) → Reaches (top_of Demo) (walk_from nothing_held) words (at_word (codes "boxes") (given_rows (codes "workers") workers) boxes)
-    → taken_by Demo (codes "demo" ∷ words) ≡ command_with (demo_line workers boxes)
+    → taken_by Demo (codes "demo" ∷ words) ≡ command_of_line (demo_line workers boxes)
 unfolding defaults_fault
 demo_read words None boxes r = simp (r.walks, r.free)
 demo_read words (Some workers) boxes r = simp (r.walks, r.free)
 
-demo_taken : (workers : Option Given) (boxes : Text) → IsCanonical (demo_line workers boxes) → command_of (words_of (demo_line workers boxes)) ≡ command_with (demo_line workers boxes)
+demo_taken : (workers : Option Given) (boxes : Text) → IsCanonical (demo_line workers boxes) → command_of (words_of (demo_line workers boxes)) ≡ command_of_line (demo_line workers boxes)
 demo_taken workers boxes h =
     let options = option_gives (top_of Demo) (codes "boxes") (codes "workers") false (codes "1" ∷ []) demo_workers (walk_from nothing_held) [] [] workers (walk_begins (top_of Demo) (codes "boxes")) refl h.0 in
     demo_read (arguments_of (demo_line workers boxes)) workers boxes
@@ -59,11 +59,11 @@ slice_at : IsOption (top_of Slice) (codes "file") (codes "at") true []
 slice_at = record { dashes = λ rest. refl; dash = refl; attached = λ value. refl; apart = refl; by_long = refl; by_id = refl; itself = refl; other = refl }
 
 slice_read : (words : List Text) (height : Given) (file : Text) → Reaches (top_of Slice) (walk_from nothing_held) words (at_word (codes "file") (given_rows (codes "at") (Some height)) file)
-    → taken_by Slice (codes "slice" ∷ words) ≡ command_with (slice_line height file)
+    → taken_by Slice (codes "slice" ∷ words) ≡ command_of_line (slice_line height file)
 unfolding defaults_fault
 slice_read words height file r = simp (r.walks, r.free)
 
-slice_taken : (height : Given) (file : Text) → IsCanonical (slice_line height file) → command_of (words_of (slice_line height file)) ≡ command_with (slice_line height file)
+slice_taken : (height : Given) (file : Text) → IsCanonical (slice_line height file) → command_of (words_of (slice_line height file)) ≡ command_of_line (slice_line height file)
 slice_taken height file h =
     let options = option_gives (top_of Slice) (codes "file") (codes "at") true [] slice_at (walk_from nothing_held) [] [] (Some height) (walk_begins (top_of Slice) (codes "file")) refl h.0 in
     slice_read (arguments_of (slice_line height file)) height file
@@ -88,7 +88,7 @@ pairs_places = record { dashes = λ rest. refl; dash = refl; attached = λ value
 
 pairs_read : (words : List Text) (workers places : Option Given) (file : Text) (more : List Text) → length more < 2 ^ 64 - 1
     → Reaches (top_of Pairs) (walk_from nothing_held) words (at_words (codes "files") (given_rows (codes "workers") workers ++ given_rows (codes "places") places) (file ∷ more))
-    → taken_by Pairs (codes "pairs" ∷ words) ≡ command_with (pairs_line workers places file more)
+    → taken_by Pairs (codes "pairs" ∷ words) ≡ command_of_line (pairs_line workers places file more)
 unfolding defaults_fault
 pairs_read words None None file more few r = simp (r.walks, r.free, none_past file more few, all_read (file ∷ more))
 pairs_read words None (Some places) file more few r = simp (r.walks, r.free, none_past file more few, all_read (file ∷ more))
@@ -96,7 +96,7 @@ pairs_read words (Some workers) None file more few r = simp (r.walks, r.free, no
 pairs_read words (Some workers) (Some places) file more few r = simp (r.walks, r.free, none_past file more few, all_read (file ∷ more))
 
 pairs_taken : (workers places : Option Given) (file : Text) (more : List Text) → IsCanonical (pairs_line workers places file more)
-    → command_of (words_of (pairs_line workers places file more)) ≡ command_with (pairs_line workers places file more)
+    → command_of (words_of (pairs_line workers places file more)) ≡ command_of_line (pairs_line workers places file more)
 pairs_taken workers places file more h =
     let s = top_of Pairs in
     let last = codes "files" in
@@ -121,7 +121,7 @@ at_places = record { dashes = λ rest. refl; dash = refl; attached = λ value. r
 at_read : (words : List Text) (point : Given) (expr places : Option Given) (file : Text) (more : List Text) → length more < 2 ^ 64 - 1
     → Reaches (top_of At) (walk_from nothing_held) words
     (at_words (codes "files") ((given_rows (codes "point") (Some point) ++ given_rows (codes "expr") expr) ++ given_rows (codes "places") places) (file ∷ more))
-    → taken_by At (codes "at" ∷ words) ≡ command_with (at_line point expr places file more)
+    → taken_by At (codes "at" ∷ words) ≡ command_of_line (at_line point expr places file more)
 unfolding defaults_fault
 at_read words point None None file more few r = simp (r.walks, r.free, none_past file more few, all_read (file ∷ more))
 at_read words point None (Some places) file more few r = simp (r.walks, r.free, none_past file more few, all_read (file ∷ more))
@@ -129,7 +129,7 @@ at_read words point (Some expr) None file more few r = simp (r.walks, r.free, no
 at_read words point (Some expr) (Some places) file more few r = simp (r.walks, r.free, none_past file more few, all_read (file ∷ more))
 
 at_taken : (point : Given) (expr places : Option Given) (file : Text) (more : List Text) → IsCanonical (at_line point expr places file more)
-    → command_of (words_of (at_line point expr places file more)) ≡ command_with (at_line point expr places file more)
+    → command_of (words_of (at_line point expr places file more)) ≡ command_of_line (at_line point expr places file more)
 at_taken point expr places file more h =
     let s = top_of At in
     let last = codes "files" in
@@ -159,7 +159,7 @@ bool_read : (words : List Text) (expr : Given) (workers places : Option Given) (
     → Reaches (top_of Boole) (walk_from nothing_held) words
     (at_words (codes "files")
     (((given_rows (codes "expr") (Some expr) ++ given_rows (codes "workers") workers) ++ given_rows (codes "places") places) ++ flag_rows (codes "report") report) (file ∷ more))
-    → taken_by Boole (codes "bool" ∷ words) ≡ command_with (bool_line expr workers places report file more)
+    → taken_by Boole (codes "bool" ∷ words) ≡ command_of_line (bool_line expr workers places report file more)
 unfolding defaults_fault
 bool_read words expr None None false file more few r = simp (r.walks, r.free, none_past file more few, all_read (file ∷ more))
 bool_read words expr None None true file more few r = simp (r.walks, r.free, none_past file more few, all_read (file ∷ more))
@@ -171,7 +171,7 @@ bool_read words expr (Some workers) (Some places) false file more few r = simp (
 bool_read words expr (Some workers) (Some places) true file more few r = simp (r.walks, r.free, none_past file more few, all_read (file ∷ more))
 
 bool_taken : (expr : Given) (workers places : Option Given) (report : Bool) (file : Text) (more : List Text) → IsCanonical (bool_line expr workers places report file more)
-    → command_of (words_of (bool_line expr workers places report file more)) ≡ command_with (bool_line expr workers places report file more)
+    → command_of (words_of (bool_line expr workers places report file more)) ≡ command_of_line (bool_line expr workers places report file more)
 bool_taken expr workers places report file more h =
     let s = top_of Boole in
     let last = codes "files" in
@@ -206,7 +206,7 @@ voxels_read : (words : List Text) (expr size : Given) (workers places : Option G
     → Reaches (top_of Voxels) (walk_from nothing_held) words
     (at_words (codes "files")
     (((given_rows (codes "expr") (Some expr) ++ given_rows (codes "size") (Some size)) ++ given_rows (codes "workers") workers) ++ given_rows (codes "places") places) (file ∷ more))
-    → taken_by Voxels (codes "voxels" ∷ words) ≡ command_with (voxels_line expr size workers places file more)
+    → taken_by Voxels (codes "voxels" ∷ words) ≡ command_of_line (voxels_line expr size workers places file more)
 unfolding defaults_fault
 voxels_read words expr size None None file more few r = simp (r.walks, r.free, none_past file more few, all_read (file ∷ more))
 voxels_read words expr size None (Some places) file more few r = simp (r.walks, r.free, none_past file more few, all_read (file ∷ more))
@@ -214,7 +214,7 @@ voxels_read words expr size (Some workers) None file more few r = simp (r.walks,
 voxels_read words expr size (Some workers) (Some places) file more few r = simp (r.walks, r.free, none_past file more few, all_read (file ∷ more))
 
 voxels_taken : (expr size : Given) (workers places : Option Given) (file : Text) (more : List Text) → IsCanonical (voxels_line expr size workers places file more)
-    → command_of (words_of (voxels_line expr size workers places file more)) ≡ command_with (voxels_line expr size workers places file more)
+    → command_of (words_of (voxels_line expr size workers places file more)) ≡ command_of_line (voxels_line expr size workers places file more)
 voxels_taken expr size workers places file more h =
     let s = top_of Voxels in
     let last = codes "files" in
@@ -230,7 +230,7 @@ voxels_taken expr size workers places file more h =
 
 -- ---- each line
 
-canonical : (line : CommandLine) → IsCanonical line → command_of (words_of line) ≡ command_with line
+canonical : (line : CommandLine) → IsCanonical line → command_of (words_of line) ≡ command_of_line line
 canonical (faces_line places file) h = faces_taken places file h
 canonical (at_line point expr places file more) h = at_taken point expr places file more h
 canonical (bool_line expr workers places report file more) h = bool_taken expr workers places report file more h
@@ -241,5 +241,5 @@ canonical (slice_line height file) h = slice_taken height file h
 
 -- canonical words are read as the command of their values
 pub canonical_reads : (words : List Text) (result : Result Command WordsFault) → Reads (command_of words) result
-    → (line : CommandLine) → IsCanonical line → words ≡ words_of line → Reads (command_with line) result
+    → (line : CommandLine) → IsCanonical line → words ≡ words_of line → Reads (command_of_line line) result
 canonical_reads words result reads line h is = subst (λ (value : Option Command). Reads value result) (ap command_of is ∙ canonical line h) reads

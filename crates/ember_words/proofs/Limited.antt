@@ -17,8 +17,8 @@ use Rattle.ember_words.specs.declared.command.Command.{Command}
 use Rattle.ember_words.specs.declared.command.WordsFault.{WordsFault}
 use Rattle.ember_words.specs.declared.verb.Verb.{Verb}
 use Rattle.ember_words.specs.declared.verb.Verb.TheVariants.{Faces, At, Boole, Demo, Voxels, Pairs, Slice}
-use Rattle.ember_words.specs.Limits.{are_names, as_height, as_spot, decimal_of, four_of, height_of, is_height, is_set, is_valid_spot, names_of, nonempty_of, number_of, optional_of, parts_of, point_of, spot_of_four, spot_of_numbers, whole_of, within}
-use Rattle.ember_words.specs.WordsCommand.{Reads, at_with, bool_with, command_of, demo_with, faces_with, files_in, number_in, pairs_with, slice_with, taken_by, places_in, text_in, unless_refused, command_of_values, verb_of, voxels_with, workers_in}
+use Rattle.ember_words.specs.Limits.{are_names, as_height, as_spot, decimal_of, four_of, height_of, is_height, is_set, is_valid_spot, names_in_limits, nonempty_of, number_within, optional_of, parts_of, point_of, spot_of_four, spot_of_numbers, whole_of, within}
+use Rattle.ember_words.specs.WordsCommand.{Reads, at_with, bool_with, command_of, demo_with, faces_with, files_in, number_in, pairs_with, slice_with, taken_by, places_in, text_in, unless_refused, command_of_rows, verb_of, voxels_with, workers_in}
 use Rattle.ember_words.specs.Within.{AreNames, IsNonempty, IsWithinLimits}
 
 and_then : {A B : Type 0} (P : B → Type 0) (f : A → Option B) → ((a : A) → IfSome (f a) P) → (o : Option A) → IfSome (option_and_then f o) P
@@ -32,11 +32,11 @@ within_range least most n = go (nat_le least n && nat_le n most) refl
     go false e = tt
     go true e = (grind (arith, nat_tests), grind (arith, nat_tests))
 
-number_range : (least most : ℕ) (text : Text) → IfSome (number_of least most text) (IsInRange least most)
+number_range : (least most : ℕ) (text : Text) → IfSome (number_within least most text) (IsInRange least most)
 number_range least most text = and_then (IsInRange least most) (within least most) (within_range least most) (decimal_of 9 text)
 
 number_limits : (least most : ℕ) (id : Text) (rows : List Row) → IfSome (number_in least most id rows) (IsInRange least most)
-number_limits least most id rows = and_then (IsInRange least most) (number_of least most) (number_range least most) (first_of id rows)
+number_limits least most id rows = and_then (IsInRange least most) (number_within least most) (number_range least most) (first_of id rows)
 
 nonempty : (text : Text) → IfSome (nonempty_of text) IsNonempty
 nonempty [] = tt
@@ -57,7 +57,7 @@ all_nonempty names h = λ i d low. one (slice_index_or names i d) (AllPass-from_
     one [] e = cc
     one (b ∷ bs) e = omega arith
 
-names_limits : (names : List Text) → IfSome (names_of names) AreNames
+names_limits : (names : List Text) → IfSome (names_in_limits names) AreNames
 names_limits names = go (are_names names) refl
   where
     go : (b : Bool) → are_names names ≡ b → IfSome (cond b (Some names) None) AreNames
@@ -182,12 +182,12 @@ slice_limits (Some h) None hh hf = tt
 slice_limits (Some h) (Some f) hh hf = (hh.0, hh.1, hf)
 
 files_limits : (rows : List Row) → IfSome (files_in rows) AreNames
-files_limits rows = and_then AreNames names_of names_limits (all_of (codes "files") rows)
+files_limits rows = and_then AreNames names_in_limits names_limits (all_of (codes "files") rows)
 
 workers_limits : (rows : List Row) → IfSome (workers_in rows) (IsInRange 1 64)
 workers_limits rows = number_limits 1 64 (codes "workers") rows
 
-values_limits : (v : Verb) (rows : List Row) → IfSome (command_of_values v rows) IsWithinLimits
+values_limits : (v : Verb) (rows : List Row) → IfSome (command_of_rows v rows) IsWithinLimits
 values_limits Faces rows = faces_limits (places_in rows) (text_in (codes "file") rows) (places_limits rows) (text_limits (codes "file") rows)
 values_limits At rows =
     at_limits (option_and_then point_of (first_of (codes "point") rows)) (optional_of (first_of (codes "expr") rows)) (places_in rows) (files_in rows)

@@ -20,8 +20,8 @@ use Rattle.clap.specs.declared.parser.matches.ValueSource.TheVariants.{DefaultVa
 use Rattle.clap.proofs.OnLiterals.{clap_on_literals}
 use Rattle.ember_model.specs.declared.point.Spot.{Spot}
 use Rattle.ember_words.specs.Commands.{at_app, bool_app, pairs_app, voxels_app}
-use Rattle.ember_words.specs.Limits.{are_names, names_of}
-use Rattle.ember_words.specs.WordsCommand.{Reads, app_for, at_with, bool_with, command_of, demo_with, faces_with, files_in, pairs_with, slice_with, taken_by, unless_refused, command_of_values, verb_of, voxels_with}
+use Rattle.ember_words.specs.Limits.{are_names, names_in_limits}
+use Rattle.ember_words.specs.WordsCommand.{Reads, app_for, at_with, bool_with, command_of, demo_with, faces_with, files_in, pairs_with, slice_with, taken_by, unless_refused, command_of_rows, verb_of, voxels_with}
 use Rattle.ember_words.specs.Within.{NamesFiles}
 use Rattle.ember_words.specs.declared.command.Command.{Command}
 use Rattle.ember_words.specs.declared.command.WordsFault.{WordsFault}
@@ -311,7 +311,7 @@ others_from (a ∷ c) e = (one (is_some a.index) (bytes_eq a.id (codes "files"))
     one false true h f = absurd (clash refl (sym h))
     one false false h f = refl
 
-names_some : (names : List Text) → 0 < length names → IfSome (names_of names) (λ files. 1 ≤ length files)
+names_some : (names : List Text) → 0 < length names → IfSome (names_in_limits names) (λ files. 1 ≤ length files)
 names_some names l = by (are_names names)
   where
     by : (b : Bool) → IfSome (cond b (Some names) None) (λ files. 1 ≤ length files)
@@ -321,7 +321,7 @@ names_some names l = by (are_names names)
 files_some : (app : App) (words : List Text) → list_all is_other (built app).top.rules ≡ true → IfSome (files_in (matches_of app words)) (λ files. 1 ≤ length files)
 files_some app words e = by (all_of (codes "files") (matches_of app words)) (all_hold (codes "files") (built app).top.rules (others_from (built app).top.rules e) (simple.names_of (built app)) (argument_words app words))
   where
-    by : (o : Option (List Text)) → IfSome o (λ values. 0 < length values) → IfSome (option_and_then names_of o) (λ files. 1 ≤ length files)
+    by : (o : Option (List Text)) → IfSome o (λ values. 0 < length values) → IfSome (option_and_then names_in_limits o) (λ files. 1 ≤ length files)
     by None h = tt
     by (Some names) h = names_some names h
 
@@ -387,7 +387,7 @@ slice_named None f = tt
 slice_named (Some h) None = tt
 slice_named (Some h) (Some f) = tt
 
-values_named : (v : Verb) (words : List Text) → IfSome (command_of_values v (matches_of (app_for v) words)) NamesFiles
+values_named : (v : Verb) (words : List Text) → IfSome (command_of_rows v (matches_of (app_for v) words)) NamesFiles
 values_named Faces words = faces_named _ _
 values_named At words = at_named _ _ _ _ (files_some at_app words at_files)
 values_named Boole words = bool_named _ _ _ _ _ (files_some bool_app words bool_files)

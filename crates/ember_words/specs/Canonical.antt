@@ -3,7 +3,7 @@
 use Rattle.std.specs.Prelude.{◌≡◌, ◌<◌, ◌-◌, ◌^◌, length, ⊤, ℕ, Bool, false, codes, List, [], ◌∷◌, ◌++◌, Option, Some, None, if◌then◌else◌}
 use Rattle.clap.specs.Walk.{Text}
 use Rattle.ember_words.specs.declared.command.Command.{Command}
-use Rattle.ember_words.specs.Limits.{height_of, is_minus, names_of, nonempty_of, number_of, optional_of, point_of}
+use Rattle.ember_words.specs.Limits.{height_of, is_minus, names_in_limits, nonempty_of, number_within, optional_of, point_of}
 use Rattle.ember_words.specs.WordsCommand.{at_with, bool_with, demo_with, faces_with, pairs_with, slice_with, voxels_with}
 
 -- the value of an option, as `--name=value` or in a word of its own
@@ -70,18 +70,18 @@ arguments_of (pairs_line workers places file more) =
 arguments_of (slice_line height file) = given_words (codes "at") height ++ (file ∷ [])
 
 -- the name of the command
-abbrev pub name_of : CommandLine → Text
-name_of (faces_line places file) = codes "faces"
-name_of (at_line point expr places file more) = codes "at"
-name_of (bool_line expr workers places report file more) = codes "bool"
-name_of (demo_line workers boxes) = codes "demo"
-name_of (voxels_line expr size workers places file more) = codes "voxels"
-name_of (pairs_line workers places file more) = codes "pairs"
-name_of (slice_line height file) = codes "slice"
+abbrev pub command_name : CommandLine → Text
+command_name (faces_line places file) = codes "faces"
+command_name (at_line point expr places file more) = codes "at"
+command_name (bool_line expr workers places report file more) = codes "bool"
+command_name (demo_line workers boxes) = codes "demo"
+command_name (voxels_line expr size workers places file more) = codes "voxels"
+command_name (pairs_line workers places file more) = codes "pairs"
+command_name (slice_line height file) = codes "slice"
 
 -- the words of a command in the canonical spelling
 abbrev pub words_of : CommandLine → List Text
-words_of line = name_of line ∷ arguments_of line
+words_of line = command_name line ∷ arguments_of line
 
 -- file names that don't begin with a hyphen, no more than a list can hold
 abbrev pub ArePlainNames : Text → List Text → Type 0
@@ -103,26 +103,26 @@ IsCanonical (pairs_line workers places file more) =
 IsCanonical (slice_line height file) = AttachesSign height × (is_minus file ≡ false)
 
 abbrev pub workers_of : Option Given → Option ℕ
-workers_of workers = number_of 1 64 (value_or (codes "1") workers)
+workers_of workers = number_within 1 64 (value_or (codes "1") workers)
 
 abbrev pub places_of : Option Given → Option ℕ
-places_of places = number_of 0 3 (value_or (codes "0") places)
+places_of places = number_within 0 3 (value_or (codes "0") places)
 
 abbrev pub given_value : Option Given → Option Text
 given_value None = None
 given_value (Some g) = Some g.value
 
 -- the command of the values, None if one of them is past its limits
-abbrev pub command_with : CommandLine → Option Command
-command_with (faces_line places file) = faces_with (places_of places) (nonempty_of file)
-command_with (at_line point expr places file more) =
-    at_with (point_of point.value) (optional_of (given_value expr)) (places_of places) (names_of (file ∷ more))
-command_with (bool_line expr workers places report file more) =
-    bool_with (nonempty_of expr.value) (workers_of workers) (places_of places) report (names_of (file ∷ more))
-command_with (demo_line workers boxes) = demo_with (number_of 1 20000 boxes) (workers_of workers)
-command_with (voxels_line expr size workers places file more) =
-    voxels_with (nonempty_of expr.value) (number_of 4 12 size.value) (workers_of workers) (places_of places)
-    (names_of (file ∷ more))
-command_with (pairs_line workers places file more) =
-    pairs_with (workers_of workers) (places_of places) (names_of (file ∷ more))
-command_with (slice_line height file) = slice_with (height_of height.value) (nonempty_of file)
+abbrev pub command_of_line : CommandLine → Option Command
+command_of_line (faces_line places file) = faces_with (places_of places) (nonempty_of file)
+command_of_line (at_line point expr places file more) =
+    at_with (point_of point.value) (optional_of (given_value expr)) (places_of places) (names_in_limits (file ∷ more))
+command_of_line (bool_line expr workers places report file more) =
+    bool_with (nonempty_of expr.value) (workers_of workers) (places_of places) report (names_in_limits (file ∷ more))
+command_of_line (demo_line workers boxes) = demo_with (number_within 1 20000 boxes) (workers_of workers)
+command_of_line (voxels_line expr size workers places file more) =
+    voxels_with (nonempty_of expr.value) (number_within 4 12 size.value) (workers_of workers) (places_of places)
+    (names_in_limits (file ∷ more))
+command_of_line (pairs_line workers places file more) =
+    pairs_with (workers_of workers) (places_of places) (names_in_limits (file ∷ more))
+command_of_line (slice_line height file) = slice_with (height_of height.value) (nonempty_of file)

@@ -1,4 +1,5 @@
--- The commands as clap's model sees them
+-- The commands as clap's model sees them: a parser for each, and the rules of its arguments. The words of clap
+-- are explained in specs/WordsCommand.antt
 use Rattle.std.specs.Prelude.{true, Some, codes, [], ◌∷◌}
 use Rattle.clap.specs.Lexer.{usize_max}
 use Rattle.clap.specs.Walk.{Rule, Text}
@@ -21,7 +22,7 @@ option_with_default name value = record (new_rule name) { long = Some name; defa
 abbrev pub flag : Text → Rule
 flag name = record (new_rule name) { long = Some name; action = Some SetTrue }
 
--- a word that must be there, and one such word or more
+-- one word that isn't an option
 abbrev pub one_word : Text → Rule
 one_word name = record (new_rule name) { required = true }
 

@@ -20,8 +20,8 @@ abbrev pub within : ℕ → ℕ → ℕ → Option ℕ
 within least most n = if nat_le least n && nat_le n most then Some n else None
 
 -- one to nine decimal digits of a number from `least` to `most`
-abbrev pub number_of : ℕ → ℕ → Text → Option ℕ
-number_of least most text = option_and_then (within least most) (decimal_of 9 text)
+abbrev pub number_within : ℕ → ℕ → Text → Option ℕ
+number_within least most text = option_and_then (within least most) (decimal_of 9 text)
 
 -- the text begins with a hyphen (45)
 abbrev pub is_minus : Text → Bool
@@ -97,15 +97,16 @@ abbrev pub are_names : List Text → Bool
 are_names names = nat_le (length names) 64 && list_all (λ name. not (is_empty name)) names
 
 -- the file names, if they are within the limits
-abbrev pub names_of : List Text → Option (List Text)
-names_of names = if are_names names then Some names else None
+abbrev pub names_in_limits : List Text → Option (List Text)
+names_in_limits names = if are_names names then Some names else None
 
 -- a flag that was given has the value `true`
 abbrev pub is_set : Option Text → Bool
 is_set None = false
 is_set (Some text) = bytes_eq text (codes "true")
 
--- an option that was left out has no value, and no empty one otherwise
+-- the value of an option that may be left out: Some None if it was. Otherwise it must have a byte: Some (Some text), or
+-- None if the text is empty
 abbrev pub optional_of : Option Text → Option (Option Text)
 optional_of None = Some None
 optional_of (Some text) = option_map Some (nonempty_of text)

@@ -1,7 +1,18 @@
--- What command the words give. `App`, `fault_of`, `matches_of`, `rows_of` and `found_of` are words
--- of the ported clap: an `App` is a parser, `fault_of app words` has the faults of the words (none
--- if the parser takes them), and `matches_of app words` has a row for each argument, with the
--- argument's name and its values
+-- What command the words give. Here and in the clauses of this crate are words of the ported clap:
+--
+--   App                   a parser, as definitions see it; a Rule describes one of its arguments
+--   new_app name          a parser without arguments
+--   new_rule name         the rule of an argument that isn't an option and may be left out
+--   with_rule app rule    the parser with one argument more
+--   app_of, rule_of       the App of a value of clap's type Command, the Rule of one of its type Arg
+--   fault_of app words    the kinds of error that the parser may give at the words; none if it takes them
+--   kind_of error         the kind of an error
+--   matches_of app words  a row for each argument, with the argument's name and its values
+--   rows_of (found_of m)  the rows that clap found
+--   first_of name rows    the first value of an argument, if it has any; all_of name rows gives all of them
+--   is_simple_and_free app   the condition under which fault_of and matches_of say what clap does: the parser has
+--                         no setting that changes how words are read, only the last of its arguments that aren't
+--                         options takes several values, and no argument has a rule on another, such as a conflict
 use Rattle.std.specs.Prelude.{◌≡◌, ◌≢◌, ⊤, ℕ, ℤ, Bool, codes, List, [], ◌∷◌, Option, Some, None, Result, Ok, Err, option_and_then, if◌then◌else◌}
 use Rattle.std.specs.Str.{bytes_eq}
 use Rattle.clap.specs.Walk.{Row, Text, all_of, first_of, rows_of}
@@ -17,7 +28,7 @@ use Rattle.ember_words.specs.declared.command.WordsFault.{WordsFault}
 use Rattle.ember_words.specs.declared.command.WordsFault.TheVariants.{Words, OutOfMemory}
 use Rattle.ember_words.specs.declared.verb.Verb.{Verb}
 use Rattle.ember_words.specs.declared.verb.Verb.TheVariants as verb
-use Rattle.ember_words.specs.Limits.{height_of, is_set, names_of, nonempty_of, number_of, optional_of, point_of}
+use Rattle.ember_words.specs.Limits.{height_of, is_set, names_in_limits, nonempty_of, number_within, optional_of, point_of}
 use Rattle.ember_words.specs.Commands.{faces_app, at_app, bool_app, demo_app, voxels_app, pairs_app, slice_app}
 
 -- the result is the value; or the words are refused, if there is none; or out-of-memory
@@ -36,7 +47,7 @@ Finds app words (Err OutOfMemory) = ⊤
 
 -- the number of an argument, if it is from `least` to `most`
 abbrev pub number_in : ℕ → ℕ → Text → List Row → Option ℕ
-number_in least most id rows = option_and_then (number_of least most) (first_of id rows)
+number_in least most id rows = option_and_then (number_within least most) (first_of id rows)
 
 -- 1 to 64 workers, 0 to 3 places
 abbrev pub workers_in : List Row → Option ℕ
@@ -51,7 +62,7 @@ text_in id rows = option_and_then nonempty_of (first_of id rows)
 
 -- the file names, if they are within the limits
 abbrev pub files_in : List Row → Option (List Text)
-files_in rows = option_and_then names_of (all_of (codes "files") rows)
+files_in rows = option_and_then names_in_limits (all_of (codes "files") rows)
 
 -- ---- the command of the values
 
@@ -143,18 +154,18 @@ app_for verb.Pairs = pairs_app
 app_for verb.Slice = slice_app
 
 -- the command, if the values are within the limits
-abbrev pub command_of_values : Verb → List Row → Option Command
-command_of_values verb.Faces = faces_command_of
-command_of_values verb.At = at_command_of
-command_of_values verb.Boole = bool_command_of
-command_of_values verb.Demo = demo_command_of
-command_of_values verb.Voxels = voxels_command_of
-command_of_values verb.Pairs = pairs_command_of
-command_of_values verb.Slice = slice_command_of
+abbrev pub command_of_rows : Verb → List Row → Option Command
+command_of_rows verb.Faces = faces_command_of
+command_of_rows verb.At = at_command_of
+command_of_rows verb.Boole = bool_command_of
+command_of_rows verb.Demo = demo_command_of
+command_of_rows verb.Voxels = voxels_command_of
+command_of_rows verb.Pairs = pairs_command_of
+command_of_rows verb.Slice = slice_command_of
 
 -- clap takes the words after the first one, and the values that it finds are within the limits
 abbrev pub taken_by : Verb → List Text → Option Command
-taken_by v words = unless_refused (fault_of (app_for v) words) (command_of_values v (matches_of (app_for v) words))
+taken_by v words = unless_refused (fault_of (app_for v) words) (command_of_rows v (matches_of (app_for v) words))
 
 -- the command that the words give, None if they are refused
 abbrev pub command_of : List Text → Option Command

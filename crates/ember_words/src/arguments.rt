@@ -139,7 +139,7 @@ fn slice_command<'a>(alloc: Global) -> Result<Command<'a>, AllocError>
 }
 
 /// The clap parser for the words of this command.
-pub fn command_for<'a>(alloc: Global, verb: Verb) -> Result<Command<'a>, AllocError>
+pub fn clap_command<'a>(alloc: Global, verb: Verb) -> Result<Command<'a>, AllocError>
     ensures { IfOk result (λ c. app_of c ≡ app_for verb) }
 {
     match verb {

@@ -4,7 +4,7 @@ ghost use Rattle.std.specs.Bool.{Decides};
 ghost use Rattle.std.specs.List.{list_all};
 ghost use Rattle.ember_model.specs.Valid.{IsValidSpot};
 ghost use Rattle.std.specs.Char.{is_ascii_digit};
-ghost use Rattle.ember_words.specs.Limits.{decimal_of, number_of, is_minus, without_minus, whole_of, height_of, is_in_range, is_valid_spot, parts_of, four_of, point_of, is_set};
+ghost use Rattle.ember_words.specs.Limits.{decimal_of, number_within, is_minus, without_minus, whole_of, height_of, is_in_range, is_valid_spot, parts_of, four_of, point_of, is_set};
 
 use ember_model::Spot;
 
@@ -30,7 +30,7 @@ fn decimal(text: &str, most_digits: usize) -> Option<u64>
 
 // `text` as a number from `least` to `most`, if it is one, in 1 to 9 decimal digits.
 pub fn number(text: &str, least: u32, most: u32) -> Option<u32>
-    ensures { result ≡ number_of least most text.now }
+    ensures { result ≡ number_within least most text.now }
 {
     let value = decimal(text, 9)?;
     if value < u64::from(least) || value > u64::from(most) {

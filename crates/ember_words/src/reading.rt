@@ -1,5 +1,6 @@
 // Reading the words. In contracts, `rows_of (found_of matches)` is clap's model of what it found:
-// one row for each argument, with its name and its values.
+// one row for each argument, with its name and its values. specs/WordsCommand.antt explains these
+// and the other words of clap.
 ghost use Rattle.std.specs.Prelude.{◌≡◌, ◌≢◌, IfOk, true, codes, map, option_and_then, string_bytes};
 ghost use Rattle.clap.specs.Walk.{first_of, rows_of};
 ghost use Rattle.clap.specs.Matches.{found_of};
@@ -8,11 +9,11 @@ ghost use Rattle.clap.specs.Values.{kind_of};
 ghost use Rattle.clap.specs.Faults.{is_simple_and_free};
 ghost use Rattle.ember_words.specs.Limits.{height_of, point_of};
 ghost use Rattle.ember_words.specs.Within.{IsWithinLimits, NamesFiles};
-ghost use Rattle.ember_words.specs.Canonical.{IsCanonical, CommandLine, command_with, words_of};
-ghost use Rattle.ember_words.specs.WordsCommand.{app_for, command_of_values};
+ghost use Rattle.ember_words.specs.Canonical.{IsCanonical, CommandLine, command_of_line, words_of};
+ghost use Rattle.ember_words.specs.WordsCommand.{app_for, command_of_rows};
 ghost use Rattle.ember_words.specs.WordsCommand.{workers_in, places_in, Reads, Finds, taken_by, faces_command_of, at_command_of, bool_command_of, demo_command_of, voxels_command_of, pairs_command_of, slice_command_of, command_of};
 
-use crate::arguments::command_for;
+use crate::arguments::clap_command;
 use crate::command::{Command, WordsFault};
 use crate::limits::{height, is_set, point};
 use crate::values::{file_names, first, number_value, optional_value, text_value};
@@ -166,8 +167,12 @@ fn slice(alloc: Global, matches: &ArgMatches<'_>) -> Result<Command, WordsFault>
 }
 
 // The command of this name, by the values that clap found.
-fn command_from(alloc: Global, verb: Verb, matches: &ArgMatches<'_>) -> Result<Command, WordsFault>
-    ensures { Reads (command_of_values verb (rows_of (found_of matches.now))) result }
+fn command_of_matches(
+    alloc: Global,
+    verb: Verb,
+    matches: &ArgMatches<'_>,
+) -> Result<Command, WordsFault>
+    ensures { Reads (command_of_rows verb (rows_of (found_of matches.now))) result }
 {
     match verb {
         Verb::Faces => faces(alloc, matches),
@@ -188,7 +193,7 @@ fn matches_for<'a>(
 ) -> Result<ArgMatches<'a>, WordsFault>
     ensures { Finds (app_for verb) (map string_bytes words.entry.now) result }
 {
-    find_matches(command_for(alloc, verb)?, words)
+    find_matches(clap_command(alloc, verb)?, words)
 }
 
 #[tactic(auto, using(crate::proofs::Refusals::find_refusal_is_fault))]
@@ -196,7 +201,7 @@ fn read_for<'a>(alloc: Global, verb: Verb, words: &'a [String]) -> Result<Comman
     ensures { Reads (taken_by verb (map string_bytes words.entry.now)) result }
 {
     let matches = matches_for(alloc, verb, words)?;
-    command_from(alloc, verb, &matches)
+    command_of_matches(alloc, verb, &matches)
 }
 
 // The command that the first word names.
@@ -225,7 +230,7 @@ pub fn read_words(alloc: Global, words: &[String]) -> Result<Command, WordsFault
     ensures limits { IfOk result IsWithinLimits }
     ensures files { IfOk result NamesFiles }
     ensures canonical { (line : CommandLine) → IsCanonical line → map string_bytes words.now ≡ words_of line →
-        Reads (command_with line) result }
+        Reads (command_of_line line) result }
 {
     read_command(alloc, words)
 }

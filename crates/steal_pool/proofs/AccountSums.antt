@@ -12,7 +12,7 @@ use Rattle.steal_pool.specs.declared.protocol.HandleView.{HandleView}
 use Rattle.steal_pool.specs.declared.state.WorkerState.{WorkerState}
 use Rattle.steal_pool.specs.Protocol.{with_taken}
 use Rattle.steal_pool.specs.Steps.{Weight, at_entry, at_left}
-use Rattle.steal_pool.specs.Owners.{all_pushed, all_popped}
+use Rattle.steal_pool.specs.Owners.{all_pushed, owners_taken}
 use Rattle.steal_pool.specs.Workers.{Account, account, held, received, Balances, Releases, IsIdle, FinishesIfDone, EachFinished, all_held, all_received}
 use Rattle.steal_pool.proofs.DequeSteps.{weigh_append}
 
@@ -72,9 +72,9 @@ pushed_snoc h [] o = omega arith
 pushed_snoc h (x ∷ os) o = omega (arith, pushed_snoc h os o)
 
 -- what one more deque gave
-pub popped_snoc : {P : Type 0} (h : Job → ℕ) (os : List (Worker Job Global HandleView P)) (o : Worker Job Global HandleView P) → all_popped h (os ++ o ∷ []) ≡ all_popped h os + weigh h (worker_view o).taken
-popped_snoc h [] o = omega arith
-popped_snoc h (x ∷ os) o = omega (arith, popped_snoc h os o)
+pub owners_taken_snoc : {P : Type 0} (h : Job → ℕ) (os : List (Worker Job Global HandleView P)) (o : Worker Job Global HandleView P) → owners_taken h (os ++ o ∷ []) ≡ owners_taken h os + weigh h (worker_view o).taken
+owners_taken_snoc h [] o = omega arith
+owners_taken_snoc h (x ∷ os) o = omega (arith, owners_taken_snoc h os o)
 
 -- one more state adds what it holds
 pub held_snoc : {K I : Type 0} (w : Weight) (h : Entry → ℕ) (g : ℕ → ℕ) (ss : List (WorkerState K I)) (v : WorkerState K I) → all_held w h g (ss ++ v ∷ []) ≡ all_held w h g ss + held w h g (account v)

@@ -27,8 +27,8 @@ leaf_ends visited answers w j old new item p here is there fits = record {
 }
 
 -- and its item answers
-pub leaf_found : {I : Type 0} (visited : Job → Type 0) (answers : Job → I → Type 0) (w : Weight) (j : Job) (old new : List (Part I)) (item : I) (p : ℕ) → p ≡ j.cell.path → new ≡ old ++ record { path = p; item = item } ∷ [] → visited j → OutcomeFits visited answers w j (Leaf item) → All (IsPart visited answers) old → All (IsPart visited answers) new
-leaf_found visited answers w j old new item p here there is_visited fits found =
+pub leaf_parts : {I : Type 0} (visited : Job → Type 0) (answers : Job → I → Type 0) (w : Weight) (j : Job) (old new : List (Part I)) (item : I) (p : ℕ) → p ≡ j.cell.path → new ≡ old ++ record { path = p; item = item } ∷ [] → visited j → OutcomeFits visited answers w j (Leaf item) → All (IsPart visited answers) old → All (IsPart visited answers) new
+leaf_parts visited answers w j old new item p here there is_visited fits found =
     subst (All (IsPart visited answers)) (sym there) (All-push (IsPart visited answers) old (record { path = p; item = item }) found (record { job = j; is_visited = is_visited; path = here; item = fits.0 }))
 
 -- the entry of a box with halves was added; the halves lie in boxes

@@ -9,7 +9,7 @@ use Rattle.steal_pool.specs.declared.protocol.HandleView.{HandleView}
 use Rattle.ember_job.specs.Weights.{weigh}
 use Rattle.steal_pool.specs.Protocol.{with_one_lent, with_returned, new_pass}
 use Rattle.steal_pool.specs.Steps.{all_taken}
-use Rattle.steal_pool.specs.Owners.{EachOwner, Fresh, Lent, Lends, NewRow, all_pushed, all_popped, Lending, Absorbing}
+use Rattle.steal_pool.specs.Owners.{EachOwner, Fresh, Lent, Lends, NewRow, all_pushed, owners_taken, Lending, Absorbing}
 use Rattle.steal_pool.proofs.DequeSteps.{weigh_append}
 
 module _ {P : Type 0} where
@@ -107,10 +107,10 @@ module _ {P : Type 0} where
   pushed_set h (x ∷ os) zero d o l = omega arith
   pushed_set h (x ∷ os) (suc i) d o l = omega (arith, pushed_set h os i d o (omega arith))
 
-  popped_set : (h : Job → ℕ) (os : List (Worker Job Global HandleView P)) (i : ℕ) (d o : Worker Job Global HandleView P) → i < length os → all_popped h (set os i o) + weigh h (worker_view (get_or os i d)).taken ≡ all_popped h os + weigh h (worker_view o).taken
-  popped_set h [] i d o l = absurd (omega arith)
-  popped_set h (x ∷ os) zero d o l = omega arith
-  popped_set h (x ∷ os) (suc i) d o l = omega (arith, popped_set h os i d o (omega arith))
+  owners_taken_set : (h : Job → ℕ) (os : List (Worker Job Global HandleView P)) (i : ℕ) (d o : Worker Job Global HandleView P) → i < length os → owners_taken h (set os i o) + weigh h (worker_view (get_or os i d)).taken ≡ owners_taken h os + weigh h (worker_view o).taken
+  owners_taken_set h [] i d o l = absurd (omega arith)
+  owners_taken_set h (x ∷ os) zero d o l = omega arith
+  owners_taken_set h (x ∷ os) (suc i) d o l = omega (arith, owners_taken_set h os i d o (omega arith))
 
 -- a list keeps its length if one member is set
 pub set_length : {X : Type 0} (xs : List X) (i : ℕ) (x : X) → length (set xs i x) ≡ length xs
@@ -156,6 +156,6 @@ pub absorbed_pushed : {P : Type 0} (h : Job → ℕ) (os : List (Worker Job Glob
 absorbed_pushed h os i n p d o l now e = omega (arith, e, pushed_set h os i d o l, ap (λ (v : HandleView). weigh h v.pushed) now)
 
 -- what the pass has taken now counts as taken by the owner
-pub absorbed_popped : {P : Type 0} (h : Job → ℕ) (os : List (Worker Job Global HandleView P)) (i n : ℕ) (p : Pass Job HandleView Global) (qs ps : List (Pass Job HandleView Global)) (d o : Worker Job Global HandleView P) → i < length os
-    → worker_view o ≡ with_returned (worker_view (get_or os i d)) (view p) → qs ≡ p ∷ ps → all_popped h os + all_taken h qs ≡ n → all_popped h (set os i o) + all_taken h ps ≡ n
-absorbed_popped h os i n p qs ps d o l now is e = omega (arith, e, popped_set h os i d o l, ap (λ (v : HandleView). weigh h v.taken) now, weigh_append h (worker_view (get_or os i d)).taken (view p).taken, ap (all_taken h) is)
+pub absorbed_taken : {P : Type 0} (h : Job → ℕ) (os : List (Worker Job Global HandleView P)) (i n : ℕ) (p : Pass Job HandleView Global) (qs ps : List (Pass Job HandleView Global)) (d o : Worker Job Global HandleView P) → i < length os
+    → worker_view o ≡ with_returned (worker_view (get_or os i d)) (view p) → qs ≡ p ∷ ps → owners_taken h os + all_taken h qs ≡ n → owners_taken h (set os i o) + all_taken h ps ≡ n
+absorbed_taken h os i n p qs ps d o l now is e = omega (arith, e, owners_taken_set h os i d o l, ap (λ (v : HandleView). weigh h v.taken) now, weigh_append h (worker_view (get_or os i d)).taken (view p).taken, ap (all_taken h) is)

@@ -35,7 +35,7 @@ module _ {P K I : Type 0} (visited : Job → Type 0) (answers : Job → I → Ty
         sound = record {
           owns = subst (λ (o : Worker Job Global HandleView (JobProtocol K)). (worker_view o).owns ≡ true) (sym given.owner) last.ready.sound.owns;
           visited_all = subst (All visited) (sym given.hand) (All-push visited s.hand.items root last.ready.sound.visited_all mine);
-          found_all = subst (λ o. All (IsPart visited answers) o.parts.items) (sym given.output) last.ready.sound.found_all;
+          parts_all = subst (λ o. All (IsPart visited answers) o.parts.items) (sym given.output) last.ready.sound.parts_all;
         };
         no_journal = ap (λ o. o.journal.items) given.output ∙ last.ready.no_journal;
       }))

@@ -130,7 +130,7 @@ pub finished_all : {K I : Type 0} (visited : Job → Type 0) (answers : Job → 
 finished_all visited answers w all [] [] r k d l = absurd (omega arith)
 finished_all visited answers w all [] (v ∷ vs) r k d l = absurd r
 finished_all visited answers w all (s ∷ ss) [] r k d l = absurd r
-finished_all visited answers w all (s ∷ ss) (v ∷ vs) r zero d l = record { each = r.0.each; hand = r.0.hand; found_all = r.0.sound.found_all }
+finished_all visited answers w all (s ∷ ss) (v ∷ vs) r zero d l = record { each = r.0.each; hand = r.0.hand; parts_all = r.0.sound.parts_all }
 finished_all visited answers w all (s ∷ ss) (v ∷ vs) r (suc k) d l = finished_all visited answers w all ss vs r.1 k d (omega arith)
 
 -- no worker is lost

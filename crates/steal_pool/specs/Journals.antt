@@ -1,6 +1,6 @@
 -- Journals of all workers and of the caller, and the parts of a run.
 use Rattle.std.specs.Prelude.{◌≡◌, ℕ, zero, suc, ◌+◌, ◌*◌, ◌<◌, List, [], ◌∷◌, All, map}
-use Rattle.ember_job.specs.Weights.{weigh, one}
+use Rattle.ember_job.specs.Weights.{SameEntries, weigh, one}
 use Rattle.ember_job.specs.declared.job.Job.{Job}
 use Rattle.ember_job.specs.declared.job.Entry.{Entry}
 use Rattle.ember_job.specs.Works.{Shape, leafed, passed, halved}
@@ -24,12 +24,12 @@ journal_of k [] = []
 journal_of zero (j ∷ js) = j
 journal_of (suc k) (j ∷ js) = journal_of k js
 
--- the rules of journals. `once`: the entries of all journals are a permutation of those of the visited boxes (both
--- lists have the same sum for every weight h), so each visited box is in one journal, once, with its kind, and
--- nothing else is in any. `begun`: box 1 is in the journal of worker 0. `lefts`: the left half of a halved box is in
--- the same journal as the box. `rights`: if the box is in the caller's journal, so is its right half
+-- the rules of journals. `once`: the entries of all journals are those of the visited boxes, so each visited box is in
+-- one journal, once, with its kind, and nothing else is in any. `begun`: box 1 is in the journal of worker 0. `lefts`:
+-- the left half of a halved box is in the same journal as the box. `rights`: if the box is in the caller's journal, so
+-- is its right half
 pub record KeepRules (shape : Job → Shape) (root : Job) (workers : ℕ) (journals : List (List Entry)) : Type 0 where
-  pub once : (h : Entry → ℕ) → weigh (weigh h) journals ≡ weigh h (map (entry_of shape) (visited shape root))
+  pub once : SameEntries journals (map (entry_of shape) (visited shape root))
   pub begun : 0 < times 1 (journal_of 0 journals)
   pub lefts : (k path : ℕ) → 0 < times_halved path (journal_of k journals) →
       0 < times (2 * path) (journal_of k journals)

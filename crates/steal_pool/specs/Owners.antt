@@ -33,10 +33,10 @@ abbrev pub all_pushed : {P : Type 0} → (Job → ℕ) → List (Worker Job Glob
 all_pushed h [] = 0
 all_pushed h (o ∷ os) = weigh h (worker_view o).pushed + all_pushed h os
 
--- the weight of all jobs that the owners took, by pops and by passes that came back
-abbrev pub all_popped : {P : Type 0} → (Job → ℕ) → List (Worker Job Global HandleView P) → ℕ
-all_popped h [] = 0
-all_popped h (o ∷ os) = weigh h (worker_view o).taken + all_popped h os
+-- the weight of all jobs that the owners took: by pops, and by passes that came back, what these took
+abbrev pub owners_taken : {P : Type 0} → (Job → ℕ) → List (Worker Job Global HandleView P) → ℕ
+owners_taken h [] = 0
+owners_taken h (o ∷ os) = weigh h (worker_view o).taken + owners_taken h os
 
 -- the first i owners have made one more pass
 abbrev pub Lending : {P : Type 0} → ℕ → ℕ → List (Stealer Job Global HandleView P) →
@@ -87,7 +87,7 @@ pub record Lends {P : Type 0} (old new : Worker Job Global HandleView P)
   pub view_is : worker_view new ≡ with_one_lent (worker_view old)
   pub pass_is : view pass ≡ new_pass
 
--- what was pushed and not taken was run to its end, if nothing is left
+-- what was pushed and not taken was run to its end
 abbrev pub AddsDrained : {I : Type 0} → Weight → HandleView → Output I → Output I → Type 0
 AddsDrained weight v old new = (h : Entry → ℕ) (g : ℕ → ℕ) →
     ended h g new + weigh (weight h g) v.taken ≡ ended h g old + weigh (weight h g) v.pushed
@@ -96,4 +96,4 @@ AddsDrained weight v old new = (h : Entry → ℕ) (g : ℕ → ℕ) →
 abbrev pub AddsAllDrained : {P I : Type 0} → Weight → List (Worker Job Global HandleView P) → Output I → Output I →
     Type 0
 AddsAllDrained weight os old new = (h : Entry → ℕ) (g : ℕ → ℕ) →
-    ended h g new + all_popped (weight h g) os ≡ ended h g old + all_pushed (weight h g) os
+    ended h g new + owners_taken (weight h g) os ≡ ended h g old + all_pushed (weight h g) os

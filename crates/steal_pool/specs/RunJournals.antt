@@ -3,21 +3,21 @@ use Rattle.std.specs.Prelude.{◌≡◌, ℕ, ◌+◌, ◌≤◌, List, [], ◌�
 use Rattle.ember_job.specs.Weights.{weigh}
 use Rattle.ember_job.specs.declared.job.Entry.{Entry}
 use Rattle.steal_pool.specs.declared.state.WorkerState.{WorkerState}
-use Rattle.steal_pool.specs.Steps.{at_job, at_entry, at_left, at_halves}
+use Rattle.steal_pool.specs.Steps.{HasPaths, at_job, at_left, at_halves}
 
 -- the left half of each halved box is in the journal
 abbrev pub KeepsLeft : List Entry → Type 0
-KeepsLeft journal = (h : ℕ → ℕ) → weigh (at_left h) journal ≤ weigh (at_entry h) journal
+KeepsLeft journal = HasPaths journal (λ h. weigh (at_left h) journal)
 
 -- both halves of each halved box are in the journal
 abbrev pub KeepsBoth : List Entry → Type 0
-KeepsBoth journal = (h : ℕ → ℕ) → weigh (at_halves h) journal ≤ weigh (at_entry h) journal
+KeepsBoth journal = HasPaths journal (λ h. weigh (at_halves h) journal)
 
 -- this box is in the journal, and so is the left half of each halved box
 abbrev pub Begins : ℕ → List Entry → Type 0
-Begins path journal = (h : ℕ → ℕ) → h path + weigh (at_left h) journal ≤ weigh (at_entry h) journal
+Begins path journal = HasPaths journal (λ h. h path + weigh (at_left h) journal)
 
--- the same of each journal
+-- each journal has the left half of each of its halved boxes
 abbrev pub EachKeeps : List (List Entry) → Type 0
 EachKeeps [] = ⊤
 EachKeeps (j ∷ js) = KeepsLeft j × EachKeeps js
@@ -35,7 +35,7 @@ EachStays [] [] = ⊤
 EachStays [] (j ∷ js) = ⊥
 EachStays (s ∷ ss) [] = ⊥
 EachStays (s ∷ ss) (j ∷ js) =
-    ((h : ℕ → ℕ) → weigh (at_job h) s.hand.items + weigh (at_left h) j ≤ weigh (at_entry h) j) × EachStays ss js
+    HasPaths j (λ h. weigh (at_job h) s.hand.items + weigh (at_left h) j) × EachStays ss js
 
 -- the journals of these workers, the last worker's first, and then the caller's
 pub record WorkerJournals {K I : Type 0} (states : List (WorkerState K I)) (journals : List (List Entry))

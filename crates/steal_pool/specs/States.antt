@@ -13,7 +13,7 @@ use Rattle.ember_tree.specs.declared.part.Part.{Part}
 use Rattle.ember_job.specs.Weights.{weigh}
 use Rattle.steal_pool.specs.declared.state.WorkerOutputs.{WorkerOutputs}
 use Rattle.steal_pool.specs.Steps.{Weight, EachPass, IsPart, by_path}
-use Rattle.steal_pool.specs.Owners.{EachOwner, all_pushed, all_popped, rows_taken}
+use Rattle.steal_pool.specs.Owners.{EachOwner, all_pushed, owners_taken, rows_taken}
 use Rattle.steal_pool.specs.Workers.{IsReady, IsIdle, all_held, all_received}
 
 -- each state's deque is that with its index, and the view of its owner's end has the property Q
@@ -46,7 +46,7 @@ pub record MayLeave {P K I : Type 0} (visited : Job → Type 0) (answers : Job �
     (stealers : List (Stealer Job Global HandleView P)) (s : WorkerState K I) : Type 0 where
   pub each : EachPass stealers s.passes.items
   pub hand : s.hand.items ≡ []
-  pub found_all : All (IsPart visited answers) s.output.parts.items
+  pub parts_all : All (IsPart visited answers) s.output.parts.items
 
 -- a new state: it is ready, and nothing was given to it
 pub record IsNew {P K I : Type 0} (visited : Job → Type 0) (answers : Job → I → Type 0) (weight : Weight)
@@ -66,7 +66,7 @@ pub record HandsOver {K I : Type 0} (weight : Weight) (states : List (WorkerStat
       weigh (λ j. weigh h j.items) outputs.journals.items + weigh (by_path g) outputs.parts.items +
       all_pushed (weight h g) outputs.owners.items ≡ all_held weight h g states
   pub received : (h : Entry → ℕ) (g : ℕ → ℕ) →
-      all_popped (weight h g) outputs.owners.items + rows_taken (weight h g) outputs.rows.items ≡
+      owners_taken (weight h g) outputs.owners.items + rows_taken (weight h g) outputs.rows.items ≡
       all_received weight h g states
 
 -- the root alone is held

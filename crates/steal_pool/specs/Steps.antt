@@ -39,7 +39,8 @@ OutcomeFits visited answers weight j (Leaf item) =
     answers j item × ((h : Entry → ℕ) (g : ℕ → ℕ) → weight h g j ≡ h (entry j.cell.path Leafed) + g j.cell.path)
 OutcomeFits visited answers weight j Skipped = (h : Entry → ℕ) (g : ℕ → ℕ) → weight h g j ≡ h (entry j.cell.path Passed)
 
--- the call may be made at each visited box, and its outcome fits it
+-- the call may be made at each visited box, and its outcome fits it. `visited`, `answers` and `weight` say what this
+-- means in a run; `pre` and `post` are the contract of the calls of the type F
 pub record RunsVisited {I F : Type 0} (visited : Job → Type 0) (answers : Job → I → Type 0) (weight : Weight)
     (pre : F → Bor Job → Type 0) (post : F → Bor Job → Result (Outcome I) AllocError → Type 0)
     (call : F) : Type 0 where
@@ -84,6 +85,11 @@ at_left h e = if_halved e.kind (h (2 * e.path))
 abbrev pub at_halves : (ℕ → ℕ) → Entry → ℕ
 at_halves h e = if_halved e.kind (h (2 * e.path) + h (2 * e.path + 1))
 
+-- the journal has these paths, each at least as often: for every weight h, its own paths weigh at least as much.
+-- `paths` gives the sum of the weights of these
+abbrev pub HasPaths : List Entry → ((ℕ → ℕ) → ℕ) → Type 0
+HasPaths journal paths = (h : ℕ → ℕ) → paths h ≤ weigh (at_entry h) journal
+
 -- the weight of all that was ended: the entries of the journal, and the paths of the parts
 abbrev pub ended : {I : Type 0} → (Entry → ℕ) → (ℕ → ℕ) → Output I → ℕ
 ended h g o = weigh h o.journal.items + weigh (by_path g) o.parts.items
@@ -106,8 +112,8 @@ half_jobs (Some b) = b.left ∷ b.right ∷ []
 
 -- a box ended: its entry was written, its item was added if it is a leaf, and its halves, if any, are still to be run.
 -- `sums`: what is ended now and the halves still to be run weigh what was ended before and this box. `path`: the
--- journal has grown by the box's path. `left`: if the box was halved, the left halves of the
--- journal's halved boxes have grown by its left half. `both`: the same of both halves
+-- journal has grown by the box's path. `left`: the list of the left halves of all halved boxes of the journal has one
+-- more, that of this box, if the box was halved. `both`: likewise, the list of their left and right halves
 pub record EndsBox {I : Type 0} (weight : Weight) (job : Job) (old new : Output I)
     (halves : Option HalfJobs) : Type 0 where
   pub sums : (h : Entry → ℕ) (g : ℕ → ℕ) →

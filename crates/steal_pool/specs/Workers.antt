@@ -68,7 +68,7 @@ pub record IsSound {K I : Type 0} (visited : Job → Type 0) (answers : Job → 
     (s : WorkerState K I) : Type 0 where
   pub owns : (worker_view s.owner).owns ≡ true
   pub visited_all : All visited s.hand.items
-  pub found_all : All (IsPart visited answers) s.output.parts.items
+  pub parts_all : All (IsPart visited answers) s.output.parts.items
 
 -- a worker may begin: it is sound, has a pass on each deque, and has ended nothing
 pub record IsReady {P K I : Type 0} (visited : Job → Type 0) (answers : Job → I → Type 0)

@@ -47,8 +47,8 @@ pub fn run_step<
 ) -> Result<Option<HalfJobs>, OutOfMemory>
     requires call { RunsVisited K.is_visited K.answers K.weight F.pre F.post call.now }
     requires job { K.is_visited job.now }
-    requires found { All (IsPart K.is_visited K.answers) output.old.parts.items }
-    ensures found { OnOk result (All (IsPart K.is_visited K.answers) output.new.parts.items) }
+    requires parts { All (IsPart K.is_visited K.answers) output.old.parts.items }
+    ensures parts { OnOk result (All (IsPart K.is_visited K.answers) output.new.parts.items) }
     ensures halves { IfOk result (AreHalves K.is_visited job.now) }
     ensures ends { IfOk result (EndsBox K.weight job.now output.old output.new) }
 {
@@ -92,8 +92,8 @@ pub fn run_below<
 ) -> Result<(), OutOfMemory>
     requires call { RunsVisited K.is_visited K.answers K.weight F.pre F.post call.now }
     requires job { K.is_visited job }
-    requires found { All (IsPart K.is_visited K.answers) output.old.parts.items }
-    ensures found { OnOk result (All (IsPart K.is_visited K.answers) output.new.parts.items) }
+    requires parts { All (IsPart K.is_visited K.answers) output.old.parts.items }
+    ensures parts { OnOk result (All (IsPart K.is_visited K.answers) output.new.parts.items) }
     ensures stays { OnOk result (KeepsHalvesAnd job.cell.path output.old output.new) }
     ensures sums { OnOk result (AddsBox K.weight job output.old output.new) }
 {
@@ -133,8 +133,8 @@ pub fn drain<
 ) -> Result<(), OutOfMemory>
     requires call { RunsVisited K.is_visited K.answers K.weight F.pre F.post call.now }
     requires owner { Lent 0 (worker_view owner) }
-    requires found { All (IsPart K.is_visited K.answers) output.old.parts.items }
-    ensures found { OnOk result (All (IsPart K.is_visited K.answers) output.new.parts.items) }
+    requires parts { All (IsPart K.is_visited K.answers) output.old.parts.items }
+    ensures parts { OnOk result (All (IsPart K.is_visited K.answers) output.new.parts.items) }
     ensures stays { OnOk result (KeepsHalves output.old output.new) }
     ensures sums { OnOk result (AddsDrained K.weight (worker_view owner) output.old output.new) }
 {

@@ -1,17 +1,19 @@
 // Ghost names of one run: which jobs it visits, which items answer a job, and what a box weighs.
 //
 // The protocol of a deque is fixed by types, so it must get these names from a type. That type is
-// the parameter `K` of the private functions. It has no size, and only contracts use it.
+// the parameter `K` of the private functions. It has no size, and only contracts use it. Inside the
+// functions `K` is any type with such names, so each is proved for all of them.
 //
-// `run_alone` and `run_tree` put in `Brand`, a type of the toolchain. Inside the functions `K` is
-// any type with such names, so each is proved for all of them. At a call with `Brand` as its `K`,
-// the proof of the caller chooses what the names mean in this one call, by the arguments of the
-// call: see the `Invariants.antt` in proofs/tree/run_alone and proofs/tree/run_tree. They choose by
-// the work and the root, so `run_alone_named` and `run_named` take the work as an argument, though
-// no code reads it. The contracts of `run_alone` and `run_tree` don't have the names: in place of
-// them they have `IsVisited` of ember_job and `AnswersLeaf` (`AreParts` in specs/Journals.antt).
-// The weight of a box with all below it is `tree_weight` there. Rust needs the impls for `Brand`
-// here; what they say would hold only if a caller chose nothing.
+// `run_alone` and `run_tree` put in `Brand`, a type of the toolchain. `K` = `Brand` means: the
+// proof of the caller says what the names mean in this one call, by the arguments of the call. See
+// the `Invariants.antt` in proofs/tree/run_alone and proofs/tree/run_tree. They choose by the work
+// and the root, so `run_alone_named` and `run_named` take the work as an argument, though no code
+// reads it. The contracts of `run_alone` and `run_tree` don't have the names: in place of them they
+// have `IsVisited` of ember_job and `AnswersLeaf` (`AreParts` in specs/Journals.antt). The weight
+// of a box with all below it is `tree_weight` there.
+//
+// `Brand` must have the names, as any `K`, so it has impls below. Their meanings count at no call
+// here: the proof of each call puts in its own.
 ghost use Rattle.std.specs.Prelude.{ℕ, ⊤};
 ghost use Rattle.ember_job.specs.declared.job.Job.{Job};
 ghost use Rattle.ember_job.specs.declared.job.Entry.{Entry};

@@ -4,7 +4,7 @@ ghost use Rattle.crossbeam_deque.specs.Handles.{view, IsPassOf, worker_deque, wo
 ghost use Rattle.ember_job.specs.declared.job.Job.{Job};
 ghost use Rattle.steal_pool.specs.Protocol.{with_returned};
 ghost use Rattle.steal_pool.specs.Steps.{EachPass, all_taken};
-ghost use Rattle.steal_pool.specs.Owners.{EachOwner, Fresh, Lent, Lends, NewRow, all_pushed, all_popped};
+ghost use Rattle.steal_pool.specs.Owners.{EachOwner, Fresh, Lent, Lends, NewRow, all_pushed, owners_taken};
 
 use crate::heap_jobs::HeapJob;
 use crate::names::VisitedJobs;
@@ -73,7 +73,8 @@ pub fn absorb_each<K: VisitedJobs>(
     requires passes { EachPass stealers.now.items passes.items }
     ensures owners { EachOwner (Lent lent) stealers.now.items owners.new.items }
     ensures pushed { (h : Job → ℕ) → all_pushed h owners.new.items ≡ all_pushed h owners.old.items }
-    ensures taken { (h : _) → all_popped h owners.new.items ≡ all_popped h owners.old.items + all_taken h passes.items }
+    ensures taken { (h : Job → ℕ) →
+        owners_taken h owners.new.items ≡ owners_taken h owners.old.items + all_taken h passes.items }
 {
     for i in 0..owners.len() {
         let Some(pass) = first_pass(&mut passes) else {

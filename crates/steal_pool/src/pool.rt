@@ -4,7 +4,7 @@ ghost use Rattle.std.specs.Prelude.{◌≡◌, ◌+◌, ◌<◌, ◌≤◌, true
 ghost use Rattle.crossbeam_deque.specs.Handles.{worker_deque, worker_view};
 ghost use Rattle.ember_job.specs.declared.job.Job.{Job};
 ghost use Rattle.steal_pool.specs.Protocol.{handle};
-ghost use Rattle.steal_pool.specs.Owners.{EachOwner, Fresh, Lent, AllBack, EachRow, NewRow, AddsAllDrained, all_pushed, all_popped, rows_taken};
+ghost use Rattle.steal_pool.specs.Owners.{EachOwner, Fresh, Lent, AllBack, EachRow, NewRow, AddsAllDrained, all_pushed, owners_taken, rows_taken};
 ghost use Rattle.steal_pool.specs.Steps.{RunsVisited, IsPart, KeepsHalves};
 ghost use Rattle.steal_pool.specs.Workers.{IsReady};
 ghost use Rattle.steal_pool.specs.States.{EachState, MayLeave, IsNew, HandsOver, HoldRoot, Conserves, HoldsTree};
@@ -31,8 +31,8 @@ use std::thread::Threads;
 const DEQUE_ROOM: usize = 64;
 
 // The room of a hand, so that holding a box needs no further memory. A worker takes a box from a
-// deque only if its hand is empty. So even if all pushes are refused, a hand has at most one left
-// half, and one right half of each depth up to 36, the greatest depth.
+// deque only if its hand is empty. So even if all pushes are refused, a hand has at most 37 boxes:
+// one left half, and one right half of each depth up to 36, the greatest depth. Three are to spare.
 const HAND_ROOM: usize = 40;
 
 /// All deques: of each the end from which others steal, and its owner's end.
@@ -173,7 +173,7 @@ fn take_apart<K: VisitedJobs + BoxWeight<I>, I: Drop>(
     ensures owners { IfOk result (λ l. EachOwner (Lent workers) stealers.now.items l.owners.items) }
     ensures count { IfOk result (λ l. vec_len l.rows ≡ vec_len states) }
     ensures rows { IfOk result (λ l. EachRow stealers.now.items l.rows.items) }
-    ensures found { IfOk result (λ l. All (IsPart K.is_visited K.answers) l.parts.items) }
+    ensures parts { IfOk result (λ l. All (IsPart K.is_visited K.answers) l.parts.items) }
     ensures sums { IfOk result (HandsOver K.weight states.items) }
 {
     let mut owners = Vec::new(alloc);
@@ -216,7 +216,8 @@ fn absorb_all<K: VisitedJobs>(
     requires rows { EachRow stealers.now.items rows.items }
     ensures owners { EachOwner (Lent 0) stealers.now.items owners.new.items }
     ensures pushed { (h : Job → ℕ) → all_pushed h owners.new.items ≡ all_pushed h owners.old.items }
-    ensures popped { (h : _) → all_popped h owners.new.items ≡ all_popped h owners.old.items + rows_taken h rows.items }
+    ensures taken { (h : Job → ℕ) →
+        owners_taken h owners.new.items ≡ owners_taken h owners.old.items + rows_taken h rows.items }
 {
     while let Some(row) = rows.pop() {
         absorb_each(stealers, owners, row, rows.len());
@@ -241,8 +242,8 @@ fn drain_all<
 ) -> Result<(), OutOfMemory>
     requires call { RunsVisited K.is_visited K.answers K.weight F.pre F.post call.now }
     requires owners { AllBack owners.items }
-    requires found { All (IsPart K.is_visited K.answers) output.old.parts.items }
-    ensures found { OnOk result (All (IsPart K.is_visited K.answers) output.new.parts.items) }
+    requires parts { All (IsPart K.is_visited K.answers) output.old.parts.items }
+    ensures parts { OnOk result (All (IsPart K.is_visited K.answers) output.new.parts.items) }
     ensures stays { OnOk result (KeepsHalves output.old output.new) }
     ensures sums { OnOk result (AddsAllDrained K.weight owners.items output.old output.new) }
 {
@@ -298,7 +299,7 @@ fn run_states<
     requires len { 0 < vec_len states }
     requires deques { EachState (Fresh (vec_len states)) stealers.now.items states.items }
     requires ready { All (IsReady K.is_visited K.answers stealers.now.items) states.items }
-    ensures found { IfOk result (λ v. All (IsPart K.is_visited K.answers) v.parts) }
+    ensures parts { IfOk result (λ v. All (IsPart K.is_visited K.answers) v.parts) }
     ensures journals { IfOk result (λ v. WorkerJournals states.items v.journals v.left) }
     ensures sums { IfOk result (λ v. Conserves K.weight states.items v.journals v.parts) }
 {
@@ -348,7 +349,7 @@ pub fn run_named<
     requires call { RunsVisited K.is_visited K.answers K.weight F.pre F.post call.now }
     requires root { K.is_visited root }
     requires workers { 1 ≤ workers }
-    ensures found { IfOk result (λ v. All (IsPart K.is_visited K.answers) v.parts) }
+    ensures parts { IfOk result (λ v. All (IsPart K.is_visited K.answers) v.parts) }
     ensures journals { IfOk result (λ v. RunJournals root.cell.path workers v.journals v.left) }
     ensures sums { IfOk result (λ v. HoldsTree K.weight root v.journals v.parts) }
 {

@@ -22,7 +22,8 @@ use std::sync::Wait;
 use std::thread::Threads;
 
 // The run by this thread alone. No code reads the work. It is an argument because what the names of
-// `K` mean at a call is chosen by the call's arguments (names.rt).
+// `K` mean at a call is chosen by the call's arguments (names.rt). In the clauses `++ [] ∷ []` adds
+// the caller's journal, which is empty.
 fn run_alone_named<
     K: VisitedJobs + BoxWeight<I>,
     W,
@@ -33,7 +34,7 @@ fn run_alone_named<
     requires call { RunsVisited K.is_visited K.answers K.weight F.pre F.post call.now }
     requires root { K.is_visited root }
     ensures count { IfOk result (λ v. (length v.journals ≡ 1) × (v.left ≡ 0)) }
-    ensures found { IfOk result (λ v. All (IsPart K.is_visited K.answers) v.parts) }
+    ensures parts { IfOk result (λ v. All (IsPart K.is_visited K.answers) v.parts) }
     ensures journals { IfOk result (λ v. RunJournals root.cell.path 1 (v.journals ++ [] ∷ []) 0) }
     ensures sums { IfOk result (λ v. HoldsTree K.weight root (v.journals ++ [] ∷ []) v.parts) }
 {
@@ -54,8 +55,8 @@ fn run_alone_named<
 
 /// Runs the root and all that is visited below it, in this thread alone, left halves first, and
 /// enters the gate before each box. The root is a valid job of the root box. There is one journal,
-/// that of worker 0, and nothing is left to the caller. It makes no deque and waits for nobody. The
-/// only error is out-of-memory.
+/// that of worker 0, and nothing is left to the caller: the clause `journals` adds an empty one for
+/// it, `[] ∷ []`. This call makes no deque and waits for nobody. The only error is out-of-memory.
 pub fn run_alone<W: Work, F: Fn(&Job) -> Result<Outcome<W::Item>, OutOfMemory>, G: Gate>(
     alloc: Global,
     root: Job,

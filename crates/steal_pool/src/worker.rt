@@ -153,8 +153,8 @@ fn next_job<K: VisitedJobs + BoxWeight<I>, I>(
 
 // The index of the deque to steal from after this one. After the last comes the first.
 fn next_deque(from: usize, count: usize) -> usize {
-    let next = from.wrapping_add(1);
-    if next < count { next } else { 0 }
+    let last = count.saturating_sub(1);
+    if from < last { from + 1 } else { 0 }
 }
 
 // Runs boxes until the finished ones make up the root. The error means that memory was short, here

@@ -2,7 +2,7 @@ use Rattle.std.proofs.Common.{◌≡◌, ℕ, ◌<◌, List, [], ◌∷◌, ◌+
 use Rattle.std.proofs.lemmas.List.{length-take, length-map, length-append, get_or-map}
 use Rattle.ember_model.specs.declared.point.Axis.TheVariants.{X, Y, Z}
 use Rattle.ember_box.specs.Near.{listed, tri_at, no_tri, is_near}
-use Rattle.ember_box.specs.Sums.{number, near_halves}
+use Rattle.ember_box.specs.Sums.{number, near_half_count}
 use Rattle.ember_box.specs.declared.near_parts.NearParts.{NearParts}
 use Rattle.ember_box.specs.NearParts.{AreNearParts, AreNearPartsAt}
 use Rattle.ember_box.proofs.OneLook.{parts_none, parts_more}
@@ -47,7 +47,7 @@ loop-i-preserved c =
     let items : c.push.new.self.items ≡ parts ++ p ∷ [] = c.in_ok-push.ensures.items in
     let length_of = ap length items in
     record {
-      sums = sums_more (listed tris list) cell i c.loop-i.near c.loop-i.x_sum c.loop-i.y_sum c.loop-i.z_sum more.near more.x more.y more.z here c.loop-i.invariant.sums (one.near ∙ ap (λ u. number (is_near cell u)) (sym e)) few.near (λ p. one.x p ∙ ap (near_halves cell X) (sym e)) few.x (λ p. one.y p ∙ ap (near_halves cell Y) (sym e)) few.y (λ p. one.z p ∙ ap (near_halves cell Z) (sym e)) few.z;
+      sums = sums_more (listed tris list) cell i c.loop-i.near c.loop-i.x_sum c.loop-i.y_sum c.loop-i.z_sum more.near more.x more.y more.z here c.loop-i.invariant.sums (one.near ∙ ap (λ u. number (is_near cell u)) (sym e)) few.near (λ p. one.x p ∙ ap (near_half_count cell X) (sym e)) few.x (λ p. one.y p ∙ ap (near_half_count cell Y) (sym e)) few.y (λ p. one.z p ∙ ap (near_half_count cell Z) (sym e)) few.z;
       parts = subst (λ (ps : List NearParts). AreNearPartsAt tris cell list ps) (sym items) (parts_more tris cell list parts p c.loop-i.invariant.parts (subst (λ (j : ℕ). AreNearParts cell (tri_at tris (get_or list j 0)) p) (sym c.loop-i.invariant.count) near));
       count = omega (arith, length_of, length-append parts (p ∷ []), c.loop-i.invariant.count);
     }

@@ -7,7 +7,7 @@ use Rattle.ember_model.specs.declared.point.Axis.TheVariants.{X, Y, Z}
 use Rattle.ember_model.specs.Planes.{support_of}
 use Rattle.ember_box.specs.declared.near_parts.NearParts.{NearParts}
 use Rattle.ember_box.specs.Aabbs.{aabb_of_cell, aabb_of_tri, aabbs_meet, crosses}
-use Rattle.ember_box.specs.NearParts.{AreMargins, AreNearParts, rise, margin_of_left, margin_of_right}
+use Rattle.ember_box.specs.NearParts.{AreMargins, AreNearParts, change_size, margin_of_left, margin_of_right}
 use Rattle.ember_box.proofs.NearByAabbs.{near_is}
 use Rattle.ember_box.proofs.HalfCrossing.{margins_cross}
 use Rattle.ember_box.proofs.OneLook.{none_near, whole_by_plane, pair_by_plane}
@@ -21,10 +21,10 @@ returns-then-not-are_both c = λ box t a e o q.
     subst (λ (p : NearParts). AreNearParts box t p) (sym c.no_parts.ensures) (none_near box t far)
 
 -- the slope as the code hands it over
-rises : (n half : ℤ) {r : ℤ} → Small 33554431 n → Small 4096 half → r ≡ rise (to_z w64 (of_z w64 n)) (to_z w32 (of_z w32 half)) → r ≡ rise n half
-rises n half k l e =
+change_size_is : (n half : ℤ) {r : ℤ} → Small 33554431 n → Small 4096 half → r ≡ change_size (to_z w64 (of_z w64 n)) (to_z w32 (of_z w32 half)) → r ≡ change_size n half
+change_size_is n half k l e =
     let a = exact (k & done) (stored w64 (input 0)) tt in let b = exact (l & done) (stored w32 (input 0)) tt in
-    e ∙ (λ i. rise (a i) (b i))
+    e ∙ (λ i. change_size (a i) (b i))
 
 falls : (n : ℤ) {f : Bool} → Small 33554431 n → f ≡ is_negative (to_z w64 (of_z w64 n)) → f ≡ is_negative n
 falls n k e = e ∙ ap is_negative (exact (k & done) (stored w64 (input 0)) tt)
@@ -37,7 +37,7 @@ returns c = λ box t a e o q.
     let am : AreMargins (support_of t) (aabb_of_cell box) m = subst (λ w. AreMargins (support_of t) w m) a.whole (subst (λ p. AreMargins p b.whole m) q c.margins_of-margins.ensures) in
     record {
       whole = whole_by_plane box t o' m am on;
-      x = λ may. pair_by_plane box t o' m am on X b.x c.pair_by_plane.result may (a.x may) (c.pair_by_plane.ensures.left ∙ (λ i. int_le (e i).x.low b.x.at && int_le (rises p.a b.x.half c.requires.plane.a c.requires.sized.x c.slope_of.ensures.rise i) (cond (falls p.a c.requires.plane.a c.slope_of.ensures.falls i) m.above m.below)) ∙ (λ i. int_le (aabb_of_tri t).x.low b.x.at && int_le (rise (q i).a b.x.half) (margin_of_left (q i).a m))) (c.pair_by_plane.ensures.right ∙ (λ i. int_le b.x.at (e i).x.high && int_le (rises p.a b.x.half c.requires.plane.a c.requires.sized.x c.slope_of.ensures.rise i) (cond (falls p.a c.requires.plane.a c.slope_of.ensures.falls i) m.below m.above)) ∙ (λ i. int_le b.x.at (aabb_of_tri t).x.high && int_le (rise (q i).a b.x.half) (margin_of_right (q i).a m)));
-      y = λ may. pair_by_plane box t o' m am on Y b.y c.pair_by_plane-2.result may (a.y may) (c.pair_by_plane-2.ensures.left ∙ (λ i. int_le (e i).y.low b.y.at && int_le (rises p.b b.y.half c.requires.plane.b c.requires.sized.y c.slope_of-2.ensures.rise i) (cond (falls p.b c.requires.plane.b c.slope_of-2.ensures.falls i) m.above m.below)) ∙ (λ i. int_le (aabb_of_tri t).y.low b.y.at && int_le (rise (q i).b b.y.half) (margin_of_left (q i).b m))) (c.pair_by_plane-2.ensures.right ∙ (λ i. int_le b.y.at (e i).y.high && int_le (rises p.b b.y.half c.requires.plane.b c.requires.sized.y c.slope_of-2.ensures.rise i) (cond (falls p.b c.requires.plane.b c.slope_of-2.ensures.falls i) m.below m.above)) ∙ (λ i. int_le b.y.at (aabb_of_tri t).y.high && int_le (rise (q i).b b.y.half) (margin_of_right (q i).b m)));
-      z = λ may. pair_by_plane box t o' m am on Z b.z c.pair_by_plane-3.result may (a.z may) (c.pair_by_plane-3.ensures.left ∙ (λ i. int_le (e i).z.low b.z.at && int_le (rises p.c b.z.half c.requires.plane.c c.requires.sized.z c.slope_of-3.ensures.rise i) (cond (falls p.c c.requires.plane.c c.slope_of-3.ensures.falls i) m.above m.below)) ∙ (λ i. int_le (aabb_of_tri t).z.low b.z.at && int_le (rise (q i).c b.z.half) (margin_of_left (q i).c m))) (c.pair_by_plane-3.ensures.right ∙ (λ i. int_le b.z.at (e i).z.high && int_le (rises p.c b.z.half c.requires.plane.c c.requires.sized.z c.slope_of-3.ensures.rise i) (cond (falls p.c c.requires.plane.c c.slope_of-3.ensures.falls i) m.below m.above)) ∙ (λ i. int_le b.z.at (aabb_of_tri t).z.high && int_le (rise (q i).c b.z.half) (margin_of_right (q i).c m)));
+      x = λ may. pair_by_plane box t o' m am on X b.x c.pair_by_plane.result may (a.x may) (c.pair_by_plane.ensures.left ∙ (λ i. int_le (e i).x.low b.x.at && int_le (change_size_is p.a b.x.half c.requires.plane.a c.requires.sized.x c.slope_of.ensures.change_size i) (cond (falls p.a c.requires.plane.a c.slope_of.ensures.falls i) m.above m.below)) ∙ (λ i. int_le (aabb_of_tri t).x.low b.x.at && int_le (change_size (q i).a b.x.half) (margin_of_left (q i).a m))) (c.pair_by_plane.ensures.right ∙ (λ i. int_le b.x.at (e i).x.high && int_le (change_size_is p.a b.x.half c.requires.plane.a c.requires.sized.x c.slope_of.ensures.change_size i) (cond (falls p.a c.requires.plane.a c.slope_of.ensures.falls i) m.below m.above)) ∙ (λ i. int_le b.x.at (aabb_of_tri t).x.high && int_le (change_size (q i).a b.x.half) (margin_of_right (q i).a m)));
+      y = λ may. pair_by_plane box t o' m am on Y b.y c.pair_by_plane-2.result may (a.y may) (c.pair_by_plane-2.ensures.left ∙ (λ i. int_le (e i).y.low b.y.at && int_le (change_size_is p.b b.y.half c.requires.plane.b c.requires.sized.y c.slope_of-2.ensures.change_size i) (cond (falls p.b c.requires.plane.b c.slope_of-2.ensures.falls i) m.above m.below)) ∙ (λ i. int_le (aabb_of_tri t).y.low b.y.at && int_le (change_size (q i).b b.y.half) (margin_of_left (q i).b m))) (c.pair_by_plane-2.ensures.right ∙ (λ i. int_le b.y.at (e i).y.high && int_le (change_size_is p.b b.y.half c.requires.plane.b c.requires.sized.y c.slope_of-2.ensures.change_size i) (cond (falls p.b c.requires.plane.b c.slope_of-2.ensures.falls i) m.below m.above)) ∙ (λ i. int_le b.y.at (aabb_of_tri t).y.high && int_le (change_size (q i).b b.y.half) (margin_of_right (q i).b m)));
+      z = λ may. pair_by_plane box t o' m am on Z b.z c.pair_by_plane-3.result may (a.z may) (c.pair_by_plane-3.ensures.left ∙ (λ i. int_le (e i).z.low b.z.at && int_le (change_size_is p.c b.z.half c.requires.plane.c c.requires.sized.z c.slope_of-3.ensures.change_size i) (cond (falls p.c c.requires.plane.c c.slope_of-3.ensures.falls i) m.above m.below)) ∙ (λ i. int_le (aabb_of_tri t).z.low b.z.at && int_le (change_size (q i).c b.z.half) (margin_of_left (q i).c m))) (c.pair_by_plane-3.ensures.right ∙ (λ i. int_le b.z.at (e i).z.high && int_le (change_size_is p.c b.z.half c.requires.plane.c c.requires.sized.z c.slope_of-3.ensures.change_size i) (cond (falls p.c c.requires.plane.c c.slope_of-3.ensures.falls i) m.below m.above)) ∙ (λ i. int_le b.z.at (aabb_of_tri t).z.high && int_le (change_size (q i).c b.z.half) (margin_of_right (q i).c m)));
     }

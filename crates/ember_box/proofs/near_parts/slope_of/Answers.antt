@@ -28,7 +28,7 @@ returns-then-n-lt0 c =
     let e = exact (c.requires.n & done) (stored w64 (input 0)) tt in
     let n : is_negative c.args.n ≡ true = negative_in (subst (λ (z : ℤ). z <ℤ pos 0) e (less_out _ (pos 0) c.if-n-lt0.true)) in
     record {
-      rise = rw n (exact (c.requires.n & c.requires.half & done) (stored w64 (number (pos 0) ⊟ times)) tt ∙ minus (c.args.n *ℤ c.args.half));
+      change_size = rw n (exact (c.requires.n & c.requires.half & done) (stored w64 (number (pos 0) ⊟ times)) tt ∙ minus (c.args.n *ℤ c.args.half));
       falls = sym n;
     }
 
@@ -37,6 +37,6 @@ returns-else-n-lt0 c =
     let e = exact (c.requires.n & done) (stored w64 (input 0)) tt in
     let n : is_negative c.args.n ≡ false = negative_not c.args.n (subst (λ (z : ℤ). pos 0 ≤ℤ z) e (not_less_out _ (pos 0) c.if-n-lt0.false)) in
     record {
-      rise = rw n (exact (c.requires.n & c.requires.half & done) times tt);
+      change_size = rw n (exact (c.requires.n & c.requires.half & done) times tt);
       falls = sym n;
     }

@@ -2,7 +2,7 @@ use Rattle.std.proofs.Common.{◌≡◌, ◌<◌, ap, ◌∙◌, sym, length, ge
 use Rattle.std.proofs.lemmas.List.{length-take, length-map, get_or-map}
 use Rattle.ember_model.specs.declared.point.Axis.TheVariants.{X, Y, Z}
 use Rattle.ember_box.specs.Near.{listed, tri_at, no_tri, is_near}
-use Rattle.ember_box.specs.Sums.{number, near_halves}
+use Rattle.ember_box.specs.Sums.{number, near_half_count}
 use Rattle.ember_box.proofs.Counting.{sums_of, sums_none, sums_more, sums_all}
 use Rattle.ember_box.proofs.sums.half_sums.Goals as goal
 
@@ -34,7 +34,7 @@ loop-i-preserved c =
     let here : i < length (listed tris list) = omega (arith, length-map list (λ j. tri_at tris j)) in
     let e : get_or (listed tris list) i no_tri ≡ t = get_or-map (λ j. tri_at tris j) list i 0 no_tri below in
     let one = c.sums_of-more.ensures.sums cell t (c.near_parts.ensures cell c.middles_of-middles.ensures.value) in let few = c.sums_of-more.ensures.few in
-    sums_more (listed tris list) cell i c.loop-i.near c.loop-i.x_sum c.loop-i.y_sum c.loop-i.z_sum more.near more.x more.y more.z here c.loop-i.invariant (one.near ∙ ap (λ u. number (is_near cell u)) (sym e)) few.near (λ p. one.x p ∙ ap (near_halves cell X) (sym e)) few.x (λ p. one.y p ∙ ap (near_halves cell Y) (sym e)) few.y (λ p. one.z p ∙ ap (near_halves cell Z) (sym e)) few.z
+    sums_more (listed tris list) cell i c.loop-i.near c.loop-i.x_sum c.loop-i.y_sum c.loop-i.z_sum more.near more.x more.y more.z here c.loop-i.invariant (one.near ∙ ap (λ u. number (is_near cell u)) (sym e)) few.near (λ p. one.x p ∙ ap (near_half_count cell X) (sym e)) few.x (λ p. one.y p ∙ ap (near_half_count cell Y) (sym e)) few.y (λ p. one.z p ∙ ap (near_half_count cell Z) (sym e)) few.z
 
 pub returns : goal.returns
 returns c =

@@ -1,9 +1,9 @@
 use Rattle.std.proofs.Common.{◌∙◌, ap, ◌+◌}
-use Rattle.ember_box.specs.Sums.{number, near_halves}
+use Rattle.ember_box.specs.Sums.{number, near_half_count}
 use Rattle.ember_box.proofs.sums.sums_of.Goals as goal
 
 pub returns-clause-sums : goal.returns-clause-sums
-unfolding near_halves
+unfolding near_half_count
 returns-clause-sums c box t a =
     record {
       near = c.number.ensures.value ∙ ap number a.whole;

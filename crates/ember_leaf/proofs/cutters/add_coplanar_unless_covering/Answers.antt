@@ -1,7 +1,7 @@
 use Rattle.std.proofs.Common.{subst}
 use Rattle.ember_leaf.specs.Cutters.{IsAdded}
-use Rattle.ember_leaf.specs.Lower.{covers}
-use Rattle.ember_leaf.proofs.LowerTriangles.{coplanar_added, coplanar_lies, coplanar_cutting_planes}
+use Rattle.ember_leaf.specs.EarlierTriangles.{covers}
+use Rattle.ember_leaf.proofs.EarlierTriangles.{coplanar_added, coplanar_lies, coplanar_cutting_planes}
 use Rattle.ember_leaf.proofs.CoplanarFaces.{coplanar_turned}
 use Rattle.ember_leaf.proofs.UnmetPlanes.{added_cutters}
 use Rattle.ember_leaf.proofs.cutters.add_coplanar_unless_covering.Goals as goal

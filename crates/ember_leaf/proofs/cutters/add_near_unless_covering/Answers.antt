@@ -1,6 +1,6 @@
 use Rattle.std.proofs.Common.{◌∙◌, sym}
-use Rattle.ember_leaf.specs.Lower.{misses}
-use Rattle.ember_leaf.proofs.LowerTriangles.{away_misses}
+use Rattle.ember_leaf.specs.EarlierTriangles.{misses}
+use Rattle.ember_leaf.proofs.EarlierTriangles.{away_misses}
 use Rattle.ember_leaf.proofs.UnmetPlanes.{adds_away}
 use Rattle.ember_leaf.proofs.cutters.add_near_unless_covering.Goals as goal
 

@@ -17,7 +17,7 @@ loop-i-init c =
 
 pub write_triangle-requires-clause-same : goal.write_triangle-requires-clause-same
 write_triangle-requires-clause-same c =
-    ap tris_in c.deref-3.ensures.value ∙ c.in_ok-triangles.ensures ∙ ap tris_of (c.deref.ensures.value ∙ sym c.deref-2.ensures.value)
+    ap tris_in c.deref-3.ensures.value ∙ c.in_ok-with_edges.ensures ∙ ap tris_of (c.deref.ensures.value ∙ sym c.deref-2.ensures.value)
 
 pub loop-i-preserved : goal.loop-i-preserved
 loop-i-preserved c =

@@ -1,13 +1,13 @@
-use Rattle.ember_leaf.proofs.Pieces.{across_left, edges_cut_out}
+use Rattle.ember_leaf.proofs.Pieces.{other_plane_left, edges_cut_out}
 use Rattle.ember_leaf.proofs.UnmetPlanes.{on_ok}
 use Rattle.ember_leaf.proofs.regions.add_cut.Goals as goal
 
 pub add_pieces-requires : goal.add_pieces-requires
 add_pieces-requires c =
     let u = c.args.cutter.now in
-    record { valid = u.edges_sized; cut_out = edges_cut_out u u.edges c.args.r c.requires.plane c.in_default.not-Across u.edge_planes c.requires.met }
+    record { valid = u.edges_sized; cut_out = edges_cut_out u u.edges c.args.r c.requires.may_cut c.in_default.not-OtherPlane u.edge_planes c.requires.met }
 
-pub returns-in-Across : goal.returns-in-Across
-returns-in-Across c =
+pub returns-in-OtherPlane : goal.returns-in-OtherPlane
+returns-in-OtherPlane c =
     let u = c.args.cutter.now in
-    on_ok c.add_parts.result c.add_parts.ensures (λ g. across_left u u.support c.args.r c.in-Across.is u.face c.requires.met g)
+    on_ok c.add_parts.result c.add_parts.ensures (λ g. other_plane_left u u.support c.args.r c.in-OtherPlane.is u.face c.requires.met g)

@@ -6,9 +6,9 @@ use Rattle.ember_leaf.proofs.regions.is_met.Goals as goal
 
 pub is_met_coplanar-requires : goal.is_met_coplanar-requires
 is_met_coplanar-requires c =
-    record { plane = cutter_shares_plane c.args.cutter.now c.args.r.now c.requires c.in_default.not-Across; somewhere = c.requires.somewhere }
+    record { plane = cutter_shares_plane c.args.cutter.now c.args.r.now c.requires c.in_default.not-OtherPlane; somewhere = c.requires.somewhere }
 
-pub returns-in-Across : goal.returns-in-Across
-returns-in-Across c =
+pub returns-in-OtherPlane : goal.returns-in-OtherPlane
+returns-in-OtherPlane c =
     let u = c.args.cutter.now in
     subst (λ f. IsTrue c.meets_face.result ↔ Meets c.args.r.now f) (cutting_plane_face u.tri u.face u.edge_planes) c.meets_face.ensures

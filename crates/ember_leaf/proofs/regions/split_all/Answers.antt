@@ -9,8 +9,8 @@ pub add_all-requires-clause-met : goal.add_all-requires-clause-met
 add_all-requires-clause-met c =
     subst (MeetsFirst c.args.cutter.now) (ap (drop c.count_apart-index.result) c.deref.ensures.value ∙ sym c.in_ok-others.ensures.tail) c.count_apart-index.ensures.met
 
-pub add_all-requires-clause-plane : goal.add_all-requires-clause-plane
-add_all-requires-clause-plane c =
+pub add_all-requires-clause-may_cut : goal.add_all-requires-clause-may_cut
+add_all-requires-clause-may_cut c =
     let can = CanCut c.args.cutter.now in
     subst (All can) (sym c.in_ok-others.ensures.tail) (all_drop can c.count_apart-index.result c.args.list.items c.requires)
 

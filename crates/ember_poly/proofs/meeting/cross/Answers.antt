@@ -36,7 +36,7 @@ returns-in-On c =
 pub returns-in-Both : goal.returns-in-Both
 returns-in-Both c =
     let f = c.args.r.now in let p = c.args.p.now in let r = c.r.inside in let e = c.classify-classified in
-    let at = c.find_passage-passage in let q = at.ensures.passage in let s = c.r.invariant.stands in
+    let at = c.find_passage-passage in let q = at.ensures.passage in let s = c.r.invariant.represents in
     let gs = r.planes.items in let xs = sides r.boundary in
     let k = subst (λ t. IsReach f p t) c.in-Both.is (reach_seen f r.support p gs r.boundary.edges.items r.boundary.corners.items r.boundary.plane_indices.items e.result.reach c.r.view_is c.r.invariant (subst (λ ms. AreSigns p ms e.result.reach) c.as_slice.ensures.value e.ensures.signs)) in
     chord_of f r.support p gs xs at.result q s c.r.view_is k

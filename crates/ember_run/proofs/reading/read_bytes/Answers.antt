@@ -3,8 +3,8 @@ use Rattle.ember_io.specs.Shelves.{TellsMore}
 use Rattle.ember_run.proofs.Verdicts.{bytes_too_long_held}
 use Rattle.ember_run.proofs.reading.read_bytes.Goals as goal
 
-pub returns-in-Err-TooLong-clause-refused_held : goal.returns-in-Err-TooLong-clause-refused_held
-returns-in-Err-TooLong-clause-refused_held g c =
+pub returns-in-Err-TooLong-clause-refused_read : goal.returns-in-Err-TooLong-clause-refused_read
+returns-in-Err-TooLong-clause-refused_read g c =
     let a = c.args in
     let told = g.S.Shelf.contents a.shelf.now a.name.now in
     let count : c.in-Err-TooLong.count ≡ 268435457 = first_of (search rules, grind arith) in

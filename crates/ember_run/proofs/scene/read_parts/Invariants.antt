@@ -10,5 +10,5 @@ invariant-loop-file g l =
       later : g.S.Shelf.faults l.initial.shelf ≤ g.S.Shelf.faults l.shelf;
       number : l.number ≡ l.file-index + 1;
       parts : HasParts l.places (map (g.S.Shelf.contents l.initial.shelf) (take l.file-index l.files)) l.parts.items;
-      held : MayHold (g.S.Shelf.contents l.initial.shelf) (take l.file-index l.files) (λ contents. HasParts l.places contents l.parts.items);
+      parts_read : MayHold (g.S.Shelf.contents l.initial.shelf) (take l.file-index l.files) (λ contents. HasParts l.places contents l.parts.items);
     }

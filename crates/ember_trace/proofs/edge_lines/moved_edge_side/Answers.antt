@@ -54,18 +54,18 @@ last = a ⊠ kept 6 ⊟ (d ⊞ b ⊠ place 5) ⊠ kept 7
 
 pub returns-in-X : goal.returns-in-X
 returns-in-X c = λ by.
-    let u = c.args.u.now in let v = c.args.v.now in let m = c.args.m.now in let n = m.valid in let r = c.requires in let l = c.line_through.ensures in let k = c.axis_point_at_first.ensures in
+    let u = c.args.u.now in let v = c.args.v.now in let m = c.args.m.now in let n = m.valid in let r = c.requires in let l = c.line_through.ensures in let k = c.axis_point_at_p.ensures in
     let e = exact (r.s & r.from.x & r.from.y & r.to.x & r.to.y & r.at & n.y & n.w & done) first tt in
     rw c.in-X.is (c.axis_point_side.ensures ∙ ap sgn ((λ i. k.n i *ℤ wide m.y -ℤ k.e i *ℤ wide m.w) ∙ (λ i. neg_ℤ (l.dp i) *ℤ wide m.y -ℤ (l.d i -ℤ l.dq i *ℤ to_z w32 (of_z w32 c.args.at)) *ℤ wide m.w) ∙ e ∙ along_x c.args.s c.args.at by u v (spot_of m)))
 
 pub returns-in-Y : goal.returns-in-Y
 returns-in-Y c = λ by.
-    let u = c.args.u.now in let v = c.args.v.now in let m = c.args.m.now in let n = m.valid in let r = c.requires in let l = c.line_through-in-Y.ensures in let k = c.axis_point_at_last.ensures in
+    let u = c.args.u.now in let v = c.args.v.now in let m = c.args.m.now in let n = m.valid in let r = c.requires in let l = c.line_through-in-Y.ensures in let k = c.axis_point_at_q.ensures in
     let e = exact (r.s & r.from.x & r.from.y & r.to.x & r.to.y & r.at & n.x & n.w & done) last tt in
     rw c.in-Y.is (c.axis_point_side-in-Y.ensures ∙ ap sgn ((λ i. k.n i *ℤ wide m.x -ℤ k.e i *ℤ wide m.w) ∙ (λ i. l.dq i *ℤ wide m.x -ℤ (l.d i +ℤ l.dp i *ℤ to_z w32 (of_z w32 c.args.at)) *ℤ wide m.w) ∙ e ∙ along_y c.args.s c.args.at by u v (spot_of m)))
 
 pub returns-in-Z : goal.returns-in-Z
 returns-in-Z c = λ by.
-    let u = c.args.u.now in let v = c.args.v.now in let m = c.args.m.now in let n = m.valid in let r = c.requires in let l = c.line_through-in-Z.ensures in let k = c.axis_point_at_first-in-Z.ensures in
+    let u = c.args.u.now in let v = c.args.v.now in let m = c.args.m.now in let n = m.valid in let r = c.requires in let l = c.line_through-in-Z.ensures in let k = c.axis_point_at_p-in-Z.ensures in
     let e = exact (r.s & r.from.z & r.from.x & r.to.z & r.to.x & r.at & n.x & n.w & done) first tt in
     rw c.in-Z.is (c.axis_point_side-in-Z.ensures ∙ ap sgn ((λ i. k.n i *ℤ wide m.x -ℤ k.e i *ℤ wide m.w) ∙ (λ i. neg_ℤ (l.dp i) *ℤ wide m.x -ℤ (l.d i -ℤ l.dq i *ℤ to_z w32 (of_z w32 c.args.at)) *ℤ wide m.w) ∙ e ∙ along_z c.args.s c.args.at by u v (spot_of m)))

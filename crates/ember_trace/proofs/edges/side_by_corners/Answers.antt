@@ -10,7 +10,7 @@ use Rattle.ember_point.specs.declared.meet_point.Meet.{Meet}
 use Rattle.ember_point.specs.Points.{spot_of}
 use Rattle.ember_ref.specs.References.{or_sign}
 use Rattle.ember_trace.specs.declared.path.Path.{Path}
-use Rattle.ember_trace.specs.Paths.{side_at_end, slid_to_start}
+use Rattle.ember_trace.specs.Paths.{side_at_end, slid_to_lo}
 use Rattle.ember_trace.proofs.VertexSides.{or_next, or_first}
 use Rattle.ember_trace.proofs.edges.side_by_corners.Goals as goal
 
@@ -32,7 +32,7 @@ by_last w h r s t e z f y g =
 
 -- the plane through the edge as it is at the end of the first segment
 abbrev moved : Path → Corner → Corner → ℤ → Plane
-moved w u v s = slid_to_start w w.main (slid_to_start w w.second_axis (times_plane s (edge_through u v (unit w.second_axis))))
+moved w u v s = slid_to_lo w w.main (slid_to_lo w w.second_axis (times_plane s (edge_through u v (unit w.second_axis))))
 
 pub returns-in_default : goal.returns-in_default
 returns-in_default c =

@@ -3,10 +3,10 @@ use Rattle.std.specs.Int.{int_max}
 use Rattle.std.proofs.lemmas.Int.{clamps}
 use borrow.Author.Differences.{ints}
 use Rattle.ember_algebra.specs.Sign.{sgn, flip}
-use Rattle.ember_box.specs.Aabbs.{aabb_of_tri}
+use Rattle.ember_box.specs.Aabbs.{interval_along, aabb_of_tri}
 use Rattle.ember_model.specs.Planes.{along}
 use Rattle.ember_trace.specs.Paths.{coordinate, floor_at_end}
-use Rattle.ember_trace.specs.Crossings.{interval_along, in_root}
+use Rattle.ember_trace.specs.Crossings.{in_root}
 use Rattle.ember_trace.proofs.AboveEnds.{above_end}
 use Rattle.ember_trace.proofs.Roots.{below_in_root}
 use Rattle.ember_trace.proofs.SegmentsPast.{low_small}

@@ -9,7 +9,7 @@ use Rattle.steal_pool.proofs.alone.drain.Given as goal
 abbrev pub invariant-loop : goal.invariant-loop
 invariant-loop g l = record {
   lent : Lent 0 (worker_view l.owner);
-  found : All (IsPart g.K.VisitedJobs.is_visited g.K.BoxWeight.answers) l.output.parts.items;
+  parts : All (IsPart g.K.VisitedJobs.is_visited g.K.BoxWeight.answers) l.output.parts.items;
   stays : KeepsHalves l.initial.output l.output;
   pushed : (worker_view l.owner).pushed ≡ (worker_view l.initial.owner).pushed;
   sums : (h : Entry → ℕ) (u : ℕ → ℕ) → ended h u l.output + weigh (g.K.BoxWeight.weight h u) (worker_view l.initial.owner).taken ≡ ended h u l.initial.output + weigh (g.K.BoxWeight.weight h u) (worker_view l.owner).taken;

@@ -1,12 +1,12 @@
 use Rattle.std.proofs.Common.{refl, subst}
 use Rattle.steal_pool.specs.Steps.{OutcomeFits}
-use Rattle.steal_pool.proofs.EndedBoxes.{leaf_ends, leaf_found, halves_end, halves_fit}
+use Rattle.steal_pool.proofs.EndedBoxes.{leaf_ends, leaf_parts, halves_end, halves_fit}
 use Rattle.steal_pool.proofs.alone.run_step.Goals as goal
 
-pub returns-in_ok-push-in-Leaf-2-clause-found : goal.returns-in_ok-push-in-Leaf-2-clause-found
-returns-in_ok-push-in-Leaf-2-clause-found g c =
-    leaf_found g.K.VisitedJobs.is_visited g.K.BoxWeight.answers g.K.BoxWeight.weight c.args.job.now c.args.output.now.parts.items c.push-in-Leaf.new.self.items c.in-Leaf.item c.path-path.result c.path-path.ensures c.in_ok-push-in-Leaf-2.ensures.items c.requires.job
-    (subst (OutcomeFits g.K.VisitedJobs.is_visited g.K.BoxWeight.answers g.K.BoxWeight.weight c.args.job.now) c.in-Leaf.is c.in_ok-item.ensures) c.requires.found
+pub returns-in_ok-push-in-Leaf-2-clause-parts : goal.returns-in_ok-push-in-Leaf-2-clause-parts
+returns-in_ok-push-in-Leaf-2-clause-parts g c =
+    leaf_parts g.K.VisitedJobs.is_visited g.K.BoxWeight.answers g.K.BoxWeight.weight c.args.job.now c.args.output.now.parts.items c.push-in-Leaf.new.self.items c.in-Leaf.item c.path-path.result c.path-path.ensures c.in_ok-push-in-Leaf-2.ensures.items c.requires.job
+    (subst (OutcomeFits g.K.VisitedJobs.is_visited g.K.BoxWeight.answers g.K.BoxWeight.weight c.args.job.now) c.in-Leaf.is c.in_ok-item.ensures) c.requires.parts
 
 pub returns-in_ok-push-in-Leaf-2-clause-ends : goal.returns-in_ok-push-in-Leaf-2-clause-ends
 returns-in_ok-push-in-Leaf-2-clause-ends g c =

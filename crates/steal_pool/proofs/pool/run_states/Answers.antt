@@ -30,7 +30,7 @@ returns-clause-sums g c = λ h u. omega (
   c.in_ok-outputs.ensures.sums.held h u,
   c.in_ok-outputs.ensures.sums.received h u,
   c.absorb_all.ensures.pushed (g.K.BoxWeight.weight h u),
-  c.absorb_all.ensures.popped (g.K.BoxWeight.weight h u),
+  c.absorb_all.ensures.taken (g.K.BoxWeight.weight h u),
   c.in_ok-drain_all.ensures.sums h u,
   ap (weigh h) c.new-journal.ensures.items,
   ap (weigh (by_path u)) c.of.ensures,

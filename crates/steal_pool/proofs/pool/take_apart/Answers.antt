@@ -1,11 +1,11 @@
 use Rattle.std.proofs.Common.{[], ◌∷◌, ap, arith, refl, ◌∙◌}
 use Rattle.std.proofs.lemmas.List.Elements.{All-append, All-push}
 use Rattle.ember_job.specs.Weights.{weigh}
-use Rattle.steal_pool.specs.Owners.{Lent, all_pushed, all_popped, rows_taken}
+use Rattle.steal_pool.specs.Owners.{Lent, all_pushed, owners_taken, rows_taken}
 use Rattle.steal_pool.specs.Steps.{EachPass, all_taken, IsPart, by_path}
 use Rattle.steal_pool.specs.Workers.{all_held, all_received}
 use Rattle.steal_pool.proofs.DequeSteps.{weigh_append}
-use Rattle.steal_pool.proofs.AccountSums.{pushed_snoc, popped_snoc, journals_next}
+use Rattle.steal_pool.proofs.AccountSums.{pushed_snoc, owners_taken_snoc, journals_next}
 use Rattle.steal_pool.proofs.StateLists.{taking_next, taking_end, may_leave_first}
 use Rattle.steal_pool.proofs.pool.take_apart.Goals as goal
 
@@ -17,7 +17,7 @@ loop-state-preserved g c =
       rows = rw c.in_ok-push-2.ensures.items (All-push (λ r. EachPass c.args.stealers.now.items r.items) c.loop-state.rows.items c.in-Some.state.passes c.loop-state.invariant.rows first.0.each);
       len = omega (arith, c.loop-state.invariant.len, c.in_ok-push-2.ensures.len, c.in-Some.ensures.len);
       journals = journals_next (λ j. j.items) (λ s. s.output.journal.items) _ _ _ _ c.in-Some.state.output.journal c.in-Some.state c.in_ok-push-3.ensures.items c.in-Some.ensures.first refl ∙ c.loop-state.invariant.journals;
-      found = rw c.in_ok-append.ensures.items (All-append (IsPart g.K.VisitedJobs.is_visited g.K.BoxWeight.answers) c.loop-state.parts.items c.in-Some.state.output.parts.items c.loop-state.invariant.found first.0.found_all);
+      parts = rw c.in_ok-append.ensures.items (All-append (IsPart g.K.VisitedJobs.is_visited g.K.BoxWeight.answers) c.loop-state.parts.items c.in-Some.state.output.parts.items c.loop-state.invariant.parts first.0.parts_all);
       held = λ h u. omega (
         arith,
         c.loop-state.invariant.held h u,
@@ -36,8 +36,8 @@ loop-state-preserved g c =
         ap (all_received g.K.BoxWeight.weight h u) c.in-Some.ensures.first,
         ap (rows_taken (g.K.BoxWeight.weight h u)) c.in_ok-push-2.ensures.items,
         weigh_append (λ r. all_taken (g.K.BoxWeight.weight h u) r.items) c.loop-state.rows.items (c.in-Some.state.passes ∷ []),
-        ap (all_popped (g.K.BoxWeight.weight h u)) c.in_ok-push.ensures.items,
-        popped_snoc (g.K.BoxWeight.weight h u) c.loop-state.owners.items c.in-Some.state.owner,
+        ap (owners_taken (g.K.BoxWeight.weight h u)) c.in_ok-push.ensures.items,
+        owners_taken_snoc (g.K.BoxWeight.weight h u) c.loop-state.owners.items c.in-Some.state.owner,
       );
     }
 

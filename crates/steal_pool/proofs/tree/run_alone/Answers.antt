@@ -13,7 +13,7 @@ pub run_alone_named-requires-clause-root : goal.run_alone_named-requires-clause-
 run_alone_named-requires-clause-root g c = root_visited
 
 pub returns-clause-parts : goal.returns-clause-parts
-returns-clause-parts g c = are_parts (g.W.Work.shape c.args.step.now.work) c.args.root c.in_ok-harvest.harvest.parts (c.in_ok-harvest.harvest.journals ++ [] ∷ []) (g.W.Work.item c.args.step.now.work) c.in_ok-harvest.ensures.sums c.in_ok-harvest.ensures.found
+returns-clause-parts g c = are_parts (g.W.Work.shape c.args.step.now.work) c.args.root c.in_ok-harvest.harvest.parts (c.in_ok-harvest.harvest.journals ++ [] ∷ []) (g.W.Work.item c.args.step.now.work) c.in_ok-harvest.ensures.sums c.in_ok-harvest.ensures.parts
 
 pub returns-clause-journals : goal.returns-clause-journals
 returns-clause-journals g c = keep_rules (g.W.Work.shape c.args.step.now.work) c.args.root c.in_ok-harvest.harvest.parts (c.in_ok-harvest.harvest.journals ++ [] ∷ []) 1 0 (ap (λ (x : Cell). x.path) c.requires.cell) c.in_ok-harvest.ensures.sums c.in_ok-harvest.ensures.journals

@@ -13,7 +13,7 @@ pub run_named-requires-clause-root : goal.run_named-requires-clause-root
 run_named-requires-clause-root g c κs within = root_visited
 
 pub returns-clause-parts : goal.returns-clause-parts
-returns-clause-parts g c = are_parts (g.W.Work.shape c.args.step.now.work) c.args.root c.in_ok-harvest.harvest.parts c.in_ok-harvest.harvest.journals (g.W.Work.item c.args.step.now.work) c.in_ok-harvest.ensures.sums c.in_ok-harvest.ensures.found
+returns-clause-parts g c = are_parts (g.W.Work.shape c.args.step.now.work) c.args.root c.in_ok-harvest.harvest.parts c.in_ok-harvest.harvest.journals (g.W.Work.item c.args.step.now.work) c.in_ok-harvest.ensures.sums c.in_ok-harvest.ensures.parts
 
 pub returns-clause-journals : goal.returns-clause-journals
 returns-clause-journals g c =

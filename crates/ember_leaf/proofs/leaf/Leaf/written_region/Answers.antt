@@ -2,7 +2,7 @@ use Rattle.std.proofs.Common.{arith}
 use Rattle.ember_expr.specs.Formula.{formula_of}
 use Rattle.ember_law.proofs.CountBounds.{all_within}
 use Rattle.ember_leaf.specs.KeptRegions.{tris_of}
-use Rattle.ember_leaf.proofs.WrittenRegions.{is_written, is_even}
+use Rattle.ember_leaf.proofs.WrittenRegions.{is_written, isnt_written}
 use Rattle.ember_leaf.proofs.leaf.Leaf.written_region.Goals as goal
 
 pub flip_of-requires-clause-before : goal.flip_of-requires-clause-before
@@ -21,4 +21,4 @@ returns-in-Some-clause-written c =
 
 pub returns-in-None-clause-written : goal.returns-in-None-clause-written
 returns-in-None-clause-written c =
-    λ scene h. is_even scene (formula_of c.args.self.now.expr.now) (tris_of c.args.self.now.near.now) c.args.i c.args.ring _ _ (c.trace_sides.ensures.sides c.requires.reference_sides c.requires.inside scene h) c.flip_of.result c.flip_of.ensures c.in-None.is
+    λ scene h. isnt_written scene (formula_of c.args.self.now.expr.now) (tris_of c.args.self.now.near.now) c.args.i c.args.ring _ _ (c.trace_sides.ensures.sides c.requires.reference_sides c.requires.inside scene h) c.flip_of.result c.flip_of.ensures c.in-None.is

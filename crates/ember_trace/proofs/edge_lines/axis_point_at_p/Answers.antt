@@ -2,7 +2,7 @@ use Rattle.std.proofs.Common.{◌≡◌, ◌∙◌, arith, ℤ, pos, ◌-ℤ◌,
 use borrow.Author.Differences.{ints}
 use mir.Syntax.{w32, w64}
 use Rattle.ember_algebra.proofs.Exact.{Code, input, number, stored, narrow, ◌⊠◌, ◌⊟◌, ◌&◌, done, exact, bounded}
-use Rattle.ember_trace.proofs.edge_lines.axis_point_at_first.Goals as goal
+use Rattle.ember_trace.proofs.edge_lines.axis_point_at_p.Goals as goal
 
 -- the numbers are dp, dq, d and the coordinate
 abbrev n : Code

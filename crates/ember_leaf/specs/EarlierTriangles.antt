@@ -26,35 +26,35 @@ pub record ContainsPart (t : Tri) (b : Aabb) (u : Tri) (f : Face) : Type 0 where
   pub within : Contains (face_of u) f
 
 -- what a triangle adds to the list of those before t in its plane; true if it covers t
-pub data AddsLower (t u : Tri) (b : Aabb) (is_before : Bool) (old : List Tri) : Bool → List Tri → Type 0 where
+pub data AddsEarlier (t u : Tri) (b : Aabb) (is_before : Bool) (old : List Tri) : Bool → List Tri → Type 0 where
   covers : {new : List Tri} → is_before ≡ true → is_coplanar u t ≡ true → Contains (face_of u) (face_of t) →
-      AddsLower t u b is_before old true new
-  joins : is_before ≡ true → is_coplanar u t ≡ true → AddsLower t u b is_before old false (old ++ u ∷ [])
-  misses : ((f : Face) → ContainsPart t b u f → ⊥) → AddsLower t u b is_before old false old
-  follows : is_before ≡ false → AddsLower t u b is_before old false old
+      AddsEarlier t u b is_before old true new
+  joins : is_before ≡ true → is_coplanar u t ≡ true → AddsEarlier t u b is_before old false (old ++ u ∷ [])
+  misses : ((f : Face) → ContainsPart t b u f → ⊥) → AddsEarlier t u b is_before old false old
+  follows : is_before ≡ false → AddsEarlier t u b is_before old false old
 
--- `lower` has triangles before index i; and if one of the first n triangles, before index i, lies in the plane
--- of t and contains a part of t within the bounds, then one of `lower` contains that part
-pub record AreLower (ts : List Tri) (i : ℕ) (t : Tri) (b : Aabb) (n : ℕ) (lower : List Tri) : Type 0 where
-  pub stand : All (IsListedBefore ts i) lower
-  pub held : (m : ℕ) → m < n → m < i → (f : Face) → ContainsPart t b (tri_at ts m) f → HasContaining lower f
+-- `earlier` has triangles before index i; and if one of the first n triangles, before index i, lies in the plane
+-- of t and contains a part of t within the bounds, then one of `earlier` contains that part
+pub record AreEarlier (ts : List Tri) (i : ℕ) (t : Tri) (b : Aabb) (n : ℕ) (earlier : List Tri) : Type 0 where
+  pub listed : All (IsListedBefore ts i) earlier
+  pub one_contains : (m : ℕ) → m < n → m < i → (f : Face) → ContainsPart t b (tri_at ts m) f → HasContaining earlier f
 
 -- a triangle before index i, in the plane of t, covers t
 pub record HasCover (ts : List Tri) (i : ℕ) (t : Tri) : Type 0 where
   pub cover : Tri
-  pub stands : IsListedBefore ts i cover
+  pub listed : IsListedBefore ts i cover
   pub coplanar : is_coplanar cover t ≡ true
   pub contains : Contains (face_of cover) (face_of t)
 
--- if the test for a cover returned `true`, an earlier triangle covers t; otherwise `lower` is complete
-abbrev pub AreLowerOrCovered : List Tri → ℕ → Tri → Aabb → List Tri → Bool → Type 0
-AreLowerOrCovered ts i t b lower true = HasCover ts i t
-AreLowerOrCovered ts i t b lower false = AreLower ts i t b (length ts) lower
+-- if the test for a cover returned `true`, an earlier triangle covers t; otherwise `earlier` is complete
+abbrev pub AreEarlierOrCovered : List Tri → ℕ → Tri → Aabb → List Tri → Bool → Type 0
+AreEarlierOrCovered ts i t b earlier true = HasCover ts i t
+AreEarlierOrCovered ts i t b earlier false = AreEarlier ts i t b (length ts) earlier
 
--- whether triangle i owns the face is decided by whether a triangle of `lower` contains it
-pub record DecidesOwner (lower : List Tri) (ts : List Tri) (i : ℕ) (f : Face) : Type 0 where
-  pub free : All (λ u. Contains (face_of u) f → ⊥) lower → IsOwner ts i f
-  pub held : HasContaining lower f → IsOwner ts i f → ⊥
+-- whether triangle i owns the face is decided by whether a triangle of `earlier` contains it
+pub record DecidesOwner (earlier : List Tri) (ts : List Tri) (i : ℕ) (f : Face) : Type 0 where
+  pub free : All (λ u. Contains (face_of u) f → ⊥) earlier → IsOwner ts i f
+  pub contained : HasContaining earlier f → IsOwner ts i f → ⊥
 
 -- ---- what is known of the list of triangles that may cut the regions of t, after one more or all
 -- after u, unless u covers t: the list has the cutting planes of u that may cut a part of t within the bounds
@@ -69,17 +69,18 @@ AddsPlanesOf t u old new covered =
 
 -- after u: the owners in the list have grown by u, if u may own a part of t within the bounds
 abbrev pub AddsOwnersWithin : Aabb → Tri → Tri → Bool → List Cutter → List Cutter → Bool → Type 0
-AddsOwnersWithin b t u is_before old new covered = AddsLower t u b is_before (owners_in old) covered (owners_in new)
+AddsOwnersWithin b t u is_before old new covered = AddsEarlier t u b is_before (owners_in old) covered (owners_in new)
 
 -- the same within all bounds
 abbrev pub AddsOwners : Tri → Tri → Bool → List Cutter → List Cutter → Bool → Type 0
 AddsOwners t u is_before old new covered =
-    (b : Aabb) → AddsLower t u b is_before (owners_in old) covered (owners_in new)
+    (b : Aabb) → AddsEarlier t u b is_before (owners_in old) covered (owners_in new)
 
 -- after all, unless t is covered: the list has all cutting planes that may cut a part of t within the bounds
 abbrev pub AreCuttingPlanesFound : List Tri → ℕ → Tri → Aabb → List Cutter → Bool → Type 0
-AreCuttingPlanesFound ts i t b cs covered = covered ≡ false → OmitsUnmet (IsBounded t b) (cutting_planes ts i) (cutting_planes_in cs)
+AreCuttingPlanesFound ts i t b cutters covered =
+    covered ≡ false → OmitsUnmet (IsBounded t b) (cutting_planes ts i) (cutting_planes_in cutters)
 
 -- after all: t is covered, or the owners in the list decide who owns a part of t within the bounds
 abbrev pub AreOwnersFound : List Tri → ℕ → Tri → Aabb → List Cutter → Bool → Type 0
-AreOwnersFound ts i t b cs covered = AreLowerOrCovered ts i t b (owners_in cs) covered
+AreOwnersFound ts i t b cutters covered = AreEarlierOrCovered ts i t b (owners_in cutters) covered

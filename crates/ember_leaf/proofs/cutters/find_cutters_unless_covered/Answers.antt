@@ -9,16 +9,16 @@ use Rattle.ember_leaf.specs.declared.leaf_triangle.LeafTriangle.{LeafTriangle}
 use Rattle.ember_leaf.specs.declared.cutter.Cutter.{Cutter}
 use Rattle.ember_leaf.specs.LeafTriangles.{tris_in}
 use Rattle.ember_leaf.specs.Cutters.{cutting_planes_in, owners_in, IsCutterOf, IsBounded, OmitsUnmet, all_seen}
-use Rattle.ember_leaf.specs.Lower.{AreLower}
+use Rattle.ember_leaf.specs.EarlierTriangles.{AreEarlier}
 use Rattle.ember_leaf.proofs.RegionOrder.{own_is, listed_too, all_listed}
-use Rattle.ember_leaf.proofs.LowerTriangles.{lt_out, lt_in, none_listed, own_listed, other_listed, cover_found}
+use Rattle.ember_leaf.proofs.EarlierTriangles.{lt_out, lt_in, none_listed, own_listed, other_listed, cover_found}
 use Rattle.ember_leaf.proofs.UnmetPlanes.{own_next, other_next}
-use Rattle.ember_leaf.proofs.cutters.find_cutters.Goals.{else-j-i-via-then-j-i+in_ok-add_near_unless_covering+else-branch, else-j-i-via-else-j-i}
-use Rattle.ember_leaf.proofs.cutters.find_cutters.Goals as goal
+use Rattle.ember_leaf.proofs.cutters.find_cutters_unless_covered.Goals.{else-j-i-via-then-j-i+in_ok-add_near_unless_covering+else-branch, else-j-i-via-else-j-i}
+use Rattle.ember_leaf.proofs.cutters.find_cutters_unless_covered.Goals as goal
 
 abbrev IsNext : Tri → Aabb → List Tri → ℕ → ℕ → List Cutter → Type 0
 IsNext t b ts i n cs =
-    All (IsCutterOf t) cs × OmitsUnmet (IsBounded t b) (flat_map (cutting_planes_at ts i) (range_with_len 0 n)) (cutting_planes_in cs) × AreLower ts i t b n (owners_in cs)
+    All (IsCutterOf t) cs × OmitsUnmet (IsBounded t b) (flat_map (cutting_planes_at ts i) (range_with_len 0 n)) (cutting_planes_in cs) × AreEarlier ts i t b n (owners_in cs)
 
 pub loop-j-init : goal.loop-j-init
 loop-j-init c =
@@ -47,4 +47,4 @@ returns-clause-cutting_planes c =
 pub returns-clause-owners : goal.returns-clause-owners
 returns-clause-owners c =
     let near = c.args.near.now in let e = all_listed near c.loop-j.j c.loop-j-test.false c.loop-j.auto.j-end in
-    subst (λ (n : ℕ). AreLower (tris_in near) c.args.i c.args.target.now.tri c.args.bounds.now n (owners_in c.loop-j.list.items)) e c.loop-j.invariant.2
+    subst (λ (n : ℕ). AreEarlier (tris_in near) c.args.i c.args.target.now.tri c.args.bounds.now n (owners_in c.loop-j.list.items)) e c.loop-j.invariant.2

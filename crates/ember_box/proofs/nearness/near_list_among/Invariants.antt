@@ -1,6 +1,6 @@
 use Rattle.std.proofs.Common.{◌≡◌, take}
 use Rattle.ember_box.specs.Near.{near_indices}
-use Rattle.ember_box.proofs.nearness.near_among.Given as goal
+use Rattle.ember_box.proofs.nearness.near_list_among.Given as goal
 
 abbrev pub invariant-loop-i : goal.invariant-loop-i
 invariant-loop-i l = l.found.items ≡ near_indices l.tris l.c (take l.i-index l.list)

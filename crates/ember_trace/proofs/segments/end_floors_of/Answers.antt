@@ -1,7 +1,7 @@
 use Rattle.std.proofs.Common.{◌∙◌}
 use mir.Syntax.{w32}
 use Rattle.ember_algebra.proofs.Exact.{input, stored, ◌&◌, done, exact}
-use Rattle.ember_trace.proofs.segments.end_cell_of.Goals as goal
+use Rattle.ember_trace.proofs.segments.end_floors_of.Goals as goal
 
 pub returns : goal.returns
 returns c =

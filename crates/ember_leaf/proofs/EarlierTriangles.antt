@@ -19,10 +19,10 @@ use Rattle.ember_poly.specs.Cuts.{HasInside}
 use Rattle.ember_trace.proofs.FlatPlanes.{lies_flat, shared_face}
 use Rattle.ember_leaf.specs.declared.cutter.Cutter.{Cutter}
 use Rattle.ember_leaf.specs.declared.cutter.Role.{Role}
-use Rattle.ember_leaf.specs.declared.cutter.Role.TheVariants.{Across, Later, Earlier}
+use Rattle.ember_leaf.specs.declared.cutter.Role.TheVariants.{OtherPlane, Later, Earlier}
 use Rattle.ember_leaf.specs.Cutters.{role_if, owner_as, owners_by, owners_in, LiesAs, IsCutterOf, IsAdded, AddsCuttingPlanes, IsBounded}
 use Rattle.ember_leaf.specs.TriRelations.{MissesClosedFace, IsValidCoplanar, HasContaining}
-use Rattle.ember_leaf.specs.Lower.{IsListedBefore, ContainsPart, AddsLower, covers, joins, misses, follows, AreLower, HasCover, DecidesOwner}
+use Rattle.ember_leaf.specs.EarlierTriangles.{IsListedBefore, ContainsPart, AddsEarlier, covers, joins, misses, follows, AreEarlier, HasCover, DecidesOwner}
 use Rattle.ember_leaf.specs.Written.{IsCovered}
 use Rattle.ember_leaf.proofs.TriRelations.{coplanar_flats}
 use Rattle.ember_leaf.proofs.RegionOrder.{face_support}
@@ -56,8 +56,8 @@ pub apart_misses : (t u : Tri) (b : Aabb) → MissesClosedFace t u → (f : Face
 apart_misses t u b a f h =
     clash (meets t u b f h).holds (a.holds h.somewhere.at (held_inside t u b f h))
 
-across_misses : (t u : Tri) (b : Aabb) → is_coplanar t u ≡ false → (f : Face) → ContainsPart t b u f → ⊥
-across_misses t u b e f h = clash (coplanar_too t u b f h) e
+other_plane_misses : (t u : Tri) (b : Aabb) → is_coplanar t u ≡ false → (f : Face) → ContainsPart t b u f → ⊥
+other_plane_misses t u b e f h = clash (coplanar_too t u b f h) e
 
 -- a triangle whose bounding box doesn't meet the bounds contains no part of t within them
 pub away_misses : (t u : Tri) (b s : Aabb) → s ≡ aabb_of_tri u → aabbs_meet b s ≡ false → (f : Face) → ContainsPart t b u f → ⊥
@@ -65,16 +65,16 @@ away_misses t u b s e q f h =
     away_unmet t u b s e q (coplanar_flats u t h.coplanar).0 f h.bounded (meets t u b f h)
 
 -- ---- what a triangle of one plane adds
-pub coplanar_added : (t u : Tri) (is_before : Bool) {old new : List Cutter} → is_coplanar t u ≡ true → IsAdded u (role_if is_before) old new → (b : Aabb) → AddsLower t u b is_before (owners_in old) false (owners_in new)
+pub coplanar_added : (t u : Tri) (is_before : Bool) {old new : List Cutter} → is_coplanar t u ≡ true → IsAdded u (role_if is_before) old new → (b : Aabb) → AddsEarlier t u b is_before (owners_in old) false (owners_in new)
 coplanar_added t u true {old} {new} e a b =
-    subst (λ (l : List Tri). AddsLower t u b true (owners_in old) false l) (sym (added_owners a)) (joins refl (coplanar_turned u t e))
+    subst (λ (l : List Tri). AddsEarlier t u b true (owners_in old) false l) (sym (added_owners a)) (joins refl (coplanar_turned u t e))
 coplanar_added t u false {old} {new} e a b =
-    subst (λ (l : List Tri). AddsLower t u b false (owners_in old) false l) (sym (added_owners a ∙ append-nil (owners_in old))) (follows refl)
+    subst (λ (l : List Tri). AddsEarlier t u b false (owners_in old) false l) (sym (added_owners a ∙ append-nil (owners_in old))) (follows refl)
 
 -- a triangle in another plane adds no owner
-pub across_added : (t u : Tri) (is_before : Bool) {old new : List Cutter} → is_coplanar t u ≡ false → IsAdded u Across old new → (b : Aabb) → AddsLower t u b is_before (owners_in old) false (owners_in new)
-across_added t u is_before {old} {new} e a b =
-    subst (λ (l : List Tri). AddsLower t u b is_before (owners_in old) false l) (sym (added_owners a ∙ append-nil (owners_in old))) (misses (across_misses t u b e))
+pub other_plane_added : (t u : Tri) (is_before : Bool) {old new : List Cutter} → is_coplanar t u ≡ false → IsAdded u OtherPlane old new → (b : Aabb) → AddsEarlier t u b is_before (owners_in old) false (owners_in new)
+other_plane_added t u is_before {old} {new} e a b =
+    subst (λ (l : List Tri). AddsEarlier t u b is_before (owners_in old) false l) (sym (added_owners a ∙ append-nil (owners_in old))) (misses (other_plane_misses t u b e))
 
 -- a coplanar triangle lies relative to t as its role says, whether it comes before t or not
 pub coplanar_lies : (is_before : Bool) (t u : Tri) → is_coplanar t u ≡ true → LiesAs (role_if is_before) t u
@@ -86,23 +86,23 @@ pub coplanar_cutting_planes : (t u : Tri) (is_before : Bool) {old new : List Cut
 coplanar_cutting_planes t u true {old} {new} b n e a = adds_all old new (edge_cutting_planes t u n e) (added_cutting_planes a)
 coplanar_cutting_planes t u false {old} {new} b n e a = adds_all old new (edge_cutting_planes t u n e) (added_cutting_planes a)
 
--- those that own are of lower number and in the plane of t
-owner_lower : (t : Tri) (c : Cutter) → IsCutterOf t c → Every (IsValidCoplanar t) (owners_by c)
-owner_lower t c h = by c.role h.lies
+-- an owner that a cutter gives is valid and lies in the plane of t
+owner_coplanar : (t : Tri) (c : Cutter) → IsCutterOf t c → Every (IsValidCoplanar t) (owners_by c)
+owner_coplanar t c h = by c.role h.lies
   where
     by : (k : Role) → LiesAs k t c.tri → Every (IsValidCoplanar t) (owner_as k c.tri)
-    by Across l = tt
+    by OtherPlane l = tt
     by Later l = tt
     by Earlier l = (record { valid = c.valid; coplanar = coplanar_turned c.tri t l }, tt)
 
 -- the owners in a list of cutters are valid triangles in the plane of t
-pub owners_lower : (t : Tri) (cs : List Cutter) → All (IsCutterOf t) cs → All (IsValidCoplanar t) (owners_in cs)
-owners_lower t cs h = every_all (IsValidCoplanar t) (owners_in cs) (by cs (all_every (IsCutterOf t) cs h))
+pub owners_coplanar : (t : Tri) (cs : List Cutter) → All (IsCutterOf t) cs → All (IsValidCoplanar t) (owners_in cs)
+owners_coplanar t cs h = every_all (IsValidCoplanar t) (owners_in cs) (by cs (all_every (IsCutterOf t) cs h))
   where
     by : (cs : List Cutter) → Every (IsCutterOf t) cs → Every (IsValidCoplanar t) (owners_in cs)
     by [] e = tt
     by (c ∷ cs) e =
-        every_append (IsValidCoplanar t) (owners_by c) (owners_in cs) (owner_lower t c e.0) (by cs e.1)
+        every_append (IsValidCoplanar t) (owners_by c) (owners_in cs) (owner_coplanar t c e.0) (by cs e.1)
 
 -- ---- lists
 all_at : {X : Type 0} (P : X → Type 0) (xs : List X) (i : ℕ) (x : X) → All P xs → slice_get xs i ≡ Some x → P x
@@ -142,37 +142,37 @@ lt_in j i l = grind arith
 -- ---- one triangle more
 module _ (ts : List Tri) (i : ℕ) (t : Tri) (b : Aabb) where
   -- before the first triangle the list is empty
-  pub none_listed : (lower : List Tri) → lower ≡ [] → AreLower ts i t b 0 lower
-  none_listed lower e =
-      record { stand = subst (All (IsListedBefore ts i)) (sym e) (All-nil (IsListedBefore ts i)); held = λ m l k f h. absurd (omega (arith, l)) }
+  pub none_listed : (earlier : List Tri) → earlier ≡ [] → AreEarlier ts i t b 0 earlier
+  none_listed earlier e =
+      record { listed = subst (All (IsListedBefore ts i)) (sym e) (All-nil (IsListedBefore ts i)); one_contains = λ m l k f h. absurd (omega (arith, l)) }
 
   -- a list that is as it was
-  kept_list : (j : ℕ) (lower : List Tri) → AreLower ts i t b j lower → (j < i → (f : Face) → ContainsPart t b (tri_at ts j) f → ⊥) → AreLower ts i t b (j + 1) lower
-  kept_list j lower a n =
-      record { stand = a.stand; held = λ m l k f h. by m k f h (below_next m j l) }
+  kept_list : (j : ℕ) (earlier : List Tri) → AreEarlier ts i t b j earlier → (j < i → (f : Face) → ContainsPart t b (tri_at ts j) f → ⊥) → AreEarlier ts i t b (j + 1) earlier
+  kept_list j earlier a n =
+      record { listed = a.listed; one_contains = λ m l k f h. by m k f h (below_next m j l) }
     where
-      by : (m : ℕ) → m < i → (f : Face) → ContainsPart t b (tri_at ts m) f → (m < j) ⊎ (m ≡ j) → HasContaining lower f
-      by m k f h (inl l) = a.held m l k f h
+      by : (m : ℕ) → m < i → (f : Face) → ContainsPart t b (tri_at ts m) f → (m < j) ⊎ (m ≡ j) → HasContaining earlier f
+      by m k f h (inl l) = a.one_contains m l k f h
       by m k f h (inr e) =
           absurd (n (omega (arith, e, k)) f (subst (λ (n : ℕ). ContainsPart t b (tri_at ts n) f) e h))
 
   -- t itself adds nothing
-  pub own_listed : (j : ℕ) (lower : List Tri) → AreLower ts i t b j lower → j ≡ i → AreLower ts i t b (j + 1) lower
-  own_listed j lower a e = kept_list j lower a (λ l f h. omega (arith, l, e))
+  pub own_listed : (j : ℕ) (earlier : List Tri) → AreEarlier ts i t b j earlier → j ≡ i → AreEarlier ts i t b (j + 1) earlier
+  own_listed j earlier a e = kept_list j earlier a (λ l f h. omega (arith, l, e))
 
-  joined_list : (j : ℕ) (u : Tri) (lower : List Tri) → AreLower ts i t b j lower → j < i → j < length ts → u ≡ tri_at ts j → AreLower ts i t b (j + 1) (lower ++ u ∷ [])
-  joined_list j u lower a l w e =
-      record { stand = All-push (IsListedBefore ts i) lower u a.stand (record { index = j; before = l; here = slice_get-get_or ts j no_tri w ∙ ap (λ (v : Tri). Some v) (sym e) }); held = λ m n k f h. by m k f h (below_next m j n) }
+  joined_list : (j : ℕ) (u : Tri) (earlier : List Tri) → AreEarlier ts i t b j earlier → j < i → j < length ts → u ≡ tri_at ts j → AreEarlier ts i t b (j + 1) (earlier ++ u ∷ [])
+  joined_list j u earlier a l w e =
+      record { listed = All-push (IsListedBefore ts i) earlier u a.listed (record { index = j; before = l; here = slice_get-get_or ts j no_tri w ∙ ap (λ (v : Tri). Some v) (sym e) }); one_contains = λ m n k f h. by m k f h (below_next m j n) }
     where
-      by : (m : ℕ) → m < i → (f : Face) → ContainsPart t b (tri_at ts m) f → (m < j) ⊎ (m ≡ j) → HasContaining (lower ++ u ∷ []) f
+      by : (m : ℕ) → m < i → (f : Face) → ContainsPart t b (tri_at ts m) f → (m < j) ⊎ (m ≡ j) → HasContaining (earlier ++ u ∷ []) f
       by m k f h (inl n) =
-          let r = a.held m n k f h in
-          record { index = r.index; tri = r.tri; here = get_push lower u r.index r.tri r.here; holds = r.holds }
+          let r = a.one_contains m n k f h in
+          record { index = r.index; tri = r.tri; here = get_push earlier u r.index r.tri r.here; holds = r.holds }
       by m k f h (inr q) =
-          record { index = length lower; tri = u; here = get_last lower u; holds = (subst (λ (v : Tri). ContainsPart t b v f) (ap (tri_at ts) q ∙ sym e) h).within }
+          record { index = length earlier; tri = u; here = get_last earlier u; holds = (subst (λ (v : Tri). ContainsPart t b v f) (ap (tri_at ts) q ∙ sym e) h).within }
 
   -- one more triangle that isn't known to cover t
-  pub other_listed : (j : ℕ) (u : Tri) (is_before : Bool) (old new : List Tri) {covered : Bool} → AreLower ts i t b j old → (is_before ≡ true → j < i) → (j < i → is_before ≡ true) → j < length ts → u ≡ tri_at ts j → covered ≡ false → AddsLower t u b is_before old covered new → AreLower ts i t b (j + 1) new
+  pub other_listed : (j : ℕ) (u : Tri) (is_before : Bool) (old new : List Tri) {covered : Bool} → AreEarlier ts i t b j old → (is_before ≡ true → j < i) → (j < i → is_before ≡ true) → j < length ts → u ≡ tri_at ts j → covered ≡ false → AddsEarlier t u b is_before old covered new → AreEarlier ts i t b (j + 1) new
   other_listed j u is_before old new a f g w e q (covers x y z) = absurd (clash refl q)
   other_listed j u is_before old new a f g w e q (joins x y) = joined_list j u old a (f x) w e
   other_listed j u is_before old new a f g w e q (misses n) =
@@ -181,9 +181,9 @@ module _ (ts : List Tri) (i : ℕ) (t : Tri) (b : Aabb) where
       kept_list j old a (λ l r h. absurd (clash (g l) x))
 
   -- one more triangle that covers t
-  pub cover_found : (j : ℕ) (u : Tri) (is_before : Bool) (old new : List Tri) {covered : Bool} → (is_before ≡ true → j < i) → j < length ts → u ≡ tri_at ts j → covered ≡ true → AddsLower t u b is_before old covered new → HasCover ts i t
+  pub cover_found : (j : ℕ) (u : Tri) (is_before : Bool) (old new : List Tri) {covered : Bool} → (is_before ≡ true → j < i) → j < length ts → u ≡ tri_at ts j → covered ≡ true → AddsEarlier t u b is_before old covered new → HasCover ts i t
   cover_found j u is_before old new f w e q (covers x y z) =
-      record { cover = u; stands = record { index = j; before = f x; here = slice_get-get_or ts j no_tri w ∙ ap (λ (v : Tri). Some v) (sym e) }; coplanar = y; contains = z }
+      record { cover = u; listed = record { index = j; before = f x; here = slice_get-get_or ts j no_tri w ∙ ap (λ (v : Tri). Some v) (sym e) }; coplanar = y; contains = z }
   cover_found j u is_before old new f w e q (joins x y) = absurd (clash q refl)
   cover_found j u is_before old new f w e q (misses n) = absurd (clash q refl)
   cover_found j u is_before old new f w e q (follows x) = absurd (clash q refl)
@@ -193,18 +193,18 @@ module _ (ts : List Tri) (i : ℕ) (t : Tri) (b : Aabb) where
     there : slice_get ts i ≡ Some t
     there = slice_get-get_or ts i no_tri w ∙ ap (λ (v : Tri). Some v) (sym e)
 
-    pub tells_owner : (lower : List Tri) (f : Face) → All (IsValidCoplanar t) lower → AreLower ts i t b (length ts) lower → IsBounded t b f → HasInside f → DecidesOwner lower ts i f
-    tells_owner lower f k a d s =
+    pub tells_owner : (earlier : List Tri) (f : Face) → All (IsValidCoplanar t) earlier → AreEarlier ts i t b (length ts) earlier → IsBounded t b f → HasInside f → DecidesOwner earlier ts i f
+    tells_owner earlier f k a d s =
         record {
-          free = λ n. record { first = λ j v u l at own c q. let h = by j u at v own c q l in all_at (λ r. Contains (face_of r) f → ⊥) lower h.index h.tri n h.here h.holds };
-          held = λ h o. let r = all_at (IsListedBefore ts i) lower h.index h.tri a.stand h.here in o.first r.index t h.tri r.before r.here there (all_at (IsValidCoplanar t) lower h.index h.tri k h.here).coplanar h.holds;
+          free = λ n. record { first = λ j v u l at own c q. let h = by j u at v own c q l in all_at (λ r. Contains (face_of r) f → ⊥) earlier h.index h.tri n h.here h.holds };
+          contained = λ h o. let r = all_at (IsListedBefore ts i) earlier h.index h.tri a.listed h.here in o.first r.index t h.tri r.before r.here there (all_at (IsValidCoplanar t) earlier h.index h.tri k h.here).coplanar h.holds;
         }
       where
-        by : (j : ℕ) (u : Tri) → slice_get ts j ≡ Some u → (v : Tri) → slice_get ts i ≡ Some v → is_coplanar u v ≡ true → Contains (face_of u) f → j < i → HasContaining lower f
+        by : (j : ℕ) (u : Tri) → slice_get ts j ≡ Some u → (v : Tri) → slice_get ts i ≡ Some v → is_coplanar u v ≡ true → Contains (face_of u) f → j < i → HasContaining earlier f
         by j u at v own c q l =
             let x = get_or_from_slice_get ts j u no_tri at in let y = sym (get_or_from_slice_get ts i v no_tri own) ∙ sym e in
-            a.held j (slice_get_within ts j u at) l f (subst (λ (r : Tri). ContainsPart t b r f) (sym x) (record { coplanar = subst (λ (r : Tri). is_coplanar u r ≡ true) y c; bounded = d; somewhere = s; within = q }))
+            a.one_contains j (slice_get_within ts j u at) l f (subst (λ (r : Tri). ContainsPart t b r f) (sym x) (record { coplanar = subst (λ (r : Tri). is_coplanar u r ≡ true) y c; bounded = d; somewhere = s; within = q }))
 
     pub is_covered : HasCover ts i t → IsCovered ts i
     is_covered h =
-        record { index = h.stands.index; cover = h.cover; own = t; before = h.stands.before; here = h.stands.here; there = there; coplanar = h.coplanar; contains = h.contains }
+        record { index = h.listed.index; cover = h.cover; own = t; before = h.listed.before; here = h.listed.here; there = there; coplanar = h.coplanar; contains = h.contains }

@@ -1,6 +1,6 @@
 use mir.Syntax.{w32, w64}
 use Rattle.ember_algebra.proofs.Exact.{Code, input, stored, narrow, ◌⊠◌, ◌⊞◌, ◌&◌, done, exact, bounded}
-use Rattle.ember_trace.proofs.edge_lines.axis_point_at_last.Goals as goal
+use Rattle.ember_trace.proofs.edge_lines.axis_point_at_q.Goals as goal
 
 -- the numbers are dq, dp, d and the coordinate
 abbrev e : Code
