@@ -1,4 +1,7 @@
 // Why faces get no triangles.
+ghost use Rattle.std.specs.Prelude.{◌≡◌};
+ghost use Rattle.ember_triangles.specs.declared.fault.TrianglesFault.TheVariants.{OutOfMemory};
+
 use std::alloc::{AllocError, AllocFailed};
 use thiserror::Error;
 
@@ -35,12 +38,16 @@ pub enum TrianglesFault {
 }
 
 impl From<AllocError> for TrianglesFault {
+    ghost from_gives = { λ _ fault. fault ≡ OutOfMemory };
+
     fn from(_error: AllocError) -> TrianglesFault {
         TrianglesFault::OutOfMemory
     }
 }
 
 impl<T: Drop> From<AllocFailed<T>> for TrianglesFault {
+    ghost from_gives = { λ _ fault. fault ≡ OutOfMemory };
+
     fn from(_error: AllocFailed<T>) -> TrianglesFault {
         TrianglesFault::OutOfMemory
     }

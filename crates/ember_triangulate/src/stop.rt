@@ -1,4 +1,7 @@
 // Why a sweep ends early.
+ghost use Rattle.std.specs.Prelude.{◌≡◌};
+ghost use Rattle.ember_triangulate.specs.declared.stop.Stop.TheVariants.{OutOfMemory};
+
 use std::alloc::{AllocError, AllocFailed};
 use thiserror::Error;
 
@@ -16,12 +19,16 @@ pub enum Stop {
 }
 
 impl From<AllocError> for Stop {
+    ghost from_gives = { λ _ stop. stop ≡ OutOfMemory };
+
     fn from(_e: AllocError) -> Stop {
         Stop::OutOfMemory
     }
 }
 
 impl<T: Drop> From<AllocFailed<T>> for Stop {
+    ghost from_gives = { λ _ stop. stop ≡ OutOfMemory };
+
     fn from(_e: AllocFailed<T>) -> Stop {
         Stop::OutOfMemory
     }
