@@ -135,8 +135,12 @@ pub fn near_halves_among(
     let mut left = Vec::with_capacity(alloc, list.len())?;
     let mut right = Vec::with_capacity(alloc, list.len())?;
     for i in list {
-        let (is_near_left, is_near_right) =
-            is_near_halves(&whole, &halves, axis, &tris[*i as usize]);
+        let (is_near_left, is_near_right) = is_near_halves(
+            &whole,
+            &halves,
+            axis,
+            &tris[*i as usize],
+        );
         push_if(is_near_left, *i, &mut left);
         push_if(is_near_right, *i, &mut right);
     }
