@@ -1,4 +1,5 @@
-// The laws of closed surfaces.
+// The laws of closed surfaces. README.md has the proof in short: why faces that wind alike along all
+// axes have paired edges.
 ghost use Rattle.std.specs.Prelude.{List, map, pos, ◌<ℤ◌};
 ghost use Rattle.std.specs.List.{AllByRecursion, flat_map};
 ghost use Rattle.ember_algebra.specs.Large.{Eventually};

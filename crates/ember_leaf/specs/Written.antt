@@ -54,7 +54,8 @@ pub record IsCovered (near : List Tri) (i : ℕ) : Type 0 where
   pub coplanar : is_coplanar cover own ≡ true
   pub contains : Contains (face_of cover) (face_of own)
 
--- the written regions of triangle i
+-- the written regions of triangle i: what is written of each of its regions, or, if it is covered (`hidden`), none: the
+-- triangle that covers it owns them all
 pub data IsWrittenOf (scene : List Tri) (e : Formula) (c : Cell) (near : List Tri) (i : ℕ) : List Kept → Type 0 where
   regional : {ks : List Kept} → AreRegionsWritten scene e c near i ks → IsWrittenOf scene e c near i ks
   hidden : IsCovered near i → IsWrittenOf scene e c near i []
@@ -64,8 +65,8 @@ abbrev pub IsWrittenIn : List Tri → Formula → Cell → List Tri → List Kep
 IsWrittenIn scene e c near ks =
     Each (IsWrittenOf scene e c near) (range_with_len 0 (length near)) ks
 
--- whether a region with these winding numbers before and after it is flipped: whether the expression is true
--- in front of it; none if the expression has one value on both sides
+-- whether a region with these winding numbers before and after it is written, and how: None, not written, if the
+-- expression has one value on both sides; otherwise `Some true`, flipped, if it is true in front of the region
 abbrev pub IsFlip : Formula → Face → List ℤ → List ℤ → Option Bool → Type 0
 IsFlip e face before after None = truth before e ≡ truth after e
 IsFlip e face before after (Some flipped) =

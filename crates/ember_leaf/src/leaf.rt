@@ -45,7 +45,8 @@ const ROOM: usize = 6;
 fn faces_up(p: &Plane) -> bool
     ensures { result ≡ is_positive (along p.now (main_axis p.now)) }
 {
-    // `is_in_front` says of any number whether it is above 0.
+    // `is_in_front(n)` is n > 0, for any number n. Its contract says so in the word of the clause
+    // above, `is_positive`.
     match main_axis(p) {
         Axis::X => is_in_front(p.a),
         Axis::Y => is_in_front(p.b),
@@ -54,7 +55,8 @@ fn faces_up(p: &Plane) -> bool
 }
 
 // `None` if the expression has one value on both sides of the region, which then isn't written.
-// Otherwise whether the region must be flipped: whether the expression is true in front of it.
+// Otherwise `true` if the expression is true in front of the region. Then the region must be
+// flipped: the written normal points to where the expression is false.
 fn flip_of(e: &Expr, sides: &Sides, r: &Ring) -> Option<bool>
     requires before { AreSideCounts sides.now.before.counts }
     requires after { AreSideCounts sides.now.after.counts }
@@ -209,9 +211,11 @@ impl Leaf<'_> {
 
 /// The written regions of a leaf box, by their triangles in order, and for each triangle in the
 /// order of its regions. `near` has the triangles near the box, and `v` the winding numbers at its
-/// reference point; the result is right in every scene that fits these. Meshes are numbered from 1
-/// to 64, and at most 262,144 triangles are near. The only error is out-of-memory. In clauses,
-/// `TriView` is `Tri` as contracts see it: the import needs another name beside the struct.
+/// reference point; the result is right in every scene that fits these (`written`). Even if no
+/// scene does, each region lies in the plane of the triangle that it names (`placed`). Meshes are
+/// numbered from 1 to 64, and at most 262,144 triangles are near. The only error is out-of-memory.
+/// In clauses, `TriView` is `Tri` as contracts see it: the import needs another name beside the
+/// struct.
 pub fn leaf_faces(
     alloc: Global,
     e: &Expr,

@@ -97,9 +97,9 @@ fn is_uncut(r: &Ring, planes: &[Plane]) -> bool
 }
 
 // `true` only if the inner part of the region, the part below the plane that cuts it now, needn't
-// be made: the triangle would own it. It owns what it contains, and none of `planes`, its edge
-// planes that are still to cut, cuts the region. The region overlaps the triangle, so it then lies
-// below these planes, and the inner part is inside the triangle.
+// be made. That is so if the cutter is `Earlier` and none of `planes`, its further planes, cuts the
+// region. The region overlaps the cutter, so it then lies below all these planes. So the inner part
+// lies inside the cutter, which owns what it contains.
 fn needs_no_inner_part(r: &Ring, cutter: &Cutter, planes: &[Plane]) -> bool
     requires { All IsValidPlane planes.now }
     ensures { result ≡ true → (cutter.now.role ≡ Earlier) × AllByRecursion (IsUncut r.now) planes.now }

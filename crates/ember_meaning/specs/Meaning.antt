@@ -16,7 +16,8 @@ use Rattle.ember_chain.specs.Chains.{IsClosedSurface, IsOutlined}
 abbrev pub one_if : Bool → ℤ
 one_if b = cond b (pos 1) (pos 0)
 
--- the expression is false if all winding numbers are 0. To `truth` a count past the end of the list is 0, too
+-- the expression is false if all winding numbers are 0. To `truth` a count past the end of the list is 0, too. The same
+-- property is `IsBounded` in ember_run (Accepted.antt), where `after_bounded` (Verdict.antt) asks for it
 abbrev pub IsFalseOutside : Formula → Type 0
 IsFalseOutside x = truth (replicate 64 (pos 0)) x ≡ false
 

@@ -45,7 +45,8 @@ pub record HasVertexWithin (n p h : Plane) (hs : List Plane) : Type 0 where
   pub meets : IsMeet n p h at
   pub free : none_positive hs at ≡ true
 
--- y and z are points of the line of n and p
+-- y and z are points of the line in which n and p meet. `turns`: n and p aren't parallel, since with some plane
+-- `across` their determinant isn't 0; `across` cuts the line in one point
 pub record IsLine (n p : Plane) (y z : Spot) : Type 0 where
   pub flat_y : value_at n y ≡ pos 0
   pub flat_z : value_at n z ≡ pos 0

@@ -1,4 +1,5 @@
--- Where a plane passes a ring
+-- Where a plane cuts a ring. Here `low` and `under` are about what is below the plane, `high` and `over` about what is
+-- above it
 use Rattle.std.specs.Prelude.{◌≡◌, ◌⊎◌, ℕ, ◌+◌, ◌<◌, ◌≤◌, suc, Bool, true, false, not, List, [], ◌∷◌, ◌++◌, length, take, drop, pos, ⊤}
 use Rattle.std.specs.List.{AllByRecursion}
 use Rattle.ember_algebra.specs.Sign.{is_negative}
@@ -34,14 +35,16 @@ AreSigns p ms Above =
 AreSigns p ms On = AllByRecursion (λ m. IsOnPlane p (spot_of m)) ms
 AreSigns p ms Both = HasMember (λ m. IsBelow p (spot_of m)) ms × HasMember (λ m. IsAbove p (spot_of m)) ms
 
--- of these corners, `low` are known to be below the plane, and `high` says whether some are above
+-- of these corners, `low` are known to be below the plane, and `high` says whether some are above. `under`: some corner
+-- is below if low isn't 0; `least`: otherwise none is. `over`: some corner is above if high is true; `most`: otherwise
+-- none is
 pub record AreClassified (p : Plane) (low : ℕ) (high : Bool) (ms : List Meet) : Type 0 where
   pub under : 0 < low → HasMember (λ m. IsBelow p (spot_of m)) ms
   pub least : low ≡ 0 → AllByRecursion (λ m. IsNotBelow p (spot_of m)) ms
   pub over : high ≡ true → HasMember (λ m. IsAbove p (spot_of m)) ms
   pub most : high ≡ false → AllByRecursion (λ m. IsNotAbove p (spot_of m)) ms
 
--- some corner is above the plane, and some is below
+-- some corner is above the plane, and some is below (`under`): not all are not above it, and not all are not below it
 pub record Straddles (p : Plane) (ms : List Meet) : Type 0 where
   pub above : AllByRecursion (λ m. IsNotAbove p (spot_of m)) ms → ⊥
   pub under : AllByRecursion (λ m. IsNotBelow p (spot_of m)) ms → ⊥
@@ -87,9 +90,11 @@ pub record EntersAt (p : Plane) (ms : List Meet) (entry_edge below_count : ℕ) 
   pub run : IsOneSidedRun p true (drop (entry_edge + 1) ms ++ take entry_edge ms) below_count
 
 -- ---- the passage
--- after the sides below the plane the boundary leaves the plane's negative side. The corners that aren't below are
--- f's and those of the list, and one of them is above: f's, the next one, or one after it. If there is one after it,
--- they are three or more, so this is sure: three corners of a ring are never on one line.
+-- after the sides below the plane the boundary leaves the plane's negative side. `f` is the head, the side on whose
+-- edge the boundary passed below the plane; the list has the sides after those below: `d` is the first of them, and `ds` has
+-- the others. So the corners that aren't below are those of f and of the list, and one of them is above: f's, d's, or
+-- one of ds. If ds has a side, these are three corners or more, so this is sure: three corners of a ring are never on
+-- one line.
 abbrev pub Leaves : Plane → Side → List Side → Type 0
 Leaves p f [] = IsAbove p f.corner
 Leaves p f (d ∷ ds) =

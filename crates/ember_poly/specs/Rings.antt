@@ -44,7 +44,9 @@ abbrev pub IsNotEmpty : List Side → Type 0
 IsNotEmpty [] = ⊥
 IsNotEmpty (s ∷ xs) = ⊤
 
--- a ring: at least three sides, and a chain from its first edge and from its second
+-- a ring: at least three sides, and a chain from its first edge and from its second. There are two, since a chain says
+-- nothing of the corner at which its own edge starts: the chain from the edge of s leaves out the corner of s, and the
+-- chain from the edge of t ends with it
 abbrev pub IsConvexRing : Plane → List Side → Type 0
 IsConvexRing n [] = ⊥
 IsConvexRing n (s ∷ []) = ⊥

@@ -1,4 +1,4 @@
-// Where a plane passes a ring.
+// Where a plane cuts a ring.
 ghost use Rattle.std.specs.Prelude.{◌≡◌, ◌⊎◌, ◌+◌, ◌<◌, List, length, take, drop, true, false, All, IfSome, pos, ◌<ℤ◌, ◌*ℤ◌, ◌-ℤ◌};
 ghost use Rattle.std.specs.List.{AllByRecursion};
 ghost use Rattle.ember_algebra.specs.Size.{Small};
@@ -57,8 +57,8 @@ fn axis_of(p: &Plane) -> Option<Axis>
     }
 }
 
-// Which side of a plane across an axis a point is on. `a` is the plane's entry along the axis and
-// `d` its constant; `x` is the point's coordinate along the axis and `w` its weight.
+// On which side of a plane that is across an axis a point lies. `a` is the plane's entry along the
+// axis and `d` its constant; `x` is the point's coordinate along the axis and `w` its weight.
 #[inline]
 fn side_by_coordinate(a: i64, d: i64, x: i128, w: i128) -> Sign
     requires a { Small 33554431 a }
@@ -70,7 +70,7 @@ fn side_by_coordinate(a: i64, d: i64, x: i128, w: i128) -> Sign
     sign_of(a as i128 * x - d as i128 * w)
 }
 
-// The side of a plane across this axis on which the point lies.
+// On which side of a plane that is across this axis the point lies.
 #[inline]
 fn side_across_axis(p: &Plane, axis: Axis, m: &Meet) -> Sign
     requires plane { IsValidPlane p.now }
@@ -257,7 +257,7 @@ fn point_of(p: &Plane, q: &Plane, r: &Plane, level: Option<Level>) -> Meet
     }
 }
 
-// Where the plane passes the ring.
+// Where the plane cuts the ring.
 pub fn find_passage(
     support: &Plane,
     boundary: &Boundary,

@@ -25,8 +25,8 @@ pub record IsSolidReport (tris : List Tri) (formula : Formula) (report : Report)
   pub kept : List Kept
   pub solid : IsSolid tris formula kept report
 
--- the bytes are the face file of the solid's written regions. They say nothing of `report`: it stands here for
--- `IsSolid`, which is about both, and whatever the regions are, there is such a report
+-- the bytes are the face file of the solid's written regions. `report` is a field only because `IsSolid` is about
+-- regions and report together: for any regions there is just one report, and the bytes don't depend on it
 pub record IsSolidText (tris : List Tri) (formula : Formula) (bytes : List ℕ) : Type 0 where
   pub kept : List Kept
   pub report : Report

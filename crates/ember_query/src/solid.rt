@@ -35,6 +35,8 @@ pub fn solid_of<C: Fn(&Query) -> Result<Answer, OutOfMemory>>(
     let found = query_texts(scene, expr, executor)?;
     let journals = found.journals;
     let faces = face_count(&found.items)?;
+    // `report_of` requires fewer than 2^64 entries: no tree of boxes is so large (the lemma
+    // `journals_fit` in proofs/SolidRuns.antt).
     let report = report_of(&journals, faces);
     // A law, which does nothing: the texts, one after another, are the text of the written regions.
     leaf_texts_join(scene, expr);
@@ -72,5 +74,6 @@ pub fn query_report<C: Fn(&Query) -> Result<Answer, OutOfMemory>>(
     let faces = total(&found.items)?;
     // A law, which does nothing: the visited leaves write all written regions.
     visited_leaves_write_all(scene, expr);
+    // As in `solid_of`, `journals_fit` says that there are fewer than 2^64 entries.
     Ok(report_of(&found.journals, faces))
 }

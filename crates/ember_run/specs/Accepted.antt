@@ -47,7 +47,8 @@ pub record IsSceneOf (places : ℕ) (contents : Contents) (tris : List Tri) : Ty
   pub few : length tris ≤ 262144
 
 -- ---- expressions
--- the value is false if all winding numbers are 0. To `truth` a count past the end of the list is 0, too
+-- the value is false if all winding numbers are 0. To `truth` a count past the end of the list is 0, too, so this is
+-- the same property as `IsFalseOutside` of ember_meaning, and it is what `after_bounded` (Verdict.antt) asks for
 abbrev pub IsBounded : ℕ → Formula → Type 0
 IsBounded meshes formula = truth (replicate meshes (pos 0)) formula ≡ false
 

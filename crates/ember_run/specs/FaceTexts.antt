@@ -19,7 +19,8 @@ pub record IsFaceFileOf (ts : List Tri) (bytes : List ℕ) : Type 0 where
 abbrev pub written_lines : WrittenFace → List ℕ
 written_lines w = face_lines w.support w.edges
 
--- the face whose lines these are
+-- the face whose lines these are. `face_from` of ember_chain and `face_in` of ember_reread are the same map from a
+-- written face to a face; `written_face` of ember_text is another one, from a written region
 abbrev pub written_face : WrittenFace → Face
 written_face w = record { support = w.support; edges = map (λ (e : RingEdge). e.plane) w.edges }
 

@@ -25,13 +25,14 @@ pub record IsNoReply (verdict : Contents → Verdict) (names : List (List ℕ)) 
   -- it is that of contents that the files may have. All of these are told, so the verdict of a command isn't Unknown
   pub refused_read : is_refusal status ≡ true →
       MayHold shelf.told names (λ contents. IsRefusalIfTold status (verdict contents))
-  -- a refusal of the words or of the expression doesn't depend on any file
+  -- a refusal of the words or of the expression doesn't depend on any file: `first_told n` tells the first n files, so
+  -- `first_told 0` tells none. (`verdict_before i` of `Serves` counts from 1: it tells the files before file i)
   pub before_files : is_before_files status ≡ true → verdict (first_told 0 (map shelf.told names)) ≡ Refused status
   -- a refusal of file i doesn't depend on the contents of the files after it
   pub in_file : (i : ℕ) → refused_file status ≡ Some i → (others : Contents) → length others ≡ length names →
       IsRefusalIfTold status (verdict (with_others i (map shelf.told names) others))
   pub one_of : (i : ℕ) → refused_file status ≡ Some i → IsFileIn names i
-  -- if file i can't be read, nothing before it is refused
+  -- if file i can't be read, nothing before it is refused: the first i - 1 files are told
   pub read_fault : (i : ℕ) → status ≡ ReadFault i → HasShelfFailed shelf × (shelf.fault_at ≡ i) ×
       (verdict (first_told (i - 1) (map shelf.told names)) ≡ Unknown) × IsFileIn names i
   pub memory : hides_memory status ≡ false

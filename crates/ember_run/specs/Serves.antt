@@ -49,7 +49,9 @@ pub record Serves (command : Option Command) (shelf : ShelfCall) (out err : Sink
   -- the words alone decide whether they are refused
   pub words : status ≡ Words → command ≡ None
   pub no_command : command ≡ None → (status ≡ Words) ⊎ (status ≡ OutOfMemory)
-  -- a refusal of the words or of the expression doesn't depend on any file, nor on what the devices do
+  -- a refusal of the words or of the expression doesn't depend on any file, nor on what the devices do.
+  -- `verdict_before i` tells the files before file i, counted from 1, so `verdict_before 1` tells none. (`first_told n`
+  -- of `IsNoReply` tells the first n files, so none is `first_told 0` there)
   pub before_files : is_before_files status ≡ true → verdict_before 1 command shelf.told ≡ Refused status
   pub before_files_given : (refusal : Status) → verdict_before 1 command shelf.told ≡ Refused refusal →
       (status ≡ refusal) ⊎ (status ≡ OutOfMemory)

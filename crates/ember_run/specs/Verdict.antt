@@ -127,8 +127,9 @@ voxels_verdict expr size places contents =
     after_expr expr (length contents) (λ formula.
     after_scene places contents (λ tris. Writes (Lattice tris formula size)))
 
--- an expression is refused if it is true outside all meshes. To `truth` a count past the end of the list is 0, too: a
--- list of zeros of any other length would do
+-- an expression is refused if it is true outside all meshes, that is if it isn't `IsFalseOutside` (ember_meaning). To
+-- `truth` a count past the end of the list is 0, too: a list of zeros of any other length would do, as in `IsBounded`
+-- (Accepted.antt)
 abbrev pub after_bounded : Formula → Verdict → Verdict
 after_bounded formula next = if truth (replicate 64 (pos 0)) formula then Refused Unbounded else next
 

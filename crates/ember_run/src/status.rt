@@ -48,8 +48,8 @@ pub enum Status {
     ExprRefused(ExprFault),
     /// The expression is true if all winding numbers are 0.
     Unbounded,
-    /// There are too many bytes or triangles: this many. (Of bytes: the first number that is too
-    /// great.)
+    /// There are too many bytes or triangles: of triangles this many, of bytes this many or more.
+    /// In `Limit(Bytes(i), n)` n is always 268,435,457, one more than a file may have.
     Limit(LimitKind, u64),
     /// The point isn't clear of some triangle.
     NotClear,

@@ -151,8 +151,8 @@ fn axis_point_side(point: &AxisPoint, x: i128, w: i128) -> Sign
 
 /// The side of the plane through the edge from `u` to `v` and parallel to the second axis of a path
 /// with this main axis, times the sign `s`, on which the narrow point `m` is, moved to `at` along
-/// the main axis. The plane has no entry along the second axis, so the clause may fix the
-/// coordinate along it to any number `by`.
+/// the main axis. `fixed_edge` fixes the coordinate along the second axis too, to `by`. The plane
+/// has no entry along this axis, so that changes nothing: the clause holds for every `by`.
 pub fn moved_edge_side(u: &Corner, v: &Corner, main: Axis, s: i64, at: i32, m: &Meet) -> Sign
     requires from { IsValidCorner u.now }
     requires to { IsValidCorner v.now }

@@ -20,7 +20,8 @@ EachOwner Q [] (o ∷ os) = ⊥
 EachOwner Q (t ∷ ts) [] = ⊥
 EachOwner Q (t ∷ ts) (o ∷ os) = ((worker_deque o ≡ stealer_deque t) × Q (worker_view o)) × EachOwner Q ts os
 
--- the view of an owner with this many passes out, before anything was pushed
+-- the view of an owner's handle with this many passes out, before anything was pushed or taken. (In src/pool.rt `fresh`
+-- is a list of worker states)
 abbrev pub Fresh : ℕ → HandleView → Type 0
 Fresh lent v = v ≡ handle true lent [] []
 
@@ -64,12 +65,12 @@ abbrev pub AllBack : {P : Type 0} → List (Worker Job Global HandleView P) → 
 AllBack [] = ⊤
 AllBack (o ∷ os) = Lent 0 (worker_view o) × AllBack os
 
--- each row has one pass on each deque
+-- a row is a list of passes, one on each deque: those that one worker has or had. Each of these lists is a row
 abbrev pub EachRow : {P : Type 0} → List (Stealer Job Global HandleView P) →
     List (Vec (Pass Job HandleView Global) Global) → Type 0
 EachRow ts rows = All (λ r. EachPass ts r.items) rows
 
--- these passes, one on each deque, have taken nothing
+-- these passes are a row, and have taken nothing
 pub record NewRow {P : Type 0} (ts : List (Stealer Job Global HandleView P))
     (passes : List (Pass Job HandleView Global)) : Type 0 where
   pub each : EachPass ts passes

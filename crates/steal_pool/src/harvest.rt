@@ -45,7 +45,8 @@ impl<I> PartList<I> {
 
 /// What a run gives: the items of the leaves with their paths, and the boxes that each worker
 /// ended. `run_alone` gives one journal; of those of `run_tree`, the last is the caller's. `left`
-/// is how many boxes the caller ended after the workers: those left in the deques and all below.
+/// is how many boxes the caller ended after the workers: those left in the deques and all below. (It
+/// isn't about left halves.)
 #[derive(Drop)]
 pub struct Harvest<I> {
     pub parts: PartList<I>,

@@ -12,8 +12,14 @@
 // have `IsVisited` of ember_job and `AnswersLeaf` (`AreParts` in specs/Journals.antt). The weight
 // of a box with all below it is `tree_weight` there.
 //
-// `Brand` must have the names, as any `K`, so it has impls below. Their meanings count at no call
-// here: the proof of each call puts in its own.
+// This is sound: `run_alone_named` and `run_named` are proved for every `K`, so also for the `K`
+// whose names mean what that `Invariants.antt` says. `Brand` is the toolchain's name for this `K`
+// at one call. No argument and no result of these two functions has a type that depends on `K`, so
+// no value that was made under one meaning is read under another. See docs/TRUST.md, "What is
+// assumed".
+//
+// The compiler wants `Brand` to have the names, as any `K`, so it has impls below. Their meanings
+// count only at a call whose proof chooses none, and there is no such call here.
 ghost use Rattle.std.specs.Prelude.{ℕ, ⊤};
 ghost use Rattle.ember_job.specs.declared.job.Job.{Job};
 ghost use Rattle.ember_job.specs.declared.job.Entry.{Entry};

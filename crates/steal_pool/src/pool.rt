@@ -65,7 +65,7 @@ fn make_deques<K: VisitedJobs>(alloc: Global, workers: usize) -> Result<Deques<K
     Ok(Deques { stealers, owners })
 }
 
-// For each worker a pass on each deque.
+// For each worker a row: a pass on each deque.
 fn make_rows<K: VisitedJobs>(
     alloc: Global,
     stealers: &Vec<JobStealer<K>>,

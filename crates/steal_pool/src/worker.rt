@@ -127,7 +127,8 @@ fn run_box<
 }
 
 // Takes a job from the hand, otherwise from the own deque, otherwise from the deque with the index
-// `from`. If that is the own one again, it is empty and gives nothing.
+// `from`. `from` may be the own deque too, since the round goes over all of them; that one was just
+// found empty, so it gives nothing.
 #[tactic(auto, using(crate::proofs::DequeSteps::weigh_append))]
 fn next_job<K: VisitedJobs + BoxWeight<I>, I>(
     stealers: &Vec<JobStealer<K>>,
