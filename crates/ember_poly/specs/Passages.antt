@@ -91,10 +91,10 @@ pub record EntersAt (p : Plane) (ms : List Meet) (entry_edge below_count : ℕ) 
 
 -- ---- the passage
 -- after the sides below the plane the boundary leaves the plane's negative side. `f` is the head, the side on whose
--- edge the boundary passed below the plane; the list has the sides after those below: `d` is the first of them, and `ds` has
--- the others. So the corners that aren't below are those of f and of the list, and one of them is above: f's, d's, or
--- one of ds. If ds has a side, these are three corners or more, so this is sure: three corners of a ring are never on
--- one line.
+-- edge the boundary passed below the plane; the list has the sides after those below: `d` is the first of them, and
+-- `ds` has the others. So the corners that aren't below are those of f and of the list, and one of them is above: f's,
+-- d's, or one of ds. If ds has a side, these are three corners or more, so this is sure: three corners of a ring are
+-- never on one line.
 abbrev pub Leaves : Plane → Side → List Side → Type 0
 Leaves p f [] = IsAbove p f.corner
 Leaves p f (d ∷ ds) =

@@ -81,7 +81,8 @@ Conserves weight states journals parts = (h : Entry → ℕ) (g : ℕ → ℕ) �
 
 -- the whole tree below a box is in the journals and among the parts: for all weights h of entries and g of paths of
 -- leaves, these weigh what the box weighs. With g = 0 the weight of the box is that of the entries of all visited
--- boxes, so this is `once` of `KeepRules`; with h = 0 it is that of the paths of all leaves, so this is `once` of `AreParts`
+-- boxes, so this is `once` of `KeepRules`; with h = 0 it is that of the paths of all leaves, so this is `once` of
+-- `AreParts`
 abbrev pub HoldsTree : {I : Type 0} → Weight → Job → List (List Entry) → List (Part I) → Type 0
 HoldsTree weight root journals parts =
     (h : Entry → ℕ) (g : ℕ → ℕ) → weigh (weigh h) journals + weigh (by_path g) parts ≡ weight h g root
