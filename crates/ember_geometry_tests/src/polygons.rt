@@ -8,7 +8,7 @@ use crate::texts::TETRA_TEXT;
 use ember_model::{Face, OutOfMemory, Plane, Tri, support_of};
 use ember_poly::{
     Cut, Draft, Reach, Ring, above, clip, copy, corners, cut, edges, main_edges, meets, meets_face,
-    of_tri, outline, parts, reach, support,
+    of_tri, outline, parts, planes, reach, support,
 };
 use ember_reread::read_faces;
 use std::alloc::Global;
@@ -113,6 +113,27 @@ fn a_cut_triangle(rt: HostRuntime) -> Result<(), Fail> {
     };
     check(&rt, &low, &LOW_PLANES, &LOW_STARTS);
     check(&rt, &high, &HIGH_PLANES, &HIGH_STARTS);
+    Ok(())
+}
+
+// The ring keeps these planes, in the order in which they were added.
+fn check_planes(rt: &impl Abort, ring: &Ring, wanted: &[[i16; 4]]) {
+    let found = planes(ring);
+    assert_eq!(rt; found.len(), wanted.len());
+    for (one, want) in found.iter().zip(wanted) {
+        assert_eq!(rt; *one, plane(*want));
+    }
+}
+
+#[test]
+fn a_part_of_a_triangle_keeps_all_its_planes(rt: HostRuntime) -> Result<(), Fail> {
+    let ring = unit_ring(rt.alloc())?;
+    let Cut::Both(low, high) = cut(rt.alloc(), &ring, &plane([2, 0, 0, 1]))? else {
+        return Err(Fail::from("one part"));
+    };
+    check_planes(&rt, &low, &LOW_PLANES);
+    let all_of_high = [[0, 0, -1, 0], [0, 1, 1, 1], [0, -1, 0, 0], [-2, 0, 0, -1]];
+    check_planes(&rt, &high, &all_of_high);
     Ok(())
 }
 

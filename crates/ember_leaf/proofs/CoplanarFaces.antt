@@ -14,6 +14,7 @@ use Rattle.ember_model.specs.Planes.{value_at, support_of}
 use Rattle.ember_model.specs.ClearTest.{none_positive}
 use Rattle.ember_model.specs.Faces.{is_flat, face_of, edges_of, is_inside, is_in_closed, Somewhere, Meets}
 use Rattle.ember_model.specs.Owners.{is_coplanar}
+use Rattle.ember_model.proofs.SignTests.{clash}
 use Rattle.ember_poly.specs.Rings.{IsBelow, InFace}
 use Rattle.ember_poly.specs.Chords.{combination}
 use Rattle.ember_poly.specs.Cuts.{HasInside, IsWhole}
@@ -40,6 +41,13 @@ pub coplanar_turned : (t u : Tri) → is_coplanar u t ≡ true → is_coplanar t
 coplanar_turned t u e =
     let n = coplanar_flats u t e in let s = has_inside t n.1 in
     lies_flat t u (face_of t) s.at (face_support t) n.1 n.0 s.inside (record { holds = λ v i. shared_face u t v e (inside_closed (face_of t) v i) })
+
+pub not_coplanar_turned : (t u : Tri) → is_coplanar u t ≡ false → is_coplanar t u ≡ false
+not_coplanar_turned t u e = by (is_coplanar t u) refl
+  where
+    by : (b : Bool) → is_coplanar t u ≡ b → is_coplanar t u ≡ false
+    by false h = h
+    by true h = absurd (clash (coplanar_turned u t h) e)
 
 -- a face in the plane of t lies in one plane with a triangle that is coplanar with t
 pub share_a_plane : (t u : Tri) (f : Face) → LiesInPlaneOf t f → is_coplanar t u ≡ true → ShareAPlane u f

@@ -74,8 +74,8 @@ fn flip_of(e: &Expr, sides: &Sides, r: &Ring) -> Option<bool>
 }
 
 // What is known at a leaf box. `near` has the near triangles, as `trace_sides` reads them, and
-// `with_edges` the same triangles in the same order, with the edge planes by which they cut.
-// `windings` has the winding numbers at the box's reference point.
+// `with_edges` the same triangles in the same order, with the edge planes by which they cut, but
+// without their reference sides. `windings` has the winding numbers at the box's reference point.
 #[derive(Clone, Copy)]
 struct Leaf<'a> {
     expr: &'a Expr,

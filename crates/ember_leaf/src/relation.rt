@@ -71,11 +71,12 @@ fn crossing_relation(first: &LeafTriangle, second: &LeafTriangle) -> Relation
     requires plane { is_coplanar first.now.tri second.now.tri ≡ false }
     ensures { IsRelation first.now.tri second.now.tri result }
 {
-    // The first may touch the second's plane with a corner or an edge: no inside point lies there.
-    let heights = heights_of(&second.support, &first.tri);
-    if heights.lie_in_front() {
+    // They are apart if the second lies strictly on one side of the first's plane. If it touches
+    // this plane, even with one corner, the corner may lie inside the first.
+    let heights = heights_of(&first.support, &second.tri);
+    if heights.all_in_front() {
         Relation::Apart
-    } else if heights.lie_behind() {
+    } else if heights.all_behind() {
         Relation::Apart
     } else {
         Relation::OtherPlane
@@ -88,12 +89,12 @@ pub fn relation_of(first: &LeafTriangle, second: &LeafTriangle) -> Relation
     requires second { is_flat second.now.tri ≡ false }
     ensures { IsRelation first.now.tri second.now.tri result }
 {
-    // They are apart if the second lies strictly on one side of the first's plane. If it touches
-    // this plane, even with one corner, the corner may lie inside the first.
-    let heights = heights_of(&first.support, &second.tri);
-    if heights.all_in_front() {
+    // The first may touch the second's plane with a corner or an edge: no inside point lies there.
+    // This tells neighbours in a mesh apart, so it comes first.
+    let heights = heights_of(&second.support, &first.tri);
+    if heights.lie_in_front() {
         Relation::Apart
-    } else if heights.all_behind() {
+    } else if heights.lie_behind() {
         Relation::Apart
     } else if heights.all_on() {
         coplanar_relation(first, second)

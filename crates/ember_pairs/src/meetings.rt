@@ -1,15 +1,16 @@
 // Which triangles meet.
-ghost use Rattle.std.specs.Prelude.{◌≡◌, ◌+◌, ◌<◌, ◌↔◌, List, [], ◌∷◌, ◌++◌, if◌then◌else◌, drop, map, length, All, slice_index, IfOk, OnOk, IsTrue};
+ghost use Rattle.std.specs.Prelude.{◌≡◌, ◌+◌, ◌<◌, ◌↔◌, not, List, [], ◌∷◌, ◌++◌, if◌then◌else◌, drop, map, length, All, slice_index, IfOk, OnOk, IsTrue};
 ghost use Rattle.ember_model.specs.Valid.{IsValidTri};
+ghost use Rattle.ember_model.specs.Faces.{is_flat};
 ghost use Rattle.ember_box.specs.Near.{tri_at};
 ghost use Rattle.ember_pairs.specs.declared.pair.Pair.{Pair};
 ghost use Rattle.ember_pairs.specs.Pairs.{AreMeeting, AreMeetingPairs, Completes, face_if, row, pairs_of};
-ghost use Rattle.ember_pairs.specs.Candidates.{candidate_of, candidates_at};
+ghost use Rattle.ember_pairs.specs.Candidates.{candidate_of, candidates_at, with_faces};
 
 use crate::heights::heights_of;
 use crate::pair::{Pair, PairList};
 use ember_box::{Aabb, aabb_of_tri, aabbs_meet};
-use ember_model::{OutOfMemory, Plane, Scene, Tri, support_of};
+use ember_model::{OutOfMemory, Plane, Scene, Tri, has_no_normal, support_of};
 use ember_poly::{Ring, meets, of_tri};
 use std::alloc::Global;
 
@@ -199,9 +200,8 @@ fn push_row(
     Ok(())
 }
 
-/// The pairs of listed triangles that meet, in the order of the list. The only error is
-/// out-of-memory.
-pub fn meeting_pairs(alloc: Global, tris: &[Tri], list: &[u32]) -> Result<PairList, OutOfMemory>
+// The pairs of listed triangles that meet, by a test of each two of them.
+fn tested_pairs(alloc: Global, tris: &[Tri], list: &[u32]) -> Result<PairList, OutOfMemory>
     requires valid { All IsValidTri tris.now }
     requires places { All (λ i. i < length tris.now) list.now }
     ensures { IfOk result (λ ps. AreMeetingPairs tris.now list.now ps) }
@@ -212,4 +212,49 @@ pub fn meeting_pairs(alloc: Global, tris: &[Tri], list: &[u32]) -> Result<PairLi
         push_row(alloc, tris, list, &candidates, a, &mut out)?;
     }
     Ok(PairList::of(out))
+}
+
+// Whether the triangle is flat: its normal is zero.
+fn is_flat(t: &Tri) -> bool
+    requires { IsValidTri t.now }
+    ensures { result ≡ is_flat t.now }
+{
+    has_no_normal(&support_of(t))
+}
+
+// Whether triangle `i` of the list has a face.
+fn has_face(tris: &[Tri], i: u32) -> bool
+    requires valid { All IsValidTri tris.now }
+    requires index { i < length tris.now }
+    ensures { result ≡ not (is_flat (tri_at tris.now i)) }
+{
+    !is_flat(&tris[i as usize])
+}
+
+// Those of the listed triangles that have a face, in order.
+fn with_faces(alloc: Global, tris: &[Tri], list: &[u32]) -> Result<Vec<u32>, OutOfMemory>
+    requires valid { All IsValidTri tris.now }
+    requires places { All (λ i. i < length tris.now) list.now }
+    ensures { IfOk result (λ v. v.items ≡ with_faces tris.now list.now) }
+{
+    let mut found = Vec::with_capacity(alloc, list.len())?;
+    for i in list {
+        if has_face(tris, *i) {
+            found.push(*i)?;
+        }
+    }
+    Ok(found)
+}
+
+/// The pairs of listed triangles that meet, in the order of the list. Flat triangles meet none, so
+/// they are left out before two are tested: otherwise many of them at one place would take time in
+/// the square of their number. The only error is out-of-memory.
+pub fn meeting_pairs(alloc: Global, tris: &[Tri], list: &[u32]) -> Result<PairList, OutOfMemory>
+    requires valid { All IsValidTri tris.now }
+    requires places { All (λ i. i < length tris.now) list.now }
+    ensures { IfOk result (λ ps. AreMeetingPairs tris.now list.now ps) }
+{
+    let kept = with_faces(alloc, tris, list)?;
+    let pairs = tested_pairs(alloc, tris, kept.as_slice())?;
+    Ok(pairs)
 }

@@ -24,4 +24,4 @@ pub use law::rings_are_valid_and_bounded;
 pub use meeting::{has_point_within, meets, meets_face};
 pub use reach_and_cut::{Cut, Reach};
 pub use reaching::reach;
-pub use ring::{Ring, copy, corners, edges, main_edges, of_tri, outline, support};
+pub use ring::{Ring, copy, corners, edges, main_edges, of_tri, outline, planes, support};

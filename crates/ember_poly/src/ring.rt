@@ -118,6 +118,14 @@ pub fn support(r: &Ring) -> Plane
     r.support
 }
 
+/// All edge planes of the face, in the order in which they were added: those of its triangle come
+/// first.
+pub fn planes(r: &Ring) -> &[Plane]
+    ensures { result.now ≡ (r.now).edges }
+{
+    &r.planes
+}
+
 /// The edge planes whose edges count, counter-clockwise seen from the front. The first is the one
 /// of lowest index.
 pub fn edges(r: &Ring) -> &[Plane]

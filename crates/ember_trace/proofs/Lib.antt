@@ -11,6 +11,7 @@ pub mod FlatPlanes
 pub mod LevelTriangles
 pub mod MeshSums
 pub mod OneSides
+pub mod OwnTriangles
 pub mod SegmentsPast
 pub mod Coordinates
 pub mod RaySides
@@ -20,6 +21,7 @@ pub mod SharedPlanes
 pub mod Slides
 pub mod SomeSides
 pub mod Tallies
+pub mod ThreeCorners
 pub mod ThreeEdges
 pub mod TracedSides
 pub mod PathVertices

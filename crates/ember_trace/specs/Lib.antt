@@ -1,5 +1,6 @@
 pub mod Boxed
 pub mod Crossings
 pub mod Edges
+pub mod FirstCorners
 pub mod NearTriangles
 pub mod Paths

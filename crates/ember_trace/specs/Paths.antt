@@ -51,6 +51,12 @@ side_after_first w p =
 abbrev pub side_after_second : Path → Plane → Sign
 side_after_second w p = or_sign (side_at_end w (slid_to_lo w w.main p)) (side_at_start w p)
 
+-- the floor of a point's coordinate along an axis
+abbrev pub floor_of : Meet → Axis → ℤ
+floor_of m X = int_div_euclid m.x m.w
+floor_of m Y = int_div_euclid m.y m.w
+floor_of m Z = int_div_euclid m.z m.w
+
 -- the floor of the coordinate of the first corner
 abbrev pub floor_at_end : Path → Axis → ℤ
 floor_at_end w X = int_div_euclid w.first_corner.x w.first_corner.w

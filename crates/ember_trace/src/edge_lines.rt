@@ -4,25 +4,14 @@ ghost use Rattle.ember_algebra.specs.Size.{Small};
 ghost use Rattle.ember_algebra.specs.Sign.{sgn};
 ghost use Rattle.ember_model.specs.Valid.{IsValidCorner};
 ghost use Rattle.ember_model.specs.Sizes.{IsEdgeSized};
+ghost use Rattle.ember_point.specs.declared.meet_point.Meet.{Meet as MeetView};
 ghost use Rattle.ember_point.specs.Points.{spot_of, is_narrow};
-ghost use Rattle.ember_trace.specs.Edges.{edge_times, fixed_edge, side_at};
+ghost use Rattle.ember_trace.specs.Edges.{edge_times, fixed_edge, side_at, side_seen};
 
+use crate::edge_line::EdgeLine;
 use ember_algebra::{Sign, sign_of};
 use ember_model::{Axis, Corner, Plane};
 use ember_point::{Meet, narrow_product};
-
-// The line of the points (p, q) at which `dq p - dp q - d` is 0: it leads along (dp, dq). Here p
-// and q are the coordinates along two axes. Corners are at most 2047 in size along each axis, so
-// `dq` and `dp` are at most 4094, and `d` is at most 2 * 2047 * 4094 = 16760836.
-#[derive(Clone, Copy)]
-struct EdgeLine {
-    dq: i64,
-    dp: i64,
-    d: i64,
-    ghost small_dq: { Small 4094 dq },
-    ghost small_dp: { Small 4094 dp },
-    ghost small_d: { Small 16760836 d },
-}
 
 // The line through two points, times a sign.
 fn line_through(from_p: i32, from_q: i32, to_p: i32, to_q: i32, s: i64) -> EdgeLine
@@ -51,19 +40,30 @@ fn line_side(line: &EdgeLine, p: i128, q: i128, w: i128) -> Sign
     sign_of(narrow_product(line.dq, p) - narrow_product(line.dp, q) - narrow_product(line.d, w))
 }
 
-/// The side of the plane through the edge from `u` to `v` and parallel to the axis `k`, times the
-/// sign `s`, on which the narrow point `m` is.
-pub fn edge_side(u: &Corner, v: &Corner, k: Axis, s: i64, m: &Meet) -> Sign
+/// The plane through the edge from `u` to `v` and parallel to the axis `k`, times the sign `s`, as
+/// a line in the two other coordinates. In clauses, `MeetView` is `Meet` as contracts see it.
+pub fn line_of_edge(u: &Corner, v: &Corner, k: Axis, s: i64) -> EdgeLine
     requires from { IsValidCorner u.now }
     requires to { IsValidCorner v.now }
     requires s { Small 1 s }
-    requires narrow { is_narrow (spot_of m.now) ≡ true }
-    ensures { result ≡ side_at (edge_times u.now v.now k s) m.now }
+    ensures { (m : MeetView) → side_seen result k m ≡ side_at (edge_times u.now v.now k s) m }
 {
     match k {
-        Axis::X => line_side(&line_through(u.y, u.z, v.y, v.z, s), m.y, m.z, m.w),
-        Axis::Y => line_side(&line_through(u.z, u.x, v.z, v.x, s), m.z, m.x, m.w),
-        Axis::Z => line_side(&line_through(u.x, u.y, v.x, v.y, s), m.x, m.y, m.w),
+        Axis::X => line_through(u.y, u.z, v.y, v.z, s),
+        Axis::Y => line_through(u.z, u.x, v.z, v.x, s),
+        Axis::Z => line_through(u.x, u.y, v.x, v.y, s),
+    }
+}
+
+/// The side of a line on which the narrow point `m` is, seen along the axis `k`.
+pub fn side_of_line(line: &EdgeLine, k: Axis, m: &Meet) -> Sign
+    requires { is_narrow (spot_of m.now) ≡ true }
+    ensures { result ≡ side_seen line.now k m.now }
+{
+    match k {
+        Axis::X => line_side(line, m.y, m.z, m.w),
+        Axis::Y => line_side(line, m.z, m.x, m.w),
+        Axis::Z => line_side(line, m.x, m.y, m.w),
     }
 }
 

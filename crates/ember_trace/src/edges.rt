@@ -13,7 +13,7 @@ ghost use Rattle.ember_trace.specs.Paths.{side_at_start, side_at_end, side_after
 ghost use Rattle.ember_trace.specs.Crossings.{all_behind};
 
 use crate::crossing_signs::slope_number;
-use crate::edge_lines::{edge_plane_times, edge_side, moved_edge_side};
+use crate::edge_lines::{edge_plane_times, line_of_edge, moved_edge_side, side_of_line};
 use crate::near_triangle::NearTriangle;
 use crate::path::Path;
 use crate::vertices::coordinate;
@@ -29,9 +29,10 @@ fn edge_side_at_end(u: &Corner, v: &Corner, k: Axis, s: i64, way: &Path) -> Sign
     requires narrow { way.now.narrow ≡ true }
     ensures { result ≡ side_at_end way.now (edge_times u.now v.now k s) }
 {
-    match edge_side(u, v, k, s, &way.first_corner) {
-        Sign::Zero => match edge_side(u, v, k, s, &way.second_corner) {
-            Sign::Zero => edge_side(u, v, k, s, &way.third_corner),
+    let line = line_of_edge(u, v, k, s);
+    match side_of_line(&line, k, &way.first_corner) {
+        Sign::Zero => match side_of_line(&line, k, &way.second_corner) {
+            Sign::Zero => side_of_line(&line, k, &way.third_corner),
             side => side,
         },
         side => side,

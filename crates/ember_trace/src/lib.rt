@@ -2,15 +2,18 @@
 //!
 //! `trace_sides` (sides.rt) makes a path to the region (path.rt, vertices.rt) and counts how often
 //! the path crosses each near triangle (segments.rt). edges.rt and edge_lines.rt say behind which
-//! edges of a triangle a segment runs. Only tests use whole_rays.rt.
+//! edges of a triangle a segment runs; own_triangle.rt knows it for the region's own triangle. Only
+//! tests use whole_rays.rt.
 #![tactic(auto)]
 
 mod crossing_signs;
+mod edge_line;
 mod edge_lines;
 mod edges;
 mod law;
 mod near;
 mod near_triangle;
+mod own_triangle;
 mod path;
 mod region_sides;
 mod segments;

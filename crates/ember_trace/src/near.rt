@@ -11,6 +11,7 @@ ghost use Rattle.ember_trace.specs.NearTriangles.{AreNearTriangles};
 use crate::near_triangle::NearTriangle;
 use ember_box::{Cell, aabb_of_tri};
 use ember_model::{OutOfMemory, Tri, support_of};
+use ember_poly::main_edges;
 use ember_ref::lex_side;
 use std::alloc::Global;
 
@@ -26,14 +27,15 @@ fn near_triangle_of(t: &Tri, lo: [i32; 3]) -> NearTriangle
     NearTriangle {
         tri: *t,
         support,
+        edges: main_edges(t, &support),
         aabb: aabb_of_tri(t),
         reference_side: lex_side(&support, lo),
     }
 }
 
-/// The triangles near a box, in order, each with its support plane, its bounding box, and the side
-/// of the plane on which the box's reference point lies. Meshes are numbered from 1 to 64. The only
-/// error is out-of-memory.
+/// The triangles near a box, in order, each with its planes, its bounding box, and the side of its
+/// support plane on which the box's reference point lies. Meshes are numbered from 1 to 64. The
+/// only error is out-of-memory.
 pub fn near_triangles(
     alloc: Global,
     near: &[Tri],

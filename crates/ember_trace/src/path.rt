@@ -25,16 +25,18 @@
 ghost use Rattle.std.specs.Prelude.{◌≡◌, ◌&&◌, All};
 ghost use Rattle.ember_algebra.specs.Size.{Small};
 ghost use Rattle.ember_point.specs.Points.{spot_of, is_narrow};
+ghost use Rattle.ember_trace.specs.FirstCorners.{HasFirstCorners};
 
 use ember_model::Axis;
 use ember_point::Meet;
+use ember_poly::Ring;
 
 /// A path begins beside the least corner `lo` of its box. Its three segments run along
 /// `first_axis`, `second_axis` and `main`, in this order. It ends directly before or after the
-/// inside point that the first three corners of the region define. `narrow` says whether all three
+/// inside point that the first three corners of `region` define. `narrow` says whether all three
 /// are narrow points.
 #[derive(Clone, Copy)]
-pub struct Path {
+pub struct Path<'a> {
     pub lo: [i32; 3],
     pub first_axis: Axis,
     pub second_axis: Axis,
@@ -43,7 +45,9 @@ pub struct Path {
     pub second_corner: Meet,
     pub third_corner: Meet,
     pub narrow: bool,
+    pub region: &'a Ring,
     ghost small: { All (Small 2048) lo },
     ghost corners: { narrow ≡ is_narrow (spot_of first_corner) &&
         (is_narrow (spot_of second_corner) && is_narrow (spot_of third_corner)) },
+    ghost region_corners: { ∥ HasFirstCorners region.now first_corner second_corner third_corner ∥₁ },
 }

@@ -14,6 +14,7 @@ ghost use Rattle.ember_trace.specs.Crossings.{all_behind, contains_above, may_co
 use crate::crossing_signs::{is_level, side_after, side_before, signed_crossing};
 use crate::edges::{is_behind_edges_at_start, narrow_last_is_behind, narrow_second_is_behind};
 use crate::near_triangle::NearTriangle;
+use crate::own_triangle::{is_own, support_side_at_end};
 use crate::path::Path;
 use crate::vertices::coordinate;
 use ember_algebra::Sign;
@@ -60,12 +61,30 @@ fn in_root(floor: i128) -> i32
     }
 }
 
+// Clamps a coordinate of 64 bits to the root.
+fn narrow_in_root(floor: i64) -> i32
+    ensures value { result ≡ in_root floor }
+    ensures small { Small 2048 result }
+{
+    if floor < -2048 {
+        -2048
+    } else if 2048 < floor {
+        2048
+    } else {
+        floor as i32
+    }
+}
+
 // The floor of a coordinate of the path's end, clamped to the root.
 fn floor_in_root(way: &Path, k: Axis) -> i32
     ensures value { result ≡ in_root (floor_at_end way.now k) }
     ensures small { Small 2048 result }
 {
-    in_root(way.floor_at_end(k))
+    if way.narrow {
+        narrow_in_root(way.narrow_floor_at_end(k))
+    } else {
+        in_root(way.floor_at_end(k))
+    }
 }
 
 // The floor of the last segment's higher end, along the main axis, clamped to the root.
@@ -156,6 +175,16 @@ fn last_is_behind(triangle: &NearTriangle, way: &Path) -> bool
             && is_behind_at_end(way, &edge_plane(t, 2, k)))
 }
 
+// The same, where nothing is computed for the region's own triangle.
+fn last_is_behind_or_own(triangle: &NearTriangle, way: &Path) -> bool
+    ensures { result ≡ all_behind (λ p. side_at_end way.now p) (edge_planes triangle.now.tri way.now.main) }
+{
+    if is_own(triangle, way) {
+        return true;
+    }
+    last_is_behind(triangle, way)
+}
+
 // Whether the line of the first segment runs through the triangle. The bounding box is tested along
 // the second axis first; `segments_above_wall` has tested it along the main axis.
 fn first_runs_through(triangle: &NearTriangle, way: &Path) -> bool
@@ -206,7 +235,7 @@ fn last_runs_through(triangle: &NearTriangle, way: &Path, at: &EndFloors) -> boo
     requires { AreEndFloors way.now at.now }
     ensures { result ≡ last_runs_through way.now triangle.now }
 {
-    may_end(triangle, way, at) && last_is_behind(triangle, way)
+    may_end(triangle, way, at) && last_is_behind_or_own(triangle, way)
 }
 
 // The signed crossing of the first segment with the triangle.
@@ -291,7 +320,7 @@ fn last_segments_by_sides(triangle: &NearTriangle, way: &Path, at: &EndFloors) -
         };
     }
     let start = way.side_after_second(&triangle.support);
-    let end = way.side_at_end(&triangle.support);
+    let end = support_side_at_end(triangle, way);
     Crossings {
         before: signed_crossing(start, side_before(&triangle.support, way.main, end)),
         after: signed_crossing(start, side_after(&triangle.support, way.main, end)),

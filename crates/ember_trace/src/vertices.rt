@@ -5,7 +5,7 @@ ghost use Rattle.ember_algebra.specs.Size.{Small};
 ghost use Rattle.ember_model.specs.Valid.{IsValidPlane};
 ghost use Rattle.ember_model.specs.Sizes.{IsSupportSized};
 ghost use Rattle.ember_point.specs.Points.{spot_of, is_narrow};
-ghost use Rattle.ember_trace.specs.Paths.{coordinate, inside_side, side_at_start, side_at_end, side_after_first, side_after_second, slid_to_lo, floor_at_end, first_of, second_of, IsPathTo};
+ghost use Rattle.ember_trace.specs.Paths.{coordinate, inside_side, side_at_start, side_at_end, side_after_first, side_after_second, slid_to_lo, floor_of, floor_at_end, first_of, second_of, IsPathTo};
 
 use crate::path::Path;
 use ember_algebra::Sign;
@@ -44,20 +44,24 @@ fn are_narrow(first: &Meet, second: &Meet, third: &Meet) -> bool
 }
 
 /// The path to the region from beside the least corner of the box.
-pub fn path_to(c: &Cell, r: &Ring) -> Path
+pub fn path_to<'a>(c: &Cell, r: &'a Ring) -> Path<'a>
     ensures { IsPathTo c.now r.now result }
 {
     let main = main_axis(&support(r));
     let ring_corners = corners(r);
+    let first = ring_corners[0];
+    let second = ring_corners[1];
+    let third = ring_corners[2];
     Path {
         lo: c.lo(),
         first_axis: first_of(main),
         second_axis: second_of(main),
         main,
-        first_corner: ring_corners[0],
-        second_corner: ring_corners[1],
-        third_corner: ring_corners[2],
-        narrow: are_narrow(&ring_corners[0], &ring_corners[1], &ring_corners[2]),
+        first_corner: first,
+        second_corner: second,
+        third_corner: third,
+        narrow: are_narrow(&first, &second, &third),
+        region: r,
     }
 }
 
@@ -118,6 +122,28 @@ fn floor(n: i128, w: i128) -> i128
     }
 }
 
+// The same for small numbers, in 64 bits.
+fn small_floor(n: i128, w: i128) -> i64
+    requires n { Small 4611686018427387903 n }
+    requires w { Small 4611686018427387903 w }
+    requires weight { pos 0 <ℤ w }
+    ensures { result ≡ int_div_euclid n w }
+{
+    (n as i64).div_euclid(w as i64)
+}
+
+// The floor of a narrow point's coordinate along an axis.
+fn narrow_floor(m: &Meet, k: Axis) -> i64
+    requires { is_narrow (spot_of m.now) ≡ true }
+    ensures { result ≡ floor_of m.now k }
+{
+    match k {
+        Axis::X => small_floor(m.x, m.w),
+        Axis::Y => small_floor(m.y, m.w),
+        Axis::Z => small_floor(m.z, m.w),
+    }
+}
+
 // The plane with the coordinate along an axis fixed to that of `lo`, the least corner of the box.
 // The start is as close to `lo` as it has to be (path.rt).
 fn slid_to_lo(way: &Path, k: Axis, p: &Plane) -> Plane
@@ -128,7 +154,7 @@ fn slid_to_lo(way: &Path, k: Axis, p: &Plane) -> Plane
     slide(p, k, coordinate(way.lo, k))
 }
 
-impl Path {
+impl Path<'_> {
     /// The side of a plane on which the path begins: that of the reference point.
     pub fn side_at_start(&self, p: &Plane) -> Sign
         requires { IsValidPlane p.now }
@@ -200,5 +226,14 @@ impl Path {
             Axis::Y => floor(m.y, m.w),
             Axis::Z => floor(m.z, m.w),
         }
+    }
+
+    /// The same in 64 bits, if the corners are narrow.
+    #[tactic(auto, using(crate::proofs::Coordinates::end_floor))]
+    pub fn narrow_floor_at_end(&self, k: Axis) -> i64
+        requires { self.now.narrow ≡ true }
+        ensures { result ≡ floor_at_end self.now k }
+    {
+        narrow_floor(&self.first_corner, k)
     }
 }

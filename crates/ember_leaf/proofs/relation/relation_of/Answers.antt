@@ -1,20 +1,23 @@
-use Rattle.ember_leaf.proofs.relation.relation_of.Goals as goal
 use Rattle.std.proofs.Common.{◌∙◌}
-use Rattle.ember_leaf.specs.TriRelations.{all_in_front, all_behind, all_on}
-use Rattle.ember_leaf.proofs.TriRelations.{heights_test_moved, apart_in_front, apart_behind, coplanar_is}
+use Rattle.ember_leaf.specs.TriRelations.{all_on}
+use Rattle.ember_leaf.proofs.TriRelations.{heights_test_moved, own_in_front, own_behind, coplanar_is}
+use Rattle.ember_leaf.proofs.CoplanarFaces.{coplanar_turned, not_coplanar_turned}
+use Rattle.ember_leaf.proofs.relation.relation_of.Goals as goal
 
-pub returns-then-all_in_front : goal.returns-then-all_in_front
-returns-then-all_in_front c =
-    apart_in_front c.args.first.now.tri c.args.second.now.tri c.requires.first c.requires.second (heights_test_moved all_in_front c.args.second.now.tri c.args.first.now.plane c.heights_of-heights.ensures c.all_in_front.ensures c.if-all_in_front.true)
+pub returns-then-lie_in_front : goal.returns-then-lie_in_front
+returns-then-lie_in_front c =
+    own_in_front c.args.first.now.tri c.args.second.now.tri c.requires.first c.requires.second c.args.second.now.plane c.heights_of-heights.ensures c.lie_in_front.ensures c.if-lie_in_front.true
 
-pub returns-then-all_behind : goal.returns-then-all_behind
-returns-then-all_behind c =
-    apart_behind c.args.first.now.tri c.args.second.now.tri c.requires.first c.requires.second (heights_test_moved all_behind c.args.second.now.tri c.args.first.now.plane c.heights_of-heights.ensures c.all_behind.ensures c.if-all_behind.true)
+pub returns-then-lie_behind : goal.returns-then-lie_behind
+returns-then-lie_behind c =
+    own_behind c.args.first.now.tri c.args.second.now.tri c.requires.first c.requires.second c.args.second.now.plane c.heights_of-heights.ensures c.lie_behind.ensures c.if-lie_behind.true
 
 pub coplanar_relation-requires-clause-plane : goal.coplanar_relation-requires-clause-plane
 coplanar_relation-requires-clause-plane c =
-    coplanar_is c.args.first.now.tri c.args.second.now.tri c.requires.first c.requires.second ∙ heights_test_moved all_on c.args.second.now.tri c.args.first.now.plane c.heights_of-heights.ensures c.all_on.ensures c.if-all_on.true
+    let t = c.args.first.now.tri in let u = c.args.second.now.tri in
+    coplanar_turned t u (coplanar_is u t c.requires.second c.requires.first ∙ heights_test_moved all_on t c.args.second.now.plane c.heights_of-heights.ensures c.all_on.ensures c.if-all_on.true)
 
 pub crossing_relation-requires-clause-plane : goal.crossing_relation-requires-clause-plane
 crossing_relation-requires-clause-plane c =
-    coplanar_is c.args.first.now.tri c.args.second.now.tri c.requires.first c.requires.second ∙ heights_test_moved all_on c.args.second.now.tri c.args.first.now.plane c.heights_of-heights.ensures c.all_on.ensures c.if-all_on.false
+    let t = c.args.first.now.tri in let u = c.args.second.now.tri in
+    not_coplanar_turned t u (coplanar_is u t c.requires.second c.requires.first ∙ heights_test_moved all_on t c.args.second.now.plane c.heights_of-heights.ensures c.all_on.ensures c.if-all_on.false)

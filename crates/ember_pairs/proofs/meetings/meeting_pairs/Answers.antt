@@ -1,19 +1,17 @@
-use Rattle.std.proofs.Common.{◌<◌, List, sym, subst, length, arith}
-use Rattle.ember_pairs.specs.declared.pair.Pair.{Pair}
-use Rattle.ember_pairs.specs.Pairs.{Completes, pairs_of, AreMeetingPairs}
-use Rattle.ember_pairs.proofs.Rows.{completes_none, rows_more, rows_done}
+use Rattle.std.proofs.Common.{◌∙◌, ◌<◌, sym, subst, not, ℕ, List, length, All}
+use Rattle.std.proofs.lemmas.List.Elements.{All-filter}
+use Rattle.ember_model.specs.Faces.{is_flat}
+use Rattle.ember_box.specs.Near.{tri_at}
+use Rattle.ember_pairs.specs.Pairs.{AreMeetingPairs}
+use Rattle.ember_pairs.proofs.FlatTriangles.{all_pairs}
 use Rattle.ember_pairs.proofs.meetings.meeting_pairs.Goals as goal
 
-pub loop-a-init : goal.loop-a-init
-loop-a-init c =
-    let all = pairs_of c.args.list.now in
-    subst (λ (out : List Pair). Completes c.args.tris.now all all out) (sym c.new-out.ensures.items) (completes_none c.args.tris.now all)
-
-pub loop-a-preserved : goal.loop-a-preserved
-loop-a-preserved c =
-    let below : c.loop-a.a < length c.args.list.now = omega arith in
-    rows_more c.args.tris.now c.args.list.now (pairs_of c.args.list.now) c.loop-a.out.items c.push_row.new.out.items c.loop-a.a below c.in_ok-push_row.ensures c.loop-a.invariant
+pub tested_pairs-requires-clause-places : goal.tested_pairs-requires-clause-places
+tested_pairs-requires-clause-places c =
+    let ts = c.args.tris.now in
+    subst (All (λ i. i < length ts)) (sym (c.as_slice.ensures.value ∙ c.in_ok-kept.ensures)) (All-filter (λ i. not (is_flat (tri_at ts i))) (λ i. i < length ts) c.args.list.now c.requires.places)
 
 pub returns : goal.returns
 returns c =
-    subst (λ (ps : List Pair). AreMeetingPairs c.args.tris.now c.args.list.now ps) (sym c.of.ensures) (rows_done c.args.tris.now c.args.list.now c.loop-a.out.items c.loop-a.a c.loop-a-test.false c.loop-a.invariant)
+    let ts = c.args.tris.now in
+    all_pairs ts c.args.list.now c.in_ok-pairs.pairs (subst (λ (indices : List ℕ). AreMeetingPairs ts indices c.in_ok-pairs.pairs) (c.as_slice.ensures.value ∙ c.in_ok-kept.ensures) c.in_ok-pairs.ensures)
