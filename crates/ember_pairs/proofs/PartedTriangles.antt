@@ -22,20 +22,20 @@ use Rattle.ember_pairs.specs.Heights.{heights_of, all_in_front, all_behind, none
 use Rattle.ember_pairs.specs.Pairs.{AreMeeting}
 
 -- ---- from tests of heights to facts at the corners
-not_negative_out : (a : ℤ) → not (is_negative a) ≡ true → pos 0 ≤ℤ a
+pub not_negative_out : (a : ℤ) → not (is_negative a) ≡ true → pos 0 ≤ℤ a
 not_negative_out (pos n) e = omega (arith, ints)
 not_negative_out (negsuc n) e = absurd (cc)
 
-record Three (A B C : Type 0) : Type 0 where
-  a : A
-  b : B
-  c : C
+pub record Three (A B C : Type 0) : Type 0 where
+  pub a : A
+  pub b : B
+  pub c : C
 
-three : (x y z : Bool) → x && (y && z) ≡ true → Three (x ≡ true) (y ≡ true) (z ≡ true)
+pub three : (x y z : Bool) → x && (y && z) ≡ true → Three (x ≡ true) (y ≡ true) (z ≡ true)
 three x y z e =
     let p = and_parts x (y && z) e in let q = and_parts y z p.1 in record { a = p.0; b = q.0; c = q.1 }
 
-some_over : (x y z : ℤ) → pos 0 ≤ℤ x → pos 0 ≤ℤ y → pos 0 ≤ℤ z → is_zero x && (is_zero y && is_zero z) ≡ false → (pos 0 <ℤ x) ⊎ ((pos 0 <ℤ y) ⊎ (pos 0 <ℤ z))
+pub some_over : (x y z : ℤ) → pos 0 ≤ℤ x → pos 0 ≤ℤ y → pos 0 ≤ℤ z → is_zero x && (is_zero y && is_zero z) ≡ false → (pos 0 <ℤ x) ⊎ ((pos 0 <ℤ y) ⊎ (pos 0 <ℤ z))
 some_over (pos (suc n)) y z a b c e = inl (omega (arith, ints))
 some_over (negsuc n) y z a b c e = absurd (omega (arith, ints, a))
 some_over (pos zero) (pos (suc n)) z a b c e = inr (inl (omega (arith, ints)))

@@ -1,5 +1,6 @@
 -- The values of a plane at the corners of a triangle, and on which sides of it the corners lie
-use Rattle.std.specs.Prelude.{Bool, not, ◌&&◌}
+use Rattle.std.specs.Prelude.{Bool, not, ◌&&◌, List}
+use Rattle.std.specs.List.{list_any}
 use Rattle.ember_algebra.specs.Sign.{is_negative, is_zero, is_positive}
 use Rattle.ember_model.specs.declared.plane.Plane.{Plane}
 use Rattle.ember_model.specs.declared.tri.Tri.{Tri}
@@ -36,3 +37,11 @@ none_behind h = not (is_negative h.a) && (not (is_negative h.b) && not (is_negat
 -- all corners are on it
 abbrev pub all_on : Heights → Bool
 all_on h = is_zero h.a && (is_zero h.b && is_zero h.c)
+
+-- no corner is behind it, and not all are on it
+abbrev pub lie_beyond : Heights → Bool
+lie_beyond h = none_behind h && not (all_on h)
+
+-- the corners of a triangle lie so at one of these planes
+abbrev pub is_beyond_some : List Plane → Tri → Bool
+is_beyond_some planes t = list_any (λ p. lie_beyond (heights_of p t)) planes

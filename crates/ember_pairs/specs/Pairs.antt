@@ -1,8 +1,7 @@
 -- Which pairs of triangles meet, and the list of those that do
-use Rattle.std.specs.Prelude.{◌≡◌, ◌⊎◌, ℕ, false, List, [], ◌∷◌, ◌++◌, map, Option, None, Some, if◌then◌else◌}
+use Rattle.std.specs.Prelude.{◌≡◌, ◌⊎◌, ℕ, false, List, [], ◌∷◌, ◌++◌, map}
 use Rattle.ember_algebra.specs.Relations.{Each}
 use Rattle.ember_model.specs.declared.tri.Tri.{Tri}
-use Rattle.ember_model.specs.declared.face.Face.{Face}
 use Rattle.ember_model.specs.Faces.{is_flat, face_of, Meets}
 use Rattle.ember_box.specs.Near.{tri_at, all_indices}
 use Rattle.ember_pairs.specs.declared.pair.Pair.{Pair}
@@ -40,10 +39,6 @@ abbrev pub ArePairs : List Tri → List Pair → Type 0
 ArePairs ts ps = AreMeetingPairs ts (all_indices ts) ps
 
 -- ---- used inside the crate
--- the face of a triangle that has one
-abbrev pub face_if : Tri → Option Face
-face_if t = if is_flat t then None else Some (face_of t)
-
 -- `out`, followed by what `later` gives, is what `all` gives
 pub record Completes (ts : List Tri) (all later out : List Pair) : Type 0 where
   pub completed : (more : List Pair) → Each (AtPair ts) later more → Each (AtPair ts) all (out ++ more)

@@ -1,11 +1,10 @@
 // On which sides of a plane the corners of a triangle lie.
 ghost use Rattle.std.specs.Prelude.{◌≡◌, not, ◌&&◌, ◌||◌};
 ghost use Rattle.ember_algebra.specs.Sign.{is_negative, is_zero, is_positive};
-ghost use Rattle.ember_model.specs.Valid.{IsValidCorner, IsValidTri};
-ghost use Rattle.ember_model.specs.Sizes.{IsSupportSized};
+ghost use Rattle.ember_model.specs.Valid.{IsValidCorner, IsValidTri, IsValidPlane};
 ghost use Rattle.ember_model.specs.Planes.{value_at};
 ghost use Rattle.ember_model.specs.Owners.{spot_of_corner};
-ghost use Rattle.ember_pairs.specs.Heights.{heights_of, all_in_front, all_behind, none_in_front, none_behind, all_on};
+ghost use Rattle.ember_pairs.specs.Heights.{heights_of, all_in_front, all_behind, none_in_front, none_behind, all_on, lie_beyond};
 
 use ember_model::{Corner, Plane, Tri};
 
@@ -20,7 +19,7 @@ pub struct Heights {
 // The value of a plane at a corner.
 #[tactic(none)]
 fn height(p: &Plane, u: &Corner) -> i64
-    requires plane { IsSupportSized p.now }
+    requires plane { IsValidPlane p.now }
     requires corner { IsValidCorner u.now }
     ensures { result ≡ value_at p.now (spot_of_corner u.now) }
 {
@@ -29,7 +28,7 @@ fn height(p: &Plane, u: &Corner) -> i64
 
 /// The heights of the triangle's corners over the plane.
 pub fn heights_of(p: &Plane, t: &Tri) -> Heights
-    requires plane { IsSupportSized p.now }
+    requires plane { IsValidPlane p.now }
     requires tri { IsValidTri t.now }
     ensures { result ≡ heights_of p.now t.now }
 {
@@ -88,5 +87,11 @@ impl Heights {
         ensures { result ≡ ((none_in_front self.now || none_behind self.now) && not (all_on self.now)) }
     {
         (self.none_in_front() || self.none_behind()) && !self.all_on()
+    }
+    /// Whether no corner is behind the plane, and not all are on it.
+    pub fn lie_beyond(&self) -> bool
+        ensures { result ≡ lie_beyond self.now }
+    {
+        self.none_behind() && !self.all_on()
     }
 }

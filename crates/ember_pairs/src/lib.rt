@@ -2,6 +2,7 @@
 //! by box, the list of all of them, and its text.
 #![tactic(auto)]
 
+mod beyond_edges;
 mod gathering;
 mod heights;
 mod law;

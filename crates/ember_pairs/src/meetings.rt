@@ -1,17 +1,18 @@
 // Which triangles meet.
-ghost use Rattle.std.specs.Prelude.{◌≡◌, ◌+◌, ◌<◌, ◌↔◌, not, List, [], ◌∷◌, ◌++◌, if◌then◌else◌, drop, map, length, All, slice_index, IfOk, OnOk, IsTrue};
+ghost use Rattle.std.specs.Prelude.{◌≡◌, ◌+◌, ◌<◌, ◌↔◌, false, not, List, [], ◌∷◌, ◌++◌, if◌then◌else◌, drop, map, length, All, slice_index, IfOk, OnOk, IsTrue};
 ghost use Rattle.ember_model.specs.Valid.{IsValidTri};
-ghost use Rattle.ember_model.specs.Faces.{is_flat};
+ghost use Rattle.ember_model.specs.Faces.{is_flat, face_of, Meets};
 ghost use Rattle.ember_box.specs.Near.{tri_at};
 ghost use Rattle.ember_pairs.specs.declared.pair.Pair.{Pair};
-ghost use Rattle.ember_pairs.specs.Pairs.{AreMeeting, AreMeetingPairs, Completes, face_if, row, pairs_of};
+ghost use Rattle.ember_pairs.specs.Pairs.{AreMeeting, AreMeetingPairs, Completes, row, pairs_of};
 ghost use Rattle.ember_pairs.specs.Candidates.{candidate_of, candidates_at, with_faces};
 
+use crate::beyond_edges::is_beyond_an_edge;
 use crate::heights::heights_of;
 use crate::pair::{Pair, PairList};
 use ember_box::{Aabb, aabb_of_tri, aabbs_meet};
 use ember_model::{OutOfMemory, Plane, Scene, Tri, has_no_normal, support_of};
-use ember_poly::{Ring, meets, of_tri};
+use ember_poly::{meets, of_tri};
 use std::alloc::Global;
 
 // What the test of two triangles first looks at: the bounding box and the plane of each.
@@ -50,36 +51,56 @@ fn are_parted(first: &Candidate, t: &Tri, second: &Candidate, u: &Tri) -> bool
     own.are_on_one_side() || own.lean_to_one_side() && theirs.lean_to_one_side()
 }
 
-// Whether two triangles meet. `r` and `q` are the rings of their faces; a flat triangle has none.
-fn rings_meet(r: &Option<Ring>, t: &Tri, q: &Option<Ring>, u: &Tri) -> bool
+// `true` only if two triangles don't meet, as an edge plane of one of them shows, beyond which the
+// other lies. `false` shows nothing.
+fn are_parted_by_edges(first: &Candidate, t: &Tri, second: &Candidate, u: &Tri) -> bool
     requires one { IsValidTri t.now }
     requires other { IsValidTri u.now }
-    requires one_face { r.now ≡ face_if t.now }
-    requires other_face { q.now ≡ face_if u.now }
-    ensures { IsTrue result ↔ AreMeeting t.now u.now }
+    requires facet { first.now ≡ candidate_of t.now }
+    requires other_facet { second.now ≡ candidate_of u.now }
+    ensures { IsTrue result → AreMeeting t.now u.now → ⊥ }
 {
-    match r {
-        None => false,
-        Some(r) => match q {
-            None => false,
-            Some(q) => meets(r, u) || meets(q, t),
-        },
+    is_beyond_an_edge(t, &first.support, u) || is_beyond_an_edge(u, &second.support, t)
+}
+
+// Whether the triangle is flat: its normal is zero.
+fn is_flat(t: &Tri) -> bool
+    requires { IsValidTri t.now }
+    ensures { result ≡ is_flat t.now }
+{
+    has_no_normal(&support_of(t))
+}
+
+// Whether some inside point of the face of `t` lies in the closed face of `u`. Makes the ring of
+// the face of `t`.
+fn face_reaches(alloc: Global, t: &Tri, u: &Tri) -> Result<bool, OutOfMemory>
+    requires one { IsValidTri t.now }
+    requires other { IsValidTri u.now }
+    requires face { is_flat t.now ≡ false }
+    requires other_face { is_flat u.now ≡ false }
+    ensures { IfOk result (λ b. IsTrue b ↔ Meets (face_of t.now) (face_of u.now)) }
+{
+    match of_tri(alloc, t)? {
+        None => Ok(false),
+        Some(r) => Ok(meets(&r, u)),
     }
 }
 
-// Whether two triangles meet. Makes the rings of their faces.
+// Whether two triangles meet. Makes the ring of one face, and that of the other only if the first
+// doesn't show it.
 fn faces_meet(alloc: Global, t: &Tri, u: &Tri) -> Result<bool, OutOfMemory>
     requires one { IsValidTri t.now }
     requires other { IsValidTri u.now }
     ensures { IfOk result (λ b. IsTrue b ↔ AreMeeting t.now u.now) }
 {
-    let r = of_tri(alloc, t)?;
-    let q = of_tri(alloc, u)?;
-    Ok(rings_meet(&r, t, &q, u))
+    if is_flat(t) || is_flat(u) {
+        return Ok(false);
+    }
+    Ok(face_reaches(alloc, t, u)? || face_reaches(alloc, u, t)?)
 }
 
-// Whether two triangles meet. Rings are made only if neither bounding boxes nor corners show that
-// they don't.
+// Whether two triangles meet. Rings are made only if neither bounding boxes nor corners nor edges
+// show that they don't.
 fn are_meeting(
     alloc: Global,
     first: &Candidate,
@@ -97,6 +118,9 @@ fn are_meeting(
         return Ok(false);
     }
     if are_parted(first, t, second, u) {
+        return Ok(false);
+    }
+    if are_parted_by_edges(first, t, second, u) {
         return Ok(false);
     }
     faces_meet(alloc, t, u)
@@ -212,14 +236,6 @@ fn tested_pairs(alloc: Global, tris: &[Tri], list: &[u32]) -> Result<PairList, O
         push_row(alloc, tris, list, &candidates, a, &mut out)?;
     }
     Ok(PairList::of(out))
-}
-
-// Whether the triangle is flat: its normal is zero.
-fn is_flat(t: &Tri) -> bool
-    requires { IsValidTri t.now }
-    ensures { result ≡ is_flat t.now }
-{
-    has_no_normal(&support_of(t))
 }
 
 // Whether triangle `i` of the list has a face.

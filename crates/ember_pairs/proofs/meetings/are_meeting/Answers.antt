@@ -13,3 +13,7 @@ returns-then-not-aabbs_meet c =
 pub returns-then-are_parted : goal.returns-then-are_parted
 returns-then-are_parted c =
     (λ r. absurd (false≢true r), λ m. absurd (c.are_parted.ensures c.if-are_parted.true m))
+
+pub returns-then-are_parted_by_edges : goal.returns-then-are_parted_by_edges
+returns-then-are_parted_by_edges c =
+    (λ r. absurd (false≢true r), λ m. absurd (c.are_parted_by_edges.ensures c.if-are_parted_by_edges.true m))

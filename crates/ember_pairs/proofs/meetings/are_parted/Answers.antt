@@ -1,6 +1,6 @@
 use Rattle.std.proofs.Common.{ap, sym, subst, not, ◌&&◌, ◌||◌}
-use Rattle.ember_model.specs.Sizes.{IsSupportSized}
-use Rattle.ember_model.proofs.PlaneSizes.{support_sized}
+use Rattle.ember_model.specs.Valid.{IsValidPlane}
+use Rattle.ember_model.proofs.PlaneSizes.{support_sized, support_valid}
 use Rattle.ember_pairs.specs.declared.meetings.Candidate.{Candidate}
 use Rattle.ember_pairs.specs.Heights.{all_in_front, all_behind, none_in_front, none_behind, all_on}
 use Rattle.ember_pairs.proofs.PartedTriangles.{parted_by_one, parted_by_both, meeting_is_symmetric, heights_answer_moved}
@@ -8,11 +8,11 @@ use Rattle.ember_pairs.proofs.meetings.are_parted.Goals as goal
 
 pub heights_of-theirs-requires-clause-plane : goal.heights_of-theirs-requires-clause-plane
 heights_of-theirs-requires-clause-plane c =
-    subst (λ (f : Candidate). IsSupportSized f.support) (sym c.requires.facet) (support_sized c.args.t.now c.requires.one)
+    subst (λ (f : Candidate). IsValidPlane f.support) (sym c.requires.facet) (support_valid (support_sized c.args.t.now c.requires.one))
 
 pub heights_of-own-requires-clause-plane : goal.heights_of-own-requires-clause-plane
 heights_of-own-requires-clause-plane c =
-    subst (λ (f : Candidate). IsSupportSized f.support) (sym c.requires.other_facet) (support_sized c.args.u.now c.requires.other)
+    subst (λ (f : Candidate). IsValidPlane f.support) (sym c.requires.other_facet) (support_valid (support_sized c.args.u.now c.requires.other))
 
 pub returns-then-are_on_one_side : goal.returns-then-are_on_one_side
 returns-then-are_on_one_side c = λ r m.
