@@ -85,7 +85,8 @@ where
 }
 
 // The answer to a query. `$run` is the call that runs the boxes below the root `$root` by the
-// step `$step`: `results_alone` or `results_by_workers`.
+// step `$step`: `results_alone` or `results_by_workers`. The closures have no clauses, so the
+// contract of each is that of the call in it (`text_step`, and so on).
 macro_rules! run_query {
     ($alloc:ident, $query:ident, | $root:ident, $step:ident | $run:expr) => {
         match *$query {

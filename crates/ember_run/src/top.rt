@@ -160,8 +160,8 @@ fn workers_of(command: &Command) -> u32
 // report or the status's line to err.
 //
 // The closure here fixes the number of workers. It passes on what `executor` requires and ensures:
-// `C.post` takes the executor by value (`executor.entry.now`) and the query as a reference
-// (`query.entry`).
+// in `C.post` the first argument is the closure itself, so it is `executor.entry.now`; the second is
+// the reference `&Query`, so it is `query.entry`.
 fn run_with<S: Shelf, O: Sink, E: Sink, C: Fn(u32, &Query) -> Result<Answer, OutOfMemory>>(
     alloc: Global,
     words: &[String],

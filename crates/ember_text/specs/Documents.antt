@@ -30,7 +30,8 @@ joined texts = record { bytes = flat_map (λ t. t.bytes) texts; count = sum_by (
 abbrev pub document_of : FacesText → List ℕ
 document_of text = header ++ (text.bytes ++ ending text.count)
 
--- the face file of these faces: the header, their texts in order, and the last line with their number
+-- the face file of these faces: the header, their texts in order, and the last line with their number. This is
+-- `IsFileText` of ember_model, and also that all numbers are in the range of a face file
 pub record IsDocumentText (fs : List Face) (bytes : List ℕ) : Type 0 where
   pub texts : List ℕ
   pub are_texts : AreTextsInRange fs texts
