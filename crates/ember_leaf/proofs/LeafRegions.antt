@@ -35,7 +35,7 @@ use Rattle.ember_trace.proofs.FilledFaces.{inside_below}
 use Rattle.ember_trace.proofs.BoxedRegions.{every_at, regions_lie_in}
 use Rattle.ember_leaf.specs.declared.wall.Wall as leaf
 use Rattle.ember_leaf.specs.declared.cutter.Cutter.{Cutter}
-use Rattle.ember_leaf.specs.declared.leaf_triangle.LeafTriangle.{LeafTriangle}
+use Rattle.ember_trace.specs.declared.near_triangle.NearTriangle.{NearTriangle}
 use Rattle.ember_leaf.specs.Walls.{wall_of, IsPartOf, IsClippedBy}
 use Rattle.ember_leaf.specs.TriRelations.{IsValidCoplanar}
 use Rattle.ember_leaf.specs.declared.cutter.Role.{Role}
@@ -103,7 +103,7 @@ bounded_keeps t s b f fs h (splits m c) =
     (record { within = record { holds = λ v i. h.within.holds v (inside_below f b.plane v i).0 }; bounds = record { holds = λ v i. h.bounds.holds v (inside_below f b.plane v i).0 } }, (record { within = record { holds = λ v i. h.within.holds v (inside_below f (opposite b.plane) v i).0 }; bounds = record { holds = λ v i. h.bounds.holds v (inside_below f (opposite b.plane) v i).0 } }, tt))
 bounded_keeps t s b f fs h (whole n) = (h, tt)
 
-module _ (c : Cell) (f : LeafTriangle) (ring : Face) where
+module _ (c : Cell) (f : NearTriangle) (ring : Face) where
   part_bounded : (s : Aabb) → s ≡ common_of f.aabb (aabb_of_cell c) → IsPartOf f.tri ring → LiesIn c ring → IsBounded f.tri s ring
   part_bounded s q p l =
       record { within = p.within; bounds = record { holds = λ v i. subst (λ (b : Aabb). IsWithinAabb b v) (sym q) (are_common f.aabb (aabb_of_cell c) v (own p.plane.normal v (p.within.holds v i)) (in_cell c ring v l i)) } }
@@ -119,7 +119,7 @@ module _ (c : Cell) (f : LeafTriangle) (ring : Face) where
       record { start = ring ∷ []; is_start = subst (λ (t : Tri). IsStart c t (ring ∷ [])) e start; cuts = unmet_planes_change_nothing (bounded_keeps f.tri s) h (part_bounded s q (left_parts f.tri start).0 (start_lies_in c f.tri ring start), tt) k }
 
 -- the list of triangles before a triangle decides whether it owns each of its regions
-owners_told : (c : Cell) (f : LeafTriangle) (ts : List Tri) (i : ℕ) (earlier : List Tri) (s : Aabb) (list : List Face) → f.tri ≡ tri_at ts i → i < length ts → s ≡ common_of f.aabb (aabb_of_cell c) → IsRegions c ts i list → Every (IsPartOf f.tri) list → All (IsValidCoplanar f.tri) earlier → AreEarlier ts i f.tri s (length ts) earlier → All (DecidesOwner earlier ts i) list
+owners_told : (c : Cell) (f : NearTriangle) (ts : List Tri) (i : ℕ) (earlier : List Tri) (s : Aabb) (list : List Face) → f.tri ≡ tri_at ts i → i < length ts → s ≡ common_of f.aabb (aabb_of_cell c) → IsRegions c ts i list → Every (IsPartOf f.tri) list → All (IsValidCoplanar f.tri) earlier → AreEarlier ts i f.tri s (length ts) earlier → All (DecidesOwner earlier ts i) list
 owners_told c f ts i earlier s list e w q r p k a j d l =
     let g = get_or list j d in let at = slice_get-get_or list j d l in let part = every_at (IsPartOf f.tri) list j g p at in
     tells_owner ts i f.tri s e w earlier g k a (part_bounded c f g s q part (regions_lie_in c ts i j list g r at)) part.somewhere
@@ -144,7 +144,7 @@ all_told earlier ts i t (f ∷ fs) h k =
     (record { tells = h.0; somewhere = k.0.somewhere }, all_told earlier ts i t fs h.1 k.1)
 
 -- what the triangles leave of the start are the regions that the triangle owns
-pub leaf_owned : (c : Cell) (f : LeafTriangle) (ring : Face) (ts : List Tri) (i : ℕ) (ws : List leaf.Wall) (cs : List Cutter) (s : Aabb) (list : List Face) → f.tri ≡ tri_at ts i → i < length ts → map wall_of ws ≡ walls c → s ≡ common_of f.aabb (aabb_of_cell c) → IsClippedBy (map wall_of ws) f.tri (ring ∷ []) → OmitsUnmet (IsBounded f.tri s) (cutting_planes ts i) (cutting_planes_in cs) → All (IsCutterOf f.tri) cs → AreEarlier ts i f.tri s (length ts) (owners_in cs) → AreCut cs (ring ∷ []) list → AreOwned c ts i list
+pub leaf_owned : (c : Cell) (f : NearTriangle) (ring : Face) (ts : List Tri) (i : ℕ) (ws : List leaf.Wall) (cs : List Cutter) (s : Aabb) (list : List Face) → f.tri ≡ tri_at ts i → i < length ts → map wall_of ws ≡ walls c → s ≡ common_of f.aabb (aabb_of_cell c) → IsClippedBy (map wall_of ws) f.tri (ring ∷ []) → OmitsUnmet (IsBounded f.tri s) (cutting_planes ts i) (cutting_planes_in cs) → All (IsCutterOf f.tri) cs → AreEarlier ts i f.tri s (length ts) (owners_in cs) → AreCut cs (ring ∷ []) list → AreOwned c ts i list
 leaf_owned c f ring ts i ws cs s list e l w q h sheds lies earlier k =
     let r = regions_left cs ring list k in let are = leaf_regions c f ring ts i ws (cutting_planes_in cs) s r.all e w q h sheds r.cuts in
     let parts = cuts_keep f.tri r.cuts ((left_parts f.tri h).0, tt) in let us = owners_in cs in

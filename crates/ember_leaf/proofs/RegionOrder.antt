@@ -1,6 +1,6 @@
 -- Written regions of one triangle after another.
-use Rattle.std.proofs.Common.{◌≡◌, refl, sym, ap, subst, ◌∙◌, arith, ℕ, ◌+◌, ◌<◌, ◌≤◌, List, [], ◌∷◌, ◌++◌, length, get_or, take}
-use Rattle.std.proofs.lemmas.List.{get_or-map, length-map, map-append, take_more, take_all}
+use Rattle.std.proofs.Common.{◌≡◌, refl, sym, subst, arith, ℕ, ◌+◌, ◌<◌, ◌≤◌, List, [], ◌∷◌, ◌++◌, length, get_or}
+use Rattle.std.proofs.lemmas.List.{get_or-map, length-map}
 use Rattle.std.proofs.lemmas.List.Elements.{All-nil, All-push}
 use Rattle.std.proofs.lemmas.List.Quantifiers.{all_pairs_push}
 use Rattle.ember_model.specs.declared.tri.Tri.{Tri}
@@ -10,8 +10,6 @@ use Rattle.ember_box.specs.Near.{tri_at, no_tri}
 use Rattle.ember_trace.specs.declared.near_triangle.NearTriangle.{NearTriangle}
 use Rattle.ember_trace.specs.NearTriangles.{tri_of}
 use Rattle.ember_leaf.specs.declared.kept.Kept.{Kept}
-use Rattle.ember_leaf.specs.declared.leaf_triangle.LeafTriangle.{LeafTriangle}
-use Rattle.ember_leaf.specs.LeafTriangles.{tri_in, tris_in}
 use Rattle.ember_leaf.specs.KeptRegions.{LiesInPlaneOf, IsKeptOf, IsPlaced, ArePlacedBelow, tris_of}
 
 -- ---- the plane of a triangle
@@ -43,38 +41,14 @@ placed_push fs n ks new k l h r e =
       below = All-push (λ a. a.tri < n + 1) ks k h.below (omega (arith, q));
     })
 
--- the triangle of the i-th leaf triangle is the i-th triangle
-pub own_is : (fs : List LeafTriangle) (i : ℕ) (d : LeafTriangle) → i < length fs → (get_or fs i d).tri ≡ tri_at (tris_in fs) i
-own_is fs i d l = sym (get_or-map tri_in fs i d no_tri l)
+-- the triangle of the i-th near triangle is the i-th triangle
+pub own_is : (fs : List NearTriangle) (i : ℕ) (d : NearTriangle) → i < length fs → (get_or fs i d).tri ≡ tri_at (tris_of fs) i
+own_is fs i d l = sym (get_or-map tri_of fs i d no_tri l)
 
--- an index of leaf triangles is one of triangles
-pub listed_too : (fs : List LeafTriangle) (i : ℕ) → i < length fs → i < length (tris_in fs)
-listed_too fs i l = let q = length-map fs tri_in in omega (arith, l, q)
+-- an index of near triangles is one of triangles
+pub listed_too : (fs : List NearTriangle) (i : ℕ) → i < length fs → i < length (tris_of fs)
+listed_too fs i l = let q = length-map fs tri_of in omega (arith, l, q)
 
 -- the index behind the last is the number of triangles
-pub all_listed : (fs : List LeafTriangle) (i : ℕ) → length fs ≤ i → i ≤ length fs → i ≡ length (tris_in fs)
-all_listed fs i l m = let q = length-map fs tri_in in omega (arith, l, m, q)
-
--- ---- the triangles of a leaf, and those near it
-module _ (fs : List LeafTriangle) (ns : List NearTriangle) (same : tris_in fs ≡ tris_of ns) (i : ℕ) (l : i < length ns) where
-  pub same_place : i < length fs
-  same_place =
-      let a = length-map fs tri_in in let b = length-map ns tri_of in let e = ap length same in
-      omega (arith, l, a, b, e)
-
-  -- the triangle of the i-th near triangle is the i-th triangle
-  pub same_tri : (d : LeafTriangle) → (get_or fs i d).tri ≡ tri_at (tris_of ns) i
-  same_tri d = own_is fs i d same_place ∙ ap (λ ts. tri_at ts i) same
-
-  -- an index of the leaf's triangles is one of the near triangles
-  pub same_listed : i < length (tris_of ns)
-  same_listed = let b = length-map ns tri_of in omega (arith, l, b)
-
--- one triangle more
-pub more_triangles : (ns : List NearTriangle) (i : ℕ) (d : NearTriangle) (fs new : List LeafTriangle) (f : LeafTriangle) → i < length ns → f.tri ≡ (get_or ns i d).tri → new ≡ fs ++ f ∷ [] → tris_in fs ≡ tris_of (take i ns) → tris_in new ≡ tris_of (take (i + 1) ns)
-more_triangles ns i d fs new f l t e h =
-    ap tris_in e ∙ map-append tri_in fs (f ∷ []) ∙ (λ j. h j ++ t j ∷ []) ∙ sym (map-append tri_of (take i ns) (get_or ns i d ∷ [])) ∙ sym (ap tris_of (take_more ns i d l))
-
--- after the last near triangle, the list has all of them
-pub all_triangles : (ns : List NearTriangle) (i : ℕ) (fs : List LeafTriangle) → length ns ≤ i → tris_in fs ≡ tris_of (take i ns) → tris_in fs ≡ tris_of ns
-all_triangles ns i fs l h = h ∙ ap tris_of (take_all i ns l)
+pub all_listed : (fs : List NearTriangle) (i : ℕ) → length fs ≤ i → i ≤ length fs → i ≡ length (tris_of fs)
+all_listed fs i l m = let q = length-map fs tri_of in omega (arith, l, m, q)

@@ -1,7 +1,6 @@
 pub mod Contact
 pub mod Cutters
 pub mod LeafBoxes
-pub mod LeafTriangles
 pub mod KeptRegions
 pub mod Literal
 pub mod EarlierTriangles

@@ -11,11 +11,11 @@ ghost use Rattle.ember_poly.specs.Drafts.{face_in, HoldsRing};
 ghost use Rattle.ember_leaf.specs.Cutters.{common, common_of};
 ghost use Rattle.ember_leaf.specs.Walls.{wall_of, level_by, IsLowRemainder, IsHighRemainder, IsRemainder, IsClippedBy};
 
-use crate::leaf_triangle::LeafTriangle;
 use crate::wall::Wall;
 use ember_box::{Aabb, Cell, Interval, aabb_of_cell, interval_along};
 use ember_model::{Axis, OutOfMemory, Plane};
 use ember_poly::{Draft, Reach, Ring};
+use ember_trace::NearTriangle;
 use std::alloc::Global;
 
 // What two intervals have in common.
@@ -160,7 +160,7 @@ fn remainder_at_high(interval: &Interval, wall: &Wall) -> Remainder
 }
 
 // What the bounding box of a triangle decides about clipping at a wall.
-fn remainder_at(wall: &Wall, triangle: &LeafTriangle) -> Remainder
+fn remainder_at(wall: &Wall, triangle: &NearTriangle) -> Remainder
     ensures { IsRemainder (wall_of wall.now) triangle.now.tri result }
 {
     let interval = interval_along(&triangle.aabb, wall.axis);
@@ -174,9 +174,11 @@ fn remainder_at(wall: &Wall, triangle: &LeafTriangle) -> Remainder
 /// `true` only if no part of the triangle belongs to the box; `false` shows nothing. Bounding boxes
 /// alone are tested, wall by wall. Walls that cut nothing off are passed over, and a wall that cuts
 /// everything off ends the test with `true`. A wall for which the bounding box decides nothing ends
-/// it with `false`, even if a later wall cuts everything off: by the definition, each wall clips
-/// what the one before it leaves, and what such a wall leaves only the clip finds.
-pub fn is_outside(walls: &[Wall], triangle: &LeafTriangle) -> bool
+/// it with `false`, even if a later wall cuts everything off. `true` would be right there too, but
+/// the clause needs what each wall leaves on the way, not only that nothing is left at the end:
+/// the prover's logic is constructive, so the face that such a wall leaves must be made, and only
+/// the clip makes it.
+pub fn is_outside(walls: &[Wall], triangle: &NearTriangle) -> bool
     requires { is_flat triangle.now.tri ≡ false }
     ensures { result ≡ true → IsClippedBy (map wall_of walls.now) triangle.now.tri [] }
 {
@@ -210,7 +212,7 @@ fn clip_at_wall(draft: &mut Draft, wall: &Wall) -> Result<bool, OutOfMemory>
 // Clips the face of a triangle at the walls, one after another. Returns whether anything is left.
 fn clip_at_walls(
     draft: &mut Draft,
-    triangle: &LeafTriangle,
+    triangle: &NearTriangle,
     walls: &[Wall],
 ) -> Result<bool, OutOfMemory>
     requires normal { is_flat triangle.now.tri ≡ false }
@@ -240,7 +242,7 @@ fn clip_at_walls(
 pub fn clip_to_box(
     alloc: Global,
     draft: &mut Draft,
-    triangle: &LeafTriangle,
+    triangle: &NearTriangle,
     walls: &[Wall],
     room: usize,
 ) -> Result<Option<Ring>, OutOfMemory>

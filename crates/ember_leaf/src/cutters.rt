@@ -7,21 +7,21 @@ ghost use Rattle.std.specs.Prelude.{◌≡◌, false, true, All, IfOk, OnOk};
 ghost use Rattle.ember_model.specs.Faces.{is_flat};
 ghost use Rattle.ember_model.specs.Owners.{is_coplanar};
 ghost use Rattle.ember_box.specs.Near.{tri_at};
-ghost use Rattle.ember_leaf.specs.LeafTriangles.{tris_in};
+ghost use Rattle.ember_leaf.specs.KeptRegions.{tris_of};
 ghost use Rattle.ember_leaf.specs.Cutters.{role_if, IsAdded, IsCutterOf};
 ghost use Rattle.ember_leaf.specs.EarlierTriangles.{AddsPlanesOf, AddsOwners};
 ghost use Rattle.ember_leaf.specs.EarlierTriangles.{AddsCuttingPlanesWithin, AddsOwnersWithin, AreCuttingPlanesFound, AreOwnersFound};
 
 use crate::cutter::{Cutter, Role};
-use crate::leaf_triangle::LeafTriangle;
 use crate::relation::{Relation, covers, is_flat, relation_of};
 use ember_box::{Aabb, aabbs_meet};
 use ember_model::OutOfMemory;
+use ember_trace::NearTriangle;
 
 // Adds the triangle with its role.
 fn add_cutter(
     list: &mut Vec<Cutter>,
-    triangle: &LeafTriangle,
+    triangle: &NearTriangle,
     role: Role,
 ) -> Result<(), OutOfMemory>
     requires { is_flat triangle.now.tri ≡ false }
@@ -51,8 +51,8 @@ fn role_of(is_before: bool) -> Role
 // nothing, if `other` comes before `target` and is known to cover it.
 fn add_coplanar_unless_covering(
     list: &mut Vec<Cutter>,
-    target: &LeafTriangle,
-    other: &LeafTriangle,
+    target: &NearTriangle,
+    other: &NearTriangle,
     is_before: bool,
 ) -> Result<bool, OutOfMemory>
     requires normal { is_flat other.now.tri ≡ false }
@@ -74,8 +74,8 @@ fn add_coplanar_unless_covering(
 // comes before `target` and is known to cover it.
 fn add_unless_covering(
     list: &mut Vec<Cutter>,
-    target: &LeafTriangle,
-    other: &LeafTriangle,
+    target: &NearTriangle,
+    other: &NearTriangle,
     is_before: bool,
 ) -> Result<bool, OutOfMemory>
     requires target { is_flat target.now.tri ≡ false }
@@ -101,9 +101,9 @@ fn add_unless_covering(
 // Returns `true`, and adds nothing, if `other` comes before `target` and is known to cover it.
 fn add_near_unless_covering(
     list: &mut Vec<Cutter>,
-    target: &LeafTriangle,
+    target: &NearTriangle,
     bounds: &Aabb,
-    other: &LeafTriangle,
+    other: &NearTriangle,
     is_before: bool,
 ) -> Result<bool, OutOfMemory>
     requires target { is_flat target.now.tri ≡ false }
@@ -127,17 +127,17 @@ fn add_near_unless_covering(
 /// (`target`) isn't flat, and its regions lie within the bounds. The only error is out-of-memory.
 pub fn find_cutters_unless_covered(
     list: &mut Vec<Cutter>,
-    target: &LeafTriangle,
+    target: &NearTriangle,
     bounds: &Aabb,
-    near: &[LeafTriangle],
+    near: &[NearTriangle],
     i: usize,
 ) -> Result<bool, OutOfMemory>
     requires normal { is_flat target.now.tri ≡ false }
-    requires target { target.now.tri ≡ tri_at (tris_in near.now) i }
+    requires target { target.now.tri ≡ tri_at (tris_of near.now) i }
     ensures cutters { OnOk result (All (IsCutterOf target.now.tri) list.new.items) }
     ensures cutting_planes { IfOk result
-        (AreCuttingPlanesFound (tris_in near.now) i target.now.tri bounds.now list.new.items) }
-    ensures owners { IfOk result (AreOwnersFound (tris_in near.now) i target.now.tri bounds.now list.new.items) }
+        (AreCuttingPlanesFound (tris_of near.now) i target.now.tri bounds.now list.new.items) }
+    ensures owners { IfOk result (AreOwnersFound (tris_of near.now) i target.now.tri bounds.now list.new.items) }
 {
     list.clear();
     for j in 0..near.len() {

@@ -17,7 +17,6 @@ ghost use Rattle.ember_model.specs.Planes.{along, main_axis};
 ghost use Rattle.ember_expr.specs.Formula.{formula_of};
 ghost use Rattle.ember_leaf.specs.Written.{IsFlip, IsWrittenIn, AreOwned};
 ghost use Rattle.ember_leaf.specs.LeafBoxes.{WritesRegion, AddsWritten};
-ghost use Rattle.ember_leaf.specs.LeafTriangles.{tris_in};
 ghost use Rattle.ember_leaf.specs.KeptRegions.{LiesInPlaneOf, IsKeptOf, ArePlaced, ArePlacedBelow, tris_of};
 
 use crate::clip::{clip_to_box, common_spans, is_outside, walls};
@@ -25,10 +24,8 @@ use crate::cutter::Cutter;
 use crate::cutters::find_cutters_unless_covered;
 use crate::heights::is_in_front;
 use crate::kept::{Kept, KeptList};
-use crate::leaf_triangle::LeafTriangle;
 use crate::regions::regions;
 use crate::relation::is_flat;
-use crate::triangles::leaf_triangles;
 use crate::wall::Wall;
 use ember_box::{Aabb, Cell, aabb_of_cell};
 use ember_expr::{Expr, value};
@@ -37,8 +34,10 @@ use ember_poly::{Draft, Ring, support};
 use ember_trace::{NearTriangle, Sides, near_triangles, trace_sides};
 use std::alloc::Global;
 
-// The lists of a clipped triangle reserve room for this many cuts: one by each wall of a box.
-const ROOM: usize = 6;
+// Room in a ring's lists for its first cuts by cutters, at most this many. The walls have already
+// cut, in the draft. More cuts than this make the lists grow. The number is a guess: see "Cuts" in
+// docs/DECISIONS.md.
+const CUTTER_ROOM: usize = 6;
 
 // Whether the plane's front is on the side of `after`: its normal has a positive entry along its
 // main axis.
@@ -73,16 +72,14 @@ fn flip_of(e: &Expr, sides: &Sides, r: &Ring) -> Option<bool>
     }
 }
 
-// What is known at a leaf box. `near` has the near triangles, as `trace_sides` reads them, and
-// `with_edges` the same triangles in the same order, with the edge planes by which they cut, but
-// without their reference sides. `windings` has the winding numbers at the box's reference point.
+// What is known at a leaf box. `near` has the near triangles, and `windings` the winding numbers at
+// the box's reference point.
 #[derive(Clone, Copy)]
 struct Leaf<'a> {
     expr: &'a Expr,
     cell: &'a Cell,
     aabb: &'a Aabb,
     near: &'a [NearTriangle],
-    with_edges: &'a [LeafTriangle],
     windings: &'a Vector,
 }
 
@@ -175,7 +172,6 @@ impl Leaf<'_> {
         sides: &mut Sides,
         kept: &mut Vec<Kept>,
     ) -> Result<(), OutOfMemory>
-        requires same { tris_in self.now.with_edges.now ≡ tris_of self.now.near.now }
         requires few { length self.now.near.now ≤ 262144 }
         requires counts { AreBoxCounts self.now.windings.now.counts }
         requires index { i < length self.now.near.now }
@@ -187,16 +183,17 @@ impl Leaf<'_> {
         ensures written { OnOk result (AddsWritten self.now i kept.old.items kept.new.items) }
     {
         // The triangle whose regions are made.
-        let target = &self.with_edges[i];
+        let target = &self.near[i];
         if is_flat(target) || is_outside(walls, target) {
             return Ok(());
         }
         let bounds = common_spans(&target.aabb, self.aabb);
         // True if an earlier coplanar triangle covers this one. Then the list is incomplete.
-        if find_cutters_unless_covered(cutters, target, &bounds, self.with_edges, i)? {
+        if find_cutters_unless_covered(cutters, target, &bounds, self.near, i)? {
             return Ok(());
         }
-        if let Some(ring) = clip_to_box(alloc, draft, target, walls, cutters.len().min(ROOM))? {
+        let room = cutters.len().min(CUTTER_ROOM);
+        if let Some(ring) = clip_to_box(alloc, draft, target, walls, room)? {
             if cutters.is_empty() {
                 // What the clip leaves is the only region, so no list is made.
                 self.add_if_written(ring, i, sides, kept)?;
@@ -232,14 +229,12 @@ pub fn leaf_faces(
         IsWrittenIn scene (formula_of e.now) c.now near.now ks) }
 {
     let near_triangles = near_triangles(alloc, near, c)?;
-    let with_edges = leaf_triangles(alloc, &near_triangles)?;
     let aabb = aabb_of_cell(c);
     let leaf = Leaf {
         expr: e,
         cell: c,
         aabb: &aabb,
         near: &near_triangles,
-        with_edges: &with_edges,
         windings: v,
     };
     let walls = walls(c);

@@ -15,10 +15,8 @@ mod heights;
 mod kept;
 mod law;
 mod leaf;
-mod leaf_triangle;
 mod regions;
 mod relation;
-mod triangles;
 mod wall;
 
 pub use kept::{Kept, KeptList};

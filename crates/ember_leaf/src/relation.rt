@@ -5,8 +5,8 @@ ghost use Rattle.ember_model.specs.Owners.{is_coplanar};
 ghost use Rattle.ember_leaf.specs.TriRelations.{MissesClosedFace, IsBehindEdge, IsRelation};
 
 use crate::heights::heights_of;
-use crate::leaf_triangle::LeafTriangle;
 use ember_model::has_no_normal;
+use ember_trace::NearTriangle;
 
 /// How a triangle lies relative to the closed face of another one.
 #[derive(Clone, Copy)]
@@ -20,14 +20,14 @@ pub enum Relation {
 }
 
 /// Whether the triangle is flat: its normal is zero.
-pub fn is_flat(triangle: &LeafTriangle) -> bool
+pub fn is_flat(triangle: &NearTriangle) -> bool
     ensures { result ≡ is_flat triangle.now.tri }
 {
     has_no_normal(&triangle.support)
 }
 
 // `true` only if an edge plane of the first triangle keeps the two apart. `false` shows nothing.
-fn separates(first: &LeafTriangle, second: &LeafTriangle) -> bool
+fn separates(first: &NearTriangle, second: &NearTriangle) -> bool
     requires first { is_flat first.now.tri ≡ false }
     requires second { is_flat second.now.tri ≡ false }
     ensures { result ≡ true →
@@ -42,7 +42,7 @@ fn separates(first: &LeafTriangle, second: &LeafTriangle) -> bool
 }
 
 // `true` only if an edge plane of one of them keeps the two apart. `false` shows nothing.
-fn are_separated(first: &LeafTriangle, second: &LeafTriangle) -> bool
+fn are_separated(first: &NearTriangle, second: &NearTriangle) -> bool
     requires first { is_flat first.now.tri ≡ false }
     requires second { is_flat second.now.tri ≡ false }
     ensures { result ≡ true → MissesClosedFace first.now.tri second.now.tri }
@@ -51,7 +51,7 @@ fn are_separated(first: &LeafTriangle, second: &LeafTriangle) -> bool
 }
 
 // How a triangle lies relative to another one in its plane.
-fn coplanar_relation(first: &LeafTriangle, second: &LeafTriangle) -> Relation
+fn coplanar_relation(first: &NearTriangle, second: &NearTriangle) -> Relation
     requires first { is_flat first.now.tri ≡ false }
     requires second { is_flat second.now.tri ≡ false }
     requires plane { is_coplanar first.now.tri second.now.tri ≡ true }
@@ -65,7 +65,7 @@ fn coplanar_relation(first: &LeafTriangle, second: &LeafTriangle) -> Relation
 }
 
 // How a triangle lies relative to another one that isn't in its plane.
-fn crossing_relation(first: &LeafTriangle, second: &LeafTriangle) -> Relation
+fn crossing_relation(first: &NearTriangle, second: &NearTriangle) -> Relation
     requires first { is_flat first.now.tri ≡ false }
     requires second { is_flat second.now.tri ≡ false }
     requires plane { is_coplanar first.now.tri second.now.tri ≡ false }
@@ -84,7 +84,7 @@ fn crossing_relation(first: &LeafTriangle, second: &LeafTriangle) -> Relation
 }
 
 /// How a triangle lies relative to another one. Neither is flat.
-pub fn relation_of(first: &LeafTriangle, second: &LeafTriangle) -> Relation
+pub fn relation_of(first: &NearTriangle, second: &NearTriangle) -> Relation
     requires first { is_flat first.now.tri ≡ false }
     requires second { is_flat second.now.tri ≡ false }
     ensures { IsRelation first.now.tri second.now.tri result }
@@ -105,7 +105,7 @@ pub fn relation_of(first: &LeafTriangle, second: &LeafTriangle) -> Relation
 
 // `true` only if the inside of the second triangle lies behind this edge plane of the first.
 // `false` shows nothing.
-fn is_behind_edge(first: &LeafTriangle, second: &LeafTriangle, edge: usize) -> bool
+fn is_behind_edge(first: &NearTriangle, second: &NearTriangle, edge: usize) -> bool
     requires edge { edge < 3 }
     requires second { is_flat second.now.tri ≡ false }
     ensures { result ≡ true → IsBehindEdge first.now.tri second.now.tri edge }
@@ -115,7 +115,7 @@ fn is_behind_edge(first: &LeafTriangle, second: &LeafTriangle, edge: usize) -> b
 
 /// `true` only if the first triangle contains the second, which lies in its plane. `false` shows
 /// nothing.
-pub fn covers(first: &LeafTriangle, second: &LeafTriangle) -> bool
+pub fn covers(first: &NearTriangle, second: &NearTriangle) -> bool
     requires second { is_flat second.now.tri ≡ false }
     requires plane { is_coplanar first.now.tri second.now.tri ≡ true }
     ensures { result ≡ true → Contains (face_of first.now.tri) (face_of second.now.tri) }

@@ -6,7 +6,7 @@ use Rattle.ember_model.specs.declared.face.Face.{Face}
 use Rattle.ember_model.specs.Faces.{is_flat}
 use Rattle.ember_expr.specs.Formula.{formula_of}
 use Rattle.ember_box.specs.Boxes.{Cell}
-use Rattle.ember_box.specs.Regions.{walls, IsStart, cutting_planes}
+use Rattle.ember_box.specs.Regions.{walls, IsStart}
 use Rattle.ember_box.specs.Regions as regions
 use Rattle.ember_leaf.specs.declared.wall.Wall.{Wall}
 use Rattle.ember_leaf.specs.EarlierTriangles.{AreEarlierOrCovered}
@@ -16,11 +16,10 @@ use Rattle.ember_leaf.proofs.WrittenRegions.{grown_none, none_started, none_flat
 use Rattle.ember_model.specs.declared.tri.Tri.{Tri}
 use Rattle.ember_box.specs.Near.{tri_at}
 use Rattle.ember_leaf.specs.KeptRegions.{tris_of}
-use Rattle.ember_leaf.specs.LeafTriangles.{tris_in}
-use Rattle.ember_leaf.proofs.RegionOrder.{own_is, same_place, same_tri, same_listed}
+use Rattle.ember_leaf.proofs.RegionOrder.{own_is, listed_too}
 use Rattle.ember_leaf.specs.Walls.{wall_of, IsClippedBy}
 use Rattle.ember_leaf.proofs.WallClips.{left_parts}
-use Rattle.ember_leaf.specs.Cutters.{cutting_planes_in, owners_in, CanCut, IsBounded, OmitsUnmet, common_of, AreCut}
+use Rattle.ember_leaf.specs.Cutters.{cutting_planes_in, owners_in, CanCut, common_of, AreCut}
 use Rattle.ember_leaf.proofs.LeafRegions.{leaf_owned, owned_planes, owned_inside, owned_each, all_can}
 use Rattle.ember_leaf.proofs.leaf.Leaf.write_triangle.Goals.{then-is_flat-via-then-is_flat, then-is_flat-via-else-is_flat+then-is_outside}
 use Rattle.ember_leaf.proofs.leaf.Leaf.write_triangle.Goals as goal
@@ -32,7 +31,7 @@ to_start c ns i ws {t} {fs} e w l =
 pub returns-then-is_flat-clause-written : goal.returns-then-is_flat-clause-written
 returns-then-is_flat-clause-written c =
     let s = c.args.self.now in let near = s.near.now in let ns = tris_of near in let i = c.args.i in
-    let e = same_tri s.with_edges.now near c.requires.same i c.requires.index c.index-self-i.result in
+    let e = own_is near i c.index-self-i.result c.requires.index in
     grown_none _ c.args.kept.now.items (λ scene h. elim c.then-is_flat.branch [
       | then-is_flat-via-then-is_flat w ↦ none_flat scene (formula_of s.expr.now) s.cell.now ns i (sym (ap is_flat e) ∙ sym c.is_flat.ensures ∙ w.if-is_flat.true)
       | then-is_flat-via-else-is_flat+then-is_outside w ↦ none_started scene (formula_of s.expr.now) s.cell.now ns i (to_start s.cell.now ns i c.args.walls.now e c.requires.walls (w.is_outside.ensures w.if-is_outside.true))
@@ -40,28 +39,28 @@ returns-then-is_flat-clause-written c =
 
 pub returns-then-branch-clause-written : goal.returns-then-branch-clause-written
 returns-then-branch-clause-written c =
-    let s = c.args.self.now in let near = s.near.now in let ns = tris_of near in let i = c.args.i in let t = (get_or s.with_edges.now i c.index-self-i.result).tri in
+    let s = c.args.self.now in let near = s.near.now in let ns = tris_of near in let i = c.args.i in let t = (get_or near i c.index-self-i.result).tri in
     let b = c.common_spans-bounds.result in let us = owners_in c.find_cutters_unless_covered.new.list.items in
-    let h = subst (λ ts. AreEarlierOrCovered ts i t b us true) c.requires.same (subst (AreEarlierOrCovered (tris_in s.with_edges.now) i t b us) c.if-branch.true c.in_ok-find_cutters_unless_covered.ensures.owners) in
-    grown_none _ c.args.kept.now.items (λ scene f. hidden (is_covered ns i t b (same_tri s.with_edges.now near c.requires.same i c.requires.index c.index-self-i.result) (same_listed s.with_edges.now near c.requires.same i c.requires.index) h))
+    let h = subst (AreEarlierOrCovered ns i t b us) c.if-branch.true c.in_ok-find_cutters_unless_covered.ensures.owners in
+    grown_none _ c.args.kept.now.items (λ scene f. hidden (is_covered ns i t b (own_is near i c.index-self-i.result c.requires.index) (listed_too near i c.requires.index) h))
 
 pub find_cutters_unless_covered-requires-clause-target : goal.find_cutters_unless_covered-requires-clause-target
 find_cutters_unless_covered-requires-clause-target c =
     let s = c.args.self.now in
-    own_is s.with_edges.now c.args.i c.index-self-i.result (same_place s.with_edges.now s.near.now c.requires.same c.args.i c.requires.index)
+    own_is s.near.now c.args.i c.index-self-i.result c.requires.index
 
 pub regions-requires : goal.regions-requires
 regions-requires c =
-    let near = c.args.self.now.near.now in let u = (get_or c.args.self.now.with_edges.now c.args.i c.index-self-i.result).tri in let cs = c.find_cutters_unless_covered.new.list.items in
+    let near = c.args.self.now.near.now in let u = (get_or near c.args.i c.index-self-i.result).tri in let cs = c.find_cutters_unless_covered.new.list.items in
     let l = left_parts u (subst (λ o. IsClippedBy (map wall_of c.args.walls.now) u (option_to_list o)) c.in-Some.is c.in_ok-ring.ensures) in
     subst (All (λ v. CanCut v c.in-Some.ring)) (sym c.deref.ensures.value) (all_can u c.in-Some.ring cs l.0 c.in_ok-find_cutters_unless_covered.ensures.cutters)
 
 pub add_if_written-requires-clause-regions : goal.add_if_written-requires-clause-regions
 add_if_written-requires-clause-regions c =
-    let s = c.args.self.now in let near = s.near.now in let ns = tris_of near in let i = c.args.i in let f = get_or s.with_edges.now i c.index-self-i.result in
+    let s = c.args.self.now in let near = s.near.now in let ns = tris_of near in let i = c.args.i in let f = get_or near i c.index-self-i.result in
     let ring = c.in-Some.ring in let b = c.common_spans-bounds.result in let cs = c.find_cutters_unless_covered.new.list.items in let k = c.in_ok-find_cutters_unless_covered.ensures in
     let empty : cs ≡ [] = nil_from_length cs (sym c.find_cutters_unless_covered.new.list.ok.0 ∙ eqb-true _ _ (sym c.is_empty.ensures ∙ c.if-is_empty.true)) in
-    leaf_owned s.cell.now f ring ns i c.args.walls.now cs b (ring ∷ []) (same_tri s.with_edges.now near c.requires.same i c.requires.index c.index-self-i.result) (same_listed s.with_edges.now near c.requires.same i c.requires.index) c.requires.walls (c.common_spans-bounds.ensures ∙ ap (common_of f.aabb) c.requires.aabb) (subst (λ o. IsClippedBy (map wall_of c.args.walls.now) f.tri (option_to_list o)) c.in-Some.is c.in_ok-ring.ensures) (subst (λ ts. OmitsUnmet (IsBounded f.tri b) (cutting_planes ts i) (cutting_planes_in cs)) c.requires.same (k.cutting_planes c.if-branch.false)) k.cutters (subst (λ ts. AreEarlierOrCovered ts i f.tri b (owners_in cs) false) c.requires.same (subst (AreEarlierOrCovered (tris_in s.with_edges.now) i f.tri b (owners_in cs)) c.if-branch.false k.owners)) (subst (λ us. AreCut us (ring ∷ []) (ring ∷ [])) (sym empty) done)
+    leaf_owned s.cell.now f ring ns i c.args.walls.now cs b (ring ∷ []) (own_is near i c.index-self-i.result c.requires.index) (listed_too near i c.requires.index) c.requires.walls (c.common_spans-bounds.ensures ∙ ap (common_of f.aabb) c.requires.aabb) (subst (λ o. IsClippedBy (map wall_of c.args.walls.now) f.tri (option_to_list o)) c.in-Some.is c.in_ok-ring.ensures) (k.cutting_planes c.if-branch.false) k.cutters (subst (AreEarlierOrCovered ns i f.tri b (owners_in cs)) c.if-branch.false k.owners) (subst (λ us. AreCut us (ring ∷ []) (ring ∷ [])) (sym empty) done)
 
 pub add_if_written-requires-clause-plane : goal.add_if_written-requires-clause-plane
 add_if_written-requires-clause-plane c =
@@ -80,9 +79,9 @@ add_if_written-requires-clause-owner c =
 
 pub add_written-requires-clause-regions : goal.add_written-requires-clause-regions
 add_written-requires-clause-regions c =
-    let s = c.args.self.now in let near = s.near.now in let ns = tris_of near in let i = c.args.i in let f = get_or s.with_edges.now i c.index-self-i.result in
+    let s = c.args.self.now in let near = s.near.now in let ns = tris_of near in let i = c.args.i in let f = get_or near i c.index-self-i.result in
     let ring = c.in-Some.ring in let b = c.common_spans-bounds.result in let cs = c.find_cutters_unless_covered.new.list.items in let k = c.in_ok-find_cutters_unless_covered.ensures in
-    leaf_owned s.cell.now f ring ns i c.args.walls.now cs b c.in_ok-list.list.items (same_tri s.with_edges.now near c.requires.same i c.requires.index c.index-self-i.result) (same_listed s.with_edges.now near c.requires.same i c.requires.index) c.requires.walls (c.common_spans-bounds.ensures ∙ ap (common_of f.aabb) c.requires.aabb) (subst (λ o. IsClippedBy (map wall_of c.args.walls.now) f.tri (option_to_list o)) c.in-Some.is c.in_ok-ring.ensures) (subst (λ ts. OmitsUnmet (IsBounded f.tri b) (cutting_planes ts i) (cutting_planes_in cs)) c.requires.same (k.cutting_planes c.if-branch.false)) k.cutters (subst (λ ts. AreEarlierOrCovered ts i f.tri b (owners_in cs) false) c.requires.same (subst (AreEarlierOrCovered (tris_in s.with_edges.now) i f.tri b (owners_in cs)) c.if-branch.false k.owners)) (subst (λ us. AreCut us (ring ∷ []) c.in_ok-list.list.items) c.deref.ensures.value c.in_ok-list.ensures)
+    leaf_owned s.cell.now f ring ns i c.args.walls.now cs b c.in_ok-list.list.items (own_is near i c.index-self-i.result c.requires.index) (listed_too near i c.requires.index) c.requires.walls (c.common_spans-bounds.ensures ∙ ap (common_of f.aabb) c.requires.aabb) (subst (λ o. IsClippedBy (map wall_of c.args.walls.now) f.tri (option_to_list o)) c.in-Some.is c.in_ok-ring.ensures) (k.cutting_planes c.if-branch.false) k.cutters (subst (AreEarlierOrCovered ns i f.tri b (owners_in cs)) c.if-branch.false k.owners) (subst (λ us. AreCut us (ring ∷ []) c.in_ok-list.list.items) c.deref.ensures.value c.in_ok-list.ensures)
 
 pub add_written-requires-clause-plane : goal.add_written-requires-clause-plane
 add_written-requires-clause-plane c =
@@ -99,5 +98,5 @@ add_written-requires-clause-owners c =
 pub returns-in_default-clause-written : goal.returns-in_default-clause-written
 returns-in_default-clause-written c =
     let s = c.args.self.now in let near = s.near.now in let ns = tris_of near in let i = c.args.i in let walls = c.args.walls.now in
-    let l = subst (λ o. IsClippedBy (map wall_of walls) (get_or s.with_edges.now i c.index-self-i.result).tri (option_to_list o)) c.in_default.is c.in_ok-ring.ensures in
-    grown_none _ c.args.kept.now.items (λ scene h. none_started scene (formula_of s.expr.now) s.cell.now ns i (to_start s.cell.now ns i walls (same_tri s.with_edges.now near c.requires.same i c.requires.index c.index-self-i.result) c.requires.walls l))
+    let l = subst (λ o. IsClippedBy (map wall_of walls) (get_or near i c.index-self-i.result).tri (option_to_list o)) c.in_default.is c.in_ok-ring.ensures in
+    grown_none _ c.args.kept.now.items (λ scene h. none_started scene (formula_of s.expr.now) s.cell.now ns i (to_start s.cell.now ns i walls (own_is near i c.index-self-i.result c.requires.index) c.requires.walls l))
