@@ -1,7 +1,7 @@
 use Rattle.std.proofs.lemmas.List.{nil_from_length}
 use Rattle.std.proofs.lemmas.Bool.{eqb-true}
 use Rattle.ember_algebra.specs.Relations.{done}
-use Rattle.std.proofs.Common.{true, false, arith, ◌≡◌, ◌∙◌, ap, [], ◌∷◌, sym, subst, ℕ, List, All, get_or, map, option_to_list}
+use Rattle.std.proofs.Common.{arith, ◌≡◌, ◌∙◌, ap, [], ◌∷◌, sym, subst, ℕ, List, All, get_or, map, option_to_list}
 use Rattle.ember_model.specs.declared.face.Face.{Face}
 use Rattle.ember_model.specs.Faces.{is_flat}
 use Rattle.ember_expr.specs.Formula.{formula_of}
@@ -19,7 +19,7 @@ use Rattle.ember_leaf.specs.KeptRegions.{tris_of}
 use Rattle.ember_leaf.proofs.RegionOrder.{own_is, listed_too}
 use Rattle.ember_leaf.specs.Walls.{wall_of, IsClippedBy}
 use Rattle.ember_leaf.proofs.WallClips.{left_parts}
-use Rattle.ember_leaf.specs.Cutters.{cutting_planes_in, owners_in, CanCut, common_of, AreCut}
+use Rattle.ember_leaf.specs.Cutters.{owners_in, CanCut, common_of, AreCut}
 use Rattle.ember_leaf.proofs.LeafRegions.{leaf_owned, owned_planes, owned_inside, owned_each, all_can}
 use Rattle.ember_leaf.proofs.leaf.Leaf.write_triangle.Goals.{then-is_flat-via-then-is_flat, then-is_flat-via-else-is_flat+then-is_outside}
 use Rattle.ember_leaf.proofs.leaf.Leaf.write_triangle.Goals as goal
