@@ -14,8 +14,8 @@ const WORDS_ARE_NO_TEXT: u8 = 13;
 // The exit status of `Status::OutOfMemory`, for the time before `run`.
 const NO_MEMORY: u8 = 12;
 
-// The stack in bytes that any command may need, with some to spare: the deepest expression takes
-// about 150 kB.
+// The stack in bytes that any command may need in this thread, with some to spare: the deepest
+// expression takes about 150 kB. (docs/DECISIONS.md, "The stack", has the other threads.)
 const STACK: usize = 192 * 1024;
 
 // Touches the whole stack before any file is read. If the stack had to grow later and memory were
@@ -44,7 +44,7 @@ fn main(rt: HostRuntime) -> ExitCode {
         return ExitCode::from(NO_MEMORY);
     }
     let mut shelf = FileShelf::new(&rt);
-    // Standard output.
+    // Standard output, and below it standard error. The toolchain gives them by different calls.
     let mut out = StdSink::new(io::writer(&rt));
     let mut err = StdSink::new(rt.stderr());
     let status = run(

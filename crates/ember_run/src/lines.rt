@@ -287,6 +287,7 @@ pub fn say_status<E: Sink>(err: &mut E, command: &Command, status: &Status, repo
         (text_on_err (names_of (Some command.now)) status.now report.now) }
 {
     match status {
+        // Without a report no byte is written, and err is only flushed.
         Status::Done => say(err, &[report]),
         Status::Words => say_words_refused(err),
         Status::ReadFault(i) => {

@@ -1,5 +1,5 @@
 // The top call. `run` and `run_one` make the *executor*: the closure that runs the boxes of a query
-// (query.rt of ember_query). Each command gets it and doesn't know who runs the boxes.
+// (query.rt of ember_query). A command that runs boxes gets it and doesn't know who runs them.
 ghost use Rattle.std.specs.Prelude.{◌≡◌, ◌≤◌, ◌⊎◌, Some, IfOk, IfErr, map, string_bytes};
 ghost use Rattle.std.specs.Io.KnownBytes.{Appends};
 ghost use Rattle.ember_io.specs.Causes.{HasRisen};
@@ -160,8 +160,8 @@ fn workers_of(command: &Command) -> u32
 // report or the status's line to err.
 //
 // The closure here fixes the number of workers. It passes on what `executor` requires and ensures:
-// in `C.post` the first argument is the closure itself, so it is `executor.entry.now`; the second is
-// the reference `&Query`, so it is `query.entry`.
+// in `C.post` the first argument is the closure itself, so it is `executor.entry.now`; then come
+// the number of workers and the reference `&Query`, which is `query.entry`.
 fn run_with<S: Shelf, O: Sink, E: Sink, C: Fn(u32, &Query) -> Result<Answer, OutOfMemory>>(
     alloc: Global,
     words: &[String],
