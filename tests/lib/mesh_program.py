@@ -2,6 +2,7 @@
 import re
 
 _NUMBER = r"-?\d+(?:\.\d+)?"
+_MOVE = rf"(?:0 \(nothing moved\)|{_NUMBER})"
 _PLACE = rf"\({_NUMBER} {_NUMBER} {_NUMBER}\)"
 _NAME = r"[^\n]+?"
 
@@ -44,16 +45,16 @@ LINES = {
     7: r"expression: (?:(?:syntax|deep|number) at \d+|no mesh \d+|long)",
     8: "expression holds outside all meshes",
     9: rf"{_NAME}: more than 268435456 bytes; simplify the mesh|\d+ triangles after snapping, more than 262144; simplify the meshes",
-    10: rf"--step {_NAME}: the scene needs a step of at least {_NUMBER}",
+    10: rf"--step {_NAME}: the scene is {_NUMBER} long, which needs a step of at least {_NUMBER}",
     12: "out of memory",
 }
 FORMS = {status: re.compile(f"ember-mesh: (?:{line})\n".encode()) for status, line in LINES.items()}
 FORMS[0] = re.compile(
     (
         rf"ember-mesh: step {_NUMBER}, grid offset -?\d+ -?\d+ -?\d+\n"
-        rf"(?:ember-mesh: {_NAME}: \d+ triangles, \d+ vanished, \d+ without area; closed\n)+"
+        rf"(?:ember-mesh: {_NAME}: \d+ triangles, \d+ vanished, \d+ without area; greatest move {_MOVE}; closed\n)+"
         r"(?:ember-mesh: the result is empty\n)?"
-        r"ember-mesh: \d+ faces -> \d+ triangles in \d+ planes; \d+ vanished\n"
+        r"ember-mesh: \d+ faces -> \d+ triangles in \d+ planes; \d+ vanished; \d+ edges of more than two triangles\n"
     ).encode()
 )
 FORMS[13] = re.compile(b"")

@@ -39,6 +39,7 @@ class Room:
             fault = "another file changed"
         if not fault:
             fault = fault_of_result(data, triangles, positions, shared, volume, corners) or fault_of_report(answer.err, report)
+            fault = fault or fault_of_shared(answer.err, counts_of(triangles_of(data)))
         self.check(" ".join(words)[:90], fault)
         for workers in WORKERS:
             (self.folder / "out.stl").unlink(missing_ok=True)
@@ -80,6 +81,12 @@ def fault_of_result(data, triangles, positions, shared, volume, corners):
     if corners is not None and places != set(corners):
         return f"corners {sorted(places)}, not {sorted(corners)}"
     return fault_of_normals(data)
+
+
+def fault_of_shared(err, counts):
+    """The report counts the edges of more than two triangles of the result."""
+    end = f"; {counts[3]} edges of more than two triangles\n"
+    return None if err.decode().endswith(end) else f"report {err.decode()!r}, which doesn't end in {end!r}"
 
 
 def fault_of_report(err, report):

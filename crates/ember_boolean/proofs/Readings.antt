@@ -7,6 +7,7 @@ use Rattle.ember_grid.specs.declared.choice.Wanted.{Wanted}
 use Rattle.ember_grid.specs.Grids.{IsWithinLimit, IsGrid}
 use Rattle.ember_model.specs.declared.tri.Tri.{Tri}
 use Rattle.ember_model.specs.Meshes.{IsScene}
+use Rattle.ember_moves.specs.Shown.{AreMoves}
 use Rattle.ember_scene.specs.declared.scene.Placed.{Placed}
 use Rattle.ember_scene.specs.Images.{images_of, counts_on}
 use Rattle.ember_snap.specs.Steps.{IsStep}
@@ -29,8 +30,8 @@ readings_are_as_many files surfaces h =
     sym (length-map surfaces held) ∙ sym (ap length h) ∙ length-map files reading
 
 -- the scene of surfaces is that of the files whose readings give them
-pub files_are_placed : (files : List MeshFile) (wanted : Wanted) (surfaces : List Surface) (placed : Placed) → AreReadings files surfaces → IsStep placed.grid.step → IsGrid surfaces wanted placed.grid → placed.scene.tris ≡ images_of placed.grid surfaces → placed.scene.meshes ≡ length surfaces → placed.counts.items ≡ map (counts_on placed.grid) surfaces → IsPlaced files wanted placed
-files_are_placed files wanted surfaces placed read step grid tris meshes counts = record {
+pub files_are_placed : (files : List MeshFile) (wanted : Wanted) (surfaces : List Surface) (placed : Placed) → AreReadings files surfaces → IsStep placed.grid.step → IsGrid surfaces wanted placed.grid → placed.scene.tris ≡ images_of placed.grid surfaces → placed.scene.meshes ≡ length surfaces → placed.counts.items ≡ map (counts_on placed.grid) surfaces → AreMoves placed.grid surfaces placed.moves.items → IsPlaced files wanted placed
+files_are_placed files wanted surfaces placed read step grid tris meshes counts moves = record {
   surfaces = surfaces;
   are_placed = record {
     read = read;
@@ -39,4 +40,5 @@ files_are_placed files wanted surfaces placed read step grid tris meshes counts 
   };
   tris = tris;
   counts = counts;
+  moves = moves;
 }

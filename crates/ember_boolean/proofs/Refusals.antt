@@ -1,5 +1,5 @@
 -- The faults of the steps are those of files
-use Rattle.std.proofs.Common.{◌≡◌, ◌⊎◌, inl, inr, ℕ, ◌<◌, ◌≤◌, ◌^◌, true, List, length, take, get_or, Result, Ok, Err, IfErr, refl, sym, ap, subst, ◌∙◌}
+use Rattle.std.proofs.Common.{◌≡◌, ◌⊎◌, inl, inr, ℕ, ◌<◌, ◌≤◌, ◌^◌, true, List, length, take, get_or, Option, Result, Ok, Err, IfErr, refl, sym, ap, subst, ◌∙◌}
 use Rattle.std.specs.Result.{IsErrAnd}
 use Rattle.std.specs.List.{Any, slice_get}
 use Rattle.std.proofs.lemmas.Option.{slice_get-get_or}
@@ -25,10 +25,14 @@ use Rattle.ember_stl_bytes.specs.declared.triangle.WrittenTriangle.{WrittenTrian
 use Rattle.ember_surface.specs.declared.surface.Surface.{Surface}
 use Rattle.ember_written.specs.declared.fault.PlaceFault.{PlaceFault}
 use Rattle.ember_written.specs.declared.fault.PlaceFault.TheVariants as place_fault
+use Rattle.ember_mesh_text.specs.declared.format.TextFormat.{TextFormat}
+use Rattle.ember_written.specs.Decimals.{IsFarPoint, IsDecimalFault}
 use Rattle.ember_written.specs.Floats.{IsTooFar, IsFloatFault}
 use Rattle.ember_boolean.specs.declared.fault.BooleanFault.{BooleanFault}
 use Rattle.ember_boolean.specs.declared.fault.BooleanFault.TheVariants.{File, Scene, Solid, TooFar, TooManyTriangles, OutOfMemory}
 use Rattle.ember_boolean.specs.declared.files.MeshFile.{MeshFile}
+use Rattle.ember_boolean.specs.declared.wanted.MeshFormat.TheVariants.{Stl, Text}
+use Rattle.ember_boolean.specs.declared.wanted.WantedFile.{WantedFile}
 use Rattle.ember_boolean.specs.Files.{reading, AreReadings, ArePlaced}
 use Rattle.ember_boolean.specs.Outputs.{AreRounded}
 use Rattle.ember_boolean.specs.Faults.{HasFault, IsRefusal, IsReadFault, IsPlacingFault, IsWritingFault, IsBooleanFault, of_file_fault, of_scene_fault, of_solid_fault, of_place_fault, of_write_fault}
@@ -104,10 +108,10 @@ scene_fault_is files wanted surfaces scene_fault.NoTriangles read h =
   where
     other : scene_fault.NoTriangles ≡ scene_fault.OutOfMemory → ⊥
     other e = cc
-scene_fault_is files wanted surfaces (scene_fault.StepTooSmall finest) read h =
+scene_fault_is files wanted surfaces (scene_fault.StepTooSmall extent) read h =
     record { surfaces = surfaces; read = read; is_fault = h; of_scene = other }
   where
-    other : scene_fault.StepTooSmall finest ≡ scene_fault.OutOfMemory → ⊥
+    other : scene_fault.StepTooSmall extent ≡ scene_fault.OutOfMemory → ⊥
     other e = cc
 scene_fault_is files wanted surfaces (scene_fault.Open o) read h =
     record { surfaces = surfaces; read = read; is_fault = h; of_scene = other }
@@ -122,7 +126,7 @@ scene_fault_is files wanted surfaces (scene_fault.TooManyTriangles n) read h =
 scene_fault_is files wanted surfaces scene_fault.OutOfMemory read h = tt
 
 -- files that are no scene have no solid
-pub placing_fault_is : (files : List MeshFile) (formula : Formula) (wanted : Wanted) (fault : BooleanFault) → IsPlacingFault files wanted fault → IsBooleanFault files formula wanted fault
+pub placing_fault_is : (files : List MeshFile) (formula : Formula) (wanted : WantedFile) (fault : BooleanFault) → IsPlacingFault files wanted.grid fault → IsBooleanFault files formula wanted fault
 placing_fault_is files formula wanted (File index fault) h = h
 placing_fault_is files formula wanted (Scene fault) h = h
 placing_fault_is files formula wanted (Solid fault) h = absurd h
@@ -130,8 +134,8 @@ placing_fault_is files formula wanted TooFar h = absurd h
 placing_fault_is files formula wanted TooManyTriangles h = absurd h
 placing_fault_is files formula wanted OutOfMemory h = tt
 
--- ---- the solid and its STL
-module _ (files : List MeshFile) (formula : Formula) (wanted : Wanted) (surfaces : List Surface) (grid : Grid) (are : ArePlaced files wanted surfaces grid) where
+-- ---- the solid and its file
+module _ (files : List MeshFile) (formula : Formula) (wanted : WantedFile) (surfaces : List Surface) (grid : Grid) (are : ArePlaced files wanted.grid surfaces grid) where
   -- a fault of the solid of the files' scene
   pub solid_fault_is : (cause : SolidFault) → IsSolidFault (images_of grid surfaces) formula cause → IsBooleanFault files formula wanted (of_solid_fault cause)
   solid_fault_is (solid_fault.NoTables fault) h =
@@ -147,7 +151,7 @@ module _ (files : List MeshFile) (formula : Formula) (wanted : Wanted) (surfaces
   solid_fault_is solid_fault.OutOfMemory h = tt
 
   -- a fault of the mesh of their solid
-  pub writing_fault_is : (mesh : SolidMesh) → IsSolidMesh (images_of grid surfaces) formula mesh → (fault : BooleanFault) → IsWritingFault grid mesh fault → IsBooleanFault files formula wanted fault
+  pub writing_fault_is : (mesh : SolidMesh) → IsSolidMesh (images_of grid surfaces) formula mesh → (fault : BooleanFault) → IsWritingFault wanted.format grid mesh fault → IsBooleanFault files formula wanted fault
   writing_fault_is mesh solid (File index fault) h = absurd h
   writing_fault_is mesh solid (Scene fault) h = absurd h
   writing_fault_is mesh solid (Solid fault) h = absurd h
@@ -159,12 +163,19 @@ module _ (files : List MeshFile) (formula : Formula) (wanted : Wanted) (surfaces
 
 -- ---- the STL
 -- a corner that is too far out for a float
-pub float_fault_is : (grid : Grid) (mesh : SolidMesh) (corners : List SpacePoint) (cause : PlaceFault) → corners ≡ mesh.corners.items → IsFloatFault grid.step grid.offset corners cause → IsWritingFault grid mesh (of_place_fault cause)
+pub float_fault_is : (grid : Grid) (mesh : SolidMesh) (corners : List SpacePoint) (cause : PlaceFault) → corners ≡ mesh.corners.items → IsFloatFault grid.step grid.offset corners cause → IsWritingFault Stl grid mesh (of_place_fault cause)
 float_fault_is grid mesh corners place_fault.TooFar e h = subst (Any (IsTooFar grid.step grid.offset)) e h
 float_fault_is grid mesh corners place_fault.OutOfMemory e h = tt
 
 -- too many triangles for an STL
-pub stl_fault_is : {T : Type 0} (grid : Grid) (mesh : SolidMesh) (written given : List WrittenTriangle) (result : Result T StlWriteFault) (cause : StlWriteFault) → AreRounded grid mesh written → given ≡ written → result ≡ Err cause → (result ≡ Err write_fault.TooManyTriangles → 2 ^ 32 ≤ length given) → IsWritingFault grid mesh (of_write_fault cause)
+pub stl_fault_is : {T : Type 0} (grid : Grid) (mesh : SolidMesh) (written given : List WrittenTriangle) (result : Result T StlWriteFault) (cause : StlWriteFault) → AreRounded grid mesh written → given ≡ written → result ≡ Err cause → (result ≡ Err write_fault.TooManyTriangles → 2 ^ 32 ≤ length given) → IsWritingFault Stl grid mesh (of_write_fault cause)
 stl_fault_is grid mesh written given result write_fault.TooManyTriangles rounded same e many =
     record { written = written; rounded = rounded; many = subst (λ (ws : List WrittenTriangle). 2 ^ 32 ≤ length ws) same (many e) }
 stl_fault_is grid mesh written given result write_fault.OutOfMemory rounded same e many = tt
+
+-- ---- a text
+-- a corner that is too far out for a decimal
+pub decimal_fault_is : (format : TextFormat) (digits : Option ℕ) (grid : Grid) (mesh : SolidMesh) (corners : List SpacePoint) (cause : PlaceFault) → corners ≡ mesh.corners.items → IsDecimalFault grid.step grid.offset corners cause → IsWritingFault (Text format digits) grid mesh (of_place_fault cause)
+decimal_fault_is format digits grid mesh corners place_fault.TooFar e h =
+    subst (Any (IsFarPoint grid.step grid.offset)) e h
+decimal_fault_is format digits grid mesh corners place_fault.OutOfMemory e h = tt

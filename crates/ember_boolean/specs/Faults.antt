@@ -22,10 +22,14 @@ use Rattle.ember_stl_bytes.specs.declared.triangle.WrittenTriangle.{WrittenTrian
 use Rattle.ember_surface.specs.declared.surface.Surface.{Surface}
 use Rattle.ember_written.specs.declared.fault.PlaceFault.{PlaceFault}
 use Rattle.ember_written.specs.declared.fault.PlaceFault.TheVariants as place_fault
+use Rattle.ember_written.specs.Decimals.{IsFarPoint}
 use Rattle.ember_written.specs.Floats.{IsTooFar}
 use Rattle.ember_boolean.specs.declared.fault.BooleanFault.{BooleanFault}
 use Rattle.ember_boolean.specs.declared.fault.BooleanFault.TheVariants.{File, Scene, Solid, TooFar, TooManyTriangles, OutOfMemory}
 use Rattle.ember_boolean.specs.declared.files.MeshFile.{MeshFile}
+use Rattle.ember_boolean.specs.declared.wanted.MeshFormat.{MeshFormat}
+use Rattle.ember_boolean.specs.declared.wanted.MeshFormat.TheVariants.{Stl, Text}
+use Rattle.ember_boolean.specs.declared.wanted.WantedFile.{WantedFile}
 use Rattle.ember_boolean.specs.Files.{reading, AreReadings, ArePlaced}
 use Rattle.ember_boolean.specs.Outputs.{AreRounded}
 
@@ -109,25 +113,30 @@ pub record HasNoMesh (files : List MeshFile) (formula : Formula) (wanted : Wante
   pub is_fault : IsSolidFault (images_of grid surfaces) formula fault
   pub of_solid : fault ≢ solid_fault.OutOfMemory
 
--- ---- the STL
--- a corner rounds to infinity
-abbrev pub HasFarCorner : Grid → SolidMesh → Type 0
-HasFarCorner grid mesh = Any (IsTooFar grid.step grid.offset) mesh.corners.items
+-- ---- the file
+-- a corner rounds to infinity, or is too far out for a decimal
+abbrev pub HasFarCorner : MeshFormat → Grid → SolidMesh → Type 0
+HasFarCorner Stl grid mesh = Any (IsTooFar grid.step grid.offset) mesh.corners.items
+HasFarCorner (Text format digits) grid mesh = Any (IsFarPoint grid.step grid.offset) mesh.corners.items
 
 -- too many triangles are left for an STL
-pub record HasTooMany (grid : Grid) (mesh : SolidMesh) : Type 0 where
+pub record HasTooManyForStl (grid : Grid) (mesh : SolidMesh) : Type 0 where
   pub written : List WrittenTriangle
   pub rounded : AreRounded grid mesh written
   pub many : 2 ^ 32 ≤ length written
 
+abbrev pub HasTooMany : MeshFormat → Grid → SolidMesh → Type 0
+HasTooMany Stl grid mesh = HasTooManyForStl grid mesh
+HasTooMany (Text format digits) grid mesh = ⊥
+
 -- why a mesh isn't written
-abbrev pub IsWritingFault : Grid → SolidMesh → BooleanFault → Type 0
-IsWritingFault grid mesh (File index fault) = ⊥
-IsWritingFault grid mesh (Scene fault) = ⊥
-IsWritingFault grid mesh (Solid fault) = ⊥
-IsWritingFault grid mesh TooFar = HasFarCorner grid mesh
-IsWritingFault grid mesh TooManyTriangles = HasTooMany grid mesh
-IsWritingFault grid mesh OutOfMemory = ⊤
+abbrev pub IsWritingFault : MeshFormat → Grid → SolidMesh → BooleanFault → Type 0
+IsWritingFault format grid mesh (File index fault) = ⊥
+IsWritingFault format grid mesh (Scene fault) = ⊥
+IsWritingFault format grid mesh (Solid fault) = ⊥
+IsWritingFault format grid mesh TooFar = HasFarCorner format grid mesh
+IsWritingFault format grid mesh TooManyTriangles = HasTooMany format grid mesh
+IsWritingFault format grid mesh OutOfMemory = ⊤
 
 -- the surfaces of the files are a scene, its solid has a mesh, and the mesh has this fault
 pub record HasUnwritten (files : List MeshFile) (formula : Formula) (wanted : Wanted)
@@ -142,10 +151,11 @@ pub record HasUnwritten (files : List MeshFile) (formula : Formula) (wanted : Wa
 -- ---- all of them
 -- the first file that isn't read, no scene, no mesh, or a mesh that isn't written; or want of memory, of which nothing
 -- is said
-abbrev pub IsBooleanFault : List MeshFile → Formula → Wanted → BooleanFault → Type 0
+abbrev pub IsBooleanFault : List MeshFile → Formula → WantedFile → BooleanFault → Type 0
 IsBooleanFault files formula wanted (File index fault) = IsFirstUnread files index fault
-IsBooleanFault files formula wanted (Scene fault) = AreNoScene files wanted fault
-IsBooleanFault files formula wanted (Solid fault) = HasNoMesh files formula wanted fault
-IsBooleanFault files formula wanted TooFar = HasUnwritten files formula wanted HasFarCorner
-IsBooleanFault files formula wanted TooManyTriangles = HasUnwritten files formula wanted HasTooMany
+IsBooleanFault files formula wanted (Scene fault) = AreNoScene files wanted.grid fault
+IsBooleanFault files formula wanted (Solid fault) = HasNoMesh files formula wanted.grid fault
+IsBooleanFault files formula wanted TooFar = HasUnwritten files formula wanted.grid (HasFarCorner wanted.format)
+IsBooleanFault files formula wanted TooManyTriangles =
+    HasUnwritten files formula wanted.grid (HasTooMany wanted.format)
 IsBooleanFault files formula wanted OutOfMemory = ⊤

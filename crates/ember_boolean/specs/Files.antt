@@ -5,6 +5,7 @@ use Rattle.ember_file.specs.ReadFile.{reading_of}
 use Rattle.ember_grid.specs.declared.choice.Wanted.{Wanted}
 use Rattle.ember_grid.specs.declared.grid.Grid.{Grid}
 use Rattle.ember_model.specs.Meshes.{IsScene}
+use Rattle.ember_moves.specs.Shown.{AreMoves}
 use Rattle.ember_scene.specs.declared.scene.Placed.{Placed}
 use Rattle.ember_scene.specs.Faults.{IsSceneGrid}
 use Rattle.ember_scene.specs.Images.{images_of, counts_on}
@@ -34,9 +35,10 @@ pub record ArePlaced (files : List MeshFile) (wanted : Wanted) (surfaces : List 
   pub on_grid : IsSceneGrid surfaces wanted grid
   pub scene : IsScene (images_of grid surfaces) (length surfaces)
 
--- the triangles and counts of such surfaces
+-- the triangles, counts and moves of such surfaces
 pub record IsPlaced (files : List MeshFile) (wanted : Wanted) (placed : Placed) : Type 0 where
   pub surfaces : List Surface
   pub are_placed : ArePlaced files wanted surfaces placed.grid
   pub tris : placed.scene.tris ≡ images_of placed.grid surfaces
   pub counts : placed.counts.items ≡ map (counts_on placed.grid) surfaces
+  pub moves : AreMoves placed.grid surfaces placed.moves.items

@@ -1,8 +1,15 @@
--- The STL of a mesh, and the output for mesh files
-use Rattle.std.specs.Prelude.{◌≡◌, ◌+◌, List, length, map}
+-- The file of a mesh, and the output for mesh files
+use Rattle.std.specs.Prelude.{◌≡◌, ◌≤◌, ⊤, ℕ, Bool, true, false, ◌+◌, List, length, map, IfSome}
+use Rattle.std.specs.declared.option.Option.{Option}
 use Rattle.ember_expr.specs.Formula.{Formula}
-use Rattle.ember_grid.specs.declared.choice.Wanted.{Wanted}
 use Rattle.ember_grid.specs.declared.grid.Grid.{Grid}
+use Rattle.ember_manifold.specs.declared.split.SplitMesh.{SplitMesh}
+use Rattle.ember_manifold.specs.Splits.{AreSplitOf}
+use Rattle.ember_manifold.specs.Cuts.{AreCutOf}
+use Rattle.ember_manifold.specs.Paired.{IsManifold}
+use Rattle.ember_moves.specs.Shown.{AreMoves}
+use Rattle.ember_mesh_text.specs.declared.format.TextFormat.{TextFormat}
+use Rattle.ember_mesh_text.specs.Texts.{text_of}
 use Rattle.ember_query.specs.Solids.{IsSolidReport}
 use Rattle.ember_scene.specs.Images.{images_of, counts_on}
 use Rattle.ember_solid_mesh.specs.declared.mesh.SolidMesh.{SolidMesh}
@@ -11,34 +18,114 @@ use Rattle.ember_stl_bytes.specs.declared.triangle.WrittenTriangle.{WrittenTrian
 use Rattle.ember_stl_bytes.specs.ReadBack.{IsReadBack}
 use Rattle.ember_stl_bytes.specs.Written.{stl_bytes_of}
 use Rattle.ember_surface.specs.declared.surface.Surface.{Surface}
+use Rattle.ember_vertices.specs.declared.point.DecimalTriangle.{DecimalTriangle}
+use Rattle.ember_vertices.specs.declared.point.IndexedTriangle.{IndexedTriangle}
+use Rattle.ember_vertices.specs.Vertices.{vertices_of, indexed, point_at}
+use Rattle.ember_written.specs.DecimalTriangles.{decimal_triangles}
+use Rattle.ember_written.specs.Digits.{written_places}
 use Rattle.ember_written.specs.Triangles.{AreWritten}
+use Rattle.ember_written.specs.Closed.{AreWrittenClosed, AreDecimalsClosed, AreIndicesClosed}
+use Rattle.ember_written.specs.Shared.{IsSharedCount, IsSharedIndexCount}
 use Rattle.ember_boolean.specs.declared.files.MeshFile.{MeshFile}
+use Rattle.ember_boolean.specs.declared.wanted.MeshFormat.{MeshFormat}
+use Rattle.ember_boolean.specs.declared.wanted.MeshFormat.TheVariants.{Stl, Text}
+use Rattle.ember_boolean.specs.declared.wanted.WantedFile.{WantedFile}
 use Rattle.ember_boolean.specs.declared.writing.Output.{Output}
 use Rattle.ember_boolean.specs.Files.{ArePlaced}
 
+-- ---- formats
+-- at most 17 decimal places are asked for
+abbrev pub HasFewDigits : MeshFormat → Type 0
+HasFewDigits Stl = ⊤
+HasFewDigits (Text format digits) = IfSome digits (λ n. n ≤ 17)
+
+-- ---- STL
 -- the triangles of a mesh on the grid, in the user's unit and rounded
 abbrev pub AreRounded : Grid → SolidMesh → List WrittenTriangle → Type 0
 AreRounded grid mesh written =
     AreWritten grid.step grid.offset mesh.planes.items mesh.corners.items mesh.triangles.items written
 
 -- the bytes are the STL of the mesh's rounded triangles, which reading them gives again; the numbers are those of the
--- mesh, and of its triangles that aren't written
+-- mesh, of its triangles that aren't written, and of the edges of more than two written triangles, if these are closed
 pub record IsStl (grid : Grid) (mesh : SolidMesh) (out : Output) : Type 0 where
   pub written : List WrittenTriangle
   pub rounded : AreRounded grid mesh written
   pub bytes : out.bytes.items ≡ stl_bytes_of written
   pub read_back : IsReadBack written out.bytes.items
+  pub not_known : out.is_manifold ≡ false
   pub planes : out.planes ≡ length mesh.planes.items
   pub triangles : out.triangles ≡ length mesh.triangles.items
   pub vanished : out.vanished + length written ≡ out.triangles
+  pub shared : AreWrittenClosed written → IsSharedCount written out.shared
 
--- the surfaces of the files are a scene on the wanted grid, with these counts; there is a mesh of the solid of their
--- triangles, with this report of the run; and the rest is the STL of this mesh
-pub record IsOutput (files : List MeshFile) (formula : Formula) (wanted : Wanted) (out : Output) : Type 0 where
+-- ---- text
+-- the triangles of a mesh on the grid, in the user's unit and rounded to decimals
+abbrev pub decimals_of : Option ℕ → Grid → SolidMesh → List DecimalTriangle
+decimals_of digits grid mesh =
+    decimal_triangles (written_places digits grid.step) grid.step grid.offset mesh.corners.items mesh.triangles.items
+
+-- triangles by the indices of their corners, where each point is one vertex
+abbrev pub over_vertices : List DecimalTriangle → List IndexedTriangle
+over_vertices ts = map (indexed (vertices_of ts)) ts
+
+-- the bytes are a text of triangles, some of them cut at the middles of their edges: each of their points is a vertex,
+-- some of them more than once, and each corner of a triangle is a vertex at its point. If it is called manifold, each
+-- edge between its vertices has two triangles; otherwise none is cut
+pub record IsTextOver (format : TextFormat) (places : ℕ) (ts : List DecimalTriangle) (bytes : List ℕ)
+    (is_manifold : Bool) : Type 0 where
+  pub cut : List DecimalTriangle
+  pub are_cut : AreCutOf ts cut
+  pub split : SplitMesh
+  pub are_split : AreSplitOf split (over_vertices cut)
+  pub is : bytes ≡ text_of format places (map (point_at (vertices_of cut)) split.origins.items) split.triangles.items
+  pub manifold : is_manifold ≡ true → IsManifold split.triangles.items
+  pub whole : is_manifold ≡ false → cut ≡ ts
+
+-- the bytes are the text of the mesh's rounded triangles; the numbers are those of the mesh, of its triangles that
+-- aren't written, and, if the others are closed, of their edges of more than two, where each point is one vertex
+pub record IsText (format : TextFormat) (digits : Option ℕ) (grid : Grid) (mesh : SolidMesh) (out : Output) :
+    Type 0 where
+  pub bytes : IsTextOver format (written_places digits grid.step) (decimals_of digits grid mesh) out.bytes.items
+      out.is_manifold
+  pub planes : out.planes ≡ length mesh.planes.items
+  pub triangles : out.triangles ≡ length mesh.triangles.items
+  pub vanished : out.vanished + length (decimals_of digits grid mesh) ≡ out.triangles
+  pub shared : AreIndicesClosed (over_vertices (decimals_of digits grid mesh)) →
+      IsSharedIndexCount (over_vertices (decimals_of digits grid mesh)) out.shared
+
+-- ---- any format
+abbrev pub IsWritten : MeshFormat → Grid → SolidMesh → Output → Type 0
+IsWritten Stl grid mesh out = IsStl grid mesh out
+IsWritten (Text format digits) grid mesh out = IsText format digits grid mesh out
+
+-- ---- closed
+-- the triangles of the STL are closed, and so many edges belong to more than two of them
+pub record IsClosedStl (grid : Grid) (mesh : SolidMesh) (out : Output) : Type 0 where
+  pub stl : IsStl grid mesh out
+  pub closed : AreWrittenClosed stl.written
+  pub shared : IsSharedCount stl.written out.shared
+
+-- the same of a text before any of its triangles are cut; if some are, each of its edges has two (`IsTextOver`)
+pub record IsClosedText (format : TextFormat) (digits : Option ℕ) (grid : Grid) (mesh : SolidMesh) (out : Output) :
+    Type 0 where
+  pub text : IsText format digits grid mesh out
+  pub closed : AreDecimalsClosed (decimals_of digits grid mesh)
+  pub shared : IsSharedIndexCount (over_vertices (decimals_of digits grid mesh)) out.shared
+
+-- the file has this format, and its triangles are closed
+abbrev pub IsClosedAs : MeshFormat → Grid → SolidMesh → Output → Type 0
+IsClosedAs Stl grid mesh out = IsClosedStl grid mesh out
+IsClosedAs (Text format digits) grid mesh out = IsClosedText format digits grid mesh out
+
+-- ---- outputs
+-- the surfaces of the files are a scene on the wanted grid, with these counts and moves; there is a mesh of the solid
+-- of their triangles, with this report of the run; and the rest is this mesh in the wanted format, closed
+pub record IsOutput (files : List MeshFile) (formula : Formula) (wanted : WantedFile) (out : Output) : Type 0 where
   pub surfaces : List Surface
-  pub are_placed : ArePlaced files wanted surfaces out.grid
+  pub are_placed : ArePlaced files wanted.grid surfaces out.grid
   pub counts : out.counts.items ≡ map (counts_on out.grid) surfaces
+  pub moves : AreMoves out.grid surfaces out.moves.items
   pub mesh : SolidMesh
   pub solid : IsSolidMesh (images_of out.grid surfaces) formula mesh
   pub report : IsSolidReport (images_of out.grid surfaces) formula out.report
-  pub stl : IsStl out.grid mesh out
+  pub written : IsClosedAs wanted.format out.grid mesh out

@@ -23,8 +23,8 @@ pub enum BooleanFault<'a> {
     /// The solid has no triangles that are certified.
     #[error(transparent)]
     Solid(SolidFault),
-    /// A corner of the solid is 2^128 - 2^103 or more from zero along an axis, in the user's unit,
-    /// so that no float is nearest to it.
+    /// A corner of the solid is too far from zero along an axis, in the user's unit: 2^128 - 2^103
+    /// or more, so that no float is nearest to it, or, for a decimal, 10^21 or more.
     #[error("a corner is too far from zero")]
     TooFar,
     /// The STL would have 2^32 triangles or more.

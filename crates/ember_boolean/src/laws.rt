@@ -2,7 +2,6 @@
 ghost use Rattle.std.specs.Prelude.{List, All};
 ghost use Rattle.ember_chain.specs.Chains.{IsClosedSurface};
 ghost use Rattle.ember_expr.specs.Formula.{Formula};
-ghost use Rattle.ember_grid.specs.declared.choice.Wanted.{Wanted};
 ghost use Rattle.ember_grid.specs.Closed.{IsSurfaceClosed};
 ghost use Rattle.ember_meaning.specs.Meaning.{IsFalseOutside, HaveMeaning};
 ghost use Rattle.ember_scene.specs.declared.fault.Open.{Open};
@@ -11,6 +10,7 @@ ghost use Rattle.ember_scene.specs.Images.{images_of};
 ghost use Rattle.ember_surface.specs.declared.surface.Surface.{Surface};
 ghost use Rattle.ember_boolean.specs.declared.fault.BooleanFault.TheVariants.{Scene};
 ghost use Rattle.ember_boolean.specs.declared.files.MeshFile.{MeshFile};
+ghost use Rattle.ember_boolean.specs.declared.wanted.WantedFile.{WantedFile};
 ghost use Rattle.ember_boolean.specs.declared.writing.Output.{Output};
 ghost use Rattle.ember_boolean.specs.Files.{AreReadings};
 ghost use Rattle.ember_boolean.specs.Outputs.{IsOutput};
@@ -22,10 +22,10 @@ use ember_scene::closed_surfaces_are_never_open;
 /// output cut up, before these are rounded, wind once where it is true of the files' triangles on
 /// the grid, and not at all elsewhere, and they are a closed surface.
 pub fn faces_of_outputs_have_the_meaning()
-    ensures means { (files : List MeshFile) (formula : Formula) (wanted : Wanted) (out : Output) →
+    ensures means { (files : List MeshFile) (formula : Formula) (wanted : WantedFile) (out : Output) →
         IsFalseOutside formula → (is : IsOutput files formula wanted out) →
         HaveMeaning (images_of out.grid is.surfaces) formula is.solid.tables_are.faces }
-    ensures closed { (files : List MeshFile) (formula : Formula) (wanted : Wanted) (out : Output) →
+    ensures closed { (files : List MeshFile) (formula : Formula) (wanted : WantedFile) (out : Output) →
         IsFalseOutside formula → (is : IsOutput files formula wanted out) →
         IsClosedSurface is.solid.tables_are.read.written }
 {}
@@ -33,7 +33,7 @@ pub fn faces_of_outputs_have_the_meaning()
 /// Files whose surfaces are closed by the exact positions of their corners are never refused as
 /// open.
 pub fn closed_files_are_never_open()
-    ensures { (files : List MeshFile) (formula : Formula) (wanted : Wanted) (o : Open) →
+    ensures { (files : List MeshFile) (formula : Formula) (wanted : WantedFile) (o : Open) →
         ((surfaces : List Surface) → AreReadings files surfaces → All IsSurfaceClosed surfaces) →
         IsBooleanFault files formula wanted (Scene (scene_fault.Open o)) → ⊥ }
 {

@@ -1,4 +1,5 @@
-//! The solid of an expression over mesh files: from their bytes to those of an STL.
+//! The solid of an expression over mesh files: from their bytes to those of the file that is
+//! wanted.
 #![tactic(auto)]
 
 mod fault;
@@ -6,10 +7,14 @@ mod files;
 mod laws;
 mod placing;
 mod solid;
+mod stl;
+mod text;
+mod wanted;
 mod writing;
 
 pub use fault::BooleanFault;
 pub use files::{MeshFile, surfaces_in};
 pub use laws::{closed_files_are_never_open, faces_of_outputs_have_the_meaning};
-pub use solid::stl_of;
+pub use solid::solid_file;
+pub use wanted::{MeshFormat, WantedFile};
 pub use writing::Output;

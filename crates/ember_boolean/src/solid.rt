@@ -4,49 +4,57 @@ ghost use Rattle.ember_expr.specs.Formula.{formula_of};
 ghost use Rattle.ember_grid.specs.Grids.{IsChoice};
 ghost use Rattle.ember_query.specs.Queries.{IsExecutor};
 ghost use Rattle.ember_boolean.specs.Files.{IsSmall};
-ghost use Rattle.ember_boolean.specs.Outputs.{IsOutput};
+ghost use Rattle.ember_boolean.specs.Outputs.{HasFewDigits, IsOutput};
 ghost use Rattle.ember_boolean.specs.Faults.{IsBooleanFault};
 
 use crate::fault::BooleanFault;
 use crate::files::MeshFile;
 use crate::placing::placed_of;
+use crate::wanted::WantedFile;
 use crate::writing::{Output, output_of};
 use ember_expr::Expr;
-use ember_grid::Wanted;
 use ember_model::OutOfMemory;
 use ember_query::{Answer, Query};
 use ember_solid_mesh::solid_mesh;
 use std::alloc::Global;
 
-/// The solid of an expression over mesh files, as a binary STL. The file with the index `i` is the
-/// mesh `i + 1` of the expression.
+/// The solid of an expression over mesh files, as the file that is wanted. The file with the index
+/// `i` is the mesh `i + 1` of the expression.
 ///
 /// The surfaces of the files are put on the grid that is wanted, the triangles of the solid are
-/// exact there, and each coordinate of their corners is rounded once. There are at most 64 files, of
-/// at most 2^28 bytes each, and a given step is in range. Of several faults the first of these is
-/// reported:
+/// exact there, and each coordinate of their corners is rounded once. There are at most 64 files,
+/// of at most 2^28 bytes each, a given step is in range, and there are at most 17 decimal places.
+/// Of several faults the first of these is reported:
 ///
 /// 1. The first file that isn't read.
 /// 2. The surfaces are no scene: see [`scene_of`](ember_scene::scene_of).
 /// 3. The solid has no mesh: see [`solid_mesh`](ember_solid_mesh::solid_mesh).
-/// 4. A corner of the mesh that is too far out for a float.
-/// 5. 2^32 triangles or more after rounding.
-pub fn stl_of<'a, C: Fn(&Query) -> Result<Answer, OutOfMemory>>(
+/// 4. A corner of the mesh that is too far out for a float, or for a decimal.
+/// 5. For an STL, 2^32 triangles or more after rounding.
+pub fn solid_file<'a, C: Fn(&Query) -> Result<Answer, OutOfMemory>>(
     alloc: Global,
     files: &[MeshFile<'a>],
     expr: &Expr,
-    wanted: Wanted,
+    wanted: WantedFile,
     executor: &C,
 ) -> Result<Output, BooleanFault<'a>>
     requires few { length files.now ≤ 64 }
     requires sizes { All IsSmall files.now }
-    requires choice { IsChoice wanted }
+    requires choice { IsChoice wanted.grid }
+    requires digits { HasFewDigits wanted.format }
     requires executor { IsExecutor C.pre C.post executor.now }
     ensures output { IfOk result (IsOutput files.now (formula_of expr.now) wanted) }
     ensures fault { IfErr result (IsBooleanFault files.now (formula_of expr.now) wanted) }
 {
-    let placed = placed_of(alloc, files, wanted)?;
+    let placed = placed_of(alloc, files, wanted.grid)?;
     let mesh = solid_mesh(alloc, &placed.scene, expr, executor)?;
     drop(placed.scene);
-    output_of(alloc, mesh, placed.grid, placed.counts)
+    output_of(
+        alloc,
+        mesh,
+        placed.grid,
+        placed.counts,
+        placed.moves,
+        wanted.format,
+    )
 }

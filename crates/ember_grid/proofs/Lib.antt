@@ -5,3 +5,4 @@ pub mod Landings
 pub mod WidestSteps
 pub mod Growing
 pub mod EdgePlaces
+pub mod BoundSteps

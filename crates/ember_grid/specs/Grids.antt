@@ -11,9 +11,11 @@ use Rattle.ember_surface.specs.Surfaces.{is_facet_too_large}
 use Rattle.ember_grid.specs.declared.grid.Grid.{Grid}
 use Rattle.ember_grid.specs.declared.choice.Wanted.{Wanted}
 use Rattle.ember_grid.specs.declared.choice.Wanted.TheVariants.{Nice, Finest, Given}
+use Rattle.ember_grid.specs.declared.extent.Extent.{Extent}
 use Rattle.ember_grid.specs.declared.fault.GridFault.{GridFault}
 use Rattle.ember_grid.specs.declared.fault.GridFault.TheVariants.{NoTriangles, StepTooSmall, OutOfMemory}
 use Rattle.ember_grid.specs.Corners.{corners_in, HasCoordinates}
+use Rattle.ember_grid.specs.Lengths.{IsLength}
 
 -- no triangle has a coordinate of 10^15 or more in size
 abbrev pub IsWithinLimit : Surface → Type 0
@@ -38,21 +40,26 @@ pub record IsGrid (surfaces : List Surface) (wanted : Wanted) (g : Grid) : Type 
   pub step : IsWantedStep wanted coordinates g.step
   pub offset : IsOffset g.step coordinates g.offset
 
--- the coordinates don't fit at the given step, and `finest` is the least at which they do
-pub record IsTooSmall (c : Coordinates) (wanted : Wanted) (finest : Step) : Type 0 where
+-- how long the coordinates are, and the finest step at which they fit
+pub record IsExtent (c : Coordinates) (e : Extent) : Type 0 where
+  pub is_length : IsLength c e.trillionths
+  pub least : IsLeast fine_of c e.finest
+
+-- the coordinates don't fit at the given step, and this is their extent
+pub record IsTooSmall (c : Coordinates) (wanted : Wanted) (e : Extent) : Type 0 where
   pub given : Step
   pub is_given : wanted ≡ Given given
   pub too_small : FitsAll given c → ⊥
-  pub least : IsLeast fine_of c finest
+  pub is_extent : IsExtent c e
 
 abbrev pub IsStepFault : Coordinates → Wanted → GridFault → Type 0
 IsStepFault c wanted NoTriangles = ⊥
-IsStepFault c wanted (StepTooSmall finest) = IsTooSmall c wanted finest
+IsStepFault c wanted (StepTooSmall e) = IsTooSmall c wanted e
 IsStepFault c wanted OutOfMemory = ⊥
 
--- there are no triangles, or the given step is too small and the fault has the finest that fits; or out-of-memory
+-- there are no triangles, or the given step is too small and the fault has the extent; or out-of-memory
 abbrev pub IsGridFault : List Surface → Wanted → GridFault → Type 0
 IsGridFault surfaces wanted NoTriangles = corners_in surfaces ≡ []
-IsGridFault surfaces wanted (StepTooSmall finest) =
-    (c : Coordinates) × HasCoordinates surfaces c × IsTooSmall c wanted finest
+IsGridFault surfaces wanted (StepTooSmall e) =
+    (c : Coordinates) × HasCoordinates surfaces c × IsTooSmall c wanted e
 IsGridFault surfaces wanted OutOfMemory = ⊤

@@ -5,3 +5,4 @@ pub mod Closed
 pub mod Grids
 pub mod Places
 pub mod Faults
+pub mod Lengths

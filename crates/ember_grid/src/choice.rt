@@ -4,11 +4,13 @@ ghost use Rattle.ember_snap.specs.Steps.{IsStep, nice_of, fine_of};
 ghost use Rattle.ember_snap.specs.Spans.{AreCoordinates, FitsAll, IsLeast};
 ghost use Rattle.ember_snap.specs.Offsets.{IsOffset, LandsOnGrid};
 ghost use Rattle.ember_grid.specs.Corners.{Lands};
-ghost use Rattle.ember_grid.specs.Grids.{IsWithinLimit, IsChoice, IsWantedStep, IsGrid, IsGridFault, IsStepFault};
+ghost use Rattle.ember_grid.specs.Grids.{IsWithinLimit, IsChoice, IsWantedStep, IsExtent, IsGrid, IsGridFault, IsStepFault};
 
 use crate::coordinates::{CornerLists, corner_lists};
+use crate::extent::Extent;
 use crate::fault::GridFault;
 use crate::grid::Grid;
+use crate::lengths::length_of;
 use ember_snap::{Coordinates, Step, finest_step, nice_step, offset_at};
 use ember_surface::Surface;
 use std::alloc::Global;
@@ -46,6 +48,17 @@ fn least_fine_step(coordinates: &Coordinates) -> Step
     }
 }
 
+// How long the coordinates are, and the finest step at which they fit.
+fn extent_of(coordinates: &Coordinates) -> Extent
+    requires { AreCoordinates coordinates.now }
+    ensures { IsExtent coordinates.now result }
+{
+    Extent {
+        trillionths: length_of(coordinates),
+        finest: least_fine_step(coordinates),
+    }
+}
+
 fn wanted_step(coordinates: &Coordinates, wanted: Wanted) -> Step
     requires coordinates { AreCoordinates coordinates.now }
     requires choice { IsChoice wanted }
@@ -72,7 +85,7 @@ fn grid_for(coordinates: &Coordinates, wanted: Wanted) -> Result<Grid, GridFault
     let step = wanted_step(coordinates, wanted);
     match offset_at(coordinates, &step) {
         Some(offset) => Ok(Grid { step, offset }),
-        None => Err(GridFault::StepTooSmall(least_fine_step(coordinates))),
+        None => Err(GridFault::StepTooSmall(extent_of(coordinates))),
     }
 }
 
@@ -81,7 +94,7 @@ fn grid_for(coordinates: &Coordinates, wanted: Wanted) -> Result<Grid, GridFault
 ///
 /// Each coordinate of a corner is below 10^15 in size, and a given step is in range. It is a fault
 /// if there are no triangles, or if they don't fit on a grid with the given step: then the fault
-/// has the finest step at which they do.
+/// says how long they are, and has the finest step at which they fit.
 pub fn grid_of(alloc: Global, surfaces: &[Surface], wanted: Wanted) -> Result<Grid, GridFault>
     requires within { All IsWithinLimit surfaces.now }
     requires choice { IsChoice wanted }

@@ -2,7 +2,7 @@
 ghost use Rattle.std.specs.Prelude.{◌≡◌};
 ghost use Rattle.ember_grid.specs.declared.fault.SnapFault.TheVariants.{OutOfMemory};
 
-use ember_snap::Step;
+use crate::extent::Extent;
 use std::alloc::AllocError;
 use thiserror::Error;
 
@@ -11,10 +11,10 @@ use thiserror::Error;
 pub enum GridFault {
     #[error("no triangles")]
     NoTriangles,
-    /// The surfaces don't fit on a grid with the given step. This one is the finest at which they
-    /// do.
+    /// The surfaces don't fit on a grid with the given step. They are so long, and the finest step
+    /// at which they fit is this one.
     #[error("the step is too small")]
-    StepTooSmall(Step),
+    StepTooSmall(Extent),
     #[error("out of memory")]
     OutOfMemory,
 }

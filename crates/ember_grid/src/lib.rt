@@ -6,14 +6,17 @@ mod choice;
 mod coordinates;
 mod corners;
 mod counting;
+mod extent;
 mod fault;
 mod grid;
 mod laws;
+mod lengths;
 mod places;
 mod snapping;
 
 pub use choice::{Wanted, grid_of};
 pub use counting::count_images;
+pub use extent::Extent;
 pub use fault::{GridFault, SnapFault};
 pub use grid::Grid;
 pub use laws::maps_keep_meshes_closed;

@@ -12,7 +12,7 @@ use Rattle.ember_boolean.specs.Files.{AreReadings}
 use Rattle.ember_boolean.proofs.Readings.{readings_are_as_many}
 use Rattle.ember_expr.specs.Formula.{Formula}
 use Rattle.ember_file.specs.declared.fault.FileFault.{FileFault}
-use Rattle.ember_grid.specs.declared.choice.Wanted.{Wanted}
+use Rattle.ember_boolean.specs.declared.wanted.WantedFile.{WantedFile}
 use Rattle.ember_scene.specs.declared.fault.SceneFault.TheVariants as scene
 use Rattle.ember_io.specs.declared.shelf.ReadEnd.{ReadEnd}
 use Rattle.ember_io.specs.declared.shelf.ReadEnd.TheVariants as read
@@ -24,7 +24,7 @@ use Rattle.ember_mesh_run.specs.Lines.{name_of}
 use Rattle.ember_mesh_run.specs.Statuses.{HasReason, IsStatusOf, NamesFile}
 use Rattle.ember_mesh_run.proofs.ToldFiles.{file_up_to, files_are_as_many, files_up_to}
 use Rattle.ember_mesh_run.specs.declared.status.Status.{Status}
-use Rattle.ember_mesh_run.specs.declared.status.Status.TheVariants.{Done, Words, UnwrittenFormat, StepOfNoGrid, ReadFault, WriteFault, FileRefused, NoTriangles, NotClosed, ExprRefused, Unbounded, LongFile, TooManyTriangles, TooManyWritten, StepTooSmall, TooFar, OutOfMemory, Uncertified}
+use Rattle.ember_mesh_run.specs.declared.status.Status.TheVariants.{Done, Words, StepOfNoGrid, ReadFault, WriteFault, FileRefused, NoTriangles, NotClosed, ExprRefused, Unbounded, LongFile, TooManyTriangles, TooManyWritten, StepTooSmall, TooFar, OutOfMemory, Uncertified}
 
 -- the files before one that can't be read are read
 pub read_before : (told : List ℕ → Option (List ℕ)) (names : List (List ℕ)) (n : ℕ) → AreRead told (take n names) → AreRead told (take (n + 1 - 1) names)
@@ -35,7 +35,6 @@ read_before told names n h =
 refusal_is_cause : (names : List (List ℕ)) (shelf : ShelfCall) (status : Status) → IsRefusalCause shelf.told names status → IsReadingCause names shelf status
 refusal_is_cause names shelf Done h = absurd h
 refusal_is_cause names shelf (Words why) h = absurd h
-refusal_is_cause names shelf UnwrittenFormat h = absurd h
 refusal_is_cause names shelf StepOfNoGrid h = absurd h
 refusal_is_cause names shelf (ReadFault i) h = absurd h
 refusal_is_cause names shelf WriteFault h = absurd h
@@ -47,7 +46,7 @@ refusal_is_cause names shelf Unbounded h = absurd h
 refusal_is_cause names shelf (LongFile i) h = absurd h
 refusal_is_cause names shelf (TooManyTriangles count) h = absurd h
 refusal_is_cause names shelf TooManyWritten h = absurd h
-refusal_is_cause names shelf (StepTooSmall finest) h = absurd h
+refusal_is_cause names shelf (StepTooSmall extent) h = absurd h
 refusal_is_cause names shelf TooFar h = absurd h
 refusal_is_cause names shelf OutOfMemory h = tt
 refusal_is_cause names shelf (Uncertified fault) h = absurd h
@@ -75,10 +74,10 @@ unread_file_is_there files boolean.TooManyTriangles h = absurd h
 unread_file_is_there files boolean.OutOfMemory h = tt
 
 -- a file that has a fault is one of the files
-pub faulty_file_is_there : (files : List MeshFile) (formula : Formula) (wanted : Wanted) (fault : BooleanFault) → IsBooleanFault files formula wanted fault → NamesFile files fault
+pub faulty_file_is_there : (files : List MeshFile) (formula : Formula) (wanted : WantedFile) (fault : BooleanFault) → IsBooleanFault files formula wanted fault → NamesFile files fault
 faulty_file_is_there files formula wanted (boolean.File index fault) h = slice_get_within files index h.file h.found
 faulty_file_is_there files formula wanted (boolean.Scene scene.NoTriangles) h = tt
-faulty_file_is_there files formula wanted (boolean.Scene (scene.StepTooSmall finest)) h = tt
+faulty_file_is_there files formula wanted (boolean.Scene (scene.StepTooSmall extent)) h = tt
 faulty_file_is_there files formula wanted (boolean.Scene (scene.Open o)) h =
     let first = h.is_fault.1 in
     let inside = slice_get_within h.surfaces o.file first.surface first.found in
@@ -134,14 +133,14 @@ module _ (told : List ℕ → Option (List ℕ)) (names : List (List ℕ)) (file
   refusal_caused boolean.OutOfMemory status h e = subst (λ (s : Status). IsRefusalCause told names s) (sym e) tt
 
   -- the status of files that have no output
-  pub status_caused : (formula : Formula) (wanted : Wanted) (fault : BooleanFault) (status : Status) → IsBooleanFault files formula wanted fault → IsStatusOf files fault status → IsFilesCause told names formula wanted status
+  pub status_caused : (formula : Formula) (wanted : WantedFile) (fault : BooleanFault) (status : Status) → IsBooleanFault files formula wanted fault → IsStatusOf files fault status → IsFilesCause told names formula wanted status
   status_caused formula wanted (boolean.File index fault) status h (inl r) =
       subst (λ (s : Status). IsFilesCause told names formula wanted s) (sym r.1) (refused_first index fault (string_bytes r.0) h r.2)
   status_caused formula wanted (boolean.File index fault) status h (inr e) =
       subst (λ (s : Status). IsFilesCause told names formula wanted s) (sym e) tt
   status_caused formula wanted (boolean.Scene scene.NoTriangles) status h e =
       subst (λ (s : Status). IsFilesCause told names formula wanted s) (sym e) (record { files = files; are_files = are; is_fault = h })
-  status_caused formula wanted (boolean.Scene (scene.StepTooSmall finest)) status h e =
+  status_caused formula wanted (boolean.Scene (scene.StepTooSmall extent)) status h e =
       subst (λ (s : Status). IsFilesCause told names formula wanted s) (sym e) (record { files = files; are_files = are; is_fault = h })
   status_caused formula wanted (boolean.Scene (scene.Open o)) status h s =
       subst (λ (s : Status). IsFilesCause told names formula wanted s) (sym s.1) (record { files = files; are_files = are; is_fault = h; format_is = s.2 })
@@ -178,7 +177,6 @@ refused_among_more told names n i reason l h =
 pub cause_among_more : (told : List ℕ → Option (List ℕ)) (names : List (List ℕ)) (n : ℕ) (status : Status) → n ≤ length names → IsRefusalCause told (take n names) status → IsRefusalCause told names status
 cause_among_more told names n Done l h = absurd h
 cause_among_more told names n (Words why) l h = absurd h
-cause_among_more told names n UnwrittenFormat l h = absurd h
 cause_among_more told names n StepOfNoGrid l h = absurd h
 cause_among_more told names n (ReadFault i) l h = absurd h
 cause_among_more told names n WriteFault l h = absurd h
@@ -190,7 +188,7 @@ cause_among_more told names n Unbounded l h = absurd h
 cause_among_more told names n (LongFile i) l h = absurd h
 cause_among_more told names n (TooManyTriangles count) l h = absurd h
 cause_among_more told names n TooManyWritten l h = absurd h
-cause_among_more told names n (StepTooSmall finest) l h = absurd h
+cause_among_more told names n (StepTooSmall extent) l h = absurd h
 cause_among_more told names n TooFar l h = absurd h
 cause_among_more told names n OutOfMemory l h = tt
 cause_among_more told names n (Uncertified fault) l h = absurd h

@@ -15,7 +15,7 @@ use Rattle.ember_mesh_run.specs.Serves.{IsOutcome, IsSolidOutcome, IsUnmet, Mesh
 use Rattle.ember_mesh_run.proofs.Shown.{stop_is_shown}
 use Rattle.ember_mesh_run.proofs.Stops.{stop_tells_memory}
 use Rattle.ember_mesh_run.specs.declared.status.Status.{Status}
-use Rattle.ember_mesh_run.specs.declared.status.Status.TheVariants.{Done, Words, UnwrittenFormat, StepOfNoGrid, ReadFault, WriteFault, FileRefused, NoTriangles, NotClosed, ExprRefused, Unbounded, LongFile, TooManyTriangles, TooManyWritten, StepTooSmall, TooFar, OutOfMemory, Uncertified}
+use Rattle.ember_mesh_run.specs.declared.status.Status.TheVariants.{Done, Words, StepOfNoGrid, ReadFault, WriteFault, FileRefused, NoTriangles, NotClosed, ExprRefused, Unbounded, LongFile, TooManyTriangles, TooManyWritten, StepTooSmall, TooFar, OutOfMemory, Uncertified}
 
 -- what holds of want of memory holds of an error that it made
 pub memory_given : {T : Type 0} (P : Status → Type 0) (result : Result T Status) → IsErrAnd result (λ status. status ≡ OutOfMemory) → P OutOfMemory → IfErr result P
@@ -27,7 +27,6 @@ module _ (request : Request) (shelf : ShelfCall) (target : TargetCall) where
   stop_is_cause : (status : Status) → IsStop request shelf status → IsCause request shelf target status
   stop_is_cause Done h = h
   stop_is_cause (Words why) h = h
-  stop_is_cause UnwrittenFormat h = h
   stop_is_cause StepOfNoGrid h = h
   stop_is_cause (ReadFault i) h = h
   stop_is_cause WriteFault h = absurd h
@@ -39,7 +38,7 @@ module _ (request : Request) (shelf : ShelfCall) (target : TargetCall) where
   stop_is_cause (LongFile i) h = h
   stop_is_cause (TooManyTriangles count) h = h
   stop_is_cause TooManyWritten h = h
-  stop_is_cause (StepTooSmall finest) h = h
+  stop_is_cause (StepTooSmall extent) h = h
   stop_is_cause TooFar h = h
   stop_is_cause OutOfMemory h = h
   stop_is_cause (Uncertified fault) h = h
@@ -48,7 +47,6 @@ module _ (request : Request) (shelf : ShelfCall) (target : TargetCall) where
   pub cause_is_shown : (status : Status) → length request.files ≤ 64 → IsCause request shelf target status → IsShown status
   cause_is_shown Done few h = stop_is_shown request shelf Done few h
   cause_is_shown (Words why) few h = stop_is_shown request shelf (Words why) few h
-  cause_is_shown UnwrittenFormat few h = stop_is_shown request shelf UnwrittenFormat few h
   cause_is_shown StepOfNoGrid few h = stop_is_shown request shelf StepOfNoGrid few h
   cause_is_shown (ReadFault i) few h = stop_is_shown request shelf (ReadFault i) few h
   cause_is_shown WriteFault few h = tt
@@ -60,7 +58,7 @@ module _ (request : Request) (shelf : ShelfCall) (target : TargetCall) where
   cause_is_shown (LongFile i) few h = stop_is_shown request shelf (LongFile i) few h
   cause_is_shown (TooManyTriangles count) few h = stop_is_shown request shelf (TooManyTriangles count) few h
   cause_is_shown TooManyWritten few h = stop_is_shown request shelf TooManyWritten few h
-  cause_is_shown (StepTooSmall finest) few h = stop_is_shown request shelf (StepTooSmall finest) few h
+  cause_is_shown (StepTooSmall extent) few h = stop_is_shown request shelf (StepTooSmall extent) few h
   cause_is_shown TooFar few h = stop_is_shown request shelf TooFar few h
   cause_is_shown OutOfMemory few h = stop_is_shown request shelf OutOfMemory few h
   cause_is_shown (Uncertified fault) few h = stop_is_shown request shelf (Uncertified fault) few h
@@ -87,7 +85,6 @@ module _ (request : Request) (shelf : ShelfCall) (target : TargetCall) where
   pub unmet_outcome : (status : Status) (text : List ℕ) → IsUnmet request shelf target status → text ≡ line (why_of request status) → IsSolidOutcome request shelf target status text
   unmet_outcome Done text h e = absurd h.cause
   unmet_outcome (Words why) text h e = record { unmet = h; text_is = e }
-  unmet_outcome UnwrittenFormat text h e = record { unmet = h; text_is = e }
   unmet_outcome StepOfNoGrid text h e = record { unmet = h; text_is = e }
   unmet_outcome (ReadFault i) text h e = record { unmet = h; text_is = e }
   unmet_outcome WriteFault text h e = record { unmet = h; text_is = e }
@@ -99,7 +96,7 @@ module _ (request : Request) (shelf : ShelfCall) (target : TargetCall) where
   unmet_outcome (LongFile i) text h e = record { unmet = h; text_is = e }
   unmet_outcome (TooManyTriangles count) text h e = record { unmet = h; text_is = e }
   unmet_outcome TooManyWritten text h e = record { unmet = h; text_is = e }
-  unmet_outcome (StepTooSmall finest) text h e = record { unmet = h; text_is = e }
+  unmet_outcome (StepTooSmall extent) text h e = record { unmet = h; text_is = e }
   unmet_outcome TooFar text h e = record { unmet = h; text_is = e }
   unmet_outcome OutOfMemory text h e = record { unmet = h; text_is = e }
   unmet_outcome (Uncertified fault) text h e = record { unmet = h; text_is = e }

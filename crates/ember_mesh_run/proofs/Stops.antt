@@ -2,7 +2,7 @@
 use Rattle.std.proofs.Common.{◌≡◌, false, refl}
 use Rattle.ember_expr.specs.declared.fault.ExprFault.TheVariants as expr
 use Rattle.ember_expr.specs.Formula.{Formula}
-use Rattle.ember_grid.specs.declared.choice.Wanted.{Wanted}
+use Rattle.ember_boolean.specs.declared.wanted.WantedFile.{WantedFile}
 use Rattle.ember_mesh_words.specs.declared.command.Request.{Request}
 use Rattle.ember_solid_mesh.specs.declared.fault.SolidFault.TheVariants as solid
 use Rattle.ember_tables.specs.declared.fault.TableFault.TheVariants as table
@@ -11,13 +11,12 @@ use Rattle.ember_mesh_run.specs.Asked.{Asks, IsWordsCause}
 use Rattle.ember_mesh_run.specs.Calls.{ShelfCall}
 use Rattle.ember_mesh_run.specs.Causes.{IsAskedCause, IsFilesCause, IsReadingCause, IsStop, hides_memory}
 use Rattle.ember_mesh_run.specs.declared.status.Status.{Status}
-use Rattle.ember_mesh_run.specs.declared.status.Status.TheVariants.{Done, Words, UnwrittenFormat, StepOfNoGrid, ReadFault, WriteFault, FileRefused, NoTriangles, NotClosed, ExprRefused, Unbounded, LongFile, TooManyTriangles, TooManyWritten, StepTooSmall, TooFar, OutOfMemory, Uncertified}
+use Rattle.ember_mesh_run.specs.declared.status.Status.TheVariants.{Done, Words, StepOfNoGrid, ReadFault, WriteFault, FileRefused, NoTriangles, NotClosed, ExprRefused, Unbounded, LongFile, TooManyTriangles, TooManyWritten, StepTooSmall, TooFar, OutOfMemory, Uncertified}
 
 -- a request whose words or expression are refused
 pub words_stop : (request : Request) (shelf : ShelfCall) (status : Status) → IsWordsCause request status → IsStop request shelf status
 words_stop request shelf Done h = absurd h.2
 words_stop request shelf (Words why) h = absurd h.2
-words_stop request shelf UnwrittenFormat h = h
 words_stop request shelf StepOfNoGrid h = h
 words_stop request shelf (ReadFault i) h = absurd h.2
 words_stop request shelf WriteFault h = absurd h.2
@@ -29,17 +28,16 @@ words_stop request shelf Unbounded h = h
 words_stop request shelf (LongFile i) h = absurd h.2
 words_stop request shelf (TooManyTriangles count) h = absurd h.2
 words_stop request shelf TooManyWritten h = absurd h.2
-words_stop request shelf (StepTooSmall finest) h = absurd h.2
+words_stop request shelf (StepTooSmall extent) h = absurd h.2
 words_stop request shelf TooFar h = absurd h.2
 words_stop request shelf OutOfMemory h = tt
 words_stop request shelf (Uncertified fault) h = absurd h.2
 
-module _ (request : Request) (shelf : ShelfCall) (formula : Formula) (wanted : Wanted) (asks : Asks request wanted formula) where
+module _ (request : Request) (shelf : ShelfCall) (formula : Formula) (wanted : WantedFile) (asks : Asks request wanted formula) where
   -- a request that asks for something, but gets no output
   pub asked_stop : (status : Status) → IsAskedCause request formula wanted shelf status → IsStop request shelf status
   asked_stop Done h = absurd h
   asked_stop (Words why) h = absurd h
-  asked_stop UnwrittenFormat h = absurd h
   asked_stop StepOfNoGrid h = absurd h
   asked_stop (ReadFault i) h = record { wanted = wanted; formula = formula; asks = asks; cause = h }
   asked_stop WriteFault h = absurd h
@@ -51,7 +49,7 @@ module _ (request : Request) (shelf : ShelfCall) (formula : Formula) (wanted : W
   asked_stop (LongFile i) h = record { wanted = wanted; formula = formula; asks = asks; cause = h }
   asked_stop (TooManyTriangles count) h = record { wanted = wanted; formula = formula; asks = asks; cause = h }
   asked_stop TooManyWritten h = record { wanted = wanted; formula = formula; asks = asks; cause = h }
-  asked_stop (StepTooSmall finest) h = record { wanted = wanted; formula = formula; asks = asks; cause = h }
+  asked_stop (StepTooSmall extent) h = record { wanted = wanted; formula = formula; asks = asks; cause = h }
   asked_stop TooFar h = record { wanted = wanted; formula = formula; asks = asks; cause = h }
   asked_stop OutOfMemory h = tt
   asked_stop (Uncertified fault) h = record { wanted = wanted; formula = formula; asks = asks; cause = h }
@@ -60,7 +58,6 @@ module _ (request : Request) (shelf : ShelfCall) (formula : Formula) (wanted : W
   pub reading_stop : (status : Status) → IsReadingCause request.files shelf status → IsStop request shelf status
   reading_stop Done h = absurd h
   reading_stop (Words why) h = absurd h
-  reading_stop UnwrittenFormat h = absurd h
   reading_stop StepOfNoGrid h = absurd h
   reading_stop (ReadFault i) h = asked_stop (ReadFault i) h
   reading_stop WriteFault h = absurd h
@@ -72,7 +69,7 @@ module _ (request : Request) (shelf : ShelfCall) (formula : Formula) (wanted : W
   reading_stop (LongFile i) h = asked_stop (LongFile i) h
   reading_stop (TooManyTriangles count) h = absurd h
   reading_stop TooManyWritten h = absurd h
-  reading_stop (StepTooSmall finest) h = absurd h
+  reading_stop (StepTooSmall extent) h = absurd h
   reading_stop TooFar h = absurd h
   reading_stop OutOfMemory h = tt
   reading_stop (Uncertified fault) h = absurd h
@@ -81,7 +78,6 @@ module _ (request : Request) (shelf : ShelfCall) (formula : Formula) (wanted : W
   pub files_stop : (status : Status) → IsFilesCause shelf.told request.files formula wanted status → IsStop request shelf status
   files_stop Done h = absurd h
   files_stop (Words why) h = absurd h
-  files_stop UnwrittenFormat h = absurd h
   files_stop StepOfNoGrid h = absurd h
   files_stop (ReadFault i) h = absurd h
   files_stop WriteFault h = absurd h
@@ -93,7 +89,7 @@ module _ (request : Request) (shelf : ShelfCall) (formula : Formula) (wanted : W
   files_stop (LongFile i) h = absurd h
   files_stop (TooManyTriangles count) h = asked_stop (TooManyTriangles count) h
   files_stop TooManyWritten h = asked_stop TooManyWritten h
-  files_stop (StepTooSmall finest) h = asked_stop (StepTooSmall finest) h
+  files_stop (StepTooSmall extent) h = asked_stop (StepTooSmall extent) h
   files_stop TooFar h = asked_stop TooFar h
   files_stop OutOfMemory h = tt
   files_stop (Uncertified fault) h = asked_stop (Uncertified fault) h
@@ -102,7 +98,6 @@ module _ (request : Request) (shelf : ShelfCall) (formula : Formula) (wanted : W
 pub stop_tells_memory : (request : Request) (shelf : ShelfCall) (status : Status) → IsStop request shelf status → hides_memory status ≡ false
 stop_tells_memory request shelf Done h = absurd h
 stop_tells_memory request shelf (Words why) h = absurd h
-stop_tells_memory request shelf UnwrittenFormat h = refl
 stop_tells_memory request shelf StepOfNoGrid h = refl
 stop_tells_memory request shelf (ReadFault i) h = refl
 stop_tells_memory request shelf WriteFault h = absurd h
@@ -119,7 +114,7 @@ stop_tells_memory request shelf Unbounded h = refl
 stop_tells_memory request shelf (LongFile i) h = refl
 stop_tells_memory request shelf (TooManyTriangles count) h = refl
 stop_tells_memory request shelf TooManyWritten h = refl
-stop_tells_memory request shelf (StepTooSmall finest) h = refl
+stop_tells_memory request shelf (StepTooSmall extent) h = refl
 stop_tells_memory request shelf TooFar h = refl
 stop_tells_memory request shelf OutOfMemory h = refl
 stop_tells_memory request shelf (Uncertified solid.OutOfMemory) h = absurd (h.cause.is_fault.of_solid refl)

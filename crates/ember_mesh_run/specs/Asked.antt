@@ -1,5 +1,9 @@
 -- What the words of a Boolean ask for, before any file is read
 use Rattle.std.specs.Prelude.{◌≡◌, ◌≢◌, ⊤, ℕ, List, length, true, Ok, Err, replicate, pos}
+use Rattle.std.specs.declared.option.Option.{Option}
+use Rattle.ember_boolean.specs.declared.wanted.MeshFormat.{MeshFormat}
+use Rattle.ember_boolean.specs.declared.wanted.MeshFormat.TheVariants.{Stl, Text}
+use Rattle.ember_boolean.specs.declared.wanted.WantedFile.{WantedFile}
 use Rattle.ember_expr.specs.declared.fault.ExprFault.TheVariants as expr
 use Rattle.ember_expr.specs.Formula.{Formula}
 use Rattle.ember_expr.specs.Grammar.{expr_of}
@@ -7,14 +11,16 @@ use Rattle.ember_expr.specs.Truth.{truth}
 use Rattle.ember_grid.specs.declared.choice.Wanted.{Wanted}
 use Rattle.ember_grid.specs.declared.choice.Wanted.TheVariants.{Nice, Finest, Given}
 use Rattle.ember_meaning.specs.Meaning.{IsFalseOutside}
-use Rattle.ember_mesh_words.specs.declared.command.OutputFormat.TheVariants.{Stl}
+use Rattle.ember_mesh_text.specs.declared.format.TextFormat.TheVariants as texts
+use Rattle.ember_mesh_words.specs.declared.command.OutputFormat.{OutputFormat}
+use Rattle.ember_mesh_words.specs.declared.command.OutputFormat.TheVariants as output
 use Rattle.ember_mesh_words.specs.declared.command.Request.{Request}
 use Rattle.ember_mesh_words.specs.declared.command.WantedStep.{WantedStep}
 use Rattle.ember_mesh_words.specs.declared.command.WantedStep.TheVariants as step
 use Rattle.ember_snap.specs.declared.steps.Step.{Step}
 use Rattle.ember_snap.specs.Decimals.{IsStepOf, IsLeastStepOf}
 use Rattle.ember_mesh_run.specs.declared.status.Status.{Status}
-use Rattle.ember_mesh_run.specs.declared.status.Status.TheVariants.{UnwrittenFormat, StepOfNoGrid, ExprRefused, Unbounded, OutOfMemory}
+use Rattle.ember_mesh_run.specs.declared.status.Status.TheVariants.{StepOfNoGrid, ExprRefused, Unbounded, OutOfMemory}
 
 -- ---- steps
 -- the step that is asked for
@@ -28,6 +34,14 @@ abbrev pub IsStepOfNoGrid : WantedStep → Type 0
 IsStepOfNoGrid step.Nice = ⊥
 IsStepOfNoGrid step.Finest = ⊥
 IsStepOfNoGrid (step.Decimal text) = (s : Step) → IsStepOf text s → ⊥
+
+-- ---- formats
+-- the format that the output's name and `--digits` ask for
+abbrev pub format_asked : OutputFormat → Option ℕ → MeshFormat
+format_asked output.Stl digits = Stl
+format_asked output.Obj digits = Text texts.Obj digits
+format_asked output.Ply digits = Text texts.Ply digits
+format_asked output.Off digits = Text texts.Off digits
 
 -- ---- expressions
 -- the text is an expression over so many meshes, false outside all of them
@@ -49,19 +63,18 @@ IsExpressionCause text meshes OutOfMemory = ⊤
 IsExpressionCause text meshes status = ⊥
 
 -- ---- requests
--- an STL is to be written, on a grid as it is wanted
-pub record AsksGrid (request : Request) (wanted : Wanted) : Type 0 where
-  pub format : request.format ≡ Stl
-  pub step : IsWanted request.step wanted
+-- the file has the format that is asked for, on a grid as it is asked for
+pub record AsksFile (request : Request) (wanted : WantedFile) : Type 0 where
+  pub format : wanted.format ≡ format_asked request.format request.digits
+  pub step : IsWanted request.step wanted.grid
 
 -- and the expression of its files has this tree
-pub record Asks (request : Request) (wanted : Wanted) (formula : Formula) : Type 0 where
-  pub grid : AsksGrid request wanted
+pub record Asks (request : Request) (wanted : WantedFile) (formula : Formula) : Type 0 where
+  pub file : AsksFile request wanted
   pub expression : IsExpression request.expression (length request.files) formula
 
 -- why a request asks for nothing that can be computed: no file has to do with it
 abbrev pub IsWordsCause : Request → Status → Type 0
-IsWordsCause request UnwrittenFormat = request.format ≢ Stl
-IsWordsCause request StepOfNoGrid = (request.format ≡ Stl) × IsStepOfNoGrid request.step
+IsWordsCause request StepOfNoGrid = IsStepOfNoGrid request.step
 IsWordsCause request status =
-    (wanted : Wanted) × AsksGrid request wanted × IsExpressionCause request.expression (length request.files) status
+    (wanted : WantedFile) × AsksFile request wanted × IsExpressionCause request.expression (length request.files) status

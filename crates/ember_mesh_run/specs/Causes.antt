@@ -4,13 +4,13 @@ use Rattle.std.specs.declared.option.Option.{Option}
 use Rattle.ember_boolean.specs.declared.fault.BooleanFault.{BooleanFault}
 use Rattle.ember_boolean.specs.declared.fault.BooleanFault.TheVariants as boolean
 use Rattle.ember_boolean.specs.declared.files.MeshFile.{MeshFile}
+use Rattle.ember_boolean.specs.declared.wanted.WantedFile.{WantedFile}
 use Rattle.ember_boolean.specs.declared.writing.Output.{Output}
 use Rattle.ember_boolean.specs.Faults.{IsBooleanFault, IsFirstUnread}
 use Rattle.ember_expr.specs.declared.fault.ExprFault.TheVariants as expr
 use Rattle.ember_expr.specs.Formula.{Formula}
 use Rattle.ember_file.specs.declared.fault.FileFault.{FileFault}
 use Rattle.ember_format.specs.declared.format.Format.{Format}
-use Rattle.ember_grid.specs.declared.choice.Wanted.{Wanted}
 use Rattle.ember_io.specs.Shelves.{TellsMore}
 use Rattle.ember_io.specs.declared.shelf.ReadEnd.{ReadEnd}
 use Rattle.ember_io.specs.declared.shelf.ReadEnd.TheVariants as read
@@ -28,7 +28,7 @@ use Rattle.ember_mesh_run.specs.Calls.{ShelfCall, TargetCall, HasShelfFailed, Ha
 use Rattle.ember_mesh_run.specs.Files.{AreFiles, AreRead, IsFileIn}
 use Rattle.ember_mesh_run.specs.Lines.{name_of}
 use Rattle.ember_mesh_run.specs.declared.status.Status.{Status}
-use Rattle.ember_mesh_run.specs.declared.status.Status.TheVariants.{Done, Words, UnwrittenFormat, StepOfNoGrid, ReadFault, WriteFault, FileRefused, NoTriangles, NotClosed, ExprRefused, Unbounded, LongFile, TooManyTriangles, TooManyWritten, StepTooSmall, TooFar, OutOfMemory, Uncertified}
+use Rattle.ember_mesh_run.specs.declared.status.Status.TheVariants.{Done, Words, StepOfNoGrid, ReadFault, WriteFault, FileRefused, NoTriangles, NotClosed, ExprRefused, Unbounded, LongFile, TooManyTriangles, TooManyWritten, StepTooSmall, TooFar, OutOfMemory, Uncertified}
 
 -- ---- a file and those before it
 -- the shelf failed at file i, and no file before it is refused
@@ -78,14 +78,14 @@ IsEndAt told names i end status =
 
 -- ---- all files together
 -- the files have this fault
-pub record HaveFault (told : List ℕ → Option (List ℕ)) (names : List (List ℕ)) (formula : Formula) (wanted : Wanted)
+pub record HaveFault (told : List ℕ → Option (List ℕ)) (names : List (List ℕ)) (formula : Formula) (wanted : WantedFile)
     (fault : BooleanFault) : Type 0 where
   pub files : List MeshFile
   pub are_files : AreFiles told names files
   pub is_fault : IsBooleanFault files formula wanted fault
 
 -- one of them isn't closed on the grid, and has this format
-pub record HaveOpen (told : List ℕ → Option (List ℕ)) (names : List (List ℕ)) (formula : Formula) (wanted : Wanted)
+pub record HaveOpen (told : List ℕ → Option (List ℕ)) (names : List (List ℕ)) (formula : Formula) (wanted : WantedFile)
     (o : Open) (format : Format) : Type 0 where
   pub files : List MeshFile
   pub are_files : AreFiles told names files
@@ -93,14 +93,14 @@ pub record HaveOpen (told : List ℕ → Option (List ℕ)) (names : List (List 
   pub format_is : HasFormat files o.file format
 
 -- why files that were read have no output
-abbrev pub IsFilesCause : (List ℕ → Option (List ℕ)) → List (List ℕ) → Formula → Wanted → Status → Type 0
+abbrev pub IsFilesCause : (List ℕ → Option (List ℕ)) → List (List ℕ) → Formula → WantedFile → Status → Type 0
 IsFilesCause told names formula wanted NoTriangles =
     HaveFault told names formula wanted (boolean.Scene scene.NoTriangles)
 IsFilesCause told names formula wanted (NotClosed o format) = HaveOpen told names formula wanted o format
 IsFilesCause told names formula wanted (TooManyTriangles count) =
     HaveFault told names formula wanted (boolean.Scene (scene.TooManyTriangles count))
-IsFilesCause told names formula wanted (StepTooSmall finest) =
-    HaveFault told names formula wanted (boolean.Scene (scene.StepTooSmall finest))
+IsFilesCause told names formula wanted (StepTooSmall extent) =
+    HaveFault told names formula wanted (boolean.Scene (scene.StepTooSmall extent))
 IsFilesCause told names formula wanted (Uncertified fault) =
     HaveFault told names formula wanted (boolean.Solid fault)
 IsFilesCause told names formula wanted TooFar = HaveFault told names formula wanted boolean.TooFar
@@ -110,14 +110,14 @@ IsFilesCause told names formula wanted status = IsRefusalCause told names status
 
 -- ---- a request
 -- why a request that asks for something gets no output
-abbrev pub IsAskedCause : Request → Formula → Wanted → ShelfCall → Status → Type 0
+abbrev pub IsAskedCause : Request → Formula → WantedFile → ShelfCall → Status → Type 0
 IsAskedCause request formula wanted shelf (ReadFault i) = IsReadingCause request.files shelf (ReadFault i)
 IsAskedCause request formula wanted shelf (LongFile i) = IsReadingCause request.files shelf (LongFile i)
 IsAskedCause request formula wanted shelf status = IsFilesCause shelf.told request.files formula wanted status
 
 -- it asks for something, but gets no output
 pub record IsLateCause (request : Request) (shelf : ShelfCall) (status : Status) : Type 0 where
-  pub wanted : Wanted
+  pub wanted : WantedFile
   pub formula : Formula
   pub asks : Asks request wanted formula
   pub cause : IsAskedCause request formula wanted shelf status
@@ -128,7 +128,6 @@ abbrev pub IsStop : Request → ShelfCall → Status → Type 0
 IsStop request shelf Done = ⊥
 IsStop request shelf (Words why) = ⊥
 IsStop request shelf WriteFault = ⊥
-IsStop request shelf UnwrittenFormat = IsWordsCause request UnwrittenFormat
 IsStop request shelf StepOfNoGrid = IsWordsCause request StepOfNoGrid
 IsStop request shelf (ExprRefused fault) = IsWordsCause request (ExprRefused fault)
 IsStop request shelf Unbounded = IsWordsCause request Unbounded

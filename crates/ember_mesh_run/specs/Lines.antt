@@ -1,17 +1,23 @@
 -- The number of a status, and its line on standard error
-use Rattle.std.specs.Prelude.{⊤, ℕ, ℤ, ◌+ℤ◌, ◌*ℤ◌, ◌<◌, ◌+◌, ◌-◌, ◌*◌, ◌^◌, List, [], ◌++◌, length, codes, decimal, get_or, pos, nat_le, Some, None, unsigned_abs, if◌then◌else◌, string_bytes}
+use Rattle.std.specs.Prelude.{⊤, ℕ, ℤ, ◌+ℤ◌, ◌*ℤ◌, ◌<◌, ◌+◌, ◌-◌, ◌*◌, ◌^◌, List, [], ◌++◌, length, codes, decimal, get_or, pos, nat_le, ◌==◌, Some, None, unsigned_abs, if◌then◌else◌, string_bytes}
 use Rattle.std.specs.declared.option.Option.{Option}
 use Rattle.ember_expr.specs.declared.fault.ExprFault.{ExprFault}
 use Rattle.ember_expr.specs.declared.fault.ExprFault.TheVariants as expr
 use Rattle.ember_format.specs.declared.format.Format.{Format}
 use Rattle.ember_format.specs.declared.format.Format.TheVariants as formats
+use Rattle.ember_grid.specs.declared.extent.Extent.{Extent}
 use Rattle.ember_grid.specs.declared.grid.Grid.{Grid}
+use Rattle.ember_grid.specs.Lengths.{trillion}
+use Rattle.ember_mesh_words.specs.declared.command.OutputFormat.{OutputFormat}
+use Rattle.ember_mesh_words.specs.declared.command.OutputFormat.TheVariants as output
 use Rattle.ember_mesh_words.specs.declared.command.Request.{Request}
 use Rattle.ember_mesh_words.specs.declared.command.WantedStep.{WantedStep}
 use Rattle.ember_mesh_words.specs.declared.command.WantedStep.TheVariants as step
 use Rattle.ember_mesh_words.specs.declared.faults.Refusal.{Refusal}
 use Rattle.ember_mesh_words.specs.declared.faults.Refusal.TheVariants as refusal
+use Rattle.ember_mesh_words.specs.Given.{output_given, step_given}
 use Rattle.ember_model.specs.declared.point.Corner.{Corner}
+use Rattle.ember_moves.specs.Shown.{Rounded}
 use Rattle.ember_number.specs.Fractions.{Fraction}
 use Rattle.ember_scene.specs.declared.fault.Open.{Open}
 use Rattle.ember_snap.specs.declared.steps.Step.{Step}
@@ -21,13 +27,12 @@ use Rattle.ember_solid_mesh.specs.declared.fault.SolidFault.TheVariants as solid
 use Rattle.ember_triangles.specs.declared.fault.TrianglesFault.TheVariants as mesh
 use Rattle.ember_written.specs.Decimals.{decimal_of}
 use Rattle.ember_mesh_run.specs.declared.status.Status.{Status}
-use Rattle.ember_mesh_run.specs.declared.status.Status.TheVariants.{Done, Words, UnwrittenFormat, StepOfNoGrid, ReadFault, WriteFault, FileRefused, NoTriangles, NotClosed, ExprRefused, Unbounded, LongFile, TooManyTriangles, TooManyWritten, StepTooSmall, TooFar, OutOfMemory, Uncertified}
+use Rattle.ember_mesh_run.specs.declared.status.Status.TheVariants.{Done, Words, StepOfNoGrid, ReadFault, WriteFault, FileRefused, NoTriangles, NotClosed, ExprRefused, Unbounded, LongFile, TooManyTriangles, TooManyWritten, StepTooSmall, TooFar, OutOfMemory, Uncertified}
 
 -- the exit status
 abbrev pub number_of : Status → ℕ
 number_of Done = 0
 number_of (Words why) = 2
-number_of UnwrittenFormat = 2
 number_of StepOfNoGrid = 2
 number_of (ReadFault i) = 3
 number_of WriteFault = 4
@@ -39,7 +44,7 @@ number_of Unbounded = 8
 number_of (LongFile i) = 9
 number_of (TooManyTriangles count) = 9
 number_of TooManyWritten = 9
-number_of (StepTooSmall finest) = 10
+number_of (StepTooSmall extent) = 10
 number_of TooFar = 10
 number_of OutOfMemory = 12
 number_of (Uncertified fault) = 14
@@ -56,6 +61,22 @@ line text = codes "ember-mesh: " ++ (text ++ codes "\n")
 -- a step in the user's unit
 abbrev pub step_text : Step → List ℕ
 step_text s = decimal_of (record { numerator = pos s.numerator; denominator = s.denominator }) 12
+
+-- how long a scene is, in the user's unit
+abbrev pub length_text : Extent → List ℕ
+length_text e = decimal_of (record { numerator = pos e.trillionths; denominator = trillion }) 12
+
+-- size / 10 ^ places
+abbrev pub size_text : ℕ → ℕ → List ℕ
+size_text size places = decimal_of (record { numerator = pos size; denominator = 10 ^ places }) places
+
+-- said of a move of 0
+abbrev pub still_text : ℕ → List ℕ
+still_text size = if size == 0 then codes " (nothing moved)" else []
+
+-- how far corners move at most, in the user's unit
+abbrev pub move_text : Rounded → List ℕ
+move_text r = size_text r.size r.places ++ still_text r.size
 
 -- the value of --step
 abbrev pub wanted_text : WantedStep → List ℕ
@@ -102,8 +123,9 @@ refusal_text words refusal.TooManyFiles = codes "more than 64 files; see ember-m
 refusal_text words refusal.NoExpression = word_text (codes "--expr") (codes "is missing")
 refusal_text words refusal.NeedlessExpression = word_text (codes "--expr") (codes "is for bool alone")
 refusal_text words refusal.NoOutput = word_text (codes "-o") (codes "is missing")
-refusal_text words refusal.OutputEnding = codes "-o: the name must end in .stl, .obj, .ply or .off"
-refusal_text words refusal.NotAStep = codes "--step: not a number above 0"
+refusal_text words refusal.OutputEnding =
+    codes "-o " ++ (output_given words ++ codes ": the name must end in .stl, .obj, .ply or .off")
+refusal_text words refusal.NotAStep = codes "--step " ++ (step_given words ++ codes ": not a number above 0")
 refusal_text words refusal.Workers = word_text (codes "--workers") (codes "not a number from 1 to 64")
 refusal_text words refusal.Digits = word_text (codes "--digits") (codes "not a number from 0 to 17")
 
@@ -158,12 +180,18 @@ not_found_text None = codes "triangles of the result not found"
 abbrev pub solid_text : SolidFault → List ℕ
 solid_text fault = not_found_text (plane_without fault)
 
+-- ---- corners
+-- a corner is too far out for the numbers of this format
+abbrev pub too_far_text : OutputFormat → List ℕ
+too_far_text output.Stl =
+    codes "a corner of the result is too far from 0 for STL; move the meshes to the origin"
+too_far_text format = codes "a corner of the result is 10^21 or more from 0; move the meshes to the origin"
+
 -- ---- all of them
 -- why a request isn't met
 abbrev pub why_of : Request → Status → List ℕ
 why_of request Done = []
 why_of request (Words why) = []
-why_of request UnwrittenFormat = codes "-o " ++ (request.output ++ codes ": only .stl is written so far")
 why_of request StepOfNoGrid =
     codes "--step " ++ (wanted_text request.step ++
     codes ": no grid has this step; give at most 12 digits and 12 decimal places")
@@ -178,15 +206,16 @@ why_of request (LongFile i) = file_text request.files i (codes "more than 268435
 why_of request (TooManyTriangles count) =
     decimal count ++ codes " triangles after snapping, more than 262144; simplify the meshes"
 why_of request TooManyWritten = codes "more than 4294967295 triangles, too many for STL; simplify the meshes"
-why_of request (StepTooSmall finest) =
+why_of request (StepTooSmall extent) =
     codes "--step " ++ (wanted_text request.step ++
-    (codes ": the scene needs a step of at least " ++ step_text finest))
-why_of request TooFar = codes "a corner of the result is too far from 0 for STL; move the meshes to the origin"
+    (codes ": the scene is " ++ (length_text extent ++
+    (codes " long, which needs a step of at least " ++ step_text extent.finest))))
+why_of request TooFar = too_far_text request.format
 why_of request OutOfMemory = codes "out of memory"
 why_of request (Uncertified fault) = solid_text fault
 
 -- the numbers in the status can be shown
 abbrev pub IsShown : Status → Type 0
 IsShown (NotClosed o format) = (o.file < 64) × IsStep o.grid.step
-IsShown (StepTooSmall finest) = 0 < finest.denominator
+IsShown (StepTooSmall extent) = 0 < extent.finest.denominator
 IsShown status = ⊤

@@ -17,7 +17,8 @@ use Rattle.ember_mesh_run.specs.declared.status.Status.{Status}
 use Rattle.ember_mesh_run.specs.declared.status.Status.TheVariants.{Done, Words, WriteFault, OutOfMemory}
 
 -- ---- a Boolean
--- the name of the output holds the STL of the solid, and each other name what it held; err takes the report
+-- the name of the output holds the file of the solid, whose triangles are closed, and each other name what it held; err
+-- takes the report
 pub record WritesSolid (request : Request) (shelf : ShelfCall) (target : TargetCall) (text : List ℕ) : Type 0 where
   pub output : Output
   pub is_output : IsOutputFor request shelf.told output

@@ -43,7 +43,7 @@ IsRefusalStatus files index fault status =
 abbrev pub IsStatusOf : List MeshFile → BooleanFault → Status → Type 0
 IsStatusOf files (boolean.File index fault) status = IsRefusalStatus files index fault status
 IsStatusOf files (boolean.Scene scene.NoTriangles) status = status ≡ NoTriangles
-IsStatusOf files (boolean.Scene (scene.StepTooSmall finest)) status = status ≡ StepTooSmall finest
+IsStatusOf files (boolean.Scene (scene.StepTooSmall extent)) status = status ≡ StepTooSmall extent
 IsStatusOf files (boolean.Scene (scene.Open o)) status =
     (format : Format) × (status ≡ NotClosed o format) × HasFormat files o.file format
 IsStatusOf files (boolean.Scene (scene.TooManyTriangles count)) status = status ≡ TooManyTriangles count

@@ -1,22 +1,25 @@
 // What the words of a Boolean ask for, before any file is read.
-ghost use Rattle.std.specs.Prelude.{◌≤◌, IfOk, IfErr, IfSome, IfNone};
+ghost use Rattle.std.specs.Prelude.{◌≡◌, ◌≤◌, IfOk, IfErr, IfSome, IfNone};
+ghost use Rattle.ember_boolean.specs.Outputs.{HasFewDigits};
 ghost use Rattle.ember_expr.specs.Formula.{formula_of};
 ghost use Rattle.ember_grid.specs.Grids.{IsChoice};
 ghost use Rattle.ember_mesh_words.specs.Commands.{IsWithinLimits};
-ghost use Rattle.ember_mesh_run.specs.Asked.{AsksGrid, Asks, IsExpression, IsExpressionCause, IsStepOfNoGrid, IsWanted, IsWordsCause};
+ghost use Rattle.ember_mesh_run.specs.Asked.{Asks, AsksFile, IsExpression, IsExpressionCause, IsStepOfNoGrid, IsWanted, IsWordsCause, format_asked};
 
 use crate::status::Status;
+use ember_boolean::{MeshFormat, WantedFile};
 use ember_expr::{Expr, ExprFault, bounded, parse};
 use ember_grid::Wanted;
+use ember_mesh_text::TextFormat;
 use ember_mesh_words::{OutputFormat, Request, WantedStep};
 use ember_snap::step_of;
 use ember_words::Text;
 use std::alloc::Global;
 
-// The grid and the expression that a request asks for.
+// The file and the expression that a request asks for.
 #[derive(Drop)]
 pub(crate) struct Asked {
-    pub wanted: Wanted,
+    pub wanted: WantedFile,
     pub expr: Expr,
 }
 
@@ -36,18 +39,32 @@ fn wanted_of(step: &WantedStep) -> Option<Wanted>
     }
 }
 
-// The grid that a request asks for, if its output is one that is written.
-fn grid_asked(request: &Request) -> Result<Wanted, Status>
-    ensures wanted { IfOk result (AsksGrid request.now) }
-    ensures choice { IfOk result IsChoice }
+// The format that the output's name and `--digits` ask for.
+fn format_asked(format: OutputFormat, digits: Option<u32>) -> MeshFormat
+    requires { IfSome digits (λ n. n ≤ 17) }
+    ensures value { result ≡ format_asked format digits }
+    ensures digits { HasFewDigits result }
+{
+    match format {
+        OutputFormat::Stl => MeshFormat::Stl,
+        OutputFormat::Obj => MeshFormat::Text(TextFormat::Obj, digits),
+        OutputFormat::Ply => MeshFormat::Text(TextFormat::Ply, digits),
+        OutputFormat::Off => MeshFormat::Text(TextFormat::Off, digits),
+    }
+}
+
+// The file that a request asks for, unless no grid has the step.
+fn file_asked(request: &Request) -> Result<WantedFile, Status>
+    requires { IsWithinLimits request.now }
+    ensures wanted { IfOk result (AsksFile request.now) }
+    ensures choice { IfOk result (λ wanted. IsChoice wanted.grid) }
+    ensures digits { IfOk result (λ wanted. HasFewDigits wanted.format) }
     ensures cause { IfErr result (IsWordsCause request.now) }
 {
-    match request.format {
-        OutputFormat::Stl => match wanted_of(&request.step) {
-            Some(wanted) => Ok(wanted),
-            None => Err(Status::StepOfNoGrid),
-        },
-        OutputFormat::Obj | OutputFormat::Ply | OutputFormat::Off => Err(Status::UnwrittenFormat),
+    let format = format_asked(request.format, request.digits);
+    match wanted_of(&request.step) {
+        Some(grid) => Ok(WantedFile { grid, format }),
+        None => Err(Status::StepOfNoGrid),
     }
 }
 
@@ -70,15 +87,16 @@ fn bounded_expression(alloc: Global, text: &Text, meshes: u32) -> Result<Expr, S
     }
 }
 
-// The grid and the expression that a request asks for, or why it asks for nothing that can be
+// The file and the expression that a request asks for, or why it asks for nothing that can be
 // computed.
 pub(crate) fn asked_by(alloc: Global, request: &Request) -> Result<Asked, Status>
     requires { IsWithinLimits request.now }
     ensures asks { IfOk result (λ asked. Asks request.now asked.wanted (formula_of asked.expr)) }
-    ensures choice { IfOk result (λ asked. IsChoice asked.wanted) }
+    ensures choice { IfOk result (λ asked. IsChoice asked.wanted.grid) }
+    ensures digits { IfOk result (λ asked. HasFewDigits asked.wanted.format) }
     ensures cause { IfErr result (IsWordsCause request.now) }
 {
-    let wanted = match grid_asked(request) {
+    let wanted = match file_asked(request) {
         Ok(wanted) => wanted,
         Err(status) => return Err(status),
     };

@@ -1,22 +1,25 @@
 // The line on standard error of a request that isn't met, or of words that are refused.
 ghost use Rattle.std.specs.Prelude.{◌≡◌, ◌++◌, ◌+◌, ◌<◌, codes, decimal, map, IfOk, OnOk, string_bytes};
+ghost use Rattle.ember_mesh_words.specs.Given.{output_given, step_given};
 ghost use Rattle.ember_snap.specs.Steps.{IsStep};
-ghost use Rattle.ember_mesh_run.specs.Lines.{IsShown, expr_text, file_text, line, noun_of, open_text, place_text, plane_without, refusal_text, solid_text, step_text, why_of, word_text, word_at};
+ghost use Rattle.ember_mesh_run.specs.Lines.{IsShown, expr_text, file_text, length_text, line, noun_of, open_text, place_text, plane_without, refusal_text, solid_text, step_text, too_far_text, why_of, word_text, word_at};
 
 use crate::status::Status;
-use crate::texts::{line, name_among, put_corner, put_count, put_step, wanted_text};
+use crate::texts::{line, name_among, put_corner, put_count, put_length, put_step, wanted_text};
 use ember_expr::ExprFault;
 use ember_format::Format;
-use ember_mesh_words::{Refusal, Request};
+use ember_grid::Extent;
+use ember_mesh_words::{OutputFormat, Refusal, Request, output_given, step_given};
 use ember_model::OutOfMemory;
 use ember_scene::Open;
-use ember_snap::Step;
 use ember_solid_mesh::SolidFault;
 use ember_triangles::TrianglesFault;
 use ember_words::Texts;
 use std::alloc::Global;
 
-const ONLY_STL: &[u8] = b": only .stl is written so far";
+const OUTPUT_ENDING: &[u8] = b": the name must end in .stl, .obj, .ply or .off";
+
+const NOT_A_STEP: &[u8] = b": not a number above 0";
 
 const NO_GRID_STEP: &[u8] =
     b": no grid has this step; give at most 12 digits and 12 decimal places";
@@ -30,10 +33,15 @@ const TOO_MANY: &[u8] = b" triangles after snapping, more than 262144; simplify 
 const TOO_MANY_WRITTEN: &[u8] =
     b"more than 4294967295 triangles, too many for STL; simplify the meshes";
 
-const COARSER_STEP: &[u8] = b": the scene needs a step of at least ";
+const SCENE_IS: &[u8] = b": the scene is ";
 
-const TOO_FAR: &[u8] =
+const COARSER_STEP: &[u8] = b" long, which needs a step of at least ";
+
+const TOO_FAR_FOR_STL: &[u8] =
     b"a corner of the result is too far from 0 for STL; move the meshes to the origin";
+
+const TOO_FAR_FOR_DECIMALS: &[u8] =
+    b"a corner of the result is 10^21 or more from 0; move the meshes to the origin";
 
 // Appends why a word is refused.
 fn put_word(word: &[u8], why: &[u8], text: &mut Vec<u8>) -> Result<(), OutOfMemory>
@@ -55,8 +63,45 @@ fn word_at(words: &[String], number: usize) -> &[u8]
     }
 }
 
+// Appends the value of an option, and what is said of it.
+fn put_value(
+    option: &[u8],
+    value: &[u8],
+    said: &[u8],
+    text: &mut Vec<u8>,
+) -> Result<(), OutOfMemory>
+    ensures { OnOk result (text.new.items ≡ text.old.items ++ (option.now ++ (value.now ++ said.now))) }
+{
+    text.extend_from_slice(option)?;
+    text.extend_from_slice(value)?;
+    text.extend_from_slice(said)
+}
+
+// Appends that the name of the output has another ending.
+fn put_output_ending(alloc: Global, words: &[String], text: &mut Vec<u8>) -> Result<(), OutOfMemory>
+    ensures { OnOk result (text.new.items ≡ text.old.items ++
+        (codes "-o " ++ (output_given (map string_bytes words.now) ++ OUTPUT_ENDING.now))) }
+{
+    let output = output_given(alloc, words)?;
+    put_value(b"-o ", output.as_str().as_bytes(), OUTPUT_ENDING, text)
+}
+
+// Appends that the value of `--step` is no step.
+fn put_no_step(alloc: Global, words: &[String], text: &mut Vec<u8>) -> Result<(), OutOfMemory>
+    ensures { OnOk result (text.new.items ≡ text.old.items ++
+        (codes "--step " ++ (step_given (map string_bytes words.now) ++ NOT_A_STEP.now))) }
+{
+    let step = step_given(alloc, words)?;
+    put_value(b"--step ", step.as_str().as_bytes(), NOT_A_STEP, text)
+}
+
 // Appends why the words are refused.
-fn put_refusal(words: &[String], why: Refusal, text: &mut Vec<u8>) -> Result<(), OutOfMemory>
+fn put_refusal(
+    alloc: Global,
+    words: &[String],
+    why: Refusal,
+    text: &mut Vec<u8>,
+) -> Result<(), OutOfMemory>
     ensures { OnOk result (text.new.items ≡
         text.old.items ++ refusal_text (map string_bytes words.now) why) }
 {
@@ -73,10 +118,8 @@ fn put_refusal(words: &[String], why: Refusal, text: &mut Vec<u8>) -> Result<(),
         Refusal::NoExpression => put_word(b"--expr", b"is missing", text),
         Refusal::NeedlessExpression => put_word(b"--expr", b"is for bool alone", text),
         Refusal::NoOutput => put_word(b"-o", b"is missing", text),
-        Refusal::OutputEnding => {
-            text.extend_from_slice(b"-o: the name must end in .stl, .obj, .ply or .off")
-        }
-        Refusal::NotAStep => text.extend_from_slice(b"--step: not a number above 0"),
+        Refusal::OutputEnding => put_output_ending(alloc, words, text),
+        Refusal::NotAStep => put_no_step(alloc, words, text),
         Refusal::Workers => put_word(b"--workers", b"not a number from 1 to 64", text),
         Refusal::Digits => put_word(b"--digits", b"not a number from 0 to 17", text),
     }
@@ -87,7 +130,7 @@ pub fn refusal_line(alloc: Global, words: &[String], why: Refusal) -> Result<Vec
     ensures { IfOk result (λ text. text.items ≡ line (refusal_text (map string_bytes words.now) why)) }
 {
     let mut text = Vec::new(alloc);
-    put_refusal(words, why, &mut text)?;
+    put_refusal(alloc, words, why, &mut text)?;
     line(alloc, &text)
 }
 
@@ -194,20 +237,6 @@ fn put_solid_fault(fault: &SolidFault, text: &mut Vec<u8>) -> Result<(), OutOfMe
     }
 }
 
-// Appends the value of an option, and what is said of it.
-fn put_value(
-    option: &[u8],
-    value: &[u8],
-    said: &[u8],
-    text: &mut Vec<u8>,
-) -> Result<(), OutOfMemory>
-    ensures { OnOk result (text.new.items ≡ text.old.items ++ (option.now ++ (value.now ++ said.now))) }
-{
-    text.extend_from_slice(option)?;
-    text.extend_from_slice(value)?;
-    text.extend_from_slice(said)
-}
-
 fn put_too_many(count: u64, text: &mut Vec<u8>) -> Result<(), OutOfMemory>
     ensures { OnOk result (text.new.items ≡ text.old.items ++ (decimal count ++ TOO_MANY.now)) }
 {
@@ -215,14 +244,27 @@ fn put_too_many(count: u64, text: &mut Vec<u8>) -> Result<(), OutOfMemory>
     text.extend_from_slice(TOO_MANY)
 }
 
-// Appends that a step is too small, and the finest that isn't.
-fn put_finest(given: &[u8], finest: &Step, text: &mut Vec<u8>) -> Result<(), OutOfMemory>
-    requires { 0 < finest.now.denominator }
+// Appends that a step is too small, how long the scene is, and the finest step that would do.
+fn put_extent(given: &[u8], extent: &Extent, text: &mut Vec<u8>) -> Result<(), OutOfMemory>
+    requires { 0 < extent.now.finest.denominator }
     ensures { OnOk result (text.new.items ≡ text.old.items ++
-        (codes "--step " ++ (given.now ++ (COARSER_STEP.now ++ step_text finest.now)))) }
+        (codes "--step " ++ (given.now ++ (SCENE_IS.now ++ (length_text extent.now ++
+        (COARSER_STEP.now ++ step_text extent.now.finest)))))) }
 {
-    put_value(b"--step ", given, COARSER_STEP, text)?;
-    put_step(finest, text)
+    put_value(b"--step ", given, SCENE_IS, text)?;
+    put_length(extent, text)?;
+    text.extend_from_slice(COARSER_STEP)?;
+    put_step(&extent.finest, text)
+}
+
+// Why a corner can't be written in this format.
+fn too_far_text(format: OutputFormat) -> &'static [u8]
+    ensures { result.now ≡ too_far_text format }
+{
+    match format {
+        OutputFormat::Stl => TOO_FAR_FOR_STL,
+        OutputFormat::Obj | OutputFormat::Ply | OutputFormat::Off => TOO_FAR_FOR_DECIMALS,
+    }
 }
 
 // Appends why a request isn't met.
@@ -235,7 +277,6 @@ fn put_why(request: &Request, status: &Status, text: &mut Vec<u8>) -> Result<(),
     let step = wanted_text(&request.step);
     match status {
         Status::Done | Status::Words(_) => Ok(()),
-        Status::UnwrittenFormat => put_value(b"-o ", output, ONLY_STL, text),
         Status::StepOfNoGrid => put_value(b"--step ", step, NO_GRID_STEP, text),
         Status::ReadFault(number) => put_file(files, *number, b"cannot be read", text),
         Status::WriteFault => put_value(b"cannot write ", output, b"", text),
@@ -247,8 +288,8 @@ fn put_why(request: &Request, status: &Status, text: &mut Vec<u8>) -> Result<(),
         Status::LongFile(number) => put_file(files, *number, LONG_FILE, text),
         Status::TooManyTriangles(count) => put_too_many(*count, text),
         Status::TooManyWritten => text.extend_from_slice(TOO_MANY_WRITTEN),
-        Status::StepTooSmall(finest) => put_finest(step, finest, text),
-        Status::TooFar => text.extend_from_slice(TOO_FAR),
+        Status::StepTooSmall(extent) => put_extent(step, extent, text),
+        Status::TooFar => text.extend_from_slice(too_far_text(request.format)),
         Status::OutOfMemory => text.extend_from_slice(b"out of memory"),
         Status::Uncertified(fault) => put_solid_fault(fault, text),
     }

@@ -14,11 +14,13 @@ commands
   --version          the version
 
 options
-  -o OUT             the name of the result, which ends in .stl
+  -o OUT             the name of the result, which ends in .stl, .obj, .ply or
+                     .off
   --step S           the step of the grid on which the meshes are exact: nice
                      (if not given), finest, or a decimal above 0
   --workers N        1 to 64 (4 if not given); the solid is the same for all
-  --digits N         0 to 17 decimal places, for formats that have decimals
+  --digits N         0 to 17 decimal places in OBJ, PLY and OFF; if not given,
+                     six more than the step has
   --quiet            no report
 
 FILE.. are 1 to 64 closed meshes in STL, OBJ, PLY or OFF files. OUT is written

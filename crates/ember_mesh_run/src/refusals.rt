@@ -64,7 +64,7 @@ pub fn status_of<'a>(alloc: Global, files: &[MeshFile<'a>], fault: BooleanFault<
     match fault {
         BooleanFault::File(index, fault) => refused(alloc, files, index, &fault),
         BooleanFault::Scene(SceneFault::NoTriangles) => Status::NoTriangles,
-        BooleanFault::Scene(SceneFault::StepTooSmall(finest)) => Status::StepTooSmall(finest),
+        BooleanFault::Scene(SceneFault::StepTooSmall(extent)) => Status::StepTooSmall(extent),
         BooleanFault::Scene(SceneFault::Open(fault)) => not_closed(files, fault),
         BooleanFault::Scene(SceneFault::TooManyTriangles(count)) => Status::TooManyTriangles(count),
         BooleanFault::Scene(SceneFault::OutOfMemory) => Status::OutOfMemory,

@@ -1,13 +1,15 @@
 // The report of an output.
-ghost use Rattle.std.specs.Prelude.{◌≡◌, ◌++◌, ◌<◌, IfOk, OnOk};
+ghost use Rattle.std.specs.Prelude.{◌≡◌, ◌++◌, ◌<◌, drop, IfOk, OnOk};
 ghost use Rattle.ember_mesh_run.specs.Lines.{line};
-ghost use Rattle.ember_mesh_run.specs.Reports.{counts_line, counts_lines, empty_line, grid_line, report_lines, report_of, result_line};
+ghost use Rattle.ember_moves.specs.Shown.{rounded_of};
+ghost use Rattle.ember_mesh_run.specs.Reports.{counts_line, counts_lines, empty_line, first_move, grid_line, report_lines, report_of, result_line};
 
-use crate::texts::{line, put_count, put_signed, put_step};
+use crate::texts::{line, put_count, put_move, put_signed, put_step};
 use ember_boolean::Output;
 use ember_grid::Grid;
 use ember_mesh_words::Request;
 use ember_model::OutOfMemory;
+use ember_moves::Length;
 use ember_scene::Counts;
 use ember_words::Text;
 use std::alloc::Global;
@@ -41,9 +43,11 @@ fn put_counts(
     alloc: Global,
     name: &[u8],
     counts: &Counts,
+    moved: &Length,
     text: &mut Vec<u8>,
 ) -> Result<(), OutOfMemory>
-    ensures { OnOk result (text.new.items ≡ text.old.items ++ counts_line name.now counts.now) }
+    ensures { OnOk result (text.new.items ≡
+        text.old.items ++ counts_line name.now counts.now (rounded_of moved.now)) }
 {
     let mut said = Vec::from_slice(alloc, name)?;
     said.extend_from_slice(b": ")?;
@@ -52,8 +56,20 @@ fn put_counts(
     put_count(counts.vanished, &mut said)?;
     said.extend_from_slice(b" vanished, ")?;
     put_count(counts.flat, &mut said)?;
-    said.extend_from_slice(b" without area; closed")?;
+    said.extend_from_slice(b" without area; greatest move ")?;
+    put_move(moved, &mut said)?;
+    said.extend_from_slice(b"; closed")?;
     put_line(alloc, &said, text)
+}
+
+// The move with this index, or 0 if there is none.
+fn move_at(moves: &[Length], index: usize) -> Length
+    ensures { rounded_of result ≡ first_move (drop index moves.now) }
+{
+    match moves.get(index) {
+        Some(moved) => *moved,
+        None => Length { size: 0, places: 0 },
+    }
 }
 
 // Appends the line of each file.
@@ -61,16 +77,19 @@ fn put_all_counts(
     alloc: Global,
     names: &[Text],
     counts: &[Counts],
+    moves: &[Length],
     text: &mut Vec<u8>,
 ) -> Result<(), OutOfMemory>
-    ensures { OnOk result (text.new.items ≡ text.old.items ++ counts_lines names.now counts.now) }
+    ensures { OnOk result (text.new.items ≡
+        text.old.items ++ counts_lines names.now counts.now moves.now) }
 {
     let mut file = 0;
     for name in names {
         let Some(counts) = counts.get(file) else {
             return Ok(());
         };
-        put_counts(alloc, name.as_str().as_bytes(), counts, text)?;
+        let moved = move_at(moves, file);
+        put_counts(alloc, name.as_str().as_bytes(), counts, &moved, text)?;
         file += 1;
     }
     Ok(())
@@ -98,7 +117,9 @@ fn put_result(alloc: Global, output: &Output, text: &mut Vec<u8>) -> Result<(), 
     put_count(output.planes, &mut said)?;
     said.extend_from_slice(b" planes; ")?;
     put_count(output.vanished, &mut said)?;
-    said.extend_from_slice(b" vanished")?;
+    said.extend_from_slice(b" vanished; ")?;
+    put_count(output.shared, &mut said)?;
+    said.extend_from_slice(b" edges of more than two triangles")?;
     put_line(alloc, &said, text)
 }
 
@@ -109,7 +130,7 @@ fn report_lines(alloc: Global, names: &[Text], output: &Output) -> Result<Vec<u8
 {
     let mut text = Vec::new(alloc);
     put_grid(alloc, &output.grid, &mut text)?;
-    put_all_counts(alloc, names, &output.counts, &mut text)?;
+    put_all_counts(alloc, names, &output.counts, &output.moves, &mut text)?;
     put_empty(alloc, output, &mut text)?;
     put_result(alloc, output, &mut text)?;
     Ok(text)

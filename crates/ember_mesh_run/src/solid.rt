@@ -1,6 +1,7 @@
 // The output of a Boolean.
 ghost use Rattle.std.specs.Prelude.{◌≡◌, ◌≤◌, ℕ, List, length, All, IfOk, IfErr};
 ghost use Rattle.std.specs.declared.option.Option.{Option};
+ghost use Rattle.ember_boolean.specs.Outputs.{HasFewDigits};
 ghost use Rattle.ember_expr.specs.Formula.{formula_of};
 ghost use Rattle.ember_grid.specs.Grids.{IsChoice};
 ghost use Rattle.ember_mesh_words.specs.Commands.{IsWithinLimits};
@@ -14,7 +15,7 @@ use crate::asked::{Asked, asked_by};
 use crate::reading::{mesh_files, read_contents};
 use crate::refusals::status_of;
 use crate::status::Status;
-use ember_boolean::{Output, stl_of};
+use ember_boolean::{Output, solid_file};
 use ember_io::Shelf;
 use ember_mesh_words::Request;
 use ember_model::OutOfMemory;
@@ -33,7 +34,8 @@ fn output_of_contents<C: Fn(&Query) -> Result<Answer, OutOfMemory>>(
     requires few { length names.now ≤ 64 }
     requires one_each { length contents.now ≡ length names.now }
     requires small { All (λ bytes. length bytes.items ≤ 268435456) contents.now }
-    requires choice { IsChoice asked.now.wanted }
+    requires choice { IsChoice asked.now.wanted.grid }
+    requires digits { HasFewDigits asked.now.wanted.format }
     requires executor { IsExecutor C.pre C.post executor.now }
     ensures output { IfOk result (λ output. (told : List ℕ → Option (List ℕ)) →
         AreContents told names.now contents.now →
@@ -43,7 +45,7 @@ fn output_of_contents<C: Fn(&Query) -> Result<Answer, OutOfMemory>>(
         IsFilesCause told names.now (formula_of asked.now.expr) asked.now.wanted status) }
 {
     let files = mesh_files(alloc, names, contents)?;
-    match stl_of(alloc, &files, &asked.expr, asked.wanted, executor) {
+    match solid_file(alloc, &files, &asked.expr, asked.wanted, executor) {
         Ok(output) => Ok(output),
         Err(fault) => Err(status_of(alloc, &files, fault)),
     }

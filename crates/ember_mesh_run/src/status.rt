@@ -5,9 +5,9 @@ ghost use Rattle.ember_mesh_run.specs.declared.status.Status.TheVariants.{OutOfM
 
 use ember_expr::ExprFault;
 use ember_format::Format;
+use ember_grid::Extent;
 use ember_mesh_words::Refusal;
 use ember_scene::Open;
-use ember_snap::Step;
 use ember_solid_mesh::SolidFault;
 use std::alloc::{AllocError, AllocFailed};
 
@@ -18,8 +18,6 @@ pub enum Status {
     Done,
     /// The words are refused.
     Words(Refusal),
-    /// The name of the output ends as a format that isn't written yet.
-    UnwrittenFormat,
     /// The value of `--step` is a decimal above 0, but no grid can have it as its step.
     StepOfNoGrid,
     /// The file can't be read.
@@ -44,9 +42,10 @@ pub enum Status {
     TooManyTriangles(u64),
     /// The result has 2^32 triangles or more, too many for an STL.
     TooManyWritten,
-    /// The meshes don't fit on a grid with the given step. This is the finest with which they do.
-    StepTooSmall(Step),
-    /// A corner of the result is too far from 0 for the numbers of an STL.
+    /// The meshes don't fit on a grid with the given step. They are so long, and this is the finest
+    /// step with which they fit.
+    StepTooSmall(Extent),
+    /// A corner of the result is too far from 0 for the numbers of the output's format.
     TooFar,
     OutOfMemory,
     /// No certified triangles were found for the result. It isn't proved that this never happens.
@@ -60,7 +59,7 @@ impl Status {
     {
         match self {
             Status::Done => 0,
-            Status::Words(_) | Status::UnwrittenFormat | Status::StepOfNoGrid => 2,
+            Status::Words(_) | Status::StepOfNoGrid => 2,
             Status::ReadFault(_) => 3,
             Status::WriteFault => 4,
             Status::FileRefused(_, _) | Status::NoTriangles => 5,

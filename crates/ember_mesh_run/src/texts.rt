@@ -1,17 +1,19 @@
 // Pieces of lines.
-ghost use Rattle.std.specs.Prelude.{◌≡◌, ◌++◌, ◌<◌, decimal, IfOk, OnOk};
+ghost use Rattle.std.specs.Prelude.{◌≡◌, ◌++◌, ◌<◌, ◌≤◌, ◌^◌, decimal, IfOk, OnOk};
 ghost use Rattle.std.specs.Fmt.{signed_decimal};
+ghost use Rattle.ember_moves.specs.Shown.{rounded_of};
 ghost use Rattle.ember_snap.specs.Steps.{IsStep};
 ghost use Rattle.ember_written.specs.Places.{place_of};
-ghost use Rattle.ember_mesh_run.specs.Lines.{corner_text, line, name_of, shown, step_text, wanted_text};
+ghost use Rattle.ember_mesh_run.specs.Lines.{corner_text, length_text, line, move_text, name_of, shown, size_text, step_text, still_text, wanted_text};
 
 use ember_certificate::SpacePoint;
-use ember_grid::Grid;
+use ember_grid::{Extent, Grid};
 use ember_mesh_words::WantedStep;
 use ember_model::{Axis, Corner, OutOfMemory};
+use ember_moves::Length;
 use ember_round::put_decimal;
 use ember_snap::Step;
-use ember_wide::Wide;
+use ember_wide::{Magnitude, Wide};
 use ember_words::Texts;
 use ember_written::{PlaceFault, put_place};
 use itoa::Buffer;
@@ -73,6 +75,48 @@ pub fn put_step(step: &Step, text: &mut Vec<u8>) -> Result<(), OutOfMemory>
 {
     let numerator = Wide::product(i128::from(step.numerator), 1);
     put_decimal(&numerator, u128::from(step.denominator), PLACES, text)
+}
+
+/// Appends how long a scene is, in the user's unit.
+pub fn put_length(extent: &Extent, text: &mut Vec<u8>) -> Result<(), OutOfMemory>
+    ensures { OnOk result (text.new.items ≡ text.old.items ++ length_text extent.now) }
+{
+    let size = Magnitude::product(extent.trillionths, 1);
+    let numerator = Wide {
+        negative: false,
+        size,
+    };
+    put_decimal(&numerator, 1_000_000_000_000, PLACES, text)
+}
+
+// Appends the size divided by 10 to the power of `places`.
+fn put_size(size: u128, places: u32, text: &mut Vec<u8>) -> Result<(), OutOfMemory>
+    requires size { size < 2 ^ 127 }
+    requires places { places ≤ 12 }
+    ensures { OnOk result (text.new.items ≡ text.old.items ++ size_text size places) }
+{
+    let unit = u128::from(10u64.pow(places));
+    let product = Magnitude::product(size, 1);
+    let numerator = Wide {
+        negative: false,
+        size: product,
+    };
+    put_decimal(&numerator, unit, places, text)
+}
+
+// What is said of a move of 0.
+fn still_text(size: u128) -> &'static [u8]
+    ensures { result.now ≡ still_text size }
+{
+    if size == 0 { b" (nothing moved)" } else { b"" }
+}
+
+/// Appends how far corners move at most, in the user's unit.
+pub fn put_move(moved: &Length, text: &mut Vec<u8>) -> Result<(), OutOfMemory>
+    ensures { OnOk result (text.new.items ≡ text.old.items ++ move_text (rounded_of moved.now)) }
+{
+    put_size(moved.size, moved.places, text)?;
+    text.extend_from_slice(still_text(moved.size))
 }
 
 // Appends where a point lies along an axis, in the user's unit.

@@ -13,6 +13,13 @@ v 5.0 5.0 5.0\nv 15.0 5.0 5.0\nv 15.0 15.0 5.0\nv 5.0 15.0 5.0\n\
 v 5.0 5.0 15.0\nv 15.0 5.0 15.0\nv 15.0 15.0 15.0\nv 5.0 15.0 15.0\n\
 f 1 4 3 2\nf 5 6 7 8\nf 1 2 6 5\nf 2 3 7 6\nf 3 4 8 7\nf 4 1 5 8\n";
 
+/// The box from 10 to 20, and along z from 0 to 10: it has an upright edge in common with the low
+/// one.
+pub const BESIDE: &[u8] = b"\
+v 10.0 10.0 0.0\nv 20.0 10.0 0.0\nv 20.0 20.0 0.0\nv 10.0 20.0 0.0\n\
+v 10.0 10.0 10.0\nv 20.0 10.0 10.0\nv 20.0 20.0 10.0\nv 10.0 20.0 10.0\n\
+f 1 4 3 2\nf 5 6 7 8\nf 1 2 6 5\nf 2 3 7 6\nf 3 4 8 7\nf 4 1 5 8\n";
+
 /// The low box without its last face.
 pub const OPEN: &[u8] = b"\
 v 0.0 0.0 0.0\nv 10.0 0.0 0.0\nv 10.0 10.0 0.0\nv 0.0 10.0 0.0\n\
@@ -29,6 +36,18 @@ f 2 3 4 1\nf 8 7 6 5\nf 5 6 2 1\nf 6 7 3 2\nf 7 8 4 3\nf 8 5 1 4\n";
 pub const RIGHT: &[u8] = b"\
 v 6.0 -1.0 -1.0\nv 20.0 -1.0 -1.0\nv 20.0 11.0 -1.0\nv 6.0 11.0 -1.0\n\
 v 6.0 -1.0 11.0\nv 20.0 -1.0 11.0\nv 20.0 11.0 11.0\nv 6.0 11.0 11.0\n\
+f 1 4 3 2\nf 5 6 7 8\nf 1 2 6 5\nf 2 3 7 6\nf 3 4 8 7\nf 4 1 5 8\n";
+
+/// A plate below the low box and the one beside it.
+pub const BELOW: &[u8] = b"\
+v 0.0 0.0 -10.0\nv 20.0 0.0 -10.0\nv 20.0 20.0 -10.0\nv 0.0 20.0 -10.0\n\
+v 0.0 0.0 0.0\nv 20.0 0.0 0.0\nv 20.0 20.0 0.0\nv 0.0 20.0 0.0\n\
+f 1 4 3 2\nf 5 6 7 8\nf 1 2 6 5\nf 2 3 7 6\nf 3 4 8 7\nf 4 1 5 8\n";
+
+/// A plate above them.
+pub const ABOVE: &[u8] = b"\
+v 0.0 0.0 10.0\nv 20.0 0.0 10.0\nv 20.0 20.0 10.0\nv 0.0 20.0 10.0\n\
+v 0.0 0.0 20.0\nv 20.0 0.0 20.0\nv 20.0 20.0 20.0\nv 0.0 20.0 20.0\n\
 f 1 4 3 2\nf 5 6 7 8\nf 1 2 6 5\nf 2 3 7 6\nf 3 4 8 7\nf 4 1 5 8\n";
 
 /// The low box, and the one from 4 to 14, in one file.

@@ -26,12 +26,17 @@ pub struct Given {
 }
 
 impl Given {
-    /// What out.stl holds.
-    pub fn bytes(&self) -> &[u8] {
-        match self.target.bytes_of("out.stl") {
+    /// What the name holds.
+    pub fn held(&self, name: &str) -> &[u8] {
+        match self.target.bytes_of(name) {
             Some(bytes) => bytes,
             None => &[],
         }
+    }
+
+    /// What out.stl holds.
+    pub fn bytes(&self) -> &[u8] {
+        self.held("out.stl")
     }
 }
 
@@ -124,8 +129,12 @@ fn give_by<R: Threads + Wait + Sync>(
 
 // Both give the same.
 fn are_same(given: &Given, other: &Given) -> bool {
+    for name in ["out.stl", "out.obj", "out.ply", "out.off"] {
+        if given.held(name) != other.held(name) {
+            return false;
+        }
+    }
     given.status.number() == other.status.number()
-        && given.bytes() == other.bytes()
         && given.out.bytes() == other.out.bytes()
         && given.err.bytes() == other.err.bytes()
 }

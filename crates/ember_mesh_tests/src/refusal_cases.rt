@@ -95,7 +95,8 @@ fn steps_that_are_refused(rt: HostRuntime) -> Result<(), Fail> {
         (
             "union --step 0.001 -o out.stl a.obj b.obj",
             10,
-            b"ember-mesh: --step 0.001: the scene needs a step of at least 0.003664\n",
+            b"ember-mesh: --step 0.001: the scene is 15 long, \
+            which needs a step of at least 0.003664\n",
         ),
         (
             "union --step 1e-13 -o out.stl a.obj b.obj",
@@ -106,7 +107,7 @@ fn steps_that_are_refused(rt: HostRuntime) -> Result<(), Fail> {
         (
             "union --step -1 -o out.stl a.obj b.obj",
             2,
-            b"ember-mesh: --step: not a number above 0\n",
+            b"ember-mesh: --step -1: not a number above 0\n",
         ),
     ];
     for (line, status, message) in rows {

@@ -40,11 +40,11 @@ fn refused_words_have_a_line(rt: HostRuntime) -> Result<(), Fail> {
         ),
         (
             "union -o out.glb a.stl",
-            b"ember-mesh: -o: the name must end in .stl, .obj, .ply or .off\n",
+            b"ember-mesh: -o out.glb: the name must end in .stl, .obj, .ply or .off\n",
         ),
         (
-            "union -o out.obj a.stl",
-            b"ember-mesh: -o out.obj: only .stl is written so far\n",
+            "union -o out.obj --digits 18 a.stl",
+            b"ember-mesh: --digits: not a number from 0 to 17; see ember-mesh help\n",
         ),
     ];
     for (line, message) in rows {

@@ -3,3 +3,4 @@ pub mod Arguments
 pub mod Values
 pub mod Commands
 pub mod Spelling
+pub mod Given

@@ -5,6 +5,7 @@ mod arguments;
 mod command;
 mod expressions;
 mod faults;
+mod given;
 mod names;
 mod numbers;
 mod reading;
@@ -13,4 +14,5 @@ mod values;
 
 pub use command::{Command, OutputFormat, Request, WantedStep};
 pub use faults::{Refusal, WordsFault};
+pub use given::{output_given, step_given};
 pub use reading::read_words;

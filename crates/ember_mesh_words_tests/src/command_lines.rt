@@ -1,15 +1,21 @@
 // Words of the second program's command line, and the commands that they give.
 use ember_mesh_words::{
-    Command, OutputFormat, Refusal, Request, WantedStep, WordsFault, read_words,
+    Command, OutputFormat, Refusal, Request, WantedStep, WordsFault, output_given, read_words,
+    step_given,
 };
 use std::alloc::Global;
 use std::test::Fail;
 
-fn read(alloc: Global, words: &[&str]) -> Result<Result<Command, WordsFault>, Fail> {
+fn strings(alloc: Global, words: &[&str]) -> Result<Vec<String>, Fail> {
     let mut strings = Vec::new(alloc);
     for word in words {
         strings.push(String::from_str(alloc, word)?)?;
     }
+    Ok(strings)
+}
+
+fn read(alloc: Global, words: &[&str]) -> Result<Result<Command, WordsFault>, Fail> {
+    let strings = strings(alloc, words)?;
     Ok(read_words(alloc, &strings))
 }
 
@@ -182,6 +188,27 @@ fn words_that_are_refused(rt: HostRuntime) -> Result<(), Fail> {
     ];
     for (words, want) in rows {
         assert_eq!(rt; refusal(rt.alloc(), words)?, Some(want));
+    }
+    Ok(())
+}
+
+#[test]
+fn values_that_are_refused_are_known(rt: HostRuntime) -> Result<(), Fail> {
+    let rows: [(&[&str], &str, &str); 5] = [
+        (&["union", "-o", "x.glb", "--step=1=2", "a"], "x.glb", "1=2"),
+        (
+            &["union", "--step", "1", "-ox", "a", "--step", "-1"],
+            "",
+            "",
+        ),
+        (&["union", "--step", "1", "a", "--step", "-1"], "", "-1"),
+        (&["union", "a"], "", ""),
+        (&[], "", ""),
+    ];
+    for (words, output, step) in rows {
+        let strings = strings(rt.alloc(), words)?;
+        assert_eq!(rt; output_given(rt.alloc(), &strings)?.as_str(), output);
+        assert_eq!(rt; step_given(rt.alloc(), &strings)?.as_str(), step);
     }
     Ok(())
 }

@@ -53,6 +53,23 @@ fn put_whole(whole: u128, out: &mut Vec<u8>) -> Result<(), AllocError>
     out.extend_from_slice(buffer.format(whole).as_bytes())
 }
 
+/// Appends `size / 10^places`, with a minus if it is negative. It has no zeros at the end, no bare
+/// point, and no sign if it is 0. There are at most 17 places. Its one error is out-of-memory.
+pub fn put_shifted(
+    negative: bool,
+    size: u128,
+    places: u32,
+    out: &mut Vec<u8>,
+) -> Result<(), AllocError>
+    requires { places ≤ 17 }
+    ensures { OnOk result (out.new.items ≡ out.old.items ++ decimal_text negative size places) }
+{
+    let unit = u128::from(10u64.pow(places));
+    put_sign(negative, size, out)?;
+    put_whole(size / unit, out)?;
+    put_fraction((size % unit) as u64, places, out)
+}
+
 /// Appends the decimal of at most `places` places that is nearest to `n / d`; of two equally near,
 /// the one whose last place is even. It has no zeros at the end, no bare point, and no sign if it
 /// is 0. There are at most 17 places; the denominator is from 1 to 2^127 - 1, and the fraction is
@@ -67,7 +84,5 @@ pub fn put_decimal(n: &Wide, d: u128, places: u32, out: &mut Vec<u8>) -> Result<
 {
     let unit = 10u64.pow(places);
     let size = nearest(&n.size.times(u128::from(unit)), d);
-    put_sign(n.negative, size, out)?;
-    put_whole(size / u128::from(unit), out)?;
-    put_fraction((size % u128::from(unit)) as u64, places, out)
+    put_shifted(n.negative, size, places, out)
 }

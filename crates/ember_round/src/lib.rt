@@ -4,5 +4,5 @@
 mod decimal;
 mod rounding;
 
-pub use decimal::put_decimal;
+pub use decimal::{put_decimal, put_shifted};
 pub use rounding::{divide, nearest};

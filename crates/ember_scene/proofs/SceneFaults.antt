@@ -26,13 +26,13 @@ fault_has (Err e) fault P h p = subst P (sym h) p
 -- a fault of the grid
 pub grid_fault_is : (ss : List Surface) (wanted : Wanted) (cause : GridFault) → IsGridFault ss wanted cause → IsSceneFault ss wanted (of_grid_fault cause)
 grid_fault_is ss wanted grid_fault.NoTriangles h = h
-grid_fault_is ss wanted (grid_fault.StepTooSmall finest) h = h
+grid_fault_is ss wanted (grid_fault.StepTooSmall extent) h = h
 grid_fault_is ss wanted grid_fault.OutOfMemory h = tt
 
 -- a fault of the surfaces on the grid
 pub fault_on_grid_is : (g : Grid) (ss : List Surface) (wanted : Wanted) (fault : SceneFault) → IsSceneGrid ss wanted g → IsFaultOn g ss fault → IsSceneFault ss wanted fault
 fault_on_grid_is g ss wanted scene_fault.NoTriangles grid h = absurd h
-fault_on_grid_is g ss wanted (scene_fault.StepTooSmall finest) grid h = absurd h
+fault_on_grid_is g ss wanted (scene_fault.StepTooSmall extent) grid h = absurd h
 fault_on_grid_is g ss wanted (scene_fault.Open o) grid h =
     (subst (IsSceneGrid ss wanted) (sym h.0) grid, subst (λ (k : Grid). IsFirstOpen k ss o) (sym h.0) h.1)
 fault_on_grid_is g ss wanted (scene_fault.TooManyTriangles n) grid h = (g, grid, h)

@@ -65,7 +65,7 @@ pub record AreTooMany (g : Grid) (surfaces : List Surface) (n : ℕ) : Type 0 wh
 -- why the surfaces are no scene on this grid; or out-of-memory
 abbrev pub IsFaultOn : Grid → List Surface → SceneFault → Type 0
 IsFaultOn g surfaces scene_fault.NoTriangles = ⊥
-IsFaultOn g surfaces (scene_fault.StepTooSmall finest) = ⊥
+IsFaultOn g surfaces (scene_fault.StepTooSmall extent) = ⊥
 IsFaultOn g surfaces (scene_fault.Open o) = (o.grid ≡ g) × IsFirstOpen g surfaces o
 IsFaultOn g surfaces (scene_fault.TooManyTriangles n) = AreTooMany g surfaces n
 IsFaultOn g surfaces scene_fault.OutOfMemory = Unit {0}
@@ -73,7 +73,7 @@ IsFaultOn g surfaces scene_fault.OutOfMemory = Unit {0}
 -- a fault of the grid as one of the scene
 abbrev pub of_grid_fault : GridFault → SceneFault
 of_grid_fault grid_fault.NoTriangles = scene_fault.NoTriangles
-of_grid_fault (grid_fault.StepTooSmall finest) = scene_fault.StepTooSmall finest
+of_grid_fault (grid_fault.StepTooSmall extent) = scene_fault.StepTooSmall extent
 of_grid_fault grid_fault.OutOfMemory = scene_fault.OutOfMemory
 
 -- a fault of the meshes together as one of the scene
@@ -89,8 +89,8 @@ pub record IsSceneGrid (surfaces : List Surface) (wanted : Wanted) (g : Grid) : 
 -- there is no grid as it is wanted; or a surface is open on it; or there are too many triangles; or out-of-memory
 abbrev pub IsSceneFault : List Surface → Wanted → SceneFault → Type 0
 IsSceneFault surfaces wanted scene_fault.NoTriangles = IsGridFault surfaces wanted grid_fault.NoTriangles
-IsSceneFault surfaces wanted (scene_fault.StepTooSmall finest) =
-    IsGridFault surfaces wanted (grid_fault.StepTooSmall finest)
+IsSceneFault surfaces wanted (scene_fault.StepTooSmall extent) =
+    IsGridFault surfaces wanted (grid_fault.StepTooSmall extent)
 IsSceneFault surfaces wanted (scene_fault.Open o) = IsSceneGrid surfaces wanted o.grid × IsFirstOpen o.grid surfaces o
 IsSceneFault surfaces wanted (scene_fault.TooManyTriangles n) =
     (g : Grid) × IsSceneGrid surfaces wanted g × AreTooMany g surfaces n

@@ -4,9 +4,8 @@ ghost use Rattle.ember_scene.specs.declared.fault.SceneFault.TheVariants.{OutOfM
 ghost use Rattle.ember_scene.specs.Faults.{of_grid_fault, of_join_fault};
 
 use ember_balance::Loose;
-use ember_grid::{Grid, GridFault};
+use ember_grid::{Extent, Grid, GridFault};
 use ember_mesh::JoinFault;
-use ember_snap::Step;
 use std::alloc::AllocError;
 use thiserror::Error;
 
@@ -31,10 +30,10 @@ pub struct Open {
 pub enum SceneFault {
     #[error("no triangles")]
     NoTriangles,
-    /// The surfaces don't fit on a grid with the given step. This one is the finest at which they
-    /// do.
+    /// The surfaces don't fit on a grid with the given step. They are so long, and the finest step
+    /// at which they fit is this one.
     #[error("the step is too small")]
-    StepTooSmall(Step),
+    StepTooSmall(Extent),
     /// This surface is the first that isn't closed on the grid.
     #[error("a surface is open")]
     Open(Open),
@@ -60,7 +59,7 @@ impl From<GridFault> for SceneFault {
     fn from(cause: GridFault) -> SceneFault {
         match cause {
             GridFault::NoTriangles => SceneFault::NoTriangles,
-            GridFault::StepTooSmall(finest) => SceneFault::StepTooSmall(finest),
+            GridFault::StepTooSmall(extent) => SceneFault::StepTooSmall(extent),
             GridFault::OutOfMemory => SceneFault::OutOfMemory,
         }
     }

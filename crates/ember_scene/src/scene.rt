@@ -5,6 +5,7 @@ ghost use Rattle.ember_snap.specs.Steps.{IsStep};
 ghost use Rattle.ember_model.specs.Meshes.{IsBalanced};
 ghost use Rattle.ember_grid.specs.Corners.{Lands};
 ghost use Rattle.ember_grid.specs.Grids.{IsWithinLimit, IsChoice, IsGrid};
+ghost use Rattle.ember_moves.specs.Shown.{AreMoves};
 ghost use Rattle.ember_scene.specs.Images.{meshes_on, images_of, counts_on};
 ghost use Rattle.ember_scene.specs.Faults.{has_few, IsFaultOn, IsSceneFault};
 
@@ -15,6 +16,7 @@ use crate::surface::{PlacedSurface, SurfaceFault, place_surface};
 use ember_grid::{Grid, Wanted, grid_of};
 use ember_mesh::{Closed, Parts, join};
 use ember_model::{OutOfMemory, Scene};
+use ember_moves::{Length, greatest_moves};
 use ember_surface::Surface;
 use std::alloc::Global;
 
@@ -26,6 +28,8 @@ pub struct Placed {
     pub scene: Scene,
     /// Those of each surface, in order.
     pub counts: Vec<Counts>,
+    /// The greatest move of a corner of each surface, in order.
+    pub moves: Vec<Length>,
 }
 
 // The meshes of surfaces, and the counts of each.
@@ -86,7 +90,7 @@ fn meshes_of(alloc: Global, surfaces: &[Surface], grid: &Grid) -> Result<Meshes,
 }
 
 /// The scene of the surfaces on the grid that is wanted for them, each a closed mesh, and what
-/// becomes of the triangles of each.
+/// becomes of the triangles of each, and how far its corners move.
 ///
 /// Each coordinate of a corner is below 10^15 in size, and a given step is in range. There are at
 /// most 64 surfaces. Of several faults the first of these is reported:
@@ -106,14 +110,17 @@ pub fn scene_of(alloc: Global, surfaces: &[Surface], wanted: Wanted) -> Result<P
     ensures tris { IfOk result (λ placed. placed.scene.tris ≡ images_of placed.grid surfaces.now) }
     ensures meshes { IfOk result (λ placed. placed.scene.meshes ≡ length surfaces.now) }
     ensures counts { IfOk result (λ placed. placed.counts.items ≡ map (counts_on placed.grid) surfaces.now) }
+    ensures moves { IfOk result (λ placed. AreMoves placed.grid surfaces.now placed.moves.items) }
     ensures fault { IfErr result (IsSceneFault surfaces.now wanted) }
 {
     let grid = grid_of(alloc, surfaces, wanted)?;
     let meshes = meshes_of(alloc, surfaces, &grid)?;
     let scene = join(alloc, Parts::of(meshes.parts))?;
+    let moves = greatest_moves(alloc, surfaces, &grid)?;
     Ok(Placed {
         grid,
         scene,
         counts: meshes.counts,
+        moves,
     })
 }

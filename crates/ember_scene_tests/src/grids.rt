@@ -5,7 +5,7 @@ ghost use Rattle.ember_grid.specs.Grids.{IsChoice, IsWithinLimit};
 ghost use Rattle.ember_snap.specs.Steps.{IsStep};
 
 use crate::texts::{FRACTIONS, LARGER, NARROW, THIN};
-use ember_grid::{Grid, GridFault, Snapped, Wanted, grid_of, snap_surface};
+use ember_grid::{Extent, Grid, GridFault, Snapped, Wanted, grid_of, snap_surface};
 use ember_model::Tri;
 use ember_snap::{Offset, Step};
 use ember_surface::{Surface, first_too_large};
@@ -18,6 +18,15 @@ use std::test::Fail;
 pub const THOUSANDTH: Step = Step {
     numerator: 1,
     denominator: 1000,
+};
+
+/// The larger tetrahedron is 9.0025 long, and fits on a grid with the step 0.002199.
+pub const LARGER_EXTENT: Extent = Extent {
+    trillionths: 9_002_500_000_000,
+    finest: Step {
+        numerator: 2199,
+        denominator: 1_000_000,
+    },
 };
 
 /// Each coordinate of a corner is below 10^15 in size.
@@ -46,8 +55,8 @@ pub fn surface_of(alloc: Global, bytes: &[u8]) -> Result<Surface<'_>, Fail>
     Ok(surface)
 }
 
-// The grid of a scene with one surface.
-fn grid_for(alloc: Global, surface: &Surface, wanted: Wanted) -> Result<Grid, GridFault>
+/// The grid of a scene with one surface.
+pub fn grid_for(alloc: Global, surface: &Surface, wanted: Wanted) -> Result<Grid, GridFault>
     requires within { IsWithinLimit surface.now }
     requires choice { IsChoice wanted }
     ensures step { IfOk result (λ grid. IsStep grid.step) }
@@ -139,14 +148,10 @@ fn fault_of(alloc: Global, bytes: &[u8]) -> Result<Option<GridFault>, Fail> {
 
 #[test]
 fn a_given_step_may_be_too_small(rt: HostRuntime) -> Result<(), Fail> {
-    let finest = Step {
-        numerator: 2199,
-        denominator: 1_000_000,
-    };
     assert_eq!(rt; fault_of(rt.alloc(), FRACTIONS)?, None);
     assert_eq!(rt;
         fault_of(rt.alloc(), LARGER)?,
-        Some(GridFault::StepTooSmall(finest))
+        Some(GridFault::StepTooSmall(LARGER_EXTENT))
     );
     Ok(())
 }

@@ -4,6 +4,8 @@
 #[cfg(test)]
 mod grids;
 #[cfg(test)]
+mod moves;
+#[cfg(test)]
 mod outputs;
 #[cfg(test)]
 mod placed;

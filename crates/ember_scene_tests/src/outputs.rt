@@ -1,22 +1,25 @@
-// The surfaces that mesh files hold; and the solids of mesh files as STL files, by the calling
-// thread alone and by two workers.
+// The surfaces that mesh files hold; and the solids of mesh files as STL files and as text, by the
+// calling thread alone and by two workers.
 ghost use Rattle.std.specs.Prelude.{IfOk, IsTrue, All};
 ghost use Rattle.ember_boolean.specs.Files.{IsSmall};
+ghost use Rattle.ember_boolean.specs.Outputs.{HasFewDigits};
 ghost use Rattle.ember_grid.specs.Grids.{IsChoice};
 ghost use Rattle.ember_query.specs.Queries.{IsAnswer, IsExecutor, IsQuery};
 
-use crate::grids::{THOUSANDTH, grid_with};
+use crate::grids::{LARGER_EXTENT, THOUSANDTH, grid_with};
 use crate::scenes::expression;
 use crate::texts::{CUBE, FRACTIONS, LARGER, OPEN, SHIFTED_CUBE, STL_TRIANGLE};
 use ember_balance::Loose;
-use ember_boolean::{BooleanFault, MeshFile, Output, stl_of, surfaces_in};
+use ember_boolean::{
+    BooleanFault, MeshFile, MeshFormat, Output, WantedFile, solid_file, surfaces_in,
+};
 use ember_file::FileFault;
 use ember_grid::Wanted;
+use ember_mesh_text::TextFormat;
 use ember_model::{Corner, OutOfMemory};
 use ember_number::floor_times;
 use ember_query::{Answer, Query, answer_alone, answer_by_workers};
 use ember_scene::{Counts, Open, SceneFault};
-use ember_snap::Step;
 use ember_stl_bytes::{FloatPoint, WrittenTriangle, stl_bytes};
 use ember_surface::{Facet, Surface, Vertex};
 use ember_wavefront::WavefrontFault;
@@ -183,10 +186,12 @@ fn outcome_by<'a, C: Fn(&Query) -> Result<Answer, OutOfMemory>>(
     alloc: Global,
     files: &[MeshFile<'a>],
     text: &[u8],
-    wanted: Wanted,
+    grid: Wanted,
+    format: MeshFormat,
     executor: &C,
 ) -> Result<Result<Output, BooleanFault<'a>>, Fail>
-    requires choice { IsChoice wanted }
+    requires choice { IsChoice grid }
+    requires digits { HasFewDigits format }
     requires executor { IsExecutor C.pre C.post executor.now }
 {
     if files.len() > 64 {
@@ -196,7 +201,8 @@ fn outcome_by<'a, C: Fn(&Query) -> Result<Answer, OutOfMemory>>(
         return Err(Fail::from("long file"));
     }
     let expr = expression(alloc, text)?;
-    Ok(stl_of(alloc, files, &expr, wanted, executor))
+    let wanted = WantedFile { grid, format };
+    Ok(solid_file(alloc, files, &expr, wanted, executor))
 }
 
 // What the calling thread alone makes.
@@ -204,15 +210,18 @@ fn outcome_alone<'a>(
     alloc: Global,
     files: &[MeshFile<'a>],
     text: &[u8],
-    wanted: Wanted,
+    grid: Wanted,
+    format: MeshFormat,
 ) -> Result<Result<Output, BooleanFault<'a>>, Fail>
-    requires { IsChoice wanted }
+    requires choice { IsChoice grid }
+    requires digits { HasFewDigits format }
 {
     outcome_by(
         alloc,
         files,
         text,
-        wanted,
+        grid,
+        format,
         &|query: &Query| -> Result<Answer, OutOfMemory>
             requires { IsQuery query.now }
             ensures { IfOk result (IsAnswer query.entry.now) }
@@ -220,7 +229,7 @@ fn outcome_alone<'a>(
     )
 }
 
-// What two workers make.
+// The STL that two workers make.
 fn outcome_of_two<'a, R: Threads + Wait + Sync>(
     rt: &R,
     alloc: Global,
@@ -235,6 +244,7 @@ fn outcome_of_two<'a, R: Threads + Wait + Sync>(
         files,
         text,
         wanted,
+        MeshFormat::Stl,
         &|query: &Query| -> Result<Answer, OutOfMemory>
             requires { IsQuery query.now }
             ensures { IfOk result (IsAnswer query.entry.now) }
@@ -251,13 +261,24 @@ fn all_kept(triangles: u64) -> Counts {
     }
 }
 
-// The files have these counts. The mesh has nine planes and 24 triangles, which are all in the STL.
-fn check(rt: &impl Abort, output: &Output, counts: &[Counts]) {
+// The files have these counts, and no corner moved. The mesh has nine planes and 24 triangles,
+// which are all in the file.
+fn check_numbers(rt: &impl Abort, output: &Output, counts: &[Counts]) {
     assert_eq!(rt; output.counts.as_slice(), counts);
+    assert_eq!(rt; output.moves.len(), counts.len());
+    for length in &output.moves {
+        assert_eq!(rt; length.size, 0);
+    }
     assert_eq!(rt; output.planes, 9);
     assert_eq!(rt; output.triangles, 24);
-    assert_eq!(rt; output.vanished, 0);
+    assert_eq!(rt; (output.vanished, output.shared), (0, 0));
+}
+
+// And the file is an STL.
+fn check(rt: &impl Abort, output: &Output, counts: &[Counts]) {
+    check_numbers(rt, output, counts);
     assert_eq!(rt; output.bytes.len(), 84 + 24 * 50);
+    assert!(rt; !output.is_manifold);
 }
 
 // A face of a cube that isn't cut has two triangles, one that is cut at a corner has four.
@@ -266,7 +287,7 @@ fn the_difference_of_two_cubes_is_read_again(rt: HostRuntime) -> Result<(), Fail
     let alloc = rt.alloc();
     let cube = cube_stl(alloc)?;
     let files = [stl(&cube), obj(SHIFTED_CUBE)];
-    let Ok(output) = outcome_alone(alloc, &files, b"m1&!m2", Wanted::Nice)? else {
+    let Ok(output) = outcome_alone(alloc, &files, b"m1&!m2", Wanted::Nice, MeshFormat::Stl)? else {
         return Err(Fail::from("refused"));
     };
     check(&rt, &output, &[all_kept(12), all_kept(12)]);
@@ -277,10 +298,45 @@ fn the_difference_of_two_cubes_is_read_again(rt: HostRuntime) -> Result<(), Fail
     assert_eq!(rt; by_two.bytes, output.bytes);
     assert_eq!(rt; by_two.report, output.report);
     let again = [stl(&output.bytes)];
-    let Ok(again) = outcome_alone(alloc, &again, b"m1", Wanted::Nice)? else {
+    let Ok(again) = outcome_alone(alloc, &again, b"m1", Wanted::Nice, MeshFormat::Stl)? else {
         return Err(Fail::from("not read again"));
     };
     check(&rt, &again, &[all_kept(24)]);
+    Ok(())
+}
+
+// It has 14 corners in all.
+#[test]
+fn the_difference_as_text_is_read_again(rt: HostRuntime) -> Result<(), Fail> {
+    let alloc = rt.alloc();
+    let cube = cube_stl(alloc)?;
+    let files = [stl(&cube), obj(SHIFTED_CUBE)];
+    let rows: [(TextFormat, &[u8]); 3] = [
+        (
+            TextFormat::Obj,
+            b"# ember-mesh: rounded from an exact result\nv ",
+        ),
+        (
+            TextFormat::Ply,
+            b"ply\nformat ascii 1.0\ncomment ember-mesh: rounded from an exact result\n\
+            element vertex 14\nproperty double x\n",
+        ),
+        (TextFormat::Off, b"OFF\n14 24 0\n"),
+    ];
+    for (format, beginning) in rows {
+        let text = MeshFormat::Text(format, None);
+        let Ok(output) = outcome_alone(alloc, &files, b"m1&!m2", Wanted::Nice, text)? else {
+            return Err(Fail::from("refused"));
+        };
+        check_numbers(&rt, &output, &[all_kept(12), all_kept(12)]);
+        assert!(rt; output.bytes.starts_with(beginning));
+        assert!(rt; output.is_manifold);
+        let again = [obj(&output.bytes)];
+        let Ok(again) = outcome_alone(alloc, &again, b"m1", Wanted::Nice, MeshFormat::Stl)? else {
+            return Err(Fail::from("not read again"));
+        };
+        check(&rt, &again, &[all_kept(24)]);
+    }
     Ok(())
 }
 
@@ -292,7 +348,7 @@ fn fault_of<'a>(
 ) -> Result<Option<BooleanFault<'a>>, Fail>
     requires { IsChoice wanted }
 {
-    Ok(outcome_alone(alloc, files, b"m1", wanted)?.err())
+    Ok(outcome_alone(alloc, files, b"m1", wanted, MeshFormat::Stl)?.err())
 }
 
 #[test]
@@ -342,13 +398,9 @@ fn files_are_read_before_they_are_a_scene(rt: HostRuntime) -> Result<(), Fail> {
 
 #[test]
 fn a_step_may_be_too_small_for_files(rt: HostRuntime) -> Result<(), Fail> {
-    let finest = Step {
-        numerator: 2199,
-        denominator: 1_000_000,
-    };
     assert_eq!(rt;
         fault_of(rt.alloc(), &[obj(LARGER)], Wanted::Given(THOUSANDTH))?,
-        Some(BooleanFault::Scene(SceneFault::StepTooSmall(finest)))
+        Some(BooleanFault::Scene(SceneFault::StepTooSmall(LARGER_EXTENT)))
     );
     assert_eq!(rt;
         fault_of(rt.alloc(), &[], Wanted::Nice)?,

@@ -2,13 +2,12 @@
 ghost use Rattle.std.specs.Prelude.{IsTrue, All};
 ghost use Rattle.ember_grid.specs.Grids.{IsChoice, IsWithinLimit};
 
-use crate::grids::{THOUSANDTH, grid_with, is_within_limit, surface_of};
+use crate::grids::{LARGER_EXTENT, THOUSANDTH, grid_with, is_within_limit, surface_of};
 use crate::texts::{FRACTIONS, LARGER, LAYERS, NARROW, OPEN, TETRA, THIN};
 use ember_balance::Loose;
 use ember_grid::Wanted;
 use ember_model::Corner;
 use ember_scene::{Counts, Open, Placed, SceneFault, scene_of};
-use ember_snap::Step;
 use ember_surface::Surface;
 use std::alloc::Global;
 use std::test::Fail;
@@ -78,6 +77,11 @@ fn three_surfaces_are_three_meshes(rt: HostRuntime) -> Result<(), Fail> {
     assert_eq!(rt; found.grid, grid_with(5, 1000, [0, 0, 0]));
     let want = [counts(4, 0, 0), counts(4, 2, 0), counts(4, 0, 1)];
     assert_eq!(rt; found.counts.as_slice(), want.as_slice());
+    let sizes = [250_000_000, 173_205_081, 141_421_357];
+    assert_eq!(rt; found.moves.len(), sizes.len());
+    for (length, size) in found.moves.iter().zip(sizes.iter()) {
+        assert_eq!(rt; (length.size, length.places), (*size, 11));
+    }
     assert_eq!(rt; found.scene.meshes, 3);
     let tris = found.scene.tris.items();
     let meshes = [1, 1, 1, 1, 2, 2, 3, 3, 3, 3];
@@ -135,13 +139,9 @@ fn layers_count_as_often_as_they_are_loose(rt: HostRuntime) -> Result<(), Fail> 
 #[test]
 fn a_given_step_may_be_too_small_for_all(rt: HostRuntime) -> Result<(), Fail> {
     let surfaces = surfaces_of(rt.alloc(), &[FRACTIONS, LARGER])?;
-    let finest = Step {
-        numerator: 2199,
-        denominator: 1_000_000,
-    };
     assert_eq!(rt;
         place(rt.alloc(), &surfaces, Wanted::Given(THOUSANDTH))?.err(),
-        Some(SceneFault::StepTooSmall(finest))
+        Some(SceneFault::StepTooSmall(LARGER_EXTENT))
     );
     Ok(())
 }

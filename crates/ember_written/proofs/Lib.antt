@@ -3,3 +3,10 @@ pub mod Ratios
 pub mod Points
 pub mod Proper
 pub mod Signs
+pub mod Kept
+pub mod StepPlaces
+pub mod Closings
+pub mod WrittenClosed
+pub mod DecimalsClosed
+pub mod Noted
+pub mod SharedCounts

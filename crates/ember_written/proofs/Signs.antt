@@ -1,10 +1,11 @@
 -- Decimals of wide numbers: the sign of 0 doesn't count.
-use Rattle.std.proofs.Common.{◌≡◌, ℕ, zero, suc, ◌+◌, ◌-◌, ◌*◌, ◌^◌, ◌<◌, ◌≤◌, Bool, true, false, if◌then◌else◌, pos, neg_ℤ, mul-le-mul, subst, refl, sym, ap, ◌∙◌, arith}
-use Rattle.std.specs.Prelude.{int_lt}
+use Rattle.std.proofs.Common.{◌≡◌, ◌⊎◌, inl, inr, ℕ, zero, suc, ◌+◌, ◌-◌, ◌*◌, ◌^◌, ◌<◌, ◌≤◌, Bool, true, false, if◌then◌else◌, pos, neg_ℤ, mul-le-mul, subst, refl, sym, ap, ◌∙◌, arith}
+use Rattle.std.specs.Prelude.{int_lt, unsigned_abs}
 use Rattle.std.proofs.lemmas.Nat.{pow-add}
+use Rattle.std.proofs.lemmas.Bool.{cases_lt}
 use Rattle.std.proofs.lemmas.Bool.Decides.{nat_tests}
 use borrow.Author.Differences.{ints}
-use Rattle.ember_number.specs.Fractions.{Fraction}
+use Rattle.ember_number.specs.Fractions.{Fraction, signed_whole}
 use Rattle.ember_wide.specs.Whole.{size_of, value_of}
 use Rattle.ember_wide.proofs.Determinants.{size_of_value}
 use Rattle.ember_round.specs.Nearest.{nearest_whole, rounds_up}
@@ -13,7 +14,7 @@ use Rattle.ember_round.proofs.Digits.{power_of_10_positive}
 use Rattle.ember_round.proofs.Halving.{rounded_down}
 use Rattle.ember_written.specs.declared.ratio.Ratio.{Ratio}
 use Rattle.ember_written.specs.Places.{fraction_of}
-use Rattle.ember_written.specs.Decimals.{decimal_of, IsTooLong}
+use Rattle.ember_written.specs.Decimals.{decimal_of, units_of, IsTooLong}
 
 -- 0 is nearest to 0
 nearest_zero : (d : ℕ) → 0 < d → nearest_whole 0 d ≡ 0
@@ -86,3 +87,49 @@ fits_with_places n d places p l k =
     let least : n ≤ d * 10 ^ 21 = omega (arith, l) in
     let most : n * 10 ^ places ≤ (d * 10 ^ 21) * 10 ^ 17 = mul-le-mul least (ten_powers places k) in
     omega (arith, p, most)
+
+-- ---- units of the last place
+same_zero : (b c : Bool) → signed_whole b 0 ≡ signed_whole c 0
+same_zero true true = refl
+same_zero true false = refl
+same_zero false true = refl
+same_zero false false = refl
+
+signed_by_value : (s : Bool) (k d places : ℕ) → 0 < d → signed_whole s (nearest_whole (k * 10 ^ places) d) ≡ signed_whole (int_lt (if s then neg_ℤ (pos k) else pos k) (pos 0)) (nearest_whole (k * 10 ^ places) d)
+signed_by_value false k d places l =
+    ap (λ (b : Bool). signed_whole b (nearest_whole (k * 10 ^ places) d)) (sym (not_below k))
+signed_by_value true zero d places l =
+    rw (zero_of d places 0 l refl) (same_zero true (int_lt (neg_ℤ (pos 0)) (pos 0)))
+signed_by_value true (suc k) d places l =
+    ap (λ (b : Bool). signed_whole b (nearest_whole (suc k * 10 ^ places) d)) (sym (below k))
+
+-- the units of a ratio are those of the fraction which it is
+pub units_of_ratio : (r : Ratio) (places : ℕ) → signed_whole r.numerator.negative (nearest_whole (size_of r.numerator.size * 10 ^ places) r.denominator) ≡ units_of places (fraction_of r)
+units_of_ratio r places =
+    signed_by_value r.numerator.negative (size_of r.numerator.size) r.denominator places r.positive
+    ∙ ap (λ (m : ℕ). signed_whole (int_lt (value_of r.numerator) (pos 0)) (nearest_whole (m * 10 ^ places) r.denominator)) (sym (size_of_value r.numerator))
+
+-- a number of units below 10^21 of the user's units is at most 10^38
+pub units_are_small : (m d n places : ℕ) → 0 < d → n < d * 10 ^ 21 → places ≤ 17 → 2 * m * d ≤ 2 * (n * 10 ^ places) + d → m ≤ 10 ^ 38
+units_are_small m d n places p l k near = by (cases_lt (10 ^ 38) m)
+  where
+    most : n * 10 ^ places ≤ (d * 10 ^ 21) * 10 ^ 17
+    most = mul-le-mul (omega (arith, l)) (ten_powers places k)
+
+    by : (10 ^ 38 < m) ⊎ (m ≤ 10 ^ 38) → m ≤ 10 ^ 38
+    by (inr small) = small
+    by (inl large) =
+        let next : 10 ^ 38 + 1 ≤ m = omega (arith, large) in
+        let same : d ≤ d = omega arith in
+        let more : (10 ^ 38 + 1) * d ≤ m * d = mul-le-mul next same in
+        absurd (omega (arith, p, most, more, near))
+
+-- the decimal of signed units
+text_of_units : (b : Bool) (size places : ℕ) → decimal_text (int_lt (signed_whole b size) (pos 0)) (unsigned_abs (signed_whole b size)) places ≡ decimal_text b size places
+text_of_units false size places = ap (λ (b : Bool). decimal_text b size places) (not_below size)
+text_of_units true zero places = unsigned_zero (int_lt (pos 0) (pos 0)) true places
+text_of_units true (suc k) places = ap (λ (b : Bool). decimal_text b (suc k) places) (below k)
+
+pub units_have_the_decimal : (places : ℕ) (v : Fraction) → decimal_text (int_lt (units_of places v) (pos 0)) (unsigned_abs (units_of places v)) places ≡ decimal_of v places
+units_have_the_decimal places v =
+    text_of_units (int_lt v.numerator (pos 0)) (nearest_whole (unsigned_abs v.numerator * 10 ^ places) v.denominator) places

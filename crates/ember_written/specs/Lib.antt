@@ -3,3 +3,7 @@ pub mod Floats
 pub mod Normals
 pub mod Triangles
 pub mod Decimals
+pub mod DecimalTriangles
+pub mod Digits
+pub mod Closed
+pub mod Shared

@@ -15,7 +15,7 @@ use ember_wide::Magnitude;
 use std::cmp::Ordering;
 
 // 10^21: a longer decimal isn't written. With 17 places it has fewer than 128 bits.
-const LIMIT: u128 = 1_000_000_000_000_000_000_000;
+pub(crate) const LIMIT: u128 = 1_000_000_000_000_000_000_000;
 
 /// Appends the decimal of at most `places` places that is nearest to where the corner lies along
 /// the axis, in the user's unit; of two equally near, the one whose last place is even. It has no

@@ -4,6 +4,7 @@ ghost use Rattle.std.specs.List.{list_all};
 ghost use Rattle.ember_snap.specs.Steps.{IsStep};
 ghost use Rattle.ember_written.specs.Floats.{IsFloatFault};
 ghost use Rattle.ember_written.specs.Triangles.{point_at, has_corners, triangle_at, same_point, vanishes, kept, AreWritten};
+ghost use Rattle.ember_written.specs.Closed.{AreRoundAndClosed, AreWrittenClosed};
 
 use crate::fault::PlaceFault;
 use crate::floats::float_points;
@@ -91,8 +92,8 @@ fn written_triangles(
 /// The triangles as a binary STL has them: each coordinate of a corner is the binary32 nearest to
 /// it in the user's unit, and triangles with two corners that became equal are left out. The others
 /// keep their order, also those without an area. A corner is rounded once, so that triangles that
-/// shared it still do. A normal is that of the triangle's plane with the length 1, or 0 if the
-/// table has no such plane.
+/// shared it still do. Closed triangles stay closed. A normal is that of the triangle's plane with
+/// the length 1, or 0 if the table has no such plane.
 ///
 /// `planes` and `corners` are the tables to which the triangles' numbers refer. Each corner of a
 /// triangle is in the table, as of certified triangles. A corner of the table that is 2^128 - 2^103
@@ -109,8 +110,10 @@ pub fn float_triangles(
     requires corners { list_all (has_corners (length corners.now)) triangles.now ≡ true }
     ensures written { IfOk result (λ ws.
         AreWritten step.now offset.now planes.now corners.now triangles.now ws.items) }
+    ensures closed { IfOk result (λ ws. AreRoundAndClosed triangles.now → AreWrittenClosed ws.items) }
     ensures fault { IfErr result (IsFloatFault step.now offset.now corners.now) }
 {
     let points = float_points(alloc, corners, step, offset)?;
-    Ok(written_triangles(alloc, planes, &points, triangles)?)
+    let written = written_triangles(alloc, planes, &points, triangles)?;
+    Ok(written)
 }

@@ -1,5 +1,7 @@
-//! Tests of corners in the user's unit, by calls from outside.
+//! Tests of corners in the user's unit, and of the texts of meshes, by calls from outside.
 #![tactic(auto)]
 
+#[cfg(test)]
+mod texts;
 #[cfg(test)]
 mod written;

@@ -1,9 +1,14 @@
 // Corners in the user's unit, as floats and as decimals.
+use crate::texts::point;
 use ember_certificate::{Segment, SpacePoint, Triangle};
 use ember_model::{Axis, Plane};
 use ember_snap::{Offset, Step};
 use ember_stl_bytes::{FloatPoint, WrittenTriangle};
-use ember_written::{PlaceFault, float_place, float_triangles, have_corners, put_place};
+use ember_vertices::IndexedTriangle;
+use ember_written::{
+    DecimalMesh, PlaceFault, decimal_mesh, decimal_place, float_place, float_triangles,
+    have_corners, put_place, shared_edges, shared_edges_by_index, written_places,
+};
 use std::test::Fail;
 
 const UNIT: Step = Step {
@@ -78,6 +83,7 @@ fn a_corner_too_far_out(rt: HostRuntime) {
     let long = put_place(&TENTHS, Axis::Z, &step, &offset, 6, &mut out);
     assert_eq!(rt; long, Err(PlaceFault::TooFar));
     assert!(rt; out.is_empty());
+    assert_eq!(rt; decimal_place(&TENTHS, Axis::Z, &step, &offset, 6), None);
 }
 
 // An edge of a triangle, on a line that doesn't matter.
@@ -165,4 +171,122 @@ fn two_triangles_of_four_vanish(rt: HostRuntime) -> Result<(), Fail> {
     ];
     assert_eq!(rt; written.as_slice(), want.as_slice());
     Ok(())
+}
+
+#[test]
+fn edges_of_more_than_two_triangles(rt: HostRuntime) -> Result<(), Fail> {
+    let [p, q, r] = [
+        float_point(0, 0, 0),
+        float_point(TEN, 0, 0),
+        float_point(0, TEN, 0),
+    ];
+    let front = WrittenTriangle {
+        normal: p,
+        a: p,
+        b: q,
+        c: r,
+    };
+    let back = WrittenTriangle {
+        normal: p,
+        a: q,
+        b: p,
+        c: r,
+    };
+    assert_eq!(rt; shared_edges(rt.alloc(), &[])?, 0);
+    assert_eq!(rt; shared_edges(rt.alloc(), &[front, back])?, 0);
+    assert_eq!(rt; shared_edges(rt.alloc(), &[front, back, back, front])?, 3);
+    Ok(())
+}
+
+#[test]
+fn edges_of_more_than_two_triangles_over_vertices(rt: HostRuntime) -> Result<(), Fail> {
+    let front = IndexedTriangle { a: 0, b: 1, c: 2 };
+    let back = IndexedTriangle { a: 1, b: 0, c: 2 };
+    assert_eq!(rt; shared_edges_by_index(rt.alloc(), &[])?, 0);
+    assert_eq!(rt; shared_edges_by_index(rt.alloc(), &[front, back])?, 0);
+    assert_eq!(rt;
+        shared_edges_by_index(rt.alloc(), &[front, back, back, front])?,
+        3
+    );
+    Ok(())
+}
+
+#[test]
+fn corners_in_units_of_a_place(rt: HostRuntime) {
+    let rows = [
+        (TENTHS, Axis::X, TENTH, AT_ZERO, 1, 5),
+        (TENTHS, Axis::X, TENTH, AT_ZERO, 0, 0),
+        (TENTHS, Axis::Y, TENTH, AT_ZERO, 0, 0),
+        (TENTHS, Axis::Y, TENTH, AT_ZERO, 2, -30),
+        (THIRDS, Axis::X, UNIT, UP, 6, 333_333),
+        (THIRDS, Axis::Y, UNIT, UP, 6, -666_667),
+        (THIRDS, Axis::Z, UNIT, UP, 1, 167_772_170),
+    ];
+    for (corner, axis, step, offset, places, units) in rows {
+        assert!(rt; 0 < step.numerator && step.numerator < 1 << 40);
+        assert!(rt; 0 < step.denominator && step.denominator < 1 << 40);
+        assert!(rt; places <= 17);
+        assert_eq!(rt;
+            decimal_place(&corner, axis, &step, &offset, places),
+            Some(units)
+        );
+    }
+}
+
+// A tetrahedron in tenths whose lowest and highest corner become equal without places.
+#[test]
+fn two_triangles_of_four_vanish_as_decimals(rt: HostRuntime) -> Result<(), Fail> {
+    let corners = [
+        corner(0, 0, 0),
+        corner(10, 0, 0),
+        corner(0, 10, 0),
+        corner(0, 0, 1),
+    ];
+    let triangles = [
+        triangle(0, 0, 2, 1),
+        triangle(1, 0, 1, 3),
+        triangle(2, 0, 3, 2),
+        triangle(3, 1, 2, 3),
+    ];
+    assert!(rt; have_corners(&triangles, corners.len()));
+    let DecimalMesh { mesh, planes } = decimal_mesh(
+        rt.alloc(),
+        &corners,
+        &triangles,
+        &TENTH,
+        &AT_ZERO,
+        0,
+    )?;
+    let vertices = [point(0, 0, 0), point(0, 1, 0), point(1, 0, 0)];
+    let written = [
+        IndexedTriangle { a: 0, b: 1, c: 2 },
+        IndexedTriangle { a: 2, b: 1, c: 0 },
+    ];
+    assert_eq!(rt; mesh.vertices(), vertices.as_slice());
+    assert_eq!(rt; mesh.triangles(), written.as_slice());
+    assert_eq!(rt; planes.as_slice(), [0, 3].as_slice());
+    Ok(())
+}
+
+#[test]
+fn places_of_steps(rt: HostRuntime) {
+    let rows = [
+        (1, 1, 6),
+        (5, 10, 7),
+        (2, 100, 8),
+        (1000, 100_000, 8),
+        (9770, 1_000_000, 11),
+        (1, 3, 17),
+        (1, 1_000_000_000_000, 17),
+    ];
+    for (numerator, denominator, places) in rows {
+        let step = Step {
+            numerator,
+            denominator,
+        };
+        assert!(rt; 0 < step.numerator && step.numerator < 1 << 40);
+        assert!(rt; 0 < step.denominator && step.denominator < 1 << 40);
+        assert_eq!(rt; written_places(None, &step), places);
+        assert_eq!(rt; written_places(Some(3), &step), 3);
+    }
 }

@@ -31,4 +31,4 @@ pub returns-clause-placed : goal.returns-clause-placed
 returns-clause-placed c =
     let read = subst (AreReadings c.args.files.now) (sym c.deref.ensures.value) c.in_ok-surfaces.ensures.readings in
     let is = c.in_ok-placed.ensures in
-    files_are_placed c.args.files.now c.args.wanted c.deref.result.now c.in_ok-placed.placed read is.step is.grid is.tris is.meshes is.counts
+    files_are_placed c.args.files.now c.args.wanted c.deref.result.now c.in_ok-placed.placed read is.step is.grid is.tris is.meshes is.counts is.moves

@@ -1,5 +1,6 @@
 use Rattle.std.proofs.Common.{List, length, ◌<◌, ℕ, ◌++◌, ap, ◌∙◌, arith}
 use Rattle.std.proofs.lemmas.Bool.Decides.{nat_tests}
+use Rattle.ember_moves.specs.Shown.{rounded_of}
 use Rattle.ember_mesh_run.specs.Reports.{counts_line}
 use Rattle.ember_mesh_run.proofs.CountLines.{one_line_more}
 use Rattle.ember_mesh_run.proofs.report.put_all_counts.Goals as goal
@@ -9,8 +10,9 @@ loop-name-preserved c =
     let old = c.loop-name in
     let look = c.in-Some.ensures.lookup in
     let there : old.file < length c.args.counts.now = grind (arith, nat_tests, look.0) in
-    let said = ap (λ (name : List ℕ). old.text.items ++ counts_line name c.in-Some.counts.now) (c.as_bytes.ensures.value ∙ c.as_str.ensures) in
+    let moved = rounded_of c.move_at-moved.result in
+    let said = ap (λ (name : List ℕ). old.text.items ++ counts_line name c.in-Some.counts.now moved) (c.as_bytes.ensures.value ∙ c.as_str.ensures) in
     record {
       file = omega (arith, old.invariant.file);
-      text = one_line_more c.args.names.now c.args.counts.now old.name-index old.file c.name-item.result c.in-Some.counts.now _ old.text.items c.put_counts.new.text.items c.loop-name-test.true c.name-item.is there look.1 old.invariant.text (c.in_ok-put_counts.ensures ∙ said);
+      text = one_line_more c.args.names.now c.args.counts.now c.args.moves.now old.name-index old.file c.name-item.result c.in-Some.counts.now moved _ old.text.items c.put_counts.new.text.items c.loop-name-test.true c.name-item.is there look.1 c.move_at-moved.ensures old.invariant.text (c.in_ok-put_counts.ensures ∙ said);
     }

@@ -10,14 +10,14 @@ use Rattle.ember_mesh_run.proofs.FileStatuses.{faulty_file_is_there, status_caus
 use Rattle.ember_mesh_run.proofs.ToldFiles.{all_names, files_are_of_contents, files_are_small, files_are_told}
 use Rattle.ember_mesh_run.proofs.solid.output_of_contents.Goals as goal
 
-pub stl_of-requires-clause-few : goal.stl_of-requires-clause-few
-stl_of-requires-clause-few g c =
+pub solid_file-requires-clause-few : goal.solid_file-requires-clause-few
+solid_file-requires-clause-few g c =
     let many = files_are_of_contents c.in_ok-files.files.items c.args.contents.now c.in_ok-files.ensures.bytes in
     let same = ap length c.deref.ensures.value in
     omega (arith, many, same, c.requires.few, c.requires.one_each)
 
-pub stl_of-requires-clause-sizes : goal.stl_of-requires-clause-sizes
-stl_of-requires-clause-sizes g c =
+pub solid_file-requires-clause-sizes : goal.solid_file-requires-clause-sizes
+solid_file-requires-clause-sizes g c =
     subst (All IsSmall) (sym c.deref.ensures.value) (files_are_small c.in_ok-files.files.items c.args.contents.now c.in_ok-files.ensures.bytes c.requires.small)
 
 pub status_of-requires-clause-few : goal.status_of-requires-clause-few

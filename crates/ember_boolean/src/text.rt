@@ -1,0 +1,150 @@
+// The OBJ, PLY or OFF of a mesh.
+ghost use Rattle.std.specs.Prelude.{◌≡◌, ◌≤◌, true, false, List, All, IfOk, IfErr, IfSome};
+ghost use Rattle.ember_certificate.specs.Certificate.{IsProper};
+ghost use Rattle.ember_snap.specs.Steps.{IsStep};
+ghost use Rattle.ember_vertices.specs.declared.point.DecimalTriangle.{DecimalTriangle};
+ghost use Rattle.ember_manifold.specs.Cuts.{AreCutOf};
+ghost use Rattle.ember_manifold.specs.Paired.{IsManifold};
+ghost use Rattle.ember_manifold.specs.Splits.{AreSplitOf};
+ghost use Rattle.ember_vertices.specs.Vertices.{IsMeshOf};
+ghost use Rattle.ember_boolean.specs.declared.wanted.MeshFormat.TheVariants.{Text};
+ghost use Rattle.ember_boolean.specs.Outputs.{over_vertices, IsText, IsTextOver};
+ghost use Rattle.ember_boolean.specs.Faults.{IsWritingFault};
+
+use crate::fault::BooleanFault;
+use crate::writing::Output;
+use ember_grid::Grid;
+use ember_manifold::{CheckedSplit, cut_pinched, points_of, split_vertices};
+use ember_mesh_text::{TextFormat, mesh_text};
+use ember_model::Plane;
+use ember_moves::Length;
+use ember_scene::Counts;
+use ember_solid_mesh::SolidMesh;
+use ember_vertices::IndexedMesh;
+use ember_written::{DecimalMesh, decimal_mesh, shared_edges_by_index, written_places};
+use std::alloc::{AllocError, Global};
+
+// A text, and whether each of its edges has two triangles.
+#[derive(Drop)]
+struct MeshText {
+    bytes: Vec<u8>,
+    is_manifold: bool,
+}
+
+// The text of a mesh, over vertices of which some are doubled.
+fn text_over(
+    alloc: Global,
+    format: TextFormat,
+    mesh: &IndexedMesh,
+    split: &CheckedSplit,
+    places: u32,
+) -> Result<MeshText, AllocError>
+    requires { places ≤ 17 }
+    ensures { (ts cut : List DecimalTriangle) → AreCutOf ts cut → IsMeshOf cut mesh.now →
+        AreSplitOf split.now.mesh (over_vertices cut) →
+        (split.now.is_manifold ≡ true → IsManifold split.now.mesh.triangles.items) →
+        (split.now.is_manifold ≡ false → cut ≡ ts) →
+        IfOk result (λ text. IsTextOver format places ts text.bytes.items text.is_manifold) }
+{
+    let vertices = points_of(alloc, mesh.vertices(), &split.mesh.origins)?;
+    let bytes = mesh_text(alloc, format, &vertices, &split.mesh.triangles, places)?;
+    Ok(MeshText {
+        bytes,
+        is_manifold: split.is_manifold,
+    })
+}
+
+// The text of a rounded mesh, with vertices that are doubled where parts only touch. If an edge
+// still has more than two triangles, triangles are cut before; if that is no help, they stay whole.
+fn split_text(
+    alloc: Global,
+    format: TextFormat,
+    planes: &[Plane],
+    written: &DecimalMesh,
+    places: u32,
+) -> Result<MeshText, AllocError>
+    requires { places ≤ 17 }
+    ensures { (ts : List DecimalTriangle) → IsMeshOf ts written.now.mesh →
+        IfOk result (λ text. IsTextOver format places ts text.bytes.items text.is_manifold) }
+{
+    let mesh = &written.mesh;
+    let split = split_vertices(
+        alloc,
+        planes,
+        &written.planes,
+        mesh.vertices(),
+        mesh.triangles(),
+    )?;
+    if split.is_manifold {
+        return text_over(alloc, format, mesh, &split, places);
+    }
+    let cut = cut_pinched(alloc, mesh, &written.planes, &split.mesh)?;
+    let again = split_vertices(
+        alloc,
+        planes,
+        &cut.planes,
+        cut.mesh.vertices(),
+        cut.mesh.triangles(),
+    )?;
+    if again.is_manifold {
+        return text_over(alloc, format, &cut.mesh, &again, places);
+    }
+    text_over(alloc, format, mesh, &split, places)
+}
+
+// The text of a mesh on a grid. The mesh isn't kept while its bytes are made.
+pub(crate) fn text_output<'a>(
+    alloc: Global,
+    mesh: SolidMesh,
+    grid: Grid,
+    counts: Vec<Counts>,
+    moves: Vec<Length>,
+    format: TextFormat,
+    digits: Option<u32>,
+) -> Result<Output, BooleanFault<'a>>
+    requires step { IsStep grid.step }
+    requires proper { All (IsProper mesh.planes.items mesh.corners.items) mesh.triangles.items }
+    requires digits { IfSome digits (λ n. n ≤ 17) }
+    ensures grid { IfOk result (λ out. out.grid ≡ grid) }
+    ensures counts { IfOk result (λ out. out.counts.items ≡ counts.items) }
+    ensures moves { IfOk result (λ out. out.moves.items ≡ moves.items) }
+    ensures report { IfOk result (λ out. out.report ≡ mesh.report) }
+    ensures text { IfOk result (IsText format digits grid mesh) }
+    ensures fault { IfErr result (IsWritingFault (Text format digits) grid mesh) }
+{
+    let SolidMesh {
+        planes,
+        corners,
+        triangles,
+        report,
+    } = mesh;
+    let places = written_places(digits, &grid.step);
+    let written = decimal_mesh(
+        alloc,
+        &corners,
+        &triangles,
+        &grid.step,
+        &grid.offset,
+        places,
+    )?;
+    let plane_count = planes.len() as u64;
+    let triangle_count = triangles.len() as u64;
+    let faces = written.mesh.triangles();
+    let vanished = triangle_count - faces.len() as u64;
+    drop(corners);
+    drop(triangles);
+    let shared = shared_edges_by_index(alloc, faces)?;
+    let MeshText { bytes, is_manifold } = split_text(alloc, format, &planes, &written, places)?;
+    Ok(Output {
+        bytes,
+        grid,
+        counts,
+        moves,
+        planes: plane_count,
+        triangles: triangle_count,
+        vanished,
+        shared,
+        is_manifold,
+        report,
+    })
+}

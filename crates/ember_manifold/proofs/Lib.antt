@@ -1,0 +1,3 @@
+pub mod EdgeLists
+pub mod Splits
+pub mod Cuts

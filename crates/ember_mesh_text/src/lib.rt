@@ -1,0 +1,12 @@
+//! Writes vertices and triangles as OBJ, PLY and OFF.
+#![tactic(auto)]
+
+mod format;
+mod lines;
+mod obj;
+mod off;
+mod ply;
+mod whole;
+
+pub use format::TextFormat;
+pub use whole::mesh_text;

@@ -1,0 +1,61 @@
+// The greatest move of the corners of a surface.
+ghost use Rattle.std.specs.Prelude.{◌≡◌, All, IfOk};
+ghost use Rattle.ember_snap.specs.Steps.{IsStep};
+ghost use Rattle.ember_grid.specs.Corners.{Lands};
+ghost use Rattle.ember_moves.specs.Moves.{IsFineness};
+ghost use Rattle.ember_moves.specs.Greatest.{greatest_square};
+ghost use Rattle.ember_moves.specs.Shown.{rounded_of, greatest_move, AreMoves};
+
+use crate::fineness::fineness_of;
+use crate::length::Length;
+use crate::shown::length_of;
+use crate::squares::facet_square;
+use ember_grid::Grid;
+use ember_surface::Surface;
+use std::alloc::{AllocError, Global};
+
+// The square of the greatest move of a corner of the surface's triangles to the grid, where each
+// axis is rounded up to whole ticks.
+fn greatest_square(surface: &Surface, grid: &Grid, fineness: u64) -> u128
+    requires step { IsStep grid.now.step }
+    requires lands { Lands grid.now surface.now }
+    requires fineness { IsFineness grid.now.step fineness }
+    ensures { result ≡ greatest_square grid.now.step fineness surface.now.vertices.items surface.now.facets.items }
+{
+    let mut greatest = 0u128;
+    for facet in &surface.facets {
+        greatest = greatest.max(facet_square(&surface.vertices, facet, grid, fineness));
+    }
+    greatest
+}
+
+/// How far a corner of the surface's triangles moves to the grid at most: a length that isn't below
+/// the true one, with nine digits and at most 12 places. It is 0 if no corner moves.
+///
+/// All corners of triangles are on the grid, as [`grid_of`](ember_grid::grid_of) gives it.
+pub fn greatest_move(surface: &Surface, grid: &Grid) -> Length
+    requires step { IsStep grid.now.step }
+    requires lands { Lands grid.now surface.now }
+    ensures { rounded_of result ≡ greatest_move grid.now surface.now }
+{
+    let fineness = fineness_of(&grid.step);
+    let square = greatest_square(surface, grid, fineness);
+    length_of(square, &grid.step, fineness)
+}
+
+/// The greatest move of each surface, in order.
+pub fn greatest_moves(
+    alloc: Global,
+    surfaces: &[Surface],
+    grid: &Grid,
+) -> Result<Vec<Length>, AllocError>
+    requires step { IsStep grid.now.step }
+    requires lands { All (Lands grid.now) surfaces.now }
+    ensures { IfOk result (λ moves. AreMoves grid.now surfaces.now moves.items) }
+{
+    let mut moves = Vec::with_capacity(alloc, surfaces.len())?;
+    for surface in surfaces {
+        moves.push(greatest_move(surface, grid))?;
+    }
+    Ok(moves)
+}
