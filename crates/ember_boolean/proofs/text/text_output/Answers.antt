@@ -41,7 +41,7 @@ returns-clause-text c =
     let same = ap length c.deref-2.ensures.value in
     let as_many = as_many_decimals places _ g.step g.offset m.corners.items corners m.triangles.items triangles c.written_places-places.ensures.value c.deref.ensures.value c.deref-2.ensures.value in
     record {
-      bytes = text_of_mesh c.args.format places _ g.step g.offset m.corners.items corners m.triangles.items triangles c.in_ok-bytes.bytes.items c.in_ok-bytes.is_manifold c.written_places-places.ensures.value c.deref.ensures.value c.deref-2.ensures.value (c.in_ok-bytes.ensures ts is);
+      bytes = text_of_mesh c.args.format places _ g.step g.offset m.corners.items corners m.triangles.items triangles c.in_ok-bytes.field-0.bytes.items c.in_ok-bytes.field-0.is_manifold c.written_places-places.ensures.value c.deref.ensures.value c.deref-2.ensures.value (c.in_ok-bytes.ensures ts is);
       planes = omega arith;
       triangles = omega arith;
       vanished = omega (arith, fewer, shown, same, as_many);
