@@ -48,11 +48,14 @@ size_fits w size places small same =
     let all : (size_of w.size + 2) * power ≤ 2 ^ 128 * power = mul-le-mul more (omega arith) in
     omega (arith, all, some)
 
-pub power_is_small : (places : ℕ) → places ≤ 12 → 10 ^ places < 2 ^ 127
-power_is_small places few =
+power_divides_ratio : (places : ℕ) → places ≤ 12 → 10 ^ places < 2 ^ 115
+power_divides_ratio places few =
     let most : 10 ^ places ≤ 10 ^ 12 = pow-le-pow_right {n = 10} (omega arith) {i = places} {j = 12} few in omega (arith, most)
+
+pub power_is_small : (places : ℕ) → places ≤ 12 → 10 ^ places < 2 ^ 127
+power_is_small places few = let least = power_divides_ratio places few in omega (arith, least)
 
 -- and its decimal is that of the size
 pub size_shown : (w : Wide) (size places : ℕ) → places ≤ 12 → value_of w ≡ pos size → decimal_text w.negative (nearest_whole (size_of w.size * 10 ^ places) (10 ^ places)) places ≡ size_text size places
 size_shown w size places few value =
-    decimal_of_ratio (record { numerator = w; denominator = 10 ^ places; positive = power_of_10_positive places; small = power_is_small places few }) (over (10 ^ places) (pos size)) (ap (over (10 ^ places)) value) places
+    decimal_of_ratio (record { numerator = w; denominator = 10 ^ places; positive = power_of_10_positive places; small = power_divides_ratio places few }) (over (10 ^ places) (pos size)) (ap (over (10 ^ places)) value) places

@@ -66,10 +66,10 @@ fn put_counts(
 fn move_at(moves: &[Length], index: usize) -> Length
     ensures { rounded_of result ≡ first_move (drop index moves.now) }
 {
-    match moves.get(index) {
-        Some(moved) => *moved,
-        None => Length { size: 0, places: 0 },
-    }
+    let Some(moved) = moves.get(index) else {
+        return Length { size: 0, places: 0 };
+    };
+    *moved
 }
 
 // Appends the line of each file.
