@@ -132,7 +132,7 @@ shared_of_mesh places many s o corners cs triangles ts shown count a b d e h =
 -- the triangles of a solid's mesh are closed before they are rounded
 mesh_is_closed : (tris : List Tri) (formula : Formula) (mesh : SolidMesh) → IsSolidMesh tris formula mesh → AreRoundAndClosed mesh.triangles.items
 mesh_is_closed tris formula mesh solid =
-    certified_are_closed mesh.planes.items mesh.corners.items solid.tables.segments.items mesh.triangles.items solid.cut.certified
+    certified_are_closed mesh.planes.items solid.tables.lines.items mesh.corners.items solid.tables.segments.items mesh.triangles.items solid.cut.certified
 
 -- and so are those of its STL
 stl_is_closed : (grid : Grid) (mesh : SolidMesh) (out : Output) → AreRoundAndClosed mesh.triangles.items → IsStl grid mesh out → IsClosedStl grid mesh out
