@@ -2,7 +2,7 @@ use Rattle.std.proofs.Common.{◌∙◌, ap, ◌+ℤ◌, ◌-ℤ◌}
 use mir.Syntax.{w128}
 use Rattle.ember_algebra.specs.Sign.{sgn}
 use Rattle.ember_algebra.proofs.Exact.{Code, stored, kept, narrow, ◌⊠◌, ◌⊞◌, ◌⊟◌, ◌&◌, done, exact, no_overflow}
-use Rattle.ember_point.proofs.narrow.narrow_side.Goals as goal
+use Rattle.ember_point.proofs.narrow.small_side.Goals as goal
 
 abbrev xy : Code
 xy = stored w128 (kept 0 ⊞ kept 1)

@@ -1,7 +1,7 @@
 use Rattle.std.proofs.Common.{List, [], ◌∷◌, ℕ}
 use mir.Syntax.{w32, w64}
 use Rattle.ember_algebra.proofs.Exact.{Code, input, stored, narrow, ◌⊠◌, ◌⊟◌, Inputs, ◌&◌, done, exact, bounded, no_overflow}
-use Rattle.ember_trace.proofs.edge_lines.line_through.Goals as goal
+use Rattle.ember_poly.proofs.edge_planes.line_through.Goals as goal
 
 abbrev place : ℕ → Code
 place i = stored w64 (stored w32 (input i))

@@ -1,7 +1,7 @@
 use Rattle.std.proofs.Common.{ap, ◌∙◌}
 use Rattle.ember_algebra.specs.Sign.{sgn}
 use Rattle.ember_algebra.proofs.Exact.{Code, input, kept, ◌⊠◌, ◌⊟◌, ◌&◌, done, exact}
-use Rattle.ember_trace.proofs.edge_lines.side_of_line.Goals as goal
+use Rattle.ember_trace.proofs.edge_lines.narrow_side_of_line.Goals as goal
 
 -- the numbers are those of the line, each before the one of the point
 abbrev code : Code

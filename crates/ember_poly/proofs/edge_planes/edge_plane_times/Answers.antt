@@ -7,7 +7,7 @@ use Rattle.ember_algebra.proofs.Ring.{◌⊕◌, ◌⊖◌, ◌⊗◌, ◌≈◌
 use Rattle.ember_model.specs.declared.point.Corner.{Corner}
 use Rattle.ember_model.specs.declared.point.Axis.TheVariants.{X, Y, Z}
 use Rattle.ember_model.specs.Planes.{unit, times_plane, edge_through}
-use Rattle.ember_trace.proofs.edge_lines.edge_plane_times.Goals as goal
+use Rattle.ember_poly.proofs.edge_planes.edge_plane_times.Goals as goal
 
 abbrev less : Code
 less = number (pos 0) ⊟ narrow 0

@@ -5,7 +5,7 @@ use Rattle.ember_algebra.proofs.Exact.{Code, stored, kept, wide, ◌⊠◌, ◌�
 use Rattle.ember_model.specs.declared.plane.Plane.{Plane}
 use Rattle.ember_model.specs.declared.point.Spot.{Spot}
 use Rattle.ember_model.specs.Valid.{IsValidPlane, IsValidMeet}
-use Rattle.ember_point.proofs.plane_side.side.Goals as goal
+use Rattle.ember_point.proofs.plane_side.wide_side.Goals as goal
 
 abbrev bounds : List ℕ
 bounds =
