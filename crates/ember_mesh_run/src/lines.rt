@@ -2,7 +2,7 @@
 ghost use Rattle.std.specs.Prelude.{◌≡◌, ◌++◌, ◌+◌, ◌<◌, codes, decimal, map, IfOk, OnOk, string_bytes};
 ghost use Rattle.ember_mesh_words.specs.Given.{output_given, step_given};
 ghost use Rattle.ember_snap.specs.Steps.{IsStep};
-ghost use Rattle.ember_mesh_run.specs.Lines.{IsShown, expr_text, file_text, length_text, line, noun_of, open_text, place_text, plane_without, refusal_text, solid_text, step_text, too_far_text, why_of, word_text, word_at};
+ghost use Rattle.ember_mesh_run.specs.Lines.{IsShown, expr_text, file_text, length_text, line, noun_of, open_text, place_text, plane_without, reading_why, refusal_text, solid_text, step_text, too_far_text, why_of, word_text, word_at};
 
 use crate::status::Status;
 use crate::texts::{line, name_among, put_corner, put_count, put_length, put_step, wanted_text};
@@ -265,6 +265,40 @@ fn too_far_text(format: OutputFormat) -> &'static [u8]
         OutputFormat::Stl => TOO_FAR_FOR_STL,
         OutputFormat::Obj | OutputFormat::Ply | OutputFormat::Off => TOO_FAR_FOR_DECIMALS,
     }
+}
+
+// Appends why not all files are read.
+fn put_reading_why(files: &Texts, status: &Status, text: &mut Vec<u8>) -> Result<(), OutOfMemory>
+    ensures { OnOk result (text.new.items ≡ text.old.items ++ reading_why files.now status.now) }
+{
+    match status {
+        Status::ReadFault(number) => put_file(files, *number, b"cannot be read", text),
+        Status::FileRefused(number, reason) => put_file(files, *number, reason.as_bytes(), text),
+        Status::LongFile(number) => put_file(files, *number, LONG_FILE, text),
+        Status::OutOfMemory => text.extend_from_slice(b"out of memory"),
+        Status::Done
+        | Status::Words(_)
+        | Status::StepOfNoGrid
+        | Status::WriteFault
+        | Status::NoTriangles
+        | Status::NotClosed(_, _)
+        | Status::ExprRefused(_)
+        | Status::Unbounded
+        | Status::TooManyTriangles(_)
+        | Status::TooManyWritten
+        | Status::StepTooSmall(_)
+        | Status::TooFar
+        | Status::Uncertified(_) => Ok(()),
+    }
+}
+
+/// The line of files that aren't all read.
+pub fn reading_line(alloc: Global, files: &Texts, status: &Status) -> Result<Vec<u8>, OutOfMemory>
+    ensures { IfOk result (λ text. text.items ≡ line (reading_why files.now status.now)) }
+{
+    let mut text = Vec::new(alloc);
+    put_reading_why(files, status, &mut text)?;
+    line(alloc, &text)
 }
 
 // Appends why a request isn't met.
