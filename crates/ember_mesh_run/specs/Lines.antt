@@ -124,7 +124,7 @@ refusal_text words refusal.NoExpression = word_text (codes "--expr") (codes "is 
 refusal_text words refusal.NeedlessExpression = word_text (codes "--expr") (codes "is for bool alone")
 refusal_text words refusal.NoOutput = word_text (codes "-o") (codes "is missing")
 refusal_text words refusal.OutputEnding =
-    codes "-o " ++ (output_given words ++ codes ": the name must end in .stl, .obj, .ply or .off")
+    codes "-o " ++ (output_given words ++ codes ": the name must end in .stl, .obj, .ply, .off or .glb")
 refusal_text words refusal.NotAStep = codes "--step " ++ (step_given words ++ codes ": not a number above 0")
 refusal_text words refusal.Workers = word_text (codes "--workers") (codes "not a number from 1 to 64")
 refusal_text words refusal.Digits = word_text (codes "--digits") (codes "not a number from 0 to 17")
@@ -185,7 +185,15 @@ solid_text fault = not_found_text (plane_without fault)
 abbrev pub too_far_text : OutputFormat → List ℕ
 too_far_text output.Stl =
     codes "a corner of the result is too far from 0 for STL; move the meshes to the origin"
+too_far_text output.Glb =
+    codes "a corner of the result is too far from 0 for GLB; move the meshes to the origin"
 too_far_text format = codes "a corner of the result is 10^21 or more from 0; move the meshes to the origin"
+
+-- ---- numbers of triangles
+-- there are too many for this format; of texts this is never said
+abbrev pub too_many_text : OutputFormat → List ℕ
+too_many_text output.Glb = codes "more than 4294967295 bytes, too many for GLB; simplify the meshes"
+too_many_text format = codes "more than 4294967295 triangles, too many for STL; simplify the meshes"
 
 -- ---- all of them
 -- why a request isn't met
@@ -205,7 +213,7 @@ why_of request Unbounded = codes "expression holds outside all meshes"
 why_of request (LongFile i) = file_text request.files i (codes "more than 268435456 bytes; simplify the mesh")
 why_of request (TooManyTriangles count) =
     decimal count ++ codes " triangles after snapping, more than 262144; simplify the meshes"
-why_of request TooManyWritten = codes "more than 4294967295 triangles, too many for STL; simplify the meshes"
+why_of request TooManyWritten = too_many_text request.format
 why_of request (StepTooSmall extent) =
     codes "--step " ++ (wanted_text request.step ++
     (codes ": the scene is " ++ (length_text extent ++

@@ -14,8 +14,8 @@ commands
   --version          the version
 
 options
-  -o OUT             the name of the result, which ends in .stl, .obj, .ply or
-                     .off
+  -o OUT             the name of the result, which ends in .stl, .obj, .ply,
+                     .off or .glb
   --step S           the step of the grid on which the meshes are exact: nice
                      (if not given), finest, or a decimal above 0
   --workers N        1 to 64 (4 if not given); the solid is the same for all

@@ -36,6 +36,8 @@ pub struct Request {
 pub enum OutputFormat {
     /// Binary STL.
     Stl,
+    /// The binary file of glTF 2.0.
+    Glb,
     Obj,
     Ply,
     Off,

@@ -104,6 +104,8 @@ fn expressions_of_operators(rt: HostRuntime) -> Result<(), Fail> {
             (one.expression.as_str(), one.format),
             ("m1", OutputFormat::Obj)
         );
+        let one = request_of(rt.alloc(), &[name, "-o", "x.Glb", "a"])?;
+        assert!(rt; one.format == OutputFormat::Glb);
     }
     Ok(())
 }
@@ -149,7 +151,7 @@ fn words_that_are_refused(rt: HostRuntime) -> Result<(), Fail> {
         (&["bool", "-o", "x.stl", "a"], Refusal::NoExpression),
         (&["union", "--expr", "m1", "a"], Refusal::NeedlessExpression),
         (&["union", "a"], Refusal::NoOutput),
-        (&["union", "-o", "x.glb", "a"], Refusal::OutputEnding),
+        (&["union", "-o", "x.gltf", "a"], Refusal::OutputEnding),
         (&["union", "-o", "stl", "a"], Refusal::OutputEnding),
         (
             &["union", "-o", "x.stl", "--step", "0.00e3", "a"],
@@ -195,7 +197,7 @@ fn words_that_are_refused(rt: HostRuntime) -> Result<(), Fail> {
 #[test]
 fn values_that_are_refused_are_known(rt: HostRuntime) -> Result<(), Fail> {
     let rows: [(&[&str], &str, &str); 5] = [
-        (&["union", "-o", "x.glb", "--step=1=2", "a"], "x.glb", "1=2"),
+        (&["union", "-o", "x.3mf", "--step=1=2", "a"], "x.3mf", "1=2"),
         (
             &["union", "--step", "1", "-ox", "a", "--step", "-1"],
             "",
