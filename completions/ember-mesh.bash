@@ -4,12 +4,13 @@ _ember_mesh() {
     local word=$2 option='' options each files=('*.[sS][tT][lL]' '*.[oO][bB][jJ]' '*.[pP][lL][yY]' '*.[oO][fF][fF]')
     COMPREPLY=()
     if ((COMP_CWORD == 1)); then
-        mapfile -t COMPREPLY < <(compgen -W 'union difference intersection bool help --help -h --version' -- "$word")
+        mapfile -t COMPREPLY < <(compgen -W 'union difference intersection bool info help --help -h --version' -- "$word")
         return
     fi
     case ${COMP_WORDS[1]} in
         bool) options=' --expr -o --step --workers --digits --quiet --help -h ' ;;
         union | difference | intersection) options=' -o --step --workers --digits --quiet --help -h ' ;;
+        info) options=' --help -h ' ;;
         *) return ;;
     esac
 

@@ -45,11 +45,12 @@ use Rattle.ember_written.proofs.DecimalsClosed.{decimals_are_closed, indices_are
 use Rattle.ember_boolean.specs.declared.fault.BooleanFault.{BooleanFault}
 use Rattle.ember_boolean.specs.declared.files.MeshFile.{MeshFile}
 use Rattle.ember_boolean.specs.declared.wanted.MeshFormat.{MeshFormat}
-use Rattle.ember_boolean.specs.declared.wanted.MeshFormat.TheVariants.{Stl, Text}
+use Rattle.ember_boolean.specs.declared.wanted.FloatFormat.{FloatFormat}
+use Rattle.ember_boolean.specs.declared.wanted.MeshFormat.TheVariants.{Floats, Text}
 use Rattle.ember_boolean.specs.declared.wanted.WantedFile.{WantedFile}
 use Rattle.ember_boolean.specs.declared.writing.Output.{Output}
 use Rattle.ember_boolean.specs.Files.{ArePlaced, IsPlaced}
-use Rattle.ember_boolean.specs.Outputs.{AreRounded, over_vertices, IsTextOver, IsStl, IsText, IsWritten, IsClosedStl, IsClosedText, IsClosedAs, IsOutput}
+use Rattle.ember_boolean.specs.Outputs.{AreRounded, over_vertices, IsTextOver, IsOfFloats, IsText, IsWritten, IsClosedOfFloats, IsClosedText, IsClosedAs, IsOutput}
 
 twice : (b : Bool) → b ≡ not (not b)
 twice true = refl
@@ -132,13 +133,13 @@ shared_of_mesh places many s o corners cs triangles ts shown count a b d e h =
 -- the triangles of a solid's mesh are closed before they are rounded
 mesh_is_closed : (tris : List Tri) (formula : Formula) (mesh : SolidMesh) → IsSolidMesh tris formula mesh → AreRoundAndClosed mesh.triangles.items
 mesh_is_closed tris formula mesh solid =
-    certified_are_closed mesh.planes.items mesh.corners.items solid.tables.segments.items mesh.triangles.items solid.cut.certified
+    certified_are_closed mesh.planes.items solid.tables.lines.items mesh.corners.items solid.tables.segments.items mesh.triangles.items solid.cut.certified
 
--- and so are those of its STL
-stl_is_closed : (grid : Grid) (mesh : SolidMesh) (out : Output) → AreRoundAndClosed mesh.triangles.items → IsStl grid mesh out → IsClosedStl grid mesh out
-stl_is_closed grid mesh out round stl =
-    let closed = written_are_closed grid.step grid.offset mesh.planes.items mesh.corners.items mesh.triangles.items stl.written stl.rounded round in
-    record { stl = stl; closed = closed; shared = stl.shared closed }
+-- and so are those of its STL and its GLB
+floats_are_closed : (format : FloatFormat) (grid : Grid) (mesh : SolidMesh) (out : Output) → AreRoundAndClosed mesh.triangles.items → IsOfFloats format grid mesh out → IsClosedOfFloats format grid mesh out
+floats_are_closed format grid mesh out round floats =
+    let closed = written_are_closed grid.step grid.offset mesh.planes.items mesh.corners.items mesh.triangles.items floats.written floats.rounded round in
+    record { floats = floats; closed = closed; shared = floats.shared closed }
 
 -- and of its text
 text_is_closed : (format : TextFormat) (digits : Option ℕ) (grid : Grid) (mesh : SolidMesh) (out : Output) → AreRoundAndClosed mesh.triangles.items → IsText format digits grid mesh out → IsClosedText format digits grid mesh out
@@ -149,7 +150,7 @@ text_is_closed format digits grid mesh out round text = record {
 }
 
 file_is_closed : (format : MeshFormat) (grid : Grid) (mesh : SolidMesh) (out : Output) → AreRoundAndClosed mesh.triangles.items → IsWritten format grid mesh out → IsClosedAs format grid mesh out
-file_is_closed Stl grid mesh out round stl = stl_is_closed grid mesh out round stl
+file_is_closed (Floats format) grid mesh out round floats = floats_are_closed format grid mesh out round floats
 file_is_closed (Text format digits) grid mesh out round text = text_is_closed format digits grid mesh out round text
 
 -- ---- outputs

@@ -8,6 +8,9 @@ use Rattle.ember_expr.specs.Formula.{Formula}
 use Rattle.ember_file.specs.declared.fault.FileFault.{FileFault}
 use Rattle.ember_file.specs.declared.fault.FileFault.TheVariants as file_fault
 use Rattle.ember_file.specs.Faults.{fault_of, is_plain}
+use Rattle.ember_glb.specs.declared.fault.GlbWriteFault.{GlbWriteFault}
+use Rattle.ember_glb.specs.declared.fault.GlbWriteFault.TheVariants as glb_fault
+use Rattle.ember_glb.specs.Written.{IsTooLong}
 use Rattle.ember_grid.specs.declared.choice.Wanted.{Wanted}
 use Rattle.ember_grid.specs.declared.grid.Grid.{Grid}
 use Rattle.ember_scene.specs.declared.fault.SceneFault.{SceneFault}
@@ -20,7 +23,7 @@ use Rattle.ember_solid_mesh.specs.declared.mesh.SolidMesh.{SolidMesh}
 use Rattle.ember_solid_mesh.specs.Faults.{IsSolidFault}
 use Rattle.ember_solid_mesh.specs.Meshes.{IsSolidMesh}
 use Rattle.ember_stl_bytes.specs.declared.fault.StlWriteFault.{StlWriteFault}
-use Rattle.ember_stl_bytes.specs.declared.fault.StlWriteFault.TheVariants as write_fault
+use Rattle.ember_stl_bytes.specs.declared.fault.StlWriteFault.TheVariants as stl_fault
 use Rattle.ember_stl_bytes.specs.declared.triangle.WrittenTriangle.{WrittenTriangle}
 use Rattle.ember_surface.specs.declared.surface.Surface.{Surface}
 use Rattle.ember_written.specs.declared.fault.PlaceFault.{PlaceFault}
@@ -31,11 +34,13 @@ use Rattle.ember_written.specs.Floats.{IsTooFar, IsFloatFault}
 use Rattle.ember_boolean.specs.declared.fault.BooleanFault.{BooleanFault}
 use Rattle.ember_boolean.specs.declared.fault.BooleanFault.TheVariants.{File, Scene, Solid, TooFar, TooManyTriangles, OutOfMemory}
 use Rattle.ember_boolean.specs.declared.files.MeshFile.{MeshFile}
-use Rattle.ember_boolean.specs.declared.wanted.MeshFormat.TheVariants.{Stl, Text}
+use Rattle.ember_boolean.specs.declared.wanted.FloatFormat.{FloatFormat}
+use Rattle.ember_boolean.specs.declared.wanted.FloatFormat.TheVariants.{Stl, Glb}
+use Rattle.ember_boolean.specs.declared.wanted.MeshFormat.TheVariants.{Floats, Text}
 use Rattle.ember_boolean.specs.declared.wanted.WantedFile.{WantedFile}
 use Rattle.ember_boolean.specs.Files.{reading, AreReadings, ArePlaced}
 use Rattle.ember_boolean.specs.Outputs.{AreRounded}
-use Rattle.ember_boolean.specs.Faults.{HasFault, IsRefusal, IsReadFault, IsPlacingFault, IsWritingFault, IsBooleanFault, of_file_fault, of_scene_fault, of_solid_fault, of_place_fault, of_write_fault}
+use Rattle.ember_boolean.specs.Faults.{HasFault, IsRefusal, IsReadFault, IsPlacingFault, IsWritingFault, IsBooleanFault, of_file_fault, of_scene_fault, of_solid_fault, of_place_fault, of_stl_fault, of_glb_fault, IsFloatFileFault}
 
 -- what holds of the fault that a result has
 pub passed_on : {T : Type 0} (P : BooleanFault → Type 0) (result : Result T BooleanFault) (fault : BooleanFault) → IsErrAnd result (λ given. given ≡ fault) → P fault → IfErr result P
@@ -161,17 +166,31 @@ module _ (files : List MeshFile) (formula : Formula) (wanted : WantedFile) (surf
       record { surfaces = surfaces; grid = grid; are_placed = are; mesh = mesh; solid = solid; is_fault = h }
   writing_fault_is mesh solid OutOfMemory h = tt
 
--- ---- the STL
+-- ---- the STL and the GLB
 -- a corner that is too far out for a float
-pub float_fault_is : (grid : Grid) (mesh : SolidMesh) (corners : List SpacePoint) (cause : PlaceFault) → corners ≡ mesh.corners.items → IsFloatFault grid.step grid.offset corners cause → IsWritingFault Stl grid mesh (of_place_fault cause)
-float_fault_is grid mesh corners place_fault.TooFar e h = subst (Any (IsTooFar grid.step grid.offset)) e h
-float_fault_is grid mesh corners place_fault.OutOfMemory e h = tt
+pub float_fault_is : (format : FloatFormat) (grid : Grid) (mesh : SolidMesh) (corners : List SpacePoint) (cause : PlaceFault) → corners ≡ mesh.corners.items → IsFloatFault grid.step grid.offset corners cause → IsWritingFault (Floats format) grid mesh (of_place_fault cause)
+float_fault_is format grid mesh corners place_fault.TooFar e h = subst (Any (IsTooFar grid.step grid.offset)) e h
+float_fault_is format grid mesh corners place_fault.OutOfMemory e h = tt
 
 -- too many triangles for an STL
-pub stl_fault_is : {T : Type 0} (grid : Grid) (mesh : SolidMesh) (written given : List WrittenTriangle) (result : Result T StlWriteFault) (cause : StlWriteFault) → AreRounded grid mesh written → given ≡ written → result ≡ Err cause → (result ≡ Err write_fault.TooManyTriangles → 2 ^ 32 ≤ length given) → IsWritingFault Stl grid mesh (of_write_fault cause)
-stl_fault_is grid mesh written given result write_fault.TooManyTriangles rounded same e many =
-    record { written = written; rounded = rounded; many = subst (λ (ws : List WrittenTriangle). 2 ^ 32 ≤ length ws) same (many e) }
-stl_fault_is grid mesh written given result write_fault.OutOfMemory rounded same e many = tt
+pub stl_fault_is : {T : Type 0} (written : List WrittenTriangle) (result : Result T StlWriteFault) (cause : StlWriteFault) → result ≡ Err cause → (result ≡ Err stl_fault.TooManyTriangles → 2 ^ 32 ≤ length written) → IsFloatFileFault Stl written (of_stl_fault cause)
+stl_fault_is written result stl_fault.TooManyTriangles e many = many e
+stl_fault_is written result stl_fault.OutOfMemory e many = tt
+
+-- and for a GLB
+pub glb_fault_is : {T : Type 0} (written : List WrittenTriangle) (result : Result T GlbWriteFault) (cause : GlbWriteFault) → result ≡ Err cause → (result ≡ Err glb_fault.TooManyTriangles → IsTooLong written) → IsFloatFileFault Glb written (of_glb_fault cause)
+glb_fault_is written result glb_fault.TooManyTriangles e many = many e
+glb_fault_is written result glb_fault.OutOfMemory e many = tt
+
+-- a fault of the file of the mesh's triangles
+pub file_of_floats_fault_is : (format : FloatFormat) (grid : Grid) (mesh : SolidMesh) (written : List WrittenTriangle) (fault : BooleanFault) → AreRounded grid mesh written → IsFloatFileFault format written fault → IsWritingFault (Floats format) grid mesh fault
+file_of_floats_fault_is format grid mesh written (File index fault) rounded h = absurd h
+file_of_floats_fault_is format grid mesh written (Scene fault) rounded h = absurd h
+file_of_floats_fault_is format grid mesh written (Solid fault) rounded h = absurd h
+file_of_floats_fault_is format grid mesh written TooFar rounded h = absurd h
+file_of_floats_fault_is format grid mesh written TooManyTriangles rounded h =
+    record { written = written; rounded = rounded; many = h }
+file_of_floats_fault_is format grid mesh written OutOfMemory rounded h = tt
 
 -- ---- a text
 -- a corner that is too far out for a decimal

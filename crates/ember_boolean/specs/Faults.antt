@@ -5,6 +5,9 @@ use Rattle.ember_expr.specs.Formula.{Formula}
 use Rattle.ember_file.specs.declared.fault.FileFault.{FileFault}
 use Rattle.ember_file.specs.declared.fault.FileFault.TheVariants as file_fault
 use Rattle.ember_file.specs.Faults.{fault_of, is_plain}
+use Rattle.ember_glb.specs.declared.fault.GlbWriteFault.{GlbWriteFault}
+use Rattle.ember_glb.specs.declared.fault.GlbWriteFault.TheVariants as glb_fault
+use Rattle.ember_glb.specs.Written.{IsTooLong}
 use Rattle.ember_grid.specs.declared.choice.Wanted.{Wanted}
 use Rattle.ember_grid.specs.declared.grid.Grid.{Grid}
 use Rattle.ember_scene.specs.declared.fault.SceneFault.{SceneFault}
@@ -17,7 +20,7 @@ use Rattle.ember_solid_mesh.specs.declared.mesh.SolidMesh.{SolidMesh}
 use Rattle.ember_solid_mesh.specs.Faults.{IsSolidFault}
 use Rattle.ember_solid_mesh.specs.Meshes.{IsSolidMesh}
 use Rattle.ember_stl_bytes.specs.declared.fault.StlWriteFault.{StlWriteFault}
-use Rattle.ember_stl_bytes.specs.declared.fault.StlWriteFault.TheVariants as write_fault
+use Rattle.ember_stl_bytes.specs.declared.fault.StlWriteFault.TheVariants as stl_fault
 use Rattle.ember_stl_bytes.specs.declared.triangle.WrittenTriangle.{WrittenTriangle}
 use Rattle.ember_surface.specs.declared.surface.Surface.{Surface}
 use Rattle.ember_written.specs.declared.fault.PlaceFault.{PlaceFault}
@@ -27,8 +30,10 @@ use Rattle.ember_written.specs.Floats.{IsTooFar}
 use Rattle.ember_boolean.specs.declared.fault.BooleanFault.{BooleanFault}
 use Rattle.ember_boolean.specs.declared.fault.BooleanFault.TheVariants.{File, Scene, Solid, TooFar, TooManyTriangles, OutOfMemory}
 use Rattle.ember_boolean.specs.declared.files.MeshFile.{MeshFile}
+use Rattle.ember_boolean.specs.declared.wanted.FloatFormat.{FloatFormat}
+use Rattle.ember_boolean.specs.declared.wanted.FloatFormat.TheVariants.{Stl, Glb}
 use Rattle.ember_boolean.specs.declared.wanted.MeshFormat.{MeshFormat}
-use Rattle.ember_boolean.specs.declared.wanted.MeshFormat.TheVariants.{Stl, Text}
+use Rattle.ember_boolean.specs.declared.wanted.MeshFormat.TheVariants.{Floats, Text}
 use Rattle.ember_boolean.specs.declared.wanted.WantedFile.{WantedFile}
 use Rattle.ember_boolean.specs.Files.{reading, AreReadings, ArePlaced}
 use Rattle.ember_boolean.specs.Outputs.{AreRounded}
@@ -50,9 +55,13 @@ abbrev pub of_place_fault : PlaceFault → BooleanFault
 of_place_fault place_fault.TooFar = TooFar
 of_place_fault place_fault.OutOfMemory = OutOfMemory
 
-abbrev pub of_write_fault : StlWriteFault → BooleanFault
-of_write_fault write_fault.TooManyTriangles = TooManyTriangles
-of_write_fault write_fault.OutOfMemory = OutOfMemory
+abbrev pub of_stl_fault : StlWriteFault → BooleanFault
+of_stl_fault stl_fault.TooManyTriangles = TooManyTriangles
+of_stl_fault stl_fault.OutOfMemory = OutOfMemory
+
+abbrev pub of_glb_fault : GlbWriteFault → BooleanFault
+of_glb_fault glb_fault.TooManyTriangles = TooManyTriangles
+of_glb_fault glb_fault.OutOfMemory = OutOfMemory
 
 -- ---- files
 -- the reading of the file gives this fault, which isn't want of memory; nor is the fault of a reader in it
@@ -116,17 +125,31 @@ pub record HasNoMesh (files : List MeshFile) (formula : Formula) (wanted : Wante
 -- ---- the file
 -- a corner rounds to infinity, or is too far out for a decimal
 abbrev pub HasFarCorner : MeshFormat → Grid → SolidMesh → Type 0
-HasFarCorner Stl grid mesh = Any (IsTooFar grid.step grid.offset) mesh.corners.items
+HasFarCorner (Floats format) grid mesh = Any (IsTooFar grid.step grid.offset) mesh.corners.items
 HasFarCorner (Text format digits) grid mesh = Any (IsFarPoint grid.step grid.offset) mesh.corners.items
 
--- too many triangles are left for an STL
-pub record HasTooManyForStl (grid : Grid) (mesh : SolidMesh) : Type 0 where
+-- there are too many triangles for an STL, or their GLB is too long
+abbrev pub AreTooMany : FloatFormat → List WrittenTriangle → Type 0
+AreTooMany Stl written = 2 ^ 32 ≤ length written
+AreTooMany Glb written = IsTooLong written
+
+-- why triangles have no file
+abbrev pub IsFloatFileFault : FloatFormat → List WrittenTriangle → BooleanFault → Type 0
+IsFloatFileFault format written (File index fault) = ⊥
+IsFloatFileFault format written (Scene fault) = ⊥
+IsFloatFileFault format written (Solid fault) = ⊥
+IsFloatFileFault format written TooFar = ⊥
+IsFloatFileFault format written TooManyTriangles = AreTooMany format written
+IsFloatFileFault format written OutOfMemory = ⊤
+
+-- too many triangles are left
+pub record HasTooManyFor (format : FloatFormat) (grid : Grid) (mesh : SolidMesh) : Type 0 where
   pub written : List WrittenTriangle
   pub rounded : AreRounded grid mesh written
-  pub many : 2 ^ 32 ≤ length written
+  pub many : AreTooMany format written
 
 abbrev pub HasTooMany : MeshFormat → Grid → SolidMesh → Type 0
-HasTooMany Stl grid mesh = HasTooManyForStl grid mesh
+HasTooMany (Floats format) grid mesh = HasTooManyFor format grid mesh
 HasTooMany (Text format digits) grid mesh = ⊥
 
 -- why a mesh isn't written

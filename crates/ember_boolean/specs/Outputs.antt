@@ -1,7 +1,9 @@
 -- The file of a mesh, and the output for mesh files
-use Rattle.std.specs.Prelude.{◌≡◌, ◌≤◌, ⊤, ℕ, Bool, true, false, ◌+◌, List, length, map, IfSome}
+use Rattle.std.specs.Prelude.{◌≡◌, ◌≤◌, ◌<◌, ⊤, ℕ, Bool, true, false, ◌+◌, List, length, map, IfSome}
 use Rattle.std.specs.declared.option.Option.{Option}
 use Rattle.ember_expr.specs.Formula.{Formula}
+use Rattle.ember_glb.specs.ReadBack as glb
+use Rattle.ember_glb.specs.Written.{IsGlb}
 use Rattle.ember_grid.specs.declared.grid.Grid.{Grid}
 use Rattle.ember_manifold.specs.declared.split.SplitMesh.{SplitMesh}
 use Rattle.ember_manifold.specs.Splits.{AreSplitOf}
@@ -15,7 +17,7 @@ use Rattle.ember_scene.specs.Images.{images_of, counts_on}
 use Rattle.ember_solid_mesh.specs.declared.mesh.SolidMesh.{SolidMesh}
 use Rattle.ember_solid_mesh.specs.Meshes.{IsSolidMesh}
 use Rattle.ember_stl_bytes.specs.declared.triangle.WrittenTriangle.{WrittenTriangle}
-use Rattle.ember_stl_bytes.specs.ReadBack.{IsReadBack}
+use Rattle.ember_stl_bytes.specs.ReadBack as stl
 use Rattle.ember_stl_bytes.specs.Written.{stl_bytes_of}
 use Rattle.ember_surface.specs.declared.surface.Surface.{Surface}
 use Rattle.ember_vertices.specs.declared.point.DecimalTriangle.{DecimalTriangle}
@@ -27,8 +29,10 @@ use Rattle.ember_written.specs.Triangles.{AreWritten}
 use Rattle.ember_written.specs.Closed.{AreWrittenClosed, AreDecimalsClosed, AreIndicesClosed}
 use Rattle.ember_written.specs.Shared.{IsSharedCount, IsSharedIndexCount}
 use Rattle.ember_boolean.specs.declared.files.MeshFile.{MeshFile}
+use Rattle.ember_boolean.specs.declared.wanted.FloatFormat.{FloatFormat}
+use Rattle.ember_boolean.specs.declared.wanted.FloatFormat.TheVariants.{Stl, Glb}
 use Rattle.ember_boolean.specs.declared.wanted.MeshFormat.{MeshFormat}
-use Rattle.ember_boolean.specs.declared.wanted.MeshFormat.TheVariants.{Stl, Text}
+use Rattle.ember_boolean.specs.declared.wanted.MeshFormat.TheVariants.{Floats, Text}
 use Rattle.ember_boolean.specs.declared.wanted.WantedFile.{WantedFile}
 use Rattle.ember_boolean.specs.declared.writing.Output.{Output}
 use Rattle.ember_boolean.specs.Files.{ArePlaced}
@@ -36,22 +40,35 @@ use Rattle.ember_boolean.specs.Files.{ArePlaced}
 -- ---- formats
 -- at most 17 decimal places are asked for
 abbrev pub HasFewDigits : MeshFormat → Type 0
-HasFewDigits Stl = ⊤
+HasFewDigits (Floats format) = ⊤
 HasFewDigits (Text format digits) = IfSome digits (λ n. n ≤ 17)
 
--- ---- STL
+-- ---- STL and GLB
+-- the bytes are the STL of the triangles, which reading them gives again
+pub record IsStlFile (written : List WrittenTriangle) (bytes : List ℕ) : Type 0 where
+  pub is : bytes ≡ stl_bytes_of written
+  pub read_back : stl.IsReadBack written bytes
+
+-- or the GLB; without triangles it has no mesh that could be read
+pub record IsGlbFile (written : List WrittenTriangle) (bytes : List ℕ) : Type 0 where
+  pub is : IsGlb written bytes
+  pub read_back : 0 < length written → glb.IsReadBack written bytes
+
+abbrev pub IsFloatFile : FloatFormat → List WrittenTriangle → List ℕ → Type 0
+IsFloatFile Stl written bytes = IsStlFile written bytes
+IsFloatFile Glb written bytes = IsGlbFile written bytes
+
 -- the triangles of a mesh on the grid, in the user's unit and rounded
 abbrev pub AreRounded : Grid → SolidMesh → List WrittenTriangle → Type 0
 AreRounded grid mesh written =
     AreWritten grid.step grid.offset mesh.planes.items mesh.corners.items mesh.triangles.items written
 
--- the bytes are the STL of the mesh's rounded triangles, which reading them gives again; the numbers are those of the
--- mesh, of its triangles that aren't written, and of the edges of more than two written triangles, if these are closed
-pub record IsStl (grid : Grid) (mesh : SolidMesh) (out : Output) : Type 0 where
+-- the bytes are the file of the mesh's rounded triangles; the numbers are those of the mesh, of its triangles that
+-- aren't written, and of the edges of more than two written triangles, if these are closed
+pub record IsOfFloats (format : FloatFormat) (grid : Grid) (mesh : SolidMesh) (out : Output) : Type 0 where
   pub written : List WrittenTriangle
   pub rounded : AreRounded grid mesh written
-  pub bytes : out.bytes.items ≡ stl_bytes_of written
-  pub read_back : IsReadBack written out.bytes.items
+  pub bytes : IsFloatFile format written out.bytes.items
   pub not_known : out.is_manifold ≡ false
   pub planes : out.planes ≡ length mesh.planes.items
   pub triangles : out.triangles ≡ length mesh.triangles.items
@@ -95,15 +112,15 @@ pub record IsText (format : TextFormat) (digits : Option ℕ) (grid : Grid) (mes
 
 -- ---- any format
 abbrev pub IsWritten : MeshFormat → Grid → SolidMesh → Output → Type 0
-IsWritten Stl grid mesh out = IsStl grid mesh out
+IsWritten (Floats format) grid mesh out = IsOfFloats format grid mesh out
 IsWritten (Text format digits) grid mesh out = IsText format digits grid mesh out
 
 -- ---- closed
--- the triangles of the STL are closed, and so many edges belong to more than two of them
-pub record IsClosedStl (grid : Grid) (mesh : SolidMesh) (out : Output) : Type 0 where
-  pub stl : IsStl grid mesh out
-  pub closed : AreWrittenClosed stl.written
-  pub shared : IsSharedCount stl.written out.shared
+-- the triangles of the STL or the GLB are closed, and so many edges belong to more than two of them
+pub record IsClosedOfFloats (format : FloatFormat) (grid : Grid) (mesh : SolidMesh) (out : Output) : Type 0 where
+  pub floats : IsOfFloats format grid mesh out
+  pub closed : AreWrittenClosed floats.written
+  pub shared : IsSharedCount floats.written out.shared
 
 -- the same of a text before any of its triangles are cut; if some are, each of its edges has two (`IsTextOver`)
 pub record IsClosedText (format : TextFormat) (digits : Option ℕ) (grid : Grid) (mesh : SolidMesh) (out : Output) :
@@ -114,7 +131,7 @@ pub record IsClosedText (format : TextFormat) (digits : Option ℕ) (grid : Grid
 
 -- the file has this format, and its triangles are closed
 abbrev pub IsClosedAs : MeshFormat → Grid → SolidMesh → Output → Type 0
-IsClosedAs Stl grid mesh out = IsClosedStl grid mesh out
+IsClosedAs (Floats format) grid mesh out = IsClosedOfFloats format grid mesh out
 IsClosedAs (Text format digits) grid mesh out = IsClosedText format digits grid mesh out
 
 -- ---- outputs

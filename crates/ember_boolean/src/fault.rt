@@ -1,9 +1,10 @@
 // Why mesh files give no solid.
 ghost use Rattle.std.specs.Prelude.{◌≡◌};
 ghost use Rattle.ember_boolean.specs.declared.fault.BooleanFault.TheVariants.{OutOfMemory};
-ghost use Rattle.ember_boolean.specs.Faults.{of_scene_fault, of_solid_fault, of_place_fault, of_write_fault};
+ghost use Rattle.ember_boolean.specs.Faults.{of_scene_fault, of_solid_fault, of_place_fault, of_stl_fault, of_glb_fault};
 
 use ember_file::FileFault;
+use ember_glb::GlbWriteFault;
 use ember_scene::SceneFault;
 use ember_solid_mesh::SolidFault;
 use ember_stl_bytes::StlWriteFault;
@@ -27,8 +28,8 @@ pub enum BooleanFault<'a> {
     /// or more, so that no float is nearest to it, or, for a decimal, 10^21 or more.
     #[error("a corner is too far from zero")]
     TooFar,
-    /// The STL would have 2^32 triangles or more.
-    #[error("more than 4294967295 triangles")]
+    /// The STL would have 2^32 triangles or more, or the GLB 2^32 bytes or more.
+    #[error("too many triangles for the format")]
     TooManyTriangles,
     #[error("out of memory")]
     OutOfMemory,
@@ -84,12 +85,23 @@ impl<'a> From<PlaceFault> for BooleanFault<'a> {
 }
 
 impl<'a> From<StlWriteFault> for BooleanFault<'a> {
-    ghost from_gives = { λ cause fault. fault ≡ of_write_fault cause };
+    ghost from_gives = { λ cause fault. fault ≡ of_stl_fault cause };
 
     fn from(cause: StlWriteFault) -> BooleanFault<'a> {
         match cause {
             StlWriteFault::TooManyTriangles => BooleanFault::TooManyTriangles,
             StlWriteFault::OutOfMemory => BooleanFault::OutOfMemory,
+        }
+    }
+}
+
+impl<'a> From<GlbWriteFault> for BooleanFault<'a> {
+    ghost from_gives = { λ cause fault. fault ≡ of_glb_fault cause };
+
+    fn from(cause: GlbWriteFault) -> BooleanFault<'a> {
+        match cause {
+            GlbWriteFault::TooManyTriangles => BooleanFault::TooManyTriangles,
+            GlbWriteFault::OutOfMemory => BooleanFault::OutOfMemory,
         }
     }
 }

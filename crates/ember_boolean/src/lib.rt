@@ -4,10 +4,10 @@
 
 mod fault;
 mod files;
+mod floats;
 mod laws;
 mod placing;
 mod solid;
-mod stl;
 mod text;
 mod wanted;
 mod writing;
@@ -16,5 +16,5 @@ pub use fault::BooleanFault;
 pub use files::{MeshFile, surfaces_in};
 pub use laws::{closed_files_are_never_open, faces_of_outputs_have_the_meaning};
 pub use solid::solid_file;
-pub use wanted::{MeshFormat, WantedFile};
+pub use wanted::{FloatFormat, MeshFormat, WantedFile};
 pub use writing::Output;

@@ -30,7 +30,7 @@ use std::alloc::Global;
 /// 2. The surfaces are no scene: see [`scene_of`](ember_scene::scene_of).
 /// 3. The solid has no mesh: see [`solid_mesh`](ember_solid_mesh::solid_mesh).
 /// 4. A corner of the mesh that is too far out for a float, or for a decimal.
-/// 5. For an STL, 2^32 triangles or more after rounding.
+/// 5. After rounding, too many triangles: 2^32 or more for an STL, 2^32 bytes or more of a GLB.
 pub fn solid_file<'a, C: Fn(&Query) -> Result<Answer, OutOfMemory>>(
     alloc: Global,
     files: &[MeshFile<'a>],

@@ -6,7 +6,7 @@ ghost use Rattle.ember_boolean.specs.Outputs.{HasFewDigits, IsWritten};
 ghost use Rattle.ember_boolean.specs.Faults.{IsWritingFault};
 
 use crate::fault::BooleanFault;
-use crate::stl::stl_output;
+use crate::floats::float_output;
 use crate::text::text_output;
 use crate::wanted::MeshFormat;
 use ember_grid::Grid;
@@ -35,8 +35,8 @@ pub struct Output {
     pub vanished: u64,
     /// How many edges belong to more than two of the others, by the rounded places of their ends.
     pub shared: u64,
-    /// Whether each edge of the file has two triangles. An STL has no vertices, so there it is
-    /// false.
+    /// Whether each edge of the file has two triangles. An STL has no vertices, and a GLB has one
+    /// for each corner of a triangle, so there it is false.
     pub is_manifold: bool,
     pub report: Report,
 }
@@ -61,7 +61,7 @@ pub(crate) fn output_of<'a>(
     ensures fault { IfErr result (IsWritingFault format grid mesh) }
 {
     match format {
-        MeshFormat::Stl => stl_output(alloc, mesh, grid, counts, moves),
+        MeshFormat::Floats(floats) => float_output(alloc, mesh, grid, counts, moves, floats),
         MeshFormat::Text(text, digits) => {
             text_output(alloc, mesh, grid, counts, moves, text, digits)
         }

@@ -5,3 +5,6 @@ pub mod ClosedKeys
 pub mod SeenFromFront
 pub mod Triangles
 pub mod Cancels
+pub mod PlaceSums
+pub mod FreePairs
+pub mod OnTheirLines

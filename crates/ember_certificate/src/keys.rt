@@ -1,6 +1,7 @@
 // Numbers for the ends of segments.
 ghost use Rattle.std.specs.Prelude.{◌≡◌};
 ghost use Rattle.ember_certificate.specs.Keys.{start_key, end_key, edge_key, reverse_key};
+ghost use Rattle.ember_certificate.specs.OnLines.{run_key, run_back_key};
 
 use crate::segment::Segment;
 
@@ -30,4 +31,18 @@ pub fn reverse_key(s: &Segment) -> u128
     ensures { result ≡ reverse_key s.now }
 {
     s.end as u128 * 4_294_967_296 + s.start as u128
+}
+
+/// The key of the segment's start and end in its plane.
+pub fn run_key(s: &Segment) -> u128
+    ensures { result ≡ run_key s.now }
+{
+    (s.plane as u128 * 4_294_967_296 + s.start as u128) * 4_294_967_296 + s.end as u128
+}
+
+/// The key of the segment's end and start in its plane.
+pub fn run_back_key(s: &Segment) -> u128
+    ensures { result ≡ run_back_key s.now }
+{
+    (s.plane as u128 * 4_294_967_296 + s.end as u128) * 4_294_967_296 + s.start as u128
 }

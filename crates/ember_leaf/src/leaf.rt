@@ -187,20 +187,23 @@ impl Leaf<'_> {
         if is_flat(target) || is_outside(walls, target) {
             return Ok(());
         }
+        // Many triangles near a box have no part in it. The clip comes first, so that no
+        // other triangle is tested against these.
+        if !clip_to_box(draft, target, walls)? {
+            return Ok(());
+        }
         let bounds = common_spans(&target.aabb, self.aabb);
         // True if an earlier coplanar triangle covers this one. Then the list is incomplete.
         if find_cutters_unless_covered(cutters, target, &bounds, self.near, i)? {
             return Ok(());
         }
-        let room = cutters.len().min(CUTTER_ROOM);
-        if let Some(ring) = clip_to_box(alloc, draft, target, walls, room)? {
-            if cutters.is_empty() {
-                // What the clip leaves is the only region, so no list is made.
-                self.add_if_written(ring, i, sides, kept)?;
-            } else {
-                let list = regions(alloc, ring, cutters)?;
-                self.add_written(list, i, sides, kept)?;
-            }
+        let ring = draft.ring(alloc, cutters.len().min(CUTTER_ROOM))?;
+        if cutters.is_empty() {
+            // What the clip leaves is the only region, so no list is made.
+            self.add_if_written(ring, i, sides, kept)?;
+        } else {
+            let list = regions(alloc, ring, cutters)?;
+            self.add_written(list, i, sides, kept)?;
         }
         Ok(())
     }

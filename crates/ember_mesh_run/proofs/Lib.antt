@@ -8,3 +8,4 @@ pub mod Outcomes
 pub mod ShownSteps
 pub mod Appended
 pub mod CountLines
+pub mod InfoOutcomes

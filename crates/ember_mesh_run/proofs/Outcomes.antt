@@ -3,7 +3,7 @@ use Rattle.std.proofs.Common.{◌≡◌, ◌⊎◌, ◌≤◌, inl, inr, ℕ, Li
 use Rattle.std.specs.Prelude.{Result, Ok, Err, IfErr, IsErrAnd, None, false, codes}
 use Rattle.ember_boolean.specs.declared.writing.Output.{Output}
 use Rattle.ember_mesh_words.specs.declared.command.Command.{Command}
-use Rattle.ember_mesh_words.specs.declared.command.Command.TheVariants.{Boole, Help, Version}
+use Rattle.ember_mesh_words.specs.declared.command.Command.TheVariants.{Boole, Info, Help, Version}
 use Rattle.ember_mesh_words.specs.declared.command.Request.{Request}
 use Rattle.ember_mesh_words.specs.declared.faults.Refusal.{Refusal}
 use Rattle.ember_mesh_words.specs.Commands.{command_of}
@@ -108,6 +108,7 @@ module _ (request : Request) (shelf : ShelfCall) (target : TargetCall) where
 -- want of memory for the words themselves
 pub words_without_memory : (words : List (List ℕ)) (command : Result Command Refusal) (shelf : ShelfCall) (target : TargetCall) (out : SinkCall) (text : List ℕ) → HoldsAll target → out.taken_after ≡ out.taken → text ≡ line (codes "out of memory") → IsOutcome words command shelf target out OutOfMemory text
 words_without_memory words (Err why) shelf target out text same untouched e = (e, same, untouched)
+words_without_memory words (Ok (Info names)) shelf target out text same untouched e = ((tt, untouched, e), same)
 words_without_memory words (Ok Help) shelf target out text same untouched e = ((untouched, e), same)
 words_without_memory words (Ok Version) shelf target out text same untouched e = ((untouched, e), same)
 words_without_memory words (Ok (Boole request)) shelf target out text same untouched e =

@@ -1,5 +1,6 @@
 pub mod Calls
 pub mod Lines
+pub mod Infos
 pub mod Reports
 pub mod Messages
 pub mod Asked

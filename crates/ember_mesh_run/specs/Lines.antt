@@ -124,7 +124,7 @@ refusal_text words refusal.NoExpression = word_text (codes "--expr") (codes "is 
 refusal_text words refusal.NeedlessExpression = word_text (codes "--expr") (codes "is for bool alone")
 refusal_text words refusal.NoOutput = word_text (codes "-o") (codes "is missing")
 refusal_text words refusal.OutputEnding =
-    codes "-o " ++ (output_given words ++ codes ": the name must end in .stl, .obj, .ply or .off")
+    codes "-o " ++ (output_given words ++ codes ": the name must end in .stl, .obj, .ply, .off or .glb")
 refusal_text words refusal.NotAStep = codes "--step " ++ (step_given words ++ codes ": not a number above 0")
 refusal_text words refusal.Workers = word_text (codes "--workers") (codes "not a number from 1 to 64")
 refusal_text words refusal.Digits = word_text (codes "--digits") (codes "not a number from 0 to 17")
@@ -185,7 +185,24 @@ solid_text fault = not_found_text (plane_without fault)
 abbrev pub too_far_text : OutputFormat → List ℕ
 too_far_text output.Stl =
     codes "a corner of the result is too far from 0 for STL; move the meshes to the origin"
+too_far_text output.Glb =
+    codes "a corner of the result is too far from 0 for GLB; move the meshes to the origin"
 too_far_text format = codes "a corner of the result is 10^21 or more from 0; move the meshes to the origin"
+
+-- ---- files
+-- why not all files are read
+abbrev pub reading_why : List (List ℕ) → Status → List ℕ
+reading_why names (ReadFault i) = file_text names i (codes "cannot be read")
+reading_why names (FileRefused i reason) = file_text names i (string_bytes reason)
+reading_why names (LongFile i) = file_text names i (codes "more than 268435456 bytes; simplify the mesh")
+reading_why names OutOfMemory = codes "out of memory"
+reading_why names status = []
+
+-- ---- numbers of triangles
+-- there are too many for this format; of texts this is never said
+abbrev pub too_many_text : OutputFormat → List ℕ
+too_many_text output.Glb = codes "more than 4294967295 bytes, too many for GLB; simplify the meshes"
+too_many_text format = codes "more than 4294967295 triangles, too many for STL; simplify the meshes"
 
 -- ---- all of them
 -- why a request isn't met
@@ -195,23 +212,23 @@ why_of request (Words why) = []
 why_of request StepOfNoGrid =
     codes "--step " ++ (wanted_text request.step ++
     codes ": no grid has this step; give at most 12 digits and 12 decimal places")
-why_of request (ReadFault i) = file_text request.files i (codes "cannot be read")
+why_of request (ReadFault i) = reading_why request.files (ReadFault i)
 why_of request WriteFault = codes "cannot write " ++ request.output
-why_of request (FileRefused i reason) = file_text request.files i (string_bytes reason)
+why_of request (FileRefused i reason) = reading_why request.files (FileRefused i reason)
 why_of request NoTriangles = codes "no triangles in the files; are they meshes?"
 why_of request (NotClosed o format) = file_text request.files (o.file + 1) (open_text o format)
 why_of request (ExprRefused fault) = expr_text fault
 why_of request Unbounded = codes "expression holds outside all meshes"
-why_of request (LongFile i) = file_text request.files i (codes "more than 268435456 bytes; simplify the mesh")
+why_of request (LongFile i) = reading_why request.files (LongFile i)
 why_of request (TooManyTriangles count) =
     decimal count ++ codes " triangles after snapping, more than 262144; simplify the meshes"
-why_of request TooManyWritten = codes "more than 4294967295 triangles, too many for STL; simplify the meshes"
+why_of request TooManyWritten = too_many_text request.format
 why_of request (StepTooSmall extent) =
     codes "--step " ++ (wanted_text request.step ++
     (codes ": the scene is " ++ (length_text extent ++
     (codes " long, which needs a step of at least " ++ step_text extent.finest))))
 why_of request TooFar = too_far_text request.format
-why_of request OutOfMemory = codes "out of memory"
+why_of request OutOfMemory = reading_why request.files OutOfMemory
 why_of request (Uncertified fault) = solid_text fault
 
 -- the numbers in the status can be shown

@@ -2,14 +2,15 @@
 use Rattle.std.specs.Prelude.{◌≡◌, ◌≢◌, ◌≤◌, ℕ, List, [], false, None, Some, Result, Ok, Err, codes}
 use Rattle.ember_boolean.specs.declared.writing.Output.{Output}
 use Rattle.ember_mesh_words.specs.declared.command.Command.{Command}
-use Rattle.ember_mesh_words.specs.declared.command.Command.TheVariants.{Boole, Help, Version}
+use Rattle.ember_mesh_words.specs.declared.command.Command.TheVariants.{Boole, Info, Help, Version}
 use Rattle.ember_mesh_words.specs.declared.command.Request.{Request}
 use Rattle.ember_mesh_words.specs.declared.faults.Refusal.{Refusal}
 use Rattle.ember_mesh_words.specs.Commands.{command_of}
 use Rattle.ember_target.specs.Targets.{Puts}
 use Rattle.ember_mesh_run.specs.Calls.{ShelfCall, TargetCall, SinkCall, KeepsContents, HoldsAll, HoldsAllBut, TakesAll, TakesSome, TakesUntilFault}
-use Rattle.ember_mesh_run.specs.Causes.{IsCause, hides_memory}
-use Rattle.ember_mesh_run.specs.Lines.{line, refusal_text, why_of}
+use Rattle.ember_mesh_run.specs.Causes.{IsCause, IsReadingCause, hides_memory}
+use Rattle.ember_mesh_run.specs.Lines.{line, reading_why, refusal_text, why_of}
+use Rattle.ember_mesh_run.specs.Infos.{AreInfoLines}
 use Rattle.ember_mesh_run.specs.Messages.{usage_text, version_text}
 use Rattle.ember_mesh_run.specs.Outputs.{IsOutputFor}
 use Rattle.ember_mesh_run.specs.Reports.{report_of}
@@ -54,6 +55,21 @@ IsMessageOutcome message out OutOfMemory text =
     (out.taken_after ≡ out.taken) × (text ≡ line (codes "out of memory"))
 IsMessageOutcome message out status text = ⊥
 
+-- ---- what is said of meshes
+-- out takes the lines of the files, or fails
+pub record WritesInfos (names : List (List ℕ)) (shelf : ShelfCall) (out : SinkCall) (status : Status)
+    (text : List ℕ) : Type 0 where
+  pub lines : List ℕ
+  pub are_lines : AreInfoLines shelf.told names lines
+  pub written : IsMessageOutcome lines out status text
+
+-- or not all files are read, and out takes nothing
+abbrev pub IsInfoOutcome : List (List ℕ) → ShelfCall → SinkCall → Status → List ℕ → Type 0
+IsInfoOutcome names shelf out Done text = WritesInfos names shelf out Done text
+IsInfoOutcome names shelf out WriteFault text = WritesInfos names shelf out WriteFault text
+IsInfoOutcome names shelf out status text =
+    IsReadingCause names shelf status × (out.taken_after ≡ out.taken) × (text ≡ line (reading_why names status))
+
 -- ---- words that are refused
 abbrev pub IsWordsOutcome : List (List ℕ) → Refusal → Status → List ℕ → Type 0
 IsWordsOutcome words why (Words refusal) text = (refusal ≡ why) × (text ≡ line (refusal_text words why))
@@ -66,6 +82,8 @@ abbrev pub IsOutcome : List (List ℕ) → Result Command Refusal → ShelfCall 
     Type 0
 IsOutcome words (Err why) shelf target out status text =
     IsWordsOutcome words why status text × HoldsAll target × (out.taken_after ≡ out.taken)
+IsOutcome words (Ok (Info names)) shelf target out status text =
+    IsInfoOutcome names shelf out status text × HoldsAll target
 IsOutcome words (Ok Help) shelf target out status text = IsMessageOutcome usage_text out status text × HoldsAll target
 IsOutcome words (Ok Version) shelf target out status text = IsMessageOutcome version_text out status text × HoldsAll target
 IsOutcome words (Ok (Boole request)) shelf target out status text =

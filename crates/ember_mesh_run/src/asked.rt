@@ -7,7 +7,7 @@ ghost use Rattle.ember_mesh_words.specs.Commands.{IsWithinLimits};
 ghost use Rattle.ember_mesh_run.specs.Asked.{Asks, AsksFile, IsExpression, IsExpressionCause, IsStepOfNoGrid, IsWanted, IsWordsCause, format_asked};
 
 use crate::status::Status;
-use ember_boolean::{MeshFormat, WantedFile};
+use ember_boolean::{FloatFormat, MeshFormat, WantedFile};
 use ember_expr::{Expr, ExprFault, bounded, parse};
 use ember_grid::Wanted;
 use ember_mesh_text::TextFormat;
@@ -46,7 +46,8 @@ fn format_asked(format: OutputFormat, digits: Option<u32>) -> MeshFormat
     ensures digits { HasFewDigits result }
 {
     match format {
-        OutputFormat::Stl => MeshFormat::Stl,
+        OutputFormat::Stl => MeshFormat::Floats(FloatFormat::Stl),
+        OutputFormat::Glb => MeshFormat::Floats(FloatFormat::Glb),
         OutputFormat::Obj => MeshFormat::Text(TextFormat::Obj, digits),
         OutputFormat::Ply => MeshFormat::Text(TextFormat::Ply, digits),
         OutputFormat::Off => MeshFormat::Text(TextFormat::Off, digits),

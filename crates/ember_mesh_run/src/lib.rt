@@ -3,6 +3,7 @@
 #![tactic(auto)]
 
 mod asked;
+mod infos;
 mod lines;
 mod messages;
 mod reading;

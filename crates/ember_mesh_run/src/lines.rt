@@ -2,7 +2,7 @@
 ghost use Rattle.std.specs.Prelude.{◌≡◌, ◌++◌, ◌+◌, ◌<◌, codes, decimal, map, IfOk, OnOk, string_bytes};
 ghost use Rattle.ember_mesh_words.specs.Given.{output_given, step_given};
 ghost use Rattle.ember_snap.specs.Steps.{IsStep};
-ghost use Rattle.ember_mesh_run.specs.Lines.{IsShown, expr_text, file_text, length_text, line, noun_of, open_text, place_text, plane_without, refusal_text, solid_text, step_text, too_far_text, why_of, word_text, word_at};
+ghost use Rattle.ember_mesh_run.specs.Lines.{IsShown, expr_text, file_text, length_text, line, noun_of, open_text, place_text, plane_without, reading_why, refusal_text, solid_text, step_text, too_far_text, too_many_text, why_of, word_text, word_at};
 
 use crate::status::Status;
 use crate::texts::{line, name_among, put_corner, put_count, put_length, put_step, wanted_text};
@@ -17,7 +17,7 @@ use ember_triangles::TrianglesFault;
 use ember_words::Texts;
 use std::alloc::Global;
 
-const OUTPUT_ENDING: &[u8] = b": the name must end in .stl, .obj, .ply or .off";
+const OUTPUT_ENDING: &[u8] = b": the name must end in .stl, .obj, .ply, .off or .glb";
 
 const NOT_A_STEP: &[u8] = b": not a number above 0";
 
@@ -30,7 +30,10 @@ const LONG_FILE: &[u8] = b"more than 268435456 bytes; simplify the mesh";
 
 const TOO_MANY: &[u8] = b" triangles after snapping, more than 262144; simplify the meshes";
 
-const TOO_MANY_WRITTEN: &[u8] =
+const TOO_MANY_FOR_GLB: &[u8] =
+    b"more than 4294967295 bytes, too many for GLB; simplify the meshes";
+
+const TOO_MANY_FOR_STL: &[u8] =
     b"more than 4294967295 triangles, too many for STL; simplify the meshes";
 
 const SCENE_IS: &[u8] = b": the scene is ";
@@ -39,6 +42,9 @@ const COARSER_STEP: &[u8] = b" long, which needs a step of at least ";
 
 const TOO_FAR_FOR_STL: &[u8] =
     b"a corner of the result is too far from 0 for STL; move the meshes to the origin";
+
+const TOO_FAR_FOR_GLB: &[u8] =
+    b"a corner of the result is too far from 0 for GLB; move the meshes to the origin";
 
 const TOO_FAR_FOR_DECIMALS: &[u8] =
     b"a corner of the result is 10^21 or more from 0; move the meshes to the origin";
@@ -263,7 +269,54 @@ fn too_far_text(format: OutputFormat) -> &'static [u8]
 {
     match format {
         OutputFormat::Stl => TOO_FAR_FOR_STL,
+        OutputFormat::Glb => TOO_FAR_FOR_GLB,
         OutputFormat::Obj | OutputFormat::Ply | OutputFormat::Off => TOO_FAR_FOR_DECIMALS,
+    }
+}
+
+// Appends why not all files are read.
+fn put_reading_why(files: &Texts, status: &Status, text: &mut Vec<u8>) -> Result<(), OutOfMemory>
+    ensures { OnOk result (text.new.items ≡ text.old.items ++ reading_why files.now status.now) }
+{
+    match status {
+        Status::ReadFault(number) => put_file(files, *number, b"cannot be read", text),
+        Status::FileRefused(number, reason) => put_file(files, *number, reason.as_bytes(), text),
+        Status::LongFile(number) => put_file(files, *number, LONG_FILE, text),
+        Status::OutOfMemory => text.extend_from_slice(b"out of memory"),
+        Status::Done
+        | Status::Words(_)
+        | Status::StepOfNoGrid
+        | Status::WriteFault
+        | Status::NoTriangles
+        | Status::NotClosed(_, _)
+        | Status::ExprRefused(_)
+        | Status::Unbounded
+        | Status::TooManyTriangles(_)
+        | Status::TooManyWritten
+        | Status::StepTooSmall(_)
+        | Status::TooFar
+        | Status::Uncertified(_) => Ok(()),
+    }
+}
+
+/// The line of files that aren't all read.
+pub fn reading_line(alloc: Global, files: &Texts, status: &Status) -> Result<Vec<u8>, OutOfMemory>
+    ensures { IfOk result (λ text. text.items ≡ line (reading_why files.now status.now)) }
+{
+    let mut text = Vec::new(alloc);
+    put_reading_why(files, status, &mut text)?;
+    line(alloc, &text)
+}
+
+// That there are too many triangles for this format.
+fn too_many_text(format: OutputFormat) -> &'static [u8]
+    ensures { result.now ≡ too_many_text format }
+{
+    match format {
+        OutputFormat::Glb => TOO_MANY_FOR_GLB,
+        OutputFormat::Stl | OutputFormat::Obj | OutputFormat::Ply | OutputFormat::Off => {
+            TOO_MANY_FOR_STL
+        }
     }
 }
 
@@ -287,7 +340,7 @@ fn put_why(request: &Request, status: &Status, text: &mut Vec<u8>) -> Result<(),
         Status::Unbounded => text.extend_from_slice(b"expression holds outside all meshes"),
         Status::LongFile(number) => put_file(files, *number, LONG_FILE, text),
         Status::TooManyTriangles(count) => put_too_many(*count, text),
-        Status::TooManyWritten => text.extend_from_slice(TOO_MANY_WRITTEN),
+        Status::TooManyWritten => text.extend_from_slice(too_many_text(request.format)),
         Status::StepTooSmall(extent) => put_extent(step, extent, text),
         Status::TooFar => text.extend_from_slice(too_far_text(request.format)),
         Status::OutOfMemory => text.extend_from_slice(b"out of memory"),

@@ -6,10 +6,11 @@ ghost use Rattle.ember_mesh_run.specs.Calls.{TakesUntilFault, shelf_call, sink_c
 ghost use Rattle.ember_mesh_run.specs.Causes.{hides_memory};
 ghost use Rattle.ember_mesh_run.specs.Serves.{IsWordsOutcome, MeshServes};
 
+use crate::infos::serve_infos;
 use crate::lines::refusal_line;
 use crate::messages::{USAGE, VERSION};
 use crate::status::Status;
-use crate::writing::{say, say_out_of_memory, serve, write_message};
+use crate::writing::{say, say_out_of_memory, serve, write_bytes};
 use ember_io::{Shelf, Sink};
 use ember_mesh_words::{Command, Refusal, WordsFault, read_words};
 use ember_model::OutOfMemory;
@@ -75,8 +76,9 @@ fn run_by<S: Shelf, T: Target, O: Sink, E: Sink, C: Fn(u32, &Query) -> Result<An
                 { executor(workers, query) },
             )
         }
-        Ok(Command::Help) => write_message(out, err, USAGE),
-        Ok(Command::Version) => write_message(out, err, VERSION),
+        Ok(Command::Info(names)) => serve_infos(alloc, &names, shelf, out, err),
+        Ok(Command::Help) => write_bytes(out, err, USAGE.as_bytes()),
+        Ok(Command::Version) => write_bytes(out, err, VERSION.as_bytes()),
         Err(WordsFault::Refused(why)) => refuse_words(alloc, words, why, err),
         Err(WordsFault::OutOfMemory) => {
             say_out_of_memory(err);

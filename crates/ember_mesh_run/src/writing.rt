@@ -38,15 +38,15 @@ pub fn say_out_of_memory<E: Sink>(err: &mut E)
     say(err, MEMORY_LINE);
 }
 
-/// Writes a message to `out`, or the line of a failure to err.
-pub fn write_message<O: Sink, E: Sink>(out: &mut O, err: &mut E, message: &str) -> Status
+/// Writes bytes to `out`, or the line of a failure to err.
+pub fn write_bytes<O: Sink, E: Sink>(out: &mut O, err: &mut E, bytes: &[u8]) -> Status
     ensures later { O.faults out.old ≤ O.faults out.new }
-    ensures outcome { (text : List ℕ) × IsMessageOutcome message.now
+    ensures outcome { (text : List ℕ) × IsMessageOutcome bytes.now
         (sink_call O.taken O.flushed O.faults out.old out.new) result text ×
         TakesUntilFault (sink_call E.taken E.flushed E.faults err.old err.new) text }
     ensures memory { hides_memory result ≡ false }
 {
-    match write_all(out, message.as_bytes()) {
+    match write_all(out, bytes) {
         Ok(()) => {
             say(err, &[]);
             Status::Done

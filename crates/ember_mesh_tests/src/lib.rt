@@ -8,6 +8,8 @@ mod cases;
 #[cfg(test)]
 mod devices;
 #[cfg(test)]
+mod infos;
+#[cfg(test)]
 mod refusal_cases;
 #[cfg(test)]
 mod solid_cases;

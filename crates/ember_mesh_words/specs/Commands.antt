@@ -1,5 +1,5 @@
 -- What command the words give
-use Rattle.std.specs.Prelude.{◌≡◌, ◌≤◌, ⊤, ℕ, Bool, true, List, [], ◌∷◌, length, Option, Some, None, Result, Ok, Err, IfSome, if◌then◌else◌}
+use Rattle.std.specs.Prelude.{◌≡◌, ◌≤◌, ⊤, ℕ, Bool, true, false, List, [], ◌∷◌, length, Option, Some, None, Result, Ok, Err, IfSome, if◌then◌else◌}
 use Rattle.std.specs.List.{list_any}
 use Rattle.std.specs.Int.{IsInRange}
 use Rattle.ember_number.specs.Texts.{value_of_text}
@@ -10,7 +10,7 @@ use Rattle.ember_mesh_words.specs.declared.command.OutputFormat.{OutputFormat}
 use Rattle.ember_mesh_words.specs.declared.command.WantedStep.{WantedStep}
 use Rattle.ember_mesh_words.specs.declared.command.WantedStep.TheVariants as step
 use Rattle.ember_mesh_words.specs.declared.faults.Refusal.{Refusal}
-use Rattle.ember_mesh_words.specs.declared.faults.Refusal.TheVariants.{NoCommand, UnknownCommand}
+use Rattle.ember_mesh_words.specs.declared.faults.Refusal.TheVariants.{NoCommand, UnknownCommand, UnknownOption}
 use Rattle.ember_mesh_words.specs.declared.faults.WordsFault.{WordsFault}
 use Rattle.ember_mesh_words.specs.declared.faults.WordsFault.TheVariants.{Refused, OutOfMemory}
 use Rattle.ember_mesh_words.specs.declared.arguments.Argument.{Argument}
@@ -19,7 +19,8 @@ use Rattle.ember_mesh_words.specs.declared.names.Setting.TheVariants as setting
 use Rattle.ember_mesh_words.specs.declared.names.Verb.{Verb}
 use Rattle.ember_mesh_words.specs.declared.names.Verb.TheVariants as verb
 use Rattle.ember_mesh_words.specs.Names.{Text, operator_of, verb_of}
-use Rattle.ember_mesh_words.specs.Arguments.{asks_help, is_quiet, arguments_from, names_in, value_in}
+use Rattle.ember_mesh_words.specs.Arguments.{asks_help, is_help, is_quiet, arguments_from, names_in, value_in}
+use Rattle.ember_mesh_words.specs.Plain.{first_option, plain_names}
 use Rattle.ember_mesh_words.specs.Values.{digits_of, expression_of, files_of, format_of, is_above_zero, output_of, step_of, workers_of}
 
 -- the result is the value or the refusal, or memory ran out
@@ -70,9 +71,20 @@ command_with operation (Err why) = Err why
 command_with operation (Ok arguments) =
     if list_any asks_help arguments then Ok command.Help else as_command (request_of operation arguments)
 
+-- help, or what is said of the meshes with these names; but first an option is refused, by its number
+abbrev pub info_with : Option ℕ → Bool → Result (List Text) Refusal → Result Command Refusal
+info_with (Some number) help files = Err (UnknownOption number)
+info_with None true files = Ok command.Help
+info_with None false (Err why) = Err why
+info_with None false (Ok files) = Ok (command.Info files)
+
+abbrev pub info_of : List Text → Result Command Refusal
+info_of words = info_with (first_option 1 words) (list_any is_help words) (files_of (plain_names words))
+
 -- the words after `help` and `--version` mean nothing
 abbrev pub command_by : Option Verb → List Text → Result Command Refusal
 command_by None words = Err UnknownCommand
+command_by (Some verb.Info) words = info_of words
 command_by (Some verb.Help) words = Ok command.Help
 command_by (Some verb.Version) words = Ok command.Version
 command_by (Some (verb.Compute operation)) words = command_with operation (arguments_from 1 None words)
@@ -99,5 +111,6 @@ pub record IsWithinLimits (request : Request) : Type 0 where
 -- all values of the command are within their limits
 abbrev pub HasLimits : Command → Type 0
 HasLimits (command.Boole request) = IsWithinLimits request
+HasLimits (command.Info files) = IsInRange 1 64 (length files)
 HasLimits command.Help = ⊤
 HasLimits command.Version = ⊤

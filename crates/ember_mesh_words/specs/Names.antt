@@ -19,11 +19,12 @@ verb_of name =
     else (if bytes_eq name (codes "difference") then Some (verb.Compute operation.Difference)
     else (if bytes_eq name (codes "intersection") then Some (verb.Compute operation.Intersection)
     else (if bytes_eq name (codes "bool") then Some (verb.Compute operation.Expression)
+    else (if bytes_eq name (codes "info") then Some verb.Info
     else (if bytes_eq name (codes "help") then Some verb.Help
     else (if bytes_eq name (codes "--help") then Some verb.Help
     else (if bytes_eq name (codes "-h") then Some verb.Help
     else (if bytes_eq name (codes "--version") then Some verb.Version
-    else None)))))))
+    else None))))))))
 
 -- the operator between the meshes of the expression, none if it is given by `--expr`
 abbrev pub operator_of : Operation → Option Text

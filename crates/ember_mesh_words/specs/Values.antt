@@ -42,10 +42,11 @@ ends_in ending name = str_eq_ignore_ascii_case (drop (length name - 4) name) end
 abbrev pub format_of : Text → Result OutputFormat Refusal
 format_of name =
     if ends_in (codes ".stl") name then Ok format.Stl
+    else (if ends_in (codes ".glb") name then Ok format.Glb
     else (if ends_in (codes ".obj") name then Ok format.Obj
     else (if ends_in (codes ".ply") name then Ok format.Ply
     else (if ends_in (codes ".off") name then Ok format.Off
-    else Err OutputEnding)))
+    else Err OutputEnding))))
 
 abbrev pub is_above_zero : Option Fraction → Bool
 is_above_zero None = false

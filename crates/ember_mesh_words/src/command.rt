@@ -6,6 +6,8 @@ use ember_words::{Text, Texts};
 pub enum Command {
     /// Write the mesh of a Boolean.
     Boole(Request),
+    /// Print what is said of each of these meshes, 1 to 64.
+    Info(Texts),
     /// Print the usage.
     Help,
     /// Print the version.
@@ -36,6 +38,8 @@ pub struct Request {
 pub enum OutputFormat {
     /// Binary STL.
     Stl,
+    /// The binary file of glTF 2.0.
+    Glb,
     Obj,
     Ply,
     Off,

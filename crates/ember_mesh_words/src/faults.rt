@@ -36,8 +36,8 @@ pub enum Refusal {
     /// There is no `-o`.
     #[error("-o is missing; see ember-mesh help")]
     NoOutput,
-    /// The name of the output ends in none of `.stl`, `.obj`, `.ply` and `.off`.
-    #[error("-o: the name must end in .stl, .obj, .ply or .off")]
+    /// The name of the output ends in none of `.stl`, `.obj`, `.ply`, `.off` and `.glb`.
+    #[error("-o: the name must end in .stl, .obj, .ply, .off or .glb")]
     OutputEnding,
     /// The value of `--step` is neither `nice` nor `finest` nor a decimal above 0.
     #[error("--step: not a number above 0")]

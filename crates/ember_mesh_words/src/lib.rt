@@ -8,6 +8,7 @@ mod faults;
 mod given;
 mod names;
 mod numbers;
+mod plain;
 mod reading;
 mod texts;
 mod values;

@@ -6,6 +6,7 @@ ghost use Rattle.ember_mesh_words.specs.Names.{verb_of, operator_of, setting_of,
 #[derive(Clone, Copy)]
 pub enum Verb {
     Compute(Operation),
+    Info,
     Help,
     Version,
 }
@@ -40,6 +41,7 @@ impl Verb {
             "difference" => Some(Verb::Compute(Operation::Difference)),
             "intersection" => Some(Verb::Compute(Operation::Intersection)),
             "bool" => Some(Verb::Compute(Operation::Expression)),
+            "info" => Some(Verb::Info),
             "help" => Some(Verb::Help),
             "--help" => Some(Verb::Help),
             "-h" => Some(Verb::Help),

@@ -1,6 +1,6 @@
 // Reading the words.
 ghost use Rattle.std.specs.Prelude.{◌≡◌, ◌∷◌, IfOk, List, None, Ok, map, string_bytes};
-ghost use Rattle.ember_mesh_words.specs.Commands.{Reads, request_of, command_with, command_by, command_of, IsWithinLimits, HasLimits};
+ghost use Rattle.ember_mesh_words.specs.Commands.{Reads, request_of, command_with, info_of, command_by, command_of, IsWithinLimits, HasLimits};
 ghost use Rattle.ember_mesh_words.specs.Arguments.{arguments_from};
 ghost use Rattle.ember_mesh_words.specs.Spelling.{name_of, spelling_of, AreSpelled};
 
@@ -8,6 +8,7 @@ use crate::arguments::{Argument, are_quiet, arguments_of, ask_help, names_in, va
 use crate::command::{Command, Request};
 use crate::faults::{Refusal, WordsFault};
 use crate::names::{Operation, Setting, Verb};
+use crate::plain::{are_for_help, first_option, plain_names};
 use crate::values::{counted, digits, expression, format_of, output, step, workers};
 use std::alloc::Global;
 
@@ -56,6 +57,20 @@ fn command_with(
     Ok(Command::Boole(request_of(alloc, operation, &arguments)?))
 }
 
+// The command `info` with the words after its name.
+fn info_of(alloc: Global, words: &[String]) -> Result<Command, WordsFault>
+    ensures value { Reads (info_of (map string_bytes words.now)) result }
+    ensures limits { IfOk result HasLimits }
+{
+    if let Some(number) = first_option(words) {
+        return Err(WordsFault::Refused(Refusal::UnknownOption(number)));
+    }
+    if are_for_help(words) {
+        return Ok(Command::Help);
+    }
+    Ok(Command::Info(counted(plain_names(alloc, words)?)?))
+}
+
 // The command of this verb and the words after its name.
 fn command_by(alloc: Global, verb: Option<Verb>, words: &[String]) -> Result<Command, WordsFault>
     ensures value { Reads (command_by verb (map string_bytes words.now)) result }
@@ -63,6 +78,7 @@ fn command_by(alloc: Global, verb: Option<Verb>, words: &[String]) -> Result<Com
 {
     match verb {
         Some(Verb::Compute(operation)) => command_with(alloc, operation, words),
+        Some(Verb::Info) => info_of(alloc, words),
         Some(Verb::Help) => Ok(Command::Help),
         Some(Verb::Version) => Ok(Command::Version),
         None => Err(WordsFault::Refused(Refusal::UnknownCommand)),
@@ -86,6 +102,8 @@ fn read(alloc: Global, words: &[String]) -> Result<Command, WordsFault>
 /// value is the next word, whatever this is, or follows an equals sign, as in `--step=0.02`; of
 /// several values of one option the last one counts. Any other word that begins with a hyphen is
 /// refused.
+///
+/// `info` has no options: its words are file names.
 ///
 /// `help`, `--help` and `-h` ask for help, as the first word or after the name of a command.
 /// `--version` is a first word alone. The words after these first words aren't read.

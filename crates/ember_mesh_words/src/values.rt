@@ -73,6 +73,8 @@ pub fn format_of(name: &str) -> Result<OutputFormat, Refusal>
     let name = name.as_bytes();
     if ends_in(b".stl", name) {
         Ok(OutputFormat::Stl)
+    } else if ends_in(b".glb", name) {
+        Ok(OutputFormat::Glb)
     } else if ends_in(b".obj", name) {
         Ok(OutputFormat::Obj)
     } else if ends_in(b".ply", name) {

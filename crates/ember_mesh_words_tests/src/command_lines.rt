@@ -104,23 +104,37 @@ fn expressions_of_operators(rt: HostRuntime) -> Result<(), Fail> {
             (one.expression.as_str(), one.format),
             ("m1", OutputFormat::Obj)
         );
+        let one = request_of(rt.alloc(), &[name, "-o", "x.Glb", "a"])?;
+        assert!(rt; one.format == OutputFormat::Glb);
     }
     Ok(())
 }
 
 #[test]
 fn words_that_ask_for_help_or_the_version(rt: HostRuntime) -> Result<(), Fail> {
-    let helping: [&[&str]; 5] = [
+    let helping: [&[&str]; 6] = [
         &["help"],
         &["help", "union"],
         &["-h", "--x"],
         &["--help"],
         &["union", "a.stl", "--help"],
+        &["info", "a.stl", "-h"],
     ];
     for words in helping {
         assert!(rt; matches!(read(rt.alloc(), words)?, Ok(Command::Help)));
     }
     assert!(rt; matches!(read(rt.alloc(), &["--version"])?, Ok(Command::Version)));
+    Ok(())
+}
+
+#[test]
+fn info_of_files(rt: HostRuntime) -> Result<(), Fail> {
+    let Ok(Command::Info(files)) = read(rt.alloc(), &["info", "a.stl", "b=1.obj"])? else {
+        return Err(Fail::from("no info"));
+    };
+    assert_eq!(rt; files.items().len(), 2);
+    assert_eq!(rt; files.items()[0].as_str(), "a.stl");
+    assert_eq!(rt; files.items()[1].as_str(), "b=1.obj");
     Ok(())
 }
 
@@ -133,7 +147,7 @@ fn refusal(alloc: Global, words: &[&str]) -> Result<Option<Refusal>, Fail> {
 
 #[test]
 fn words_that_are_refused(rt: HostRuntime) -> Result<(), Fail> {
-    let rows: [(&[&str], Refusal); 24] = [
+    let rows: [(&[&str], Refusal); 27] = [
         (&[], Refusal::NoCommand),
         (&["snap", "a.stl"], Refusal::UnknownCommand),
         (&["Union"], Refusal::UnknownCommand),
@@ -149,7 +163,7 @@ fn words_that_are_refused(rt: HostRuntime) -> Result<(), Fail> {
         (&["bool", "-o", "x.stl", "a"], Refusal::NoExpression),
         (&["union", "--expr", "m1", "a"], Refusal::NeedlessExpression),
         (&["union", "a"], Refusal::NoOutput),
-        (&["union", "-o", "x.glb", "a"], Refusal::OutputEnding),
+        (&["union", "-o", "x.gltf", "a"], Refusal::OutputEnding),
         (&["union", "-o", "stl", "a"], Refusal::OutputEnding),
         (
             &["union", "-o", "x.stl", "--step", "0.00e3", "a"],
@@ -185,6 +199,9 @@ fn words_that_are_refused(rt: HostRuntime) -> Result<(), Fail> {
             Refusal::Digits,
         ),
         (&["union", "-o", "x.stl", "--digits=", "a"], Refusal::Digits),
+        (&["info"], Refusal::NoFiles),
+        (&["info", "a", "--quiet"], Refusal::UnknownOption(2)),
+        (&["info", "--help", "-o=x.stl"], Refusal::UnknownOption(2)),
     ];
     for (words, want) in rows {
         assert_eq!(rt; refusal(rt.alloc(), words)?, Some(want));
@@ -195,7 +212,7 @@ fn words_that_are_refused(rt: HostRuntime) -> Result<(), Fail> {
 #[test]
 fn values_that_are_refused_are_known(rt: HostRuntime) -> Result<(), Fail> {
     let rows: [(&[&str], &str, &str); 5] = [
-        (&["union", "-o", "x.glb", "--step=1=2", "a"], "x.glb", "1=2"),
+        (&["union", "-o", "x.3mf", "--step=1=2", "a"], "x.3mf", "1=2"),
         (
             &["union", "--step", "1", "-ox", "a", "--step", "-1"],
             "",

@@ -1,16 +1,16 @@
--- Which listed triangles are tested, and what the test of two triangles first looks at: the bounding box and the
--- plane of each
+-- Which listed triangles are tested, and what the test of two triangles looks at: the bounding box and the planes
+-- of each
 use Rattle.std.specs.Prelude.{ℕ, not, List, map, filter}
 use Rattle.ember_model.specs.declared.tri.Tri.{Tri}
 use Rattle.ember_model.specs.Planes.{support_of}
-use Rattle.ember_model.specs.Faces.{is_flat}
+use Rattle.ember_model.specs.Faces.{is_flat, edges_of}
 use Rattle.ember_box.specs.Near.{tri_at}
 use Rattle.ember_box.specs.Aabbs.{aabb_of_tri}
 use Rattle.ember_pairs.specs.declared.meetings.Candidate.{Candidate}
 
 -- of one triangle
 abbrev pub candidate_of : Tri → Candidate
-candidate_of t = record { aabb = aabb_of_tri t; support = support_of t }
+candidate_of t = record { aabb = aabb_of_tri t; support = support_of t; edges = edges_of t }
 
 -- of the listed triangles, in order
 abbrev pub candidates_at : List Tri → List ℕ → List Candidate

@@ -1,13 +1,12 @@
 // Triangles that lie beyond an edge of another.
 ghost use Rattle.std.specs.Prelude.{◌≡◌, All, IsTrue};
 ghost use Rattle.ember_model.specs.Valid.{IsValidTri, IsValidPlane};
-ghost use Rattle.ember_model.specs.Planes.{support_of};
+ghost use Rattle.ember_model.specs.Faces.{edges_of};
 ghost use Rattle.ember_pairs.specs.Heights.{heights_of, lie_beyond, is_beyond_some};
 ghost use Rattle.ember_pairs.specs.Pairs.{AreMeeting};
 
 use crate::heights::heights_of;
 use ember_model::{Plane, Tri};
-use ember_poly::main_edges;
 
 // Whether no corner of the triangle is behind the plane, and not all are on it.
 fn is_beyond(p: &Plane, t: &Tri) -> bool
@@ -33,12 +32,12 @@ fn is_beyond_some(planes: &[Plane], t: &Tri) -> bool
 }
 
 /// `true` only if two triangles don't meet, as an edge plane of `t` shows: `u` lies beyond it.
-/// `false` shows nothing. `support` is the plane of `t`.
-pub fn is_beyond_an_edge(t: &Tri, support: &Plane, u: &Tri) -> bool
+/// `false` shows nothing. `edges` are the edge planes of `t`.
+pub fn is_beyond_an_edge(t: &Tri, edges: &[Plane], u: &Tri) -> bool
     requires one { IsValidTri t.now }
     requires other { IsValidTri u.now }
-    requires support { support.now ≡ support_of t.now }
+    requires edges { edges.now ≡ edges_of t.now }
     ensures { IsTrue result → AreMeeting t.now u.now → ⊥ }
 {
-    is_beyond_some(&main_edges(t, support), u)
+    is_beyond_some(edges, u)
 }

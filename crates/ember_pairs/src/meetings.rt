@@ -12,24 +12,28 @@ use crate::heights::heights_of;
 use crate::pair::{Pair, PairList};
 use ember_box::{Aabb, aabb_of_tri, aabbs_meet};
 use ember_model::{OutOfMemory, Plane, Scene, Tri, has_no_normal, support_of};
-use ember_poly::{meets, of_tri};
+use ember_poly::{Draft, main_edges};
 use std::alloc::Global;
 
-// What the test of two triangles first looks at: the bounding box and the plane of each.
+// What the test of two triangles looks at: the bounding box and the planes of each. They are
+// computed once for each triangle of a leaf, not for each pair.
 #[derive(Clone, Copy)]
 struct Candidate {
     aabb: Aabb,
     support: Plane,
+    edges: [Plane; 3],
 }
 
-// The bounding box and the plane of a triangle.
+// The bounding box and the planes of a triangle.
 fn candidate_of(t: &Tri) -> Candidate
     requires { IsValidTri t.now }
     ensures { result ≡ candidate_of t.now }
 {
+    let support = support_of(t);
     Candidate {
         aabb: aabb_of_tri(t),
-        support: support_of(t),
+        support,
+        edges: main_edges(t, &support),
     }
 }
 
@@ -60,7 +64,7 @@ fn are_parted_by_edges(first: &Candidate, t: &Tri, second: &Candidate, u: &Tri) 
     requires other_facet { second.now ≡ candidate_of u.now }
     ensures { IsTrue result → AreMeeting t.now u.now → ⊥ }
 {
-    is_beyond_an_edge(t, &first.support, u) || is_beyond_an_edge(u, &second.support, t)
+    is_beyond_an_edge(t, &first.edges, u) || is_beyond_an_edge(u, &second.edges, t)
 }
 
 // Whether the triangle is flat: its normal is zero.
@@ -71,38 +75,65 @@ fn is_flat(t: &Tri) -> bool
     has_no_normal(&support_of(t))
 }
 
-// Whether some inside point of the face of `t` lies in the closed face of `u`. Makes the ring of
-// the face of `t`.
-fn face_reaches(alloc: Global, t: &Tri, u: &Tri) -> Result<bool, OutOfMemory>
+// Whether some inside point of the face of `t` lies in the closed face of `u`. The draft is only
+// working room, used for one pair after another, so no list is made for a pair.
+fn face_reaches(
+    alloc: Global,
+    draft: &mut Draft,
+    first: &Candidate,
+    t: &Tri,
+    second: &Candidate,
+    u: &Tri,
+) -> Result<bool, OutOfMemory>
     requires one { IsValidTri t.now }
     requires other { IsValidTri u.now }
+    requires facet { first.now ≡ candidate_of t.now }
+    requires other_facet { second.now ≡ candidate_of u.now }
     requires face { is_flat t.now ≡ false }
-    requires other_face { is_flat u.now ≡ false }
     ensures { IfOk result (λ b. IsTrue b ↔ Meets (face_of t.now) (face_of u.now)) }
 {
-    match of_tri(alloc, t)? {
-        None => Ok(false),
-        Some(r) => Ok(meets(&r, u)),
-    }
+    draft.begin(t, &first.support, &first.edges)?;
+    Ok(draft.meets_face(alloc, &second.support, &second.edges))
 }
 
-// Whether two triangles meet. Makes the ring of one face, and that of the other only if the first
-// doesn't show it.
-fn faces_meet(alloc: Global, t: &Tri, u: &Tri) -> Result<bool, OutOfMemory>
+// Whether the triangle of a candidate is flat: its normal is zero.
+fn has_no_face(candidate: &Candidate, t: &Tri) -> bool
+    requires { candidate.now ≡ candidate_of t.now }
+    ensures { result ≡ is_flat t.now }
+{
+    has_no_normal(&candidate.support)
+}
+
+// Whether two triangles meet. The face of the second is looked at only if that of the first doesn't
+// show it.
+fn faces_meet(
+    alloc: Global,
+    draft: &mut Draft,
+    first: &Candidate,
+    t: &Tri,
+    second: &Candidate,
+    u: &Tri,
+) -> Result<bool, OutOfMemory>
     requires one { IsValidTri t.now }
     requires other { IsValidTri u.now }
+    requires facet { first.now ≡ candidate_of t.now }
+    requires other_facet { second.now ≡ candidate_of u.now }
     ensures { IfOk result (λ b. IsTrue b ↔ AreMeeting t.now u.now) }
 {
-    if is_flat(t) || is_flat(u) {
+    if has_no_face(first, t) || has_no_face(second, u) {
         return Ok(false);
     }
-    Ok(face_reaches(alloc, t, u)? || face_reaches(alloc, u, t)?)
+    Ok(
+        face_reaches(alloc, draft, first, t, second, u)?
+            || face_reaches(alloc, draft, second, u, first, t)?,
+    )
 }
 
-// Whether two triangles meet. Rings are made only if neither bounding boxes nor corners nor edges
-// show that they don't.
+// Whether two triangles meet. Faces are looked at only if neither bounding boxes nor corners nor
+// edges show that they don't.
 fn are_meeting(
     alloc: Global,
+    draft: &mut Draft,
     first: &Candidate,
     t: &Tri,
     second: &Candidate,
@@ -123,7 +154,7 @@ fn are_meeting(
     if are_parted_by_edges(first, t, second, u) {
         return Ok(false);
     }
-    faces_meet(alloc, t, u)
+    faces_meet(alloc, draft, first, t, second, u)
 }
 
 /// The same as `meeting`, for a list of triangles in place of a scene. The only error is
@@ -138,7 +169,8 @@ pub fn meet_at(alloc: Global, tris: &[Tri], i: u32, j: u32) -> Result<bool, OutO
     let u = tris[j as usize];
     let f = candidate_of(&t);
     let g = candidate_of(&u);
-    are_meeting(alloc, &f, &t, &g, &u)
+    let mut draft = Draft::new(alloc);
+    are_meeting(alloc, &mut draft, &f, &t, &g, &u)
 }
 
 /// Whether the triangles `i` and `j` of the scene meet: neither is flat, and some inside point of
@@ -168,6 +200,7 @@ fn candidates_at(alloc: Global, tris: &[Tri], list: &[u32]) -> Result<Vec<Candid
 // Whether the triangles with the indices `list[a]` and `list[b]` meet.
 fn meet_in(
     alloc: Global,
+    draft: &mut Draft,
     tris: &[Tri],
     list: &[u32],
     candidates: &[Candidate],
@@ -184,7 +217,7 @@ fn meet_in(
 {
     let t = tris[list[a] as usize];
     let u = tris[list[b] as usize];
-    are_meeting(alloc, &candidates[a], &t, &candidates[b], &u)
+    are_meeting(alloc, draft, &candidates[a], &t, &candidates[b], &u)
 }
 
 // Appends a pair if its triangles meet.
@@ -200,6 +233,7 @@ fn push_if(meet: bool, pair: Pair, out: &mut Vec<Pair>) -> Result<(), OutOfMemor
 // Appends the meeting pairs of `list[a]` with all later ones of the list.
 fn push_row(
     alloc: Global,
+    draft: &mut Draft,
     tris: &[Tri],
     list: &[u32],
     candidates: &[Candidate],
@@ -219,7 +253,11 @@ fn push_row(
             low: list[a],
             high: list[b],
         };
-        push_if(meet_in(alloc, tris, list, candidates, a, b)?, pair, out)?;
+        push_if(
+            meet_in(alloc, draft, tris, list, candidates, a, b)?,
+            pair,
+            out,
+        )?;
     }
     Ok(())
 }
@@ -231,9 +269,10 @@ fn tested_pairs(alloc: Global, tris: &[Tri], list: &[u32]) -> Result<PairList, O
     ensures { IfOk result (λ ps. AreMeetingPairs tris.now list.now ps) }
 {
     let candidates = candidates_at(alloc, tris, list)?;
+    let mut draft = Draft::new(alloc);
     let mut out = Vec::new(alloc);
     for a in 0..list.len() {
-        push_row(alloc, tris, list, &candidates, a, &mut out)?;
+        push_row(alloc, &mut draft, tris, list, &candidates, a, &mut out)?;
     }
     Ok(PairList::of(out))
 }

@@ -31,12 +31,31 @@ pub fn narrow_product(a: i64, x: i128) -> i128
     a as i128 * (x as i64) as i128
 }
 
+/// `true` only if the size of the number is below 2^62.
+pub fn is_small(n: i128) -> bool
+    ensures { result ≡ true → Small 4611686018427387903 n }
+{
+    -4611686018427387904 < n && n < 4611686018427387904
+}
+
+/// The side of the plane on which a point with small numbers lies, as by `side`.
+pub fn small_side(p: &Plane, m: &Meet) -> Sign
+    requires plane { IsValidPlane p.now }
+    requires x { Small 4611686018427387903 m.now.x }
+    requires y { Small 4611686018427387903 m.now.y }
+    requires z { Small 4611686018427387903 m.now.z }
+    requires w { Small 4611686018427387903 m.now.w }
+    ensures { result ≡ sgn (value_at p.now (spot_of m.now)) }
+{
+    let front = narrow_product(p.a, m.x) + narrow_product(p.b, m.y) + narrow_product(p.c, m.z);
+    sign_of(front - narrow_product(p.d, m.w))
+}
+
 /// The side of the plane on which a narrow point lies, as by `side`.
 pub fn narrow_side(p: &Plane, m: &Meet) -> Sign
     requires plane { IsValidPlane p.now }
     requires narrow { is_narrow (spot_of m.now) ≡ true }
     ensures { result ≡ sgn (value_at p.now (spot_of m.now)) }
 {
-    let front = narrow_product(p.a, m.x) + narrow_product(p.b, m.y) + narrow_product(p.c, m.z);
-    sign_of(front - narrow_product(p.d, m.w))
+    small_side(p, m)
 }

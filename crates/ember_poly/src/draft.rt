@@ -1,19 +1,22 @@
 // Faces that planes clip in place.
-ghost use Rattle.std.specs.Prelude.{◌≡◌, ◌<◌, false, length, All, IfOk, OnOk};
+ghost use Rattle.std.specs.Prelude.{◌≡◌, ◌↔◌, ◌<◌, IsTrue, false, length, All, IfOk, OnOk};
 ghost use Rattle.ember_model.specs.Valid.{IsValidTri, IsValidPlane};
 ghost use Rattle.ember_model.specs.Planes.{support_of};
-ghost use Rattle.ember_model.specs.Faces.{is_flat, face_of, edges_of, below};
+ghost use Rattle.ember_model.specs.Faces.{is_flat, face_of, edges_of, below, Meets};
+ghost use Rattle.ember_model.specs.ClearTest.{face_with};
 ghost use Rattle.ember_poly.specs.Boundaries.{sides};
 ghost use Rattle.ember_poly.specs.Passages.{IsPassage};
 ghost use Rattle.ember_poly.specs.Cuts.{IsClip};
 ghost use Rattle.ember_poly.specs.Drafts.{face_in, HoldsRing};
 
 use crate::boundary::{Boundary, with_room};
+use crate::meeting::meets_face;
 use crate::passage::{Passage, classify, find_passage};
 use crate::reach_and_cut::Reach;
 use crate::ring::{Ring, at_corner};
 use ember_model::{OutOfMemory, Plane, Tri};
 use std::alloc::{AllocError, Global};
+use std::mem::replace;
 
 /// A convex face with its corners, which planes clip in place. Its lists keep their room for the
 /// next face.
@@ -131,6 +134,21 @@ impl Draft {
             planes,
             boundary,
         })
+    }
+
+    /// Whether some inside point of the face lies in the closed face of a support plane and edge
+    /// planes. The draft is only working room: its face afterwards has no meaning. The face is moved
+    /// into a ring and back, so no list is made.
+    pub fn meets_face(&mut self, alloc: Global, support: &Plane, edges: &[Plane]) -> bool
+        requires ring { HoldsRing self.old }
+        requires support { IsValidPlane support.now }
+        requires edges { All IsValidPlane edges.now }
+        ensures { IsTrue result ↔ Meets (face_in self.old) (face_with support.now edges.now) }
+    {
+        let ring = replace(self, Draft::new(alloc)).into_ring();
+        let met = meets_face(&ring, support, edges);
+        *self = draft_of(ring);
+        met
     }
 
     // The draft as a ring.

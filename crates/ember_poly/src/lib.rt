@@ -10,6 +10,8 @@
 mod boundary;
 mod cutting;
 mod draft;
+mod edge_line;
+mod edge_planes;
 mod law;
 mod level;
 mod meeting;
@@ -20,6 +22,8 @@ mod ring;
 
 pub use cutting::{above, clip, cut, parts};
 pub use draft::Draft;
+pub use edge_line::EdgeLine;
+pub use edge_planes::{edge_plane_times, line_through, slope_number};
 pub use law::rings_are_valid_and_bounded;
 pub use meeting::{has_point_within, meets, meets_face};
 pub use reach_and_cut::{Cut, Reach};

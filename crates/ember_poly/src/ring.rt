@@ -9,9 +9,8 @@ ghost use Rattle.ember_point.specs.Points.{spot_of};
 ghost use Rattle.ember_poly.specs.Sides.{ring_edges, AreEdges, AreCorners};
 
 use crate::boundary::{Boundary, with_room};
-use ember_model::{
-    Corner, OutOfMemory, Plane, Tri, edge_plane, has_no_normal, main_axis, support_of,
-};
+use crate::edge_planes::{edge_plane_times, slope_number};
+use ember_model::{Corner, OutOfMemory, Plane, Tri, has_no_normal, main_axis, support_of};
 use ember_point::Meet;
 use std::alloc::Global;
 use std::marker::Model;
@@ -64,10 +63,11 @@ pub fn main_edges(t: &Tri, support: &Plane) -> [Plane; 3]
     ensures valid { All IsValidPlane result }
 {
     let k = main_axis(support);
+    let s = slope_number(support, k);
     [
-        edge_plane(t, 0, k),
-        edge_plane(t, 1, k),
-        edge_plane(t, 2, k),
+        edge_plane_times(&t.a, &t.b, k, s),
+        edge_plane_times(&t.b, &t.c, k, s),
+        edge_plane_times(&t.c, &t.a, k, s),
     ]
 }
 

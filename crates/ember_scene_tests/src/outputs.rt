@@ -11,7 +11,7 @@ use crate::scenes::expression;
 use crate::texts::{CUBE, FRACTIONS, LARGER, OPEN, SHIFTED_CUBE, STL_TRIANGLE};
 use ember_balance::Loose;
 use ember_boolean::{
-    BooleanFault, MeshFile, MeshFormat, Output, WantedFile, solid_file, surfaces_in,
+    BooleanFault, FloatFormat, MeshFile, MeshFormat, Output, WantedFile, solid_file, surfaces_in,
 };
 use ember_file::FileFault;
 use ember_grid::Wanted;
@@ -29,6 +29,10 @@ use std::sync::Wait;
 use std::test::Fail;
 use std::thread::Threads;
 use steal_pool::OpenGate;
+
+const STL: MeshFormat = MeshFormat::Floats(FloatFormat::Stl);
+
+const GLB: MeshFormat = MeshFormat::Floats(FloatFormat::Glb);
 
 // The bits of the binary32 of 4.
 const FOUR: u32 = 0x4080_0000;
@@ -244,7 +248,7 @@ fn outcome_of_two<'a, R: Threads + Wait + Sync>(
         files,
         text,
         wanted,
-        MeshFormat::Stl,
+        STL,
         &|query: &Query| -> Result<Answer, OutOfMemory>
             requires { IsQuery query.now }
             ensures { IfOk result (IsAnswer query.entry.now) }
@@ -287,7 +291,7 @@ fn the_difference_of_two_cubes_is_read_again(rt: HostRuntime) -> Result<(), Fail
     let alloc = rt.alloc();
     let cube = cube_stl(alloc)?;
     let files = [stl(&cube), obj(SHIFTED_CUBE)];
-    let Ok(output) = outcome_alone(alloc, &files, b"m1&!m2", Wanted::Nice, MeshFormat::Stl)? else {
+    let Ok(output) = outcome_alone(alloc, &files, b"m1&!m2", Wanted::Nice, STL)? else {
         return Err(Fail::from("refused"));
     };
     check(&rt, &output, &[all_kept(12), all_kept(12)]);
@@ -298,10 +302,30 @@ fn the_difference_of_two_cubes_is_read_again(rt: HostRuntime) -> Result<(), Fail
     assert_eq!(rt; by_two.bytes, output.bytes);
     assert_eq!(rt; by_two.report, output.report);
     let again = [stl(&output.bytes)];
-    let Ok(again) = outcome_alone(alloc, &again, b"m1", Wanted::Nice, MeshFormat::Stl)? else {
+    let Ok(again) = outcome_alone(alloc, &again, b"m1", Wanted::Nice, STL)? else {
         return Err(Fail::from("not read again"));
     };
     check(&rt, &again, &[all_kept(24)]);
+    Ok(())
+}
+
+// 12 bytes of header, 8 before the JSON, which has a multiple of 4, and 8 before 72 of each triangle.
+#[test]
+fn the_difference_as_glb_has_its_triangles(rt: HostRuntime) -> Result<(), Fail> {
+    let alloc = rt.alloc();
+    let cube = cube_stl(alloc)?;
+    let files = [stl(&cube), obj(SHIFTED_CUBE)];
+    let Ok(output) = outcome_alone(alloc, &files, b"m1&!m2", Wanted::Nice, GLB)? else {
+        return Err(Fail::from("refused"));
+    };
+    check_numbers(&rt, &output, &[all_kept(12), all_kept(12)]);
+    let length = output.bytes.len();
+    assert!(rt; length > 28 + 72 * 24);
+    assert_eq!(rt; length % 4, 0);
+    assert!(rt; output.bytes.starts_with(b"glTF\x02\0\0\0"));
+    let numbers = output.bytes.split_at(length - 72 * 24 - 8).1;
+    assert!(rt; numbers.starts_with(b"\xc0\x06\0\0BIN\0"));
+    assert!(rt; !output.is_manifold);
     Ok(())
 }
 
@@ -332,7 +356,7 @@ fn the_difference_as_text_is_read_again(rt: HostRuntime) -> Result<(), Fail> {
         assert!(rt; output.bytes.starts_with(beginning));
         assert!(rt; output.is_manifold);
         let again = [obj(&output.bytes)];
-        let Ok(again) = outcome_alone(alloc, &again, b"m1", Wanted::Nice, MeshFormat::Stl)? else {
+        let Ok(again) = outcome_alone(alloc, &again, b"m1", Wanted::Nice, STL)? else {
             return Err(Fail::from("not read again"));
         };
         check(&rt, &again, &[all_kept(24)]);
@@ -348,7 +372,7 @@ fn fault_of<'a>(
 ) -> Result<Option<BooleanFault<'a>>, Fail>
     requires { IsChoice wanted }
 {
-    Ok(outcome_alone(alloc, files, b"m1", wanted, MeshFormat::Stl)?.err())
+    Ok(outcome_alone(alloc, files, b"m1", wanted, STL)?.err())
 }
 
 #[test]

@@ -9,6 +9,7 @@ use Rattle.ember_model.specs.declared.face.Face.{Face}
 use Rattle.ember_model.specs.declared.plane.Plane.{Plane}
 use Rattle.ember_model.specs.declared.tri.Tri.{Tri}
 use Rattle.ember_model.specs.FaceFiles.{IsFaceFile}
+use Rattle.ember_key.specs.declared.lines.LineKey.{LineKey}
 use Rattle.ember_query.specs.Solids.{IsSolidText}
 use Rattle.ember_tables.specs.declared.tables.Tables.{Tables}
 use Rattle.ember_tables.specs.Edges.{face_edges_of}
@@ -26,11 +27,12 @@ tables_are_in {faces = faces} {tables = tables} read e are =
     record { faces = faces; read = read; are_tables = subst (λ (faces : List Face). AreTables (face_edges_of 0 faces) tables) e are }
 
 -- triangles are certified of equal lists
-pub certified_of : {ps qs : List Plane} {cs ds : List SpacePoint} {ss us : List Segment} (ts : List Triangle) → ps ≡ qs → cs ≡ ds → ss ≡ us → IsCertified ps cs ss ts → IsCertified qs ds us ts
-certified_of {ps} {qs} {cs} {ds} {ss} {us} ts a b d h =
-    let on_planes : IsCertified qs cs ss ts = subst (λ (ps : List Plane). IsCertified ps cs ss ts) a h in
-    let on_corners : IsCertified qs ds ss ts = subst (λ (cs : List SpacePoint). IsCertified qs cs ss ts) b on_planes in
-    subst (λ (ss : List Segment). IsCertified qs ds ss ts) d on_corners
+pub certified_of : {ps qs : List Plane} {ls ks : List LineKey} {cs ds : List SpacePoint} {ss us : List Segment} (ts : List Triangle) → ps ≡ qs → ls ≡ ks → cs ≡ ds → ss ≡ us → IsCertified ps ls cs ss ts → IsCertified qs ks ds us ts
+certified_of {ps} {qs} {ls} {ks} {cs} {ds} {ss} {us} ts a l b d h =
+    let on_planes : IsCertified qs ls cs ss ts = subst (λ (ps : List Plane). IsCertified ps ls cs ss ts) a h in
+    let on_lines : IsCertified qs ks cs ss ts = subst (λ (ls : List LineKey). IsCertified qs ls cs ss ts) l on_planes in
+    let on_corners : IsCertified qs ks ds ss ts = subst (λ (cs : List SpacePoint). IsCertified qs ks cs ss ts) b on_lines in
+    subst (λ (ss : List Segment). IsCertified qs ks ds ss ts) d on_corners
 
 module _ (tris : List Tri) (formula : Formula) (bytes : List ℕ) (tables : Tables) (text : IsSolidText tris formula bytes) (are : AreTablesIn bytes tables) where
   pub solid_mesh_is : (mesh : SolidMesh) → IsMeshOf tables mesh → IsSolidMesh tris formula mesh

@@ -12,7 +12,8 @@ use Rattle.ember_solid_mesh.specs.FaceTables.{AreTablesIn}
 pub record IsMeshOf (tables : Tables) (mesh : SolidMesh) : Type 0 where
   pub planes : mesh.planes.items ≡ tables.planes.items
   pub corners : mesh.corners.items ≡ tables.corners.items
-  pub certified : IsCertified mesh.planes.items mesh.corners.items tables.segments.items mesh.triangles.items
+  pub certified : IsCertified mesh.planes.items tables.lines.items mesh.corners.items tables.segments.items
+      mesh.triangles.items
 
 -- the mesh is that of the faces of the solid's document
 pub record IsSolidMesh (tris : List Tri) (formula : Formula) (mesh : SolidMesh) : Type 0 where

@@ -12,6 +12,8 @@ mod floats;
 #[cfg(test)]
 mod formats;
 #[cfg(test)]
+mod glb;
+#[cfg(test)]
 mod grids;
 #[cfg(test)]
 mod numbers;

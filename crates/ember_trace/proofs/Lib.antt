@@ -22,7 +22,6 @@ pub mod Slides
 pub mod SomeSides
 pub mod Tallies
 pub mod ThreeCorners
-pub mod ThreeEdges
 pub mod TracedSides
 pub mod PathVertices
 pub mod VertexSides

@@ -9,7 +9,7 @@ use Rattle.ember_model.specs.declared.point.Corner.{Corner}
 use Rattle.ember_model.specs.Planes.{value_at, unit, times_plane, edge_through}
 use Rattle.ember_point.specs.declared.meet_point.Meet.{Meet}
 use Rattle.ember_point.specs.Points.{spot_of, slid}
-use Rattle.ember_trace.specs.declared.edge_line.EdgeLine.{EdgeLine}
+use Rattle.ember_poly.specs.declared.edge_line.EdgeLine.{EdgeLine}
 use Rattle.ember_trace.specs.declared.path.Path.{Path}
 use Rattle.ember_trace.specs.Paths.{second_of, slid_to_lo}
 

@@ -1,7 +1,7 @@
 // The signed crossings of segments with planes.
 ghost use Rattle.std.specs.Prelude.{◌≡◌};
 ghost use Rattle.ember_algebra.specs.Size.{Small};
-ghost use Rattle.ember_algebra.specs.Sign.{flip, sgn, sign, is_nil};
+ghost use Rattle.ember_algebra.specs.Sign.{flip, sgn, is_nil};
 ghost use Rattle.ember_model.specs.Planes.{along};
 ghost use Rattle.ember_trace.specs.Crossings.{signed_crossing, side_before, side_after};
 
@@ -56,18 +56,6 @@ pub fn is_level(p: &Plane, k: Axis) -> bool
     ensures { result ≡ is_nil (sgn (along p.now k)) }
 {
     matches!(normal_sign(p, k), Sign::Zero)
-}
-
-/// The sign of the normal's entry along an axis, as a number.
-pub fn slope_number(p: &Plane, k: Axis) -> i64
-    ensures value { result ≡ sign (along p.now k) }
-    ensures small { Small 1 result }
-{
-    match normal_sign(p, k) {
-        Sign::Neg => -1,
-        Sign::Zero => 0,
-        Sign::Pos => 1,
-    }
 }
 
 /// `at` is the side of the plane on which a point lies. The result is the side on which the point

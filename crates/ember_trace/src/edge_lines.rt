@@ -3,32 +3,14 @@ ghost use Rattle.std.specs.Prelude.{◌≡◌, true, ℤ, ◌*ℤ◌, ◌+ℤ◌
 ghost use Rattle.ember_algebra.specs.Size.{Small};
 ghost use Rattle.ember_algebra.specs.Sign.{sgn};
 ghost use Rattle.ember_model.specs.Valid.{IsValidCorner};
-ghost use Rattle.ember_model.specs.Sizes.{IsEdgeSized};
 ghost use Rattle.ember_point.specs.declared.meet_point.Meet.{Meet as MeetView};
 ghost use Rattle.ember_point.specs.Points.{spot_of, is_narrow};
 ghost use Rattle.ember_trace.specs.Edges.{edge_times, fixed_edge, side_at, side_seen};
 
-use crate::edge_line::EdgeLine;
 use ember_algebra::{Sign, sign_of};
-use ember_model::{Axis, Corner, Plane};
+use ember_model::{Axis, Corner};
 use ember_point::{Meet, narrow_product};
-
-// The line through two points, times a sign.
-fn line_through(from_p: i32, from_q: i32, to_p: i32, to_q: i32, s: i64) -> EdgeLine
-    requires from_p { Small 2047 from_p }
-    requires from_q { Small 2047 from_q }
-    requires to_p { Small 2047 to_p }
-    requires to_q { Small 2047 to_q }
-    requires s { Small 1 s }
-    ensures dq { result.dq ≡ s *ℤ (to_q -ℤ from_q) }
-    ensures dp { result.dp ≡ s *ℤ (to_p -ℤ from_p) }
-    ensures d { result.d ≡ s *ℤ (to_q -ℤ from_q) *ℤ from_p -ℤ s *ℤ (to_p -ℤ from_p) *ℤ from_q }
-{
-    let dq = s * (to_q as i64 - from_q as i64);
-    let dp = s * (to_p as i64 - from_p as i64);
-    let d = dq * from_p as i64 - dp * from_q as i64;
-    EdgeLine { dq, dp, d }
-}
+use ember_poly::{EdgeLine, line_through};
 
 // The side of the line on which the point (p / w, q / w) lies.
 fn line_side(line: &EdgeLine, p: i128, q: i128, w: i128) -> Sign
@@ -55,8 +37,8 @@ pub fn line_of_edge(u: &Corner, v: &Corner, k: Axis, s: i64) -> EdgeLine
     }
 }
 
-/// The side of a line on which the narrow point `m` is, seen along the axis `k`.
-pub fn side_of_line(line: &EdgeLine, k: Axis, m: &Meet) -> Sign
+// The side of a line on which the narrow point `m` is, seen along the axis `k`.
+fn narrow_side_of_line(line: &EdgeLine, k: Axis, m: &Meet) -> Sign
     requires { is_narrow (spot_of m.now) ≡ true }
     ensures { result ≡ side_seen line.now k m.now }
 {
@@ -67,42 +49,37 @@ pub fn side_of_line(line: &EdgeLine, k: Axis, m: &Meet) -> Sign
     }
 }
 
-/// The plane through an edge parallel to the axis, times a sign.
-pub fn edge_plane_times(u: &Corner, v: &Corner, k: Axis, s: i64) -> Plane
-    requires from { IsValidCorner u.now }
-    requires to { IsValidCorner v.now }
-    requires s { Small 1 s }
-    ensures value { result ≡ edge_times u.now v.now k s }
-    ensures small { IsEdgeSized result }
+// The side of the line on which the point (p / w, q / w) lies, for numbers of any size.
+fn wide_line_side(line: &EdgeLine, p: i128, q: i128, w: i128) -> Sign
+    requires p { Small 4951760157141521099596496895 p }
+    requires q { Small 4951760157141521099596496895 q }
+    requires w { Small 302231454903657293676543 w }
+    ensures { result ≡ sgn (line.now.dq *ℤ p -ℤ line.now.dp *ℤ q -ℤ line.now.d *ℤ w) }
+{
+    sign_of(line.dq as i128 * p - line.dp as i128 * q - line.d as i128 * w)
+}
+
+// The side of a line on which the point `m` is, seen along the axis `k`.
+fn wide_side_of_line(line: &EdgeLine, k: Axis, m: &Meet) -> Sign
+    ensures { result ≡ side_seen line.now k m.now }
 {
     match k {
-        Axis::X => {
-            let line = line_through(u.y, u.z, v.y, v.z, s);
-            Plane {
-                a: 0,
-                b: line.dq,
-                c: -line.dp,
-                d: line.d,
-            }
-        }
-        Axis::Y => {
-            let line = line_through(u.z, u.x, v.z, v.x, s);
-            Plane {
-                a: -line.dp,
-                b: 0,
-                c: line.dq,
-                d: line.d,
-            }
-        }
-        Axis::Z => {
-            let line = line_through(u.x, u.y, v.x, v.y, s);
-            Plane {
-                a: line.dq,
-                b: -line.dp,
-                c: 0,
-                d: line.d,
-            }
-        }
+        Axis::X => wide_line_side(line, m.y, m.z, m.w),
+        Axis::Y => wide_line_side(line, m.z, m.x, m.w),
+        Axis::Z => wide_line_side(line, m.x, m.y, m.w),
+    }
+}
+
+/// The side of a line on which the point `m` is, seen along the axis `k`. If the point is known to
+/// be narrow, a third of the steps are enough.
+pub fn side_of_line(line: &EdgeLine, k: Axis, m: &Meet, narrow: bool) -> Sign
+    requires { narrow ≡ true → is_narrow (spot_of m.now) ≡ true }
+    ensures { result ≡ side_seen line.now k m.now }
+{
+    if narrow {
+        narrow_side_of_line(line, k, m)
+    } else {
+        wide_side_of_line(line, k, m)
     }
 }
 

@@ -7,7 +7,6 @@
 #![tactic(auto)]
 
 mod crossing_signs;
-mod edge_line;
 mod edge_lines;
 mod edges;
 mod law;

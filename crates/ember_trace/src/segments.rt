@@ -3,23 +3,22 @@ ghost use Rattle.std.specs.Prelude.{◌≡◌, int_lt};
 ghost use Rattle.std.specs.Int.{int_max};
 ghost use Rattle.ember_algebra.specs.Size.{Small};
 ghost use Rattle.ember_algebra.specs.declared.Sign.{Sign};
-ghost use Rattle.ember_algebra.specs.Sign.{is_neg};
-ghost use Rattle.ember_model.specs.Valid.{IsValidPlane};
-ghost use Rattle.ember_model.specs.Sizes.{IsSupportSized};
 ghost use Rattle.ember_model.specs.Planes.{edge_planes};
 ghost use Rattle.ember_box.specs.Aabbs.{interval_along};
 ghost use Rattle.ember_trace.specs.Paths.{HasAxes, coordinate, side_at_start, side_after_first, side_at_end, floor_at_end};
 ghost use Rattle.ember_trace.specs.Crossings.{all_behind, contains_above, may_contain, may_end, in_root, AreEndFloors, first_runs_through, second_runs_through, last_runs_through, first_segment, second_segment, segments_above_wall, last_segment, side_before, side_after, crossing_before, crossing_after};
 
 use crate::crossing_signs::{is_level, side_after, side_before, signed_crossing};
-use crate::edges::{is_behind_edges_at_start, narrow_last_is_behind, narrow_second_is_behind};
+use crate::edges::{
+    is_behind_edges_at_end, is_behind_edges_at_start, narrow_second_is_behind,
+    wide_second_is_behind,
+};
 use crate::near_triangle::NearTriangle;
 use crate::own_triangle::{is_own, support_side_at_end};
 use crate::path::Path;
 use crate::vertices::coordinate;
-use ember_algebra::Sign;
 use ember_box::{Interval, interval_along};
-use ember_model::{Axis, Plane, edge_plane};
+use ember_model::Axis;
 
 // Whether `at` plus any small number above 0 is strictly between the ends of the interval.
 fn contains_above(interval: &Interval, at: i32) -> bool
@@ -107,29 +106,6 @@ pub fn end_floors_of(way: &Path) -> EndFloors
     EndFloors { first, second, top }
 }
 
-// Whether the sign is `Neg`.
-fn is_neg(sign: Sign) -> bool
-    ensures { result ≡ is_neg sign }
-{
-    matches!(sign, Sign::Neg)
-}
-
-// Whether the first segment ends behind the plane.
-fn is_behind_after_first(way: &Path, p: &Plane) -> bool
-    requires { IsSupportSized p.now }
-    ensures { result ≡ is_neg (side_after_first way.now p.now) }
-{
-    is_neg(way.side_after_first(p))
-}
-
-// Whether the path ends behind the plane.
-fn is_behind_at_end(way: &Path, p: &Plane) -> bool
-    requires { IsValidPlane p.now }
-    ensures { result ≡ is_neg (side_at_end way.now p.now) }
-{
-    is_neg(way.side_at_end(p))
-}
-
 // Whether all edge planes parallel to the first segment are negative at its start.
 fn first_is_behind(triangle: &NearTriangle, way: &Path) -> bool
     ensures { result ≡ all_behind (λ p. side_at_start way.now p) (edge_planes triangle.now.tri way.now.first_axis) }
@@ -145,34 +121,23 @@ fn second_is_behind(triangle: &NearTriangle, way: &Path) -> bool
     requires { HasAxes way.now }
     ensures { result ≡ all_behind (λ p. side_after_first way.now p) (edge_planes triangle.now.tri way.now.second_axis) }
 {
-    let k = way.second_axis;
-    let t = &triangle.tri;
-    if is_level(&triangle.support, k) {
+    if is_level(&triangle.support, way.second_axis) {
         return false;
     }
     if way.narrow {
         return narrow_second_is_behind(triangle, way);
     }
-    is_behind_after_first(way, &edge_plane(t, 0, k))
-        && (is_behind_after_first(way, &edge_plane(t, 1, k))
-            && is_behind_after_first(way, &edge_plane(t, 2, k)))
+    wide_second_is_behind(triangle, way)
 }
 
 // Whether all edge planes parallel to the last segment are negative at its end.
 fn last_is_behind(triangle: &NearTriangle, way: &Path) -> bool
     ensures { result ≡ all_behind (λ p. side_at_end way.now p) (edge_planes triangle.now.tri way.now.main) }
 {
-    let k = way.main;
-    let t = &triangle.tri;
-    if is_level(&triangle.support, k) {
+    if is_level(&triangle.support, way.main) {
         return false;
     }
-    if way.narrow {
-        return narrow_last_is_behind(triangle, way);
-    }
-    is_behind_at_end(way, &edge_plane(t, 0, k))
-        && (is_behind_at_end(way, &edge_plane(t, 1, k))
-            && is_behind_at_end(way, &edge_plane(t, 2, k)))
+    is_behind_edges_at_end(triangle, way)
 }
 
 // The same, where nothing is computed for the region's own triangle.

@@ -12,9 +12,8 @@ use ember_model::Plane;
 use std::alloc::Global;
 
 /// Triangles that cut up the faces whose edges are the segments. `planes`, `lines` and `corners`
-/// are what the segments' numbers denote; of a line only its direction counts. It is a fault if
-/// faces of one plane overlap, if the faces aren't closed along a line, or if no certified
-/// triangles are found.
+/// are what the segments' numbers denote. It is a fault if faces of one plane overlap, if the faces
+/// aren't closed along a line, or if no certified triangles are found.
 pub fn certified_triangles(
     alloc: Global,
     planes: &[Plane],
@@ -23,7 +22,7 @@ pub fn certified_triangles(
     segments: &[Segment],
 ) -> Result<Vec<Triangle>, TrianglesFault>
     requires { All IsValidPlane planes.now }
-    ensures { IfOk result (λ ts. IsCertified planes.now corners.now segments.now ts.items) }
+    ensures { IfOk result (λ ts. IsCertified planes.now lines.now corners.now segments.now ts.items) }
 {
     let tables = Tables {
         planes,
@@ -31,7 +30,7 @@ pub fn certified_triangles(
         corners,
     };
     let triangles = found_triangles(alloc, &tables, segments)?;
-    if !is_certified(alloc, planes, corners, segments, &triangles)? {
+    if !is_certified(alloc, planes, lines, corners, segments, &triangles)? {
         return Err(TrianglesFault::NotCertified);
     }
     Ok(triangles)

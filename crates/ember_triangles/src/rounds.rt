@@ -7,11 +7,15 @@ use crate::tables::Tables;
 use crate::through::crossings;
 use crate::walk::Boundaries;
 use ember_certificate::{Segment, Triangle};
+use ember_key::LineKey;
 use std::alloc::Global;
 
-// The line after those of all segments: the lines of diagonals begin there.
-fn first_free_line(segments: &[Segment]) -> Result<u32, TrianglesFault> {
-    let mut free: u32 = 0;
+// The line after those of the table and of all segments: the lines of diagonals begin there.
+fn first_free_line(lines: &[LineKey], segments: &[Segment]) -> Result<u32, TrianglesFault> {
+    let Ok(known) = u32::try_from(lines.len()) else {
+        return Err(TrianglesFault::NoLineLeft);
+    };
+    let mut free = known;
     for s in segments {
         let Some(next) = s.line.checked_add(1) else {
             return Err(TrianglesFault::NoLineLeft);
@@ -49,7 +53,7 @@ pub fn found_triangles(
     tables: &Tables,
     segments: &[Segment],
 ) -> Result<Vec<Triangle>, TrianglesFault> {
-    let free = first_free_line(segments)?;
+    let free = first_free_line(tables.lines, segments)?;
     let mut by_line = Vec::from_slice(alloc, segments)?;
     by_line.sort_unstable_by_key(|s| (s.line, s.plane, s.start, s.end));
     let mut parts = empty_parts(alloc, segments)?;

@@ -16,7 +16,9 @@ pub returns-in-Unbounded : goal.returns-in-Unbounded
 returns-in-Unbounded c = rw c.in-Unbounded.is (on_ok_if _ _ c.extend_from_slice-in-Unbounded.result c.extend_from_slice-in-Unbounded.ensures.items refl)
 
 pub returns-in-TooManyWritten : goal.returns-in-TooManyWritten
-returns-in-TooManyWritten c = rw c.in-TooManyWritten.is (on_ok_if _ _ c.extend_from_slice-in-TooManyWritten.result c.extend_from_slice-in-TooManyWritten.ensures.items refl)
+returns-in-TooManyWritten c =
+    rw c.in-TooManyWritten.is
+    (on_ok_if _ _ c.extend_from_slice-in-TooManyWritten.result c.extend_from_slice-in-TooManyWritten.ensures.items (ap (λ (why : List ℕ). c.args.text.now.items ++ why) c.too_many_text.ensures))
 
 pub returns-in-TooFar : goal.returns-in-TooFar
 returns-in-TooFar c =

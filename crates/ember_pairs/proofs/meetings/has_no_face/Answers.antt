@@ -1,0 +1,11 @@
+use Rattle.std.proofs.Common.{◌∙◌, ap, ◌&&◌}
+use Rattle.ember_algebra.specs.Sign.{is_zero}
+use Rattle.ember_model.specs.declared.plane.Plane.{Plane}
+use Rattle.ember_model.specs.Faces.{is_flat}
+use Rattle.ember_pairs.proofs.CandidatePlanes.{candidate_support}
+use Rattle.ember_pairs.proofs.meetings.has_no_face.Goals as goal
+
+pub returns : goal.returns
+unfolding is_flat
+returns c =
+    c.has_no_normal.ensures ∙ ap (λ (p : Plane). is_zero p.a && (is_zero p.b && is_zero p.c)) (candidate_support c.args.candidate.now c.args.t.now c.requires)

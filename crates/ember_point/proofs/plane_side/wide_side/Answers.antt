@@ -1,0 +1,52 @@
+use Rattle.std.proofs.Common.{◌∙◌, ap, List, [], ◌∷◌, ℕ}
+use mir.Syntax.{w128}
+use Rattle.ember_algebra.specs.Sign.{sgn}
+use Rattle.ember_algebra.proofs.Exact.{Code, stored, kept, wide, ◌⊠◌, ◌⊞◌, ◌⊟◌, Inputs, ◌&◌, done, exact, no_overflow}
+use Rattle.ember_model.specs.declared.plane.Plane.{Plane}
+use Rattle.ember_model.specs.declared.point.Spot.{Spot}
+use Rattle.ember_model.specs.Valid.{IsValidPlane, IsValidMeet}
+use Rattle.ember_point.proofs.plane_side.wide_side.Goals as goal
+
+abbrev bounds : List ℕ
+bounds =
+    33554431 ∷ 4951760157141521099596496895 ∷ 33554431 ∷ 4951760157141521099596496895 ∷ 33554431 ∷ 4951760157141521099596496895 ∷ 549755813887 ∷ 302231454903657293676543 ∷ []
+
+inputs : {p : Plane} {v : Spot} → IsValidPlane p → IsValidMeet v → Inputs bounds (p.a ∷ v.x ∷ p.b ∷ v.y ∷ p.c ∷ v.z ∷ p.d ∷ v.w ∷ [])
+inputs a b = a.a & b.x & a.b & b.y & a.c & b.z & a.d & b.w & done
+
+abbrev x : Code
+x = stored w128 (wide 0 ⊠ kept 1)
+
+abbrev y : Code
+y = stored w128 (wide 2 ⊠ kept 3)
+
+abbrev z : Code
+z = stored w128 (wide 4 ⊠ kept 5)
+
+abbrev w : Code
+w = stored w128 (wide 6 ⊠ kept 7)
+
+abbrev xy : Code
+xy = stored w128 (x ⊞ y)
+
+abbrev front : Code
+front = stored w128 (xy ⊞ z)
+
+pub overflow_add-front : goal.overflow_add-front
+overflow_add-front c = no_overflow (inputs c.requires c.args.m.now.valid) w128 (x ⊞ y) tt
+
+pub overflow_mul-front-3 : goal.overflow_mul-front-3
+overflow_mul-front-3 c = no_overflow (inputs c.requires c.args.m.now.valid) w128 (wide 4 ⊠ kept 5) tt
+
+pub overflow_add-front-2 : goal.overflow_add-front-2
+overflow_add-front-2 c = no_overflow (inputs c.requires c.args.m.now.valid) w128 (xy ⊞ z) tt
+
+pub overflow_mul-p : goal.overflow_mul-p
+overflow_mul-p c = no_overflow (inputs c.requires c.args.m.now.valid) w128 (wide 6 ⊠ kept 7) tt
+
+pub overflow_sub-front : goal.overflow_sub-front
+overflow_sub-front c = no_overflow (inputs c.requires c.args.m.now.valid) w128 (front ⊟ w) tt
+
+pub returns : goal.returns
+returns c =
+    c.sign_of.ensures ∙ ap sgn (exact (inputs c.requires c.args.m.now.valid) (stored w128 (front ⊟ w)) tt)
